@@ -1,0 +1,5 @@
+// What an interpreter asks of the world outside, and what answers.
+#![tactic(auto)]
+
+pub mod ask;
+pub mod world;
