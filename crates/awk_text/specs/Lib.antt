@@ -1,2 +1,7 @@
+pub mod Arithmetic
+pub mod Escapes
 pub mod Faults
+pub mod Limits
+pub mod Numerals
 pub mod Quoted
+pub mod Values

@@ -1,0 +1,111 @@
+// The values of scripts.
+ghost use Rattle.std.specs.Prelude.{◌≡◌, IfOk, IsOkUnless};
+ghost use Rattle.awk_text.specs.Values.{number_of, numeric, order, text_of, truth};
+
+use crate::fault::Fault;
+use crate::numeral;
+use crate::octets::Octets;
+use itoa::Buffer;
+use std::alloc::Global;
+use std::cmp::Ordering;
+
+/// A value of a script. POSIX.1-2017, XCU awk, "Expressions in awk".
+#[derive(Drop)]
+pub enum Value {
+    /// No value yet: 0, and the empty text.
+    Unset,
+    Num(i64),
+    Text(Octets),
+    /// A text from outside, which may look numeric.
+    Input(Octets),
+}
+
+impl Value {
+    /// The same value once more.
+    ///
+    /// Fails with `Fault::Memory` alone, where memory is refused.
+    pub fn copy(&self, alloc: Global) -> Result<Value, Fault>
+        ensures ok { IfOk result (λ value. value ≡ self.now) }
+        ensures err { IsOkUnless result Fault.Memory }
+    {
+        match self {
+            Value::Unset => Ok(Value::Unset),
+            Value::Num(number) => Ok(Value::Num(*number)),
+            Value::Text(text) => Ok(Value::Text(text.copy(alloc)?)),
+            Value::Input(text) => Ok(Value::Input(text.copy(alloc)?)),
+        }
+    }
+}
+
+/// The number of a value: of a text the number that it begins with. Takes no memory.
+///
+/// Fails with `Fault::OutOfRange` where that is out of range.
+pub fn number_of(value: &Value) -> Result<i64, Fault>
+    ensures { result ≡ number_of value.now }
+{
+    match value {
+        Value::Unset => Ok(0),
+        Value::Num(number) => Ok(*number),
+        Value::Text(text) | Value::Input(text) => numeral::number(text.bytes()),
+    }
+}
+
+/// The number of a value that is compared and tested as a number.
+fn numeric(value: &Value) -> Option<i64>
+    ensures { result ≡ numeric value.now }
+{
+    match value {
+        Value::Unset => Some(0),
+        Value::Num(number) => Some(*number),
+        Value::Text(_) => None,
+        Value::Input(text) => numeral::looks_numeric(text.bytes()),
+    }
+}
+
+/// The text of a value, lent: a number's is written into the buffer. Takes no memory.
+pub fn text_in<'a>(value: &'a Value, buffer: &'a mut Buffer) -> &'a [u8]
+    ensures { result.now ≡ text_of value.now }
+{
+    match value {
+        Value::Unset => &[],
+        Value::Num(number) => buffer.format(*number).as_bytes(),
+        Value::Text(text) | Value::Input(text) => text.bytes(),
+    }
+}
+
+/// The text of a value: of a number its decimal digits, with `-` where it is negative.
+///
+/// Fails with `Fault::Memory` alone, where memory is refused.
+pub fn text_of(alloc: Global, value: &Value) -> Result<Vec<u8>, Fault>
+    ensures ok { IfOk result (λ text. text.items ≡ text_of value.now) }
+    ensures err { IsOkUnless result Fault.Memory }
+{
+    let mut buffer = Buffer::new();
+    Ok(Vec::from_slice(alloc, text_in(value, &mut buffer))?)
+}
+
+/// Whether a value is true: a number that is not 0, or a text that is not empty. A text from
+/// outside that looks numeric is a number here. Takes no memory.
+pub fn truth(value: &Value) -> bool
+    ensures { result ≡ truth value.now }
+{
+    match numeric(value) {
+        Some(number) => number != 0,
+        None => match value {
+            Value::Text(text) | Value::Input(text) => !text.bytes().is_empty(),
+            Value::Unset | Value::Num(_) => false,
+        },
+    }
+}
+
+/// The order of two values: of their numbers where each is a number, unset, or a text from outside
+/// that looks numeric, and else of their texts, byte by byte. Takes no memory.
+pub fn compare(left: &Value, right: &Value) -> Ordering
+    ensures { result ≡ order left.now right.now }
+{
+    if let (Some(a), Some(b)) = (numeric(left), numeric(right)) {
+        return a.cmp(&b);
+    }
+    let (mut first, mut second) = (Buffer::new(), Buffer::new());
+    text_in(left, &mut first).cmp(text_in(right, &mut second))
+}
