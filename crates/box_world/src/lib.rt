@@ -2,4 +2,5 @@
 #![tactic(auto)]
 
 pub mod ask;
+pub mod memory_world;
 pub mod world;

@@ -1,0 +1,26 @@
+-- What a world in memory is: what it was asked, and what it holds.
+use Rattle.std.specs.Prelude.{ℕ, ℤ, List}
+use Rattle.box_world.specs.Calls.{Call}
+
+-- what a command prints, and its exit status
+pub record Command : Type 0 where
+  pub output : List ℕ
+  pub status : ℤ
+
+pub record Store : Type 0 where
+  -- each under its text
+  pub commands : List (List ℕ × Command)
+  pub files : List (List ℕ × List ℕ)
+  -- the open numbers with the texts of their files, in order of opening
+  pub streams : List (ℕ × List ℕ)
+  -- what was written to the standard output and to the standard error
+  pub output : List ℕ
+  pub errors : List ℕ
+  -- the number that the next opening gets
+  pub next : ℕ
+
+pub record MemoryState : Type 0 where
+  pub asked : List Call
+  -- the number of the ask that is to fail, counted from 1; 0 for none
+  pub fail_at : ℕ
+  pub store : Store

@@ -1,0 +1,165 @@
+// A world in memory, for tests and for hosts that give a script no real files.
+ghost use Rattle.std.specs.Prelude.{◌≡◌, ◌∷◌, [], false, IfErr, IfOk, OnErr, OnOk};
+ghost use Rattle.std.specs.Map.{lookup};
+ghost use Rattle.std.specs.Option.{option_copied};
+ghost use Rattle.std.specs.Str.{bytes_eq};
+ghost use Rattle.box_world.specs.Calls.{IsFitting, IsStatus};
+ghost use Rattle.box_world.specs.MemoryLaw.{Leads, Leads-append, Leads-none, Leads-open, open_numbers};
+ghost use Rattle.box_world.specs.MemoryNumbers.{GivesNext};
+ghost use Rattle.box_world.specs.MemoryReplies.{answered, reply_of};
+ghost use Rattle.box_world.specs.MemoryTexts.{with_text};
+ghost use Rattle.box_world.specs.declared.ask.Stop.TheVariants.{Memory as OutOfMemory};
+
+mod store;
+#[cfg(test)]
+mod tests;
+mod texts;
+
+use crate::ask::{Ask, Reply, Request, Stop};
+use crate::world::World;
+use awk_text::Memory;
+use awk_text::octets::Octets;
+use std::alloc::Global;
+use std::marker::Model;
+use store::Store;
+
+/// A world whose files and commands are in memory. It keeps all that it is asked, with its replies.
+///
+/// For now it opens files to write, takes what is put to them and to the standard output and
+/// error, shuts streams and runs commands. All other requests are not there yet: they are `Failed`.
+/// It never answers `Stop::Log`.
+#[derive(Drop)]
+pub struct MemoryWorld {
+    alloc: Global,
+    asked: Vec<(Ask, Reply)>,
+    fail_at: usize,
+    store: Store,
+}
+
+impl Model for MemoryWorld {
+    ghost use Rattle.box_world.specs.MemoryState.{MemoryState};
+
+    ghost Value = { MemoryState };
+
+    ghost view = { λ w. record { asked = w.asked.items; fail_at = w.fail_at; store = w.store } };
+}
+
+impl MemoryWorld {
+    /// A world without files and commands, which was asked nothing. Takes no memory.
+    pub fn new(alloc: Global) -> MemoryWorld
+        ensures { result ≡ record {
+          asked = [];
+          fail_at = 0;
+          store = record { commands = []; files = []; streams = []; output = []; errors = []; next = 3 };
+        } }
+    {
+        MemoryWorld {
+            alloc,
+            asked: Vec::new(alloc),
+            fail_at: 0,
+            store: Store::new(alloc),
+        }
+    }
+
+    /// From now on the command of this text prints the output and has the status, from 0 to 256.
+    /// A second put of one text replaces the first. `Memory` changes nothing.
+    pub fn put_command(&mut self, text: Octets, output: Octets, status: i64) -> Result<(), Memory>
+        requires { IsStatus status }
+        ensures ok { OnOk result (self.new ≡ record self.old {
+          store = record self.old.store {
+            commands = with_text text (record { output = output; status = status }) self.old.store.commands;
+          };
+        }) }
+        ensures err { OnErr result (self.new ≡ self.old) }
+    {
+        self.store.put_command(text, output, status)
+    }
+
+    /// Makes the ask of this number fail, and no other. Answered asks are counted from 1, those of
+    /// the past too; 0 is none of them. Takes no memory.
+    pub fn fail_at(&mut self, n: usize)
+        ensures { self.new ≡ record self.old { fail_at = n } }
+    {
+        self.fail_at = n;
+    }
+
+    /// The bytes of the file of this text, or `None` where there is none. Takes no memory.
+    pub fn file(&self, text: &[u8]) -> Option<&[u8]>
+        ensures { option_copied result ≡ lookup (bytes_eq text.now) self.now.store.files }
+    {
+        self.store.file(text)
+    }
+
+    /// What was put to the standard output, and what commands printed. Takes no memory.
+    pub fn output(&self) -> &[u8]
+        ensures { result.now ≡ self.now.store.output }
+    {
+        self.store.output()
+    }
+
+    /// What was put to the standard error. Takes no memory.
+    pub fn errors(&self) -> &[u8]
+        ensures { result.now ≡ self.now.store.errors }
+    {
+        self.store.errors()
+    }
+
+    /// All answered asks with their replies, in order. Takes no memory.
+    pub fn asked(&self) -> &[(Ask, Reply)]
+        ensures { result.now ≡ self.now.asked }
+    {
+        self.asked.as_slice()
+    }
+
+    fn reply_to(&self, request: &Request) -> Reply
+        ensures reply { result ≡ reply_of self.now request.now }
+        ensures fits { IsFitting (open_numbers self.now) request.now result }
+        ensures next { GivesNext self.now.store.next result }
+    {
+        if self.asked.len() + 1 == self.fail_at {
+            return Reply::Failed;
+        }
+        self.store.reply_to(request)
+    }
+}
+
+impl World for MemoryWorld {
+    ghost follows = { Leads };
+
+    ghost open_numbers = { open_numbers };
+
+    ghost has_stopped = { λ _. false };
+
+    ghost stops = { λ _ _ _ _. ⊥ };
+
+    /// Answers the ask and keeps both, or answers `Stop::Memory` with nothing changed.
+    fn ask(&mut self, ask: &Ask) -> Result<Reply, Stop>
+        // What a world owes.
+        ensures ok { IfOk result (λ reply. Leads self.old ((ask.now, reply) ∷ []) self.new) }
+        ensures fits { IfOk result (λ reply. IsFitting (open_numbers self.old) ask.now.request reply) }
+
+        // The reply, and all that it leaves.
+        ensures reply { IfOk result (λ reply. reply ≡ reply_of self.old ask.now.request) }
+        ensures left { IfOk result (λ reply. self.new ≡ answered ask.now reply self.old) }
+
+        // It fails by want of memory alone.
+        ensures err { OnErr result (self.new ≡ self.old) }
+        ensures memory { IfErr result (λ e. e ≡ OutOfMemory) }
+    {
+        let reply = self.reply_to(&ask.request);
+        let told = reply.copy(self.alloc)?;
+        let kept = ask.copy(self.alloc)?;
+        self.asked.reserve(1)?;
+        self.store.leave(&ask.request, &reply)?;
+        self.asked.push((kept, reply)).unwrap();
+        Ok(told)
+    }
+
+    ghost follows_none = { Leads-none };
+
+    ghost follows_append = { Leads-append };
+
+    ghost follows_open = { Leads-open };
+
+    ghost stops_later = { λ _ _ _ _ _ _ _ _ p. p };
+}
