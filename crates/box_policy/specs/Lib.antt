@@ -1,0 +1,5 @@
+pub mod Paths
+pub mod NamesLeft
+pub mod Fits
+pub mod Rulebook
+pub mod Decisions

@@ -1,0 +1,8 @@
+-- A policy as it is written.
+use Rattle.std.specs.Prelude.{ℕ, List}
+use Rattle.box_policy.specs.declared.policy.Rule.{Rule}
+
+-- the base as written, and the rules in the order of the file
+pub record Rulebook : Type 0 where
+  pub base : List ℕ
+  pub rules : List Rule
