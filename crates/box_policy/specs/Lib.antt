@@ -3,3 +3,7 @@ pub mod NamesLeft
 pub mod Fits
 pub mod Rulebook
 pub mod Decisions
+pub mod Tree
+pub mod Words
+pub mod Refusals
+pub mod Written

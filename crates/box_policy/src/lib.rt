@@ -1,5 +1,7 @@
 // A written policy: rules in order, of which the first that fits decides.
 #![tactic(auto)]
 
+pub mod error;
 mod names;
+pub mod path;
 pub mod policy;
