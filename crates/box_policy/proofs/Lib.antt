@@ -1,2 +1,3 @@
 pub mod NamesLemmas
 pub mod TextLemmas
+pub mod TreeLemmas

@@ -7,3 +7,4 @@ pub mod Tree
 pub mod Words
 pub mod Refusals
 pub mod Written
+pub mod Readings

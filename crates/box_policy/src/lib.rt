@@ -5,3 +5,4 @@ pub mod error;
 mod names;
 pub mod path;
 pub mod policy;
+mod reading;

@@ -1,11 +1,18 @@
 // Rules, and what they decide.
-ghost use Rattle.std.specs.Prelude.{◌≡◌, ℕ, ◌≤◌, length};
+ghost use Rattle.std.specs.Prelude.{◌≡◌, ℕ, ◌≤◌, length, IfOk, IfErr};
+ghost use Rattle.toml.specs.View.{table_view};
 ghost use Rattle.box_policy.specs.Decisions.{decision, decision_from, speaks};
 ghost use Rattle.box_policy.specs.Fits.{fits, path_fits};
+ghost use Rattle.box_policy.specs.Refusals.{IsRefused, IsRefusedBy, refusal};
+ghost use Rattle.box_policy.specs.Written.{Writes, Written};
 
+use crate::error::PolicyError;
 use crate::names::{Names, can_resolve, is_same, is_text};
+use crate::reading::{read_document, read_rules, read_table};
 use awk_text::octets::Octets;
+use std::alloc::Global;
 use std::marker::Model;
+use toml::Table;
 
 /// What a rule is about, and what is asked for: a file that is read, written or appended to, a
 /// command, a name of the environment, or a variable that an operand assigns.
@@ -68,6 +75,33 @@ impl Model for Policy {
 }
 
 impl Policy {
+    /// The policy that a text writes: a TOML document with `version = 1`, an absolute `base`, and an
+    /// array of tables `rule`, which may be absent. A rule has `effect` (`"allow"`, `"deny"`), `kind`
+    /// (`"write"`, `"run"`; the other kinds are not there yet) and `match`, a path or a command
+    /// (`*` and `?` are not there yet).
+    ///
+    /// Refused in this order, memory aside: a text that is not UTF-8 or no TOML document; an unknown
+    /// key; the version; the base; a `rule` that is not an array of tables; more than 1,024 rules;
+    /// and then rule by rule an unknown or missing key, a wrong value, a `match` over 4,096 bytes,
+    /// and a pattern that is not one of its kind. `PolicyError::code` tells which.
+    pub fn read(alloc: Global, bytes: &[u8]) -> Result<Policy, PolicyError>
+        ensures ok { IfOk result (Written bytes.now) }
+        ensures refused { IfErr result (IsRefused bytes.now) }
+    {
+        let table = read_table(alloc, bytes)?;
+        Policy::from_table(alloc, &table)
+    }
+
+    fn from_table(alloc: Global, table: &Table) -> Result<Policy, PolicyError>
+        ensures ok { IfOk result (Writes (table_view table.now)) }
+        ensures refused { IfErr result (IsRefusedBy (refusal (table_view table.now))) }
+    {
+        let document = read_document(table)?;
+        let base = Octets::new(Vec::from_slice(alloc, document.base.as_bytes())?);
+        let rules = read_rules(alloc, document.base.as_bytes(), document.rules)?;
+        Ok(Policy { base, rules })
+    }
+
     /// What the first rule of this kind decides whose `from` holds and whose pattern fits the
     /// subject: a path, a command or a name. `given` says that the subject is an operand word that
     /// the run was started with. Takes no memory.

@@ -1,0 +1,284 @@
+// A policy, read from its text.
+ghost use Rattle.std.specs.Prelude.{◌≡◌, ◌≤◌, ◌+◌, ℕ, true, None, Some, codes, length, is_some, option_map, IfOk, IfErr, IfSome, IsUtf8, ◌⊎◌};
+ghost use Rattle.std.specs.List.{AllZip};
+ghost use Rattle.toml.specs.Data.{get_member};
+ghost use Rattle.toml.specs.Parse.{parse_document};
+ghost use Rattle.toml.specs.Text.{are_tables};
+ghost use Rattle.toml.specs.View.{view, table_view, items_view};
+ghost use Rattle.box_policy.specs.Tree.{text_at, has_key, keys_pass, is_tables, tables_in, tables_of};
+ghost use Rattle.box_policy.specs.Words.{is_top_key, is_rule_key, is_version_one, has_wildcard, is_base, effect_named, kind_named, has_rule_keys, is_pattern};
+ghost use Rattle.std.specs.Result.{result_err};
+ghost use Rattle.box_policy.specs.Refusals.{IsRefusedBy, no_document, no_memory, rule_refusal, rules_refusal, top_refusal};
+ghost use Rattle.box_policy.specs.Readings.{IsDocument, IsDraft};
+ghost use Rattle.box_policy.specs.Written.{WritesRule};
+
+use crate::error::PolicyError;
+use crate::names::{can_resolve, is_absolute};
+use crate::policy::{Effect, Kind, MAX_RULES, Rule};
+use awk_text::octets::Octets;
+use std::alloc::Global;
+use toml::{Table, Value};
+
+/// The most bytes that a pattern may have.
+const MAX_PATTERN: usize = 4096;
+
+/// What stands in a document beside its version.
+#[derive(Clone, Copy)]
+pub(crate) struct Document<'a> {
+    pub(crate) base: &'a str,
+    pub(crate) rules: &'a [Value],
+}
+
+/// What stands in a rule's table.
+#[derive(Clone, Copy)]
+struct Draft<'a> {
+    effect: Effect,
+    kind: Kind,
+    pattern: &'a str,
+}
+
+/// The document of the bytes.
+pub(crate) fn read_table(alloc: Global, bytes: &[u8]) -> Result<Table, PolicyError>
+    ensures ok { IfOk result (λ table. IsUtf8 bytes.now × (parse_document bytes.now ≡ Some (table_view table))) }
+    ensures refused { IfErr result (λ e. (e ≡ no_memory) ⊎ ((e ≡ no_document) × (IsUtf8 bytes.now → parse_document bytes.now ≡ None))) }
+{
+    match toml::table_from_slice(alloc, bytes) {
+        Ok(table) => Ok(table),
+        Err(e) if e.is_memory() => Err(PolicyError::memory()),
+        Err(_) => Err(PolicyError::new(PolicyError::DOCUMENT)),
+    }
+}
+
+fn value_at<'a>(table: &'a Table, key: &str) -> Option<&'a Value>
+    ensures { option_map (λ v. view v.now) result ≡ get_member key.now (table_view table.now) }
+{
+    table.get(key)
+}
+
+fn text_at<'a>(table: &'a Table, key: &str) -> Option<&'a str>
+    ensures { option_map (λ s. s.now) result ≡ text_at key.now (table_view table.now) }
+{
+    match value_at(table, key) {
+        Some(value) => value.as_str(),
+        None => None,
+    }
+}
+
+fn has_key(table: &Table, key: &str) -> bool
+    ensures { result ≡ has_key key.now (table_view table.now) }
+{
+    value_at(table, key).is_some()
+}
+
+fn is_top_key(key: &str) -> bool
+    ensures { result ≡ is_top_key key.now }
+{
+    key == "version" || key == "base" || key == "rule"
+}
+
+fn is_rule_key(key: &str) -> bool
+    ensures { result ≡ is_rule_key key.now }
+{
+    key == "effect" || key == "kind" || key == "match"
+}
+
+fn has_top_keys_only(table: &Table) -> bool
+    ensures { result ≡ keys_pass is_top_key (table_view table.now) }
+{
+    for key in table.keys() {
+        if !is_top_key(key.as_str()) {
+            return false;
+        }
+    }
+    true
+}
+
+fn has_rule_keys_only(table: &Table) -> bool
+    ensures { result ≡ keys_pass is_rule_key (table_view table.now) }
+{
+    for key in table.keys() {
+        if !is_rule_key(key.as_str()) {
+            return false;
+        }
+    }
+    true
+}
+
+fn has_rule_keys(table: &Table) -> bool
+    ensures { result ≡ has_rule_keys (table_view table.now) }
+{
+    has_rule_keys_only(table)
+        && has_key(table, "effect")
+        && has_key(table, "kind")
+        && has_key(table, "match")
+}
+
+fn is_version_one(table: &Table) -> bool
+    ensures { result ≡ is_version_one (table_view table.now) }
+{
+    match value_at(table, "version") {
+        Some(value) => value.as_integer() == Some(1),
+        None => false,
+    }
+}
+
+fn has_wildcard(text: &[u8]) -> bool
+    ensures { result ≡ has_wildcard text.now }
+{
+    text.iter().any(|b| *b == b'*' || *b == b'?')
+}
+
+fn is_base(base: &[u8]) -> bool
+    ensures { result ≡ is_base (Some base.now) }
+{
+    is_absolute(base) && !has_wildcard(base) && can_resolve(base, base)
+}
+
+fn effect_named(word: &str) -> Option<Effect>
+    ensures { result ≡ effect_named word.now }
+{
+    match word {
+        "allow" => Some(Effect::Allow),
+        "deny" => Some(Effect::Deny),
+        _ => None,
+    }
+}
+
+fn kind_named(word: &str) -> Option<Kind>
+    ensures { result ≡ kind_named word.now }
+{
+    match word {
+        "write" => Some(Kind::Write),
+        "run" => Some(Kind::Run),
+        _ => None,
+    }
+}
+
+fn is_pattern(base: &[u8], kind: Kind, pattern: &[u8]) -> bool
+    ensures { result ≡ is_pattern base.now kind pattern.now }
+{
+    !has_wildcard(pattern)
+        && match kind {
+            Kind::Run => !pattern.is_empty() && !pattern.contains(&0),
+            _ => can_resolve(base, pattern),
+        }
+}
+
+fn are_tables(items: &[Value]) -> bool
+    ensures { result ≡ are_tables (items_view items.now) }
+{
+    for item in items {
+        if !item.is_table() {
+            return false;
+        }
+    }
+    true
+}
+
+/// The rules of the document: none where there is no key for them, and `None` where it holds
+/// anything but tables in an array.
+fn rule_items(table: &Table) -> Option<&[Value]>
+    ensures tables { is_some result ≡ is_tables (get_member (codes "rule") (table_view table.now)) }
+    ensures items { IfSome result (λ items. tables_in (items_view items.now) ≡ tables_of (get_member (codes "rule") (table_view table.now))) }
+    ensures count { IfSome result (λ items. length items.now ≡ length (tables_of (get_member (codes "rule") (table_view table.now)))) }
+{
+    let Some(value) = value_at(table, "rule") else {
+        return Some(&[]);
+    };
+    let items = value.as_array()?.as_slice();
+    if are_tables(items) { Some(items) } else { None }
+}
+
+/// What stands in the document beside its version, or the first thing that is wrong above its
+/// rules.
+pub(crate) fn read_document(table: &Table) -> Result<Document<'_>, PolicyError>
+    ensures ok { IfOk result (λ document. IsDocument (table_view table.now) document) }
+    ensures few { IfOk result (λ document. length (tables_in (items_view document.rules.now)) ≤ 1024) }
+    ensures refusal { result_err result ≡ top_refusal (table_view table.now) }
+{
+    if !has_top_keys_only(table) {
+        return Err(PolicyError::new(PolicyError::KEY));
+    }
+    if !is_version_one(table) {
+        return Err(PolicyError::new(PolicyError::VERSION));
+    }
+    let Some(base) = text_at(table, "base") else {
+        return Err(PolicyError::new(PolicyError::BASE));
+    };
+    if !is_base(base.as_bytes()) {
+        return Err(PolicyError::new(PolicyError::BASE));
+    }
+    let Some(rules) = rule_items(table) else {
+        return Err(PolicyError::new(PolicyError::VALUE));
+    };
+    if rules.len() > MAX_RULES {
+        return Err(PolicyError::new(PolicyError::LIMIT));
+    }
+    Ok(Document { base, rules })
+}
+
+/// The values of a rule's table, or the first thing that is wrong in it.
+fn read_draft<'a>(base: &[u8], number: u32, table: &'a Table) -> Result<Draft<'a>, PolicyError>
+    ensures ok { IfOk result (λ draft. IsDraft (table_view table.now) draft) }
+    ensures refusal { result_err result ≡ rule_refusal base.now number (table_view table.now) }
+{
+    let refused = |code| PolicyError { code, rule: number };
+    if !has_rule_keys(table) {
+        return Err(refused(PolicyError::KEY));
+    }
+    let (Some(effect), Some(kind), Some(pattern)) = (
+        text_at(table, "effect").and_then(effect_named),
+        text_at(table, "kind").and_then(kind_named),
+        text_at(table, "match"),
+    ) else {
+        return Err(refused(PolicyError::VALUE));
+    };
+    if pattern.len() > MAX_PATTERN {
+        return Err(refused(PolicyError::LIMIT));
+    }
+    if !is_pattern(base, kind, pattern.as_bytes()) {
+        return Err(refused(PolicyError::PATTERN));
+    }
+    Ok(Draft {
+        effect,
+        kind,
+        pattern,
+    })
+}
+
+fn read_rule(alloc: Global, base: &[u8], number: u32, table: &Table) -> Result<Rule, PolicyError>
+    ensures ok { IfOk result (λ rule. WritesRule (table_view table.now) rule × (rule_refusal base.now number (table_view table.now) ≡ None)) }
+    ensures refused { IfErr result (IsRefusedBy (rule_refusal base.now number (table_view table.now))) }
+{
+    let draft = read_draft(base, number, table)?;
+    Ok(Rule {
+        effect: draft.effect,
+        kind: draft.kind,
+        only_given: false,
+        pattern: Octets::new(Vec::from_slice(alloc, draft.pattern.as_bytes())?),
+    })
+}
+
+/// The rules of these tables, or the first thing that is wrong in them.
+pub(crate) fn read_rules(
+    alloc: Global,
+    base: &[u8],
+    items: &[Value],
+) -> Result<Vec<Rule>, PolicyError>
+    requires { length (tables_in (items_view items.now)) ≤ 1024 }
+    ensures ok { IfOk result (λ rules. AllZip WritesRule (tables_in (items_view items.now)) rules.items) }
+    ensures few { IfOk result (λ rules. length rules.items ≤ 1024) }
+    ensures accepted { IfOk result (λ _. rules_refusal base.now 1 (tables_in (items_view items.now)) ≡ None) }
+    ensures refused { IfErr result (IsRefusedBy (rules_refusal base.now 1 (tables_in (items_view items.now)))) }
+{
+    let mut rules = Vec::new(alloc);
+    let mut number = 1u32;
+    for item in items {
+        let Some(table) = item.as_table() else {
+            continue;
+        };
+        rules.push(read_rule(alloc, base, number, table)?)?;
+        number += 1;
+    }
+    Ok(rules)
+}
