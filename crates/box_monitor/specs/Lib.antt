@@ -1,0 +1,11 @@
+pub mod Subjects
+pub mod Told
+pub mod Denials
+pub mod Asked
+pub mod Quoted
+pub mod Lines
+pub mod Watch
+pub mod Leads
+pub mod Stops
+pub mod Refusals
+pub mod Laws

@@ -1,0 +1,10 @@
+// A world between an interpreter and another world, which passes on what a policy allows and logs
+// what it denies.
+#![tactic(auto)]
+
+mod denial;
+mod line;
+pub mod log_end;
+pub mod monitor;
+mod quote;
+mod write;

@@ -1,0 +1,52 @@
+// A line of the log.
+ghost use Rattle.std.specs.Prelude.{◌≡◌, ◌++◌, IfOk};
+ghost use Rattle.std.specs.Fmt.{decimal};
+ghost use Rattle.std.specs.String.{string_bytes};
+ghost use Rattle.box_monitor.specs.Lines.{kind_word, line_of, line_start, rule_word};
+
+use crate::denial::Denial;
+use crate::quote::quote_log;
+use awk_text::Memory;
+use box_policy::policy::Kind;
+use std::alloc::Global;
+
+fn kind_word(kind: Kind) -> &'static str
+    ensures { result.now ≡ kind_word kind }
+{
+    match kind {
+        Kind::Read => "read",
+        Kind::Write => "write",
+        Kind::Append => "append",
+        Kind::Run => "run",
+        Kind::Env => "env",
+        Kind::Assign => "assign",
+    }
+}
+
+fn rule_word(alloc: Global, rule: Option<u32>) -> Result<String, Memory>
+    ensures { IfOk result (λ s. string_bytes s ≡ rule_word rule) }
+{
+    match rule {
+        Some(number) => number.to_string(alloc),
+        None => String::from_str(alloc, "none"),
+    }
+}
+
+fn line_start(alloc: Global, denial: &Denial<'_>) -> Result<String, Memory>
+    ensures { IfOk result (λ s. string_bytes s ≡ line_start denial.now) }
+{
+    let place = denial.place;
+    let kind = kind_word(denial.kind);
+    let rule = rule_word(alloc, denial.rule)?;
+    format!(in alloc; "{}:{} {kind} {rule} \"", place.line, place.column)
+}
+
+/// The line that the log gains by a denial: `LINE:COLUMN KIND RULE "TEXT"` and a newline.
+pub fn line_of(alloc: Global, denial: &Denial<'_>) -> Result<Vec<u8>, Memory>
+    ensures { IfOk result (λ v. v.items ≡ line_of denial.now) }
+{
+    let mut line = line_start(alloc, denial)?.into_bytes();
+    line.extend_from_slice(quote_log(alloc, denial.text)?.as_slice())?;
+    line.extend_from_slice(b"\"\n")?;
+    Ok(line)
+}
