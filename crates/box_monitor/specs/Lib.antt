@@ -2,7 +2,6 @@ pub mod Subjects
 pub mod Told
 pub mod Denials
 pub mod Asked
-pub mod Quoted
 pub mod Lines
 pub mod Watch
 pub mod Leads

@@ -6,5 +6,4 @@ mod denial;
 mod line;
 pub mod log_end;
 pub mod monitor;
-mod quote;
 mod write;

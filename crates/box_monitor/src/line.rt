@@ -1,12 +1,12 @@
 // A line of the log.
-ghost use Rattle.std.specs.Prelude.{◌≡◌, ◌++◌, IfOk};
-ghost use Rattle.std.specs.Fmt.{decimal};
+ghost use Rattle.std.specs.Prelude.{◌≡◌, IfOk, IsOkUnless};
 ghost use Rattle.std.specs.String.{string_bytes};
-ghost use Rattle.box_monitor.specs.Lines.{kind_word, line_of, line_start, rule_word};
+ghost use Rattle.box_monitor.specs.Lines.{kind_word, line_of, line_start};
 
 use crate::denial::Denial;
-use crate::quote::quote_log;
 use awk_text::Memory;
+use awk_text::fault::Fault;
+use awk_text::quote::quote_log;
 use box_policy::policy::Kind;
 use std::alloc::Global;
 
@@ -23,27 +23,23 @@ fn kind_word(kind: Kind) -> &'static str
     }
 }
 
-fn rule_word(alloc: Global, rule: Option<u32>) -> Result<String, Memory>
-    ensures { IfOk result (λ s. string_bytes s ≡ rule_word rule) }
-{
-    match rule {
-        Some(number) => number.to_string(alloc),
-        None => String::from_str(alloc, "none"),
-    }
-}
-
 fn line_start(alloc: Global, denial: &Denial<'_>) -> Result<String, Memory>
     ensures { IfOk result (λ s. string_bytes s ≡ line_start denial.now) }
 {
     let place = denial.place;
     let kind = kind_word(denial.kind);
-    let rule = rule_word(alloc, denial.rule)?;
-    format!(in alloc; "{}:{} {kind} {rule} \"", place.line, place.column)
+    match denial.rule {
+        Some(rule) => format!(in alloc; "{}:{} {kind} {rule} \"", place.line, place.column),
+        None => format!(in alloc; "{}:{} {kind} none \"", place.line, place.column),
+    }
 }
 
 /// The line that the log gains by a denial: `LINE:COLUMN KIND RULE "TEXT"` and a newline.
-pub fn line_of(alloc: Global, denial: &Denial<'_>) -> Result<Vec<u8>, Memory>
-    ensures { IfOk result (λ v. v.items ≡ line_of denial.now) }
+///
+/// Fails with `Fault::Memory` alone, where memory is refused.
+pub fn line_of(alloc: Global, denial: &Denial<'_>) -> Result<Vec<u8>, Fault>
+    ensures ok { IfOk result (λ v. v.items ≡ line_of denial.now) }
+    ensures err { IsOkUnless result Fault.Memory }
 {
     let mut line = line_start(alloc, denial)?.into_bytes();
     line.extend_from_slice(quote_log(alloc, denial.text)?.as_slice())?;

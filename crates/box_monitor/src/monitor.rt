@@ -90,7 +90,9 @@ impl<W: World, L: Write> Monitor<W, L> {
         ensures log { IsErrOf result Stop.Log → Breaks L.contents self.old denial.now self.new }
         ensures memory { IsErrOf result Stop.Memory → self.new ≡ self.old }
     {
-        let line = line_of(self.alloc, denial)?;
+        let Ok(line) = line_of(self.alloc, denial) else {
+            return Err(Stop::Memory);
+        };
         match write_line(&mut self.log, line.as_slice()) {
             LogEnd::Whole => {
                 self.denials = self.denials.saturating_add(1);
@@ -111,16 +113,13 @@ impl<W: World, L: Write> Monitor<W, L> {
         ensures fits { IfOk result (λ reply. IsFitting (W.open_numbers self.old.world) ask.now.request reply) }
         ensures err { OnErr result (W.follows self.old.world [] self.new.world) }
         ensures log { IsErrOf result Stop.Log → (self.new.stop ≡ Some Whole) × W.stops self.old.world [] ask.now self.new.world }
-        ensures goes { (IsErrOf result Stop.Log → ⊥) → (self.new.stop ≡ self.old.stop) × (W.has_stopped self.new.world ≡ W.has_stopped self.old.world) }
+        ensures goes { ¬ IsErrOf result Stop.Log → (self.new.stop ≡ self.old.stop) × (W.has_stopped self.new.world ≡ W.has_stopped self.old.world) }
     {
-        match self.world.ask(ask) {
-            Ok(reply) => Ok(reply),
-            Err(Stop::Memory) => Err(Stop::Memory),
-            Err(Stop::Log) => {
-                self.stop = Some(LogEnd::Whole);
-                Err(Stop::Log)
-            }
+        let answer = self.world.ask(ask);
+        if let Err(Stop::Log) = answer {
+            self.stop = Some(LogEnd::Whole);
         }
+        answer
     }
 }
 
