@@ -6,4 +6,6 @@ mod denial;
 mod line;
 pub mod log_end;
 pub mod monitor;
+#[cfg(test)]
+mod tests;
 mod write;

@@ -1,5 +1,6 @@
 // A world that asks another world what the policy allows, and logs the rest.
-ghost use Rattle.std.specs.Prelude.{◌≡◌, [], ◌∷◌, None, Some, is_some, unwrap_or, IfOk, OnErr, IsErrOf, IsNone, IsSome, IsTrue};
+ghost use Rattle.std.specs.Prelude.{◌≡◌, [], ◌∷◌, None, Some, is_some, unwrap_or};
+ghost use Rattle.std.specs.Prelude.{IfOk, OnErr, IsErrOf, IsNone, IsSome, IsTrue};
 ghost use Rattle.box_world.specs.Calls.{IsDuty, IsFitting, MarksStop};
 ghost use Rattle.box_world.specs.declared.ask.Reply.TheVariants.{Failed};
 ghost use Rattle.box_monitor.specs.Denials.{denial_of};
@@ -45,13 +46,15 @@ impl<W: World, L: Write> Model for Monitor<W, L> {
 
     ghost Value = { Watch W L };
 
-    ghost view = { λ m. record { policy = m.policy; world = m.world; log = m.log; denials = m.denials; stop = m.stop } };
+    ghost view = { λ m. record {
+        policy = m.policy; world = m.world; log = m.log; denials = m.denials; stop = m.stop } };
 }
 
 impl<W: World, L: Write> Monitor<W, L> {
     /// A monitor before this world, which has denied nothing yet. Takes no memory.
     pub fn new(alloc: Global, policy: Policy, world: W, log: L) -> Monitor<W, L>
-        ensures { result ≡ record { policy = policy; world = world; log = log; denials = 0; stop = None } }
+        ensures { result ≡
+            record { policy = policy; world = world; log = log; denials = 0; stop = None } }
     {
         Monitor {
             policy,
@@ -86,7 +89,8 @@ impl<W: World, L: Write> Monitor<W, L> {
 
     // Logs a denied ask.
     fn refuse(&mut self, denial: &Denial<'_>) -> Result<Reply, Stop>
-        ensures ok { IfOk result (λ reply. (reply ≡ Failed) × Tells L.contents self.old denial.now self.new) }
+        ensures ok { IfOk result
+            (λ reply. (reply ≡ Failed) × Tells L.contents self.old denial.now self.new) }
         ensures log { IsErrOf result Stop.Log → Breaks L.contents self.old denial.now self.new }
         ensures memory { IsErrOf result Stop.Memory → self.new ≡ self.old }
     {
@@ -109,11 +113,15 @@ impl<W: World, L: Write> Monitor<W, L> {
     fn pass(&mut self, ask: &Ask) -> Result<Reply, Stop>
         requires { IsDuty (W.open_numbers self.old.world) ask.now.request }
         ensures same { self.new ≡ record self.old { world = self.new.world; stop = self.new.stop } }
-        ensures ok { IfOk result (λ reply. W.follows self.old.world ((ask.now, reply) ∷ []) self.new.world) }
-        ensures fits { IfOk result (λ reply. IsFitting (W.open_numbers self.old.world) ask.now.request reply) }
+        ensures ok { IfOk result
+            (λ reply. W.follows self.old.world ((ask.now, reply) ∷ []) self.new.world) }
+        ensures fits { IfOk result
+            (λ reply. IsFitting (W.open_numbers self.old.world) ask.now.request reply) }
         ensures err { OnErr result (W.follows self.old.world [] self.new.world) }
-        ensures log { IsErrOf result Stop.Log → (self.new.stop ≡ Some Whole) × W.stops self.old.world [] ask.now self.new.world }
-        ensures goes { ¬ IsErrOf result Stop.Log → (self.new.stop ≡ self.old.stop) × (W.has_stopped self.new.world ≡ W.has_stopped self.old.world) }
+        ensures log { IsErrOf result Stop.Log →
+            (self.new.stop ≡ Some Whole) × W.stops self.old.world [] ask.now self.new.world }
+        ensures goes { ¬ IsErrOf result Stop.Log → (self.new.stop ≡ self.old.stop)
+            × (W.has_stopped self.new.world ≡ W.has_stopped self.old.world) }
     {
         let answer = self.world.ask(ask);
         if let Err(Stop::Log) = answer {
@@ -141,9 +149,12 @@ impl<W: World, L: Write> World for Monitor<W, L> {
         requires { IsDuty (W.open_numbers self.old.world) ask.now.request }
 
         // What a world owes.
-        ensures ok { IfOk result (λ reply. Leads W.follows W.has_stopped L.contents self.old ((ask.now, reply) ∷ []) self.new) }
-        ensures fits { IfOk result (λ reply. IsFitting (W.open_numbers self.old.world) ask.now.request reply) }
-        ensures err { OnErr result (Leads W.follows W.has_stopped L.contents self.old [] self.new) }
+        ensures ok { IfOk result (λ reply.
+            Leads W.follows W.has_stopped L.contents self.old ((ask.now, reply) ∷ []) self.new) }
+        ensures fits { IfOk result
+            (λ reply. IsFitting (W.open_numbers self.old.world) ask.now.request reply) }
+        ensures err { OnErr result
+            (Leads W.follows W.has_stopped L.contents self.old [] self.new) }
         ensures log { IsErrOf result Stop.Log → Stops W.stops L.contents self.old [] ask.now self.new }
         ensures stopped { MarksStop result (is_some self.old.stop) (is_some self.new.stop) }
 
@@ -151,11 +162,14 @@ impl<W: World, L: Write> World for Monitor<W, L> {
         ensures idle { IsTrue (is_some self.old.stop) → self.new ≡ self.old }
 
         // A denied ask does not reach the world behind, and an allowed one does not reach the log.
-        ensures denied { IsSome (denial_of self.old.policy ask.now) → self.new.world ≡ self.old.world }
-        ensures allowed { IsNone (denial_of self.old.policy ask.now) → (self.new.log ≡ self.old.log) × (self.new.denials ≡ self.old.denials) }
+        ensures denied { IsSome (denial_of self.old.policy ask.now) →
+            self.new.world ≡ self.old.world }
+        ensures allowed { IsNone (denial_of self.old.policy ask.now) →
+            (self.new.log ≡ self.old.log) × (self.new.denials ≡ self.old.denials) }
 
         // Want of memory changes neither the log nor what was counted.
-        ensures memory { IsErrOf result Stop.Memory → (self.new.log ≡ self.old.log) × (self.new.denials ≡ self.old.denials) × (self.new.stop ≡ self.old.stop) }
+        ensures memory { IsErrOf result Stop.Memory → (self.new.log ≡ self.old.log)
+            × (self.new.denials ≡ self.old.denials) × (self.new.stop ≡ self.old.stop) }
     {
         if self.stop.is_some() {
             return Err(Stop::Log);

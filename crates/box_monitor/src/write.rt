@@ -10,7 +10,8 @@ use std::io::Write;
 // not say how much was written before an error.
 fn write_bytes<L: Write>(log: &mut L, line: &[u8]) -> bool
     ensures whole { IsTrue result → Appends (L.contents log.old) (L.contents log.new) line.now }
-    ensures part { result ≡ false → AppendsPart (L.contents log.old) (L.contents log.new) [] line.now }
+    ensures part { result ≡ false →
+        AppendsPart (L.contents log.old) (L.contents log.new) [] line.now }
 {
     let mut at = 0;
     while at < line.len() {
@@ -25,8 +26,10 @@ fn write_bytes<L: Write>(log: &mut L, line: &[u8]) -> bool
 
 /// Writes the line and flushes it, and says how the log stands then.
 pub fn write_line<L: Write>(log: &mut L, line: &[u8]) -> LogEnd
-    ensures whole { result ≡ LogEnd.Whole → Appends (L.contents log.old) (L.contents log.new) line.now }
-    ensures part { result ≡ LogEnd.Part → AppendsPart (L.contents log.old) (L.contents log.new) [] line.now }
+    ensures whole { result ≡ LogEnd.Whole →
+        Appends (L.contents log.old) (L.contents log.new) line.now }
+    ensures part { result ≡ LogEnd.Part →
+        AppendsPart (L.contents log.old) (L.contents log.new) [] line.now }
 {
     if !write_bytes(log, line) {
         return LogEnd::Part;
