@@ -44,7 +44,8 @@ fn split_sign(text: &[u8]) -> (bool, &[u8])
 }
 
 /// How many digits the text begins with, and their value, which stays at 2^64 - 1 from there on.
-fn leading_digits(text: &[u8]) -> (usize, u64)
+/// Takes no memory.
+pub fn leading_digits(text: &[u8]) -> (usize, u64)
     ensures count { result.0 ≡ prefix_len is_ascii_digit text.now }
     ensures value { result.1 ≡ min (digits_value 10 (take_while is_ascii_digit text.now)) (2 ^ 64 - 1) }
 {
