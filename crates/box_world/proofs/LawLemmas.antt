@@ -10,7 +10,7 @@ use Rattle.box_world.specs.declared.ask.Request.{Request}
 use Rattle.box_world.specs.declared.ask.Request.TheVariants.{Open, Put, Shut, System}
 use Rattle.box_world.specs.MemoryLaw.{Leads}
 use Rattle.box_world.specs.MemoryReplies.{answered, left_by, with_put}
-use Rattle.box_world.specs.MemoryState.{MemoryState, Store}
+use Rattle.box_world.specs.MemoryState.{Contents, MemoryState}
 
 keys-remove_entry : {X : Type 0} (n : ℕ) (es : List (ℕ × X)) → keys_of (remove_entry (λ k. k == n) es) ≡ without n (keys_of es)
 keys-remove_entry n [] = refl
@@ -21,16 +21,16 @@ keys-remove_entry {X} n (e ∷ es) = by (nat_eq e.0 n) (keys-remove_entry n es)
     by true rest = refl
     by false rest = ap (λ ks. e.0 ∷ ks) rest
 
-streams-with_put : (n : ℕ) (bytes : List ℕ) (store : Store) → (with_put n bytes store).streams ≡ store.streams
+streams-with_put : (n : ℕ) (bytes : List ℕ) (store : Contents) → (with_put n bytes store).streams ≡ store.streams
 streams-with_put n bytes store = by (nat_eq n 1) (nat_eq n 2) _ _ _ refl refl refl
   where
-    by : (one two : Bool) (a b c : Store) → a.streams ≡ store.streams → b.streams ≡ store.streams → c.streams ≡ store.streams
+    by : (one two : Bool) (a b c : Contents) → a.streams ≡ store.streams → b.streams ≡ store.streams → c.streams ≡ store.streams
         → (if one then a else if two then b else c).streams ≡ store.streams
     by true two a b c p q r = p
     by false true a b c p q r = q
     by false false a b c p q r = r
 
-numbers-left_by : (request : Request) (reply : Reply) (store : Store) → keys_of (left_by request reply store).streams ≡ numbers_after request reply (keys_of store.streams)
+numbers-left_by : (request : Request) (reply : Reply) (store : Contents) → keys_of (left_by request reply store).streams ≡ numbers_after request reply (keys_of store.streams)
 numbers-left_by (Open mode text) (Opened n) store = map-append (λ e. e.0) store.streams ((n, text) ∷ [])
 numbers-left_by (Put n bytes) Done store = ap keys_of (streams-with_put n bytes store)
 numbers-left_by (Shut n) reply store = keys-remove_entry n store.streams

@@ -6,13 +6,13 @@ use Rattle.std.proofs.lemmas.List.{append-nil}
 use Rattle.box_world.specs.Calls.{Call, open_after, open_after-append}
 use Rattle.box_world.specs.MemoryState.{MemoryState}
 
-abbrev pub open_numbers : MemoryState → List ℕ
-open_numbers state = keys_of state.store.streams
+abbrev pub numbers_of : MemoryState → List ℕ
+numbers_of state = keys_of state.store.streams
 
 -- it was asked these calls, and has the numbers open that they leave open
 pub record Leads (old : MemoryState) (calls : List Call) (new : MemoryState) : Type 0 where
   pub asked : new.asked ≡ old.asked ++ calls
-  pub numbers : open_numbers new ≡ open_after calls (open_numbers old)
+  pub numbers : numbers_of new ≡ open_after calls (numbers_of old)
 
 pub Leads-none : (w : MemoryState) → Leads w [] w
 Leads-none w = record { asked = sym (append-nil w.asked); numbers = refl }
@@ -20,8 +20,8 @@ Leads-none w = record { asked = sym (append-nil w.asked); numbers = refl }
 pub Leads-append : (u v w : MemoryState) (xs ys : List Call) → Leads u xs v → Leads v ys w → Leads u (xs ++ ys) w
 Leads-append u v w xs ys p q = record {
   asked = q.asked ∙ ap (λ z. z ++ ys) p.asked ∙ append_assoc u.asked xs ys;
-  numbers = q.numbers ∙ ap (open_after ys) p.numbers ∙ sym (open_after-append xs ys (open_numbers u));
+  numbers = q.numbers ∙ ap (open_after ys) p.numbers ∙ sym (open_after-append xs ys (numbers_of u));
 }
 
-pub Leads-open : (v w : MemoryState) (calls : List Call) → Leads v calls w → open_numbers w ≡ open_after calls (open_numbers v)
+pub Leads-open : (v w : MemoryState) (calls : List Call) → Leads v calls w → numbers_of w ≡ open_after calls (numbers_of v)
 Leads-open v w calls p = p.numbers

@@ -2,14 +2,15 @@
 use Rattle.std.specs.Prelude.{ℕ, ℤ, List}
 use Rattle.box_world.specs.Calls.{Call}
 
--- what a command prints, and its exit status
-pub record Command : Type 0 where
+-- what a command does: what it prints, and its exit status
+pub record Behavior : Type 0 where
   pub output : List ℕ
   pub status : ℤ
 
-pub record Store : Type 0 where
+-- what is held beside that
+pub record Contents : Type 0 where
   -- each under its text
-  pub commands : List (List ℕ × Command)
+  pub commands : List (List ℕ × Behavior)
   pub files : List (List ℕ × List ℕ)
   -- the open numbers with the texts of their files, in order of opening
   pub streams : List (ℕ × List ℕ)
@@ -23,4 +24,4 @@ pub record MemoryState : Type 0 where
   pub asked : List Call
   -- the number of the ask that is to fail, counted from 1; 0 for none
   pub fail_at : ℕ
-  pub store : Store
+  pub store : Contents

@@ -4,7 +4,7 @@ ghost use Rattle.std.specs.Map.{lookup};
 ghost use Rattle.std.specs.Option.{option_copied};
 ghost use Rattle.std.specs.Str.{bytes_eq};
 ghost use Rattle.box_world.specs.Calls.{IsFitting, IsStatus};
-ghost use Rattle.box_world.specs.MemoryLaw.{Leads, Leads-append, Leads-none, Leads-open, open_numbers};
+ghost use Rattle.box_world.specs.MemoryLaw.{Leads, Leads-append, Leads-none, Leads-open, numbers_of};
 ghost use Rattle.box_world.specs.MemoryNumbers.{GivesNext};
 ghost use Rattle.box_world.specs.MemoryReplies.{answered, reply_of};
 ghost use Rattle.box_world.specs.MemoryTexts.{with_text};
@@ -113,7 +113,7 @@ impl MemoryWorld {
 
     fn reply_to(&self, request: &Request) -> Reply
         ensures reply { result ≡ reply_of self.now request.now }
-        ensures fits { IsFitting (open_numbers self.now) request.now result }
+        ensures fits { IsFitting (numbers_of self.now) request.now result }
         ensures next { GivesNext self.now.store.next result }
     {
         if self.asked.len() + 1 == self.fail_at {
@@ -126,7 +126,7 @@ impl MemoryWorld {
 impl World for MemoryWorld {
     ghost follows = { Leads };
 
-    ghost open_numbers = { open_numbers };
+    ghost open_numbers = { numbers_of };
 
     ghost has_stopped = { λ _. false };
 
@@ -136,7 +136,7 @@ impl World for MemoryWorld {
     fn ask(&mut self, ask: &Ask) -> Result<Reply, Stop>
         // What a world owes.
         ensures ok { IfOk result (λ reply. Leads self.old ((ask.now, reply) ∷ []) self.new) }
-        ensures fits { IfOk result (λ reply. IsFitting (open_numbers self.old) ask.now.request reply) }
+        ensures fits { IfOk result (λ reply. IsFitting (numbers_of self.old) ask.now.request reply) }
 
         // The reply, and all that it leaves.
         ensures reply { IfOk result (λ reply. reply ≡ reply_of self.old ask.now.request) }

@@ -25,9 +25,9 @@ struct Command {
 
 impl Model for Command {
     ghost use Rattle.box_world.specs.Calls.{IsStatus};
-    ghost use Rattle.box_world.specs.MemoryState.{Command};
+    ghost use Rattle.box_world.specs.MemoryState.{Behavior};
 
-    ghost Value = { Command };
+    ghost Value = { Behavior };
 
     ghost view = { λ c. record { output = c.output; status = c.status } };
 
@@ -66,9 +66,9 @@ pub struct Store {
 impl Model for Store {
     ghost use Rattle.std.specs.Map.{keys_of};
     ghost use Rattle.box_world.specs.MemoryNumbers.{IsNumbered};
-    ghost use Rattle.box_world.specs.MemoryState.{Store};
+    ghost use Rattle.box_world.specs.MemoryState.{Contents};
 
-    ghost Value = { Store };
+    ghost Value = { Contents };
 
     ghost view = { λ s. record {
       commands = s.commands.pairs;
