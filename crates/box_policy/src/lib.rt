@@ -6,3 +6,5 @@ mod names;
 pub mod path;
 pub mod policy;
 mod reading;
+#[cfg(test)]
+mod tests;
