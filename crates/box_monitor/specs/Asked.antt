@@ -1,5 +1,5 @@
 -- What of a list of calls is asked of the world behind, and what of it the log tells.
-use Rattle.std.specs.Prelude.{◌≡◌, List, [], ◌∷◌, All, filter, filter_map, is_none, IsSome}
+use Rattle.std.specs.Prelude.{◌≡◌, List, All, filter, filter_map, is_none, IsSome}
 use Rattle.box_policy.specs.Rulebook.{Rulebook}
 use Rattle.box_world.specs.Calls.{Call}
 use Rattle.box_world.specs.declared.ask.Reply.TheVariants.{Failed}

@@ -1,5 +1,5 @@
 -- What a policy denies.
-use Rattle.std.specs.Prelude.{ℕ, Bool, Option, None, Some}
+use Rattle.std.specs.Prelude.{Bool, Option, None, Some}
 use Rattle.awk_text.specs.declared.place.Place.{Place}
 use Rattle.box_policy.specs.Decisions.{decision}
 use Rattle.box_policy.specs.Rulebook.{Rulebook}

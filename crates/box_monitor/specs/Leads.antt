@@ -6,17 +6,18 @@ use Rattle.box_monitor.specs.Asked.{asked, told, AllFailed}
 use Rattle.box_monitor.specs.Lines.{log_text}
 use Rattle.box_monitor.specs.Watch.{Watch}
 
--- What holds as long as it has not stopped: nor has the world behind, and the log has grown by the
--- lines of what was denied. A writer that tells its bytes is spoken of, and of another nothing is
--- said.
-pub record Goes {W L : Type 0} (has_stopped : W → Bool) (contents : L → Option (List ℕ)) (old : Watch W L) (calls : List Call) (new : Watch W L) : Type 0 where
+-- What holds as long as the monitor has not stopped. The world behind has not stopped either, and the
+-- log has grown by the lines of what was denied, where its writer tells its bytes.
+pub record Goes {W L : Type 0} (has_stopped : W → Bool) (contents : L → Option (List ℕ))
+    (old : Watch W L) (calls : List Call) (new : Watch W L) : Type 0 where
   pub before : old.stop ≡ None
   pub steady : has_stopped new.world ≡ has_stopped old.world
   pub log : Appends (contents old.log) (contents new.log) (log_text (told old.policy calls))
 
 -- The monitor goes on by these calls: the world behind by those that are not denied, and the others
 -- were answered Failed, counted and told.
-pub record Leads {W L : Type 0} (follows : W → List Call → W → Type 0) (has_stopped : W → Bool) (contents : L → Option (List ℕ)) (old : Watch W L) (calls : List Call) (new : Watch W L) : Type 0 where
+pub record Leads {W L : Type 0} (follows : W → List Call → W → Type 0) (has_stopped : W → Bool)
+    (contents : L → Option (List ℕ)) (old : Watch W L) (calls : List Call) (new : Watch W L) : Type 0 where
   pub policy : new.policy ≡ old.policy
   pub inner : follows old.world (asked old.policy calls) new.world
   pub failed : AllFailed old.policy calls

@@ -23,7 +23,9 @@ rule_word None = codes "none"
 
 -- what stands before the text: `LINE:COLUMN KIND RULE "`
 abbrev pub line_start : Told → List ℕ
-line_start t = concat (decimal t.place.line ∷ codes ":" ∷ decimal t.place.column ∷ codes " " ∷ kind_word t.kind ∷ codes " " ∷ rule_word t.rule ∷ codes " \"" ∷ [])
+line_start t =
+    concat (decimal t.place.line ∷ codes ":" ∷ decimal t.place.column ∷ codes " " ∷ kind_word t.kind ∷ codes " "
+      ∷ rule_word t.rule ∷ codes " \"" ∷ [])
 
 -- `LINE:COLUMN KIND RULE "TEXT"` and a newline
 abbrev pub line_of : Told → List ℕ

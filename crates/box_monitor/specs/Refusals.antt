@@ -7,7 +7,8 @@ use Rattle.box_monitor.specs.Told.{Told}
 use Rattle.box_monitor.specs.Watch.{Watch}
 
 -- one more denied ask was logged and counted
-pub record Tells {W L : Type 0} (contents : L → Option (List ℕ)) (old : Watch W L) (t : Told) (new : Watch W L) : Type 0 where
+pub record Tells {W L : Type 0} (contents : L → Option (List ℕ))
+    (old : Watch W L) (t : Told) (new : Watch W L) : Type 0 where
   pub policy : new.policy ≡ old.policy
   pub world : new.world ≡ old.world
   pub denials : new.denials ≡ min (old.denials + 1) (2 ^ 64 - 1)
@@ -15,7 +16,8 @@ pub record Tells {W L : Type 0} (contents : L → Option (List ℕ)) (old : Watc
   pub log : Appends (contents old.log) (contents new.log) (line_of t)
 
 -- the log did not take the line of a denied ask
-pub record Breaks {W L : Type 0} (contents : L → Option (List ℕ)) (old : Watch W L) (t : Told) (new : Watch W L) : Type 0 where
+pub record Breaks {W L : Type 0} (contents : L → Option (List ℕ))
+    (old : Watch W L) (t : Told) (new : Watch W L) : Type 0 where
   pub policy : new.policy ≡ old.policy
   pub world : new.world ≡ old.world
   pub denials : new.denials ≡ old.denials

@@ -24,19 +24,22 @@ LogEnds (Some Whole) old new text line = ⊥
 LogEnds None old new text line = ⊥
 
 -- it stops at a denied ask, whose line the log did not take whole
-pub record StopsAtLog {W L : Type 0} (contents : L → Option (List ℕ)) (old : Watch W L) (calls : List Call) (ask : Ask) (new : Watch W L) : Type 0 where
+pub record StopsAtLog {W L : Type 0} (contents : L → Option (List ℕ))
+    (old : Watch W L) (calls : List Call) (ask : Ask) (new : Watch W L) : Type 0 where
   pub line : Told
   pub denied : denial_of old.policy ask ≡ Some line
   pub log : LogEnds new.stop (contents old.log) (contents new.log) (log_text (told old.policy calls)) (line_of line)
 
 -- it stops at an ask that is not denied, where the world behind does
-pub record StopsInside {W L : Type 0} (stops : W → List Call → Ask → W → Type 0) (contents : L → Option (List ℕ)) (old : Watch W L) (calls : List Call) (ask : Ask) (new : Watch W L) : Type 0 where
+pub record StopsInside {W L : Type 0} (stops : W → List Call → Ask → W → Type 0) (contents : L → Option (List ℕ))
+    (old : Watch W L) (calls : List Call) (ask : Ask) (new : Watch W L) : Type 0 where
   pub allowed : denial_of old.policy ask ≡ None
   pub inner : stops old.world (asked old.policy calls) ask new.world
   pub stop : new.stop ≡ Some Whole
   pub log : Appends (contents old.log) (contents new.log) (log_text (told old.policy calls))
 
 -- it had stopped before, or stops at the log, or inside
-abbrev pub Stops : {W L : Type 0} → (W → List Call → Ask → W → Type 0) → (L → Option (List ℕ)) → Watch W L → List Call → Ask → Watch W L → Type 0
+abbrev pub Stops : {W L : Type 0} → (W → List Call → Ask → W → Type 0) → (L → Option (List ℕ))
+  → Watch W L → List Call → Ask → Watch W L → Type 0
 Stops stops contents old calls ask new =
     (is_some old.stop ≡ true) ⊎ StopsAtLog contents old calls ask new ⊎ StopsInside stops contents old calls ask new
