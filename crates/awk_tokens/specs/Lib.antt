@@ -1,0 +1,9 @@
+pub mod Bytes
+pub mod Signs
+pub mod Words
+pub mod Strings
+pub mod Patterns
+pub mod Places
+pub mod Tokens
+pub mod Reads
+pub mod Scan

@@ -1,0 +1,341 @@
+// The separator or the token at the front of a text.
+
+ghost use Rattle.std.specs.Prelude.{◌≡◌, ◌≢◌, ◌≤◌, ◌<◌, ◌+◌, length, slice_index, true, false, IfOk, IfSome};
+ghost use Rattle.std.specs.Option.{option_copied};
+ghost use Rattle.std.specs.Char.{is_ascii_digit};
+ghost use Rattle.std.specs.List.{list_all};
+ghost use Rattle.awk_tokens.specs.Bytes as bytes;
+ghost use Rattle.awk_tokens.specs.Scan as spec;
+ghost use Rattle.awk_tokens.specs.Tokens.{value_of, begins_exponent, is_whole};
+
+use crate::kinds::TokenKind;
+use crate::signs::sign_len;
+use crate::syntax_error::SyntaxError;
+use crate::words::word_kind;
+
+/// Where in an extended regular expression a byte stands.
+#[derive(Clone, Copy, Debug)]
+enum Part {
+    /// In no bracket expression.
+    Outside,
+    /// Directly behind the `[` or `[^` of a bracket expression.
+    Opened,
+    /// Further inside a bracket expression.
+    Inside,
+}
+
+/// What a byte of an extended regular expression leads to.
+#[derive(Clone, Copy, Debug)]
+enum Step {
+    /// It ends the expression.
+    Ends,
+    /// No expression has it there.
+    Breaks,
+    /// The next byte that counts stands in this part, so many bytes further on.
+    Goes(Part, usize),
+}
+
+/// The byte at an index, 0 past the end.
+pub fn byte(z: &[u8], at: usize) -> u8
+    ensures value { result ≡ slice_index z.now at }
+    ensures within { result ≢ 0 → at < length z.now }
+{
+    if at < z.len() { z[at] } else { 0 }
+}
+
+fn is_blank(b: u8) -> bool
+    ensures { result ≡ bytes.is_blank b }
+{
+    b == b' ' || b == b'\t' || b == b'\r'
+}
+
+fn begins_name(b: u8) -> bool
+    ensures { result ≡ bytes.begins_name b }
+{
+    b.is_ascii_alphabetic() || b == b'_'
+}
+
+fn continues_name(b: u8) -> bool
+    ensures { result ≡ bytes.continues_name b }
+{
+    b.is_ascii_alphanumeric() || b == b'_'
+}
+
+fn digits_len(z: &[u8]) -> usize
+    ensures value { result ≡ spec.digits_len z.now }
+    ensures within { result ≤ length z.now }
+{
+    let mut n = 0;
+    for b in z {
+        if !b.is_ascii_digit() {
+            return n;
+        }
+        n += 1;
+    }
+    n
+}
+
+fn letters_len(z: &[u8]) -> usize
+    ensures value { result ≡ spec.letters_len z.now }
+    ensures within { result ≤ length z.now }
+{
+    let mut n = 0;
+    for b in z {
+        if !b.is_ascii_alphabetic() {
+            return n;
+        }
+        n += 1;
+    }
+    n
+}
+
+fn name_len(z: &[u8]) -> usize
+    ensures value { result ≡ spec.name_len z.now }
+    ensures within { result ≤ length z.now }
+{
+    let mut n = 0;
+    for b in z {
+        if !continues_name(*b) {
+            return n;
+        }
+        n += 1;
+    }
+    n
+}
+
+fn line_len(z: &[u8]) -> usize
+    ensures value { result ≡ spec.line_len z.now }
+    ensures within { result ≤ length z.now }
+{
+    let mut n = 0;
+    for b in z {
+        if *b == b'\n' {
+            return n;
+        }
+        n += 1;
+    }
+    n
+}
+
+/// How long the separator at the front is: a blank, a `\` with a newline, or a comment. It is 0
+/// where there is none.
+#[tactic(auto, unfolding(crate::specs::Scan::gap_len))]
+pub fn gap_len(z: &[u8]) -> usize
+    requires { 0 < length z.now }
+    ensures value { result ≡ spec.gap_len z.now }
+    ensures within { result ≤ length z.now }
+{
+    let b = z[0];
+    if is_blank(b) {
+        1
+    } else if b == b'\\' && byte(z, 1) == b'\n' {
+        2
+    } else if b == b'#' {
+        line_len(z)
+    } else {
+        0
+    }
+}
+
+/// What is left behind the end of a string, where it ends. The text stands behind the opening `"`.
+fn string_rest(mut z: &[u8]) -> Option<&[u8]>
+    ensures value { option_copied result ≡ spec.string_rest false z.entry.now }
+    ensures within { IfSome result (λ rest. length rest.now < length z.entry.now) }
+{
+    let mut escaped = false;
+    while let [b, rest @ ..] = z {
+        if !escaped && *b == b'"' {
+            return Some(rest);
+        }
+        if !escaped && *b == b'\n' {
+            return None;
+        }
+        escaped = !escaped && *b == b'\\';
+        z = rest;
+    }
+    None
+}
+
+/// How long a class such as `[:alpha:]` is behind its `[`, 0 where there is none.
+#[tactic(auto, unfolding(crate::specs::Scan::class_len))]
+fn class_len(z: &[u8]) -> usize
+    ensures { result ≡ spec.class_len z.now }
+{
+    if byte(z, 0) != b':' {
+        return 0;
+    }
+    let letters = letters_len(&z[1..]);
+    if byte(z, letters + 1) == b':' && byte(z, letters + 2) == b']' {
+        letters + 3
+    } else {
+        0
+    }
+}
+
+fn outside_step(b: u8, rest: &[u8]) -> Step
+    ensures { result ≡ spec.outside_step b rest.now }
+{
+    match b {
+        b'/' => Step::Ends,
+        b'\n' => Step::Breaks,
+        b'\\' => Step::Goes(Part::Outside, 1),
+        b'[' => {
+            let is_not = byte(rest, 0) == b'^';
+            Step::Goes(Part::Opened, if is_not { 1 } else { 0 })
+        }
+        _ => Step::Goes(Part::Outside, 0),
+    }
+}
+
+/// `closed` is the part behind a `]`.
+fn bracket_step(closed: Part, b: u8, rest: &[u8]) -> Step
+    ensures { result ≡ spec.bracket_step closed b rest.now }
+{
+    match b {
+        b']' => Step::Goes(closed, 0),
+        b'\n' => Step::Breaks,
+        b'\\' => Step::Goes(Part::Inside, 1),
+        b'[' => Step::Goes(Part::Inside, class_len(rest)),
+        _ => Step::Goes(Part::Inside, 0),
+    }
+}
+
+fn step_of(part: Part, b: u8, rest: &[u8]) -> Step
+    ensures { result ≡ spec.step_of part b rest.now }
+{
+    match part {
+        Part::Outside => outside_step(b, rest),
+        Part::Opened => bracket_step(Part::Inside, b, rest),
+        Part::Inside => bracket_step(Part::Outside, b, rest),
+    }
+}
+
+/// What is left behind the end of an extended regular expression, where it ends. The text stands
+/// behind the opening `/`.
+fn pattern_rest(mut z: &[u8]) -> Option<&[u8]>
+    ensures value { option_copied result ≡ spec.pattern_rest Part.Outside 0 z.entry.now }
+    ensures within { IfSome result (λ rest. length rest.now < length z.entry.now) }
+{
+    let mut part = Part::Outside;
+    let mut skip = 0;
+    while let [b, rest @ ..] = z {
+        z = rest;
+        if 0 < skip {
+            skip -= 1;
+            continue;
+        }
+        match step_of(part, *b, rest) {
+            Step::Ends => return Some(rest),
+            Step::Breaks => return None,
+            Step::Goes(next, more) => {
+                part = next;
+                skip = more;
+            }
+        }
+    }
+    None
+}
+
+/// The value of digits, or the greatest u64 where it is over that.
+fn value_of(digits: &[u8]) -> u64
+    requires { list_all is_ascii_digit digits.now ≡ true }
+    ensures { result ≡ spec.saturated (value_of digits.now) }
+{
+    let mut value: u64 = 0;
+    for b in digits {
+        value = value.saturating_mul(10).saturating_add(u64::from(*b - b'0'));
+    }
+    value
+}
+
+/// Whether an exponent begins the text: `e` or `E`, a sign or none, and a digit.
+fn begins_exponent(z: &[u8]) -> bool
+    ensures { result ≡ begins_exponent z.now }
+{
+    let (e, next) = (byte(z, 0), byte(z, 1));
+    let is_e = e == b'e' || e == b'E';
+    let is_signed = next == b'+' || next == b'-';
+    is_e && (next.is_ascii_digit() || (is_signed && byte(z, 2).is_ascii_digit()))
+}
+
+/// The greatest number of the profile.
+const GREATEST: u64 = 9_223_372_036_854_775_807;
+
+/// Whether these digits are a number of the whole-number profile before this rest.
+fn is_whole(digits: &[u8], rest: &[u8]) -> bool
+    requires { list_all is_ascii_digit digits.now ≡ true }
+    ensures { result ≡ is_whole digits.now rest.now }
+{
+    value_of(digits) <= GREATEST && byte(rest, 0) != b'.' && !begins_exponent(rest)
+}
+
+/// A token's kind and length, or the code of a refusal.
+pub type Found = Result<(TokenKind, usize), u8>;
+
+#[tactic(auto, using(crate::proofs::Runs::list_all_take), unfolding(crate::specs::Scan::number))]
+fn number(z: &[u8]) -> Found
+    ensures { result ≡ spec.number z.now }
+{
+    let n = digits_len(z);
+    let (digits, rest) = z.split_at(n);
+    if is_whole(digits, rest) {
+        Ok((TokenKind::Number, n))
+    } else {
+        Err(SyntaxError::NUMBER)
+    }
+}
+
+#[tactic(auto, unfolding(crate::specs::Scan::word))]
+fn word(z: &[u8]) -> (TokenKind, usize)
+    ensures { result ≡ spec.word z.now }
+{
+    let n = name_len(z);
+    let (name, rest) = z.split_at(n);
+    (word_kind(name, rest), n)
+}
+
+fn closed(kind: TokenKind, z: &[u8], rest: Option<&[u8]>) -> Found
+    requires { IfSome rest (λ r. length r.now ≤ length z.now) }
+    ensures { result ≡ spec.closed kind z.now (option_copied rest.entry) }
+{
+    match rest {
+        None => Err(SyntaxError::OPEN_TEXT),
+        Some(rest) => Ok((kind, z.len() - rest.len())),
+    }
+}
+
+#[tactic(auto, unfolding(crate::specs::Scan::sign))]
+fn sign(z: &[u8]) -> Found
+    ensures { result ≡ spec.sign z.now }
+{
+    let (b, next) = (byte(z, 0), byte(z, 1));
+    let n = sign_len(b, next);
+    if n != 0 {
+        Ok((TokenKind::Sign, n))
+    } else if b == b'.' && next.is_ascii_digit() {
+        Err(SyntaxError::NUMBER)
+    } else {
+        Err(SyntaxError::BYTE)
+    }
+}
+
+/// The token at the front of a text that begins with no separator: its kind and length, or the code
+/// of the refusal that stands there. `operand` says whether an operand may begin there.
+#[tactic(auto, unfolding(crate::specs::Scan::first_token))]
+pub fn first_token(operand: bool, z: &[u8]) -> Found
+    requires { 0 < length z.now }
+    ensures { result ≡ spec.first_token operand z.now }
+{
+    let b = z[0];
+    if b.is_ascii_digit() {
+        number(z)
+    } else if begins_name(b) {
+        Ok(word(z))
+    } else if b == b'"' {
+        closed(TokenKind::Quoted, z, string_rest(&z[1..]))
+    } else if b == b'/' && operand {
+        closed(TokenKind::Pattern, z, pattern_rest(&z[1..]))
+    } else {
+        sign(z)
+    }
+}
