@@ -4,7 +4,7 @@ use Rattle.std.specs.Char.{is_ascii_alphabetic}
 use Rattle.std.specs.List.{list_all, prefix_len}
 use Rattle.std.proofs.Math.Seq.{drop-append-add}
 use Rattle.std.proofs.lemmas.Bool.{cases_Bool, eqb-true, and_parts}
-use Rattle.std.proofs.lemmas.List.{take-append-drop, get_or-append-add, get_or-drop}
+use Rattle.std.proofs.lemmas.List.{take-append-drop, get_or-append-add, get_or-drop, drop-drop}
 use Rattle.awk_tokens.specs.Bytes.{Text}
 use Rattle.awk_tokens.specs.Patterns.{BeginsClass}
 use Rattle.awk_tokens.specs.Scan.{class_len, letters_len}
@@ -53,7 +53,7 @@ class_found (c ∷ w) n e =
                 let colon : get_or d 0 0 ≡ 58 = get_or-drop m w 0 0 ∙ ap (λ i. get_or (c ∷ w) i 0) (sym (first_up m)) ∙ eqb-true (get_or (c ∷ w) (m + 1) 0) 58 both.0 in
                 let bracket : get_or d 1 0 ≡ 93 = get_or-drop m w 1 0 ∙ ap (λ i. get_or (c ∷ w) i 0) (sym (second_up m)) ∙ eqb-true (get_or (c ∷ w) (m + 2) 0) 93 both.1 in
                 let len : class_len (c ∷ w) ≡ m + 3 = rw (h.0, g.0) refl in
-                let left : drop (class_len (c ∷ w)) (c ∷ w) ≡ drop 2 d = ap (λ i. drop i (c ∷ w)) (len ∙ third_up m) ∙ sym (drop-drop m 2 w) in
+                let left : drop (class_len (c ∷ w)) (c ∷ w) ≡ drop 2 d = ap (λ i. drop i (c ∷ w)) (len ∙ third_up m) ∙ sym (drop-drop 2 m w) in
                 let parts : w ≡ take m w ++ (58 ∷ 93 ∷ drop 2 d) = sym (take-append-drop m w) ∙ ap (λ v. take m w ++ v) (two_front d colon bracket) in
                 (take m w, list_all_take is_ascii_alphabetic w, ap (λ v. v ∷ w) (eqb-true c 58 h.0) ∙ ap (λ v. 58 ∷ v) parts ∙ ap (λ v. 58 ∷ (take m w ++ (58 ∷ 93 ∷ v))) (sym left))
             | inr g ↦ absurd cc
@@ -67,8 +67,6 @@ class_found (c ∷ w) n e =
     second_up m = omega arith
     third_up : (m : ℕ) → m + 3 ≡ suc (m + 2)
     third_up m = omega arith
-    drop-drop : (m k : ℕ) (w : Text) → drop k (drop m w) ≡ drop (m + k) w
-    drop-drop m k w = ?
 
 pub class_none : (z : Text) → ((left : Text) → BeginsClass z left → ⊥) → class_len z ≡ 0
 class_none z none = by_len (class_len z) refl

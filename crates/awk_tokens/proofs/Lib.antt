@@ -4,3 +4,8 @@ pub mod WordLemmas
 pub mod StringLemmas
 pub mod ClassLemmas
 pub mod PatternLemmas
+pub mod SignLemmas
+pub mod GapLemmas
+pub mod FirstLemmas
+pub mod PlaceLemmas
+pub mod StepLemmas

@@ -7,3 +7,4 @@ pub mod Places
 pub mod Tokens
 pub mod Reads
 pub mod Scan
+pub mod Next

@@ -6,12 +6,12 @@
 #![tactic(auto)]
 
 mod kinds;
-//mod reading;
+mod reading;
 mod scan;
 mod signs;
 mod syntax_error;
 mod words;
 
 pub use kinds::{Token, TokenKind};
-//pub use reading::tokens;
+pub use reading::tokens;
 pub use syntax_error::SyntaxError;

@@ -1,0 +1,35 @@
+use Rattle.std.proofs.Common.{◌≡◌, ◌+◌, ◌++◌, ◌∷◌, [], true, not, cond, take, sym, ap, subst, ◌∙◌}
+use Rattle.awk_tokens.specs.Places.{place_after}
+use Rattle.awk_tokens.specs.Reads.{ends_operand}
+use Rattle.awk_tokens.specs.Next.{IsNext}
+use Rattle.awk_tokens.specs.Scan.{gap_len}
+use Rattle.awk_tokens.proofs.StepLemmas.{At, at_start, rest_range, gap_step, token_step}
+use Rattle.awk_tokens.proofs.reading.tokens.Goals as goal
+
+pub loop-start-init : goal.loop-start-init
+loop-start-init c =
+    subst (λ tokens. At c.args.script.now 0 (record { line = 1; column = 1 }) true tokens) (sym c.new-found.ensures.items) (at_start c.args.script.now)
+
+pub loop-start-preserved-then-gap-ne0 : goal.loop-start-preserved-then-gap-ne0
+loop-start-preserved-then-gap-ne0 c =
+    let script = c.args.script.now in
+    let same = rest_range script c.loop-start.start in
+    let gap = c.gap_len-gap.result in
+    gap_step script c.loop-start.start c.loop-start.place c.loop-start.operand c.loop-start.found.items gap c.place_after-place.result c.loop-start.invariant (ap gap_len (sym same) ∙ sym c.gap_len-gap.ensures.value) c.if-gap-ne0.true
+    (λ front placed. c.place_after-place.ensures front placed ∙ ap (λ w. place_after (front ++ take gap w)) same)
+
+pub loop-start-preserved : goal.loop-start-preserved
+loop-start-preserved c =
+    let script = c.args.script.now in
+    let start = c.loop-start.start in
+    let place = c.loop-start.place in
+    let operand = c.loop-start.operand in
+    let tokens = c.loop-start.found.items in
+    let token = c.in_ok-token.token in
+    let len = c.in_ok-token.len in
+    let next : IsNext operand _ start place token len = c.in_ok-token.ensures.read in
+    let step = token_step script start place operand tokens token len c.loop-start.invariant (subst (λ z. IsNext operand z start place token len) (rest_range script start) next) in
+    let pushed : c.push.new.self.items ≡ tokens ++ token ∷ [] =
+        c.push.ensures.items ∙ ap (λ ok. cond ok (tokens ++ token ∷ []) tokens) (c.is_err.ensures.negation ∙ ap not c.if-is_err.false) in
+    let ends : c.is_end-operand.result ≡ ends_operand token.kind token.text = c.is_end-operand.ensures ∙ ap (ends_operand token.kind) c.bytes.ensures in
+    subst (λ ts. At script (start + len) token.end (not c.is_end-operand.result) ts) (sym pushed) (subst (λ e. At script (start + len) token.end (not e) (tokens ++ token ∷ [])) (sym ends) step)
