@@ -1,0 +1,3 @@
+pub mod AllBelow
+pub mod OsFollows
+pub mod OsNumbers
