@@ -1,3 +1,6 @@
 pub mod AllBelow
+pub mod Endings
+pub mod FaultTexts
+pub mod Messages
 pub mod OsFollows
 pub mod OsNumbers

@@ -14,8 +14,9 @@ mod files;
 use box_world::ask::{Ask, Mode, Reply, Request, Stop};
 use box_world::world::World;
 use commands::run_command;
-use files::{OpenFile, empty_file, put_to, shut_file, write_out};
+use files::{OpenFile, put_to, shut_file, write_out};
 use std::alloc::Global;
+use std::fs::File;
 use std::io::{Error, ErrorKind};
 use std::marker::Model;
 
@@ -90,7 +91,7 @@ impl OsWorld {
             return Ok(Reply::Failed);
         };
         self.files.reserve(1)?;
-        match empty_file(&self.rt, name) {
+        match File::create(&self.rt, name) {
             Ok(file) => {
                 self.next += 1;
                 self.files.push(OpenFile { number, file }).unwrap();

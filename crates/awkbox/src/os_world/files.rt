@@ -6,8 +6,7 @@ ghost use Rattle.box_world.specs.declared.ask.Reply.TheVariants.{Done};
 ghost use Rattle.awkbox.specs.OsNumbers.{numbers_of};
 
 use box_world::ask::Reply;
-use std::fs::{File, OpenOptions};
-use std::io;
+use std::fs::File;
 use std::io::Write;
 
 /// An open file, and the number that a script's requests have for it.
@@ -15,15 +14,6 @@ use std::io::Write;
 pub struct OpenFile {
     pub number: u32,
     pub file: File,
-}
-
-/// Makes the file of this name, or empties it where it is there, and opens it for writing.
-pub fn empty_file(rt: &HostRuntime, name: &str) -> io::Result<File> {
-    OpenOptions::new()
-        .write(true)
-        .create(true)
-        .truncate(true)
-        .open(rt, name)
 }
 
 /// Writes all of the bytes at once.

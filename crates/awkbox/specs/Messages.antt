@@ -1,0 +1,52 @@
+-- What the program says on standard error, one line each, and the exit status that goes with it.
+use Rattle.std.specs.Prelude.{◌≡◌, ℕ, ◌==◌, List, [], ◌++◌, if◌then◌else◌, codes, string_bytes}
+use Rattle.std.specs.Fmt.{decimal}
+use Rattle.awk_text.specs.Faults.{code_of}
+use Rattle.awk_text.specs.Quoted.{quoted}
+use Rattle.awk_text.specs.declared.fault.Fault.TheVariants.{StepBound as F11, Memory as F13}
+use Rattle.awk_text.specs.declared.place.Place.{Place}
+use Rattle.awkbox.specs.FaultTexts.{fault_text}
+use Rattle.awkbox.specs.declared.messages.Message.{Message}
+use Rattle.awkbox.specs.declared.messages.Message.TheVariants.{Fault, StepBound, Policy, Script, Assignment, CannotRead, CannotWrite, OutOfMemory}
+
+-- a line and a column
+abbrev pub place_text : Place → List ℕ
+place_text place = decimal place.line ++ codes ":" ++ decimal place.column
+
+-- the rule that a policy was refused for; 0 where it was no rule
+abbrev pub rule_text : ℕ → List ℕ
+rule_text rule = if rule == 0 then [] else codes " rule " ++ decimal rule
+
+-- the line, without its newline
+abbrev pub message_text : Message → List ℕ
+message_text (Fault fault place) = codes "awkbox: " ++ place_text place ++ codes " F" ++ decimal (code_of fault) ++ codes " " ++ fault_text fault
+message_text StepBound = codes "awkbox: F11 " ++ fault_text F11
+message_text (Policy error) = codes "awkbox: policy P" ++ decimal error.code ++ rule_text error.rule
+message_text (Script error) = codes "awkbox: script " ++ place_text error.place ++ codes " S" ++ decimal error.code
+message_text (Assignment pair) = codes "awkbox: assignment " ++ decimal pair ++ codes " U3"
+message_text (CannotRead name) = codes "awkbox: cannot read \"" ++ string_bytes name ++ codes "\""
+message_text (CannotWrite name) = codes "awkbox: cannot write \"" ++ string_bytes name ++ codes "\""
+message_text OutOfMemory = codes "awkbox: F13 " ++ fault_text F13
+
+-- 2 for a fault, 4 where the steps ran out, 3 where something was refused before the run
+abbrev pub message_status : Message → ℕ
+message_status (Fault fault place) = 2
+message_status StepBound = 4
+message_status (Policy error) = 3
+message_status (Script error) = 3
+message_status (Assignment pair) = 3
+message_status (CannotRead name) = 3
+message_status (CannotWrite name) = 3
+message_status OutOfMemory = 2
+
+-- a message that the file of this name cannot be read, or that memory was refused
+abbrev pub SaysCannotRead : List ℕ → Message → Type 0
+SaysCannotRead name (CannotRead shown) = string_bytes shown ≡ quoted name
+SaysCannotRead name OutOfMemory = Unit {0}
+SaysCannotRead name message = ⊥
+
+-- a message that the file of this name cannot be written, or that memory was refused
+abbrev pub SaysCannotWrite : List ℕ → Message → Type 0
+SaysCannotWrite name (CannotWrite shown) = string_bytes shown ≡ quoted name
+SaysCannotWrite name OutOfMemory = Unit {0}
+SaysCannotWrite name message = ⊥

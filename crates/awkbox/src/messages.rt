@@ -1,0 +1,191 @@
+// What the program says at its end, and the exit status that goes with it.
+ghost use Rattle.std.specs.Prelude.{◌≡◌, Some, IfOk, string_bytes};
+ghost use Rattle.awk_text.specs.Quoted.{quoted};
+ghost use Rattle.awkbox.specs.FaultTexts.{fault_text};
+
+use crate::drive::Refusal;
+use crate::report::{Outcome, Report};
+use crate::syntax::SyntaxError;
+use awk_text::Memory;
+use awk_text::fault::Fault;
+use awk_text::place::Place;
+use awk_text::quote::quote_log;
+use box_policy::policy::PolicyError;
+use std::alloc::{AllocError, Global};
+use std::fmt;
+
+/// One line on standard error.
+#[derive(Debug, Drop)]
+pub enum Message {
+    /// The run ended with a fault, at this place of the script.
+    Fault(Fault, Place),
+    /// The run took as many steps as it may.
+    StepBound,
+    /// The policy was refused.
+    Policy(PolicyError),
+    /// The script was refused.
+    Script(SyntaxError),
+    /// The `-v` pair of this number, counted from 1, names nothing that may be assigned.
+    Assignment(u32),
+    /// A file could not be read. The name is quoted, as the log of denials has it.
+    CannotRead(String),
+    /// A file could not be made or emptied. The name is quoted, as the log of denials has it.
+    CannotWrite(String),
+    /// Memory was refused outside the run.
+    OutOfMemory,
+}
+
+/// How the program ends.
+#[derive(Debug, Drop)]
+pub enum Ending {
+    /// With the script's own status, and nothing is said.
+    Quiet(u8),
+    /// With a message, and the status that goes with it.
+    Said(Message),
+}
+
+fn fault_text(fault: Fault) -> &'static str
+    ensures { result.now ≡ fault_text fault }
+{
+    match fault {
+        Fault::OutOfRange => "number out of range",
+        Fault::ZeroDivisor => "division by zero",
+        Fault::Pattern => "bad pattern",
+        Fault::Format => "bad format",
+        Fault::CallDepth => "calls too deep",
+        Fault::TextTooLong => "text too long",
+        Fault::Output => "cannot open or write output",
+        Fault::NextOutside => "next outside the main rules",
+        Fault::FieldNumber => "bad field number",
+        Fault::TooManyElements => "array too large",
+        Fault::StepBound => "step bound reached",
+        Fault::Log => "cannot write the denial log",
+        Fault::Memory => "out of memory",
+    }
+}
+
+impl From<AllocError> for Message {
+    ghost use Rattle.std.specs.Prelude.{◌≡◌};
+    ghost use Rattle.awkbox.specs.declared.messages.Message.TheVariants.{OutOfMemory};
+
+    ghost from_gives = { λ _ message. message ≡ OutOfMemory };
+
+    fn from(_error: AllocError) -> Message {
+        Message::OutOfMemory
+    }
+}
+
+// The name as the log of denials has it.
+fn quoted_name(alloc: Global, name: &str) -> Result<String, Memory>
+    ensures { IfOk result (λ text. string_bytes text ≡ quoted name.now) }
+{
+    match quote_log(alloc, name.as_bytes()) {
+        Ok(bytes) => Ok(String::from_utf8(bytes).unwrap()),
+        Err(_) => Err(AllocError),
+    }
+}
+
+impl Message {
+    ghost use Rattle.awkbox.specs.Messages.{message_status, SaysCannotRead, SaysCannotWrite};
+
+    /// That the file of this name cannot be read; `OutOfMemory` where memory for that is refused.
+    pub fn cannot_read(alloc: Global, name: &str) -> Message
+        ensures { SaysCannotRead name.now result }
+    {
+        match quoted_name(alloc, name) {
+            Ok(name) => Message::CannotRead(name),
+            Err(_) => Message::OutOfMemory,
+        }
+    }
+
+    /// That the file of this name cannot be made or emptied; `OutOfMemory` where memory for that is
+    /// refused.
+    pub fn cannot_write(alloc: Global, name: &str) -> Message
+        ensures { SaysCannotWrite name.now result }
+    {
+        match quoted_name(alloc, name) {
+            Ok(name) => Message::CannotWrite(name),
+            Err(_) => Message::OutOfMemory,
+        }
+    }
+
+    /// The exit status: 2 for a fault, 4 where the steps ran out, and 3 where something was refused
+    /// before the run.
+    pub fn status(&self) -> u8
+        ensures { result ≡ message_status self.now }
+    {
+        match self {
+            Message::Fault(_, _) | Message::OutOfMemory => 2,
+            Message::StepBound => 4,
+            Message::Policy(_)
+            | Message::Script(_)
+            | Message::Assignment(_)
+            | Message::CannotRead(_)
+            | Message::CannotWrite(_) => 3,
+        }
+    }
+}
+
+impl fmt::Display for Message {
+    ghost use Rattle.awkbox.specs.Messages.{message_text};
+
+    ghost output = { λ message. Some (message_text message) };
+
+    fn fmt<W: fmt::Write>(&self, f: &mut fmt::Formatter<W>) -> fmt::Result {
+        match self {
+            Message::Fault(fault, Place { line, column }) => {
+                let (code, text) = (fault.code(), fault_text(*fault));
+                write!(f, "awkbox: {line}:{column} F{code} {text}")
+            }
+            Message::StepBound => {
+                let text = fault_text(Fault::StepBound);
+                write!(f, "awkbox: F11 {text}")
+            }
+            Message::Policy(PolicyError { code, rule: 0 }) => write!(f, "awkbox: policy P{code}"),
+            Message::Policy(PolicyError { code, rule }) => {
+                write!(f, "awkbox: policy P{code} rule {rule}")
+            }
+            Message::Script(SyntaxError { code, place }) => {
+                let (line, column) = (place.line, place.column);
+                write!(f, "awkbox: script {line}:{column} S{code}")
+            }
+            Message::Assignment(pair) => write!(f, "awkbox: assignment {pair} U3"),
+            Message::CannotRead(name) => write!(f, "awkbox: cannot read \"{name}\""),
+            Message::CannotWrite(name) => write!(f, "awkbox: cannot write \"{name}\""),
+            Message::OutOfMemory => {
+                let text = fault_text(Fault::Memory);
+                write!(f, "awkbox: F13 {text}")
+            }
+        }
+    }
+}
+
+impl Ending {
+    ghost use Rattle.awkbox.specs.Endings.{ending_of, ending_status};
+
+    /// How the program ends after this answer.
+    pub fn of(answer: Result<Report, Refusal>) -> Ending
+        ensures { result ≡ ending_of answer }
+    {
+        match answer {
+            Ok(report) => match report.outcome {
+                Outcome::Status(status) => Ending::Quiet(status),
+                Outcome::Fault(fault, place) => Ending::Said(Message::Fault(fault, place)),
+                Outcome::Cut => Ending::Said(Message::StepBound),
+            },
+            Err(Refusal::Policy(error)) => Ending::Said(Message::Policy(error)),
+            Err(Refusal::Script(error)) => Ending::Said(Message::Script(error)),
+            Err(Refusal::Assign(pair)) => Ending::Said(Message::Assignment(pair)),
+        }
+    }
+
+    /// The exit status.
+    pub fn status(&self) -> u8
+        ensures { result ≡ ending_status self.now }
+    {
+        match self {
+            Ending::Quiet(status) => *status,
+            Ending::Said(message) => message.status(),
+        }
+    }
+}

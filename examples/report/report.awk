@@ -1,0 +1,6 @@
+BEGIN {
+	print "one line" > "/tmp/awkbox-report.txt"
+	system("echo a command")
+	system("id")
+	print "done"
+}
