@@ -91,6 +91,16 @@ run
 is 0 "" "" "" && holds out/a "b${line}c$line"
 verdict "an allowed write under the base, to a file that is there"
 
+policy "effect = \"allow\"
+kind = \"write\"
+match = \"$base/out/a\"" "effect = \"allow\"
+kind = \"write\"
+match = \"$base/out/b\""
+script 'BEGIN { print "a" > "out/a"; print "b" > "out/b"; print "c" > "out/a" }'
+run
+is 0 "" "" "" && holds out/a "a${line}c$line" && holds out/b "b$line"
+verdict "two files at once"
+
 script "BEGIN { print \"a\" > \"$work/elsewhere/x\" }"
 run
 is 2 "" "awkbox: 1:19 F7 cannot open or write output$line" \

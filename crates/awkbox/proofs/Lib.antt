@@ -1,1 +1,2 @@
+pub mod OsRising
 pub mod QuotedText

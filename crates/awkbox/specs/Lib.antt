@@ -1,4 +1,3 @@
-pub mod AllBelow
 pub mod Endings
 pub mod FaultTexts
 pub mod Messages

@@ -81,3 +81,6 @@ pub fn fault(alloc: Global, text: &str) -> Error {
         Err(refused) => Error::from(refused),
     }
 }
+
+#[cfg(test)]
+mod tests;

@@ -189,3 +189,6 @@ impl Ending {
         }
     }
 }
+
+#[cfg(test)]
+mod tests;

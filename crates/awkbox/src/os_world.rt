@@ -39,15 +39,14 @@ pub struct OsWorld {
 }
 
 impl Model for OsWorld {
-    ghost use Rattle.std.specs.Prelude.{ℕ, List, ◌≤◌};
-    ghost use Rattle.awkbox.specs.OsNumbers.{numbers_of};
-    ghost use Rattle.awkbox.specs.AllBelow.{AllBelow};
+    ghost use Rattle.std.specs.Prelude.{ℕ, List};
+    ghost use Rattle.awkbox.specs.OsNumbers.{Rises, numbers_of};
 
     ghost Value = { List ℕ };
 
     ghost view = { λ w. numbers_of w.files.items };
 
-    ghost invariant = { λ w. (3 ≤ w.next) × AllBelow w.next (numbers_of w.files.items) };
+    ghost invariant = { λ w. Rises 3 w.next (numbers_of w.files.items) };
 }
 
 /// The answer to a request that the system refused, and of which nothing has been done: `Failed`,
@@ -148,3 +147,6 @@ impl World for OsWorld {
 
     ghost stops_later = { λ _ _ _ _ _ _ _ _ p. p };
 }
+
+#[cfg(test)]
+mod tests;

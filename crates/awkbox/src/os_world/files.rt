@@ -1,9 +1,9 @@
 // Files that are open for writing, by number.
-ghost use Rattle.std.specs.Prelude.{◌≡◌, ℕ, List, ◌+◌, ◌≤◌, ◌++◌, length, take, drop};
+ghost use Rattle.std.specs.Prelude.{◌≡◌, ℕ, List, ◌+◌, ◌<◌, ◌++◌, length, take, drop, IfOk, IfErr};
 ghost use Rattle.std.specs.Io.KnownBytes.{Appends};
 ghost use Rattle.box_world.specs.Calls.{IsDoing, without};
 ghost use Rattle.box_world.specs.declared.ask.Reply.TheVariants.{Done};
-ghost use Rattle.awkbox.specs.OsNumbers.{numbers_of};
+ghost use Rattle.awkbox.specs.OsNumbers.{IsRising, numbers_of};
 
 use box_world::ask::Reply;
 use std::fs::File;
@@ -30,37 +30,34 @@ pub fn write_out<W: Write>(writer: &mut W, bytes: &[u8]) -> Reply
     }
 }
 
-// The index of the first file of the number, or the length where there is none.
-fn index_of(files: &[OpenFile], number: u32) -> usize
-    ensures within { result ≤ length files.now }
-    ensures first { without number (numbers_of files.now) ≡ numbers_of (take result files.now) ++ numbers_of (drop (result + 1) files.now) }
+// The index of the file of the number, or where it would stand: the numbers rise.
+fn search(files: &[OpenFile], number: u32) -> Result<usize, usize>
+    requires { IsRising (numbers_of files.now) }
+    ensures within { IfOk result (λ at. at < length files.now) }
+    ensures found { IfOk result (λ at. without number (numbers_of files.now) ≡ numbers_of (take at files.now) ++ numbers_of (drop (at + 1) files.now)) }
+    ensures absent { IfErr result (λ _. without number (numbers_of files.now) ≡ numbers_of files.now) }
 {
-    for (i, entry) in files.iter().enumerate() {
-        if entry.number == number {
-            return i;
-        }
-    }
-    files.len()
+    files.binary_search_by_key(&number, |file| file.number)
 }
 
 /// Writes the bytes to the file of the number.
 pub fn put_to(files: &mut Vec<OpenFile>, number: u32, bytes: &[u8]) -> Reply
+    requires { IsRising (numbers_of files.old.items) }
     ensures same { numbers_of files.new.items ≡ numbers_of files.old.items }
     ensures fits { IsDoing result }
 {
-    let at = index_of(files.as_slice(), number);
-    match files.get_mut(at) {
-        Some(entry) => write_out(&mut entry.file, bytes),
-        None => Reply::Failed,
+    match search(files.as_slice(), number) {
+        Ok(at) => write_out(&mut files[at].file, bytes),
+        Err(_) => Reply::Failed,
     }
 }
 
 /// Closes the file of the number.
 pub fn shut_file(files: &mut Vec<OpenFile>, number: u32)
+    requires { IsRising (numbers_of files.old.items) }
     ensures { numbers_of files.new.items ≡ without number (numbers_of files.old.items) }
 {
-    let at = index_of(files.as_slice(), number);
-    if at < files.len() {
+    if let Ok(at) = search(files.as_slice(), number) {
         files.remove(at);
     }
 }
