@@ -1,0 +1,2 @@
+mod Radix
+mod Steps

@@ -1,0 +1,4 @@
+pub mod Directives
+pub mod Fields
+pub mod Formatted
+pub mod Written
