@@ -116,9 +116,9 @@ wants (e ∷ es) = wants es ++ e.want ∷ []
 abbrev pub Fails : Event → Type 0
 Fails e = FailsAs e.want.wish e.reply
   where
-  FailsAs : Wish → Reply → Type 0
-  FailsAs (Opens mode class text) Failed = Unit {0}
-  FailsAs (Runs command) Failed = Unit {0}
-  FailsAs (Looks name) Failed = Unit {0}
-  FailsAs (Assigns name text) Failed = Unit {0}
-  FailsAs wish reply = ⊥
+    FailsAs : Wish → Reply → Type 0
+    FailsAs (Opens mode class text) Failed = Unit {0}
+    FailsAs (Runs command) Failed = Unit {0}
+    FailsAs (Looks name) Failed = Unit {0}
+    FailsAs (Assigns name text) Failed = Unit {0}
+    FailsAs wish reply = ⊥

@@ -1,6 +1,6 @@
 // Worked examples, with literal answers.
 ghost use Rattle.std.specs.Prelude.{◌≡◌, ◌<◌, IfOk};
-ghost use Rattle.box_world.specs.Calls.{IsDuty, numbers_after};
+ghost use Rattle.box_world.specs.Calls.{IsDuty, IsStatus, numbers_after};
 
 use super::MemoryWorld;
 use crate::ask::{Ask, Mode, Reply, Request};
@@ -116,13 +116,27 @@ fn a_put_goes_to_its_own_file(rt: HostRuntime) -> Result<(), Fail> {
     Ok(())
 }
 
+// What it leaves is left open here, since the proofs of tests need none of it.
+fn put_command(
+    alloc: Global,
+    world: &mut MemoryWorld,
+    text: &str,
+    output: &str,
+    status: i64,
+) -> Result<(), Fail>
+    requires { IsStatus status }
+{
+    world.put_command(octets(alloc, text)?, octets(alloc, output)?, status)?;
+    Ok(())
+}
+
 #[test]
 fn a_command_prints_its_output(rt: HostRuntime) -> Result<(), Fail> {
     let alloc = rt.alloc();
     let mut world = MemoryWorld::new(alloc);
-    world.put_command(octets(alloc, "sort -r")?, octets(alloc, "no")?, 1)?;
-    world.put_command(octets(alloc, "sort -r")?, octets(alloc, "")?, 0)?;
-    world.put_command(octets(alloc, "date")?, octets(alloc, "now\n")?, 256)?;
+    put_command(alloc, &mut world, "sort -r", "no", 1)?;
+    put_command(alloc, &mut world, "sort -r", "", 0)?;
+    put_command(alloc, &mut world, "date", "now\n", 256)?;
     assert_eq!(rt; run(alloc, &mut world, "sort -r")?, 0);
     assert_eq!(rt; run(alloc, &mut world, "date")?, 256);
     assert_eq!(rt; run(alloc, &mut world, "id")?, 127);
