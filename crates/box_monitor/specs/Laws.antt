@@ -139,7 +139,7 @@ module _ {W L : Type 0} (follows : W → List Call → W → Type 0) (has_stoppe
   LogEnds-later None u v w book xs ys line p q = absurd q
   LogEnds-later (Some Whole) u v w book xs ys line p q = absurd q
   LogEnds-later (Some Part) u v w book xs ys line p q = (q.0, q.1, lines-then u v w book xs ys (take q.0 line) p q.2)
-  LogEnds-later (Some Unsure) u v w book xs ys line p q = tt
+  LogEnds-later (Some Unsure) u v w book xs ys line p q = lines-then u v w book xs ys line p q
 
   Stops-at : (stops : W → List Call → Ask → W → Type 0)
       → ((u v w : W) (xs ys : List Call) (ask : Ask) → follows u xs v → has_stopped v ≡ has_stopped u → stops v ys ask w → stops u (xs ++ ys) ask w)

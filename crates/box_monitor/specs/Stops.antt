@@ -15,11 +15,11 @@ use Rattle.box_monitor.specs.declared.log_end.LogEnd.TheVariants.{Whole, Part, U
 abbrev pub AppendsPart : Option (List ℕ) → Option (List ℕ) → List ℕ → List ℕ → Type 0
 AppendsPart old new text line = (n : ℕ) × (n < length line) × Appends old new (text ++ take n line)
 
--- how the log ends where the monitor stops at a denied ask: after the text it has a part of the line,
--- or nothing is known of it
+-- How the log ends where the monitor stops at a denied ask: after the text it has a part of the line,
+-- or its writer was given the whole line and could not flush it.
 abbrev pub LogEnds : Option LogEnd → Option (List ℕ) → Option (List ℕ) → List ℕ → List ℕ → Type 0
 LogEnds (Some Part) old new text line = AppendsPart old new text line
-LogEnds (Some Unsure) old new text line = Unit {0}
+LogEnds (Some Unsure) old new text line = Appends old new (text ++ line)
 LogEnds (Some Whole) old new text line = ⊥
 LogEnds None old new text line = ⊥
 

@@ -8,6 +8,7 @@ pub enum LogEnd {
     /// A write failed or took no byte: it has a line for each denial before, and then a part of
     /// one more line, which may be empty.
     Part,
-    /// A flush failed: how much of the log has reached its place is not known.
+    /// A flush failed: the writer took the line of the last denial too, but how much of the log has
+    /// reached its place is not known.
     Unsure,
 }

@@ -28,6 +28,8 @@ fn write_bytes<L: Write>(log: &mut L, line: &[u8]) -> bool
 pub fn write_line<L: Write>(log: &mut L, line: &[u8]) -> LogEnd
     ensures whole { result ≡ LogEnd.Whole →
         Appends (L.contents log.old) (L.contents log.new) line.now }
+    ensures unsure { result ≡ LogEnd.Unsure →
+        Appends (L.contents log.old) (L.contents log.new) line.now }
     ensures part { result ≡ LogEnd.Part →
         AppendsPart (L.contents log.old) (L.contents log.new) [] line.now }
 {
