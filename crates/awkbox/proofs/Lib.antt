@@ -1,2 +1,6 @@
 pub mod OsRising
 pub mod QuotedText
+pub mod Finishing
+pub mod Known
+pub mod Sublists
+pub mod Walking

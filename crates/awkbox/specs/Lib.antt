@@ -3,3 +3,9 @@ pub mod FaultTexts
 pub mod Messages
 pub mod OsFollows
 pub mod OsNumbers
+pub mod OutputStreams
+pub mod Replies
+pub mod Statuses
+pub mod Sublist
+pub mod Walks
+pub mod Wanted
