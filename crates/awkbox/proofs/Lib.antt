@@ -4,3 +4,4 @@ pub mod Finishing
 pub mod Known
 pub mod Sublists
 pub mod Walking
+pub mod Slices

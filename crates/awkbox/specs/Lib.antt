@@ -5,7 +5,9 @@ pub mod OsFollows
 pub mod OsNumbers
 pub mod OutputStreams
 pub mod Replies
+pub mod Script
 pub mod Statuses
 pub mod Sublist
+pub mod Drives
 pub mod Walks
 pub mod Wanted

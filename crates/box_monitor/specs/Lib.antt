@@ -8,3 +8,4 @@ pub mod Leads
 pub mod Stops
 pub mod Refusals
 pub mod Laws
+pub mod Passed
