@@ -1,7 +1,9 @@
-pub mod OsRising
-pub mod QuotedText
 pub mod Finishing
 pub mod Known
+pub mod OsRising
+pub mod Passing
+pub mod QuotedText
+pub mod Slices
 pub mod Sublists
 pub mod Walking
-pub mod Slices
+pub mod Driving

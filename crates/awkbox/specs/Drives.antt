@@ -3,8 +3,7 @@ use Rattle.std.specs.Prelude.{◌≡◌, ℕ, List, [], ◌∷◌, ◌++◌, Opt
 use Rattle.std.specs.Io.KnownBytes.{Appends}
 use Rattle.awk_text.specs.declared.fault.Fault.TheVariants.{Log as NoLog}
 use Rattle.awk_text.specs.declared.place.Place.{Place}
-use Rattle.awk_tokens.specs.declared.kinds.Token.{Token}
-use Rattle.awk_tokens.specs.declared.syntax_error.SyntaxError.{SyntaxError}
+
 use Rattle.box_world.specs.Calls.{Call}
 use Rattle.box_world.specs.Events.{Event, Want, ask_of, calls, open_streams, wants}
 use Rattle.box_world.specs.declared.ask.Ask.{Ask}
@@ -18,6 +17,7 @@ use Rattle.box_monitor.specs.declared.log_end.LogEnd.TheVariants.{Whole}
 use Rattle.awkbox.specs.declared.report.Outcome.{Outcome}
 use Rattle.awkbox.specs.declared.report.Outcome.TheVariants.{Fault}
 use Rattle.awkbox.specs.declared.statement.Statement.{Statement}
+use Rattle.awkbox.specs.Accepted.{Accepted}
 use Rattle.awkbox.specs.Sublist.{IsSublist}
 use Rattle.awkbox.specs.Wanted.{wanted}
 
@@ -58,3 +58,10 @@ module _ {W L : Type 0} (follows : W → List Call → W → Type 0) (stops : W 
     pub failed : DeniedFail book events
     pub passed : follows world (calls (passed_on book events)) world'
     pub log_stands : LogStands book world log events outcome end world' log'
+
+  -- the same of the texts of a policy and of a script
+  pub record DrivesText (policy script : List ℕ) (world : W) (log : L) (outcome : Outcome) (end : LogEnd) (world' : W) (log' : L) : Type 0 where
+    pub book : Rulebook
+    pub statements : List Statement
+    pub accepted : Accepted policy script book statements
+    pub drives : Drives book statements world log outcome end world' log'

@@ -1,3 +1,5 @@
+pub mod Accepted
+pub mod Drives
 pub mod Endings
 pub mod FaultTexts
 pub mod Messages
@@ -6,8 +8,8 @@ pub mod OsNumbers
 pub mod OutputStreams
 pub mod Replies
 pub mod Script
+pub mod SetupParts
 pub mod Statuses
 pub mod Sublist
-pub mod Drives
 pub mod Walks
 pub mod Wanted

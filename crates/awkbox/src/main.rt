@@ -2,13 +2,16 @@
 #![tactic(auto)]
 
 mod command_line;
-mod drive;
+pub mod drive;
 mod messages;
 mod os_world;
 mod program;
-mod report;
-mod setup;
-mod syntax;
+pub mod report;
+mod script;
+pub mod setup;
+mod statement;
+mod streams;
+mod walk;
 
 use std::process::ExitCode;
 

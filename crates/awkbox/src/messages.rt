@@ -5,12 +5,12 @@ ghost use Rattle.awkbox.specs.FaultTexts.{fault_text};
 
 use crate::drive::Refusal;
 use crate::report::{Outcome, Report};
-use crate::syntax::SyntaxError;
+use awk_tokens::SyntaxError;
 use awk_text::Memory;
 use awk_text::fault::Fault;
 use awk_text::place::Place;
 use awk_text::quote::quote_log;
-use box_policy::policy::PolicyError;
+use box_policy::error::PolicyError;
 use std::alloc::{AllocError, Global};
 use std::fmt;
 

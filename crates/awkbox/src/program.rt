@@ -1,4 +1,6 @@
 // The program from its words to its exit status.
+ghost use Rattle.awkbox.specs.SetupParts.{IsPlain};
+
 use crate::command_line;
 use crate::command_line::Run;
 use crate::drive::drive;
@@ -79,7 +81,9 @@ fn run_script(rt: &HostRuntime, run: &Run<'_>) -> Result<Ending, Message> {
 }
 
 // No operand, no name of the environment, no assignment and no separator.
-fn no_setup(alloc: Global) -> Setup {
+fn no_setup(alloc: Global) -> Setup
+    ensures { IsPlain result }
+{
     let (operands, names, assigns) = (Vec::new(alloc), Vec::new(alloc), Vec::new(alloc));
     Setup::read(operands, names, assigns, None).unwrap()
 }

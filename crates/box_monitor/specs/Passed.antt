@@ -1,5 +1,5 @@
 -- What of a list of events is passed on to the world behind, and what of it the log tells. The newest event comes first.
-use Rattle.std.specs.Prelude.{◌≡◌, List, [], ◌∷◌, ◌++◌, All, filter, is_none, IsSome, Option, None, Some, option_to_list}
+use Rattle.std.specs.Prelude.{◌≡◌, List, [], ◌∷◌, ◌++◌, filter, is_none, IsSome, Option, None, Some, option_to_list}
 use Rattle.box_policy.specs.Rulebook.{Rulebook}
 use Rattle.box_policy.specs.declared.policy.Kind.TheVariants.{Run, Env, Assign}
 use Rattle.box_world.specs.Events.{Event, Want, Wish, Opens, Reads, Writes, Shuts, Runs, Looks, Assigns}
@@ -33,4 +33,5 @@ told_of book (e ∷ es) = told_of book es ++ option_to_list (denial_of_want book
 
 -- each denied one failed
 abbrev pub DeniedFail : Rulebook → List Event → Type 0
-DeniedFail book events = All (λ e. IsSome (denial_of_want book e.want) → e.reply ≡ Failed) events
+DeniedFail book [] = Unit {0}
+DeniedFail book (e ∷ es) = (IsSome (denial_of_want book e.want) → e.reply ≡ Failed) × DeniedFail book es
