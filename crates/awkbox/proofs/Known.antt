@@ -17,7 +17,7 @@ pub Knows-opened : (numbers : List ℕ) (streams : List OutputStream) (s : Outpu
 Knows-opened numbers streams s k = record {
   others = k.others;
   known = ap (λ z. z ++ s.number ∷ []) k.known ∙ append_assoc k.others (numbers_of streams) (s.number ∷ [])
-    ∙ ap (λ z. k.others ++ z) (sym (map-append (λ (o : OutputStream). o.number) streams (s ∷ [])));
+      ∙ ap (λ z. k.others ++ z) (sym (map-append (λ (o : OutputStream). o.number) streams (s ∷ [])));
 }
 
 or-true : (a b : Bool) → b ≡ true → (a || b) ≡ true

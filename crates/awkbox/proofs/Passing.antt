@@ -94,6 +94,7 @@ All-last P xs y p = subst P (get_or-append_seam xs y [] y) (p (length xs) y (ome
 
 pub denied-calls : (book : Rulebook) (es : List Event) → AllFailed book (calls es) → DeniedFail book es
 denied-calls book [] p = tt
-denied-calls book (e ∷ es) p =
-    (subst (λ d. IsSome d → e.reply ≡ Failed) (denial-same book e.want (open_streams es)) (All-last (FailsIfDenied book) (calls es) _ p),
-      denied-calls book es (All-front (FailsIfDenied book) (calls es) _ p))
+denied-calls book (e ∷ es) p = (
+  subst (λ d. IsSome d → e.reply ≡ Failed) (denial-same book e.want (open_streams es)) (All-last (FailsIfDenied book) (calls es) _ p),
+  denied-calls book es (All-front (FailsIfDenied book) (calls es) _ p),
+)

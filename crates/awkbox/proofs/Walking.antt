@@ -31,10 +31,10 @@ pub record Laws {W : Type 0} (follows : W → List Call → W → Type 0) (open_
 module _ {W : Type 0} {follows : W → List Call → W → Type 0} {open_numbers : W → List ℕ} {has_stopped : W → Bool} {stops : W → List Call → Ask → W → Type 0} (laws : Laws follows open_numbers has_stopped stops) where
   -- one more event
   pub one-more : {first w w' : W} {es : List Event} {streams : List OutputStream} (streams' : List OutputStream) (want : Want) (reply : Reply)
-    → Stands follows open_numbers has_stopped stops first es streams w → follows w ((ask_of want (streams_of streams), reply) ∷ []) w'
-    → has_stopped w' ≡ has_stopped w → streams_after want.wish reply (streams_of streams) ≡ streams_of streams'
-    → IsSublist (texts_of streams') (names_opened (wants es ++ want ∷ []))
-    → Stands follows open_numbers has_stopped stops first ((record { want = want; reply = reply }) ∷ es) streams' w'
+      → Stands follows open_numbers has_stopped stops first es streams w → follows w ((ask_of want (streams_of streams), reply) ∷ []) w'
+      → has_stopped w' ≡ has_stopped w → streams_after want.wish reply (streams_of streams) ≡ streams_of streams'
+      → IsSublist (texts_of streams') (names_opened (wants es ++ want ∷ []))
+      → Stands follows open_numbers has_stopped stops first ((record { want = want; reply = reply }) ∷ es) streams' w'
   one-more {first = first} {w = w} {w' = w'} {es = es} streams' want reply s leads steady opened names = record {
     leads = laws.append first w w' (calls es) ((ask_of want (open_streams es), reply) ∷ []) s.leads (rw s.opened leads);
     opened = ap (streams_after want.wish reply) s.opened ∙ opened;
@@ -44,18 +44,18 @@ module _ {W : Type 0} {follows : W → List Call → W → Type 0} {open_numbers
 
   -- one more event that opens and shuts nothing
   pub quiet-one : {first w w' : W} {es : List Event} {streams : List OutputStream} (want : Want) (reply : Reply)
-    → Stands follows open_numbers has_stopped stops first es streams w → follows w ((ask_of want (streams_of streams), reply) ∷ []) w'
-    → has_stopped w' ≡ has_stopped w → streams_after want.wish reply (streams_of streams) ≡ streams_of streams
-    → Stands follows open_numbers has_stopped stops first ((record { want = want; reply = reply }) ∷ es) streams w'
+      → Stands follows open_numbers has_stopped stops first es streams w → follows w ((ask_of want (streams_of streams), reply) ∷ []) w'
+      → has_stopped w' ≡ has_stopped w → streams_after want.wish reply (streams_of streams) ≡ streams_of streams
+      → Stands follows open_numbers has_stopped stops first ((record { want = want; reply = reply }) ∷ es) streams w'
   quiet-one {es = es} {streams = streams} want reply s leads steady opened =
-    one-more streams want reply s leads steady opened
+      one-more streams want reply s leads steady opened
       (rw (names_opened-append (wants es) (want ∷ [])) (IsSublist-more (names_opened (want ∷ [])) s.names))
 
   -- a request that got no answer halts the run
   pub halts : {first w w' : W} {es : List Event} {streams : List OutputStream} (ws : List Want) (streams' : List OutputStream) (want : Want) (halt : Halt)
-    → Stands follows open_numbers has_stopped stops first es streams w
-    → StopsAt follows open_numbers has_stopped stops (ask_of want (streams_of streams)) w w' halt
-    → Part follows open_numbers has_stopped stops first es ws streams' w' halt
+      → Stands follows open_numbers has_stopped stops first es streams w
+      → StopsAt follows open_numbers has_stopped stops (ask_of want (streams_of streams)) w w' halt
+      → Part follows open_numbers has_stopped stops first es ws streams' w' halt
   halts {first = first} {w = w} {w' = w'} {es = es} ws streams' want (Output place) s p = absurd p
   halts {first = first} {w = w} {w' = w'} {es = es} ws streams' want Memory s p = record {
     events = es;
@@ -77,14 +77,14 @@ module _ {W : Type 0} {follows : W → List Call → W → Type 0} {open_numbers
       at = sym p.2;
       leads = subst (λ z. follows first z w') (append-nil (calls es)) (laws.append first w w' (calls es) [] s.leads p.0);
       unlogged = subst (λ z. stops first z (ask_of want (open_streams es)) w') (append-nil (calls es))
-        (laws.later first w w' (calls es) [] (ask_of want (open_streams es)) s.leads s.steady (rw s.opened p.1));
+          (laws.later first w w' (calls es) [] (ask_of want (open_streams es)) s.leads s.steady (rw s.opened p.1));
     };
   }
 
 module _ {W : Type 0} {follows : W → List Call → W → Type 0} {open_numbers : W → List ℕ} {has_stopped : W → Bool} {stops : W → List Call → Ask → W → Type 0} where
   -- memory that is refused before anything is asked
   pub refused : {first w : W} {es : List Event} {streams : List OutputStream} (ws : List Want) (streams' : List OutputStream)
-    → Stands follows open_numbers has_stopped stops first es streams w → Part follows open_numbers has_stopped stops first es ws streams' w Memory
+      → Stands follows open_numbers has_stopped stops first es streams w → Part follows open_numbers has_stopped stops first es ws streams' w Memory
   refused {es = es} ws streams' s = record {
     events = es;
     some = [];
@@ -94,20 +94,20 @@ module _ {W : Type 0} {follows : W → List Call → W → Type 0} {open_numbers
   }
 
   pub done-by : {first w : W} {es : List Event} {streams : List OutputStream} {want : Want} {reply : Reply}
-    → Stands follows open_numbers has_stopped stops first ((record { want = want; reply = reply }) ∷ es) streams w
-    → Done follows open_numbers has_stopped stops first es (want ∷ []) streams w
+      → Stands follows open_numbers has_stopped stops first ((record { want = want; reply = reply }) ∷ es) streams w
+      → Done follows open_numbers has_stopped stops first es (want ∷ []) streams w
   done-by s = record { events = _; done = refl; stands = s }
 
   -- an output that failed
   pub failed-by : {first w : W} {es : List Event} {streams : List OutputStream} {want : Want} {reply : Reply} (place : Place)
-    → Stands follows open_numbers has_stopped stops first ((record { want = want; reply = reply }) ∷ es) streams w
-    → Part follows open_numbers has_stopped stops first es (want ∷ []) streams w (Output place)
+      → Stands follows open_numbers has_stopped stops first ((record { want = want; reply = reply }) ∷ es) streams w
+      → Part follows open_numbers has_stopped stops first es (want ∷ []) streams w (Output place)
   failed-by {want = want} place s = record { events = _; some = want ∷ []; done = refl; part = IsSublist-refl (want ∷ []); halted = s }
 
   then-at : {B : Type 0} {first w1 : W} {es : List Event} {ws1 : List Want} {s1 : List OutputStream} (ws2 : List Want) (s2 : List OutputStream) (w2 : W) (r : Result B Halt)
-    → (d : Done follows open_numbers has_stopped stops first es ws1 s1 w1)
-    → MatchResult r (λ v. Done follows open_numbers has_stopped stops first d.events ws2 s2 w2) (λ halt. Part follows open_numbers has_stopped stops first d.events ws2 s2 w2 halt)
-    → MatchResult r (λ v. Done follows open_numbers has_stopped stops first es (ws1 ++ ws2) s2 w2) (λ halt. Part follows open_numbers has_stopped stops first es (ws1 ++ ws2) s2 w2 halt)
+      → (d : Done follows open_numbers has_stopped stops first es ws1 s1 w1)
+      → MatchResult r (λ v. Done follows open_numbers has_stopped stops first d.events ws2 s2 w2) (λ halt. Part follows open_numbers has_stopped stops first d.events ws2 s2 w2 halt)
+      → MatchResult r (λ v. Done follows open_numbers has_stopped stops first es (ws1 ++ ws2) s2 w2) (λ halt. Part follows open_numbers has_stopped stops first es (ws1 ++ ws2) s2 w2 halt)
   then-at {es = es} {ws1 = ws1} ws2 s2 w2 (Ok v) d h = record {
     events = h.events;
     done = h.done ∙ ap (λ z. z ++ ws2) d.done ∙ append_assoc (wants es) ws1 ws2;
@@ -123,68 +123,74 @@ module _ {W : Type 0} {follows : W → List Call → W → Type 0} {open_numbers
 
   -- one thing and then another
   pub Does-then : {A B : Type 0} {v : A} {r : Result B Halt} {w w1 w2 : W} {ws1 ws2 : List Want} {s s1 s2 : List OutputStream}
-    → Does follows open_numbers has_stopped stops ws1 s w (Ok v) s1 w1 → Does follows open_numbers has_stopped stops ws2 s1 w1 r s2 w2
-    → Does follows open_numbers has_stopped stops (ws1 ++ ws2) s w r s2 w2
+      → Does follows open_numbers has_stopped stops ws1 s w (Ok v) s1 w1 → Does follows open_numbers has_stopped stops ws2 s1 w1 r s2 w2
+      → Does follows open_numbers has_stopped stops (ws1 ++ ws2) s w r s2 w2
   Does-then {r = r} {w2 = w2} {ws2 = ws2} {s2 = s2} f h = record { after = λ first es st. let d = f.after first es st in then-at ws2 s2 w2 r d (h.after first d.events d.stands) }
 
   -- the one is halted, and the other is not begun
   pub Does-part : {A B : Type 0} {halt : Halt} {w w1 : W} {ws1 : List Want} (ws2 : List Want) {s s1 : List OutputStream}
-    → Does follows open_numbers has_stopped stops {A = A} ws1 s w (Err halt) s1 w1
-    → Does follows open_numbers has_stopped stops {A = B} (ws1 ++ ws2) s w (Err halt) s1 w1
-  Does-part ws2 f = record { after = λ first es st. let p = f.after first es st in
-      record { events = p.events; some = p.some; done = p.done; part = IsSublist-more ws2 p.part; halted = p.halted } }
+      → Does follows open_numbers has_stopped stops {A = A} ws1 s w (Err halt) s1 w1
+      → Does follows open_numbers has_stopped stops {A = B} (ws1 ++ ws2) s w (Err halt) s1 w1
+  Does-part ws2 f = record {
+    after = λ first es st. let p = f.after first es st in
+        record { events = p.events; some = p.some; done = p.done; part = IsSublist-more ws2 p.part; halted = p.halted };
+  }
 
 module _ {W : Type 0} {follows : W → List Call → W → Type 0} {open_numbers : W → List ℕ} {has_stopped : W → Bool} {stops : W → List Call → Ask → W → Type 0} (laws : Laws follows open_numbers has_stopped stops) where
   pub Does-halts : {A : Type 0} {w w' : W} (ws : List Want) (streams streams' : List OutputStream) (want : Want) (halt : Halt)
-    → StopsAt follows open_numbers has_stopped stops (ask_of want (streams_of streams)) w w' halt
-    → Does follows open_numbers has_stopped stops {A = A} ws streams w (Err halt) streams' w'
+      → StopsAt follows open_numbers has_stopped stops (ask_of want (streams_of streams)) w w' halt
+      → Does follows open_numbers has_stopped stops {A = A} ws streams w (Err halt) streams' w'
   Does-halts ws streams streams' want halt p = record { after = λ first es s. halts laws ws streams' want halt s p }
 
   pub Does-quiet : {A : Type 0} {w w' : W} (v : A) (streams : List OutputStream) (want : Want) (reply : Reply)
-    → follows w ((ask_of want (streams_of streams), reply) ∷ []) w' → has_stopped w' ≡ has_stopped w
-    → streams_after want.wish reply (streams_of streams) ≡ streams_of streams
-    → Does follows open_numbers has_stopped stops (want ∷ []) streams w (Ok v) streams w'
+      → follows w ((ask_of want (streams_of streams), reply) ∷ []) w' → has_stopped w' ≡ has_stopped w
+      → streams_after want.wish reply (streams_of streams) ≡ streams_of streams
+      → Does follows open_numbers has_stopped stops (want ∷ []) streams w (Ok v) streams w'
   Does-quiet v streams want reply leads steady opened = record { after = λ first es s. done-by (quiet-one laws want reply s leads steady opened) }
 
   pub Does-failed : {A : Type 0} {w w' : W} (place : Place) (streams : List OutputStream) (want : Want) (reply : Reply)
-    → follows w ((ask_of want (streams_of streams), reply) ∷ []) w' → has_stopped w' ≡ has_stopped w
-    → streams_after want.wish reply (streams_of streams) ≡ streams_of streams
-    → Does follows open_numbers has_stopped stops {A = A} (want ∷ []) streams w (Err (Output place)) streams w'
+      → follows w ((ask_of want (streams_of streams), reply) ∷ []) w' → has_stopped w' ≡ has_stopped w
+      → streams_after want.wish reply (streams_of streams) ≡ streams_of streams
+      → Does follows open_numbers has_stopped stops {A = A} (want ∷ []) streams w (Err (Output place)) streams w'
   Does-failed place streams want reply leads steady opened = record { after = λ first es s. failed-by place (quiet-one laws want reply s leads steady opened) }
 
   -- an opening that succeeded
   pub Does-open : {A : Type 0} {w w' : W} (v : A) (place : Place) (name : List ℕ) (streams : List OutputStream) (n : ℕ)
-    → follows w ((ask_of (want_at place (Opens Write OutputFile name)) (streams_of streams), Opened n) ∷ []) w' → has_stopped w' ≡ has_stopped w
-    → Does follows open_numbers has_stopped stops (want_at place (Opens Write OutputFile name) ∷ []) streams w (Ok v) (streams ++ (record { text = name; number = n }) ∷ []) w'
-  Does-open v place name streams n leads steady = record { after = λ first es s.
-      let want = want_at place (Opens Write OutputFile name) in
-      let stream : OutputStream = record { text = name; number = n } in
-      done-by (one-more laws (streams ++ stream ∷ []) want (Opened n) s leads steady
+      → follows w ((ask_of (want_at place (Opens Write OutputFile name)) (streams_of streams), Opened n) ∷ []) w' → has_stopped w' ≡ has_stopped w
+      → Does follows open_numbers has_stopped stops (want_at place (Opens Write OutputFile name) ∷ []) streams w (Ok v) (streams ++ (record { text = name; number = n }) ∷ []) w'
+  Does-open v place name streams n leads steady = record {
+    after = λ first es s.
+        let want = want_at place (Opens Write OutputFile name) in
+        let stream : OutputStream = record { text = name; number = n } in
+        done-by (one-more laws (streams ++ stream ∷ []) want (Opened n) s leads steady
         (sym (map-append stream_of streams (stream ∷ [])))
         (rw (map-append (λ (o : OutputStream). o.text) streams (stream ∷ []), names_opened-append (wants es) (want ∷ []))
-          (IsSublist-append s.names (IsSublist-refl (name ∷ []))))) }
+        (IsSublist-append s.names (IsSublist-refl (name ∷ [])))));
+  }
 
   pub Stands-first : (first : W) → Stands follows open_numbers has_stopped stops first [] [] first
   Stands-first first = record { leads = laws.none first; opened = refl; names = IsSublist-none []; steady = refl }
 
   pub Does-shut-halts : {A : Type 0} {w w' : W} (s : OutputStream) (ss streams' : List OutputStream) (halt : Halt)
-    → StopsAt follows open_numbers has_stopped stops (record { place = record { line = 0; column = 0 }; given = false; request = Shut s.number }) w w' halt
-    → Does follows open_numbers has_stopped stops {A = A} (shut_want s.text ∷ []) (s ∷ ss) w (Err halt) streams' w'
+      → StopsAt follows open_numbers has_stopped stops (record { place = record { line = 0; column = 0 }; given = false; request = Shut s.number }) w w' halt
+      → Does follows open_numbers has_stopped stops {A = A} (shut_want s.text ∷ []) (s ∷ ss) w (Err halt) streams' w'
   Does-shut-halts s ss streams' halt p =
-    Does-halts (shut_want s.text ∷ []) (s ∷ ss) streams' (shut_want s.text) halt (rw (bytes_eq-refl s.text) p)
+      Does-halts (shut_want s.text ∷ []) (s ∷ ss) streams' (shut_want s.text) halt (rw (bytes_eq-refl s.text) p)
 
   -- the first of the files is shut
   pub Does-shut : {A : Type 0} {w w' : W} (v : A) (s : OutputStream) (ss : List OutputStream) (reply : Reply)
-    → follows w ((record { place = record { line = 0; column = 0 }; given = false; request = Shut s.number }, reply) ∷ []) w' → has_stopped w' ≡ has_stopped w
-    → Does follows open_numbers has_stopped stops (shut_want s.text ∷ []) (s ∷ ss) w (Ok v) ss w'
-  Does-shut v s ss reply leads steady = record { after = λ first es st.
-      done-by (one-more laws ss (shut_want s.text) reply st (rw (bytes_eq-refl s.text) leads) steady (rw (bytes_eq-refl s.text) refl)
-        (rw (names_opened-append (wants es) (shut_want s.text ∷ [])) (IsSublist-more [] (IsSublist-tail st.names)))) }
+      → follows w ((record { place = record { line = 0; column = 0 }; given = false; request = Shut s.number }, reply) ∷ []) w' → has_stopped w' ≡ has_stopped w
+      → Does follows open_numbers has_stopped stops (shut_want s.text ∷ []) (s ∷ ss) w (Ok v) ss w'
+  Does-shut v s ss reply leads steady = record {
+    after = λ first es st.
+        done-by (one-more laws ss (shut_want s.text) reply st (rw (bytes_eq-refl s.text) leads) steady (rw (bytes_eq-refl s.text) refl)
+        (rw (names_opened-append (wants es) (shut_want s.text ∷ [])) (IsSublist-more [] (IsSublist-tail st.names))));
+  }
 
 module _ {W A : Type 0} {follows : W → List Call → W → Type 0} {open_numbers : W → List ℕ} {has_stopped : W → Bool} {stops : W → List Call → Ask → W → Type 0} where
   -- memory that is refused before anything is asked
   pub Does-refused : {w : W} (ws : List Want) (streams streams' : List OutputStream)
-    → Does follows open_numbers has_stopped stops {A = A} ws streams w (Err Memory) streams' w
+      → Does follows open_numbers has_stopped stops {A = A} ws streams w (Err Memory) streams' w
   Does-refused ws streams streams' = record { after = λ first es s. refused ws streams' s }
 
   pub Does-none : {w : W} (v : A) (streams : List OutputStream) → Does follows open_numbers has_stopped stops [] streams w (Ok v) streams w

@@ -3,7 +3,6 @@ use Rattle.std.specs.Prelude.{◌≡◌, ℕ, List, [], ◌∷◌, ◌++◌, Opt
 use Rattle.std.specs.Io.KnownBytes.{Appends}
 use Rattle.awk_text.specs.declared.fault.Fault.TheVariants.{Log as NoLog}
 use Rattle.awk_text.specs.declared.place.Place.{Place}
-
 use Rattle.box_world.specs.Calls.{Call}
 use Rattle.box_world.specs.Events.{Event, Want, ask_of, calls, open_streams, wants}
 use Rattle.box_world.specs.declared.ask.Ask.{Ask}

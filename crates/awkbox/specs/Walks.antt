@@ -72,7 +72,7 @@ module _ {W : Type 0} (follows : W → List Call → W → Type 0) (open_numbers
   -- Whatever came before, this is done after it, or a part of it.
   pub record Does {A : Type 0} (ws : List Want) (streams : List OutputStream) (world : W) (result : Result A Halt) (streams' : List OutputStream) (world' : W) : Type 0 where
     pub after : (first : W) (es : List Event) → Stands first es streams world →
-      MatchResult result (λ v. Done first es ws streams' world') (λ halt. Part first es ws streams' world' halt)
+        MatchResult result (λ v. Done first es ws streams' world') (λ halt. Part first es ws streams' world' halt)
 
   -- Where the log ended the run, the world may have answered its last request so; else it has stopped only if it had.
   abbrev pub Ends : W → List Event → Outcome → W → Type 0

@@ -5,11 +5,11 @@ ghost use Rattle.awkbox.specs.FaultTexts.{fault_text};
 
 use crate::drive::Refusal;
 use crate::report::{Outcome, Report};
-use awk_tokens::SyntaxError;
 use awk_text::Memory;
 use awk_text::fault::Fault;
 use awk_text::place::Place;
 use awk_text::quote::quote_log;
+use awk_tokens::SyntaxError;
 use box_policy::error::PolicyError;
 use std::alloc::{AllocError, Global};
 use std::fmt;

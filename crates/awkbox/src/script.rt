@@ -84,8 +84,7 @@ fn system(alloc: Global, tokens: &[Token]) -> Result<Option<(Statement, usize)>,
             if is(word, TokenKind::Builtin, b"system")
                 && is(open, TokenKind::Sign, b"(")
                 && is_string(command)
-                && is(close, TokenKind::Sign, b")") =>
-        {
+                && is(close, TokenKind::Sign, b")") => {
             let command = text_of(alloc, command)?;
             Ok(Some((Statement::System(word.place, command), 4)))
         }

@@ -25,7 +25,11 @@ impl Model for Setup {
     ghost Value = { SetupParts };
 
     ghost view = { λ s. record {
-        operands = s.operands.items; names = s.names.items; assigns = s.assigns.items; separator = s.separator } };
+      operands = s.operands.items;
+      names = s.names.items;
+      assigns = s.assigns.items;
+      separator = s.separator;
+    } };
 }
 
 /// Why words make no setup: U1, a pair of `-v` whose name is none, with the number of the first such
@@ -110,8 +114,8 @@ impl Setup {
         requires { length assigns.items < 2 ^ 32 }
         ensures { MatchOption (first_unspelled 1 assigns.items)
             (MatchBool (ascends names.items)
-                (result ≡ Ok (record { operands = operands.items; names = names.items; assigns = assigns.items; separator = separator }))
-                (result ≡ Err (record { code = 2; pair = 0 })))
+            (result ≡ Ok (record { operands = operands.items; names = names.items; assigns = assigns.items; separator = separator }))
+            (result ≡ Err (record { code = 2; pair = 0 })))
             (λ pair. result ≡ Err (record { code = 1; pair = pair })) }
     {
         if let Some(pair) = first_unspelled(assigns.as_slice()) {

@@ -132,12 +132,7 @@ fn line(alloc: Global, text: &Octets) -> Result<Octets, AllocError>
 }
 
 /// Prints to the standard output.
-fn print<W: World>(
-    alloc: Global,
-    place: Place,
-    text: &Octets,
-    world: &mut W,
-) -> Result<(), Halt>
+fn print<W: World>(alloc: Global, place: Place, text: &Octets, world: &mut W) -> Result<(), Halt>
     ensures numbers { W.open_numbers world.new ≡ W.open_numbers world.old }
     ensures does { (streams : List OutputStream) → Does W.follows W.open_numbers W.has_stopped W.stops (want_at place (Writes (Standard 1) (text.now ++ 10 ∷ [])) ∷ []) streams world.old result streams world.new }
 {
@@ -225,8 +220,9 @@ fn shut_all<W: World>(streams: &[OutputStream], world: &mut W) -> Result<(), Hal
     requires { Knows (W.open_numbers world.old) streams.now }
     ensures { Does W.follows W.open_numbers W.has_stopped W.stops (map shut_want (texts_of streams.now)) streams.now world.old result [] world.new }
 {
+    let nowhere = Place { line: 0, column: 0 };
     for stream in streams {
-        request(world, Place { line: 0, column: 0 }, Request::Shut(stream.number))?;
+        request(world, nowhere, Request::Shut(stream.number))?;
     }
     Ok(())
 }

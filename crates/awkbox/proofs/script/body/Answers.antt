@@ -11,7 +11,7 @@ pub loop-at-preserved-then-is_separator : goal.loop-at-preserved-then-is_separat
 loop-at-preserved-then-is_separator c = record {
   within = omega arith;
   spells = rw (take-next c.args.tokens.now c.loop-at.at c.index-tokens-at.result c.loop-at-test.true c.index-tokens-at.is)
-    (separated _ _ _ c.index-tokens-at.result c.loop-at.invariant.spells (c.if-is_separator.ensures.0 refl));
+      (separated _ _ _ c.index-tokens-at.result c.loop-at.invariant.spells (c.if-is_separator.ensures.0 refl));
 }
 
 pub loop-at-preserved : goal.loop-at-preserved
@@ -22,5 +22,5 @@ loop-at-preserved c =
     record {
       within = omega (arith, length-drop {A = Token}, fits);
       spells = rw (c.in-Ok.ensures.items, take-part c.loop-at.at c.in-Some.count c.args.tokens.now)
-        (then_one _ _ _ _ (rw c.if-not-may_follow.false at c.loop-at.invariant.spells) spells);
+          (then_one _ _ _ _ (rw c.if-not-may_follow.false at c.loop-at.invariant.spells) spells);
     }

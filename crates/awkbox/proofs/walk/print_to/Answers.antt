@@ -28,7 +28,7 @@ pub returns-in-Some-clause-does : goal.returns-in-Some-clause-does
 returns-in-Some-clause-does g c =
     let is : find_stream OutputFile c.args.name.now (streams_of c.args.streams.now.items) ≡ Some c.in-Some.number = rw (c.bytes.ensures, c.as_slice.ensures.value) at (sym c.find.ensures ∙ c.in-Some.is) in
     rw (found-any c.args.name.now c.args.streams.now.items c.in-Some.number is)
-      (rw c.in_ok-line.ensures at (c.put.ensures.does c.args.streams.now.items (output_key c.args.name.now) (rw is refl)))
+    (rw c.in_ok-line.ensures at (c.put.ensures.does c.args.streams.now.items (output_key c.args.name.now) (rw is refl)))
 
 pub returns-in_err-number-in-None-clause-does : goal.returns-in_err-number-in-None-clause-does
 returns-in_err-number-in-None-clause-does g c =
@@ -46,6 +46,6 @@ returns-in_ok-number-in-None-clause-does g c =
     let is : find_stream OutputFile c.args.name.now (streams_of c.args.streams.now.items) ≡ None = rw (c.bytes.ensures, c.as_slice.ensures.value) at (sym c.find.ensures ∙ c.in-None.is) in
     let added = c.in_ok-number-in-None.ensures.added in
     rw (absent-any c.args.name.now c.args.streams.now.items is)
-      (Does-then c.in_ok-number-in-None.ensures.does
-        (rw c.in_ok-line.ensures at (c.put-in-None.ensures.does c.open.new.streams.items (output_key c.args.name.now)
-          (rw (added, found-last c.args.name.now c.args.streams.now.items c.in_ok-number-in-None.number is) refl))))
+    (Does-then c.in_ok-number-in-None.ensures.does
+    (rw c.in_ok-line.ensures at (c.put-in-None.ensures.does c.open.new.streams.items (output_key c.args.name.now)
+    (rw (added, found-last c.args.name.now c.args.streams.now.items c.in_ok-number-in-None.number is) refl))))

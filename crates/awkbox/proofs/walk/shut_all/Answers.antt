@@ -16,7 +16,7 @@ request-requires g c =
 pub returns-in_err-request : goal.returns-in_err-request
 returns-in_err-request g c =
     let laws : Laws g.W.World.follows g.W.World.open_numbers g.W.World.has_stopped g.W.World.stops =
-      record { none = g.met.W.World.follows_none; append = g.met.W.World.follows_append; opens = g.met.W.World.follows_open; later = g.met.W.World.stops_later } in
+    record { none = g.met.W.World.follows_none; append = g.met.W.World.follows_append; opens = g.met.W.World.follows_open; later = g.met.W.World.stops_later } in
     let e = err_from_is_err_and c.from_residual.result c.from_residual.ensures.1 in
     let s = c.stream-item.result in
     let d = drop-at c.args.streams.now c.loop-stream.stream-index s c.loop-stream-test.true c.stream-item.is in
@@ -26,13 +26,13 @@ returns-in_err-request g c =
 pub loop-stream-preserved : goal.loop-stream-preserved
 loop-stream-preserved g c =
     let laws : Laws g.W.World.follows g.W.World.open_numbers g.W.World.has_stopped g.W.World.stops =
-      record { none = g.met.W.World.follows_none; append = g.met.W.World.follows_append; opens = g.met.W.World.follows_open; later = g.met.W.World.stops_later } in
+    record { none = g.met.W.World.follows_none; append = g.met.W.World.follows_append; opens = g.met.W.World.follows_open; later = g.met.W.World.stops_later } in
     let s = c.stream-item.result in
     let d = drop-at c.args.streams.now c.loop-stream.stream-index s c.loop-stream-test.true c.stream-item.is in
     record {
       knows = rw c.in_ok-request.ensures.numbers (Knows-shut _ s _ (rw d at c.loop-stream.invariant.knows));
       does = rw (shut-more c.args.streams.now c.loop-stream.stream-index s c.loop-stream-test.true c.stream-item.is)
-        (Does-then (rw d at c.loop-stream.invariant.does) (Does-shut laws _ s _ _ c.in_ok-request.ensures.ok c.in_ok-request.ensures.steady));
+          (Does-then (rw d at c.loop-stream.invariant.does) (Does-shut laws _ s _ _ c.in_ok-request.ensures.ok c.in_ok-request.ensures.steady));
     }
 
 pub returns : goal.returns

@@ -13,12 +13,12 @@ returns-in_err-command-clause-does g c = λ streams.
 pub returns-in_err-request-clause-does : goal.returns-in_err-request-clause-does
 returns-in_err-request-clause-does g c = λ streams.
     let laws : Laws g.W.World.follows g.W.World.open_numbers g.W.World.has_stopped g.W.World.stops =
-      record { none = g.met.W.World.follows_none; append = g.met.W.World.follows_append; opens = g.met.W.World.follows_open; later = g.met.W.World.stops_later } in
+    record { none = g.met.W.World.follows_none; append = g.met.W.World.follows_append; opens = g.met.W.World.follows_open; later = g.met.W.World.stops_later } in
     let e = err_from_is_err_and c.from_residual-in_err-request.result c.from_residual-in_err-request.ensures.1 in
     rw (e.1, e.2) (Does-halts laws _ streams streams (want_at c.args.place (Runs c.args.command.now)) _ (rw c.in_ok-command.ensures at c.in_err-request.ensures.err))
 
 pub returns-clause-does : goal.returns-clause-does
 returns-clause-does g c = λ streams.
     let laws : Laws g.W.World.follows g.W.World.open_numbers g.W.World.has_stopped g.W.World.stops =
-      record { none = g.met.W.World.follows_none; append = g.met.W.World.follows_append; opens = g.met.W.World.follows_open; later = g.met.W.World.stops_later } in
+    record { none = g.met.W.World.follows_none; append = g.met.W.World.follows_append; opens = g.met.W.World.follows_open; later = g.met.W.World.stops_later } in
     Does-quiet laws _ streams (want_at c.args.place (Runs c.args.command.now)) _ (rw c.in_ok-command.ensures at c.in_ok-request.ensures.ok) c.in_ok-request.ensures.steady refl
