@@ -11,6 +11,8 @@ mod script;
 pub mod setup;
 mod statement;
 mod streams;
+#[cfg(test)]
+mod tests;
 mod walk;
 
 use std::process::ExitCode;
