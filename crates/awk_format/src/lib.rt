@@ -9,6 +9,8 @@ mod convert;
 mod digits;
 mod directive;
 mod output;
+#[cfg(test)]
+mod tests;
 
 use crate::convert::convert;
 use crate::directive::read_directive;

@@ -1,3 +1,5 @@
+mod Fronts
 mod Numbers
 mod Octals
 mod Powers
+mod Readings

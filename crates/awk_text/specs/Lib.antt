@@ -4,4 +4,5 @@ pub mod Faults
 pub mod Limits
 pub mod Numerals
 pub mod Quoted
+pub mod Readings
 pub mod Values

@@ -1,9 +1,10 @@
 // Numbers that texts begin with.
-ghost use Rattle.std.specs.Prelude.{◌≡◌, ◌∷◌, ◌-◌, ◌^◌, ◌<◌, ◌≤◌, min, Bool, length, IsTrue, drop};
+ghost use Rattle.std.specs.Prelude.{◌≡◌, ◌∷◌, ◌-◌, ◌^◌, ◌<◌, ◌≤◌, min, ℤ, length, IfNone, IfSome};
 ghost use Rattle.std.specs.Char.{is_ascii_digit};
 ghost use Rattle.std.specs.List.{list_all, prefix_len, take_while};
 ghost use Rattle.std.specs.Str.Parse.{digits_value};
 ghost use Rattle.awk_text.specs.Arithmetic.{ranged};
+ghost use Rattle.awk_text.specs.Readings.{Looks, Number};
 ghost use Rattle.awk_text.specs.Numerals.{after_sign, drop_while, has_minus, is_blank, looks_numeric, number, signed};
 
 use crate::fault::Fault;
@@ -78,7 +79,8 @@ fn with_sign(minus: bool, size: u64) -> Result<i64, Fault>
 ///
 /// Fails with `Fault::OutOfRange` where it is out of range.
 pub fn number(text: &[u8]) -> Result<i64, Fault>
-    ensures { result ≡ ranged (number text.now) }
+    ensures value { result ≡ ranged (number text.now) }
+    ensures reading { Number text.now (number text.now) }
 {
     let (minus, body) = split_sign(skip_blanks(text));
     let (_, size) = leading_digits(body);
@@ -88,7 +90,9 @@ pub fn number(text: &[u8]) -> Result<i64, Fault>
 /// The number of a text that looks numeric, the whole of it being blanks, an optional sign, one or
 /// more digits, and blanks, and in range. Takes no memory.
 pub fn looks_numeric(text: &[u8]) -> Option<i64>
-    ensures { result ≡ looks_numeric text.now }
+    ensures value { result ≡ looks_numeric text.now }
+    ensures reading { IfSome result (Looks text.now) }
+    ensures only { IfNone result ((z : ℤ) → ¬ Looks text.now z) }
 {
     let (minus, body) = split_sign(skip_blanks(text));
     let (count, size) = leading_digits(body);
