@@ -1,5 +1,5 @@
 BEGIN {
-	print "one line" > "/tmp/awkbox-report.txt"
+	print "one line" > "/var/tmp/awkbox-report.txt"
 	system("echo a command")
 	system("id")
 	print "done"

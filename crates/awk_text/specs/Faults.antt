@@ -1,5 +1,5 @@
--- The codes of the faults, F1 to F13.
-use Rattle.std.specs.Prelude.{ℕ}
+-- The codes of the faults, F1 to F13, and their texts.
+use Rattle.std.specs.Prelude.{ℕ, List, codes}
 use Rattle.awk_text.specs.declared.fault.Fault.{Fault}
 use Rattle.awk_text.specs.declared.fault.Fault.TheVariants.{OutOfRange, ZeroDivisor, Pattern, Format, CallDepth, TextTooLong, Output, NextOutside, FieldNumber, TooManyElements, StepBound, Log, Memory}
 
@@ -18,3 +18,19 @@ code_of TooManyElements = 10
 code_of StepBound = 11
 code_of Log = 12
 code_of Memory = 13
+
+-- the text, as messages have it
+abbrev pub fault_text : Fault → List ℕ
+fault_text OutOfRange = codes "number out of range"
+fault_text ZeroDivisor = codes "division by zero"
+fault_text Pattern = codes "bad pattern"
+fault_text Format = codes "bad format"
+fault_text CallDepth = codes "calls too deep"
+fault_text TextTooLong = codes "text too long"
+fault_text Output = codes "cannot open or write output"
+fault_text NextOutside = codes "next outside the main rules"
+fault_text FieldNumber = codes "bad field number"
+fault_text TooManyElements = codes "array too large"
+fault_text StepBound = codes "step bound reached"
+fault_text Log = codes "cannot write the denial log"
+fault_text Memory = codes "out of memory"

@@ -1,39 +1,27 @@
 // The faults that end a script's run.
 ghost use Rattle.std.specs.Prelude.{◌≡◌};
-ghost use Rattle.awk_text.specs.Faults.{code_of};
+ghost use Rattle.awk_text.specs.Faults.{code_of, fault_text};
 
 use std::alloc::{AllocError, AllocFailed};
-use thiserror::Error;
+use std::error::Error;
+use std::fmt;
 
 /// Why a run of a script ends before its own end. POSIX.1-2017 leaves most of these undefined, or
 /// to an unspecified diagnostic; here each has a code, `F1` to `F13`, and a text.
-#[derive(Clone, Copy, Debug, PartialEq, Eq, Drop, Error)]
+#[derive(Clone, Copy, Debug, PartialEq, Eq, Drop)]
 pub enum Fault {
-    #[error("number out of range")]
     OutOfRange,
-    #[error("division by zero")]
     ZeroDivisor,
-    #[error("bad pattern")]
     Pattern,
-    #[error("bad format")]
     Format,
-    #[error("calls too deep")]
     CallDepth,
-    #[error("text too long")]
     TextTooLong,
-    #[error("cannot open or write output")]
     Output,
-    #[error("next outside the main rules")]
     NextOutside,
-    #[error("bad field number")]
     FieldNumber,
-    #[error("array too large")]
     TooManyElements,
-    #[error("step bound reached")]
     StepBound,
-    #[error("cannot write the denial log")]
     Log,
-    #[error("out of memory")]
     Memory,
 }
 
@@ -58,7 +46,36 @@ impl Fault {
             Fault::Memory => 13,
         }
     }
+
+    /// The fault's text, as messages have it. Takes no memory.
+    pub fn text(&self) -> &'static str
+        ensures { result.now ≡ fault_text self.now }
+    {
+        match self {
+            Fault::OutOfRange => "number out of range",
+            Fault::ZeroDivisor => "division by zero",
+            Fault::Pattern => "bad pattern",
+            Fault::Format => "bad format",
+            Fault::CallDepth => "calls too deep",
+            Fault::TextTooLong => "text too long",
+            Fault::Output => "cannot open or write output",
+            Fault::NextOutside => "next outside the main rules",
+            Fault::FieldNumber => "bad field number",
+            Fault::TooManyElements => "array too large",
+            Fault::StepBound => "step bound reached",
+            Fault::Log => "cannot write the denial log",
+            Fault::Memory => "out of memory",
+        }
+    }
 }
+
+impl fmt::Display for Fault {
+    fn fmt<W: fmt::Write>(&self, f: &mut fmt::Formatter<W>) -> fmt::Result {
+        f.write_str(self.text())
+    }
+}
+
+impl Error for Fault {}
 
 impl From<AllocError> for Fault {
     ghost use Rattle.std.specs.Prelude.{◌≡◌};

@@ -1,7 +1,6 @@
 pub mod Accepted
 pub mod Drives
 pub mod Endings
-pub mod FaultTexts
 pub mod Messages
 pub mod OsFollows
 pub mod OsNumbers

@@ -1,11 +1,10 @@
 -- What the program says on standard error, one line each, and the exit status that goes with it.
 use Rattle.std.specs.Prelude.{◌≡◌, ℕ, ◌==◌, List, [], ◌++◌, if◌then◌else◌, codes, string_bytes}
 use Rattle.std.specs.Fmt.{decimal}
-use Rattle.awk_text.specs.Faults.{code_of}
+use Rattle.awk_text.specs.Faults.{code_of, fault_text}
 use Rattle.awk_text.specs.Quoted.{quoted}
 use Rattle.awk_text.specs.declared.fault.Fault.TheVariants.{StepBound as F11, Memory as F13}
 use Rattle.awk_text.specs.declared.place.Place.{Place}
-use Rattle.awkbox.specs.FaultTexts.{fault_text}
 use Rattle.awkbox.specs.declared.messages.Message.{Message}
 use Rattle.awkbox.specs.declared.messages.Message.TheVariants.{Fault, StepBound, Policy, Script, Assignment, CannotRead, CannotWrite, OutOfMemory}
 

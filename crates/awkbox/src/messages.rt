@@ -1,7 +1,6 @@
 // What the program says at its end, and the exit status that goes with it.
 ghost use Rattle.std.specs.Prelude.{◌≡◌, Some, IfOk, string_bytes};
 ghost use Rattle.awk_text.specs.Quoted.{quoted};
-ghost use Rattle.awkbox.specs.FaultTexts.{fault_text};
 
 use crate::drive::Refusal;
 use crate::report::{Outcome, Report};
@@ -42,26 +41,6 @@ pub enum Ending {
     Quiet(u8),
     /// With a message, and the status that goes with it.
     Said(Message),
-}
-
-fn fault_text(fault: Fault) -> &'static str
-    ensures { result.now ≡ fault_text fault }
-{
-    match fault {
-        Fault::OutOfRange => "number out of range",
-        Fault::ZeroDivisor => "division by zero",
-        Fault::Pattern => "bad pattern",
-        Fault::Format => "bad format",
-        Fault::CallDepth => "calls too deep",
-        Fault::TextTooLong => "text too long",
-        Fault::Output => "cannot open or write output",
-        Fault::NextOutside => "next outside the main rules",
-        Fault::FieldNumber => "bad field number",
-        Fault::TooManyElements => "array too large",
-        Fault::StepBound => "step bound reached",
-        Fault::Log => "cannot write the denial log",
-        Fault::Memory => "out of memory",
-    }
 }
 
 impl From<AllocError> for Message {
@@ -134,11 +113,11 @@ impl fmt::Display for Message {
     fn fmt<W: fmt::Write>(&self, f: &mut fmt::Formatter<W>) -> fmt::Result {
         match self {
             Message::Fault(fault, Place { line, column }) => {
-                let (code, text) = (fault.code(), fault_text(*fault));
+                let (code, text) = (fault.code(), fault.text());
                 write!(f, "awkbox: {line}:{column} F{code} {text}")
             }
             Message::StepBound => {
-                let text = fault_text(Fault::StepBound);
+                let text = Fault::StepBound.text();
                 write!(f, "awkbox: F11 {text}")
             }
             Message::Policy(PolicyError { code, rule: 0 }) => write!(f, "awkbox: policy P{code}"),
@@ -153,7 +132,7 @@ impl fmt::Display for Message {
             Message::CannotRead(name) => write!(f, "awkbox: cannot read \"{name}\""),
             Message::CannotWrite(name) => write!(f, "awkbox: cannot write \"{name}\""),
             Message::OutOfMemory => {
-                let text = fault_text(Fault::Memory);
+                let text = Fault::Memory.text();
                 write!(f, "awkbox: F13 {text}")
             }
         }

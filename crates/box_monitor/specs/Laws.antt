@@ -44,12 +44,12 @@ Appends-then (Some u) (Some v) (Some w) xs ys p q = q ∙ ap (λ z. z ++ ys) p �
 
 -- the lines of both
 both-lines : (a b c : Option (List ℕ)) (book : Rulebook) (xs ys : List Call) → Appends a b (log_text (told book xs))
-  → Appends b c (log_text (told book ys)) → Appends a c (log_text (told book (xs ++ ys)))
+    → Appends b c (log_text (told book ys)) → Appends a c (log_text (told book (xs ++ ys)))
 both-lines a b c book xs ys p q = subst (λ z. Appends a c z) (sym (log_text-told book xs ys)) (Appends-then a b c _ _ p q)
 
 -- the lines of both, and then more
 lines-then : (a b c : Option (List ℕ)) (book : Rulebook) (xs ys : List Call) (more : List ℕ) → Appends a b (log_text (told book xs))
-  → Appends b c (log_text (told book ys) ++ more) → Appends a c (log_text (told book (xs ++ ys)) ++ more)
+    → Appends b c (log_text (told book ys) ++ more) → Appends a c (log_text (told book (xs ++ ys)) ++ more)
 lines-then a b c book xs ys more p q =
     let e : log_text (told book xs) ++ (log_text (told book ys) ++ more) ≡ log_text (told book (xs ++ ys)) ++ more =
     sym (append_assoc (log_text (told book xs)) (log_text (told book ys)) more) ∙ ap (λ z. z ++ more) (sym (log_text-told book xs ys)) in
@@ -57,7 +57,7 @@ lines-then a b c book xs ys more p q =
 
 -- a count that stops at top, and goes on
 count-then : (u v w n m top : ℕ) → (u ≤ top → v ≡ min (u + n) top) → (v ≤ top → w ≡ min (v + m) top)
-  → u ≤ top → w ≡ min (u + (n + m)) top
+    → u ≤ top → w ≡ min (u + (n + m)) top
 count-then u v w n m top p q h =
     let e : v ≡ min (u + n) top = p h in
     let f : w ≡ min (v + m) top = q (omega arith) in
@@ -75,7 +75,7 @@ module _ {W L : Type 0} (follows : W → List Call → W → Type 0) (has_stoppe
 
   pub Leads-append : ((u v w : W) (xs ys : List Call) → follows u xs v → follows v ys w → follows u (xs ++ ys) w)
       → (u v w : Watch W L) (xs ys : List Call) → Leads follows has_stopped contents u xs v
-    → Leads follows has_stopped contents v ys w → Leads follows has_stopped contents u (xs ++ ys) w
+      → Leads follows has_stopped contents v ys w → Leads follows has_stopped contents u (xs ++ ys) w
   Leads-append append u v w xs ys p q =
       let inner : follows v.world (asked u.policy ys) w.world = subst (λ z. follows v.world (asked z ys) w.world) p.policy q.inner in
       let failed : AllFailed u.policy ys = subst (λ z. AllFailed z ys) p.policy q.failed in
@@ -95,13 +95,13 @@ module _ {W L : Type 0} (follows : W → List Call → W → Type 0) (has_stoppe
               before = early.before;
               steady = late.steady ∙ early.steady;
               log = both-lines _ _ _ u.policy xs ys early.log
-            (subst (λ z. Appends (contents v.log) (contents w.log) (log_text (told z ys))) p.policy late.log);
+                  (subst (λ z. Appends (contents v.log) (contents w.log) (log_text (told z ys))) p.policy late.log);
             };
       }
 
 -- a denied request that was answered Failed leaves the open numbers
 numbers-failed : (book : Rulebook) (place : Place) (given : Bool) (request : Request) (numbers : List ℕ)
-  → IsSome (denial_at book place given (subject_of request)) → numbers_after request Failed numbers ≡ numbers
+    → IsSome (denial_at book place given (subject_of request)) → numbers_after request Failed numbers ≡ numbers
 numbers-failed book place given (Open mode text) numbers h = refl
 numbers-failed book place given (Next n) numbers h = refl
 numbers-failed book place given (Put n bytes) numbers h = refl
@@ -115,17 +115,17 @@ open-one : (book : Rulebook) (call : Call) (calls : List Call) (numbers : List �
     → open_after (cond (not b) (call ∷ asked book calls) (asked book calls)) numbers ≡ open_after calls (numbers_after call.0.request call.1 numbers)
 open-one book call calls numbers true h failed rest =
     let stays : numbers_after call.0.request call.1 numbers ≡ numbers =
-      ap (λ r. numbers_after call.0.request r numbers) (failed h) ∙ numbers-failed book call.0.place call.0.given call.0.request numbers h in
+    ap (λ r. numbers_after call.0.request r numbers) (failed h) ∙ numbers-failed book call.0.place call.0.given call.0.request numbers h in
     rest numbers ∙ ap (λ z. open_after calls z) (sym stays)
 open-one book call calls numbers false h failed rest = rest (numbers_after call.0.request call.1 numbers)
 
 -- the calls that are not denied leave the same numbers open
 pub open-asked : (book : Rulebook) (calls : List Call) (numbers : List ℕ) → AllFailed book calls
-  → open_after (asked book calls) numbers ≡ open_after calls numbers
+    → open_after (asked book calls) numbers ≡ open_after calls numbers
 open-asked book [] numbers failed = refl
 open-asked book (call ∷ calls) numbers failed =
     open-one book call calls numbers (is_some (denial_of book call.0)) refl (All-head (FailsIfDenied book) call calls failed)
-      (λ ns. open-asked book calls ns (All-tail (FailsIfDenied book) call calls failed))
+    (λ ns. open-asked book calls ns (All-tail (FailsIfDenied book) call calls failed))
 
 module _ {W L : Type 0} (follows : W → List Call → W → Type 0) (has_stopped : W → Bool) (contents : L → Option (List ℕ)) where
   pub Leads-open : (open_numbers : W → List ℕ) → ((v w : W) (calls : List Call) → follows v calls w → open_numbers w ≡ open_after calls (open_numbers v))
@@ -155,7 +155,7 @@ module _ {W L : Type 0} (follows : W → List Call → W → Type 0) (has_stoppe
             line = a.line;
             denied = subst (λ z. denial_of z ask ≡ Some a.line) p.policy a.denied;
             log = LogEnds-later w.stop _ (contents v.log) _ u.policy xs ys (line_of a.line) going.log
-              (subst (λ z. LogEnds w.stop (contents v.log) (contents w.log) (log_text (told z ys)) (line_of a.line)) p.policy a.log);
+                (subst (λ z. LogEnds w.stop (contents v.log) (contents w.log) (log_text (told z ys)) (line_of a.line)) p.policy a.log);
           }))
           | inr a ↦ inr (inr (record {
             allowed = subst (λ z. denial_of z ask ≡ None) p.policy a.allowed;
@@ -163,7 +163,7 @@ module _ {W L : Type 0} (follows : W → List Call → W → Type 0) (has_stoppe
                 (later u.world v.world w.world _ _ ask p.inner going.steady (subst (λ z. stops v.world (asked z ys) ask w.world) p.policy a.inner));
             stop = a.stop;
             log = both-lines _ _ _ u.policy xs ys going.log
-              (subst (λ z. Appends (contents v.log) (contents w.log) (log_text (told z ys))) p.policy a.log);
+                (subst (λ z. Appends (contents v.log) (contents w.log) (log_text (told z ys))) p.policy a.log);
           }))
         ]
       ]

@@ -25,7 +25,7 @@ rule_word None = codes "none"
 abbrev pub line_start : Told → List ℕ
 line_start t =
     concat (decimal t.place.line ∷ codes ":" ∷ decimal t.place.column ∷ codes " " ∷ kind_word t.kind ∷ codes " "
-      ∷ rule_word t.rule ∷ codes " \"" ∷ [])
+    ∷ rule_word t.rule ∷ codes " \"" ∷ [])
 
 -- `LINE:COLUMN KIND RULE "TEXT"` and a newline
 abbrev pub line_of : Told → List ℕ

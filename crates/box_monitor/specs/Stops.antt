@@ -40,6 +40,6 @@ pub record StopsInside {W L : Type 0} (stops : W → List Call → Ask → W →
 
 -- it had stopped before, or stops at the log, or inside
 abbrev pub Stops : {W L : Type 0} → (W → List Call → Ask → W → Type 0) → (L → Option (List ℕ))
-  → Watch W L → List Call → Ask → Watch W L → Type 0
+    → Watch W L → List Call → Ask → Watch W L → Type 0
 Stops stops contents old calls ask new =
     (is_some old.stop ≡ true) ⊎ StopsAtLog contents old calls ask new ⊎ StopsInside stops contents old calls ask new

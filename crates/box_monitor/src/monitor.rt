@@ -47,7 +47,12 @@ impl<W: World, L: Write> Model for Monitor<W, L> {
     ghost Value = { Watch W L };
 
     ghost view = { λ m. record {
-        policy = m.policy; world = m.world; log = m.log; denials = m.denials; stop = m.stop } };
+      policy = m.policy;
+      world = m.world;
+      log = m.log;
+      denials = m.denials;
+      stop = m.stop;
+    } };
 }
 
 impl<W: World, L: Write> Monitor<W, L> {

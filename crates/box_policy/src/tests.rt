@@ -43,10 +43,19 @@ fn documents_are_refused_in_order(rt: HostRuntime) {
     assert_eq!(rt; refusal(alloc, b"version = 1\nbase = \"w\""), (3, 0));
     assert_eq!(rt; refusal(alloc, b"version = 1\nbase = \"/w/..\""), (3, 0));
     assert_eq!(rt; refusal(alloc, b"version = 3\nbase = \"/w\""), (2, 0));
-    assert_eq!(rt; refusal(alloc, b"version = 1\nbase = \"/w\"\nmode = 1"), (4, 0));
+    assert_eq!(rt;
+        refusal(alloc, b"version = 1\nbase = \"/w\"\nmode = 1"),
+        (4, 0)
+    );
     assert_eq!(rt; refusal(alloc, b"mode = 1"), (4, 0));
-    assert_eq!(rt; refusal(alloc, b"version = 1\nbase = \"/w\"\nrule = [1]"), (5, 0));
-    assert_eq!(rt; refusal(alloc, b"version = 1\nbase = \"/w\"\nrule = []"), (0, 0));
+    assert_eq!(rt;
+        refusal(alloc, b"version = 1\nbase = \"/w\"\nrule = [1]"),
+        (5, 0)
+    );
+    assert_eq!(rt;
+        refusal(alloc, b"version = 1\nbase = \"/w\"\nrule = []"),
+        (0, 0)
+    );
 }
 
 #[test]
@@ -57,11 +66,20 @@ fn rules_are_refused_in_order(rt: HostRuntime) -> Result<(), Fail> {
         ("effect = \"allow\"\nkind = \"look\"\nmatch = \"a\"", 5),
         ("effect = \"allow\"\nkind = \"write\"\nmatch = 1", 5),
         ("effect = \"maybe\"\nkind = \"write\"", 4),
-        ("effect = \"allow\"\nkind = \"write\"\nmatch = \"a\"\nmode = 1", 4),
-        ("effect = \"allow\"\nkind = \"write\"\nmatch = \"a/../b\"", 6),
+        (
+            "effect = \"allow\"\nkind = \"write\"\nmatch = \"a\"\nmode = 1",
+            4,
+        ),
+        (
+            "effect = \"allow\"\nkind = \"write\"\nmatch = \"a/../b\"",
+            6,
+        ),
         ("effect = \"allow\"\nkind = \"write\"\nmatch = \"\"", 6),
         ("effect = \"allow\"\nkind = \"run\"\nmatch = \"\"", 6),
-        ("effect = \"allow\"\nkind = \"run\"\nmatch = \"a\\u0000\"", 6),
+        (
+            "effect = \"allow\"\nkind = \"run\"\nmatch = \"a\\u0000\"",
+            6,
+        ),
         ("effect = \"allow\"\nkind = \"run\"\nmatch = \"a\"", 0),
     ] {
         let text = one_rule(alloc, lines)?;
@@ -88,9 +106,15 @@ fn limits(rt: HostRuntime) -> Result<(), Fail> {
         line.push('a')?;
     }
     let longest = format!(in alloc; "{line}\"")?;
-    assert_eq!(rt; refusal(alloc, one_rule(alloc, longest.as_str())?.as_bytes()), (0, 0));
+    assert_eq!(rt;
+        refusal(alloc, one_rule(alloc, longest.as_str())?.as_bytes()),
+        (0, 0)
+    );
     let too_long = format!(in alloc; "{line}*\"")?;
-    assert_eq!(rt; refusal(alloc, one_rule(alloc, too_long.as_str())?.as_bytes()), (7, 1));
+    assert_eq!(rt;
+        refusal(alloc, one_rule(alloc, too_long.as_str())?.as_bytes()),
+        (7, 1)
+    );
     Ok(())
 }
 
