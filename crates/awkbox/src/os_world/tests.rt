@@ -1,5 +1,6 @@
 // The world of the system on real files and commands, which no contract speaks of.
 ghost use Rattle.std.specs.Prelude.{◌≡◌};
+ghost use Rattle.box_world.specs.Calls.{IsDuty};
 
 use super::files::write_out;
 use super::*;
@@ -52,13 +53,14 @@ fn status_of<W: World>(alloc: Global, world: &mut W, command: &[u8]) -> Result<O
 fn writes_files(rt: HostRuntime) -> Result<(), Fail> {
     let alloc = rt.alloc();
     let mut world = OsWorld::new(rt.clone()?);
-    fs::write(&rt, "out", "what was there before")?;
-    let first = write_file(alloc, &mut world, b"out", b"a\n")?;
+    fs::write(&rt, "written", "what was there before")?;
+    let first = write_file(alloc, &mut world, b"written", b"a\n")?;
     assert_eq!(rt; first, (3, true));
-    assert_eq!(rt; fs::read(&rt, "out")?.as_slice(), b"a\n".as_slice());
-    let second = write_file(alloc, &mut world, b"./out", b"\xff")?;
+    assert_eq!(rt; fs::read(&rt, "written")?.as_slice(), b"a\n".as_slice());
+    let second = write_file(alloc, &mut world, b"./written", b"\xff")?;
     assert_eq!(rt; second, (4, true));
-    assert_eq!(rt; fs::read(&rt, "out")?.as_slice(), b"\xff".as_slice());
+    assert_eq!(rt; fs::read(&rt, "written")?.as_slice(), b"\xff".as_slice());
+    fs::remove_file(&rt, "written")?;
     Ok(())
 }
 
@@ -99,30 +101,40 @@ fn runs_commands(rt: HostRuntime) -> Result<(), Fail> {
         );
     }
     assert_eq!(rt; fs::read(&rt, "made")?.as_slice(), b"a\n".as_slice());
+    fs::remove_file(&rt, "made")?;
+    Ok(())
+}
+
+fn is_failed<W: World>(world: &mut W, request: Request) -> Result<bool, Stop>
+    requires { IsDuty (W.open_numbers world.old) request }
+{
+    Ok(matches!(&world.ask(&ask_of(request))?, Reply::Failed))
+}
+
+#[test]
+fn fails_what_it_does_not_answer(rt: HostRuntime) -> Result<(), Fail> {
+    let alloc = rt.alloc();
+    let mut world = OsWorld::new(rt.clone()?);
+    fs::write(&rt, "there", "a")?;
+    let name = octets(alloc, b"there")?;
+    assert!(rt; is_failed(&mut world, Request::Open(Mode::Read, name))?);
+    let command = octets(alloc, b"echo a")?;
+    assert!(rt; is_failed(&mut world, Request::Open(Mode::RunIn, command))?);
+    let name = octets(alloc, b"PATH")?;
+    assert!(rt; is_failed(&mut world, Request::Env(name))?);
+    fs::remove_file(&rt, "there")?;
     Ok(())
 }
 
 #[test]
-fn fails_what_is_not_answered(rt: HostRuntime) -> Result<(), Fail> {
-    let alloc = rt.alloc();
+fn has_standard_streams(rt: HostRuntime) -> Result<(), Fail> {
     let mut world = OsWorld::new(rt.clone()?);
-    let requests = [
-        Request::Open(Mode::Read, octets(alloc, b"out")?),
-        Request::Open(Mode::RunIn, octets(alloc, b"echo a")?),
-        Request::Next(0),
-        Request::Put(0, octets(alloc, b"a")?),
-        Request::Env(octets(alloc, b"PATH")?),
-        Request::Assign(octets(alloc, b"a")?, octets(alloc, b"b")?),
-    ];
-    for request in requests {
-        let ask = ask_of(request);
-        let reply = world.ask(&ask)?;
-        assert!(rt; matches!(&reply, Reply::Failed));
-    }
-    let reply = world.ask(&ask_of(Request::Put(1, octets(alloc, b"")?)))?;
-    assert!(rt; matches!(&reply, Reply::Done));
-    let reply = world.ask(&ask_of(Request::Shut(1)))?;
-    assert!(rt; matches!(&reply, Reply::Done));
+    assert!(rt; is_failed(&mut world, Request::Next(0))?);
+    let nothing = Octets::new(Vec::new(rt.alloc()));
+    assert!(rt; is_failed(&mut world, Request::Put(0, nothing))?);
+    let nothing = Octets::new(Vec::new(rt.alloc()));
+    assert!(rt; !is_failed(&mut world, Request::Put(1, nothing))?);
+    assert!(rt; !is_failed(&mut world, Request::Shut(1))?);
     Ok(())
 }
 
