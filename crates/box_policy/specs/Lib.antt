@@ -1,10 +1,17 @@
 pub mod Paths
 pub mod NamesLeft
+pub mod Division
 pub mod Fits
+pub mod Patterns
+pub mod Bases
+pub mod Places
+pub mod Symbols
+pub mod Short
 pub mod Rulebook
 pub mod Decisions
 pub mod Tree
 pub mod Words
+pub mod Wellformed
 pub mod Refusals
 pub mod Written
 pub mod Readings

@@ -5,7 +5,7 @@ use Rattle.toml.specs.View.{items_view}
 use Rattle.box_policy.specs.declared.reading.Document.{Document}
 use Rattle.box_policy.specs.declared.reading.Draft.{Draft}
 use Rattle.box_policy.specs.Tree.{text_at, tables_in, tables_of}
-use Rattle.box_policy.specs.Words.{effect_of, kind_of, pattern_of}
+use Rattle.box_policy.specs.Words.{effect_of, kind_of, pattern_of, from_of}
 
 -- the base and the rules of the tree
 pub record IsDocument (tree : Members) (document : Document) : Type 0 where
@@ -17,3 +17,4 @@ pub record IsDraft (table : Members) (draft : Draft) : Type 0 where
   pub effect : effect_of table ≡ Some draft.effect
   pub kind : kind_of table ≡ Some draft.kind
   pub pattern : pattern_of table ≡ Some draft.pattern.now
+  pub only_given : from_of table ≡ Some draft.only_given

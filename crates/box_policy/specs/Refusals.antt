@@ -4,7 +4,8 @@ use Rattle.toml.specs.Data.{Members, get_member}
 use Rattle.toml.specs.Parse.{parse_document}
 use Rattle.box_policy.specs.declared.error.PolicyError.{PolicyError}
 use Rattle.box_policy.specs.Tree.{text_at, keys_pass, is_tables, tables_of}
-use Rattle.box_policy.specs.Words.{is_top_key, is_version_one, is_base, has_rule_keys, effect_of, kind_of, pattern_of, is_pattern_of}
+use Rattle.box_policy.specs.Words.{is_top_key, is_version_one, is_base, has_rule_keys, has_rule_values, kind_of, pattern_of}
+use Rattle.box_policy.specs.Wellformed.{is_pattern_of}
 
 -- the refusal of this code and rule, where the test fails
 abbrev pub unless : Bool → ℕ → ℕ → Option PolicyError
@@ -20,7 +21,7 @@ first (Some e) other = Some e
 abbrev pub rule_refusal : List ℕ → ℕ → Members → Option PolicyError
 rule_refusal base n rule =
     first (unless (has_rule_keys rule) 4 n)
-    (first (unless (is_some (effect_of rule) && (is_some (kind_of rule) && is_some (pattern_of rule))) 5 n)
+    (first (unless (has_rule_values rule) 5 n)
     (first (unless (nat_le (length (unwrap_or (pattern_of rule) [])) 4096) 7 n)
     (unless (is_pattern_of base (kind_of rule) (pattern_of rule)) 6 n)))
 

@@ -2,6 +2,7 @@
 #![tactic(auto)]
 
 pub mod error;
+mod matching;
 mod names;
 pub mod path;
 pub mod policy;

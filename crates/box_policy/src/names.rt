@@ -1,5 +1,5 @@
 // The components of path names, one after another and without memory.
-ghost use Rattle.std.specs.Prelude.{◌≡◌, ◌==◌, ◌<◌, ◌∷◌, [], length, MatchOption, if◌then◌else◌, codes, position};
+ghost use Rattle.std.specs.Prelude.{◌≡◌, ◌==◌, ◌<◌, ◌∷◌, [], length, MatchOption, IfSome, ◌+◌, ◌≤◌, if◌then◌else◌, codes, position};
 ghost use Rattle.std.specs.List.{list_any};
 ghost use Rattle.std.specs.Str.{is_utf8, bytes_eq};
 ghost use Rattle.std.specs.Cmp.Lexicographic.{pointwise};
@@ -49,6 +49,7 @@ fn slash_at(text: &[u8]) -> Option<usize>
 fn cut(text: &[u8]) -> (&[u8], &[u8])
     ensures names { names text.now ≡ (if is_name result.0.now then result.0.now ∷ names result.1.now else names result.1.now) }
     ensures shorter { 0 < length text.now → length result.1.now < length text.now }
+    ensures within { length result.0.now + length result.1.now ≤ length text.now }
 {
     match slash_at(text) {
         Some(end) => (&text[..end], &text[end + 1..]),
@@ -57,8 +58,10 @@ fn cut(text: &[u8]) -> (&[u8], &[u8])
 }
 
 /// The first component of the text, and what stands behind it.
-fn first_name(text: &[u8]) -> Option<(&[u8], &[u8])>
-    ensures { MatchOption result (names text.now ≡ []) (λ cut. names text.now ≡ cut.0.now ∷ names cut.1.now) }
+pub(crate) fn first_name(text: &[u8]) -> Option<(&[u8], &[u8])>
+    ensures within { IfSome result (λ cut. length cut.0.now + length cut.1.now ≤ length text.now) }
+    ensures shorter { IfSome result (λ cut. length cut.1.now < length text.now) }
+    ensures name { MatchOption result (names text.now ≡ []) (λ cut. names text.now ≡ cut.0.now ∷ names cut.1.now) }
 {
     let mut rest = text;
     while !rest.is_empty() {

@@ -1,13 +1,15 @@
 // Rules, and what they decide.
-ghost use Rattle.std.specs.Prelude.{◌≡◌, ℕ, ◌≤◌, length, IfOk, IfErr};
+ghost use Rattle.std.specs.Prelude.{◌≡◌, ℕ, ◌≤◌, ◌<◌, true, length, IfOk, IfErr};
 ghost use Rattle.toml.specs.View.{table_view};
 ghost use Rattle.box_policy.specs.Decisions.{decision, decision_from, speaks};
-ghost use Rattle.box_policy.specs.Fits.{fits, path_fits};
+ghost use Rattle.box_policy.specs.Fits.{is_readable, pattern_fits};
+ghost use Rattle.box_policy.specs.Short.{are_short};
 ghost use Rattle.box_policy.specs.Refusals.{IsRefused, IsRefusedBy, refusal};
 ghost use Rattle.box_policy.specs.Written.{Writes, Written};
 
 use crate::error::PolicyError;
-use crate::names::{Names, can_resolve, is_same, is_text};
+use crate::matching::{Sort, path_fits, text_fits};
+use crate::names::{can_resolve, is_text};
 use crate::reading::{read_document, read_rules, read_table};
 use awk_text::octets::Octets;
 use std::alloc::Global;
@@ -63,15 +65,20 @@ pub struct Policy {
 /// The most rules that a policy may have.
 pub const MAX_RULES: usize = 1024;
 
+/// The most bytes that a pattern may have.
+pub const MAX_PATTERN: usize = 4096;
+
 impl Model for Policy {
-    ghost use Rattle.std.specs.Prelude.{length, ◌≤◌};
+    ghost use Rattle.std.specs.Prelude.{length, ◌≤◌, ◌≡◌, true};
     ghost use Rattle.box_policy.specs.Rulebook.{Rulebook};
 
     ghost Value = { Rulebook };
 
     ghost view = { λ p. record { base = p.base; rules = p.rules.items } };
 
-    ghost invariant = { λ p. length p.rules.items ≤ 1024 };
+    ghost use Rattle.box_policy.specs.Short.{are_short};
+
+    ghost invariant = { λ p. (length p.rules.items ≤ 1024) × (are_short p.rules.items ≡ true) };
 }
 
 impl Policy {
@@ -108,13 +115,11 @@ impl Policy {
     pub fn decide(&self, kind: Kind, subject: &[u8], given: bool) -> Decision
         ensures { result ≡ decision self.now kind subject.now given }
     {
-        judged(
-            self.base.bytes(),
-            self.rules.as_slice(),
-            kind,
-            subject,
-            given,
-        )
+        let base = self.base.bytes();
+        if !is_readable(base, kind, subject) {
+            return Decision::NoRule;
+        }
+        judged(base, self.rules.as_slice(), kind, subject, given)
     }
 
     /// The number of rules, at most 1,024. Takes no memory.
@@ -126,13 +131,27 @@ impl Policy {
     }
 }
 
+fn is_readable(base: &[u8], kind: Kind, subject: &[u8]) -> bool
+    ensures { result ≡ is_readable base.now kind subject.now }
+{
+    match kind {
+        Kind::Read | Kind::Write | Kind::Append => can_resolve(base, subject),
+        Kind::Run => is_text(subject),
+        Kind::Env | Kind::Assign => true,
+    }
+}
+
 fn judged(base: &[u8], rules: &[Rule], kind: Kind, subject: &[u8], given: bool) -> Decision
-    requires { length rules.now ≤ 1024 }
+    requires few { length rules.now ≤ 1024 }
+    requires short { are_short rules.now ≡ true }
+    requires readable { is_readable base.now kind subject.now ≡ true }
     ensures { result ≡ decision_from 1 base.now rules.now kind subject.now given }
 {
+    let mut places = [false; MAX_PATTERN + 1];
+    let mut inner = [false; MAX_PATTERN + 1];
     let mut number = 1u32;
     for rule in rules {
-        if speaks(base, rule, kind, subject, given) {
+        if speaks(base, rule, kind, subject, given, &mut places, &mut inner) {
             return match rule.effect {
                 Effect::Allow => Decision::Allow(number),
                 Effect::Deny => Decision::Deny(number),
@@ -143,28 +162,43 @@ fn judged(base: &[u8], rules: &[Rule], kind: Kind, subject: &[u8], given: bool) 
     Decision::NoRule
 }
 
-fn speaks(base: &[u8], rule: &Rule, kind: Kind, subject: &[u8], given: bool) -> bool
+fn speaks(
+    base: &[u8],
+    rule: &Rule,
+    kind: Kind,
+    subject: &[u8],
+    given: bool,
+    places: &mut [bool],
+    inner: &mut [bool],
+) -> bool
+    requires readable { is_readable base.now kind subject.now ≡ true }
+    requires room { length rule.now.pattern < length places.old }
+    requires inner_room { length rule.now.pattern < length inner.old }
     ensures { result ≡ speaks base.now rule.now kind subject.now given }
 {
     rule.kind == kind
         && (given || !rule.only_given)
-        && fits(base, kind, rule.pattern.bytes(), subject)
+        && pattern_fits(base, kind, rule.pattern.bytes(), subject, places, inner)
 }
 
-fn fits(base: &[u8], kind: Kind, pattern: &[u8], subject: &[u8]) -> bool
-    ensures { result ≡ fits base.now kind pattern.now subject.now }
+fn pattern_fits(
+    base: &[u8],
+    kind: Kind,
+    pattern: &[u8],
+    subject: &[u8],
+    places: &mut [bool],
+    inner: &mut [bool],
+) -> bool
+    requires readable { is_readable base.now kind subject.now ≡ true }
+    requires room { length pattern.now < length places.old }
+    requires inner_room { length pattern.now < length inner.old }
+    ensures { result ≡ pattern_fits base.now kind pattern.now subject.now }
 {
+    let needed = pattern.len() + 1;
+    let places = &mut places[..needed];
     match kind {
-        Kind::Read | Kind::Write | Kind::Append => path_fits(base, pattern, subject),
-        Kind::Run => is_text(subject) && pattern == subject,
-        Kind::Env | Kind::Assign => pattern == subject,
+        Kind::Read | Kind::Write | Kind::Append => path_fits(base, pattern, subject, places, inner),
+        Kind::Run => text_fits(Sort::Command, pattern, subject, places),
+        Kind::Env | Kind::Assign => text_fits(Sort::Name, pattern, subject, places),
     }
-}
-
-fn path_fits(base: &[u8], pattern: &[u8], subject: &[u8]) -> bool
-    ensures { result ≡ path_fits base.now pattern.now subject.now }
-{
-    can_resolve(base, pattern)
-        && can_resolve(base, subject)
-        && is_same(Names::under(base, pattern), Names::under(base, subject))
 }

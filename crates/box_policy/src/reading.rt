@@ -1,26 +1,28 @@
 // A policy, read from its text.
-ghost use Rattle.std.specs.Prelude.{◌≡◌, ◌≤◌, ◌+◌, ℕ, true, None, Some, codes, length, is_some, option_map, IfOk, IfErr, IfSome, IsUtf8, ◌⊎◌};
-ghost use Rattle.std.specs.List.{AllZip};
-ghost use Rattle.toml.specs.Data.{get_member};
+ghost use Rattle.std.specs.Prelude.{◌≡◌, ◌≤◌, ◌+◌, ℕ, true, None, Some, codes, length, is_some, option_map, IfOk, IfErr, IfSome, IsUtf8, ◌⊎◌, ◌||◌, ◌==◌, Option, if◌then◌else◌};
+ghost use Rattle.std.specs.List.{AllZip, list_all};
+ghost use Rattle.toml.specs.Data.{Data, get_member};
 ghost use Rattle.toml.specs.Parse.{parse_document};
 ghost use Rattle.toml.specs.Text.{are_tables};
 ghost use Rattle.toml.specs.View.{view, table_view, items_view};
 ghost use Rattle.box_policy.specs.Tree.{text_at, has_key, keys_pass, is_tables, tables_in, tables_of};
-ghost use Rattle.box_policy.specs.Words.{is_top_key, is_rule_key, is_version_one, has_wildcard, is_base, effect_named, kind_named, has_rule_keys, is_pattern};
+ghost use Rattle.box_policy.specs.Words.{is_top_key, is_rule_key, is_version_one, has_wildcard, is_base, effect_named, kind_named, from_named, from_in, has_rule_keys};
+ghost use Rattle.box_policy.specs.Wellformed.{has_double_star, is_component, is_path_pattern, is_command_pattern, is_name_pattern, is_pattern};
+ghost use Rattle.box_policy.specs.Patterns.{is_name_byte};
+ghost use Rattle.box_policy.specs.Paths.{names};
+ghost use Rattle.box_policy.specs.Short.{are_short};
 ghost use Rattle.std.specs.Result.{result_err};
 ghost use Rattle.box_policy.specs.Refusals.{IsRefusedBy, no_document, no_memory, rule_refusal, rules_refusal, top_refusal};
 ghost use Rattle.box_policy.specs.Readings.{IsDocument, IsDraft};
 ghost use Rattle.box_policy.specs.Written.{WritesRule};
 
 use crate::error::PolicyError;
-use crate::names::{can_resolve, is_absolute};
-use crate::policy::{Effect, Kind, MAX_RULES, Rule};
+use crate::matching::is_name_byte;
+use crate::names::{can_resolve, first_name, is_absolute};
+use crate::policy::{Effect, Kind, MAX_PATTERN, MAX_RULES, Rule};
 use awk_text::octets::Octets;
 use std::alloc::Global;
 use toml::{Table, Value};
-
-/// The most bytes that a pattern may have.
-const MAX_PATTERN: usize = 4096;
 
 /// What stands in a document beside its version.
 #[derive(Clone, Copy)]
@@ -35,6 +37,7 @@ struct Draft<'a> {
     effect: Effect,
     kind: Kind,
     pattern: &'a str,
+    only_given: bool,
 }
 
 /// The document of the bytes.
@@ -79,7 +82,7 @@ fn is_top_key(key: &str) -> bool
 fn is_rule_key(key: &str) -> bool
     ensures { result ≡ is_rule_key key.now }
 {
-    key == "effect" || key == "kind" || key == "match"
+    key == "effect" || key == "kind" || key == "match" || key == "from"
 }
 
 fn has_top_keys_only(table: &Table) -> bool
@@ -148,20 +151,127 @@ fn kind_named(word: &str) -> Option<Kind>
     ensures { result ≡ kind_named word.now }
 {
     match word {
+        "read" => Some(Kind::Read),
         "write" => Some(Kind::Write),
+        "append" => Some(Kind::Append),
         "run" => Some(Kind::Run),
+        "env" => Some(Kind::Env),
+        "assign" => Some(Kind::Assign),
         _ => None,
     }
+}
+
+fn from_named(word: &str) -> Option<bool>
+    ensures { result ≡ from_named word.now }
+{
+    match word {
+        "any" => Some(false),
+        "given" => Some(true),
+        _ => None,
+    }
+}
+
+fn may_have_from(kind: Kind) -> bool
+    ensures { (found : Option Data) → from_in (Some kind) found ≡ (if result then from_in (Some Kind.Read) found else from_in (Some Kind.Write) found) }
+{
+    match kind {
+        Kind::Read | Kind::Assign => true,
+        Kind::Write | Kind::Append | Kind::Run | Kind::Env => false,
+    }
+}
+
+/// Whether the rule speaks of operand words alone, or `None` where `from` is wrong or is not to be
+/// there.
+fn from_of(kind: Kind, table: &Table) -> Option<bool>
+    ensures { result ≡ from_in (Some kind) (get_member (codes "from") (table_view table.now)) }
+{
+    let Some(value) = value_at(table, "from") else {
+        return Some(false);
+    };
+    if !may_have_from(kind) {
+        return None;
+    }
+    match value.as_str() {
+        Some(word) => from_named(word),
+        None => None,
+    }
+}
+
+fn has_double_star(piece: &[u8]) -> bool
+    ensures { result ≡ has_double_star piece.now }
+{
+    let mut rest = piece;
+    while let [_, after @ ..] = rest {
+        if let [b'*', b'*', ..] = rest {
+            return true;
+        }
+        rest = after;
+    }
+    false
+}
+
+fn is_component(piece: &[u8]) -> bool
+    ensures { result ≡ is_component piece.now }
+{
+    piece == b"**".as_slice() || !has_double_star(piece)
+}
+
+fn are_components(pattern: &[u8]) -> bool
+    ensures { result ≡ list_all is_component (names pattern.now) }
+{
+    let mut rest = pattern;
+    while let Some((piece, after)) = first_name(rest) {
+        if !is_component(piece) {
+            return false;
+        }
+        rest = after;
+    }
+    true
+}
+
+fn is_path_pattern(base: &[u8], pattern: &[u8]) -> bool
+    ensures { result ≡ is_path_pattern base.now pattern.now }
+{
+    can_resolve(base, pattern) && are_components(pattern)
+}
+
+fn is_command_pattern(pattern: &[u8]) -> bool
+    ensures { result ≡ is_command_pattern pattern.now }
+{
+    !pattern.is_empty() && !pattern.contains(&0)
+}
+
+fn is_name_or_star(byte: u8) -> bool
+    ensures { result ≡ (is_name_byte byte || byte == 42) }
+{
+    is_name_byte(byte) || byte == b'*'
+}
+
+fn are_names_or_stars(pattern: &[u8]) -> bool
+    ensures { result ≡ list_all (λ b. is_name_byte b || b == 42) pattern.now }
+{
+    for byte in pattern {
+        if !is_name_or_star(*byte) {
+            return false;
+        }
+    }
+    true
+}
+
+fn is_name_pattern(pattern: &[u8]) -> bool
+    ensures { result ≡ is_name_pattern pattern.now }
+{
+    !pattern.is_empty() && are_names_or_stars(pattern)
 }
 
 fn is_pattern(base: &[u8], kind: Kind, pattern: &[u8]) -> bool
     ensures { result ≡ is_pattern base.now kind pattern.now }
 {
-    !has_wildcard(pattern)
-        && match kind {
-            Kind::Run => !pattern.is_empty() && !pattern.contains(&0),
-            _ => can_resolve(base, pattern),
-        }
+    match kind {
+        Kind::Read | Kind::Write | Kind::Append => is_path_pattern(base, pattern),
+        Kind::Run => is_command_pattern(pattern),
+        Kind::Env | Kind::Assign => is_name_pattern(pattern),
+    }
 }
 
 fn are_tables(items: &[Value]) -> bool
@@ -233,6 +343,9 @@ fn read_draft<'a>(base: &[u8], number: u32, table: &'a Table) -> Result<Draft<'a
     ) else {
         return Err(refused(PolicyError::VALUE));
     };
+    let Some(only_given) = from_of(kind, table) else {
+        return Err(refused(PolicyError::VALUE));
+    };
     if pattern.len() > MAX_PATTERN {
         return Err(refused(PolicyError::LIMIT));
     }
@@ -243,6 +356,7 @@ fn read_draft<'a>(base: &[u8], number: u32, table: &'a Table) -> Result<Draft<'a
         effect,
         kind,
         pattern,
+        only_given,
     })
 }
 
@@ -254,7 +368,7 @@ fn read_rule(alloc: Global, base: &[u8], number: u32, table: &Table) -> Result<R
     Ok(Rule {
         effect: draft.effect,
         kind: draft.kind,
-        only_given: false,
+        only_given: draft.only_given,
         pattern: Octets::new(Vec::from_slice(alloc, draft.pattern.as_bytes())?),
     })
 }
@@ -268,6 +382,7 @@ pub(crate) fn read_rules(
     requires { length (tables_in (items_view items.now)) ≤ 1024 }
     ensures ok { IfOk result (λ rules. AllZip WritesRule (tables_in (items_view items.now)) rules.items) }
     ensures few { IfOk result (λ rules. length rules.items ≤ 1024) }
+    ensures short { IfOk result (λ rules. are_short rules.items ≡ true) }
     ensures accepted { IfOk result (λ _. rules_refusal base.now 1 (tables_in (items_view items.now)) ≡ None) }
     ensures refused { IfErr result (IsRefusedBy (rules_refusal base.now 1 (tables_in (items_view items.now)))) }
 {
