@@ -31,7 +31,7 @@ one_taken : {A : Type 0} (test : A → Bool) (symbols : List (Symbol A)) (x : A)
 one_taken test symbols x [] = or_false (test x && fits symbols [])
 one_taken test symbols x (y ∷ ys) =
     ap (λ b. (test x && fits symbols (y ∷ ys)) || b)
-      (list_any-map (λ cut. is_one test (x ∷ cut.0) && fits symbols cut.1) (λ cut. (y ∷ cut.0, cut.1)) (cuts ys) ∙ list_any_none (cuts ys))
+    (list_any-map (λ cut. is_one test (x ∷ cut.0) && fits symbols cut.1) (λ cut. (y ∷ cut.0, cut.1)) (cuts ys) ∙ list_any_none (cuts ys))
     ∙ or_false (test x && fits symbols (y ∷ ys))
 
 -- a symbol before an element: a run may end before it, and else the element has to pass
@@ -39,7 +39,7 @@ pub fits-more : {A : Type 0} (is_run : Bool) (test : A → Bool) (symbols : List
     → fits (symbol is_run test ∷ symbols) (x ∷ rest) ≡ ((is_run && fits symbols (x ∷ rest)) || (test x && fits (cond is_run (symbol is_run test ∷ symbols) symbols) rest))
 fits-more true test symbols x rest =
     ap (λ b. fits symbols (x ∷ rest) || b)
-      (list_any-map (λ cut. list_all test cut.0 && fits symbols cut.1) (λ cut. (x ∷ cut.0, cut.1)) (cuts rest)
-      ∙ list_any_both (test x) (λ cut. list_all test cut.0) (λ cut. fits symbols cut.1) (cuts rest))
+    (list_any-map (λ cut. list_all test cut.0 && fits symbols cut.1) (λ cut. (x ∷ cut.0, cut.1)) (cuts rest)
+    ∙ list_any_both (test x) (λ cut. list_all test cut.0) (λ cut. fits symbols cut.1) (cuts rest))
 fits-more false test symbols x rest =
     list_any-map (λ cut. is_one test cut.0 && fits symbols cut.1) (λ cut. (x ∷ cut.0, cut.1)) (cuts rest) ∙ one_taken test symbols x rest

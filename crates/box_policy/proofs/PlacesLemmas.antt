@@ -20,7 +20,7 @@ end_more b skipped moved here = grind arith
 step_more : {A : Type 0} (x : A) (rest : List A) (is_run : Bool) (test : A → Bool) (ss : List (Symbol A)) (b skipped moved later before : Bool)
     → later ≡ (((not is_run && ((b || skipped) && test x)) && fits ss rest) || (((is_run && (b || skipped)) && fits ss (x ∷ rest)) || before))
     → (((moved || (is_run && ((b || skipped) && test x))) && fits (symbol is_run test ∷ ss) rest) || later)
-      ≡ ((moved && fits (symbol is_run test ∷ ss) rest) || ((skipped && fits (symbol is_run test ∷ ss) (x ∷ rest)) || ((b && fits (symbol is_run test ∷ ss) (x ∷ rest)) || before)))
+    ≡ ((moved && fits (symbol is_run test ∷ ss) rest) || ((skipped && fits (symbol is_run test ∷ ss) (x ∷ rest)) || ((b && fits (symbol is_run test ∷ ss) (x ∷ rest)) || before)))
 step_more x rest true test ss b skipped moved later before h =
     ap (λ l. ((moved || ((b || skipped) && test x)) && fits (symbol true test ∷ ss) rest) || l) h
     ∙ (run_more b skipped moved (test x) before (fits ss (x ∷ rest)) (fits (symbol true test ∷ ss) rest)
@@ -37,7 +37,7 @@ stepped_from x rest ss [] skipped moved h = absurd (omega arith)
 stepped_from x rest [] (b ∷ bs) skipped moved h = end_more b skipped moved (fits [] rest)
 stepped_from x rest (s ∷ ss) (b ∷ bs) skipped moved h =
     step_more x rest s.is_run s.test ss b skipped moved _ (some_fits bs ss (x ∷ rest))
-      (stepped_from x rest ss bs (s.is_run && (b || skipped)) (not s.is_run && ((b || skipped) && s.test x)) (omega arith))
+    (stepped_from x rest ss bs (s.is_run && (b || skipped)) (not s.is_run && ((b || skipped) && s.test x)) (omega arith))
 
 pub some_fits-stepped : {A : Type 0} (x : A) (rest : List A) (ss : List (Symbol A)) (bs : List Bool) → length ss < length bs → some_fits (stepped x false false bs ss) ss rest ≡ some_fits bs ss (x ∷ rest)
 some_fits-stepped x rest ss bs h = stepped_from x rest ss bs false false h
@@ -108,9 +108,9 @@ pub end_loop : {A : Type 0} (places : List Bool) (at : ℕ) (s : Symbol A) (ss l
     → ((skipped' && fits ss []) || some_fits (drop (at + 1) places) ss []) ≡ whole
 end_loop places at s ss left skipped here skipped' whole h next is_here is_skipped before =
     rw (is_skipped, is_here)
-      (sym (some_fits-end s ss (get_or places at false) (drop (at + 1) places) skipped)
-      ∙ (ap (λ bs. (skipped && fits (s ∷ ss) []) || some_fits bs (s ∷ ss) []) (sym (drop_more places at false h))
-      ∙ (ap (λ symbols. (skipped && fits symbols []) || some_fits (drop at places) symbols []) (sym next) ∙ before)))
+    (sym (some_fits-end s ss (get_or places at false) (drop (at + 1) places) skipped)
+    ∙ (ap (λ bs. (skipped && fits (s ∷ ss) []) || some_fits bs (s ∷ ss) []) (sym (drop_more places at false h))
+    ∙ (ap (λ symbols. (skipped && fits symbols []) || some_fits (drop at places) symbols []) (sym next) ∙ before)))
 
 or_last : (b skipped : Bool) → (b || skipped) ≡ ((skipped && true) || (b && true))
 or_last b skipped = grind arith

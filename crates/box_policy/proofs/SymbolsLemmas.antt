@@ -15,8 +15,8 @@ length_command [] = omega arith
 length_command (b ∷ []) = omega arith
 length_command (b ∷ c ∷ bs) =
     cond_both (b == 42 && c == 42) (run (λ _. true) ∷ command_symbols bs) (command_byte b ∷ command_symbols (c ∷ bs))
-      (λ (found : List (Symbol ℕ)). length found ≤ length (b ∷ c ∷ bs))
-      (λ _. omega (arith, length_command bs)) (λ _. omega (arith, length_command (c ∷ bs)))
+    (λ (found : List (Symbol ℕ)). length found ≤ length (b ∷ c ∷ bs))
+    (λ _. omega (arith, length_command bs)) (λ _. omega (arith, length_command (c ∷ bs)))
 
 pub length-symbols : (sort : Sort) (pattern : List ℕ) → length (symbols sort pattern) ≤ length pattern
 length-symbols Component pattern = omega (arith, length-map pattern component_byte)
@@ -40,8 +40,8 @@ length-names : (text : List ℕ) → length (names text) ≤ length text
 length-names [] = omega arith
 length-names (b ∷ bs) =
     cond_both (b == 47) ([] ∷ slice_split (λ c. c == 47) bs) (onto_first b (slice_split (λ c. c == 47) bs))
-      (λ (pieces : List (List ℕ)). length (filter is_name pieces) ≤ length (b ∷ bs))
-      (λ _. omega (arith, length-names bs)) (λ _. omega (arith, length-names bs, onto_one b (slice_split (λ c. c == 47) bs)))
+    (λ (pieces : List (List ℕ)). length (filter is_name pieces) ≤ length (b ∷ bs))
+    (λ _. omega (arith, length-names bs)) (λ _. omega (arith, length-names bs, onto_one b (slice_split (λ c. c == 47) bs)))
 
 pub length-component_symbols : (pattern : List ℕ) → length (map component_symbol (names pattern)) ≤ length pattern
 length-component_symbols pattern = omega (arith, length-map (names pattern) component_symbol, length-names pattern)

@@ -22,7 +22,7 @@ impl PolicyError {
     pub const BASE: u8 = 3;
     /// A key is unknown, or a key of a rule is missing.
     pub const KEY: u8 = 4;
-    /// A value is wrong: of a rule, or `rule` is not an array of tables.
+    /// A value of a rule is wrong, or `rule` is not an array of tables.
     pub const VALUE: u8 = 5;
     /// A rule's pattern is not one of its kind.
     pub const PATTERN: u8 = 6;

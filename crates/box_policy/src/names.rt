@@ -2,7 +2,6 @@
 ghost use Rattle.std.specs.Prelude.{◌≡◌, ◌==◌, ◌<◌, ◌∷◌, [], length, MatchOption, IfSome, ◌+◌, ◌≤◌, if◌then◌else◌, codes, position};
 ghost use Rattle.std.specs.List.{list_any};
 ghost use Rattle.std.specs.Str.{is_utf8, bytes_eq};
-ghost use Rattle.std.specs.Cmp.Lexicographic.{pointwise};
 ghost use Rattle.std.specs.Iterator.{YieldsFirstRef, item_count};
 ghost use Rattle.box_policy.specs.Paths.{is_text, is_name, names, is_plain, is_absolute, names_under, can_resolve};
 ghost use Rattle.box_policy.specs.NamesLeft.{names_left};
@@ -145,17 +144,4 @@ pub(crate) fn can_resolve(base: &[u8], text: &[u8]) -> bool
     ensures { result ≡ can_resolve base.now text.now }
 {
     !text.is_empty() && is_plain(text) && (is_absolute(text) || is_plain(base))
-}
-
-/// Whether both give the same components.
-pub(crate) fn is_same(mut left: Names, mut right: Names) -> bool
-    ensures { result ≡ pointwise bytes_eq (names_left left.entry) (names_left right.entry) }
-{
-    while let Some(name) = left.next() {
-        match right.next() {
-            Some(other) if name == other => {}
-            _ => return false,
-        }
-    }
-    right.next().is_none()
 }

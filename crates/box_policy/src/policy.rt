@@ -84,8 +84,14 @@ impl Model for Policy {
 impl Policy {
     /// The policy that a text writes: a TOML document with `version = 1`, an absolute `base`, and an
     /// array of tables `rule`, which may be absent. A rule has `effect` (`"allow"`, `"deny"`), `kind`
-    /// (`"write"`, `"run"`; the other kinds are not there yet) and `match`, a path or a command
-    /// (`*` and `?` are not there yet).
+    /// (`"read"`, `"write"`, `"append"`, `"run"`, `"env"`, `"assign"`), `match`, and for read and
+    /// assign alone it may have `from` (`"any"`, or `"given"` for operand words alone).
+    ///
+    /// The `match` of read, write and append is a path under the base: the component `**` stands for
+    /// any number of components, and inside another one `*` stands for any run of bytes and `?` for
+    /// any one byte. That of run is a command: `**` stands for any run of bytes, and `*` for any run
+    /// of ASCII letters, digits and `_-./:,=+@%`. That of env and assign is a name, in which `*`
+    /// stands for any run of letters, digits and `_`.
     ///
     /// Refused in this order, memory aside: a text that is not UTF-8 or no TOML document; an unknown
     /// key; the version; the base; a `rule` that is not an array of tables; more than 1,024 rules;
@@ -111,7 +117,8 @@ impl Policy {
 
     /// What the first rule of this kind decides whose `from` holds and whose pattern fits the
     /// subject: a path, a command or a name. `given` says that the subject is an operand word that
-    /// the run was started with. Takes no memory.
+    /// the run was started with. Takes no memory, and for each rule at most the product of the
+    /// lengths of its pattern and the subject in time.
     pub fn decide(&self, kind: Kind, subject: &[u8], given: bool) -> Decision
         ensures { result ≡ decision self.now kind subject.now given }
     {

@@ -81,6 +81,27 @@ fn rules_are_refused_in_order(rt: HostRuntime) -> Result<(), Fail> {
             6,
         ),
         ("effect = \"allow\"\nkind = \"run\"\nmatch = \"a\"", 0),
+        ("effect = \"allow\"\nkind = \"read\"\nmatch = \"a/../b\"", 6),
+        ("effect = \"allow\"\nkind = \"read\"\nmatch = \"a**\"", 6),
+        ("effect = \"allow\"\nkind = \"read\"\nmatch = \"/w/***\"", 6),
+        ("effect = \"allow\"\nkind = \"env\"\nmatch = \"LC-ALL\"", 6),
+        ("effect = \"allow\"\nkind = \"assign\"\nmatch = \"\"", 6),
+        (
+            "effect = \"allow\"\nkind = \"run\"\nmatch = \"a\"\nfrom = \"any\"",
+            5,
+        ),
+        (
+            "effect = \"allow\"\nkind = \"read\"\nmatch = \"a\"\nfrom = \"all\"",
+            5,
+        ),
+        (
+            "effect = \"allow\"\nkind = \"read\"\nmatch = \"a\"\nfrom = 1",
+            5,
+        ),
+        (
+            "effect = \"allow\"\nkind = \"assign\"\nmatch = \"a\"\nfrom = \"any\"",
+            0,
+        ),
     ] {
         let text = one_rule(alloc, lines)?;
         let rule = if code == 0 { 0 } else { 1 };
@@ -133,6 +154,141 @@ fn decides(rt: HostRuntime) -> Result<(), Fail> {
         (Kind::Run, b"sort", Decision::NoRule),
     ] {
         assert_eq!(rt; policy.decide(kind, subject, false), decision);
+    }
+    Ok(())
+}
+
+/// Whether a rule of this kind and pattern allows the subject.
+fn allows(alloc: Global, kind: &str, pattern: &str, subject: &[u8]) -> Result<bool, Fail> {
+    let lines = format!(in alloc; "effect = \"allow\"\nkind = \"{kind}\"\nmatch = \"{pattern}\"")?;
+    let policy = Policy::read(alloc, one_rule(alloc, lines.as_str())?.as_bytes())?;
+    let kind = match kind {
+        "read" => Kind::Read,
+        "write" => Kind::Write,
+        "run" => Kind::Run,
+        _ => Kind::Env,
+    };
+    Ok(policy.decide(kind, subject, false) == Decision::Allow(1))
+}
+
+#[test]
+fn patterns_fit(rt: HostRuntime) -> Result<(), Fail> {
+    for (kind, pattern, subject) in [
+        ("read", "/w/**/x", b"/w/x".as_slice()),
+        ("read", "/w/**/x", b"a/b/x"),
+        ("read", "**", b"/w"),
+        ("read", "**", b"a/b/c"),
+        ("read", "/**", b"/"),
+        ("read", "a*b?c", b"axxbbc"),
+        ("read", "/*/in/secret*", b"in/secret1"),
+        ("write", "a?", b"ab"),
+        ("write", "/", b"/."),
+        ("run", "sort *", b"sort -r"),
+        ("run", "sort *", b"sort "),
+        ("run", "sort **", b"sort -r;id"),
+        ("run", "**", b""),
+        ("run", "***x", b"a b;x"),
+        ("run", "a?", b"a?"),
+        ("env", "LC_*", b"LC_ALL"),
+        ("env", "LC_*", b"LC_"),
+        ("env", "*_*", b"A_B"),
+    ] {
+        assert!(rt; allows(rt.alloc(), kind, pattern, subject)?, "{pattern}");
+    }
+    Ok(())
+}
+
+#[test]
+fn patterns_do_not_fit(rt: HostRuntime) -> Result<(), Fail> {
+    for (kind, pattern, subject) in [
+        ("read", "/w/**/x", b"/w/xx".as_slice()),
+        ("read", "/w/**/x", b"/v/x"),
+        ("read", "*", b"a/b"),
+        ("read", "**", b"/v"),
+        ("read", "**", b"a/../b"),
+        ("read", "**", b""),
+        ("write", "a?", b"a"),
+        ("write", "a?", b"./a//../ab"),
+        ("write", "/", b"/w"),
+        ("run", "sort *", b"sort -r;id"),
+        ("run", "sort **", b"sort"),
+        ("run", "**", b"a\0"),
+        ("run", "**", b"\xff"),
+        ("run", "a?", b"ab"),
+        ("env", "LC_*", b"LC"),
+        ("env", "LC_*", b"LC_-"),
+    ] {
+        assert!(rt; !allows(rt.alloc(), kind, pattern, subject)?, "{pattern}");
+    }
+    Ok(())
+}
+
+const P0: &[u8] = b"version = 1
+base = \"/w\"
+rule = [
+  { effect = \"deny\", kind = \"read\", match = \"/w/in/secret*\" },
+  { effect = \"allow\", kind = \"read\", match = \"/w/in/**\" },
+  { effect = \"allow\", kind = \"write\", match = \"/w/out/*\" },
+  { effect = \"allow\", kind = \"run\", match = \"sort *\" },
+  { effect = \"allow\", kind = \"env\", match = \"LANG\" },
+  { effect = \"allow\", kind = \"assign\", match = \"v\", from = \"given\" },
+]
+";
+
+#[test]
+fn first_rule_decides(rt: HostRuntime) -> Result<(), Fail> {
+    let policy = Policy::read(rt.alloc(), P0)?;
+    assert_eq!(rt; policy.count(), 6);
+    for (kind, subject, decision) in [
+        (Kind::Read, b"in/secret1".as_slice(), Decision::Deny(1)),
+        (Kind::Read, b"in//a", Decision::Allow(2)),
+        (Kind::Read, b"in/../../etc/x", Decision::NoRule),
+        (Kind::Write, b"/w/out/a", Decision::Allow(3)),
+        (Kind::Write, b"/etc/x", Decision::NoRule),
+        (Kind::Append, b"/w/out/a", Decision::NoRule),
+        (Kind::Run, b"sort -r", Decision::Allow(4)),
+        (Kind::Run, b"sort -r;id", Decision::NoRule),
+        (Kind::Env, b"LANG", Decision::Allow(5)),
+        (Kind::Env, b"HOME", Decision::NoRule),
+        (Kind::Assign, b"v", Decision::NoRule),
+    ] {
+        assert_eq!(rt; policy.decide(kind, subject, false), decision);
+    }
+    assert_eq!(rt; policy.decide(Kind::Assign, b"v", true), Decision::Allow(6));
+    assert_eq!(rt;
+        policy.decide(Kind::Read, b"in/a", true),
+        Decision::Allow(2)
+    );
+    Ok(())
+}
+
+/// 4 KiB of `a`, and a byte that no pattern below ends in.
+fn hostile_subject(alloc: Global) -> Result<Vec<u8>, AllocError> {
+    let mut subject = Vec::new(alloc);
+    for _ in 0..4096 {
+        subject.push(b'a')?;
+    }
+    subject.push(b'!')?;
+    Ok(subject)
+}
+
+/// 1,000 times `a*`, and then `b`.
+fn hostile_pattern(alloc: Global) -> Result<String, AllocError> {
+    let mut pattern = String::new(alloc);
+    for _ in 0..1000 {
+        pattern.push_str("a*")?;
+    }
+    pattern.push('b')?;
+    Ok(pattern)
+}
+
+#[test]
+fn hostile_patterns_end(rt: HostRuntime) -> Result<(), Fail> {
+    let alloc = rt.alloc();
+    let subject = hostile_subject(alloc)?;
+    let pattern = hostile_pattern(alloc)?;
+    for kind in ["read", "run", "env"] {
+        assert!(rt; !allows(alloc, kind, pattern.as_str(), subject.as_slice())?);
     }
     Ok(())
 }

@@ -14,8 +14,8 @@ pub returns-in_default-next : goal.returns-in_default-next
 returns-in_default-next c = λ symbols.
     c.loop-piece.invariant symbols
     ∙ elim c.in_default-next.branch [
-        in_default-next-via-in-Some-next+else-eq w ↦
+      | in_default-next-via-in-Some-next+else-eq w ↦
           let differs : bytes_eq c.in-Some.piece.now w.in-Some-next.name.now ≡ false = search rules in
           base_other _ _ _ (names_left c.next.new.self) _ _ symbols differs c.in-Some.ensures.name w.in-Some-next.ensures.steps
       | in_default-next-via-in_default-next w ↦ base_none _ _ _ _ symbols c.in-Some.ensures.name w.in_default-next.ensures.steps.0
-      ]
+    ]

@@ -19,8 +19,8 @@ returns-then-not-is_any_reached c =
     let dead : list_any (λ b. b) c.step_names.new.places ≡ false = search rules in
     let room : length (map component_symbol (names c.args.pattern.now)) < length c.loop-name.places = omega (arith, length-component_symbols c.args.pattern.now, c.loop-name.invariant.room) in
     walk_dead (names_left c.next.new.self) (map component_symbol (names c.args.pattern.now)) c.step_names.new.places _ dead
-      (walk_more _ _ _ (map component_symbol (names c.args.pattern.now)) c.loop-name.places c.step_names.new.places _ room
-        c.in-Some.ensures.steps c.step_names.ensures c.loop-name.invariant.whole)
+    (walk_more _ _ _ (map component_symbol (names c.args.pattern.now)) c.loop-name.places c.step_names.new.places _ room
+    c.in-Some.ensures.steps c.step_names.ensures c.loop-name.invariant.whole)
 
 pub loop-name-preserved : goal.loop-name-preserved
 loop-name-preserved c =
@@ -29,5 +29,5 @@ loop-name-preserved c =
       room = search rules;
       inner_room = search rules;
       whole = walk_more _ _ _ (map component_symbol (names c.args.pattern.now)) c.loop-name.places c.step_names.new.places _ room
-        c.in-Some.ensures.steps c.step_names.ensures c.loop-name.invariant.whole;
+          c.in-Some.ensures.steps c.step_names.ensures c.loop-name.invariant.whole;
     }

@@ -7,4 +7,4 @@ use Rattle.box_policy.proofs.matching.step_names.Goals as goal
 pub returns : goal.returns
 returns c =
     step_last c.args.name.now c.loop-piece.skipped c.loop-piece.moved c.loop-piece.places c.loop-piece.at (map component_symbol (names c.loop-piece.rest.now)) _
-      (omega (arith, c.loop-piece.invariant.room)) (ap (map component_symbol) c.in_default.ensures.name) c.loop-piece.invariant.whole
+    (omega (arith, c.loop-piece.invariant.room)) (ap (map component_symbol) c.in_default.ensures.name) c.loop-piece.invariant.whole

@@ -17,8 +17,8 @@ returns-then-not-is_any_reached c =
     let dead : list_any (λ b. b) c.step.new.places ≡ false = search rules in
     let room : length (symbols c.args.sort c.args.pattern.now) < length c.loop-byte.places = omega (arith, length-symbols c.args.sort c.args.pattern.now, c.loop-byte.invariant.room) in
     walk_dead (drop (c.loop-byte.byte-index + 1) c.args.subject.now) (symbols c.args.sort c.args.pattern.now) c.step.new.places _ dead
-      (walk_more _ _ _ (symbols c.args.sort c.args.pattern.now) c.loop-byte.places c.step.new.places _ room
-        (drop_more c.args.subject.now c.loop-byte.byte-index 0 c.loop-byte-test.true) c.step.ensures c.loop-byte.invariant.whole)
+    (walk_more _ _ _ (symbols c.args.sort c.args.pattern.now) c.loop-byte.places c.step.new.places _ room
+    (drop_more c.args.subject.now c.loop-byte.byte-index 0 c.loop-byte-test.true) c.step.ensures c.loop-byte.invariant.whole)
 
 pub loop-byte-preserved : goal.loop-byte-preserved
 loop-byte-preserved c =
@@ -26,5 +26,5 @@ loop-byte-preserved c =
     record {
       room = search rules;
       whole = walk_more _ _ _ (symbols c.args.sort c.args.pattern.now) c.loop-byte.places c.step.new.places _ room
-        (drop_more c.args.subject.now c.loop-byte.byte-index 0 c.loop-byte-test.true) c.step.ensures c.loop-byte.invariant.whole;
+          (drop_more c.args.subject.now c.loop-byte.byte-index 0 c.loop-byte-test.true) c.step.ensures c.loop-byte.invariant.whole;
     }
