@@ -72,10 +72,19 @@ fn texts_are_shown(rt: HostRuntime) -> Result<(), Fail> {
         let shown = format(alloc, form, &[value])?;
         assert_eq!(rt; shown.as_slice(), want, "{form:?}");
     }
-    let values = [Value::Num(42), text(alloc, b"ab")?, Value::Num(-7), Value::Num(255), Value::Num(65)];
+    let values = [
+        Value::Num(42),
+        text(alloc, b"ab")?,
+        Value::Num(-7),
+        Value::Num(255),
+        Value::Num(65),
+    ];
     let shown = format(alloc, b"%5d|%-5s|%05d|%x|%c\n", &values)?;
     assert_eq!(rt; shown.as_slice(), b"   42|ab   |-0007|ff|A\n".as_slice());
-    assert_eq!(rt; format(alloc, b"%%|", &values)?.as_slice(), b"%|".as_slice());
+    assert_eq!(rt;
+        format(alloc, b"%%|", &values)?.as_slice(),
+        b"%|".as_slice()
+    );
     assert_eq!(rt; format(alloc, b"%65535d", &[Value::Num(1)])?.len(), 65_535);
     Ok(())
 }
@@ -98,11 +107,17 @@ fn the_leftmost_fault_comes_first(rt: HostRuntime) -> Result<(), Fail> {
         assert_eq!(rt; fault, Some(Fault::Format), "{form:?}");
     }
     let far = [text(alloc, b"99999999999999999999")?];
-    assert_eq!(rt; format(alloc, b"%d %d", &far).err(), Some(Fault::OutOfRange));
+    assert_eq!(rt;
+        format(alloc, b"%d %d", &far).err(),
+        Some(Fault::OutOfRange)
+    );
     assert_eq!(rt; format(alloc, b"%e %d", &far).err(), Some(Fault::Format));
     let long = [text(alloc, &vec![in alloc; 0u8; MOST_BYTES]?)?];
     assert_eq!(rt; format(alloc, b"%s", &long)?.len(), MOST_BYTES);
-    assert_eq!(rt; format(alloc, b"%s.", &long).err(), Some(Fault::TextTooLong));
+    assert_eq!(rt;
+        format(alloc, b"%s.", &long).err(),
+        Some(Fault::TextTooLong)
+    );
     assert_eq!(rt; format(alloc, b"%s.%d", &long).err(), Some(Fault::Format));
     Ok(())
 }

@@ -95,14 +95,14 @@ complete_parts blanks s (d ∷ ds) after z all_blank some all_digits blank_after
     let some_digit = lt-ltb 0 (prefix_len is_ascii_digit (d ∷ (ds ++ after))) (omega (arith, count, some)) in
     let blank = ap (list_all is_blank) (drop_while-append is_ascii_digit (d ∷ ds) after all_digits stop) ∙ blank_after in
     let numeral : is_numeral (after_sign (drop_while is_blank text)) ≡ true =
-          ap (λ t. is_numeral (after_sign t)) body_is ∙ ap is_numeral rest_is ∙ and_from (nat_lt 0 (prefix_len is_ascii_digit (d ∷ (ds ++ after)))) (list_all is_blank (drop_while is_ascii_digit (d ∷ (ds ++ after)))) some_digit blank in
+    ap (λ t. is_numeral (after_sign t)) body_is ∙ ap is_numeral rest_is ∙ and_from (nat_lt 0 (prefix_len is_ascii_digit (d ∷ (ds ++ after)))) (list_all is_blank (drop_while is_ascii_digit (d ∷ (ds ++ after)))) some_digit blank in
     let number_is : number text ≡ z =
-          ap (λ t. signed (has_minus t) (digits_value 10 (take_while is_ascii_digit (after_sign t)))) body_is
-          ∙ sign_value body (digits_value 10 (take_while is_ascii_digit (after_sign body)))
-          ∙ ap (λ g. with_sign g (digits_value 10 (take_while is_ascii_digit (after_sign body)))) (sign_of_digits s d (ds ++ after) digit)
-          ∙ ap (λ t. with_sign s (digits_value 10 (take_while is_ascii_digit t))) rest_is
-          ∙ ap (λ t. with_sign s (digits_value 10 t)) (take_while-append is_ascii_digit (d ∷ ds) after all_digits stop)
-          ∙ sym value in
+    ap (λ t. signed (has_minus t) (digits_value 10 (take_while is_ascii_digit (after_sign t)))) body_is
+    ∙ sign_value body (digits_value 10 (take_while is_ascii_digit (after_sign body)))
+    ∙ ap (λ g. with_sign g (digits_value 10 (take_while is_ascii_digit (after_sign body)))) (sign_of_digits s d (ds ++ after) digit)
+    ∙ ap (λ t. with_sign s (digits_value 10 (take_while is_ascii_digit t))) rest_is
+    ∙ ap (λ t. with_sign s (digits_value 10 t)) (take_while-append is_ascii_digit (d ∷ ds) after all_digits stop)
+    ∙ sym value in
     cond_some (is_numeral (after_sign (drop_while is_blank text))) (number text) z numeral number_is fits
 
 looks_complete : (text : List ℕ) (z : ℤ) → Looks text z → looks_numeric text ≡ Some z
@@ -176,8 +176,8 @@ longest_parts blanks unsigned (d ∷ ds) later all_blank all_digits =
     let digit = (and_parts (is_ascii_digit d) (list_all is_ascii_digit ds) all_digits).0 in
     let body = d ∷ (ds ++ later) in
     let tail_is : tail_front body ≡ take_while is_ascii_digit body =
-          ap (λ g. sign_text g ++ take_while is_ascii_digit (after_sign body)) (sign_of_digits unsigned d (ds ++ later) digit)
-          ∙ ap (take_while is_ascii_digit) (after_sign_digits unsigned d (ds ++ later) digit) in
+    ap (λ g. sign_text g ++ take_while is_ascii_digit (after_sign body)) (sign_of_digits unsigned d (ds ++ later) digit)
+    ∙ ap (take_while is_ascii_digit) (after_sign_digits unsigned d (ds ++ later) digit) in
     longest_by blanks (d ∷ ds) later all_blank (digit_blank d digit) (omega (arith, ap length tail_is, digits_longest (d ∷ ds) later all_digits))
 longest_parts blanks unsigned [] later all_blank all_digits =
     let text = (blanks ++ []) ++ later in
