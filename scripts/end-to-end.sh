@@ -195,6 +195,33 @@ status=$?
 is 2 "" "awkbox: 1:19 F12 cannot write the denial log$line" "" && [ ! -e "$work/elsewhere/x" ]
 verdict "a log that takes nothing"
 
+# example NAME SCRIPT: runs an example of the repository, with this folder as its base
+examples=$(dirname "$(readlink -f "$0")")/../examples
+example() {
+    sed "s|^base = .*|base = \"$base\"|" "$examples/$1/policy.toml" >"$work/policy.toml"
+    cp "$examples/$1/$2" "$work/script.awk"
+    run </dev/null
+}
+
+mkdir -p out/2026 out/archive answers solutions daily
+
+example report-host report.awk
+is 2 "" "awkbox: 5:19 F7 cannot open or write output$line" \
+    "4:2 run none \"test -s out/2026/totals.txt; id\"${line}5:19 write 1 \"out/archive/2025.txt\"$line" &&
+    holds out/2026/totals.txt "total 12$line" && [ ! -e out/archive/2025.txt ]
+verdict "the example of a report host"
+
+example teaching-server exercise.awk
+is 2 "" "awkbox: 4:12 F7 cannot open or write output$line" \
+    "3:2 run none \"cat solutions/a.txt\"${line}4:12 write none \"answers/../solutions/a.txt\"$line" &&
+    holds answers/a.txt "4$line" && [ ! -e solutions/a.txt ]
+verdict "the example of a teaching server"
+
+example log-pipeline step.awk
+is 0 "" "" "4:2 run 2 \"sort -c /etc/shadow\"${line}5:2 run none \"rm -r daily\"$line" &&
+    holds daily/2026-11-22.log "started${line}done$line"
+verdict "the example of a step of a log pipeline"
+
 awkbox --help
 [ "$status" -eq 0 ] && grep -q '^Usage: awkbox' "$work/output" && [ ! -s "$work/errors" ]
 verdict "the help"
