@@ -35,7 +35,7 @@ pub data Family : Type 0 where
   a_pattern : Family
   a_sign : Family
 
-abbrev family_of : TokenKind → Family
+abbrev pub family_of : TokenKind → Family
 family_of Number = a_number
 family_of Quoted = a_string
 family_of Pattern = a_pattern
@@ -46,7 +46,7 @@ family_of Refused = a_word
 family_of Name = a_word
 family_of CallName = a_word
 
-abbrev family_at : Bool → ℕ → Family
+abbrev pub family_at : Bool → ℕ → Family
 family_at operand b = cond (is_ascii_digit b) a_number (cond (begins_name b) a_word (cond (eqb b 34) a_string (cond (eqb b 47 && operand) a_pattern a_sign)))
 
 name_no_digit : (b : ℕ) → begins_name b ≡ true → is_ascii_digit b ≡ false
@@ -57,13 +57,13 @@ word_family operand b z h =
     let begins = (and_parts (begins_name b) (list_all continues_name z) h).0 in
     rw (name_no_digit b begins, begins) refl
 
-head_is : (b c : ℕ) (y z : Text) → b ∷ y ≡ c ∷ z → b ≡ c
+pub head_is : (b c : ℕ) (y z : Text) → b ∷ y ≡ c ∷ z → b ≡ c
 head_is b c y z e = cc
 
-tail_is : (b c : ℕ) (y z : Text) → b ∷ y ≡ c ∷ z → y ≡ z
+pub tail_is : (b c : ℕ) (y z : Text) → b ∷ y ≡ c ∷ z → y ≡ z
 tail_is b c y z e = cc
 
-family_told : (operand : Bool) (kind : TokenKind) (b : ℕ) (z rest : Text) → IsToken operand kind (b ∷ z) rest → family_at operand b ≡ family_of kind
+pub family_told : (operand : Bool) (kind : TokenKind) (b : ℕ) (z rest : Text) → IsToken operand kind (b ∷ z) rest → family_at operand b ≡ family_of kind
 family_told operand Number b z rest h = rw (and_parts (is_ascii_digit b) (list_all is_ascii_digit z) h).0 refl
 family_told operand Quoted b z rest h = ap (family_at operand) (head_is b 34 z h.0 h.1)
 family_told operand Pattern b z rest h = ap (λ o. family_at o b) h.2 ∙ ap (family_at true) (head_is b 47 z h.0 h.1)
@@ -102,7 +102,7 @@ as_name operand Refused text rest e h = h.0
 as_name operand Name text rest e h = h.0
 as_name operand CallName text rest e h = h.0
 
-as_string : (operand : Bool) (kind : TokenKind) (text rest : Text) → family_of kind ≡ a_string → IsToken operand kind text rest → IsToken operand Quoted text rest
+pub as_string : (operand : Bool) (kind : TokenKind) (text rest : Text) → family_of kind ≡ a_string → IsToken operand kind text rest → IsToken operand Quoted text rest
 as_string operand Number text rest e h = absurd cc
 as_string operand Quoted text rest e h = h
 as_string operand Pattern text rest e h = absurd cc
@@ -113,7 +113,7 @@ as_string operand Refused text rest e h = absurd cc
 as_string operand Name text rest e h = absurd cc
 as_string operand CallName text rest e h = absurd cc
 
-as_pattern : (operand : Bool) (kind : TokenKind) (text rest : Text) → family_of kind ≡ a_pattern → IsToken operand kind text rest → IsToken operand Pattern text rest
+pub as_pattern : (operand : Bool) (kind : TokenKind) (text rest : Text) → family_of kind ≡ a_pattern → IsToken operand kind text rest → IsToken operand Pattern text rest
 as_pattern operand Number text rest e h = absurd cc
 as_pattern operand Quoted text rest e h = absurd cc
 as_pattern operand Pattern text rest e h = h
@@ -124,7 +124,7 @@ as_pattern operand Refused text rest e h = absurd cc
 as_pattern operand Name text rest e h = absurd cc
 as_pattern operand CallName text rest e h = absurd cc
 
-as_sign : (operand : Bool) (kind : TokenKind) (text rest : Text) → family_of kind ≡ a_sign → IsToken operand kind text rest → is_sign text ≡ true
+pub as_sign : (operand : Bool) (kind : TokenKind) (text rest : Text) → family_of kind ≡ a_sign → IsToken operand kind text rest → is_sign text ≡ true
 as_sign operand Number text rest e h = absurd cc
 as_sign operand Quoted text rest e h = absurd cc
 as_sign operand Pattern text rest e h = absurd cc

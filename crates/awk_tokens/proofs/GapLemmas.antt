@@ -67,15 +67,15 @@ gap_found (b ∷ z) n e some =
           ]
     ]
 
-blank_len : (b : ℕ) (z : Text) → is_blank b ≡ true → gap_len (b ∷ z) ≡ 1
+pub blank_len : (b : ℕ) (z : Text) → is_blank b ≡ true → gap_len (b ∷ z) ≡ 1
 unfolding gap_len
 blank_len b z h = ap (λ t. cond t 1 (cond (eqb b 92 && eqb (get_or z 0 0) 10) 2 (cond (eqb b 35) (line_len (b ∷ z)) 0))) h
 
-joined_len : (z : Text) → gap_len (92 ∷ 10 ∷ z) ≡ 2
+pub joined_len : (z : Text) → gap_len (92 ∷ 10 ∷ z) ≡ 2
 unfolding gap_len
 joined_len z = refl
 
-comment_len : (z : Text) → gap_len (35 ∷ z) ≡ 1 + line_len z
+pub comment_len : (z : Text) → gap_len (35 ∷ z) ≡ 1 + line_len z
 unfolding gap_len
 comment_len z = refl
 

@@ -9,3 +9,4 @@ pub mod GapLemmas
 pub mod FirstLemmas
 pub mod PlaceLemmas
 pub mod StepLemmas
+pub mod Once

@@ -55,6 +55,14 @@ pub data ReadsTo : Text → List Token → Text → Type 0 where
 abbrev pub Reads : Text → List Token → Type 0
 Reads script tokens = ReadsTo script tokens []
 
+-- the script is read as no other tokens
+abbrev pub IsOnly : Text → List Token → Type 0
+IsOnly script tokens = (others : List Token) → Reads script others → others ≡ tokens
+
+-- the script is read as no tokens at all
+abbrev pub IsUnread : Text → Type 0
+IsUnread script = (tokens : List Token) → Reads script tokens → ⊥
+
 -- ---- refusals
 
 -- A byte that begins no token and no separator. 34 is `"`, 46 is `.`.

@@ -2,7 +2,7 @@
 
 ghost use Rattle.std.specs.Prelude.{◌≡◌, ◌≢◌, ◌<◌, ◌++◌, ◌⊎◌, List, ℕ, false, length, IfOk, IfErr};
 ghost use Rattle.awk_tokens.specs.Places as places;
-ghost use Rattle.awk_tokens.specs.Reads.{ends_operand, Reads, Stands, Refuses};
+ghost use Rattle.awk_tokens.specs.Reads.{ends_operand, Reads, IsOnly, IsUnread, Stands, Refuses};
 ghost use Rattle.awk_tokens.specs.Scan as scan;
 ghost use Rattle.awk_tokens.specs.Tokens as spec;
 ghost use Rattle.awk_tokens.specs.Next.{IsNext};
@@ -86,7 +86,7 @@ fn text_of(alloc: Global, kind: TokenKind, slice: &[u8]) -> Result<Octets, Memor
 }
 
 /// Whether a token ends an operand, so that no operand may begin directly after it.
-fn is_end(kind: TokenKind, text: &[u8]) -> bool
+fn ends_operand(kind: TokenKind, text: &[u8]) -> bool
     ensures { result ≡ ends_operand kind text.now }
 {
     match kind {
@@ -149,7 +149,9 @@ fn next_token(
 /// by S9, at some place, where memory was refused. POSIX.1-2017 XCU awk, "Lexical Conventions".
 pub fn tokens(alloc: Global, script: &[u8]) -> Result<Vec<Token>, SyntaxError>
     ensures read { IfOk result (λ tokens. Reads script.now tokens.items) }
+    ensures only { IfOk result (λ tokens. IsOnly script.now tokens.items) }
     ensures refused { IfErr result (λ e. e.code ≢ 9 → Refuses script.now e.code e.place) }
+    ensures unread { IfErr result (λ e. e.code ≢ 9 → IsUnread script.now) }
 {
     let mut found = Vec::new(alloc);
     let mut place = Place { line: 1, column: 1 };
@@ -164,7 +166,7 @@ pub fn tokens(alloc: Global, script: &[u8]) -> Result<Vec<Token>, SyntaxError>
             continue;
         }
         let (token, len) = next_token(alloc, operand, rest, start, place)?;
-        operand = !is_end(token.kind, token.text.bytes());
+        operand = !ends_operand(token.kind, token.text.bytes());
         place = token.end;
         start += len;
         if found.push(token).is_err() {

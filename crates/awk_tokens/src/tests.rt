@@ -1,9 +1,11 @@
 // Worked rows of the lexical rule, with values from the language's description.
 
 use super::*;
+use awk_text::place::Place;
 use TokenKind::{Builtin, CallName, Keyword, Name, Number, Pattern, Quoted, Refused, Sign};
 use std::alloc::Global;
 use std::process::Abort;
+use std::test::Fail;
 
 /// A token as a row writes it: kind, text, line and column.
 type Row<'a> = (TokenKind, &'a [u8], u32, u32);
@@ -230,4 +232,15 @@ fn starts_and_ends(rt: HostRuntime) {
             assert_eq!(rt; (found[3].start, found[3].end.line, found[3].end.column), (13, 2, 15));
         }
     }
+}
+
+#[test]
+fn printed_refusal(rt: HostRuntime) -> Result<(), Fail> {
+    let place = Place { line: 1, column: 9 };
+    let e = SyntaxError {
+        code: SyntaxError::BYTE,
+        place,
+    };
+    assert_eq!(rt; format!(in rt.alloc(); "{e}")?.as_str(), "1:9 S1");
+    Ok(())
 }

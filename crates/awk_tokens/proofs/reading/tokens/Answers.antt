@@ -1,9 +1,11 @@
-use Rattle.std.proofs.Common.{◌≡◌, ◌+◌, ◌++◌, ◌∷◌, [], true, not, cond, take, sym, ap, subst, ◌∙◌}
+use Rattle.std.proofs.Common.{◌≡◌, ◌≢◌, ◌+◌, ◌++◌, ◌∷◌, [], true, not, cond, take, sym, ap, subst, ◌∙◌, arith}
+use Rattle.std.proofs.lemmas.Result.{err_from_is_err_and}
 use Rattle.awk_tokens.specs.Places.{place_after}
-use Rattle.awk_tokens.specs.Reads.{ends_operand}
+use Rattle.awk_tokens.specs.Reads.{ends_operand, IsUnread, Stands}
 use Rattle.awk_tokens.specs.Next.{IsNext}
 use Rattle.awk_tokens.specs.Scan.{gap_len}
-use Rattle.awk_tokens.proofs.StepLemmas.{At, at_start, rest_range, gap_step, token_step}
+use Rattle.awk_tokens.proofs.StepLemmas.{At, at_start, rest_range, gap_step, token_step, at_end, at_fault}
+use Rattle.awk_tokens.proofs.Once.{read_once, refused_unread}
 use Rattle.awk_tokens.proofs.reading.tokens.Goals as goal
 
 pub loop-start-init : goal.loop-start-init
@@ -31,5 +33,24 @@ loop-start-preserved c =
     let step = token_step script start place operand tokens token len c.loop-start.invariant (subst (λ z. IsNext operand z start place token len) (rest_range script start) next) in
     let pushed : c.push.new.self.items ≡ tokens ++ token ∷ [] =
         c.push.ensures.items ∙ ap (λ ok. cond ok (tokens ++ token ∷ []) tokens) (c.is_err.ensures.negation ∙ ap not c.if-is_err.false) in
-    let ends : c.is_end-operand.result ≡ ends_operand token.kind token.text = c.is_end-operand.ensures ∙ ap (ends_operand token.kind) c.bytes.ensures in
-    subst (λ ts. At script (start + len) token.end (not c.is_end-operand.result) ts) (sym pushed) (subst (λ e. At script (start + len) token.end (not e) (tokens ++ token ∷ [])) (sym ends) step)
+    let ends : c.ends_operand-operand.result ≡ ends_operand token.kind token.text = c.ends_operand-operand.ensures ∙ ap (ends_operand token.kind) c.bytes.ensures in
+    subst (λ ts. At script (start + len) token.end (not c.ends_operand-operand.result) ts) (sym pushed) (subst (λ e. At script (start + len) token.end (not e) (tokens ++ token ∷ [])) (sym ends) step)
+
+pub returns-clause-only : goal.returns-clause-only
+returns-clause-only c =
+    let at = c.loop-start in
+    let read = at_end c.args.script.now at.start at.place at.operand at.found.items at.invariant (omega arith) in
+    λ others. read_once c.args.script.now at.found.items others read
+
+pub returns-in_err-token-clause-unread : goal.returns-in_err-token-clause-unread
+returns-in_err-token-clause-unread c =
+    let script = c.args.script.now in
+    let at = c.loop-start in
+    let e = c.in_err-token.field-0.0 in
+    let told : (e.code ≢ 9 → Stands at.operand e.code _) × (e.place ≡ at.place) = c.in_err-token.ensures.refused in
+    let rest : e.code ≢ 9 → IsUnread script =
+        λ other tokens.
+          refused_unread script e.code e.place tokens
+          (at_fault script at.start at.place e.place at.operand at.found.items e.code at.invariant (subst (λ z. Stands at.operand e.code z) (rest_range script at.start) (told.0 other)) told.1) in
+    let p = err_from_is_err_and c.from_residual.result c.from_residual.ensures.1 in
+    rw (p.1, p.2) rest
