@@ -63,8 +63,10 @@ class_found (c ∷ w) n e =
   where
     first_up : (m : ℕ) → m + 1 ≡ suc (m + 0)
     first_up m = omega arith
+
     second_up : (m : ℕ) → m + 2 ≡ suc (m + 1)
     second_up m = omega arith
+
     third_up : (m : ℕ) → m + 3 ≡ suc (m + 2)
     third_up m = omega arith
 

@@ -248,14 +248,14 @@ number_found operand b z kind n digit e =
     elim (chosen (is_whole (b ∷ take m z) (drop m z)) (okay (Number, suc m)) (Err 3) (Ok (kind, n)) (number_choice b z (Ok (kind, n)) digit e)) [
       | inl h ↦
           let made : First operand (b ∷ z) Number (suc m) =
-              record {
-                text = b ∷ take m z;
-                rest = drop m z;
-                parts = ap (λ w. b ∷ w) (sym (take-append-drop m z));
-                len_is = omega (arith, length-take-le m z (prefix_len-le-length is_ascii_digit z));
-                moves = omega arith;
-                first = record { token = number_token b z digit; longest = number_longest operand b z digit; whole = h.0 };
-              } in
+          record {
+            text = b ∷ take m z;
+            rest = drop m z;
+            parts = ap (λ w. b ∷ w) (sym (take-append-drop m z));
+            len_is = omega (arith, length-take-le m z (prefix_len-le-length is_ascii_digit z));
+            moves = omega arith;
+            first = record { token = number_token b z digit; longest = number_longest operand b z digit; whole = h.0 };
+          } in
           subst (λ p. First operand (b ∷ z) p.0 p.1) (ok_same (Number, suc m) (kind, n) h.1) made
       | inr h ↦ absurd cc
     ]
@@ -309,14 +309,14 @@ word_found operand b z kind n no_digit begins e =
     let is_name_of : is_name text ≡ true = ap (λ t. t && list_all continues_name (take m z)) begins ∙ list_all_take continues_name z in
     let token = word_is operand k text rest (word_family_of text rest) (is_name_of, refl) in
     let made : First operand (b ∷ z) k (suc m) =
-        record {
-          text = text;
-          rest = rest;
-          parts = ap (λ w. b ∷ w) (sym (take-append-drop m z));
-          len_is = omega (arith, length-take-le m z (prefix_len-le-length continues_name z));
-          moves = omega arith;
-          first = record { token = token.0; longest = no_longer operand a_word b (take m z) rest (rw (no_digit, begins) refl) (name_adds operand b z); whole = token.1 };
-        } in
+    record {
+      text = text;
+      rest = rest;
+      parts = ap (λ w. b ∷ w) (sym (take-append-drop m z));
+      len_is = omega (arith, length-take-le m z (prefix_len-le-length continues_name z));
+      moves = omega arith;
+      first = record { token = token.0; longest = no_longer operand a_word b (take m z) rest (rw (no_digit, begins) refl) (name_adds operand b z); whole = token.1 };
+    } in
     subst (λ p. First operand (b ∷ z) p.0 p.1) (sym (word_choice b z (name_continues b begins)) ∙ ok_same (word (b ∷ z)) (kind, n) e) made
 
 -- a scan to the end that was closed
@@ -337,14 +337,14 @@ string_found operand z kind n e =
     let at : StringEnds (p.0 ++ rest) rest = subst (λ w. StringEnds w rest) p.1 ended in
     let len = ap length p.1 in
     let made : First operand (34 ∷ z) Quoted (length (34 ∷ z) - length rest) =
-        record {
-          text = 34 ∷ p.0;
-          rest = rest;
-          parts = ap (λ w. 34 ∷ w) p.1;
-          len_is = omega (arith, length-append p.0 rest);
-          moves = omega (arith, length-append p.0 rest);
-          first = record { token = (p.0, refl, at); longest = no_longer operand a_string 34 p.0 rest refl (string_adds operand p.0 rest at); whole = tt };
-        } in
+    record {
+      text = 34 ∷ p.0;
+      rest = rest;
+      parts = ap (λ w. 34 ∷ w) p.1;
+      len_is = omega (arith, length-append p.0 rest);
+      moves = omega (arith, length-append p.0 rest);
+      first = record { token = (p.0, refl, at); longest = no_longer operand a_string 34 p.0 rest refl (string_adds operand p.0 rest at); whole = tt };
+    } in
     subst (λ q. First operand (34 ∷ z) q.0 q.1) c.2 made
 
 pattern_found : (z : Text) (kind : TokenKind) (n : ℕ) → closed Pattern (47 ∷ z) (pattern_rest Outside 0 z) ≡ Ok (kind, n) → First true (47 ∷ z) kind n
@@ -356,14 +356,14 @@ pattern_found z kind n e =
     let at : PatternEnds Outside (p.0 ++ rest) rest = subst (λ w. PatternEnds Outside w rest) p.1 ended in
     let len = ap length p.1 in
     let made : First true (47 ∷ z) Pattern (length (47 ∷ z) - length rest) =
-        record {
-          text = 47 ∷ p.0;
-          rest = rest;
-          parts = ap (λ w. 47 ∷ w) p.1;
-          len_is = omega (arith, length-append p.0 rest);
-          moves = omega (arith, length-append p.0 rest);
-          first = record { token = (p.0, refl, refl, at); longest = no_longer true a_pattern 47 p.0 rest refl (pattern_adds true p.0 rest at); whole = tt };
-        } in
+    record {
+      text = 47 ∷ p.0;
+      rest = rest;
+      parts = ap (λ w. 47 ∷ w) p.1;
+      len_is = omega (arith, length-append p.0 rest);
+      moves = omega (arith, length-append p.0 rest);
+      first = record { token = (p.0, refl, refl, at); longest = no_longer true a_pattern 47 p.0 rest refl (pattern_adds true p.0 rest at); whole = tt };
+    } in
     subst (λ q. First true (47 ∷ z) q.0 q.1) c.2 made
 
 -- ---- signs

@@ -18,7 +18,6 @@ pub record Gap (z : Text) (n : ℕ) : Type 0 where
   pub len_is : n ≡ length gap
   pub is : IsGap gap rest
 
-
 newline_next : (z : Text) → get_or z 0 0 ≡ 10 → z ≡ 10 ∷ drop 1 z
 newline_next [] e = absurd (omega arith)
 newline_next (b ∷ z) e = ap (λ c. c ∷ z) e

@@ -26,7 +26,7 @@ stops_at p (c ∷ z) rest b e =
     elim (cases_Bool (p c)) [
       | inl passes ↦
           let inner : drop (suc (prefix_len p z)) (c ∷ z) ≡ b ∷ rest =
-              sym (ap (λ n. drop n (c ∷ z)) (one_more (prefix_len p z))) ∙ sym (ap (λ t. drop (cond t (1 + prefix_len p z) 0) (c ∷ z)) passes) ∙ e in
+          sym (ap (λ n. drop n (c ∷ z)) (one_more (prefix_len p z))) ∙ sym (ap (λ t. drop (cond t (1 + prefix_len p z) 0) (c ∷ z)) passes) ∙ e in
           stops_at p z rest b inner
       | inr fails ↦
           let whole : c ∷ z ≡ b ∷ rest = sym (ap (λ t. drop (cond t (1 + prefix_len p z) 0) (c ∷ z)) fails) ∙ e in

@@ -131,6 +131,6 @@ next_made operand z start place end kind n text first text_is end_is =
       moves = first.moves;
       first = first.first;
       token_is =
-        λ front start_is place_is.
+          λ front start_is place_is.
           token_same kind text (text_of kind first.text) start (length front) place (place_after front) end (place_after (front ++ first.text)) (text_is ∙ ap (text_of kind) taken) start_is place_is (end_is front place_is ∙ ap (λ w. place_after (front ++ w)) taken);
     }

@@ -74,8 +74,8 @@ of_length-none (entry ∷ entries) n short out =
 pub reserved_none : (word : Text) → length word ≢ 2 → length word ≢ 3 → length word ≢ 4 → length word ≢ 5 → length word ≢ 6 → length word ≢ 7 → length word ≢ 8 → None ≡ reserved word
 reserved_none word n2 n3 n4 n5 n6 n7 n8 =
     let out : (length word < 2) ⊎ (8 < length word) =
-        elim (cases_lt (length word) 2) [
-          | inl h ↦ inl h
-          | inr low ↦ elim (cases_lt 8 (length word)) [ inl h ↦ inr h | inr high ↦ absurd (omega arith) ]
-        ] in
+    elim (cases_lt (length word) 2) [
+      | inl h ↦ inl h
+      | inr low ↦ elim (cases_lt 8 (length word)) [ inl h ↦ inr h | inr high ↦ absurd (omega arith) ]
+    ] in
     sym (ap (λ t. lookup t word) (of_length-none all_words (length word) refl out)) ∙ reserved_at (length word) word refl

@@ -243,7 +243,9 @@ fn value_of(digits: &[u8]) -> u64
 {
     let mut value: u64 = 0;
     for b in digits {
-        value = value.saturating_mul(10).saturating_add(u64::from(*b - b'0'));
+        value = value
+            .saturating_mul(10)
+            .saturating_add(u64::from(*b - b'0'));
     }
     value
 }

@@ -1,8 +1,8 @@
 // Worked rows of the lexical rule, with values from the language's description.
 
 use super::*;
-use awk_text::place::Place;
 use TokenKind::{Builtin, CallName, Keyword, Name, Number, Pattern, Quoted, Refused, Sign};
+use awk_text::place::Place;
 use std::alloc::Global;
 use std::process::Abort;
 use std::test::Fail;
@@ -62,7 +62,11 @@ fn divisions_and_patterns(rt: HostRuntime) {
         &rt,
         rt.alloc(),
         b"a ~ /b[/]c/",
-        &[(Name, b"a", 1, 1), (Sign, b"~", 1, 3), (Pattern, b"b[/]c", 1, 5)],
+        &[
+            (Name, b"a", 1, 1),
+            (Sign, b"~", 1, 3),
+            (Pattern, b"b[/]c", 1, 5),
+        ],
     );
     // after `)` a slash divides
     reads(
@@ -83,26 +87,124 @@ fn divisions_and_patterns(rt: HostRuntime) {
 
 #[test]
 fn operands_end(rt: HostRuntime) {
-    reads(&rt, rt.alloc(), b"getline /x", &[(Keyword, b"getline", 1, 1), (Sign, b"/", 1, 9), (Name, b"x", 1, 10)]);
-    reads(&rt, rt.alloc(), b"length /x", &[(Builtin, b"length", 1, 1), (Sign, b"/", 1, 8), (Name, b"x", 1, 9)]);
-    reads(&rt, rt.alloc(), b"++ /=", &[(Sign, b"++", 1, 1), (Sign, b"/=", 1, 4)]);
-    reads(&rt, rt.alloc(), b"] /x", &[(Sign, b"]", 1, 1), (Sign, b"/", 1, 3), (Name, b"x", 1, 4)]);
-    reads(&rt, rt.alloc(), b"\"\"/x", &[(Quoted, b"", 1, 1), (Sign, b"/", 1, 3), (Name, b"x", 1, 4)]);
-    reads(&rt, rt.alloc(), b"/a//x", &[(Pattern, b"a", 1, 1), (Sign, b"/", 1, 4), (Name, b"x", 1, 5)]);
+    reads(
+        &rt,
+        rt.alloc(),
+        b"getline /x",
+        &[
+            (Keyword, b"getline", 1, 1),
+            (Sign, b"/", 1, 9),
+            (Name, b"x", 1, 10),
+        ],
+    );
+    reads(
+        &rt,
+        rt.alloc(),
+        b"length /x",
+        &[
+            (Builtin, b"length", 1, 1),
+            (Sign, b"/", 1, 8),
+            (Name, b"x", 1, 9),
+        ],
+    );
+    reads(
+        &rt,
+        rt.alloc(),
+        b"++ /=",
+        &[(Sign, b"++", 1, 1), (Sign, b"/=", 1, 4)],
+    );
+    reads(
+        &rt,
+        rt.alloc(),
+        b"] /x",
+        &[(Sign, b"]", 1, 1), (Sign, b"/", 1, 3), (Name, b"x", 1, 4)],
+    );
+    reads(
+        &rt,
+        rt.alloc(),
+        b"\"\"/x",
+        &[(Quoted, b"", 1, 1), (Sign, b"/", 1, 3), (Name, b"x", 1, 4)],
+    );
+    reads(
+        &rt,
+        rt.alloc(),
+        b"/a//x",
+        &[
+            (Pattern, b"a", 1, 1),
+            (Sign, b"/", 1, 4),
+            (Name, b"x", 1, 5),
+        ],
+    );
     // a newline between lets a pattern begin
-    reads(&rt, rt.alloc(), b"length\n/x/", &[(Builtin, b"length", 1, 1), (Sign, b"\n", 1, 7), (Pattern, b"x", 2, 1)]);
-    reads(&rt, rt.alloc(), b"print /=/", &[(Keyword, b"print", 1, 1), (Pattern, b"=", 1, 7)]);
-    reads(&rt, rt.alloc(), b"log /x/", &[(Refused, b"log", 1, 1), (Pattern, b"x", 1, 5)]);
+    reads(
+        &rt,
+        rt.alloc(),
+        b"length\n/x/",
+        &[
+            (Builtin, b"length", 1, 1),
+            (Sign, b"\n", 1, 7),
+            (Pattern, b"x", 2, 1),
+        ],
+    );
+    reads(
+        &rt,
+        rt.alloc(),
+        b"print /=/",
+        &[(Keyword, b"print", 1, 1), (Pattern, b"=", 1, 7)],
+    );
+    reads(
+        &rt,
+        rt.alloc(),
+        b"log /x/",
+        &[(Refused, b"log", 1, 1), (Pattern, b"x", 1, 5)],
+    );
 }
 
 #[test]
 fn numbers(rt: HostRuntime) {
-    reads(&rt, rt.alloc(), b"1ex", &[(Number, b"1", 1, 1), (Name, b"ex", 1, 2)]);
-    reads(&rt, rt.alloc(), b"0x10", &[(Number, b"0", 1, 1), (Name, b"x10", 1, 2)]);
-    reads(&rt, rt.alloc(), b"1e+x", &[(Number, b"1", 1, 1), (Name, b"e", 1, 2), (Sign, b"+", 1, 3), (Name, b"x", 1, 4)]);
-    reads(&rt, rt.alloc(), b"9223372036854775807", &[(Number, b"9223372036854775807", 1, 1)]);
-    reads(&rt, rt.alloc(), b"00009223372036854775807", &[(Number, b"00009223372036854775807", 1, 1)]);
-    refuses(&rt, rt.alloc(), b"BEGIN { x = -9223372036854775808 }", 3, 1, 14);
+    reads(
+        &rt,
+        rt.alloc(),
+        b"1ex",
+        &[(Number, b"1", 1, 1), (Name, b"ex", 1, 2)],
+    );
+    reads(
+        &rt,
+        rt.alloc(),
+        b"0x10",
+        &[(Number, b"0", 1, 1), (Name, b"x10", 1, 2)],
+    );
+    reads(
+        &rt,
+        rt.alloc(),
+        b"1e+x",
+        &[
+            (Number, b"1", 1, 1),
+            (Name, b"e", 1, 2),
+            (Sign, b"+", 1, 3),
+            (Name, b"x", 1, 4),
+        ],
+    );
+    reads(
+        &rt,
+        rt.alloc(),
+        b"9223372036854775807",
+        &[(Number, b"9223372036854775807", 1, 1)],
+    );
+    reads(
+        &rt,
+        rt.alloc(),
+        b"00009223372036854775807",
+        &[(Number, b"00009223372036854775807", 1, 1)],
+    );
+    refuses(
+        &rt,
+        rt.alloc(),
+        b"BEGIN { x = -9223372036854775808 }",
+        3,
+        1,
+        14,
+    );
     refuses(&rt, rt.alloc(), b"99999999999999999999999999", 3, 1, 1);
     refuses(&rt, rt.alloc(), b"1e5", 3, 1, 1);
     refuses(&rt, rt.alloc(), b"1E-5", 3, 1, 1);
@@ -132,21 +234,51 @@ fn open_texts(rt: HostRuntime) {
 
 #[test]
 fn strings(rt: HostRuntime) {
-    reads(&rt, rt.alloc(), b"\"a\\\"b\" c", &[(Quoted, b"a\\\"b", 1, 1), (Name, b"c", 1, 8)]);
+    reads(
+        &rt,
+        rt.alloc(),
+        b"\"a\\\"b\" c",
+        &[(Quoted, b"a\\\"b", 1, 1), (Name, b"c", 1, 8)],
+    );
     // a newline behind a `\` goes on with the string, on the next line
-    reads(&rt, rt.alloc(), b"\"a\\\nb\" c", &[(Quoted, b"a\\\nb", 1, 1), (Name, b"c", 2, 4)]);
+    reads(
+        &rt,
+        rt.alloc(),
+        b"\"a\\\nb\" c",
+        &[(Quoted, b"a\\\nb", 1, 1), (Name, b"c", 2, 4)],
+    );
 }
 
 #[test]
 fn patterns(rt: HostRuntime) {
-    reads(&rt, rt.alloc(), b"/a\\/b\\\\/", &[(Pattern, b"a/b\\\\", 1, 1)]);
+    reads(
+        &rt,
+        rt.alloc(),
+        b"/a\\/b\\\\/",
+        &[(Pattern, b"a/b\\\\", 1, 1)],
+    );
     reads(&rt, rt.alloc(), b"/[[/]\\//", &[(Pattern, b"[[/]/", 1, 1)]);
     reads(&rt, rt.alloc(), b"/[]/]/", &[(Pattern, b"[]/]", 1, 1)]);
     reads(&rt, rt.alloc(), b"/[^]/]/", &[(Pattern, b"[^]/]", 1, 1)]);
-    reads(&rt, rt.alloc(), b"/[[:alpha:]/]/", &[(Pattern, b"[[:alpha:]/]", 1, 1)]);
+    reads(
+        &rt,
+        rt.alloc(),
+        b"/[[:alpha:]/]/",
+        &[(Pattern, b"[[:alpha:]/]", 1, 1)],
+    );
     // no class: the first `]` closes
-    reads(&rt, rt.alloc(), b"/[[:a1:]/", &[(Pattern, b"[[:a1:]", 1, 1)]);
-    reads(&rt, rt.alloc(), b"/a\\\nb/)", &[(Pattern, b"a\\\nb", 1, 1), (Sign, b")", 2, 3)]);
+    reads(
+        &rt,
+        rt.alloc(),
+        b"/[[:a1:]/",
+        &[(Pattern, b"[[:a1:]", 1, 1)],
+    );
+    reads(
+        &rt,
+        rt.alloc(),
+        b"/a\\\nb/)",
+        &[(Pattern, b"a\\\nb", 1, 1), (Sign, b")", 2, 3)],
+    );
 }
 
 #[test]
@@ -194,7 +326,12 @@ fn separators(rt: HostRuntime) {
             (Number, b"2", 2, 7),
         ],
     );
-    reads(&rt, rt.alloc(), b"a \\\n b", &[(Name, b"a", 1, 1), (Name, b"b", 2, 2)]);
+    reads(
+        &rt,
+        rt.alloc(),
+        b"a \\\n b",
+        &[(Name, b"a", 1, 1), (Name, b"b", 2, 2)],
+    );
 }
 
 #[test]
@@ -227,9 +364,18 @@ fn starts_and_ends(rt: HostRuntime) {
         Err(e) => panic!(rt; "refused: {e}"),
         Ok(found) => {
             assert_eq!(rt; found.len(), 4);
-            assert_eq!(rt; (found[1].start, found[1].end.line, found[1].end.column), (1, 2, 1));
-            assert_eq!(rt; (found[2].start, found[2].end.line, found[2].end.column), (3, 2, 11));
-            assert_eq!(rt; (found[3].start, found[3].end.line, found[3].end.column), (13, 2, 15));
+            assert_eq!(rt;
+                (found[1].start, found[1].end.line, found[1].end.column),
+                (1, 2, 1)
+            );
+            assert_eq!(rt;
+                (found[2].start, found[2].end.line, found[2].end.column),
+                (3, 2, 11)
+            );
+            assert_eq!(rt;
+                (found[3].start, found[3].end.line, found[3].end.column),
+                (13, 2, 15)
+            );
         }
     }
 }

@@ -32,7 +32,7 @@ loop-start-preserved c =
     let next : IsNext operand _ start place token len = c.in_ok-token.ensures.read in
     let step = token_step script start place operand tokens token len c.loop-start.invariant (subst (λ z. IsNext operand z start place token len) (rest_range script start) next) in
     let pushed : c.push.new.self.items ≡ tokens ++ token ∷ [] =
-        c.push.ensures.items ∙ ap (λ ok. cond ok (tokens ++ token ∷ []) tokens) (c.is_err.ensures.negation ∙ ap not c.if-is_err.false) in
+    c.push.ensures.items ∙ ap (λ ok. cond ok (tokens ++ token ∷ []) tokens) (c.is_err.ensures.negation ∙ ap not c.if-is_err.false) in
     let ends : c.ends_operand-operand.result ≡ ends_operand token.kind token.text = c.ends_operand-operand.ensures ∙ ap (ends_operand token.kind) c.bytes.ensures in
     subst (λ ts. At script (start + len) token.end (not c.ends_operand-operand.result) ts) (sym pushed) (subst (λ e. At script (start + len) token.end (not e) (tokens ++ token ∷ [])) (sym ends) step)
 
@@ -49,8 +49,8 @@ returns-in_err-token-clause-unread c =
     let e = c.in_err-token.field-0.0 in
     let told : (e.code ≢ 9 → Stands at.operand e.code _) × (e.place ≡ at.place) = c.in_err-token.ensures.refused in
     let rest : e.code ≢ 9 → IsUnread script =
-        λ other tokens.
-          refused_unread script e.code e.place tokens
-          (at_fault script at.start at.place e.place at.operand at.found.items e.code at.invariant (subst (λ z. Stands at.operand e.code z) (rest_range script at.start) (told.0 other)) told.1) in
+    λ other tokens.
+    refused_unread script e.code e.place tokens
+    (at_fault script at.start at.place e.place at.operand at.found.items e.code at.invariant (subst (λ z. Stands at.operand e.code z) (rest_range script at.start) (told.0 other)) told.1) in
     let p = err_from_is_err_and c.from_residual.result c.from_residual.ensures.1 in
     rw (p.1, p.2) rest
