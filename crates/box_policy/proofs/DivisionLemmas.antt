@@ -10,7 +10,7 @@ list_any_none : {X : Type 0} (xs : List X) → list_any (λ _. false) xs ≡ fal
 list_any_none [] = refl
 list_any_none (x ∷ xs) = list_any_none xs
 
-list_any-map : {X Y : Type 0} (p : Y → Bool) (f : X → Y) (xs : List X) → list_any p (map f xs) ≡ list_any (λ x. p (f x)) xs
+pub list_any-map : {X Y : Type 0} (p : Y → Bool) (f : X → Y) (xs : List X) → list_any p (map f xs) ≡ list_any (λ x. p (f x)) xs
 list_any-map p f [] = refl
 list_any-map p f (x ∷ xs) = ap (λ b. p (f x) || b) (list_any-map p f xs)
 

@@ -1,5 +1,6 @@
 pub mod BasesLemmas
 pub mod DecisionsLemmas
+pub mod DividesLemmas
 pub mod DivisionLemmas
 pub mod NamesLemmas
 pub mod PlacesLemmas

@@ -1,6 +1,7 @@
 pub mod Paths
 pub mod NamesLeft
 pub mod Division
+pub mod Divides
 pub mod Fits
 pub mod Patterns
 pub mod Bases

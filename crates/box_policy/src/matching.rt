@@ -2,7 +2,9 @@
 // pattern it is kept whether the walk has reached it.
 ghost use Rattle.std.specs.Prelude.{◌≡◌, ◌<◌, ◌≤◌, ◌+◌, ◌&&◌, ◌||◌, ◌∷◌, [], not, length, map, Some, None, MatchOption, IfSome, codes, true, false, replicate, ◌-◌};
 ghost use Rattle.std.specs.Str.{bytes_eq};
+ghost use Rattle.std.specs.Bool.{Decides};
 ghost use Rattle.box_policy.specs.Division.{fits};
+ghost use Rattle.box_policy.specs.Divides.{Divides};
 ghost use Rattle.std.specs.List.{list_any, slice_index_or};
 ghost use Rattle.box_policy.specs.Paths.{names, names_under};
 ghost use Rattle.box_policy.specs.Bases.{IsBehind};
@@ -204,8 +206,17 @@ fn ends(sort: Sort, pattern: &[u8], places: &[bool]) -> bool
     is_reached(places, at, skipped)
 }
 
-/// Whether the pattern fits the subject. Each place of the pattern has one in `places`.
+/// Whether the pattern fits the subject, which is whether the subject can be divided among its
+/// symbols. Each place of the pattern has one in `places`.
 pub(crate) fn text_fits(sort: Sort, pattern: &[u8], subject: &[u8], places: &mut [bool]) -> bool
+    requires { length pattern.now < length places.old }
+    ensures value { result ≡ fits (symbols sort pattern.now) subject.now }
+    ensures division { Decides result (Divides (symbols sort pattern.now) subject.now) }
+{
+    walked_text(sort, pattern, subject, places)
+}
+
+fn walked_text(sort: Sort, pattern: &[u8], subject: &[u8], places: &mut [bool]) -> bool
     requires { length pattern.now < length places.old }
     ensures { result ≡ fits (symbols sort pattern.now) subject.now }
 {
@@ -272,8 +283,18 @@ fn ends_names(pattern: &[u8], places: &[bool]) -> bool
     is_reached(places, at, skipped)
 }
 
-/// Whether the components of the pattern fit those of the subject.
-fn names_fit(pattern: &[u8], mut subject: Names, places: &mut [bool], inner: &mut [bool]) -> bool
+/// Whether the components of the pattern fit those of the subject, which is whether these can be
+/// divided among them.
+fn names_fit(pattern: &[u8], subject: Names, places: &mut [bool], inner: &mut [bool]) -> bool
+    requires room { length pattern.now < length places.old }
+    requires inner_room { length pattern.now < length inner.old }
+    ensures value { result ≡ fits (map component_symbol (names pattern.now)) (names_left subject.entry) }
+    ensures division { Decides result (Divides (map component_symbol (names pattern.now)) (names_left subject.entry)) }
+{
+    walked_names(pattern, subject, places, inner)
+}
+
+fn walked_names(pattern: &[u8], mut subject: Names, places: &mut [bool], inner: &mut [bool]) -> bool
     requires room { length pattern.now < length places.old }
     requires inner_room { length pattern.now < length inner.old }
     ensures { result ≡ fits (map component_symbol (names pattern.now)) (names_left subject.entry) }

@@ -4,7 +4,7 @@ use Rattle.box_policy.specs.NamesLeft.{names_left}
 use Rattle.box_policy.specs.Paths.{names}
 use Rattle.box_policy.specs.Patterns.{component_symbol}
 use Rattle.box_policy.specs.Places.{some_fits}
-use Rattle.box_policy.proofs.matching.names_fit.Given as goal
+use Rattle.box_policy.proofs.matching.walked_names.Given as goal
 
 -- what is left fits from some place that is reached
 abbrev pub invariant-loop-name : goal.invariant-loop-name

@@ -2,7 +2,7 @@ use Rattle.std.proofs.Common.{◌≡◌, ◌<◌, length, drop}
 use Rattle.box_policy.specs.Division.{fits}
 use Rattle.box_policy.specs.Patterns.{symbols}
 use Rattle.box_policy.specs.Places.{some_fits}
-use Rattle.box_policy.proofs.matching.text_fits.Given as goal
+use Rattle.box_policy.proofs.matching.walked_text.Given as goal
 
 -- what is left fits from some place that is reached
 abbrev pub invariant-loop-byte : goal.invariant-loop-byte
