@@ -77,7 +77,8 @@ pub fn drive<W: World, L: Write>(
     ensures refused { IfErr result.answer (λ refusal. IsRefused policy.now script.now refusal
         × (result.world ≡ world) × (result.log ≡ log) × (result.log_end ≡ Whole)) }
     ensures driven { IfOk result.answer (λ report. (report.used ≡ 0)
-        × DrivesText W.follows W.stops L.contents policy.now script.now world log report.outcome result.log_end result.world result.log) }
+        × DrivesText W.follows W.stops L.contents policy.now script.now
+        world log report.outcome result.log_end result.world result.log) }
 {
     let _ = setup;
     let _ = steps;

@@ -125,7 +125,8 @@ fn no_memory(place: Place) -> SyntaxError
 /// The statements up to the `}` that closes them, and how many tokens stand before it.
 fn body(alloc: Global, tokens: &[Token]) -> Result<(Vec<Statement>, usize), SyntaxError>
     ensures within { IfOk result (λ found. found.1 ≤ length tokens.now) }
-    ensures spells { IfOk result (λ found. (may_follow : Bool) × SpellsBody (take found.1 tokens.now) found.0.items may_follow) }
+    ensures spells { IfOk result (λ found. (may_follow : Bool)
+        × SpellsBody (take found.1 tokens.now) found.0.items may_follow) }
     ensures refused { IfErr result (λ e. (e.code ≡ 4) ⊎ (e.code ≡ 9)) }
 {
     let mut statements = Vec::new(alloc);

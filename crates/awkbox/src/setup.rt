@@ -114,7 +114,12 @@ impl Setup {
         requires { length assigns.items < 2 ^ 32 }
         ensures { MatchOption (first_unspelled 1 assigns.items)
             (MatchBool (ascends names.items)
-            (result ≡ Ok (record { operands = operands.items; names = names.items; assigns = assigns.items; separator = separator }))
+            (result ≡ Ok (record {
+              operands = operands.items;
+              names = names.items;
+              assigns = assigns.items;
+              separator = separator;
+            }))
             (result ≡ Err (record { code = 2; pair = 0 })))
             (λ pair. result ≡ Err (record { code = 1; pair = pair })) }
     {

@@ -43,11 +43,16 @@ impl From<AllocError> for Halt {
 /// Asks the world; a world that does not answer halts the run.
 fn request<W: World>(world: &mut W, place: Place, request: Request) -> Result<Reply, Halt>
     requires { IsDuty (W.open_numbers world.old) request }
-    ensures ok { IfOk result (λ reply. W.follows world.old ((record { place = place; given = false; request = request }, reply) ∷ []) world.new) }
+    ensures ok { IfOk result
+        (λ reply. W.follows world.old ((record { place = place; given = false; request = request }, reply) ∷ []) world.new) }
     ensures fits { IfOk result (λ reply. IsFitting (W.open_numbers world.old) request reply) }
     ensures steady { OnOk result (W.has_stopped world.new ≡ W.has_stopped world.old) }
-    ensures numbers { MatchResult result (λ reply. W.open_numbers world.new ≡ numbers_after request reply (W.open_numbers world.old)) (λ halt. W.open_numbers world.new ≡ W.open_numbers world.old) }
-    ensures err { IfErr result (StopsAt W.follows W.open_numbers W.has_stopped W.stops (record { place = place; given = false; request = request }) world.old world.new) }
+    ensures numbers { MatchResult result
+        (λ reply. W.open_numbers world.new ≡ numbers_after request reply (W.open_numbers world.old))
+        (λ halt. W.open_numbers world.new ≡ W.open_numbers world.old) }
+    ensures err { IfErr result
+        (StopsAt W.follows W.open_numbers W.has_stopped W.stops
+        (record { place = place; given = false; request = request }) world.old world.new) }
 {
     let ask = Ask {
         place,
@@ -85,7 +90,9 @@ fn put<W: World>(place: Place, number: u32, bytes: Octets, world: &mut W) -> Res
     requires { IsStream (W.open_numbers world.old) number }
     ensures numbers { W.open_numbers world.new ≡ W.open_numbers world.old }
     ensures does { (streams : List OutputStream) (key : Key) → number_of key (streams_of streams) ≡ number
-        → Does W.follows W.open_numbers W.has_stopped W.stops (want_at place (Writes key bytes) ∷ []) streams world.old result streams world.new }
+        → Does W.follows W.open_numbers W.has_stopped W.stops
+        (want_at place (Writes key bytes) ∷ [])
+        streams world.old result streams world.new }
 {
     let reply = request(world, place, Request::Put(number, bytes))?;
     if is_done(&reply) {
@@ -103,9 +110,13 @@ fn open<W: World>(
     streams: &mut Vec<OutputStream>,
     world: &mut W,
 ) -> Result<u32, Halt>
-    ensures knows { Knows (W.open_numbers world.old) streams.old.items → Knows (W.open_numbers world.new) streams.new.items }
-    ensures added { IfOk result (λ n. streams.new.items ≡ streams.old.items ++ (record { text = name.now; number = n }) ∷ []) }
-    ensures does { Does W.follows W.open_numbers W.has_stopped W.stops (want_at place (Opens Write OutputFile name.now) ∷ []) streams.old.items world.old result streams.new.items world.new }
+    ensures knows { Knows (W.open_numbers world.old) streams.old.items →
+        Knows (W.open_numbers world.new) streams.new.items }
+    ensures added { IfOk result
+        (λ n. streams.new.items ≡ streams.old.items ++ (record { text = name.now; number = n }) ∷ []) }
+    ensures does { Does W.follows W.open_numbers W.has_stopped W.stops
+        (want_at place (Opens Write OutputFile name.now) ∷ [])
+        streams.old.items world.old result streams.new.items world.new }
 {
     let text = name.copy(alloc)?;
     let asked = name.copy(alloc)?;
@@ -134,7 +145,10 @@ fn line(alloc: Global, text: &Octets) -> Result<Octets, AllocError>
 /// Prints to the standard output.
 fn print<W: World>(alloc: Global, place: Place, text: &Octets, world: &mut W) -> Result<(), Halt>
     ensures numbers { W.open_numbers world.new ≡ W.open_numbers world.old }
-    ensures does { (streams : List OutputStream) → Does W.follows W.open_numbers W.has_stopped W.stops (want_at place (Writes (Standard 1) (text.now ++ 10 ∷ [])) ∷ []) streams world.old result streams world.new }
+    ensures does { (streams : List OutputStream) →
+        Does W.follows W.open_numbers W.has_stopped W.stops
+        (want_at place (Writes (Standard 1) (text.now ++ 10 ∷ [])) ∷ [])
+        streams world.old result streams world.new }
 {
     put(place, 1, line(alloc, text)?, world)
 }
@@ -150,8 +164,12 @@ fn print_to<W: World>(
 ) -> Result<(), Halt>
     requires { Knows (W.open_numbers world.old) streams.old.items }
     ensures knows { Knows (W.open_numbers world.new) streams.new.items }
-    ensures names { OnOk result (texts_of streams.new.items ≡ texts_of streams.old.items ++ names_opened (wants_of (texts_of streams.old.items) (PrintTo place text.now name.now))) }
-    ensures does { Does W.follows W.open_numbers W.has_stopped W.stops (wants_of (texts_of streams.old.items) (PrintTo place text.now name.now)) streams.old.items world.old result streams.new.items world.new }
+    ensures names { OnOk result
+        (texts_of streams.new.items ≡ texts_of streams.old.items
+        ++ names_opened (wants_of (texts_of streams.old.items) (PrintTo place text.now name.now))) }
+    ensures does { Does W.follows W.open_numbers W.has_stopped W.stops
+        (wants_of (texts_of streams.old.items) (PrintTo place text.now name.now))
+        streams.old.items world.old result streams.new.items world.new }
 {
     let line = line(alloc, text)?;
     match find(streams.as_slice(), name.bytes()) {
@@ -171,7 +189,10 @@ fn system<W: World>(
     world: &mut W,
 ) -> Result<(), Halt>
     ensures numbers { W.open_numbers world.new ≡ W.open_numbers world.old }
-    ensures does { (streams : List OutputStream) → Does W.follows W.open_numbers W.has_stopped W.stops (want_at place (Runs command.now) ∷ []) streams world.old result streams world.new }
+    ensures does { (streams : List OutputStream) →
+        Does W.follows W.open_numbers W.has_stopped W.stops
+        (want_at place (Runs command.now) ∷ [])
+        streams world.old result streams world.new }
 {
     let command = command.copy(alloc)?;
     request(world, place, Request::System(command))?;
@@ -186,8 +207,12 @@ fn perform<W: World>(
 ) -> Result<(), Halt>
     requires { Knows (W.open_numbers world.old) streams.old.items }
     ensures knows { Knows (W.open_numbers world.new) streams.new.items }
-    ensures names { OnOk result (texts_of streams.new.items ≡ texts_of streams.old.items ++ names_opened (wants_of (texts_of streams.old.items) statement.now)) }
-    ensures does { Does W.follows W.open_numbers W.has_stopped W.stops (wants_of (texts_of streams.old.items) statement.now) streams.old.items world.old result streams.new.items world.new }
+    ensures names { OnOk result
+        (texts_of streams.new.items ≡ texts_of streams.old.items
+        ++ names_opened (wants_of (texts_of streams.old.items) statement.now)) }
+    ensures does { Does W.follows W.open_numbers W.has_stopped W.stops
+        (wants_of (texts_of streams.old.items) statement.now)
+        streams.old.items world.old result streams.new.items world.new }
 {
     match statement {
         Statement::Print(place, text) => print(alloc, *place, text, world),
@@ -207,7 +232,9 @@ fn perform_all<W: World>(
 ) -> Result<(), Halt>
     requires { Knows (W.open_numbers world.old) streams.old.items }
     ensures knows { Knows (W.open_numbers world.new) streams.new.items }
-    ensures does { Does W.follows W.open_numbers W.has_stopped W.stops (body_wants (texts_of streams.old.items) statements.now) streams.old.items world.old result streams.new.items world.new }
+    ensures does { Does W.follows W.open_numbers W.has_stopped W.stops
+        (body_wants (texts_of streams.old.items) statements.now)
+        streams.old.items world.old result streams.new.items world.new }
 {
     for statement in statements {
         perform(alloc, statement, streams, world)?;
@@ -218,7 +245,9 @@ fn perform_all<W: World>(
 /// Shuts the files, in order of opening.
 fn shut_all<W: World>(streams: &[OutputStream], world: &mut W) -> Result<(), Halt>
     requires { Knows (W.open_numbers world.old) streams.now }
-    ensures { Does W.follows W.open_numbers W.has_stopped W.stops (map shut_want (texts_of streams.now)) streams.now world.old result [] world.new }
+    ensures { Does W.follows W.open_numbers W.has_stopped W.stops
+        (map shut_want (texts_of streams.now))
+        streams.now world.old result [] world.new }
 {
     let nowhere = Place { line: 0, column: 0 };
     for stream in streams {
@@ -241,8 +270,10 @@ fn outcome_of(halt: Halt) -> Outcome
 fn finish<W: World>(streams: &[OutputStream], outcome: Outcome, world: &mut W) -> Outcome
     requires knows { Knows (W.open_numbers world.old) streams.now }
     requires own { IsOwn outcome }
-    ensures { (first : W) (es : List Event) → Stands W.follows W.open_numbers W.has_stopped W.stops first es streams.now world.old
-        → Finishes W.follows W.open_numbers W.has_stopped W.stops first es (map shut_want (texts_of streams.now)) result world.new }
+    ensures { (first : W) (es : List Event) → Stands W.follows W.open_numbers W.has_stopped W.stops
+        first es streams.now world.old
+        → Finishes W.follows W.open_numbers W.has_stopped W.stops
+        first es (map shut_want (texts_of streams.now)) result world.new }
 {
     match shut_all(streams, world) {
         Ok(()) => outcome,
@@ -252,7 +283,8 @@ fn finish<W: World>(streams: &[OutputStream], outcome: Outcome, world: &mut W) -
 
 /// Runs the statements over the world.
 pub fn run<W: World>(alloc: Global, statements: &[Statement], world: &mut W) -> Outcome
-    ensures { Ran W.follows W.open_numbers W.has_stopped W.stops statements.now result world.old world.new }
+    ensures { Ran W.follows W.open_numbers W.has_stopped W.stops
+        statements.now result world.old world.new }
 {
     let mut streams = Vec::new(alloc);
     match perform_all(alloc, statements, &mut streams, world) {
