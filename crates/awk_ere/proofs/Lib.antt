@@ -1,0 +1,15 @@
+pub mod Programs
+pub mod Meaning
+pub mod Parts
+pub mod Reach
+pub mod Advance
+pub mod Searching
+pub mod Intervals
+pub mod Building
+pub mod Normal
+pub mod Sets
+pub mod Fronts
+pub mod Tokens
+pub mod Trees
+pub mod Wholes
+pub mod Machines

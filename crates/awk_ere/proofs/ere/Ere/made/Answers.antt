@@ -1,0 +1,11 @@
+use Rattle.std.proofs.Common.{◌≤◌, length, arith}
+use Rattle.awk_ere.proofs.Machines.{accepted}
+use Rattle.awk_ere.proofs.ere.Ere.made.Goals as goal
+
+pub invariant_of-result : goal.invariant_of-result
+invariant_of-result c =
+    let whole = c.in_ok-node.ensures.ok in
+    let small : c.in_ok-node.field-0.size ≤ 20000 = omega arith in
+    let short : length c.args.text.now ≤ 4096 = omega arith in
+    let compiled = rw (c.in_ok-push.ensures.items, c.new-program.ensures.items) at c.in_ok-entry.ensures in
+    rw c.in_ok-source.ensures.items (accepted c.args.text.now c.read.new.sets.items c.in_ok-node.field-0 c.compile.new.program.items c.in_ok-entry.entry short whole small compiled)

@@ -1,0 +1,15 @@
+pub mod Pattern
+pub mod Best
+pub mod Escape
+pub mod Interval
+pub mod Bracket
+pub mod Token
+pub mod Reading
+pub mod Grammar
+pub mod Spelled
+pub mod Program
+pub mod Search
+pub mod View
+pub mod Same
+pub mod Lexing
+pub mod Tree

@@ -1,0 +1,120 @@
+// Patterns, and the search for their best match.
+ghost use Rattle.std.specs.Prelude.{◌≢◌, ◌≤◌, length, IfOk, IfErr};
+ghost use Rattle.awk_ere.specs.Reading.{HasFault};
+ghost use Rattle.awk_ere.specs.Spelled.{IsAccepted, IsRefused, Finds, HasMatch, code_of};
+ghost use Rattle.awk_ere.specs.Tree.{IsWhole};
+
+use crate::bracket::Set;
+use crate::compile::compile;
+use crate::error::{EreError, Fault, MAX_BYTES, MAX_SIZE};
+use crate::front::front;
+use crate::program::Step;
+use crate::search::search;
+use crate::tree::{Part, finish, fresh, take};
+use awk_text::Memory;
+use std::alloc::Global;
+use std::marker::Model;
+
+/// A pattern that is ready to be searched for. Contracts see it as the text that it was made of.
+#[derive(Drop)]
+pub struct Ere {
+    source: Vec<u8>,
+    sets: Vec<Set>,
+    program: Vec<Step>,
+    entry: usize,
+}
+
+/// The tree of the text's pattern. The sets of its bracket expressions are put into `sets`.
+///
+/// Errors: the text's leftmost fault, or `Memory`.
+fn read(alloc: Global, text: &[u8], sets: &mut Vec<Set>) -> Result<Part, Fault>
+    ensures ok { IfOk result (λ part. IsWhole text.now sets.new.items part) }
+    ensures err { IfErr result (λ f. f ≢ Fault.Memory → HasFault text.now f) }
+{
+    let mut groups = Vec::new(alloc);
+    let mut top = fresh();
+    let mut rest = text;
+    while let Some((token, after)) = front(rest, !groups.is_empty(), top.last.is_some(), sets)? {
+        top = take(alloc, token, top, &mut groups)?;
+        rest = after;
+    }
+    let whole = finish(alloc, top)?;
+    Ok(whole)
+}
+
+impl Model for Ere {
+    ghost use Rattle.std.specs.Prelude.{List, ℕ};
+    ghost use Rattle.awk_ere.specs.Pattern.{Pattern};
+    ghost use Rattle.awk_ere.specs.Search.{IsMachine};
+    ghost use Rattle.awk_ere.specs.Spelled.{IsPattern};
+
+    ghost Value = { List ℕ };
+
+    ghost view = { λ e. e.source.items };
+
+    ghost invariant = { λ e. (p : Pattern) × IsPattern e.source.items p × IsMachine e.sets.items e.program.items e.entry p };
+}
+
+impl Ere {
+    fn made(alloc: Global, text: &[u8]) -> Result<Ere, Fault>
+        ensures ok { IfOk result (λ e. IsAccepted text.now e) }
+        ensures err { IfErr result (λ f. IsRefused text.now (code_of f)) }
+    {
+        if text.len() > MAX_BYTES {
+            return Err(Fault::Size);
+        }
+        let mut sets = Vec::new(alloc);
+        let Part { node, size } = read(alloc, text, &mut sets)?;
+        if size > MAX_SIZE {
+            return Err(Fault::Size);
+        }
+        let mut program = Vec::new(alloc);
+        program.push(Step::Done)?;
+        let entry = compile(&node, 0, &mut program)?;
+        let source = Vec::from_slice(alloc, text)?;
+        Ok(Ere {
+            source,
+            sets,
+            program,
+            entry,
+        })
+    }
+
+    /// The pattern that the text spells.
+    ///
+    /// Errors, by code and in this order: 3 for more than 4,096 bytes; at the leftmost fault 1 for what is
+    /// no pattern, 2 for an interval with a bound over 255 or out of order; 3 for a size over 20,000;
+    /// 4 where memory is refused.
+    pub fn parse(alloc: Global, text: &[u8]) -> Result<Ere, EreError>
+        ensures ok { IfOk result (λ e. IsAccepted text.now e) }
+        ensures err { IfErr result (λ e. IsRefused text.now e.code) }
+    {
+        match Ere::made(alloc, text) {
+            Ok(ere) => Ok(ere),
+            Err(fault) => Err(EreError { code: fault.code() }),
+        }
+    }
+
+    /// The best match from the place `from` on, as its start and its end: the leftmost one, and of those
+    /// the longest.
+    ///
+    /// Errors: `Memory` where memory is refused.
+    pub fn find(&self, text: &[u8], from: usize) -> Result<Option<(usize, usize)>, Memory>
+        requires { from ≤ length text.now }
+        ensures { IfOk result (λ found. Finds self.now text.now from found) }
+    {
+        let alloc = *self.program.allocator();
+        let found = search(alloc, &self.sets, &self.program, text, self.entry, from)?;
+        Ok(found)
+    }
+
+    /// Whether there is a match anywhere in the text.
+    ///
+    /// Errors: `Memory` where memory is refused.
+    pub fn is_match(&self, text: &[u8]) -> Result<bool, Memory>
+        ensures { IfOk result (λ b. HasMatch self.now text.now b) }
+    {
+        let found = self.find(text, 0)?;
+        Ok(found.is_some())
+    }
+}

@@ -1,0 +1,65 @@
+// Why a text is refused as a pattern, and the limits.
+ghost use Rattle.std.specs.Prelude.{◌≡◌};
+ghost use Rattle.awk_ere.specs.Spelled.{code_of};
+
+use std::alloc::{AllocError, AllocFailed};
+
+/// The most bytes that a pattern's text may have.
+pub const MAX_BYTES: usize = 4096;
+
+/// The greatest size of a pattern: a byte, `.`, a bracket expression, an escape or an anchor counts 1,
+/// and a repetition by an interval multiplies.
+pub const MAX_SIZE: usize = 20000;
+
+/// Why a text is no pattern, or why none was made of it.
+#[derive(Clone, Copy, Debug, PartialEq, Eq)]
+pub enum Fault {
+    /// An unmatched `(` or `[`, a bracket expression that is none, or a lone `\` at the end.
+    Syntax,
+    /// An interval with a bound over 255 or with its bounds in the wrong order.
+    Interval,
+    /// More than `MAX_BYTES` bytes, or a size over `MAX_SIZE`.
+    Size,
+    /// Memory was refused.
+    Memory,
+}
+
+/// A refusal. Codes: 1 syntax, 2 interval, 3 too long or too large, 4 memory.
+#[derive(Clone, Copy, Debug, PartialEq, Eq)]
+pub struct EreError {
+    pub code: u8,
+}
+
+impl Fault {
+    /// The number of the refusal.
+    pub fn code(self) -> u8
+        ensures { result ≡ code_of self }
+    {
+        match self {
+            Fault::Syntax => 1,
+            Fault::Interval => 2,
+            Fault::Size => 3,
+            Fault::Memory => 4,
+        }
+    }
+}
+
+impl From<AllocError> for Fault {
+    ghost use Rattle.awk_ere.specs.declared.error.Fault.TheVariants.{Memory};
+
+    ghost from_gives = { λ _ e. e ≡ Memory };
+
+    fn from(_error: AllocError) -> Fault {
+        Fault::Memory
+    }
+}
+
+impl<T: Drop> From<AllocFailed<T>> for Fault {
+    ghost use Rattle.awk_ere.specs.declared.error.Fault.TheVariants.{Memory};
+
+    ghost from_gives = { λ _ e. e ≡ Memory };
+
+    fn from(_error: AllocFailed<T>) -> Fault {
+        Fault::Memory
+    }
+}

@@ -1,0 +1,20 @@
+//! Extended regular expressions over bytes, as awk has them (POSIX.1-2017 XBD 9.4 and XCU awk).
+#![tactic(auto)]
+
+mod bracket;
+mod compile;
+pub mod ere;
+pub mod error;
+mod escape;
+mod front;
+mod interval;
+mod node;
+mod program;
+mod search;
+#[cfg(test)]
+mod tests;
+mod token;
+mod tree;
+
+pub use ere::Ere as Ere;
+pub use error::EreError as EreError;

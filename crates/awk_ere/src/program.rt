@@ -1,0 +1,18 @@
+// Programs of steps.
+use crate::token::Class;
+
+/// One step of a pattern's program, with the numbers of the steps that follow.
+#[derive(Clone, Copy)]
+pub enum Step {
+    /// Take a byte of the class.
+    Eat(Class, usize),
+    /// Go on at either.
+    Fork(usize, usize),
+    /// Go on at the start of the text, at its end.
+    AtStart(usize),
+    AtEnd(usize),
+    /// A match ends here.
+    Done,
+    /// A step that is still to be written.
+    Hole,
+}
