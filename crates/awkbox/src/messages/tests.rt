@@ -38,27 +38,3 @@ fn tells_in_one_line(rt: HostRuntime) -> Result<(), Fail> {
     }
     Ok(())
 }
-
-// The texts stand here too, since the derived `Display` of `Fault` has no contract.
-#[test]
-fn has_the_texts_of_faults(rt: HostRuntime) -> Result<(), Fail> {
-    let faults = [
-        Fault::OutOfRange,
-        Fault::ZeroDivisor,
-        Fault::Pattern,
-        Fault::Format,
-        Fault::CallDepth,
-        Fault::TextTooLong,
-        Fault::Output,
-        Fault::NextOutside,
-        Fault::FieldNumber,
-        Fault::TooManyElements,
-        Fault::StepBound,
-        Fault::Log,
-        Fault::Memory,
-    ];
-    for fault in faults {
-        assert_eq!(rt; fault.to_string(rt.alloc())?.as_str(), fault_text(fault));
-    }
-    Ok(())
-}
