@@ -8,6 +8,7 @@ if [ $# -ne 1 ] || [ ! -x "$1" ]; then
     exit 2
 fi
 program=$(readlink -f "$1")
+examples=$(dirname "$(readlink -f "$0")")/../examples
 
 work=$(mktemp -d) || exit 2
 trap 'rm -rf "$work"' EXIT
@@ -196,7 +197,6 @@ is 2 "" "awkbox: 1:19 F12 cannot write the denial log$line" "" && [ ! -e "$work/
 verdict "a log that takes nothing"
 
 # example NAME SCRIPT: runs an example of the repository, with this folder as its base
-examples=$(dirname "$(readlink -f "$0")")/../examples
 example() {
     sed "s|^base = .*|base = \"$base\"|" "$examples/$1/policy.toml" >"$work/policy.toml"
     cp "$examples/$1/$2" "$work/script.awk"
