@@ -13,3 +13,4 @@ pub mod Tokens
 pub mod Trees
 pub mod Wholes
 pub mod Machines
+pub mod Unique

@@ -1,7 +1,8 @@
 // Patterns, and the search for their best match.
-ghost use Rattle.std.specs.Prelude.{◌≢◌, ◌≤◌, length, IfOk, IfErr};
+ghost use Rattle.std.specs.Prelude.{◌≡◌, ◌≢◌, ◌≤◌, length, IfOk, IfErr};
+ghost use Rattle.awk_ere.specs.Pattern.{Pattern};
 ghost use Rattle.awk_ere.specs.Reading.{HasFault};
-ghost use Rattle.awk_ere.specs.Spelled.{IsAccepted, IsRefused, Finds, HasMatch, code_of};
+ghost use Rattle.awk_ere.specs.Spelled.{IsPattern, IsAccepted, IsRefused, Finds, HasMatch, code_of};
 ghost use Rattle.awk_ere.specs.Tree.{IsWhole};
 
 use crate::bracket::Set;
@@ -80,7 +81,8 @@ impl Ere {
         })
     }
 
-    /// The pattern that the text spells.
+    /// The pattern that the text spells. A text that spells one within the limits is accepted, memory
+    /// aside.
     ///
     /// Errors, by code and in this order: 3 for more than 4,096 bytes; at the leftmost fault 1 for what is
     /// no pattern, 2 for an interval with a bound over 255 or out of order; 3 for a size over 20,000;
@@ -88,6 +90,7 @@ impl Ere {
     pub fn parse(alloc: Global, text: &[u8]) -> Result<Ere, EreError>
         ensures ok { IfOk result (λ e. IsAccepted text.now e) }
         ensures err { IfErr result (λ e. IsRefused text.now e.code) }
+        ensures accepts { IfErr result (λ e. (p : Pattern) → IsPattern text.now p → e.code ≡ 4) }
     {
         match Ere::made(alloc, text) {
             Ok(ere) => Ok(ere),
