@@ -14,3 +14,6 @@ pub mod Trees
 pub mod Wholes
 pub mod Machines
 pub mod Unique
+pub mod Tables
+pub mod Gathering
+pub mod Seeking

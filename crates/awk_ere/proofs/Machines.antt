@@ -1,11 +1,12 @@
 -- From a compiled tree to a machine, and what its search says.
-use Rattle.std.proofs.Common.{◌≡◌, ◌↔◌, IsTrue, ℕ, ◌≤◌, min, Bool, List, [], ◌∷◌, length, Option, Some, None, is_some, refl, sym, subst, arith}
-use Rattle.awk_ere.specs.Pattern.{Pattern, Matches}
+use Rattle.std.proofs.Common.{◌≡◌, ◌↔◌, IsTrue, ℕ, ◌≤◌, min, Bool, List, [], ◌∷◌, length, Option, Some, None, is_some, true, refl, sym, subst, arith}
+use Rattle.awk_ere.specs.Pattern.{Pattern, bytes, cat, repeat, Matches}
 use Rattle.awk_ere.specs.Best.{Best}
 use Rattle.awk_ere.specs.Same.{IsSame}
 use Rattle.awk_ere.specs.Spelled.{IsPattern, Finds, HasMatch}
-use Rattle.awk_ere.specs.Program.{Means, Compiles}
+use Rattle.awk_ere.specs.Program.{Means, IsSound, Grows, Compiles}
 use Rattle.awk_ere.specs.Search.{IsMachine}
+use Rattle.awk_ere.specs.Table.{anywhere, EndsSomewhere}
 use Rattle.awk_ere.specs.View.{pattern}
 use Rattle.awk_ere.specs.Tree.{IsWhole}
 use Rattle.awk_ere.specs.declared.tree.Part.{Part}
@@ -13,6 +14,10 @@ use Rattle.awk_ere.specs.declared.node.Node.{Node}
 use Rattle.awk_ere.specs.declared.program.Step.{Step}
 use Rattle.awk_ere.specs.declared.program.Step.TheVariants.{Done}
 use Rattle.awk_ere.proofs.Tokens.{later_same}
+use Rattle.awk_ere.proofs.Programs.{Grows-trans}
+use Rattle.awk_ere.proofs.Meaning.{Means-grows}
+use Rattle.awk_ere.proofs.Parts.{compiles_cat}
+use Rattle.awk_ere.proofs.Seeking.{somewhere_from, from_somewhere}
 
 means_same : (sets : List (List Bool)) (a : List Step) (e : ℕ) (p q : Pattern) (next : ℕ) → IsSame p q → Means sets a e p next → Means sets a e q next
 means_same sets a e p q next same m = record {
@@ -20,24 +25,66 @@ means_same sets a e p q next same m = record {
   back = λ full s k n i j ext x path. m.back full s k n i j ext (same.from s i k x) path;
 }
 
-pub machine : (sets : List (List Bool)) (program : List Step) (entry : ℕ) (node : Node) (p : Pattern) → Compiles (Done ∷ []) program entry (λ sets. pattern sets node) 0 → IsSame (pattern sets node) p → IsMachine sets program entry p
-machine sets program entry node p h same = record {
+machine_of : (sets : List (List Bool)) (program : List Step) (entry : ℕ) (q : List (List Bool) → Pattern) (p : Pattern) → Compiles (Done ∷ []) program entry q 0 → IsSame (q sets) p → IsMachine sets program entry p
+machine_of sets program entry q p h same = record {
   sound = h.sound;
   inside = h.below;
   done = h.grows.kept 0 (omega arith);
-  means = means_same sets program entry (pattern sets node) p 0 same (h.means sets);
+  means = means_same sets program entry (q sets) p 0 same (h.means sets);
 }
+
+pub machine : (sets : List (List Bool)) (program : List Step) (entry : ℕ) (node : Node) (p : Pattern) → Compiles (Done ∷ []) program entry (λ sets. pattern sets node) 0 → IsSame (pattern sets node) p → IsMachine sets program entry p
+machine sets program entry node p h same = machine_of sets program entry (λ sets. pattern sets node) p h same
 
 -- a size that is within the limit is the pattern's own
 no_larger : (size n : ℕ) → size ≡ min 20001 n → size ≤ 20000 → n ≤ 20000
 no_larger size n is small = omega arith
 
-pub accepted : (text : List ℕ) (sets : List (List Bool)) (part : Part) (program : List Step) (entry : ℕ) → length text ≤ 4096 → IsWhole text sets part → part.size ≤ 20000
-    → Compiles (Done ∷ []) program entry (λ sets. pattern sets part.node) 0 → (p : Pattern) × IsPattern text p × IsMachine sets program entry p
-accepted text sets part program entry short (ts, p, n, read, spells, stands) small h = (
+-- the same in a program that has grown
+compiled_later : (old a b : List Step) (e next : ℕ) (p : List (List Bool) → Pattern) → Compiles old a e p next → IsSound b → Grows a b → Compiles old b e p next
+compiled_later old a b e next p h sound grows = record {
+  sound = sound;
+  grows = Grows-trans h.grows grows;
+  below = omega (arith, h.below, grows.longer);
+  means = λ sets. Means-grows sets a b e (p sets) next grows (h.means sets);
+}
+
+same_after : (a p q : Pattern) → IsSame p q → IsSame (cat a p) (cat a q)
+same_after a p q same = record {
+  to = λ s i j m. (m.0, m.1, same.to s m.0 j m.2);
+  from = λ s i j m. (m.0, m.1, same.from s m.0 j m.2);
+}
+
+-- the text's pattern, its machine, and the one that may begin anywhere
+pub record IsMade (text : List ℕ) (sets : List (List Bool)) (program : List Step) (entry scan : ℕ) : Type 0 where
+  pub pattern : Pattern
+  pub is : IsPattern text pattern
+  pub machine : IsMachine sets program entry pattern
+  pub scanner : IsMachine sets program scan (anywhere pattern)
+
+pub accepted : (text : List ℕ) (sets : List (List Bool)) (part : Part) (a program : List Step) (entry scan : ℕ) → length text ≤ 4096 → IsWhole text sets part → part.size ≤ 20000
+    → Compiles (Done ∷ []) a entry (λ sets. pattern sets part.node) 0 → Compiles a program scan (λ _. repeat (bytes (λ b. true)) 0 None) entry → IsMade text sets program entry scan
+accepted text sets part a program entry scan short (ts, p, n, read, spells, stands) small h g =
+    let same = stands.same sets (later_same sets) in
+    record {
+      pattern = p;
+      is = record { size = n; spelled = (ts, read, spells); short = short; small = no_larger part.size n stands.size small };
+      machine = machine sets program entry part.node p (compiled_later (Done ∷ []) a program entry 0 (λ sets. pattern sets part.node) h g.sound g.grows) same;
+      scanner = machine_of sets program scan (λ sets. anywhere (pattern sets part.node)) (anywhere p)
+          (compiles_cat (Done ∷ []) a program scan entry 0 (λ _. repeat (bytes (λ b. true)) 0 None) (λ sets. pattern sets part.node) h g)
+          (same_after (repeat (bytes (λ b. true)) 0 None) (pattern sets part.node) p same);
+    }
+
+-- what a table's search that may begin anywhere says
+pub has_scanned : (source s : List ℕ) (sets : List (List Bool)) (program : List Step) (entry scan : ℕ) (p : Pattern) (b : Bool) → IsPattern source p → IsMachine sets program entry p → IsMachine sets program scan (anywhere p)
+    → IsTrue b ↔ EndsSomewhere sets program s scan 0 → HasMatch source s b
+has_scanned source s sets program entry scan p b is machine scanner h = (
   p,
-  record { size = n; spelled = (ts, read, spells); short = short; small = no_larger part.size n stands.size small },
-  machine sets program entry part.node p h (stands.same sets (later_same sets)),
+  is,
+  (
+    (λ t. let y = somewhere_from sets program entry scan p machine scanner s 0 (h.0 t) in (y.0, y.1, y.3, y.4)),
+    (λ m. h.1 (from_somewhere sets program entry scan p machine scanner s 0 m.0 m.1 (omega arith) m.2 m.3)),
+  ),
 )
 
 pub has_match : (source s : List ℕ) (found : Option (ℕ × ℕ)) (b : Bool) → Finds source s 0 found → b ≡ is_some found → HasMatch source s b

@@ -16,7 +16,7 @@ use Rattle.awk_ere.specs.declared.program.Step.{Step}
 use Rattle.awk_ere.specs.declared.program.Step.TheVariants.{Done}
 use Rattle.awk_ere.specs.declared.search.TheConstants.{NONE}
 
-closed_path : (program : List Step) (first last : Bool) (starts : List ℕ) (n q r : ℕ) → IsClosed program first last starts → SkipPath program first last n q r → mark starts r ≤ mark starts q
+pub closed_path : (program : List Step) (first last : Bool) (starts : List ℕ) (n q r : ℕ) → IsClosed program first last starts → SkipPath program first last n q r → mark starts r ≤ mark starts q
 closed_path program first last starts zero q r closed is = let e = ap (λ x. mark starts x) is in omega arith
 closed_path program first last starts (suc n) q r closed (p, skip, path) = omega (arith, closed q p skip, closed_path program first last starts n p r closed path)
 
@@ -280,12 +280,12 @@ module _ (sets : List (List Bool)) (program : List Step) (e : ℕ) (p : Pattern)
   stuck (suc n) i j (q, k, inl (skip, same), path) = absurd (skips_done program _ _ 0 q machine.done skip)
   stuck (suc n) i j (q, k, inr (eats, same), path) = let x = eats.step in let y = machine.done in absurd (cc)
 
-  run_matches : (i j : ℕ) → Goes sets program s e i 0 j → Matches s p i j
+  pub run_matches : (i j : ℕ) → Goes sets program s e i 0 j → Matches s p i j
   run_matches i j (n, path) =
       let y = machine.means.into program s n i j (λ q x real at. at) machine.done path in
       subst (λ x. Matches s p i x) (stuck y.1 y.0 j y.4) y.3
 
-  matches_run : (i j : ℕ) → Matches s p i j → Goes sets program s e i 0 j
+  pub matches_run : (i j : ℕ) → Matches s p i j → Goes sets program s e i 0 j
   matches_run i j m = machine.means.back program s j 0 i j (λ q x real at. at) m (refl, refl)
 
   pub finds_best : (from : ℕ) (found : Option (ℕ × ℕ)) → Finds sets program s e from found → Best s p from found

@@ -1,8 +1,8 @@
 -- A text is read in one way alone.
-use Rattle.std.proofs.Common.{◌≡◌, ℕ, inl, inr, List, [], ◌∷◌, length, refl, sym, ◌∙◌, ap, subst, arith}
+use Rattle.std.proofs.Common.{◌≡◌, ℕ, inl, inr, List, [], ◌∷◌, refl, sym, ◌∙◌, ap, subst, arith}
 use Rattle.awk_ere.specs.Pattern.{Pattern}
 use Rattle.awk_ere.specs.Token.{Token, opening, Front, finished, token, wrong}
-use Rattle.awk_ere.specs.Reading.{Spot, front_at, spot_after, Leads, first_spot, IsRead, HasFault}
+use Rattle.awk_ere.specs.Reading.{Spot, front_at, spot_after, Leads, first_spot, HasFault}
 use Rattle.awk_ere.specs.Grammar.{ere, Spells}
 use Rattle.awk_ere.specs.Spelled.{Spelled, IsPattern, IsRefused}
 use Rattle.awk_ere.specs.declared.error.Fault.{Fault}

@@ -9,6 +9,7 @@ pub mod Grammar
 pub mod Spelled
 pub mod Program
 pub mod Search
+pub mod Table
 pub mod View
 pub mod Same
 pub mod Lexing

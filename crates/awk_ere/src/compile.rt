@@ -1,11 +1,12 @@
 // From a pattern's tree to its program.
-ghost use Rattle.std.specs.Prelude.{◌≡◌, ◌+◌, ◌++◌, [], ◌∷◌, Some, None, length, IfOk, option_map};
-ghost use Rattle.awk_ere.specs.Pattern.{cat, alt, repeat};
+ghost use Rattle.std.specs.Prelude.{◌≡◌, ◌+◌, ◌++◌, [], ◌∷◌, Some, None, true, length, IfOk, option_map};
+ghost use Rattle.awk_ere.specs.Pattern.{bytes, cat, alt, repeat};
 ghost use Rattle.awk_ere.specs.Program.{IsReady, Compiles, Copies};
 ghost use Rattle.awk_ere.specs.View.{pattern};
 
 use crate::node::Node;
 use crate::program::Step;
+use crate::token::Class;
 use awk_text::Memory;
 
 /// Adds a step, and gives its number.
@@ -98,6 +99,15 @@ fn compile_plus(node: &Node, next: usize, program: &mut Vec<Step>) -> Result<usi
     let inner = compile(node, fork, program)?;
     program[fork] = Step::Fork(inner, next);
     Ok(inner)
+}
+
+/// Adds the part of the program that goes over any bytes and then on at `next`.
+pub fn compile_scan(next: usize, program: &mut Vec<Step>) -> Result<usize, Memory>
+    requires { IsReady program.old.items next }
+    ensures { IfOk result (λ e. Compiles program.old.items program.new.items e (λ _. repeat (bytes (λ b. true)) 0 None) next) }
+{
+    let scan = compile_star(&Node::Bytes(Class::Any), next, program)?;
+    Ok(scan)
 }
 
 #[cycle(compile)]

@@ -6,11 +6,13 @@ ghost use Rattle.awk_ere.specs.Spelled.{IsPattern, IsAccepted, IsRefused, Finds,
 ghost use Rattle.awk_ere.specs.Tree.{IsWhole};
 
 use crate::bracket::Set;
-use crate::compile::compile;
+use crate::compile::{compile, compile_scan};
 use crate::error::{EreError, Fault, MAX_BYTES, MAX_SIZE};
 use crate::front::front;
 use crate::program::Step;
 use crate::search::search;
+use crate::states::{Table, make_table};
+use crate::table::{self, Sought};
 use crate::tree::{Part, finish, fresh, take};
 use awk_text::Memory;
 use std::alloc::Global;
@@ -22,7 +24,10 @@ pub struct Ere {
     source: Vec<u8>,
     sets: Vec<Set>,
     program: Vec<Step>,
+    /// Where the pattern begins in the program, and where it begins after any bytes.
     entry: usize,
+    scan: usize,
+    table: Table,
 }
 
 /// The tree of the text's pattern. The sets of its bracket expressions are put into `sets`.
@@ -46,14 +51,14 @@ fn read(alloc: Global, text: &[u8], sets: &mut Vec<Set>) -> Result<Part, Fault>
 impl Model for Ere {
     ghost use Rattle.std.specs.Prelude.{List, ℕ};
     ghost use Rattle.awk_ere.specs.Pattern.{Pattern};
-    ghost use Rattle.awk_ere.specs.Search.{IsMachine};
+    ghost use Rattle.awk_ere.specs.Table.{IsEngine};
     ghost use Rattle.awk_ere.specs.Spelled.{IsPattern};
 
     ghost Value = { List ℕ };
 
     ghost view = { λ e. e.source.items };
 
-    ghost invariant = { λ e. (p : Pattern) × IsPattern e.source.items p × IsMachine e.sets.items e.program.items e.entry p };
+    ghost invariant = { λ e. (p : Pattern) × IsPattern e.source.items p × IsEngine e.sets.items e.program.items e.entry e.scan e.table p };
 }
 
 impl Ere {
@@ -72,12 +77,16 @@ impl Ere {
         let mut program = Vec::new(alloc);
         program.push(Step::Done)?;
         let entry = compile(&node, 0, &mut program)?;
+        let scan = compile_scan(entry, &mut program)?;
+        let table = make_table(alloc, &sets, &program, entry, scan)?;
         let source = Vec::from_slice(alloc, text)?;
         Ok(Ere {
             source,
             sets,
             program,
             entry,
+            scan,
+            table,
         })
     }
 
@@ -106,9 +115,22 @@ impl Ere {
         requires { from ≤ length text.now }
         ensures { IfOk result (λ found. Finds self.now text.now from found) }
     {
-        let alloc = *self.program.allocator();
-        let found = search(alloc, &self.sets, &self.program, text, self.entry, from)?;
-        Ok(found)
+        match table::find(
+            &self.sets,
+            &self.program,
+            &self.table,
+            self.entry,
+            self.scan,
+            text,
+            from,
+        ) {
+            Sought::Found(found) => Ok(found),
+            Sought::Left(start) => {
+                let alloc = *self.program.allocator();
+                let found = search(alloc, &self.sets, &self.program, text, self.entry, start)?;
+                Ok(found)
+            }
+        }
     }
 
     /// Whether there is a match anywhere in the text.
@@ -117,7 +139,19 @@ impl Ere {
     pub fn is_match(&self, text: &[u8]) -> Result<bool, Memory>
         ensures { IfOk result (λ b. HasMatch self.now text.now b) }
     {
-        let found = self.find(text, 0)?;
-        Ok(found.is_some())
+        match table::has_match(
+            &self.sets,
+            &self.program,
+            &self.table,
+            self.entry,
+            self.scan,
+            text,
+        ) {
+            Some(has_match) => Ok(has_match),
+            None => {
+                let found = self.find(text, 0)?;
+                Ok(found.is_some())
+            }
+        }
     }
 }

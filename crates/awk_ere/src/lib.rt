@@ -11,6 +11,8 @@ mod interval;
 mod node;
 mod program;
 mod search;
+mod states;
+mod table;
 #[cfg(test)]
 mod tests;
 mod token;

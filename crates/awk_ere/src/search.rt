@@ -52,7 +52,7 @@ fn mark(
     Ok(())
 }
 
-fn reach(
+pub fn reach(
     program: &[Step],
     first: bool,
     last: bool,
@@ -81,7 +81,7 @@ fn reach(
     Ok(())
 }
 
-fn takes(sets: &[Set], class: Class, byte: u8) -> bool
+pub fn takes(sets: &[Set], class: Class, byte: u8) -> bool
     ensures { result ≡ holds sets.now class byte }
 {
     match class {
@@ -95,7 +95,7 @@ fn takes(sets: &[Set], class: Class, byte: u8) -> bool
 }
 
 /// Where a step goes over the byte.
-fn target(sets: &[Set], step: Step, byte: u8) -> Option<usize>
+pub fn target(sets: &[Set], step: Step, byte: u8) -> Option<usize>
     ensures { result ≡ target_of sets.now byte step }
 {
     match step {

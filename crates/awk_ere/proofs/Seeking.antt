@@ -1,0 +1,102 @@
+-- What searches by a table say of the best match.
+use Rattle.std.proofs.Common.{◌≡◌, ◌↔◌, IsTrue, ℕ, zero, suc, ◌+◌, ◌-◌, ◌<◌, ◌≤◌, ◌==◌, inl, inr, Bool, true, false, cond, List, [], ◌∷◌, length, Option, Some, None, refl, sym, ◌∙◌, ap, subst, arith}
+use Rattle.std.specs.List.{slice_get}
+use Rattle.std.proofs.lemmas.Bool.{cases_lt, eqb-true}
+use Rattle.awk_ere.specs.Pattern.{Pattern, bytes, Chain, Matches}
+use Rattle.awk_ere.specs.Program.{Skips, left, right, at_start, at_end, Path}
+use Rattle.awk_ere.specs.Search.{Goes, Finds, IsMachine}
+use Rattle.awk_ere.specs.Table.{steps_of, IsLed, IsTable, IsBegin, IsAt, IsLongest, EndsSomewhere, NoneTo, anywhere}
+use Rattle.awk_ere.specs.declared.program.Step.{Step}
+use Rattle.awk_ere.specs.declared.program.Step.TheVariants.{AtStart, Done}
+use Rattle.awk_ere.specs.declared.states.Begin.{Begin}
+use Rattle.awk_ere.specs.declared.states.TheConstants.{UNKNOWN}
+use Rattle.awk_ere.proofs.Searching.{path_le, run_matches, matches_run}
+use Rattle.awk_ere.proofs.Tables.{at_first}
+
+pub at_begin : (sets : List (List Bool)) (program : List Step) (s : List ℕ) (lists cells : List (List ℕ)) (accepts ends : List Bool) (e i n : ℕ) (r : Begin) → IsTable sets program lists cells accepts ends
+    → IsBegin program e lists r → e < length program → n ≡ cond (i == 0) r.first r.later → n < length cells → IsAt sets program s cells accepts ends e i i n
+at_begin sets program s lists cells accepts ends e i n r table begin inside is lt = (lists, table, lt, at_first sets program s e i (steps_of lists n) inside (by_place (i == 0) is)) where
+  by_place : (b : Bool) → n ≡ cond b r.first r.later → IsLed program b false (e ∷ []) (steps_of lists n)
+  by_place true same =
+      let small : r.first < UNKNOWN = omega (arith, same, table.few) in
+      subst (λ x. IsLed program true false (e ∷ []) (steps_of lists x)) (sym same) (begin.0 small).1
+  by_place false same =
+      let small : r.later < UNKNOWN = omega (arith, same, table.few) in
+      subst (λ x. IsLed program false false (e ∷ []) (steps_of lists x)) (sym same) (begin.1 small).1
+
+module _ (sets : List (List Bool)) (program : List Step) (s : List ℕ) (e from : ℕ) where
+  pub none_begin : NoneTo sets program s e from from
+  none_begin = λ i j after before within run. omega arith
+
+  pub none_more : (k : ℕ) → IsLongest sets program s e k (length s + 1) None → NoneTo sets program s e from k → NoneTo sets program s e from (k + 1)
+  none_more k none h = λ i j after before within run. elim (cases_lt i k) [
+    | inl less ↦ h i j after less within run
+    | inr ge ↦ (let same : i ≡ k = omega arith in none j within (subst (λ x. Goes sets program s e x 0 j) same run))
+  ]
+
+  pub found_at : (k j : ℕ) → from ≤ k → IsLongest sets program s e k (length s + 1) (Some j) → NoneTo sets program s e from k → Finds sets program s e from (Some (k, j))
+  found_at k j after h none = record {
+    after = after;
+    within = h.0;
+    related = h.1;
+    leftmost = λ i l start within run. elim (cases_lt i k) [ inl less ↦ absurd (none i l start less within run) | inr ge ↦ ge ];
+    longest = λ l within run. h.2 l within run;
+  }
+
+  -- the rest by another search
+  pub found_later : (k : ℕ) (found : Option (ℕ × ℕ)) → from ≤ k → NoneTo sets program s e from k → Finds sets program s e k found → Finds sets program s e from found
+  found_later k None after none h = λ i j start within run. elim (cases_lt i k) [ inl less ↦ none i j start less within run | inr ge ↦ h i j ge within run ]
+  found_later k (Some m) after none h = record {
+    after = omega (arith, h.after);
+    within = h.within;
+    related = h.related;
+    leftmost = λ i l start within run. elim (cases_lt i k) [ inl less ↦ absurd (none i l start less within run) | inr ge ↦ h.leftmost i l ge within run ];
+    longest = h.longest;
+  }
+
+-- a program that begins at the text's start
+module _ (sets : List (List Bool)) (program : List Step) (s : List ℕ) (e r : ℕ) (first : slice_get program e ≡ Some (AtStart r)) (done : slice_get program 0 ≡ Some Done) where
+  only_start : (n i j : ℕ) → Path sets program s n e i 0 j → i ≡ 0
+  only_start zero i j (is, same) = absurd (let x = ap (λ q. slice_get program q) is in cc)
+  only_start (suc n) i j (p, k, inr (eats, same), path) = absurd (let x = eats.step in cc)
+  only_start (suc n) i j (p, k, inl (skip, same), path) = by_skip skip where
+    by_skip : Skips program (i == 0) (i == length s) e p → i ≡ 0
+    by_skip (left other h) = absurd (cc)
+    by_skip (right other h) = absurd (cc)
+    by_skip (at_start h f) = eqb-true i 0 f
+    by_skip (at_end h f) = absurd (cc)
+
+  pub none_later : (from : ℕ) → 0 < from → Finds sets program s e from None
+  none_later from lt = λ i j after within run. omega (arith, only_start run.0 i j run.1)
+
+  pub none_at_start : (from : ℕ) → IsLongest sets program s e 0 (length s + 1) None → Finds sets program s e from None
+  none_at_start from none = λ i j after within run. none j within (subst (λ x. Goes sets program s e x 0 j) (only_start run.0 i j run.1) run)
+
+-- a search that may begin anywhere
+module _ (s : List ℕ) where
+  over : (n i j : ℕ) → i + n ≡ j → j ≤ length s → Chain (Matches s (bytes (λ b. true))) n i j
+  over zero i j is within = omega arith
+  over (suc n) i j is within = (i + 1, (omega arith, refl, refl), over n (i + 1) j (omega arith) within)
+
+  over_le : (n i j : ℕ) → Chain (Matches s (bytes (λ b. true))) n i j → i ≤ j
+  over_le zero i j is = omega arith
+  over_le (suc n) i j (k, one, rest) = omega (arith, one.2, over_le n k j rest)
+
+module _ (sets : List (List Bool)) (program : List Step) (entry scan : ℕ) (p : Pattern) (machine : IsMachine sets program entry p) (scans : IsMachine sets program scan (anywhere p)) (s : List ℕ) (from : ℕ) where
+  pub somewhere_from : EndsSomewhere sets program s scan from → (i : ℕ) × (j : ℕ) × (from ≤ i) × (j ≤ length s) × Matches s p i j
+  somewhere_from (j, within, run) =
+      let m = run_matches sets program scan (anywhere p) scans s from j run in
+      (m.0, j, over_le s m.1.0 from m.0 m.1.3, within, m.2)
+
+  pub from_somewhere : (i j : ℕ) → from ≤ i → j ≤ length s → Matches s p i j → EndsSomewhere sets program s scan from
+  from_somewhere i j after within m =
+      let run = matches_run sets program entry p machine s i j m in
+      let le : i ≤ j = path_le sets program s run.0 entry i 0 j run.1 in
+      (j, within, matches_run sets program scan (anywhere p) scans s from j (i, (i - from, omega arith, tt, over s (i - from) from i (omega arith) (omega arith)), m))
+
+  pub nowhere : (b : Bool) → b ≡ false → IsTrue b ↔ EndsSomewhere sets program s scan from → Finds sets program s entry from None
+  nowhere b off is = λ i j after within run.
+      let t = is.1 (from_somewhere i j after (omega arith) (run_matches sets program entry p machine s i j run)) in
+      false_true (sym off ∙ t) where
+        false_true : false ≡ true → ⊥
+        false_true x = cc

@@ -1,0 +1,9 @@
+use Rattle.std.proofs.Common.{None}
+use Rattle.awk_ere.specs.Table.{IsAt, IsLongest}
+use Rattle.awk_ere.proofs.table.ends_somewhere.Given as goal
+
+abbrev pub invariant-loop-place : goal.invariant-loop-place
+invariant-loop-place l = record {
+  at' : IsAt l.sets l.program l.text l.cells l.accepts l.ends l.entry l.from l.place l.state;
+  none : IsLongest l.sets l.program l.text l.entry l.from l.place None;
+}

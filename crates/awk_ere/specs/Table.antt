@@ -1,0 +1,157 @@
+-- A table over sets of steps: a state is the steps that a place is reached at, and a cell the state after a byte.
+use Rattle.std.specs.Prelude.{◌≡◌, ◌==◌, ◌↔◌, ℕ, ◌+◌, ◌<◌, ◌≤◌, ◌⊎◌, Bool, true, false, List, [], ◌∷◌, ◌++◌, length, Option, Some, None, slice_index, slice_index_or, Contains}
+use Rattle.awk_ere.specs.Program.{Eats}
+use Rattle.awk_ere.specs.Search.{mark, IsClosed, Takes, LeadsTo, Goes, Finds, IsMachine}
+use Rattle.awk_ere.specs.Pattern.{Pattern, bytes, cat, repeat}
+use Rattle.awk_ere.specs.declared.program.Step.{Step}
+use Rattle.awk_ere.specs.declared.states.TheConstants.{UNKNOWN}
+use Rattle.awk_ere.specs.declared.search.TheConstants.{NONE}
+use Rattle.awk_ere.specs.declared.states.Begin.{Begin}
+use Rattle.awk_ere.specs.declared.table.Sought.{Sought}
+use Rattle.awk_ere.specs.declared.table.Sought.TheVariants.{Found, Left}
+use Rattle.awk_ere.specs.declared.states.Table.{Table}
+
+-- the steps of a state
+abbrev pub steps_of : List (List ℕ) → ℕ → List ℕ
+steps_of lists q = slice_index_or lists q []
+
+abbrev pub cell : List (List ℕ) → ℕ → ℕ → ℕ
+cell cells q b = slice_index (slice_index_or cells q []) b
+
+-- T are the steps that those of S lead to without reading
+pub record IsLed (program : List Step) (first last : Bool) (S T : List ℕ) : Type 0 where
+  pub sound : (p : ℕ) → Contains T p → (x : ℕ) × Contains S x × LeadsTo program first last x p
+  pub complete : (x p : ℕ) → x < length program → Contains S x → LeadsTo program first last x p → Contains T p
+
+-- the marked steps are those that the steps of S lead to without reading
+pub record AreLed (program : List Step) (first last : Bool) (S starts : List ℕ) : Type 0 where
+  pub sound : (p : ℕ) → mark starts p < NONE → (x : ℕ) × Contains S x × LeadsTo program first last x p
+  pub complete : (x p : ℕ) → x < length program → Contains S x → LeadsTo program first last x p → mark starts p < NONE
+
+-- the list has the marked steps
+pub record AreMarked (starts list : List ℕ) : Type 0 where
+  pub sound : (p : ℕ) → Contains list p → mark starts p < NONE
+  pub complete : (p : ℕ) → mark starts p < NONE → Contains list p
+
+-- T are the steps that those of S go to over the byte b
+pub record AreTargets (sets : List (List Bool)) (program : List Step) (b : ℕ) (S T : List ℕ) : Type 0 where
+  pub sound : (t : ℕ) → Contains T t → (x : ℕ) × Contains S x × Takes sets program b x t
+  pub complete : (x t : ℕ) → Contains S x → Takes sets program b x t → Contains T t
+
+-- over the byte b the steps S lead to the steps T
+pub record IsCell (sets : List (List Bool)) (program : List Step) (b : ℕ) (S T : List ℕ) : Type 0 where
+  pub sound : (p : ℕ) → Contains T p → (x : ℕ) × (t : ℕ) × Contains S x × Takes sets program b x t × LeadsTo program false false t p
+  pub complete : (x t p : ℕ) → Contains S x → Takes sets program b x t → LeadsTo program false false t p → Contains T p
+
+-- new has what old has, and what passes P
+abbrev pub Gains : (ℕ → Type 0) → List ℕ → List ℕ → Type 0
+Gains P old new = (p : ℕ) → Contains new p ↔ (Contains old p ⊎ P p)
+
+-- new marks what old marks, and what the step `from` leads to without reading
+pub record LeadsMore (program : List Step) (first last : Bool) (from : ℕ) (old new : List ℕ) : Type 0 where
+  pub lower : (q : ℕ) → mark new q ≤ mark old q
+  pub there : from < length program → mark new from ≤ 0
+  pub origin : (q : ℕ) → (mark new q ≡ mark old q) ⊎ ((mark new q ≡ 0) × LeadsTo program first last from q)
+  pub closed : IsClosed program first last new
+
+-- later states, which keep the numbers of these
+abbrev pub Later : List (List ℕ) → List (List ℕ) → Type 0
+Later lists all = (more : List (List ℕ)) × (all ≡ lists ++ more)
+
+-- where the number is that of a state, it has these steps
+abbrev pub IsNumber : List ℕ → List (List ℕ) → ℕ → Type 0
+IsNumber list lists n = n < UNKNOWN → (n < length lists) × (steps_of lists n ≡ list)
+
+-- where the number is that of a state, it is the one after the byte b in S
+abbrev pub IsKnown : List (List Bool) → List Step → ℕ → List ℕ → List (List ℕ) → ℕ → Type 0
+IsKnown sets program b S lists n = n < UNKNOWN → (n < length lists) × IsCell sets program b S (steps_of lists n)
+
+-- where the byte b is no edge, each step takes it where it takes the byte before
+abbrev pub AreEdges : List (List Bool) → List Step → List Bool → Type 0
+AreEdges sets program edges =
+    (slice_index_or edges 0 false ≡ true)
+    × ((b q r : ℕ) → b + 1 < 256 → slice_index_or edges (b + 1) false ≡ false → Takes sets program (b + 1) q r ↔ Takes sets program b q r)
+
+-- the rows so far are right
+abbrev pub AreRows : List (List Bool) → List Step → List (List ℕ) → List (List ℕ) → Type 0
+AreRows sets program lists cells = (q b : ℕ) → q < length cells → b < 256 → IsKnown sets program b (steps_of lists q) lists (cell cells q b)
+
+-- from the steps S a match ends here, or would at the end of the text
+abbrev pub EndsAtLast : List Step → List ℕ → Type 0
+EndsAtLast program S = (x : ℕ) × Contains S x × LeadsTo program false true x 0
+
+-- the flags of the first so many states say where P holds
+pub record AreFlags (P : ℕ → Type 0) (count : ℕ) (flags : List Bool) : Type 0 where
+  pub len : length flags ≡ count
+  pub each : (q : ℕ) → q < count → (slice_index_or flags q false ≡ true) ↔ P q
+
+-- each known cell is right, and the flags say where a match ends
+pub record IsTable (sets : List (List Bool)) (program : List Step) (lists cells : List (List ℕ)) (accepts ends : List Bool) : Type 0 where
+  pub right : (q b : ℕ) → q < length cells → b < 256 → cell cells q b < length cells → IsCell sets program b (steps_of lists q) (steps_of lists (cell cells q b))
+  pub few : length cells ≤ UNKNOWN
+  pub accept : AreFlags (λ q. Contains (steps_of lists q) 0) (length cells) accepts
+  pub end : AreFlags (λ q. EndsAtLast program (steps_of lists q)) (length cells) ends
+  pub dead : (x : ℕ) → Contains (steps_of lists 0) x → ⊥
+
+-- where the number is that of a state, a search begins there
+abbrev pub IsFirst : List Step → Bool → ℕ → List (List ℕ) → ℕ → Type 0
+IsFirst program first entry lists n = n < UNKNOWN → (n < length lists) × IsLed program first false (entry ∷ []) (steps_of lists n)
+
+-- the first state has no step
+abbrev pub IsDead : List (List ℕ) → Type 0
+IsDead lists = (0 < length lists) × (steps_of lists 0 ≡ [])
+
+abbrev pub IsBegin : List Step → ℕ → List (List ℕ) → Begin → Type 0
+IsBegin program entry lists r = IsFirst program true entry lists r.first × IsFirst program false entry lists r.later
+
+-- the table of a program, for searches from two of its steps
+pub record IsBuilt (sets : List (List Bool)) (program : List Step) (entry scan : ℕ) (t : Table) : Type 0 where
+  pub lists : List (List ℕ)
+  pub table : IsTable sets program lists t.cells.items t.accepts.items t.ends.items
+  pub entries : IsBegin program entry lists t.entry
+  pub scans : IsBegin program scan lists t.scan
+
+module _ (sets : List (List Bool)) (program : List Step) (s : List ℕ) where
+  -- p is reached at the place k from e at i, where the end of the text is not looked at
+  abbrev pub Arrives : ℕ → ℕ → ℕ → ℕ → Type 0
+  Arrives e i k p =
+      ((k ≡ i) × LeadsTo program (i == 0) false e p)
+      ⊎ ((x : ℕ) × (t : ℕ) × (l : ℕ) × (k ≡ l + 1) × Goes sets program s e i x l × Eats sets program s x l t × LeadsTo program false false t p)
+
+  -- the steps S are those that are reached at k from e at i
+  pub record IsFront (e i k : ℕ) (S : List ℕ) : Type 0 where
+    pub sound : (p : ℕ) → Contains S p → Arrives e i k p
+    pub complete : (p : ℕ) → Arrives e i k p → Contains S p
+
+  -- the longest match from i among those that end below the bound
+  abbrev pub IsLongest : ℕ → ℕ → ℕ → Option ℕ → Type 0
+  IsLongest e i bound None = (j : ℕ) → j < bound → Goes sets program s e i 0 j → ⊥
+  IsLongest e i bound (Some j) = (j < bound) × Goes sets program s e i 0 j × ((l : ℕ) → l < bound → Goes sets program s e i 0 l → l ≤ j)
+
+  -- a match from i ends somewhere
+  abbrev pub EndsSomewhere : ℕ → ℕ → Type 0
+  EndsSomewhere e i = (j : ℕ) × (j ≤ length s) × Goes sets program s e i 0 j
+
+  -- at the place k a search from e at i is in this state
+  abbrev pub IsAt : List (List ℕ) → List Bool → List Bool → ℕ → ℕ → ℕ → ℕ → Type 0
+  IsAt cells accepts ends e i k state =
+      (lists : List (List ℕ)) × IsTable sets program lists cells accepts ends × (state < length cells) × IsFront e i k (steps_of lists state)
+
+  -- no match starts from `from` on and before k
+  abbrev pub NoneTo : ℕ → ℕ → ℕ → Type 0
+  NoneTo e from k = (i j : ℕ) → from ≤ i → i < k → j < length s + 1 → Goes sets program s e i 0 j → ⊥
+
+  -- what is found is the best match, and before the start that is left none starts
+  abbrev pub IsSought : ℕ → ℕ → Sought → Type 0
+  IsSought e from (Found found) = Finds sets program s e from found
+  IsSought e from (Left k) = (from ≤ k) × (k ≤ length s) × NoneTo e from k
+
+-- p after any bytes
+abbrev pub anywhere : Pattern → Pattern
+anywhere p = cat (repeat (bytes (λ b. true)) 0 None) p
+
+-- the program and its table stand for the pattern; from the step `scan` it may begin anywhere
+pub record IsEngine (sets : List (List Bool)) (program : List Step) (entry scan : ℕ) (t : Table) (p : Pattern) : Type 0 where
+  pub machine : IsMachine sets program entry p
+  pub scanner : IsMachine sets program scan (anywhere p)
+  pub built : IsBuilt sets program entry scan t

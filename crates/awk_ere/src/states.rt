@@ -1,0 +1,582 @@
+// The states of a table: sets of steps, with their cells.
+ghost use Rattle.std.specs.Prelude.{◌≡◌, ◌↔◌, ◌+◌, ◌-◌, ◌<◌, ◌≤◌, ℕ, [], true, false, length, map, slice_index, Contains, IfOk, OnOk, IfSome};
+ghost use Rattle.awk_ere.specs.Lexing.{has};
+ghost use Rattle.awk_ere.specs.Program.{IsSound};
+ghost use Rattle.awk_ere.specs.Search.{mark, target_of, IsListed, IsBlank, IsClosed, Takes};
+ghost use Rattle.awk_ere.specs.Table.{steps_of, Gains, LeadsMore, IsLed, AreLed, AreMarked, AreTargets, Later, IsNumber, IsKnown, AreEdges, AreRows, AreFlags, EndsAtLast, IsFirst, IsBegin, IsDead, IsBuilt};
+
+use crate::bracket::Set;
+use crate::program::Step;
+use crate::search::{NONE, reach, target};
+use std::alloc::{AllocError, Global};
+
+/// The number of no state: the table does not say where the search goes on.
+pub const UNKNOWN: u8 = 255;
+
+/// The state that has no step.
+pub const DEAD: u8 = 0;
+
+/// The longest program that gets a table.
+const MAX_STEPS: usize = 2000;
+
+/// How many steps may be looked at for a table.
+const MAX_WORK: usize = 1_000_000;
+
+/// Adds the step that this one goes to over the byte.
+fn push_target(
+    sets: &[Set],
+    program: &[Step],
+    at: usize,
+    byte: u8,
+    found: &mut Vec<usize>,
+) -> Result<(), AllocError>
+    ensures { OnOk result (Gains (λ t. Takes sets.now program.now byte at t) found.old.items found.new.items) }
+{
+    match program.get(at) {
+        None => Ok(()),
+        Some(step) => match target(sets, *step, byte) {
+            None => Ok(()),
+            Some(to) => {
+                found.push(to)?;
+                Ok(())
+            }
+        },
+    }
+}
+
+/// The steps that those of the list go to over the byte.
+fn targets(
+    alloc: Global,
+    sets: &[Set],
+    program: &[Step],
+    list: &[usize],
+    byte: u8,
+) -> Result<Vec<usize>, AllocError>
+    ensures { IfOk result (λ found. AreTargets sets.now program.now byte list.now found.items) }
+{
+    let mut found = Vec::new(alloc);
+    for at in list {
+        push_target(sets, program, *at, byte, &mut found)?;
+    }
+    Ok(found)
+}
+
+/// Marks the steps that this one leads to without reading, where the program has it.
+fn lead_from(
+    program: &[Step],
+    first: bool,
+    last: bool,
+    at: usize,
+    starts: &mut [usize],
+    active: &mut Vec<usize>,
+    stack: &mut Vec<usize>,
+) -> Result<(), AllocError>
+    requires sound { IsSound program.now }
+    requires len { length starts.old ≡ length program.now }
+    requires listed { IsListed starts.old active.old.items }
+    requires closed { IsClosed program.now first last starts.old }
+    ensures more { OnOk result (LeadsMore program.now first last at starts.old starts.new) }
+    ensures listed { OnOk result (IsListed starts.new active.new.items) }
+{
+    if at < program.len() {
+        reach(program, first, last, at, 0, starts, active, stack)?;
+        Ok(())
+    } else {
+        Ok(())
+    }
+}
+
+/// Marks the steps that those of the list lead to without reading.
+fn lead(
+    program: &[Step],
+    first: bool,
+    last: bool,
+    list: &[usize],
+    starts: &mut [usize],
+    active: &mut Vec<usize>,
+    stack: &mut Vec<usize>,
+) -> Result<(), AllocError>
+    requires sound { IsSound program.now }
+    requires len { length starts.old ≡ length program.now }
+    requires blank { IsBlank starts.old }
+    requires listed { IsListed starts.old active.old.items }
+    ensures { OnOk result (AreLed program.now first last list.now starts.new) }
+{
+    for at in list {
+        lead_from(program, first, last, *at, starts, active, stack)?;
+    }
+    Ok(())
+}
+
+/// Adds the step where it is marked.
+fn push_marked(starts: &[usize], at: usize, list: &mut Vec<usize>) -> Result<(), AllocError>
+    requires { at < length starts.now }
+    ensures { OnOk result (Gains (λ p. (p ≡ at) × (mark starts.now p < NONE)) list.old.items list.new.items) }
+{
+    if starts[at] < NONE {
+        list.push(at)?;
+        Ok(())
+    } else {
+        Ok(())
+    }
+}
+
+/// The marked steps, in order.
+fn marked(alloc: Global, starts: &[usize]) -> Result<Vec<usize>, AllocError>
+    ensures { IfOk result (λ list. AreMarked starts.now list.items) }
+{
+    let mut list = Vec::new(alloc);
+    for at in 0..starts.len() {
+        push_marked(starts, at, &mut list)?;
+    }
+    Ok(list)
+}
+
+/// The steps that those of the list lead to without reading, by marks that are blank before.
+fn led_by(
+    alloc: Global,
+    program: &[Step],
+    first: bool,
+    last: bool,
+    list: &[usize],
+    starts: &mut [usize],
+) -> Result<Vec<usize>, AllocError>
+    requires sound { IsSound program.now }
+    requires len { length starts.old ≡ length program.now }
+    requires blank { IsBlank starts.old }
+    ensures { IfOk result (λ led. IsLed program.now first last list.now led.items) }
+{
+    let mut active = Vec::new(alloc);
+    let mut stack = Vec::new(alloc);
+    lead(program, first, last, list, starts, &mut active, &mut stack)?;
+    let found = marked(alloc, starts)?;
+    Ok(found)
+}
+
+/// The steps that those of the list lead to without reading.
+fn led(
+    alloc: Global,
+    program: &[Step],
+    first: bool,
+    last: bool,
+    list: &[usize],
+) -> Result<Vec<usize>, AllocError>
+    requires { IsSound program.now }
+    ensures { IfOk result (λ led. IsLed program.now first last list.now led.items) }
+{
+    let mut starts = vec![in alloc; NONE; program.len()]?;
+    let found = led_by(alloc, program, first, last, list, &mut starts)?;
+    Ok(found)
+}
+
+/// The number of the list among the states.
+fn place_of(lists: &[Vec<usize>], list: &[usize]) -> Option<usize>
+    ensures { IfSome result (λ at. (at < length lists.now) × (steps_of (map (λ v. v.items) lists.now) at ≡ list.now)) }
+{
+    for at in 0..lists.len() {
+        if lists[at].as_slice() == list {
+            return Some(at);
+        }
+    }
+    None
+}
+
+/// The number of the state with these steps, which is added where it is new and there is room.
+fn number(lists: &mut Vec<Vec<usize>>, list: Vec<usize>) -> Result<u8, AllocError>
+    ensures later { OnOk result (Later (map (λ v. v.items) lists.old.items) (map (λ v. v.items) lists.new.items)) }
+    ensures number { IfOk result (λ n. IsNumber list.items (map (λ v. v.items) lists.new.items) n) }
+{
+    match place_of(lists, &list) {
+        Some(at) => {
+            if at < UNKNOWN as usize {
+                Ok(at as u8)
+            } else {
+                Ok(UNKNOWN)
+            }
+        }
+        None => {
+            let at = lists.len();
+            if at < UNKNOWN as usize {
+                lists.push(list)?;
+                Ok(at as u8)
+            } else {
+                Ok(UNKNOWN)
+            }
+        }
+    }
+}
+
+/// The state after the byte.
+fn cell(
+    alloc: Global,
+    sets: &[Set],
+    program: &[Step],
+    list: &[usize],
+    byte: u8,
+    lists: &mut Vec<Vec<usize>>,
+) -> Result<u8, AllocError>
+    requires { IsSound program.now }
+    ensures later { OnOk result (Later (map (λ v. v.items) lists.old.items) (map (λ v. v.items) lists.new.items)) }
+    ensures known { IfOk result (λ n. IsKnown sets.now program.now byte list.now (map (λ v. v.items) lists.new.items) n) }
+{
+    let targets = targets(alloc, sets, program, list, byte)?;
+    let steps = led(alloc, program, false, false, &targets)?;
+    let at = number(lists, steps)?;
+    Ok(at)
+}
+
+/// The same where the byte is an edge, and otherwise the state after the byte before.
+fn cell_after(
+    alloc: Global,
+    sets: &[Set],
+    program: &[Step],
+    is_edge: bool,
+    before: u8,
+    list: &[usize],
+    byte: u8,
+    lists: &mut Vec<Vec<usize>>,
+) -> Result<u8, AllocError>
+    requires sound { IsSound program.now }
+    requires same { is_edge ≡ false → IsKnown sets.now program.now byte list.now (map (λ v. v.items) lists.old.items) before }
+    ensures later { OnOk result (Later (map (λ v. v.items) lists.old.items) (map (λ v. v.items) lists.new.items)) }
+    ensures known { IfOk result (λ n. IsKnown sets.now program.now byte list.now (map (λ v. v.items) lists.new.items) n) }
+{
+    if is_edge {
+        let at = cell(alloc, sets, program, list, byte, lists)?;
+        Ok(at)
+    } else {
+        Ok(before)
+    }
+}
+
+/// The states after each byte.
+fn row(
+    alloc: Global,
+    sets: &[Set],
+    program: &[Step],
+    edges: &[bool; 256],
+    list: &[usize],
+    lists: &mut Vec<Vec<usize>>,
+) -> Result<[u8; 256], AllocError>
+    requires sound { IsSound program.now }
+    requires edges { AreEdges sets.now program.now edges.now }
+    ensures later { OnOk result (Later (map (λ v. v.items) lists.old.items) (map (λ v. v.items) lists.new.items)) }
+    ensures known { IfOk result (λ row. (b : ℕ) → b < 256 → IsKnown sets.now program.now b list.now (map (λ v. v.items) lists.new.items) (slice_index row b)) }
+{
+    let mut row = [UNKNOWN; 256];
+    let mut before = UNKNOWN;
+    for byte in 0..256usize {
+        before = cell_after(
+            alloc,
+            sets,
+            program,
+            edges[byte],
+            before,
+            list,
+            byte as u8,
+            lists,
+        )?;
+        row[byte] = before;
+    }
+    Ok(row)
+}
+
+/// The steps of a state.
+fn list_at(alloc: Global, lists: &[Vec<usize>], at: usize) -> Result<Vec<usize>, AllocError>
+    requires { at < length lists.now }
+    ensures { IfOk result (λ list. list.items ≡ steps_of (map (λ v. v.items) lists.now) at) }
+{
+    let list = Vec::from_slice(alloc, lists[at].as_slice())?;
+    Ok(list)
+}
+
+/// Adds the next state's row, where there is such a state.
+fn add_row(
+    alloc: Global,
+    sets: &[Set],
+    program: &[Step],
+    edges: &[bool; 256],
+    lists: &mut Vec<Vec<usize>>,
+    cells: &mut Vec<[u8; 256]>,
+) -> Result<(), AllocError>
+    requires sound { IsSound program.now }
+    requires edges { AreEdges sets.now program.now edges.now }
+    requires inside { length cells.old.items ≤ length lists.old.items }
+    requires rows { AreRows sets.now program.now (map (λ v. v.items) lists.old.items) cells.old.items }
+    ensures later { OnOk result (Later (map (λ v. v.items) lists.old.items) (map (λ v. v.items) lists.new.items)) }
+    ensures inside { OnOk result (length cells.new.items ≤ length lists.new.items) }
+    ensures len { OnOk result (length cells.new.items ≤ length cells.old.items + 1) }
+    ensures rows { OnOk result (AreRows sets.now program.now (map (λ v. v.items) lists.new.items) cells.new.items) }
+{
+    let at = cells.len();
+    if at >= lists.len() {
+        return Ok(());
+    }
+    let list = list_at(alloc, lists, at)?;
+    let row = row(alloc, sets, program, edges, &list, lists)?;
+    cells.push(row)?;
+    Ok(())
+}
+
+/// The rows of at most so many states; new states are added as they are met.
+fn rows(
+    alloc: Global,
+    sets: &[Set],
+    program: &[Step],
+    edges: &[bool; 256],
+    count: usize,
+    lists: &mut Vec<Vec<usize>>,
+) -> Result<Vec<[u8; 256]>, AllocError>
+    requires sound { IsSound program.now }
+    requires edges { AreEdges sets.now program.now edges.now }
+    ensures later { OnOk result (Later (map (λ v. v.items) lists.old.items) (map (λ v. v.items) lists.new.items)) }
+    ensures inside { IfOk result (λ cells. length cells.items ≤ length lists.new.items) }
+    ensures few { IfOk result (λ cells. length cells.items ≤ count) }
+    ensures rows { IfOk result (λ cells. AreRows sets.now program.now (map (λ v. v.items) lists.new.items) cells.items) }
+{
+    let mut cells = Vec::new(alloc);
+    for i in 0..count {
+        add_row(alloc, sets, program, edges, lists, &mut cells)?;
+    }
+    Ok(cells)
+}
+
+fn has_done(list: &[usize]) -> bool
+    ensures { (result ≡ true) ↔ Contains list.now 0 }
+{
+    list.contains(&0)
+}
+
+/// In which of the first states a match ends.
+fn accepting(alloc: Global, lists: &[Vec<usize>], count: usize) -> Result<Vec<bool>, AllocError>
+    requires { count ≤ length lists.now }
+    ensures { IfOk result (λ flags. AreFlags (λ q. Contains (steps_of (map (λ v. v.items) lists.now) q) 0) count flags.items) }
+{
+    let mut flags = Vec::new(alloc);
+    for at in 0..count {
+        flags.push(has_done(lists[at].as_slice()))?;
+    }
+    Ok(flags)
+}
+
+/// Whether a match ends at the steps of the list where the text ends.
+fn ends_at_last(alloc: Global, program: &[Step], list: &[usize]) -> Result<bool, AllocError>
+    requires sound { IsSound program.now }
+    requires some { 0 < length program.now }
+    ensures { IfOk result (λ b. (b ≡ true) ↔ EndsAtLast program.now list.now) }
+{
+    let steps = led(alloc, program, false, true, list)?;
+    Ok(has_done(&steps))
+}
+
+/// In which of the first states a match ends where the text ends.
+fn ending(
+    alloc: Global,
+    program: &[Step],
+    lists: &[Vec<usize>],
+    count: usize,
+) -> Result<Vec<bool>, AllocError>
+    requires sound { IsSound program.now }
+    requires some { 0 < length program.now }
+    requires inside { count ≤ length lists.now }
+    ensures { IfOk result (λ flags. AreFlags (λ q. EndsAtLast program.now (steps_of (map (λ v. v.items) lists.now) q)) count flags.items) }
+{
+    let mut flags = Vec::new(alloc);
+    for at in 0..count {
+        let flag = ends_at_last(alloc, program, lists[at].as_slice())?;
+        flags.push(flag)?;
+    }
+    Ok(flags)
+}
+
+/// The state in which a search begins at the step.
+fn first_state(
+    alloc: Global,
+    program: &[Step],
+    first: bool,
+    entry: usize,
+    lists: &mut Vec<Vec<usize>>,
+) -> Result<u8, AllocError>
+    requires { IsSound program.now }
+    ensures later { OnOk result (Later (map (λ v. v.items) lists.old.items) (map (λ v. v.items) lists.new.items)) }
+    ensures first { IfOk result (λ n. IsFirst program.now first entry (map (λ v. v.items) lists.new.items) n) }
+{
+    let steps = led(alloc, program, first, false, &[entry])?;
+    let at = number(lists, steps)?;
+    Ok(at)
+}
+
+/// Whether the step goes on otherwise over the byte than over the one before it.
+fn differs(sets: &[Set], step: Step, byte: u8) -> bool
+    requires { 1 ≤ byte }
+    ensures { result ≡ false → target_of sets.now byte step ≡ target_of sets.now (byte - 1) step }
+{
+    target(sets, step, byte) != target(sets, step, byte - 1)
+}
+
+/// Makes the byte an edge where the step goes on otherwise.
+fn add_edge(sets: &[Set], step: Step, byte: u8, edges: &mut [bool; 256])
+    requires { 1 ≤ byte }
+    ensures kept { (b : ℕ) → has edges.new b ≡ false → has edges.old b ≡ false }
+    ensures edge { has edges.new byte ≡ false → target_of sets.now byte step ≡ target_of sets.now (byte - 1) step }
+{
+    if differs(sets, step, byte) {
+        edges[byte as usize] = true;
+    }
+}
+
+/// Makes each byte an edge over which the step goes on otherwise than over the one before it.
+fn add_edges(sets: &[Set], step: Step, edges: &mut [bool; 256])
+    ensures kept { (b : ℕ) → has edges.new b ≡ false → has edges.old b ≡ false }
+    ensures edges { (b : ℕ) → b + 1 < 256 → has edges.new (b + 1) ≡ false → target_of sets.now (b + 1) step ≡ target_of sets.now b step }
+{
+    for byte in 1..256usize {
+        add_edge(sets, step, byte as u8, edges);
+    }
+}
+
+/// The bytes over which some step goes on otherwise than over the one before.
+fn edges(sets: &[Set], program: &[Step]) -> [bool; 256]
+    ensures { AreEdges sets.now program.now result }
+{
+    let mut edges = [false; 256];
+    edges[0] = true;
+    for step in program {
+        add_edges(sets, *step, &mut edges);
+    }
+    edges
+}
+
+/// The states in which a search begins, at the text's start and later.
+#[derive(Clone, Copy)]
+pub struct Begin {
+    pub first: u8,
+    pub later: u8,
+}
+
+/// The states in which a search begins at the step.
+fn begins(
+    alloc: Global,
+    program: &[Step],
+    entry: usize,
+    lists: &mut Vec<Vec<usize>>,
+) -> Result<Begin, AllocError>
+    requires { IsSound program.now }
+    ensures later { OnOk result (Later (map (λ v. v.items) lists.old.items) (map (λ v. v.items) lists.new.items)) }
+    ensures begin { IfOk result (λ r. IsBegin program.now entry (map (λ v. v.items) lists.new.items) r) }
+{
+    let first = first_state(alloc, program, true, entry, lists)?;
+    let later = first_state(alloc, program, false, entry, lists)?;
+    Ok(Begin { first, later })
+}
+
+/// A table for searches that begin at the program's entry, and for those that begin at the step `scan`.
+#[derive(Drop)]
+pub struct Table {
+    pub cells: Vec<[u8; 256]>,
+    pub accepts: Vec<bool>,
+    pub ends: Vec<bool>,
+    pub entry: Begin,
+    pub scan: Begin,
+}
+
+/// A table that says nothing.
+fn blank(alloc: Global, sets: &[Set], program: &[Step], entry: usize, scan: usize) -> Table
+    ensures { IsBuilt sets.now program.now entry scan result }
+{
+    let begin = Begin {
+        first: UNKNOWN,
+        later: UNKNOWN,
+    };
+    Table {
+        cells: Vec::new(alloc),
+        accepts: Vec::new(alloc),
+        ends: Vec::new(alloc),
+        entry: begin,
+        scan: begin,
+    }
+}
+
+/// How many rows may be made, so that the work is bounded.
+fn room(program: &[Step], edges: &[bool; 256]) -> usize
+    ensures { result ≤ UNKNOWN }
+{
+    let mut count = 1usize;
+    for edge in edges {
+        if *edge {
+            count = count.saturating_add(1);
+        }
+    }
+    let row = count.saturating_mul(program.len()).max(1);
+    (MAX_WORK / row).min(UNKNOWN as usize)
+}
+
+/// The table of the states and with the rows that they have room for.
+fn with_rows(
+    alloc: Global,
+    sets: &[Set],
+    program: &[Step],
+    entry: usize,
+    scan: usize,
+    mut lists: Vec<Vec<usize>>,
+    begins: (Begin, Begin),
+) -> Result<Table, AllocError>
+    requires sound { IsSound program.now }
+    requires some { 0 < length program.now }
+    requires dead { IsDead (map (λ v. v.items) lists.items) }
+    requires entry { IsBegin program.now entry (map (λ v. v.items) lists.items) begins.0 }
+    requires scan { IsBegin program.now scan (map (λ v. v.items) lists.items) begins.1 }
+    ensures { IfOk result (λ t. IsBuilt sets.now program.now entry scan t) }
+{
+    let edges = edges(sets, program);
+    let room = room(program, &edges);
+    let cells = rows(alloc, sets, program, &edges, room, &mut lists)?;
+    let accepts = accepting(alloc, &lists, cells.len())?;
+    let ends = ending(alloc, program, &lists, cells.len())?;
+    Ok(Table {
+        cells,
+        accepts,
+        ends,
+        entry: begins.0,
+        scan: begins.1,
+    })
+}
+
+/// The states of a table before any is met: the one that has no step.
+fn no_states(alloc: Global) -> Result<Vec<Vec<usize>>, AllocError>
+    ensures { IfOk result (λ lists. IsDead (map (λ v. v.items) lists.items)) }
+{
+    let mut lists = Vec::new(alloc);
+    lists.push(Vec::new(alloc))?;
+    Ok(lists)
+}
+
+/// The table of the program.
+pub fn make_table(
+    alloc: Global,
+    sets: &[Set],
+    program: &[Step],
+    entry: usize,
+    scan: usize,
+) -> Result<Table, AllocError>
+    requires sound { IsSound program.now }
+    requires some { 0 < length program.now }
+    ensures { IfOk result (λ t. IsBuilt sets.now program.now entry scan t) }
+{
+    if program.len() > MAX_STEPS {
+        return Ok(blank(alloc, sets, program, entry, scan));
+    }
+    let mut lists = no_states(alloc)?;
+    let entry_begin = begins(alloc, program, entry, &mut lists)?;
+    let scan_begin = begins(alloc, program, scan, &mut lists)?;
+    let table = with_rows(
+        alloc,
+        sets,
+        program,
+        entry,
+        scan,
+        lists,
+        (entry_begin, scan_begin),
+    )?;
+    Ok(table)
+}

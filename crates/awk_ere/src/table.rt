@@ -1,0 +1,281 @@
+// The search by a table.
+ghost use Rattle.std.specs.Prelude.{◌≡◌, ◌==◌, ◌↔◌, ◌+◌, ◌<◌, ◌≤◌, ℕ, length, Some, true, IfSome, IsTrue, slice_get, if◌then◌else◌};
+ghost use Rattle.awk_ere.specs.Pattern.{Pattern};
+ghost use Rattle.awk_ere.specs.Table.{IsAt, IsLongest, EndsSomewhere, NoneTo, IsBuilt, IsSought, IsEngine};
+ghost use Rattle.awk_ere.specs.declared.program.Step.TheVariants.{AtStart, Done};
+
+use crate::bracket::Set;
+use crate::program::Step;
+use crate::states::{Begin, DEAD, Table};
+
+fn noted(accept: bool, place: usize, best: Option<usize>) -> Option<usize>
+    ensures { result ≡ (if accept then Some place else best) }
+{
+    if accept { Some(place) } else { best }
+}
+
+/// The end of the longest match from `from`, if there is one; `None` where the table does not say.
+fn longest(
+    sets: &[Set],
+    program: &[Step],
+    cells: &[[u8; 256]],
+    accepts: &[bool],
+    ends: &[bool],
+    entry: usize,
+    first: usize,
+    text: &[u8],
+    from: usize,
+    budget: &mut usize,
+) -> Option<Option<usize>>
+    requires from { from < length text.now }
+    requires at { IsAt sets.now program.now text.now cells.now accepts.now ends.now entry from from first }
+    ensures { IfSome result (λ found. IsLongest sets.now program.now text.now entry from (length text.now + 1) found) }
+{
+    let mut state = first;
+    let mut best = None;
+    for place in from..text.len() {
+        best = noted(accepts[state], place, best);
+        let next = cells[state][text[place] as usize];
+        if next == DEAD {
+            *budget = budget.saturating_sub(place - from);
+            return Some(best);
+        }
+        state = next as usize;
+        if state >= cells.len() {
+            return None;
+        }
+    }
+    Some(noted(ends[state], text.len(), best))
+}
+
+/// Whether a match from `from` ends anywhere; `None` where the table does not say.
+fn ends_somewhere(
+    sets: &[Set],
+    program: &[Step],
+    cells: &[[u8; 256]],
+    accepts: &[bool],
+    ends: &[bool],
+    entry: usize,
+    first: usize,
+    text: &[u8],
+    from: usize,
+) -> Option<bool>
+    requires from { from < length text.now }
+    requires at { IsAt sets.now program.now text.now cells.now accepts.now ends.now entry from from first }
+    ensures { IfSome result (λ b. IsTrue b ↔ EndsSomewhere sets.now program.now text.now entry from) }
+{
+    let mut state = first;
+    for place in from..text.len() {
+        if accepts[state] {
+            return Some(true);
+        }
+        state = cells[state][text[place] as usize] as usize;
+        if state >= cells.len() {
+            return None;
+        }
+    }
+    Some(ends[state])
+}
+
+/// How many bytes may be looked at for each byte of the text, by searches that find nothing.
+const BUDGET: usize = 4;
+
+/// What a search by the table gives.
+pub enum Sought {
+    /// The best match, or that there is none.
+    Found(Option<(usize, usize)>),
+    /// No match starts before this place; the table says no more.
+    Left(usize),
+}
+
+/// The state in which a search begins at the place.
+fn state_at(begin: Begin, place: usize) -> usize
+    ensures { result ≡ (if place == 0 then begin.first else begin.later) }
+{
+    if place == 0 {
+        begin.first as usize
+    } else {
+        begin.later as usize
+    }
+}
+
+/// The end of the longest match from the place, if there is one; `None` where the table does not say.
+fn longest_at(
+    sets: &[Set],
+    program: &[Step],
+    table: &Table,
+    entry: usize,
+    scan: usize,
+    text: &[u8],
+    from: usize,
+    budget: &mut usize,
+) -> Option<Option<usize>>
+    requires entry { entry < length program.now }
+    requires built { IsBuilt sets.now program.now entry scan table.now }
+    requires from { from < length text.now }
+    ensures { IfSome result (λ found. IsLongest sets.now program.now text.now entry from (length text.now + 1) found) }
+{
+    let first = state_at(table.entry, from);
+    if first >= table.cells.len() {
+        return None;
+    }
+    longest(
+        sets,
+        program,
+        &table.cells,
+        &table.accepts,
+        &table.ends,
+        entry,
+        first,
+        text,
+        from,
+        budget,
+    )
+}
+
+/// Whether a match from the place or later ends anywhere; `None` where the table does not say.
+fn somewhere(
+    sets: &[Set],
+    program: &[Step],
+    table: &Table,
+    entry: usize,
+    scan: usize,
+    text: &[u8],
+    from: usize,
+) -> Option<bool>
+    requires scan { scan < length program.now }
+    requires built { IsBuilt sets.now program.now entry scan table.now }
+    requires from { from ≤ length text.now }
+    ensures { IfSome result (λ b. IsTrue b ↔ EndsSomewhere sets.now program.now text.now scan from) }
+{
+    if from >= text.len() {
+        return None;
+    }
+    let first = state_at(table.scan, from);
+    if first >= table.cells.len() {
+        return None;
+    }
+    ends_somewhere(
+        sets,
+        program,
+        &table.cells,
+        &table.accepts,
+        &table.ends,
+        scan,
+        first,
+        text,
+        from,
+    )
+}
+
+/// Whether each match starts at the text's start.
+fn is_anchored(program: &[Step], entry: usize) -> bool
+    requires { entry < length program.now }
+    ensures { IsTrue result → (r : ℕ) × (slice_get program.now entry ≡ Some (AtStart r)) }
+{
+    match program[entry] {
+        Step::AtStart(_) => true,
+        Step::Eat(_, _) | Step::Fork(_, _) | Step::AtEnd(_) | Step::Done | Step::Hole => false,
+    }
+}
+
+/// The best match from the place on: each start in turn, as long as the budget lasts.
+fn leftmost(
+    sets: &[Set],
+    program: &[Step],
+    table: &Table,
+    entry: usize,
+    scan: usize,
+    text: &[u8],
+    from: usize,
+) -> Sought
+    requires entry { entry < length program.now }
+    requires built { IsBuilt sets.now program.now entry scan table.now }
+    requires from { from ≤ length text.now }
+    ensures { IsSought sets.now program.now text.now entry from result }
+{
+    let mut budget = text.len().saturating_mul(BUDGET);
+    for start in from..text.len() {
+        if budget == 0 {
+            return Sought::Left(start);
+        }
+        match longest_at(sets, program, table, entry, scan, text, start, &mut budget) {
+            None => return Sought::Left(start),
+            Some(Some(end)) => return Sought::Found(Some((start, end))),
+            Some(None) => {}
+        }
+    }
+    Sought::Left(text.len())
+}
+
+/// The best match where each one starts at the text's start.
+fn find_anchored(
+    sets: &[Set],
+    program: &[Step],
+    table: &Table,
+    entry: usize,
+    scan: usize,
+    text: &[u8],
+    from: usize,
+) -> Sought
+    requires entry { entry < length program.now }
+    requires anchored { (r : ℕ) × (slice_get program.now entry ≡ Some (AtStart r)) }
+    requires done { slice_get program.now 0 ≡ Some Done }
+    requires built { IsBuilt sets.now program.now entry scan table.now }
+    requires from { from ≤ length text.now }
+    ensures { IsSought sets.now program.now text.now entry from result }
+{
+    if from > 0 {
+        return Sought::Found(None);
+    }
+    if text.is_empty() {
+        return Sought::Left(0);
+    }
+    let mut budget = 0;
+    match longest_at(sets, program, table, entry, scan, text, 0, &mut budget) {
+        None => Sought::Left(0),
+        Some(Some(end)) => Sought::Found(Some((0, end))),
+        Some(None) => Sought::Found(None),
+    }
+}
+
+/// The best match from the place on.
+pub fn find(
+    sets: &[Set],
+    program: &[Step],
+    table: &Table,
+    entry: usize,
+    scan: usize,
+    text: &[u8],
+    from: usize,
+) -> Sought
+    requires engine { (p : Pattern) × IsEngine sets.now program.now entry scan table.now p }
+    requires from { from ≤ length text.now }
+    ensures { IsSought sets.now program.now text.now entry from result }
+{
+    if is_anchored(program, entry) {
+        return find_anchored(sets, program, table, entry, scan, text, from);
+    }
+    match somewhere(sets, program, table, entry, scan, text, from) {
+        Some(false) => Sought::Found(None),
+        Some(true) | None => leftmost(sets, program, table, entry, scan, text, from),
+    }
+}
+
+/// Whether there is a match anywhere; `None` where the table does not say.
+pub fn has_match(
+    sets: &[Set],
+    program: &[Step],
+    table: &Table,
+    entry: usize,
+    scan: usize,
+    text: &[u8],
+) -> Option<bool>
+    requires engine { (p : Pattern) × IsEngine sets.now program.now entry scan table.now p }
+    ensures { IfSome result (λ b. IsTrue b ↔ EndsSomewhere sets.now program.now text.now scan 0) }
+{
+    if is_anchored(program, entry) {
+        return None;
+    }
+    somewhere(sets, program, table, entry, scan, text, 0)
+}
