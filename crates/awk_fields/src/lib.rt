@@ -1,0 +1,11 @@
+//! Records of an input, and the fields of a record, as awk has them (POSIX.1-2017 XCU awk,
+//! "Input Files" and "Variables and Special Variables").
+#![tactic(auto)]
+
+mod front;
+pub mod reader;
+mod spans;
+pub mod splitter;
+
+pub use reader::Reader as Reader;
+pub use splitter::{Splitter as Splitter, split as split};

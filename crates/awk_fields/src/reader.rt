@@ -1,0 +1,123 @@
+// An input that comes in pieces, and its records.
+ghost use Rattle.std.specs.Prelude.{◌≡◌, ◌++◌, ◌≤◌, ◌⊎◌, length, [], true, false, drop, IfOk, OnOk, OnErr, IfErr, IsOkUnless};
+ghost use Rattle.awk_fields.specs.Heads.{head, too_long};
+ghost use Rattle.awk_fields.specs.Takes.{Takes};
+
+use crate::front::{Front, Searched, all_searched, first_record};
+use awk_text::fault::Fault;
+use awk_text::octets::Octets;
+use std::alloc::Global;
+use std::marker::Model;
+
+/// What `Reader::take` answers.
+#[derive(Drop)]
+pub enum Taken {
+    /// The record's text, without what ended it.
+    Record(Octets),
+    /// The record's end can't be seen yet: push more, or finish.
+    NeedMore,
+    /// The input has ended, and no record is left.
+    Done,
+}
+
+/// The bytes of an input that are not taken yet, and whether it has ended.
+#[derive(Drop)]
+pub struct Reader {
+    bytes: Vec<u8>,
+    start: usize,
+    searched: Searched,
+    ended: bool,
+}
+
+impl Model for Reader {
+    ghost use Rattle.std.specs.Prelude.{◌≤◌, drop, length};
+    ghost use Rattle.awk_fields.specs.Takes.{Input};
+    ghost use Rattle.awk_fields.specs.Unread.{IsSearched};
+
+    ghost Value = { Input };
+
+    ghost view = { λ r. record { unread = drop r.start r.bytes.items; ended = r.ended } };
+
+    ghost invariant = { λ r. (r.start ≤ length r.bytes.items) × IsSearched (drop r.start r.bytes.items) r.searched };
+}
+
+/// Drops the bytes in front of `start` once they are at least as many as the others, and answers
+/// where the others begin then.
+fn compact(bytes: &mut Vec<u8>, start: usize) -> usize
+    requires { start ≤ length bytes.old.items }
+    ensures unread { drop result bytes.new.items ≡ drop start bytes.old.items }
+    ensures inside { result ≤ length bytes.new.items }
+{
+    let left = bytes.len() - start;
+    if start < left {
+        return start;
+    }
+    bytes.rotate_left(start);
+    bytes.truncate(left);
+    0
+}
+
+impl Reader {
+    /// A reader of an input of which nothing has come. Takes no memory.
+    pub fn new(alloc: Global) -> Reader
+        ensures { result ≡ record { unread = []; ended = false } }
+    {
+        Reader {
+            bytes: Vec::new(alloc),
+            start: 0,
+            searched: Searched { mark: 0, count: 0 },
+            ended: false,
+        }
+    }
+
+    /// Adds the next bytes of the input, in a piece of any length.
+    ///
+    /// Fails with `Fault::Memory` alone, where memory is refused; then nothing was added.
+    pub fn push(&mut self, bytes: &[u8]) -> Result<(), Fault>
+        requires { self.old.ended ≡ false }
+        ensures ok { OnOk result (self.new ≡ record { unread = self.old.unread ++ bytes.now; ended = false }) }
+        ensures err { OnErr result (self.new ≡ self.old) }
+        ensures memory { IsOkUnless result Fault.Memory }
+    {
+        self.start = compact(&mut self.bytes, self.start);
+        self.bytes.extend_from_slice(bytes)?;
+        Ok(())
+    }
+
+    /// Says that the input has ended. Takes no memory.
+    pub fn finish(&mut self)
+        ensures { self.new ≡ record { unread = self.old.unread; ended = true } }
+    {
+        self.ended = true;
+    }
+
+    /// The first record of what is unread, which is taken. RS is its first byte, or, where it is
+    /// empty, two newlines in a row. `NeedMore` and `Done` take nothing.
+    ///
+    /// Fails with `Fault::TextTooLong` exactly where more than `MOST_BYTES` bytes of the record lie
+    /// before its end, or are held and no end was seen, and with `Fault::Memory` where memory is
+    /// refused; then nothing was taken.
+    pub fn take(&mut self, rs: &[u8]) -> Result<Taken, Fault>
+        ensures ok { IfOk result (λ taken. Takes (head rs.now self.old.unread self.old.ended) taken self.old self.new) }
+        ensures err { OnErr result (self.new ≡ self.old) }
+        ensures fault { IfErr result (λ e. (e ≡ Fault.Memory)
+            ⊎ ((e ≡ Fault.TextTooLong) × (head rs.now self.old.unread self.old.ended ≡ too_long))) }
+    {
+        let alloc = *self.bytes.allocator();
+        let unread = &self.bytes[self.start..];
+        match first_record(unread, rs, self.searched, self.ended) {
+            Front::TooLong => Err(Fault::TextTooLong),
+            Front::Done => Ok(Taken::Done),
+            Front::NeedMore => {
+                self.searched = all_searched(unread, rs);
+                Ok(Taken::NeedMore)
+            }
+            Front::Record(start, end, next) => {
+                let text = Vec::from_slice(alloc, &unread[start..end])?;
+                self.start += next;
+                self.searched = Searched { mark: 0, count: 0 };
+                Ok(Taken::Record(Octets::new(text)))
+            }
+        }
+    }
+}
