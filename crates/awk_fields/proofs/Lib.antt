@@ -5,3 +5,4 @@ pub mod Bests
 pub mod Seeks
 pub mod Places
 pub mod HeadLemmas
+pub mod RowLemmas

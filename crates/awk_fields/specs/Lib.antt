@@ -6,3 +6,5 @@ pub mod Views
 pub mod Heads
 pub mod Unread
 pub mod Takes
+pub mod Rows
+pub mod Parts

@@ -3,9 +3,13 @@
 #![tactic(auto)]
 
 mod front;
+mod joining;
+mod parts;
 pub mod reader;
+pub mod row;
 mod spans;
 pub mod splitter;
 
 pub use reader::Reader as Reader;
+pub use row::Record as Record;
 pub use splitter::{Splitter as Splitter, split as split};

@@ -1,0 +1,171 @@
+// A record: its whole text, and its fields by number.
+ghost use Rattle.std.specs.Prelude.{◌≡◌, ◌<◌, ◌≤◌, ◌⊎◌, ℕ, List, [], Ok, Err, pos, length, IfOk, OnOk, OnErr, IfErr};
+ghost use Rattle.awk_text.specs.Limits.{most_bytes};
+ghost use Rattle.awk_fields.specs.Rows.{known, unsplit, place_of, field_place, HasFields, IsKept, IsValueAt, SetsField, SetsCount, SetsNoField, SetsNoCount};
+
+use crate::joining::{put, set_len};
+use crate::parts::{Parts, State, field_at, field_count, own_parts, split_parts};
+use crate::splitter::Splitter;
+use awk_text::fault::Fault;
+use awk_text::octets::Octets;
+use awk_text::texts::MOST_BYTES;
+use awk_text::value::Value;
+use std::alloc::Global;
+use std::marker::Model;
+
+/// The greatest number of a field that can be named or set, and the greatest count that can be set.
+pub const MOST_FIELDS: i64 = 65535;
+
+/// A record: `$0`, and the fields `$1` to `$NF`. A text is split when its fields are first asked
+/// for.
+#[derive(Drop)]
+pub struct Record {
+    whole: Octets,
+    parts: Parts,
+}
+
+impl Model for Record {
+    ghost use Rattle.awk_fields.specs.Rows.{Row};
+
+    ghost Value = { Row };
+
+    ghost use Rattle.awk_fields.specs.Parts.{IsSound, row_of};
+
+    ghost view = { λ r. row_of r.whole r.parts };
+
+    ghost invariant = { λ r. IsSound r.whole r.parts };
+}
+
+/// The number of a field, 0 being the whole text.
+fn place(n: i64) -> Result<usize, Fault>
+    ensures { result ≡ place_of n }
+{
+    if n < 0 || n > MOST_FIELDS {
+        return Err(Fault::FieldNumber);
+    }
+    Ok(n as usize)
+}
+
+/// The place of a field that can be set, counted from 0.
+fn field_place(n: i64) -> Result<usize, Fault>
+    ensures place { result ≡ field_place n }
+    ensures small { IfOk result (λ k. k < 65535) }
+{
+    let place = place(n)?;
+    if place == 0 {
+        return Err(Fault::FieldNumber);
+    }
+    Ok(place - 1)
+}
+
+impl Record {
+    /// The empty record. Takes no memory.
+    pub fn new(alloc: Global) -> Record
+        ensures { result ≡ record { whole = []; fields = known [] } }
+    {
+        Record {
+            whole: Octets::new(Vec::new(alloc)),
+            parts: Parts {
+                state: State::Values,
+                spans: Vec::new(alloc),
+                values: Vec::new(alloc),
+            },
+        }
+    }
+
+    /// The whole text. Takes no memory.
+    pub fn whole(&self) -> &[u8]
+        ensures { result.now ≡ self.now.whole }
+    {
+        self.whole.bytes()
+    }
+
+    /// Sets the whole text. Its fields are those that the splitter gives. Takes no memory.
+    ///
+    /// Fails with `Fault::TextTooLong` exactly where the text has more than `MOST_BYTES` bytes;
+    /// then the record is as it was.
+    pub fn set_whole(&mut self, text: Octets, splitter: Splitter) -> Result<(), Fault>
+        ensures ok { OnOk result (self.new ≡ record { whole = text; fields = unsplit splitter }) }
+        ensures fits { OnOk result (length text ≤ most_bytes) }
+        ensures err { OnErr result (self.new ≡ self.old) }
+        ensures too_long { IfErr result (λ e. (e ≡ Fault.TextTooLong) × (most_bytes < length text)) }
+    {
+        if text.bytes().len() > MOST_BYTES {
+            return Err(Fault::TextTooLong);
+        }
+        self.whole = text;
+        self.parts.state = State::Unsplit(splitter);
+        self.parts.values.clear();
+        Ok(())
+    }
+
+    /// Sets a field by its number. Unset fields come in front of it where it is above the last one.
+    /// The whole text is rebuilt of the fields with OFS between.
+    ///
+    /// Fails with `Fault::FieldNumber` exactly where the number is not 1 to 65,535, with
+    /// `Fault::TextTooLong` exactly where the whole text would have more than `MOST_BYTES` bytes,
+    /// and with `Fault::Memory` where memory is refused; then the record is as it was.
+    pub fn set_field(&mut self, n: i64, value: Value, ofs: &[u8]) -> Result<(), Fault>
+        ensures ok { OnOk result (SetsField self.old n value ofs.now self.new) }
+        ensures err { OnErr result (IsKept self.old self.new) }
+        ensures fault { IfErr result (λ e. SetsNoField self.old n value ofs.now e) }
+    {
+        let at = field_place(n)?;
+        own_parts(&mut self.parts, self.whole.bytes())?;
+        let alloc = *self.parts.values.allocator();
+        let text = put(alloc, &mut self.parts.values, at, value, ofs)?;
+        self.whole = Octets::new(text);
+        Ok(())
+    }
+
+    /// Sets NF, the number of fields. Fields above it go, and unset ones are added below it. The
+    /// whole text is rebuilt of the fields with OFS between.
+    ///
+    /// Fails with `Fault::FieldNumber` exactly where the number is not 0 to 65,535, with
+    /// `Fault::TextTooLong` exactly where the whole text would have more than `MOST_BYTES` bytes,
+    /// and with `Fault::Memory` where memory is refused; then the record is as it was.
+    pub fn set_count(&mut self, n: i64, ofs: &[u8]) -> Result<(), Fault>
+        ensures ok { OnOk result (SetsCount self.old n ofs.now self.new) }
+        ensures err { OnErr result (IsKept self.old self.new) }
+        ensures fault { IfErr result (λ e. SetsNoCount self.old n ofs.now e) }
+    {
+        let count = place(n)?;
+        own_parts(&mut self.parts, self.whole.bytes())?;
+        let alloc = *self.parts.values.allocator();
+        let text = set_len(alloc, &mut self.parts.values, count, ofs)?;
+        self.whole = Octets::new(text);
+        Ok(())
+    }
+
+    /// The value of a field by its number: 0 is the whole text, and a field above the last one is
+    /// unset. The record stays the same.
+    ///
+    /// Fails with `Fault::FieldNumber` exactly where the number is not 0 to 65,535, and with
+    /// `Fault::Memory` where memory is refused.
+    pub fn get(&mut self, n: i64) -> Result<Value, Fault>
+        ensures ok { IfOk result (λ v. (k : ℕ) × (place_of n ≡ Ok k) × IsValueAt self.new k v) }
+        ensures kept { IsKept self.old self.new }
+        ensures fault { IfErr result (λ e. (e ≡ Fault.Memory)
+            ⊎ ((e ≡ Fault.FieldNumber) × (place_of n ≡ Err Fault.FieldNumber))) }
+    {
+        let number = place(n)?;
+        if number == 0 {
+            let alloc = *self.parts.values.allocator();
+            return Ok(Value::Input(self.whole.copy(alloc)?));
+        }
+        split_parts(&mut self.parts, self.whole.bytes())?;
+        field_at(&self.parts, self.whole.bytes(), number - 1)
+    }
+
+    /// NF, the number of fields. The record stays the same.
+    ///
+    /// Fails with `Fault::Memory` alone, where memory is refused.
+    pub fn count(&mut self) -> Result<i64, Fault>
+        ensures ok { IfOk result (λ n. (values : List Value) × HasFields self.new values × (n ≡ pos (length values))) }
+        ensures kept { IsKept self.old self.new }
+        ensures fault { IfErr result (λ e. e ≡ Fault.Memory) }
+    {
+        split_parts(&mut self.parts, self.whole.bytes())?;
+        Ok(field_count(&self.parts) as i64)
+    }
+}
