@@ -1,12 +1,15 @@
 //! Work to be timed by hand, beside another awk. The words: `tokens`, for the number of tokens of the
-//! script on standard input, or `format N`, for N lines as `printf` makes them.
+//! script on standard input; `format N`, for N lines as `printf` makes them; `log N`, for N lines like
+//! those of a log; `match ERE` or `find ERE`, for the number of lines of standard input that it matches.
 #![tactic(auto)]
 
 use anyhow::{Result, bail};
+use awk_ere::Ere;
 use awk_format::format;
 use awk_text::octets::Octets;
 use awk_text::value::Value;
 use awk_tokens::tokens;
+use memchr::memchr;
 use std::alloc::Global;
 use std::io::{BufWriter, Read, Write};
 
@@ -31,13 +34,103 @@ fn print_lines<W: Write>(alloc: Global, out: &mut W, count: i64) -> Result<()> {
     Ok(())
 }
 
+const NAMES: [&[u8]; 8] = [
+    b"alpha.example",
+    b"backup",
+    b"cache-7",
+    b"db.primary",
+    b"edge",
+    b"frontend",
+    b"gateway-2",
+    b"worker",
+];
+
+const EVENTS: [&[u8]; 8] = [
+    b"session opened for user",
+    b"connection closed by peer",
+    b"request served in ms",
+    b"timeout waiting for lock",
+    b"retrying after failure",
+    b"checksum verified on block",
+    b"queue drained, items",
+    b"certificate renewed for host",
+];
+
+/// The next number of a row that the seed begins (a linear congruential generator).
+fn next(seed: u64) -> u64 {
+    seed.wrapping_mul(6364136223846793005)
+        .wrapping_add(1442695040888963407)
+}
+
+fn print_log<W: Write>(alloc: Global, out: &mut W, count: i64) -> Result<()> {
+    let mut seed = 20261122u64;
+    for number in 0..count {
+        seed = next(seed);
+        let name = NAMES[(seed >> 40) as usize % 8];
+        let event = EVENTS[(seed >> 50) as usize % 8];
+        let second = number % 86400;
+        let address = (seed >> 33) % 256;
+        let line = std::format!(in alloc;
+            "Nov 22 {second} host[{}]: 10.0.{address}.{} ",
+            (seed >> 20) % 65536,
+            (seed >> 12) % 256
+        )?;
+        out.write_all(line.as_bytes())?;
+        out.write_all(name)?;
+        out.write_all(b" ")?;
+        out.write_all(event)?;
+        let end = std::format!(in alloc; " {} id={seed}\n", (seed >> 25) % 65536)?;
+        out.write_all(end.as_bytes())?;
+    }
+    Ok(())
+}
+
+/// How many lines match.
+fn count_lines(ere: &Ere, text: &[u8], finds: bool) -> Result<u64> {
+    let mut rest = text;
+    let mut count = 0u64;
+    for _ in 0..text.len() {
+        let Some(end) = memchr(b'\n', rest) else {
+            break;
+        };
+        let (line, tail) = rest.split_at(end);
+        let hit = if finds {
+            ere.find(line, 0)?.is_some()
+        } else {
+            ere.is_match(line)?
+        };
+        if hit {
+            count = count.saturating_add(1);
+        }
+        rest = match tail.split_first() {
+            Some((_, tail)) => tail,
+            None => break,
+        };
+    }
+    Ok(count)
+}
+
 fn main(rt: HostRuntime) -> Result<()> {
     let alloc = rt.alloc();
     let mut words = std::env::args(&rt)?;
     let _program = words.next();
     let (Some(task), count) = (words.next(), words.next()) else {
-        bail!("tokens, or format N")
+        bail!("tokens, format N, log N, match ERE or find ERE")
     };
+    if task.as_str() == "match" || task.as_str() == "find" {
+        let Some(pattern) = count else {
+            bail!("no ERE")
+        };
+        let ere = match Ere::parse(alloc, pattern.as_str().as_bytes()) {
+            Ok(ere) => ere,
+            Err(_) => bail!("not an ERE"),
+        };
+        let mut text = Vec::new(alloc);
+        rt.reader().read_to_end(&mut text)?;
+        let found = count_lines(&ere, text.as_slice(), task.as_str() == "find")?;
+        println!(rt; "{found} lines")?;
+        return Ok(());
+    }
     if task.as_str() == "tokens" {
         let mut script = Vec::new(alloc);
         rt.reader().read_to_end(&mut script)?;
@@ -50,6 +143,10 @@ fn main(rt: HostRuntime) -> Result<()> {
         None => 1,
     };
     let mut out = BufWriter::new(alloc, rt.stdout())?;
-    print_lines(alloc, &mut out, count)?;
+    if task.as_str() == "log" {
+        print_log(alloc, &mut out, count)?;
+    } else {
+        print_lines(alloc, &mut out, count)?;
+    }
     Ok(out.flush()?)
 }
