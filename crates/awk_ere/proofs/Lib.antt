@@ -17,3 +17,4 @@ pub mod Unique
 pub mod Tables
 pub mod Gathering
 pub mod Seeking
+pub mod Literals

@@ -10,6 +10,7 @@ pub mod Spelled
 pub mod Program
 pub mod Search
 pub mod Table
+pub mod Literal
 pub mod View
 pub mod Same
 pub mod Lexing

@@ -9,6 +9,7 @@ use crate::bracket::Set;
 use crate::compile::{compile, compile_scan};
 use crate::error::{EreError, Fault, MAX_BYTES, MAX_SIZE};
 use crate::front::front;
+use crate::literal::{find_text, is_literal};
 use crate::program::Step;
 use crate::search::search;
 use crate::states::{Table, make_table};
@@ -22,6 +23,8 @@ use std::marker::Model;
 #[derive(Drop)]
 pub struct Ere {
     source: Vec<u8>,
+    /// Each byte of the source stands for itself.
+    is_literal: bool,
     sets: Vec<Set>,
     program: Vec<Step>,
     /// Where the pattern begins in the program, and where it begins after any bytes.
@@ -49,7 +52,8 @@ fn read(alloc: Global, text: &[u8], sets: &mut Vec<Set>) -> Result<Part, Fault>
 }
 
 impl Model for Ere {
-    ghost use Rattle.std.specs.Prelude.{List, ℕ};
+    ghost use Rattle.std.specs.Prelude.{◌≡◌, true, List, ℕ};
+    ghost use Rattle.awk_ere.specs.Literal.{IsLiteral};
     ghost use Rattle.awk_ere.specs.Pattern.{Pattern};
     ghost use Rattle.awk_ere.specs.Table.{IsEngine};
     ghost use Rattle.awk_ere.specs.Spelled.{IsPattern};
@@ -58,7 +62,7 @@ impl Model for Ere {
 
     ghost view = { λ e. e.source.items };
 
-    ghost invariant = { λ e. (p : Pattern) × IsPattern e.source.items p × IsEngine e.sets.items e.program.items e.entry e.scan e.table p };
+    ghost invariant = { λ e. (p : Pattern) × IsPattern e.source.items p × IsEngine e.sets.items e.program.items e.entry e.scan e.table p × (e.is_literal ≡ true → IsLiteral e.source.items) };
 }
 
 impl Ere {
@@ -82,6 +86,7 @@ impl Ere {
         let source = Vec::from_slice(alloc, text)?;
         Ok(Ere {
             source,
+            is_literal: is_literal(text),
             sets,
             program,
             entry,
@@ -115,6 +120,9 @@ impl Ere {
         requires { from ≤ length text.now }
         ensures { IfOk result (λ found. Finds self.now text.now from found) }
     {
+        if self.is_literal {
+            return Ok(find_text(text, &self.source, from));
+        }
         match table::find(
             &self.sets,
             &self.program,
@@ -139,6 +147,9 @@ impl Ere {
     pub fn is_match(&self, text: &[u8]) -> Result<bool, Memory>
         ensures { IfOk result (λ b. HasMatch self.now text.now b) }
     {
+        if self.is_literal {
+            return Ok(find_text(text, &self.source, 0).is_some());
+        }
         match table::has_match(
             &self.sets,
             &self.program,

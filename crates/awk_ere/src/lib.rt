@@ -8,6 +8,7 @@ pub mod error;
 mod escape;
 mod front;
 mod interval;
+mod literal;
 mod node;
 mod program;
 mod search;

@@ -9,4 +9,4 @@ invariant_of-result c =
     let short : length c.args.text.now ≤ 4096 = omega arith in
     let compiled = rw (c.in_ok-push.ensures.items, c.new-program.ensures.items) at c.in_ok-entry.ensures in
     let made = accepted c.args.text.now c.read.new.sets.items c.in_ok-node.field-0 c.compile.new.program.items c.compile_scan.new.program.items c.in_ok-entry.entry c.in_ok-scan.scan short whole small compiled c.in_ok-scan.ensures in
-    rw c.in_ok-source.ensures.items (made.pattern, made.is, record { machine = made.machine; scanner = made.scanner; built = rw (c.deref.ensures.value, c.deref-2.ensures.value) at c.in_ok-table.ensures })
+    rw c.in_ok-source.ensures.items (made.pattern, made.is, record { machine = made.machine; scanner = made.scanner; built = rw (c.deref.ensures.value, c.deref-2.ensures.value) at c.in_ok-table.ensures }, c.is_literal.ensures)
