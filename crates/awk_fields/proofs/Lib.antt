@@ -6,3 +6,4 @@ pub mod Seeks
 pub mod Places
 pub mod HeadLemmas
 pub mod RowLemmas
+pub mod StreamLemmas

@@ -1,14 +1,13 @@
 -- Records, before and after they are split.
-use Rattle.std.proofs.Common.{◌≡◌, ◌≢◌, ◌⊎◌, ℕ, zero, suc, ◌+◌, ◌-◌, ◌≤◌, List, [], ◌∷◌, ◌++◌, length, map, take, set, get_or, replicate, slice_index_or, sym, ap, ap₂, subst, refl, ◌∙◌, arith, inl, inr}
+use Rattle.std.proofs.Common.{◌≡◌, ◌≢◌, ℕ, zero, suc, ◌+◌, ◌-◌, List, [], ◌∷◌, length, map, take, set, get_or, replicate, slice_index_or, sym, ap, subst, refl, ◌∙◌, arith}
 use Rattle.std.proofs.lemmas.List.{set-set, set-get_or, take_at}
 use Rattle.awk_text.specs.declared.value.Value.{Value}
 use Rattle.awk_text.specs.declared.value.Value.TheVariants.{Unset, Input}
 use Rattle.awk_fields.specs.Separators.{Separator}
 use Rattle.awk_fields.specs.Fields.{Fields}
 use Rattle.awk_fields.specs.Spans.{AreSpans, part}
-use Rattle.awk_fields.specs.Rows.{Row, known, AreHeld, HasFields, IsKept, IsValueAt, padded}
-use Rattle.awk_fields.specs.Parts.{ArePartsKept, IsSplitBy, held_by, row_of, values_of}
-use Rattle.awk_fields.specs.declared.parts.Parts.{Parts}
+use Rattle.awk_fields.specs.Rows.{Row, AreHeld, HasFields, IsValueAt, padded}
+use Rattle.awk_fields.specs.Parts.{IsSplitBy, held_by}
 use Rattle.awk_fields.specs.declared.parts.State.{State}
 use Rattle.awk_fields.specs.declared.parts.State.TheVariants.{Unsplit, Spans, Values}
 use Rattle.awk_fields.specs.declared.spans.Span.{Span}

@@ -59,7 +59,18 @@ abbrev pub head : List ℕ → List ℕ → Bool → Head
 head [] unread ended = paragraph unread ended
 head (c ∷ rs) unread ended = line c unread ended
 
--- The records of a whole stream: the first of what is left again and again, up to the end.
+-- these texts are the records that stand first, one behind the other, and this is left behind them
+abbrev pub FirstRecords : List ℕ → Bool → List ℕ → List (List ℕ) → List ℕ → Type 0
+FirstRecords rs ended unread [] rest = unread ≡ rest
+FirstRecords rs ended unread (text ∷ texts) rest = (after : List ℕ) × (head rs unread ended ≡ taken text after) × FirstRecords rs ended after texts rest
+
+-- the records of a whole stream: the first of what is left again and again, up to the end
 abbrev pub Records : List ℕ → List ℕ → List (List ℕ) → Type 0
-Records rs unread [] = head rs unread true ≡ done
-Records rs unread (text ∷ texts) = (rest : List ℕ) × (head rs unread true ≡ taken text rest) × Records rs rest texts
+Records rs whole texts = (rest : List ℕ) × FirstRecords rs true whole texts rest × (head rs rest true ≡ done)
+
+-- no record stands first, and that is no fault
+abbrev pub IsStopped : Head → Type 0
+IsStopped (taken text rest) = ⊥
+IsStopped need_more = Unit {0}
+IsStopped done = Unit {0}
+IsStopped too_long = ⊥

@@ -1,5 +1,5 @@
 -- What contracts see of a record.
-use Rattle.std.specs.Prelude.{◌≡◌, ℕ, List, [], map, All}
+use Rattle.std.specs.Prelude.{ℕ, List, [], map, All}
 use Rattle.awk_text.specs.declared.value.Value.{Value}
 use Rattle.awk_text.specs.declared.value.Value.TheVariants.{Input}
 use Rattle.awk_fields.specs.Rows.{Held, unsplit, known, Row, IsKept}

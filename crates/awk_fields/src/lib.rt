@@ -9,7 +9,9 @@ pub mod reader;
 pub mod row;
 mod spans;
 pub mod splitter;
+pub mod stream;
 
 pub use reader::Reader as Reader;
 pub use row::Record as Record;
 pub use splitter::{Splitter as Splitter, split as split};
+pub use stream::records as records;

@@ -1,4 +1,4 @@
-use Rattle.std.proofs.Common.{◌≡◌, ◌-◌, ℕ, List, Ok, slice_index_or, sym, ap, ◌∙◌, to_z-of_z}
+use Rattle.std.proofs.Common.{◌-◌, ℕ, List, slice_index_or, sym, ap, ◌∙◌, to_z-of_z}
 use Rattle.std.proofs.lemmas.Result.{IfOk-weaker}
 use Rattle.awk_text.specs.declared.value.Value.TheVariants.{Unset}
 use Rattle.awk_fields.specs.Rows.{place_of}
