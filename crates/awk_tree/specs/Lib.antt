@@ -1,0 +1,5 @@
+pub mod Tree
+pub mod View
+pub mod Terminals
+pub mod Input
+pub mod Expressions

@@ -1,0 +1,73 @@
+// Tokens as the grammar sees them.
+
+use crate::operators::{Assignment, Builtin, Step};
+
+/// What a token is to the grammar.
+#[derive(Clone, Copy, Drop)]
+pub enum Terminal {
+    /// No token. To an expression a newline, `;` and `}` are the same: they end it.
+    End,
+    Newline,
+    Semicolon,
+    CloseBrace,
+    OpenBrace,
+    OpenParen,
+    CloseParen,
+    OpenBracket,
+    CloseBracket,
+    Comma,
+    Number,
+    Quoted,
+    Pattern,
+    Name,
+    CallName,
+    Builtin(Builtin),
+    Plus,
+    Minus,
+    Star,
+    Slash,
+    Percent,
+    Caret,
+    Not,
+    Greater,
+    Less,
+    Bar,
+    /// `|` directly before `getline`.
+    BarGetline,
+    Question,
+    Colon,
+    Tilde,
+    Dollar,
+    Assign(Assignment),
+    Equal,
+    LessOrEqual,
+    GreaterOrEqual,
+    NotEqual,
+    NotTilde,
+    Step(Step),
+    And,
+    Or,
+    Append,
+    /// The word `BEGIN`.
+    BeginWord,
+    /// The word `END`.
+    EndWord,
+    Break,
+    Continue,
+    Delete,
+    Do,
+    Else,
+    Exit,
+    For,
+    Function,
+    Getline,
+    If,
+    In,
+    Next,
+    Print,
+    Printf,
+    Return,
+    While,
+    /// A token that no line of the grammar has.
+    Refused,
+}
