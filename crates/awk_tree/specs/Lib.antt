@@ -3,3 +3,5 @@ pub mod View
 pub mod Terminals
 pub mod Input
 pub mod Expressions
+pub mod Statements
+pub mod Canon
