@@ -227,9 +227,13 @@ module _ (depth : ℕ) (inner : Goal → Parser Tree) where
   unfoldable pub of_two : Place → Builtin → Parser Tree
   of_two place which = one w.OpenParen >> (whole >>= λ x. next_in_list >>= λ y. one w.CloseParen >> pure (t.builtin place which (trees_of (x ∷ y ∷ []))))
 
+  -- [ , expr ] )
+  unfoldable pub last_next : Parser (Option Tree)
+  last_next = perhaps_next >>= λ x. one w.CloseParen >> pure x
+
   -- ( expr , expr [ , expr ] )
   unfoldable pub of_two_or_three : Place → Builtin → Parser Tree
-  of_two_or_three place which = one w.OpenParen >> (whole >>= λ x. next_in_list >>= λ y. perhaps_next >>= λ z. one w.CloseParen >> pure (t.builtin place which (trees_of (x ∷ y ∷ listed z))))
+  of_two_or_three place which = one w.OpenParen >> (whole >>= λ x. next_in_list >>= λ y. last_next >>= λ z. pure (t.builtin place which (trees_of (x ∷ y ∷ listed z))))
 
   -- ( list )
   unfoldable pub of_list : Place → Builtin → Parser Tree
@@ -245,15 +249,19 @@ module _ (depth : ℕ) (inner : Goal → Parser Tree) where
 
   -- ( expr , NAME [ , expr ] )
   unfoldable pub split_of : Place → Parser Tree
-  split_of place = one w.OpenParen >> (whole >>= λ x. one w.Comma >> (skipped (one w.Name) >>= λ token. perhaps_next >>= λ y. one w.CloseParen >> pure (t.split place x (name_of token) (perhaps_of y))))
+  split_of place = one w.OpenParen >> (whole >>= λ x. one w.Comma >> (skipped (one w.Name) >>= λ token. last_next >>= λ y. pure (t.split place x (name_of token) (perhaps_of y))))
 
   -- [ , lvalue ]
   unfoldable pub perhaps_lvalue : Parser (Option Tree)
   perhaps_lvalue = choice (λ kind. if is kind w.Comma then (one w.Comma >> (skipped (inner goal.Lvalue) >>= λ x. pure (Some x))) else pure None)
 
+  -- [ , lvalue ] )
+  unfoldable pub last_lvalue : Parser (Option Tree)
+  last_lvalue = perhaps_lvalue >>= λ x. one w.CloseParen >> pure x
+
   -- ( expr , expr [ , lvalue ] )
   unfoldable pub substitute_of : Place → Bool → Parser Tree
-  substitute_of place all = one w.OpenParen >> (whole >>= λ x. next_in_list >>= λ y. perhaps_lvalue >>= λ z. one w.CloseParen >> pure (t.substitute place all x y (perhaps_of z)))
+  substitute_of place all = one w.OpenParen >> (whole >>= λ x. next_in_list >>= λ y. last_lvalue >>= λ z. pure (t.substitute place all x y (perhaps_of z)))
 
   abbrev pub builtin_by : Place → Builtin → Parser Tree
   builtin_by place b.Close = of_one place b.Close
@@ -460,11 +468,13 @@ module _ (depth : ℕ) (inner : Goal → Parser Tree) where
   unfoldable pub or_rest : Bool → Tree → Parser Tree
   or_rest in_print left = disjuncts in_print >>= λ xs. pure (or_of left xs)
 
+  -- ? expr :
+  unfoldable pub then_branch : Bool → Parser Tree
+  then_branch in_print = one w.Question >> (inner (goal.Expr in_print) >>= λ x. one w.Colon >> pure x)
+
   -- cond = or [ ? expr : expr ]
   unfoldable pub choose_rest : Bool → Tree → Parser Tree
-  choose_rest in_print left = choice (λ kind.
-      if is kind w.Question then (one w.Question >> (inner (goal.Expr in_print) >>= λ x. one w.Colon >> (inner (goal.Expr in_print) >>= λ y. pure (t.choose left x y))))
-      else pure left)
+  choose_rest in_print left = choice (λ kind. if is kind w.Question then (then_branch in_print >>= λ x. inner (goal.Expr in_print) >>= λ y. pure (t.choose left x y)) else pure left)
 
   -- from the first operand of a chain on, to the end of an expression
   unfoldable pub expr_rest : Bool → Tree → Parser Tree

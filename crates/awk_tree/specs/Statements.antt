@@ -49,23 +49,24 @@ abbrev pub is_several : {A : Type 0} → List A → Bool
 is_several [] = false
 is_several (x ∷ xs) = true
 
--- ---- rules, where as many levels are left as `depth` says, `inner` reads an expression that is
--- nested one level deeper, and `body` a statement
+-- ---- simple statements
 
-module _ (depth : ℕ) (inner : Goal → Parser Tree) (body : Nested → Parser Statement) where
+-- a simple statement ends with `;`, a newline, or before `}`
+abbrev pub ended_by : Statement → Terminal → Parser Statement
+ended_by x w.Semicolon = any >> pure x
+ended_by x w.Newline = any >> pure x
+ended_by x w.CloseBrace = pure x
+ended_by x other = refuse
+
+unfoldable pub ended : Statement → Parser Statement
+ended x = by_look (ended_by x)
+
+-- where as many levels are left as `depth` says, and `inner` reads an expression that is nested one
+-- level deeper
+module _ (depth : ℕ) (inner : Goal → Parser Tree) where
   -- an expression at the level of the statement
   abbrev here : Bool → Parser Tree
   here in_print = expression depth inner in_print
-
-  -- a simple statement ends with `;`, a newline, or before `}`
-  abbrev pub ended_by : Statement → Terminal → Parser Statement
-  ended_by x w.Semicolon = any >> pure x
-  ended_by x w.Newline = any >> pure x
-  ended_by x w.CloseBrace = pure x
-  ended_by x other = refuse
-
-  unfoldable pub ended : Statement → Parser Statement
-  ended x = by_look (ended_by x)
 
   -- [ expr ], where the statement ends behind it
   unfoldable pub perhaps_here : Parser (Option Tree)
@@ -133,35 +134,38 @@ module _ (depth : ℕ) (inner : Goal → Parser Tree) (body : Nested → Parser 
   unfoldable pub simple : Parser Statement
   simple = choice simple_by
 
-  -- ---- statements that hold others
+  -- ---- parts of the statements that hold others
 
   -- ( expr )
   unfoldable pub condition : Parser Tree
   condition = one w.OpenParen >> (inner (goal.Expr false) >>= λ x. one w.CloseParen >> pure x)
 
+  -- [ expr ] and the sign behind it
+  unfoldable pub perhaps_until : Terminal → Parser (Option Tree)
+  perhaps_until end = by_look (λ kind. if is kind end then (any >> pure None) else (inner (goal.Expr false) >>= λ x. exactly end >> pure (Some x)))
+
+-- ---- statements that hold others. `body` reads a statement that is nested one level deeper.
+
+module _ (depth : ℕ) (inner : Goal → Parser Tree) (body : Nested → Parser Statement) where
   -- an `else` belongs to the nearest `if`
   unfoldable pub else_rest : Tree → Statement → Parser Statement
   else_rest x s = λ ts. if else_next ts then (any >> (body nested.Body >>= λ u. pure (t.if_else x s u))) (past ts) else Ok (t.if_then x s, ts)
 
   -- if ( expr ) body [ else body ]
   unfoldable pub if_of : Parser Statement
-  if_of = one w.If >> (condition >>= λ x. body nested.Body >>= λ s. else_rest x s)
+  if_of = one w.If >> (condition depth inner >>= λ x. body nested.Body >>= λ s. else_rest x s)
 
   -- while ( expr ) body
   unfoldable pub while_of : Parser Statement
-  while_of = one w.While >> (condition >>= λ x. body nested.Body >>= λ s. pure (t.while_do x s))
+  while_of = one w.While >> (condition depth inner >>= λ x. body nested.Body >>= λ s. pure (t.while_do x s))
 
   -- do body while ( expr )
   unfoldable pub do_of : Parser Statement
-  do_of = one w.Do >> (body nested.Body >>= λ s. skipped (one w.While) >> (condition >>= λ x. ended (t.do_while s x)))
-
-  -- [ expr ] and the sign behind it
-  unfoldable pub perhaps_until : Terminal → Parser (Option Tree)
-  perhaps_until end = by_look (λ kind. if is kind end then (any >> pure None) else (inner (goal.Expr false) >>= λ x. exactly end >> pure (Some x)))
+  do_of = one w.Do >> (body nested.Body >>= λ s. skipped (one w.While) >> (condition depth inner >>= λ x. ended (t.do_while s x)))
 
   -- [ expr ] ; [ expr ] ; [ expr ] ) body
   unfoldable pub loop_rest : Parser Statement
-  loop_rest = perhaps_until w.Semicolon >>= λ x. perhaps_until w.Semicolon >>= λ y. perhaps_until w.CloseParen >>= λ z. body nested.Body >>= λ s. pure (t.for_loop x y z s)
+  loop_rest = perhaps_until depth inner w.Semicolon >>= λ x. perhaps_until depth inner w.Semicolon >>= λ y. perhaps_until depth inner w.CloseParen >>= λ z. body nested.Body >>= λ s. pure (t.for_loop x y z s)
 
   -- NAME in NAME ) body
   unfoldable pub each_rest : Place → Parser Statement
@@ -182,7 +186,7 @@ module _ (depth : ℕ) (inner : Goal → Parser Tree) (body : Nested → Parser 
   statement_by w.While = while_of
   statement_by w.Do = do_of
   statement_by w.For = for_of
-  statement_by other = simple >>= ended
+  statement_by other = simple depth inner >>= ended
 
   unfoldable pub statement_here : Parser Statement
   statement_here = by_look statement_by
