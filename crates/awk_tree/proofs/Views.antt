@@ -242,4 +242,6 @@ pub statement-ForIn : (p : Place) (k : Name) (a : Name) (b : code.Statement) →
 unfolding statement_layer
 statement-ForIn p k a b = statement_opened _ _ (s.rolls-ForIn p k a b)
 
-pub ruleset views = (view-Number, view-Quoted, view-Pattern, view-Name, view-Element, view-Field, view-Paren, view-Call, view-Builtin, view-Length, view-Split, view-Substitute, view-Getline, view-Before, view-After, view-Signed, view-Power, view-Product, view-Sum, view-Concat, view-Pipe, view-Compare, view-Match, view-Group, view-In, view-And, view-Or, view-Choice, view-Assign, statement-Empty, statement-Expr, statement-Print, statement-Printf, statement-Delete, statement-Break, statement-Continue, statement-Next, statement-Exit, statement-Return, statement-Block, statement-If, statement-IfElse, statement-While, statement-Do, statement-For, statement-ForIn)
+pub ruleset views = (view-Number, view-Quoted, view-Pattern, view-Name, view-Element, view-Field, view-Paren, view-Call, view-Builtin, view-Length, view-Split, view-Substitute, view-Getline, view-Before, view-After, view-Signed, view-Power, view-Product, view-Sum, view-Concat, view-Pipe, view-Compare, view-Match, view-Group, view-In, view-And, view-Or, view-Choice, view-Assign)
+
+pub ruleset statement_views = (statement-Empty, statement-Expr, statement-Print, statement-Printf, statement-Delete, statement-Break, statement-Continue, statement-Next, statement-Exit, statement-Return, statement-Block, statement-If, statement-IfElse, statement-While, statement-Do, statement-For, statement-ForIn)

@@ -49,6 +49,15 @@ abbrev pub is_several : {A : Type 0} → List A → Bool
 is_several [] = false
 is_several (x ∷ xs) = true
 
+-- as many as there are up to where a list ends, with what means nothing before each; the number
+-- bounds the turns
+unfoldable pub until_from : {A : Type 0} → (List Token → List Token) → (List Token → Bool) → Parser A → ℕ → Parser (List A)
+until_from gap ends part zero = λ ts. if ends (gap ts) then Ok ([], gap ts) else refuse (gap ts)
+until_from gap ends part (suc n) = λ ts. if ends (gap ts) then Ok ([], gap ts) else (part >>= λ x. until_from gap ends part n >>= λ xs. pure (x ∷ xs)) (gap ts)
+
+abbrev pub many_until : {A : Type 0} → (List Token → List Token) → (List Token → Bool) → Parser A → Parser (List A)
+many_until gap ends part = λ ts. until_from gap ends part (length ts) ts
+
 -- ---- simple statements
 
 -- a simple statement ends with `;`, a newline, or before `}`
@@ -193,13 +202,9 @@ module _ (depth : ℕ) (inner : Goal → Parser Tree) (body : Nested → Parser 
 
   -- ---- blocks
 
-  -- as many statements as there are up to a `}`, with newlines before each; the number bounds the turns
-  unfoldable pub statements_from : ℕ → Parser (List Statement)
-  statements_from zero = λ ts. if is (look (skip ts)) w.CloseBrace then Ok ([], skip ts) else refuse (skip ts)
-  statements_from (suc n) = λ ts. if is (look (skip ts)) w.CloseBrace then Ok ([], skip ts) else (statement_here >>= λ x. statements_from n >>= λ xs. pure (x ∷ xs)) (skip ts)
-
+  -- as many as there are up to a `}`, with newlines before each
   unfoldable pub statements : Parser (List Statement)
-  statements = λ ts. statements_from (length ts) ts
+  statements = many_until skip (λ ts. is (look ts) w.CloseBrace) statement_here
 
   -- { statement } }
   unfoldable pub braces : Parser (List Statement)
@@ -276,11 +281,6 @@ abbrev pub is_done : List Token → Bool
 is_done [] = true
 is_done (u ∷ ts) = false
 
--- as many items as there are, with newlines and `;` before each; the number bounds the turns
-unfoldable pub items_from : ℕ → Parser (List Entry)
-items_from zero = λ ts. if is_done (past ts) then Ok ([], []) else refuse (past ts)
-items_from (suc n) = λ ts. if is_done (past ts) then Ok ([], []) else (item >>= λ x. items_from n >>= λ xs. pure (x ∷ xs)) (past ts)
-
--- a whole script
+-- a whole script: as many items as there are, with newlines and `;` before each
 unfoldable pub script : Parser (List Entry)
-script = λ ts. items_from (length ts) ts
+script = many_until past is_done item
