@@ -1,9 +1,15 @@
 pub mod BasesLemmas
+pub mod BlocksLemmas
+pub mod CellsLemmas
 pub mod DecisionsLemmas
 pub mod DividesLemmas
 pub mod DivisionLemmas
+pub mod ElementsLemmas
+pub mod FlatLemmas
 pub mod NamesLemmas
-pub mod PlacesLemmas
-pub mod SymbolsLemmas
+pub mod PlainLemmas
+pub mod TablesLemmas
 pub mod TextLemmas
 pub mod TreeLemmas
+pub mod WalksLemmas
+pub mod WidthLemmas

@@ -5,8 +5,12 @@ pub mod Divides
 pub mod Fits
 pub mod Patterns
 pub mod Bases
-pub mod Places
+pub mod Plain
+pub mod Tokens
 pub mod Symbols
+pub mod Cells
+pub mod Blocks
+pub mod Tables
 pub mod Short
 pub mod Rulebook
 pub mod Decisions

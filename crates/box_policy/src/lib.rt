@@ -7,5 +7,7 @@ mod names;
 pub mod path;
 pub mod policy;
 mod reading;
+mod table;
 #[cfg(test)]
 mod tests;
+mod tokens;

@@ -1,19 +1,27 @@
 // Patterns against subjects, in one walk over the subject and without memory: of each place in the
-// pattern it is kept whether the walk has reached it.
-ghost use Rattle.std.specs.Prelude.{◌≡◌, ◌<◌, ◌≤◌, ◌+◌, ◌&&◌, ◌||◌, ◌∷◌, [], not, length, map, Some, None, MatchOption, IfSome, codes, true, false, replicate, ◌-◌};
+// pattern a bit says whether the walk has reached it.
+ghost use Rattle.std.specs.Prelude.{◌≡◌, ◌<◌, ◌≤◌, ◌+◌, ◌*◌, ◌++◌, ◌∷◌, [], length, map, List, MatchOption, Some, None, codes, replicate};
+ghost use Rattle.std.specs.List.{list_all};
 ghost use Rattle.std.specs.Str.{bytes_eq};
 ghost use Rattle.std.specs.Bool.{Decides};
-ghost use Rattle.box_policy.specs.Division.{fits};
-ghost use Rattle.box_policy.specs.Divides.{Divides};
-ghost use Rattle.std.specs.List.{list_any, slice_index_or};
-ghost use Rattle.box_policy.specs.Paths.{names, names_under};
+ghost use Rattle.box_policy.specs.declared.matching.Sort.TheVariants.{Component};
+ghost use Rattle.box_policy.specs.declared.tokens.Token.{Token as TokenOf};
+ghost use Rattle.box_policy.specs.declared.tokens.Token.TheVariants.{Open, Byte, Close};
 ghost use Rattle.box_policy.specs.Bases.{IsBehind};
+ghost use Rattle.box_policy.specs.Blocks.{has};
+ghost use Rattle.box_policy.specs.Cells.{row, never, reach, row_fits, ones};
+ghost use Rattle.box_policy.specs.Division.{Symbol as SymbolOf, fits};
+ghost use Rattle.box_policy.specs.Divides.{Divides};
 ghost use Rattle.box_policy.specs.NamesLeft.{names_left};
-ghost use Rattle.box_policy.specs.Places.{some_fits, stepped};
-ghost use Rattle.box_policy.specs.Patterns.{is_name_byte, is_word_byte, symbols, component_symbol, path_symbols};
-ghost use Rattle.box_policy.specs.Symbols.{test_of, symbol_of};
+ghost use Rattle.box_policy.specs.Paths.{names, names_under};
+ghost use Rattle.box_policy.specs.Patterns.{symbols, component_symbol, base_symbol, path_symbols};
+ghost use Rattle.box_policy.specs.Tables.{IsTable, Holds};
+ghost use Rattle.box_policy.specs.Tokens.{lifted, piece_symbols, flat, stream, width};
+ghost use Rattle.box_policy.specs.Plain.{is_wild, is_plain_pattern};
 
 use crate::names::{Names, first_name, is_absolute};
+use crate::table::{Block, is_none_reached, is_reached, put, start, step, walk_text};
+use crate::tokens::{Element, Token, next_element};
 
 /// What a pattern of bytes is compared with.
 #[derive(Clone, Copy)]
@@ -23,211 +31,19 @@ pub(crate) enum Sort {
     Name,
 }
 
-/// Which bytes a symbol stands for.
-#[derive(Clone, Copy)]
-enum Test {
-    Any,
-    Word,
-    Name,
-    Byte(u8),
-}
-
-/// One byte that passes the test, or a run of such bytes.
-#[derive(Clone, Copy)]
-struct Symbol {
-    is_run: bool,
-    test: Test,
-}
-
-impl Symbol {
-    fn run(test: Test) -> Symbol
-        ensures { result ≡ record { is_run = true; test = test } }
-    {
-        Symbol { is_run: true, test }
+/// Has the pattern stand from this place on, and tells the place behind it.
+fn put_text(blocks: &mut [Block], mut at: usize, sort: Sort, pattern: &[u8]) -> usize
+    requires { at + length pattern.now < 64 * length blocks.old }
+    ensures len { length blocks.new ≡ length blocks.old }
+    ensures holds { (rest whole : List (SymbolOf TokenOf)) → Holds sort blocks.old at (map lifted (symbols sort pattern.now) ++ rest) whole → Holds sort blocks.new result rest whole }
+    ensures small { result ≤ at + length pattern.now }
+{
+    let mut left = pattern;
+    while let Some((element, after)) = next_element(sort, left) {
+        at = put(blocks, at, element);
+        left = after;
     }
-
-    fn one(test: Test) -> Symbol
-        ensures { result ≡ record { is_run = false; test = test } }
-    {
-        Symbol {
-            is_run: false,
-            test,
-        }
-    }
-}
-
-pub(crate) fn is_name_byte(byte: u8) -> bool
-    ensures { result ≡ is_name_byte byte }
-{
-    byte.is_ascii_alphanumeric() || byte == b'_'
-}
-
-fn is_word_byte(byte: u8) -> bool
-    ensures { result ≡ is_word_byte byte }
-{
-    byte.is_ascii_alphanumeric() || b"_-./:,=+@%".as_slice().contains(&byte)
-}
-
-fn passes(test: Test, byte: u8) -> bool
-    ensures { result ≡ test_of test byte }
-{
-    match test {
-        Test::Any => true,
-        Test::Word => is_word_byte(byte),
-        Test::Name => is_name_byte(byte),
-        Test::Byte(other) => byte == other,
-    }
-}
-
-/// The symbol of a byte that stands alone.
-fn symbol_at(sort: Sort, byte: u8) -> Symbol
-    ensures { symbols sort (byte ∷ []) ≡ symbol_of result ∷ [] }
-{
-    match sort {
-        Sort::Component if byte == b'*' => Symbol::run(Test::Any),
-        Sort::Component if byte == b'?' => Symbol::one(Test::Any),
-        Sort::Command if byte == b'*' => Symbol::run(Test::Word),
-        Sort::Name if byte == b'*' => Symbol::run(Test::Name),
-        _ => Symbol::one(Test::Byte(byte)),
-    }
-}
-
-/// The first symbol of a pattern, and what stands behind it.
-fn next_symbol(sort: Sort, pattern: &[u8]) -> Option<(Symbol, &[u8])>
-    ensures symbol { MatchOption result (symbols sort pattern.now ≡ []) (λ next. symbols sort pattern.now ≡ symbol_of next.0 ∷ symbols sort next.1.now) }
-    ensures shorter { IfSome result (λ next. length next.1.now < length pattern.now) }
-{
-    match (sort, pattern) {
-        (Sort::Command, [b'*', b'*', rest @ ..]) => Some((Symbol::run(Test::Any), rest)),
-        (_, [first, rest @ ..]) => Some((symbol_at(sort, *first), rest)),
-        (_, []) => None,
-    }
-}
-
-/// What one symbol makes of a place: whether it is reached behind the element, whether a run may
-/// end before the next one, and whether the element leads to the next one.
-#[derive(Clone, Copy)]
-struct Pass {
-    place: bool,
-    skipped: bool,
-    moved: bool,
-}
-
-fn over_symbol(is_run: bool, here: bool, passed: bool, moved: bool) -> Pass
-    ensures place { result.place ≡ (moved || (is_run && passed)) }
-    ensures skipped { result.skipped ≡ (is_run && here) }
-    ensures moved { result.moved ≡ (not is_run && passed) }
-{
-    if is_run {
-        Pass {
-            place: moved || passed,
-            skipped: here,
-            moved: false,
-        }
-    } else {
-        Pass {
-            place: moved,
-            skipped: false,
-            moved: passed,
-        }
-    }
-}
-
-fn is_reached(places: &[bool], at: usize, skipped: bool) -> bool
-    requires { at < length places.now }
-    ensures { result ≡ (slice_index_or places.now at false || skipped) }
-{
-    places[at] || skipped
-}
-
-fn is_any_reached(places: &[bool]) -> bool
-    ensures { result ≡ list_any (λ b. b) places.now }
-{
-    places.iter().any(|b| *b)
-}
-
-/// Reaches the first place and no other.
-fn start(places: &mut [bool])
-    requires { 0 < length places.old }
-    ensures { places.new ≡ true ∷ replicate (length places.old - 1) false }
-{
-    places.fill(false);
-    places[0] = true;
-}
-
-fn is_led(here: bool, test: Test, byte: u8) -> bool
-    ensures { result ≡ (here && test_of test byte) }
-{
-    here && passes(test, byte)
-}
-
-/// The places that are reached behind one more byte.
-fn step(sort: Sort, pattern: &[u8], places: &mut [bool], byte: u8)
-    requires { length pattern.now < length places.old }
-    ensures { places.new ≡ stepped byte false false places.old (symbols sort pattern.now) }
-{
-    let mut rest = pattern;
-    let mut at = 0;
-    let mut skipped = false;
-    let mut moved = false;
-    while let Some((symbol, after)) = next_symbol(sort, rest) {
-        let here = is_reached(places, at, skipped);
-        let led = is_led(here, symbol.test, byte);
-        let pass = over_symbol(symbol.is_run, here, led, moved);
-        places[at] = pass.place;
-        skipped = pass.skipped;
-        moved = pass.moved;
-        rest = after;
-        at += 1;
-    }
-    places[at] = moved;
-}
-
-fn may_end(is_run: bool, here: bool) -> bool
-    ensures { result ≡ (is_run && here) }
-{
-    is_run && here
-}
-
-/// Whether the last place is reached where the subject ends.
-fn ends(sort: Sort, pattern: &[u8], places: &[bool]) -> bool
-    requires { length pattern.now < length places.now }
-    ensures { result ≡ some_fits places.now (symbols sort pattern.now) [] }
-{
-    let mut rest = pattern;
-    let mut at = 0;
-    let mut skipped = false;
-    while let Some((symbol, after)) = next_symbol(sort, rest) {
-        let here = is_reached(places, at, skipped);
-        skipped = may_end(symbol.is_run, here);
-        rest = after;
-        at += 1;
-    }
-    is_reached(places, at, skipped)
-}
-
-/// Whether the pattern fits the subject, which is whether the subject can be divided among its
-/// symbols. Each place of the pattern has one in `places`.
-pub(crate) fn text_fits(sort: Sort, pattern: &[u8], subject: &[u8], places: &mut [bool]) -> bool
-    requires { length pattern.now < length places.old }
-    ensures value { result ≡ fits (symbols sort pattern.now) subject.now }
-    ensures division { Decides result (Divides (symbols sort pattern.now) subject.now) }
-{
-    walked_text(sort, pattern, subject, places)
-}
-
-fn walked_text(sort: Sort, pattern: &[u8], subject: &[u8], places: &mut [bool]) -> bool
-    requires { length pattern.now < length places.old }
-    ensures { result ≡ fits (symbols sort pattern.now) subject.now }
-{
-    start(places);
-    for byte in subject {
-        step(sort, pattern, places, *byte);
-        if !is_any_reached(places) {
-            return false;
-        }
-    }
-    ends(sort, pattern, places)
+    at
 }
 
 fn is_double_star(piece: &[u8]) -> bool
@@ -236,77 +52,158 @@ fn is_double_star(piece: &[u8]) -> bool
     piece == b"**".as_slice()
 }
 
-fn is_led_by_name(here: bool, piece: &[u8], name: &[u8], inner: &mut [bool]) -> bool
-    requires { length piece.now < length inner.old }
-    ensures { result ≡ (here && (component_symbol piece.now).test name.now) }
+/// Has a component stand from this place on, and tells the place behind it.
+fn put_piece(blocks: &mut [Block], at: usize, piece: &[u8]) -> usize
+    requires { at + (length piece.now + 2) < 64 * length blocks.old }
+    ensures len { length blocks.new ≡ length blocks.old }
+    ensures holds { (rest whole : List (SymbolOf TokenOf)) → Holds Component blocks.old at (piece_symbols piece.now ++ rest) whole → Holds Component blocks.new result rest whole }
+    ensures small { result ≤ at + (length piece.now + 2) }
 {
-    here && (is_double_star(piece) || text_fits(Sort::Component, piece, name, inner))
-}
-
-/// The places that are reached behind one more component. `inner` has room for the places of one.
-fn step_names(pattern: &[u8], places: &mut [bool], name: &[u8], inner: &mut [bool])
-    requires room { length pattern.now < length places.old }
-    requires inner_room { length pattern.now < length inner.old }
-    ensures { places.new ≡ stepped name.now false false places.old (map component_symbol (names pattern.now)) }
-{
-    let mut rest = pattern;
-    let mut at = 0;
-    let mut skipped = false;
-    let mut moved = false;
-    while let Some((piece, after)) = first_name(rest) {
-        let here = is_reached(places, at, skipped);
-        let led = is_led_by_name(here, piece, name, inner);
-        let pass = over_symbol(is_double_star(piece), here, led, moved);
-        places[at] = pass.place;
-        skipped = pass.skipped;
-        moved = pass.moved;
-        rest = after;
-        at += 1;
+    if is_double_star(piece) {
+        return put(blocks, at, Element::All);
     }
-    places[at] = moved;
+    let inner = put(blocks, at, Element::One(Token::Open));
+    let end = put_text(blocks, inner, Sort::Component, piece);
+    put(blocks, end, Element::One(Token::Close))
 }
 
-/// Whether the last place is reached where the subject's components end.
-fn ends_names(pattern: &[u8], places: &[bool]) -> bool
-    requires { length pattern.now < length places.now }
-    ensures { result ≡ some_fits places.now (map component_symbol (names pattern.now)) [] }
+/// Has the components of the pattern stand from the first place on, and tells the last one.
+fn put_path(blocks: &mut [Block], pattern: &[u8]) -> usize
+    requires { width (names pattern.now) < 64 * length blocks.old }
+    ensures len { length blocks.new ≡ length blocks.old }
+    ensures holds { (rest whole : List (SymbolOf TokenOf)) → Holds Component blocks.old 0 (flat (names pattern.now) ++ rest) whole → Holds Component blocks.new result rest whole }
+    ensures small { result ≤ width (names pattern.now) }
 {
-    let mut rest = pattern;
     let mut at = 0;
-    let mut skipped = false;
-    while let Some((piece, after)) = first_name(rest) {
-        let here = is_reached(places, at, skipped);
-        skipped = may_end(is_double_star(piece), here);
-        rest = after;
-        at += 1;
+    let mut left = pattern;
+    while let Some((piece, after)) = first_name(left) {
+        at = put_piece(blocks, at, piece);
+        left = after;
     }
-    is_reached(places, at, skipped)
+    at
 }
 
-/// Whether the components of the pattern fit those of the subject, which is whether these can be
-/// divided among them.
-fn names_fit(pattern: &[u8], subject: Names, places: &mut [bool], inner: &mut [bool]) -> bool
-    requires room { length pattern.now < length places.old }
-    requires inner_room { length pattern.now < length inner.old }
-    ensures value { result ≡ fits (map component_symbol (names pattern.now)) (names_left subject.entry) }
-    ensures division { Decides result (Divides (map component_symbol (names pattern.now)) (names_left subject.entry)) }
+/// The places that are reached behind one component.
+fn walk_name(blocks: &[Block], reached: &mut [u64], name: &[u8])
+    requires { length blocks.now ≡ length reached.old }
+    ensures len { length reached.new ≡ length reached.old }
+    ensures places { (symbols : List (SymbolOf TokenOf)) → (rest : List TokenOf) → IsTable Component blocks.now symbols → ones symbols < 64 * length reached.old
+        → reach (has reached.new) (row never symbols) rest ≡ reach (has reached.old) (row never symbols) (Open ∷ (map Byte name.now ++ (Close ∷ rest))) }
 {
-    walked_names(pattern, subject, places, inner)
+    step(blocks, reached, Token::Open, false);
+    walk_text(blocks, reached, Sort::Component, name);
+    step(blocks, reached, Token::Close, false);
 }
 
-fn walked_names(pattern: &[u8], mut subject: Names, places: &mut [bool], inner: &mut [bool]) -> bool
-    requires room { length pattern.now < length places.old }
-    requires inner_room { length pattern.now < length inner.old }
-    ensures { result ≡ fits (map component_symbol (names pattern.now)) (names_left subject.entry) }
+/// The places that are reached behind the components.
+fn walk_names(blocks: &[Block], reached: &mut [u64], mut subject: Names)
+    requires { length blocks.now ≡ length reached.old }
+    ensures len { length reached.new ≡ length reached.old }
+    ensures places { (symbols : List (SymbolOf TokenOf)) → IsTable Component blocks.now symbols → ones symbols < 64 * length reached.old
+        → reach (has reached.new) (row never symbols) [] ≡ reach (has reached.old) (row never symbols) (stream (names_left subject.entry)) }
 {
-    start(places);
     while let Some(name) = subject.next() {
-        step_names(pattern, places, name, inner);
-        if !is_any_reached(places) {
+        walk_name(blocks, reached, name);
+        if is_none_reached(reached) {
+            return;
+        }
+    }
+}
+
+/// Whether the text leads from the first place to the last one.
+fn text_leads(blocks: &[Block], reached: &mut [u64], last: usize, sort: Sort, text: &[u8]) -> bool
+    requires same { length blocks.now ≡ length reached.old }
+    requires blank { reached.old ≡ replicate (length reached.old) 0 }
+    requires room { last < 64 * length reached.old }
+    ensures { (symbols : List (SymbolOf TokenOf)) → IsTable sort blocks.now symbols → ones symbols ≡ last → result ≡ row_fits (row never symbols) (map Byte text.now) }
+{
+    start(reached);
+    walk_text(blocks, reached, sort, text);
+    is_reached(reached, last)
+}
+
+/// Whether the components lead from the first place to the last one.
+fn names_lead(blocks: &[Block], reached: &mut [u64], last: usize, subject: Names) -> bool
+    requires same { length blocks.now ≡ length reached.old }
+    requires blank { reached.old ≡ replicate (length reached.old) 0 }
+    requires room { last < 64 * length reached.old }
+    ensures { (symbols : List (SymbolOf TokenOf)) → IsTable Component blocks.now symbols → ones symbols ≡ last → result ≡ row_fits (row never symbols) (stream (names_left subject.entry)) }
+{
+    start(reached);
+    walk_names(blocks, reached, subject);
+    is_reached(reached, last)
+}
+
+/// Whether the byte stands for more than itself in a pattern of this sort.
+fn is_wild(sort: Sort, byte: u8) -> bool
+    ensures { result ≡ is_wild sort byte }
+{
+    match sort {
+        Sort::Component => byte == b'*' || byte == b'?',
+        Sort::Command | Sort::Name => byte == b'*',
+    }
+}
+
+/// Whether each byte of the pattern stands for itself.
+fn is_plain(sort: Sort, pattern: &[u8]) -> bool
+    ensures { result ≡ is_plain_pattern sort pattern.now }
+{
+    for byte in pattern {
+        if is_wild(sort, *byte) {
             return false;
         }
     }
-    ends_names(pattern, places)
+    true
+}
+
+/// As `text_fits`, with `N` words for the places of the pattern.
+fn text_fits_in<const N: usize>(sort: Sort, pattern: &[u8], text: &[u8]) -> bool
+    requires few { N ≤ 97 }
+    requires room { length pattern.now < 64 * N }
+    ensures { result ≡ fits (symbols sort pattern.now) text.now }
+{
+    let mut blocks = [Block::EMPTY; N];
+    let mut reached = [0; N];
+    let last = put_text(&mut blocks, 0, sort, pattern);
+    let used = last / 64 + 1;
+    text_leads(&blocks[..used], &mut reached[..used], last, sort, text)
+}
+
+/// Whether the pattern fits the text, which is whether the text can be divided among its symbols.
+pub(crate) fn text_fits(sort: Sort, pattern: &[u8], text: &[u8]) -> bool
+    requires { length pattern.now ≤ 4096 }
+    ensures value { result ≡ fits (symbols sort pattern.now) text.now }
+    ensures division { Decides result (Divides (symbols sort pattern.now) text.now) }
+{
+    found_text(sort, pattern, text)
+}
+
+fn found_text(sort: Sort, pattern: &[u8], text: &[u8]) -> bool
+    requires { length pattern.now ≤ 4096 }
+    ensures { result ≡ fits (symbols sort pattern.now) text.now }
+{
+    if is_plain(sort, pattern) {
+        return text == pattern;
+    }
+    match pattern.len() {
+        0..=63 => text_fits_in::<1>(sort, pattern, text),
+        64..=511 => text_fits_in::<8>(sort, pattern, text),
+        _ => text_fits_in::<65>(sort, pattern, text),
+    }
+}
+
+/// Whether each byte of the components stands for itself.
+fn are_plain(pattern: &[u8]) -> bool
+    ensures { result ≡ list_all (is_plain_pattern Component) (names pattern.now) }
+{
+    let mut rest = pattern;
+    while let Some((piece, after)) = first_name(rest) {
+        if !is_plain(Sort::Component, piece) {
+            return false;
+        }
+        rest = after;
+    }
+    true
 }
 
 /// What is left of the subject's components behind those of the base, where they begin with these.
@@ -323,24 +220,70 @@ fn behind_base<'a>(base: &[u8], mut subject: Names<'a>) -> Option<Names<'a>>
     Some(subject)
 }
 
+fn is_at_end(mut subject: Names) -> bool
+    ensures { result ≡ fits [] (names_left subject.entry) }
+{
+    subject.next().is_none()
+}
+
+/// Whether the components are those of the pattern.
+fn are_same(pattern: &[u8], subject: Names) -> bool
+    ensures { result ≡ fits (map base_symbol (names pattern.now) ++ []) (names_left subject.entry) }
+{
+    match behind_base(pattern, subject) {
+        Some(left) => is_at_end(left),
+        None => false,
+    }
+}
+
+/// As `names_fit`, with `N` words for the places of the pattern.
+fn names_fit_in<const N: usize>(pattern: &[u8], subject: Names) -> bool
+    requires few { N ≤ 97 }
+    requires room { 3 * length pattern.now + 3 < 128 * N }
+    ensures { result ≡ fits (map component_symbol (names pattern.now)) (names_left subject.entry) }
+{
+    let mut blocks = [Block::EMPTY; N];
+    let mut reached = [0; N];
+    let last = put_path(&mut blocks, pattern);
+    let used = last / 64 + 1;
+    names_lead(&blocks[..used], &mut reached[..used], last, subject)
+}
+
+/// Whether the components of the pattern fit those of the subject, which is whether these can be
+/// divided among them.
+fn names_fit(pattern: &[u8], subject: Names) -> bool
+    requires { length pattern.now ≤ 4096 }
+    ensures value { result ≡ fits (map component_symbol (names pattern.now)) (names_left subject.entry) }
+    ensures division { Decides result (Divides (map component_symbol (names pattern.now)) (names_left subject.entry)) }
+{
+    found_names(pattern, subject)
+}
+
+fn found_names(pattern: &[u8], subject: Names) -> bool
+    requires { length pattern.now ≤ 4096 }
+    ensures { result ≡ fits (map component_symbol (names pattern.now)) (names_left subject.entry) }
+{
+    if are_plain(pattern) {
+        return are_same(pattern, subject);
+    }
+    match pattern.len() {
+        0..=41 => names_fit_in::<1>(pattern, subject),
+        42..=340 => names_fit_in::<8>(pattern, subject),
+        _ => names_fit_in::<97>(pattern, subject),
+    }
+}
+
 /// Whether the pattern under the base fits the subject under the base.
-pub(crate) fn path_fits(
-    base: &[u8],
-    pattern: &[u8],
-    subject: &[u8],
-    places: &mut [bool],
-    inner: &mut [bool],
-) -> bool
-    requires room { length pattern.now < length places.old }
-    requires inner_room { length pattern.now < length inner.old }
+pub(crate) fn path_fits(base: &[u8], pattern: &[u8], subject: &[u8]) -> bool
+    requires { length pattern.now ≤ 4096 }
     ensures { result ≡ fits (path_symbols base.now pattern.now) (names_under base.now subject.now) }
 {
     let names = Names::under(base, subject);
     if is_absolute(pattern) {
-        return names_fit(pattern, names, places, inner);
+        return names_fit(pattern, names);
     }
     match behind_base(base, names) {
-        Some(left) => names_fit(pattern, left, places, inner),
+        Some(left) => names_fit(pattern, left),
         None => false,
     }
 }

@@ -117,8 +117,9 @@ impl Policy {
 
     /// What the first rule of this kind decides whose `from` holds and whose pattern fits the
     /// subject: a path, a command or a name. `given` says that the subject is an operand word that
-    /// the run was started with. Takes no memory, and for each rule at most the product of the
-    /// lengths of its pattern and the subject in time.
+    /// the run was started with. Takes no memory. A rule whose pattern has no `*` (nor `?`, in a
+    /// path) takes one comparison in time, and any other at most the product of the lengths of its
+    /// pattern and the subject over the width of a word.
     pub fn decide(&self, kind: Kind, subject: &[u8], given: bool) -> Decision
         ensures { result ≡ decision self.now kind subject.now given }
     {
@@ -154,11 +155,9 @@ fn judged(base: &[u8], rules: &[Rule], kind: Kind, subject: &[u8], given: bool) 
     requires readable { is_readable base.now kind subject.now ≡ true }
     ensures { result ≡ decision_from 1 base.now rules.now kind subject.now given }
 {
-    let mut places = [false; MAX_PATTERN + 1];
-    let mut inner = [false; MAX_PATTERN + 1];
     let mut number = 1u32;
     for rule in rules {
-        if speaks(base, rule, kind, subject, given, &mut places, &mut inner) {
+        if speaks(base, rule, kind, subject, given) {
             return match rule.effect {
                 Effect::Allow => Decision::Allow(number),
                 Effect::Deny => Decision::Deny(number),
@@ -169,43 +168,24 @@ fn judged(base: &[u8], rules: &[Rule], kind: Kind, subject: &[u8], given: bool) 
     Decision::NoRule
 }
 
-fn speaks(
-    base: &[u8],
-    rule: &Rule,
-    kind: Kind,
-    subject: &[u8],
-    given: bool,
-    places: &mut [bool],
-    inner: &mut [bool],
-) -> bool
+fn speaks(base: &[u8], rule: &Rule, kind: Kind, subject: &[u8], given: bool) -> bool
     requires readable { is_readable base.now kind subject.now ≡ true }
-    requires room { length rule.now.pattern < length places.old }
-    requires inner_room { length rule.now.pattern < length inner.old }
+    requires short { length rule.now.pattern ≤ 4096 }
     ensures { result ≡ speaks base.now rule.now kind subject.now given }
 {
     rule.kind == kind
         && (given || !rule.only_given)
-        && pattern_fits(base, kind, rule.pattern.bytes(), subject, places, inner)
+        && pattern_fits(base, kind, rule.pattern.bytes(), subject)
 }
 
-fn pattern_fits(
-    base: &[u8],
-    kind: Kind,
-    pattern: &[u8],
-    subject: &[u8],
-    places: &mut [bool],
-    inner: &mut [bool],
-) -> bool
+fn pattern_fits(base: &[u8], kind: Kind, pattern: &[u8], subject: &[u8]) -> bool
     requires readable { is_readable base.now kind subject.now ≡ true }
-    requires room { length pattern.now < length places.old }
-    requires inner_room { length pattern.now < length inner.old }
+    requires short { length pattern.now ≤ 4096 }
     ensures { result ≡ pattern_fits base.now kind pattern.now subject.now }
 {
-    let needed = pattern.len() + 1;
-    let places = &mut places[..needed];
     match kind {
-        Kind::Read | Kind::Write | Kind::Append => path_fits(base, pattern, subject, places, inner),
-        Kind::Run => text_fits(Sort::Command, pattern, subject, places),
-        Kind::Env | Kind::Assign => text_fits(Sort::Name, pattern, subject, places),
+        Kind::Read | Kind::Write | Kind::Append => path_fits(base, pattern, subject),
+        Kind::Run => text_fits(Sort::Command, pattern, subject),
+        Kind::Env | Kind::Assign => text_fits(Sort::Name, pattern, subject),
     }
 }

@@ -17,9 +17,9 @@ ghost use Rattle.box_policy.specs.Readings.{IsDocument, IsDraft};
 ghost use Rattle.box_policy.specs.Written.{WritesRule};
 
 use crate::error::PolicyError;
-use crate::matching::is_name_byte;
 use crate::names::{can_resolve, first_name, is_absolute};
 use crate::policy::{Effect, Kind, MAX_PATTERN, MAX_RULES, Rule};
+use crate::tokens::is_name_byte;
 use awk_text::octets::Octets;
 use std::alloc::Global;
 use toml::{Table, Value};

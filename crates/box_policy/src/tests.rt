@@ -262,33 +262,85 @@ fn first_rule_decides(rt: HostRuntime) -> Result<(), Fail> {
     Ok(())
 }
 
-/// 4 KiB of `a`, and a byte that no pattern below ends in.
-fn hostile_subject(alloc: Global) -> Result<Vec<u8>, AllocError> {
-    let mut subject = Vec::new(alloc);
-    for _ in 0..4096 {
-        subject.push(b'a')?;
+/// A text `times` times, and then an end.
+fn repeated(alloc: Global, text: &str, times: usize, end: &str) -> Result<String, AllocError> {
+    let mut whole = String::new(alloc);
+    for _ in 0..times {
+        whole.push_str(text)?;
     }
-    subject.push(b'!')?;
-    Ok(subject)
-}
-
-/// 1,000 times `a*`, and then `b`.
-fn hostile_pattern(alloc: Global) -> Result<String, AllocError> {
-    let mut pattern = String::new(alloc);
-    for _ in 0..1000 {
-        pattern.push_str("a*")?;
-    }
-    pattern.push('b')?;
-    Ok(pattern)
+    whole.push_str(end)?;
+    Ok(whole)
 }
 
 #[test]
 fn hostile_patterns_end(rt: HostRuntime) -> Result<(), Fail> {
     let alloc = rt.alloc();
-    let subject = hostile_subject(alloc)?;
-    let pattern = hostile_pattern(alloc)?;
+    let pattern = repeated(alloc, "a*", 2000, "b")?;
+    let letters = repeated(alloc, "a", 65536, "")?;
+    let fitting = repeated(alloc, "a", 65536, "b")?;
     for kind in ["read", "run", "env"] {
-        assert!(rt; !allows(alloc, kind, pattern.as_str(), subject.as_slice())?);
+        assert!(rt; !allows(alloc, kind, pattern.as_str(), letters.as_bytes())?);
+        assert!(rt; allows(alloc, kind, pattern.as_str(), fitting.as_bytes())?);
+    }
+    Ok(())
+}
+
+#[test]
+fn hostile_runs_of_any_byte_end(rt: HostRuntime) -> Result<(), Fail> {
+    let alloc = rt.alloc();
+    let pattern = repeated(alloc, "a**", 1300, ";")?;
+    let letters = repeated(alloc, "a ", 32768, "")?;
+    let fitting = repeated(alloc, "a ", 32768, ";")?;
+    assert!(rt; !allows(alloc, "run", pattern.as_str(), letters.as_bytes())?);
+    assert!(rt; allows(alloc, "run", pattern.as_str(), fitting.as_bytes())?);
+    Ok(())
+}
+
+#[test]
+fn hostile_paths_end(rt: HostRuntime) -> Result<(), Fail> {
+    let alloc = rt.alloc();
+    let pattern = repeated(alloc, "/**/a*", 680, "/b")?;
+    let names = repeated(alloc, "/a", 32768, "")?;
+    let fitting = repeated(alloc, "/a", 32768, "/b")?;
+    assert!(rt; !allows(alloc, "read", pattern.as_str(), names.as_bytes())?);
+    assert!(rt; allows(alloc, "read", pattern.as_str(), fitting.as_bytes())?);
+    let marks = repeated(alloc, "?*", 2000, "b")?;
+    let name = repeated(alloc, "a", 65536, "")?;
+    assert!(rt; !allows(alloc, "read", marks.as_str(), name.as_bytes())?);
+    Ok(())
+}
+
+/// Patterns about the lengths at which the table of places grows by one size.
+#[test]
+fn patterns_of_each_size_fit(rt: HostRuntime) -> Result<(), Fail> {
+    let alloc = rt.alloc();
+    for times in [
+        19usize, 20, 21, 31, 32, 63, 64, 169, 170, 171, 255, 256, 2047,
+    ] {
+        let pattern = repeated(alloc, "a*", times, "b")?;
+        let fitting = repeated(alloc, "ax", times, "b")?;
+        let short = repeated(alloc, "a", times.saturating_sub(1), "b")?;
+        for kind in ["read", "run", "env"] {
+            assert!(rt;
+                allows(alloc, kind, pattern.as_str(), fitting.as_bytes())?,
+                "{times}"
+            );
+            assert!(rt;
+                !allows(alloc, kind, pattern.as_str(), short.as_bytes())?,
+                "{times}"
+            );
+        }
+        let path = repeated(alloc, "/*", times, "")?;
+        let deep = repeated(alloc, "/x", times, "")?;
+        let deeper = repeated(alloc, "/x", times, "/x")?;
+        assert!(rt;
+            allows(alloc, "read", path.as_str(), deep.as_bytes())?,
+            "{times}"
+        );
+        assert!(rt;
+            !allows(alloc, "read", path.as_str(), deeper.as_bytes())?,
+            "{times}"
+        );
     }
     Ok(())
 }

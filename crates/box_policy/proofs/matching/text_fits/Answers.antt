@@ -6,5 +6,4 @@ use Rattle.box_policy.proofs.matching.text_fits.Goals as goal
 
 pub returns-clause-division : goal.returns-clause-division
 returns-clause-division c =
-    Decides-at c.walked_text.result (fits (symbols c.args.sort c.args.pattern.now) c.args.subject.now) c.walked_text.ensures
-    (fits-Decides (symbols c.args.sort c.args.pattern.now) c.args.subject.now)
+    Decides-at c.found_text.result (fits (symbols c.args.sort c.args.pattern.now) c.args.text.now) c.found_text.ensures (fits-Decides (symbols c.args.sort c.args.pattern.now) c.args.text.now)
