@@ -4,8 +4,11 @@
 //! "Grammar" in POSIX.1-2017 XCU awk line by line.
 #![tactic(auto)]
 
+mod nodes;
+mod signs;
 mod terminals;
 mod tokens;
 
-pub use terminals::is;
+pub use nodes::{joined, name_of};
+pub use terminals::{is, terminal};
 pub use tokens::Tokens;

@@ -1,0 +1,315 @@
+// Nodes of the tree.
+
+ghost use Rattle.std.specs.Prelude.{◌≡◌, [], ◌∷◌, map, IfOk, option_map};
+ghost use Rattle.awk_tree.specs.Expressions as spec;
+ghost use Rattle.awk_tree.specs.Tree as tree;
+ghost use Rattle.awk_tree.specs.Tree.{perhaps_of};
+ghost use Rattle.awk_tree.specs.View.{view, view_term, view_piped};
+
+use awk_text::octets::Octets;
+use awk_text::place::Place;
+use awk_tokens::Token;
+use awk_tree::{Assignment, Comparison, Expr, Member, Name, Piped, Sign, Slot, Step, Term};
+use sqlite_items::{Boxed, Items};
+use std::alloc::{AllocError, Global};
+
+/// The text of a token.
+pub fn text_of(alloc: Global, token: &Token) -> Result<Octets, AllocError>
+    ensures { IfOk result (λ text. text ≡ token.now.text) }
+{
+    token.text.copy(alloc)
+}
+
+/// The name that stands there.
+pub fn name_of(alloc: Global, token: &Token) -> Result<Name, AllocError>
+    ensures { IfOk result (λ n. n ≡ spec.name_of token.now) }
+{
+    Ok(Name {
+        text: token.text.copy(alloc)?,
+        place: token.place,
+        slot: Slot::Unbound,
+    })
+}
+
+/// The first and the others.
+pub fn joined<T: Drop>(alloc: Global, first: T, more: Items<T>) -> Result<Items<T>, AllocError>
+    ensures { IfOk result (λ all. all ≡ first ∷ more) }
+{
+    let mut all = Items::new(alloc);
+    all.push(first)?;
+    all.append(more)?;
+    Ok(all)
+}
+
+fn boxed(alloc: Global, x: Option<Expr>) -> Result<Option<Boxed<Expr>>, AllocError>
+    ensures { IfOk result (λ b. b ≡ x) }
+{
+    match x {
+        None => Ok(None),
+        Some(x) => Ok(Some(Boxed::new(alloc, x)?)),
+    }
+}
+
+fn two_boxed(alloc: Global, x: Expr, y: Expr) -> Result<(Boxed<Expr>, Boxed<Expr>), AllocError>
+    ensures { IfOk result (λ pair. (pair.0 ≡ x) × (pair.1 ≡ y)) }
+{
+    let x = Boxed::new(alloc, x)?;
+    Ok((x, Boxed::new(alloc, y)?))
+}
+
+#[tactic(auto, using(awk_tree::proofs::Views::views))]
+pub fn field(alloc: Global, place: Place, x: Expr) -> Result<Expr, AllocError>
+    ensures { IfOk result (λ e. view e ≡ tree.field place (view x)) }
+{
+    Ok(Expr::Field(place, Boxed::new(alloc, x)?))
+}
+
+#[tactic(auto, using(awk_tree::proofs::Views::views))]
+pub fn paren(alloc: Global, place: Place, x: Expr) -> Result<Expr, AllocError>
+    ensures { IfOk result (λ e. view e ≡ tree.paren place (view x)) }
+{
+    Ok(Expr::Paren(place, Boxed::new(alloc, x)?))
+}
+
+#[tactic(auto, using(awk_tree::proofs::Views::views))]
+pub fn before(alloc: Global, place: Place, step: Step, x: Expr) -> Result<Expr, AllocError>
+    ensures { IfOk result (λ e. view e ≡ tree.before place step (view x)) }
+{
+    Ok(Expr::Before(place, step, Boxed::new(alloc, x)?))
+}
+
+#[tactic(auto, using(awk_tree::proofs::Views::views))]
+pub fn after(alloc: Global, x: Expr, place: Place, step: Step) -> Result<Expr, AllocError>
+    ensures { IfOk result (λ e. view e ≡ tree.after (view x) place step) }
+{
+    Ok(Expr::After(Boxed::new(alloc, x)?, place, step))
+}
+
+#[tactic(auto, using(awk_tree::proofs::Views::views))]
+pub fn signed(alloc: Global, place: Place, sign: Sign, x: Expr) -> Result<Expr, AllocError>
+    ensures { IfOk result (λ e. view e ≡ tree.signed place sign (view x)) }
+{
+    Ok(Expr::Signed(place, sign, Boxed::new(alloc, x)?))
+}
+
+#[tactic(auto, using(awk_tree::proofs::Views::views))]
+pub fn power(alloc: Global, a: Expr, place: Place, b: Expr) -> Result<Expr, AllocError>
+    ensures { IfOk result (λ e. view e ≡ tree.power (view a) place (view b)) }
+{
+    Ok(Expr::Power(Boxed::new(alloc, a)?, place, Boxed::new(alloc, b)?))
+}
+
+#[tactic(auto, using(awk_tree::proofs::Views::views))]
+pub fn compare(
+    alloc: Global,
+    a: Expr,
+    place: Place,
+    how: Comparison,
+    b: Expr,
+) -> Result<Expr, AllocError>
+    ensures { IfOk result (λ e. view e ≡ tree.compare (view a) place how (view b)) }
+{
+    Ok(Expr::Compare(Boxed::new(alloc, a)?, place, how, Boxed::new(alloc, b)?))
+}
+
+#[tactic(auto, using(awk_tree::proofs::Views::views))]
+pub fn matched(
+    alloc: Global,
+    a: Expr,
+    place: Place,
+    unlike: bool,
+    b: Expr,
+) -> Result<Expr, AllocError>
+    ensures { IfOk result (λ e. view e ≡ tree.matched (view a) place unlike (view b)) }
+{
+    Ok(Expr::Match(Boxed::new(alloc, a)?, place, unlike, Boxed::new(alloc, b)?))
+}
+
+#[tactic(auto, using(awk_tree::proofs::Views::views))]
+pub fn choose(alloc: Global, a: Expr, b: Expr, c: Expr) -> Result<Expr, AllocError>
+    ensures { IfOk result (λ e. view e ≡ tree.choose (view a) (view b) (view c)) }
+{
+    let (b, c) = two_boxed(alloc, b, c)?;
+    Ok(Expr::Choice(Boxed::new(alloc, a)?, b, c))
+}
+
+#[tactic(auto, using(awk_tree::proofs::Views::views))]
+pub fn assign(
+    alloc: Global,
+    a: Expr,
+    place: Place,
+    how: Assignment,
+    b: Expr,
+) -> Result<Expr, AllocError>
+    ensures { IfOk result (λ e. view e ≡ tree.assign (view a) place how (view b)) }
+{
+    Ok(Expr::Assign(Boxed::new(alloc, a)?, place, how, Boxed::new(alloc, b)?))
+}
+
+#[tactic(auto, using(awk_tree::proofs::Views::views))]
+pub fn getline(
+    alloc: Global,
+    place: Place,
+    target: Option<Expr>,
+    source: Option<Expr>,
+) -> Result<Expr, AllocError>
+    ensures { IfOk result (λ e. view e ≡ tree.getline place (perhaps_of (option_map view target)) (perhaps_of (option_map view source))) }
+{
+    Ok(Expr::Getline(place, boxed(alloc, target)?, boxed(alloc, source)?))
+}
+
+#[tactic(auto, using(awk_tree::proofs::Views::views))]
+pub fn split(
+    alloc: Global,
+    place: Place,
+    x: Expr,
+    array: Name,
+    y: Option<Expr>,
+) -> Result<Expr, AllocError>
+    ensures { IfOk result (λ e. view e ≡ tree.split place (view x) array (perhaps_of (option_map view y))) }
+{
+    Ok(Expr::Split(place, Boxed::new(alloc, x)?, array, boxed(alloc, y)?))
+}
+
+#[tactic(auto, using(awk_tree::proofs::Views::views))]
+pub fn substitute(
+    alloc: Global,
+    place: Place,
+    all: bool,
+    x: Expr,
+    y: Expr,
+    z: Option<Expr>,
+) -> Result<Expr, AllocError>
+    ensures { IfOk result (λ e. view e ≡ tree.substitute place all (view x) (view y) (perhaps_of (option_map view z))) }
+{
+    let (x, y) = two_boxed(alloc, x, y)?;
+    Ok(Expr::Substitute(place, all, x, y, boxed(alloc, z)?))
+}
+
+/// The list of one.
+pub fn only(alloc: Global, x: Expr) -> Result<Items<Expr>, AllocError>
+    ensures { IfOk result (λ all. all ≡ x ∷ []) }
+{
+    let mut all = Items::new(alloc);
+    all.push(x)?;
+    Ok(all)
+}
+
+/// The list of two.
+pub fn both(alloc: Global, x: Expr, y: Expr) -> Result<Items<Expr>, AllocError>
+    ensures { IfOk result (λ all. all ≡ x ∷ y ∷ []) }
+{
+    let mut all = only(alloc, x)?;
+    all.push(y)?;
+    Ok(all)
+}
+
+/// The list of two, and a third where there is one.
+pub fn up_to_three(
+    alloc: Global,
+    x: Expr,
+    y: Expr,
+    z: Option<Expr>,
+) -> Result<Items<Expr>, AllocError>
+    ensures { IfOk result (λ all. map view all ≡ view x ∷ view y ∷ spec.listed (option_map view z)) }
+{
+    let mut all = both(alloc, x, y)?;
+    match z {
+        None => Ok(all),
+        Some(z) => {
+            all.push(z)?;
+            Ok(all)
+        }
+    }
+}
+
+// ---- chains: one of a single operand is that operand
+
+#[tactic(auto, using(awk_tree::proofs::Views::views))]
+pub fn product_of(alloc: Global, left: Expr, more: Items<Term<Expr>>) -> Result<Expr, AllocError>
+    ensures { IfOk result (λ e. view e ≡ spec.product_of (view left) (map view_term more)) }
+{
+    if more.is_empty() {
+        return Ok(left);
+    }
+    Ok(Expr::Product(Boxed::new(alloc, left)?, more))
+}
+
+#[tactic(auto, using(awk_tree::proofs::Views::views))]
+pub fn sum_of(alloc: Global, left: Expr, more: Items<Term<Expr>>) -> Result<Expr, AllocError>
+    ensures { IfOk result (λ e. view e ≡ spec.sum_of (view left) (map view_term more)) }
+{
+    if more.is_empty() {
+        return Ok(left);
+    }
+    Ok(Expr::Sum(Boxed::new(alloc, left)?, more))
+}
+
+#[tactic(auto, using(awk_tree::proofs::Views::views))]
+pub fn concat_of(alloc: Global, left: Expr, more: Items<Expr>) -> Result<Expr, AllocError>
+    ensures { IfOk result (λ e. view e ≡ spec.concat_of (view left) (map view more)) }
+{
+    if more.is_empty() {
+        return Ok(left);
+    }
+    Ok(Expr::Concat(Boxed::new(alloc, left)?, more))
+}
+
+#[tactic(auto, using(awk_tree::proofs::Views::views))]
+pub fn pipe_of(alloc: Global, left: Expr, more: Items<Piped<Expr>>) -> Result<Expr, AllocError>
+    ensures { IfOk result (λ e. view e ≡ spec.pipe_of (view left) (map view_piped more)) }
+{
+    if more.is_empty() {
+        return Ok(left);
+    }
+    Ok(Expr::Pipe(Boxed::new(alloc, left)?, more))
+}
+
+#[tactic(auto, using(awk_tree::proofs::Views::views))]
+pub fn member_of(alloc: Global, left: Expr, more: Items<Member>) -> Result<Expr, AllocError>
+    ensures { IfOk result (λ e. view e ≡ spec.member_of (view left) more) }
+{
+    if more.is_empty() {
+        return Ok(left);
+    }
+    Ok(Expr::In(Boxed::new(alloc, left)?, more))
+}
+
+#[tactic(auto, using(awk_tree::proofs::Views::views))]
+pub fn and_of(alloc: Global, left: Expr, more: Items<Expr>) -> Result<Expr, AllocError>
+    ensures { IfOk result (λ e. view e ≡ spec.and_of (view left) (map view more)) }
+{
+    if more.is_empty() {
+        return Ok(left);
+    }
+    Ok(Expr::And(Boxed::new(alloc, left)?, more))
+}
+
+#[tactic(auto, using(awk_tree::proofs::Views::views))]
+pub fn or_of(alloc: Global, left: Expr, more: Items<Expr>) -> Result<Expr, AllocError>
+    ensures { IfOk result (λ e. view e ≡ spec.or_of (view left) (map view more)) }
+{
+    if more.is_empty() {
+        return Ok(left);
+    }
+    Ok(Expr::Or(Boxed::new(alloc, left)?, more))
+}
+
+/// Whether a value can be set there.
+#[tactic(auto, using(awk_tree::proofs::Views::views))]
+pub fn is_lvalue(x: &Expr) -> bool
+    ensures { result ≡ spec.is_lvalue (view x.now) }
+{
+    match x {
+        Expr::Name(_) | Expr::Element(_, _) | Expr::Field(_, _) => true,
+        Expr::Number(_, _) | Expr::Quoted(_, _) | Expr::Pattern(_, _) | Expr::Paren(_, _) => false,
+        Expr::Call(_, _) | Expr::Builtin(_, _, _) | Expr::Length(_) => false,
+        Expr::Split(_, _, _, _) | Expr::Substitute(_, _, _, _, _) => false,
+        Expr::Getline(_, _, _) | Expr::Before(_, _, _) | Expr::After(_, _, _) => false,
+        Expr::Signed(_, _, _) | Expr::Power(_, _, _) | Expr::Product(_, _) => false,
+        Expr::Sum(_, _) | Expr::Concat(_, _) | Expr::Pipe(_, _) => false,
+        Expr::Compare(_, _, _, _) | Expr::Match(_, _, _, _) => false,
+        Expr::Group(_, _, _) | Expr::In(_, _) | Expr::And(_, _) | Expr::Or(_, _) => false,
+        Expr::Choice(_, _, _) | Expr::Assign(_, _, _, _) => false,
+    }
+}
