@@ -1,12 +1,12 @@
 -- A loop that collects what `many` reads.
-use Rattle.std.proofs.Common.{◌≡◌, ℕ, zero, suc, ◌+◌, ◌-◌, ◌<◌, ◌≤◌, Bool, true, false, length, List, [], ◌∷◌, ◌++◌, Result, Ok, Err, refl, ap, sym, map, ◌∙◌, append_assoc, arith}
+use Rattle.std.proofs.Common.{◌≡◌, ℕ, zero, suc, ◌+◌, ◌-◌, ◌<◌, ◌≤◌, Bool, true, false, length, List, [], ◌∷◌, ◌++◌, Ok, Err, refl, ap, sym, map, ◌∙◌, append_assoc, arith}
 use Rattle.std.proofs.lemmas.List.{append-nil, map-append}
 use Rattle.awk_tokens.specs.declared.kinds.Token.{Token}
 use Rattle.awk_tree.specs.declared.terminals.Terminal.{Terminal}
 use Rattle.awk_tree.specs.declared.fault.Fault.{Fault}
 use Rattle.awk_tree.specs.declared.fault.Fault.TheVariants.{Unexpected}
 use Rattle.awk_tree.specs.Terminals.{ahead}
-use Rattle.awk_tree.specs.Input.{Outcome, Parser, and_then, refuse, many_from}
+use Rattle.awk_tree.specs.Input.{Outcome, Parser, and_then, many_from}
 
 -- what was read before, and what is still read
 abbrev pub with_front : {A : Type 0} → List A → Outcome (List A) → Outcome (List A)

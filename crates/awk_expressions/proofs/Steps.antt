@@ -6,7 +6,7 @@ use Rattle.awk_tree.specs.declared.expressions.Term.{Term}
 use Rattle.awk_tree.specs.declared.expressions.Piped.{Piped}
 use Rattle.awk_text.specs.declared.place.Place.{Place}
 use Rattle.awk_tree.specs.declared.goals.Goal.{Goal}
-use Rattle.awk_tree.specs.Input.{Parser, ◌>>=◌, ◌>>◌, pure}
+use Rattle.awk_tree.specs.Input.{Parser, ◌>>=◌, pure}
 use Rattle.awk_tree.specs.Tree as t
 use Rattle.awk_tree.specs.Tree.{Tree, trees_of, terms_of, pipes_of}
 use Rattle.awk_tree.specs.View.{view, view_term, view_piped}

@@ -1,0 +1,106 @@
+// A script made by hand and written. That a script is read again is tested where the parser stands.
+
+use super::*;
+use awk_text::Memory;
+use awk_text::octets::Octets;
+use awk_text::place::Place;
+use awk_tokens::{Token, TokenKind};
+use awk_tree::{Arithmetic, Expr, Item, Name, Pattern, Printed, Script, Slot, Statement, Term};
+use sqlite_items::{Boxed, Items};
+use std::alloc::Global;
+
+const PLACE: Place = Place { line: 3, column: 7 };
+
+fn octets(alloc: Global, text: &str) -> Result<Octets, Memory> {
+    Ok(Octets::new(Vec::from_slice(alloc, text.as_bytes())?))
+}
+
+fn name(alloc: Global, text: &str) -> Result<Expr, Memory> {
+    Ok(Expr::Name(Name {
+        text: octets(alloc, text)?,
+        place: PLACE,
+        slot: Slot::Unbound,
+    }))
+}
+
+/// `$ 1 - b`
+fn difference(alloc: Global) -> Result<Expr, Memory> {
+    let one = Boxed::new(alloc, Expr::Number(PLACE, octets(alloc, "1")?))?;
+    let field = Boxed::new(alloc, Expr::Field(PLACE, one))?;
+    let mut terms = Items::new(alloc);
+    terms.push(Term {
+        operator: Arithmetic::Subtract,
+        place: PLACE,
+        operand: name(alloc, "b")?,
+    })?;
+    Ok(Expr::Sum(field, terms))
+}
+
+/// `if ( a ) print $ 1 - b , c ; else next ;`
+fn choice(alloc: Global) -> Result<Statement, Memory> {
+    let mut items = Items::new(alloc);
+    items.push(difference(alloc)?)?;
+    items.push(name(alloc, "c")?)?;
+    let printed = Printed {
+        is_grouped: false,
+        items,
+    };
+    let print = Boxed::new(alloc, Statement::Print(PLACE, printed, None))?;
+    let next = Boxed::new(alloc, Statement::Next(PLACE))?;
+    Ok(Statement::IfElse(name(alloc, "a")?, print, next))
+}
+
+/// `x , y { if ( a ) print $ 1 - b , c ; else next ; }`
+fn script(alloc: Global) -> Result<Script, Memory> {
+    let mut body = Items::new(alloc);
+    body.push(choice(alloc)?)?;
+    let pattern = Pattern::Range(name(alloc, "x")?, name(alloc, "y")?);
+    let mut items = Items::new(alloc);
+    items.push(Item::Rule(pattern, body))?;
+    Ok(Script::new(items))
+}
+
+fn written(alloc: Global) -> Result<Vec<Token>, Memory> {
+    let script = script(alloc)?;
+    canon(alloc, &script)
+}
+
+#[test]
+fn rule_with_a_choice(rt: HostRuntime) {
+    let rows: [(TokenKind, &str); 21] = [
+        (TokenKind::Name, "x"),
+        (TokenKind::Sign, ","),
+        (TokenKind::Name, "y"),
+        (TokenKind::Sign, "{"),
+        (TokenKind::Keyword, "if"),
+        (TokenKind::Sign, "("),
+        (TokenKind::Name, "a"),
+        (TokenKind::Sign, ")"),
+        (TokenKind::Keyword, "print"),
+        (TokenKind::Sign, "$"),
+        (TokenKind::Number, "1"),
+        (TokenKind::Sign, "-"),
+        (TokenKind::Name, "b"),
+        (TokenKind::Sign, ","),
+        (TokenKind::Name, "c"),
+        (TokenKind::Sign, ";"),
+        (TokenKind::Keyword, "else"),
+        (TokenKind::Keyword, "next"),
+        (TokenKind::Sign, ";"),
+        (TokenKind::Sign, "}"),
+        (TokenKind::Sign, "\n"),
+    ];
+    match written(rt.alloc()) {
+        Err(_) => panic!(rt; "no memory"),
+        Ok(tokens) => {
+            assert_eq!(rt; tokens.len(), rows.len());
+            for (token, row) in tokens.iter().zip(&rows) {
+                assert_eq!(rt; token.kind, row.0);
+                assert!(rt; token.text.bytes() == row.1.as_bytes());
+                assert_eq!(rt; token.start, 0);
+                assert_eq!(rt; token.place, Place { line: 0, column: 0 });
+                assert_eq!(rt; token.end, Place { line: 0, column: 0 });
+            }
+        }
+    }
+}

@@ -1,0 +1,15 @@
+pub mod TerminalLemmas
+pub mod Law
+pub mod Many
+pub mod Starts
+pub mod Words
+pub mod Operands
+pub mod Builtins
+pub mod MoreBuiltins
+pub mod Primaries
+pub mod Chains
+pub mod Depths
+pub mod SimpleLaws
+pub mod PrintLaws
+pub mod EndLaws
+pub mod Laws

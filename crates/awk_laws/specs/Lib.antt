@@ -1,0 +1,4 @@
+pub mod Rules
+pub mod Spells
+pub mod SpellsScripts
+pub mod Laws

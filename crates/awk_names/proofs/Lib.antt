@@ -1,0 +1,9 @@
+pub mod Weight
+pub mod Lists
+pub mod Searches
+pub mod Misplacing
+pub mod TableLemmas
+pub mod Counting
+pub mod Calling
+pub mod Naming
+pub mod Defining

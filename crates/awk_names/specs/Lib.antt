@@ -1,0 +1,5 @@
+pub mod Mentions
+pub mod Kinds
+pub mod Faults
+pub mod Search
+pub mod Tables

@@ -1,0 +1,101 @@
+// The parameters of a script's functions.
+
+ghost use Rattle.std.specs.Prelude.{◌≡◌, [], ◌++◌, IfOk, map};
+ghost use Rattle.awk_tokens.specs.Words as words;
+ghost use Rattle.awk_names.specs.Kinds.{scalars, arrays};
+ghost use Rattle.awk_names.specs.Search as search_of;
+
+use crate::mention::{Part, Role};
+use crate::table::Table;
+use awk_text::Memory;
+use awk_text::place::Place;
+use awk_tree::Name;
+use std::alloc::Global;
+
+/// The variables that awk sets.
+const VARIABLES: [&[u8]; 16] = [
+    b"ARGC",
+    b"CONVFMT",
+    b"FILENAME",
+    b"FNR",
+    b"FS",
+    b"NF",
+    b"NR",
+    b"OFMT",
+    b"OFS",
+    b"ORS",
+    b"RLENGTH",
+    b"RS",
+    b"RSTART",
+    b"SUBSEP",
+    b"ARGV",
+    b"ENVIRON",
+];
+
+fn is_among(mut list: &[&[u8]], word: &[u8]) -> bool
+    ensures { result ≡ words.is_among (map (λ w. w.now) list.entry.now) word.now }
+{
+    while let [first, rest @ ..] = list {
+        if *first == word {
+            return true;
+        }
+        list = rest;
+    }
+    false
+}
+
+fn is_variable(text: &[u8]) -> bool
+    ensures { result ≡ words.is_among (scalars ++ arrays) text.now }
+{
+    is_among(&VARIABLES, text)
+}
+
+/// Whether a parameter has the name of one before it, of a function or of a variable that awk sets.
+fn is_misnamed(known: &Table<usize>, seen: &Table<Place>, name: &Name) -> bool
+    ensures { result ≡ search_of.is_misnamed known.now seen.now name.now }
+{
+    let text = name.text.bytes();
+    seen.get(text).is_some() || known.get(text).is_some() || is_variable(text)
+}
+
+fn misnamed_in(
+    alloc: Global,
+    known: &Table<usize>,
+    params: &[Name],
+) -> Result<Option<Place>, Memory>
+    ensures { IfOk result (λ place. place ≡ search_of.misnamed_in known.now [] params.now) }
+{
+    let mut seen = Table::new(alloc);
+    for param in params {
+        if is_misnamed(known, &seen, param) {
+            return Ok(Some(param.place));
+        }
+        seen.put(param.text.copy(alloc)?, param.place)?;
+    }
+    Ok(None)
+}
+
+fn misnamed_role(alloc: Global, known: &Table<usize>, role: &Role) -> Result<Option<Place>, Memory>
+    ensures { IfOk result (λ place. place ≡ search_of.misnamed_role known.now role.now) }
+{
+    match role {
+        Role::Function(_name, params) => misnamed_in(alloc, known, params.as_slice()),
+        Role::Begin | Role::End | Role::Rule => Ok(None),
+    }
+}
+
+/// The place of the first parameter that has a name which it cannot have.
+pub fn first_misnamed(
+    alloc: Global,
+    known: &Table<usize>,
+    parts: &[Part],
+) -> Result<Option<Place>, Memory>
+    ensures { IfOk result (λ place. place ≡ search_of.misnamed known.now parts.now) }
+{
+    for part in parts {
+        if let Some(place) = misnamed_role(alloc, known, &part.role)? {
+            return Ok(Some(place));
+        }
+    }
+    Ok(None)
+}
