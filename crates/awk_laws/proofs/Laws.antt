@@ -11,7 +11,7 @@ use Rattle.awk_laws.specs.Laws.{ExpressionsAreSpelled, ExpressionsAreReadAgain, 
 use Rattle.awk_laws.specs.SpellsScripts as r
 use Rattle.awk_laws.specs.SpellsScripts.{Simple}
 use Rattle.awk_laws.proofs.Depths.{expression_again, at_depth}
-use Rattle.awk_laws.proofs.SimpleLaws.{without_end}
+use Rattle.awk_laws.proofs.EndLaws.{with_end}
 use Rattle.awk_laws.proofs.PrintLaws.{simple_law}
 
 pub expressions_are_spelled : ExpressionsAreSpelled
@@ -22,19 +22,6 @@ expressions_are_read_again p ts x h = let q = expression_again p ts x h in q.1
 
 pub simple_statements_are_spelled : SimpleStatementsAreSpelled
 simple_statements_are_spelled ts r s h = let q = simple_law 0 200 (expr 200) (at_depth 0 200 refl) ts s r h in (q.used, q.parts, q.spelled)
-
--- the canonical spelling of a simple statement, and its end
-with_end : (n : ℕ) (us : List Token) (s : Statement) (rest : List Token) → Simple n us s rest → canon_statement s ≡ without_end s ++ end
-with_end _ _ _ _ (r.an_expression n us x rest _) = refl
-with_end _ _ _ _ (r.an_empty_print n t vs z rest _ _) = refl
-with_end _ _ _ _ (r.a_print n t us vs xs z rest _ _ _) = refl
-with_end _ _ _ _ (r.a_printf n t us vs xs z rest _ _ _) = refl
-with_end _ _ _ _ (r.a_delete n t m o c us xs rest _ _ _ _ _ _) = sym (append_assoc (keyword (codes "delete") ∷ token kind.Name m.text ∷ sign (codes "[") ∷ canon_items xs) (sign (codes "]") ∷ []) end)
-with_end _ _ _ _ (r.a_break n t rest _) = refl
-with_end _ _ _ _ (r.a_continue n t rest _) = refl
-with_end _ _ _ _ (r.a_next n t rest _) = refl
-with_end _ _ _ _ (r.an_exit n t us x rest _ _) = refl
-with_end _ _ _ _ (r.a_return n t us x rest _ _) = refl
 
 pub simple_statements_are_read_again : SimpleStatementsAreReadAgain
 unfolding terminal_of
