@@ -16,4 +16,5 @@ pub mod Looks
 pub mod Parens
 pub mod Until
 pub mod Steps
+pub mod StatementLaws
 pub mod Laws
