@@ -14,7 +14,7 @@ use Rattle.awk_laws.specs.SpellsScripts.{Simple, Ends}
 use Rattle.awk_laws.proofs.Law.{Eye, Near, Form, LawOn, Goes, bind_ok, done_is, any_is}
 use Rattle.awk_laws.proofs.SimpleLaws.{without_end}
 
-ahead_look : (ts : List Token) (k : Terminal) → look ts ≡ k → ((b : Bool) → seen k b ≡ w.End) → ahead ts ≡ w.End
+pub ahead_look : (ts : List Token) (k : Terminal) → look ts ≡ k → ((b : Bool) → seen k b ≡ w.End) → ahead ts ≡ w.End
 ahead_look [] k h e = refl
 ahead_look (t ∷ ts) k h e = ap (λ (v : Terminal). seen v (is (look ts) w.Getline)) h ∙ e (is (look ts) w.Getline)
 

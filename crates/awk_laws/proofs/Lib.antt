@@ -17,4 +17,6 @@ pub mod Parens
 pub mod Until
 pub mod Steps
 pub mod StatementLaws
+pub mod Blocks
+pub mod ItemLaws
 pub mod Laws

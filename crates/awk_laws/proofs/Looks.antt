@@ -269,7 +269,7 @@ either : (a b : Bool) → (a || b) ≡ true → (a ≡ true) ⊎ (b ≡ true)
 either true b h = inl refl
 either false b h = inr h
 
-gap_token : (t : Token) → (is (terminal t) w.Newline || is (terminal t) w.Semicolon) ≡ true → (terminal t ≡ w.Newline) ⊎ (terminal t ≡ w.Semicolon)
+pub gap_token : (t : Token) → (is (terminal t) w.Newline || is (terminal t) w.Semicolon) ≡ true → (terminal t ≡ w.Newline) ⊎ (terminal t ≡ w.Semicolon)
 gap_token t h =
     elim (either (is (terminal t) w.Newline) (is (terminal t) w.Semicolon) h) [
       | inl a ↦ inl (is-true (terminal t) w.Newline refl a)

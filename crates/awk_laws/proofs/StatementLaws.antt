@@ -54,23 +54,7 @@ loop_first us vs ws bs s a b c = simp append_assoc
 loop_after : (vs ws bs rest : List Token) (b c : Token) → (vs ++ b ∷ []) ++ ((ws ++ c ∷ []) ++ (bs ++ rest)) ≡ vs ++ b ∷ (ws ++ c ∷ (bs ++ rest))
 loop_after vs ws bs rest b c = simp append_assoc
 
--- ---- what the lists of a block compute to
-
-pub canon_statements-of : (xs : List Statement) → canon_statements (statements_of xs) ≡ flat_map canon_statement xs
-canon_statements-of [] = refl
-canon_statements-of (x ∷ xs) = ap (λ (m : List Token). canon_statement x ++ m) (canon_statements-of xs)
-
-bare_statements-of : (xs : List Statement) → bare_statements (statements_of xs) ≡ statements_of (map bare_statement xs)
-bare_statements-of [] = refl
-bare_statements-of (x ∷ xs) = ap (tree.then_also (bare_statement x)) (bare_statements-of xs)
-
 -- ---- words
-
-abbrev open_brace : Form Token
-open_brace = a_sign w.OpenBrace (codes "{")
-
-abbrev pub close_brace : Form Token
-close_brace = a_sign w.CloseBrace (codes "}")
 
 abbrev if_word : Form Token
 if_word = a_keyword w.If (codes "if")
@@ -127,22 +111,15 @@ module _ (n : ℕ) where
   abbrev pub test_form : Form Tree
   test_form = record { plain = λ x. sign (codes "(") ∷ canon x ++ sign (codes ")") ∷ []; bare = bare; spells = Test n }
 
-  abbrev pub block_form : Form (List Statement)
-  block_form = listing statement_form canon_statement [] skip (λ ts. is (look ts) w.CloseBrace) (Block n) Elses Elses Elses
-
-  -- the statements of a block, and its `}`
-  abbrev pub braces_form : Form (List Statement)
-  braces_form = record { plain = λ xs. flat_map canon_statement xs ++ sign (codes "}") ∷ []; bare = map bare_statement; spells = Closed w.CloseBrace (Block n) }
-
 -- a block without its `{`, whose statements are a level deeper
-abbrev inside : Statement → List Token
+abbrev pub inside : Statement → List Token
 inside (tree.block xs) = canon_statements xs ++ sign (codes "}") ∷ []
 inside other = []
 
 pub data Inside (n : ℕ) : List Token → Statement → List Token → Type 0 where
   in_braces : (us : List Token) (xs : List Statement) (rest : List Token) → Opens n → Closed w.CloseBrace (Block (suc n)) us xs rest → Inside n us (tree.block (statements_of xs)) rest
 
-abbrev inside_form : ℕ → Form Statement
+abbrev pub inside_form : ℕ → Form Statement
 inside_form n = record { plain = inside; bare = bare_statement; spells = Inside n }
 
 -- what is read of statements one level deeper
@@ -152,7 +129,7 @@ pub record Within (n : ℕ) (body : Nested → Parser Statement) : Type 0 where
 
 -- ---- parts in parentheses
 
-picked : {A : Type 0} (b : Bool) (p q : Parser A) (ts : List Token) (z : Outcome A) → cond b p q ts ≡ z → cond b (p ts) (q ts) ≡ z
+pub picked : {A : Type 0} (b : Bool) (p q : Parser A) (ts : List Token) (z : Outcome A) → cond b p q ts ≡ z → cond b (p ts) (q ts) ≡ z
 picked true p q ts z h = h
 picked false p q ts z h = h
 
@@ -274,7 +251,7 @@ module _ (n depth : ℕ) (inner : Goal → Parser Tree) (deeper : Inner n depth 
   while_spells : (us : List Token) (q : (Token × Tree) × Statement) (rest : List Token) → Both (pair while_word (test_form n)) (body_form n) us q rest → SpellsStatement n us (tree.while_do q.0.1 q.1) rest
   while_spells _ _ _ (both _ vs rest _ s (both _ us _ _ x (this t _ h) k) j) = r.a_while n t us vs x s rest h k j
 
-  while_law : Law Near Elses (statement_form n) (st.while_of depth inner body)
+  pub while_law : Law Near Elses (statement_form n) (st.while_of depth inner body)
   unfolding st.while_of
   while_law ts =
       then_at Near Near Elses while_word (statement_form n) (one w.While) (λ _. st.condition depth inner >>= λ x. body nested.Body >>= λ s. pure (tree.while_do x s)) ts (while_word_law Near ts)
@@ -341,7 +318,7 @@ module _ (n depth : ℕ) (inner : Goal → Parser Tree) (deeper : Inner n depth 
         | inr k ↦ let d = done_is (tree.if_then q.0.1 q.1) y ts rest k.1 in let v = without_else q ts y rest k.0 d.0 d.1 in record { used = v.used; parts = v.parts; spelled = v.spelled; more = v.more; whole = v.whole; seen = v.seen; reads = v.reads }
       ]
 
-  if_law : Law Near Elses (statement_form n) (st.if_of depth inner body)
+  pub if_law : Law Near Elses (statement_form n) (st.if_of depth inner body)
   unfolding st.if_of
   if_law ts =
       then_at Near Near Elses if_word (statement_form n) (one w.If) (λ _. st.condition depth inner >>= λ x. body nested.Body >>= λ s. st.else_rest depth inner body x s) ts (if_word_law Near ts)
@@ -361,7 +338,7 @@ module _ (n depth : ℕ) (inner : Goal → Parser Tree) (deeper : Inner n depth 
   do_whole : (us : List Token) (s : Statement) (rest : List Token) → Finished (Doing n) us s rest → without_end s ++ end ≡ canon_statement s
   do_whole _ _ _ (finished _ ws _ rest (doing t u us ns vs s x _ h k b l j) e) = refl
 
-  do_law : Law Near Elses (statement_form n) (st.do_of depth inner body)
+  pub do_law : Law Near Elses (statement_form n) (st.do_of depth inner body)
   unfolding st.do_of
   do_law ts =
       weaker_known_at Near Elses (ended_form (Doing n)) (statement_form n) (one w.Do >>= λ _. body nested.Body >>= λ s. skipped (one w.While) >>= λ _. st.condition depth inner >>= λ x. st.ended (tree.do_while s x)) ts do_whole (λ s. refl) do_finished
@@ -467,7 +444,7 @@ module _ (n depth : ℕ) (inner : Goal → Parser Tree) (deeper : Inner n depth 
             ]
       ]
 
-  for_law : Law Near Elses (statement_form n) (st.for_of depth inner body)
+  pub for_law : Law Near Elses (statement_form n) (st.for_of depth inner body)
   unfolding st.for_of
   for_law ts =
       then_at Near Near Elses for_word (statement_form n) (one w.For) (λ t. one w.OpenParen >>= λ _. opened depth (st.for_rest depth inner body t.place)) ts (for_word_law Near ts)
