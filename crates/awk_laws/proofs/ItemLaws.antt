@@ -1,5 +1,5 @@
 -- The laws of actions, patterns, functions and items, and of whole scripts.
-use Rattle.std.proofs.Common.{◌≡◌, ℕ, zero, ◌≤◌, Bool, true, false, cond, List, [], ◌∷◌, ◌++◌, length, map, Ok, codes, refl, sym, ap, subst, ◌∙◌, ◌⊎◌, inl, inr, arith, append_assoc}
+use Rattle.std.proofs.Common.{◌≡◌, ℕ, zero, ◌≤◌, true, false, cond, List, [], ◌∷◌, ◌++◌, length, map, Ok, codes, refl, sym, ap, subst, ◌∙◌, ◌⊎◌, inl, inr, arith, append_assoc}
 use Rattle.std.proofs.lemmas.List.{append-nil}
 use Rattle.std.specs.List.{flat_map}
 use Rattle.awk_tokens.specs.declared.kinds.Token.{Token}
@@ -9,20 +9,19 @@ use Rattle.awk_tree.specs.declared.terminals.Terminal.{Terminal}
 use Rattle.awk_tree.specs.declared.terminals.Terminal.TheVariants as w
 use Rattle.awk_tree.specs.Tree as tree
 use Rattle.awk_tree.specs.Tree.{Tree, Statement, Condition, Entry}
-use Rattle.awk_tree.specs.Terminals.{terminal, terminal_of, is, look, ahead, sign, keyword, token}
-use Rattle.awk_tree.specs.Input.{Parser, ◌>>=◌, any, one, pure, refuse, choice, skip, skipped, past, many_from}
+use Rattle.awk_tree.specs.Terminals.{terminal, terminal_of, is, ahead, sign, keyword, token}
+use Rattle.awk_tree.specs.Input.{◌>>=◌, any, one, pure, refuse, choice, skip, skipped, past}
 use Rattle.awk_tree.specs.Expressions.{name_of, expr}
 use Rattle.awk_tree.specs.Statements as st
 use Rattle.awk_tree.specs.Statements.{ends_item, is_done}
-use Rattle.awk_tree.specs.Canon.{canon, word, canon_statement, canon_action, canon_condition, canon_names, canon_params, canon_entry, canon_script, line_end, bare_name, bare_statement, bare_condition, bare_entry}
-use Rattle.awk_laws.specs.Rules as rule
-use Rattle.awk_laws.specs.Spells.{Spells, Newlines}
+use Rattle.awk_tree.specs.Canon.{canon, word, canon_action, canon_condition, canon_names, canon_params, canon_entry, line_end, bare_name, bare_statement, bare_condition, bare_entry}
+use Rattle.awk_laws.specs.Spells.{Newlines}
 use Rattle.awk_laws.specs.SpellsScripts as r
 use Rattle.awk_laws.specs.SpellsScripts.{Gap, Block, Action, Pattern, MoreParams, Params, SpellsItem, SpellsScript}
 use Rattle.awk_laws.proofs.TerminalLemmas.{is-true, steady, terminal_is}
-use Rattle.awk_laws.proofs.Law.{Eye, Near, Behind, Form, Read, At, Law, LawOn, GoesAt, bind_ok, chosen, done_is, any_is, then_at, seq_at, last_at, Both, both, pair, pure_on, pure_at, choice_at, choice_on, if_at, if_on, This, this, any_at, one_law, Lines, lines, behind, skipped_law}
+use Rattle.awk_laws.proofs.Law.{Eye, Near, Behind, Form, Read, At, Law, GoesAt, bind_ok, chosen, done_is, any_is, then_at, seq_at, last_at, Both, both, pair, pure_on, pure_at, choice_at, choice_on, if_at, if_on, This, this, any_at, one_law, lines, behind, skipped_law}
 use Rattle.awk_laws.proofs.Many.{chain, many_law}
-use Rattle.awk_laws.proofs.Starts.{begins_expression, Starts, starts, starts_append, starts_some}
+use Rattle.awk_laws.proofs.Starts.{begins_expression, Starts, starts, starts_append}
 use Rattle.awk_laws.proofs.Words.{a_keyword, a_name, comma, opening, closing, comma_law, name_law, opening_law, closing_law}
 use Rattle.awk_laws.proofs.Operands.{Closed, closed, no_line}
 use Rattle.awk_laws.proofs.Builtins.{prefixed}

@@ -1,5 +1,5 @@
 -- What is told of tokens as they stand: what a statement begins with, and whether an `else` comes next.
-use Rattle.std.proofs.Common.{◌≡◌, ◌≢◌, ℕ, ◌≤◌, Bool, true, false, ◌||◌, List, [], ◌∷◌, ◌++◌, length, refl, sym, ap, subst, ◌∙◌, ◌⊎◌, inl, inr, arith}
+use Rattle.std.proofs.Common.{◌≡◌, ◌≢◌, ℕ, ◌≤◌, Bool, true, false, ◌||◌, List, [], ◌∷◌, ◌++◌, length, refl, sym, ap, ◌∙◌, ◌⊎◌, inl, inr, arith}
 use Rattle.awk_tokens.specs.declared.kinds.Token.{Token}
 use Rattle.awk_tree.specs.declared.terminals.Terminal.{Terminal}
 use Rattle.awk_tree.specs.declared.terminals.Terminal.TheVariants as w
@@ -12,7 +12,7 @@ use Rattle.awk_tree.specs.Canon.{canon, canon_statement}
 use Rattle.awk_laws.specs.SpellsScripts as r
 use Rattle.awk_laws.specs.SpellsScripts.{Simple, Gap, SpellsStatement}
 use Rattle.awk_laws.proofs.TerminalLemmas.{is-true, steady, terminal_is, ahead_is}
-use Rattle.awk_laws.proofs.Law.{Eye}
+use Rattle.awk_laws.proofs.Law.{Eye, decided}
 use Rattle.awk_laws.proofs.Starts.{begins_expression, Starts, starts}
 
 -- ---- how two lists of tokens are alike
@@ -224,10 +224,6 @@ lone _ _ _ _ (r.a_for n t o a b c us vs ws bs x y z s rest _ _ _ _ _ _ _ _ _ _) 
 lone _ _ _ _ (r.a_for_in n t o k i a c bs s rest _ _ _ _ _ _ _ _) e = absurd cc
 
 -- ---- whether an `else` comes next
-
-pub decided : (b : Bool) → (b ≡ true) ⊎ (b ≡ false)
-decided true = inl refl
-decided false = inr refl
 
 else_here : (us : List Token) → is (look us) w.Newline ≡ false → is (look us) w.Semicolon ≡ false → else_next us ≡ is (look us) w.Else
 else_here [] a b = refl

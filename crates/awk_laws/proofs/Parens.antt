@@ -1,8 +1,7 @@
 -- A canonical spelling closes the parentheses that it opens, and no others; so no expression begins
 -- like the `NAME in NAME )` of a for.
-use Rattle.std.proofs.Common.{◌≡◌, ℕ, Bool, true, false, ◌&&◌, if◌then◌else◌, Option, Some, None, List, [], ◌∷◌, ◌++◌, codes, refl, sym, ap, subst, ◌∙◌, ◌⊎◌, inl, inr, append_assoc}
+use Rattle.std.proofs.Common.{◌≡◌, Bool, true, false, ◌&&◌, if◌then◌else◌, Option, Some, None, List, [], ◌∷◌, ◌++◌, codes, refl, sym, ap, subst, ◌∙◌, inl, inr, append_assoc}
 use Rattle.awk_tokens.specs.declared.kinds.Token.{Token}
-use Rattle.awk_tokens.specs.declared.kinds.TokenKind.TheVariants as kind
 use Rattle.awk_tree.specs.declared.names.Member.{Member}
 use Rattle.awk_tree.specs.declared.operators.Arithmetic.{Arithmetic}
 use Rattle.awk_tree.specs.declared.operators.Arithmetic.TheVariants as arithmetic
@@ -14,10 +13,11 @@ use Rattle.awk_tree.specs.declared.terminals.Terminal.{Terminal}
 use Rattle.awk_tree.specs.declared.terminals.Terminal.TheVariants as w
 use Rattle.awk_tree.specs.Tree as t
 use Rattle.awk_tree.specs.Tree.{Tree, Trees, Perhaps, Terms, Pipes}
-use Rattle.awk_tree.specs.Terminals.{terminal, terminal_of, is, sign, keyword, token, step_text, assignment_text, builtin_text}
+use Rattle.awk_tree.specs.Terminals.{terminal, terminal_of, is, sign}
 use Rattle.awk_tree.specs.Statements.{each_next}
 use Rattle.awk_tree.specs.Canon.{canon, canon_list, canon_commas, canon_comma, canon_target, canon_file, canon_parts, canon_ands, canon_ors, canon_terms, canon_pipes, canon_members, canon_perhaps, builtin_word, arithmetic_text, comparison_text, prefix_text, match_text, substitute_text}
-use Rattle.awk_laws.proofs.TerminalLemmas.{is-true}
+use Rattle.awk_laws.proofs.TerminalLemmas.{both_true, is-true}
+use Rattle.awk_laws.proofs.Law.{decided}
 use Rattle.awk_laws.proofs.Starts.{step_is, assignment_is, builtin_is}
 
 -- whether each `)` up to a `;` closes a `(` of these tokens, or one of those that are open
@@ -185,11 +185,6 @@ mutual
 
 -- ---- the head of a for
 
-both_true : (a b : Bool) → (a && b) ≡ true → (a ≡ true) × (b ≡ true)
-both_true true true h = (refl, refl)
-both_true true false h = absurd cc
-both_true false b h = absurd cc
-
 unclosed : (us : List Token) → each_next us ≡ true → closed [] us ≡ false
 unclosed [] h = absurd cc
 unclosed (a ∷ []) h = absurd cc
@@ -208,10 +203,6 @@ unclosed (a ∷ b ∷ m ∷ e ∷ us) h =
 even_perhaps : (x : Option Tree) → Even (canon_perhaps x)
 even_perhaps None = even_nil
 even_perhaps (Some x) = even x
-
-decided : (b : Bool) → (b ≡ true) ⊎ (b ≡ false)
-decided true = inl refl
-decided false = inr refl
 
 -- an expression and a `;` are no head of a for over an array
 pub no_each : (x : Option Tree) (s : List Token) → each_next (canon_perhaps x ++ sign (codes ";") ∷ s) ≡ false

@@ -1,9 +1,7 @@
 -- The laws of statements that hold others, and of their lists.
-use Rattle.std.proofs.Common.{◌≡◌, ℕ, zero, suc, ◌+◌, Bool, true, false, cond, Option, Some, None, List, [], ◌∷◌, ◌++◌, map, option_map, Ok, codes, refl, sym, ap, subst, ◌∙◌, inl, inr, arith, append_assoc, ◌==◌}
+use Rattle.std.proofs.Common.{◌≡◌, ℕ, suc, Bool, true, false, cond, Option, Some, None, List, [], ◌∷◌, ◌++◌, option_map, Ok, codes, refl, sym, ap, subst, ◌∙◌, inl, inr, append_assoc, ◌==◌}
 use Rattle.std.proofs.lemmas.List.{append-nil}
 use Rattle.std.proofs.lemmas.Bool.{eq-eqb}
-use Rattle.std.specs.List.{flat_map}
-use Rattle.awk_text.specs.declared.place.Place.{Place}
 use Rattle.awk_tokens.specs.declared.kinds.Token.{Token}
 use Rattle.awk_tree.specs.declared.goals.Goal.{Goal}
 use Rattle.awk_tree.specs.declared.goals.Goal.TheVariants as goal
@@ -15,27 +13,23 @@ use Rattle.awk_tree.specs.Tree as tree
 use Rattle.awk_tree.specs.Tree.{Tree, Statement, Statements, statements_of}
 use Rattle.awk_tree.specs.Terminals.{number_of, terminal, terminal_of, seen, is, look, ahead, sign, keyword}
 use Rattle.awk_tree.specs.Input.{Outcome, Parser, ◌>>=◌, any, one, exactly, pure, deep, opened, skip, skipped, past}
-use Rattle.awk_tree.specs.Expressions.{name_of, expr}
+use Rattle.awk_tree.specs.Expressions.{name_of}
 use Rattle.awk_tree.specs.Statements as st
 use Rattle.awk_tree.specs.Statements.{else_next, each_next}
-use Rattle.awk_tree.specs.Canon.{canon, bare, word, canon_perhaps, canon_statement, canon_statements, bare_statement, bare_statements, end}
-use Rattle.awk_laws.specs.Rules as rule
+use Rattle.awk_tree.specs.Canon.{canon, bare, word, canon_perhaps, canon_statement, canon_statements, bare_statement, end}
 use Rattle.awk_laws.specs.Spells.{Opens, Newlines}
 use Rattle.awk_laws.specs.SpellsScripts as r
 use Rattle.awk_laws.specs.SpellsScripts.{Gap, Simple, Perhaps, Test, SpellsStatement, Body, Block}
 use Rattle.awk_laws.proofs.TerminalLemmas.{is-true, single}
-use Rattle.awk_laws.proofs.Law.{Eye, Near, Form, Read, At, Law, LawOn, Goes, GoesAt, bind_ok, chosen, done_is, any_is, then_at, seq_at, Both, both, pair, via, pure_on, This, this, any_at, one_law, lines, behind, skip_parts}
+use Rattle.awk_laws.proofs.Law.{Eye, Near, Form, Read, Law, LawOn, Goes, bind_ok, chosen, done_is, any_is, then_at, seq_at, Both, both, pair, via, pure_on, this, one_law, lines, behind, skip_parts}
 use Rattle.awk_laws.proofs.Starts.{begins_expression, Starts, starts}
-use Rattle.awk_laws.proofs.Words.{a_sign, a_keyword, opening, closing, opening_law, closing_law}
+use Rattle.awk_laws.proofs.Words.{a_keyword, opening, closing, opening_law, closing_law}
 use Rattle.awk_laws.proofs.Operands.{Inner, whole, Closed, closed}
-use Rattle.awk_laws.proofs.Depths.{at_depth}
 use Rattle.awk_laws.proofs.SimpleLaws.{without_end}
-use Rattle.awk_laws.proofs.PrintLaws.{simple_law}
-use Rattle.awk_laws.proofs.EndLaws.{Finished, finished, open_form, ended_form, end_law, with_end}
-use Rattle.awk_laws.proofs.Looks.{Looks, Elses, Blind, begins, begins_some, skip_begins, brace_begins, simple_look, simple_steady, near_looks, elses_before, else_skip, no_else_at, past_parts}
+use Rattle.awk_laws.proofs.EndLaws.{Finished, finished, open_form, ended_form, end_law}
+use Rattle.awk_laws.proofs.Looks.{Elses, Blind, else_skip, no_else_at, past_parts}
 use Rattle.awk_laws.proofs.Parens.{no_each}
-use Rattle.awk_laws.proofs.Until.{listing, Stops, until_law}
-use Rattle.awk_laws.proofs.Steps.{weaker_known_at, last_known_at, by_look_at, looks_at, took, took_exactly, skipped_blind}
+use Rattle.awk_laws.proofs.Steps.{weaker_known_at, took, took_exactly}
 
 -- ---- lists behind one another
 
@@ -358,7 +352,7 @@ module _ (n depth : ℕ) (inner : Goal → Parser Tree) (deeper : Inner n depth 
   loop_spells _ _ _ (both _ bs rest _ s (both _ _ _ _ _ (both _ _ _ _ _ (closed a us x _ ha px) (closed b vs y _ hb py)) (closed c ws z _ hc pz)) j) =
       subst (λ (m : List Token). Looping n m (tree.for_loop x y z s) rest) (sym (loop_parts us vs ws bs a b c))
       (looping us vs ws bs a b c x y z s rest ha hb hc (subst (λ (m : List Token). Perhaps (suc n) us x (a ∷ m)) (loop_after vs ws bs rest b c) px)
-          (subst (λ (m : List Token). Perhaps (suc n) vs y (b ∷ m)) (append_assoc ws (c ∷ []) (bs ++ rest)) py) pz j)
+      (subst (λ (m : List Token). Perhaps (suc n) vs y (b ∷ m)) (append_assoc ws (c ∷ []) (bs ++ rest)) py) pz j)
 
   semicolon_law : Law Blind Blind (until_form n w.Semicolon (codes ";")) (st.perhaps_until depth inner w.Semicolon)
   unfolding terminal_of

@@ -1,11 +1,11 @@
 -- How the law goes through the steps that statements take besides those of expressions.
-use Rattle.std.proofs.Common.{◌≡◌, Bool, true, false, List, [], ◌∷◌, ◌++◌, Ok, refl, sym, ap, subst, ◌∙◌, inl, inr, append_assoc}
+use Rattle.std.proofs.Common.{◌≡◌, true, List, ◌∷◌, ◌++◌, Ok, sym, ap, subst, ◌∙◌, inl, inr, append_assoc}
 use Rattle.awk_tokens.specs.declared.kinds.Token.{Token}
 use Rattle.awk_tree.specs.declared.terminals.Terminal.{Terminal}
 use Rattle.awk_tree.specs.Terminals.{is, look, ahead, terminal}
 use Rattle.awk_tree.specs.Input.{Parser, any, one, exactly, refuse, by_look, skip, skipped}
 use Rattle.awk_laws.proofs.TerminalLemmas.{single, steady, is-true, terminal_is}
-use Rattle.awk_laws.proofs.Law.{Eye, Near, Form, Law, LawOn, At, GoesAt, chosen, done_is, any_is, Lines, lines, behind, skip_parts}
+use Rattle.awk_laws.proofs.Law.{Eye, Near, Form, Law, At, GoesAt, chosen, any_is, lines, behind, skip_parts}
 use Rattle.awk_laws.proofs.Looks.{Looks, Blind, near_same}
 
 -- ---- where what was read tells more

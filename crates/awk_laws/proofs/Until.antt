@@ -1,11 +1,11 @@
 -- The law of what is read up to where a list ends.
 use Rattle.std.proofs.Common.{◌≡◌, ℕ, zero, suc, ◌≤◌, Bool, true, false, List, [], ◌∷◌, ◌++◌, length, map, Ok, refl, sym, ap, subst, ◌∙◌, inl, inr, append_assoc, arith}
-use Rattle.std.proofs.lemmas.List.{append-nil, length-append}
+use Rattle.std.proofs.lemmas.List.{length-append}
 use Rattle.std.specs.List.{flat_map}
 use Rattle.awk_tokens.specs.declared.kinds.Token.{Token}
 use Rattle.awk_tree.specs.Input.{Parser, ◌>>=◌, refuse, pure}
 use Rattle.awk_tree.specs.Statements.{until_from, many_until}
-use Rattle.awk_laws.proofs.Law.{Eye, Form, Read, At, Law, bind_ok, chosen, done_is}
+use Rattle.awk_laws.proofs.Law.{Eye, Form, Read, Law, bind_ok, chosen, done_is}
 
 -- behind another list, and what stands between
 between_same : {A : Type 0} (p sep f s : List A) → ((p ++ sep) ++ f) ++ s ≡ p ++ (sep ++ (f ++ s))
