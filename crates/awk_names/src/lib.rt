@@ -20,3 +20,4 @@ pub use mention::{Mention, Part, Role};
 pub use placement::misplaced;
 pub use requests::{names_environ, reads_main};
 pub use summary::parts;
+pub use table::Table;

@@ -1,0 +1,7 @@
+pub mod Reached
+pub mod Marking
+pub mod Numbering
+pub mod Uses
+pub mod Marks
+pub mod Clash
+pub mod Assigns
