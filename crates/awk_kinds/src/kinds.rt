@@ -2,6 +2,7 @@
 
 ghost use Rattle.std.specs.Prelude.{◌≡◌, ◌↔◌, true, List, Some, IfOk, IfErr, OnOk};
 ghost use Rattle.awk_names.specs.Faults.{Misdefined};
+ghost use Rattle.awk_names.specs.Faultless.{GivesArrays};
 ghost use Rattle.awk_names.specs.Kinds.{Agrees, Clashes};
 ghost use Rattle.awk_names.specs.declared.mention.Part as items;
 ghost use Rattle.awk_text.specs.declared.place.Place as places;
@@ -66,6 +67,7 @@ impl Kinds {
         ensures kinds { IfOk result (λ found. IfOk found (λ kinds. AreKinds parts.now kinds)) }
         ensures agree { IfOk result (λ found. OnOk found (Agrees parts.now)) }
         ensures none { IfOk result (λ found. OnOk found ((place : places.Place) → Clashes parts.now place → ⊥)) }
+        ensures gives { IfOk result (λ found. OnOk found (GivesArrays parts.now)) }
         ensures clash { IfOk result (λ found. IfErr found (λ place. Clashes parts.now place)) }
     {
         let kinds = Kinds::marked(alloc, parts)?;

@@ -1,4 +1,5 @@
 use Rattle.std.proofs.Common.{sym, ◌∙◌}
+use Rattle.awk_names.specs.Kinds.{no_array}
 use Rattle.awk_kinds.proofs.Agreeing.{agrees, no_clash, clashes}
 use Rattle.awk_kinds.proofs.kinds.Kinds.of.Goals as goal
 
@@ -10,3 +11,7 @@ returns-in-None-clause-agree c = agrees _ c.requires _ c.in_ok-kinds.ensures.num
 
 pub returns-in-None-clause-none : goal.returns-in-None-clause-none
 returns-in-None-clause-none c = no_clash _ c.requires _ c.in_ok-kinds.ensures.numbers c.in_ok-kinds.ensures.kinds (sym c.first_clash.ensures ∙ c.in-None.is)
+
+pub returns-in-None-clause-gives : goal.returns-in-None-clause-gives
+returns-in-None-clause-gives c = λ r f args i q calls none takes forced.
+    no_clash _ c.requires _ c.in_ok-kinds.ensures.numbers c.in_ok-kinds.ensures.kinds (sym c.first_clash.ensures ∙ c.in-None.is) f.place (no_array r f args i q calls none takes forced)
