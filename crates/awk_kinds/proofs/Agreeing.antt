@@ -328,3 +328,6 @@ module _ (parts : List Part) (well : (place : Place) → Misdefined parts place 
           of_call : NoArray q → Clashes parts q
           of_call (p, f, args, i, x, d, g, none, tk, array, at2) =
               rw at2 at (k.no_array p.role f args i x (p, d, refl, g) none tk ((kinds (parameter f.text x.text) k.array).0 array))
+
+  pub comes_first : (q : Place) → over (s.at_part c) parts None ≡ Some q → (other : Place) → Clashes parts other → NotAfter q other
+  comes_first q e other h = let found : Least All (Some q) = rw e at (least c parts) in found.1 other (clash_there other h)

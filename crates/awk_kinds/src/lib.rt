@@ -5,6 +5,7 @@ mod clash;
 mod kinds;
 mod numbers;
 mod reach;
+mod slots;
 mod spelling;
 mod uses;
 mod variables;
