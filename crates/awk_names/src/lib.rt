@@ -22,3 +22,4 @@ pub use placement::misplaced;
 pub use places::faultless_places_aside;
 pub use requests::{names_environ, reads_main};
 pub use summary::parts;
+pub use table::Table;
