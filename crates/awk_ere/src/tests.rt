@@ -1,8 +1,7 @@
 // What no clause says: that calls succeed, that the definitions mean what was meant, and that hostile
 // patterns take little time and stack.
-use crate::Ere;
-use crate::Plain;
 use crate::error::MAX_BYTES;
+use crate::{Ere, Plain};
 use std::alloc::Global;
 use std::test::Fail;
 
@@ -206,19 +205,12 @@ fn spelled(alloc: Global, parts: u32, mut seed: u64) -> Result<Vec<u8>, Fail> {
     Ok(whole)
 }
 
-/// The fast search and the plain one give the same from the place on.
-fn assert_same(
-    rt: &HostRuntime,
-    ere: &Ere,
-    plain: &Plain,
-    text: &[u8],
-    from: usize,
-) -> Result<(), Fail> {
+/// Whether the fast search and the plain one give the same from the place on.
+fn agree(alloc: Global, ere: &Ere, plain: &Plain, text: &[u8], from: usize) -> Result<bool, Fail> {
     if from > text.len() {
         return Err(Fail::new("the search begins behind the text's end"));
     }
-    assert_eq!(rt; ere.find(text, from)?, plain.find(rt.alloc(), text, from)?);
-    Ok(())
+    Ok(ere.find(text, from)? == plain.find(alloc, text, from)?)
 }
 
 #[test]
@@ -231,8 +223,8 @@ fn as_the_plain_search(rt: HostRuntime) -> Result<(), Fail> {
         let ere = Ere::parse(rt.alloc(), &pattern)?;
         let plain = Plain::parse(rt.alloc(), &pattern)?;
         for text in texts {
-            assert_same(&rt, &ere, &plain, text, 0)?;
-            assert_same(&rt, &ere, &plain, text, text.len() / 3)?;
+            assert!(rt; agree(rt.alloc(), &ere, &plain, text, 0)?);
+            assert!(rt; agree(rt.alloc(), &ere, &plain, text, text.len() / 3)?);
             let best = plain.find(rt.alloc(), text, 0)?;
             assert_eq!(rt; ere.is_match(text)?, best.is_some());
         }
