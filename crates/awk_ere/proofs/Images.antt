@@ -1,6 +1,5 @@
 -- Sets of places, and what each kind of pattern makes of them.
-use Rattle.std.proofs.Common.{◌≡◌, ◌↔◌, ℕ, zero, suc, ◌+◌, ◌-◌, ◌<◌, ◌≤◌, ◌⊎◌, ◌==◌, inl, inr, Bool, true, false, ◌&&◌, ◌||◌, List, [], ◌∷◌, ◌++◌, length, slice_index, slice_index_or, Option, Some, None, option_map, refl, sym, ◌∙◌, ap, subst, arith, get_or-set_other, get_or-set_same}
-use Rattle.std.proofs.Math.ListN.{set, replicate, length-replicate}
+use Rattle.std.proofs.Common.{◌≡◌, ◌↔◌, ℕ, zero, suc, ◌+◌, ◌-◌, ◌<◌, ◌≤◌, ◌⊎◌, ◌==◌, inl, inr, Bool, true, false, ◌&&◌, ◌||◌, List, [], ◌∷◌, ◌++◌, length, slice_index, slice_index_or, Option, Some, None, option_map, refl, sym, ◌∙◌, ap, subst, arith}
 use Rattle.std.proofs.lemmas.Bool.{cases_lt, cases_eq, true≢false, and_parts, and_from, or_cases, or_left, or_right, eqb-true, eq-eqb}
 use Rattle.std.proofs.lemmas.List.{get_or_past}
 use Rattle.awk_ere.specs.Pattern.{Pattern, empty, bytes, start, finish, cat, alt, repeat, Chain, AtMost, Matches}
@@ -14,7 +13,6 @@ use Rattle.awk_ere.specs.View.{pattern}
 use Rattle.awk_ere.specs.declared.node.Node.{Node}
 use Rattle.awk_ere.proofs.Gathering.{flags_begin, flags_push}
 use Rattle.awk_ere.proofs.Normal.{chain_joined}
-use Rattle.awk_ere.proofs.Sets.{has_none}
 
 in_below : (set : List Bool) (i : ℕ) → IsIn set i → i < length set
 in_below set i h = elim (cases_lt i (length set)) [
@@ -307,22 +305,16 @@ last_more set after at lt e none h = λ j le is. elim (cases_eq j at) [
 ]
 
 pub last_found : (set : List Bool) (after at : ℕ) → after < length set → at ≡ length set - 1 - after → IsIn set at → NoneAfter set after → IsLast set (Some at)
-last_found set after at lt e is h = (is, λ j there. elim (cases_lt at j) [
-  | inl more ↦ absurd (h j (omega (arith, more, lt, e)) there)
-  | inr le ↦ le
-])
+last_found set after at lt e is h = (
+  is,
+  λ j there. elim (cases_lt at j) [
+    | inl more ↦ absurd (h j (omega (arith, more, lt, e)) there)
+    | inr le ↦ le
+  ],
+)
 
 pub last_none : (set : List Bool) (after : ℕ) → length set ≤ after → NoneAfter set after → IsLast set None
 last_none set after le h = λ j is. h j (omega (arith, le)) is
-
--- one place of the text
-pub single_is : (n place : ℕ) → place < n → IsSingle place (set (replicate n false) place true)
-single_is n place lt = λ j. elim (cases_eq j place) [
-  | inl same ↦ ((λ is. same), (λ e. subst (λ x. IsIn (set (replicate n false) place true) x) (sym same) there))
-  | inr ne ↦ ((λ is. absurd (true≢false (sym is ∙ get_or-set_other (replicate n false) place j true false ne ∙ has_none n j))), (λ e. absurd (ne e)))
-] where
-  there : IsIn (set (replicate n false) place true) place
-  there = get_or-set_same (replicate n false) place true false (omega (arith, lt, length-replicate {A = Bool}))
 
 -- the longest match from a place
 module _ (s : List ℕ) (p : Pattern) where

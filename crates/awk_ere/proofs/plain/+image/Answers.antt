@@ -1,4 +1,4 @@
-use Rattle.std.proofs.Common.{◌≡◌, add-one, Some, None, Result, Ok, Err, refl, sym, ◌∙◌}
+use Rattle.std.proofs.Common.{add-one, Some, None, Result, Ok, Err, refl, sym, ◌∙◌}
 use Rattle.std.specs.Cmp.{booleans_Decides}
 use Rattle.std.specs.Result.{IfOk}
 use Rattle.std.proofs.lemmas.Bool.{true≢false}
