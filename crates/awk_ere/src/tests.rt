@@ -172,12 +172,11 @@ fn leaf(seed: u64) -> &'static [u8] {
     }
 }
 
-/// These texts, one after the other.
-fn row(alloc: Global, texts: &[&[u8]]) -> Result<Vec<u8>, Fail> {
-    let mut all = Vec::new(alloc);
-    for text in texts {
-        all.extend_from_slice(text)?;
-    }
+/// A text between two others.
+fn between(alloc: Global, front: &[u8], text: &[u8], back: &[u8]) -> Result<Vec<u8>, Fail> {
+    let mut all = Vec::from_slice(alloc, front)?;
+    all.extend_from_slice(text)?;
+    all.extend_from_slice(back)?;
     Ok(all)
 }
 
@@ -185,13 +184,16 @@ fn row(alloc: Global, texts: &[&[u8]]) -> Result<Vec<u8>, Fail> {
 fn grown(alloc: Global, whole: &[u8], seed: u64) -> Result<Vec<u8>, Fail> {
     let other = leaf(next(seed));
     match (seed >> 44) % 10 {
-        0 => row(alloc, &[b"(", whole, b")*"]),
-        1 => row(alloc, &[b"(", whole, b"){1,2}"]),
-        2 => row(alloc, &[b"(", whole, b"){2,}"]),
-        3 => row(alloc, &[b"(", whole, b"|", other, b")"]),
-        4 => row(alloc, &[b"(|", whole, b")"]),
-        5 => row(alloc, &[other, whole]),
-        _ => row(alloc, &[whole, other]),
+        0 => between(alloc, b"(", whole, b")*"),
+        1 => between(alloc, b"(", whole, b"){1,2}"),
+        2 => between(alloc, b"(", whole, b"){2,}"),
+        3 => {
+            let front = between(alloc, b"(", whole, b"|")?;
+            between(alloc, &front, other, b")")
+        }
+        4 => between(alloc, b"(|", whole, b")"),
+        5 => between(alloc, other, whole, b""),
+        _ => between(alloc, whole, other, b""),
     }
 }
 
