@@ -18,3 +18,4 @@ pub mod Tables
 pub mod Gathering
 pub mod Seeking
 pub mod Literals
+pub mod Images

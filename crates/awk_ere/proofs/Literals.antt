@@ -1,17 +1,16 @@
 -- A pattern in which each byte stands for itself is found as a text.
-use Rattle.std.proofs.Common.{◌≡◌, ◌↔◌, IsTrue, ℕ, zero, suc, ◌+◌, ◌-◌, ◌<◌, ◌≤◌, ◌==◌, ◌&&◌, ◌||◌, inl, inr, Bool, true, false, cond, List, [], ◌∷◌, ◌++◌, length, drop, get_or, Option, Some, None, is_some, refl, sym, ◌∙◌, ap, subst, append_assoc, arith}
+use Rattle.std.proofs.Common.{◌≡◌, ℕ, zero, suc, ◌+◌, ◌-◌, ◌<◌, ◌≤◌, ◌==◌, ◌&&◌, ◌||◌, inl, inr, Bool, true, false, cond, List, [], ◌∷◌, ◌++◌, length, drop, get_or, Option, Some, None, refl, sym, ◌∙◌, ap, subst, append_assoc, arith}
 use Rattle.std.proofs.lemmas.Bool.{cases_lt, eqb-true, eq-eqb}
 use Rattle.std.proofs.lemmas.List.{get_or-drop, length-drop}
 use Rattle.memchr.specs.Find.{OccursAt, FindsNeedle}
 use Rattle.awk_ere.specs.Pattern.{Pattern, empty, bytes, cat, Matches}
 use Rattle.awk_ere.specs.Best.{Best}
 use Rattle.awk_ere.specs.Token as spec
-use Rattle.awk_ere.specs.Reading.{Spot, front_at, Leads, first_spot, IsRead}
-use Rattle.awk_ere.specs.Grammar.{ere, branch, Spells, one_branch, no_piece, then_item, single}
-use Rattle.awk_ere.specs.Spelled.{IsPattern, Finds, HasMatch}
+use Rattle.awk_ere.specs.Reading.{Spot, front_at, Leads}
+use Rattle.awk_ere.specs.Grammar.{branch, Spells, one_branch, no_piece, then_item, single}
+use Rattle.awk_ere.specs.Spelled.{IsPattern, Finds}
 use Rattle.awk_ere.specs.Literal.{is_special, IsLiteral, FindsText}
-use Rattle.awk_ere.specs.declared.front.Lead.{Lead}
-use Rattle.awk_ere.specs.declared.front.Lead.TheVariants.{Bracket, Escape, Brace, Sign}
+use Rattle.awk_ere.specs.declared.front.Lead.TheVariants.{Sign}
 
 or_off : (x y : Bool) → (x || y) ≡ false → (x ≡ false) × (y ≡ false)
 or_off true y e = absurd (cc)

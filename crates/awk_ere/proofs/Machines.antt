@@ -8,7 +8,7 @@ use Rattle.awk_ere.specs.Program.{Means, IsSound, Grows, Compiles}
 use Rattle.awk_ere.specs.Search.{IsMachine}
 use Rattle.awk_ere.specs.Table.{anywhere, EndsSomewhere}
 use Rattle.awk_ere.specs.View.{pattern}
-use Rattle.awk_ere.specs.Tree.{IsWhole}
+use Rattle.awk_ere.specs.Tree.{IsWhole, IsTree}
 use Rattle.awk_ere.specs.declared.tree.Part.{Part}
 use Rattle.awk_ere.specs.declared.node.Node.{Node}
 use Rattle.awk_ere.specs.declared.program.Step.{Step}
@@ -62,18 +62,24 @@ pub record IsMade (text : List ℕ) (sets : List (List Bool)) (program : List St
   pub machine : IsMachine sets program entry pattern
   pub scanner : IsMachine sets program scan (anywhere pattern)
 
-pub accepted : (text : List ℕ) (sets : List (List Bool)) (part : Part) (a program : List Step) (entry scan : ℕ) → length text ≤ 4096 → IsWhole text sets part → part.size ≤ 20000
-    → Compiles (Done ∷ []) a entry (λ sets. pattern sets part.node) 0 → Compiles a program scan (λ _. repeat (bytes (λ b. true)) 0 None) entry → IsMade text sets program entry scan
-accepted text sets part a program entry scan short (ts, p, n, read, spells, stands) small h g =
-    let same = stands.same sets (later_same sets) in
-    record {
-      pattern = p;
-      is = record { size = n; spelled = (ts, read, spells); short = short; small = no_larger part.size n stands.size small };
-      machine = machine sets program entry part.node p (compiled_later (Done ∷ []) a program entry 0 (λ sets. pattern sets part.node) h g.sound g.grows) same;
-      scanner = machine_of sets program scan (λ sets. anywhere (pattern sets part.node)) (anywhere p)
-          (compiles_cat (Done ∷ []) a program scan entry 0 (λ _. repeat (bytes (λ b. true)) 0 None) (λ sets. pattern sets part.node) h g)
-          (same_after (repeat (bytes (λ b. true)) 0 None) (pattern sets part.node) p same);
-    }
+-- a tree that was read, where its text is within the limits
+pub within : (text : List ℕ) (sets : List (List Bool)) (part : Part) → length text ≤ 4096 → part.size ≤ 20000 → IsWhole text sets part → IsTree text sets part.node
+within text sets part short small (ts, p, n, read, spells, stands) = (
+  p,
+  record { size = n; spelled = (ts, read, spells); short = short; small = no_larger part.size n stands.size small },
+  stands.same sets (later_same sets),
+)
+
+pub accepted : (text : List ℕ) (sets : List (List Bool)) (node : Node) (a program : List Step) (entry scan : ℕ) → IsTree text sets node
+    → Compiles (Done ∷ []) a entry (λ sets. pattern sets node) 0 → Compiles a program scan (λ _. repeat (bytes (λ b. true)) 0 None) entry → IsMade text sets program entry scan
+accepted text sets node a program entry scan (p, is, same) h g = record {
+  pattern = p;
+  is = is;
+  machine = machine sets program entry node p (compiled_later (Done ∷ []) a program entry 0 (λ sets. pattern sets node) h g.sound g.grows) same;
+  scanner = machine_of sets program scan (λ sets. anywhere (pattern sets node)) (anywhere p)
+      (compiles_cat (Done ∷ []) a program scan entry 0 (λ _. repeat (bytes (λ b. true)) 0 None) (λ sets. pattern sets node) h g)
+      (same_after (repeat (bytes (λ b. true)) 0 None) (pattern sets node) p same);
+}
 
 -- what a table's search that may begin anywhere says
 pub has_scanned : (source s : List ℕ) (sets : List (List Bool)) (program : List Step) (entry scan : ℕ) (p : Pattern) (b : Bool) → IsPattern source p → IsMachine sets program entry p → IsMachine sets program scan (anywhere p)

@@ -5,7 +5,7 @@ use Rattle.awk_ere.specs.Same.{IsSame}
 use Rattle.awk_ere.specs.Tree.{is_simple, is_exactly, merged}
 use Rattle.awk_ere.specs.Pattern.{Pattern, empty, cat, alt, repeat, Chain, AtMost, Matches}
 
-chain_joined : (R : ℕ → ℕ → Type 0) (n m i j k : ℕ) → Chain R n i j → Chain R m j k → (c : ℕ) × (c ≡ n + m) × Chain R c i k
+pub chain_joined : (R : ℕ → ℕ → Type 0) (n m i j k : ℕ) → Chain R n i j → Chain R m j k → (c : ℕ) × (c ≡ n + m) × Chain R c i k
 chain_joined R zero m i j k is rest = (m, omega arith, subst (λ x. Chain R m x k) (sym is) rest)
 chain_joined R (suc n) m i j k (l, one, chain) rest = let y = chain_joined R n m l j k chain rest in (suc y.0, omega (arith, y.1), (l, one, y.2))
 

@@ -15,3 +15,4 @@ pub mod View
 pub mod Same
 pub mod Lexing
 pub mod Tree
+pub mod Image

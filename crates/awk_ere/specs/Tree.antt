@@ -5,8 +5,10 @@ use Rattle.awk_ere.specs.Token.{Token, atom, anchor, times, opening, closing, ba
 use Rattle.awk_ere.specs.Reading.{IsRead}
 use Rattle.awk_ere.specs.Grammar.{ere, Spells}
 use Rattle.awk_ere.specs.Same.{IsSame}
+use Rattle.awk_ere.specs.Spelled.{IsPattern}
 use Rattle.awk_ere.specs.Lexing.{Later}
 use Rattle.awk_ere.specs.View.{pattern}
+use Rattle.awk_ere.specs.declared.node.Node.{Node}
 use Rattle.awk_ere.specs.declared.tree.Part as code_part
 use Rattle.awk_ere.specs.declared.tree.Frame as code_frame
 use Rattle.awk_ere.specs.declared.tree.TheConstants.{TOO_LARGE}
@@ -125,3 +127,7 @@ IsStack sets groups f (Some stack) = AreFrames sets groups stack.0 × IsFrame se
 -- the part stands for the pattern that the whole text spells
 abbrev pub IsWhole : List ℕ → List (List Bool) → code_part.Part → Type 0
 IsWhole text sets part = (ts : List Token) × (p : Pattern) × (n : ℕ) × IsRead text ts × Spells ere ts p n × Stands sets part (p, n)
+
+-- the tree stands for the pattern that the text spells within the limits
+abbrev pub IsTree : List ℕ → List (List Bool) → Node → Type 0
+IsTree text sets node = (p : Pattern) × IsPattern text p × IsSame (pattern sets node) p

@@ -1,20 +1,17 @@
 // Patterns, and the search for their best match.
-ghost use Rattle.std.specs.Prelude.{◌≡◌, ◌≢◌, ◌≤◌, length, IfOk, IfErr};
+ghost use Rattle.std.specs.Prelude.{◌≡◌, ◌≤◌, length, IfOk, IfErr};
 ghost use Rattle.awk_ere.specs.Pattern.{Pattern};
-ghost use Rattle.awk_ere.specs.Reading.{HasFault};
 ghost use Rattle.awk_ere.specs.Spelled.{IsPattern, IsAccepted, IsRefused, Finds, HasMatch, code_of};
-ghost use Rattle.awk_ere.specs.Tree.{IsWhole};
 
 use crate::bracket::Set;
 use crate::compile::{compile, compile_scan};
-use crate::error::{EreError, Fault, MAX_BYTES, MAX_SIZE};
-use crate::front::front;
+use crate::error::{EreError, Fault};
 use crate::literal::{find_text, is_literal};
 use crate::program::Step;
+use crate::read::read_within;
 use crate::search::search;
 use crate::states::{Table, make_table};
 use crate::table::{self, Sought};
-use crate::tree::{Part, finish, fresh, take};
 use awk_text::Memory;
 use std::alloc::Global;
 use std::marker::Model;
@@ -31,24 +28,6 @@ pub struct Ere {
     entry: usize,
     scan: usize,
     table: Table,
-}
-
-/// The tree of the text's pattern. The sets of its bracket expressions are put into `sets`.
-///
-/// Errors: the text's leftmost fault, or `Memory`.
-fn read(alloc: Global, text: &[u8], sets: &mut Vec<Set>) -> Result<Part, Fault>
-    ensures ok { IfOk result (λ part. IsWhole text.now sets.new.items part) }
-    ensures err { IfErr result (λ f. f ≢ Fault.Memory → HasFault text.now f) }
-{
-    let mut groups = Vec::new(alloc);
-    let mut top = fresh();
-    let mut rest = text;
-    while let Some((token, after)) = front(rest, !groups.is_empty(), top.last.is_some(), sets)? {
-        top = take(alloc, token, top, &mut groups)?;
-        rest = after;
-    }
-    let whole = finish(alloc, top)?;
-    Ok(whole)
 }
 
 impl Model for Ere {
@@ -70,14 +49,8 @@ impl Ere {
         ensures ok { IfOk result (λ e. IsAccepted text.now e) }
         ensures err { IfErr result (λ f. IsRefused text.now (code_of f)) }
     {
-        if text.len() > MAX_BYTES {
-            return Err(Fault::Size);
-        }
         let mut sets = Vec::new(alloc);
-        let Part { node, size } = read(alloc, text, &mut sets)?;
-        if size > MAX_SIZE {
-            return Err(Fault::Size);
-        }
+        let node = read_within(alloc, text, &mut sets)?;
         let mut program = Vec::new(alloc);
         program.push(Step::Done)?;
         let entry = compile(&node, 0, &mut program)?;

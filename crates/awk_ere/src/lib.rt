@@ -10,7 +10,9 @@ mod front;
 mod interval;
 mod literal;
 mod node;
+pub mod plain;
 mod program;
+mod read;
 mod search;
 mod states;
 mod table;
@@ -21,3 +23,4 @@ mod tree;
 
 pub use ere::Ere as Ere;
 pub use error::EreError as EreError;
+pub use plain::Plain as Plain;

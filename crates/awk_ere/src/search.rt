@@ -5,7 +5,7 @@ ghost use Rattle.awk_ere.specs.Search.{targets, target_of, IsListed, IsBlank, Is
 
 use crate::bracket::Set;
 use crate::program::Step;
-use crate::token::Class;
+use crate::token::takes;
 use std::alloc::{AllocError, Global};
 use std::mem;
 
@@ -79,19 +79,6 @@ pub fn reach(
         }
     }
     Ok(())
-}
-
-pub fn takes(sets: &[Set], class: Class, byte: u8) -> bool
-    ensures { result ≡ holds sets.now class byte }
-{
-    match class {
-        Class::One(taken) => byte == taken,
-        Class::Any => true,
-        Class::In(number) => match sets.get(number) {
-            Some(set) => set[byte as usize],
-            None => false,
-        },
-    }
 }
 
 /// Where a step goes over the byte.

@@ -1,7 +1,7 @@
 // What no clause says: that calls succeed, that the definitions mean what was meant, and that hostile
 // patterns take little time and stack.
-use crate::Ere;
 use crate::error::MAX_BYTES;
+use crate::{Ere, Plain};
 use std::alloc::Global;
 use std::test::Fail;
 
@@ -154,193 +154,80 @@ fn long_texts(rt: HostRuntime) -> Result<(), Fail> {
     Ok(())
 }
 
-/// A pattern, for a plain and slow search that follows the definition of a match.
-#[derive(Drop)]
-enum Plain {
-    Byte(u8),
-    Any,
-    Start,
-    End,
-    Cat(Box<Plain>, Box<Plain>),
-    Alt(Box<Plain>, Box<Plain>),
-    Star(Box<Plain>),
-    Twice(Box<Plain>),
-}
-
 /// The next number of a row that the seed begins.
 fn next(seed: u64) -> u64 {
     seed.wrapping_mul(6364136223846793005)
         .wrapping_add(1442695040888963407)
 }
 
-/// A byte or an anchor that the seed chooses.
-fn leaf(seed: u64) -> Plain {
-    match (seed >> 40) % 9 {
-        0 => Plain::Any,
-        1 => Plain::Start,
-        2 => Plain::End,
-        3 | 4 | 5 => Plain::Byte(b'a'),
-        _ => Plain::Byte(b'b'),
+/// A byte, a set or an anchor that the seed chooses.
+fn leaf(seed: u64) -> &'static [u8] {
+    match (seed >> 40) % 10 {
+        0 => b".",
+        1 => b"^",
+        2 => b"$",
+        3 => b"[^a]",
+        4 | 5 | 6 => b"a",
+        _ => b"b",
     }
 }
 
-/// The pattern with one part more.
-fn grown(alloc: Global, whole: Plain, seed: u64) -> Result<Plain, Fail> {
-    let whole = Box::new(alloc, whole)?;
+/// A text between two others.
+fn between(alloc: Global, front: &[u8], text: &[u8], back: &[u8]) -> Result<Vec<u8>, Fail> {
+    let mut all = Vec::from_slice(alloc, front)?;
+    all.extend_from_slice(text)?;
+    all.extend_from_slice(back)?;
+    Ok(all)
+}
+
+/// The pattern's text with one part more.
+fn grown(alloc: Global, whole: &[u8], seed: u64) -> Result<Vec<u8>, Fail> {
     let other = leaf(next(seed));
-    match (seed >> 44) % 7 {
-        0 => Ok(Plain::Star(whole)),
-        1 => Ok(Plain::Twice(whole)),
-        2 => Ok(Plain::Alt(whole, Box::new(alloc, other)?)),
-        3 => Ok(Plain::Cat(Box::new(alloc, other)?, whole)),
-        _ => Ok(Plain::Cat(whole, Box::new(alloc, other)?)),
+    match (seed >> 44) % 10 {
+        0 => between(alloc, b"(", whole, b")*"),
+        1 => between(alloc, b"(", whole, b"){1,2}"),
+        2 => between(alloc, b"(", whole, b"){2,}"),
+        3 => {
+            let front = between(alloc, b"(", whole, b"|")?;
+            between(alloc, &front, other, b")")
+        }
+        4 => between(alloc, b"(|", whole, b")"),
+        5 => between(alloc, other, whole, b""),
+        _ => between(alloc, whole, other, b""),
     }
 }
 
-/// A pattern of so many parts that the seed chooses.
-fn pattern(alloc: Global, parts: u32, mut seed: u64) -> Result<Plain, Fail> {
-    let mut whole = leaf(seed);
+/// The text of a pattern of so many parts that the seed chooses.
+fn spelled(alloc: Global, parts: u32, mut seed: u64) -> Result<Vec<u8>, Fail> {
+    let mut whole = Vec::from_slice(alloc, leaf(seed))?;
     for _ in 0..parts {
         seed = next(seed);
-        whole = grown(alloc, whole, seed)?;
+        whole = grown(alloc, &whole, seed)?;
     }
     Ok(whole)
 }
 
-/// Writes the pattern as text.
-fn spell(plain: &Plain, text: &mut Vec<u8>) -> Result<(), Fail> {
-    match plain {
-        Plain::Byte(byte) => text.push(*byte)?,
-        Plain::Any => text.push(b'.')?,
-        Plain::Start => text.push(b'^')?,
-        Plain::End => text.push(b'$')?,
-        Plain::Cat(left, right) => {
-            spell(left, text)?;
-            spell(right, text)?;
-        }
-        Plain::Alt(left, right) => {
-            text.push(b'(')?;
-            spell(left, text)?;
-            text.push(b'|')?;
-            spell(right, text)?;
-            text.push(b')')?;
-        }
-        Plain::Star(inner) => {
-            text.push(b'(')?;
-            spell(inner, text)?;
-            text.extend_from_slice(b")*")?;
-        }
-        Plain::Twice(inner) => {
-            text.push(b'(')?;
-            spell(inner, text)?;
-            text.extend_from_slice(b"){1,2}")?;
-        }
+/// Whether the fast search and the plain one give the same from the place on.
+fn agree(alloc: Global, ere: &Ere, plain: &Plain, text: &[u8], from: usize) -> Result<bool, Fail> {
+    if from > text.len() {
+        return Err(Fail::new("the search begins behind the text's end"));
     }
-    Ok(())
-}
-
-/// Adds the places of the second list that the first lacks.
-fn join(all: &mut Vec<usize>, more: &[usize]) -> Result<(), Fail> {
-    for place in more {
-        if !all.contains(place) {
-            all.push(*place)?;
-        }
-    }
-    Ok(())
-}
-
-/// The ends of the matches that start at one of the places.
-fn ends(alloc: Global, plain: &Plain, text: &[u8], starts: &[usize]) -> Result<Vec<usize>, Fail> {
-    let mut found = Vec::new(alloc);
-    match plain {
-        Plain::Byte(byte) => {
-            for start in starts {
-                if text.get(*start) == Some(byte) {
-                    found.push(start.saturating_add(1))?;
-                }
-            }
-        }
-        Plain::Any => {
-            for start in starts {
-                if *start < text.len() {
-                    found.push(start.saturating_add(1))?;
-                }
-            }
-        }
-        Plain::Start => {
-            if starts.contains(&0) {
-                found.push(0)?;
-            }
-        }
-        Plain::End => {
-            if starts.contains(&text.len()) {
-                found.push(text.len())?;
-            }
-        }
-        Plain::Cat(left, right) => {
-            let middle = ends(alloc, left, text, starts)?;
-            found = ends(alloc, right, text, &middle)?;
-        }
-        Plain::Alt(left, right) => {
-            found = ends(alloc, left, text, starts)?;
-            join(&mut found, &ends(alloc, right, text, starts)?)?;
-        }
-        Plain::Star(inner) => {
-            found.extend_from_slice(starts)?;
-            for _ in 0..text.len() {
-                let more = ends(alloc, inner, text, &found)?;
-                join(&mut found, &more)?;
-            }
-        }
-        Plain::Twice(inner) => {
-            found = ends(alloc, inner, text, starts)?;
-            let more = ends(alloc, inner, text, &found)?;
-            join(&mut found, &more)?;
-        }
-    }
-    Ok(found)
-}
-
-/// The best match by trying each start.
-fn slow(
-    alloc: Global,
-    plain: &Plain,
-    text: &[u8],
-    from: usize,
-) -> Result<Option<(usize, usize)>, Fail> {
-    for start in from..text.len().saturating_add(1) {
-        let found = ends(alloc, plain, text, &[start])?;
-        let mut last = None;
-        for end in &found {
-            if last < Some(*end) {
-                last = Some(*end);
-            }
-        }
-        if let Some(end) = last {
-            return Ok(Some((start, end)));
-        }
-    }
-    Ok(None)
+    Ok(ere.find(text, from)? == plain.find(alloc, text, from)?)
 }
 
 #[test]
-fn as_the_slow_search(rt: HostRuntime) -> Result<(), Fail> {
+fn as_the_plain_search(rt: HostRuntime) -> Result<(), Fail> {
     let texts: [&[u8]; 6] = [b"", b"a", b"ba", b"abba", b"bbbabab", b"aaaaaaaab"];
     let mut seed = 7u64;
     for i in 0..400u32 {
         seed = next(seed);
-        let plain = pattern(rt.alloc(), i % 9, seed)?;
-        let mut spelled = Vec::new(rt.alloc());
-        spell(&plain, &mut spelled)?;
-        let ere = Ere::parse(rt.alloc(), &spelled)?;
+        let pattern = spelled(rt.alloc(), i % 9, seed)?;
+        let ere = Ere::parse(rt.alloc(), &pattern)?;
+        let plain = Plain::parse(rt.alloc(), &pattern)?;
         for text in texts {
-            let from = (text.len() / 3).min(text.len());
-            let best = slow(rt.alloc(), &plain, text, 0)?;
-            assert_eq!(rt; ere.find(text, 0)?, best);
-            assert_eq!(rt;
-                ere.find(text, from)?,
-                slow(rt.alloc(), &plain, text, from)?
-            );
+            assert!(rt; agree(rt.alloc(), &ere, &plain, text, 0)?);
+            assert!(rt; agree(rt.alloc(), &ere, &plain, text, text.len() / 3)?);
+            let best = plain.find(rt.alloc(), text, 0)?;
             assert_eq!(rt; ere.is_match(text)?, best.is_some());
         }
     }

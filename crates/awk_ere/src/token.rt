@@ -1,4 +1,8 @@
 // The tokens of a pattern.
+ghost use Rattle.std.specs.Prelude.{◌≡◌};
+ghost use Rattle.awk_ere.specs.Program.{holds};
+
+use crate::bracket::Set;
 
 /// The bytes that an atom takes.
 #[derive(Clone, Copy, Debug, PartialEq, Eq)]
@@ -29,4 +33,18 @@ pub enum Token {
     Opening,
     Closing,
     Bar,
+}
+
+/// Whether the byte is in the class.
+pub fn takes(sets: &[Set], class: Class, byte: u8) -> bool
+    ensures { result ≡ holds sets.now class byte }
+{
+    match class {
+        Class::One(taken) => byte == taken,
+        Class::Any => true,
+        Class::In(number) => match sets.get(number) {
+            Some(set) => set[byte as usize],
+            None => false,
+        },
+    }
 }

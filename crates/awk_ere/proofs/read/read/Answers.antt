@@ -1,7 +1,7 @@
 use Rattle.std.proofs.Common.{◌≡◌, ◌==◌, ℕ, length, not, nat_lt, vec_len, ap, sym, ◌∙◌, arith}
 use Rattle.std.proofs.lemmas.Bool.Decides.{nat_tests}
 use Rattle.awk_ere.proofs.Wholes.{reading_begins, reading_more, reading_later, reading_ends}
-use Rattle.awk_ere.proofs.ere.read.Goals as goal
+use Rattle.awk_ere.proofs.read.read.Goals as goal
 
 some_open : (n : ℕ) → not (n == 0) ≡ nat_lt 0 n
 some_open n = grind (arith, nat_tests)
