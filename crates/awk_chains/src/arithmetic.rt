@@ -54,7 +54,7 @@ impl<F: Fn(Global, &mut Tokens<'_>, usize, Goal) -> Result<Expr, Fault>> Chains<
         requires { Nests self.now.operands.depth (F.pre self.now.operands.inner) (F.post self.now.operands.inner) }
         ensures { Reads view (spec.product_rest self.now.operands.depth (spec.expr self.now.operands.depth) (view left) tokens.old) result tokens.new }
     {
-        let factors = self.factors(tokens)?;
+        let factors = holding!(left, self.factors(tokens));
         Ok(product_of(self.operands.alloc, left, factors)?)
     }
 
@@ -98,7 +98,7 @@ impl<F: Fn(Global, &mut Tokens<'_>, usize, Goal) -> Result<Expr, Fault>> Chains<
         requires { Nests self.now.operands.depth (F.pre self.now.operands.inner) (F.post self.now.operands.inner) }
         ensures { Reads view (spec.sum_rest self.now.operands.depth (spec.expr self.now.operands.depth) (view left) tokens.old) result tokens.new }
     {
-        let addends = self.addends(tokens)?;
+        let addends = holding!(left, self.addends(tokens));
         Ok(sum_of(self.operands.alloc, left, addends)?)
     }
 
@@ -137,7 +137,7 @@ impl<F: Fn(Global, &mut Tokens<'_>, usize, Goal) -> Result<Expr, Fault>> Chains<
         requires { Nests self.now.operands.depth (F.pre self.now.operands.inner) (F.post self.now.operands.inner) }
         ensures { Reads view (spec.concat_rest self.now.operands.depth (spec.expr self.now.operands.depth) (view left) tokens.old) result tokens.new }
     {
-        let parts = self.parts(tokens)?;
+        let parts = holding!(left, self.parts(tokens));
         Ok(concat_of(self.operands.alloc, left, parts)?)
     }
 

@@ -6,7 +6,7 @@ ghost use Rattle.awk_tree.specs.Expressions as spec;
 ghost use Rattle.awk_tree.specs.Input.{Reads};
 ghost use Rattle.awk_tree.specs.View.{view};
 
-use crate::chains::Chains;
+use crate::chains::{Chains, let_go};
 use awk_expressions::nodes::{and_of, assign, choose, is_lvalue, or_of};
 use awk_expressions::signs::assignment;
 use awk_expressions::{Tokens, is};
@@ -27,8 +27,8 @@ impl<F: Fn(Global, &mut Tokens<'_>, usize, Goal) -> Result<Expr, Fault>> Chains<
         if !is_lvalue(&left) {
             return Ok(left);
         }
-        let token = tokens.any()?;
-        let right = self.operands.nested(tokens, Goal::Expr(in_print))?;
+        let token = holding!(left, tokens.any());
+        let right = holding!(left, self.operands.nested(tokens, Goal::Expr(in_print)));
         Ok(assign(self.operands.alloc, left, token.place, how, right)?)
     }
 
@@ -76,7 +76,7 @@ impl<F: Fn(Global, &mut Tokens<'_>, usize, Goal) -> Result<Expr, Fault>> Chains<
         requires { Nests self.now.operands.depth (F.pre self.now.operands.inner) (F.post self.now.operands.inner) }
         ensures { Reads view (spec.and_rest self.now.operands.depth (spec.expr self.now.operands.depth) in_print (view left) tokens.old) result tokens.new }
     {
-        let conjuncts = self.conjuncts(tokens, in_print)?;
+        let conjuncts = holding!(left, self.conjuncts(tokens, in_print));
         Ok(and_of(self.operands.alloc, left, conjuncts)?)
     }
 
@@ -116,7 +116,7 @@ impl<F: Fn(Global, &mut Tokens<'_>, usize, Goal) -> Result<Expr, Fault>> Chains<
         requires { Nests self.now.operands.depth (F.pre self.now.operands.inner) (F.post self.now.operands.inner) }
         ensures { Reads view (spec.or_rest self.now.operands.depth (spec.expr self.now.operands.depth) in_print (view left) tokens.old) result tokens.new }
     {
-        let disjuncts = self.disjuncts(tokens, in_print)?;
+        let disjuncts = holding!(left, self.disjuncts(tokens, in_print));
         Ok(or_of(self.operands.alloc, left, disjuncts)?)
     }
 
@@ -127,7 +127,7 @@ impl<F: Fn(Global, &mut Tokens<'_>, usize, Goal) -> Result<Expr, Fault>> Chains<
     {
         tokens.one(Terminal::Question)?;
         let then = self.operands.nested(tokens, Goal::Expr(in_print))?;
-        tokens.one(Terminal::Colon)?;
+        holding!(then, tokens.one(Terminal::Colon));
         Ok(then)
     }
 
@@ -145,8 +145,15 @@ impl<F: Fn(Global, &mut Tokens<'_>, usize, Goal) -> Result<Expr, Fault>> Chains<
         if !is(tokens.ahead(), Terminal::Question) {
             return Ok(left);
         }
-        let then = self.then_branch(tokens, in_print)?;
-        let otherwise = self.operands.nested(tokens, Goal::Expr(in_print))?;
+        let then = holding!(left, self.then_branch(tokens, in_print));
+        let otherwise = match self.operands.nested(tokens, Goal::Expr(in_print)) {
+            Ok(otherwise) => otherwise,
+            Err(fault) => {
+                let_go(left);
+                let_go(then);
+                return Err(fault);
+            }
+        };
         Ok(choose(self.operands.alloc, left, then, otherwise)?)
     }
 

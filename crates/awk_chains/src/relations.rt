@@ -1,6 +1,6 @@
 // From a piped `getline` up to `in`.
 
-ghost use Rattle.std.specs.Prelude.{◌∷◌, map, IfOk, ◌≡◌};
+ghost use Rattle.std.specs.Prelude.{◌≡◌, map};
 ghost use Rattle.awk_expressions.specs.Nests.{Nests};
 ghost use Rattle.awk_tree.specs.Expressions as spec;
 ghost use Rattle.awk_tree.specs.Input.{Reads};
@@ -16,19 +16,13 @@ use awk_operands::{in_name, in_names, in_rest};
 use awk_text::place::Place;
 use awk_tree::{Expr, Fault, Goal, Member, Piped, Terminal};
 use sqlite_items::Items;
-use std::alloc::{AllocError, Global};
+use std::alloc::Global;
 
 #[tactic(auto, using(awk_tree::proofs::Views::views))]
-fn group(
-    alloc: Global,
-    place: Place,
-    first: Expr,
-    more: Items<Expr>,
-    arrays: Items<Member>,
-) -> Result<Expr, AllocError>
-    ensures { IfOk result (λ e. view e ≡ tree.group place (trees_of (view first ∷ map view more)) arrays) }
+fn group(place: Place, keys: Items<Expr>, arrays: Items<Member>) -> Expr
+    ensures { view result ≡ tree.group place (trees_of (map view keys)) arrays }
 {
-    Ok(Expr::Group(place, joined(alloc, first, more)?, arrays))
+    Expr::Group(place, keys, arrays)
 }
 
 impl<F: Fn(Global, &mut Tokens<'_>, usize, Goal) -> Result<Expr, Fault>> Chains<F> {
@@ -71,7 +65,7 @@ impl<F: Fn(Global, &mut Tokens<'_>, usize, Goal) -> Result<Expr, Fault>> Chains<
         requires { Nests self.now.operands.depth (F.pre self.now.operands.inner) (F.post self.now.operands.inner) }
         ensures { Reads view (spec.pipe_rest self.now.operands.depth (spec.expr self.now.operands.depth) (view left) tokens.old) result tokens.new }
     {
-        let pipes = self.pipes(tokens)?;
+        let pipes = holding!(left, self.pipes(tokens));
         Ok(pipe_of(self.operands.alloc, left, pipes)?)
     }
 
@@ -98,8 +92,8 @@ impl<F: Fn(Global, &mut Tokens<'_>, usize, Goal) -> Result<Expr, Fault>> Chains<
         let Some(how) = comparison(in_print, tokens.ahead()) else {
             return Ok(left);
         };
-        let token = tokens.any()?;
-        let right = self.pipe(tokens)?;
+        let token = holding!(left, tokens.any());
+        let right = holding!(left, self.pipe(tokens));
         Ok(compare(self.operands.alloc, left, token.place, how, right)?)
     }
 
@@ -121,8 +115,8 @@ impl<F: Fn(Global, &mut Tokens<'_>, usize, Goal) -> Result<Expr, Fault>> Chains<
         let Some(unlike) = matching(tokens.ahead()) else {
             return Ok(left);
         };
-        let token = tokens.any()?;
-        let right = self.cmp(tokens, in_print)?;
+        let token = holding!(left, tokens.any());
+        let right = holding!(left, self.cmp(tokens, in_print));
         Ok(matched(self.operands.alloc, left, token.place, unlike, right)?)
     }
 
@@ -158,10 +152,11 @@ impl<F: Fn(Global, &mut Tokens<'_>, usize, Goal) -> Result<Expr, Fault>> Chains<
             let left = self.operands.power_rest(tokens, inside)?;
             return self.unary_rest(tokens, in_print, left);
         }
+        let keys = joined(self.operands.alloc, first, more)?;
         let array = in_name(self.operands.alloc, tokens)?;
         let arrays = in_names(self.operands.alloc, tokens)?;
         let arrays = joined(self.operands.alloc, array, arrays)?;
-        Ok(group(self.operands.alloc, place, first, more, arrays)?)
+        Ok(group(place, keys, arrays))
     }
 
     #[tactic(auto, unfolding(awk_tree::specs::Expressions::from_paren))]
@@ -171,8 +166,8 @@ impl<F: Fn(Global, &mut Tokens<'_>, usize, Goal) -> Result<Expr, Fault>> Chains<
     {
         let token = tokens.one(Terminal::OpenParen)?;
         let first = self.operands.nested(tokens, Goal::Expr(false))?;
-        let more = self.operands.commas(tokens)?;
-        tokens.one(Terminal::CloseParen)?;
+        let more = holding!(first, self.operands.commas(tokens));
+        holding!(first, tokens.one(Terminal::CloseParen));
         self.grouped(tokens, in_print, token.place, first, more)
     }
 
