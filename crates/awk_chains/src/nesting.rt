@@ -23,7 +23,7 @@ pub fn expr(alloc: Global, tokens: &mut Tokens<'_>, depth: usize, goal: Goal) ->
     chains(alloc, depth - 1, expr).level(tokens, goal)
 }
 
-fn chains<F>(alloc: Global, depth: usize, inner: F) -> Chains<F>
+pub(crate) fn chains<F>(alloc: Global, depth: usize, inner: F) -> Chains<F>
     ensures { result ≡ record { operands = record { alloc = alloc; depth = depth; inner = inner } } }
 {
     Chains {

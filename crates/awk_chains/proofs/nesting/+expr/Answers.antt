@@ -1,4 +1,4 @@
-use Rattle.std.proofs.Common.{◌≡◌, ap, arith, rules}
+use Rattle.std.proofs.Common.{◌≡◌, ◌-◌, refl, sym, arith, rules}
 use Rattle.std.proofs.lemmas.Grind.{common_steps}
 use Rattle.awk_tree.specs.Expressions.{expr}
 use Rattle.awk_expressions.proofs.Loops.{deeper}
@@ -10,4 +10,6 @@ returns-then-depth-eq0 t c = λ _. let none : c.args.depth ≡ 0 = omega arith i
 
 pub returns : goal.returns
 unfolding expr
-returns t c = rw (deeper (λ n. expr n c.args.goal c.args.tokens.now) c.args.depth (omega arith)) c.level.ensures
+returns t c =
+    let made : c.chains.result.operands.depth ≡ c.args.depth - 1 = rw c.chains.ensures refl in
+    rw (deeper (λ n. expr n c.args.goal c.args.tokens.now) c.args.depth (omega arith), sym made) c.level.ensures
