@@ -4,8 +4,8 @@
 //! "Grammar" in POSIX.1-2017 XCU awk line by line.
 #![tactic(auto)]
 
-mod nodes;
-mod signs;
+pub mod nodes;
+pub mod signs;
 mod terminals;
 mod tokens;
 
