@@ -4,7 +4,7 @@ use Rattle.awk_tree.specs.View.{view}
 use Rattle.awk_tree.specs.declared.terminals.Terminal.TheVariants as w
 use Rattle.awk_tree.specs.Terminals.{is, ahead}
 use Rattle.awk_expressions.proofs.Loops.{many_stops, many_ends, many_turn, viewed_goes}
-use Rattle.awk_operands.proofs.lists.Grammar.commas.Goals as goal
+use Rattle.awk_operands.proofs.grammar.Grammar.commas.Goals as goal
 
 pub returns-then-not-is : goal.returns-then-not-is
 returns-then-not-is g c =
