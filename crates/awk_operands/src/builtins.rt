@@ -6,7 +6,7 @@ ghost use Rattle.awk_tree.specs.Expressions as spec;
 ghost use Rattle.awk_tree.specs.Input.{Reads};
 ghost use Rattle.awk_tree.specs.View.{view};
 
-use crate::grammar::Grammar;
+use crate::grammar::{Grammar, let_go};
 use awk_expressions::nodes::{only, split, substitute, up_to_three};
 use awk_expressions::{Tokens, is, name_of};
 use awk_text::place::Place;
@@ -130,11 +130,18 @@ impl<F: Fn(Global, &mut Tokens<'_>, usize, Goal) -> Result<Expr, Fault>> Grammar
     {
         tokens.one(Terminal::OpenParen)?;
         let x = self.nested(tokens, Goal::Expr(false))?;
-        tokens.one(Terminal::Comma)?;
+        holding!(x, tokens.one(Terminal::Comma));
         tokens.skip();
-        let array = name_of(self.alloc, tokens.one(Terminal::Name)?)?;
-        let y = self.last_next(tokens)?;
-        Ok(split(self.alloc, place, x, array, y)?)
+        let token = holding!(x, tokens.one(Terminal::Name));
+        let y = holding!(x, self.last_next(tokens));
+        match name_of(self.alloc, token) {
+            Ok(array) => Ok(split(self.alloc, place, x, array, y)?),
+            Err(_) => {
+                let_go(x);
+                let_go(y);
+                Err(Fault::Memory)
+            }
+        }
     }
 
     /// `[ , lvalue ]`

@@ -87,7 +87,7 @@ impl<F: Fn(Global, &mut Tokens<'_>, usize, Goal) -> Result<Expr, Fault>> Grammar
     {
         let token = tokens.one(Terminal::Getline)?;
         let target = self.target(tokens)?;
-        let source = self.source(tokens)?;
+        let source = holding!(target, self.source(tokens));
         Ok(getline(self.alloc, token.place, target, source)?)
     }
 }
