@@ -41,6 +41,13 @@ impl<'a> Tokens<'a> {
         self.rest.len()
     }
 
+    /// The tokens that are left, for a look at more than the next one.
+    pub fn rest(&self) -> &'a [Token]
+        ensures { result.now ≡ self.now }
+    {
+        self.rest
+    }
+
     /// The next token as it is.
     pub fn look(&self) -> Terminal
         ensures { result ≡ terminals.look self.now }

@@ -316,7 +316,7 @@ pub data Lines {A : Type 0} (a : Form A) : List Token → A → List Token → T
 abbrev pub behind : {A : Type 0} → Form A → Form A
 behind a = record { plain = a.plain; bare = a.bare; spells = Lines a }
 
-decided : (b : Bool) → (b ≡ true) ⊎ (b ≡ false)
+pub decided : (b : Bool) → (b ≡ true) ⊎ (b ≡ false)
 decided true = inl refl
 decided false = inr refl
 

@@ -12,4 +12,11 @@ pub mod Depths
 pub mod SimpleLaws
 pub mod PrintLaws
 pub mod EndLaws
+pub mod Looks
+pub mod Parens
+pub mod Until
+pub mod Steps
+pub mod StatementLaws
+pub mod Blocks
+pub mod ItemLaws
 pub mod Laws

@@ -29,7 +29,7 @@ use Rattle.awk_tree.specs.Statements as st
 use Rattle.awk_tree.specs.Canon.{canon_printed, canon_redirection, redirect_text, bare_printed, bare_redirection}
 use Rattle.awk_laws.specs.SpellsScripts as r
 use Rattle.awk_laws.specs.SpellsScripts.{Simple, PrintList, Items, Redirected}
-use Rattle.awk_laws.proofs.TerminalLemmas.{steady, ahead_is}
+use Rattle.awk_laws.proofs.TerminalLemmas.{both_true, steady, ahead_is}
 use Rattle.awk_laws.proofs.Law.{on_on, if_left, bind_ok, any_is}
 use Rattle.awk_laws.proofs.Operands.{tree_form, whole, Inner, canon_commas-of, commas, commas_law}
 use Rattle.awk_laws.proofs.Builtins.{prefixed}
@@ -74,11 +74,6 @@ several_bare (x ∷ xs) = refl
 several_is : (xs : List Tree) → st.is_several xs ≡ true → (y : Tree) × (ys : List Tree) × (xs ≡ y ∷ ys)
 several_is [] h = absurd cc
 several_is (y ∷ ys) h = (y, ys, refl)
-
-both_true : (a b : Bool) → (a && b) ≡ true → (a ≡ true) × (b ≡ true)
-both_true true true h = (refl, refl)
-both_true true false h = absurd cc
-both_true false b h = absurd cc
 
 module _ (n depth : ℕ) (inner : Goal → Parser Tree) (deeper : Inner n depth inner) where
   abbrev list_form : Form (Printed Tree)

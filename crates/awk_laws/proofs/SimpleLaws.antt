@@ -19,14 +19,14 @@ use Rattle.awk_laws.proofs.Many.{chain, many_law}
 use Rattle.awk_laws.proofs.Words.{a_keyword, a_name, comma, comma_law, name_law}
 use Rattle.awk_tree.specs.Tree.{Statement}
 use Rattle.awk_tree.specs.Statements as st
-use Rattle.awk_tree.specs.Canon.{canon_perhaps, canon_items, canon_printed, canon_redirection, bare_statement}
+use Rattle.awk_tree.specs.Canon.{canon_perhaps, canon_items, canon_printed, canon_redirection, canon_test, canon_statement, bare_statement}
 use Rattle.awk_laws.specs.SpellsScripts as r
 use Rattle.awk_laws.specs.SpellsScripts.{Simple, Perhaps, Items}
 use Rattle.awk_laws.proofs.Operands.{Inner, plain_comma, no_line, opening_bracket, closing_bracket, opening_bracket_law, closing_bracket_law, lists, list_law}
 use Rattle.awk_laws.proofs.Builtins.{prefixed, leaf}
 use Rattle.awk_laws.proofs.Depths.{full, expression_law}
 
--- a simple statement's canonical spelling, without its end
+-- the canonical spelling of a statement that has an end, without it
 abbrev pub without_end : Statement → List Token
 without_end (tree.plain x) = canon x
 without_end (tree.print p xs r) = keyword (codes "print") ∷ canon_printed xs ++ canon_redirection r
@@ -37,6 +37,7 @@ without_end (tree.continue p) = keyword (codes "continue") ∷ []
 without_end (tree.next p) = keyword (codes "next") ∷ []
 without_end (tree.exit p x) = keyword (codes "exit") ∷ canon_perhaps x
 without_end (tree.return p x) = keyword (codes "return") ∷ canon_perhaps x
+without_end (tree.do_while s x) = keyword (codes "do") ∷ canon_statement s ++ canon_test (codes "while") x
 without_end other = []
 
 module _ (n depth : ℕ) (inner : Goal → Parser Tree) (deeper : Inner n depth inner) where

@@ -1,5 +1,5 @@
 -- What is told of terminals by their numbers, and what of a token by the look-ahead.
-use Rattle.std.proofs.Common.{◌≡◌, ℕ, Bool, true, false, cond, if◌then◌else◌, List, [], ◌∷◌, get_or, refl, sym, ap, ◌∙◌, ◌==◌}
+use Rattle.std.proofs.Common.{◌≡◌, ℕ, Bool, true, false, cond, if◌then◌else◌, List, [], ◌∷◌, get_or, refl, sym, ap, ◌∙◌, ◌==◌, ◌&&◌}
 use Rattle.std.proofs.lemmas.Bool.{eqb-true}
 use Rattle.std.specs.Str.{bytes_eq}
 use Rattle.awk_tokens.specs.declared.kinds.Token.{Token}
@@ -9,6 +9,11 @@ use Rattle.awk_tree.specs.Tree.{Text}
 use Rattle.awk_tree.specs.declared.terminals.Terminal.{Terminal}
 use Rattle.awk_tree.specs.declared.terminals.Terminal.TheVariants as w
 use Rattle.awk_tree.specs.Terminals.{number_of, is, seen, look, ahead, terminal, terminal_of, sign_of, word_in, byte_in, keywords, builtins, singles, doubles}
+
+pub both_true : (a b : Bool) → (a && b) ≡ true → (a ≡ true) × (b ≡ true)
+both_true true true h = (refl, refl)
+both_true true false h = absurd cc
+both_true false b h = absurd cc
 
 abbrev terminals : List Terminal
 terminals = w.End ∷ w.Newline ∷ w.Semicolon ∷ w.CloseBrace ∷ w.OpenBrace ∷ w.OpenParen ∷ w.CloseParen ∷ w.OpenBracket ∷ w.CloseBracket ∷ w.Comma ∷ w.Number ∷ w.Quoted ∷ w.Pattern ∷ w.Name ∷ w.CallName ∷ w.Refused ∷ w.Plus ∷ w.Minus ∷ w.Star ∷ w.Slash ∷ w.Percent ∷ w.Caret ∷ w.Not ∷ w.Greater ∷ w.Less ∷ w.Bar ∷ w.BarGetline ∷ w.Question ∷ w.Colon ∷ w.Tilde ∷ w.Dollar ∷ w.Refused ∷ w.Equal ∷ w.LessOrEqual ∷ w.GreaterOrEqual ∷ w.NotEqual ∷ w.NotTilde ∷ w.Refused ∷ w.And ∷ w.Or ∷ w.Append ∷ w.BeginWord ∷ w.EndWord ∷ w.Break ∷ w.Continue ∷ w.Delete ∷ w.Do ∷ w.Else ∷ w.Exit ∷ w.For ∷ w.Function ∷ w.Getline ∷ w.If ∷ w.In ∷ w.Next ∷ w.Print ∷ w.Printf ∷ w.Return ∷ w.While ∷ w.Refused ∷ []

@@ -5,7 +5,7 @@
 //! The functions do nothing: each has a law as its contract.
 #![tactic(auto)]
 
-ghost use Rattle.awk_laws.specs.Laws.{ExpressionsAreSpelled, ExpressionsAreReadAgain, SimpleStatementsAreSpelled, SimpleStatementsAreReadAgain};
+ghost use Rattle.awk_laws.specs.Laws.{ExpressionsAreSpelled, ExpressionsAreReadAgain, SimpleStatementsAreSpelled, SimpleStatementsAreReadAgain, ScriptsAreWhole, ScriptsAreSpelled, ScriptsAreReadAgain};
 
 /// Each list of tokens that the rules read as an expression is an expression by the grammar, with
 /// at most 200 levels of nesting, and its tree is the one that they spell. The canonical spelling
@@ -22,4 +22,14 @@ pub fn expressions()
 pub fn simple_statements()
     ensures spelled { SimpleStatementsAreSpelled }
     ensures again { SimpleStatementsAreReadAgain }
+{}
+
+/// Tokens that the rules read as a script are all of them a script by the grammar, and the items are
+/// those that they spell. The canonical spelling of the items of a script is read as the same
+/// items, places and slots aside.
+#[tactic(auto, using(crate::proofs::Laws::scripts_are_whole, crate::proofs::Laws::scripts_are_spelled, crate::proofs::Laws::scripts_are_read_again))]
+pub fn scripts()
+    ensures whole { ScriptsAreWhole }
+    ensures spelled { ScriptsAreSpelled }
+    ensures again { ScriptsAreReadAgain }
 {}

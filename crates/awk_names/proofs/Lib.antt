@@ -7,3 +7,5 @@ pub mod Counting
 pub mod Calling
 pub mod Naming
 pub mod Defining
+pub mod Bare
+pub mod Displacing

@@ -21,7 +21,7 @@ use Rattle.awk_names.proofs.TableLemmas.{put_same, put_other}
 use Rattle.awk_names.proofs.Lists.{contains_first, contains_later, contains_none, contains_cases}
 use Rattle.awk_names.proofs.Counting.{Knows}
 
-among_contains : (ws : List Text) (x : Text) → is_among ws x ≡ true → Contains ws x
+pub among_contains : (ws : List Text) (x : Text) → is_among ws x ≡ true → Contains ws x
 among_contains [] x e = cc
 among_contains (w ∷ ws) x e = by (bytes_eq w x) refl e (among_contains ws x)
   where
@@ -29,7 +29,7 @@ among_contains (w ∷ ws) x e = by (bytes_eq w x) refl e (among_contains ws x)
     by true h e2 rest = rw (← (bytes_eq-Decides w x).0 h) (contains_first w ws)
     by false h e2 rest = contains_later w ws x (rest e2)
 
-contains_among : (ws : List Text) (x : Text) → Contains ws x → is_among ws x ≡ true
+pub contains_among : (ws : List Text) (x : Text) → Contains ws x → is_among ws x ≡ true
 contains_among [] x c = absurd (contains_none x c)
 contains_among (w ∷ ws) x c = by (contains_cases w ws x c) (contains_among ws x)
   where
@@ -85,7 +85,7 @@ clash : (b : Bool) → b ≡ false → b ≡ true → ⊥
 clash true e h = cc
 clash false e h = cc
 
-split_at : {A : Type 0} (xs : List A) (y : A) → Contains xs y → (mid : List A) × (after : List A) × (xs ≡ mid ++ y ∷ after)
+pub split_at : {A : Type 0} (xs : List A) (y : A) → Contains xs y → (mid : List A) × (after : List A) × (xs ≡ mid ++ y ∷ after)
 split_at [] y c = absurd (contains_none y c)
 split_at {A} (x ∷ xs) y c = by (contains_cases x xs y c) (split_at xs y)
   where

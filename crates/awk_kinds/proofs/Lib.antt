@@ -1,0 +1,10 @@
+pub mod Reaching
+pub mod Numbered
+pub mod Meant
+pub mod Using
+pub mod Linking
+pub mod Kinding
+pub mod AllKinds
+pub mod Clashing
+pub mod Agreeing
+pub mod Assigning

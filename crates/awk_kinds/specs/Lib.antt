@@ -1,0 +1,8 @@
+pub mod Reached
+pub mod Marking
+pub mod Numbering
+pub mod Uses
+pub mod Marks
+pub mod Slots
+pub mod Clash
+pub mod Assigns

@@ -1,0 +1,13 @@
+//! The kinds of the names of an awk script.
+#![tactic(auto)]
+
+mod clash;
+mod kinds;
+mod numbers;
+mod reach;
+mod slots;
+mod spelling;
+mod uses;
+mod variables;
+
+pub use kinds::Kinds;
