@@ -7,8 +7,8 @@ ghost use Rattle.awk_tree.specs.Input.{Reads, and_then};
 ghost use Rattle.awk_tree.specs.Statements as spec;
 ghost use Rattle.awk_tree.specs.View.{view, view_statement};
 
+use crate::kept::pair;
 use crate::level::Level;
-use crate::nodes::{do_while, if_else, if_then, while_do};
 use crate::signs::{each_next, else_next};
 use crate::simple::{condition, ended, perhaps_until, simple};
 use awk_expressions::{Tokens, is, name_of};
@@ -33,24 +33,33 @@ impl<B: Fn(Global, &mut Tokens<'_>, usize, Nested) -> Result<Statement, Fault>> 
         (self.body)(self.level.alloc, tokens, self.level.depth, which)
     }
 
+    /// The body of a statement.
+    fn body(&self, tokens: &mut Tokens<'_>) -> Result<Boxed<Statement>, Fault>
+        requires { NestsStatements self.now.level.depth (B.pre self.now.body) (B.post self.now.body) }
+        ensures { Reads view_statement (spec.statement self.now.level.depth Nested.Body tokens.old) result tokens.new }
+    {
+        let body = self.nested(tokens, Nested::Body)?;
+        Ok(Boxed::new(self.level.alloc, body)?)
+    }
+
     /// What stands behind the body of an `if`. An `else` belongs to the nearest one.
     #[tactic(auto, using(awk_tree::proofs::Views::statement_views), unfolding(awk_tree::specs::Statements::else_rest))]
     fn else_rest(
         &self,
         tokens: &mut Tokens<'_>,
         test: Expr,
-        body: Statement,
+        body: Boxed<Statement>,
     ) -> Result<Statement, Fault>
         requires { NestsStatements self.now.level.depth (B.pre self.now.body) (B.post self.now.body) }
         ensures { Reads view_statement (spec.else_rest self.now.level.depth (expr self.now.level.depth) (spec.statement self.now.level.depth) (view test) (view_statement body) tokens.old) result tokens.new }
     {
         if !else_next(tokens.rest()) {
-            return Ok(if_then(self.level.alloc, test, body)?);
+            return Ok(Statement::If(test, body));
         }
         tokens.past();
-        tokens.any()?;
-        let other = self.nested(tokens, Nested::Body)?;
-        Ok(if_else(self.level.alloc, test, body, other)?)
+        let (test, _word) = pair(test, tokens.any())?;
+        let (test, other) = pair(test, self.body(tokens))?;
+        Ok(Statement::IfElse(test, body, other))
     }
 
     /// `if ( expr ) body [ else body ]`
@@ -61,7 +70,7 @@ impl<B: Fn(Global, &mut Tokens<'_>, usize, Nested) -> Result<Statement, Fault>> 
     {
         tokens.one(Terminal::If)?;
         let test = condition(&self.level, tokens)?;
-        let body = self.nested(tokens, Nested::Body)?;
+        let (test, body) = pair(test, self.body(tokens))?;
         self.else_rest(tokens, test, body)
     }
 
@@ -73,8 +82,8 @@ impl<B: Fn(Global, &mut Tokens<'_>, usize, Nested) -> Result<Statement, Fault>> 
     {
         tokens.one(Terminal::While)?;
         let test = condition(&self.level, tokens)?;
-        let body = self.nested(tokens, Nested::Body)?;
-        Ok(while_do(self.level.alloc, test, body)?)
+        let (test, body) = pair(test, self.body(tokens))?;
+        Ok(Statement::While(test, body))
     }
 
     /// `do body while ( expr )`, and what ends it.
@@ -84,11 +93,11 @@ impl<B: Fn(Global, &mut Tokens<'_>, usize, Nested) -> Result<Statement, Fault>> 
         ensures { Reads view_statement (spec.do_of self.now.level.depth (expr self.now.level.depth) (spec.statement self.now.level.depth) tokens.old) result tokens.new }
     {
         tokens.one(Terminal::Do)?;
-        let body = self.nested(tokens, Nested::Body)?;
+        let body = self.body(tokens)?;
         tokens.skip();
         tokens.one(Terminal::While)?;
         let test = condition(&self.level, tokens)?;
-        ended(tokens, do_while(self.level.alloc, body, test)?)
+        ended(tokens, Statement::Do(body, test))
     }
 
     /// `[ expr ] ; [ expr ] ; [ expr ] ) body`
@@ -100,8 +109,7 @@ impl<B: Fn(Global, &mut Tokens<'_>, usize, Nested) -> Result<Statement, Fault>> 
         let first = perhaps_until(&self.level, tokens, Terminal::Semicolon)?;
         let test = perhaps_until(&self.level, tokens, Terminal::Semicolon)?;
         let step = perhaps_until(&self.level, tokens, Terminal::CloseParen)?;
-        let body = self.nested(tokens, Nested::Body)?;
-        let body = Boxed::new(self.level.alloc, body)?;
+        let body = self.body(tokens)?;
         Ok(Statement::For(first, test, step, body))
     }
 
@@ -115,8 +123,7 @@ impl<B: Fn(Global, &mut Tokens<'_>, usize, Nested) -> Result<Statement, Fault>> 
         tokens.one(Terminal::In)?;
         let array = tokens.one(Terminal::Name)?;
         tokens.one(Terminal::CloseParen)?;
-        let body = self.nested(tokens, Nested::Body)?;
-        let body = Boxed::new(self.level.alloc, body)?;
+        let body = self.body(tokens)?;
         let key = name_of(self.level.alloc, key)?;
         let array = name_of(self.level.alloc, array)?;
         Ok(Statement::ForIn(place, key, array, body))

@@ -1,11 +1,12 @@
 // Items, up to a whole script.
 
-ghost use Rattle.std.specs.Prelude.{◌≡◌, [], map, MatchResult, Ok, Err};
+ghost use Rattle.std.specs.Prelude.{◌≡◌, [], map, IfOk};
 ghost use Rattle.awk_tree.specs.Input.{Reads};
 ghost use Rattle.awk_tree.specs.Statements as spec;
 ghost use Rattle.awk_tree.specs.View.{view, view_item, view_pattern, view_statement};
 
 use crate::bodies::Bodies;
+use crate::kept::{pair, refused};
 use crate::level::Level;
 use crate::signs::{ends_item, is_done};
 use crate::statement::statement;
@@ -55,20 +56,10 @@ fn pattern(alloc: Global, tokens: &mut Tokens<'_>) -> Result<Pattern, Fault>
     if !is(tokens.ahead(), Terminal::Comma) {
         return Ok(Pattern::Expr(first));
     }
-    tokens.one(Terminal::Comma)?;
+    let (first, _comma) = pair(first, tokens.one(Terminal::Comma))?;
     tokens.skip();
-    let last = whole_expr(alloc, tokens)?;
+    let (first, last) = pair(first, whole_expr(alloc, tokens))?;
     Ok(Pattern::Range(first, last))
-}
-
-/// A rule, where its action was read.
-fn rule(when: Pattern, body: Result<Items<Statement>, Fault>) -> Result<Item, Fault>
-    ensures { MatchResult body (λ xs. result ≡ Ok (Item.Rule when xs)) (λ e. result ≡ Err e) }
-{
-    match body {
-        Ok(body) => Ok(Item::Rule(when, body)),
-        Err(fault) => Err(fault),
-    }
 }
 
 /// A pattern by itself, where an item may end.
@@ -79,7 +70,7 @@ fn shown(tokens: &mut Tokens<'_>, when: Pattern) -> Result<Item, Fault>
     if ends_item(tokens.rest()) {
         Ok(Item::Shown(when))
     } else {
-        Err(tokens.refuse())
+        refused(when, tokens.refuse())
     }
 }
 
@@ -90,8 +81,8 @@ fn rule_of(alloc: Global, tokens: &mut Tokens<'_>) -> Result<Item, Fault>
 {
     let when = pattern(alloc, tokens)?;
     if is(tokens.ahead(), Terminal::OpenBrace) {
-        let body = action(alloc, tokens);
-        rule(when, body)
+        let (when, body) = pair(when, action(alloc, tokens))?;
+        Ok(Item::Rule(when, body))
     } else {
         shown(tokens, when)
     }
@@ -197,7 +188,8 @@ fn item(alloc: Global, tokens: &mut Tokens<'_>) -> Result<Item, Fault>
 /// As many as there are, with newlines and `;` before each, up to the end.
 #[tactic(auto, unfolding(awk_tree::specs::Statements::script))]
 fn items(alloc: Global, tokens: &mut Tokens<'_>) -> Result<Items<Item>, Fault>
-    ensures { Reads (map view_item) (spec.script tokens.old) result tokens.new }
+    ensures reads { Reads (map view_item) (spec.script tokens.old) result tokens.new }
+    ensures done { IfOk result (λ _. tokens.new ≡ []) }
 {
     let mut found = Items::new(alloc);
     for _turn in 0..tokens.left() {

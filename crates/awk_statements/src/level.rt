@@ -5,6 +5,7 @@ ghost use Rattle.awk_tree.specs.Expressions as spec;
 ghost use Rattle.awk_tree.specs.Input.{Reads};
 ghost use Rattle.awk_tree.specs.View.{view};
 
+use crate::kept::refused;
 use awk_expressions::Tokens;
 use awk_text::place::Place;
 use awk_tree::{Expr, Fault, Goal};
@@ -42,7 +43,7 @@ impl Level {
     ) -> Result<Expr, Fault>
         ensures { Reads view (spec.expr_rest self.now.depth (spec.expr self.now.depth) _in_print (view _left) _tokens.old) result _tokens.new }
     {
-        Err(Fault::Memory)
+        refused(_left, Fault::Memory)
     }
 
     /// What goes on from parentheses: from an operand, or `in` from a list of two or more.
@@ -56,7 +57,7 @@ impl Level {
     ) -> Result<Expr, Fault>
         ensures { Reads view (spec.grouped self.now.depth (spec.expr self.now.depth) _in_print _place (view _first) (map view _more) _tokens.old) result _tokens.new }
     {
-        Err(Fault::Memory)
+        refused((_first, _more), Fault::Memory)
     }
 
     /// A concatenation, or one operand of it.

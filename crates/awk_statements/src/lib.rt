@@ -6,8 +6,8 @@
 
 mod bodies;
 mod items;
+mod kept;
 mod level;
-mod nodes;
 mod places;
 mod prints;
 mod signs;

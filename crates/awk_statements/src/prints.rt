@@ -6,6 +6,7 @@ ghost use Rattle.awk_tree.specs.Input.{Reads};
 ghost use Rattle.awk_tree.specs.Statements as spec;
 ghost use Rattle.awk_tree.specs.View.{view, view_printed, view_redirection, view_statement};
 
+use crate::kept::pair;
 use crate::level::Level;
 use crate::signs::{ends_print, redirect};
 use awk_expressions::{Tokens, is, joined};
@@ -52,7 +53,7 @@ fn more_printed(level: &Level, tokens: &mut Tokens<'_>) -> Result<Items<Expr>, F
 fn printed_rest(level: &Level, tokens: &mut Tokens<'_>, first: Expr) -> Result<Printed<Expr>, Fault>
     ensures { Reads view_printed (spec.printed_rest level.now.depth (expr level.now.depth) (view first) tokens.old) result tokens.new }
 {
-    let more = more_printed(level, tokens)?;
+    let (first, more) = pair(first, more_printed(level, tokens))?;
     Ok(Printed {
         is_grouped: false,
         items: joined(level.alloc, first, more)?,
@@ -89,8 +90,8 @@ fn printed_paren(level: &Level, tokens: &mut Tokens<'_>) -> Result<Printed<Expr>
 {
     let token = tokens.one(Terminal::OpenParen)?;
     let first = level.nested(tokens, Goal::Expr(false))?;
-    let more = level.commas(tokens)?;
-    tokens.one(Terminal::CloseParen)?;
+    let (first, more) = pair(first, level.commas(tokens))?;
+    let (first, _close) = pair(first, tokens.one(Terminal::CloseParen))?;
     printed_from(level, tokens, token.place, first, more)
 }
 

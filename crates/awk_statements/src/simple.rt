@@ -1,12 +1,13 @@
 // Simple statements, and the parts of statements that are expressions.
 
-ghost use Rattle.std.specs.Prelude.{◌≡◌, Ok, option_map};
+ghost use Rattle.std.specs.Prelude.{◌≡◌, option_map};
 ghost use Rattle.awk_tree.specs.Expressions.{expr};
 ghost use Rattle.awk_tree.specs.Input.{Reads, and_then};
 ghost use Rattle.awk_tree.specs.Statements as spec;
 ghost use Rattle.awk_tree.specs.Tree as tree;
 ghost use Rattle.awk_tree.specs.View.{view, view_statement};
 
+use crate::kept::{pair, refused};
 use crate::level::Level;
 use crate::prints::{print, printf};
 use awk_expressions::{Tokens, is, name_of};
@@ -30,11 +31,11 @@ fn ended_by(
 {
     match kind {
         Terminal::Semicolon | Terminal::Newline => {
-            tokens.any()?;
+            let (statement, _end) = pair(statement, tokens.any())?;
             Ok(statement)
         }
         Terminal::CloseBrace => Ok(statement),
-        _ => Err(tokens.refuse()),
+        _ => refused(statement, tokens.refuse()),
     }
 }
 
@@ -121,7 +122,7 @@ pub fn condition(level: &Level, tokens: &mut Tokens<'_>) -> Result<Expr, Fault>
 {
     tokens.one(Terminal::OpenParen)?;
     let test = level.nested(tokens, Goal::Expr(false))?;
-    tokens.one(Terminal::CloseParen)?;
+    let (test, _close) = pair(test, tokens.one(Terminal::CloseParen))?;
     Ok(test)
 }
 
@@ -139,6 +140,6 @@ pub fn perhaps_until(
         return Ok(None);
     }
     let found = level.nested(tokens, Goal::Expr(false))?;
-    tokens.exactly(end)?;
+    let (found, _end) = pair(found, tokens.exactly(end))?;
     Ok(Some(found))
 }
