@@ -7,8 +7,9 @@ use Rattle.awk_tree.specs.declared.terminals.Terminal.{Terminal}
 use Rattle.awk_tree.specs.declared.terminals.Terminal.TheVariants as w
 use Rattle.awk_tree.specs.Tree as t
 use Rattle.awk_tree.specs.Tree.{Tree, Statement}
+use Rattle.awk_tree.specs.Expressions.{expression}
 use Rattle.awk_tree.specs.Input.{Parser, ◌>>=◌, pure, refuse}
-use Rattle.awk_tree.specs.Statements.{here, ended_by, simple_by, simple, ended, statement_by, item_by, rule_of}
+use Rattle.awk_tree.specs.Statements.{ended_by, simple_by, simple, ended, statement_by, item_by, rule_of}
 
 pub ends_nowhere : (x : Statement) (kind : Terminal) (ts : List Token) → kind ≢ w.Semicolon → kind ≢ w.Newline → kind ≢ w.CloseBrace → ended_by x kind ts ≡ refuse ts
 ends_nowhere x w.Semicolon ts a b c = absurd (a refl)
@@ -18,7 +19,7 @@ ends_nowhere x _ ts a b c = refl
 
 pub simple_by-other : (depth : ℕ) (inner : Goal → Parser Tree) (kind : Terminal) (ts : List Token)
     → kind ≢ w.Print → kind ≢ w.Printf → kind ≢ w.Delete → kind ≢ w.Break → kind ≢ w.Continue → kind ≢ w.Next → kind ≢ w.Exit → kind ≢ w.Return
-    → simple_by depth inner kind ts ≡ (here depth inner false >>= λ x. pure (t.plain x)) ts
+    → simple_by depth inner kind ts ≡ (expression depth inner false >>= λ x. pure (t.plain x)) ts
 simple_by-other depth inner w.Print ts a b c d e f g h = absurd (a refl)
 simple_by-other depth inner w.Printf ts a b c d e f g h = absurd (b refl)
 simple_by-other depth inner w.Delete ts a b c d e f g h = absurd (c refl)

@@ -107,9 +107,15 @@ impl<B: Fn(Global, &mut Tokens<'_>, usize, Nested) -> Result<Statement, Fault>> 
         ensures { Reads view_statement (spec.loop_rest self.now.level.depth (expr self.now.level.depth) (spec.statement self.now.level.depth) tokens.old) result tokens.new }
     {
         let first = perhaps_until(&self.level, tokens, Terminal::Semicolon)?;
-        let test = perhaps_until(&self.level, tokens, Terminal::Semicolon)?;
-        let step = perhaps_until(&self.level, tokens, Terminal::CloseParen)?;
-        let body = self.body(tokens)?;
+        let tests = pair(
+            first,
+            perhaps_until(&self.level, tokens, Terminal::Semicolon),
+        )?;
+        let header = pair(
+            tests,
+            perhaps_until(&self.level, tokens, Terminal::CloseParen),
+        )?;
+        let (((first, test), step), body) = pair(header, self.body(tokens))?;
         Ok(Statement::For(first, test, step, body))
     }
 

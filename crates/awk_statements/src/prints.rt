@@ -17,7 +17,10 @@ use sqlite_items::Items;
 fn is_several(items: &Items<Expr>) -> bool
     ensures { result ≡ spec.is_several (map view items.now) }
 {
-    !items.is_empty()
+    match items.as_slice() {
+        [] => false,
+        [_, ..] => true,
+    }
 }
 
 /// `, expr`
@@ -142,7 +145,7 @@ pub fn print(level: &Level, tokens: &mut Tokens<'_>) -> Result<Statement, Fault>
 {
     let token = tokens.one(Terminal::Print)?;
     let list = printed_or_none(level, tokens)?;
-    let target = redirection(level, tokens)?;
+    let (list, target) = pair(list, redirection(level, tokens))?;
     Ok(Statement::Print(token.place, list, target))
 }
 
@@ -152,6 +155,6 @@ pub fn printf(level: &Level, tokens: &mut Tokens<'_>) -> Result<Statement, Fault
 {
     let token = tokens.one(Terminal::Printf)?;
     let list = printed(level, tokens)?;
-    let target = redirection(level, tokens)?;
+    let (list, target) = pair(list, redirection(level, tokens))?;
     Ok(Statement::Printf(token.place, list, target))
 }

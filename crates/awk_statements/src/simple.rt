@@ -1,7 +1,7 @@
 // Simple statements, and the parts of statements that are expressions.
 
 ghost use Rattle.std.specs.Prelude.{◌≡◌, option_map};
-ghost use Rattle.awk_tree.specs.Expressions.{expr};
+ghost use Rattle.awk_tree.specs.Expressions.{expr, expression};
 ghost use Rattle.awk_tree.specs.Input.{Reads, and_then};
 ghost use Rattle.awk_tree.specs.Statements as spec;
 ghost use Rattle.awk_tree.specs.Tree as tree;
@@ -66,7 +66,7 @@ fn delete(level: &Level, tokens: &mut Tokens<'_>) -> Result<Statement, Fault>
 /// An expression as a statement.
 #[tactic(auto, using(awk_tree::proofs::Views::statement_views))]
 fn plain(level: &Level, tokens: &mut Tokens<'_>) -> Result<Statement, Fault>
-    ensures { Reads view_statement (and_then (spec.here level.now.depth (expr level.now.depth) false tokens.old) (λ x ts. Ok (tree.plain x, ts))) result tokens.new }
+    ensures { Reads view_statement (and_then (expression level.now.depth (expr level.now.depth) false tokens.old) (λ x ts. Ok (tree.plain x, ts))) result tokens.new }
 {
     Ok(Statement::Expr(level.expression(tokens, false)?))
 }
