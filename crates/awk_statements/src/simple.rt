@@ -1,6 +1,6 @@
 // Simple statements, and the parts of statements that are expressions.
 
-ghost use Rattle.std.specs.Prelude.{◌≡◌, option_map};
+ghost use Rattle.std.specs.Prelude.{◌≡◌, false, option_map};
 ghost use Rattle.awk_tree.specs.Expressions.{expr, expression};
 ghost use Rattle.awk_tree.specs.Input.{Reads, and_then};
 ghost use Rattle.awk_tree.specs.Statements as spec;
