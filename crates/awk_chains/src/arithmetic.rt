@@ -1,0 +1,153 @@
+// From `*` up to a concatenation.
+
+ghost use Rattle.std.specs.Prelude.{map};
+ghost use Rattle.awk_expressions.specs.Nests.{Nests};
+ghost use Rattle.awk_tree.specs.Expressions as spec;
+ghost use Rattle.awk_tree.specs.Input.{Reads};
+ghost use Rattle.awk_tree.specs.View.{view, view_term};
+
+use crate::chains::Chains;
+use awk_expressions::nodes::{concat_of, product_of, sum_of};
+use awk_expressions::signs::{arithmetic_of, begins_part, is_factor_sign, is_term_sign};
+use awk_expressions::{Tokens, terminal};
+use awk_tree::{Expr, Fault, Goal, Term};
+use sqlite_items::Items;
+use std::alloc::Global;
+
+impl<F: Fn(Global, &mut Tokens<'_>, usize, Goal) -> Result<Expr, Fault>> Chains<F> {
+    #[tactic(auto, unfolding(awk_tree::specs::Expressions::factor))]
+    fn factor(&self, tokens: &mut Tokens<'_>) -> Result<Term<Expr>, Fault>
+        requires { Nests self.now.operands.depth (F.pre self.now.operands.inner) (F.post self.now.operands.inner) }
+        ensures { Reads view_term (spec.factor self.now.operands.depth (spec.expr self.now.operands.depth) tokens.old) result tokens.new }
+    {
+        let token = tokens.any()?;
+        let operand = self.operands.unary(tokens)?;
+        Ok(Term {
+            operator: arithmetic_of(terminal(token)),
+            place: token.place,
+            operand,
+        })
+    }
+
+    #[tactic(auto, unfolding(awk_tree::specs::Expressions::factors))]
+    fn factors(&self, tokens: &mut Tokens<'_>) -> Result<Items<Term<Expr>>, Fault>
+        requires { Nests self.now.operands.depth (F.pre self.now.operands.inner) (F.post self.now.operands.inner) }
+        ensures { Reads (map view_term) (spec.factors self.now.operands.depth (spec.expr self.now.operands.depth) tokens.old) result tokens.new }
+    {
+        let mut found = Items::new(self.operands.alloc);
+        for _turn in 0..tokens.left() {
+            if !is_factor_sign(tokens.ahead()) {
+                return Ok(found);
+            }
+            found.push(self.factor(tokens)?)?;
+        }
+        if is_factor_sign(tokens.ahead()) {
+            Err(tokens.refuse())
+        } else {
+            Ok(found)
+        }
+    }
+
+    /// `{ (* | / | %) unary }`
+    #[tactic(auto, unfolding(awk_tree::specs::Expressions::product_rest))]
+    pub(crate) fn product_rest(&self, tokens: &mut Tokens<'_>, left: Expr) -> Result<Expr, Fault>
+        requires { Nests self.now.operands.depth (F.pre self.now.operands.inner) (F.post self.now.operands.inner) }
+        ensures { Reads view (spec.product_rest self.now.operands.depth (spec.expr self.now.operands.depth) (view left) tokens.old) result tokens.new }
+    {
+        let factors = holding!(left, self.factors(tokens));
+        Ok(product_of(self.operands.alloc, left, factors)?)
+    }
+
+    #[tactic(auto, unfolding(awk_tree::specs::Expressions::addend))]
+    fn addend(&self, tokens: &mut Tokens<'_>) -> Result<Term<Expr>, Fault>
+        requires { Nests self.now.operands.depth (F.pre self.now.operands.inner) (F.post self.now.operands.inner) }
+        ensures { Reads view_term (spec.addend self.now.operands.depth (spec.expr self.now.operands.depth) tokens.old) result tokens.new }
+    {
+        let token = tokens.any()?;
+        let first = self.operands.unary(tokens)?;
+        let operand = self.product_rest(tokens, first)?;
+        Ok(Term {
+            operator: arithmetic_of(terminal(token)),
+            place: token.place,
+            operand,
+        })
+    }
+
+    #[tactic(auto, unfolding(awk_tree::specs::Expressions::addends))]
+    fn addends(&self, tokens: &mut Tokens<'_>) -> Result<Items<Term<Expr>>, Fault>
+        requires { Nests self.now.operands.depth (F.pre self.now.operands.inner) (F.post self.now.operands.inner) }
+        ensures { Reads (map view_term) (spec.addends self.now.operands.depth (spec.expr self.now.operands.depth) tokens.old) result tokens.new }
+    {
+        let mut found = Items::new(self.operands.alloc);
+        for _turn in 0..tokens.left() {
+            if !is_term_sign(tokens.ahead()) {
+                return Ok(found);
+            }
+            found.push(self.addend(tokens)?)?;
+        }
+        if is_term_sign(tokens.ahead()) {
+            Err(tokens.refuse())
+        } else {
+            Ok(found)
+        }
+    }
+
+    /// `{ (+ | -) mul }`
+    #[tactic(auto, unfolding(awk_tree::specs::Expressions::sum_rest))]
+    pub(crate) fn sum_rest(&self, tokens: &mut Tokens<'_>, left: Expr) -> Result<Expr, Fault>
+        requires { Nests self.now.operands.depth (F.pre self.now.operands.inner) (F.post self.now.operands.inner) }
+        ensures { Reads view (spec.sum_rest self.now.operands.depth (spec.expr self.now.operands.depth) (view left) tokens.old) result tokens.new }
+    {
+        let addends = holding!(left, self.addends(tokens));
+        Ok(sum_of(self.operands.alloc, left, addends)?)
+    }
+
+    #[tactic(auto, unfolding(awk_tree::specs::Expressions::part))]
+    fn part(&self, tokens: &mut Tokens<'_>) -> Result<Expr, Fault>
+        requires { Nests self.now.operands.depth (F.pre self.now.operands.inner) (F.post self.now.operands.inner) }
+        ensures { Reads view (spec.part self.now.operands.depth (spec.expr self.now.operands.depth) tokens.old) result tokens.new }
+    {
+        let first = self.operands.unary(tokens)?;
+        let product = self.product_rest(tokens, first)?;
+        self.sum_rest(tokens, product)
+    }
+
+    #[tactic(auto, unfolding(awk_tree::specs::Expressions::parts))]
+    fn parts(&self, tokens: &mut Tokens<'_>) -> Result<Items<Expr>, Fault>
+        requires { Nests self.now.operands.depth (F.pre self.now.operands.inner) (F.post self.now.operands.inner) }
+        ensures { Reads (map view) (spec.parts self.now.operands.depth (spec.expr self.now.operands.depth) tokens.old) result tokens.new }
+    {
+        let mut found = Items::new(self.operands.alloc);
+        for _turn in 0..tokens.left() {
+            if !begins_part(tokens.ahead()) {
+                return Ok(found);
+            }
+            found.push(self.part(tokens)?)?;
+        }
+        if begins_part(tokens.ahead()) {
+            Err(tokens.refuse())
+        } else {
+            Ok(found)
+        }
+    }
+
+    /// `{ add }`
+    #[tactic(auto, unfolding(awk_tree::specs::Expressions::concat_rest))]
+    pub(crate) fn concat_rest(&self, tokens: &mut Tokens<'_>, left: Expr) -> Result<Expr, Fault>
+        requires { Nests self.now.operands.depth (F.pre self.now.operands.inner) (F.post self.now.operands.inner) }
+        ensures { Reads view (spec.concat_rest self.now.operands.depth (spec.expr self.now.operands.depth) (view left) tokens.old) result tokens.new }
+    {
+        let parts = holding!(left, self.parts(tokens));
+        Ok(concat_of(self.operands.alloc, left, parts)?)
+    }
+
+    /// `cat = add { add }`
+    #[tactic(auto, unfolding(awk_tree::specs::Expressions::cat))]
+    pub(crate) fn cat(&self, tokens: &mut Tokens<'_>) -> Result<Expr, Fault>
+        requires { Nests self.now.operands.depth (F.pre self.now.operands.inner) (F.post self.now.operands.inner) }
+        ensures { Reads view (spec.cat self.now.operands.depth (spec.expr self.now.operands.depth) tokens.old) result tokens.new }
+    {
+        let first = self.part(tokens)?;
+        self.concat_rest(tokens, first)
+    }
+}

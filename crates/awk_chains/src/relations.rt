@@ -1,0 +1,186 @@
+// From a piped `getline` up to `in`.
+
+ghost use Rattle.std.specs.Prelude.{◌≡◌, map};
+ghost use Rattle.awk_expressions.specs.Nests.{Nests};
+ghost use Rattle.awk_tree.specs.Expressions as spec;
+ghost use Rattle.awk_tree.specs.Input.{Reads};
+ghost use Rattle.awk_tree.specs.Tree as tree;
+ghost use Rattle.awk_tree.specs.Tree.{trees_of};
+ghost use Rattle.awk_tree.specs.View.{view, view_piped};
+
+use crate::chains::Chains;
+use awk_expressions::nodes::{compare, joined, matched, paren, pipe_of};
+use awk_expressions::signs::{comparison, matching};
+use awk_expressions::{Tokens, is};
+use awk_operands::{in_name, in_names, in_rest};
+use awk_text::place::Place;
+use awk_tree::{Expr, Fault, Goal, Member, Piped, Terminal};
+use sqlite_items::Items;
+use std::alloc::Global;
+
+#[tactic(auto, using(awk_tree::proofs::Views::views))]
+fn group(place: Place, keys: Items<Expr>, arrays: Items<Member>) -> Expr
+    ensures { view result ≡ tree.group place (trees_of (map view keys)) arrays }
+{
+    Expr::Group(place, keys, arrays)
+}
+
+impl<F: Fn(Global, &mut Tokens<'_>, usize, Goal) -> Result<Expr, Fault>> Chains<F> {
+    #[tactic(auto, unfolding(awk_tree::specs::Expressions::one_pipe))]
+    fn one_pipe(&self, tokens: &mut Tokens<'_>) -> Result<Piped<Expr>, Fault>
+        requires { Nests self.now.operands.depth (F.pre self.now.operands.inner) (F.post self.now.operands.inner) }
+        ensures { Reads view_piped (spec.one_pipe self.now.operands.depth (spec.expr self.now.operands.depth) tokens.old) result tokens.new }
+    {
+        tokens.any()?;
+        let token = tokens.one(Terminal::Getline)?;
+        let target = self.operands.target(tokens)?;
+        Ok(Piped {
+            place: token.place,
+            target,
+        })
+    }
+
+    #[tactic(auto, unfolding(awk_tree::specs::Expressions::pipes))]
+    fn pipes(&self, tokens: &mut Tokens<'_>) -> Result<Items<Piped<Expr>>, Fault>
+        requires { Nests self.now.operands.depth (F.pre self.now.operands.inner) (F.post self.now.operands.inner) }
+        ensures { Reads (map view_piped) (spec.pipes self.now.operands.depth (spec.expr self.now.operands.depth) tokens.old) result tokens.new }
+    {
+        let mut found = Items::new(self.operands.alloc);
+        for _turn in 0..tokens.left() {
+            if !is(Terminal::BarGetline, tokens.ahead()) {
+                return Ok(found);
+            }
+            found.push(self.one_pipe(tokens)?)?;
+        }
+        if is(Terminal::BarGetline, tokens.ahead()) {
+            Err(tokens.refuse())
+        } else {
+            Ok(found)
+        }
+    }
+
+    /// `{ | getline [ lvalue ] }`
+    #[tactic(auto, unfolding(awk_tree::specs::Expressions::pipe_rest))]
+    fn pipe_rest(&self, tokens: &mut Tokens<'_>, left: Expr) -> Result<Expr, Fault>
+        requires { Nests self.now.operands.depth (F.pre self.now.operands.inner) (F.post self.now.operands.inner) }
+        ensures { Reads view (spec.pipe_rest self.now.operands.depth (spec.expr self.now.operands.depth) (view left) tokens.old) result tokens.new }
+    {
+        let pipes = holding!(left, self.pipes(tokens));
+        Ok(pipe_of(self.operands.alloc, left, pipes)?)
+    }
+
+    #[tactic(auto, unfolding(awk_tree::specs::Expressions::pipe))]
+    fn pipe(&self, tokens: &mut Tokens<'_>) -> Result<Expr, Fault>
+        requires { Nests self.now.operands.depth (F.pre self.now.operands.inner) (F.post self.now.operands.inner) }
+        ensures { Reads view (spec.pipe self.now.operands.depth (spec.expr self.now.operands.depth) tokens.old) result tokens.new }
+    {
+        let command = self.cat(tokens)?;
+        self.pipe_rest(tokens, command)
+    }
+
+    /// `[ (< | <= | != | == | > | >=) pipe ]`: a comparison does not chain.
+    #[tactic(auto, unfolding(awk_tree::specs::Expressions::compare_rest))]
+    fn compare_rest(
+        &self,
+        tokens: &mut Tokens<'_>,
+        in_print: bool,
+        left: Expr,
+    ) -> Result<Expr, Fault>
+        requires { Nests self.now.operands.depth (F.pre self.now.operands.inner) (F.post self.now.operands.inner) }
+        ensures { Reads view (spec.compare_rest self.now.operands.depth (spec.expr self.now.operands.depth) in_print (view left) tokens.old) result tokens.new }
+    {
+        let Some(how) = comparison(in_print, tokens.ahead()) else {
+            return Ok(left);
+        };
+        let token = holding!(left, tokens.any());
+        let right = holding!(left, self.pipe(tokens));
+        Ok(compare(self.operands.alloc, left, token.place, how, right)?)
+    }
+
+    #[tactic(auto, unfolding(awk_tree::specs::Expressions::cmp))]
+    fn cmp(&self, tokens: &mut Tokens<'_>, in_print: bool) -> Result<Expr, Fault>
+        requires { Nests self.now.operands.depth (F.pre self.now.operands.inner) (F.post self.now.operands.inner) }
+        ensures { Reads view (spec.cmp self.now.operands.depth (spec.expr self.now.operands.depth) in_print tokens.old) result tokens.new }
+    {
+        let left = self.pipe(tokens)?;
+        self.compare_rest(tokens, in_print, left)
+    }
+
+    /// `[ (~ | !~) cmp ]`: a match does not chain.
+    #[tactic(auto, unfolding(awk_tree::specs::Expressions::match_rest))]
+    fn match_rest(&self, tokens: &mut Tokens<'_>, in_print: bool, left: Expr) -> Result<Expr, Fault>
+        requires { Nests self.now.operands.depth (F.pre self.now.operands.inner) (F.post self.now.operands.inner) }
+        ensures { Reads view (spec.match_rest self.now.operands.depth (spec.expr self.now.operands.depth) in_print (view left) tokens.old) result tokens.new }
+    {
+        let Some(unlike) = matching(tokens.ahead()) else {
+            return Ok(left);
+        };
+        let token = holding!(left, tokens.any());
+        let right = holding!(left, self.cmp(tokens, in_print));
+        Ok(matched(self.operands.alloc, left, token.place, unlike, right)?)
+    }
+
+    /// From the first operand of all these chains on, up to `in`.
+    #[tactic(auto, unfolding(awk_tree::specs::Expressions::unary_rest))]
+    fn unary_rest(&self, tokens: &mut Tokens<'_>, in_print: bool, left: Expr) -> Result<Expr, Fault>
+        requires { Nests self.now.operands.depth (F.pre self.now.operands.inner) (F.post self.now.operands.inner) }
+        ensures { Reads view (spec.unary_rest self.now.operands.depth (spec.expr self.now.operands.depth) in_print (view left) tokens.old) result tokens.new }
+    {
+        let left = self.product_rest(tokens, left)?;
+        let left = self.sum_rest(tokens, left)?;
+        let left = self.concat_rest(tokens, left)?;
+        let left = self.pipe_rest(tokens, left)?;
+        let left = self.compare_rest(tokens, in_print, left)?;
+        let left = self.match_rest(tokens, in_print, left)?;
+        in_rest(self.operands.alloc, tokens, left)
+    }
+
+    /// What goes on from parentheses: from an operand, or `in` from a list of two or more.
+    pub(crate) fn grouped(
+        &self,
+        tokens: &mut Tokens<'_>,
+        in_print: bool,
+        place: Place,
+        first: Expr,
+        more: Items<Expr>,
+    ) -> Result<Expr, Fault>
+        requires { Nests self.now.operands.depth (F.pre self.now.operands.inner) (F.post self.now.operands.inner) }
+        ensures { Reads view (spec.grouped self.now.operands.depth (spec.expr self.now.operands.depth) in_print place (view first) (map view more) tokens.old) result tokens.new }
+    {
+        if more.is_empty() {
+            let inside = paren(self.operands.alloc, place, first)?;
+            let left = self.operands.power_rest(tokens, inside)?;
+            return self.unary_rest(tokens, in_print, left);
+        }
+        let keys = joined(self.operands.alloc, first, more)?;
+        let array = in_name(self.operands.alloc, tokens)?;
+        let arrays = in_names(self.operands.alloc, tokens)?;
+        let arrays = joined(self.operands.alloc, array, arrays)?;
+        Ok(group(place, keys, arrays))
+    }
+
+    #[tactic(auto, unfolding(awk_tree::specs::Expressions::from_paren))]
+    fn from_paren(&self, tokens: &mut Tokens<'_>, in_print: bool) -> Result<Expr, Fault>
+        requires { Nests self.now.operands.depth (F.pre self.now.operands.inner) (F.post self.now.operands.inner) }
+        ensures { Reads view (spec.from_paren self.now.operands.depth (spec.expr self.now.operands.depth) in_print tokens.old) result tokens.new }
+    {
+        let token = tokens.one(Terminal::OpenParen)?;
+        let first = self.operands.nested(tokens, Goal::Expr(false))?;
+        let more = holding!(first, self.operands.commas(tokens));
+        holding!(first, tokens.one(Terminal::CloseParen));
+        self.grouped(tokens, in_print, token.place, first, more)
+    }
+
+    /// `isin = match { in NAME } | ( list ) in NAME { in NAME }`
+    #[tactic(auto, unfolding(awk_tree::specs::Expressions::isin))]
+    pub(crate) fn isin(&self, tokens: &mut Tokens<'_>, in_print: bool) -> Result<Expr, Fault>
+        requires { Nests self.now.operands.depth (F.pre self.now.operands.inner) (F.post self.now.operands.inner) }
+        ensures { Reads view (spec.isin self.now.operands.depth (spec.expr self.now.operands.depth) in_print tokens.old) result tokens.new }
+    {
+        if is(tokens.ahead(), Terminal::OpenParen) {
+            return self.from_paren(tokens, in_print);
+        }
+        let first = self.operands.unary(tokens)?;
+        self.unary_rest(tokens, in_print, first)
+    }
+}

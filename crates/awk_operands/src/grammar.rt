@@ -1,0 +1,34 @@
+// The rules, over a function that reads what is nested one level deeper.
+
+ghost use Rattle.awk_expressions.specs.Nests.{Nests};
+ghost use Rattle.awk_tree.specs.Expressions as spec;
+ghost use Rattle.awk_tree.specs.Input.{Reads};
+ghost use Rattle.awk_tree.specs.View.{view};
+
+use awk_expressions::Tokens;
+use awk_tree::{Expr, Fault, Goal};
+use std::alloc::Global;
+
+/// The rules of expressions at one level of nesting.
+#[derive(Clone, Copy)]
+pub struct Grammar<F> {
+    pub alloc: Global,
+    /// How many levels are left below this one.
+    pub depth: usize,
+    /// Reads what is nested one level deeper.
+    pub inner: F,
+}
+
+impl<F: Fn(Global, &mut Tokens<'_>, usize, Goal) -> Result<Expr, Fault>> Grammar<F> {
+    /// What is nested one level deeper.
+    pub fn nested(&self, tokens: &mut Tokens<'_>, goal: Goal) -> Result<Expr, Fault>
+        requires { Nests self.now.depth (F.pre self.now.inner) (F.post self.now.inner) }
+        ensures { Reads view (spec.expr self.now.depth goal tokens.old) result tokens.new }
+    {
+        (self.inner)(self.alloc, tokens, self.depth, goal)
+    }
+}
+
+/// Lets a tree go. It is a function of its own since a drop in place walks through every variant,
+/// on each way out of the function that holds the tree.
+pub(crate) fn let_go<T: Drop>(_tree: T) {}

@@ -1,0 +1,32 @@
+//! The operands of awk's expressions are read from tokens.
+//!
+//! Each function is equal to its rule in the specs of `awk_tree`, which follow "Grammar" in
+//! POSIX.1-2017 XCU awk line by line. What is nested one level deeper is read by a function that is
+//! handed in, so that no rule calls itself.
+#![tactic(auto)]
+
+/// What is read behind what is held, or its fault, and then what is held is let go.
+macro_rules! holding {
+    ($held:expr, $read:expr) => {
+        match $read {
+            Ok(read) => read,
+            Err(fault) => {
+                crate::grammar::let_go($held);
+                return Err(fault);
+            }
+        }
+    };
+}
+
+mod builtins;
+mod grammar;
+mod lists;
+mod lvalues;
+mod members;
+mod operands;
+
+pub use grammar::Grammar;
+pub use members::{in_name, in_names, in_rest};
+
+#[cfg(test)]
+mod tests;

@@ -1,0 +1,2 @@
+pub mod NestsStatements
+pub mod Places
