@@ -27,6 +27,3 @@ mod operands;
 
 pub use grammar::Grammar;
 pub use members::{in_name, in_names, in_rest};
-
-#[cfg(test)]
-mod tests;
