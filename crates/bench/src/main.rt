@@ -1,10 +1,12 @@
 //! Work to be timed by hand, beside another awk. The words: `tokens`, for the number of tokens of the
 //! script on standard input; `format N`, for N lines as `printf` makes them; `log N`, for N lines like
-//! those of a log; `match ERE` or `find ERE`, for the number of lines of standard input that it matches.
+//! those of a log; `match ERE` or `find ERE`, for the number of lines of standard input that it
+//! matches; `fields FS`, for the number of fields of the lines of standard input.
 #![tactic(auto)]
 
 use anyhow::{Result, bail};
 use awk_ere::Ere;
+use awk_fields::{Record, Splitter, records};
 use awk_format::format;
 use awk_text::octets::Octets;
 use awk_text::value::Value;
@@ -110,13 +112,35 @@ fn count_lines(ere: &Ere, text: &[u8], finds: bool) -> Result<u64> {
     Ok(count)
 }
 
+/// How many fields the lines have.
+fn count_fields(alloc: Global, text: Vec<u8>, splitter: &Splitter) -> Result<u64> {
+    let mut record = Record::new(alloc);
+    let mut count = 0u64;
+    for line in records(alloc, &[Octets::new(text)], b"\n")? {
+        record.set_whole(line, splitter.share()?)?;
+        count = count.saturating_add(record.count()? as u64);
+    }
+    Ok(count)
+}
+
 fn main(rt: HostRuntime) -> Result<()> {
     let alloc = rt.alloc();
     let mut words = std::env::args(&rt)?;
     let _program = words.next();
     let (Some(task), count) = (words.next(), words.next()) else {
-        bail!("tokens, format N, log N, match ERE or find ERE")
+        bail!("tokens, format N, log N, match ERE, find ERE or fields FS")
     };
+    if task.as_str() == "fields" {
+        let Some(separator) = count else {
+            bail!("no FS")
+        };
+        let splitter = Splitter::new(alloc, separator.as_str().as_bytes(), false)?;
+        let mut text = Vec::new(alloc);
+        rt.reader().read_to_end(&mut text)?;
+        let found = count_fields(alloc, text, &splitter)?;
+        println!(rt; "{found} fields")?;
+        return Ok(());
+    }
     if task.as_str() == "match" || task.as_str() == "find" {
         let Some(pattern) = count else {
             bail!("no ERE")
