@@ -1,4 +1,4 @@
-use Rattle.std.proofs.Common.{◌≡◌, arith}
+use Rattle.std.proofs.Common.{arith}
 use Rattle.awk_fields.specs.declared.front.Searched.TheVariants.{Byte}
 use Rattle.awk_fields.proofs.HeadLemmas.{last_inside}
 use Rattle.awk_fields.proofs.front.line_front.Goals as goal

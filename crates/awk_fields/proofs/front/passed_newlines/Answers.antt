@@ -1,4 +1,4 @@
-use Rattle.std.proofs.Common.{◌≡◌, arith}
+use Rattle.std.proofs.Common.{arith}
 use Rattle.awk_fields.proofs.HeadLemmas.{passed_all, passed_only}
 use Rattle.awk_fields.proofs.front.passed_newlines.Goals as goal
 
