@@ -2,7 +2,7 @@
 use Rattle.std.proofs.Common.{◌≡◌, ℕ, zero, suc, ◌+◌, ◌-◌, ◌≤◌, ◌<◌, Bool, true, false, not, cond, ◌&&◌, ◌==◌, eqb, List, [], ◌∷◌, ◌++◌, length, take, drop, get_or, Option, Some, None, option_map, sym, ap, ap₂, subst, refl, ◌∙◌, arith, inl, inr, eqb-true, get_or-take, length-append}
 use Rattle.std.specs.List.{position_or_len, prefix_len}
 use Rattle.std.proofs.lemmas.Bool.{cases_lt, false≢true}
-use Rattle.std.proofs.lemmas.List.{take-append-le, drop-append-le, length-take-le, take_rest}
+use Rattle.std.proofs.lemmas.List.{take-append-le, drop-append-le, length-take-le, take_rest, take_all}
 use Rattle.std.proofs.lemmas.List.Folds.{prefix_len-append}
 use Rattle.std.proofs.lemmas.List.Sums.{position_or_len_is, fails_before_first, prefix_len-le-length}
 use Rattle.memchr.specs.Find.{IsFirstByte, FindsNeedle, OccursAt}
@@ -29,7 +29,7 @@ none_from p s from known inside found =
     sym (position_or_len_is p s (length s) 0 (omega arith) (λ i lt. elim (cases_lt i from) [ inl low ↦ fails_before_first p s i 0 (omega arith) | inr high ↦ fails (p (get_or s i 0)) (none i high lt) ]) (λ lt. absurd (omega arith)))
 
 -- what is known of the bytes in front stays where more are added
-prefix_more : (p : ℕ → Bool) (s t : List ℕ) (n : ℕ) → n ≤ prefix_len p s → n ≤ prefix_len p (s ++ t)
+pub prefix_more : (p : ℕ → Bool) (s t : List ℕ) (n : ℕ) → n ≤ prefix_len p s → n ≤ prefix_len p (s ++ t)
 prefix_more p s t n h = subst (λ m. n ≤ m) (sym (prefix_len-append p s t)) (by (eqb (prefix_len p s) (length s)) (prefix_len-le-length p s))
   where
     by : (b : Bool) → prefix_len p s ≤ length s → n ≤ cond b (length s + prefix_len p t) (prefix_len p s)
@@ -48,7 +48,7 @@ prefix_on p (b ∷ s) (suc n) h = by (p b) (λ le. prefix_on p s n le) h
 
 -- ---- two newlines in a row
 
-abbrev is_pair : List ℕ → ℕ → Bool
+abbrev pub is_pair : List ℕ → ℕ → Bool
 is_pair s k = get_or s k 0 == 10 && get_or s (suc k) 0 == 10
 
 pub pair_at : (s : List ℕ) (k : ℕ) → k + 2 ≤ length s → is_pair s k ≡ true → ((j : ℕ) → j < k → is_pair s j ≡ false) → pair_place s ≡ Some k
@@ -92,7 +92,7 @@ found_pair s None none = sym (pair_none s (λ j inside. fails (is_pair s j) (λ 
 found_pair s (Some k) found =
     sym (pair_at s k found.1.fits (pair_from s k found.1) (λ j lt. fails (is_pair s j) (λ is. found.0.before j (omega arith) lt (occurs_from s j (omega (arith, found.1.fits)) is))))
 
-none_pair : (s : List ℕ) → pair_place s ≡ None → (j : ℕ) → j + 2 ≤ length s → is_pair s j ≡ false
+pub none_pair : (s : List ℕ) → pair_place s ≡ None → (j : ℕ) → j + 2 ≤ length s → is_pair s j ≡ false
 none_pair [] e j inside = absurd (omega arith)
 none_pair (b ∷ []) e j inside = absurd (omega arith)
 none_pair (b ∷ c ∷ s) e j inside = by (b == 10 && c == 10) (pair_place (c ∷ s)) refl (λ f i le. none_pair (c ∷ s) f i le) e j inside
