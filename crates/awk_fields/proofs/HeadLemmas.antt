@@ -2,7 +2,7 @@
 use Rattle.std.proofs.Common.{◌≡◌, ℕ, zero, suc, ◌+◌, ◌-◌, ◌≤◌, ◌<◌, Bool, true, false, not, cond, ◌&&◌, ◌==◌, eqb, List, [], ◌∷◌, ◌++◌, length, take, drop, get_or, Option, Some, None, option_map, sym, ap, ap₂, subst, refl, ◌∙◌, arith, inl, inr, eqb-true, get_or-take, length-append}
 use Rattle.std.specs.List.{position_or_len, prefix_len}
 use Rattle.std.proofs.lemmas.Bool.{cases_lt, false≢true}
-use Rattle.std.proofs.lemmas.List.{take-append-le, drop-append-le, length-take-le, take_rest, take_all}
+use Rattle.std.proofs.lemmas.List.{take-append-le, drop-append-le, length-take-le, take_rest}
 use Rattle.std.proofs.lemmas.List.Folds.{prefix_len-append}
 use Rattle.std.proofs.lemmas.List.Sums.{position_or_len_is, fails_before_first, prefix_len-le-length}
 use Rattle.memchr.specs.Find.{IsFirstByte, FindsNeedle, OccursAt}

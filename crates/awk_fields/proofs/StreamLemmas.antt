@@ -1,5 +1,5 @@
 -- Records of a stream, whose front is the same whatever comes behind it.
-use Rattle.std.proofs.Common.{◌≡◌, ℕ, ◌+◌, ◌≤◌, ◌<◌, Bool, true, false, not, cond, nat_lt, eqb, ◌==◌, ◌&&◌, List, [], ◌∷◌, ◌++◌, length, take, drop, Option, Some, None, option_map, sym, ap, ap₂, subst, subst₂, append_assoc, append-nil, refl, ◌∙◌, arith, inl, inr, suc, ◌-◌, ◌⊎◌, get_or, get_or-drop, length-take, length-drop, length-append, lt-ltb, ltb-true, eqb-true, ne_eqb}
+use Rattle.std.proofs.Common.{◌≡◌, ℕ, ◌+◌, ◌≤◌, ◌<◌, Bool, true, false, not, cond, nat_lt, eqb, ◌==◌, ◌&&◌, List, [], ◌∷◌, ◌++◌, length, take, drop, Option, Some, None, option_map, sym, ap, ap₂, subst, subst₂, append_assoc, append-nil, refl, ◌∙◌, arith, inl, inr, suc, ◌-◌, get_or, get_or-drop, length-take, length-drop, length-append, lt-ltb, ltb-true, eqb-true, ne_eqb}
 use Rattle.std.specs.List.{position_or_len, prefix_len, before_first, after_first, slice_index}
 use Rattle.std.proofs.lemmas.Bool.{cases_lt, and_parts, false≢true}
 use Rattle.std.proofs.lemmas.List.{take-append-le, drop-append-le, get_or_append_left}
