@@ -11,6 +11,7 @@ use box_monitor::log_end::LogEnd;
 use box_monitor::monitor::Monitor;
 use box_policy::policy::Policy;
 use box_world::ask::{Ask, Mode, Reply, Request, Stop};
+use box_world::memory_world::MemoryWorld;
 use box_world::world::World;
 use std::alloc::Global;
 use std::io::{self, ErrorKind, Write};
@@ -49,6 +50,46 @@ impl World for FakeWorld {
             Request::System(_) => Ok(Reply::Status(3)),
             Request::Next(_) => Ok(Reply::End),
             Request::Open(_, _) | Request::Env(_) | Request::Assign(_, _) => Ok(Reply::Failed),
+        }
+    }
+
+    ghost follows_none = { λ w. refl };
+
+    ghost follows_append = { λ u v w xs ys p q. open_after-append xs ys [] ∙ ap (λ z. open_after ys z) p ∙ q };
+
+    ghost follows_open = { λ v w calls p. sym p };
+
+    ghost stops_later = { λ u v w xs ys ask p same q. tt };
+}
+
+// A monitor that is wrong: where the one in it denies, it answers as though the log had failed.
+#[derive(Drop)]
+struct Halting {
+    monitor: Monitor<FakeWorld, Vec<u8>>,
+    has_stopped: bool,
+}
+
+impl World for Halting {
+    ghost follows = { λ v calls w. open_after calls [] ≡ [] };
+
+    ghost open_numbers = { λ w. [] };
+
+    ghost has_stopped = { λ w. w.has_stopped };
+
+    ghost stops = { λ v calls ask w. Unit {0} };
+
+    fn ask(&mut self, ask: &Ask) -> Result<Reply, Stop> {
+        if self.has_stopped {
+            return Err(Stop::Log);
+        }
+        let before = self.monitor.denials();
+        match self.monitor.ask(ask) {
+            Ok(reply) if self.monitor.denials() == before => Ok(reply),
+            Err(Stop::Memory) => Err(Stop::Memory),
+            _ => {
+                self.has_stopped = true;
+                Err(Stop::Log)
+            }
         }
     }
 
@@ -163,13 +204,20 @@ fn is_failed(answer: Result<Reply, Stop>) -> bool {
     matches!(answer, Ok(Reply::Failed))
 }
 
+// The row of a denied ask, over whatever stands in the monitor's place: it fails, and stops nothing.
+fn fails<W: World>(world: &mut W, ask: &Ask) -> bool
+    requires { IsDuty (W.open_numbers world.old) ask.now.request }
+{
+    is_failed(world.ask(ask))
+}
+
 // Asks once, where the answer is to be Failed, and compares the log.
 fn shows(rt: &impl Abort, alloc: Global, policy: &[u8], ask: &Ask, line: &[u8]) -> Result<(), Fail>
     requires { IsDuty [] ask.now.request }
 {
     let policy = Policy::read(alloc, policy)?;
     let mut monitor = Monitor::new(alloc, policy, fake_world(None), Vec::new(alloc));
-    assert!(rt; is_failed(monitor.ask(ask)));
+    assert!(rt; fails(&mut monitor, ask));
     assert_eq!(rt; monitor.denials(), 1);
     let (_, world, log) = monitor.into_parts();
     assert_eq!(rt; world.asks, 0);
@@ -182,6 +230,23 @@ fn a_denial_is_one_line(rt: HostRuntime) -> Result<(), Fail> {
     let alloc = rt.alloc();
     let ask = denied(alloc)?;
     shows(&rt, alloc, NO_RULES, &ask, LINE)
+}
+
+#[test]
+fn a_monitor_that_stops_at_a_denial_fails_the_row(rt: HostRuntime) -> Result<(), Fail> {
+    let alloc = rt.alloc();
+    let ask = denied(alloc)?;
+    let mut halting = Halting {
+        monitor: Monitor::new(
+            alloc,
+            Policy::read(alloc, NO_RULES)?,
+            fake_world(None),
+            Vec::new(alloc),
+        ),
+        has_stopped: false,
+    };
+    assert!(rt; !fails(&mut halting, &ask));
+    Ok(())
 }
 
 #[test]
@@ -244,13 +309,13 @@ fn a_denial_is_logged_each_time(rt: HostRuntime) -> Result<(), Fail> {
     let alloc = rt.alloc();
     let policy = Policy::read(alloc, NO_RULES)?;
     let ask = ask_at(1, 17, Request::Open(Mode::Read, text(alloc, b"/x")?));
-    let mut monitor = Monitor::new(alloc, policy, fake_world(None), Vec::new(alloc));
+    let mut monitor = Monitor::new(alloc, policy, MemoryWorld::new(alloc), Vec::new(alloc));
     for _ in 0..5 {
         assert!(rt; is_failed(monitor.ask(&ask)));
     }
     assert_eq!(rt; monitor.denials(), 5);
     let (_, world, log) = monitor.into_parts();
-    assert_eq!(rt; world.asks, 0);
+    assert!(rt; world.asked().is_empty());
     assert_eq!(rt; log.as_slice(), FIVE_LINES);
     Ok(())
 }
