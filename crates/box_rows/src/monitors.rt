@@ -62,46 +62,6 @@ impl World for FakeWorld {
     ghost stops_later = { λ u v w xs ys ask p same q. tt };
 }
 
-// A monitor that is wrong: where the one in it denies, it answers as though the log had failed.
-#[derive(Drop)]
-struct Halting {
-    monitor: Monitor<FakeWorld, Vec<u8>>,
-    has_stopped: bool,
-}
-
-impl World for Halting {
-    ghost follows = { λ v calls w. open_after calls [] ≡ [] };
-
-    ghost open_numbers = { λ w. [] };
-
-    ghost has_stopped = { λ w. w.has_stopped };
-
-    ghost stops = { λ v calls ask w. Unit {0} };
-
-    fn ask(&mut self, ask: &Ask) -> Result<Reply, Stop> {
-        if self.has_stopped {
-            return Err(Stop::Log);
-        }
-        let before = self.monitor.denials();
-        match self.monitor.ask(ask) {
-            Ok(reply) if self.monitor.denials() == before => Ok(reply),
-            Err(Stop::Memory) => Err(Stop::Memory),
-            _ => {
-                self.has_stopped = true;
-                Err(Stop::Log)
-            }
-        }
-    }
-
-    ghost follows_none = { λ w. refl };
-
-    ghost follows_append = { λ u v w xs ys p q. open_after-append xs ys [] ∙ ap (λ z. open_after ys z) p ∙ q };
-
-    ghost follows_open = { λ v w calls p. sym p };
-
-    ghost stops_later = { λ u v w xs ys ask p same q. tt };
-}
-
 // Takes at most `most` bytes a write, and fails at the write and at the flush with these numbers,
 // counted from 1.
 #[derive(Drop)]
@@ -232,20 +192,12 @@ fn a_denial_is_one_line(rt: HostRuntime) -> Result<(), Fail> {
     shows(&rt, alloc, NO_RULES, &ask, LINE)
 }
 
+// Of this row only a denial reaches the monitor, so a wrong one that stops at denials stops at all.
 #[test]
 fn a_monitor_that_stops_at_a_denial_fails_the_row(rt: HostRuntime) -> Result<(), Fail> {
-    let alloc = rt.alloc();
-    let ask = denied(alloc)?;
-    let mut halting = Halting {
-        monitor: Monitor::new(
-            alloc,
-            Policy::read(alloc, NO_RULES)?,
-            fake_world(None),
-            Vec::new(alloc),
-        ),
-        has_stopped: false,
-    };
-    assert!(rt; !fails(&mut halting, &ask));
+    let ask = denied(rt.alloc())?;
+    let mut wrong = fake_world(Some(Stop::Log));
+    assert!(rt; !fails(&mut wrong, &ask));
     Ok(())
 }
 
