@@ -11,6 +11,7 @@ use box_monitor::log_end::LogEnd;
 use box_monitor::monitor::Monitor;
 use box_policy::policy::Policy;
 use box_world::ask::{Ask, Mode, Reply, Request, Stop};
+use box_world::memory_world::MemoryWorld;
 use box_world::world::World;
 use std::alloc::Global;
 use std::io::{self, ErrorKind, Write};
@@ -163,13 +164,20 @@ fn is_failed(answer: Result<Reply, Stop>) -> bool {
     matches!(answer, Ok(Reply::Failed))
 }
 
+// The row of a denied ask, over whatever stands in the monitor's place: it fails, and stops nothing.
+fn fails<W: World>(world: &mut W, ask: &Ask) -> bool
+    requires { IsDuty (W.open_numbers world.old) ask.now.request }
+{
+    is_failed(world.ask(ask))
+}
+
 // Asks once, where the answer is to be Failed, and compares the log.
 fn shows(rt: &impl Abort, alloc: Global, policy: &[u8], ask: &Ask, line: &[u8]) -> Result<(), Fail>
     requires { IsDuty [] ask.now.request }
 {
     let policy = Policy::read(alloc, policy)?;
     let mut monitor = Monitor::new(alloc, policy, fake_world(None), Vec::new(alloc));
-    assert!(rt; is_failed(monitor.ask(ask)));
+    assert!(rt; fails(&mut monitor, ask));
     assert_eq!(rt; monitor.denials(), 1);
     let (_, world, log) = monitor.into_parts();
     assert_eq!(rt; world.asks, 0);
@@ -182,6 +190,15 @@ fn a_denial_is_one_line(rt: HostRuntime) -> Result<(), Fail> {
     let alloc = rt.alloc();
     let ask = denied(alloc)?;
     shows(&rt, alloc, NO_RULES, &ask, LINE)
+}
+
+// Of this row only a denial reaches the monitor, so a wrong one that stops at denials stops at all.
+#[test]
+fn a_monitor_that_stops_at_a_denial_fails_the_row(rt: HostRuntime) -> Result<(), Fail> {
+    let ask = denied(rt.alloc())?;
+    let mut wrong = fake_world(Some(Stop::Log));
+    assert!(rt; !fails(&mut wrong, &ask));
+    Ok(())
 }
 
 #[test]
@@ -244,13 +261,13 @@ fn a_denial_is_logged_each_time(rt: HostRuntime) -> Result<(), Fail> {
     let alloc = rt.alloc();
     let policy = Policy::read(alloc, NO_RULES)?;
     let ask = ask_at(1, 17, Request::Open(Mode::Read, text(alloc, b"/x")?));
-    let mut monitor = Monitor::new(alloc, policy, fake_world(None), Vec::new(alloc));
+    let mut monitor = Monitor::new(alloc, policy, MemoryWorld::new(alloc), Vec::new(alloc));
     for _ in 0..5 {
         assert!(rt; is_failed(monitor.ask(&ask)));
     }
     assert_eq!(rt; monitor.denials(), 5);
     let (_, world, log) = monitor.into_parts();
-    assert_eq!(rt; world.asks, 0);
+    assert!(rt; world.asked().is_empty());
     assert_eq!(rt; log.as_slice(), FIVE_LINES);
     Ok(())
 }
