@@ -1,0 +1,1 @@
+use Rattle.awk_binding.proofs.expressions.+expression.Goals as goal
