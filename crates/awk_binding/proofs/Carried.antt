@@ -1,5 +1,5 @@
 -- Lists of trees, and a list that is made one by one.
-use Rattle.std.proofs.Common.{◌≡◌, ◌∙◌, ℕ, ◌+◌, ◌<◌, List, [], ◌∷◌, ◌++◌, map, Option, Some, None, option_map, Result, Ok, Err, IfOk, length, get_or, drop, ap, sym, refl, append_assoc}
+use Rattle.std.proofs.Common.{◌≡◌, ◌∙◌, ℕ, ◌+◌, ◌<◌, List, [], ◌∷◌, ◌++◌, map, Option, Some, None, option_map, Result, Ok, Err, IfOk, OnOk, length, get_or, drop, ap, sym, refl, append_assoc}
 use Rattle.awk_tree.specs.declared.expressions.Term.{Term}
 use Rattle.awk_tree.specs.declared.expressions.Piped.{Piped}
 use Rattle.awk_tree.specs.Tree.{Tree, more, term, piped, then_also, trees_of, perhaps_of, terms_of, pipes_of, Statement, statements_of}
@@ -44,3 +44,9 @@ turned view bound all old new next x xs i h e made (y, is, pushed) far =
     let here : map bound (map view (drop i xs)) ≡ bound (view x) ∷ map bound (map view (drop (i + 1) xs)) = ap (λ ys. map bound (map view ys)) (drop_here xs i x h e) in
     far ∙ ap (λ ys. map view old ++ ys) here ∙ ap (λ z. map view old ++ z ∷ map bound (map view (drop (i + 1) xs))) (sym same)
     ∙ sym (map_push view old y (map bound (map view (drop (i + 1) xs)))) ∙ ap (λ ys. map view ys ++ map bound (map view (drop (i + 1) xs))) (sym pushed)
+
+-- what is kept of a list, once it is whole
+pub whole : {A B E : Type 0} (view : A → B) (made : Result (List A) E) (list : List A) (filled : Result Unit E) (all : List B)
+    → IfOk made (λ kept. (kept ≡ list) × (filled ≡ Ok tt)) → OnOk filled (map view list ≡ all) → IfOk made (λ kept. map view kept ≡ all)
+whole view (Ok kept) list filled all (is, was) h = ap (map view) is ∙ (rw was at h)
+whole view (Err e) list filled all h k = tt

@@ -254,8 +254,8 @@ mutual
   canon_statements m t.no_more = refl
   canon_statements m (t.then_also x xs) = rw (canon_statement m x, canon_statements m xs) refl
 
-canon_body : (m : Meaning) (xs : List Statement) → c.canon_action (map (bound_statement m) xs) ≡ c.canon_action xs
-canon_body m xs = rw (sym (statements_are m xs), canon_statements m (statements_of xs)) refl
+canon_body : (m : Meaning) (xs : List Statement) → c.canon_statements (statements_of (map (bound_statement m) xs)) ≡ c.canon_statements (statements_of xs)
+canon_body m xs = ap c.canon_statements (sym (statements_are m xs)) ∙ canon_statements m (statements_of xs)
 
 canon_condition : (m : Meaning) (x : Condition) → c.canon_condition (bound_condition m x) ≡ c.canon_condition x
 canon_condition m (t.single x) = canon_tree m x
@@ -269,7 +269,11 @@ canon_entry m (t.shown w) = rw (canon_condition m w) refl
 canon_entry m (t.rule w xs) = rw (canon_condition m w, canon_body m xs) refl
 canon_entry m (t.function f ps xs) = rw (canon_params m ps, canon_body m xs) refl
 
+canon_all : (kinds : Kinds) (items : List Entry) → flat_map c.canon_entry (bound kinds items) ≡ flat_map c.canon_entry items
+canon_all kinds [] = refl
+canon_all kinds (x ∷ xs) =
+    ap (λ ts. ts ++ flat_map c.canon_entry (bound kinds xs)) (canon_entry (b.meaning kinds x) x) ∙ ap (λ ts. c.canon_entry x ++ ts) (canon_all kinds xs)
+
 pub same_spelling : SameSpelling
 unfolding c.canon_script
-same_spelling kinds [] = refl
-same_spelling kinds (x ∷ xs) = rw (canon_entry (b.meaning kinds x) x, same_spelling kinds xs) refl
+same_spelling kinds items = canon_all kinds items

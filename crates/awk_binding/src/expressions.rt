@@ -1,12 +1,18 @@
 // Expressions, with what their names stand for.
 
-ghost use Rattle.std.specs.Prelude.{◌≡◌, ◌++◌, IfOk, OnOk, map, option_map};
+ghost use Rattle.std.specs.Prelude.{◌≡◌, ◌++◌, OnOk, map, option_map};
 ghost use Rattle.awk_binding.specs.Binding as spec;
-ghost use Rattle.awk_binding.specs.Scopes.{meaning_in, bound_term, bound_piped};
+ghost use Rattle.awk_binding.specs.Scopes.{meaning_in, bound_term, bound_piped, Is, IsPerhaps, AreTrees, AreTerms, ArePipes};
 ghost use Rattle.awk_tree.specs.View.{view, view_term, view_piped};
 
-use crate::kept::{kept, pair, push};
+use crate::kept::{kept, push};
 use crate::names::{Scope, members, name};
+use crate::nodes::{
+    after_of, and_of, assign_of, before_of, builtin_of, call_of, choose_of, compare_of, concat_of,
+    element_of, field_of, getline_of, given, group_of, matched_of, member_of, named, number, or_of,
+    paren_of, pattern, pipe_of, piped_of, power_of, present, product_of, quoted, signed_of,
+    split_of, substitute_of, sum_of, term_of,
+};
 use awk_text::Memory;
 use awk_tree::{Expr, Piped, Term};
 use sqlite_items::{Boxed, Items};
@@ -14,141 +20,139 @@ use sqlite_items::{Boxed, Items};
 /// The same expression, with what each name stands for.
 #[cycle(expression)]
 pub fn expression(scope: &Scope<'_>, e: &Expr) -> Result<Expr, Memory>
-    ensures { IfOk result (λ bound. view bound ≡ spec.bound_tree (meaning_in scope.now) (view e.now)) }
+    ensures { Is result (spec.bound_tree (meaning_in scope.now) (view e.now)) }
 {
     match e {
-        Expr::Number(place, text) => Ok(Expr::Number(*place, text.copy(scope.alloc)?)),
-        Expr::Quoted(place, text) => Ok(Expr::Quoted(*place, text.copy(scope.alloc)?)),
-        Expr::Pattern(place, text) => Ok(Expr::Pattern(*place, text.copy(scope.alloc)?)),
-        Expr::Name(n) => Ok(Expr::Name(name(scope, n)?)),
-        Expr::Element(n, keys) => {
-            let (n, keys) = pair(name(scope, n)?, list(scope, keys.as_slice()))?;
-            Ok(Expr::Element(n, keys))
-        }
-        Expr::Field(place, x) => Ok(Expr::Field(*place, boxed(scope, x.get())?)),
-        Expr::Paren(place, x) => Ok(Expr::Paren(*place, boxed(scope, x.get())?)),
-        Expr::Call(n, args) => {
-            let (n, args) = pair(name(scope, n)?, list(scope, args.as_slice()))?;
-            Ok(Expr::Call(n, args))
-        }
-        Expr::Builtin(place, which, args) => {
-            Ok(Expr::Builtin(*place, *which, list(scope, args.as_slice())?))
-        }
+        Expr::Number(place, text) => number(scope.alloc, *place, text),
+        Expr::Quoted(place, text) => quoted(scope.alloc, *place, text),
+        Expr::Pattern(place, text) => pattern(scope.alloc, *place, text),
+        Expr::Name(n) => named(scope, n),
+        Expr::Element(n, keys) => element_of(name(scope, n), list(scope, keys.as_slice())),
+        Expr::Field(place, x) => field_of(scope.alloc, *place, expression(scope, x.get())),
+        Expr::Paren(place, x) => paren_of(scope.alloc, *place, expression(scope, x.get())),
+        Expr::Call(n, args) => call_of(name(scope, n), list(scope, args.as_slice())),
         Expr::Length(place) => Ok(Expr::Length(*place)),
+        Expr::Builtin(place, which, args) => {
+            builtin_of(*place, *which, list(scope, args.as_slice()))
+        }
         Expr::Split(place, x, n, y) => {
-            let (n, (x, y)) = pair(name(scope, n)?, with_perhaps(scope, x.get(), y))?;
-            Ok(Expr::Split(*place, x, n, y))
+            let x = expression(scope, x.get());
+            split_of(scope.alloc, *place, x, name(scope, n), perhaps(scope, y))
         }
         Expr::Substitute(place, all, x, y, z) => {
-            let ((x, y), z) = pair(two(scope, x.get(), y.get())?, perhaps(scope, z))?;
-            Ok(Expr::Substitute(*place, *all, x, y, z))
+            let x = expression(scope, x.get());
+            let y = expression(scope, y.get());
+            substitute_of(scope.alloc, *place, *all, x, y, perhaps(scope, z))
         }
-        Expr::Getline(place, x, y) => {
-            let (x, y) = pair(perhaps(scope, x)?, perhaps(scope, y))?;
-            Ok(Expr::Getline(*place, x, y))
+        Expr::Getline(place, x, y) => getline_of(*place, perhaps(scope, x), perhaps(scope, y)),
+        Expr::Before(place, step, x) => {
+            before_of(scope.alloc, *place, *step, expression(scope, x.get()))
         }
-        Expr::Before(place, step, x) => Ok(Expr::Before(*place, *step, boxed(scope, x.get())?)),
-        Expr::After(x, place, step) => Ok(Expr::After(boxed(scope, x.get())?, *place, *step)),
-        Expr::Signed(place, sign, x) => Ok(Expr::Signed(*place, *sign, boxed(scope, x.get())?)),
+        Expr::After(x, place, step) => {
+            after_of(scope.alloc, expression(scope, x.get()), *place, *step)
+        }
+        Expr::Signed(place, sign, x) => {
+            signed_of(scope.alloc, *place, *sign, expression(scope, x.get()))
+        }
         Expr::Power(x, place, y) => {
-            let (x, y) = two(scope, x.get(), y.get())?;
-            Ok(Expr::Power(x, *place, y))
+            let x = expression(scope, x.get());
+            power_of(scope.alloc, x, *place, expression(scope, y.get()))
         }
         Expr::Product(x, ts) => {
-            let (x, ts) = with_terms(scope, x.get(), ts.as_slice())?;
-            Ok(Expr::Product(x, ts))
+            product_of(
+                scope.alloc,
+                expression(scope, x.get()),
+                terms(scope, ts.as_slice()),
+            )
         }
         Expr::Sum(x, ts) => {
-            let (x, ts) = with_terms(scope, x.get(), ts.as_slice())?;
-            Ok(Expr::Sum(x, ts))
+            sum_of(
+                scope.alloc,
+                expression(scope, x.get()),
+                terms(scope, ts.as_slice()),
+            )
         }
         Expr::Concat(x, xs) => {
-            let (x, xs) = with_list(scope, x.get(), xs.as_slice())?;
-            Ok(Expr::Concat(x, xs))
+            concat_of(
+                scope.alloc,
+                expression(scope, x.get()),
+                list(scope, xs.as_slice()),
+            )
         }
         Expr::Pipe(x, ps) => {
-            let (x, ps) = pair(boxed(scope, x.get())?, pipes(scope, ps.as_slice()))?;
-            Ok(Expr::Pipe(x, ps))
+            pipe_of(
+                scope.alloc,
+                expression(scope, x.get()),
+                pipes(scope, ps.as_slice()),
+            )
         }
         Expr::Compare(x, place, how, y) => {
-            let (x, y) = two(scope, x.get(), y.get())?;
-            Ok(Expr::Compare(x, *place, *how, y))
+            let x = expression(scope, x.get());
+            compare_of(scope.alloc, x, *place, *how, expression(scope, y.get()))
         }
         Expr::Match(x, place, unlike, y) => {
-            let (x, y) = two(scope, x.get(), y.get())?;
-            Ok(Expr::Match(x, *place, *unlike, y))
+            let x = expression(scope, x.get());
+            matched_of(scope.alloc, x, *place, *unlike, expression(scope, y.get()))
         }
         Expr::Group(place, xs, ms) => {
-            let (xs, ms) = pair(list(scope, xs.as_slice())?, members(scope, ms.as_slice()))?;
-            Ok(Expr::Group(*place, xs, ms))
+            group_of(
+                *place,
+                list(scope, xs.as_slice()),
+                members(scope, ms.as_slice()),
+            )
         }
         Expr::In(x, ms) => {
-            let (x, ms) = pair(boxed(scope, x.get())?, members(scope, ms.as_slice()))?;
-            Ok(Expr::In(x, ms))
+            member_of(
+                scope.alloc,
+                expression(scope, x.get()),
+                members(scope, ms.as_slice()),
+            )
         }
         Expr::And(x, xs) => {
-            let (x, xs) = with_list(scope, x.get(), xs.as_slice())?;
-            Ok(Expr::And(x, xs))
+            and_of(
+                scope.alloc,
+                expression(scope, x.get()),
+                list(scope, xs.as_slice()),
+            )
         }
         Expr::Or(x, xs) => {
-            let (x, xs) = with_list(scope, x.get(), xs.as_slice())?;
-            Ok(Expr::Or(x, xs))
+            or_of(
+                scope.alloc,
+                expression(scope, x.get()),
+                list(scope, xs.as_slice()),
+            )
         }
         Expr::Choice(x, y, z) => {
-            let (x, (y, z)) = pair(boxed(scope, x.get())?, two(scope, y.get(), z.get()))?;
-            Ok(Expr::Choice(x, y, z))
+            let x = expression(scope, x.get());
+            let y = expression(scope, y.get());
+            choose_of(scope.alloc, x, y, expression(scope, z.get()))
         }
         Expr::Assign(x, place, how, y) => {
-            let (x, y) = two(scope, x.get(), y.get())?;
-            Ok(Expr::Assign(x, *place, *how, y))
+            let x = expression(scope, x.get());
+            assign_of(scope.alloc, x, *place, *how, expression(scope, y.get()))
         }
     }
-}
-
-#[cycle(expression)]
-fn boxed(scope: &Scope<'_>, x: &Expr) -> Result<Boxed<Expr>, Memory>
-    ensures { IfOk result (λ bound. view bound ≡ spec.bound_tree (meaning_in scope.now) (view x.now)) }
-{
-    Boxed::new(scope.alloc, expression(scope, x)?)
-}
-
-#[cycle(expression)]
-fn two(scope: &Scope<'_>, x: &Expr, y: &Expr) -> Result<(Boxed<Expr>, Boxed<Expr>), Memory>
-    ensures { IfOk result (λ bound. (view bound.0 ≡ spec.bound_tree (meaning_in scope.now) (view x.now)) × (view bound.1 ≡ spec.bound_tree (meaning_in scope.now) (view y.now))) }
-{
-    pair(boxed(scope, x)?, boxed(scope, y))
 }
 
 /// A part that may be absent.
 #[cycle(expression)]
 fn perhaps(scope: &Scope<'_>, x: &Option<Boxed<Expr>>) -> Result<Option<Boxed<Expr>>, Memory>
-    ensures { IfOk result (λ bound. option_map view bound ≡ option_map (spec.bound_tree (meaning_in scope.now)) (option_map view x.now)) }
+    ensures { IsPerhaps result (option_map (spec.bound_tree (meaning_in scope.now)) (option_map view x.now)) }
 {
     match x {
         None => Ok(None),
-        Some(x) => Ok(Some(boxed(scope, x.get())?)),
+        Some(x) => present(scope.alloc, expression(scope, x.get())),
     }
-}
-
-#[cycle(expression)]
-fn with_perhaps(
-    scope: &Scope<'_>,
-    x: &Expr,
-    y: &Option<Boxed<Expr>>,
-) -> Result<(Boxed<Expr>, Option<Boxed<Expr>>), Memory>
-    ensures { IfOk result (λ bound. (view bound.0 ≡ spec.bound_tree (meaning_in scope.now) (view x.now)) × (option_map view bound.1 ≡ option_map (spec.bound_tree (meaning_in scope.now)) (option_map view y.now))) }
-{
-    pair(boxed(scope, x)?, perhaps(scope, y))
 }
 
 /// An expression that may be absent.
 #[cycle(expression)]
 pub fn optional(scope: &Scope<'_>, x: &Option<Expr>) -> Result<Option<Expr>, Memory>
-    ensures { IfOk result (λ bound. option_map view bound ≡ option_map (spec.bound_tree (meaning_in scope.now)) (option_map view x.now)) }
+    ensures { IsPerhaps result (option_map (spec.bound_tree (meaning_in scope.now)) (option_map view x.now)) }
 {
     match x {
         None => Ok(None),
-        Some(x) => Ok(Some(expression(scope, x)?)),
+        Some(x) => given(expression(scope, x)),
     }
 }
 
@@ -165,29 +169,11 @@ fn fill(scope: &Scope<'_>, xs: &[Expr], out: &mut Items<Expr>) -> Result<(), Mem
 /// A list of expressions.
 #[cycle(expression)]
 pub fn list(scope: &Scope<'_>, xs: &[Expr]) -> Result<Items<Expr>, Memory>
-    ensures { IfOk result (λ bound. map view bound ≡ map (spec.bound_tree (meaning_in scope.now)) (map view xs.now)) }
+    ensures { AreTrees result (map (spec.bound_tree (meaning_in scope.now)) (map view xs.now)) }
 {
     let mut out = Items::new(scope.alloc);
     let filled = fill(scope, xs, &mut out);
     kept(out, filled)
-}
-
-#[cycle(expression)]
-fn with_list(scope: &Scope<'_>, x: &Expr, xs: &[Expr]) -> Result<(Boxed<Expr>, Items<Expr>), Memory>
-    ensures { IfOk result (λ bound. (view bound.0 ≡ spec.bound_tree (meaning_in scope.now) (view x.now)) × (map view bound.1 ≡ map (spec.bound_tree (meaning_in scope.now)) (map view xs.now))) }
-{
-    pair(boxed(scope, x)?, list(scope, xs))
-}
-
-#[cycle(expression)]
-fn term(scope: &Scope<'_>, x: &Term<Expr>) -> Result<Term<Expr>, Memory>
-    ensures { IfOk result (λ bound. view_term bound ≡ bound_term (meaning_in scope.now) (view_term x.now)) }
-{
-    Ok(Term {
-        operator: x.operator,
-        place: x.place,
-        operand: expression(scope, &x.operand)?,
-    })
 }
 
 #[cycle(expression)]
@@ -199,40 +185,20 @@ fn fill_terms(
     ensures { OnOk result (map view_term out.new ≡ map view_term out.old ++ map (bound_term (meaning_in scope.now)) (map view_term ts.now)) }
 {
     for x in ts {
-        push(out, term(scope, x))?;
+        let operand = expression(scope, &x.operand);
+        push(out, term_of(x.operator, x.place, operand))?;
     }
     Ok(())
 }
 
+/// The later operands of a chain.
 #[cycle(expression)]
 fn terms(scope: &Scope<'_>, ts: &[Term<Expr>]) -> Result<Items<Term<Expr>>, Memory>
-    ensures { IfOk result (λ bound. map view_term bound ≡ map (bound_term (meaning_in scope.now)) (map view_term ts.now)) }
+    ensures { AreTerms result (map (bound_term (meaning_in scope.now)) (map view_term ts.now)) }
 {
     let mut out = Items::new(scope.alloc);
     let filled = fill_terms(scope, ts, &mut out);
     kept(out, filled)
-}
-
-/// A chain of one level.
-#[cycle(expression)]
-fn with_terms(
-    scope: &Scope<'_>,
-    x: &Expr,
-    ts: &[Term<Expr>],
-) -> Result<(Boxed<Expr>, Items<Term<Expr>>), Memory>
-    ensures { IfOk result (λ bound. (view bound.0 ≡ spec.bound_tree (meaning_in scope.now) (view x.now)) × (map view_term bound.1 ≡ map (bound_term (meaning_in scope.now)) (map view_term ts.now))) }
-{
-    pair(boxed(scope, x)?, terms(scope, ts))
-}
-
-#[cycle(expression)]
-fn piped(scope: &Scope<'_>, x: &Piped<Expr>) -> Result<Piped<Expr>, Memory>
-    ensures { IfOk result (λ bound. view_piped bound ≡ bound_piped (meaning_in scope.now) (view_piped x.now)) }
-{
-    Ok(Piped {
-        place: x.place,
-        target: optional(scope, &x.target)?,
-    })
 }
 
 #[cycle(expression)]
@@ -244,14 +210,14 @@ fn fill_pipes(
     ensures { OnOk result (map view_piped out.new ≡ map view_piped out.old ++ map (bound_piped (meaning_in scope.now)) (map view_piped ps.now)) }
 {
     for x in ps {
-        push(out, piped(scope, x))?;
+        push(out, piped_of(x.place, optional(scope, &x.target)))?;
     }
     Ok(())
 }
 
 #[cycle(expression)]
 fn pipes(scope: &Scope<'_>, ps: &[Piped<Expr>]) -> Result<Items<Piped<Expr>>, Memory>
-    ensures { IfOk result (λ bound. map view_piped bound ≡ map (bound_piped (meaning_in scope.now)) (map view_piped ps.now)) }
+    ensures { ArePipes result (map (bound_piped (meaning_in scope.now)) (map view_piped ps.now)) }
 {
     let mut out = Items::new(scope.alloc);
     let filled = fill_pipes(scope, ps, &mut out);

@@ -9,7 +9,7 @@ ghost use Rattle.awk_tree.specs.View.{view_item, view_pattern, view_statement};
 ghost use Rattle.awk_tree.specs.declared.items.Item.TheVariants as item;
 
 use crate::expressions::expression;
-use crate::kept::{kept, pair, push};
+use crate::kept::{both, kept, push};
 use crate::names::{Scope, name, names};
 use crate::statements::statements;
 use awk_kinds::Kinds;
@@ -25,7 +25,7 @@ fn pattern(scope: &Scope<'_>, x: &Pattern) -> Result<Pattern, Memory>
     match x {
         Pattern::Expr(x) => Ok(Pattern::Expr(expression(scope, x)?)),
         Pattern::Range(x, y) => {
-            let (x, y) = pair(expression(scope, x)?, expression(scope, y))?;
+            let (x, y) = both(expression(scope, x), expression(scope, y))?;
             Ok(Pattern::Range(x, y))
         }
     }
@@ -38,20 +38,22 @@ fn rule(
 ) -> Result<(Pattern, Items<Statement>), Memory>
     ensures { IfOk result (λ bound. (view_pattern bound.0 ≡ spec.bound_condition (meaning_in scope.now) (view_pattern when.now)) × (map view_statement bound.1 ≡ map (spec.bound_statement (meaning_in scope.now)) (map view_statement body.now))) }
 {
-    pair(pattern(scope, when)?, statements(scope, body))
+    let (when, body) = both(pattern(scope, when), statements(scope, body))?;
+    Ok((when, body))
 }
 
 fn heading(scope: &Scope<'_>, n: &Name, params: &[Name]) -> Result<(Name, Items<Name>), Memory>
     ensures { IfOk result (λ bound. (bound.0 ≡ spec.bound_name (meaning_in scope.now) n.now) × (bound.1 ≡ map (spec.bound_name (meaning_in scope.now)) params.now)) }
 {
-    pair(name(scope, n)?, names(scope, params))
+    let (n, params) = both(name(scope, n), names(scope, params))?;
+    Ok((n, params))
 }
 
 fn function(scope: &Scope<'_>, f: &Function) -> Result<Item, Memory>
     ensures { IfOk result (λ bound. view_item bound ≡ spec.bound_by (meaning_in scope.now) (view_item (item.Function f.now))) }
 {
-    let head = heading(scope, &f.name, f.params.as_slice())?;
-    let ((name, params), body) = pair(head, statements(scope, f.body.as_slice()))?;
+    let head = heading(scope, &f.name, f.params.as_slice());
+    let ((name, params), body) = both(head, statements(scope, f.body.as_slice()))?;
     Ok(Item::Function(Function { name, params, body }))
 }
 

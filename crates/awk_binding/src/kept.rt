@@ -1,19 +1,48 @@
-// What is made is kept while more is made, or is let go where memory is refused. These are generic
-// since a tree that is let go in place expands over every variant, on each way out.
+// What is made of parts, each of which memory may have been refused for. These are generic since a
+// tree that is let go in place expands over every variant, on each way out.
 
 ghost use Rattle.std.specs.Prelude.{◌≡◌, ◌++◌, [], ◌∷◌, IfOk, OnOk};
 
 use awk_text::Memory;
-use sqlite_items::Items;
+use sqlite_items::{Boxed, Items};
+use std::alloc::Global;
 
-/// What was made, and what was made behind it.
-pub fn pair<A: Drop, B: Drop>(first: A, next: Result<B, Memory>) -> Result<(A, B), Memory>
-    ensures { IfOk result (λ both. (both.0 ≡ first) × (next ≡ Ok both.1)) }
+pub fn boxed<T: Drop>(alloc: Global, x: Result<T, Memory>) -> Result<Boxed<T>, Memory>
+    ensures { IfOk result (λ made. x ≡ Ok made) }
 {
-    match next {
-        Ok(next) => Ok((first, next)),
-        Err(refused) => Err(refused),
-    }
+    Boxed::new(alloc, x?)
+}
+
+pub fn both<A: Drop, B: Drop>(x: Result<A, Memory>, y: Result<B, Memory>) -> Result<(A, B), Memory>
+    ensures { IfOk result (λ made. (x ≡ Ok made.0) × (y ≡ Ok made.1)) }
+{
+    let x = x?;
+    let y = y?;
+    Ok((x, y))
+}
+
+pub fn boxed_and<A: Drop, B: Drop>(
+    alloc: Global,
+    x: Result<A, Memory>,
+    y: Result<B, Memory>,
+) -> Result<(Boxed<A>, B), Memory>
+    ensures { IfOk result (λ made. (x ≡ Ok made.0) × (y ≡ Ok made.1)) }
+{
+    let x = boxed(alloc, x)?;
+    let y = y?;
+    Ok((x, y))
+}
+
+pub fn two_boxed<T: Drop>(
+    alloc: Global,
+    x: Result<T, Memory>,
+    y: Result<T, Memory>,
+) -> Result<(Boxed<T>, Boxed<T>), Memory>
+    ensures { IfOk result (λ made. (x ≡ Ok made.0) × (y ≡ Ok made.1)) }
+{
+    let x = boxed(alloc, x)?;
+    let y = boxed(alloc, y)?;
+    Ok((x, y))
 }
 
 /// A list, once it is whole.

@@ -5,11 +5,13 @@
 //! thing in the whole script. specs/Binding.antt is the map over the tree.
 #![tactic(auto)]
 
+mod blocks;
 mod expressions;
 mod items;
 mod kept;
 mod laws;
 mod names;
+mod nodes;
 mod statements;
 
 pub use items::bind;

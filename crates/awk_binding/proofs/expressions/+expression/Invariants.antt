@@ -9,17 +9,8 @@ use Rattle.awk_binding.proofs.expressions.+expression.Given as goal
 abbrev pub decreases-expression : goal.decreases-expression
 decreases-expression l = 8 * weight (view l.e.now)
 
-abbrev pub decreases-boxed : goal.decreases-boxed
-decreases-boxed l = 1 + 8 * weight (view l.x.now)
-
-abbrev pub decreases-two : goal.decreases-two
-decreases-two l = 2 + 8 * (weight (view l.x.now) + weight (view l.y.now))
-
 abbrev pub decreases-perhaps : goal.decreases-perhaps
-decreases-perhaps l = 2 + 8 * weight_perhaps (perhaps_of (option_map view l.x.now))
-
-abbrev pub decreases-with_perhaps : goal.decreases-with_perhaps
-decreases-with_perhaps l = 3 + 8 * (weight (view l.x.now) + weight_perhaps (perhaps_of (option_map view l.y.now)))
+decreases-perhaps l = 1 + 8 * weight_perhaps (perhaps_of (option_map view l.x.now))
 
 abbrev pub decreases-optional : goal.decreases-optional
 decreases-optional l = 1 + 8 * weight_perhaps (perhaps_of (option_map view l.x.now))
@@ -30,29 +21,17 @@ decreases-fill l = 1 + 8 * weights (trees_of (map view l.xs.now))
 abbrev pub decreases-list : goal.decreases-list
 decreases-list l = 2 + 8 * weights (trees_of (map view l.xs.now))
 
-abbrev pub decreases-with_list : goal.decreases-with_list
-decreases-with_list l = 3 + 8 * (weight (view l.x.now) + weights (trees_of (map view l.xs.now)))
-
-abbrev pub decreases-term : goal.decreases-term
-decreases-term l = 1 + 8 * weight (view l.x.now.operand)
-
 abbrev pub decreases-fill_terms : goal.decreases-fill_terms
-decreases-fill_terms l = 2 + 8 * weight_terms (terms_of (map view_term l.ts.now))
+decreases-fill_terms l = 1 + 8 * weight_terms (terms_of (map view_term l.ts.now))
 
 abbrev pub decreases-terms : goal.decreases-terms
-decreases-terms l = 3 + 8 * weight_terms (terms_of (map view_term l.ts.now))
-
-abbrev pub decreases-with_terms : goal.decreases-with_terms
-decreases-with_terms l = 4 + 8 * (weight (view l.x.now) + weight_terms (terms_of (map view_term l.ts.now)))
-
-abbrev pub decreases-piped : goal.decreases-piped
-decreases-piped l = 2 + 8 * weight_perhaps (perhaps_of (option_map view l.x.now.target))
+decreases-terms l = 2 + 8 * weight_terms (terms_of (map view_term l.ts.now))
 
 abbrev pub decreases-fill_pipes : goal.decreases-fill_pipes
-decreases-fill_pipes l = 3 + 8 * weight_pipes (pipes_of (map view_piped l.ps.now))
+decreases-fill_pipes l = 2 + 8 * weight_pipes (pipes_of (map view_piped l.ps.now))
 
 abbrev pub decreases-pipes : goal.decreases-pipes
-decreases-pipes l = 4 + 8 * weight_pipes (pipes_of (map view_piped l.ps.now))
+decreases-pipes l = 3 + 8 * weight_pipes (pipes_of (map view_piped l.ps.now))
 
 abbrev pub invariant-fill-loop-x : goal.invariant-fill-loop-x
 invariant-fill-loop-x l = map view l.initial.out ++ map (bound_tree (meaning_in l.scope)) (map view l.xs) ≡ map view l.out ++ map (bound_tree (meaning_in l.scope)) (map view (drop l.x-index l.xs))
