@@ -13,6 +13,3 @@ mod statements;
 mod tokens;
 
 pub use items::canon;
-
-#[cfg(test)]
-mod tests;

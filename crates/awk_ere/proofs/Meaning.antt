@@ -120,6 +120,15 @@ module _ (sets : List (List Bool)) where
         ];
   }
 
+  pub means_regroup : (a : List Step) (e next : ℕ) (p q r : Pattern) → Means sets a e (alt p (alt q r)) next → Means sets a e (alt (alt p q) r) next
+  means_regroup a e next p q r m = record {
+    into = λ full s n i j ext done path.
+        let z = m.into full s n i j ext done path in
+        (z.0, z.1, z.2, elim z.3 [ inl x ↦ inl (inl x) | inr y ↦ elim y [ inl x ↦ inl (inr x) | inr x ↦ inr x ] ], z.4);
+    back = λ full s k n i j ext h path.
+        m.back full s k n i j ext (elim h [ inl y ↦ elim y [ inl x ↦ inl x | inr x ↦ inr (inl x) ] | inr x ↦ inr (inr x) ]) path;
+  }
+
   module _ (a : List Step) (e x next : ℕ) (p : Pattern) (at : slice_get a e ≡ Some (Fork x next)) where
     module _ (inner : Means sets a x p e) (full : List Step) (s : List ℕ) (ext : Extends a full) where
       star_into : (bound n i j : ℕ) → slice_get full 0 ≡ Some Done → n ≤ bound → Path sets full s n e i 0 j → Splits full (repeat p 0 None) next s n i j

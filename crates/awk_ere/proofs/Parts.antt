@@ -6,12 +6,12 @@ use Rattle.std.proofs.lemmas.Option.{slice_get_within}
 use Rattle.std.proofs.lemmas.List.{length_push}
 use Rattle.std.proofs.lemmas.Bool.{cases_eq}
 use Rattle.awk_ere.specs.Pattern.{Pattern, empty, bytes, start, finish, cat, alt, repeat}
-use Rattle.awk_ere.specs.Program.{holds, times, IsReal, Extends, Means, IsSound, Grows, NamesBelow, Compiles, Copies, IsReady}
+use Rattle.awk_ere.specs.Program.{holds, times, IsReal, Extends, Means, IsSound, Grows, NamesBelow, Compiles, Copies, Joins, IsReady}
 use Rattle.awk_ere.specs.declared.program.Step.{Step}
 use Rattle.awk_ere.specs.declared.token.Class.{Class}
 use Rattle.awk_ere.specs.declared.program.Step.TheVariants.{Eat, Fork, AtStart, AtEnd, Hole}
 use Rattle.awk_ere.proofs.Programs.{Grows-refl, Grows-trans, Grows-push, slice_get-push_last, slice_get-push_left, NamesBelow-more, IsSound-push}
-use Rattle.awk_ere.proofs.Meaning.{Means-grows, Means-extends, means_empty, means_bytes, means_start, means_finish, means_cat, means_alt, means_star, means_option, means_no_option, means_repeat}
+use Rattle.awk_ere.proofs.Meaning.{Means-grows, Means-extends, means_empty, means_bytes, means_start, means_finish, means_cat, means_alt, means_regroup, means_star, means_option, means_no_option, means_repeat}
 
 -- one step more
 pushed : (old : List Step) (x : Step) (p : List (List Bool) → Pattern) (next : ℕ) → IsReady old next → NamesBelow (length old) x → ((sets : List (List Bool)) → Means sets (old ++ x ∷ []) (length old) (p sets) next) → Compiles old (old ++ x ∷ []) (length old) p next
@@ -48,13 +48,33 @@ compiles_cat a b c e middle next p q r l = record {
   means = λ sets. means_cat sets c e middle next (p sets) (q sets) (l.means sets) (Means-grows sets b c middle (q sets) next l.grows (r.means sets));
 }
 
-pub compiles_alt : (a b c : List Step) (x y next : ℕ) (p q : List (List Bool) → Pattern) → Compiles a b x p next → Compiles b c y q next → Compiles a (c ++ Fork x y ∷ []) (length c) (λ sets. alt (p sets) (q sets)) next
-compiles_alt a b c x y next p q l r = record {
-  sound = IsSound-push c (Fork x y) r.sound (omega (arith, l.below, r.grows.longer), r.below);
-  grows = Grows-trans (Grows-trans l.grows r.grows) (Grows-push c (Fork x y));
-  below = omega (arith, length_push c (Fork x y));
-  means = λ sets. means_alt sets (c ++ Fork x y ∷ []) (length c) x y next (p sets) (q sets) (slice_get-push_last c _)
-      (Means-grows sets b _ x (p sets) next (Grows-trans r.grows (Grows-push c _)) (l.means sets)) (Means-grows sets c _ y (q sets) next (Grows-push c _) (r.means sets));
+-- one alternative, before the others
+pub joins_one : (a b : List Step) (x others next : ℕ) (p : List (List Bool) → Pattern) → others < length a → Compiles a b x p next → Joins a (b ++ Fork x others ∷ []) (length b) p others next
+joins_one a b x others next p lt one = record {
+  sound = IsSound-push b (Fork x others) one.sound (one.below, omega (arith, one.grows.longer));
+  grows = Grows-trans one.grows (Grows-push b (Fork x others));
+  below = omega (arith, length_push b (Fork x others));
+  means = λ sets q h. means_alt sets (b ++ Fork x others ∷ []) (length b) x others next (p sets) q (slice_get-push_last b _)
+      (Means-grows sets b _ x (p sets) next (Grows-push b _) (one.means sets)) (Means-grows sets a _ others q next (Grows-trans one.grows (Grows-push b _)) h);
+}
+
+pub joins_more : (a b c : List Step) (e middle others next : ℕ) (p q : List (List Bool) → Pattern) → Joins a b middle q others next → Joins b c e p middle next → Joins a c e (λ sets. alt (p sets) (q sets)) others next
+joins_more a b c e middle others next p q r l = record {
+  sound = l.sound;
+  grows = Grows-trans r.grows l.grows;
+  below = l.below;
+  means = λ sets o h. means_regroup sets c e next (p sets) (q sets) o (l.means sets (alt (q sets) o) (r.means sets o h));
+}
+
+pub ready_joined : (old new : List Step) (e others next : ℕ) (p : List (List Bool) → Pattern) → Joins old new e p others next → next < length old → IsReady new next
+ready_joined old new e others next p h lt = record { sound = h.sound; below = omega (arith, h.grows.longer) }
+
+pub compiles_alt : (a b c : List Step) (e others next : ℕ) (p q : List (List Bool) → Pattern) → Compiles a b others q next → Joins b c e p others next → Compiles a c e (λ sets. alt (p sets) (q sets)) next
+compiles_alt a b c e others next p q r l = record {
+  sound = l.sound;
+  grows = Grows-trans r.grows l.grows;
+  below = l.below;
+  means = λ sets. l.means sets (q sets) (r.means sets);
 }
 
 -- a hole that is filled

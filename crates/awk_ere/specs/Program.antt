@@ -1,6 +1,6 @@
 -- A pattern's program: what its steps do, and what it means for a part of it to stand for a pattern.
 use Rattle.std.specs.Prelude.{◌≡◌, ◌==◌, ℕ, zero, suc, ◌+◌, ◌<◌, ◌≤◌, ◌⊎◌, Bool, true, false, List, [], length, Some, slice_get, slice_index, slice_index_or}
-use Rattle.awk_ere.specs.Pattern.{Pattern, cat, Matches}
+use Rattle.awk_ere.specs.Pattern.{Pattern, cat, alt, Matches}
 use Rattle.awk_ere.specs.declared.token.Class.{Class}
 use Rattle.awk_ere.specs.declared.token.Class.TheVariants.{One, Any, In}
 use Rattle.awk_ere.specs.declared.program.Step.{Step}
@@ -89,6 +89,13 @@ pub record Copies (old new : List Step) (e : ℕ) (p : List (List Bool) → Patt
   pub grows : Grows old new
   pub below : e < length new
   pub means : (sets : List (List Bool)) (q : Pattern) (last : ℕ) → Means sets old next q last → Means sets new e (times count (p sets) q) last
+
+-- the same for p or what stands at `others`, which goes on at `next` too
+pub record Joins (old new : List Step) (e : ℕ) (p : List (List Bool) → Pattern) (others next : ℕ) : Type 0 where
+  pub sound : IsSound new
+  pub grows : Grows old new
+  pub below : e < length new
+  pub means : (sets : List (List Bool)) (q : Pattern) → Means sets old others q next → Means sets new e (alt (p sets) q) next
 
 -- a part may be added before `next`
 pub record IsReady (program : List Step) (next : ℕ) : Type 0 where

@@ -1,7 +1,7 @@
 // From a pattern's tree to its program.
-ghost use Rattle.std.specs.Prelude.{◌≡◌, ◌+◌, ◌++◌, [], ◌∷◌, Some, None, true, length, IfOk, option_map};
+ghost use Rattle.std.specs.Prelude.{◌≡◌, ◌<◌, ◌+◌, ◌++◌, [], ◌∷◌, Some, None, true, length, IfOk, option_map};
 ghost use Rattle.awk_ere.specs.Pattern.{bytes, cat, alt, repeat};
-ghost use Rattle.awk_ere.specs.Program.{IsReady, Compiles, Copies};
+ghost use Rattle.awk_ere.specs.Program.{IsReady, Compiles, Copies, Joins};
 ghost use Rattle.awk_ere.specs.View.{pattern};
 
 use crate::node::Node;
@@ -20,10 +20,26 @@ fn add(program: &mut Vec<Step>, step: Step) -> Result<usize, Memory>
     Ok(at)
 }
 
-/// Adds the part of the program that matches the node and then goes on at `next`. Repetitions are
-/// compiled by functions of their own, so that a level takes little of the stack.
+/// Adds the part of the program that matches the node and then goes on at `next`. A row of nodes is
+/// compiled from its end on, in a loop, so that a long one takes no more of the stack.
 #[cycle(compile)]
 pub fn compile(node: &Node, next: usize, program: &mut Vec<Step>) -> Result<usize, Memory>
+    requires { IsReady program.old.items next }
+    ensures { IfOk result (λ e. Compiles program.old.items program.new.items e (λ sets. pattern sets node.now) next) }
+{
+    let mut rest = node;
+    let mut at = next;
+    while let Node::Cat(left, right) = rest {
+        at = compile(right, at, program)?;
+        rest = left;
+    }
+    compile_node(rest, at, program)
+}
+
+/// The same of a node that is no row, as of any. Repetitions are compiled by functions of their own,
+/// so that a level takes little of the stack.
+#[cycle(compile)]
+fn compile_node(node: &Node, next: usize, program: &mut Vec<Step>) -> Result<usize, Memory>
     requires { IsReady program.old.items next }
     ensures { IfOk result (λ e. Compiles program.old.items program.new.items e (λ sets. pattern sets node.now) next) }
 {
@@ -37,12 +53,36 @@ pub fn compile(node: &Node, next: usize, program: &mut Vec<Step>) -> Result<usiz
             compile(left, middle, program)
         }
         Node::Alt(left, right) => {
-            let first = compile(left, next, program)?;
-            let second = compile(right, next, program)?;
-            add(program, Step::Fork(first, second))
+            let others = compile(right, next, program)?;
+            compile_before(left, others, next, program)
         }
         Node::Repeat(inner, least, more) => compile_repeat(inner, *least, *more, next, program),
     }
+}
+
+/// Adds the part of the program that matches the node and then goes on at `next`, or goes on at
+/// `others`. A row of alternatives is compiled in a loop too.
+#[cycle(compile)]
+#[inline(never)]
+fn compile_before(
+    node: &Node,
+    others: usize,
+    next: usize,
+    program: &mut Vec<Step>,
+) -> Result<usize, Memory>
+    requires ready { IsReady program.old.items next }
+    requires inside { others < length program.old.items }
+    ensures { IfOk result (λ e. Joins program.old.items program.new.items e (λ sets. pattern sets node.now) others next) }
+{
+    let mut rest = node;
+    let mut at = others;
+    while let Node::Alt(left, right) = rest {
+        let one = compile(right, next, program)?;
+        at = add(program, Step::Fork(one, at))?;
+        rest = left;
+    }
+    let first = compile(rest, next, program)?;
+    add(program, Step::Fork(first, at))
 }
 
 #[cycle(compile)]

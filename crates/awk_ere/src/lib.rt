@@ -16,8 +16,6 @@ mod read;
 mod search;
 mod states;
 mod table;
-#[cfg(test)]
-mod tests;
 mod token;
 mod tree;
 

@@ -1,5 +1,5 @@
 // Patterns in which each byte stands for itself.
-ghost use Rattle.std.specs.Prelude.{◌≡◌, ◌≤◌, true, length};
+ghost use Rattle.std.specs.Prelude.{◌≡◌, ◌↔◌, ◌≤◌, true, length};
 ghost use Rattle.awk_ere.specs.Literal as spec;
 
 use memchr::memmem;
@@ -24,7 +24,7 @@ fn is_special(byte: u8) -> bool
 
 /// Whether each byte of the pattern stands for itself.
 pub fn is_literal(text: &[u8]) -> bool
-    ensures { result ≡ true → spec.IsLiteral text.now }
+    ensures { (result ≡ true) ↔ spec.IsLiteral text.now }
 {
     for byte in text {
         if is_special(*byte) {

@@ -1,11 +1,13 @@
 -- Records of a stream, whose front is the same whatever comes behind it.
-use Rattle.std.proofs.Common.{◌≡◌, ℕ, ◌+◌, ◌≤◌, ◌<◌, Bool, true, false, not, cond, nat_lt, eqb, ◌==◌, ◌&&◌, List, [], ◌∷◌, ◌++◌, length, take, drop, Option, Some, None, option_map, sym, ap, ap₂, subst, subst₂, append_assoc, append-nil, refl, ◌∙◌, arith, length-drop, length-append, lt-ltb, ltb-true, ne_eqb}
-use Rattle.std.specs.List.{position_or_len, prefix_len, before_first, after_first}
-use Rattle.std.proofs.lemmas.List.{take-append-le, drop-append-le}
+use Rattle.std.proofs.Common.{◌≡◌, ℕ, ◌+◌, ◌≤◌, ◌<◌, Bool, true, false, not, cond, nat_lt, eqb, ◌==◌, ◌&&◌, List, [], ◌∷◌, ◌++◌, length, take, drop, Option, Some, None, option_map, sym, ap, ap₂, subst, subst₂, append_assoc, append-nil, refl, ◌∙◌, arith, inl, inr, suc, ◌-◌, get_or, get_or-drop, length-take, length-drop, length-append, lt-ltb, ltb-true, eqb-true, ne_eqb}
+use Rattle.std.specs.List.{position_or_len, prefix_len, before_first, after_first, slice_index}
+use Rattle.std.proofs.lemmas.Bool.{cases_lt, and_parts, false≢true}
+use Rattle.std.proofs.lemmas.List.{take-append-le, drop-append-le, get_or_append_left}
 use Rattle.std.proofs.lemmas.List.Folds.{prefix_len-append}
 use Rattle.awk_text.specs.Limits.{most_bytes}
-use Rattle.awk_fields.specs.Heads.{Head, taken, need_more, done, too_long, last, line, is_newline, pair_place, trimmed, ended_by, paragraph, head, FirstRecords, Records, IsStopped}
+use Rattle.awk_fields.specs.Heads.{Head, taken, need_more, done, too_long, last, line, is_newline, pair_place, trimmed, ended_by, paragraph, head, FirstRecords, Records, IsStopped, IsTooLong}
 use Rattle.awk_fields.specs.Takes.{Input, Takes}
+use Rattle.awk_fields.proofs.HeadLemmas.{is_pair, none_pair, prefix_more}
 use Rattle.awk_fields.specs.declared.reader.Taken.TheVariants.{Record}
 
 -- what is left behind a record
@@ -205,6 +207,129 @@ takes_record need_more text old new h = absurd h
 takes_record done text old new h = absurd h
 takes_record too_long text old new h = absurd h
 
+-- ---- what is too long stays so, whatever comes behind it
+
+most_more : (n m : ℕ) → n ≤ m → nat_lt most_bytes n ≡ true → nat_lt most_bytes m ≡ true
+most_more n m le h = lt-ltb most_bytes m (omega (arith, ltb-true most_bytes n h))
+
+line_long : (c : ℕ) (u v : List ℕ) (ended : Bool) → line c u false ≡ too_long → line c (u ++ v) ended ≡ too_long
+line_long c u v ended h = by (nat_lt most_bytes (position_or_len (λ b. b == c) u)) refl (nat_lt (position_or_len (λ b. b == c) u) (length u)) h
+  where
+    by : (a : Bool) → nat_lt most_bytes (position_or_len (λ b. b == c) u) ≡ a → (b : Bool) → cond a too_long (cond b (taken (before_first (λ b. b == c) u) (after_first (λ b. b == c) u)) need_more) ≡ too_long → line c (u ++ v) ended ≡ too_long
+    by true long b e =
+        let p = λ (b : ℕ). b == c in
+        let m = position_or_len p (u ++ v) in
+        let longer : nat_lt most_bytes m ≡ true = most_more (position_or_len p u) m (prefix_more (λ (b : ℕ). not (b == c)) u v (position_or_len p u) (omega arith)) long in
+        ap (λ t. cond t too_long (cond (nat_lt m (length (u ++ v))) (taken (take m (u ++ v)) (drop (m + 1) (u ++ v))) (last (u ++ v) ended))) longer
+    by false long true e = absurd (cc)
+    by false long false e = absurd (cc)
+
+trimmed_inside : (s : List ℕ) → (length (trimmed s) ≤ length s) × (length s ≤ length (trimmed s) + 1)
+trimmed_inside s = by (slice_index s (length s - 1) == 10)
+  where
+    by : (t : Bool) → (length (cond t (take (length s - 1) s) s) ≤ length s) × (length s ≤ length (cond t (take (length s - 1) s) s) + 1)
+    by true = (omega (arith, length-take (length s - 1) s), omega (arith, length-take (length s - 1) s))
+    by false = (omega arith, omega arith)
+
+trimmed_last : (s : List ℕ) (j : ℕ) → j + 1 ≡ length s → get_or s j 0 ≡ 10 → length (trimmed s) ≤ j
+trimmed_last s j at is =
+    let last_is : (slice_index s (length s - 1) == 10) ≡ true = ap (λ x. x == 10) (ap (λ k. get_or s k 0) (omega arith) ∙ is) in
+    let same = ap (λ t. length (cond t (take (length s - 1) s) s)) last_is in
+    omega (arith, same, length-take (length s - 1) s)
+
+trimmed_more : (u v : List ℕ) → length (trimmed u) ≤ length (trimmed (u ++ v))
+trimmed_more u [] = subst (λ w. length (trimmed u) ≤ length (trimmed w)) (sym (append-nil u)) (omega arith)
+trimmed_more u (b ∷ v) = omega (arith, (trimmed_inside u).0, (trimmed_inside (u ++ b ∷ v)).1, length-append u (b ∷ v))
+
+some_pair : (s : List ℕ) (k : ℕ) → pair_place s ≡ Some k → is_pair s k ≡ true
+some_pair [] k e = absurd (cc)
+some_pair (b ∷ []) k e = absurd (cc)
+some_pair (b ∷ c ∷ s) k e = by (b == 10 && c == 10) (pair_place (c ∷ s)) refl (λ j. some_pair (c ∷ s) j) e
+  where
+    by : (t : Bool) (r : Option ℕ) → (b == 10 && c == 10) ≡ t → ((j : ℕ) → r ≡ Some j → is_pair (c ∷ s) j ≡ true) → cond t (Some 0) (option_map (λ j. j + 1) r) ≡ Some k → is_pair (b ∷ c ∷ s) k ≡ true
+    by true r here on e = let P : ℕ → Type 0 = λ j. is_pair (b ∷ c ∷ s) j ≡ true in subst P (same_place 0 k e) here
+    by false None here on e = absurd (cc)
+    by false (Some j) here on e =
+        let P : ℕ → Type 0 = λ i. is_pair (b ∷ c ∷ s) i ≡ true in
+        let at : suc j ≡ k = omega (arith, same_place (j + 1) k e) in
+        subst P at (on j refl)
+
+-- two newlines that are seen only once more is there stand where what is held ends, or behind
+pair_late : (u v : List ℕ) (n at : ℕ) → n ≤ at → ((j : ℕ) → j + 2 ≤ length (drop n u) → is_pair (drop n u) j ≡ false) → is_pair (u ++ v) at ≡ true → length (trimmed u) ≤ at
+pair_late u v n at le none is = elim (cases_lt (at + 1) (length u)) [
+  | inl lt ↦ absurd (false≢true (sym (none (at - n) (omega (arith, length-drop n u)))
+      ∙ (ap₂ (λ x y. x == 10 && y == 10) (get_or-drop n u (at - n) 0 ∙ (ap (λ k. get_or u k 0) (omega arith) ∙ sym (get_or_append_left u v 0 at (omega arith)))) (get_or-drop n u (suc (at - n)) 0 ∙ (ap (λ k. get_or u k 0) (omega arith) ∙ sym (get_or_append_left u v 0 (suc at) (omega arith))))
+      ∙ is)))
+  | inr ge ↦ elim (cases_lt at (length u)) [
+    | inl lt ↦ trimmed_last u at (omega arith) (sym (get_or_append_left u v 0 at lt) ∙ eqb-true (get_or (u ++ v) at 0) 10 (and_parts (get_or (u ++ v) at 0 == 10) (get_or (u ++ v) (suc at) 0 == 10) is).0)
+    | inr beyond ↦ omega (arith, (trimmed_inside u).0)
+  ]
+]
+
+paragraph_long_some : (u v : List ℕ) (ended : Bool) (k : ℕ) → pair_place (drop (prefix_len is_newline u) u) ≡ Some k → nat_lt most_bytes (prefix_len is_newline u + k) ≡ true → paragraph (u ++ v) ended ≡ too_long
+paragraph_long_some u v ended k place long =
+    let n = prefix_len is_newline u in
+    let body = drop n u in
+    let m = prefix_len is_newline (u ++ v) in
+    let lt : n < length u = omega (arith, pair_inside body k place, length-drop n u) in
+    let same : m ≡ n = front_stays is_newline u v lt in
+    let bodies : drop m (u ++ v) ≡ body ++ v = ap (λ j. drop j (u ++ v)) same ∙ drop-append-le n u v (omega arith) in
+    let places : pair_place (drop m (u ++ v)) ≡ Some k = ap pair_place bodies ∙ pair_more body v k place in
+    ap (λ r. ended_by r m (drop m (u ++ v)) (u ++ v) ended) places
+    ∙ ap (λ t. cond t too_long (taken (take k (drop m (u ++ v))) (drop (k + 2) (drop m (u ++ v))))) (ap (λ j. nat_lt most_bytes (j + k)) same ∙ long)
+
+paragraph_long_none : (u v : List ℕ) (ended : Bool) → pair_place (drop (prefix_len is_newline u) u) ≡ None → nat_lt most_bytes (length (trimmed u)) ≡ true → paragraph (u ++ v) ended ≡ too_long
+paragraph_long_none u v ended none long = by (pair_place (drop (prefix_len is_newline (u ++ v)) (u ++ v))) refl
+  where
+    late : (k : ℕ) → pair_place (drop (prefix_len is_newline (u ++ v)) (u ++ v)) ≡ Some k → length (trimmed u) ≤ prefix_len is_newline (u ++ v) + k
+    late k place =
+        let n = prefix_len is_newline u in
+        let m = prefix_len is_newline (u ++ v) in
+        let w = u ++ v in
+        let here : is_pair w (m + k) ≡ true =
+        sym (ap₂ (λ x y. x == 10 && y == 10) (get_or-drop m w k 0) (get_or-drop m w (suc k) 0 ∙ ap (λ j. get_or w j 0) (omega arith))) ∙ some_pair (drop m w) k place in
+        pair_late u v n (m + k) (omega (arith, prefix_more is_newline u v n (omega arith))) (none_pair (drop n u) none) here
+
+    by : (r : Option ℕ) → pair_place (drop (prefix_len is_newline (u ++ v)) (u ++ v)) ≡ r → ended_by r (prefix_len is_newline (u ++ v)) (drop (prefix_len is_newline (u ++ v)) (u ++ v)) (u ++ v) ended ≡ too_long
+    by None place = ap (λ t. cond t too_long (last (trimmed (drop (prefix_len is_newline (u ++ v)) (u ++ v))) ended)) (most_more (length (trimmed u)) (length (trimmed (u ++ v))) (trimmed_more u v) long)
+    by (Some k) place =
+        let m = prefix_len is_newline (u ++ v) in
+        ap (λ t. cond t too_long (taken (take k (drop m (u ++ v))) (drop (k + 2) (drop m (u ++ v))))) (most_more (length (trimmed u)) (m + k) (late k place) long)
+
+paragraph_long : (u v : List ℕ) (ended : Bool) → paragraph u false ≡ too_long → paragraph (u ++ v) ended ≡ too_long
+paragraph_long u v ended h = by (pair_place (drop (prefix_len is_newline u) u)) refl h
+  where
+    none : pair_place (drop (prefix_len is_newline u) u) ≡ None → (t : Bool) → nat_lt most_bytes (length (trimmed u)) ≡ t → cond t too_long need_more ≡ too_long → paragraph (u ++ v) ended ≡ too_long
+    none place true long e = paragraph_long_none u v ended place long
+    none place false long e = absurd (cc)
+
+    some : (k : ℕ) → pair_place (drop (prefix_len is_newline u) u) ≡ Some k → (t : Bool) → nat_lt most_bytes (prefix_len is_newline u + k) ≡ t
+        → cond t too_long (taken (take k (drop (prefix_len is_newline u) u)) (drop (k + 2) (drop (prefix_len is_newline u) u))) ≡ too_long → paragraph (u ++ v) ended ≡ too_long
+    some k place true long e = paragraph_long_some u v ended k place long
+    some k place false long e = absurd (cc)
+
+    by : (r : Option ℕ) → pair_place (drop (prefix_len is_newline u) u) ≡ r → ended_by r (prefix_len is_newline u) (drop (prefix_len is_newline u) u) u false ≡ too_long → paragraph (u ++ v) ended ≡ too_long
+    by None place e = none place (nat_lt most_bytes (length (trimmed u))) refl e
+    by (Some k) place e = some k place (nat_lt most_bytes (prefix_len is_newline u + k)) refl e
+
+head_long : (rs u v : List ℕ) (ended : Bool) → head rs u false ≡ too_long → head rs (u ++ v) ended ≡ too_long
+head_long [] u v ended h = paragraph_long u v ended h
+head_long (c ∷ rs) u v ended h = line_long c u v ended h
+
+-- a record that is too long stands behind what was taken
+pub long_behind : (rs : List ℕ) (ended : Bool) (s : List ℕ) (texts : List (List ℕ)) (u : List ℕ) → FirstRecords rs ended s texts u → IsTooLong rs ended u → IsTooLong rs ended s
+long_behind rs ended s texts u front (more, rest, on, long) = (texts ++ more, rest, first_append rs ended s texts more u rest front on, long)
+
+-- it stays where more comes behind it
+pub long_more : (rs : List ℕ) (ended : Bool) (u v : List ℕ) → IsTooLong rs false u → IsTooLong rs ended (u ++ v)
+long_more rs ended u v (texts, rest, front, long) = (texts, rest ++ v, first_more rs ended u texts rest v front, head_long rs rest v ended long)
+
+-- a piece that makes a record too long
+pub stream_long : (rs so_far u piece later : List ℕ) (found : List (List ℕ)) → ((later : List ℕ) → FirstRecords rs true (so_far ++ later) found (u ++ later)) → IsTooLong rs false (u ++ piece) → IsTooLong rs true (so_far ++ piece ++ later)
+stream_long rs so_far u piece later found front long =
+    let on : IsTooLong rs true (u ++ (piece ++ later)) = subst (IsTooLong rs true) (append_assoc u piece later) (long_more rs true (u ++ piece) later long) in
+    subst (IsTooLong rs true) (sym (append_assoc so_far piece later)) (long_behind rs true (so_far ++ (piece ++ later)) found (u ++ (piece ++ later)) (front (piece ++ later)) on)
+
 -- one piece more
 pub stream_step : (rs so_far u piece : List ℕ) (found texts : List (List ℕ)) (rest : List ℕ) → ((later : List ℕ) → FirstRecords rs true (so_far ++ later) found (u ++ later)) → FirstRecords rs false (u ++ piece) texts rest
     → (later : List ℕ) → FirstRecords rs true (so_far ++ piece ++ later) (found ++ texts) (rest ++ later)
@@ -217,3 +342,7 @@ pub stream_end : (rs whole u : List ℕ) (found texts : List (List ℕ)) (rest :
 stream_end rs whole u found texts rest front more stopped =
     let all : FirstRecords rs true whole found u = subst₂ (λ w x. FirstRecords rs true w found x) (append-nil whole) (append-nil u) (front []) in
     (rest, first_append rs true whole found texts u rest all more, stopped_done rs rest stopped)
+
+pub stream_end_long : (rs whole u : List ℕ) (found : List (List ℕ)) → ((later : List ℕ) → FirstRecords rs true (whole ++ later) found (u ++ later)) → IsTooLong rs true u → IsTooLong rs true whole
+stream_end_long rs whole u found front long =
+    long_behind rs true whole found u (subst₂ (λ w x. FirstRecords rs true w found x) (append-nil whole) (append-nil u) (front [])) long

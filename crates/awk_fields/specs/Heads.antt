@@ -74,3 +74,7 @@ IsStopped (taken text rest) = ⊥
 IsStopped need_more = Unit {0}
 IsStopped done = Unit {0}
 IsStopped too_long = ⊥
+
+-- behind so many records stands one that is too long
+abbrev pub IsTooLong : List ℕ → Bool → List ℕ → Type 0
+IsTooLong rs ended unread = (texts : List (List ℕ)) × (rest : List ℕ) × FirstRecords rs ended unread texts rest × (head rs rest ended ≡ too_long)

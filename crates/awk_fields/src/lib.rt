@@ -10,8 +10,6 @@ pub mod row;
 mod spans;
 pub mod splitter;
 pub mod stream;
-#[cfg(test)]
-mod tests;
 
 pub use reader::Reader as Reader;
 pub use row::Record as Record;

@@ -3,7 +3,7 @@ ghost use Rattle.std.specs.Prelude.{◌≡◌, ◌++◌, ◌≤◌, ◌⊎◌, l
 ghost use Rattle.awk_fields.specs.Heads.{head, too_long};
 ghost use Rattle.awk_fields.specs.Takes.{Takes};
 
-use crate::front::{Front, Searched, all_searched, first_record};
+use crate::front::{Front, Searched, first_record};
 use awk_text::fault::Fault;
 use awk_text::octets::Octets;
 use std::alloc::Global;
@@ -65,7 +65,7 @@ impl Reader {
         Reader {
             bytes: Vec::new(alloc),
             start: 0,
-            searched: Searched { mark: 0, count: 0 },
+            searched: Searched::Byte(0, 0),
             ended: false,
         }
     }
@@ -108,14 +108,14 @@ impl Reader {
         match first_record(unread, rs, self.searched, self.ended) {
             Front::TooLong => Err(Fault::TextTooLong),
             Front::Done => Ok(Taken::Done),
-            Front::NeedMore => {
-                self.searched = all_searched(unread, rs);
+            Front::NeedMore(searched) => {
+                self.searched = searched;
                 Ok(Taken::NeedMore)
             }
             Front::Record(start, end, next) => {
                 let text = Vec::from_slice(alloc, &unread[start..end])?;
                 self.start += next;
-                self.searched = Searched { mark: 0, count: 0 };
+                self.searched = Searched::Byte(0, 0);
                 Ok(Taken::Record(Octets::new(text)))
             }
         }

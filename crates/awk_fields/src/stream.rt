@@ -1,7 +1,7 @@
 // The records of an input that is there as a whole.
-ghost use Rattle.std.specs.Prelude.{◌≡◌, ◌++◌, List, ℕ, IfOk, OnOk};
+ghost use Rattle.std.specs.Prelude.{◌≡◌, ◌++◌, ◌⊎◌, List, ℕ, true, IfOk, IfErr, OnOk};
 ghost use Rattle.std.specs.List.{flat_map};
-ghost use Rattle.awk_fields.specs.Heads.{FirstRecords, IsStopped, Records, head};
+ghost use Rattle.awk_fields.specs.Heads.{FirstRecords, IsStopped, IsTooLong, Records, head};
 
 use crate::reader::{Reader, Taken};
 use awk_text::fault::Fault;
@@ -13,6 +13,8 @@ fn take_all(reader: &mut Reader, rs: &[u8], found: &mut Vec<Octets>) -> Result<(
     ensures taken { OnOk result ((texts : List (List ℕ)) × (found.new.items ≡ found.old.items ++ texts) × FirstRecords rs.now reader.old.ended reader.old.unread texts reader.new.unread) }
     ensures stopped { OnOk result (IsStopped (head rs.now reader.new.unread reader.new.ended)) }
     ensures ended { OnOk result (reader.new.ended ≡ reader.old.ended) }
+    ensures fault { IfErr result (λ e. (e ≡ Fault.Memory)
+        ⊎ ((e ≡ Fault.TextTooLong) × IsTooLong rs.now reader.old.ended reader.old.unread)) }
 {
     while let Taken::Record(text) = reader.take(rs)? {
         found.push(text)?;
@@ -23,10 +25,12 @@ fn take_all(reader: &mut Reader, rs: &[u8], found: &mut Vec<Octets>) -> Result<(
 /// The records of an input that comes in these pieces. They are the records of the whole, whatever
 /// the pieces are.
 ///
-/// Fails with `Fault::TextTooLong` where more than `MOST_BYTES` bytes of one record come before its
-/// end, and with `Fault::Memory` where memory is refused.
+/// Fails with `Fault::TextTooLong` exactly where more than `MOST_BYTES` bytes of one record come before
+/// its end, and with `Fault::Memory` where memory is refused.
 pub fn records(alloc: Global, pieces: &[Octets], rs: &[u8]) -> Result<Vec<Octets>, Fault>
-    ensures { IfOk result (λ found. Records rs.now (flat_map (λ piece. piece) pieces.now) found.items) }
+    ensures ok { IfOk result (λ found. Records rs.now (flat_map (λ piece. piece) pieces.now) found.items) }
+    ensures fault { IfErr result (λ e. (e ≡ Fault.Memory)
+        ⊎ ((e ≡ Fault.TextTooLong) × IsTooLong rs.now true (flat_map (λ piece. piece) pieces.now))) }
 {
     let mut reader = Reader::new(alloc);
     let mut found = Vec::new(alloc);

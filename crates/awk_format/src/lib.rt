@@ -9,8 +9,6 @@ mod convert;
 mod digits;
 mod directive;
 mod output;
-#[cfg(test)]
-mod tests;
 
 use crate::convert::convert;
 use crate::directive::read_directive;

@@ -8,8 +8,6 @@ pub mod numeral;
 pub mod octets;
 pub mod place;
 pub mod quote;
-#[cfg(test)]
-mod tests;
 pub mod texts;
 pub mod value;
 

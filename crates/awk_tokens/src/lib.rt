@@ -15,6 +15,3 @@ mod words;
 pub use kinds::{Token, TokenKind};
 pub use reading::tokens;
 pub use syntax_error::SyntaxError;
-
-#[cfg(test)]
-mod tests;

@@ -6,6 +6,4 @@ mod denial;
 mod line;
 pub mod log_end;
 pub mod monitor;
-#[cfg(test)]
-mod tests;
 mod write;

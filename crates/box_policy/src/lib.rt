@@ -8,6 +8,4 @@ pub mod path;
 pub mod policy;
 mod reading;
 mod table;
-#[cfg(test)]
-mod tests;
 mod tokens;

@@ -11,8 +11,6 @@ ghost use Rattle.box_world.specs.MemoryTexts.{with_text};
 ghost use Rattle.box_world.specs.declared.ask.Stop.TheVariants.{Memory as OutOfMemory};
 
 mod store;
-#[cfg(test)]
-mod tests;
 mod texts;
 
 use crate::ask::{Ask, Reply, Request, Stop};

@@ -1,7 +1,7 @@
-use Rattle.std.proofs.Common.{◌≡◌, ◌≤◌, ◌==◌, ◌++◌, drop, length, sym, ap, subst, ◌∙◌, arith, length-append}
-use Rattle.std.specs.List.{position_or_len}
+use Rattle.std.proofs.Common.{◌≡◌, ◌++◌, drop, length, sym, ap, subst, ◌∙◌, arith, length-append}
 use Rattle.std.proofs.lemmas.List.{drop-append-le}
-use Rattle.awk_fields.proofs.HeadLemmas.{known_more}
+use Rattle.awk_fields.specs.Unread.{IsSearched}
+use Rattle.awk_fields.proofs.HeadLemmas.{searched_more}
 use Rattle.awk_fields.proofs.reader.Reader.push.Goals as goal
 
 pub invariant_of-self-2 : goal.invariant_of-self-2
@@ -15,5 +15,5 @@ invariant_of-self-2 c =
     let same : drop start c.extend_from_slice.new.self.items ≡ old ++ bytes =
     ap (drop start) grown ∙ (drop-append-le start kept bytes c.compact-self-inside.ensures.inside ∙ ap (λ z. z ++ bytes) c.compact-self-inside.ensures.unread) in (
       omega (arith, ap length grown, length-append kept bytes, c.compact-self-inside.ensures.inside),
-      subst (λ z. searched.count ≤ position_or_len (λ b. b == searched.mark) z) (sym same) (known_more (λ b. b == searched.mark) old bytes searched.count c.self.invariant.1),
+      subst (λ z. IsSearched z searched) (sym same) (searched_more old bytes searched c.self.invariant.1),
     )

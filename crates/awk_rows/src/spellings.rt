@@ -1,8 +1,8 @@
 // A script made by hand and written. That a script is read again is tested where the parser stands.
 
-use super::*;
+use crate::values::octets;
+use awk_canon::canon;
 use awk_text::Memory;
-use awk_text::octets::Octets;
 use awk_text::place::Place;
 use awk_tokens::{Token, TokenKind};
 use awk_tree::{Arithmetic, Expr, Item, Name, Pattern, Printed, Script, Slot, Statement, Term};
@@ -11,11 +11,7 @@ use std::alloc::Global;
 
 const PLACE: Place = Place { line: 3, column: 7 };
 
-fn octets(alloc: Global, text: &str) -> Result<Octets, Memory> {
-    Ok(Octets::new(Vec::from_slice(alloc, text.as_bytes())?))
-}
-
-fn name(alloc: Global, text: &str) -> Result<Expr, Memory> {
+fn name(alloc: Global, text: &[u8]) -> Result<Expr, Memory> {
     Ok(Expr::Name(Name {
         text: octets(alloc, text)?,
         place: PLACE,
@@ -25,13 +21,13 @@ fn name(alloc: Global, text: &str) -> Result<Expr, Memory> {
 
 /// `$ 1 - b`
 fn difference(alloc: Global) -> Result<Expr, Memory> {
-    let one = Boxed::new(alloc, Expr::Number(PLACE, octets(alloc, "1")?))?;
+    let one = Boxed::new(alloc, Expr::Number(PLACE, octets(alloc, b"1")?))?;
     let field = Boxed::new(alloc, Expr::Field(PLACE, one))?;
     let mut terms = Items::new(alloc);
     terms.push(Term {
         operator: Arithmetic::Subtract,
         place: PLACE,
-        operand: name(alloc, "b")?,
+        operand: name(alloc, b"b")?,
     })?;
     Ok(Expr::Sum(field, terms))
 }
@@ -40,21 +36,21 @@ fn difference(alloc: Global) -> Result<Expr, Memory> {
 fn choice(alloc: Global) -> Result<Statement, Memory> {
     let mut items = Items::new(alloc);
     items.push(difference(alloc)?)?;
-    items.push(name(alloc, "c")?)?;
+    items.push(name(alloc, b"c")?)?;
     let printed = Printed {
         is_grouped: false,
         items,
     };
     let print = Boxed::new(alloc, Statement::Print(PLACE, printed, None))?;
     let next = Boxed::new(alloc, Statement::Next(PLACE))?;
-    Ok(Statement::IfElse(name(alloc, "a")?, print, next))
+    Ok(Statement::IfElse(name(alloc, b"a")?, print, next))
 }
 
 /// `x , y { if ( a ) print $ 1 - b , c ; else next ; }`
 fn script(alloc: Global) -> Result<Script, Memory> {
     let mut body = Items::new(alloc);
     body.push(choice(alloc)?)?;
-    let pattern = Pattern::Range(name(alloc, "x")?, name(alloc, "y")?);
+    let pattern = Pattern::Range(name(alloc, b"x")?, name(alloc, b"y")?);
     let mut items = Items::new(alloc);
     items.push(Item::Rule(pattern, body))?;
     Ok(Script::new(items))

@@ -1,19 +1,10 @@
 // What no clause says: that calls succeed, and that the definitions mean what was meant.
-use crate::format;
+use crate::values::{input, text};
+use awk_format::format;
 use awk_text::fault::Fault;
-use awk_text::octets::Octets;
 use awk_text::texts::MOST_BYTES;
 use awk_text::value::Value;
-use std::alloc::Global;
 use std::test::Fail;
-
-fn text(alloc: Global, bytes: &[u8]) -> Result<Value, Fault> {
-    Ok(Value::Text(Octets::new(Vec::from_slice(alloc, bytes)?)))
-}
-
-fn input(alloc: Global, bytes: &[u8]) -> Result<Value, Fault> {
-    Ok(Value::Input(Octets::new(Vec::from_slice(alloc, bytes)?)))
-}
 
 #[test]
 fn numbers_are_shown(rt: HostRuntime) -> Result<(), Fail> {

@@ -4,11 +4,11 @@
 ghost use Rattle.std.specs.Prelude.{◌≡◌, ◌<◌, IfOk};
 ghost use Rattle.box_world.specs.Calls.{IsDuty, IsStatus, numbers_after};
 
-use super::MemoryWorld;
-use crate::ask::{Ask, Mode, Reply, Request};
-use crate::world::World;
 use awk_text::octets::Octets;
 use awk_text::place::Place;
+use box_world::ask::{Ask, Mode, Reply, Request};
+use box_world::memory_world::MemoryWorld;
+use box_world::world::World;
 use std::alloc::{AllocError, Global};
 use std::test::Fail;
 

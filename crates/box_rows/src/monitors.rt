@@ -4,11 +4,11 @@ ghost use Rattle.std.specs.Prelude.{◌≡◌, [], false, IfOk, refl};
 ghost use Rattle.std.proofs.Common.{ap, sym, ◌∙◌};
 ghost use Rattle.box_world.specs.Calls.{IsDuty, open_after, open_after-append};
 
-use crate::log_end::LogEnd;
-use crate::monitor::Monitor;
 use awk_text::Memory;
 use awk_text::octets::Octets;
 use awk_text::place::Place;
+use box_monitor::log_end::LogEnd;
+use box_monitor::monitor::Monitor;
 use box_policy::policy::Policy;
 use box_world::ask::{Ask, Mode, Reply, Request, Stop};
 use box_world::world::World;

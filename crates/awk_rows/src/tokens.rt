@@ -1,8 +1,8 @@
 // Worked rows of the lexical rule, with values from the language's description.
 
-use super::*;
 use TokenKind::{Builtin, CallName, Keyword, Name, Number, Pattern, Quoted, Refused, Sign};
 use awk_text::place::Place;
+use awk_tokens::{SyntaxError, TokenKind, tokens};
 use std::alloc::Global;
 use std::process::Abort;
 use std::test::Fail;

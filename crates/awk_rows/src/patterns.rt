@@ -1,7 +1,7 @@
 // What no clause says: that calls succeed, that the definitions mean what was meant, and that hostile
 // patterns take little time and stack.
-use crate::error::MAX_BYTES;
-use crate::{Ere, Plain};
+use awk_ere::error::MAX_BYTES;
+use awk_ere::{Ere, Plain};
 use std::alloc::Global;
 use std::test::Fail;
 

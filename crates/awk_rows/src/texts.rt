@@ -1,27 +1,14 @@
 // What no clause says: that calls succeed, and that the definitions mean what was meant.
-use crate::arithmetic::{add, div, mul, neg, pow, rem, sub};
-use crate::escape::unescape;
-use crate::fault::Fault;
-use crate::numeral::looks_numeric;
-use crate::octets::Octets;
-use crate::quote::quote_log;
-use crate::texts::{MOST_BYTES, join};
-use crate::value::{Value, compare, number_of, text_of, truth};
-use std::alloc::Global;
+use crate::values::{input, octets, text};
+use awk_text::arithmetic::{add, div, mul, neg, pow, rem, sub};
+use awk_text::escape::unescape;
+use awk_text::fault::Fault;
+use awk_text::numeral::looks_numeric;
+use awk_text::quote::quote_log;
+use awk_text::texts::{MOST_BYTES, join};
+use awk_text::value::{Value, compare, number_of, text_of, truth};
 use std::cmp::Ordering;
 use std::test::Fail;
-
-fn text(alloc: Global, bytes: &[u8]) -> Result<Value, Fault> {
-    Ok(Value::Text(octets(alloc, bytes)?))
-}
-
-fn input(alloc: Global, bytes: &[u8]) -> Result<Value, Fault> {
-    Ok(Value::Input(octets(alloc, bytes)?))
-}
-
-fn octets(alloc: Global, bytes: &[u8]) -> Result<Octets, Fault> {
-    Ok(Octets::new(Vec::from_slice(alloc, bytes)?))
-}
 
 #[test]
 fn faults_have_their_texts(rt: HostRuntime) -> Result<(), Fail> {

@@ -1,7 +1,7 @@
 // What no clause says: that the calls succeed, and that the definitions say what is meant.
-use crate::error::PolicyError;
-use crate::path::normal;
-use crate::policy::{Decision, Kind, Policy};
+use box_policy::error::PolicyError;
+use box_policy::path::normal;
+use box_policy::policy::{Decision, Kind, Policy};
 use std::alloc::{AllocError, Global};
 use std::test::Fail;
 

@@ -1,10 +1,9 @@
 // What no clause says: that calls succeed, and that the definitions mean what was meant.
 ghost use Rattle.std.specs.Prelude.{◌<◌};
 
-use crate::reader::{Reader, Taken};
-use crate::row::Record;
-use crate::splitter::{Splitter, split};
-use crate::stream::records;
+use crate::values::{octets, text};
+use awk_fields::reader::{Reader, Taken};
+use awk_fields::{Record, Splitter, records, split};
 use awk_text::fault::Fault;
 use awk_text::octets::Octets;
 use awk_text::texts::MOST_BYTES;
@@ -105,7 +104,7 @@ fn shown_records(alloc: Global, input: &[u8], rs: &[u8], len: usize) -> Result<V
 {
     let mut pieces = Vec::new(alloc);
     for piece in input.chunks(len) {
-        pieces.push(Octets::new(Vec::from_slice(alloc, piece)?))?;
+        pieces.push(octets(alloc, piece)?)?;
     }
     let mut all = Vec::new(alloc);
     for record in records(alloc, pieces.as_slice(), rs)? {
@@ -147,7 +146,7 @@ fn records_do_not_depend_on_the_cut(rt: HostRuntime) -> Result<(), Fail> {
 
 #[test]
 fn paragraphs_have_fields(rt: HostRuntime) -> Result<(), Fail> {
-    let input = Octets::new(Vec::from_slice(rt.alloc(), b"\n\na\nb\n\n\nc\n\n".as_slice())?);
+    let input = octets(rt.alloc(), b"\n\na\nb\n\n\nc\n\n")?;
     let mut counts = Vec::new(rt.alloc());
     for text in records(rt.alloc(), &[input], b"")? {
         let mut record = Record::new(rt.alloc());
@@ -212,10 +211,6 @@ fn number(n: i64) -> Value {
     Value::Num(n)
 }
 
-fn text(alloc: Global, bytes: &[u8]) -> Result<Octets, Fault> {
-    Ok(Octets::new(Vec::from_slice(alloc, bytes)?))
-}
-
 /// The text of a field.
 fn field(alloc: Global, record: &mut Record, n: i64) -> Result<Vec<u8>, Fault> {
     let value = record.get(n)?;
@@ -226,10 +221,10 @@ fn field(alloc: Global, record: &mut Record, n: i64) -> Result<Vec<u8>, Fault> {
 fn setting_a_field_rebuilds_the_text(rt: HostRuntime) -> Result<(), Fail> {
     let mut record = Record::new(rt.alloc());
     record.set_whole(
-        text(rt.alloc(), b"a b")?,
+        octets(rt.alloc(), b"a b")?,
         Splitter::new(rt.alloc(), b" ", false)?,
     )?;
-    record.set_field(4, Value::Text(text(rt.alloc(), b"z")?), b"-")?;
+    record.set_field(4, text(rt.alloc(), b"z")?, b"-")?;
     assert_eq!(rt; record.whole(), b"a-b--z".as_slice());
     assert_eq!(rt; record.count()?, 4);
     assert!(rt; matches!(record.get(3)?, Value::Unset));
@@ -242,7 +237,7 @@ fn setting_a_field_rebuilds_the_text(rt: HostRuntime) -> Result<(), Fail> {
         b"a".as_slice()
     );
     record.set_whole(
-        text(rt.alloc(), b" a  b ")?,
+        octets(rt.alloc(), b" a  b ")?,
         Splitter::new(rt.alloc(), b" ", false)?,
     )?;
     record.set_field(4, number(-7), b" ")?;
@@ -291,7 +286,7 @@ fn numbers_of_fields_have_limits(rt: HostRuntime) -> Result<(), Fail> {
 fn a_text_that_would_be_too_long_changes_nothing(rt: HostRuntime) -> Result<(), Fail> {
     let mut record = Record::new(rt.alloc());
     record.set_whole(
-        text(rt.alloc(), b"a b")?,
+        octets(rt.alloc(), b"a b")?,
         Splitter::new(rt.alloc(), b" ", false)?,
     )?;
     let most = vec![in rt.alloc(); b'a'; MOST_BYTES]?;
