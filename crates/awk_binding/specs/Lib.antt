@@ -1,0 +1,3 @@
+pub mod Binding
+pub mod Scopes
+pub mod Laws

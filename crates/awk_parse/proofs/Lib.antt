@@ -1,0 +1,3 @@
+pub mod Flawless
+pub mod Twice
+pub mod Again

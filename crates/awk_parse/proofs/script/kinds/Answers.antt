@@ -1,0 +1,26 @@
+use Rattle.std.proofs.lemmas.Result.{err_from_is_err_and}
+use Rattle.awk_names.specs.Faults.{Misplaced, Misdefined}
+use Rattle.awk_names.specs.Kinds.{Clashes}
+use Rattle.awk_parse.specs.Flaws.{memory, word, function, kind}
+use Rattle.awk_parse.proofs.script.kinds.Goals as goal
+
+pub returns-in-Some-clause-flawed : goal.returns-in-Some-clause-flawed
+returns-in-Some-clause-flawed c =
+    let stands : Misplaced c.args.parts.now c.in-Some.place = rw c.in-Some.is at c.misplaced.ensures.stands in
+    word c.in-Some.place stands
+
+pub returns-in_err-place-clause-flawed : goal.returns-in_err-place-clause-flawed
+returns-in_err-place-clause-flawed c = let p = err_from_is_err_and c.from_residual.result c.from_residual.ensures.1 in rw (p.1, p.2) memory
+
+pub returns-in-Some-2-clause-flawed : goal.returns-in-Some-2-clause-flawed
+returns-in-Some-2-clause-flawed c =
+    let stands : Misdefined c.args.parts.now c.in-Some-2.place = rw c.in-Some-2.is at c.in_ok-place.ensures.stands in
+    function c.in-Some-2.place stands
+
+pub returns-in_err-kinds-clause-flawed : goal.returns-in_err-kinds-clause-flawed
+returns-in_err-kinds-clause-flawed c = let p = err_from_is_err_and c.from_residual-in_err-kinds.result c.from_residual-in_err-kinds.ensures.1 in rw (p.1, p.2) memory
+
+pub returns-in-Err-clause-flawed : goal.returns-in-Err-clause-flawed
+returns-in-Err-clause-flawed c =
+    let clash : Clashes c.args.parts.now c.in-Err.place = rw c.in-Err.is at c.in_ok-kinds.ensures.clash in
+    kind c.in-Err.place clash

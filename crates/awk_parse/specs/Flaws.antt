@@ -1,0 +1,22 @@
+-- Which flaw stands in the items of a script, and how it is named.
+use Rattle.std.specs.Prelude.{List}
+use Rattle.awk_text.specs.declared.place.Place.{Place}
+use Rattle.awk_tokens.specs.declared.syntax_error.SyntaxError.{SyntaxError}
+use Rattle.awk_names.specs.declared.mention.Part.{Part}
+use Rattle.awk_names.specs.Faults.{Misplaced, Misdefined}
+use Rattle.awk_names.specs.Kinds.{Clashes}
+use Rattle.awk_parse.specs.declared.flaw.Flaw.{Flaw}
+use Rattle.awk_parse.specs.declared.flaw.Flaw.TheVariants as flaw
+
+-- Memory may be refused whatever the items are.
+pub data Flawed (parts : List Part) : Flaw → Type 0 where
+  memory : Flawed parts flaw.Memory
+  word : (place : Place) → Misplaced parts place → Flawed parts (flaw.Word place)
+  function : (place : Place) → Misdefined parts place → Flawed parts (flaw.Function place)
+  kind : (place : Place) → Clashes parts place → Flawed parts (flaw.Kind place)
+
+abbrev pub refusal : Flaw → SyntaxError
+refusal flaw.Memory = record { code = 9; place = record { line = 0; column = 0 } }
+refusal (flaw.Word place) = record { code = 8; place = place }
+refusal (flaw.Function place) = record { code = 7; place = place }
+refusal (flaw.Kind place) = record { code = 6; place = place }

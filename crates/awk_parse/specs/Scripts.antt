@@ -1,0 +1,56 @@
+-- What an accepted script is, and why others are refused.
+use Rattle.std.specs.Prelude.{◌≡◌, List, [], map, Result, Ok, Err}
+use Rattle.awk_tokens.specs.declared.kinds.Token.{Token}
+use Rattle.awk_tokens.specs.declared.syntax_error.SyntaxError.{SyntaxError}
+use Rattle.awk_tree.specs.declared.fault.Fault.{Fault}
+use Rattle.awk_tree.specs.Tree.{Entry}
+use Rattle.awk_tree.specs.View.{view_item}
+use Rattle.awk_tree.specs.Statements as grammar
+use Rattle.awk_tree.specs.Canon.{bare_entry}
+use Rattle.awk_laws.specs.SpellsScripts.{SpellsScript}
+use Rattle.awk_statements.specs.Places as places
+use Rattle.awk_names.specs.Mentions.{part}
+use Rattle.awk_names.specs.Faults as names
+use Rattle.awk_names.specs.Faultless.{Faultless}
+use Rattle.awk_kinds.specs.Marks.{AreKinds}
+use Rattle.awk_binding.specs.Binding.{bound}
+use Rattle.awk_parse.specs.Flaws as flaws
+use Rattle.awk_parse.specs.Flaws.{Flawed}
+use Rattle.awk_parse.specs.declared.flaw.Flaw.{Flaw}
+use Rattle.awk_parse.specs.declared.script.Script.{Script}
+
+-- the items of a script, as its tree shows them
+abbrev pub tree : Script → List Entry
+tree s = map view_item s.tree.items
+
+-- A script of these items: no word and no name of them stands where it cannot, no name is of two
+-- kinds, and its tree is the items with what each name stands for.
+pub record IsScriptOf (items : List Entry) (s : Script) : Type 0 where
+  pub faultless : Faultless (map part items)
+  pub kinds : AreKinds (map part items) s.kinds
+  pub bound : tree s ≡ bound s.kinds items
+  pub environ : s.names_environ ≡ names.names_environ (map part items)
+  pub main : s.reads_main ≡ names.reads_main (map part items)
+
+-- The tokens spell the items that the script is of (POSIX.1-2017 XCU awk, "Grammar").
+abbrev pub IsSpelled : List Token → Script → Type 0
+IsSpelled tokens s = (items : List Entry) × SpellsScript tokens items × IsScriptOf items s
+
+-- of all the items that tokens may spell, those that the rules of the grammar read
+abbrev pub IsRead : List Token → Script → Type 0
+IsRead tokens s = (items : List Entry) × (grammar.script tokens ≡ Ok (items, [])) × IsScriptOf items s
+
+-- some tokens are parsed as it
+abbrev pub IsScript : Script → Type 0
+IsScript s = (tokens : List Token) × IsRead tokens s
+
+-- a token that cannot stand there, or a level too much; or else a flaw of the items
+pub data IsRefused (tokens : List Token) : SyntaxError → Type 0 where
+  by_grammar : (fault : Fault) → grammar.script tokens ≡ Err fault → IsRefused tokens (places.refusal tokens fault)
+  by_flaw : (items : List Entry) (flaw : Flaw) → grammar.script tokens ≡ Ok (items, []) → Flawed (map part items) flaw → IsRefused tokens (flaws.refusal flaw)
+  by_memory : IsRefused tokens (record { code = 9; place = record { line = 0; column = 0 } })
+
+-- the same tree, places and slots aside, or want of memory
+abbrev pub IsAgain : Script → Result Script SyntaxError → Type 0
+IsAgain s (Ok r) = map bare_entry (tree r) ≡ map bare_entry (tree s)
+IsAgain s (Err e) = e.code ≡ 9

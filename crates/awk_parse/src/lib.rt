@@ -1,0 +1,14 @@
+//! Awk scripts: tokens are parsed as a tree in which every name has one kind and stands for one thing.
+//!
+//! The grammar is that of POSIX.1-2017 XCU awk, "Grammar", in the whole-number profile of this
+//! project; what names are used as follows its "Variables and Special Variables" and "User-Defined
+//! Functions". specs/Scripts.antt says what an accepted script is, and why others are refused.
+#![tactic(auto)]
+
+mod flaw;
+mod parser;
+mod script;
+
+pub use flaw::Flaw;
+pub use parser::parse;
+pub use script::{Script, canon};
