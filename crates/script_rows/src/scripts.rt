@@ -281,7 +281,7 @@ fn accepted_statements_and_names(rt: HostRuntime) {
         "function f(a) { a[1] = 2; f(b) } BEGIN { f(c); c[2] }",
         "function f() { next } BEGIN { f() }",
         "function f() { return g() } function g() { return 1 }",
-        "BEGIN { getline; getline x; getline < \"f\"; getline x[1] < \"f\" }",
+        "BEGIN { getline; getline x; getline < \"f\"; getline y[1] < \"f\" }",
         "END { exit }",
     ];
     for text in rows {
