@@ -118,7 +118,7 @@ impl Script {
 }
 
 /// The canonical spelling of a script: its tokens, all at the place 0:0, or `Memory` where memory
-/// is refused. `parse` reads them as the same script again, places aside.
+/// is refused. `parse` reads them as the same tree again, places and slots aside.
 pub fn canon(alloc: Global, script: &Script) -> Result<Vec<Token>, Memory>
     ensures { IfOk result (λ tokens. tokens.items ≡ canon_script (tree script.now)) }
 {
