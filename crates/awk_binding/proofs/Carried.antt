@@ -1,8 +1,8 @@
 -- Lists of trees, and a list that is made one by one.
-use Rattle.std.proofs.Common.{◌≡◌, ◌∙◌, ℕ, ◌+◌, ◌<◌, List, [], ◌∷◌, ◌++◌, map, Option, Some, None, option_map, Result, Ok, Err, IfOk, OnOk, length, get_or, drop, ap, sym, refl, append_assoc}
+use Rattle.std.proofs.Common.{◌≡◌, ◌∙◌, ℕ, ◌+◌, ◌<◌, List, [], ◌∷◌, ◌++◌, map, Option, Some, None, option_map, Result, Ok, Err, IfOk, OnOk, length, get_or, drop, ap, sym, refl}
 use Rattle.awk_tree.specs.declared.expressions.Term.{Term}
 use Rattle.awk_tree.specs.declared.expressions.Piped.{Piped}
-use Rattle.awk_tree.specs.Tree.{Tree, more, term, piped, then_also, trees_of, perhaps_of, terms_of, pipes_of, Statement, statements_of}
+use Rattle.awk_tree.specs.Tree.{Tree, more, term, then_also, trees_of, perhaps_of, terms_of, pipes_of, Statement, statements_of}
 use Rattle.awk_names.proofs.Lists.{drop_here}
 use Rattle.awk_binding.specs.Binding.{Meaning, bound_tree, bound_trees, bound_perhaps, bound_terms, bound_pipes, bound_statement, bound_statements}
 use Rattle.awk_binding.specs.Scopes.{bound_term, bound_piped}

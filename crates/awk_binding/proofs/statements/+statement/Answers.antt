@@ -1,4 +1,4 @@
-use Rattle.std.proofs.Common.{rules, ◌≡◌, ◌+◌, ◌*◌, ◌<◌, refl, arith, map}
+use Rattle.std.proofs.Common.{rules, ◌+◌, ◌*◌, ◌<◌, refl, arith, map}
 use Rattle.awk_tree.specs.Tree.{statements_of}
 use Rattle.awk_tree.specs.View.{view_statement}
 use Rattle.awk_tree.proofs.Views.{statement-Empty, statement-Expr, statement-Print, statement-Printf, statement-Delete, statement-Break, statement-Continue, statement-Next, statement-Exit, statement-Return, statement-Block, statement-If, statement-IfElse, statement-While, statement-Do, statement-For, statement-ForIn}
