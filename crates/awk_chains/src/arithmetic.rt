@@ -9,7 +9,7 @@ ghost use Rattle.awk_tree.specs.View.{view, view_term};
 use crate::chains::Chains;
 use awk_expressions::nodes::{concat_of, product_of, sum_of};
 use awk_expressions::signs::{arithmetic_of, begins_part, is_factor_sign, is_term_sign};
-use awk_expressions::{Tokens, terminal};
+use awk_expressions::{Tokens, pair, terminal};
 use awk_tree::{Expr, Fault, Goal, Term};
 use sqlite_items::Items;
 use std::alloc::Global;
@@ -54,7 +54,7 @@ impl<F: Fn(Global, &mut Tokens<'_>, usize, Goal) -> Result<Expr, Fault>> Chains<
         requires { Nests self.now.operands.depth (F.pre self.now.operands.inner) (F.post self.now.operands.inner) }
         ensures { Reads view (spec.product_rest self.now.operands.depth (spec.expr self.now.operands.depth) (view left) tokens.old) result tokens.new }
     {
-        let factors = holding!(left, self.factors(tokens));
+        let (left, factors) = pair(left, self.factors(tokens))?;
         Ok(product_of(self.operands.alloc, left, factors)?)
     }
 
@@ -98,7 +98,7 @@ impl<F: Fn(Global, &mut Tokens<'_>, usize, Goal) -> Result<Expr, Fault>> Chains<
         requires { Nests self.now.operands.depth (F.pre self.now.operands.inner) (F.post self.now.operands.inner) }
         ensures { Reads view (spec.sum_rest self.now.operands.depth (spec.expr self.now.operands.depth) (view left) tokens.old) result tokens.new }
     {
-        let addends = holding!(left, self.addends(tokens));
+        let (left, addends) = pair(left, self.addends(tokens))?;
         Ok(sum_of(self.operands.alloc, left, addends)?)
     }
 
@@ -137,7 +137,7 @@ impl<F: Fn(Global, &mut Tokens<'_>, usize, Goal) -> Result<Expr, Fault>> Chains<
         requires { Nests self.now.operands.depth (F.pre self.now.operands.inner) (F.post self.now.operands.inner) }
         ensures { Reads view (spec.concat_rest self.now.operands.depth (spec.expr self.now.operands.depth) (view left) tokens.old) result tokens.new }
     {
-        let parts = holding!(left, self.parts(tokens));
+        let (left, parts) = pair(left, self.parts(tokens))?;
         Ok(concat_of(self.operands.alloc, left, parts)?)
     }
 

@@ -7,7 +7,3 @@ use awk_operands::Grammar;
 pub(crate) struct Chains<F> {
     pub(crate) operands: Grammar<F>,
 }
-
-/// Lets a tree go. It is a function of its own since a drop in place walks through every variant,
-/// on each way out of the function that holds the tree.
-pub(crate) fn let_go<T: Drop>(_tree: T) {}

@@ -5,19 +5,6 @@
 //! hands itself in as the function that the rules call where they nest.
 #![tactic(auto)]
 
-/// What is read behind the tree that is held, or its fault, and then the tree is let go.
-macro_rules! holding {
-    ($tree:expr, $read:expr) => {
-        match $read {
-            Ok(read) => read,
-            Err(fault) => {
-                crate::chains::let_go($tree);
-                return Err(fault);
-            }
-        }
-    };
-}
-
 mod arithmetic;
 mod chains;
 mod logic;

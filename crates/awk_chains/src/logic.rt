@@ -6,10 +6,10 @@ ghost use Rattle.awk_tree.specs.Expressions as spec;
 ghost use Rattle.awk_tree.specs.Input.{Reads};
 ghost use Rattle.awk_tree.specs.View.{view};
 
-use crate::chains::{Chains, let_go};
+use crate::chains::Chains;
 use awk_expressions::nodes::{and_of, assign, choose, is_lvalue, or_of};
 use awk_expressions::signs::assignment;
-use awk_expressions::{Tokens, is};
+use awk_expressions::{Tokens, is, pair};
 use awk_tree::{Expr, Fault, Goal, Terminal};
 use sqlite_items::Items;
 use std::alloc::Global;
@@ -27,8 +27,8 @@ impl<F: Fn(Global, &mut Tokens<'_>, usize, Goal) -> Result<Expr, Fault>> Chains<
         if !is_lvalue(&left) {
             return Ok(left);
         }
-        let token = holding!(left, tokens.any());
-        let right = holding!(left, self.operands.nested(tokens, Goal::Expr(in_print)));
+        let (left, token) = pair(left, tokens.any())?;
+        let (left, right) = pair(left, self.operands.nested(tokens, Goal::Expr(in_print)))?;
         Ok(assign(self.operands.alloc, left, token.place, how, right)?)
     }
 
@@ -76,7 +76,7 @@ impl<F: Fn(Global, &mut Tokens<'_>, usize, Goal) -> Result<Expr, Fault>> Chains<
         requires { Nests self.now.operands.depth (F.pre self.now.operands.inner) (F.post self.now.operands.inner) }
         ensures { Reads view (spec.and_rest self.now.operands.depth (spec.expr self.now.operands.depth) in_print (view left) tokens.old) result tokens.new }
     {
-        let conjuncts = holding!(left, self.conjuncts(tokens, in_print));
+        let (left, conjuncts) = pair(left, self.conjuncts(tokens, in_print))?;
         Ok(and_of(self.operands.alloc, left, conjuncts)?)
     }
 
@@ -116,7 +116,7 @@ impl<F: Fn(Global, &mut Tokens<'_>, usize, Goal) -> Result<Expr, Fault>> Chains<
         requires { Nests self.now.operands.depth (F.pre self.now.operands.inner) (F.post self.now.operands.inner) }
         ensures { Reads view (spec.or_rest self.now.operands.depth (spec.expr self.now.operands.depth) in_print (view left) tokens.old) result tokens.new }
     {
-        let disjuncts = holding!(left, self.disjuncts(tokens, in_print));
+        let (left, disjuncts) = pair(left, self.disjuncts(tokens, in_print))?;
         Ok(or_of(self.operands.alloc, left, disjuncts)?)
     }
 
@@ -127,7 +127,7 @@ impl<F: Fn(Global, &mut Tokens<'_>, usize, Goal) -> Result<Expr, Fault>> Chains<
     {
         tokens.one(Terminal::Question)?;
         let then = self.operands.nested(tokens, Goal::Expr(in_print))?;
-        holding!(then, tokens.one(Terminal::Colon));
+        let (then, _colon) = pair(then, tokens.one(Terminal::Colon))?;
         Ok(then)
     }
 
@@ -145,15 +145,11 @@ impl<F: Fn(Global, &mut Tokens<'_>, usize, Goal) -> Result<Expr, Fault>> Chains<
         if !is(tokens.ahead(), Terminal::Question) {
             return Ok(left);
         }
-        let then = holding!(left, self.then_branch(tokens, in_print));
-        let otherwise = match self.operands.nested(tokens, Goal::Expr(in_print)) {
-            Ok(otherwise) => otherwise,
-            Err(fault) => {
-                let_go(left);
-                let_go(then);
-                return Err(fault);
-            }
-        };
+        let both = pair(left, self.then_branch(tokens, in_print))?;
+        let ((left, then), otherwise) = pair(
+            both,
+            self.operands.nested(tokens, Goal::Expr(in_print)),
+        )?;
         Ok(choose(self.operands.alloc, left, then, otherwise)?)
     }
 

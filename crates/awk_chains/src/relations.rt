@@ -11,7 +11,7 @@ ghost use Rattle.awk_tree.specs.View.{view, view_piped};
 use crate::chains::Chains;
 use awk_expressions::nodes::{compare, joined, matched, paren, pipe_of};
 use awk_expressions::signs::{comparison, matching};
-use awk_expressions::{Tokens, is};
+use awk_expressions::{Tokens, is, pair};
 use awk_operands::{in_name, in_names, in_rest};
 use awk_text::place::Place;
 use awk_tree::{Expr, Fault, Goal, Member, Piped, Terminal};
@@ -65,7 +65,7 @@ impl<F: Fn(Global, &mut Tokens<'_>, usize, Goal) -> Result<Expr, Fault>> Chains<
         requires { Nests self.now.operands.depth (F.pre self.now.operands.inner) (F.post self.now.operands.inner) }
         ensures { Reads view (spec.pipe_rest self.now.operands.depth (spec.expr self.now.operands.depth) (view left) tokens.old) result tokens.new }
     {
-        let pipes = holding!(left, self.pipes(tokens));
+        let (left, pipes) = pair(left, self.pipes(tokens))?;
         Ok(pipe_of(self.operands.alloc, left, pipes)?)
     }
 
@@ -92,8 +92,8 @@ impl<F: Fn(Global, &mut Tokens<'_>, usize, Goal) -> Result<Expr, Fault>> Chains<
         let Some(how) = comparison(in_print, tokens.ahead()) else {
             return Ok(left);
         };
-        let token = holding!(left, tokens.any());
-        let right = holding!(left, self.pipe(tokens));
+        let (left, token) = pair(left, tokens.any())?;
+        let (left, right) = pair(left, self.pipe(tokens))?;
         Ok(compare(self.operands.alloc, left, token.place, how, right)?)
     }
 
@@ -115,8 +115,8 @@ impl<F: Fn(Global, &mut Tokens<'_>, usize, Goal) -> Result<Expr, Fault>> Chains<
         let Some(unlike) = matching(tokens.ahead()) else {
             return Ok(left);
         };
-        let token = holding!(left, tokens.any());
-        let right = holding!(left, self.cmp(tokens, in_print));
+        let (left, token) = pair(left, tokens.any())?;
+        let (left, right) = pair(left, self.cmp(tokens, in_print))?;
         Ok(matched(self.operands.alloc, left, token.place, unlike, right)?)
     }
 
@@ -166,8 +166,8 @@ impl<F: Fn(Global, &mut Tokens<'_>, usize, Goal) -> Result<Expr, Fault>> Chains<
     {
         let token = tokens.one(Terminal::OpenParen)?;
         let first = self.operands.nested(tokens, Goal::Expr(false))?;
-        let more = holding!(first, self.operands.commas(tokens));
-        holding!(first, tokens.one(Terminal::CloseParen));
+        let list = pair(first, self.operands.commas(tokens))?;
+        let ((first, more), _close) = pair(list, tokens.one(Terminal::CloseParen))?;
         self.grouped(tokens, in_print, token.place, first, more)
     }
 

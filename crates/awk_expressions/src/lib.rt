@@ -4,11 +4,13 @@
 //! "Grammar" in POSIX.1-2017 XCU awk line by line.
 #![tactic(auto)]
 
+mod kept;
 pub mod nodes;
 pub mod signs;
 mod terminals;
 mod tokens;
 
+pub use kept::{pair, refused};
 pub use nodes::{joined, name_of};
 pub use terminals::{is, terminal};
 pub use tokens::Tokens;

@@ -1,32 +1,17 @@
 -- The test says what may be assigned to.
-use Rattle.std.proofs.Common.{◌≡◌, ◌↔◌, Bool, true, false, ◌&&◌, ◌||◌, not, List, refl, Some, None, if◌then◌else◌}
-use Rattle.awk_tokens.specs.Words.{is_among, is_name, keywords, builtins, refused, reserved}
-use Rattle.awk_tokens.specs.declared.kinds.TokenKind.TheVariants.{Keyword, Builtin, Refused}
+use Rattle.std.proofs.Common.{◌≡◌, ◌↔◌, Bool, true, false, ◌&&◌, not, List, refl, ap, Option, Some, None, is_none}
+use Rattle.awk_tokens.specs.Words.{is_name, reserved}
 use Rattle.awk_tree.specs.Tree.{Text}
 use Rattle.awk_names.specs.Kinds as k
 use Rattle.awk_names.specs.Kinds.{global, Forced}
 use Rattle.awk_names.specs.declared.mention.Part.{Part}
 use Rattle.awk_kinds.specs.Marks.{has, AreKinds}
-use Rattle.awk_kinds.specs.Assigns.{CanAssign, is_word, can_assign}
+use Rattle.awk_kinds.specs.Assigns.{CanAssign, can_assign}
 use Rattle.awk_kinds.specs.declared.kinds.Kinds.{Kinds}
 
-not_word : (x : Text) → not (is_word x) ≡ true → reserved x ≡ None
-not_word x e = by (is_among keywords x) (is_among builtins x) (is_among refused x) e
-  where
-    by : (a b c : Bool) → not (a || (b || c)) ≡ true → (if a then Some Keyword else (if b then Some Builtin else (if c then Some Refused else None))) ≡ None
-    by true b c h = cc
-    by false true c h = cc
-    by false false true h = cc
-    by false false false h = refl
-
-free : (x : Text) → reserved x ≡ None → not (is_word x) ≡ true
-free x e = by (is_among keywords x) (is_among builtins x) (is_among refused x) e
-  where
-    by : (a b c : Bool) → (if a then Some Keyword else (if b then Some Builtin else (if c then Some Refused else None))) ≡ None → not (a || (b || c)) ≡ true
-    by true b c h = cc
-    by false true c h = cc
-    by false false true h = cc
-    by false false false h = refl
+no_word : {K : Type 0} (o : Option K) → is_none o ≡ true → o ≡ None
+no_word None e = refl
+no_word (Some k) e = cc
 
 both : (a b : Bool) → (a && b) ≡ true → (a ≡ true) × (b ≡ true)
 both true b e = (refl, e)
@@ -49,11 +34,11 @@ may_assign parts c x kinds = (forward, back)
     forward : can_assign c x ≡ true → CanAssign parts x
     forward e =
         let (named, e2) = both (is_name x) _ e in
-        let (word, e3) = both (not (is_word x)) _ e2 in
+        let (word, e3) = both (is_none (reserved x)) _ e2 in
         let (array, function) = both (not (has c (global x) k.array)) _ e3 in
-        (named, not_word x word, (λ f. is_not (has c (global x) k.array) array ((kinds (global x) k.array).1 f)), (λ f. is_not (has c (global x) k.function) function ((kinds (global x) k.function).1 f)))
+        (named, no_word (reserved x) word, (λ f. is_not (has c (global x) k.array) array ((kinds (global x) k.array).1 f)), (λ f. is_not (has c (global x) k.function) function ((kinds (global x) k.function).1 f)))
 
     back : CanAssign parts x → can_assign c x ≡ true
     back (named, word, array, function) =
-        all_four (is_name x) (not (is_word x)) (not (has c (global x) k.array)) (not (has c (global x) k.function)) named (free x word)
+        all_four (is_name x) (is_none (reserved x)) (not (has c (global x) k.array)) (not (has c (global x) k.function)) named (ap is_none word)
         (never (has c (global x) k.array) (λ h. array ((kinds (global x) k.array).0 h))) (never (has c (global x) k.function) (λ h. function ((kinds (global x) k.function).0 h)))

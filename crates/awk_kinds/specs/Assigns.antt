@@ -1,6 +1,6 @@
 -- What a host may assign to (POSIX.1-2017 XCU awk, "OPERANDS": an operand that is a name, `=` and a text).
-use Rattle.std.specs.Prelude.{◌≡◌, Bool, true, ◌&&◌, ◌||◌, not, List, None}
-use Rattle.awk_tokens.specs.Words.{is_among, is_name, keywords, builtins, refused, reserved}
+use Rattle.std.specs.Prelude.{◌≡◌, Bool, true, ◌&&◌, not, List, None, is_none}
+use Rattle.awk_tokens.specs.Words.{is_name, reserved}
 use Rattle.awk_tree.specs.Tree.{Text}
 use Rattle.awk_names.specs.Kinds as k
 use Rattle.awk_names.specs.Kinds.{global, Forced}
@@ -12,8 +12,5 @@ use Rattle.awk_kinds.specs.declared.kinds.Kinds.{Kinds}
 abbrev pub CanAssign : List Part → Text → Type 0
 CanAssign parts x = (is_name x ≡ true) × (reserved x ≡ None) × (Forced parts (global x) k.array → ⊥) × (Forced parts (global x) k.function → ⊥)
 
-abbrev pub is_word : Text → Bool
-is_word x = is_among keywords x || (is_among builtins x || is_among refused x)
-
 abbrev pub can_assign : Kinds → Text → Bool
-can_assign c x = is_name x && (not (is_word x) && (not (has c (global x) k.array) && not (has c (global x) k.function)))
+can_assign c x = is_name x && (is_none (reserved x) && (not (has c (global x) k.array) && not (has c (global x) k.function)))

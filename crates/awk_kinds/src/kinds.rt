@@ -18,11 +18,11 @@ use crate::clash::first_clash;
 use crate::numbers::Numbers;
 use crate::reach::reached;
 use crate::slots::{functions, slot};
-use crate::spelling::{is_name, is_word};
 use crate::uses::{arrays, links, scalars, uses};
 use awk_names::{Part, Role, Table};
 use awk_text::Memory;
 use awk_text::place::Place;
+use awk_tokens::{is_name, reserved};
 use awk_tree::Slot;
 use sqlite_items::Items;
 use std::alloc::Global;
@@ -89,7 +89,7 @@ impl Kinds {
         ensures { result ≡ assigns.can_assign self.now text.now }
     {
         is_name(text)
-            && !is_word(text)
+            && reserved(text).is_none()
             && !is_marked(&self.arrays, self.numbers.global(text))
             && !self.numbers.is_function(text)
     }

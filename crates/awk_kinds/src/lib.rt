@@ -6,8 +6,6 @@ mod kinds;
 mod numbers;
 mod reach;
 mod slots;
-mod spelling;
 mod uses;
-mod variables;
 
 pub use kinds::Kinds;

@@ -6,8 +6,7 @@ ghost use Rattle.awk_kinds.specs.Numbering as spec;
 ghost use Rattle.awk_kinds.specs.Slots as slots;
 ghost use Rattle.awk_kinds.specs.Uses as uses;
 
-use crate::variables::{ARRAYS, SCALARS};
-use awk_names::{Mention, Part, Role, Table};
+use awk_names::{ARRAYS, Mention, Part, Role, SCALARS, Table};
 use awk_text::Memory;
 use awk_text::octets::Octets;
 use awk_tree::Name;

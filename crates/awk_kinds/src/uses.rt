@@ -4,8 +4,7 @@ ghost use Rattle.std.specs.Prelude.{◌≡◌, ◌++◌, [], map, replicate, IfO
 ghost use Rattle.awk_kinds.specs.Uses as spec;
 
 use crate::numbers::{Numbers, nth};
-use crate::variables::{ARRAYS, SCALARS};
-use awk_names::{Mention, Part, Role};
+use awk_names::{ARRAYS, Mention, Part, Role, SCALARS};
 use awk_text::Memory;
 use awk_tree::Name;
 use sqlite_items::Items;

@@ -15,6 +15,7 @@ mod requests;
 mod statements;
 mod summary;
 mod table;
+mod variables;
 
 pub use functions::misdefined;
 pub use mention::{Mention, Part, Role};
@@ -23,3 +24,4 @@ pub use places::faultless_places_aside;
 pub use requests::{names_environ, reads_main};
 pub use summary::parts;
 pub use table::Table;
+pub use variables::{ARRAYS, SCALARS};

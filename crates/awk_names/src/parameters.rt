@@ -1,54 +1,15 @@
 // The parameters of a script's functions.
 
-ghost use Rattle.std.specs.Prelude.{◌≡◌, [], ◌++◌, IfOk, map};
-ghost use Rattle.awk_tokens.specs.Words as words;
-ghost use Rattle.awk_names.specs.Kinds.{scalars, arrays};
+ghost use Rattle.std.specs.Prelude.{◌≡◌, [], IfOk};
 ghost use Rattle.awk_names.specs.Search as search_of;
 
 use crate::mention::{Part, Role};
 use crate::table::Table;
+use crate::variables::is_variable;
 use awk_text::Memory;
 use awk_text::place::Place;
 use awk_tree::Name;
 use std::alloc::Global;
-
-/// The variables that awk sets.
-const VARIABLES: [&[u8]; 16] = [
-    b"ARGC",
-    b"CONVFMT",
-    b"FILENAME",
-    b"FNR",
-    b"FS",
-    b"NF",
-    b"NR",
-    b"OFMT",
-    b"OFS",
-    b"ORS",
-    b"RLENGTH",
-    b"RS",
-    b"RSTART",
-    b"SUBSEP",
-    b"ARGV",
-    b"ENVIRON",
-];
-
-fn is_among(mut list: &[&[u8]], word: &[u8]) -> bool
-    ensures { result ≡ words.is_among (map (λ w. w.now) list.entry.now) word.now }
-{
-    while let [first, rest @ ..] = list {
-        if *first == word {
-            return true;
-        }
-        list = rest;
-    }
-    false
-}
-
-fn is_variable(text: &[u8]) -> bool
-    ensures { result ≡ words.is_among (scalars ++ arrays) text.now }
-{
-    is_among(&VARIABLES, text)
-}
 
 /// Whether a parameter has the name of one before it, of a function or of a variable that awk sets.
 fn is_misnamed(known: &Table<usize>, seen: &Table<Place>, name: &Name) -> bool

@@ -6,9 +6,9 @@ ghost use Rattle.awk_tree.specs.Expressions as spec;
 ghost use Rattle.awk_tree.specs.Input.{Reads};
 ghost use Rattle.awk_tree.specs.View.{view};
 
-use crate::grammar::{Grammar, let_go};
+use crate::grammar::Grammar;
 use awk_expressions::nodes::{only, split, substitute, up_to_three};
-use awk_expressions::{Tokens, is, name_of};
+use awk_expressions::{Tokens, is, name_of, pair};
 use awk_text::place::Place;
 use awk_tree::{Builtin, Expr, Fault, Goal, Terminal};
 use sqlite_items::Items;
@@ -130,18 +130,12 @@ impl<F: Fn(Global, &mut Tokens<'_>, usize, Goal) -> Result<Expr, Fault>> Grammar
     {
         tokens.one(Terminal::OpenParen)?;
         let x = self.nested(tokens, Goal::Expr(false))?;
-        holding!(x, tokens.one(Terminal::Comma));
+        let (x, _comma) = pair(x, tokens.one(Terminal::Comma))?;
         tokens.skip();
-        let token = holding!(x, tokens.one(Terminal::Name));
-        let y = holding!(x, self.last_next(tokens));
-        match name_of(self.alloc, token) {
-            Ok(array) => Ok(split(self.alloc, place, x, array, y)?),
-            Err(_) => {
-                let_go(x);
-                let_go(y);
-                Err(Fault::Memory)
-            }
-        }
+        let (x, token) = pair(x, tokens.one(Terminal::Name))?;
+        let trees = pair(x, self.last_next(tokens))?;
+        let ((x, y), array) = pair(trees, name_of(self.alloc, token))?;
+        Ok(split(self.alloc, place, x, array, y)?)
     }
 
     /// `[ , lvalue ]`

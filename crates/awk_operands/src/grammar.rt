@@ -28,7 +28,3 @@ impl<F: Fn(Global, &mut Tokens<'_>, usize, Goal) -> Result<Expr, Fault>> Grammar
         (self.inner)(self.alloc, tokens, self.depth, goal)
     }
 }
-
-/// Lets a tree go. It is a function of its own since a drop in place walks through every variant,
-/// on each way out of the function that holds the tree.
-pub(crate) fn let_go<T: Drop>(_tree: T) {}

@@ -5,19 +5,6 @@
 //! handed in, so that no rule calls itself.
 #![tactic(auto)]
 
-/// What is read behind what is held, or its fault, and then what is held is let go.
-macro_rules! holding {
-    ($held:expr, $read:expr) => {
-        match $read {
-            Ok(read) => read,
-            Err(fault) => {
-                crate::grammar::let_go($held);
-                return Err(fault);
-            }
-        }
-    };
-}
-
 mod builtins;
 mod grammar;
 mod lists;

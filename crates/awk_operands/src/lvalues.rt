@@ -8,7 +8,7 @@ ghost use Rattle.awk_tree.specs.View.{view};
 
 use crate::grammar::Grammar;
 use awk_expressions::nodes::{field, getline};
-use awk_expressions::{Tokens, is, name_of};
+use awk_expressions::{Tokens, is, name_of, pair};
 use awk_tree::{Expr, Fault, Goal, Terminal};
 use std::alloc::Global;
 
@@ -87,7 +87,7 @@ impl<F: Fn(Global, &mut Tokens<'_>, usize, Goal) -> Result<Expr, Fault>> Grammar
     {
         let token = tokens.one(Terminal::Getline)?;
         let target = self.target(tokens)?;
-        let source = holding!(target, self.source(tokens));
+        let (target, source) = pair(target, self.source(tokens))?;
         Ok(getline(self.alloc, token.place, target, source)?)
     }
 }

@@ -7,11 +7,10 @@ ghost use Rattle.awk_tree.specs.Input.{Reads, and_then};
 ghost use Rattle.awk_tree.specs.Statements as spec;
 ghost use Rattle.awk_tree.specs.View.{view, view_statement};
 
-use crate::kept::pair;
 use crate::signs::{each_next, else_next};
 use crate::simple::{condition, ended, perhaps_until, simple};
 use awk_chains::Level;
-use awk_expressions::{Tokens, is, name_of};
+use awk_expressions::{Tokens, is, name_of, pair};
 use awk_text::place::Place;
 use awk_tree::{Expr, Fault, Nested, Statement, Terminal};
 use sqlite_items::{Boxed, Items};

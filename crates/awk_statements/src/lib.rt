@@ -6,7 +6,6 @@
 
 mod bodies;
 mod items;
-mod kept;
 mod places;
 mod prints;
 mod signs;

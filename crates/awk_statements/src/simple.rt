@@ -7,10 +7,9 @@ ghost use Rattle.awk_tree.specs.Statements as spec;
 ghost use Rattle.awk_tree.specs.Tree as tree;
 ghost use Rattle.awk_tree.specs.View.{view, view_statement};
 
-use crate::kept::{pair, refused};
 use crate::prints::{print, printf};
 use awk_chains::Level;
-use awk_expressions::{Tokens, is, name_of};
+use awk_expressions::{Tokens, is, name_of, pair, refused};
 use awk_tree::{Expr, Fault, Goal, Statement, Terminal};
 
 /// The statement, where it ends here: with `;`, a newline, or before `}`.

@@ -11,7 +11,7 @@ ghost use Rattle.awk_tokens.specs.Tokens.{value_of, begins_exponent, is_whole};
 use crate::kinds::TokenKind;
 use crate::signs::sign_len;
 use crate::syntax_error::SyntaxError;
-use crate::words::word_kind;
+use crate::words::{begins_name, continues_name, word_kind};
 
 /// Where in an extended regular expression a byte stands.
 #[derive(Clone, Copy, Debug)]
@@ -47,18 +47,6 @@ fn is_blank(b: u8) -> bool
     ensures { result ≡ bytes.is_blank b }
 {
     b == b' ' || b == b'\t' || b == b'\r'
-}
-
-fn begins_name(b: u8) -> bool
-    ensures { result ≡ bytes.begins_name b }
-{
-    b.is_ascii_alphabetic() || b == b'_'
-}
-
-fn continues_name(b: u8) -> bool
-    ensures { result ≡ bytes.continues_name b }
-{
-    b.is_ascii_alphanumeric() || b == b'_'
 }
 
 fn digits_len(z: &[u8]) -> usize

@@ -1,6 +1,8 @@
 // The words of the language.
 
 ghost use Rattle.std.specs.Prelude.{◌≡◌, map};
+ghost use Rattle.std.specs.List.{list_all};
+ghost use Rattle.awk_tokens.specs.Bytes as bytes;
 ghost use Rattle.awk_tokens.specs.Words as spec;
 
 use crate::kinds::TokenKind;
@@ -78,7 +80,9 @@ fn lookup(mut table: &[(&[u8], TokenKind)], word: &[u8]) -> Option<TokenKind>
     None
 }
 
-fn reserved(word: &[u8]) -> Option<TokenKind>
+/// The kind of a word of the language: a keyword, a built-in function, or a function or statement
+/// that the profile leaves out ("Lexical Conventions", rules 7 and 8). No other text has one.
+pub fn reserved(word: &[u8]) -> Option<TokenKind>
     ensures { result ≡ spec.reserved word.now }
 {
     match word.len() {
@@ -90,6 +94,37 @@ fn reserved(word: &[u8]) -> Option<TokenKind>
         7 => lookup(&SEVEN, word),
         8 => lookup(&EIGHT, word),
         _ => None,
+    }
+}
+
+/// Whether a byte begins a word or name: an ASCII letter or `_`.
+pub fn begins_name(b: u8) -> bool
+    ensures { result ≡ bytes.begins_name b }
+{
+    b.is_ascii_alphabetic() || b == b'_'
+}
+
+/// Whether a byte goes on in a word or name: an ASCII letter, a digit or `_`.
+pub fn continues_name(b: u8) -> bool
+    ensures { result ≡ bytes.continues_name b }
+{
+    b.is_ascii_alphanumeric() || b == b'_'
+}
+
+fn continues(text: &[u8]) -> bool
+    ensures { result ≡ list_all bytes.continues_name text.now }
+{
+    text.iter().all(|b| continues_name(*b))
+}
+
+/// Whether a text is spelled as a name: a letter or `_`, then letters, digits and `_`. Words of the
+/// language are spelled so too, and [`reserved`] tells them apart.
+pub fn is_name(text: &[u8]) -> bool
+    ensures { result ≡ spec.is_name text.now }
+{
+    match text {
+        [first, rest @ ..] => begins_name(*first) && continues(rest),
+        [] => false,
     }
 }
 

@@ -1,6 +1,6 @@
 use Rattle.std.proofs.Common.{◌≡◌, length, map}
 use Rattle.awk_tokens.specs.Words.{is_among}
-use Rattle.awk_names.proofs.parameters.is_among.Given as goal
+use Rattle.awk_names.proofs.variables.is_among.Given as goal
 
 abbrev pub invariant-loop-list : goal.invariant-loop-list
 invariant-loop-list l = is_among (map (λ w. w.now) l.list) l.word ≡ is_among (map (λ w. w.now) l.initial.list) l.word
