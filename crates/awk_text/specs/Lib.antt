@@ -6,3 +6,4 @@ pub mod Numerals
 pub mod Quoted
 pub mod Readings
 pub mod Values
+pub mod Places

@@ -1,5 +1,5 @@
 // The faults that end a script's run.
-ghost use Rattle.std.specs.Prelude.{◌≡◌};
+ghost use Rattle.std.specs.Prelude.{◌≡◌, Some};
 ghost use Rattle.awk_text.specs.Faults.{code_of, fault_text};
 
 use std::alloc::{AllocError, AllocFailed};
@@ -70,6 +70,8 @@ impl Fault {
 }
 
 impl fmt::Display for Fault {
+    ghost output = { λ fault. Some (fault_text fault) };
+
     fn fmt<W: fmt::Write>(&self, f: &mut fmt::Formatter<W>) -> fmt::Result {
         f.write_str(self.text())
     }

@@ -8,3 +8,4 @@ pub mod Tokens
 pub mod Reads
 pub mod Scan
 pub mod Next
+pub mod Refusals

@@ -1,5 +1,8 @@
 // Why a script is refused.
 
+ghost use Rattle.std.specs.Prelude.{Some};
+ghost use Rattle.awk_tokens.specs.Refusals.{refusal_text};
+
 use awk_text::place::Place;
 use std::error::Error;
 use std::fmt;
@@ -33,6 +36,8 @@ impl SyntaxError {
 }
 
 impl fmt::Display for SyntaxError {
+    ghost output = { λ e. Some (refusal_text e) };
+
     fn fmt<W: fmt::Write>(&self, f: &mut fmt::Formatter<W>) -> fmt::Result {
         let (line, column) = (self.place.line, self.place.column);
         let code = self.code;

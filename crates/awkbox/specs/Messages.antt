@@ -1,27 +1,21 @@
 -- What the program says on standard error, one line each, and the exit status that goes with it.
-use Rattle.std.specs.Prelude.{◌≡◌, ℕ, ◌==◌, List, [], ◌++◌, if◌then◌else◌, codes, string_bytes}
+use Rattle.std.specs.Prelude.{◌≡◌, ℕ, List, ◌++◌, codes, string_bytes}
 use Rattle.std.specs.Fmt.{decimal}
 use Rattle.awk_text.specs.Faults.{code_of, fault_text}
+use Rattle.awk_text.specs.Places.{place_text}
 use Rattle.awk_text.specs.Quoted.{quoted}
 use Rattle.awk_text.specs.declared.fault.Fault.TheVariants.{StepBound as F11, Memory as F13}
-use Rattle.awk_text.specs.declared.place.Place.{Place}
+use Rattle.awk_tokens.specs.Refusals.{refusal_text}
 use Rattle.awkbox.specs.declared.messages.Message.{Message}
 use Rattle.awkbox.specs.declared.messages.Message.TheVariants.{Fault, StepBound, Policy, Script, Assignment, CannotRead, CannotWrite, OutOfMemory}
-
--- a line and a column
-abbrev pub place_text : Place → List ℕ
-place_text place = decimal place.line ++ codes ":" ++ decimal place.column
-
--- the rule that a policy was refused for; 0 where it was no rule
-abbrev pub rule_text : ℕ → List ℕ
-rule_text rule = if rule == 0 then [] else codes " rule " ++ decimal rule
+use Rattle.box_policy.specs.Refusals.{refusal_text as policy_text}
 
 -- the line, without its newline
 abbrev pub message_text : Message → List ℕ
 message_text (Fault fault place) = codes "awkbox: " ++ place_text place ++ codes " F" ++ decimal (code_of fault) ++ codes " " ++ fault_text fault
 message_text StepBound = codes "awkbox: F11 " ++ fault_text F11
-message_text (Policy error) = codes "awkbox: policy P" ++ decimal error.code ++ rule_text error.rule
-message_text (Script error) = codes "awkbox: script " ++ place_text error.place ++ codes " S" ++ decimal error.code
+message_text (Policy error) = codes "awkbox: policy " ++ policy_text error
+message_text (Script error) = codes "awkbox: script " ++ refusal_text error
 message_text (Assignment pair) = codes "awkbox: assignment " ++ decimal pair ++ codes " U3"
 message_text (CannotRead name) = codes "awkbox: cannot read \"" ++ string_bytes name ++ codes "\""
 message_text (CannotWrite name) = codes "awkbox: cannot write \"" ++ string_bytes name ++ codes "\""

@@ -120,14 +120,8 @@ impl fmt::Display for Message {
                 let text = Fault::StepBound.text();
                 write!(f, "awkbox: F11 {text}")
             }
-            Message::Policy(PolicyError { code, rule: 0 }) => write!(f, "awkbox: policy P{code}"),
-            Message::Policy(PolicyError { code, rule }) => {
-                write!(f, "awkbox: policy P{code} rule {rule}")
-            }
-            Message::Script(SyntaxError { code, place }) => {
-                let (line, column) = (place.line, place.column);
-                write!(f, "awkbox: script {line}:{column} S{code}")
-            }
+            Message::Policy(error) => write!(f, "awkbox: policy {error}"),
+            Message::Script(error) => write!(f, "awkbox: script {error}"),
             Message::Assignment(pair) => write!(f, "awkbox: assignment {pair} U3"),
             Message::CannotRead(name) => write!(f, "awkbox: cannot read \"{name}\""),
             Message::CannotWrite(name) => write!(f, "awkbox: cannot write \"{name}\""),

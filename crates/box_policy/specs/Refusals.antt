@@ -1,5 +1,6 @@
 -- Why a policy is refused: of all that is wrong, the first in this order.
-use Rattle.std.specs.Prelude.{◌≡◌, ℕ, ◌+◌, Bool, true, false, ◌&&◌, List, [], ◌∷◌, length, Option, Some, None, is_some, unwrap_or, nat_le, codes, IsUtf8, ◌⊎◌}
+use Rattle.std.specs.Prelude.{◌≡◌, ℕ, ◌+◌, ◌==◌, Bool, true, false, ◌&&◌, if◌then◌else◌, List, [], ◌∷◌, ◌++◌, length, Option, Some, None, is_some, unwrap_or, nat_le, codes, IsUtf8, ◌⊎◌}
+use Rattle.std.specs.Fmt.{decimal}
 use Rattle.toml.specs.Data.{Members, get_member}
 use Rattle.toml.specs.Parse.{parse_document}
 use Rattle.box_policy.specs.declared.error.PolicyError.{PolicyError}
@@ -62,3 +63,11 @@ IsRefused bytes e =
     (e ≡ no_memory)
     ⊎ (((e ≡ no_document) × (IsUtf8 bytes → parse_document bytes ≡ None))
     ⊎ ((tree : Members) × IsUtf8 bytes × (parse_document bytes ≡ Some tree) × (refusal tree ≡ Some e)))
+
+-- the rule that a policy was refused for; 0 where it was no rule
+abbrev pub rule_text : ℕ → List ℕ
+rule_text rule = if rule == 0 then [] else codes " rule " ++ decimal rule
+
+-- how a refusal is shown
+abbrev pub refusal_text : PolicyError → List ℕ
+refusal_text e = codes "P" ++ decimal e.code ++ rule_text e.rule

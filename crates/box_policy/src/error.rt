@@ -1,5 +1,6 @@
 // Why a policy is refused.
-ghost use Rattle.std.specs.Prelude.{◌≡◌};
+ghost use Rattle.std.specs.Prelude.{◌≡◌, Some};
+ghost use Rattle.box_policy.specs.Refusals.{refusal_text};
 
 use std::alloc::{AllocError, AllocFailed};
 use std::error::Error;
@@ -45,6 +46,8 @@ impl PolicyError {
 }
 
 impl fmt::Display for PolicyError {
+    ghost output = { λ e. Some (refusal_text e) };
+
     fn fmt<W: fmt::Write>(&self, f: &mut fmt::Formatter<W>) -> fmt::Result {
         match self.rule {
             0 => write!(f, "P{}", self.code),
