@@ -1,5 +1,5 @@
 -- Where a place is found a clash stands, at the first appearance of its name; where none is, the kinds agree.
-use Rattle.std.proofs.Common.{◌≡◌, ◌≢◌, ◌⊎◌, inl, inr, ◌∙◌, ◌↔◌, ℕ, zero, suc, ◌+◌, ◌<◌, ◌≤◌, ◌&&◌, ◌||◌, Bool, true, false, List, [], ◌∷◌, length, refl, sym, ap, Option, Some, None, is_none, Contains, arith, slice_get, is_some, codes, if◌then◌else◌}
+use Rattle.std.proofs.Common.{◌≡◌, ◌≢◌, ◌⊎◌, inl, inr, ◌∙◌, ℕ, zero, suc, ◌+◌, ◌&&◌, ◌||◌, Bool, true, false, List, [], ◌∷◌, refl, sym, ap, Option, Some, None, is_none, Contains, arith, slice_get, codes, if◌then◌else◌}
 use Rattle.std.proofs.lemmas.Bool.{cases_Bool}
 use Rattle.awk_text.specs.declared.place.Place.{Place}
 use Rattle.awk_tokens.specs.Words.{is_among}
@@ -20,12 +20,11 @@ use Rattle.awk_kinds.specs.Clash.{over}
 use Rattle.awk_kinds.specs.Numbering.{number, number_in, numbers}
 use Rattle.awk_kinds.specs.Uses as u
 use Rattle.awk_kinds.specs.Marks.{is_marked, has, AreKinds}
-use Rattle.awk_kinds.specs.declared.numbers.Numbers.{Numbers}
 use Rattle.awk_kinds.specs.declared.kinds.Kinds.{Kinds}
 use Rattle.awk_kinds.proofs.Reaching.{found_at, at_found}
 use Rattle.awk_kinds.proofs.Meant.{here, takes, texts_at}
 use Rattle.awk_kinds.proofs.Kinding.{function_known, meant_function, parameter_place}
-use Rattle.awk_kinds.proofs.Clashing.{Least, Some_of, NameAt, ArgumentAt, CallAt, MentionAt, RoleAt, PartAt, least}
+use Rattle.awk_kinds.proofs.Clashing.{Least, Some_of, NameAt, CallAt, MentionAt, RoleAt, PartAt, least}
 
 -- ---- two kinds
 

@@ -1,15 +1,11 @@
 -- The marks of the numbers are the kinds of the names.
-use Rattle.std.proofs.Common.{◌≡◌, ◌≢◌, ◌⊎◌, inl, inr, ◌∙◌, ◌↔◌, ℕ, Bool, true, false, List, [], ◌∷◌, replicate, refl, sym, ap, Option, Some, None, Contains, slice_get, is_some, if◌then◌else◌}
-use Rattle.std.proofs.lemmas.Bool.{cases_Bool}
+use Rattle.std.proofs.Common.{◌≡◌, ◌≢◌, ◌∙◌, ◌↔◌, ℕ, Bool, true, false, List, [], replicate, refl, sym, ap, Option, Some, None, slice_get}
 use Rattle.awk_text.specs.declared.place.Place.{Place}
-use Rattle.awk_tokens.specs.Words.{is_among}
 use Rattle.awk_tree.specs.Tree.{Text}
 use Rattle.awk_tree.specs.declared.names.Name.{Name}
 use Rattle.awk_names.specs.Kinds as k
 use Rattle.awk_names.specs.Kinds.{Kind, Named, global, parameter, Defines, texts, meant, Forced}
 use Rattle.awk_names.specs.Faults.{Misdefined}
-use Rattle.awk_names.specs.declared.mention.Role.{Role}
-use Rattle.awk_names.specs.declared.mention.Role.TheVariants as role
 use Rattle.awk_names.specs.declared.mention.Part.{Part}
 use Rattle.awk_kinds.specs.Numbering as s
 use Rattle.awk_kinds.specs.Numbering.{number}
@@ -20,7 +16,7 @@ use Rattle.awk_kinds.specs.declared.numbers.Numbers.{Numbers}
 use Rattle.awk_kinds.specs.declared.uses.Use.{Use}
 use Rattle.awk_kinds.specs.declared.kinds.Kinds.{Kinds}
 use Rattle.awk_kinds.proofs.Meant.{injective}
-use Rattle.awk_kinds.proofs.Kinding.{sound, complete, function_known, function_found, meant_function}
+use Rattle.awk_kinds.proofs.Kinding.{sound, complete, function_known, function_found}
 
 mark_true : (marks : List Bool) (o : Option ℕ) → is_marked marks o ≡ true → (n : ℕ) × (o ≡ Some n) × (slice_get marks n ≡ Some true)
 mark_true marks None e = cc

@@ -1,22 +1,15 @@
 -- The least place of a clash is that of one, and where there is none no name has two kinds.
-use Rattle.std.proofs.Common.{◌≡◌, ◌≢◌, ◌⊎◌, inl, inr, ◌∙◌, ℕ, zero, suc, ◌+◌, ◌<◌, ◌≤◌, ◌&&◌, ◌||◌, Bool, true, false, nat_lt, nat_le, List, [], ◌∷◌, ◌++◌, length, refl, sym, ap, Option, Some, None, is_none, MatchOption, Contains, arith, slice_get, is_some, if◌then◌else◌}
-use Rattle.std.proofs.lemmas.Bool.{ltb-true, lt-ltb, cases_Bool, cases_order}
-use Rattle.std.specs.Map.{lookup}
-use Rattle.std.specs.Str.{bytes_eq}
+use Rattle.std.proofs.Common.{◌≡◌, ◌⊎◌, inl, inr, ◌∙◌, Bool, true, false, List, [], ◌∷◌, refl, sym, Option, Some, None, Contains, arith, if◌then◌else◌}
+use Rattle.std.proofs.lemmas.Bool.{cases_order}
 use Rattle.awk_text.specs.declared.place.Place.{Place}
-use Rattle.awk_tokens.specs.Words.{is_among}
-use Rattle.awk_tree.specs.Tree.{Text}
 use Rattle.awk_tree.specs.declared.names.Name.{Name}
-use Rattle.awk_names.specs.Kinds as k
-use Rattle.awk_names.specs.Kinds.{Kind, Named, global, parameter, Defines, Takes, Calls, texts, meant, Forced, Appears, NotAfter, Clashes, Agrees, scalars, arrays}
-use Rattle.awk_names.specs.Faults.{Misdefined}
+use Rattle.awk_names.specs.Kinds.{NotAfter}
 use Rattle.awk_names.specs.declared.mention.Mention as m
 use Rattle.awk_names.specs.declared.mention.Mention.TheVariants as said
 use Rattle.awk_names.specs.declared.mention.Role.{Role}
 use Rattle.awk_names.specs.declared.mention.Role.TheVariants as role
 use Rattle.awk_names.specs.declared.mention.Part.{Part}
 use Rattle.awk_names.proofs.Lists.{contains_first, contains_later, contains_none, contains_cases}
-use Rattle.awk_names.proofs.Naming.{contains_among}
 use Rattle.awk_kinds.specs.Uses as u
 use Rattle.awk_kinds.specs.declared.kinds.Kinds.{Kinds}
 use Rattle.awk_kinds.specs.Clash as s

@@ -1,5 +1,5 @@
 -- The numbers that are reached are those of the names that are forced.
-use Rattle.std.proofs.Common.{◌≡◌, ◌≢◌, ◌⊎◌, inl, inr, ◌∙◌, ℕ, zero, suc, ◌+◌, ◌<◌, Bool, true, false, List, [], ◌∷◌, ◌++◌, length, replicate, refl, sym, ap, Option, Some, None, Contains, arith, slice_get, is_some, if◌then◌else◌}
+use Rattle.std.proofs.Common.{◌≡◌, ◌≢◌, ◌⊎◌, inl, inr, ◌∙◌, ℕ, ◌+◌, ◌<◌, Bool, true, false, List, [], ◌++◌, length, replicate, refl, sym, ap, Option, Some, None, Contains, arith, slice_get, is_some, if◌then◌else◌}
 use Rattle.std.proofs.lemmas.List.{length-replicate}
 use Rattle.std.proofs.lemmas.List.Elements.{Contains-append_left, Contains-append_right, Contains-append_cases}
 use Rattle.std.specs.Map.{lookup}
@@ -29,7 +29,7 @@ use Rattle.awk_kinds.specs.declared.uses.Use.TheVariants.{Scalar, Array, Handed}
 use Rattle.awk_kinds.proofs.Reaching.{found_at, at_found}
 use Rattle.awk_kinds.proofs.Numbered.{Known}
 use Rattle.awk_kinds.proofs.Meant.{scopes, defined, here, known, own_scalar_known, own_array_known, taken, takes, injective, text_of}
-use Rattle.awk_kinds.proofs.Using.{found, has, found_argument, has_argument, scalar_is, array_is, handed_is, argument_is, found_scalar, found_array, has_scalar, has_array, Stands, Says, scalars_sound, arrays_sound, scalars_have, arrays_have, Linked, linked_length, linked_has, linked_only, no_links}
+use Rattle.awk_kinds.proofs.Using.{found, has, found_argument, has_argument, scalar_is, array_is, handed_is, argument_is, found_scalar, found_array, has_scalar, has_array, Stands, scalars_sound, arrays_sound, scalars_have, arrays_have, Linked, linked_length, linked_has, linked_only, no_links}
 
 some_one : {A : Type 0} (o : Option A) (x y : A) → o ≡ Some x → o ≡ Some y → x ≡ y
 some_one o x y e f = cc

@@ -8,3 +8,4 @@ pub mod AllKinds
 pub mod Clashing
 pub mod Agreeing
 pub mod Assigning
+pub mod Telling

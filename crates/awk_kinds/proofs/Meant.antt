@@ -1,7 +1,7 @@
 -- The numbers of a script in which no function and no parameter is misdefined.
-use Rattle.std.proofs.Common.{◌≡◌, ◌⊎◌, inl, inr, ◌∙◌, ℕ, zero, suc, ◌+◌, ◌<◌, ◌≤◌, Bool, true, false, List, [], ◌∷◌, ◌++◌, length, refl, sym, ap, Option, Some, None, Contains, arith, slice_get, append_assoc, if◌then◌else◌}
-use Rattle.std.proofs.lemmas.Bool.{cases_Bool, cases_order}
-use Rattle.std.proofs.lemmas.List.Elements.{Contains-append_cases, Contains-append_left, Contains-append_right}
+use Rattle.std.proofs.Common.{◌≡◌, ◌⊎◌, inl, inr, ◌∙◌, ℕ, zero, suc, ◌<◌, Bool, true, false, List, [], ◌∷◌, ◌++◌, length, refl, sym, ap, Option, Some, None, Contains, arith, slice_get, append_assoc, if◌then◌else◌}
+use Rattle.std.proofs.lemmas.Bool.{cases_order}
+use Rattle.std.proofs.lemmas.List.Elements.{Contains-append_cases, Contains-append_right}
 use Rattle.std.proofs.lemmas.Option.{slice_get_within}
 use Rattle.std.specs.Map.{lookup}
 use Rattle.std.specs.Option.{option_or}
@@ -10,7 +10,7 @@ use Rattle.awk_text.specs.declared.place.Place.{Place}
 use Rattle.awk_tokens.specs.Words.{is_among}
 use Rattle.awk_tree.specs.Tree.{Text}
 use Rattle.awk_tree.specs.declared.names.Name.{Name}
-use Rattle.awk_names.specs.Kinds.{Named, global, parameter, Defines, Takes, texts, meant, scalars, arrays}
+use Rattle.awk_names.specs.Kinds.{global, parameter, Defines, Takes, texts, meant, scalars, arrays}
 use Rattle.awk_names.specs.Faults as fault
 use Rattle.awk_names.specs.Faults.{Misdefined}
 use Rattle.awk_names.specs.declared.mention.Mention.{Mention}
@@ -21,10 +21,10 @@ use Rattle.awk_names.proofs.Lists.{contains_first, contains_cases}
 use Rattle.awk_names.proofs.Naming.{among_contains, contains_among, split_at}
 use Rattle.awk_kinds.specs.Numbering as s
 use Rattle.awk_kinds.specs.Numbering.{number, number_in, in_scope, in_perhaps}
+use Rattle.awk_kinds.specs.Slots.{Names}
 use Rattle.awk_kinds.specs.declared.numbers.Scope.{Scope}
 use Rattle.awk_kinds.specs.declared.numbers.Numbers.{Numbers}
-use Rattle.awk_kinds.proofs.Reaching.{found_at, at_found}
-use Rattle.awk_kinds.proofs.Numbered.{Scoped, scope_known, scope_numbers, Injective, Scopes, HasFunction, Grows, Names, Known, grows_on, own_grows, own_known, known_keeps, parts_grow, parts_known, functions_injective, functions_scopes, functions_have, nothing_injective, there_is}
+use Rattle.awk_kinds.proofs.Numbered.{Scoped, scope_known, scope_numbers, Injective, Scopes, Grows, Known, grows_on, own_grows, own_known, known_keeps, parts_grow, parts_known, functions_injective, functions_scopes, functions_have, nothing_injective, there_is}
 
 pub texts_at : (ps : List Name) (i : ℕ) (q : Name) → slice_get ps i ≡ Some q → Contains (texts ps) q.text
 texts_at [] i q e = cc

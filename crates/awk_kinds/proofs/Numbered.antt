@@ -1,7 +1,7 @@
 -- Each name of a script has a number, and no two have one.
-use Rattle.std.proofs.Common.{◌≡◌, ◌≢◌, ◌⊎◌, inl, inr, ◌∙◌, ℕ, zero, suc, ◌+◌, ◌<◌, ◌≤◌, Bool, true, false, List, [], ◌∷◌, ◌++◌, length, get_or, refl, sym, ap, Option, Some, None, Contains, arith, length-append, slice_get, append_assoc, append-nil}
+use Rattle.std.proofs.Common.{◌≡◌, ◌⊎◌, inl, inr, ◌∙◌, ℕ, zero, suc, ◌+◌, ◌<◌, ◌≤◌, true, false, List, [], ◌∷◌, ◌++◌, length, refl, sym, ap, Option, Some, None, Contains, arith, length-append, slice_get, append_assoc, append-nil}
 use Rattle.std.proofs.lemmas.Bool.{cases_Bool}
-use Rattle.std.proofs.lemmas.Option.{slice_get_within, slice_get-get_or}
+use Rattle.std.proofs.lemmas.Option.{slice_get_within}
 use Rattle.std.proofs.lemmas.Slice.Eq.{bytes_eq-Decides}
 use Rattle.std.specs.Map.{lookup}
 use Rattle.std.specs.Option.{option_or}
@@ -19,6 +19,7 @@ use Rattle.awk_names.proofs.TableLemmas.{put_same, put_other}
 use Rattle.awk_names.proofs.Lists.{contains_first, contains_later, contains_none, contains_cases}
 use Rattle.awk_kinds.specs.Numbering as s
 use Rattle.awk_kinds.specs.Numbering.{number, number_in, in_scope, at_position, in_perhaps}
+use Rattle.awk_kinds.specs.Slots.{Names}
 use Rattle.awk_kinds.specs.declared.numbers.Scope.{Scope}
 use Rattle.awk_kinds.specs.declared.numbers.Numbers.{Numbers}
 
@@ -54,7 +55,7 @@ there_is (x ∷ xs) (suc i) h = there_is xs i (omega arith)
 -- ---- what stands under a text once one more was put
 
 module _ {V : Type 0} where
-  put_cases : (x y : Text) (v w : V) (es : List (Text × V)) → lookup (bytes_eq y) (with_text x v es) ≡ Some w → ((y ≡ x) × (v ≡ w)) ⊎ (lookup (bytes_eq y) es ≡ Some w)
+  pub put_cases : (x y : Text) (v w : V) (es : List (Text × V)) → lookup (bytes_eq y) (with_text x v es) ≡ Some w → ((y ≡ x) × (v ≡ w)) ⊎ (lookup (bytes_eq y) es ≡ Some w)
   put_cases x y v w es e = by (cases_Bool (bytes_eq y x))
     where
       by : (bytes_eq y x ≡ true) ⊎ (bytes_eq y x ≡ false) → ((y ≡ x) × (v ≡ w)) ⊎ (lookup (bytes_eq y) es ≡ Some w)
@@ -64,7 +65,7 @@ module _ {V : Type 0} where
           inl (same, some_same v w (sym (put_same x v es) ∙ e2))
       by (inr b) = inr (sym (put_other x y v es b) ∙ e)
 
-  put_known : (x y : Text) (v w : V) (es : List (Text × V)) → lookup (bytes_eq y) es ≡ Some w → (u : V) × (lookup (bytes_eq y) (with_text x v es) ≡ Some u)
+  pub put_known : (x y : Text) (v w : V) (es : List (Text × V)) → lookup (bytes_eq y) es ≡ Some w → (u : V) × (lookup (bytes_eq y) (with_text x v es) ≡ Some u)
   put_known x y v w es e = by (cases_Bool (bytes_eq y x))
     where
       by : (bytes_eq y x ≡ true) ⊎ (bytes_eq y x ≡ false) → (u : V) × (lookup (bytes_eq y) (with_text x v es) ≡ Some u)
@@ -398,13 +399,6 @@ mention_grows r (Scalar n) t = name_grows r n.text t
 mention_grows r (Array n) t = name_grows r n.text t
 mention_grows r (Call f args) t = arguments_grow r args t
 mention_grows r m t = grows_none t
-
--- a name stands in what is said, other than as a function that is called
-abbrev pub Names : Mention → Name → Type 0
-Names (Scalar n) x = n ≡ x
-Names (Array n) x = n ≡ x
-Names (Call f args) x = Contains args (Some x)
-Names m x = ⊥
 
 mention_known : (r : Role) (m : Mention) (x : Name) (t : Numbers) → Names m x → Known (s.with_mention r m t) r x.text
 mention_known r (Scalar n) x t e = rw e (name_known r x.text t)

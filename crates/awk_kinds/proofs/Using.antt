@@ -1,35 +1,18 @@
 -- What the uses of numbers say of names: the marks of a number are the kinds that its name is forced to.
-use Rattle.std.proofs.Common.{◌≡◌, ◌≢◌, ◌⊎◌, inl, inr, ◌∙◌, ℕ, zero, suc, ◌+◌, ◌<◌, ◌≤◌, Bool, true, false, List, [], ◌∷◌, ◌++◌, length, replicate, refl, sym, ap, Option, Some, None, Contains, arith, slice_get, is_some, if◌then◌else◌}
-use Rattle.std.proofs.lemmas.List.{length-replicate}
+use Rattle.std.proofs.Common.{◌≡◌, ◌⊎◌, inl, inr, ◌∙◌, ℕ, zero, suc, ◌+◌, ◌<◌, Bool, true, false, List, [], ◌∷◌, ◌++◌, length, replicate, refl, ap, Option, Some, None, Contains, arith, slice_get, if◌then◌else◌}
 use Rattle.std.proofs.lemmas.List.Elements.{Contains-append_left, Contains-append_right, Contains-append_cases}
-use Rattle.std.specs.Map.{lookup}
-use Rattle.std.specs.Str.{bytes_eq}
-use Rattle.awk_text.specs.declared.place.Place.{Place}
-use Rattle.awk_tokens.specs.Words.{is_among}
 use Rattle.awk_tree.specs.Tree.{Text}
 use Rattle.awk_tree.specs.declared.names.Name.{Name}
-use Rattle.awk_names.specs.Kinds as k
-use Rattle.awk_names.specs.Kinds.{Kind, Named, global, parameter, Defines, Takes, Calls, texts, meant, Forced}
-use Rattle.awk_names.specs.Faults as fault
-use Rattle.awk_names.specs.Faults.{Misdefined}
 use Rattle.awk_names.specs.declared.mention.Mention as m
-use Rattle.awk_names.specs.declared.mention.Mention.TheVariants as said
 use Rattle.awk_names.specs.declared.mention.Role.{Role}
 use Rattle.awk_names.specs.declared.mention.Role.TheVariants as role
 use Rattle.awk_names.specs.declared.mention.Part.{Part}
 use Rattle.awk_names.proofs.Lists.{contains_first, contains_later, contains_none, contains_cases}
-use Rattle.awk_names.proofs.Naming.{among_contains}
-use Rattle.awk_kinds.specs.Numbering as s
-use Rattle.awk_kinds.specs.Numbering.{number, number_in}
+use Rattle.awk_kinds.specs.Numbering.{number_in}
 use Rattle.awk_kinds.specs.Uses as u
-use Rattle.awk_kinds.specs.Reached.{Reached, seed, link}
-use Rattle.awk_kinds.specs.declared.numbers.Scope.{Scope}
 use Rattle.awk_kinds.specs.declared.numbers.Numbers.{Numbers}
 use Rattle.awk_kinds.specs.declared.uses.Use.{Use}
 use Rattle.awk_kinds.specs.declared.uses.Use.TheVariants.{Scalar, Array, Handed}
-use Rattle.awk_kinds.proofs.Reaching.{found_at, at_found}
-use Rattle.awk_kinds.proofs.Numbered.{Injective}
-use Rattle.awk_kinds.proofs.Meant.{scopes, defined, here, known, own_scalar_known, own_array_known, taken, takes, injective, text_of}
 
 only_one : {A : Type 0} (x y : A) → Contains (x ∷ []) y → x ≡ y
 only_one x y c = by (contains_cases x [] y c)

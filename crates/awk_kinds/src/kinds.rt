@@ -72,6 +72,7 @@ impl Kinds {
         ensures numbers { IfOk result (λ found. IfOk found (λ kinds. kinds.numbers ≡ numbers parts.now)) }
         ensures functions { IfOk result (λ found. IfOk found (λ kinds. kinds.functions ≡ slots.functions 0 [] parts.now)) }
         ensures kinds { IfOk result (λ found. IfOk found (λ kinds. AreKinds parts.now kinds)) }
+        ensures slots { IfOk result (λ found. IfOk found (λ kinds. slots.AreSlots parts.now kinds)) }
         ensures agree { IfOk result (λ found. OnOk found (Agrees parts.now)) }
         ensures none { IfOk result (λ found. OnOk found ((place : places.Place) → Clashes parts.now place → ⊥)) }
         ensures gives { IfOk result (λ found. OnOk found (GivesArrays parts.now)) }

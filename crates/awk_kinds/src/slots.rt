@@ -49,11 +49,11 @@ fn local(kinds: &Kinds, role: &Role, text: &[u8]) -> Option<usize>
 fn outer(kinds: &Kinds, text: &[u8]) -> Result<Slot, Memory>
     ensures { IfOk result (λ slot. slot ≡ spec.outer kinds.now text.now) }
 {
-    if let Some(number) = kinds.numbers.global(text) {
-        return Ok(Slot::Global(small(number)?));
+    if let Some(number) = kinds.functions.get(text) {
+        return Ok(Slot::Function(small(*number)?));
     }
-    match kinds.functions.get(text) {
-        Some(number) => Ok(Slot::Function(small(*number)?)),
+    match kinds.numbers.global(text) {
+        Some(number) => Ok(Slot::Global(small(number)?)),
         None => Ok(Slot::Unbound),
     }
 }

@@ -13,6 +13,7 @@ use Rattle.awk_names.specs.Mentions.{part}
 use Rattle.awk_names.specs.Faults as names
 use Rattle.awk_names.specs.Faultless.{Faultless}
 use Rattle.awk_kinds.specs.Marks.{AreKinds}
+use Rattle.awk_kinds.specs.Slots.{AreSlots}
 use Rattle.awk_binding.specs.Binding.{bound}
 use Rattle.awk_parse.specs.Flaws as flaws
 use Rattle.awk_parse.specs.Flaws.{Flawed}
@@ -24,10 +25,11 @@ abbrev pub tree : Script → List Entry
 tree s = map view_item s.tree.items
 
 -- A script of these items: no word and no name of them stands where it cannot, no name is of two
--- kinds, and its tree is the items with what each name stands for.
+-- kinds, and its tree is the items with what each name stands for, which tells all names apart.
 pub record IsScriptOf (items : List Entry) (s : Script) : Type 0 where
   pub faultless : Faultless (map part items)
   pub kinds : AreKinds (map part items) s.kinds
+  pub slots : AreSlots (map part items) s.kinds
   pub bound : tree s ≡ bound s.kinds items
   pub environ : s.names_environ ≡ names.names_environ (map part items)
   pub main : s.reads_main ≡ names.reads_main (map part items)

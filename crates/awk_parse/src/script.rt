@@ -4,6 +4,7 @@ ghost use Rattle.std.specs.Prelude.{◌≡◌, ◌↔◌, true, List, map, IfOk,
 ghost use Rattle.awk_binding.specs.Binding as binding;
 ghost use Rattle.awk_kinds.specs.Assigns.{CanAssign};
 ghost use Rattle.awk_kinds.specs.Marks.{AreKinds};
+ghost use Rattle.awk_kinds.specs.Slots.{AreSlots};
 ghost use Rattle.awk_names.specs.Faultless.{Faultless};
 ghost use Rattle.awk_names.specs.Faults as names;
 ghost use Rattle.awk_names.specs.Mentions.{part};
@@ -35,6 +36,7 @@ pub struct Script {
 fn kinds(alloc: Global, parts: &[Part]) -> Result<Kinds, Flaw>
     ensures faultless { OnOk result (Faultless parts.now) }
     ensures kinds { IfOk result (λ kinds. AreKinds parts.now kinds) }
+    ensures slots { IfOk result (λ kinds. AreSlots parts.now kinds) }
     ensures flawed { IfErr result (λ flaw. Flawed parts.now flaw) }
 {
     if let Some(place) = misplaced(parts) {

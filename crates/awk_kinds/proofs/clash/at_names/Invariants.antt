@@ -1,4 +1,4 @@
-use Rattle.std.proofs.Common.{◌≡◌, None, drop}
+use Rattle.std.proofs.Common.{◌≡◌, drop}
 use Rattle.awk_kinds.specs.Clash as spec
 use Rattle.awk_kinds.proofs.clash.at_names.Given as goal
 

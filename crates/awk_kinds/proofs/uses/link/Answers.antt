@@ -1,4 +1,4 @@
-use Rattle.std.proofs.Common.{rules, length, ◌≤◌, arith}
+use Rattle.std.proofs.Common.{rules, length, ◌≤◌}
 use Rattle.awk_kinds.proofs.Linking.{set_link, past_link}
 use Rattle.awk_kinds.proofs.uses.link.Goals as goal
 

@@ -1,5 +1,4 @@
 use Rattle.std.proofs.Common.{◌≡◌, [], replicate}
-use Rattle.awk_kinds.specs.Uses as spec
 use Rattle.awk_kinds.proofs.uses.no_links.Given as goal
 
 abbrev pub invariant-loop-i : goal.invariant-loop-i
