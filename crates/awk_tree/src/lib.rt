@@ -3,7 +3,7 @@
 //! The tree has a variant for each form of "Grammar" in POSIX.1-2017 XCU awk, in the whole-number
 //! profile of this project, and keeps the places that faults, requests and refusals name. Contracts
 //! see it as plain data (specs/Tree.antt). The grammar is a function on lists of tokens (the files
-//! specs/Read*.antt), to which the parser's functions are equal.
+//! specs/Expressions.antt and specs/Statements.antt), to which the parser's functions are equal.
 #![tactic(auto)]
 
 mod expressions;
