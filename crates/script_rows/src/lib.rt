@@ -5,3 +5,5 @@
 
 #[cfg(test)]
 mod scripts;
+#[cfg(test)]
+mod trees;

@@ -8,7 +8,7 @@ use std::alloc::Global;
 use std::process::Abort;
 use std::test::Fail;
 
-fn script(alloc: Global, text: &[u8]) -> Result<Script, SyntaxError> {
+pub(crate) fn script(alloc: Global, text: &[u8]) -> Result<Script, SyntaxError> {
     let tokens = tokens(alloc, text)?;
     parse(alloc, tokens.as_slice())
 }
@@ -53,15 +53,19 @@ fn accepts(rt: &impl Abort, alloc: Global, text: &[u8]) {
     }
 }
 
-/// The script is refused by this code in this column of its first line.
-fn refuses(rt: &impl Abort, alloc: Global, text: &[u8], code: u8, column: u32) {
+fn refuses_at(rt: &impl Abort, alloc: Global, text: &[u8], code: u8, place: Place) {
     match script(alloc, text) {
         Ok(_) => panic!(rt; "accepted"),
         Err(e) => {
             assert_eq!(rt; e.code, code);
-            assert_eq!(rt; e.place, Place { line: 1, column });
+            assert_eq!(rt; e.place, place);
         }
     }
+}
+
+/// The script is refused by this code in this column of its first line.
+fn refuses(rt: &impl Abort, alloc: Global, text: &[u8], code: u8, column: u32) {
+    refuses_at(rt, alloc, text, code, Place { line: 1, column });
 }
 
 #[test]
@@ -109,6 +113,37 @@ fn refused_expressions(rt: HostRuntime) {
     for (text, code, column) in rows {
         refuses(&rt, rt.alloc(), text.as_bytes(), code, column);
     }
+}
+
+#[test]
+fn comparisons_and_matches_do_not_chain(rt: HostRuntime) {
+    refuses(&rt, rt.alloc(), b"BEGIN { x = a < b < c }", 4, 19);
+    refuses(&rt, rt.alloc(), b"BEGIN { x = a ~ b ~ c }", 4, 19);
+}
+
+#[test]
+fn words_of_other_awks(rt: HostRuntime) {
+    refuses(&rt, rt.alloc(), b"BEGIN { x = sin(1) }", 4, 13);
+    refuses(&rt, rt.alloc(), b"{ nextfile }", 4, 3);
+    refuses(&rt, rt.alloc(), b"BEGIN { fflush() }", 4, 9);
+    refuses(&rt, rt.alloc(), b"BEGIN { delete a }", 4, 18);
+}
+
+#[test]
+fn the_end_behind_a_newline(rt: HostRuntime) {
+    refuses_at(
+        &rt,
+        rt.alloc(),
+        b"BEGIN {\n",
+        4,
+        Place { line: 2, column: 1 },
+    );
+}
+
+#[test]
+fn names_of_two_kinds_where_they_stand_first(rt: HostRuntime) {
+    refuses(&rt, rt.alloc(), b"BEGIN { y[1]; x[1]; x = 2; y = 2 }", 6, 9);
+    refuses(&rt, rt.alloc(), b"function f(p) { p[1]; p = 2 }", 6, 12);
 }
 
 #[test]
@@ -213,6 +248,51 @@ fn accepted_worked_scripts(rt: HostRuntime) {
         "NR NR; NR",
         "/a/ { print 1 } /b/ { print 2 }; NR\nNR",
         "function f() { } { print FILENAME, $0 }",
+    ];
+    for text in rows {
+        accepts(&rt, rt.alloc(), text.as_bytes());
+    }
+}
+
+#[test]
+fn accepted_requests(rt: HostRuntime) {
+    let rows: [&str; 36] = [
+        "BEGIN { print \"a\" > \"/etc/x\" }",
+        "{ print $1 | \"sort -r\" }",
+        "BEGIN { system(\"id\"); print \"on\" }",
+        "BEGIN { x = 5; x ^= 2; print x, -2^2, 2^3^2, 1 - 1 - 1, !0 + 1 }",
+        "BEGIN { a = 1; if (a && b = 2) print b; print 1 !c }",
+        "function g(a, n) { a[\"k\"] = n; n = 9 } BEGIN { m = 1; g(t, m); print t[\"k\"], m }",
+        "function h(n) { return h(n + 1) } BEGIN { h(0) }",
+        "BEGIN { x[1] = 1 }",
+        "/b/, /c/",
+        "BEGIN { a[\"x\"] = (\"x\" in a); print a[\"x\"] }",
+        "BEGIN { $(-1) = system(\"id\") }",
+        "BEGIN { print toupper(\"aZ1\"), index(\"abc\", \"c\"), substr(\"hello\", 2, 3) }",
+        "BEGIN { print \"a\" > \"/w/out/a\"; print \"b\" >> \"/w/out/a\"; close(\"/w/out/a\") }",
+        "BEGIN { while ((\"sort -n\" | getline x) > 0) print x; print close(\"sort -n\") }",
+        "{ print; getline l < \"-\"; print l }",
+        "{ print } END { print \"e\" }",
+        "{ print } END { exit 0 }",
+        "END { print v }",
+        "{ print FILENAME, FNR }",
+        "BEGIN { \"sort -r\" | getline; close(\"sort -r\") }",
+        "{ system(\"id\") }",
+        "BEGIN { print \"a\" > (\"x\"); getline < (\"-\") }",
+        "{ r = (getline l < \"in/a\"); print r }",
+        "BEGIN { for (i = 0; i < 600; i++) { x = \"n\" (i % 300); r = (getline l < x) } }",
+        "{ FS = \":\"; print $1 }",
+        "{ FS = \"(a\"; print \"x\" }",
+        "BEGIN { while (n < 300000) { s = \"n\" n; n++ } print s }",
+        "BEGIN { print \"a\" > \"/w/out/a\"; print \"b\" > \"/etc/x\" }",
+        "BEGIN { ARGC = 9223372036854775807 } { }",
+        "BEGIN { getline a < \"in/no\"; getline a < \"in/no\" }",
+        "BEGIN { system(\"sort -r\"); system(\"sort -r\") }",
+        "BEGIN { print getline x < y + 1 }",
+        "BEGIN { getline < x++; \"a\" \"b\" | getline; !\"c\" | getline }",
+        "BEGIN { match(s, (/a/)); print length (x), length() }",
+        "BEGIN { y = length\n(x) }",
+        "{ }",
     ];
     for text in rows {
         accepts(&rt, rt.alloc(), text.as_bytes());
@@ -370,8 +450,31 @@ fn other_nests_past_the_limit(rt: HostRuntime) {
 }
 
 #[test]
+fn each_opener_past_the_limit(rt: HostRuntime) {
+    let alloc = rt.alloc();
+    let rows: [(&str, &str, u32); 12] = [
+        ("BEGIN { x = ", "a[", 412),
+        ("BEGIN { x = ", "f(", 412),
+        ("BEGIN { x = ", "$", 212),
+        ("BEGIN { x = ", "!", 212),
+        ("BEGIN { x = ", "- ", 411),
+        ("BEGIN { x = ", "1?", 412),
+        ("BEGIN { ", "x=", 410),
+        ("BEGIN { x = ", "getline<", 1612),
+        ("BEGIN { ", "while(1) ", 1814),
+        ("BEGIN { ", "do ", 609),
+        ("BEGIN { ", "for(;;) ", 1612),
+        ("BEGIN { x = ", "(1,", 610),
+    ];
+    for (first, piece, column) in rows {
+        refuses_made(&rt, alloc, long(alloc, first, piece, 250, ""), 5, column);
+    }
+}
+
+#[test]
 fn a_million_parentheses(rt: HostRuntime) {
     let alloc = rt.alloc();
+    refuses_made(&rt, alloc, long(alloc, "", "(", 1_000_000, ""), 5, 201);
     refuses_made(
         &rt,
         alloc,
@@ -410,6 +513,53 @@ fn long_chains_and_lists(rt: HostRuntime) {
         long(alloc, "BEGIN { x = 1", " 2", 100_000, " }"),
     );
     accepts_made(&rt, alloc, long(alloc, "", "NR;", 100_000, ""));
+}
+
+#[test]
+fn other_long_chains(rt: HostRuntime) {
+    let alloc = rt.alloc();
+    let rows: [(&str, &str, &str); 6] = [
+        ("BEGIN { x = y", " && y", " }"),
+        ("BEGIN { x = y", " || y", " }"),
+        ("BEGIN { x = y", " in a", " }"),
+        ("BEGIN { x = y", " * y", " }"),
+        ("BEGIN { x = y", " | getline", " }"),
+        ("BEGIN { ", "y; ", "}"),
+    ];
+    for (first, piece, last) in rows {
+        accepts_made(&rt, alloc, long(alloc, first, piece, 100_000, last));
+    }
+}
+
+/// As many `if` as may nest, and many signs behind them where an `else` could stand.
+fn ifs(alloc: Global, count: usize) -> Result<Vec<u8>, Memory> {
+    let mut text = long(alloc, "BEGIN {", "if (1) ", 199, "x ")?;
+    push_times(";", count, &mut text)?;
+    text.extend_from_slice(b" }")?;
+    Ok(text)
+}
+
+#[test]
+fn signs_where_an_else_could_stand(rt: HostRuntime) {
+    accepts_made(&rt, rt.alloc(), ifs(rt.alloc(), 100_000));
+}
+
+/// Functions that hand their parameter on, and the last one uses it as an array.
+fn handing(alloc: Global, count: usize) -> Result<Vec<u8>, Memory> {
+    let mut text = Vec::from_slice(alloc, b"BEGIN { f0(x) }\n")?;
+    for i in 0..count {
+        let next = i + 1;
+        let line = format!(in alloc; "function f{i}(a) {{ f{next}(a) }}\n")?;
+        text.extend_from_slice(line.as_bytes())?;
+    }
+    let line = format!(in alloc; "function f{count}(a) {{ a[1] }}\n")?;
+    text.extend_from_slice(line.as_bytes())?;
+    Ok(text)
+}
+
+#[test]
+fn an_array_handed_on_by_many_functions(rt: HostRuntime) {
+    accepts_made(&rt, rt.alloc(), handing(rt.alloc(), 10_000));
 }
 
 /// Statements with as many parentheses before `in` as may nest.
