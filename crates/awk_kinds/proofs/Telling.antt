@@ -1,4 +1,4 @@
--- The slots of a script tell its names apart.
+-- The slots of a script tell the names that it uses apart.
 use Rattle.std.proofs.Common.{◌≡◌, ◌⊎◌, inl, inr, ◌∙◌, ℕ, zero, suc, ◌+◌, ◌<◌, true, List, [], ◌∷◌, ◌++◌, refl, sym, ap, Option, Some, None, Contains, arith, slice_get, if◌then◌else◌}
 use Rattle.std.proofs.lemmas.List.Elements.{Contains-append_cases}
 use Rattle.std.specs.Map.{lookup}

@@ -93,7 +93,7 @@ abbrev pub defined : List Part → List Name
 defined [] = []
 defined (p ∷ ps) = defined_by p.role ++ defined ps
 
--- Slots tell all names of a script apart.
+-- Slots tell apart the names that a script uses and those that awk sets.
 pub record AreSlots (parts : List Part) (c : Kinds) : Type 0 where
   -- a parameter has its place among those of its function
   pub parameters : (f : Name) (ps : List Name) (i : ℕ) (q : Name) → Defines parts f ps → slice_get ps i ≡ Some q → slot c (role.Function f ps) q.text ≡ s.Local i

@@ -25,7 +25,7 @@ abbrev pub tree : Script → List Entry
 tree s = map view_item s.tree.items
 
 -- A script of these items: no word and no name of them stands where it cannot, no name is of two
--- kinds, and its tree is the items with what each name stands for, which tells all names apart.
+-- kinds, and its tree is the items with what each name stands for, which tells the names that it uses apart.
 pub record IsScriptOf (items : List Entry) (s : Script) : Type 0 where
   pub faultless : Faultless (map part items)
   pub kinds : AreKinds (map part items) s.kinds
