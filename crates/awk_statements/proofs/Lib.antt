@@ -1,3 +1,4 @@
+pub mod Closing
 pub mod Loops
 pub mod Others
 pub mod Whole

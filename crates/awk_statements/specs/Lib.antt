@@ -1,2 +1,3 @@
 pub mod NestsStatements
+pub mod Open
 pub mod Places

@@ -1,13 +1,15 @@
 // Statements that hold others.
 
-ghost use Rattle.std.specs.Prelude.{◌≡◌, map};
+ghost use Rattle.std.specs.Prelude.{◌≡◌, map, true, false};
 ghost use Rattle.awk_statements.specs.NestsStatements.{NestsStatements};
+ghost use Rattle.awk_statements.specs.Open.{is_open};
 ghost use Rattle.awk_tree.specs.Expressions.{expr};
 ghost use Rattle.awk_tree.specs.Input.{Reads, and_then};
 ghost use Rattle.awk_tree.specs.Statements as spec;
 ghost use Rattle.awk_tree.specs.View.{view, view_statement};
 
-use crate::signs::{each_next, else_next};
+use crate::open::has_else;
+use crate::signs::each_next;
 use crate::simple::{condition, ended, perhaps_until, simple};
 use awk_chains::Level;
 use awk_expressions::{Tokens, is, name_of, pair};
@@ -49,10 +51,11 @@ impl<B: Fn(Global, &mut Tokens<'_>, usize, Nested) -> Result<Statement, Fault>> 
         test: Expr,
         body: Boxed<Statement>,
     ) -> Result<Statement, Fault>
-        requires { NestsStatements self.now.level.depth (B.pre self.now.body) (B.post self.now.body) }
+        requires nests { NestsStatements self.now.level.depth (B.pre self.now.body) (B.post self.now.body) }
+        requires closed { is_open (view_statement body) ≡ true → spec.else_next tokens.old ≡ false }
         ensures { Reads view_statement (spec.else_rest self.now.level.depth (expr self.now.level.depth) (spec.statement self.now.level.depth) (view test) (view_statement body) tokens.old) result tokens.new }
     {
-        if !else_next(tokens.rest()) {
+        if !has_else(body.get(), tokens.rest()) {
             return Ok(Statement::If(test, body));
         }
         tokens.past();

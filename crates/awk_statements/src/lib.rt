@@ -6,6 +6,7 @@
 
 mod bodies;
 mod items;
+mod open;
 mod places;
 mod prints;
 mod signs;
