@@ -21,8 +21,8 @@ no_clash parts place agrees gives (no_array r f args i q calls none takes forced
 pub only_memory : (parts : List Part) (f : Flaw) → Faultless parts → Flawed parts f → f ≡ flaw.Memory
 only_memory parts f h memory = refl
 only_memory parts f h (word place m) = absurd (h.placed place m)
-only_memory parts f h (function place m) = absurd (h.defined place m)
-only_memory parts f h (kind place m) = absurd (no_clash parts place h.agrees h.gives m)
+only_memory parts f h (function place placed m) = absurd (h.defined place m)
+only_memory parts f h (kind place placed defined m first) = absurd (no_clash parts place h.agrees h.gives m)
 
 -- a fault of the grammar refuses the tokens
 pub refused : (tokens : List Token) (e : Fault) → (e ≢ fault.Memory → grammar.script tokens ≡ Err e) → IsRefused tokens (places.refusal tokens e)

@@ -4,16 +4,27 @@ use Rattle.awk_text.specs.declared.place.Place.{Place}
 use Rattle.awk_tokens.specs.declared.syntax_error.SyntaxError.{SyntaxError}
 use Rattle.awk_names.specs.declared.mention.Part.{Part}
 use Rattle.awk_names.specs.Faults.{Misplaced, Misdefined}
-use Rattle.awk_names.specs.Kinds.{Clashes}
+use Rattle.awk_names.specs.Kinds.{Clashes, NotAfter}
 use Rattle.awk_parse.specs.declared.flaw.Flaw.{Flaw}
 use Rattle.awk_parse.specs.declared.flaw.Flaw.TheVariants as flaw
 
--- Memory may be refused whatever the items are.
+-- every word stands where it can
+abbrev pub ArePlaced : List Part → Type 0
+ArePlaced parts = (place : Place) → Misplaced parts place → ⊥
+
+-- every function and every parameter is defined as it is used
+abbrev pub AreDefined : List Part → Type 0
+AreDefined parts = (place : Place) → Misdefined parts place → ⊥
+
+-- The flaw that is named where there are several: words come before functions, and these before
+-- kinds, of which the first in the script is named. Memory may be refused whatever the items are.
 pub data Flawed (parts : List Part) : Flaw → Type 0 where
   memory : Flawed parts flaw.Memory
   word : (place : Place) → Misplaced parts place → Flawed parts (flaw.Word place)
-  function : (place : Place) → Misdefined parts place → Flawed parts (flaw.Function place)
-  kind : (place : Place) → Clashes parts place → Flawed parts (flaw.Kind place)
+  function : (place : Place) → ArePlaced parts → Misdefined parts place → Flawed parts (flaw.Function place)
+  kind :
+      (place : Place) → ArePlaced parts → AreDefined parts → Clashes parts place → ((other : Place) → Clashes parts other → NotAfter place other) →
+      Flawed parts (flaw.Kind place)
 
 abbrev pub refusal : Flaw → SyntaxError
 refusal flaw.Memory = record { code = 9; place = record { line = 0; column = 0 } }

@@ -18,7 +18,8 @@ use std::alloc::Global;
 /// a level too much; S6 at the first appearance of a name that is used in two kinds, or at the word
 /// of a call with an expression in place of an array; S7 at a function or a parameter that is not
 /// defined as it is used; S8 at a word outside the statements that it belongs to; S9, without a
-/// place, where memory is refused.
+/// place, where memory is refused. Where several of S6 to S8 stand, S8 comes before S7, and S7
+/// before S6.
 pub fn parse(alloc: Global, tokens: &[Token]) -> Result<Script, SyntaxError>
     ensures spelled { IfOk result (λ script. IsSpelled tokens.now script) }
     ensures read { IfOk result (λ script. IsRead tokens.now script) }
