@@ -45,6 +45,12 @@ turned view bound all old new next x xs i h e made (y, is, pushed) far =
     far ∙ ap (λ ys. map view old ++ ys) here ∙ ap (λ z. map view old ++ z ∷ map bound (map view (drop (i + 1) xs))) (sym same)
     ∙ sym (map_push view old y (map bound (map view (drop (i + 1) xs)))) ∙ ap (λ ys. map view ys ++ map bound (map view (drop (i + 1) xs))) (sym pushed)
 
+-- what is boxed is what was made
+pub boxed_is : {A B E : Type 0} (view : A → B) (boxed made : Result A E) (x : B)
+    → IfOk boxed (λ y. made ≡ Ok y) → IfOk made (λ y. view y ≡ x) → IfOk boxed (λ y. view y ≡ x)
+boxed_is view (Ok y) made x is h = rw is at h
+boxed_is view (Err e) made x is h = tt
+
 -- what is kept of a list, once it is whole
 pub whole : {A B E : Type 0} (view : A → B) (made : Result (List A) E) (list : List A) (filled : Result Unit E) (all : List B)
     → IfOk made (λ kept. (kept ≡ list) × (filled ≡ Ok tt)) → OnOk filled (map view list ≡ all) → IfOk made (λ kept. map view kept ≡ all)

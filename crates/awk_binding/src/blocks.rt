@@ -5,16 +5,15 @@ ghost use Rattle.awk_binding.specs.Scopes.{Is, IsPerhaps, IsStatement, AreStatem
 ghost use Rattle.awk_tree.specs.Tree as t;
 ghost use Rattle.awk_tree.specs.Tree.{Tree, statements_of};
 ghost use Rattle.awk_tree.specs.View.{view, view_printed, view_redirection};
-ghost use Rattle.awk_tree.specs.declared.names.Name as names;
+ghost use Rattle.awk_tree.specs.declared.names.Name as name;
 ghost use Rattle.awk_tree.specs.declared.statements.Printed as printed;
 ghost use Rattle.awk_tree.specs.declared.statements.Redirection as redirection;
 
-use crate::kept::{both, boxed_and, two_boxed};
+use crate::kept::both;
 use awk_text::Memory;
 use awk_text::place::Place;
 use awk_tree::{Expr, Name, Printed, Redirection, Statement};
-use sqlite_items::Items;
-use std::alloc::Global;
+use sqlite_items::{Boxed, Items};
 
 /// An expression by itself.
 pub fn plain_of(x: Result<Expr, Memory>) -> Result<Statement, Memory>
@@ -48,7 +47,7 @@ pub fn printf_of(
 
 /// `delete NAME [ list ]`
 pub fn delete_of(element: Result<(Name, Items<Expr>), Memory>) -> Result<Statement, Memory>
-    ensures { (a : names.Name) (b : List Tree) → IfOk element (λ made. (made.0 ≡ a) × (map view made.1 ≡ b)) → IsStatement result (t.delete a b) }
+    ensures { (a : name.Name) (b : List Tree) → IfOk element (λ made. (made.0 ≡ a) × (map view made.1 ≡ b)) → IsStatement result (t.delete a b) }
 {
     let (n, keys) = element?;
     Ok(Statement::Delete(n, keys))
@@ -80,74 +79,68 @@ pub fn block_of(body: Result<Items<Statement>, Memory>) -> Result<Statement, Mem
 
 /// `if`
 pub fn if_of(
-    alloc: Global,
     x: Result<Expr, Memory>,
-    body: Result<Statement, Memory>,
+    body: Result<Boxed<Statement>, Memory>,
 ) -> Result<Statement, Memory>
     ensures { (a : Tree) (b : t.Statement) → Is x a → IsStatement body b → IsStatement result (t.if_then a b) }
 {
-    let (body, x) = boxed_and(alloc, body, x)?;
+    let (body, x) = both(body, x)?;
     Ok(Statement::If(x, body))
 }
 
 /// `if` with `else`
 pub fn if_else_of(
-    alloc: Global,
     x: Result<Expr, Memory>,
-    body: Result<Statement, Memory>,
-    other: Result<Statement, Memory>,
+    body: Result<Boxed<Statement>, Memory>,
+    other: Result<Boxed<Statement>, Memory>,
 ) -> Result<Statement, Memory>
     ensures { (a : Tree) (b : t.Statement) (d : t.Statement) → Is x a → IsStatement body b → IsStatement other d → IsStatement result (t.if_else a b d) }
 {
-    let (x, (body, other)) = both(x, two_boxed(alloc, body, other))?;
+    let (x, (body, other)) = both(x, both(body, other))?;
     Ok(Statement::IfElse(x, body, other))
 }
 
 /// `while`
 pub fn while_of(
-    alloc: Global,
     x: Result<Expr, Memory>,
-    body: Result<Statement, Memory>,
+    body: Result<Boxed<Statement>, Memory>,
 ) -> Result<Statement, Memory>
     ensures { (a : Tree) (b : t.Statement) → Is x a → IsStatement body b → IsStatement result (t.while_do a b) }
 {
-    let (body, x) = boxed_and(alloc, body, x)?;
+    let (body, x) = both(body, x)?;
     Ok(Statement::While(x, body))
 }
 
 /// `do body while ( test )`
 pub fn do_of(
-    alloc: Global,
-    body: Result<Statement, Memory>,
+    body: Result<Boxed<Statement>, Memory>,
     x: Result<Expr, Memory>,
 ) -> Result<Statement, Memory>
     ensures { (a : t.Statement) (b : Tree) → IsStatement body a → Is x b → IsStatement result (t.do_while a b) }
 {
-    let (body, x) = boxed_and(alloc, body, x)?;
+    let (body, x) = both(body, x)?;
     Ok(Statement::Do(body, x))
 }
 
 /// `for ( first ; test ; step ) body`
 pub fn for_of(
-    alloc: Global,
     header: Result<(Option<Expr>, (Option<Expr>, Option<Expr>)), Memory>,
-    body: Result<Statement, Memory>,
+    body: Result<Boxed<Statement>, Memory>,
 ) -> Result<Statement, Memory>
     ensures { (a : Option Tree) (b : Option Tree) (d : Option Tree) (e : t.Statement) → IfOk header (λ made. (option_map view made.0 ≡ a) × (option_map view made.1.0 ≡ b) × (option_map view made.1.1 ≡ d)) → IsStatement body e → IsStatement result (t.for_loop a b d e) }
 {
-    let (body, (x, (y, z))) = boxed_and(alloc, body, header)?;
+    let (body, (x, (y, z))) = both(body, header)?;
     Ok(Statement::For(x, y, z, body))
 }
 
 /// `for ( key in array ) body`
 pub fn for_in_of(
-    alloc: Global,
     place: Place,
-    both: Result<(Name, Name), Memory>,
-    body: Result<Statement, Memory>,
+    names: Result<(Name, Name), Memory>,
+    body: Result<Boxed<Statement>, Memory>,
 ) -> Result<Statement, Memory>
-    ensures { (a : names.Name) (b : names.Name) (d : t.Statement) → IfOk both (λ made. (made.0 ≡ a) × (made.1 ≡ b)) → IsStatement body d → IsStatement result (t.for_each place a b d) }
+    ensures { (a : name.Name) (b : name.Name) (d : t.Statement) → IfOk names (λ made. (made.0 ≡ a) × (made.1 ≡ b)) → IsStatement body d → IsStatement result (t.for_each place a b d) }
 {
-    let (body, (key, array)) = boxed_and(alloc, body, both)?;
+    let (body, (key, array)) = both(body, names)?;
     Ok(Statement::ForIn(place, key, array, body))
 }

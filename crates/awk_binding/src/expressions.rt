@@ -5,7 +5,7 @@ ghost use Rattle.awk_binding.specs.Binding as spec;
 ghost use Rattle.awk_binding.specs.Scopes.{meaning_in, bound_term, bound_piped, Is, IsPerhaps, AreTrees, AreTerms, ArePipes};
 ghost use Rattle.awk_tree.specs.View.{view, view_term, view_piped};
 
-use crate::kept::{kept, push};
+use crate::kept::{boxed, kept, push};
 use crate::names::{Scope, members, name};
 use crate::nodes::{
     after_of, and_of, assign_of, before_of, builtin_of, call_of, choose_of, compare_of, concat_of,
@@ -28,71 +28,41 @@ pub fn expression(scope: &Scope<'_>, e: &Expr) -> Result<Expr, Memory>
         Expr::Pattern(place, text) => pattern(scope.alloc, *place, text),
         Expr::Name(n) => named(scope, n),
         Expr::Element(n, keys) => element_of(name(scope, n), list(scope, keys.as_slice())),
-        Expr::Field(place, x) => field_of(scope.alloc, *place, expression(scope, x.get())),
-        Expr::Paren(place, x) => paren_of(scope.alloc, *place, expression(scope, x.get())),
+        Expr::Field(place, x) => field_of(*place, part(scope, x)),
+        Expr::Paren(place, x) => paren_of(*place, part(scope, x)),
         Expr::Call(n, args) => call_of(name(scope, n), list(scope, args.as_slice())),
         Expr::Length(place) => Ok(Expr::Length(*place)),
         Expr::Builtin(place, which, args) => {
             builtin_of(*place, *which, list(scope, args.as_slice()))
         }
         Expr::Split(place, x, n, y) => {
-            let x = expression(scope, x.get());
-            split_of(scope.alloc, *place, x, name(scope, n), perhaps(scope, y))
+            let x = part(scope, x);
+            split_of(*place, x, name(scope, n), perhaps(scope, y))
         }
         Expr::Substitute(place, all, x, y, z) => {
-            let x = expression(scope, x.get());
-            let y = expression(scope, y.get());
-            substitute_of(scope.alloc, *place, *all, x, y, perhaps(scope, z))
+            let x = part(scope, x);
+            let y = part(scope, y);
+            substitute_of(*place, *all, x, y, perhaps(scope, z))
         }
         Expr::Getline(place, x, y) => getline_of(*place, perhaps(scope, x), perhaps(scope, y)),
-        Expr::Before(place, step, x) => {
-            before_of(scope.alloc, *place, *step, expression(scope, x.get()))
-        }
-        Expr::After(x, place, step) => {
-            after_of(scope.alloc, expression(scope, x.get()), *place, *step)
-        }
-        Expr::Signed(place, sign, x) => {
-            signed_of(scope.alloc, *place, *sign, expression(scope, x.get()))
-        }
+        Expr::Before(place, step, x) => before_of(*place, *step, part(scope, x)),
+        Expr::After(x, place, step) => after_of(part(scope, x), *place, *step),
+        Expr::Signed(place, sign, x) => signed_of(*place, *sign, part(scope, x)),
         Expr::Power(x, place, y) => {
-            let x = expression(scope, x.get());
-            power_of(scope.alloc, x, *place, expression(scope, y.get()))
+            let x = part(scope, x);
+            power_of(x, *place, part(scope, y))
         }
-        Expr::Product(x, ts) => {
-            product_of(
-                scope.alloc,
-                expression(scope, x.get()),
-                terms(scope, ts.as_slice()),
-            )
-        }
-        Expr::Sum(x, ts) => {
-            sum_of(
-                scope.alloc,
-                expression(scope, x.get()),
-                terms(scope, ts.as_slice()),
-            )
-        }
-        Expr::Concat(x, xs) => {
-            concat_of(
-                scope.alloc,
-                expression(scope, x.get()),
-                list(scope, xs.as_slice()),
-            )
-        }
-        Expr::Pipe(x, ps) => {
-            pipe_of(
-                scope.alloc,
-                expression(scope, x.get()),
-                pipes(scope, ps.as_slice()),
-            )
-        }
+        Expr::Product(x, ts) => product_of(part(scope, x), terms(scope, ts.as_slice())),
+        Expr::Sum(x, ts) => sum_of(part(scope, x), terms(scope, ts.as_slice())),
+        Expr::Concat(x, xs) => concat_of(part(scope, x), list(scope, xs.as_slice())),
+        Expr::Pipe(x, ps) => pipe_of(part(scope, x), pipes(scope, ps.as_slice())),
         Expr::Compare(x, place, how, y) => {
-            let x = expression(scope, x.get());
-            compare_of(scope.alloc, x, *place, *how, expression(scope, y.get()))
+            let x = part(scope, x);
+            compare_of(x, *place, *how, part(scope, y))
         }
         Expr::Match(x, place, unlike, y) => {
-            let x = expression(scope, x.get());
-            matched_of(scope.alloc, x, *place, *unlike, expression(scope, y.get()))
+            let x = part(scope, x);
+            matched_of(x, *place, *unlike, part(scope, y))
         }
         Expr::Group(place, xs, ms) => {
             group_of(
@@ -101,37 +71,27 @@ pub fn expression(scope: &Scope<'_>, e: &Expr) -> Result<Expr, Memory>
                 members(scope, ms.as_slice()),
             )
         }
-        Expr::In(x, ms) => {
-            member_of(
-                scope.alloc,
-                expression(scope, x.get()),
-                members(scope, ms.as_slice()),
-            )
-        }
-        Expr::And(x, xs) => {
-            and_of(
-                scope.alloc,
-                expression(scope, x.get()),
-                list(scope, xs.as_slice()),
-            )
-        }
-        Expr::Or(x, xs) => {
-            or_of(
-                scope.alloc,
-                expression(scope, x.get()),
-                list(scope, xs.as_slice()),
-            )
-        }
+        Expr::In(x, ms) => member_of(part(scope, x), members(scope, ms.as_slice())),
+        Expr::And(x, xs) => and_of(part(scope, x), list(scope, xs.as_slice())),
+        Expr::Or(x, xs) => or_of(part(scope, x), list(scope, xs.as_slice())),
         Expr::Choice(x, y, z) => {
-            let x = expression(scope, x.get());
-            let y = expression(scope, y.get());
-            choose_of(scope.alloc, x, y, expression(scope, z.get()))
+            let x = part(scope, x);
+            let y = part(scope, y);
+            choose_of(x, y, part(scope, z))
         }
         Expr::Assign(x, place, how, y) => {
-            let x = expression(scope, x.get());
-            assign_of(scope.alloc, x, *place, *how, expression(scope, y.get()))
+            let x = part(scope, x);
+            assign_of(x, *place, *how, part(scope, y))
         }
     }
+}
+
+/// A part of an expression.
+#[cycle(expression)]
+fn part(scope: &Scope<'_>, x: &Boxed<Expr>) -> Result<Boxed<Expr>, Memory>
+    ensures { Is result (spec.bound_tree (meaning_in scope.now) (view x.now)) }
+{
+    boxed(scope.alloc, expression(scope, x.get()))
 }
 
 /// A part that may be absent.
@@ -141,7 +101,7 @@ fn perhaps(scope: &Scope<'_>, x: &Option<Boxed<Expr>>) -> Result<Option<Boxed<Ex
 {
     match x {
         None => Ok(None),
-        Some(x) => present(scope.alloc, expression(scope, x.get())),
+        Some(x) => present(part(scope, x)),
     }
 }
 

@@ -11,7 +11,7 @@ ghost use Rattle.awk_tree.specs.declared.names.Member as members;
 ghost use Rattle.awk_tree.specs.declared.expressions.Term as terms;
 ghost use Rattle.awk_tree.specs.declared.expressions.Piped as pipes;
 
-use crate::kept::{both, boxed, boxed_and, two_boxed};
+use crate::kept::both;
 use crate::names::{Scope, name};
 use awk_text::Memory;
 use awk_text::octets::Octets;
@@ -59,18 +59,18 @@ pub fn element_of(n: Result<Name, Memory>, xs: Result<Items<Expr>, Memory>) -> R
 }
 
 /// `$ operand`
-pub fn field_of(alloc: Global, place: Place, x: Result<Expr, Memory>) -> Result<Expr, Memory>
+pub fn field_of(place: Place, x: Result<Boxed<Expr>, Memory>) -> Result<Expr, Memory>
     ensures { (a : Tree) → Is x a → Is result (t.field place a) }
 {
-    let x = boxed(alloc, x)?;
+    let x = x?;
     Ok(Expr::Field(place, x))
 }
 
 /// `( expr )`
-pub fn paren_of(alloc: Global, place: Place, x: Result<Expr, Memory>) -> Result<Expr, Memory>
+pub fn paren_of(place: Place, x: Result<Boxed<Expr>, Memory>) -> Result<Expr, Memory>
     ensures { (a : Tree) → Is x a → Is result (t.paren place a) }
 {
-    let x = boxed(alloc, x)?;
+    let x = x?;
     Ok(Expr::Paren(place, x))
 }
 
@@ -96,30 +96,28 @@ pub fn builtin_of(
 
 /// `split ( text , array , separator )`
 pub fn split_of(
-    alloc: Global,
     place: Place,
-    x: Result<Expr, Memory>,
+    x: Result<Boxed<Expr>, Memory>,
     n: Result<Name, Memory>,
     y: Result<Option<Boxed<Expr>>, Memory>,
 ) -> Result<Expr, Memory>
     ensures { (a : Tree) (b : names.Name) (d : Option Tree) → Is x a → IfOk n (λ n. n ≡ b) → IsPerhaps y d → Is result (t.split place a b (perhaps_of d)) }
 {
-    let (x, (n, y)) = boxed_and(alloc, x, both(n, y))?;
+    let (x, (n, y)) = both(x, both(n, y))?;
     Ok(Expr::Split(place, x, n, y))
 }
 
 /// `sub ( pattern , with , lvalue )`, and with true `gsub`
 pub fn substitute_of(
-    alloc: Global,
     place: Place,
     all: bool,
-    x: Result<Expr, Memory>,
-    y: Result<Expr, Memory>,
+    x: Result<Boxed<Expr>, Memory>,
+    y: Result<Boxed<Expr>, Memory>,
     z: Result<Option<Boxed<Expr>>, Memory>,
 ) -> Result<Expr, Memory>
     ensures { (a : Tree) (b : Tree) (d : Option Tree) → Is x a → Is y b → IsPerhaps z d → Is result (t.substitute place all a b (perhaps_of d)) }
 {
-    let ((x, y), z) = both(two_boxed(alloc, x, y), z)?;
+    let ((x, y), z) = both(both(x, y), z)?;
     Ok(Expr::Substitute(place, all, x, y, z))
 }
 
@@ -136,130 +134,108 @@ pub fn getline_of(
 }
 
 /// `++ lvalue`
-pub fn before_of(
-    alloc: Global,
-    place: Place,
-    step: Step,
-    x: Result<Expr, Memory>,
-) -> Result<Expr, Memory>
+pub fn before_of(place: Place, step: Step, x: Result<Boxed<Expr>, Memory>) -> Result<Expr, Memory>
     ensures { (a : Tree) → Is x a → Is result (t.before place step a) }
 {
-    let x = boxed(alloc, x)?;
+    let x = x?;
     Ok(Expr::Before(place, step, x))
 }
 
 /// `lvalue ++`
-pub fn after_of(
-    alloc: Global,
-    x: Result<Expr, Memory>,
-    place: Place,
-    step: Step,
-) -> Result<Expr, Memory>
+pub fn after_of(x: Result<Boxed<Expr>, Memory>, place: Place, step: Step) -> Result<Expr, Memory>
     ensures { (a : Tree) → Is x a → Is result (t.after a place step) }
 {
-    let x = boxed(alloc, x)?;
+    let x = x?;
     Ok(Expr::After(x, place, step))
 }
 
 /// `- operand`
-pub fn signed_of(
-    alloc: Global,
-    place: Place,
-    sign: Sign,
-    x: Result<Expr, Memory>,
-) -> Result<Expr, Memory>
+pub fn signed_of(place: Place, sign: Sign, x: Result<Boxed<Expr>, Memory>) -> Result<Expr, Memory>
     ensures { (a : Tree) → Is x a → Is result (t.signed place sign a) }
 {
-    let x = boxed(alloc, x)?;
+    let x = x?;
     Ok(Expr::Signed(place, sign, x))
 }
 
 /// `base ^ exponent`
 pub fn power_of(
-    alloc: Global,
-    x: Result<Expr, Memory>,
+    x: Result<Boxed<Expr>, Memory>,
     place: Place,
-    y: Result<Expr, Memory>,
+    y: Result<Boxed<Expr>, Memory>,
 ) -> Result<Expr, Memory>
     ensures { (a : Tree) (b : Tree) → Is x a → Is y b → Is result (t.power a place b) }
 {
-    let (x, y) = two_boxed(alloc, x, y)?;
+    let (x, y) = both(x, y)?;
     Ok(Expr::Power(x, place, y))
 }
 
 /// A chain of `*`, `/` and `%`.
 pub fn product_of(
-    alloc: Global,
-    x: Result<Expr, Memory>,
+    x: Result<Boxed<Expr>, Memory>,
     ts: Result<Items<Term<Expr>>, Memory>,
 ) -> Result<Expr, Memory>
     ensures { (a : Tree) (b : List (terms.Term Tree)) → Is x a → AreTerms ts b → Is result (t.product a (terms_of b)) }
 {
-    let (x, ts) = boxed_and(alloc, x, ts)?;
+    let (x, ts) = both(x, ts)?;
     Ok(Expr::Product(x, ts))
 }
 
 /// A chain of `+` and `-`.
 pub fn sum_of(
-    alloc: Global,
-    x: Result<Expr, Memory>,
+    x: Result<Boxed<Expr>, Memory>,
     ts: Result<Items<Term<Expr>>, Memory>,
 ) -> Result<Expr, Memory>
     ensures { (a : Tree) (b : List (terms.Term Tree)) → Is x a → AreTerms ts b → Is result (t.sum a (terms_of b)) }
 {
-    let (x, ts) = boxed_and(alloc, x, ts)?;
+    let (x, ts) = both(x, ts)?;
     Ok(Expr::Sum(x, ts))
 }
 
 /// Operands, one directly after the other.
 pub fn concat_of(
-    alloc: Global,
-    x: Result<Expr, Memory>,
+    x: Result<Boxed<Expr>, Memory>,
     xs: Result<Items<Expr>, Memory>,
 ) -> Result<Expr, Memory>
     ensures { (a : Tree) (b : List Tree) → Is x a → AreTrees xs b → Is result (t.concat a (trees_of b)) }
 {
-    let (x, xs) = boxed_and(alloc, x, xs)?;
+    let (x, xs) = both(x, xs)?;
     Ok(Expr::Concat(x, xs))
 }
 
 /// `command | getline lvalue`
 pub fn pipe_of(
-    alloc: Global,
-    x: Result<Expr, Memory>,
+    x: Result<Boxed<Expr>, Memory>,
     ps: Result<Items<Piped<Expr>>, Memory>,
 ) -> Result<Expr, Memory>
     ensures { (a : Tree) (b : List (pipes.Piped Tree)) → Is x a → ArePipes ps b → Is result (t.pipe a (pipes_of b)) }
 {
-    let (x, ps) = boxed_and(alloc, x, ps)?;
+    let (x, ps) = both(x, ps)?;
     Ok(Expr::Pipe(x, ps))
 }
 
 /// `left < right`
 pub fn compare_of(
-    alloc: Global,
-    x: Result<Expr, Memory>,
+    x: Result<Boxed<Expr>, Memory>,
     place: Place,
     how: Comparison,
-    y: Result<Expr, Memory>,
+    y: Result<Boxed<Expr>, Memory>,
 ) -> Result<Expr, Memory>
     ensures { (a : Tree) (b : Tree) → Is x a → Is y b → Is result (t.compare a place how b) }
 {
-    let (x, y) = two_boxed(alloc, x, y)?;
+    let (x, y) = both(x, y)?;
     Ok(Expr::Compare(x, place, how, y))
 }
 
 /// `text ~ pattern`
 pub fn matched_of(
-    alloc: Global,
-    x: Result<Expr, Memory>,
+    x: Result<Boxed<Expr>, Memory>,
     place: Place,
     unlike: bool,
-    y: Result<Expr, Memory>,
+    y: Result<Boxed<Expr>, Memory>,
 ) -> Result<Expr, Memory>
     ensures { (a : Tree) (b : Tree) → Is x a → Is y b → Is result (t.matched a place unlike b) }
 {
-    let (x, y) = two_boxed(alloc, x, y)?;
+    let (x, y) = both(x, y)?;
     Ok(Expr::Match(x, place, unlike, y))
 }
 
@@ -277,72 +253,67 @@ pub fn group_of(
 
 /// `key in array`
 pub fn member_of(
-    alloc: Global,
-    x: Result<Expr, Memory>,
+    x: Result<Boxed<Expr>, Memory>,
     ms: Result<Items<Member>, Memory>,
 ) -> Result<Expr, Memory>
     ensures { (a : Tree) (b : List members.Member) → Is x a → IfOk ms (λ ms. ms ≡ b) → Is result (t.member a b) }
 {
-    let (x, ms) = boxed_and(alloc, x, ms)?;
+    let (x, ms) = both(x, ms)?;
     Ok(Expr::In(x, ms))
 }
 
 /// A chain of `&&`.
 pub fn and_of(
-    alloc: Global,
-    x: Result<Expr, Memory>,
+    x: Result<Boxed<Expr>, Memory>,
     xs: Result<Items<Expr>, Memory>,
 ) -> Result<Expr, Memory>
     ensures { (a : Tree) (b : List Tree) → Is x a → AreTrees xs b → Is result (t.and a (trees_of b)) }
 {
-    let (x, xs) = boxed_and(alloc, x, xs)?;
+    let (x, xs) = both(x, xs)?;
     Ok(Expr::And(x, xs))
 }
 
 /// A chain of `||`.
 pub fn or_of(
-    alloc: Global,
-    x: Result<Expr, Memory>,
+    x: Result<Boxed<Expr>, Memory>,
     xs: Result<Items<Expr>, Memory>,
 ) -> Result<Expr, Memory>
     ensures { (a : Tree) (b : List Tree) → Is x a → AreTrees xs b → Is result (t.or a (trees_of b)) }
 {
-    let (x, xs) = boxed_and(alloc, x, xs)?;
+    let (x, xs) = both(x, xs)?;
     Ok(Expr::Or(x, xs))
 }
 
 /// `test ? then : else`
 pub fn choose_of(
-    alloc: Global,
-    x: Result<Expr, Memory>,
-    y: Result<Expr, Memory>,
-    z: Result<Expr, Memory>,
+    x: Result<Boxed<Expr>, Memory>,
+    y: Result<Boxed<Expr>, Memory>,
+    z: Result<Boxed<Expr>, Memory>,
 ) -> Result<Expr, Memory>
     ensures { (a : Tree) (b : Tree) (d : Tree) → Is x a → Is y b → Is z d → Is result (t.choose a b d) }
 {
-    let (x, (y, z)) = boxed_and(alloc, x, two_boxed(alloc, y, z))?;
+    let (x, (y, z)) = both(x, both(y, z))?;
     Ok(Expr::Choice(x, y, z))
 }
 
 /// `lvalue = value`
 pub fn assign_of(
-    alloc: Global,
-    x: Result<Expr, Memory>,
+    x: Result<Boxed<Expr>, Memory>,
     place: Place,
     how: Assignment,
-    y: Result<Expr, Memory>,
+    y: Result<Boxed<Expr>, Memory>,
 ) -> Result<Expr, Memory>
     ensures { (a : Tree) (b : Tree) → Is x a → Is y b → Is result (t.assign a place how b) }
 {
-    let (x, y) = two_boxed(alloc, x, y)?;
+    let (x, y) = both(x, y)?;
     Ok(Expr::Assign(x, place, how, y))
 }
 
 /// A part that is there.
-pub fn present(alloc: Global, x: Result<Expr, Memory>) -> Result<Option<Boxed<Expr>>, Memory>
+pub fn present(x: Result<Boxed<Expr>, Memory>) -> Result<Option<Boxed<Expr>>, Memory>
     ensures { (a : Tree) → Is x a → IsPerhaps result (Some a) }
 {
-    let x = boxed(alloc, x)?;
+    let x = x?;
     Ok(Some(x))
 }
 

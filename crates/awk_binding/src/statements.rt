@@ -10,11 +10,11 @@ use crate::blocks::{
     printf_of, return_of, while_of,
 };
 use crate::expressions::{expression, list, optional};
-use crate::kept::{both, kept, push};
+use crate::kept::{both, boxed, kept, push};
 use crate::names::{Scope, name};
 use awk_text::Memory;
 use awk_tree::{Expr, Name, Printed, Redirection, Statement};
-use sqlite_items::Items;
+use sqlite_items::{Boxed, Items};
 
 fn printed(scope: &Scope<'_>, x: &Printed<Expr>) -> Result<Printed<Expr>, Memory>
     ensures { IfOk result (λ made. view_printed made ≡ spec.bound_printed (meaning_in scope.now) (view_printed x.now)) }
@@ -78,9 +78,8 @@ fn header(
     ensures { IfOk result (λ made. (option_map view made.0 ≡ option_map (spec.bound_tree (meaning_in scope.now)) (option_map view x.now)) × (option_map view made.1.0 ≡ option_map (spec.bound_tree (meaning_in scope.now)) (option_map view y.now)) × (option_map view made.1.1 ≡ option_map (spec.bound_tree (meaning_in scope.now)) (option_map view z.now))) }
 {
     let x = optional(scope, x);
-    let (y, z) = both(optional(scope, y), optional(scope, z))?;
-    let x = x?;
-    Ok((x, (y, z)))
+    let (x, later) = both(x, both(optional(scope, y), optional(scope, z)))?;
+    Ok((x, later))
 }
 
 /// The same statement, with what each name stands for.
@@ -100,48 +99,26 @@ fn statement(scope: &Scope<'_>, s: &Statement) -> Result<Statement, Memory>
         Statement::Exit(place, x) => exit_of(*place, optional(scope, x)),
         Statement::Return(place, x) => return_of(*place, optional(scope, x)),
         Statement::Block(body) => block_of(statements(scope, body.as_slice())),
-        Statement::If(x, body) => {
-            if_of(
-                scope.alloc,
-                expression(scope, x),
-                statement(scope, body.get()),
-            )
-        }
+        Statement::If(x, body) => if_of(expression(scope, x), branch(scope, body)),
         Statement::IfElse(x, body, other) => {
-            let body = statement(scope, body.get());
-            if_else_of(
-                scope.alloc,
-                expression(scope, x),
-                body,
-                statement(scope, other.get()),
-            )
+            let body = branch(scope, body);
+            if_else_of(expression(scope, x), body, branch(scope, other))
         }
-        Statement::While(x, body) => {
-            while_of(
-                scope.alloc,
-                expression(scope, x),
-                statement(scope, body.get()),
-            )
-        }
-        Statement::Do(body, x) => {
-            do_of(
-                scope.alloc,
-                statement(scope, body.get()),
-                expression(scope, x),
-            )
-        }
-        Statement::For(x, y, z, body) => {
-            for_of(
-                scope.alloc,
-                header(scope, x, y, z),
-                statement(scope, body.get()),
-            )
-        }
+        Statement::While(x, body) => while_of(expression(scope, x), branch(scope, body)),
+        Statement::Do(body, x) => do_of(branch(scope, body), expression(scope, x)),
+        Statement::For(x, y, z, body) => for_of(header(scope, x, y, z), branch(scope, body)),
         Statement::ForIn(place, key, array, body) => {
-            let both = two_names(scope, key, array);
-            for_in_of(scope.alloc, *place, both, statement(scope, body.get()))
+            for_in_of(*place, two_names(scope, key, array), branch(scope, body))
         }
     }
+}
+
+/// A statement within another.
+#[cycle(statement)]
+fn branch(scope: &Scope<'_>, s: &Boxed<Statement>) -> Result<Boxed<Statement>, Memory>
+    ensures { IsStatement result (spec.bound_statement (meaning_in scope.now) (view_statement s.now)) }
+{
+    boxed(scope.alloc, statement(scope, s.get()))
 }
 
 #[cycle(statement)]

@@ -9,8 +9,11 @@ use Rattle.awk_binding.proofs.expressions.+expression.Given as goal
 abbrev pub decreases-expression : goal.decreases-expression
 decreases-expression l = 8 * weight (view l.e.now)
 
+abbrev pub decreases-part : goal.decreases-part
+decreases-part l = 1 + 8 * weight (view l.x.now)
+
 abbrev pub decreases-perhaps : goal.decreases-perhaps
-decreases-perhaps l = 1 + 8 * weight_perhaps (perhaps_of (option_map view l.x.now))
+decreases-perhaps l = 2 + 8 * weight_perhaps (perhaps_of (option_map view l.x.now))
 
 abbrev pub decreases-optional : goal.decreases-optional
 decreases-optional l = 1 + 8 * weight_perhaps (perhaps_of (option_map view l.x.now))

@@ -6,4 +6,4 @@ pub returns-in_err-x : goal.returns-in_err-x
 returns-in_err-x c = λ a ha. search rules
 
 pub returns : goal.returns
-returns c = λ a ha. let pa = rw c.in_ok-x.ensures at ha in rw (view-Before, pa) refl
+returns c = λ a ha. let pa = rw c.in_ok-x.was at ha in rw (view-Before, pa) refl

@@ -5,4 +5,4 @@ pub returns-in_err-x : goal.returns-in_err-x
 returns-in_err-x c = λ a h. search rules
 
 pub returns : goal.returns
-returns c = λ a h. let p = rw c.in_ok-x.ensures at h in rw p refl
+returns c = λ a h. let p = rw c.in_ok-x.was at h in rw p refl

@@ -5,7 +5,7 @@ use Rattle.awk_tree.proofs.Views.{statement-Empty, statement-Expr, statement-Pri
 use Rattle.awk_names.proofs.Weight.{statement_weight, statement_weights, statement_item_weight}
 use Rattle.awk_binding.specs.Binding.{bound_statement}
 use Rattle.awk_binding.specs.Scopes.{meaning_in}
-use Rattle.awk_binding.proofs.Carried.{statements_are, turned, whole}
+use Rattle.awk_binding.proofs.Carried.{statements_are, boxed_is, turned, whole}
 use Rattle.awk_binding.proofs.statements.+statement.Goals as goal
 
 pub statement-returns-in-Empty : goal.statement-returns-in-Empty
@@ -56,57 +56,65 @@ pub statement-returns-in-Block : goal.statement-returns-in-Block
 statement-returns-in-Block t c =
     let h = rw c.as_slice-in-Block.ensures at c.statements.ensures in rw (c.in-Block.is, statement-Block, statements_are) (c.block_of.ensures _ h)
 
-pub statement-statement-requires : goal.statement-statement-requires
-statement-statement-requires t c =
-    let smaller : 8 * statement_weight (view_statement c.get.result.now) < 8 * statement_weight (view_statement c.args.s.now) = rw (c.get.ensures, c.in-If.is, statement-If) (omega arith) in search rules
+pub statement-branch-scope-requires : goal.statement-branch-scope-requires
+statement-branch-scope-requires t c =
+    let smaller : 1 + 8 * statement_weight (view_statement c.in-If.body) < 8 * statement_weight (view_statement c.args.s.now) = rw (c.in-If.is, statement-If) (omega arith) in search rules
 
 pub statement-returns-in-If : goal.statement-returns-in-If
 statement-returns-in-If t c =
-    let h = rw c.get.ensures at c.statement.ensures in rw (c.in-If.is, statement-If) (c.if_of.ensures _ _ c.expression-in-If.ensures h)
+    rw (c.in-If.is, statement-If) (c.if_of.ensures _ _ c.expression-in-If.ensures c.branch-scope.ensures)
 
-pub statement-statement-body-requires : goal.statement-statement-body-requires
-statement-statement-body-requires t c =
-    let smaller : 8 * statement_weight (view_statement c.get-in-IfElse.result.now) < 8 * statement_weight (view_statement c.args.s.now) = rw (c.get-in-IfElse.ensures, c.in-IfElse.is, statement-IfElse) (omega arith) in search rules
+pub statement-branch-body-requires : goal.statement-branch-body-requires
+statement-branch-body-requires t c =
+    let smaller : 1 + 8 * statement_weight (view_statement c.in-IfElse.body) < 8 * statement_weight (view_statement c.args.s.now) = rw (c.in-IfElse.is, statement-IfElse) (omega arith) in search rules
 
-pub statement-statement-requires-in-IfElse : goal.statement-statement-requires-in-IfElse
-statement-statement-requires-in-IfElse t c =
-    let smaller : 8 * statement_weight (view_statement c.get-in-IfElse-2.result.now) < 8 * statement_weight (view_statement c.args.s.now) = rw (c.get-in-IfElse-2.ensures, c.in-IfElse.is, statement-IfElse) (omega arith) in search rules
+pub statement-branch-scope-requires-in-IfElse : goal.statement-branch-scope-requires-in-IfElse
+statement-branch-scope-requires-in-IfElse t c =
+    let smaller : 1 + 8 * statement_weight (view_statement c.in-IfElse.other) < 8 * statement_weight (view_statement c.args.s.now) = rw (c.in-IfElse.is, statement-IfElse) (omega arith) in search rules
 
 pub statement-returns-in-IfElse : goal.statement-returns-in-IfElse
 statement-returns-in-IfElse t c =
-    let h = rw c.get-in-IfElse.ensures at c.statement-body.ensures in let k = rw c.get-in-IfElse-2.ensures at c.statement-in-IfElse.ensures in rw (c.in-IfElse.is, statement-IfElse) (c.if_else_of.ensures _ _ _ c.expression-in-IfElse.ensures h k)
+    rw (c.in-IfElse.is, statement-IfElse) (c.if_else_of.ensures _ _ _ c.expression-in-IfElse.ensures c.branch-body.ensures c.branch-scope-in-IfElse.ensures)
 
-pub statement-statement-requires-in-While : goal.statement-statement-requires-in-While
-statement-statement-requires-in-While t c =
-    let smaller : 8 * statement_weight (view_statement c.get-in-While.result.now) < 8 * statement_weight (view_statement c.args.s.now) = rw (c.get-in-While.ensures, c.in-While.is, statement-While) (omega arith) in search rules
+pub statement-branch-scope-requires-in-While : goal.statement-branch-scope-requires-in-While
+statement-branch-scope-requires-in-While t c =
+    let smaller : 1 + 8 * statement_weight (view_statement c.in-While.body) < 8 * statement_weight (view_statement c.args.s.now) = rw (c.in-While.is, statement-While) (omega arith) in search rules
 
 pub statement-returns-in-While : goal.statement-returns-in-While
 statement-returns-in-While t c =
-    let h = rw c.get-in-While.ensures at c.statement-in-While.ensures in rw (c.in-While.is, statement-While) (c.while_of.ensures _ _ c.expression-in-While.ensures h)
+    rw (c.in-While.is, statement-While) (c.while_of.ensures _ _ c.expression-in-While.ensures c.branch-scope-in-While.ensures)
 
-pub statement-statement-requires-in-Do : goal.statement-statement-requires-in-Do
-statement-statement-requires-in-Do t c =
-    let smaller : 8 * statement_weight (view_statement c.get-in-Do.result.now) < 8 * statement_weight (view_statement c.args.s.now) = rw (c.get-in-Do.ensures, c.in-Do.is, statement-Do) (omega arith) in search rules
+pub statement-branch-scope-requires-in-Do : goal.statement-branch-scope-requires-in-Do
+statement-branch-scope-requires-in-Do t c =
+    let smaller : 1 + 8 * statement_weight (view_statement c.in-Do.body) < 8 * statement_weight (view_statement c.args.s.now) = rw (c.in-Do.is, statement-Do) (omega arith) in search rules
 
 pub statement-returns-in-Do : goal.statement-returns-in-Do
 statement-returns-in-Do t c =
-    let h = rw c.get-in-Do.ensures at c.statement-in-Do.ensures in rw (c.in-Do.is, statement-Do) (c.do_of.ensures _ _ h c.expression-in-Do.ensures)
+    rw (c.in-Do.is, statement-Do) (c.do_of.ensures _ _ c.branch-scope-in-Do.ensures c.expression-in-Do.ensures)
 
-pub statement-statement-requires-in-For : goal.statement-statement-requires-in-For
-statement-statement-requires-in-For t c =
-    let smaller : 8 * statement_weight (view_statement c.get-in-For.result.now) < 8 * statement_weight (view_statement c.args.s.now) = rw (c.get-in-For.ensures, c.in-For.is, statement-For) (omega arith) in search rules
+pub statement-branch-scope-requires-in-For : goal.statement-branch-scope-requires-in-For
+statement-branch-scope-requires-in-For t c =
+    let smaller : 1 + 8 * statement_weight (view_statement c.in-For.body) < 8 * statement_weight (view_statement c.args.s.now) = rw (c.in-For.is, statement-For) (omega arith) in search rules
 
 pub statement-returns-in-For : goal.statement-returns-in-For
 statement-returns-in-For t c =
-    let h = rw c.get-in-For.ensures at c.statement-in-For.ensures in rw (c.in-For.is, statement-For) (c.for_of.ensures _ _ _ _ c.header.ensures h)
+    rw (c.in-For.is, statement-For) (c.for_of.ensures _ _ _ _ c.header.ensures c.branch-scope-in-For.ensures)
 
-pub statement-statement-requires-in-ForIn : goal.statement-statement-requires-in-ForIn
-statement-statement-requires-in-ForIn t c =
-    let smaller : 8 * statement_weight (view_statement c.get-in-ForIn.result.now) < 8 * statement_weight (view_statement c.args.s.now) = rw (c.get-in-ForIn.ensures, c.in-ForIn.is, statement-ForIn) (omega arith) in search rules
+pub statement-branch-scope-requires-in-ForIn : goal.statement-branch-scope-requires-in-ForIn
+statement-branch-scope-requires-in-ForIn t c =
+    let smaller : 1 + 8 * statement_weight (view_statement c.in-ForIn.body) < 8 * statement_weight (view_statement c.args.s.now) = rw (c.in-ForIn.is, statement-ForIn) (omega arith) in search rules
 
 pub statement-returns-in-ForIn : goal.statement-returns-in-ForIn
 statement-returns-in-ForIn t c =
-    let h = rw c.get-in-ForIn.ensures at c.statement-in-ForIn.ensures in rw (c.in-ForIn.is, statement-ForIn) (c.for_in_of.ensures _ _ _ c.two_names-both.ensures h)
+    rw (c.in-ForIn.is, statement-ForIn) (c.for_in_of.ensures _ _ _ c.two_names.ensures c.branch-scope-in-ForIn.ensures)
+
+pub branch-statement-requires : goal.branch-statement-requires
+branch-statement-requires t c =
+    let smaller : 8 * statement_weight (view_statement c.get.result.now) < 1 + 8 * statement_weight (view_statement c.args.s.now) = rw c.get.ensures (omega arith) in search rules
+
+pub branch-returns : goal.branch-returns
+branch-returns t c =
+    boxed_is view_statement _ _ _ c.boxed.ensures (rw c.get.ensures at c.statement.ensures)
 
 pub fill-statement-requires : goal.fill-statement-requires
 fill-statement-requires t c =

@@ -9,6 +9,9 @@ use Rattle.awk_binding.proofs.statements.+statement.Given as goal
 abbrev pub decreases-statement : goal.decreases-statement
 decreases-statement l = 8 * statement_weight (view_statement l.s.now)
 
+abbrev pub decreases-branch : goal.decreases-branch
+decreases-branch l = 1 + 8 * statement_weight (view_statement l.s.now)
+
 abbrev pub decreases-fill : goal.decreases-fill
 decreases-fill l = 1 + 8 * statement_weights (statements_of (map view_statement l.xs.now))
 
