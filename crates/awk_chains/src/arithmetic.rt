@@ -11,10 +11,10 @@ use awk_expressions::nodes::{concat_of, product_of, sum_of};
 use awk_expressions::signs::{arithmetic_of, begins_part, is_factor_sign, is_term_sign};
 use awk_expressions::{Tokens, pair, terminal};
 use awk_tree::{Expr, Fault, Goal, Term};
-use sqlite_items::Items;
+use sqlite_items::{Boxed, Items};
 use std::alloc::Global;
 
-impl<F: Fn(Global, &mut Tokens<'_>, usize, Goal) -> Result<Expr, Fault>> Chains<F> {
+impl<F: Fn(Global, &mut Tokens<'_>, usize, Goal) -> Result<Boxed<Expr>, Fault>> Chains<F> {
     #[tactic(auto, unfolding(awk_tree::specs::Expressions::factor))]
     fn factor(&self, tokens: &mut Tokens<'_>) -> Result<Term<Expr>, Fault>
         requires { Nests self.now.operands.depth (F.pre self.now.operands.inner) (F.post self.now.operands.inner) }
@@ -25,7 +25,7 @@ impl<F: Fn(Global, &mut Tokens<'_>, usize, Goal) -> Result<Expr, Fault>> Chains<
         Ok(Term {
             operator: arithmetic_of(terminal(token)),
             place: token.place,
-            operand,
+            operand: operand.into_inner(),
         })
     }
 
@@ -50,7 +50,11 @@ impl<F: Fn(Global, &mut Tokens<'_>, usize, Goal) -> Result<Expr, Fault>> Chains<
 
     /// `{ (* | / | %) unary }`
     #[tactic(auto, unfolding(awk_tree::specs::Expressions::product_rest))]
-    pub(crate) fn product_rest(&self, tokens: &mut Tokens<'_>, left: Expr) -> Result<Expr, Fault>
+    pub(crate) fn product_rest(
+        &self,
+        tokens: &mut Tokens<'_>,
+        left: Boxed<Expr>,
+    ) -> Result<Boxed<Expr>, Fault>
         requires { Nests self.now.operands.depth (F.pre self.now.operands.inner) (F.post self.now.operands.inner) }
         ensures { Reads view (spec.product_rest self.now.operands.depth (spec.expr self.now.operands.depth) (view left) tokens.old) result tokens.new }
     {
@@ -69,7 +73,7 @@ impl<F: Fn(Global, &mut Tokens<'_>, usize, Goal) -> Result<Expr, Fault>> Chains<
         Ok(Term {
             operator: arithmetic_of(terminal(token)),
             place: token.place,
-            operand,
+            operand: operand.into_inner(),
         })
     }
 
@@ -94,7 +98,11 @@ impl<F: Fn(Global, &mut Tokens<'_>, usize, Goal) -> Result<Expr, Fault>> Chains<
 
     /// `{ (+ | -) mul }`
     #[tactic(auto, unfolding(awk_tree::specs::Expressions::sum_rest))]
-    pub(crate) fn sum_rest(&self, tokens: &mut Tokens<'_>, left: Expr) -> Result<Expr, Fault>
+    pub(crate) fn sum_rest(
+        &self,
+        tokens: &mut Tokens<'_>,
+        left: Boxed<Expr>,
+    ) -> Result<Boxed<Expr>, Fault>
         requires { Nests self.now.operands.depth (F.pre self.now.operands.inner) (F.post self.now.operands.inner) }
         ensures { Reads view (spec.sum_rest self.now.operands.depth (spec.expr self.now.operands.depth) (view left) tokens.old) result tokens.new }
     {
@@ -103,7 +111,7 @@ impl<F: Fn(Global, &mut Tokens<'_>, usize, Goal) -> Result<Expr, Fault>> Chains<
     }
 
     #[tactic(auto, unfolding(awk_tree::specs::Expressions::part))]
-    fn part(&self, tokens: &mut Tokens<'_>) -> Result<Expr, Fault>
+    fn part(&self, tokens: &mut Tokens<'_>) -> Result<Boxed<Expr>, Fault>
         requires { Nests self.now.operands.depth (F.pre self.now.operands.inner) (F.post self.now.operands.inner) }
         ensures { Reads view (spec.part self.now.operands.depth (spec.expr self.now.operands.depth) tokens.old) result tokens.new }
     {
@@ -122,7 +130,7 @@ impl<F: Fn(Global, &mut Tokens<'_>, usize, Goal) -> Result<Expr, Fault>> Chains<
             if !begins_part(tokens.ahead()) {
                 return Ok(found);
             }
-            found.push(self.part(tokens)?)?;
+            found.push(self.part(tokens)?.into_inner())?;
         }
         if begins_part(tokens.ahead()) {
             Err(tokens.refuse())
@@ -133,7 +141,11 @@ impl<F: Fn(Global, &mut Tokens<'_>, usize, Goal) -> Result<Expr, Fault>> Chains<
 
     /// `{ add }`
     #[tactic(auto, unfolding(awk_tree::specs::Expressions::concat_rest))]
-    pub(crate) fn concat_rest(&self, tokens: &mut Tokens<'_>, left: Expr) -> Result<Expr, Fault>
+    pub(crate) fn concat_rest(
+        &self,
+        tokens: &mut Tokens<'_>,
+        left: Boxed<Expr>,
+    ) -> Result<Boxed<Expr>, Fault>
         requires { Nests self.now.operands.depth (F.pre self.now.operands.inner) (F.post self.now.operands.inner) }
         ensures { Reads view (spec.concat_rest self.now.operands.depth (spec.expr self.now.operands.depth) (view left) tokens.old) result tokens.new }
     {
@@ -143,7 +155,7 @@ impl<F: Fn(Global, &mut Tokens<'_>, usize, Goal) -> Result<Expr, Fault>> Chains<
 
     /// `cat = add { add }`
     #[tactic(auto, unfolding(awk_tree::specs::Expressions::cat))]
-    pub(crate) fn cat(&self, tokens: &mut Tokens<'_>) -> Result<Expr, Fault>
+    pub(crate) fn cat(&self, tokens: &mut Tokens<'_>) -> Result<Boxed<Expr>, Fault>
         requires { Nests self.now.operands.depth (F.pre self.now.operands.inner) (F.post self.now.operands.inner) }
         ensures { Reads view (spec.cat self.now.operands.depth (spec.expr self.now.operands.depth) tokens.old) result tokens.new }
     {

@@ -11,20 +11,25 @@ use awk_expressions::nodes::{and_of, assign, choose, is_lvalue, or_of};
 use awk_expressions::signs::assignment;
 use awk_expressions::{Tokens, is, pair};
 use awk_tree::{Expr, Fault, Goal, Terminal};
-use sqlite_items::Items;
+use sqlite_items::{Boxed, Items};
 use std::alloc::Global;
 
-impl<F: Fn(Global, &mut Tokens<'_>, usize, Goal) -> Result<Expr, Fault>> Chains<F> {
+impl<F: Fn(Global, &mut Tokens<'_>, usize, Goal) -> Result<Boxed<Expr>, Fault>> Chains<F> {
     /// `lvalue (= | += | ..) expr`, or what stands there.
     #[tactic(auto, unfolding(awk_tree::specs::Expressions::assigned))]
-    fn assigned(&self, tokens: &mut Tokens<'_>, in_print: bool, left: Expr) -> Result<Expr, Fault>
+    fn assigned(
+        &self,
+        tokens: &mut Tokens<'_>,
+        in_print: bool,
+        left: Boxed<Expr>,
+    ) -> Result<Boxed<Expr>, Fault>
         requires { Nests self.now.operands.depth (F.pre self.now.operands.inner) (F.post self.now.operands.inner) }
         ensures { Reads view (spec.assigned self.now.operands.depth (spec.expr self.now.operands.depth) in_print (view left) tokens.old) result tokens.new }
     {
         let Some(how) = assignment(tokens.ahead()) else {
             return Ok(left);
         };
-        if !is_lvalue(&left) {
+        if !is_lvalue(left.get()) {
             return Ok(left);
         }
         let (left, token) = pair(left, tokens.any())?;
@@ -33,7 +38,7 @@ impl<F: Fn(Global, &mut Tokens<'_>, usize, Goal) -> Result<Expr, Fault>> Chains<
     }
 
     #[tactic(auto, unfolding(awk_tree::specs::Expressions::conjunct))]
-    fn conjunct(&self, tokens: &mut Tokens<'_>, in_print: bool) -> Result<Expr, Fault>
+    fn conjunct(&self, tokens: &mut Tokens<'_>, in_print: bool) -> Result<Boxed<Expr>, Fault>
         requires { Nests self.now.operands.depth (F.pre self.now.operands.inner) (F.post self.now.operands.inner) }
         ensures { Reads view (spec.conjunct self.now.operands.depth (spec.expr self.now.operands.depth) in_print tokens.old) result tokens.new }
     {
@@ -42,7 +47,7 @@ impl<F: Fn(Global, &mut Tokens<'_>, usize, Goal) -> Result<Expr, Fault>> Chains<
     }
 
     #[tactic(auto, unfolding(awk_tree::specs::Expressions::next_conjunct))]
-    fn next_conjunct(&self, tokens: &mut Tokens<'_>, in_print: bool) -> Result<Expr, Fault>
+    fn next_conjunct(&self, tokens: &mut Tokens<'_>, in_print: bool) -> Result<Boxed<Expr>, Fault>
         requires { Nests self.now.operands.depth (F.pre self.now.operands.inner) (F.post self.now.operands.inner) }
         ensures { Reads view (spec.next_conjunct self.now.operands.depth (spec.expr self.now.operands.depth) in_print tokens.old) result tokens.new }
     {
@@ -61,7 +66,7 @@ impl<F: Fn(Global, &mut Tokens<'_>, usize, Goal) -> Result<Expr, Fault>> Chains<
             if !is(Terminal::And, tokens.ahead()) {
                 return Ok(found);
             }
-            found.push(self.next_conjunct(tokens, in_print)?)?;
+            found.push(self.next_conjunct(tokens, in_print)?.into_inner())?;
         }
         if is(Terminal::And, tokens.ahead()) {
             Err(tokens.refuse())
@@ -72,7 +77,12 @@ impl<F: Fn(Global, &mut Tokens<'_>, usize, Goal) -> Result<Expr, Fault>> Chains<
 
     /// `{ && isin }`
     #[tactic(auto, unfolding(awk_tree::specs::Expressions::and_rest))]
-    fn and_rest(&self, tokens: &mut Tokens<'_>, in_print: bool, left: Expr) -> Result<Expr, Fault>
+    fn and_rest(
+        &self,
+        tokens: &mut Tokens<'_>,
+        in_print: bool,
+        left: Boxed<Expr>,
+    ) -> Result<Boxed<Expr>, Fault>
         requires { Nests self.now.operands.depth (F.pre self.now.operands.inner) (F.post self.now.operands.inner) }
         ensures { Reads view (spec.and_rest self.now.operands.depth (spec.expr self.now.operands.depth) in_print (view left) tokens.old) result tokens.new }
     {
@@ -81,7 +91,7 @@ impl<F: Fn(Global, &mut Tokens<'_>, usize, Goal) -> Result<Expr, Fault>> Chains<
     }
 
     #[tactic(auto, unfolding(awk_tree::specs::Expressions::next_disjunct))]
-    fn next_disjunct(&self, tokens: &mut Tokens<'_>, in_print: bool) -> Result<Expr, Fault>
+    fn next_disjunct(&self, tokens: &mut Tokens<'_>, in_print: bool) -> Result<Boxed<Expr>, Fault>
         requires { Nests self.now.operands.depth (F.pre self.now.operands.inner) (F.post self.now.operands.inner) }
         ensures { Reads view (spec.next_disjunct self.now.operands.depth (spec.expr self.now.operands.depth) in_print tokens.old) result tokens.new }
     {
@@ -101,7 +111,7 @@ impl<F: Fn(Global, &mut Tokens<'_>, usize, Goal) -> Result<Expr, Fault>> Chains<
             if !is(Terminal::Or, tokens.ahead()) {
                 return Ok(found);
             }
-            found.push(self.next_disjunct(tokens, in_print)?)?;
+            found.push(self.next_disjunct(tokens, in_print)?.into_inner())?;
         }
         if is(Terminal::Or, tokens.ahead()) {
             Err(tokens.refuse())
@@ -112,7 +122,12 @@ impl<F: Fn(Global, &mut Tokens<'_>, usize, Goal) -> Result<Expr, Fault>> Chains<
 
     /// `{ || and }`
     #[tactic(auto, unfolding(awk_tree::specs::Expressions::or_rest))]
-    fn or_rest(&self, tokens: &mut Tokens<'_>, in_print: bool, left: Expr) -> Result<Expr, Fault>
+    fn or_rest(
+        &self,
+        tokens: &mut Tokens<'_>,
+        in_print: bool,
+        left: Boxed<Expr>,
+    ) -> Result<Boxed<Expr>, Fault>
         requires { Nests self.now.operands.depth (F.pre self.now.operands.inner) (F.post self.now.operands.inner) }
         ensures { Reads view (spec.or_rest self.now.operands.depth (spec.expr self.now.operands.depth) in_print (view left) tokens.old) result tokens.new }
     {
@@ -121,7 +136,7 @@ impl<F: Fn(Global, &mut Tokens<'_>, usize, Goal) -> Result<Expr, Fault>> Chains<
     }
 
     #[tactic(auto, unfolding(awk_tree::specs::Expressions::then_branch))]
-    fn then_branch(&self, tokens: &mut Tokens<'_>, in_print: bool) -> Result<Expr, Fault>
+    fn then_branch(&self, tokens: &mut Tokens<'_>, in_print: bool) -> Result<Boxed<Expr>, Fault>
         requires { Nests self.now.operands.depth (F.pre self.now.operands.inner) (F.post self.now.operands.inner) }
         ensures { Reads view (spec.then_branch self.now.operands.depth (spec.expr self.now.operands.depth) in_print tokens.old) result tokens.new }
     {
@@ -137,8 +152,8 @@ impl<F: Fn(Global, &mut Tokens<'_>, usize, Goal) -> Result<Expr, Fault>> Chains<
         &self,
         tokens: &mut Tokens<'_>,
         in_print: bool,
-        left: Expr,
-    ) -> Result<Expr, Fault>
+        left: Boxed<Expr>,
+    ) -> Result<Boxed<Expr>, Fault>
         requires { Nests self.now.operands.depth (F.pre self.now.operands.inner) (F.post self.now.operands.inner) }
         ensures { Reads view (spec.choose_rest self.now.operands.depth (spec.expr self.now.operands.depth) in_print (view left) tokens.old) result tokens.new }
     {
@@ -159,8 +174,8 @@ impl<F: Fn(Global, &mut Tokens<'_>, usize, Goal) -> Result<Expr, Fault>> Chains<
         &self,
         tokens: &mut Tokens<'_>,
         in_print: bool,
-        left: Expr,
-    ) -> Result<Expr, Fault>
+        left: Boxed<Expr>,
+    ) -> Result<Boxed<Expr>, Fault>
         requires { Nests self.now.operands.depth (F.pre self.now.operands.inner) (F.post self.now.operands.inner) }
         ensures { Reads view (spec.expr_rest self.now.operands.depth (spec.expr self.now.operands.depth) in_print (view left) tokens.old) result tokens.new }
     {
@@ -172,7 +187,11 @@ impl<F: Fn(Global, &mut Tokens<'_>, usize, Goal) -> Result<Expr, Fault>> Chains<
 
     /// An expression. With the flag, `>` outside parentheses is a redirection.
     #[tactic(auto, unfolding(awk_tree::specs::Expressions::expression))]
-    pub(crate) fn expression(&self, tokens: &mut Tokens<'_>, in_print: bool) -> Result<Expr, Fault>
+    pub(crate) fn expression(
+        &self,
+        tokens: &mut Tokens<'_>,
+        in_print: bool,
+    ) -> Result<Boxed<Expr>, Fault>
         requires { Nests self.now.operands.depth (F.pre self.now.operands.inner) (F.post self.now.operands.inner) }
         ensures { Reads view (spec.expression self.now.operands.depth (spec.expr self.now.operands.depth) in_print tokens.old) result tokens.new }
     {
@@ -181,7 +200,7 @@ impl<F: Fn(Global, &mut Tokens<'_>, usize, Goal) -> Result<Expr, Fault>> Chains<
     }
 
     /// What is read to a goal.
-    pub(crate) fn level(&self, tokens: &mut Tokens<'_>, goal: Goal) -> Result<Expr, Fault>
+    pub(crate) fn level(&self, tokens: &mut Tokens<'_>, goal: Goal) -> Result<Boxed<Expr>, Fault>
         requires { Nests self.now.operands.depth (F.pre self.now.operands.inner) (F.post self.now.operands.inner) }
         ensures { Reads view (spec.level self.now.operands.depth (spec.expr self.now.operands.depth) goal tokens.old) result tokens.new }
     {

@@ -10,11 +10,16 @@ use awk_expressions::Tokens;
 use awk_operands::Grammar;
 use awk_text::place::Place;
 use awk_tree::{Expr, Fault, Goal};
-use sqlite_items::Items;
+use sqlite_items::{Boxed, Items};
 use std::alloc::Global;
 
 /// What is read to a goal, nested no deeper than the number.
-pub fn expr(alloc: Global, tokens: &mut Tokens<'_>, depth: usize, goal: Goal) -> Result<Expr, Fault>
+pub fn expr(
+    alloc: Global,
+    tokens: &mut Tokens<'_>,
+    depth: usize,
+    goal: Goal,
+) -> Result<Boxed<Expr>, Fault>
     ensures { Reads view (spec.expr depth goal tokens.old) result tokens.new }
 {
     if depth == 0 {
@@ -44,14 +49,14 @@ pub struct Level {
 
 impl Level {
     /// What is read to a goal, one level of nesting deeper.
-    pub fn nested(&self, tokens: &mut Tokens<'_>, goal: Goal) -> Result<Expr, Fault>
+    pub fn nested(&self, tokens: &mut Tokens<'_>, goal: Goal) -> Result<Boxed<Expr>, Fault>
         ensures { Reads view (spec.expr self.now.depth goal tokens.old) result tokens.new }
     {
         expr(self.alloc, tokens, self.depth, goal)
     }
 
     /// An expression. With the flag, `>` outside parentheses is a redirection.
-    pub fn expression(&self, tokens: &mut Tokens<'_>, in_print: bool) -> Result<Expr, Fault>
+    pub fn expression(&self, tokens: &mut Tokens<'_>, in_print: bool) -> Result<Boxed<Expr>, Fault>
         ensures { Reads view (spec.expression self.now.depth (spec.expr self.now.depth) in_print tokens.old) result tokens.new }
     {
         chains(self.alloc, self.depth, expr).expression(tokens, in_print)
@@ -62,8 +67,8 @@ impl Level {
         &self,
         tokens: &mut Tokens<'_>,
         in_print: bool,
-        left: Expr,
-    ) -> Result<Expr, Fault>
+        left: Boxed<Expr>,
+    ) -> Result<Boxed<Expr>, Fault>
         ensures { Reads view (spec.expr_rest self.now.depth (spec.expr self.now.depth) in_print (view left) tokens.old) result tokens.new }
     {
         chains(self.alloc, self.depth, expr).expr_rest(tokens, in_print, left)
@@ -75,16 +80,16 @@ impl Level {
         tokens: &mut Tokens<'_>,
         in_print: bool,
         place: Place,
-        first: Expr,
+        first: Boxed<Expr>,
         more: Items<Expr>,
-    ) -> Result<Expr, Fault>
+    ) -> Result<Boxed<Expr>, Fault>
         ensures { Reads view (spec.grouped self.now.depth (spec.expr self.now.depth) in_print place (view first) (map view more) tokens.old) result tokens.new }
     {
         chains(self.alloc, self.depth, expr).grouped(tokens, in_print, place, first, more)
     }
 
     /// A concatenation, or one operand of it.
-    pub fn cat(&self, tokens: &mut Tokens<'_>) -> Result<Expr, Fault>
+    pub fn cat(&self, tokens: &mut Tokens<'_>) -> Result<Boxed<Expr>, Fault>
         ensures { Reads view (spec.cat self.now.depth (spec.expr self.now.depth) tokens.old) result tokens.new }
     {
         chains(self.alloc, self.depth, expr).cat(tokens)

@@ -1,6 +1,6 @@
 // From a piped `getline` up to `in`.
 
-ghost use Rattle.std.specs.Prelude.{◌≡◌, map};
+ghost use Rattle.std.specs.Prelude.{◌≡◌, map, IfOk};
 ghost use Rattle.awk_expressions.specs.Nests.{Nests};
 ghost use Rattle.awk_tree.specs.Expressions as spec;
 ghost use Rattle.awk_tree.specs.Input.{Reads};
@@ -9,23 +9,28 @@ ghost use Rattle.awk_tree.specs.Tree.{trees_of};
 ghost use Rattle.awk_tree.specs.View.{view, view_piped};
 
 use crate::chains::Chains;
-use awk_expressions::nodes::{compare, joined, matched, paren, pipe_of};
+use awk_expressions::nodes::{compare, joined, matched, paren, pipe_of, unboxed};
 use awk_expressions::signs::{comparison, matching};
 use awk_expressions::{Tokens, is, pair};
 use awk_operands::{in_name, in_names, in_rest};
 use awk_text::place::Place;
 use awk_tree::{Expr, Fault, Goal, Member, Piped, Terminal};
-use sqlite_items::Items;
-use std::alloc::Global;
+use sqlite_items::{Boxed, Items};
+use std::alloc::{AllocError, Global};
 
 #[tactic(auto, using(awk_tree::proofs::Views::views))]
-fn group(place: Place, keys: Items<Expr>, arrays: Items<Member>) -> Expr
-    ensures { view result ≡ tree.group place (trees_of (map view keys)) arrays }
+fn group(
+    alloc: Global,
+    place: Place,
+    keys: Items<Expr>,
+    arrays: Items<Member>,
+) -> Result<Boxed<Expr>, AllocError>
+    ensures { IfOk result (λ e. view e ≡ tree.group place (trees_of (map view keys)) arrays) }
 {
-    Expr::Group(place, keys, arrays)
+    Boxed::new(alloc, Expr::Group(place, keys, arrays))
 }
 
-impl<F: Fn(Global, &mut Tokens<'_>, usize, Goal) -> Result<Expr, Fault>> Chains<F> {
+impl<F: Fn(Global, &mut Tokens<'_>, usize, Goal) -> Result<Boxed<Expr>, Fault>> Chains<F> {
     #[tactic(auto, unfolding(awk_tree::specs::Expressions::one_pipe))]
     fn one_pipe(&self, tokens: &mut Tokens<'_>) -> Result<Piped<Expr>, Fault>
         requires { Nests self.now.operands.depth (F.pre self.now.operands.inner) (F.post self.now.operands.inner) }
@@ -36,7 +41,7 @@ impl<F: Fn(Global, &mut Tokens<'_>, usize, Goal) -> Result<Expr, Fault>> Chains<
         let target = self.operands.target(tokens)?;
         Ok(Piped {
             place: token.place,
-            target,
+            target: unboxed(target),
         })
     }
 
@@ -61,7 +66,7 @@ impl<F: Fn(Global, &mut Tokens<'_>, usize, Goal) -> Result<Expr, Fault>> Chains<
 
     /// `{ | getline [ lvalue ] }`
     #[tactic(auto, unfolding(awk_tree::specs::Expressions::pipe_rest))]
-    fn pipe_rest(&self, tokens: &mut Tokens<'_>, left: Expr) -> Result<Expr, Fault>
+    fn pipe_rest(&self, tokens: &mut Tokens<'_>, left: Boxed<Expr>) -> Result<Boxed<Expr>, Fault>
         requires { Nests self.now.operands.depth (F.pre self.now.operands.inner) (F.post self.now.operands.inner) }
         ensures { Reads view (spec.pipe_rest self.now.operands.depth (spec.expr self.now.operands.depth) (view left) tokens.old) result tokens.new }
     {
@@ -70,7 +75,7 @@ impl<F: Fn(Global, &mut Tokens<'_>, usize, Goal) -> Result<Expr, Fault>> Chains<
     }
 
     #[tactic(auto, unfolding(awk_tree::specs::Expressions::pipe))]
-    fn pipe(&self, tokens: &mut Tokens<'_>) -> Result<Expr, Fault>
+    fn pipe(&self, tokens: &mut Tokens<'_>) -> Result<Boxed<Expr>, Fault>
         requires { Nests self.now.operands.depth (F.pre self.now.operands.inner) (F.post self.now.operands.inner) }
         ensures { Reads view (spec.pipe self.now.operands.depth (spec.expr self.now.operands.depth) tokens.old) result tokens.new }
     {
@@ -84,8 +89,8 @@ impl<F: Fn(Global, &mut Tokens<'_>, usize, Goal) -> Result<Expr, Fault>> Chains<
         &self,
         tokens: &mut Tokens<'_>,
         in_print: bool,
-        left: Expr,
-    ) -> Result<Expr, Fault>
+        left: Boxed<Expr>,
+    ) -> Result<Boxed<Expr>, Fault>
         requires { Nests self.now.operands.depth (F.pre self.now.operands.inner) (F.post self.now.operands.inner) }
         ensures { Reads view (spec.compare_rest self.now.operands.depth (spec.expr self.now.operands.depth) in_print (view left) tokens.old) result tokens.new }
     {
@@ -98,7 +103,7 @@ impl<F: Fn(Global, &mut Tokens<'_>, usize, Goal) -> Result<Expr, Fault>> Chains<
     }
 
     #[tactic(auto, unfolding(awk_tree::specs::Expressions::cmp))]
-    fn cmp(&self, tokens: &mut Tokens<'_>, in_print: bool) -> Result<Expr, Fault>
+    fn cmp(&self, tokens: &mut Tokens<'_>, in_print: bool) -> Result<Boxed<Expr>, Fault>
         requires { Nests self.now.operands.depth (F.pre self.now.operands.inner) (F.post self.now.operands.inner) }
         ensures { Reads view (spec.cmp self.now.operands.depth (spec.expr self.now.operands.depth) in_print tokens.old) result tokens.new }
     {
@@ -108,7 +113,12 @@ impl<F: Fn(Global, &mut Tokens<'_>, usize, Goal) -> Result<Expr, Fault>> Chains<
 
     /// `[ (~ | !~) cmp ]`: a match does not chain.
     #[tactic(auto, unfolding(awk_tree::specs::Expressions::match_rest))]
-    fn match_rest(&self, tokens: &mut Tokens<'_>, in_print: bool, left: Expr) -> Result<Expr, Fault>
+    fn match_rest(
+        &self,
+        tokens: &mut Tokens<'_>,
+        in_print: bool,
+        left: Boxed<Expr>,
+    ) -> Result<Boxed<Expr>, Fault>
         requires { Nests self.now.operands.depth (F.pre self.now.operands.inner) (F.post self.now.operands.inner) }
         ensures { Reads view (spec.match_rest self.now.operands.depth (spec.expr self.now.operands.depth) in_print (view left) tokens.old) result tokens.new }
     {
@@ -122,7 +132,12 @@ impl<F: Fn(Global, &mut Tokens<'_>, usize, Goal) -> Result<Expr, Fault>> Chains<
 
     /// From the first operand of all these chains on, up to `in`.
     #[tactic(auto, unfolding(awk_tree::specs::Expressions::unary_rest))]
-    fn unary_rest(&self, tokens: &mut Tokens<'_>, in_print: bool, left: Expr) -> Result<Expr, Fault>
+    fn unary_rest(
+        &self,
+        tokens: &mut Tokens<'_>,
+        in_print: bool,
+        left: Boxed<Expr>,
+    ) -> Result<Boxed<Expr>, Fault>
         requires { Nests self.now.operands.depth (F.pre self.now.operands.inner) (F.post self.now.operands.inner) }
         ensures { Reads view (spec.unary_rest self.now.operands.depth (spec.expr self.now.operands.depth) in_print (view left) tokens.old) result tokens.new }
     {
@@ -141,9 +156,9 @@ impl<F: Fn(Global, &mut Tokens<'_>, usize, Goal) -> Result<Expr, Fault>> Chains<
         tokens: &mut Tokens<'_>,
         in_print: bool,
         place: Place,
-        first: Expr,
+        first: Boxed<Expr>,
         more: Items<Expr>,
-    ) -> Result<Expr, Fault>
+    ) -> Result<Boxed<Expr>, Fault>
         requires { Nests self.now.operands.depth (F.pre self.now.operands.inner) (F.post self.now.operands.inner) }
         ensures { Reads view (spec.grouped self.now.operands.depth (spec.expr self.now.operands.depth) in_print place (view first) (map view more) tokens.old) result tokens.new }
     {
@@ -152,15 +167,15 @@ impl<F: Fn(Global, &mut Tokens<'_>, usize, Goal) -> Result<Expr, Fault>> Chains<
             let left = self.operands.power_rest(tokens, inside)?;
             return self.unary_rest(tokens, in_print, left);
         }
-        let keys = joined(self.operands.alloc, first, more)?;
+        let keys = joined(self.operands.alloc, first.into_inner(), more)?;
         let array = in_name(self.operands.alloc, tokens)?;
         let arrays = in_names(self.operands.alloc, tokens)?;
         let arrays = joined(self.operands.alloc, array, arrays)?;
-        Ok(group(place, keys, arrays))
+        Ok(group(self.operands.alloc, place, keys, arrays)?)
     }
 
     #[tactic(auto, unfolding(awk_tree::specs::Expressions::from_paren))]
-    fn from_paren(&self, tokens: &mut Tokens<'_>, in_print: bool) -> Result<Expr, Fault>
+    fn from_paren(&self, tokens: &mut Tokens<'_>, in_print: bool) -> Result<Boxed<Expr>, Fault>
         requires { Nests self.now.operands.depth (F.pre self.now.operands.inner) (F.post self.now.operands.inner) }
         ensures { Reads view (spec.from_paren self.now.operands.depth (spec.expr self.now.operands.depth) in_print tokens.old) result tokens.new }
     {
@@ -173,7 +188,7 @@ impl<F: Fn(Global, &mut Tokens<'_>, usize, Goal) -> Result<Expr, Fault>> Chains<
 
     /// `isin = match { in NAME } | ( list ) in NAME { in NAME }`
     #[tactic(auto, unfolding(awk_tree::specs::Expressions::isin))]
-    pub(crate) fn isin(&self, tokens: &mut Tokens<'_>, in_print: bool) -> Result<Expr, Fault>
+    pub(crate) fn isin(&self, tokens: &mut Tokens<'_>, in_print: bool) -> Result<Boxed<Expr>, Fault>
         requires { Nests self.now.operands.depth (F.pre self.now.operands.inner) (F.post self.now.operands.inner) }
         ensures { Reads view (spec.isin self.now.operands.depth (spec.expr self.now.operands.depth) in_print tokens.old) result tokens.new }
     {

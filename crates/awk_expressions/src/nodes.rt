@@ -41,134 +41,152 @@ pub fn joined<T: Drop>(alloc: Global, first: T, more: Items<T>) -> Result<Items<
     Ok(all)
 }
 
-fn boxed(alloc: Global, x: Option<Expr>) -> Result<Option<Boxed<Expr>>, AllocError>
-    ensures { IfOk result (λ b. b ≡ x) }
+/// What is in the box, where there is one.
+pub fn unboxed<T: Drop>(x: Option<Boxed<T>>) -> Option<T>
+    ensures { result ≡ x }
 {
     match x {
-        None => Ok(None),
-        Some(x) => Ok(Some(Boxed::new(alloc, x)?)),
+        None => None,
+        Some(x) => Some(x.into_inner()),
     }
 }
 
-fn two_boxed(alloc: Global, x: Expr, y: Expr) -> Result<(Boxed<Expr>, Boxed<Expr>), AllocError>
-    ensures { IfOk result (λ pair. (pair.0 ≡ x) × (pair.1 ≡ y)) }
-{
-    let x = Boxed::new(alloc, x)?;
-    Ok((x, Boxed::new(alloc, y)?))
-}
-
 #[tactic(auto, using(awk_tree::proofs::Views::views))]
-pub fn field(alloc: Global, place: Place, x: Expr) -> Result<Expr, AllocError>
+pub fn field(alloc: Global, place: Place, x: Boxed<Expr>) -> Result<Boxed<Expr>, AllocError>
     ensures { IfOk result (λ e. view e ≡ tree.field place (view x)) }
 {
-    Ok(Expr::Field(place, Boxed::new(alloc, x)?))
+    Boxed::new(alloc, Expr::Field(place, x))
 }
 
 #[tactic(auto, using(awk_tree::proofs::Views::views))]
-pub fn paren(alloc: Global, place: Place, x: Expr) -> Result<Expr, AllocError>
+pub fn paren(alloc: Global, place: Place, x: Boxed<Expr>) -> Result<Boxed<Expr>, AllocError>
     ensures { IfOk result (λ e. view e ≡ tree.paren place (view x)) }
 {
-    Ok(Expr::Paren(place, Boxed::new(alloc, x)?))
+    Boxed::new(alloc, Expr::Paren(place, x))
 }
 
 #[tactic(auto, using(awk_tree::proofs::Views::views))]
-pub fn before(alloc: Global, place: Place, step: Step, x: Expr) -> Result<Expr, AllocError>
+pub fn before(
+    alloc: Global,
+    place: Place,
+    step: Step,
+    x: Boxed<Expr>,
+) -> Result<Boxed<Expr>, AllocError>
     ensures { IfOk result (λ e. view e ≡ tree.before place step (view x)) }
 {
-    Ok(Expr::Before(place, step, Boxed::new(alloc, x)?))
+    Boxed::new(alloc, Expr::Before(place, step, x))
 }
 
 #[tactic(auto, using(awk_tree::proofs::Views::views))]
-pub fn after(alloc: Global, x: Expr, place: Place, step: Step) -> Result<Expr, AllocError>
+pub fn after(
+    alloc: Global,
+    x: Boxed<Expr>,
+    place: Place,
+    step: Step,
+) -> Result<Boxed<Expr>, AllocError>
     ensures { IfOk result (λ e. view e ≡ tree.after (view x) place step) }
 {
-    Ok(Expr::After(Boxed::new(alloc, x)?, place, step))
+    Boxed::new(alloc, Expr::After(x, place, step))
 }
 
 #[tactic(auto, using(awk_tree::proofs::Views::views))]
-pub fn signed(alloc: Global, place: Place, sign: Sign, x: Expr) -> Result<Expr, AllocError>
+pub fn signed(
+    alloc: Global,
+    place: Place,
+    sign: Sign,
+    x: Boxed<Expr>,
+) -> Result<Boxed<Expr>, AllocError>
     ensures { IfOk result (λ e. view e ≡ tree.signed place sign (view x)) }
 {
-    Ok(Expr::Signed(place, sign, Boxed::new(alloc, x)?))
+    Boxed::new(alloc, Expr::Signed(place, sign, x))
 }
 
 #[tactic(auto, using(awk_tree::proofs::Views::views))]
-pub fn power(alloc: Global, a: Expr, place: Place, b: Expr) -> Result<Expr, AllocError>
+pub fn power(
+    alloc: Global,
+    a: Boxed<Expr>,
+    place: Place,
+    b: Boxed<Expr>,
+) -> Result<Boxed<Expr>, AllocError>
     ensures { IfOk result (λ e. view e ≡ tree.power (view a) place (view b)) }
 {
-    Ok(Expr::Power(Boxed::new(alloc, a)?, place, Boxed::new(alloc, b)?))
+    Boxed::new(alloc, Expr::Power(a, place, b))
 }
 
 #[tactic(auto, using(awk_tree::proofs::Views::views))]
 pub fn compare(
     alloc: Global,
-    a: Expr,
+    a: Boxed<Expr>,
     place: Place,
     how: Comparison,
-    b: Expr,
-) -> Result<Expr, AllocError>
+    b: Boxed<Expr>,
+) -> Result<Boxed<Expr>, AllocError>
     ensures { IfOk result (λ e. view e ≡ tree.compare (view a) place how (view b)) }
 {
-    Ok(Expr::Compare(Boxed::new(alloc, a)?, place, how, Boxed::new(alloc, b)?))
+    Boxed::new(alloc, Expr::Compare(a, place, how, b))
 }
 
 #[tactic(auto, using(awk_tree::proofs::Views::views))]
 pub fn matched(
     alloc: Global,
-    a: Expr,
+    a: Boxed<Expr>,
     place: Place,
     unlike: bool,
-    b: Expr,
-) -> Result<Expr, AllocError>
+    b: Boxed<Expr>,
+) -> Result<Boxed<Expr>, AllocError>
     ensures { IfOk result (λ e. view e ≡ tree.matched (view a) place unlike (view b)) }
 {
-    Ok(Expr::Match(Boxed::new(alloc, a)?, place, unlike, Boxed::new(alloc, b)?))
+    Boxed::new(alloc, Expr::Match(a, place, unlike, b))
 }
 
 #[tactic(auto, using(awk_tree::proofs::Views::views))]
-pub fn choose(alloc: Global, a: Expr, b: Expr, c: Expr) -> Result<Expr, AllocError>
+pub fn choose(
+    alloc: Global,
+    a: Boxed<Expr>,
+    b: Boxed<Expr>,
+    c: Boxed<Expr>,
+) -> Result<Boxed<Expr>, AllocError>
     ensures { IfOk result (λ e. view e ≡ tree.choose (view a) (view b) (view c)) }
 {
-    let (b, c) = two_boxed(alloc, b, c)?;
-    Ok(Expr::Choice(Boxed::new(alloc, a)?, b, c))
+    Boxed::new(alloc, Expr::Choice(a, b, c))
 }
 
 #[tactic(auto, using(awk_tree::proofs::Views::views))]
 pub fn assign(
     alloc: Global,
-    a: Expr,
+    a: Boxed<Expr>,
     place: Place,
     how: Assignment,
-    b: Expr,
-) -> Result<Expr, AllocError>
+    b: Boxed<Expr>,
+) -> Result<Boxed<Expr>, AllocError>
     ensures { IfOk result (λ e. view e ≡ tree.assign (view a) place how (view b)) }
 {
-    Ok(Expr::Assign(Boxed::new(alloc, a)?, place, how, Boxed::new(alloc, b)?))
+    Boxed::new(alloc, Expr::Assign(a, place, how, b))
 }
 
 #[tactic(auto, using(awk_tree::proofs::Views::views))]
 pub fn getline(
     alloc: Global,
     place: Place,
-    target: Option<Expr>,
-    source: Option<Expr>,
-) -> Result<Expr, AllocError>
+    target: Option<Boxed<Expr>>,
+    source: Option<Boxed<Expr>>,
+) -> Result<Boxed<Expr>, AllocError>
     ensures { IfOk result (λ e. view e ≡ tree.getline place (perhaps_of (option_map view target)) (perhaps_of (option_map view source))) }
 {
-    Ok(Expr::Getline(place, boxed(alloc, target)?, boxed(alloc, source)?))
+    Boxed::new(alloc, Expr::Getline(place, target, source))
 }
 
 #[tactic(auto, using(awk_tree::proofs::Views::views))]
 pub fn split(
     alloc: Global,
     place: Place,
-    x: Expr,
+    x: Boxed<Expr>,
     array: Name,
-    y: Option<Expr>,
-) -> Result<Expr, AllocError>
+    y: Option<Boxed<Expr>>,
+) -> Result<Boxed<Expr>, AllocError>
     ensures { IfOk result (λ e. view e ≡ tree.split place (view x) array (perhaps_of (option_map view y))) }
 {
-    Ok(Expr::Split(place, Boxed::new(alloc, x)?, array, boxed(alloc, y)?))
+    Boxed::new(alloc, Expr::Split(place, x, array, y))
 }
 
 #[tactic(auto, using(awk_tree::proofs::Views::views))]
@@ -176,40 +194,39 @@ pub fn substitute(
     alloc: Global,
     place: Place,
     all: bool,
-    x: Expr,
-    y: Expr,
-    z: Option<Expr>,
-) -> Result<Expr, AllocError>
+    x: Boxed<Expr>,
+    y: Boxed<Expr>,
+    z: Option<Boxed<Expr>>,
+) -> Result<Boxed<Expr>, AllocError>
     ensures { IfOk result (λ e. view e ≡ tree.substitute place all (view x) (view y) (perhaps_of (option_map view z))) }
 {
-    let (x, y) = two_boxed(alloc, x, y)?;
-    Ok(Expr::Substitute(place, all, x, y, boxed(alloc, z)?))
+    Boxed::new(alloc, Expr::Substitute(place, all, x, y, z))
 }
 
 /// The list of one.
-pub fn only(alloc: Global, x: Expr) -> Result<Items<Expr>, AllocError>
+pub fn only<T: Drop>(alloc: Global, x: Boxed<T>) -> Result<Items<T>, AllocError>
     ensures { IfOk result (λ all. all ≡ x ∷ []) }
 {
     let mut all = Items::new(alloc);
-    all.push(x)?;
+    all.push(x.into_inner())?;
     Ok(all)
 }
 
 /// The list of two.
-pub fn both(alloc: Global, x: Expr, y: Expr) -> Result<Items<Expr>, AllocError>
+pub fn both<T: Drop>(alloc: Global, x: Boxed<T>, y: Boxed<T>) -> Result<Items<T>, AllocError>
     ensures { IfOk result (λ all. all ≡ x ∷ y ∷ []) }
 {
     let mut all = only(alloc, x)?;
-    all.push(y)?;
+    all.push(y.into_inner())?;
     Ok(all)
 }
 
 /// The list of two, and a third where there is one.
 pub fn up_to_three(
     alloc: Global,
-    x: Expr,
-    y: Expr,
-    z: Option<Expr>,
+    x: Boxed<Expr>,
+    y: Boxed<Expr>,
+    z: Option<Boxed<Expr>>,
 ) -> Result<Items<Expr>, AllocError>
     ensures { IfOk result (λ all. map view all ≡ view x ∷ view y ∷ spec.listed (option_map view z)) }
 {
@@ -217,7 +234,7 @@ pub fn up_to_three(
     match z {
         None => Ok(all),
         Some(z) => {
-            all.push(z)?;
+            all.push(z.into_inner())?;
             Ok(all)
         }
     }
@@ -226,73 +243,97 @@ pub fn up_to_three(
 // ---- chains: one of a single operand is that operand
 
 #[tactic(auto, using(awk_tree::proofs::Views::views))]
-pub fn product_of(alloc: Global, left: Expr, more: Items<Term<Expr>>) -> Result<Expr, AllocError>
+pub fn product_of(
+    alloc: Global,
+    left: Boxed<Expr>,
+    more: Items<Term<Expr>>,
+) -> Result<Boxed<Expr>, AllocError>
     ensures { IfOk result (λ e. view e ≡ spec.product_of (view left) (map view_term more)) }
 {
     if more.is_empty() {
         return Ok(left);
     }
-    Ok(Expr::Product(Boxed::new(alloc, left)?, more))
+    Boxed::new(alloc, Expr::Product(left, more))
 }
 
 #[tactic(auto, using(awk_tree::proofs::Views::views))]
-pub fn sum_of(alloc: Global, left: Expr, more: Items<Term<Expr>>) -> Result<Expr, AllocError>
+pub fn sum_of(
+    alloc: Global,
+    left: Boxed<Expr>,
+    more: Items<Term<Expr>>,
+) -> Result<Boxed<Expr>, AllocError>
     ensures { IfOk result (λ e. view e ≡ spec.sum_of (view left) (map view_term more)) }
 {
     if more.is_empty() {
         return Ok(left);
     }
-    Ok(Expr::Sum(Boxed::new(alloc, left)?, more))
+    Boxed::new(alloc, Expr::Sum(left, more))
 }
 
 #[tactic(auto, using(awk_tree::proofs::Views::views))]
-pub fn concat_of(alloc: Global, left: Expr, more: Items<Expr>) -> Result<Expr, AllocError>
+pub fn concat_of(
+    alloc: Global,
+    left: Boxed<Expr>,
+    more: Items<Expr>,
+) -> Result<Boxed<Expr>, AllocError>
     ensures { IfOk result (λ e. view e ≡ spec.concat_of (view left) (map view more)) }
 {
     if more.is_empty() {
         return Ok(left);
     }
-    Ok(Expr::Concat(Boxed::new(alloc, left)?, more))
+    Boxed::new(alloc, Expr::Concat(left, more))
 }
 
 #[tactic(auto, using(awk_tree::proofs::Views::views))]
-pub fn pipe_of(alloc: Global, left: Expr, more: Items<Piped<Expr>>) -> Result<Expr, AllocError>
+pub fn pipe_of(
+    alloc: Global,
+    left: Boxed<Expr>,
+    more: Items<Piped<Expr>>,
+) -> Result<Boxed<Expr>, AllocError>
     ensures { IfOk result (λ e. view e ≡ spec.pipe_of (view left) (map view_piped more)) }
 {
     if more.is_empty() {
         return Ok(left);
     }
-    Ok(Expr::Pipe(Boxed::new(alloc, left)?, more))
+    Boxed::new(alloc, Expr::Pipe(left, more))
 }
 
 #[tactic(auto, using(awk_tree::proofs::Views::views))]
-pub fn member_of(alloc: Global, left: Expr, more: Items<Member>) -> Result<Expr, AllocError>
+pub fn member_of(
+    alloc: Global,
+    left: Boxed<Expr>,
+    more: Items<Member>,
+) -> Result<Boxed<Expr>, AllocError>
     ensures { IfOk result (λ e. view e ≡ spec.member_of (view left) more) }
 {
     if more.is_empty() {
         return Ok(left);
     }
-    Ok(Expr::In(Boxed::new(alloc, left)?, more))
+    Boxed::new(alloc, Expr::In(left, more))
 }
 
 #[tactic(auto, using(awk_tree::proofs::Views::views))]
-pub fn and_of(alloc: Global, left: Expr, more: Items<Expr>) -> Result<Expr, AllocError>
+pub fn and_of(
+    alloc: Global,
+    left: Boxed<Expr>,
+    more: Items<Expr>,
+) -> Result<Boxed<Expr>, AllocError>
     ensures { IfOk result (λ e. view e ≡ spec.and_of (view left) (map view more)) }
 {
     if more.is_empty() {
         return Ok(left);
     }
-    Ok(Expr::And(Boxed::new(alloc, left)?, more))
+    Boxed::new(alloc, Expr::And(left, more))
 }
 
 #[tactic(auto, using(awk_tree::proofs::Views::views))]
-pub fn or_of(alloc: Global, left: Expr, more: Items<Expr>) -> Result<Expr, AllocError>
+pub fn or_of(alloc: Global, left: Boxed<Expr>, more: Items<Expr>) -> Result<Boxed<Expr>, AllocError>
     ensures { IfOk result (λ e. view e ≡ spec.or_of (view left) (map view more)) }
 {
     if more.is_empty() {
         return Ok(left);
     }
-    Ok(Expr::Or(Boxed::new(alloc, left)?, more))
+    Boxed::new(alloc, Expr::Or(left, more))
 }
 
 /// Whether a value can be set there.

@@ -11,13 +11,13 @@ use awk_expressions::nodes::{only, split, substitute, up_to_three};
 use awk_expressions::{Tokens, is, name_of, pair};
 use awk_text::place::Place;
 use awk_tree::{Builtin, Expr, Fault, Goal, Terminal};
-use sqlite_items::Items;
+use sqlite_items::{Boxed, Items};
 use std::alloc::Global;
 
-impl<F: Fn(Global, &mut Tokens<'_>, usize, Goal) -> Result<Expr, Fault>> Grammar<F> {
+impl<F: Fn(Global, &mut Tokens<'_>, usize, Goal) -> Result<Boxed<Expr>, Fault>> Grammar<F> {
     /// `( expr )`
     #[tactic(auto, using(awk_tree::proofs::Views::views), unfolding(awk_tree::specs::Expressions::one_argument))]
-    fn one_argument(&self, tokens: &mut Tokens<'_>) -> Result<Expr, Fault>
+    fn one_argument(&self, tokens: &mut Tokens<'_>) -> Result<Boxed<Expr>, Fault>
         requires { Nests self.now.depth (F.pre self.now.inner) (F.post self.now.inner) }
         ensures { Reads view (spec.one_argument self.now.depth (spec.expr self.now.depth) tokens.old) result tokens.new }
     {
@@ -29,30 +29,43 @@ impl<F: Fn(Global, &mut Tokens<'_>, usize, Goal) -> Result<Expr, Fault>> Grammar
 
     /// A function of one argument.
     #[tactic(auto, using(awk_tree::proofs::Views::views), unfolding(awk_tree::specs::Expressions::of_one))]
-    fn of_one(&self, tokens: &mut Tokens<'_>, place: Place, which: Builtin) -> Result<Expr, Fault>
+    fn of_one(
+        &self,
+        tokens: &mut Tokens<'_>,
+        place: Place,
+        which: Builtin,
+    ) -> Result<Boxed<Expr>, Fault>
         requires { Nests self.now.depth (F.pre self.now.inner) (F.post self.now.inner) }
         ensures { Reads view (spec.of_one self.now.depth (spec.expr self.now.depth) place which tokens.old) result tokens.new }
     {
         let x = self.one_argument(tokens)?;
-        Ok(Expr::Builtin(place, which, only(self.alloc, x)?))
+        Ok(Boxed::new(
+            self.alloc,
+            Expr::Builtin(place, which, only(self.alloc, x)?),
+        )?)
     }
 
     /// `( expr , expr )`
     #[tactic(auto, using(awk_tree::proofs::Views::views), unfolding(awk_tree::specs::Expressions::of_two))]
-    fn of_two(&self, tokens: &mut Tokens<'_>, place: Place, which: Builtin) -> Result<Expr, Fault>
+    fn of_two(
+        &self,
+        tokens: &mut Tokens<'_>,
+        place: Place,
+        which: Builtin,
+    ) -> Result<Boxed<Expr>, Fault>
         requires { Nests self.now.depth (F.pre self.now.inner) (F.post self.now.inner) }
         ensures { Reads view (spec.of_two self.now.depth (spec.expr self.now.depth) place which tokens.old) result tokens.new }
     {
         tokens.one(Terminal::OpenParen)?;
         let mut all = only(self.alloc, self.nested(tokens, Goal::Expr(false))?)?;
-        all.push(self.next_in_list(tokens)?)?;
+        all.push(self.next_in_list(tokens)?.into_inner())?;
         tokens.one(Terminal::CloseParen)?;
-        Ok(Expr::Builtin(place, which, all))
+        Ok(Boxed::new(self.alloc, Expr::Builtin(place, which, all))?)
     }
 
     /// `[ , expr ] )`
     #[tactic(auto, using(awk_tree::proofs::Views::views), unfolding(awk_tree::specs::Expressions::last_next))]
-    fn last_next(&self, tokens: &mut Tokens<'_>) -> Result<Option<Expr>, Fault>
+    fn last_next(&self, tokens: &mut Tokens<'_>) -> Result<Option<Boxed<Expr>>, Fault>
         requires { Nests self.now.depth (F.pre self.now.inner) (F.post self.now.inner) }
         ensures { Reads (option_map view) (spec.last_next self.now.depth (spec.expr self.now.depth) tokens.old) result tokens.new }
     {
@@ -68,7 +81,7 @@ impl<F: Fn(Global, &mut Tokens<'_>, usize, Goal) -> Result<Expr, Fault>> Grammar
         tokens: &mut Tokens<'_>,
         place: Place,
         which: Builtin,
-    ) -> Result<Expr, Fault>
+    ) -> Result<Boxed<Expr>, Fault>
         requires { Nests self.now.depth (F.pre self.now.inner) (F.post self.now.inner) }
         ensures { Reads view (spec.of_two_or_three self.now.depth (spec.expr self.now.depth) place which tokens.old) result tokens.new }
     {
@@ -76,19 +89,27 @@ impl<F: Fn(Global, &mut Tokens<'_>, usize, Goal) -> Result<Expr, Fault>> Grammar
         let x = self.nested(tokens, Goal::Expr(false))?;
         let y = self.next_in_list(tokens)?;
         let z = self.last_next(tokens)?;
-        Ok(Expr::Builtin(place, which, up_to_three(self.alloc, x, y, z)?))
+        Ok(Boxed::new(
+            self.alloc,
+            Expr::Builtin(place, which, up_to_three(self.alloc, x, y, z)?),
+        )?)
     }
 
     /// `( list )`
     #[tactic(auto, using(awk_tree::proofs::Views::views), unfolding(awk_tree::specs::Expressions::of_list))]
-    fn of_list(&self, tokens: &mut Tokens<'_>, place: Place, which: Builtin) -> Result<Expr, Fault>
+    fn of_list(
+        &self,
+        tokens: &mut Tokens<'_>,
+        place: Place,
+        which: Builtin,
+    ) -> Result<Boxed<Expr>, Fault>
         requires { Nests self.now.depth (F.pre self.now.inner) (F.post self.now.inner) }
         ensures { Reads view (spec.of_list self.now.depth (spec.expr self.now.depth) place which tokens.old) result tokens.new }
     {
         tokens.one(Terminal::OpenParen)?;
         let all = self.list(tokens)?;
         tokens.one(Terminal::CloseParen)?;
-        Ok(Expr::Builtin(place, which, all))
+        Ok(Boxed::new(self.alloc, Expr::Builtin(place, which, all))?)
     }
 
     /// `[ expr ] )`, where the parenthesis stays
@@ -106,12 +127,12 @@ impl<F: Fn(Global, &mut Tokens<'_>, usize, Goal) -> Result<Expr, Fault>> Grammar
 
     /// `length | length ( ) | length ( expr )`
     #[tactic(auto, using(awk_tree::proofs::Views::views), unfolding(awk_tree::specs::Expressions::length_of))]
-    fn length_of(&self, tokens: &mut Tokens<'_>, place: Place) -> Result<Expr, Fault>
+    fn length_of(&self, tokens: &mut Tokens<'_>, place: Place) -> Result<Boxed<Expr>, Fault>
         requires { Nests self.now.depth (F.pre self.now.inner) (F.post self.now.inner) }
         ensures { Reads view (spec.length_of self.now.depth (spec.expr self.now.depth) place tokens.old) result tokens.new }
     {
         if !is(tokens.ahead(), Terminal::OpenParen) {
-            return Ok(Expr::Length(place));
+            return Ok(Boxed::new(self.alloc, Expr::Length(place))?);
         }
         tokens.one(Terminal::OpenParen)?;
         if self.depth == 0 {
@@ -119,12 +140,12 @@ impl<F: Fn(Global, &mut Tokens<'_>, usize, Goal) -> Result<Expr, Fault>> Grammar
         }
         let all = self.one_or_none(tokens)?;
         tokens.one(Terminal::CloseParen)?;
-        Ok(Expr::Builtin(place, Builtin::Length, all))
+        Ok(Boxed::new(self.alloc, Expr::Builtin(place, Builtin::Length, all))?)
     }
 
     /// `( expr , NAME [ , expr ] )`
     #[tactic(auto, using(awk_tree::proofs::Views::views), unfolding(awk_tree::specs::Expressions::split_of))]
-    fn split_of(&self, tokens: &mut Tokens<'_>, place: Place) -> Result<Expr, Fault>
+    fn split_of(&self, tokens: &mut Tokens<'_>, place: Place) -> Result<Boxed<Expr>, Fault>
         requires { Nests self.now.depth (F.pre self.now.inner) (F.post self.now.inner) }
         ensures { Reads view (spec.split_of self.now.depth (spec.expr self.now.depth) place tokens.old) result tokens.new }
     {
@@ -140,7 +161,7 @@ impl<F: Fn(Global, &mut Tokens<'_>, usize, Goal) -> Result<Expr, Fault>> Grammar
 
     /// `[ , lvalue ]`
     #[tactic(auto, using(awk_tree::proofs::Views::views), unfolding(awk_tree::specs::Expressions::perhaps_lvalue))]
-    fn perhaps_lvalue(&self, tokens: &mut Tokens<'_>) -> Result<Option<Expr>, Fault>
+    fn perhaps_lvalue(&self, tokens: &mut Tokens<'_>) -> Result<Option<Boxed<Expr>>, Fault>
         requires { Nests self.now.depth (F.pre self.now.inner) (F.post self.now.inner) }
         ensures { Reads (option_map view) (spec.perhaps_lvalue self.now.depth (spec.expr self.now.depth) tokens.old) result tokens.new }
     {
@@ -154,7 +175,7 @@ impl<F: Fn(Global, &mut Tokens<'_>, usize, Goal) -> Result<Expr, Fault>> Grammar
 
     /// `[ , lvalue ] )`
     #[tactic(auto, using(awk_tree::proofs::Views::views), unfolding(awk_tree::specs::Expressions::last_lvalue))]
-    fn last_lvalue(&self, tokens: &mut Tokens<'_>) -> Result<Option<Expr>, Fault>
+    fn last_lvalue(&self, tokens: &mut Tokens<'_>) -> Result<Option<Boxed<Expr>>, Fault>
         requires { Nests self.now.depth (F.pre self.now.inner) (F.post self.now.inner) }
         ensures { Reads (option_map view) (spec.last_lvalue self.now.depth (spec.expr self.now.depth) tokens.old) result tokens.new }
     {
@@ -165,7 +186,12 @@ impl<F: Fn(Global, &mut Tokens<'_>, usize, Goal) -> Result<Expr, Fault>> Grammar
 
     /// `( expr , expr [ , lvalue ] )`
     #[tactic(auto, using(awk_tree::proofs::Views::views), unfolding(awk_tree::specs::Expressions::substitute_of))]
-    fn substitute_of(&self, tokens: &mut Tokens<'_>, place: Place, all: bool) -> Result<Expr, Fault>
+    fn substitute_of(
+        &self,
+        tokens: &mut Tokens<'_>,
+        place: Place,
+        all: bool,
+    ) -> Result<Boxed<Expr>, Fault>
         requires { Nests self.now.depth (F.pre self.now.inner) (F.post self.now.inner) }
         ensures { Reads view (spec.substitute_of self.now.depth (spec.expr self.now.depth) place all tokens.old) result tokens.new }
     {
@@ -178,7 +204,11 @@ impl<F: Fn(Global, &mut Tokens<'_>, usize, Goal) -> Result<Expr, Fault>> Grammar
 
     /// The word of a built-in function, and its arguments.
     #[tactic(auto, using(awk_tree::proofs::Views::views), unfolding(awk_tree::specs::Expressions::builtin))]
-    pub(crate) fn builtin(&self, tokens: &mut Tokens<'_>, which: Builtin) -> Result<Expr, Fault>
+    pub(crate) fn builtin(
+        &self,
+        tokens: &mut Tokens<'_>,
+        which: Builtin,
+    ) -> Result<Boxed<Expr>, Fault>
         requires { Nests self.now.depth (F.pre self.now.inner) (F.post self.now.inner) }
         ensures { Reads view (spec.builtin self.now.depth (spec.expr self.now.depth) which tokens.old) result tokens.new }
     {

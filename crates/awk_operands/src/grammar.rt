@@ -7,6 +7,7 @@ ghost use Rattle.awk_tree.specs.View.{view};
 
 use awk_expressions::Tokens;
 use awk_tree::{Expr, Fault, Goal};
+use sqlite_items::Boxed;
 use std::alloc::Global;
 
 /// The rules of expressions at one level of nesting.
@@ -19,9 +20,9 @@ pub struct Grammar<F> {
     pub inner: F,
 }
 
-impl<F: Fn(Global, &mut Tokens<'_>, usize, Goal) -> Result<Expr, Fault>> Grammar<F> {
+impl<F: Fn(Global, &mut Tokens<'_>, usize, Goal) -> Result<Boxed<Expr>, Fault>> Grammar<F> {
     /// What is nested one level deeper.
-    pub fn nested(&self, tokens: &mut Tokens<'_>, goal: Goal) -> Result<Expr, Fault>
+    pub fn nested(&self, tokens: &mut Tokens<'_>, goal: Goal) -> Result<Boxed<Expr>, Fault>
         requires { Nests self.now.depth (F.pre self.now.inner) (F.post self.now.inner) }
         ensures { Reads view (spec.expr self.now.depth goal tokens.old) result tokens.new }
     {

@@ -9,13 +9,13 @@ ghost use Rattle.awk_tree.specs.View.{view};
 use crate::grammar::Grammar;
 use awk_expressions::{Tokens, is, joined};
 use awk_tree::{Expr, Fault, Goal, Terminal};
-use sqlite_items::Items;
+use sqlite_items::{Boxed, Items};
 use std::alloc::Global;
 
-impl<F: Fn(Global, &mut Tokens<'_>, usize, Goal) -> Result<Expr, Fault>> Grammar<F> {
+impl<F: Fn(Global, &mut Tokens<'_>, usize, Goal) -> Result<Boxed<Expr>, Fault>> Grammar<F> {
     /// `, expr`
     #[tactic(auto, using(awk_tree::proofs::Views::views), unfolding(awk_tree::specs::Expressions::next_in_list))]
-    pub(crate) fn next_in_list(&self, tokens: &mut Tokens<'_>) -> Result<Expr, Fault>
+    pub(crate) fn next_in_list(&self, tokens: &mut Tokens<'_>) -> Result<Boxed<Expr>, Fault>
         requires { Nests self.now.depth (F.pre self.now.inner) (F.post self.now.inner) }
         ensures { Reads view (spec.next_in_list self.now.depth (spec.expr self.now.depth) tokens.old) result tokens.new }
     {
@@ -35,7 +35,7 @@ impl<F: Fn(Global, &mut Tokens<'_>, usize, Goal) -> Result<Expr, Fault>> Grammar
             if !is(Terminal::Comma, tokens.ahead()) {
                 return Ok(found);
             }
-            found.push(self.next_in_list(tokens)?)?;
+            found.push(self.next_in_list(tokens)?.into_inner())?;
         }
         if is(Terminal::Comma, tokens.ahead()) {
             Err(tokens.refuse())
@@ -52,12 +52,12 @@ impl<F: Fn(Global, &mut Tokens<'_>, usize, Goal) -> Result<Expr, Fault>> Grammar
     {
         let first = self.nested(tokens, Goal::Expr(false))?;
         let more = self.commas(tokens)?;
-        Ok(joined(self.alloc, first, more)?)
+        Ok(joined(self.alloc, first.into_inner(), more)?)
     }
 
     /// `[ , expr ]`
     #[tactic(auto, using(awk_tree::proofs::Views::views), unfolding(awk_tree::specs::Expressions::perhaps_next))]
-    pub(crate) fn perhaps_next(&self, tokens: &mut Tokens<'_>) -> Result<Option<Expr>, Fault>
+    pub(crate) fn perhaps_next(&self, tokens: &mut Tokens<'_>) -> Result<Option<Boxed<Expr>>, Fault>
         requires { Nests self.now.depth (F.pre self.now.inner) (F.post self.now.inner) }
         ensures { Reads (option_map view) (spec.perhaps_next self.now.depth (spec.expr self.now.depth) tokens.old) result tokens.new }
     {

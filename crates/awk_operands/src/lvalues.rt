@@ -10,28 +10,32 @@ use crate::grammar::Grammar;
 use awk_expressions::nodes::{field, getline};
 use awk_expressions::{Tokens, is, name_of, pair};
 use awk_tree::{Expr, Fault, Goal, Terminal};
+use sqlite_items::Boxed;
 use std::alloc::Global;
 
-impl<F: Fn(Global, &mut Tokens<'_>, usize, Goal) -> Result<Expr, Fault>> Grammar<F> {
+impl<F: Fn(Global, &mut Tokens<'_>, usize, Goal) -> Result<Boxed<Expr>, Fault>> Grammar<F> {
     /// `NAME | NAME [ list ]`
     #[tactic(auto, using(awk_tree::proofs::Views::views), unfolding(awk_tree::specs::Expressions::named))]
-    pub(crate) fn named(&self, tokens: &mut Tokens<'_>) -> Result<Expr, Fault>
+    pub(crate) fn named(&self, tokens: &mut Tokens<'_>) -> Result<Boxed<Expr>, Fault>
         requires { Nests self.now.depth (F.pre self.now.inner) (F.post self.now.inner) }
         ensures { Reads view (spec.named self.now.depth (spec.expr self.now.depth) tokens.old) result tokens.new }
     {
         let token = tokens.one(Terminal::Name)?;
         if !is(tokens.ahead(), Terminal::OpenBracket) {
-            return Ok(Expr::Name(name_of(self.alloc, token)?));
+            return Ok(Boxed::new(self.alloc, Expr::Name(name_of(self.alloc, token)?))?);
         }
         tokens.one(Terminal::OpenBracket)?;
         let subscript = self.list(tokens)?;
         tokens.one(Terminal::CloseBracket)?;
-        Ok(Expr::Element(name_of(self.alloc, token)?, subscript))
+        Ok(Boxed::new(
+            self.alloc,
+            Expr::Element(name_of(self.alloc, token)?, subscript),
+        )?)
     }
 
     /// `$ operand`
     #[tactic(auto, using(awk_tree::proofs::Views::views), unfolding(awk_tree::specs::Expressions::field_of))]
-    pub(crate) fn field_of(&self, tokens: &mut Tokens<'_>) -> Result<Expr, Fault>
+    pub(crate) fn field_of(&self, tokens: &mut Tokens<'_>) -> Result<Boxed<Expr>, Fault>
         requires { Nests self.now.depth (F.pre self.now.inner) (F.post self.now.inner) }
         ensures { Reads view (spec.field_of self.now.depth (spec.expr self.now.depth) tokens.old) result tokens.new }
     {
@@ -42,7 +46,7 @@ impl<F: Fn(Global, &mut Tokens<'_>, usize, Goal) -> Result<Expr, Fault>> Grammar
 
     /// `named | $ operand`
     #[tactic(auto, using(awk_tree::proofs::Views::views), unfolding(awk_tree::specs::Expressions::lvalue))]
-    pub fn lvalue(&self, tokens: &mut Tokens<'_>) -> Result<Expr, Fault>
+    pub fn lvalue(&self, tokens: &mut Tokens<'_>) -> Result<Boxed<Expr>, Fault>
         requires { Nests self.now.depth (F.pre self.now.inner) (F.post self.now.inner) }
         ensures { Reads view (spec.lvalue self.now.depth (spec.expr self.now.depth) tokens.old) result tokens.new }
     {
@@ -55,7 +59,7 @@ impl<F: Fn(Global, &mut Tokens<'_>, usize, Goal) -> Result<Expr, Fault>> Grammar
 
     /// The lvalue of a `getline`, where there is one.
     #[tactic(auto, using(awk_tree::proofs::Views::views), unfolding(awk_tree::specs::Expressions::target))]
-    pub fn target(&self, tokens: &mut Tokens<'_>) -> Result<Option<Expr>, Fault>
+    pub fn target(&self, tokens: &mut Tokens<'_>) -> Result<Option<Boxed<Expr>>, Fault>
         requires { Nests self.now.depth (F.pre self.now.inner) (F.post self.now.inner) }
         ensures { Reads (option_map view) (spec.target self.now.depth (spec.expr self.now.depth) tokens.old) result tokens.new }
     {
@@ -68,7 +72,7 @@ impl<F: Fn(Global, &mut Tokens<'_>, usize, Goal) -> Result<Expr, Fault>> Grammar
 
     /// `[ < file ]`
     #[tactic(auto, using(awk_tree::proofs::Views::views), unfolding(awk_tree::specs::Expressions::source))]
-    fn source(&self, tokens: &mut Tokens<'_>) -> Result<Option<Expr>, Fault>
+    fn source(&self, tokens: &mut Tokens<'_>) -> Result<Option<Boxed<Expr>>, Fault>
         requires { Nests self.now.depth (F.pre self.now.inner) (F.post self.now.inner) }
         ensures { Reads (option_map view) (spec.source self.now.depth (spec.expr self.now.depth) tokens.old) result tokens.new }
     {
@@ -81,7 +85,7 @@ impl<F: Fn(Global, &mut Tokens<'_>, usize, Goal) -> Result<Expr, Fault>> Grammar
 
     /// `getline [ lvalue ] [ < file ]`
     #[tactic(auto, using(awk_tree::proofs::Views::views), unfolding(awk_tree::specs::Expressions::getline))]
-    pub(crate) fn getline(&self, tokens: &mut Tokens<'_>) -> Result<Expr, Fault>
+    pub(crate) fn getline(&self, tokens: &mut Tokens<'_>) -> Result<Boxed<Expr>, Fault>
         requires { Nests self.now.depth (F.pre self.now.inner) (F.post self.now.inner) }
         ensures { Reads view (spec.getline self.now.depth (spec.expr self.now.depth) tokens.old) result tokens.new }
     {

@@ -8,7 +8,7 @@ ghost use Rattle.awk_tree.specs.View.{view};
 use awk_expressions::nodes::member_of;
 use awk_expressions::{Tokens, is, name_of};
 use awk_tree::{Expr, Fault, Member, Terminal};
-use sqlite_items::Items;
+use sqlite_items::{Boxed, Items};
 use std::alloc::Global;
 
 /// `in NAME`
@@ -42,7 +42,11 @@ pub fn in_names(alloc: Global, tokens: &mut Tokens<'_>) -> Result<Items<Member>,
 
 /// `{ in NAME }` behind what was read.
 #[tactic(auto, unfolding(awk_tree::specs::Expressions::in_rest))]
-pub fn in_rest(alloc: Global, tokens: &mut Tokens<'_>, left: Expr) -> Result<Expr, Fault>
+pub fn in_rest(
+    alloc: Global,
+    tokens: &mut Tokens<'_>,
+    left: Boxed<Expr>,
+) -> Result<Boxed<Expr>, Fault>
     ensures { Reads view (spec.in_rest (view left) tokens.old) result tokens.new }
 {
     let more = in_names(alloc, tokens)?;

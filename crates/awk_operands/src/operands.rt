@@ -10,12 +10,13 @@ use awk_expressions::nodes::{after, before, is_lvalue, paren, power, signed, tex
 use awk_expressions::signs::{sign, step};
 use awk_expressions::{Tokens, is, name_of};
 use awk_tree::{Expr, Fault, Goal, Sign, Step, Terminal};
+use sqlite_items::Boxed;
 use std::alloc::Global;
 
-impl<F: Fn(Global, &mut Tokens<'_>, usize, Goal) -> Result<Expr, Fault>> Grammar<F> {
+impl<F: Fn(Global, &mut Tokens<'_>, usize, Goal) -> Result<Boxed<Expr>, Fault>> Grammar<F> {
     /// `( expr )`
     #[tactic(auto, using(awk_tree::proofs::Views::views), unfolding(awk_tree::specs::Expressions::in_paren))]
-    fn in_paren(&self, tokens: &mut Tokens<'_>) -> Result<Expr, Fault>
+    fn in_paren(&self, tokens: &mut Tokens<'_>) -> Result<Boxed<Expr>, Fault>
         requires { Nests self.now.depth (F.pre self.now.inner) (F.post self.now.inner) }
         ensures { Reads view (spec.in_paren self.now.depth (spec.expr self.now.depth) tokens.old) result tokens.new }
     {
@@ -27,33 +28,45 @@ impl<F: Fn(Global, &mut Tokens<'_>, usize, Goal) -> Result<Expr, Fault>> Grammar
 
     /// `CALLNAME ( [ list ] )`
     #[tactic(auto, using(awk_tree::proofs::Views::views), unfolding(awk_tree::specs::Expressions::call_of))]
-    fn call_of(&self, tokens: &mut Tokens<'_>) -> Result<Expr, Fault>
+    fn call_of(&self, tokens: &mut Tokens<'_>) -> Result<Boxed<Expr>, Fault>
         requires { Nests self.now.depth (F.pre self.now.inner) (F.post self.now.inner) }
         ensures { Reads view (spec.call_of self.now.depth (spec.expr self.now.depth) tokens.old) result tokens.new }
     {
         let token = tokens.one(Terminal::CallName)?;
         let arguments = self.arguments(tokens)?;
-        Ok(Expr::Call(name_of(self.alloc, token)?, arguments))
+        Ok(Boxed::new(
+            self.alloc,
+            Expr::Call(name_of(self.alloc, token)?, arguments),
+        )?)
     }
 
     /// An operand with no sign before or after it.
     #[tactic(auto, using(awk_tree::proofs::Views::views), unfolding(awk_tree::specs::Expressions::prim))]
-    pub(crate) fn prim(&self, tokens: &mut Tokens<'_>) -> Result<Expr, Fault>
+    pub(crate) fn prim(&self, tokens: &mut Tokens<'_>) -> Result<Boxed<Expr>, Fault>
         requires { Nests self.now.depth (F.pre self.now.inner) (F.post self.now.inner) }
         ensures { Reads view (spec.prim self.now.depth (spec.expr self.now.depth) tokens.old) result tokens.new }
     {
         match tokens.ahead() {
             Terminal::Number => {
                 let token = tokens.any()?;
-                Ok(Expr::Number(token.place, text_of(self.alloc, token)?))
+                Ok(Boxed::new(
+                    self.alloc,
+                    Expr::Number(token.place, text_of(self.alloc, token)?),
+                )?)
             }
             Terminal::Quoted => {
                 let token = tokens.any()?;
-                Ok(Expr::Quoted(token.place, text_of(self.alloc, token)?))
+                Ok(Boxed::new(
+                    self.alloc,
+                    Expr::Quoted(token.place, text_of(self.alloc, token)?),
+                )?)
             }
             Terminal::Pattern => {
                 let token = tokens.any()?;
-                Ok(Expr::Pattern(token.place, text_of(self.alloc, token)?))
+                Ok(Boxed::new(
+                    self.alloc,
+                    Expr::Pattern(token.place, text_of(self.alloc, token)?),
+                )?)
             }
             Terminal::Name => self.named(tokens),
             Terminal::Dollar => self.field_of(tokens),
@@ -67,7 +80,7 @@ impl<F: Fn(Global, &mut Tokens<'_>, usize, Goal) -> Result<Expr, Fault>> Grammar
 
     /// `(++ | --) lvalue`
     #[tactic(auto, using(awk_tree::proofs::Views::views), unfolding(awk_tree::specs::Expressions::step_before))]
-    fn step_before(&self, tokens: &mut Tokens<'_>, which: Step) -> Result<Expr, Fault>
+    fn step_before(&self, tokens: &mut Tokens<'_>, which: Step) -> Result<Boxed<Expr>, Fault>
         requires { Nests self.now.depth (F.pre self.now.inner) (F.post self.now.inner) }
         ensures { Reads view (spec.step_before self.now.depth (spec.expr self.now.depth) which tokens.old) result tokens.new }
     {
@@ -78,7 +91,12 @@ impl<F: Fn(Global, &mut Tokens<'_>, usize, Goal) -> Result<Expr, Fault>> Grammar
 
     /// `(! | + | -)`, and what stands after it
     #[tactic(auto, using(awk_tree::proofs::Views::views), unfolding(awk_tree::specs::Expressions::signed_by))]
-    fn signed_by(&self, tokens: &mut Tokens<'_>, which: Sign, rest: Goal) -> Result<Expr, Fault>
+    fn signed_by(
+        &self,
+        tokens: &mut Tokens<'_>,
+        which: Sign,
+        rest: Goal,
+    ) -> Result<Boxed<Expr>, Fault>
         requires { Nests self.now.depth (F.pre self.now.inner) (F.post self.now.inner) }
         ensures { Reads view (spec.signed_by self.now.depth (spec.expr self.now.depth) which rest tokens.old) result tokens.new }
     {
@@ -89,7 +107,7 @@ impl<F: Fn(Global, &mut Tokens<'_>, usize, Goal) -> Result<Expr, Fault>> Grammar
 
     /// What stands after `$`.
     #[tactic(auto, using(awk_tree::proofs::Views::views), unfolding(awk_tree::specs::Expressions::operand))]
-    pub fn operand(&self, tokens: &mut Tokens<'_>) -> Result<Expr, Fault>
+    pub fn operand(&self, tokens: &mut Tokens<'_>) -> Result<Boxed<Expr>, Fault>
         requires { Nests self.now.depth (F.pre self.now.inner) (F.post self.now.inner) }
         ensures { Reads view (spec.operand self.now.depth (spec.expr self.now.depth) tokens.old) result tokens.new }
     {
@@ -105,12 +123,12 @@ impl<F: Fn(Global, &mut Tokens<'_>, usize, Goal) -> Result<Expr, Fault>> Grammar
 
     /// `++` or `--` behind an lvalue, or what stands there.
     #[tactic(auto, using(awk_tree::proofs::Views::views), unfolding(awk_tree::specs::Expressions::step_after))]
-    fn step_after(&self, tokens: &mut Tokens<'_>, left: Expr) -> Result<Expr, Fault>
+    fn step_after(&self, tokens: &mut Tokens<'_>, left: Boxed<Expr>) -> Result<Boxed<Expr>, Fault>
         requires { Nests self.now.depth (F.pre self.now.inner) (F.post self.now.inner) }
         ensures { Reads view (spec.step_after self.now.depth (spec.expr self.now.depth) (view left) tokens.old) result tokens.new }
     {
         match step(tokens.ahead()) {
-            Some(which) if is_lvalue(&left) => {
+            Some(which) if is_lvalue(left.get()) => {
                 let place = tokens.any()?.place;
                 Ok(after(self.alloc, left, place, which)?)
             }
@@ -120,7 +138,7 @@ impl<F: Fn(Global, &mut Tokens<'_>, usize, Goal) -> Result<Expr, Fault>> Grammar
 
     /// `(++ | --) lvalue | lvalue (++ | --) | prim`
     #[tactic(auto, using(awk_tree::proofs::Views::views), unfolding(awk_tree::specs::Expressions::inc))]
-    pub fn inc(&self, tokens: &mut Tokens<'_>) -> Result<Expr, Fault>
+    pub fn inc(&self, tokens: &mut Tokens<'_>) -> Result<Boxed<Expr>, Fault>
         requires { Nests self.now.depth (F.pre self.now.inner) (F.post self.now.inner) }
         ensures { Reads view (spec.inc self.now.depth (spec.expr self.now.depth) tokens.old) result tokens.new }
     {
@@ -135,7 +153,11 @@ impl<F: Fn(Global, &mut Tokens<'_>, usize, Goal) -> Result<Expr, Fault>> Grammar
 
     /// `[ ^ unary ]` behind what was read.
     #[tactic(auto, using(awk_tree::proofs::Views::views), unfolding(awk_tree::specs::Expressions::power_rest))]
-    pub fn power_rest(&self, tokens: &mut Tokens<'_>, left: Expr) -> Result<Expr, Fault>
+    pub fn power_rest(
+        &self,
+        tokens: &mut Tokens<'_>,
+        left: Boxed<Expr>,
+    ) -> Result<Boxed<Expr>, Fault>
         requires { Nests self.now.depth (F.pre self.now.inner) (F.post self.now.inner) }
         ensures { Reads view (spec.power_rest self.now.depth (spec.expr self.now.depth) (view left) tokens.old) result tokens.new }
     {
@@ -149,7 +171,7 @@ impl<F: Fn(Global, &mut Tokens<'_>, usize, Goal) -> Result<Expr, Fault>> Grammar
 
     /// `(! | + | -) unary | inc [ ^ unary ]`
     #[tactic(auto, using(awk_tree::proofs::Views::views), unfolding(awk_tree::specs::Expressions::unary))]
-    pub fn unary(&self, tokens: &mut Tokens<'_>) -> Result<Expr, Fault>
+    pub fn unary(&self, tokens: &mut Tokens<'_>) -> Result<Boxed<Expr>, Fault>
         requires { Nests self.now.depth (F.pre self.now.inner) (F.post self.now.inner) }
         ensures { Reads view (spec.unary self.now.depth (spec.expr self.now.depth) tokens.old) result tokens.new }
     {

@@ -48,7 +48,7 @@ impl<B: Fn(Global, &mut Tokens<'_>, usize, Nested) -> Result<Statement, Fault>> 
     fn else_rest(
         &self,
         tokens: &mut Tokens<'_>,
-        test: Expr,
+        test: Boxed<Expr>,
         body: Boxed<Statement>,
     ) -> Result<Statement, Fault>
         requires nests { NestsStatements self.now.level.depth (B.pre self.now.body) (B.post self.now.body) }
@@ -56,12 +56,12 @@ impl<B: Fn(Global, &mut Tokens<'_>, usize, Nested) -> Result<Statement, Fault>> 
         ensures { Reads view_statement (spec.else_rest self.now.level.depth (expr self.now.level.depth) (spec.statement self.now.level.depth) (view test) (view_statement body) tokens.old) result tokens.new }
     {
         if !has_else(body.get(), tokens.rest()) {
-            return Ok(Statement::If(test, body));
+            return Ok(Statement::If(test.into_inner(), body));
         }
         tokens.past();
         let (test, _word) = pair(test, tokens.any())?;
         let (test, other) = pair(test, self.body(tokens))?;
-        Ok(Statement::IfElse(test, body, other))
+        Ok(Statement::IfElse(test.into_inner(), body, other))
     }
 
     /// `if ( expr ) body [ else body ]`
@@ -85,7 +85,7 @@ impl<B: Fn(Global, &mut Tokens<'_>, usize, Nested) -> Result<Statement, Fault>> 
         tokens.one(Terminal::While)?;
         let test = condition(&self.level, tokens)?;
         let (test, body) = pair(test, self.body(tokens))?;
-        Ok(Statement::While(test, body))
+        Ok(Statement::While(test.into_inner(), body))
     }
 
     /// `do body while ( expr )`, and what ends it.
@@ -99,7 +99,7 @@ impl<B: Fn(Global, &mut Tokens<'_>, usize, Nested) -> Result<Statement, Fault>> 
         tokens.skip();
         tokens.one(Terminal::While)?;
         let test = condition(&self.level, tokens)?;
-        ended(tokens, Statement::Do(body, test))
+        ended(tokens, Statement::Do(body, test.into_inner()))
     }
 
     /// `[ expr ] ; [ expr ] ; [ expr ] ) body`

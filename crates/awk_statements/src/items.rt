@@ -12,7 +12,7 @@ use awk_chains::Level;
 use awk_expressions::{Tokens, is, joined, name_of, pair, refused};
 use awk_tokens::Token;
 use awk_tree::{Expr, Fault, Function, Item, Name, Pattern, Statement, Terminal};
-use sqlite_items::Items;
+use sqlite_items::{Boxed, Items};
 use std::alloc::Global;
 
 /// How deep parts may nest.
@@ -36,7 +36,7 @@ fn action(alloc: Global, tokens: &mut Tokens<'_>) -> Result<Items<Statement>, Fa
 }
 
 #[tactic(auto, unfolding(awk_tree::specs::Statements::whole_expr))]
-fn whole_expr(alloc: Global, tokens: &mut Tokens<'_>) -> Result<Expr, Fault>
+fn whole_expr(alloc: Global, tokens: &mut Tokens<'_>) -> Result<Boxed<Expr>, Fault>
     ensures { Reads view (spec.whole_expr tokens.old) result tokens.new }
 {
     let level = Level {
@@ -53,12 +53,12 @@ fn pattern(alloc: Global, tokens: &mut Tokens<'_>) -> Result<Pattern, Fault>
 {
     let first = whole_expr(alloc, tokens)?;
     if !is(tokens.ahead(), Terminal::Comma) {
-        return Ok(Pattern::Expr(first));
+        return Ok(Pattern::Expr(first.into_inner()));
     }
     let (first, _comma) = pair(first, tokens.one(Terminal::Comma))?;
     tokens.skip();
     let (first, last) = pair(first, whole_expr(alloc, tokens))?;
-    Ok(Pattern::Range(first, last))
+    Ok(Pattern::Range(first.into_inner(), last.into_inner()))
 }
 
 /// A pattern by itself, where an item may end.

@@ -11,7 +11,7 @@ use awk_chains::Level;
 use awk_expressions::{Tokens, is, joined, pair};
 use awk_text::place::Place;
 use awk_tree::{Expr, Fault, Goal, Printed, Redirection, Statement, Terminal};
-use sqlite_items::Items;
+use sqlite_items::{Boxed, Items};
 
 fn is_several(items: &Items<Expr>) -> bool
     ensures { result ≡ spec.is_several (map view items.now) }
@@ -24,7 +24,7 @@ fn is_several(items: &Items<Expr>) -> bool
 
 /// `, expr`
 #[tactic(auto, unfolding(awk_tree::specs::Statements::next_printed))]
-fn next_printed(level: &Level, tokens: &mut Tokens<'_>) -> Result<Expr, Fault>
+fn next_printed(level: &Level, tokens: &mut Tokens<'_>) -> Result<Boxed<Expr>, Fault>
     ensures { Reads view (spec.next_printed level.now.depth (expr level.now.depth) tokens.old) result tokens.new }
 {
     tokens.one(Terminal::Comma)?;
@@ -41,7 +41,7 @@ fn more_printed(level: &Level, tokens: &mut Tokens<'_>) -> Result<Items<Expr>, F
         if !is(Terminal::Comma, tokens.ahead()) {
             return Ok(found);
         }
-        found.push(next_printed(level, tokens)?)?;
+        found.push(next_printed(level, tokens)?.into_inner())?;
     }
     if is(Terminal::Comma, tokens.ahead()) {
         Err(tokens.refuse())
@@ -52,13 +52,17 @@ fn more_printed(level: &Level, tokens: &mut Tokens<'_>) -> Result<Items<Expr>, F
 
 /// The list, from its first item on.
 #[tactic(auto, unfolding(awk_tree::specs::Statements::printed_rest))]
-fn printed_rest(level: &Level, tokens: &mut Tokens<'_>, first: Expr) -> Result<Printed<Expr>, Fault>
+fn printed_rest(
+    level: &Level,
+    tokens: &mut Tokens<'_>,
+    first: Boxed<Expr>,
+) -> Result<Printed<Expr>, Fault>
     ensures { Reads view_printed (spec.printed_rest level.now.depth (expr level.now.depth) (view first) tokens.old) result tokens.new }
 {
     let (first, more) = pair(first, more_printed(level, tokens))?;
     Ok(Printed {
         is_grouped: false,
-        items: joined(level.alloc, first, more)?,
+        items: joined(level.alloc, first.into_inner(), more)?,
     })
 }
 
@@ -69,7 +73,7 @@ fn printed_from(
     level: &Level,
     tokens: &mut Tokens<'_>,
     place: Place,
-    first: Expr,
+    first: Boxed<Expr>,
     more: Items<Expr>,
 ) -> Result<Printed<Expr>, Fault>
     ensures { Reads view_printed (spec.printed_from level.now.depth (expr level.now.depth) place (view first) (map view more) tokens.old) result tokens.new }
@@ -77,7 +81,7 @@ fn printed_from(
     if is_several(&more) && ends_print(tokens.ahead()) {
         return Ok(Printed {
             is_grouped: true,
-            items: joined(level.alloc, first, more)?,
+            items: joined(level.alloc, first.into_inner(), more)?,
         });
     }
     let left = level.grouped(tokens, true, place, first, more)?;
@@ -134,7 +138,7 @@ fn redirection(level: &Level, tokens: &mut Tokens<'_>) -> Result<Option<Redirect
     Ok(Some(Redirection {
         how,
         place: token.place,
-        target: level.cat(tokens)?,
+        target: level.cat(tokens)?.into_inner(),
     }))
 }
 

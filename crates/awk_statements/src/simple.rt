@@ -11,6 +11,7 @@ use crate::prints::{print, printf};
 use awk_chains::Level;
 use awk_expressions::{Tokens, is, name_of, pair, refused};
 use awk_tree::{Expr, Fault, Goal, Statement, Terminal};
+use sqlite_items::Boxed;
 
 /// The statement, where it ends here: with `;`, a newline, or before `}`.
 #[tactic(auto, unfolding(awk_tree::specs::Statements::ended))]
@@ -46,7 +47,7 @@ fn perhaps_here(level: &Level, tokens: &mut Tokens<'_>) -> Result<Option<Expr>, 
     if is(tokens.ahead(), Terminal::End) {
         return Ok(None);
     }
-    Ok(Some(level.expression(tokens, false)?))
+    Ok(Some(level.expression(tokens, false)?.into_inner()))
 }
 
 /// `delete NAME [ list ]`
@@ -67,7 +68,7 @@ fn delete(level: &Level, tokens: &mut Tokens<'_>) -> Result<Statement, Fault>
 fn plain(level: &Level, tokens: &mut Tokens<'_>) -> Result<Statement, Fault>
     ensures { Reads view_statement (and_then (expression level.now.depth (expr level.now.depth) false tokens.old) (λ x ts. Ok (tree.plain x, ts))) result tokens.new }
 {
-    Ok(Statement::Expr(level.expression(tokens, false)?))
+    Ok(Statement::Expr(level.expression(tokens, false)?.into_inner()))
 }
 
 /// `exit [ expr ]`
@@ -116,7 +117,7 @@ pub fn simple(level: &Level, tokens: &mut Tokens<'_>) -> Result<Statement, Fault
 
 /// `( expr )`
 #[tactic(auto, unfolding(awk_tree::specs::Statements::condition))]
-pub fn condition(level: &Level, tokens: &mut Tokens<'_>) -> Result<Expr, Fault>
+pub fn condition(level: &Level, tokens: &mut Tokens<'_>) -> Result<Boxed<Expr>, Fault>
     ensures { Reads view (spec.condition level.now.depth (expr level.now.depth) tokens.old) result tokens.new }
 {
     tokens.one(Terminal::OpenParen)?;
@@ -140,5 +141,5 @@ pub fn perhaps_until(
     }
     let found = level.nested(tokens, Goal::Expr(false))?;
     let (found, _end) = pair(found, tokens.exactly(end))?;
-    Ok(Some(found))
+    Ok(Some(found.into_inner()))
 }
