@@ -9,6 +9,7 @@ use awk_text::octets::Octets;
 use awk_text::texts::MOST_BYTES;
 use awk_text::value::{Value, text_of};
 use std::alloc::Global;
+use std::process::Abort;
 use std::test::Fail;
 
 /// The fields of the text, each in brackets.
@@ -157,9 +158,14 @@ fn paragraphs_have_fields(rt: HostRuntime) -> Result<(), Fail> {
     Ok(())
 }
 
+// A test holds what is tried, and its rows borrow that: what is held is let go on each way out.
+
 #[test]
 fn a_reader_waits_for_the_end_of_a_record(rt: HostRuntime) -> Result<(), Fail> {
-    let mut reader = Reader::new(rt.alloc());
+    waits(&rt, &mut Reader::new(rt.alloc()))
+}
+
+fn waits(rt: &impl Abort, reader: &mut Reader) -> Result<(), Fail> {
     assert!(rt; matches!(reader.take(b"\n")?, Taken::NeedMore));
     reader.push(b"a\nbb")?;
     assert!(rt;
@@ -217,14 +223,22 @@ fn field(alloc: Global, record: &mut Record, n: i64) -> Result<Vec<u8>, Fault> {
     text_of(alloc, &value)
 }
 
+/// A record whose fields stand between blanks.
+fn set_whole(alloc: Global, record: &mut Record, text: &[u8]) -> Result<(), Fail> {
+    let splitter = Splitter::new(alloc, b" ", false)?;
+    Ok(record.set_whole(octets(alloc, text)?, splitter)?)
+}
+
 #[test]
 fn setting_a_field_rebuilds_the_text(rt: HostRuntime) -> Result<(), Fail> {
     let mut record = Record::new(rt.alloc());
-    record.set_whole(
-        octets(rt.alloc(), b"a b")?,
-        Splitter::new(rt.alloc(), b" ", false)?,
-    )?;
-    record.set_field(4, text(rt.alloc(), b"z")?, b"-")?;
+    is_rebuilt(&rt, rt.alloc(), &mut record)?;
+    loses_its_blanks(&rt, rt.alloc(), &mut record)
+}
+
+fn is_rebuilt(rt: &impl Abort, alloc: Global, record: &mut Record) -> Result<(), Fail> {
+    set_whole(alloc, record, b"a b")?;
+    record.set_field(4, text(alloc, b"z")?, b"-")?;
     assert_eq!(rt; record.whole(), b"a-b--z".as_slice());
     assert_eq!(rt; record.count()?, 4);
     assert!(rt; matches!(record.get(3)?, Value::Unset));
@@ -232,27 +246,27 @@ fn setting_a_field_rebuilds_the_text(rt: HostRuntime) -> Result<(), Fail> {
     assert!(rt; matches!(record.get(5)?, Value::Unset));
     record.set_count(1, b"-")?;
     assert_eq!(rt; record.whole(), b"a".as_slice());
-    assert_eq!(rt;
-        field(rt.alloc(), &mut record, 0)?.as_slice(),
-        b"a".as_slice()
-    );
-    record.set_whole(
-        octets(rt.alloc(), b" a  b ")?,
-        Splitter::new(rt.alloc(), b" ", false)?,
-    )?;
+    assert_eq!(rt; field(alloc, record, 0)?.as_slice(), b"a".as_slice());
+    Ok(())
+}
+
+fn loses_its_blanks(rt: &impl Abort, alloc: Global, record: &mut Record) -> Result<(), Fail> {
+    set_whole(alloc, record, b" a  b ")?;
     record.set_field(4, number(-7), b" ")?;
     assert_eq!(rt; record.whole(), b"a b  -7".as_slice());
     assert_eq!(rt; record.count()?, 4);
-    assert_eq!(rt;
-        field(rt.alloc(), &mut record, 2)?.as_slice(),
-        b"b".as_slice()
-    );
+    assert_eq!(rt; field(alloc, record, 2)?.as_slice(), b"b".as_slice());
     Ok(())
 }
 
 #[test]
 fn numbers_of_fields_have_limits(rt: HostRuntime) -> Result<(), Fail> {
     let mut record = Record::new(rt.alloc());
+    refuses_numbers(&rt, &mut record);
+    has_the_most_fields(&rt, &mut record)
+}
+
+fn refuses_numbers(rt: &impl Abort, record: &mut Record) {
     for n in [-1, 65536, i64::MIN, i64::MAX] {
         assert!(rt; matches!(record.get(n), Err(Fault::FieldNumber)), "{n}");
         assert!(rt;
@@ -273,6 +287,9 @@ fn numbers_of_fields_have_limits(rt: HostRuntime) -> Result<(), Fail> {
             Err(Fault::FieldNumber)
         )
     );
+}
+
+fn has_the_most_fields(rt: &impl Abort, record: &mut Record) -> Result<(), Fail> {
     assert_eq!(rt; record.count()?, 0);
     record.set_count(65535, b"")?;
     assert_eq!(rt; record.count()?, 65535);
@@ -284,25 +301,18 @@ fn numbers_of_fields_have_limits(rt: HostRuntime) -> Result<(), Fail> {
 
 #[test]
 fn a_text_that_would_be_too_long_changes_nothing(rt: HostRuntime) -> Result<(), Fail> {
-    let mut record = Record::new(rt.alloc());
-    record.set_whole(
-        octets(rt.alloc(), b"a b")?,
-        Splitter::new(rt.alloc(), b" ", false)?,
-    )?;
-    let most = vec![in rt.alloc(); b'a'; MOST_BYTES]?;
-    let refused = record.set_field(2, Value::Text(Octets::new(most)), b"");
+    stays_as_it_is(&rt, rt.alloc(), &mut Record::new(rt.alloc()))
+}
+
+fn stays_as_it_is(rt: &impl Abort, alloc: Global, record: &mut Record) -> Result<(), Fail> {
+    set_whole(alloc, record, b"a b")?;
+    let most = Octets::new(vec![in alloc; b'a'; MOST_BYTES]?);
+    let refused = record.set_field(2, Value::Text(most), b"");
     assert!(rt; matches!(refused, Err(Fault::TextTooLong)));
     assert_eq!(rt; record.whole(), b"a b".as_slice());
-    assert_eq!(rt;
-        field(rt.alloc(), &mut record, 2)?.as_slice(),
-        b"b".as_slice()
-    );
-    assert!(rt;
-        matches!(
-            record.set_count(300, most_ofs(rt.alloc())?.as_slice()),
-            Err(Fault::TextTooLong)
-        )
-    );
+    assert_eq!(rt; field(alloc, record, 2)?.as_slice(), b"b".as_slice());
+    let refused = record.set_count(300, most_ofs(alloc)?.as_slice());
+    assert!(rt; matches!(refused, Err(Fault::TextTooLong)));
     assert_eq!(rt; record.count()?, 2);
     Ok(())
 }

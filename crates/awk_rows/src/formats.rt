@@ -1,9 +1,12 @@
 // What no clause says: that calls succeed, and that the definitions mean what was meant.
-use crate::values::{input, text};
+use crate::values::{input, octets, text};
 use awk_format::format;
+use awk_text::Memory;
 use awk_text::fault::Fault;
 use awk_text::texts::MOST_BYTES;
 use awk_text::value::Value;
+use std::alloc::Global;
+use std::process::Abort;
 use std::test::Fail;
 
 #[test]
@@ -45,37 +48,51 @@ fn numbers_are_shown(rt: HostRuntime) -> Result<(), Fail> {
     Ok(())
 }
 
+// A value that is held is let go on each way out, so these take or borrow it.
+
+fn is_shown(
+    rt: &impl Abort,
+    alloc: Global,
+    form: &[u8],
+    value: Result<Value, Memory>,
+    want: &[u8],
+) -> Result<(), Fail> {
+    let shown = format(alloc, form, &[value?])?;
+    assert_eq!(rt; shown.as_slice(), want, "{form:?}");
+    Ok(())
+}
+
 #[test]
 fn texts_are_shown(rt: HostRuntime) -> Result<(), Fail> {
     let alloc = rt.alloc();
-    let table: [(&[u8], Value, &[u8]); 9] = [
-        (b"%.3s", text(alloc, b"abcdef")?, b"abc"),
-        (b"%-5s|", text(alloc, b"ab")?, b"ab   |"),
-        (b"%05s", text(alloc, b"ab")?, b"   ab"),
-        (b"%s", Value::Num(-12), b"-12"),
-        (b"%3c|", Value::Unset, b"   |"),
-        (b"%.0c", text(alloc, b"abc")?, b"a"),
-        (b"%c", input(alloc, b" 65 ")?, b"A"),
-        (b"%c", input(alloc, b"65x")?, b"6"),
-        (b"%d", input(alloc, b"12ab")?, b"12"),
-    ];
-    for (form, value, want) in table {
-        let shown = format(alloc, form, &[value])?;
-        assert_eq!(rt; shown.as_slice(), want, "{form:?}");
-    }
+    is_shown(&rt, alloc, b"%.3s", text(alloc, b"abcdef"), b"abc")?;
+    is_shown(&rt, alloc, b"%-5s|", text(alloc, b"ab"), b"ab   |")?;
+    is_shown(&rt, alloc, b"%05s", text(alloc, b"ab"), b"   ab")?;
+    is_shown(&rt, alloc, b"%s", Ok(Value::Num(-12)), b"-12")?;
+    is_shown(&rt, alloc, b"%3c|", Ok(Value::Unset), b"   |")?;
+    is_shown(&rt, alloc, b"%.0c", text(alloc, b"abc"), b"a")?;
+    is_shown(&rt, alloc, b"%c", input(alloc, b" 65 "), b"A")?;
+    is_shown(&rt, alloc, b"%c", input(alloc, b"65x"), b"6")?;
+    is_shown(&rt, alloc, b"%d", input(alloc, b"12ab"), b"12")
+}
+
+#[test]
+fn values_are_taken_in_order(rt: HostRuntime) -> Result<(), Fail> {
+    let ab = text(rt.alloc(), b"ab")?;
     let values = [
         Value::Num(42),
-        text(alloc, b"ab")?,
+        ab,
         Value::Num(-7),
         Value::Num(255),
         Value::Num(65),
     ];
-    let shown = format(alloc, b"%5d|%-5s|%05d|%x|%c\n", &values)?;
+    are_taken(&rt, rt.alloc(), &values)
+}
+
+fn are_taken(rt: &impl Abort, alloc: Global, values: &[Value]) -> Result<(), Fail> {
+    let shown = format(alloc, b"%5d|%-5s|%05d|%x|%c\n", values)?;
     assert_eq!(rt; shown.as_slice(), b"   42|ab   |-0007|ff|A\n".as_slice());
-    assert_eq!(rt;
-        format(alloc, b"%%|", &values)?.as_slice(),
-        b"%|".as_slice()
-    );
+    assert_eq!(rt; format(alloc, b"%%|", values)?.as_slice(), b"%|".as_slice());
     assert_eq!(rt; format(alloc, b"%65535d", &[Value::Num(1)])?.len(), 65_535);
     Ok(())
 }
@@ -97,18 +114,26 @@ fn the_leftmost_fault_comes_first(rt: HostRuntime) -> Result<(), Fail> {
         let fault = format(alloc, form, &[Value::Num(1)]).err();
         assert_eq!(rt; fault, Some(Fault::Format), "{form:?}");
     }
-    let far = [text(alloc, b"99999999999999999999")?];
-    assert_eq!(rt;
-        format(alloc, b"%d %d", &far).err(),
-        Some(Fault::OutOfRange)
-    );
-    assert_eq!(rt; format(alloc, b"%e %d", &far).err(), Some(Fault::Format));
-    let long = [text(alloc, &vec![in alloc; 0u8; MOST_BYTES]?)?];
-    assert_eq!(rt; format(alloc, b"%s", &long)?.len(), MOST_BYTES);
-    assert_eq!(rt;
-        format(alloc, b"%s.", &long).err(),
-        Some(Fault::TextTooLong)
-    );
-    assert_eq!(rt; format(alloc, b"%s.%d", &long).err(), Some(Fault::Format));
+    is_refused(&rt, alloc, b"%d %d", text(alloc, FAR)?, Fault::OutOfRange);
+    is_refused(&rt, alloc, b"%e %d", text(alloc, FAR)?, Fault::Format);
+    Ok(())
+}
+
+const FAR: &[u8] = b"99999999999999999999";
+
+fn is_refused(rt: &impl Abort, alloc: Global, form: &[u8], value: Value, want: Fault) {
+    assert_eq!(rt; format(alloc, form, &[value]).err(), Some(want));
+}
+
+#[test]
+fn a_text_may_have_the_most_bytes(rt: HostRuntime) -> Result<(), Fail> {
+    let longest = octets(rt.alloc(), &vec![in rt.alloc(); 0u8; MOST_BYTES]?)?;
+    has_the_most(&rt, rt.alloc(), &[Value::Text(longest)])
+}
+
+fn has_the_most(rt: &impl Abort, alloc: Global, long: &[Value]) -> Result<(), Fail> {
+    assert_eq!(rt; format(alloc, b"%s", long)?.len(), MOST_BYTES);
+    assert_eq!(rt; format(alloc, b"%s.", long).err(), Some(Fault::TextTooLong));
+    assert_eq!(rt; format(alloc, b"%s.%d", long).err(), Some(Fault::Format));
     Ok(())
 }

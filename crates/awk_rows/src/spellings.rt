@@ -11,48 +11,65 @@ use std::alloc::Global;
 
 const PLACE: Place = Place { line: 3, column: 7 };
 
-fn name(alloc: Global, text: &[u8]) -> Result<Expr, Memory> {
-    Ok(Expr::Name(Name {
-        text: octets(alloc, text)?,
-        place: PLACE,
-        slot: Slot::Unbound,
-    }))
+// Trees are handed on in their boxes, as the parser does.
+
+fn name(alloc: Global, text: &[u8]) -> Result<Boxed<Expr>, Memory> {
+    let text = octets(alloc, text)?;
+    Boxed::new(
+        alloc,
+        Expr::Name(Name {
+            text,
+            place: PLACE,
+            slot: Slot::Unbound,
+        }),
+    )
+}
+
+fn number(alloc: Global, digits: &[u8]) -> Result<Boxed<Expr>, Memory> {
+    let digits = octets(alloc, digits)?;
+    Boxed::new(alloc, Expr::Number(PLACE, digits))
 }
 
 /// `$ 1 - b`
-fn difference(alloc: Global) -> Result<Expr, Memory> {
-    let one = Boxed::new(alloc, Expr::Number(PLACE, octets(alloc, b"1")?))?;
-    let field = Boxed::new(alloc, Expr::Field(PLACE, one))?;
+fn difference(alloc: Global) -> Result<Boxed<Expr>, Memory> {
+    let field = Boxed::new(alloc, Expr::Field(PLACE, number(alloc, b"1")?))?;
+    let operand = name(alloc, b"b")?;
     let mut terms = Items::new(alloc);
     terms.push(Term {
         operator: Arithmetic::Subtract,
         place: PLACE,
-        operand: name(alloc, b"b")?,
+        operand: operand.into_inner(),
     })?;
-    Ok(Expr::Sum(field, terms))
+    Boxed::new(alloc, Expr::Sum(field, terms))
 }
 
-/// `if ( a ) print $ 1 - b , c ; else next ;`
-fn choice(alloc: Global) -> Result<Statement, Memory> {
+/// `print $ 1 - b , c`
+fn print(alloc: Global) -> Result<Boxed<Statement>, Memory> {
     let mut items = Items::new(alloc);
-    items.push(difference(alloc)?)?;
-    items.push(name(alloc, b"c")?)?;
+    items.push(difference(alloc)?.into_inner())?;
+    items.push(name(alloc, b"c")?.into_inner())?;
     let printed = Printed {
         is_grouped: false,
         items,
     };
-    let print = Boxed::new(alloc, Statement::Print(PLACE, printed, None))?;
+    Boxed::new(alloc, Statement::Print(PLACE, printed, None))
+}
+
+/// `if ( a ) print $ 1 - b , c ; else next ;`
+fn choice(alloc: Global) -> Result<Boxed<Statement>, Memory> {
+    let a = name(alloc, b"a")?;
+    let print = print(alloc)?;
     let next = Boxed::new(alloc, Statement::Next(PLACE))?;
-    Ok(Statement::IfElse(name(alloc, b"a")?, print, next))
+    Boxed::new(alloc, Statement::IfElse(a.into_inner(), print, next))
 }
 
 /// `x , y { if ( a ) print $ 1 - b , c ; else next ; }`
 fn script(alloc: Global) -> Result<Script, Memory> {
     let mut body = Items::new(alloc);
-    body.push(choice(alloc)?)?;
-    let pattern = Pattern::Range(name(alloc, b"x")?, name(alloc, b"y")?);
+    body.push(choice(alloc)?.into_inner())?;
+    let (x, y) = (name(alloc, b"x")?, name(alloc, b"y")?);
     let mut items = Items::new(alloc);
-    items.push(Item::Rule(pattern, body))?;
+    items.push(Item::Rule(Pattern::Range(x.into_inner(), y.into_inner()), body))?;
     Ok(Script::new(items))
 }
 

@@ -1,5 +1,7 @@
 // What no clause says: that calls succeed, and that the definitions mean what was meant.
 use crate::values::{input, octets, text};
+use Ordering::{Equal, Greater, Less};
+use awk_text::Memory;
 use awk_text::arithmetic::{add, div, mul, neg, pow, rem, sub};
 use awk_text::escape::unescape;
 use awk_text::fault::Fault;
@@ -7,7 +9,9 @@ use awk_text::numeral::looks_numeric;
 use awk_text::quote::quote_log;
 use awk_text::texts::{MOST_BYTES, join};
 use awk_text::value::{Value, compare, number_of, text_of, truth};
+use std::alloc::Global;
 use std::cmp::Ordering;
+use std::process::Abort;
 use std::test::Fail;
 
 #[test]
@@ -53,71 +57,100 @@ fn numbers_are_read(rt: HostRuntime) -> Result<(), Fail> {
     for bytes in refused {
         assert_eq!(rt; looks_numeric(bytes), None, "{bytes:?}");
     }
-    assert_eq!(rt; number_of(&text(alloc, b"12ab")?), Ok(12));
-    assert_eq!(rt; number_of(&input(alloc, b"3.5")?), Ok(3));
-    assert_eq!(rt; number_of(&text(alloc, b" - 5")?), Ok(0));
-    assert_eq!(rt;
-        number_of(&text(alloc, b"99999999999999999999")?),
-        Err(Fault::OutOfRange)
-    );
-    assert_eq!(rt; number_of(&Value::Unset), Ok(0));
-    assert_eq!(rt; number_of(&Value::Num(-3)), Ok(-3));
+    has_number(&rt, text(alloc, b"12ab"), Ok(12))?;
+    has_number(&rt, input(alloc, b"3.5"), Ok(3))?;
+    has_number(&rt, text(alloc, b" - 5"), Ok(0))?;
+    has_number(&rt, text(alloc, FAR), Err(Fault::OutOfRange))?;
+    has_number(&rt, Ok(Value::Unset), Ok(0))?;
+    has_number(&rt, Ok(Value::Num(-3)), Ok(-3))
+}
+
+const FAR: &[u8] = b"99999999999999999999";
+
+// A value that is held is let go on each way out, so the rows hand it on as it is made.
+
+fn has_number(
+    rt: &impl Abort,
+    value: Result<Value, Memory>,
+    want: Result<i64, Fault>,
+) -> Result<(), Fail> {
+    assert_eq!(rt; number_of(&value?), want);
+    Ok(())
+}
+
+fn compares(
+    rt: &impl Abort,
+    a: Result<Value, Memory>,
+    b: Result<Value, Memory>,
+    want: Ordering,
+) -> Result<(), Fail> {
+    let (a, b) = (a?, b?);
+    assert_eq!(rt; compare(&a, &b), want);
+    Ok(())
+}
+
+fn is_true(rt: &impl Abort, value: Result<Value, Memory>, want: bool) -> Result<(), Fail> {
+    assert_eq!(rt; truth(&value?), want);
     Ok(())
 }
 
 #[test]
 fn values_are_compared_and_tested(rt: HostRuntime) -> Result<(), Fail> {
     let alloc = rt.alloc();
-    let (ten, nine) = (input(alloc, b"10")?, input(alloc, b"9")?);
-    assert_eq!(rt; compare(&ten, &nine), Ordering::Greater);
-    assert_eq!(rt; compare(&ten, &text(alloc, b"9")?), Ordering::Less);
-    assert_eq!(rt;
-        compare(&Value::Num(-12), &text(alloc, b"-12")?),
-        Ordering::Equal
-    );
-    assert_eq!(rt; compare(&Value::Unset, &Value::Num(0)), Ordering::Equal);
-    assert_eq!(rt; compare(&Value::Unset, &text(alloc, b"")?), Ordering::Equal);
-    assert_eq!(rt;
-        compare(&input(alloc, b"3.5")?, &Value::Num(25)),
-        Ordering::Greater
-    );
-    for value in [Value::Num(-1), text(alloc, b"0")?, input(alloc, b"0x")?] {
-        assert!(rt; truth(&value));
-    }
-    for value in [
-        Value::Unset,
-        Value::Num(0),
-        text(alloc, b"")?,
-        input(alloc, b" -0 ")?,
-    ] {
-        assert!(rt; !truth(&value));
-    }
+    compares(&rt, input(alloc, b"10"), input(alloc, b"9"), Greater)?;
+    compares(&rt, input(alloc, b"10"), text(alloc, b"9"), Less)?;
+    compares(&rt, Ok(Value::Num(-12)), text(alloc, b"-12"), Equal)?;
+    compares(&rt, Ok(Value::Unset), Ok(Value::Num(0)), Equal)?;
+    compares(&rt, Ok(Value::Unset), text(alloc, b""), Equal)?;
+    compares(&rt, input(alloc, b"3.5"), Ok(Value::Num(25)), Greater)?;
+    is_true(&rt, Ok(Value::Num(-1)), true)?;
+    is_true(&rt, text(alloc, b"0"), true)?;
+    is_true(&rt, input(alloc, b"0x"), true)?;
+    is_true(&rt, Ok(Value::Unset), false)?;
+    is_true(&rt, Ok(Value::Num(0)), false)?;
+    is_true(&rt, text(alloc, b""), false)?;
+    is_true(&rt, input(alloc, b" -0 "), false)
+}
+
+fn is_shown(
+    rt: &impl Abort,
+    alloc: Global,
+    value: Result<Value, Memory>,
+    want: &[u8],
+) -> Result<(), Fail> {
+    let shown = text_of(alloc, &value?)?;
+    assert_eq!(rt; shown.as_slice(), want);
     Ok(())
 }
 
 #[test]
-fn texts_are_made(rt: HostRuntime) -> Result<(), Fail> {
+fn values_are_shown(rt: HostRuntime) -> Result<(), Fail> {
     let alloc = rt.alloc();
-    assert_eq!(rt;
-        text_of(alloc, &Value::Num(-12))?.as_slice(),
-        b"-12".as_slice()
-    );
-    assert_eq!(rt;
-        text_of(alloc, &Value::Num(i64::MIN))?.as_slice(),
-        b"-9223372036854775808".as_slice()
-    );
-    assert_eq!(rt;
-        text_of(alloc, &text(alloc, b"ab")?)?.as_slice(),
-        b"ab".as_slice()
-    );
-    assert_eq!(rt; text_of(alloc, &Value::Unset)?.as_slice(), b"".as_slice());
+    is_shown(&rt, alloc, Ok(Value::Num(-12)), b"-12")?;
+    is_shown(
+        &rt,
+        alloc,
+        Ok(Value::Num(i64::MIN)),
+        b"-9223372036854775808",
+    )?;
+    is_shown(&rt, alloc, text(alloc, b"ab"), b"ab")?;
+    is_shown(&rt, alloc, Ok(Value::Unset), b"")
+}
+
+#[test]
+fn texts_are_copied(rt: HostRuntime) -> Result<(), Fail> {
+    let alloc = rt.alloc();
     let copy = input(alloc, b"abc")?.copy(alloc)?;
     assert!(rt; matches!(copy, Value::Input(_)));
-    assert_eq!(rt; text_of(alloc, &copy)?.as_slice(), b"abc".as_slice());
-    assert_eq!(rt;
-        octets(alloc, b"abc")?.copy(alloc)?.bytes(),
-        b"abc".as_slice()
-    );
+    is_shown(&rt, alloc, Ok(copy), b"abc")?;
+    let copy = octets(alloc, b"abc")?.copy(alloc)?;
+    assert_eq!(rt; copy.bytes(), b"abc".as_slice());
+    Ok(())
+}
+
+#[test]
+fn texts_are_joined(rt: HostRuntime) -> Result<(), Fail> {
+    let alloc = rt.alloc();
     assert_eq!(rt; join(alloc, b"-12", b" ")?.as_slice(), b"-12 ".as_slice());
     let most = vec![in alloc; 0u8; MOST_BYTES]?;
     assert_eq!(rt; join(alloc, &most, b"")?.len(), MOST_BYTES);

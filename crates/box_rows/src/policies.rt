@@ -110,32 +110,39 @@ fn rules_are_refused_in_order(rt: HostRuntime) -> Result<(), Fail> {
     Ok(())
 }
 
-#[test]
-fn limits(rt: HostRuntime) -> Result<(), Fail> {
-    let alloc = rt.alloc();
-    let mut text = String::from_str(alloc, "version = 1\nbase = \"/w\"\n")?;
-    for _ in 0..1024 {
-        text.push_str("[[rule]]\neffect = \"deny\"\nkind = \"run\"\nmatch = \"a\"\n")?;
-    }
-    let policy = Policy::read(alloc, text.as_bytes())?;
-    assert_eq!(rt; policy.count(), 1024);
-    text.push_str("[[rule]]\nmode = 1\n")?;
-    assert_eq!(rt; refusal(alloc, text.as_bytes()), (7, 0));
+const RULE: &str = "[[rule]]\neffect = \"deny\"\nkind = \"run\"\nmatch = \"a\"\n";
 
-    let mut line = String::from_str(alloc, "effect = \"deny\"\nkind = \"run\"\nmatch = \"")?;
-    for _ in 0..4096 {
-        line.push('a')?;
-    }
-    let longest = format!(in alloc; "{line}\"")?;
-    assert_eq!(rt;
-        refusal(alloc, one_rule(alloc, longest.as_str())?.as_bytes()),
-        (0, 0)
-    );
-    let too_long = format!(in alloc; "{line}*\"")?;
-    assert_eq!(rt;
-        refusal(alloc, one_rule(alloc, too_long.as_str())?.as_bytes()),
-        (7, 1)
-    );
+/// A policy of the most rules, and then an end.
+fn most_rules(alloc: Global, end: &str) -> Result<String, AllocError> {
+    let rules = repeated(alloc, RULE, 1024, end)?;
+    format!(in alloc; "version = 1\nbase = \"/w\"\n{rules}")
+}
+
+#[test]
+fn a_policy_may_have_the_most_rules(rt: HostRuntime) -> Result<(), Fail> {
+    let text = most_rules(rt.alloc(), "")?;
+    assert_eq!(rt; Policy::read(rt.alloc(), text.as_bytes())?.count(), 1024);
+    Ok(())
+}
+
+#[test]
+fn a_rule_more_is_refused(rt: HostRuntime) -> Result<(), Fail> {
+    let text = most_rules(rt.alloc(), "[[rule]]\nmode = 1\n")?;
+    assert_eq!(rt; refusal(rt.alloc(), text.as_bytes()), (7, 0));
+    Ok(())
+}
+
+/// The refusal of a rule whose command is of 4096 bytes, and then an end.
+fn of_long_command(alloc: Global, end: &str) -> Result<(u8, u32), AllocError> {
+    let command = repeated(alloc, "a", 4096, end)?;
+    let lines = format!(in alloc; "effect = \"deny\"\nkind = \"run\"\nmatch = \"{command}\"")?;
+    Ok(refusal(alloc, one_rule(alloc, lines.as_str())?.as_bytes()))
+}
+
+#[test]
+fn a_pattern_has_a_limit(rt: HostRuntime) -> Result<(), Fail> {
+    assert_eq!(rt; of_long_command(rt.alloc(), "")?, (0, 0));
+    assert_eq!(rt; of_long_command(rt.alloc(), "*")?, (7, 1));
     Ok(())
 }
 
