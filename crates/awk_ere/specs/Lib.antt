@@ -7,6 +7,7 @@ pub mod Token
 pub mod Reading
 pub mod Grammar
 pub mod Spelled
+pub mod Refusals
 pub mod Program
 pub mod Search
 pub mod Table

@@ -8,9 +8,10 @@ ghost use Rattle.box_policy.specs.Refusals.{IsRefused, IsRefusedBy, refusal};
 ghost use Rattle.box_policy.specs.Written.{Writes, Written};
 
 use crate::error::PolicyError;
-use crate::matching::{Sort, path_fits, text_fits};
+use crate::matching::{path_fits, text_fits};
 use crate::names::{can_resolve, is_text};
 use crate::reading::{read_document, read_rules, read_table};
+use crate::tokens::Sort;
 use awk_text::octets::Octets;
 use std::alloc::Global;
 use std::marker::Model;
