@@ -4,6 +4,7 @@ use crate::problem::Problem;
 use crate::row::{Arg, Row};
 use awk_text::escape::unescape;
 use awk_text::numeral::leading_digits;
+use memchr::memchr;
 use std::alloc::Global;
 
 /// What is left of a table.
@@ -58,13 +59,16 @@ impl<'a> Cursor<'a> {
     }
 
     fn skip_blanks(&mut self) {
-        let blanks = self.rest.iter().position(|b| *b != b' ');
-        self.take(blanks.unwrap_or(self.rest.len()));
+        for _ in 0..self.rest.len() {
+            match self.rest {
+                [b' ', rest @ ..] => self.rest = rest,
+                _ => return,
+            }
+        }
     }
 
     fn skip_line(&mut self) {
-        let end = self.rest.iter().position(|b| *b == b'\n');
-        self.take(end.unwrap_or(self.rest.len()));
+        self.take(memchr(b'\n', self.rest).unwrap_or(self.rest.len()));
     }
 
     // Empty lines, and those that begin with `#`.
@@ -95,8 +99,7 @@ impl<'a> Cursor<'a> {
             }
             [b'`', rest @ ..] => {
                 self.take(1);
-                let end = rest.iter().position(|b| *b == b'`');
-                let body = self.take(end.unwrap_or(rest.len()));
+                let body = self.take(memchr(b'`', rest).unwrap_or(rest.len()));
                 self.take(1);
                 Ok(Some(Vec::from_slice(alloc, body)?))
             }

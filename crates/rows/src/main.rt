@@ -7,7 +7,9 @@ mod args;
 mod cursor;
 mod fields;
 mod formats;
+mod monitors;
 mod patterns;
+mod policies;
 mod problem;
 mod records;
 mod report;
@@ -16,6 +18,7 @@ mod shown;
 mod table;
 mod tokens;
 mod values;
+mod worlds;
 
 use report::Report;
 use std::process::ExitCode;

@@ -59,7 +59,9 @@ fn of_ere(alloc: Global, ere: &Ere, args: &[Arg<'_>]) -> Answer {
         b"pattern" => bytes(alloc, b"accepted"),
         b"find" => find(alloc, ere, text(args, 2)?, 0),
         b"find_from" => {
-            let from = usize::try_from(number(args, 3)?).map_err(|_| Problem::NoArgument)?;
+            let Ok(from) = usize::try_from(number(args, 3)?) else {
+                return Err(Problem::NoArgument);
+            };
             find(alloc, ere, text(args, 2)?, from)
         }
         b"is_match" => yes_or_no(alloc, ere.is_match(text(args, 2)?)?),

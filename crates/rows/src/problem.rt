@@ -3,6 +3,8 @@
 use awk_ere::EreError;
 use awk_text::fault::Fault;
 use awk_tokens::SyntaxError;
+use box_policy::error::PolicyError;
+use box_world::ask::Stop;
 use std::alloc::{AllocError, AllocFailed};
 use std::fmt;
 
@@ -17,8 +19,11 @@ pub enum Problem {
     NoArgument,
     /// Two ways that are to answer the same do not.
     TwoAnswers,
+    /// The world did not do what the call begins with.
+    NotDone,
     Fault(Fault),
     Pattern(EreError),
+    Policy(PolicyError),
     Script(SyntaxError),
 }
 
@@ -29,8 +34,10 @@ impl fmt::Display for Problem {
             Problem::NoCall => f.write_str("there is no such call"),
             Problem::NoArgument => f.write_str("an argument is missing or of another sort"),
             Problem::TwoAnswers => f.write_str("two ways give two answers"),
+            Problem::NotDone => f.write_str("the world did not do it"),
             Problem::Fault(fault) => write!(f, "F{} {}", fault.code(), fault.text()),
             Problem::Pattern(error) => write!(f, "E{}", error.code),
+            Problem::Policy(error) => error.fmt(f),
             Problem::Script(error) => error.fmt(f),
         }
     }
@@ -45,6 +52,21 @@ impl From<Fault> for Problem {
 impl From<EreError> for Problem {
     fn from(error: EreError) -> Problem {
         Problem::Pattern(error)
+    }
+}
+
+impl From<PolicyError> for Problem {
+    fn from(error: PolicyError) -> Problem {
+        Problem::Policy(error)
+    }
+}
+
+impl From<Stop> for Problem {
+    fn from(stop: Stop) -> Problem {
+        match stop {
+            Stop::Memory => Problem::Fault(Fault::Memory),
+            Stop::Log => Problem::Fault(Fault::Log),
+        }
     }
 }
 

@@ -6,6 +6,7 @@ use crate::row::{Arg, Row};
 use crate::shown::{Answer, bytes, show, show_value, told};
 use awk_fields::{Record, Splitter};
 use awk_text::octets::Octets;
+use awk_text::value::text_of;
 use std::alloc::Global;
 
 fn set_whole(alloc: Global, record: &mut Record, fs: &[u8], text: &[u8]) -> Answer {
@@ -39,6 +40,7 @@ fn step(alloc: Global, record: &mut Record, args: &[Arg<'_>]) -> Answer {
         b"set_nf" => set_count(alloc, record, number(args, 1)?, text(args, 2)?),
         b"nf" => show(alloc, record.count()?),
         b"get" => show_value(alloc, &record.get(number(args, 1)?)?),
+        b"text" => Ok(text_of(alloc, &record.get(number(args, 1)?)?)?),
         b"whole" => bytes(alloc, record.whole()),
         _ => Err(Problem::NoCall),
     }

@@ -32,8 +32,13 @@ impl Source<'_> {
     /// The line from whose first byte on so many bytes are left.
     fn line(&self, left: usize) -> usize {
         let before = self.text.len().saturating_sub(left);
-        let newlines = self.text.iter().take(before).filter(|b| **b == b'\n');
-        newlines.count().saturating_add(1)
+        let mut line = 1usize;
+        for byte in self.text.iter().take(before) {
+            if *byte == b'\n' {
+                line = line.saturating_add(1);
+            }
+        }
+        line
     }
 }
 

@@ -3,7 +3,7 @@
 use crate::problem::Problem;
 use crate::row::{Arg, Row};
 use crate::shown::Answer;
-use crate::{fields, formats, patterns, records, tokens, values};
+use crate::{fields, formats, monitors, patterns, policies, records, tokens, values, worlds};
 use awk_text::octets::Octets;
 use std::alloc::Global;
 
@@ -16,15 +16,21 @@ pub enum Table {
     Fields,
     Formats,
     Tokens,
+    Policies,
+    Worlds,
+    Monitors,
 }
 
-pub const TABLES: [Table; 6] = [
+pub const TABLES: [Table; 9] = [
     Table::Values,
     Table::Patterns,
     Table::Searches,
     Table::Fields,
     Table::Formats,
     Table::Tokens,
+    Table::Policies,
+    Table::Worlds,
+    Table::Monitors,
 ];
 
 impl Table {
@@ -36,6 +42,9 @@ impl Table {
             Table::Fields => "fields.txt",
             Table::Formats => "formats.txt",
             Table::Tokens => "tokens.txt",
+            Table::Policies => "policies.txt",
+            Table::Worlds => "worlds.txt",
+            Table::Monitors => "monitors.txt",
         }
     }
 
@@ -47,6 +56,8 @@ impl Table {
             Table::Fields => fields::call(alloc, args),
             Table::Formats => formats::call(alloc, args),
             Table::Tokens => tokens::call(alloc, args),
+            Table::Policies => policies::call(alloc, args),
+            Table::Worlds | Table::Monitors => Err(Problem::NoCall),
         }
     }
 
@@ -54,11 +65,14 @@ impl Table {
     pub fn block(
         self,
         alloc: Global,
-        _args: &[Arg<'_>],
+        args: &[Arg<'_>],
         steps: &[Row<'_>],
     ) -> Result<Vec<Octets>, Problem> {
         match self {
             Table::Fields => records::block(alloc, steps),
+            Table::Policies => policies::block(alloc, args, steps),
+            Table::Worlds => worlds::block(alloc, steps),
+            Table::Monitors => monitors::block(alloc, args, steps),
             _ => Err(Problem::NoCall),
         }
     }
