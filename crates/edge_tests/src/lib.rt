@@ -1,5 +1,5 @@
 //! What only a test can show: a reader and a writer that give and take little or fail, and memory that
-//! is refused. All other worked rows stand in the tables of `rows`.
+//! is refused, and trees made by hand. All other worked rows stand in the tables of `rows`.
 #![tactic(auto)]
 
 #[cfg(test)]
@@ -8,3 +8,5 @@ mod monitors;
 mod policies;
 #[cfg(test)]
 mod readers;
+#[cfg(test)]
+mod spellings;

@@ -40,7 +40,7 @@ fn push_span(alloc: Global, token: &Token, shown: &mut Vec<u8>) -> Result<(), Me
 }
 
 /// The tokens, or their spans, with commas between.
-fn listed(alloc: Global, tokens: &[Token], are_spans: bool) -> Answer {
+pub fn listed(alloc: Global, tokens: &[Token], are_spans: bool) -> Answer {
     let mut shown = Vec::new(alloc);
     for token in tokens {
         if !shown.is_empty() {
