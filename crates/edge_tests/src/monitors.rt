@@ -1,5 +1,4 @@
-// What no clause says: that a denied ask is answered at all, what a line looks like, and what comes
-// of a log that fails.
+// What comes of a log that fails or takes little, and of a world that stops.
 ghost use Rattle.std.specs.Prelude.{◌≡◌, [], false, IfOk, refl};
 ghost use Rattle.std.proofs.Common.{ap, sym, ◌∙◌};
 ghost use Rattle.box_world.specs.Calls.{IsDuty, open_after, open_after-append};
@@ -11,7 +10,6 @@ use box_monitor::log_end::LogEnd;
 use box_monitor::monitor::Monitor;
 use box_policy::policy::Policy;
 use box_world::ask::{Ask, Mode, Reply, Request, Stop};
-use box_world::memory_world::MemoryWorld;
 use box_world::world::World;
 use std::alloc::Global;
 use std::io::{self, ErrorKind, Write};
@@ -109,18 +107,9 @@ const WHOLE: usize = usize::MAX;
 
 const NO_RULES: &[u8] = b"version = 1\nbase = \"/w\"\n";
 
-const ALLOWS_A_COMMAND: &[u8] =
-    b"version = 1\nbase = \"/w\"\n[[rule]]\neffect = \"allow\"\nkind = \"run\"\nmatch = \"date\"\n";
-
-const DENIES_A_COMMAND: &[u8] =
-    b"version = 1\nbase = \"/w\"\n[[rule]]\neffect = \"deny\"\nkind = \"run\"\nmatch = \"id\"\n";
-
 const LINE: &[u8] = b"1:19 write none \"/etc/x\"\n";
 
 const TWO_LINES: &[u8] = b"1:19 write none \"/etc/x\"\n1:19 write none \"/etc/x\"\n";
-
-const FIVE_LINES: &[u8] =
-    b"1:17 read none \"/x\"\n1:17 read none \"/x\"\n1:17 read none \"/x\"\n1:17 read none \"/x\"\n1:17 read none \"/x\"\n";
 
 fn fake_world(stop: Option<Stop>) -> FakeWorld {
     FakeWorld {
@@ -171,120 +160,12 @@ fn fails<W: World>(world: &mut W, ask: &Ask) -> bool
     is_failed(world.ask(ask))
 }
 
-// Asks once, where the answer is to be Failed, and compares the log.
-fn shows(rt: &impl Abort, alloc: Global, policy: &[u8], ask: &Ask, line: &[u8]) -> Result<(), Fail>
-    requires { IsDuty [] ask.now.request }
-{
-    let policy = Policy::read(alloc, policy)?;
-    let mut monitor = Monitor::new(alloc, policy, fake_world(None), Vec::new(alloc));
-    assert!(rt; fails(&mut monitor, ask));
-    assert_eq!(rt; monitor.denials(), 1);
-    let (_, world, log) = monitor.into_parts();
-    assert_eq!(rt; world.asks, 0);
-    assert_eq!(rt; log.as_slice(), line);
-    Ok(())
-}
-
-#[test]
-fn a_denial_is_one_line(rt: HostRuntime) -> Result<(), Fail> {
-    let alloc = rt.alloc();
-    let ask = denied(alloc)?;
-    shows(&rt, alloc, NO_RULES, &ask, LINE)
-}
-
 // Of this row only a denial reaches the monitor, so a wrong one that stops at denials stops at all.
 #[test]
 fn a_monitor_that_stops_at_a_denial_fails_the_row(rt: HostRuntime) -> Result<(), Fail> {
     let ask = denied(rt.alloc())?;
     let mut wrong = fake_world(Some(Stop::Log));
     assert!(rt; !fails(&mut wrong, &ask));
-    Ok(())
-}
-
-#[test]
-fn the_line_names_the_rule_that_denies(rt: HostRuntime) -> Result<(), Fail> {
-    let alloc = rt.alloc();
-    let ask = ask_at(1, 13, Request::System(text(alloc, b"id")?));
-    shows(&rt, alloc, DENIES_A_COMMAND, &ask, b"1:13 run 1 \"id\"\n")
-}
-
-#[test]
-fn the_text_is_quoted(rt: HostRuntime) -> Result<(), Fail> {
-    let alloc = rt.alloc();
-    let ask = ask_at(1, 19, Request::Open(Mode::Write, text(alloc, b"/q\"\t")?));
-    shows(
-        &rt,
-        alloc,
-        NO_RULES,
-        &ask,
-        b"1:19 write none \"/q\\x22\\x09\"\n",
-    )
-}
-
-fn shows_opening(
-    rt: &impl Abort,
-    alloc: Global,
-    mode: Mode,
-    name: &[u8],
-    line: &[u8],
-) -> Result<(), Fail> {
-    let ask = ask_at(1, 17, Request::Open(mode, text(alloc, name)?));
-    shows(rt, alloc, NO_RULES, &ask, line)
-}
-
-#[test]
-fn each_opening_has_its_kind(rt: HostRuntime) -> Result<(), Fail> {
-    let alloc = rt.alloc();
-    shows_opening(&rt, alloc, Mode::Read, b"/x", b"1:17 read none \"/x\"\n")?;
-    shows_opening(&rt, alloc, Mode::Append, b"", b"1:17 append none \"\"\n")?;
-    shows_opening(&rt, alloc, Mode::RunIn, b"id", b"1:17 run none \"id\"\n")?;
-    shows_opening(&rt, alloc, Mode::RunOut, b"id", b"1:17 run none \"id\"\n")
-}
-
-#[test]
-fn a_name_of_the_environment_is_denied(rt: HostRuntime) -> Result<(), Fail> {
-    let alloc = rt.alloc();
-    let ask = ask_at(0, 0, Request::Env(text(alloc, b"HOME")?));
-    shows(&rt, alloc, NO_RULES, &ask, b"0:0 env none \"HOME\"\n")
-}
-
-#[test]
-fn an_assignment_is_denied_by_its_name(rt: HostRuntime) -> Result<(), Fail> {
-    let alloc = rt.alloc();
-    let name = text(alloc, b"FS")?;
-    let ask = ask_at(0, 0, Request::Assign(name, text(alloc, b":")?));
-    shows(&rt, alloc, NO_RULES, &ask, b"0:0 assign none \"FS\"\n")
-}
-
-#[test]
-fn a_denial_is_logged_each_time(rt: HostRuntime) -> Result<(), Fail> {
-    let alloc = rt.alloc();
-    let policy = Policy::read(alloc, NO_RULES)?;
-    let ask = ask_at(1, 17, Request::Open(Mode::Read, text(alloc, b"/x")?));
-    let mut monitor = Monitor::new(alloc, policy, MemoryWorld::new(alloc), Vec::new(alloc));
-    for _ in 0..5 {
-        assert!(rt; is_failed(monitor.ask(&ask)));
-    }
-    assert_eq!(rt; monitor.denials(), 5);
-    let (_, world, log) = monitor.into_parts();
-    assert!(rt; world.asked().is_empty());
-    assert_eq!(rt; log.as_slice(), FIVE_LINES);
-    Ok(())
-}
-
-#[test]
-fn what_is_allowed_is_answered_by_the_world(rt: HostRuntime) -> Result<(), Fail> {
-    let alloc = rt.alloc();
-    let policy = Policy::read(alloc, ALLOWS_A_COMMAND)?;
-    let command = ask_at(1, 1, Request::System(text(alloc, b"date")?));
-    let put = put(alloc)?;
-    let mut monitor = Monitor::new(alloc, policy, fake_world(None), Vec::new(alloc));
-    assert!(rt; matches!(monitor.ask(&command), Ok(Reply::Status(3))));
-    assert!(rt; matches!(monitor.ask(&put), Ok(Reply::Done)));
-    assert_eq!(rt; monitor.denials(), 0);
-    let (_, world, log) = monitor.into_parts();
-    assert_eq!(rt; world.asks, 2);
-    assert!(rt; log.is_empty());
     Ok(())
 }
 

@@ -1,8 +1,8 @@
 // A script made by hand and written. That a script is read again is tested where the parser stands.
 
-use crate::values::octets;
 use awk_canon::canon;
 use awk_text::Memory;
+use awk_text::octets::Octets;
 use awk_text::place::Place;
 use awk_tokens::{Token, TokenKind};
 use awk_tree::{Arithmetic, Expr, Item, Name, Pattern, Printed, Script, Slot, Statement, Term};
@@ -10,6 +10,10 @@ use sqlite_items::{Boxed, Items};
 use std::alloc::Global;
 
 const PLACE: Place = Place { line: 3, column: 7 };
+
+fn octets(alloc: Global, bytes: &[u8]) -> Result<Octets, Memory> {
+    Ok(Octets::new(Vec::from_slice(alloc, bytes)?))
+}
 
 // Trees are handed on in their boxes, as the parser does.
 

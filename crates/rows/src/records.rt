@@ -1,0 +1,57 @@
+// A record whose fields are set, a step after the other.
+
+use crate::args::{number, octets, text, values, word};
+use crate::problem::Problem;
+use crate::row::{Arg, Row};
+use crate::shown::{Answer, bytes, show, show_value, told};
+use awk_fields::{Record, Splitter};
+use awk_text::octets::Octets;
+use awk_text::value::text_of;
+use std::alloc::Global;
+
+fn set_whole(alloc: Global, record: &mut Record, fs: &[u8], text: &[u8]) -> Answer {
+    let splitter = Splitter::new(alloc, fs, false)?;
+    record.set_whole(octets(alloc, text)?, splitter)?;
+    bytes(alloc, b"done")
+}
+
+fn set_field(alloc: Global, record: &mut Record, args: &[Arg<'_>]) -> Answer {
+    let (at, ofs) = (number(args, 1)?, text(args, 3)?);
+    let mut values = values(alloc, args, 2)?;
+    values.truncate(1);
+    match values.pop() {
+        Some(value) => {
+            record.set_field(at, value, ofs)?;
+            bytes(alloc, b"done")
+        }
+        None => Err(Problem::NoArgument),
+    }
+}
+
+fn set_count(alloc: Global, record: &mut Record, count: i64, ofs: &[u8]) -> Answer {
+    record.set_count(count, ofs)?;
+    bytes(alloc, b"done")
+}
+
+fn step(alloc: Global, record: &mut Record, args: &[Arg<'_>]) -> Answer {
+    match word(args, 0) {
+        b"line" => set_whole(alloc, record, text(args, 1)?, text(args, 2)?),
+        b"set" => set_field(alloc, record, args),
+        b"set_nf" => set_count(alloc, record, number(args, 1)?, text(args, 2)?),
+        b"nf" => show(alloc, record.count()?),
+        b"get" => show_value(alloc, &record.get(number(args, 1)?)?),
+        b"text" => Ok(text_of(alloc, &record.get(number(args, 1)?)?)?),
+        b"whole" => bytes(alloc, record.whole()),
+        _ => Err(Problem::NoCall),
+    }
+}
+
+/// The answers of the steps, on a record that begins empty.
+pub fn block(alloc: Global, steps: &[Row<'_>]) -> Result<Vec<Octets>, Problem> {
+    let mut record = Record::new(alloc);
+    let mut answers = Vec::new(alloc);
+    for row in steps {
+        answers.push(told(alloc, step(alloc, &mut record, &row.args))?)?;
+    }
+    Ok(answers)
+}

@@ -1,0 +1,162 @@
+// The world in memory, asked a step after the other.
+ghost use Rattle.std.specs.Prelude.{◌≡◌, ◌<◌, IfOk};
+ghost use Rattle.box_world.specs.Calls.{IsDuty, numbers_after};
+
+use crate::args::{number, octets, text, word};
+use crate::problem::Problem;
+use crate::row::{Arg, Row};
+use crate::shown::{Answer, bytes, show, told};
+use awk_text::octets::Octets;
+use awk_text::place::Place;
+use box_world::ask::{Ask, Mode, Reply, Request};
+use box_world::memory_world::MemoryWorld;
+use box_world::world::World;
+use std::alloc::Global;
+
+/// A reply, as rows write it.
+pub fn show_reply(alloc: Global, reply: &Reply) -> Answer {
+    match reply {
+        Reply::Opened(number) => show(alloc, *number),
+        Reply::Status(status) => show(alloc, *status),
+        Reply::Bytes(text) | Reply::Value(text) => bytes(alloc, text.bytes()),
+        Reply::End => bytes(alloc, b"end"),
+        Reply::Done => bytes(alloc, b"done"),
+        Reply::Failed => bytes(alloc, b"failed"),
+    }
+}
+
+/// The reply to a request that stands nowhere in a script.
+pub fn reply_to<W: World>(world: &mut W, request: Request) -> Result<Reply, Problem>
+    requires { IsDuty (W.open_numbers world.old) request }
+    ensures { IfOk result (λ reply. W.open_numbers world.new ≡ numbers_after request reply (W.open_numbers world.old)) }
+{
+    let ask = Ask {
+        place: Place { line: 1, column: 9 },
+        given: false,
+        request,
+    };
+    Ok(world.ask(&ask)?)
+}
+
+/// Opens the file, puts the bytes to it and shuts it. Answers its number.
+fn write<W: World>(alloc: Global, world: &mut W, name: &[u8], bytes: &[u8]) -> Answer {
+    let open = Request::Open(Mode::Write, octets(alloc, name)?);
+    let Reply::Opened(number) = reply_to(world, open)? else {
+        return Err(Problem::NotDone);
+    };
+    let put = Request::Put(number, octets(alloc, bytes)?);
+    let Reply::Done = reply_to(world, put)? else {
+        return Err(Problem::NotDone);
+    };
+    let Reply::Done = reply_to(world, Request::Shut(number))? else {
+        return Err(Problem::NotDone);
+    };
+    show(alloc, number)
+}
+
+/// Opens both files, and puts `a` to the first, `b` to the second and `c` again to the first.
+fn write_in_turn<W: World>(alloc: Global, world: &mut W, first: &[u8], second: &[u8]) -> Answer {
+    let open = Request::Open(Mode::Write, octets(alloc, first)?);
+    let Reply::Opened(one) = reply_to(world, open)? else {
+        return Err(Problem::NotDone);
+    };
+    let open = Request::Open(Mode::Write, octets(alloc, second)?);
+    let Reply::Opened(two) = reply_to(world, open)? else {
+        return Err(Problem::NotDone);
+    };
+    reply_to(world, Request::Put(one, octets(alloc, b"a")?))?;
+    reply_to(world, Request::Put(two, octets(alloc, b"b")?))?;
+    reply_to(world, Request::Put(one, octets(alloc, b"c")?))?;
+    bytes(alloc, b"done")
+}
+
+fn run<W: World>(alloc: Global, world: &mut W, command: &[u8]) -> Answer {
+    let command = octets(alloc, command)?;
+    show_reply(alloc, &reply_to(world, Request::System(command))?)
+}
+
+/// The number of a standard stream.
+fn standard(number: i64) -> Result<u32, Problem>
+    ensures { IfOk result (λ n. n < 3) }
+{
+    match number {
+        0 => Ok(0),
+        1 => Ok(1),
+        2 => Ok(2),
+        _ => Err(Problem::NoArgument),
+    }
+}
+
+fn put<W: World>(alloc: Global, world: &mut W, number: u32, bytes: &[u8]) -> Answer
+    requires { number < 3 }
+{
+    let bytes = octets(alloc, bytes)?;
+    show_reply(alloc, &reply_to(world, Request::Put(number, bytes))?)
+}
+
+fn shut<W: World>(alloc: Global, world: &mut W, number: u32) -> Answer
+    requires { number < 3 }
+{
+    show_reply(alloc, &reply_to(world, Request::Shut(number))?)
+}
+
+/// From now on the command prints this output and has this status.
+pub fn put_command(
+    alloc: Global,
+    world: &mut MemoryWorld,
+    command: &[u8],
+    output: &[u8],
+    status: i64,
+) -> Answer {
+    if status < 0 || status > 256 {
+        return Err(Problem::NoArgument);
+    }
+    let command = octets(alloc, command)?;
+    world.put_command(command, octets(alloc, output)?, status)?;
+    bytes(alloc, b"done")
+}
+
+fn fail_at(alloc: Global, world: &mut MemoryWorld, number: i64) -> Answer {
+    let Ok(number) = usize::try_from(number) else {
+        return Err(Problem::NoArgument);
+    };
+    world.fail_at(number);
+    bytes(alloc, b"done")
+}
+
+/// What is left in the world.
+pub fn left(alloc: Global, world: &MemoryWorld, args: &[Arg<'_>]) -> Answer {
+    match word(args, 0) {
+        b"output" => bytes(alloc, world.output()),
+        b"errors" => bytes(alloc, world.errors()),
+        b"asks" => show(alloc, world.asked().len()),
+        b"file" => bytes(alloc, world.file(text(args, 1)?).unwrap_or(b"none")),
+        _ => Err(Problem::NoCall),
+    }
+}
+
+fn step(alloc: Global, world: &mut MemoryWorld, args: &[Arg<'_>]) -> Answer {
+    match word(args, 0) {
+        b"command" => {
+            let status = number(args, 3)?;
+            put_command(alloc, world, text(args, 1)?, text(args, 2)?, status)
+        }
+        b"fail_at" => fail_at(alloc, world, number(args, 1)?),
+        b"write" => write(alloc, world, text(args, 1)?, text(args, 2)?),
+        b"write_in_turn" => write_in_turn(alloc, world, text(args, 1)?, text(args, 2)?),
+        b"run" => run(alloc, world, text(args, 1)?),
+        b"put" => put(alloc, world, standard(number(args, 1)?)?, text(args, 2)?),
+        b"shut" => shut(alloc, world, standard(number(args, 1)?)?),
+        _ => left(alloc, world, args),
+    }
+}
+
+/// The answers of the steps, in a world that begins without files and commands.
+pub fn block(alloc: Global, steps: &[Row<'_>]) -> Result<Vec<Octets>, Problem> {
+    let mut world = MemoryWorld::new(alloc);
+    let mut answers = Vec::new(alloc);
+    for row in steps {
+        answers.push(told(alloc, step(alloc, &mut world, &row.args))?)?;
+    }
+    Ok(answers)
+}
