@@ -1,5 +1,6 @@
 // The world in memory, asked a step after the other.
-ghost use Rattle.std.specs.Prelude.{◌≡◌, ◌<◌, IfOk};
+ghost use Rattle.std.specs.Prelude.{◌≡◌, ◌<◌, IfOk, OnOk};
+ghost use Rattle.box_world.specs.declared.ask.Request.TheVariants.{Next};
 ghost use Rattle.box_world.specs.Calls.{IsDuty, numbers_after};
 
 use crate::args::{number, octets, text, word};
@@ -38,9 +39,9 @@ pub fn reply_to<W: World>(world: &mut W, request: Request) -> Result<Reply, Prob
     Ok(world.ask(&ask)?)
 }
 
-/// Opens the file, puts the bytes to it and shuts it. Answers its number.
-fn write<W: World>(alloc: Global, world: &mut W, name: &[u8], bytes: &[u8]) -> Answer {
-    let open = Request::Open(Mode::Write, octets(alloc, name)?);
+/// Opens the file to write or for more, puts the bytes to it and shuts it. Answers its number.
+fn write<W: World>(alloc: Global, world: &mut W, mode: Mode, name: &[u8], bytes: &[u8]) -> Answer {
+    let open = Request::Open(mode, octets(alloc, name)?);
     let Reply::Opened(number) = reply_to(world, open)? else {
         return Err(Problem::NotDone);
     };
@@ -68,6 +69,70 @@ fn write_in_turn<W: World>(alloc: Global, world: &mut W, first: &[u8], second: &
     reply_to(world, Request::Put(two, octets(alloc, b"b")?))?;
     reply_to(world, Request::Put(one, octets(alloc, b"c")?))?;
     bytes(alloc, b"done")
+}
+
+/// Opens the command to be written to, puts the bytes to it and shuts it. Answers the last reply.
+fn feed<W: World>(alloc: Global, world: &mut W, command: &[u8], bytes: &[u8]) -> Answer {
+    let open = Request::Open(Mode::RunOut, octets(alloc, command)?);
+    let Reply::Opened(number) = reply_to(world, open)? else {
+        return Err(Problem::NotDone);
+    };
+    let put = Request::Put(number, octets(alloc, bytes)?);
+    let Reply::Done = reply_to(world, put)? else {
+        return Err(Problem::NotDone);
+    };
+    show_reply(alloc, &reply_to(world, Request::Shut(number))?)
+}
+
+/// Reads once from the stream, and adds the reply in brackets.
+fn read_on<W: World>(
+    alloc: Global,
+    world: &mut W,
+    number: u32,
+    out: &mut Vec<u8>,
+) -> Result<(), Problem>
+    requires { IsDuty (W.open_numbers world.old) (Next number) }
+    ensures { OnOk result (W.open_numbers world.new ≡ W.open_numbers world.old) }
+{
+    let reply = reply_to(world, Request::Next(number))?;
+    let shown = show_reply(alloc, &reply)?;
+    out.push(b'[')?;
+    out.extend_from_slice(shown.as_slice())?;
+    out.push(b']')?;
+    Ok(())
+}
+
+/// Opens what is to be read, reads three times and shuts it. Answers all replies but the first.
+fn read<W: World>(alloc: Global, world: &mut W, mode: Mode, name: &[u8]) -> Answer {
+    let open = Request::Open(mode, octets(alloc, name)?);
+    let Reply::Opened(number) = reply_to(world, open)? else {
+        return bytes(alloc, b"failed");
+    };
+    let mut shown = Vec::new(alloc);
+    read_on(alloc, world, number, &mut shown)?;
+    read_on(alloc, world, number, &mut shown)?;
+    read_on(alloc, world, number, &mut shown)?;
+    let shut = show_reply(alloc, &reply_to(world, Request::Shut(number))?)?;
+    shown.extend_from_slice(shut.as_slice())?;
+    Ok(shown)
+}
+
+/// Reads once from a standard stream.
+fn next<W: World>(alloc: Global, world: &mut W, number: u32) -> Answer
+    requires { number < 3 }
+{
+    show_reply(alloc, &reply_to(world, Request::Next(number))?)
+}
+
+fn env<W: World>(alloc: Global, world: &mut W, name: &[u8]) -> Answer {
+    let name = octets(alloc, name)?;
+    show_reply(alloc, &reply_to(world, Request::Env(name))?)
+}
+
+fn assign<W: World>(alloc: Global, world: &mut W, name: &[u8], text: &[u8]) -> Answer {
+    let name = octets(alloc, name)?;
+    let request = Request::Assign(name, octets(alloc, text)?);
+    show_reply(alloc, &reply_to(world, request)?)
 }
 
 fn run<W: World>(alloc: Global, world: &mut W, command: &[u8]) -> Answer {
@@ -124,6 +189,33 @@ fn fail_at(alloc: Global, world: &mut MemoryWorld, number: i64) -> Answer {
     bytes(alloc, b"done")
 }
 
+fn put_file(alloc: Global, world: &mut MemoryWorld, name: &[u8], contents: &[u8]) -> Answer {
+    let name = octets(alloc, name)?;
+    world.put_file(name, octets(alloc, contents)?)?;
+    bytes(alloc, b"done")
+}
+
+fn put_env(alloc: Global, world: &mut MemoryWorld, name: &[u8], value: &[u8]) -> Answer {
+    let name = octets(alloc, name)?;
+    world.put_env(name, octets(alloc, value)?)?;
+    bytes(alloc, b"done")
+}
+
+fn put_input(alloc: Global, world: &mut MemoryWorld, contents: &[u8]) -> Answer {
+    world.put_input(octets(alloc, contents)?)?;
+    bytes(alloc, b"done")
+}
+
+fn chunk(alloc: Global, world: &mut MemoryWorld, number: i64) -> Answer {
+    match usize::try_from(number) {
+        Ok(number) if number > 0 => {
+            world.chunk(number);
+            bytes(alloc, b"done")
+        }
+        _ => Err(Problem::NoArgument),
+    }
+}
+
 /// What is left in the world.
 pub fn left(alloc: Global, world: &MemoryWorld, args: &[Arg<'_>]) -> Answer {
     match word(args, 0) {
@@ -131,23 +223,49 @@ pub fn left(alloc: Global, world: &MemoryWorld, args: &[Arg<'_>]) -> Answer {
         b"errors" => bytes(alloc, world.errors()),
         b"asks" => show(alloc, world.asked().len()),
         b"file" => bytes(alloc, world.file(text(args, 1)?).unwrap_or(b"none")),
+        b"fed" => bytes(alloc, world.fed(text(args, 1)?).unwrap_or(b"none")),
         _ => Err(Problem::NoCall),
     }
 }
 
-fn step(alloc: Global, world: &mut MemoryWorld, args: &[Arg<'_>]) -> Answer {
+/// What the host does before and between the asks, and what it sees.
+fn host_step(alloc: Global, world: &mut MemoryWorld, args: &[Arg<'_>]) -> Answer {
     match word(args, 0) {
         b"command" => {
             let status = number(args, 3)?;
             put_command(alloc, world, text(args, 1)?, text(args, 2)?, status)
         }
+        b"put_file" => put_file(alloc, world, text(args, 1)?, text(args, 2)?),
+        b"put_env" => put_env(alloc, world, text(args, 1)?, text(args, 2)?),
+        b"put_input" => put_input(alloc, world, text(args, 1)?),
+        b"chunk" => chunk(alloc, world, number(args, 1)?),
         b"fail_at" => fail_at(alloc, world, number(args, 1)?),
-        b"write" => write(alloc, world, text(args, 1)?, text(args, 2)?),
+        _ => left(alloc, world, args),
+    }
+}
+
+/// A step on files and commands.
+fn stream_step(alloc: Global, world: &mut MemoryWorld, args: &[Arg<'_>]) -> Answer {
+    match word(args, 0) {
+        b"write" => write(alloc, world, Mode::Write, text(args, 1)?, text(args, 2)?),
+        b"append" => write(alloc, world, Mode::Append, text(args, 1)?, text(args, 2)?),
         b"write_in_turn" => write_in_turn(alloc, world, text(args, 1)?, text(args, 2)?),
+        b"read" => read(alloc, world, Mode::Read, text(args, 1)?),
+        b"read_command" => read(alloc, world, Mode::RunIn, text(args, 1)?),
+        b"feed" => feed(alloc, world, text(args, 1)?, text(args, 2)?),
+        _ => host_step(alloc, world, args),
+    }
+}
+
+fn step(alloc: Global, world: &mut MemoryWorld, args: &[Arg<'_>]) -> Answer {
+    match word(args, 0) {
         b"run" => run(alloc, world, text(args, 1)?),
         b"put" => put(alloc, world, standard(number(args, 1)?)?, text(args, 2)?),
+        b"next" => next(alloc, world, standard(number(args, 1)?)?),
         b"shut" => shut(alloc, world, standard(number(args, 1)?)?),
-        _ => left(alloc, world, args),
+        b"env" => env(alloc, world, text(args, 1)?),
+        b"assign" => assign(alloc, world, text(args, 1)?, text(args, 2)?),
+        _ => stream_step(alloc, world, args),
     }
 }
 
