@@ -28,3 +28,7 @@ IsRefused policy script (Policy e) = IsPolicyRefused policy e
 IsRefused policy script (Script e) =
     (book : Rulebook) × Written policy book × (e.code ≢ 9 → Refuses script e.code e.place ⊎ ((e.code ≡ 4) × ((tokens : List Token) × Reads script tokens)))
 IsRefused policy script (Assign n) = ⊥
+
+-- the texts write this policy and spell some statements
+abbrev pub IsAccepted : List ℕ → List ℕ → Rulebook → Type 0
+IsAccepted policy script book = (statements : List Statement) × Accepted policy script book statements

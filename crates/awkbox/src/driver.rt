@@ -1,6 +1,6 @@
 // A script's run under a policy.
 ghost use Rattle.std.specs.Prelude.{◌≡◌, IfOk, IfErr};
-ghost use Rattle.awkbox.specs.Accepted.{Accepted, IsRefused};
+ghost use Rattle.awkbox.specs.Accepted.{Accepted, IsAccepted, IsRefused};
 ghost use Rattle.awkbox.specs.Drives.{DrivesText};
 ghost use Rattle.awkbox.specs.SetupParts.{IsPlain};
 ghost use Rattle.box_monitor.specs.declared.log_end.LogEnd.TheVariants.{Whole};
@@ -56,6 +56,18 @@ fn accepted(
     match statements(alloc, tokens.as_slice()) {
         Ok(statements) => Ok((policy, statements)),
         Err(error) => Err(Refusal::Script(error)),
+    }
+}
+
+/// The policy that a run would be under, for what a host wants to know of it before the run; or the
+/// refusal that [`drive`] would answer.
+pub fn policy_of(alloc: Global, policy: &[u8], script: &[u8]) -> Result<Policy, Refusal>
+    ensures ok { IfOk result (IsAccepted policy.now script.now) }
+    ensures refused { IfErr result (IsRefused policy.now script.now) }
+{
+    match accepted(alloc, policy, script) {
+        Ok((policy, _)) => Ok(policy),
+        Err(refusal) => Err(refusal),
     }
 }
 

@@ -34,6 +34,14 @@ pub enum Message {
     OutOfMemory,
 }
 
+/// One line on standard error, before a run that goes on.
+#[derive(Debug, Drop)]
+pub enum Warning {
+    /// The program runs in another folder than the base of the policy, though rules speak of files.
+    /// The base is quoted, as the log of denials has it.
+    OutsideBase(String),
+}
+
 /// How the program ends.
 #[derive(Debug, Drop)]
 pub enum Ending {
@@ -128,6 +136,34 @@ impl fmt::Display for Message {
             Message::OutOfMemory => {
                 let text = Fault::Memory.text();
                 write!(f, "awkbox: F13 {text}")
+            }
+        }
+    }
+}
+
+impl Warning {
+    ghost use Rattle.awkbox.specs.Messages.{WarnsOutside};
+
+    /// That the run starts outside this base.
+    pub fn outside_base(alloc: Global, base: &str) -> Result<Warning, Memory>
+        ensures { IfOk result (WarnsOutside base.now) }
+    {
+        Ok(Warning::OutsideBase(quoted_name(alloc, base)?))
+    }
+}
+
+impl fmt::Display for Warning {
+    ghost use Rattle.awkbox.specs.Messages.{warning_text};
+
+    ghost output = { λ warning. Some (warning_text warning) };
+
+    fn fmt<W: fmt::Write>(&self, f: &mut fmt::Formatter<W>) -> fmt::Result {
+        match self {
+            Warning::OutsideBase(base) => {
+                write!(
+                    f,
+                    "awkbox: warning: started outside the policy's base \"{base}\""
+                )
             }
         }
     }

@@ -14,6 +14,18 @@ pub struct Run<'a> {
     pub script: &'a str,
 }
 
+/// The name that users know the program by, whatever the file is called that runs.
+const NAME: &str = "awkbox";
+
+// The words of the options and of the statuses stand in docs/options.txt too, for the manual page and
+// the completions; scripts/end-to-end.sh compares them.
+const STATUSES: &str = "\
+Exit status:
+  The script's own, where it came to its end; else
+  2  A fault ended the run, or the log could not be written
+  3  Nothing was run: the policy, the script or the command line was refused, or a file could not be read or made
+  4  The step bound ended the run";
+
 // An option that has to be there, and whose value may begin with `-`.
 fn file_option<'a>(alloc: Global, id: &'a str, help: &'a str) -> Arg<'a> {
     Arg::new(alloc, id)
@@ -33,18 +45,21 @@ fn run_command<'a>(alloc: Global) -> Result<Command<'a>, AllocError> {
     let log = file_option(
         alloc,
         "log",
-        "Where each denial is told; the file is made or emptied",
+        "Where each denial is told; made or emptied, and then added to at its end",
     );
     let script = file_option(alloc, "script", "The awk script");
     Command::new(alloc, "run")
         .about("Runs an awk script under a policy")
+        .after_help(STATUSES)
         .arg(policy.long("policy"))?
         .arg(log.long("log"))?
         .arg(script.short('f'))
 }
 
 fn command<'a>(alloc: Global) -> Result<Command<'a>, AllocError> {
-    Command::new(alloc, "awkbox")
+    Command::new(alloc, NAME)
+        .bin_name(NAME)?
+        .after_help(STATUSES)
         .about("Runs awk scripts in a sandbox, under a written policy")
         .subcommand_required(true)
         .subcommand(run_command(alloc)?)

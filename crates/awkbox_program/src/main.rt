@@ -2,7 +2,9 @@
 #![tactic(auto)]
 
 mod command_line;
+mod files;
 mod program;
+mod standard;
 
 use std::process::ExitCode;
 

@@ -1,5 +1,5 @@
 // The lines on standard error, as users know them.
-use awkbox::{Fault, Message, Place, PolicyError, SyntaxError};
+use awkbox::{Fault, Message, Place, PolicyError, SyntaxError, Warning};
 use std::test::Fail;
 
 #[test]
@@ -36,5 +36,16 @@ fn tells_in_one_line(rt: HostRuntime) -> Result<(), Fail> {
     for (message, line) in &lines {
         assert_eq!(rt; message.to_string(alloc)?.as_str(), *line);
     }
+    Ok(())
+}
+
+#[test]
+fn warns_in_one_line(rt: HostRuntime) -> Result<(), Fail> {
+    let alloc = rt.alloc();
+    let warning = Warning::outside_base(alloc, "/srv/\"reports\"")?;
+    assert_eq!(rt;
+        warning.to_string(alloc)?.as_str(),
+        "awkbox: warning: started outside the policy's base \"/srv/\\x22reports\\x22\""
+    );
     Ok(())
 }

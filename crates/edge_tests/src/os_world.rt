@@ -86,9 +86,12 @@ fn runs_commands(rt: HostRuntime) -> Result<(), Fail> {
     let alloc = rt.alloc();
     let mut world = OsWorld::new(rt.clone()?);
     let commands = [
+        (b"exit 0".as_slice(), Some(0)),
         (b"exit 3".as_slice(), Some(3)),
+        (b"exit 255".as_slice(), Some(255)),
         (b"echo a >made".as_slice(), Some(0)),
         (b"kill -9 $$".as_slice(), Some(256)),
+        (b"kill -13 $$".as_slice(), Some(256)),
         (b"exit\x003".as_slice(), None),
         (b"echo \xff".as_slice(), None),
     ];
@@ -133,6 +136,9 @@ fn has_standard_streams(rt: HostRuntime) -> Result<(), Fail> {
     assert!(rt; is_failed(&mut world, Request::Put(0, nothing))?);
     let nothing = Octets::new(Vec::new(rt.alloc()));
     assert!(rt; !is_failed(&mut world, Request::Put(1, nothing))?);
+    let told = octets(rt.alloc(), b"told on standard error\n")?;
+    assert!(rt; !is_failed(&mut world, Request::Put(2, told))?);
+    assert!(rt; !is_failed(&mut world, Request::Shut(2))?);
     assert!(rt; !is_failed(&mut world, Request::Shut(1))?);
     Ok(())
 }
