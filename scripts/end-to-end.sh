@@ -230,6 +230,13 @@ awkbox run --help
 [ "$status" -eq 0 ] && grep -q -e '--policy <FILE>' "$work/output" && [ ! -s "$work/errors" ]
 verdict "the help of run"
 
+script 'BEGIN { print "hi" }'
+no_rules
+cp "$work/script.awk" "$base/-a.awk"
+awkbox run -f -a.awk "--log=$work/log" --policy "$work/policy.toml"
+is 0 "hi$line" "" ""
+verdict "words in another order, a value behind =, and one that begins with -"
+
 # fault NAME WORD..: the words are at fault
 fault() {
     local name=$1

@@ -5,8 +5,8 @@ use Rattle.awk_tokens.specs.declared.kinds.Token.{Token}
 use Rattle.box_policy.specs.Refusals.{IsRefused as IsPolicyRefused}
 use Rattle.box_policy.specs.Rulebook.{Rulebook}
 use Rattle.box_policy.specs.Written.{Written}
-use Rattle.awkbox.specs.declared.drive.Refusal.{Refusal}
-use Rattle.awkbox.specs.declared.drive.Refusal.TheVariants.{Policy, Script, Assign}
+use Rattle.awkbox.specs.declared.driver.Refusal.{Refusal}
+use Rattle.awkbox.specs.declared.driver.Refusal.TheVariants.{Policy, Script, Assign}
 use Rattle.awkbox.specs.declared.statement.Statement.{Statement}
 use Rattle.awkbox.specs.Script.{SpellsScript}
 

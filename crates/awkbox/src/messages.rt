@@ -2,7 +2,7 @@
 ghost use Rattle.std.specs.Prelude.{◌≡◌, Some, IfOk, string_bytes};
 ghost use Rattle.awk_text.specs.Quoted.{quoted};
 
-use crate::drive::Refusal;
+use crate::driver::Refusal;
 use crate::report::{Outcome, Report};
 use awk_text::Memory;
 use awk_text::fault::Fault;
@@ -162,6 +162,3 @@ impl Ending {
         }
     }
 }
-
-#[cfg(test)]
-mod tests;

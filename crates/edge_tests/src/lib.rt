@@ -1,9 +1,15 @@
-//! What only a test can show: a reader and a writer that give and take little or fail, and memory that
-//! is refused, and trees made by hand. All other worked rows stand in the tables of `rows`.
+//! What only a test in Rattle can show: these tests, and nothing else. They stand above all crates, since
+//! a crate with tests is proved once more for them. All other worked rows stand in the tables of `rows`.
 #![tactic(auto)]
 
 #[cfg(test)]
+mod drive;
+#[cfg(test)]
+mod messages;
+#[cfg(test)]
 mod monitors;
+#[cfg(test)]
+mod os_world;
 #[cfg(test)]
 mod policies;
 #[cfg(test)]
