@@ -1,11 +1,12 @@
 // The world in memory, asked a step after the other.
-ghost use Rattle.std.specs.Prelude.{◌≡◌, ◌<◌, IfOk};
-ghost use Rattle.box_world.specs.Calls.{IsDuty, numbers_after};
+ghost use Rattle.std.specs.Prelude.{◌≡◌, ◌<◌, ◌++◌, ◌∷◌, [], IfOk, OnOk};
+ghost use Rattle.box_world.specs.Calls.{IsDuty, IsStream, numbers_after};
 
 use crate::args::{number, octets, text, word};
 use crate::problem::Problem;
 use crate::row::{Arg, Row};
 use crate::shown::{Answer, bytes, show, told};
+use crate::words::Word;
 use awk_text::octets::Octets;
 use awk_text::place::Place;
 use box_world::ask::{Ask, Mode, Reply, Request};
@@ -38,35 +39,43 @@ pub fn reply_to<W: World>(world: &mut W, request: Request) -> Result<Reply, Prob
     Ok(world.ask(&ask)?)
 }
 
+/// The number of the file, which is opened for writing.
+fn open<W: World>(alloc: Global, world: &mut W, name: &[u8]) -> Result<u32, Problem>
+    ensures { IfOk result (λ n. W.open_numbers world.new ≡ W.open_numbers world.old ++ n ∷ []) }
+{
+    let open = Request::Open(Mode::Write, octets(alloc, name)?);
+    match reply_to(world, open)? {
+        Reply::Opened(number) => Ok(number),
+        _ => Err(Problem::NotDone),
+    }
+}
+
+fn put_to<W: World>(alloc: Global, world: &mut W, number: u32, bytes: &[u8]) -> Result<(), Problem>
+    requires { IsStream (W.open_numbers world.old) number }
+    ensures { OnOk result (W.open_numbers world.new ≡ W.open_numbers world.old) }
+{
+    let put = Request::Put(number, octets(alloc, bytes)?);
+    match reply_to(world, put)? {
+        Reply::Done => Ok(()),
+        _ => Err(Problem::NotDone),
+    }
+}
+
 /// Opens the file, puts the bytes to it and shuts it. Answers its number.
 fn write<W: World>(alloc: Global, world: &mut W, name: &[u8], bytes: &[u8]) -> Answer {
-    let open = Request::Open(Mode::Write, octets(alloc, name)?);
-    let Reply::Opened(number) = reply_to(world, open)? else {
-        return Err(Problem::NotDone);
-    };
-    let put = Request::Put(number, octets(alloc, bytes)?);
-    let Reply::Done = reply_to(world, put)? else {
-        return Err(Problem::NotDone);
-    };
-    let Reply::Done = reply_to(world, Request::Shut(number))? else {
-        return Err(Problem::NotDone);
-    };
+    let number = open(alloc, world, name)?;
+    put_to(alloc, world, number, bytes)?;
+    reply_to(world, Request::Shut(number))?;
     show(alloc, number)
 }
 
 /// Opens both files, and puts `a` to the first, `b` to the second and `c` again to the first.
 fn write_in_turn<W: World>(alloc: Global, world: &mut W, first: &[u8], second: &[u8]) -> Answer {
-    let open = Request::Open(Mode::Write, octets(alloc, first)?);
-    let Reply::Opened(one) = reply_to(world, open)? else {
-        return Err(Problem::NotDone);
-    };
-    let open = Request::Open(Mode::Write, octets(alloc, second)?);
-    let Reply::Opened(two) = reply_to(world, open)? else {
-        return Err(Problem::NotDone);
-    };
-    reply_to(world, Request::Put(one, octets(alloc, b"a")?))?;
-    reply_to(world, Request::Put(two, octets(alloc, b"b")?))?;
-    reply_to(world, Request::Put(one, octets(alloc, b"c")?))?;
+    let one = open(alloc, world, first)?;
+    let two = open(alloc, world, second)?;
+    put_to(alloc, world, one, b"a")?;
+    put_to(alloc, world, two, b"b")?;
+    put_to(alloc, world, one, b"c")?;
     bytes(alloc, b"done")
 }
 
@@ -101,7 +110,7 @@ fn shut<W: World>(alloc: Global, world: &mut W, number: u32) -> Answer
 }
 
 /// From now on the command prints this output and has this status.
-pub fn put_command(
+fn put_command(
     alloc: Global,
     world: &mut MemoryWorld,
     command: &[u8],
@@ -127,26 +136,31 @@ fn fail_at(alloc: Global, world: &mut MemoryWorld, number: i64) -> Answer {
 /// What is left in the world.
 pub fn left(alloc: Global, world: &MemoryWorld, args: &[Arg<'_>]) -> Answer {
     match word(args, 0) {
-        b"output" => bytes(alloc, world.output()),
-        b"errors" => bytes(alloc, world.errors()),
-        b"asks" => show(alloc, world.asked().len()),
-        b"file" => bytes(alloc, world.file(text(args, 1)?).unwrap_or(b"none")),
+        Word::Output => bytes(alloc, world.output()),
+        Word::Errors => bytes(alloc, world.errors()),
+        Word::Asks => show(alloc, world.asked().len()),
+        Word::File => bytes(alloc, world.file(text(args, 1)).unwrap_or(b"none")),
+        _ => Err(Problem::NoCall),
+    }
+}
+
+/// Says what the world begins with.
+pub fn prepare(alloc: Global, world: &mut MemoryWorld, args: &[Arg<'_>]) -> Answer {
+    match word(args, 0) {
+        Word::Command => put_command(alloc, world, text(args, 1), text(args, 2), number(args, 3)?),
+        Word::FailAt => fail_at(alloc, world, number(args, 1)?),
         _ => Err(Problem::NoCall),
     }
 }
 
 fn step(alloc: Global, world: &mut MemoryWorld, args: &[Arg<'_>]) -> Answer {
     match word(args, 0) {
-        b"command" => {
-            let status = number(args, 3)?;
-            put_command(alloc, world, text(args, 1)?, text(args, 2)?, status)
-        }
-        b"fail_at" => fail_at(alloc, world, number(args, 1)?),
-        b"write" => write(alloc, world, text(args, 1)?, text(args, 2)?),
-        b"write_in_turn" => write_in_turn(alloc, world, text(args, 1)?, text(args, 2)?),
-        b"run" => run(alloc, world, text(args, 1)?),
-        b"put" => put(alloc, world, standard(number(args, 1)?)?, text(args, 2)?),
-        b"shut" => shut(alloc, world, standard(number(args, 1)?)?),
+        Word::Command | Word::FailAt => prepare(alloc, world, args),
+        Word::Write => write(alloc, world, text(args, 1), text(args, 2)),
+        Word::WriteInTurn => write_in_turn(alloc, world, text(args, 1), text(args, 2)),
+        Word::Run => run(alloc, world, text(args, 1)),
+        Word::Put => put(alloc, world, standard(number(args, 1)?)?, text(args, 2)),
+        Word::Shut => shut(alloc, world, standard(number(args, 1)?)?),
         _ => left(alloc, world, args),
     }
 }
