@@ -2,29 +2,35 @@
 
 use crate::problem::Problem;
 use crate::row::Arg;
+use crate::words::{Word, word_of};
 use awk_text::Memory;
 use awk_text::numeral::looks_numeric;
 use awk_text::octets::Octets;
 use awk_text::value::Value;
 use std::alloc::Global;
 
-/// The words of an argument; none where it has none, or is missing.
-pub fn word<'a, 'b>(args: &'a [Arg<'b>], at: usize) -> &'a [u8] {
+/// The bare words of an argument; none where it is missing.
+pub fn bare<'a, 'b>(args: &'a [Arg<'b>], at: usize) -> &'a [u8] {
     match args.get(at) {
         Some(arg) => arg.word,
         None => b"",
     }
 }
 
-pub fn text<'a, 'b>(args: &'a [Arg<'b>], at: usize) -> Result<&'a [u8], Problem> {
+pub fn word(args: &[Arg<'_>], at: usize) -> Word {
+    word_of(bare(args, at))
+}
+
+/// The text of an argument; the empty one where it is missing.
+pub fn text<'a, 'b>(args: &'a [Arg<'b>], at: usize) -> &'a [u8] {
     match args.get(at) {
-        Some(arg) => Ok(arg.text.as_slice()),
-        None => Err(Problem::NoArgument),
+        Some(arg) => arg.text.as_slice(),
+        None => b"",
     }
 }
 
 pub fn number(args: &[Arg<'_>], at: usize) -> Result<i64, Problem> {
-    looks_numeric(word(args, at)).ok_or(Problem::NoArgument)
+    looks_numeric(bare(args, at)).ok_or(Problem::NoArgument)
 }
 
 pub fn octets(alloc: Global, bytes: &[u8]) -> Result<Octets, Memory> {
@@ -33,14 +39,14 @@ pub fn octets(alloc: Global, bytes: &[u8]) -> Result<Octets, Memory> {
 
 /// A value: a number, `unset`, a text, or a text from outside after the word `field`.
 fn value(alloc: Global, arg: &Arg<'_>) -> Result<Value, Problem> {
-    match arg.word {
-        b"" => Ok(Value::Text(octets(alloc, arg.text.as_slice())?)),
-        b"field" => Ok(Value::Input(octets(alloc, arg.text.as_slice())?)),
-        b"unset" => Ok(Value::Unset),
-        word => match looks_numeric(word) {
-            Some(number) => Ok(Value::Num(number)),
-            None => Err(Problem::NoArgument),
-        },
+    if let Some(number) = looks_numeric(arg.word) {
+        return Ok(Value::Num(number));
+    }
+    let text = octets(alloc, arg.text.as_slice())?;
+    match word_of(arg.word) {
+        Word::Unset => Ok(Value::Unset),
+        Word::Field => Ok(Value::Input(text)),
+        _ => Ok(Value::Text(text)),
     }
 }
 

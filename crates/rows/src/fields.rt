@@ -5,16 +5,17 @@ use crate::args::{octets, text, word};
 use crate::problem::Problem;
 use crate::row::Arg;
 use crate::shown::{Answer, bracketed, show};
+use crate::words::Word;
 use awk_fields::{Record, Splitter, records, split};
 use awk_text::fault::Fault;
 use awk_text::octets::Octets;
 use std::alloc::Global;
 
-fn splitter(alloc: Global, name: &[u8], separator: &[u8]) -> Result<Splitter, Problem> {
-    match name {
-        b"split" => Ok(Splitter::new(alloc, separator, false)?),
-        b"split_in_paragraph" => Ok(Splitter::new(alloc, separator, true)?),
-        b"split_by_pattern" => Ok(Splitter::ere(alloc, separator)?),
+fn splitter(alloc: Global, call: Word, separator: &[u8]) -> Result<Splitter, Problem> {
+    match call {
+        Word::Split => Ok(Splitter::new(alloc, separator, false)?),
+        Word::SplitInParagraph => Ok(Splitter::new(alloc, separator, true)?),
+        Word::SplitByPattern => Ok(Splitter::ere(alloc, separator)?),
         _ => Err(Problem::NoCall),
     }
 }
@@ -87,12 +88,12 @@ fn counts(alloc: Global, fs: &[u8], rs: &[u8], input: &[u8]) -> Answer {
 /// The answer of the call.
 pub fn call(alloc: Global, args: &[Arg<'_>]) -> Answer {
     match word(args, 0) {
-        b"records" => records_cut(alloc, text(args, 1)?, text(args, 2)?),
-        b"records_in_one_piece" => records_of(alloc, text(args, 1)?, text(args, 2)?, usize::MAX),
-        b"counts" => counts(alloc, text(args, 1)?, text(args, 2)?, text(args, 3)?),
-        name => {
-            let splitter = splitter(alloc, name, text(args, 1)?)?;
-            fields_twice(alloc, &splitter, text(args, 2)?)
+        Word::Records => records_cut(alloc, text(args, 1), text(args, 2)),
+        Word::RecordsInOnePiece => records_of(alloc, text(args, 1), text(args, 2), usize::MAX),
+        Word::Counts => counts(alloc, text(args, 1), text(args, 2), text(args, 3)),
+        call => {
+            let splitter = splitter(alloc, call, text(args, 1))?;
+            fields_twice(alloc, &splitter, text(args, 2))
         }
     }
 }

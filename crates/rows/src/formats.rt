@@ -4,14 +4,15 @@ use crate::args::{text, values, word};
 use crate::problem::Problem;
 use crate::row::Arg;
 use crate::shown::Answer;
+use crate::words::Word;
 use awk_format::format;
 use std::alloc::Global;
 
 /// The answer of the call.
 pub fn call(alloc: Global, args: &[Arg<'_>]) -> Answer {
     match word(args, 0) {
-        b"format" => {
-            let form = text(args, 1)?;
+        Word::Format => {
+            let form = text(args, 1);
             Ok(format(alloc, form, &values(alloc, args, 2)?)?)
         }
         _ => Err(Problem::NoCall),

@@ -14,10 +14,12 @@ mod problem;
 mod records;
 mod report;
 mod row;
+mod runs;
 mod shown;
 mod table;
 mod tokens;
 mod values;
+mod words;
 mod worlds;
 
 use report::Report;

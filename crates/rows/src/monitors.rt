@@ -2,10 +2,11 @@
 ghost use Rattle.std.specs.Prelude.{◌≡◌, ℕ, List, IfOk};
 ghost use Rattle.box_world.specs.Calls.{IsDuty};
 
-use crate::args::{octets, text, word};
+use crate::args::{bare, octets, text, word};
 use crate::problem::Problem;
 use crate::row::{Arg, Row};
 use crate::shown::{Answer, bytes, show, told};
+use crate::words::Word;
 use crate::worlds::{left, show_reply};
 use awk_text::numeral::leading_digits;
 use awk_text::octets::Octets;
@@ -40,24 +41,24 @@ fn place(word: &[u8]) -> Result<Place, Problem> {
 fn request(alloc: Global, args: &[Arg<'_>]) -> Result<Request, Problem>
     ensures { IfOk result (λ request. (numbers : List ℕ) → IsDuty numbers request) }
 {
-    let asked = octets(alloc, text(args, 2)?)?;
+    let asked = octets(alloc, text(args, 2))?;
     match word(args, 2) {
-        b"read" => Ok(Request::Open(Mode::Read, asked)),
-        b"write" => Ok(Request::Open(Mode::Write, asked)),
-        b"append" => Ok(Request::Open(Mode::Append, asked)),
-        b"read from" => Ok(Request::Open(Mode::RunIn, asked)),
-        b"write to" => Ok(Request::Open(Mode::RunOut, asked)),
-        b"system" => Ok(Request::System(asked)),
-        b"env" => Ok(Request::Env(asked)),
-        b"assign" => Ok(Request::Assign(asked, octets(alloc, text(args, 3)?)?)),
-        b"put" => Ok(Request::Put(1, asked)),
+        Word::Read => Ok(Request::Open(Mode::Read, asked)),
+        Word::Write => Ok(Request::Open(Mode::Write, asked)),
+        Word::Append => Ok(Request::Open(Mode::Append, asked)),
+        Word::ReadFrom => Ok(Request::Open(Mode::RunIn, asked)),
+        Word::WriteTo => Ok(Request::Open(Mode::RunOut, asked)),
+        Word::System => Ok(Request::System(asked)),
+        Word::Env => Ok(Request::Env(asked)),
+        Word::Assign => Ok(Request::Assign(asked, octets(alloc, text(args, 3))?)),
+        Word::Put => Ok(Request::Put(1, asked)),
         _ => Err(Problem::NoArgument),
     }
 }
 
 fn ask<W: World>(alloc: Global, world: &mut W, args: &[Arg<'_>]) -> Answer {
     let ask = Ask {
-        place: place(word(args, 1))?,
+        place: place(bare(args, 1))?,
         given: false,
         request: request(alloc, args)?,
     };
@@ -73,8 +74,8 @@ fn asks(
 ) -> Result<(), Problem> {
     for row in steps {
         let answer = match word(&row.args, 0) {
-            b"ask" => ask(alloc, monitor, &row.args),
-            b"denials" => show(alloc, monitor.denials()),
+            Word::Ask => ask(alloc, monitor, &row.args),
+            Word::Denials => show(alloc, monitor.denials()),
             _ => return Ok(()),
         };
         answers.push(told(alloc, answer)?)?;
@@ -92,7 +93,7 @@ fn ends(
 ) -> Result<(), Problem> {
     for row in steps.iter().skip(answers.len()) {
         let answer = match word(&row.args, 0) {
-            b"log" => bytes(alloc, log),
+            Word::Log => bytes(alloc, log),
             _ => left(alloc, world, &row.args),
         };
         answers.push(told(alloc, answer)?)?;
@@ -102,7 +103,7 @@ fn ends(
 
 /// The answers of the steps, under the policy of the line before them.
 pub fn block(alloc: Global, args: &[Arg<'_>], steps: &[Row<'_>]) -> Result<Vec<Octets>, Problem> {
-    let policy = Policy::read(alloc, text(args, 1)?)?;
+    let policy = Policy::read(alloc, text(args, 1))?;
     let mut monitor = Monitor::new(alloc, policy, MemoryWorld::new(alloc), Vec::new(alloc));
     let mut answers = Vec::new(alloc);
     asks(alloc, &mut monitor, steps, &mut answers)?;

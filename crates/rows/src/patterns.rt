@@ -5,6 +5,7 @@ use crate::args::{number, text, word};
 use crate::problem::Problem;
 use crate::row::Arg;
 use crate::shown::{Answer, bytes, yes_or_no};
+use crate::words::Word;
 use awk_ere::{Ere, Plain};
 use std::alloc::Global;
 
@@ -56,17 +57,17 @@ fn agree(alloc: Global, ere: &Ere, plain: &Plain, texts: &[Arg<'_>]) -> Answer {
 
 fn of_ere(alloc: Global, ere: &Ere, args: &[Arg<'_>]) -> Answer {
     match word(args, 0) {
-        b"pattern" => bytes(alloc, b"accepted"),
-        b"find" => find(alloc, ere, text(args, 2)?, 0),
-        b"find_from" => {
+        Word::Pattern => bytes(alloc, b"accepted"),
+        Word::Find => find(alloc, ere, text(args, 2), 0),
+        Word::FindFrom => {
             let Ok(from) = usize::try_from(number(args, 3)?) else {
                 return Err(Problem::NoArgument);
             };
-            find(alloc, ere, text(args, 2)?, from)
+            find(alloc, ere, text(args, 2), from)
         }
-        b"is_match" => yes_or_no(alloc, ere.is_match(text(args, 2)?)?),
-        b"agree" => {
-            let plain = Plain::parse(alloc, text(args, 1)?)?;
+        Word::IsMatch => yes_or_no(alloc, ere.is_match(text(args, 2))?),
+        Word::Agree => {
+            let plain = Plain::parse(alloc, text(args, 1))?;
             agree(alloc, ere, &plain, args.get(2..).unwrap_or(&[]))
         }
         _ => Err(Problem::NoCall),
@@ -75,6 +76,6 @@ fn of_ere(alloc: Global, ere: &Ere, args: &[Arg<'_>]) -> Answer {
 
 /// The answer of the call.
 pub fn call(alloc: Global, args: &[Arg<'_>]) -> Answer {
-    let ere = Ere::parse(alloc, text(args, 1)?)?;
+    let ere = Ere::parse(alloc, text(args, 1))?;
     of_ere(alloc, &ere, args)
 }

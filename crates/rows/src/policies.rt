@@ -1,9 +1,10 @@
 // Policies: which texts are policies, and what they decide.
 
-use crate::args::{text, word};
+use crate::args::{bare, text, word};
 use crate::problem::Problem;
 use crate::row::{Arg, Row};
 use crate::shown::{Answer, bracketed, bytes, show, told, yes_or_no};
+use crate::words::Word;
 use awk_text::Memory;
 use awk_text::octets::Octets;
 use box_policy::path::normal;
@@ -13,14 +14,14 @@ use std::alloc::Global;
 /// What stands before the lines of a policy's one rule.
 const ONE_RULE: &[u8] = b"version = 1\nbase = \"/w\"\n[[rule]]\n";
 
-fn kind(word: &[u8]) -> Result<Kind, Problem> {
+fn kind(word: Word) -> Result<Kind, Problem> {
     match word {
-        b"read" => Ok(Kind::Read),
-        b"write" => Ok(Kind::Write),
-        b"append" => Ok(Kind::Append),
-        b"run" => Ok(Kind::Run),
-        b"env" => Ok(Kind::Env),
-        b"assign" => Ok(Kind::Assign),
+        Word::Read => Ok(Kind::Read),
+        Word::Write => Ok(Kind::Write),
+        Word::Append => Ok(Kind::Append),
+        Word::Run => Ok(Kind::Run),
+        Word::Env => Ok(Kind::Env),
+        Word::Assign => Ok(Kind::Assign),
         _ => Err(Problem::NoArgument),
     }
 }
@@ -52,8 +53,8 @@ fn allowing(alloc: Global, kind: &[u8], pattern: &[u8]) -> Result<Vec<u8>, Memor
 }
 
 fn fits(alloc: Global, args: &[Arg<'_>]) -> Answer {
-    let (kind, subject) = (kind(word(args, 1))?, text(args, 2)?);
-    let text = allowing(alloc, word(args, 1), text(args, 1)?)?;
+    let (kind, subject) = (kind(word(args, 1))?, text(args, 2));
+    let text = allowing(alloc, bare(args, 1), text(args, 1))?;
     let policy = Policy::read(alloc, &text)?;
     yes_or_no(
         alloc,
@@ -71,10 +72,10 @@ fn components(alloc: Global, base: &[u8], text: &[u8]) -> Answer {
 /// The answer of the call.
 pub fn call(alloc: Global, args: &[Arg<'_>]) -> Answer {
     match word(args, 0) {
-        b"policy" => policy(alloc, text(args, 1)?),
-        b"rule" => policy(alloc, &one_rule(alloc, args.get(1..).unwrap_or(&[]))?),
-        b"fits" => fits(alloc, args),
-        b"normal" => components(alloc, text(args, 1)?, text(args, 2)?),
+        Word::Policy => policy(alloc, text(args, 1)),
+        Word::Rule => policy(alloc, &one_rule(alloc, args.get(1..).unwrap_or(&[]))?),
+        Word::Fits => fits(alloc, args),
+        Word::Normal => components(alloc, text(args, 1), text(args, 2)),
         _ => Err(Problem::NoCall),
     }
 }
@@ -89,18 +90,18 @@ fn show_decision(alloc: Global, decision: Decision) -> Answer {
 
 fn step(alloc: Global, policy: &Policy, args: &[Arg<'_>]) -> Answer {
     let is_given = match word(args, 0) {
-        b"count" => return show(alloc, policy.count()),
-        b"decide" => false,
-        b"decide_given" => true,
+        Word::Count => return show(alloc, policy.count()),
+        Word::Decide => false,
+        Word::DecideGiven => true,
         _ => return Err(Problem::NoCall),
     };
-    let (kind, subject) = (kind(word(args, 1))?, text(args, 1)?);
+    let (kind, subject) = (kind(word(args, 1))?, text(args, 1));
     show_decision(alloc, policy.decide(kind, subject, is_given))
 }
 
 /// The answers of the steps, under the policy of the line before them.
 pub fn block(alloc: Global, args: &[Arg<'_>], steps: &[Row<'_>]) -> Result<Vec<Octets>, Problem> {
-    let policy = Policy::read(alloc, text(args, 1)?)?;
+    let policy = Policy::read(alloc, text(args, 1))?;
     let mut answers = Vec::new(alloc);
     for row in steps {
         answers.push(told(alloc, step(alloc, &policy, &row.args))?)?;

@@ -4,6 +4,7 @@ use crate::args::{number, octets, text, values, word};
 use crate::problem::Problem;
 use crate::row::{Arg, Row};
 use crate::shown::{Answer, bytes, show, show_value, told};
+use crate::words::Word;
 use awk_fields::{Record, Splitter};
 use awk_text::octets::Octets;
 use awk_text::value::text_of;
@@ -16,12 +17,12 @@ fn set_whole(alloc: Global, record: &mut Record, fs: &[u8], text: &[u8]) -> Answ
 }
 
 fn set_field(alloc: Global, record: &mut Record, args: &[Arg<'_>]) -> Answer {
-    let (at, ofs) = (number(args, 1)?, text(args, 3)?);
+    let at = number(args, 1)?;
     let mut values = values(alloc, args, 2)?;
     values.truncate(1);
     match values.pop() {
         Some(value) => {
-            record.set_field(at, value, ofs)?;
+            record.set_field(at, value, text(args, 3))?;
             bytes(alloc, b"done")
         }
         None => Err(Problem::NoArgument),
@@ -35,13 +36,13 @@ fn set_count(alloc: Global, record: &mut Record, count: i64, ofs: &[u8]) -> Answ
 
 fn step(alloc: Global, record: &mut Record, args: &[Arg<'_>]) -> Answer {
     match word(args, 0) {
-        b"line" => set_whole(alloc, record, text(args, 1)?, text(args, 2)?),
-        b"set" => set_field(alloc, record, args),
-        b"set_nf" => set_count(alloc, record, number(args, 1)?, text(args, 2)?),
-        b"nf" => show(alloc, record.count()?),
-        b"get" => show_value(alloc, &record.get(number(args, 1)?)?),
-        b"text" => Ok(text_of(alloc, &record.get(number(args, 1)?)?)?),
-        b"whole" => bytes(alloc, record.whole()),
+        Word::Line => set_whole(alloc, record, text(args, 1), text(args, 2)),
+        Word::Set => set_field(alloc, record, args),
+        Word::SetNf => set_count(alloc, record, number(args, 1)?, text(args, 2)),
+        Word::Nf => show(alloc, record.count()?),
+        Word::Get => show_value(alloc, &record.get(number(args, 1)?)?),
+        Word::Text => Ok(text_of(alloc, &record.get(number(args, 1)?)?)?),
+        Word::Whole => bytes(alloc, record.whole()),
         _ => Err(Problem::NoCall),
     }
 }

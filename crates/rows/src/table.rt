@@ -3,7 +3,7 @@
 use crate::problem::Problem;
 use crate::row::{Arg, Row};
 use crate::shown::Answer;
-use crate::{fields, formats, monitors, patterns, policies, records, tokens, values, worlds};
+use crate::{fields, formats, monitors, patterns, policies, records, runs, tokens, values, worlds};
 use awk_text::octets::Octets;
 use std::alloc::Global;
 
@@ -19,9 +19,10 @@ pub enum Table {
     Policies,
     Worlds,
     Monitors,
+    Runs,
 }
 
-pub const TABLES: [Table; 9] = [
+pub const TABLES: [Table; 10] = [
     Table::Values,
     Table::Patterns,
     Table::Searches,
@@ -31,6 +32,7 @@ pub const TABLES: [Table; 9] = [
     Table::Policies,
     Table::Worlds,
     Table::Monitors,
+    Table::Runs,
 ];
 
 impl Table {
@@ -45,6 +47,7 @@ impl Table {
             Table::Policies => "policies.txt",
             Table::Worlds => "worlds.txt",
             Table::Monitors => "monitors.txt",
+            Table::Runs => "runs.txt",
         }
     }
 
@@ -57,7 +60,7 @@ impl Table {
             Table::Formats => formats::call(alloc, args),
             Table::Tokens => tokens::call(alloc, args),
             Table::Policies => policies::call(alloc, args),
-            Table::Worlds | Table::Monitors => Err(Problem::NoCall),
+            Table::Worlds | Table::Monitors | Table::Runs => Err(Problem::NoCall),
         }
     }
 
@@ -73,6 +76,7 @@ impl Table {
             Table::Policies => policies::block(alloc, args, steps),
             Table::Worlds => worlds::block(alloc, steps),
             Table::Monitors => monitors::block(alloc, args, steps),
+            Table::Runs => runs::block(alloc, args, steps),
             _ => Err(Problem::NoCall),
         }
     }

@@ -4,6 +4,7 @@ use crate::args::{number, text, values, word};
 use crate::problem::Problem;
 use crate::row::Arg;
 use crate::shown::{Answer, bytes, show, show_value, yes_or_no};
+use crate::words::Word;
 use awk_text::arithmetic::{add, div, mul, neg, pow, rem, sub};
 use awk_text::escape::unescape;
 use awk_text::fault::Fault;
@@ -39,14 +40,14 @@ fn fault(alloc: Global, code: i64) -> Answer {
     Err(Problem::NoArgument)
 }
 
-fn of_two(name: &[u8], a: i64, b: i64) -> Result<i64, Problem> {
-    let found = match name {
-        b"add" => add(a, b),
-        b"sub" => sub(a, b),
-        b"mul" => mul(a, b),
-        b"div" => div(a, b),
-        b"rem" => rem(a, b),
-        b"pow" => pow(a, b),
+fn of_two(call: Word, a: i64, b: i64) -> Result<i64, Problem> {
+    let found = match call {
+        Word::Add => add(a, b),
+        Word::Sub => sub(a, b),
+        Word::Mul => mul(a, b),
+        Word::Div => div(a, b),
+        Word::Rem => rem(a, b),
+        Word::Pow => pow(a, b),
         _ => return Err(Problem::NoCall),
     };
     Ok(found?)
@@ -68,13 +69,13 @@ fn order(alloc: Global, a: &Value, b: &Value) -> Answer {
     bytes(alloc, order)
 }
 
-fn of_values(alloc: Global, name: &[u8], values: &[Value]) -> Answer {
-    match (name, values) {
-        (b"number", [value]) => show(alloc, number_of(value)?),
-        (b"text", [value]) => Ok(text_of(alloc, value)?),
-        (b"truth", [value]) => yes_or_no(alloc, truth(value)),
-        (b"copy", [value]) => show_value(alloc, &value.copy(alloc)?),
-        (b"compare", [a, b]) => order(alloc, a, b),
+fn of_values(alloc: Global, call: Word, values: &[Value]) -> Answer {
+    match (call, values) {
+        (Word::Number, [value]) => show(alloc, number_of(value)?),
+        (Word::Text, [value]) => Ok(text_of(alloc, value)?),
+        (Word::Truth, [value]) => yes_or_no(alloc, truth(value)),
+        (Word::Copy, [value]) => show_value(alloc, &value.copy(alloc)?),
+        (Word::Compare, [a, b]) => order(alloc, a, b),
         _ => Err(Problem::NoCall),
     }
 }
@@ -82,18 +83,18 @@ fn of_values(alloc: Global, name: &[u8], values: &[Value]) -> Answer {
 /// The answer of the call.
 pub fn call(alloc: Global, args: &[Arg<'_>]) -> Answer {
     match word(args, 0) {
-        b"fault" => fault(alloc, number(args, 1)?),
-        b"looks_numeric" => looks(alloc, text(args, 1)?),
-        b"join" => Ok(join(alloc, text(args, 1)?, text(args, 2)?)?),
-        b"unescape" => Ok(unescape(alloc, text(args, 1)?)?),
-        b"quote_log" => Ok(quote_log(alloc, text(args, 1)?)?),
-        b"neg" => show(alloc, neg(number(args, 1)?)?),
-        b"add" | b"sub" | b"mul" | b"div" | b"rem" | b"pow" => {
+        Word::Fault => fault(alloc, number(args, 1)?),
+        Word::LooksNumeric => looks(alloc, text(args, 1)),
+        Word::Join => Ok(join(alloc, text(args, 1), text(args, 2))?),
+        Word::Unescape => Ok(unescape(alloc, text(args, 1))?),
+        Word::QuoteLog => Ok(quote_log(alloc, text(args, 1))?),
+        Word::Neg => show(alloc, neg(number(args, 1)?)?),
+        Word::Add | Word::Sub | Word::Mul | Word::Div | Word::Rem | Word::Pow => {
             show(
                 alloc,
                 of_two(word(args, 0), number(args, 1)?, number(args, 2)?)?,
             )
         }
-        name => of_values(alloc, name, &values(alloc, args, 1)?),
+        call => of_values(alloc, call, &values(alloc, args, 1)?),
     }
 }

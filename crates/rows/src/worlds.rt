@@ -1,12 +1,12 @@
 // The world in memory, asked a step after the other.
-ghost use Rattle.std.specs.Prelude.{◌≡◌, ◌<◌, IfOk, OnOk};
-ghost use Rattle.box_world.specs.declared.ask.Request.TheVariants.{Next};
-ghost use Rattle.box_world.specs.Calls.{IsDuty, numbers_after};
+ghost use Rattle.std.specs.Prelude.{◌≡◌, ◌<◌, ◌++◌, ◌∷◌, [], IfOk, OnOk};
+ghost use Rattle.box_world.specs.Calls.{IsDuty, IsStream, numbers_after};
 
 use crate::args::{number, octets, text, word};
 use crate::problem::Problem;
 use crate::row::{Arg, Row};
 use crate::shown::{Answer, bytes, show, told};
+use crate::words::Word;
 use awk_text::octets::Octets;
 use awk_text::place::Place;
 use box_world::ask::{Ask, Mode, Reply, Request};
@@ -39,48 +39,50 @@ pub fn reply_to<W: World>(world: &mut W, request: Request) -> Result<Reply, Prob
     Ok(world.ask(&ask)?)
 }
 
-/// Opens the file to write or for more, puts the bytes to it and shuts it. Answers its number.
-fn write<W: World>(alloc: Global, world: &mut W, mode: Mode, name: &[u8], bytes: &[u8]) -> Answer {
+/// The number of what is opened.
+fn open<W: World>(alloc: Global, world: &mut W, mode: Mode, name: &[u8]) -> Result<u32, Problem>
+    ensures { IfOk result (λ n. W.open_numbers world.new ≡ W.open_numbers world.old ++ n ∷ []) }
+{
     let open = Request::Open(mode, octets(alloc, name)?);
-    let Reply::Opened(number) = reply_to(world, open)? else {
-        return Err(Problem::NotDone);
-    };
+    match reply_to(world, open)? {
+        Reply::Opened(number) => Ok(number),
+        _ => Err(Problem::NotDone),
+    }
+}
+
+fn put_to<W: World>(alloc: Global, world: &mut W, number: u32, bytes: &[u8]) -> Result<(), Problem>
+    requires { IsStream (W.open_numbers world.old) number }
+    ensures { OnOk result (W.open_numbers world.new ≡ W.open_numbers world.old) }
+{
     let put = Request::Put(number, octets(alloc, bytes)?);
-    let Reply::Done = reply_to(world, put)? else {
-        return Err(Problem::NotDone);
-    };
-    let Reply::Done = reply_to(world, Request::Shut(number))? else {
-        return Err(Problem::NotDone);
-    };
+    match reply_to(world, put)? {
+        Reply::Done => Ok(()),
+        _ => Err(Problem::NotDone),
+    }
+}
+
+/// Opens the file, puts the bytes to it and shuts it. Answers its number.
+fn write<W: World>(alloc: Global, world: &mut W, mode: Mode, name: &[u8], bytes: &[u8]) -> Answer {
+    let number = open(alloc, world, mode, name)?;
+    put_to(alloc, world, number, bytes)?;
+    reply_to(world, Request::Shut(number))?;
     show(alloc, number)
 }
 
 /// Opens both files, and puts `a` to the first, `b` to the second and `c` again to the first.
 fn write_in_turn<W: World>(alloc: Global, world: &mut W, first: &[u8], second: &[u8]) -> Answer {
-    let open = Request::Open(Mode::Write, octets(alloc, first)?);
-    let Reply::Opened(one) = reply_to(world, open)? else {
-        return Err(Problem::NotDone);
-    };
-    let open = Request::Open(Mode::Write, octets(alloc, second)?);
-    let Reply::Opened(two) = reply_to(world, open)? else {
-        return Err(Problem::NotDone);
-    };
-    reply_to(world, Request::Put(one, octets(alloc, b"a")?))?;
-    reply_to(world, Request::Put(two, octets(alloc, b"b")?))?;
-    reply_to(world, Request::Put(one, octets(alloc, b"c")?))?;
+    let one = open(alloc, world, Mode::Write, first)?;
+    let two = open(alloc, world, Mode::Write, second)?;
+    put_to(alloc, world, one, b"a")?;
+    put_to(alloc, world, two, b"b")?;
+    put_to(alloc, world, one, b"c")?;
     bytes(alloc, b"done")
 }
 
 /// Opens the command to be written to, puts the bytes to it and shuts it. Answers the last reply.
 fn feed<W: World>(alloc: Global, world: &mut W, command: &[u8], bytes: &[u8]) -> Answer {
-    let open = Request::Open(Mode::RunOut, octets(alloc, command)?);
-    let Reply::Opened(number) = reply_to(world, open)? else {
-        return Err(Problem::NotDone);
-    };
-    let put = Request::Put(number, octets(alloc, bytes)?);
-    let Reply::Done = reply_to(world, put)? else {
-        return Err(Problem::NotDone);
-    };
+    let number = open(alloc, world, Mode::RunOut, command)?;
+    put_to(alloc, world, number, bytes)?;
     show_reply(alloc, &reply_to(world, Request::Shut(number))?)
 }
 
@@ -91,7 +93,7 @@ fn read_on<W: World>(
     number: u32,
     out: &mut Vec<u8>,
 ) -> Result<(), Problem>
-    requires { IsDuty (W.open_numbers world.old) (Next number) }
+    requires { IsStream (W.open_numbers world.old) number }
     ensures { OnOk result (W.open_numbers world.new ≡ W.open_numbers world.old) }
 {
     let reply = reply_to(world, Request::Next(number))?;
@@ -102,12 +104,9 @@ fn read_on<W: World>(
     Ok(())
 }
 
-/// Opens what is to be read, reads three times and shuts it. Answers all replies but the first.
+/// Opens what is to be read, reads three times and shuts it. Answers the later replies.
 fn read<W: World>(alloc: Global, world: &mut W, mode: Mode, name: &[u8]) -> Answer {
-    let open = Request::Open(mode, octets(alloc, name)?);
-    let Reply::Opened(number) = reply_to(world, open)? else {
-        return bytes(alloc, b"failed");
-    };
+    let number = open(alloc, world, mode, name)?;
     let mut shown = Vec::new(alloc);
     read_on(alloc, world, number, &mut shown)?;
     read_on(alloc, world, number, &mut shown)?;
@@ -166,7 +165,7 @@ fn shut<W: World>(alloc: Global, world: &mut W, number: u32) -> Answer
 }
 
 /// From now on the command prints this output and has this status.
-pub fn put_command(
+fn put_command(
     alloc: Global,
     world: &mut MemoryWorld,
     command: &[u8],
@@ -219,27 +218,24 @@ fn chunk(alloc: Global, world: &mut MemoryWorld, number: i64) -> Answer {
 /// What is left in the world.
 pub fn left(alloc: Global, world: &MemoryWorld, args: &[Arg<'_>]) -> Answer {
     match word(args, 0) {
-        b"output" => bytes(alloc, world.output()),
-        b"errors" => bytes(alloc, world.errors()),
-        b"asks" => show(alloc, world.asked().len()),
-        b"file" => bytes(alloc, world.file(text(args, 1)?).unwrap_or(b"none")),
-        b"fed" => bytes(alloc, world.fed(text(args, 1)?).unwrap_or(b"none")),
+        Word::Output => bytes(alloc, world.output()),
+        Word::Errors => bytes(alloc, world.errors()),
+        Word::Asks => show(alloc, world.asked().len()),
+        Word::File => bytes(alloc, world.file(text(args, 1)).unwrap_or(b"none")),
+        Word::Fed => bytes(alloc, world.fed(text(args, 1)).unwrap_or(b"none")),
         _ => Err(Problem::NoCall),
     }
 }
 
-/// What the host does before and between the asks, and what it sees.
-fn host_step(alloc: Global, world: &mut MemoryWorld, args: &[Arg<'_>]) -> Answer {
+/// Says what the world begins with, or what happens to it between the asks.
+pub fn prepare(alloc: Global, world: &mut MemoryWorld, args: &[Arg<'_>]) -> Answer {
     match word(args, 0) {
-        b"command" => {
-            let status = number(args, 3)?;
-            put_command(alloc, world, text(args, 1)?, text(args, 2)?, status)
-        }
-        b"put_file" => put_file(alloc, world, text(args, 1)?, text(args, 2)?),
-        b"put_env" => put_env(alloc, world, text(args, 1)?, text(args, 2)?),
-        b"put_input" => put_input(alloc, world, text(args, 1)?),
-        b"chunk" => chunk(alloc, world, number(args, 1)?),
-        b"fail_at" => fail_at(alloc, world, number(args, 1)?),
+        Word::Command => put_command(alloc, world, text(args, 1), text(args, 2), number(args, 3)?),
+        Word::PutFile => put_file(alloc, world, text(args, 1), text(args, 2)),
+        Word::PutEnv => put_env(alloc, world, text(args, 1), text(args, 2)),
+        Word::PutInput => put_input(alloc, world, text(args, 1)),
+        Word::Chunk => chunk(alloc, world, number(args, 1)?),
+        Word::FailAt => fail_at(alloc, world, number(args, 1)?),
         _ => left(alloc, world, args),
     }
 }
@@ -247,24 +243,24 @@ fn host_step(alloc: Global, world: &mut MemoryWorld, args: &[Arg<'_>]) -> Answer
 /// A step on files and commands.
 fn stream_step(alloc: Global, world: &mut MemoryWorld, args: &[Arg<'_>]) -> Answer {
     match word(args, 0) {
-        b"write" => write(alloc, world, Mode::Write, text(args, 1)?, text(args, 2)?),
-        b"append" => write(alloc, world, Mode::Append, text(args, 1)?, text(args, 2)?),
-        b"write_in_turn" => write_in_turn(alloc, world, text(args, 1)?, text(args, 2)?),
-        b"read" => read(alloc, world, Mode::Read, text(args, 1)?),
-        b"read_command" => read(alloc, world, Mode::RunIn, text(args, 1)?),
-        b"feed" => feed(alloc, world, text(args, 1)?, text(args, 2)?),
-        _ => host_step(alloc, world, args),
+        Word::Write => write(alloc, world, Mode::Write, text(args, 1), text(args, 2)),
+        Word::Append => write(alloc, world, Mode::Append, text(args, 1), text(args, 2)),
+        Word::WriteInTurn => write_in_turn(alloc, world, text(args, 1), text(args, 2)),
+        Word::Read => read(alloc, world, Mode::Read, text(args, 1)),
+        Word::ReadCommand => read(alloc, world, Mode::RunIn, text(args, 1)),
+        Word::Feed => feed(alloc, world, text(args, 1), text(args, 2)),
+        _ => prepare(alloc, world, args),
     }
 }
 
 fn step(alloc: Global, world: &mut MemoryWorld, args: &[Arg<'_>]) -> Answer {
     match word(args, 0) {
-        b"run" => run(alloc, world, text(args, 1)?),
-        b"put" => put(alloc, world, standard(number(args, 1)?)?, text(args, 2)?),
-        b"next" => next(alloc, world, standard(number(args, 1)?)?),
-        b"shut" => shut(alloc, world, standard(number(args, 1)?)?),
-        b"env" => env(alloc, world, text(args, 1)?),
-        b"assign" => assign(alloc, world, text(args, 1)?, text(args, 2)?),
+        Word::Run => run(alloc, world, text(args, 1)),
+        Word::Put => put(alloc, world, standard(number(args, 1)?)?, text(args, 2)),
+        Word::Next => next(alloc, world, standard(number(args, 1)?)?),
+        Word::Shut => shut(alloc, world, standard(number(args, 1)?)?),
+        Word::Env => env(alloc, world, text(args, 1)),
+        Word::Assign => assign(alloc, world, text(args, 1), text(args, 2)),
         _ => stream_step(alloc, world, args),
     }
 }
