@@ -16,13 +16,12 @@ use awk_text::texts::MOST_BYTES;
 use memchr::memchr2;
 use std::alloc::Global;
 
-/// How many bytes stand before the first `&` or `\`.
-fn plain_len(with: &[u8]) -> usize
-    ensures plain { (matched : List ℕ)
-        → filled matched false with.now ≡ take result with.now ++ filled matched false (drop result with.now) }
-    ensures inside { result ≤ length with.now }
+/// The place of the first `&` or `\`; the bytes before it stand for themselves.
+fn sign_place(with: &[u8]) -> Option<usize>
+    ensures { MatchOption result ((matched : List ℕ) → filled matched false with.now ≡ with.now) (λ at. (at < length with.now)
+        × ((matched : List ℕ) → filled matched false with.now ≡ take at with.now ++ filled matched false (drop at with.now))) }
 {
-    memchr2(b'&', b'\\', with).unwrap_or(with.len())
+    memchr2(b'&', b'\\', with)
 }
 
 /// What stands for a match by the first sign of `with`, and the rest of `with`.
@@ -44,14 +43,14 @@ fn push_filled(out: &mut NewText, with: &[u8], matched: &[u8]) -> Result<(), Mem
     ensures { OnOk result (out.new ≡ written out.old (filled matched.now false with.now)) }
 {
     let mut rest = with;
-    while !rest.is_empty() {
-        let (plain, signs) = rest.split_at(plain_len(rest));
+    while let Some(at) = sign_place(rest) {
+        let (plain, signs) = rest.split_at(at);
         out.push(plain)?;
         let (piece, after) = sign(signs, matched);
         out.push(piece)?;
         rest = after;
     }
-    Ok(())
+    out.push(rest)
 }
 
 /// Adds the text from one place up to a match, and what stands for the match.
@@ -105,10 +104,11 @@ fn next_match(
         let Some((start, end)) = ere.find(text, at)? else {
             return Ok(None);
         };
-        if !is_passed(last, start, end) {
+        if is_passed(last, start, end) {
+            at = next_from(start, end);
+        } else {
             return Ok(Some((start, end)));
         }
-        at = next_from(start, end);
     }
     Ok(None)
 }
@@ -162,6 +162,10 @@ fn replace_all(
         next = next_match(ere, text, next_from(start, end), Some(end))?;
     }
     let new = out.finish(&text[done..])?;
+    // No memory holds a text of so many places.
+    if i64::MAX as usize < count {
+        return Err(Fault::Memory);
+    }
     Ok(Some((new, count as i64)))
 }
 
