@@ -163,7 +163,7 @@ fn replace_all(
     }
     let new = out.finish(&text[done..])?;
     // No memory holds a text of so many places.
-    if i64::MAX as usize < count {
+    if count > i64::MAX as usize {
         return Err(Fault::Memory);
     }
     Ok(Some((new, count as i64)))

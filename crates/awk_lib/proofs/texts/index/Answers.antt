@@ -56,7 +56,7 @@ returns-in-Some c =
     let some : 0 < length part = search rules in
     let occurs = c.in-Some.ensures.1 in
     let e : index text part ≡ k + 1 = found text part k some (omega (arith, occurs.fits)) (begins_there text part k occurs)
-        (λ j l. begins_not text part _ j refl some (c.in-Some.ensures.0.before j (omega arith) l)) in
+    (λ j l. begins_not text part _ j refl some (c.in-Some.ensures.0.before j (omega arith) l)) in
     omega (arith, ints)
 
 pub returns-in-None : goal.returns-in-None

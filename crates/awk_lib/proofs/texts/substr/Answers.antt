@@ -23,9 +23,9 @@ returns c =
     let from_is = to_z-of_z w64 c.args.from c.ranges.from in
     let start_is : c.below.result ≡ min (below c.args.from) c.match-count.end = c.below.ensures ∙ ap (λ z. min (below z) c.match-count.end) from_is in
     elim c.match-count.branch [
-    | in-None w ↦ rw w.in-None.is (rest c.args.text.now (below c.args.from) c.below.result c.match-count.end w.end-is start_is)
-    | in-Some w ↦
-        let count_is : to_z w64 (of_z w64 w.in-Some.count) ≡ w.in-Some.count = to_z-of_z w64 w.in-Some.count (search rules) in
-        let end_is : c.match-count.end ≡ min (below (c.args.from +ℤ w.in-Some.count)) (length c.args.text.now) = w.end-is ∙ w.below_sum-end.ensures ∙ ap₂ (λ a b. min (below (a +ℤ b)) (length c.args.text.now)) from_is count_is in
-        rw w.in-Some.is (part c.args.text.now (below c.args.from) (below (c.args.from +ℤ w.in-Some.count)) c.below.result c.match-count.end end_is start_is)
+      | in-None w ↦ rw w.in-None.is (rest c.args.text.now (below c.args.from) c.below.result c.match-count.end w.end-is start_is)
+      | in-Some w ↦
+          let count_is : to_z w64 (of_z w64 w.in-Some.count) ≡ w.in-Some.count = to_z-of_z w64 w.in-Some.count (search rules) in
+          let end_is : c.match-count.end ≡ min (below (c.args.from +ℤ w.in-Some.count)) (length c.args.text.now) = w.end-is ∙ w.below_sum-end.ensures ∙ ap₂ (λ a b. min (below (a +ℤ b)) (length c.args.text.now)) from_is count_is in
+          rw w.in-Some.is (part c.args.text.now (below c.args.from) (below (c.args.from +ℤ w.in-Some.count)) c.below.result c.match-count.end end_is start_is)
     ]
