@@ -1,5 +1,6 @@
-use Rattle.std.proofs.Common.{◌≡◌, ◌+◌, ◌<◌, ◌^◌, Some, None, pos, length, sym, ap, subst, ◌∙◌, ⊎_elim, inl, inr, true≢false, arith, w64, to_z}
-use Rattle.std.specs.Option.{is_none}
+use Rattle.std.proofs.Common.{◌≡◌, Some, None, pos, sym, ap, subst, ◌∙◌, ⊎_elim, inl, inr, not, arith, w64, to_z}
+use Rattle.std.specs.Option.{is_some}
+use Rattle.std.proofs.lemmas.Bool.{false≢true}
 use Rattle.std.proofs.lemmas.Int.{ints}
 use Rattle.std.proofs.lemmas.List.{take_rest}
 use Rattle.std.proofs.lemmas.Result.{err_from_is_err_and}
@@ -10,7 +11,7 @@ use Rattle.awk_lib.proofs.replacing.replace_all.Goals as goal
 pub loop-next-init : goal.loop-next-init
 loop-next-init c =
     rw c.in_ok-out.ensures (turn_begin c.args.ere.now c.args.with.now c.args.text.now c.in_ok-next.next c.in_ok-next.ensures
-    (λ e. true≢false (sym (ap is_none e) ∙ sym c.is_none.ensures ∙ c.if-is_none.false)))
+    (λ e. false≢true (sym (ap is_some e) ∙ c.is_none.ensures ∙ ap not c.if-is_none.false)))
 
 pub loop-next-preserved : goal.loop-next-preserved
 loop-next-preserved c =
