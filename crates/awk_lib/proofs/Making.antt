@@ -5,10 +5,10 @@ use Rattle.std.specs.Prelude.{nat_le}
 use Rattle.std.specs.List.{slice_range}
 use Rattle.awk_text.specs.Limits.{most_bytes}
 use Rattle.awk_ere.specs.Spelled.{Finds}
-use Rattle.awk_lib.specs.Replacing.{next_from, AllFrom, Found, filled, replaced, IsReplaced, IsTooLong}
+use Rattle.awk_lib.specs.Replacing.{next_from, AllFrom, filled, replaced, IsReplaced, IsTooLong}
 use Rattle.awk_lib.specs.Seeking.{IsNextMatch}
 use Rattle.awk_lib.specs.Written.{written}
-use Rattle.awk_lib.proofs.Matching.{Past, past}
+use Rattle.awk_lib.proofs.Matching.{past}
 
 -- one piece after the other is the two together
 pub written-written : (o : Option (List ℕ)) (a b : List ℕ) → written (written o a) b ≡ written o (a ++ b)

@@ -1,11 +1,10 @@
 -- The search for the matches that are replaced.
-use Rattle.std.proofs.Common.{◌≡◌, ℕ, zero, suc, ◌+◌, ◌≤◌, ◌<◌, ◌⊎◌, inl, inr, Bool, true, false, ◌==◌, List, [], ◌∷◌, length, Option, Some, None, sym, ◌∙◌, arith}
-use Rattle.std.proofs.lemmas.Bool.{eqb-true}
+use Rattle.std.proofs.Common.{◌≡◌, ℕ, zero, suc, ◌+◌, ◌≤◌, ◌<◌, inl, inr, true, false, List, [], ◌∷◌, length, Option, Some, None, arith}
 use Rattle.std.proofs.lemmas.Bool.Decides.{nat_tests}
 use Rattle.awk_ere.specs.Pattern.{Pattern, empty, bytes, start, finish, cat, alt, repeat, Chain, Matches}
 use Rattle.awk_ere.specs.Spelled.{Finds}
 use Rattle.awk_lib.specs.Replacing.{next_from, is_passed, AllFrom, behind, no_more, passed, then_one}
-use Rattle.awk_lib.specs.Seeking.{IsNext, IsNextMatch}
+use Rattle.awk_lib.specs.Seeking.{IsNextMatch}
 
 chain_le : (R : ℕ → ℕ → Type 0) → ((i j : ℕ) → R i j → i ≤ j) → (n i j : ℕ) → Chain R n i j → i ≤ j
 chain_le R step zero i j e = omega arith

@@ -1,7 +1,7 @@
-use Rattle.std.proofs.Common.{◌≡◌, true, false, Some, None, sym, subst, ◌∙◌, arith}
+use Rattle.std.proofs.Common.{◌≡◌, true, false, Some, sym, subst, ◌∙◌, arith}
 use Rattle.awk_ere.specs.Spelled.{Finds}
 use Rattle.awk_lib.specs.Replacing.{is_passed}
-use Rattle.awk_lib.proofs.Matching.{reaches_begin, reaches_on, reaches_none, reaches_end, reaches_one}
+use Rattle.awk_lib.proofs.Matching.{reaches_on, reaches_none, reaches_end, reaches_one}
 use Rattle.awk_lib.proofs.replacing.next_match.Goals as goal
 
 pub loop-at-preserved : goal.loop-at-preserved

@@ -1,4 +1,4 @@
-use Rattle.std.proofs.Common.{Some, [], subst, ⊎_elim, inl, inr, refl}
+use Rattle.std.proofs.Common.{Some, [], subst, ⊎_elim, inl, inr}
 use Rattle.std.proofs.lemmas.List.{take_rest}
 use Rattle.std.proofs.lemmas.Result.{err_from_is_err_and}
 use Rattle.awk_ere.specs.Spelled.{Finds}
