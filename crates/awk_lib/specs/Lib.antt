@@ -1,0 +1,4 @@
+pub mod Texts
+pub mod Written
+pub mod Replacing
+pub mod Seeking

@@ -1,0 +1,9 @@
+//! What awk's built-in functions do with texts (POSIX.1-2017 XCU awk, "String Functions").
+#![tactic(auto)]
+
+mod new_text;
+pub mod replacing;
+pub mod texts;
+
+pub use replacing::{replace as replace, replace_any as replace_any};
+pub use texts::{index as index, substr as substr, to_case as to_case};
