@@ -1,7 +1,7 @@
 // The words of the tables: the names of calls, and words that stand for an argument.
 
 /// A word that has a meaning in a table.
-#[derive(Clone, Copy, PartialEq, Eq, Drop)]
+#[derive(Clone, Copy, Drop)]
 pub enum Word {
     /// None, or any other.
     Other,
