@@ -293,7 +293,7 @@ kind = \"write\"
 match = \"out/**\""
 script 'BEGIN { print "a" > "out/a"; print "b" > "out/b"; print "c" }'
 echo "$forged" >"$base/out/a"
-closed 2 "awkbox: 1:49 F7 cannot open or write output$line" "" no_output
+closed 2 "awkbox: 1:51 F7 cannot open or write output$line" "" no_output
 [ $? -eq 0 ] && holds out/a "a$line" && holds out/b "b$line"
 verdict "a standard output that is closed is no file of the script"
 
@@ -304,7 +304,7 @@ kind = \"run\"
 match = \": >'$work/log'\""
 script "BEGIN { system(\"first\"); system(\": >'$work/log'\"); system(\"second\") }"
 run
-is 0 "" "" "1:$((54 + ${#work})) run none \"second\"$line"
+is 0 "" "" "1:$((47 + ${#work})) run none \"second\"$line"
 verdict "a log that is emptied during the run goes on at its end"
 
 script 'BEGIN { print "hi" }'
