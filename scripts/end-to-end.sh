@@ -293,7 +293,7 @@ kind = \"write\"
 match = \"out/**\""
 script 'BEGIN { print "a" > "out/a"; print "b" > "out/b"; print "c" }'
 echo "$forged" >"$base/out/a"
-closed 2 "awkbox: 1:49 F7 cannot open or write output$line" "" no_output
+closed 2 "awkbox: 1:51 F7 cannot open or write output$line" "" no_output
 [ $? -eq 0 ] && holds out/a "a$line" && holds out/b "b$line"
 verdict "a standard output that is closed is no file of the script"
 
@@ -304,7 +304,7 @@ kind = \"run\"
 match = \": >'$work/log'\""
 script "BEGIN { system(\"first\"); system(\": >'$work/log'\"); system(\"second\") }"
 run
-is 0 "" "" "1:$((54 + ${#work})) run none \"second\"$line"
+is 0 "" "" "1:$((47 + ${#work})) run none \"second\"$line"
 verdict "a log that is emptied during the run goes on at its end"
 
 script 'BEGIN { print "hi" }'
@@ -474,7 +474,7 @@ for page in awkbox.1 awkbox-policy.5; do
     if command -v mandoc >/dev/null; then
         mandoc -T lint -W warning "$top/man/$page" >"$work/output" 2>&1
         checked=yes
-    elif man -l --warnings /dev/null >/dev/null 2>&1; then
+    elif man -l "$top/man/$page" >/dev/null 2>&1; then
         LC_ALL=C man -l --warnings=mac "$top/man/$page" 2>"$work/output" >/dev/null
         checked=yes
     fi
@@ -491,6 +491,50 @@ status=$?
     cmp -s "$prefix/share/zsh/site-functions/_awkbox" "$top/completions/_awkbox" &&
     cmp -s "$prefix/share/bash-completion/completions/awkbox" "$top/completions/awkbox.bash"
 verdict "the installation"
+
+# The wrapper, over three crates and a prover that are made up.
+fresh=$work/fresh
+mkdir -p "$fresh/bin" "$fresh"/crates/{low,high,aside,awkbox_program}/src
+cp "$top/awkbox" "$fresh"
+printf '%s\n' 'awkbox_program: high clap' 'aside: low' 'high: low' 'low: itoa' >"$fresh/crates.txt"
+cat >"$fresh/bin/rt" <<'END'
+#!/bin/sh
+name=$(basename "$PWD")
+echo "fn $name::main: proved"
+[ "$name" != "${FAILS:-}" ] || exit 1
+if [ "$1" = run ]; then
+    mkdir -p out && printf '#!/bin/sh\necho ran "$@"\n' >out/awkbox_program &&
+        chmod +x out/awkbox_program
+fi
+END
+chmod +x "$fresh/bin/rt"
+prover=$fresh/crates/awkbox_program/out/build.log
+
+# wrapper [NAME]: runs the wrapper, with a prover that fails at this crate
+wrapper() {
+    PATH=$fresh/bin:$PATH FAILS=${1:-} "$fresh/awkbox" run "a b" >"$work/output" 2>"$work/errors"
+    status=$?
+}
+
+# tells LINE..: whether standard error has these lines, the time so far aside
+tells() {
+    printf 'awkbox: %s\n' "$@" |
+        cmp -s - <(grep -v '^fn' "$work/errors" | sed 's/, [0-9]* min [0-9]* s so far$//')
+}
+begins="proving and building the program; the first time this takes about 10 minutes"
+wrapper high
+[ "$status" -eq 1 ] && holds "$work/output" "" && [ "$(grep -c '^fn' "$work/errors")" -eq 2 ] &&
+    tells "$begins" "what the prover says is in $prover" "1 of 3: low" "2 of 3: high" \
+        "high failed; the end of $prover:" "the program could not be built"
+verdict "the wrapper where a crate is not proved"
+wrapper
+[ "$status" -eq 0 ] && holds "$work/output" "ran run a b$line" && [ "$(wc -l <"$prover")" -eq 3 ] &&
+    tells "$begins" "what the prover says is in $prover" "1 of 3: low" "2 of 3: high" \
+        "3 of 3: awkbox_program" "built $fresh/crates/awkbox_program/out/awkbox_program"
+verdict "the wrapper's progress"
+wrapper
+[ "$status" -eq 0 ] && holds "$work/output" "ran run a b$line" && holds "$work/errors" ""
+verdict "the wrapper once the program is built"
 
 # completed WORD..: what bash offers for the last of the words
 completed() {
