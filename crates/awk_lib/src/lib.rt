@@ -1,0 +1,4 @@
+// Arrays, and the built-in functions on texts.
+#![tactic(auto)]
+
+pub mod array;
