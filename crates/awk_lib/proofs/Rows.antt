@@ -13,7 +13,9 @@ use Rattle.std.specs.List.{AllByRecursion, IsDistinct, swap_remove}
 use Rattle.std.specs.List.Sorted.{IsSortedByKey}
 use Rattle.std.specs.Ordering.{nat_cmp}
 use Rattle.std.proofs.lemmas.List.Sorted.{IsNonDecreasingBy-from_sort}
+use Rattle.std.specs.Borrow.{Bor}
 use Rattle.std.specs.Map.{lookup, keys_of, values_of}
+use Rattle.std.specs.Map.Iter.{deref}
 use Rattle.std.specs.Option.{option_map, option_map_or, IfSome}
 use Rattle.std.specs.Str.{bytes_eq}
 use Rattle.indexmap.specs.IndexMap.{insert_entry, set_value_at}
@@ -279,6 +281,18 @@ module _ {V : Type 0} where
 
   pub shown_moved : (settled : Bool) (n : ℕ) (rs ss : List (Row V)) → AreNumbered settled n rs → IsPermutation rs ss → shown ss ≡ shown rs
   shown_moved settled n rs ss a p = ap (map (λ r. r.1)) (sym (in_order_same rs ss p a.distinct))
+
+-- ---- the keys that an iterator over the map gave
+
+pub keys_yielded : {K X : Type 0} (text : K → List ℕ) (ks : List (Bor K)) (es : List (K × X)) → map deref ks ≡ keys_of es → map (λ k. text k.now) ks ≡ map (λ e. text e.0) es
+keys_yielded {K} {X} text ks es e = behind ks ∙ ap (map text) e ∙ stored es
+  where
+    behind : (l : List (Bor K)) → map (λ k. text k.now) l ≡ map text (map deref l)
+    behind [] = refl
+    behind (k ∷ l) = ap (λ t. text k.now ∷ t) (behind l)
+    stored : (l : List (K × X)) → map text (keys_of l) ≡ map (λ e. text e.0) l
+    stored [] = refl
+    stored (e ∷ l) = ap (λ t. text e.0 ∷ t) (stored l)
 
 -- ---- the rows of the elements in the map
 

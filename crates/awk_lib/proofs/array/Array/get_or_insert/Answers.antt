@@ -55,7 +55,7 @@ invariant_of-self-lent-2 g c = λ w.
     let place = c.in_ok-place.place in
     let settled = c.self.inside.settled in
     let none : lookup (λ k. bytes_eq key k.items) es ≡ None = none_of _ (sym c.get_index_of.ensures.found ∙ ap is_some c.in_default.is) in
-    subst (λ n. AreNumbered settled n (rows (λ k. k.items) (set_value_at fs place (record { number = number_at fs place; value = w })))) (sym c.in-Some-checked_add.ensures)
+    subst (λ n. AreNumbered settled n (rows (λ k. k.items) (set_value_at fs place (record { number = number_at fs place; value = w })))) (sym c.in-Some-checked_add.ensures.1)
         (last_numbered (λ k. k.items) settled c.self.inside.next key es c.self.invariant none c.args.value fs c.in_ok-place.ensures.added place c.in_ok-place.ensures.ok w)
 
 pub returns : goal.returns

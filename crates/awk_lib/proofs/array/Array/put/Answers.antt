@@ -19,7 +19,7 @@ invariant_of-self-then-branch g c =
     let next = c.self.inside.next in
     let none : lookup (λ k. bytes_eq key.items k.items) es ≡ None = none_of _ (not_true _ (sym c.in_ok-put.ensures.new ∙ c.if-branch.true)) in
     let is = ap (rows (λ k. k.items)) c.in_ok-put.ensures.ok ∙ rows_put_new (λ k. k.items) key next c.args.value es none in
-    subst (λ n. AreNumbered c.self.inside.settled n (rows (λ k. k.items) c.put.new.self.map.entries)) (sym c.in-Some.ensures)
+    subst (λ n. AreNumbered c.self.inside.settled n (rows (λ k. k.items) c.put.new.self.map.entries)) (sym c.in-Some.ensures.1)
         (new_numbered (λ k. k.items) c.self.inside.settled next key.items es c.self.invariant none c.args.value c.put.new.self.map.entries is)
 
 pub invariant_of-self-else-branch : goal.invariant_of-self-else-branch
