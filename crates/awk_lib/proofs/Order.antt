@@ -125,7 +125,7 @@ module _ {P : Type 0} where
   rising_in_order (r ∷ rs) d =
       let apart = all_mapped (λ (s : ℕ × P). s.0) (λ n. nat_eq r.0 n ≡ false) rs (IsDistinct-head nat_eq r.0 (numbers rs) d) in
       rising_into r (in_order rs) (all_permuted (λ s. nat_eq r.0 s.0 ≡ false) rs (in_order rs) (in_order_permutes rs) apart)
-          (rising_in_order rs (IsDistinct-tail nat_eq r.0 (numbers rs) d))
+      (rising_in_order rs (IsDistinct-tail nat_eq r.0 (numbers rs) d))
 
   first_same : (x : ℕ × P) (xs : List (ℕ × P)) (y : ℕ × P) (ys : List (ℕ × P)) → AreRising (x ∷ xs) → AreRising (y ∷ ys) → Among x (y ∷ ys) → Among y (x ∷ xs) → x ≡ y
   unfolding Among
@@ -166,7 +166,7 @@ module _ {P : Type 0} where
       let back = IsPermutation-sym xs a (in_order_permutes xs) in
       let q = IsPermutation-trans a xs b back (IsPermutation-trans xs ys b p (in_order_permutes ys)) in
       same_rising a b (rising_in_order xs d) (rising_in_order ys (numbers_permuted xs ys p d))
-          (all_permuted (λ z. Among z b) b a (IsPermutation-sym a b q) (all_among b)) (all_permuted (λ z. Among z a) a b q (all_among a))
+      (all_permuted (λ z. Among z b) b a (IsPermutation-sym a b q) (all_among b)) (all_permuted (λ z. Among z a) a b q (all_among a))
 
   -- ---- rows that change, but for their numbers
 
@@ -205,6 +205,7 @@ rising_sorted {X} {P} n p (x ∷ xs) h d =
     let least : AllByRecursion (λ y. n x ≤ n y) xs = recursion_from_All (λ y. n x ≤ n y) xs (λ k c l. h 0 (suc k) c (omega arith) (omega (arith, l))) in
     let apart = all_mapped n (λ m. nat_eq (n x) m ≡ false) xs (IsDistinct-head nat_eq (n x) (map n xs) d) in
     let below : AllByRecursion (λ y. n x < n y) xs =
-        all_weaker (λ y. (n x ≤ n y) × (nat_eq (n x) (n y) ≡ false)) (λ y. n x < n y) (λ y b. let l = b.0 in let o = b.1 in grind (arith, nat_tests, l, o)) xs (all_both (λ y. n x ≤ n y) (λ y. nat_eq (n x) (n y) ≡ false) xs least apart) in
-    (map_all (λ y. (n y, p y)) (λ s. n x < s.0) xs below,
-        rising_sorted n p xs (λ i j c l w. h (suc i) (suc j) c (omega (arith, l)) (omega (arith, w))) (IsDistinct-tail nat_eq (n x) (map n xs) d))
+    all_weaker (λ y. (n x ≤ n y) × (nat_eq (n x) (n y) ≡ false)) (λ y. n x < n y) (λ y b. let l = b.0 in let o = b.1 in grind (arith, nat_tests, l, o)) xs (all_both (λ y. n x ≤ n y) (λ y. nat_eq (n x) (n y) ≡ false) xs least apart) in (
+      map_all (λ y. (n y, p y)) (λ s. n x < s.0) xs below,
+      rising_sorted n p xs (λ i j c l w. h (suc i) (suc j) c (omega (arith, l)) (omega (arith, w))) (IsDistinct-tail nat_eq (n x) (map n xs) d),
+    )

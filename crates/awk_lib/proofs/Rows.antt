@@ -78,7 +78,7 @@ module _ {V : Type 0} where
   alone key r rs d e =
       let same : key ≡ r.1.0 = (bytes_eq-Decides key r.1.0).0 e in
       all_mapped (λ (s : (Row V)). s.1.0) (λ t. bytes_eq key t ≡ false) rs
-          (subst (λ k. AllByRecursion (λ t. bytes_eq k t ≡ false) (texts rs)) (sym same) (IsDistinct-head bytes_eq r.1.0 (texts rs) d))
+      (subst (λ k. AllByRecursion (λ t. bytes_eq k t ≡ false) (texts rs)) (sym same) (IsDistinct-head bytes_eq r.1.0 (texts rs) d))
 
   lookup_into : (key : List ℕ) (r : (Row V)) (rs : List (Row V)) → (bytes_eq key r.1.0 ≡ true → AllByRecursion (λ s. bytes_eq key s.1.0 ≡ false) rs)
       → lookup (bytes_eq key) (map (λ s. s.1) (into r rs)) ≡ cond (bytes_eq key r.1.0) (Some r.1.1) (lookup (bytes_eq key) (map (λ s. s.1) rs))
@@ -121,9 +121,9 @@ module _ {V : Type 0} where
             (distinct_push nat_eq (numbers rs) n (map_all (λ (r : (Row V)). r.0) (λ m. nat_eq m n ≡ false) rs (all_weaker (λ r. r.0 < n) (λ r. nat_eq r.0 n ≡ false) (λ r l. grind (arith, nat_tests, l)) rs a.below)) a.distinct);
         keys = subst (IsDistinct bytes_eq) (sym (map-append (λ (r : (Row V)). r.1.0) rs (x ∷ [])))
             (distinct_push bytes_eq (texts rs) key
-                (map_all (λ (r : (Row V)). r.1.0) (λ t. bytes_eq t key ≡ false) rs
-                    (all_weaker (λ r. bytes_eq key r.1.0 ≡ false) (λ r. bytes_eq r.1.0 key ≡ false) (λ r o. nat_list_eq_equiv.symm r.1.0 key ∙ o) rs (absent_rows key rs none)))
-                a.keys);
+            (map_all (λ (r : (Row V)). r.1.0) (λ t. bytes_eq t key ≡ false) rs
+            (all_weaker (λ r. bytes_eq key r.1.0 ≡ false) (λ r. bytes_eq r.1.0 key ≡ false) (λ r o. nat_list_eq_equiv.symm r.1.0 key ∙ o) rs (absent_rows key rs none)))
+            a.keys);
         rising = λ e. rising_push rs x a.below (a.rising e);
       }
 
@@ -244,6 +244,7 @@ module _ {V : Type 0} where
     where
       all : without (map (λ s. s.1) (s ∷ ss)) key ≡ map (λ s. s.1) (s ∷ ss)
       all = filter_none key (map (λ s. s.1) (s ∷ ss)) (map_all (λ (s : (Row V)). s.1) (λ p. bytes_eq key p.0 ≡ false) (s ∷ ss) h)
+
       by : (b : Bool) → without (map (λ s. s.1) (into r ss)) key ≡ map (λ s. s.1) ss → without (map (λ s. s.1) (if b then s ∷ into r ss else r ∷ s ∷ ss)) key ≡ map (λ s. s.1) (s ∷ ss)
       by true rest = ap (λ b. cond (not b) (s.1 ∷ without (map (λ s. s.1) (into r ss)) key) (without (map (λ s. s.1) (into r ss)) key)) h.0 ∙ ap (λ l. s.1 ∷ l) rest
       by false rest = ap (λ b. cond (not b) (r.1 ∷ without (map (λ s. s.1) (s ∷ ss)) key) (without (map (λ s. s.1) (s ∷ ss)) key)) e ∙ all
@@ -255,7 +256,7 @@ module _ {V : Type 0} where
   shown_gone settled n rs r ss key a p e =
       let others = alone key r ss (texts_permuted rs (r ∷ ss) p a.keys) e in
       sym (ap (λ l. without (map (λ s. s.1) l) key) (in_order_same rs (r ∷ ss) p a.distinct)
-          ∙ without_into key r (in_order ss) e (all_permuted (λ s. bytes_eq key s.1.0 ≡ false) ss (in_order ss) (in_order_permutes ss) others))
+      ∙ without_into key r (in_order ss) e (all_permuted (λ s. bytes_eq key s.1.0 ≡ false) ss (in_order ss) (in_order_permutes ss) others))
 
   pub gone : (settled : Bool) (n : ℕ) (rs : List (Row V)) (r : (Row V)) (ss : List (Row V)) (now : Bool) → AreNumbered settled n rs → IsPermutation rs (r ∷ ss) → (now ≡ true → length ss ≡ 0) → AreNumbered now n ss
   gone settled n rs r ss now a p empty = record {
@@ -290,6 +291,7 @@ keys_yielded {K} {X} text ks es e = behind ks ∙ ap (map text) e ∙ stored es
     behind : (l : List (Bor K)) → map (λ k. text k.now) l ≡ map text (map deref l)
     behind [] = refl
     behind (k ∷ l) = ap (λ t. text k.now ∷ t) (behind l)
+
     stored : (l : List (K × X)) → map text (keys_of l) ≡ map (λ e. text e.0) l
     stored [] = refl
     stored (e ∷ l) = ap (λ t. text e.0 ∷ t) (stored l)
@@ -369,6 +371,7 @@ module _ {K V : Type 0} (text : K → List ℕ) where
     where
       y : Numbered V
       y = record { number = x.number; value = v }
+
       by : (b : Bool) → bytes_eq (text k) (text e.0) ≡ b → cond b (Some e.1) (lookup (λ q. bytes_eq (text k) (text q)) es) ≡ Some x
           → (lookup (λ q. bytes_eq (text k) (text q)) es ≡ Some x → rows text (insert_entry (λ a b. bytes_eq (text a) (text b)) es k y) ≡ map (set_row (text k) v) (rows text es))
           → rows text (if b then (e.0, y) ∷ es else e ∷ insert_entry (λ a b. bytes_eq (text a) (text b)) es k y)
@@ -485,7 +488,7 @@ module _ {K V : Type 0} (text : K → List ℕ) where
   pub rising_rows : (es : List (K × Numbered V)) → IsSortedByKey (λ e. e.1.number) nat_cmp es → IsDistinct nat_eq (numbers (rows text es)) → AreRising (rows text es)
   rising_rows es sorted d =
       rising_sorted (λ (e : K × Numbered V). e.1.number) (λ (e : K × Numbered V). (text e.0, e.1.value)) es
-          (IsNonDecreasingBy-from_sort (λ (e : K × Numbered V). e.1.number) es sorted) (subst (IsDistinct nat_eq) (numbers_rows es) d)
+      (IsNonDecreasingBy-from_sort (λ (e : K × Numbered V). e.1.number) es sorted) (subst (IsDistinct nat_eq) (numbers_rows es) d)
 
   texts_rows : (es : List (K × Numbered V)) → map (λ e. text e.0) es ≡ keys (map (λ r. r.1) (rows text es))
   texts_rows [] = refl

@@ -29,12 +29,11 @@ struct Elements<V> {
 
 impl<V> Elements<V> {
     ghost use Rattle.std.specs.Borrow.{sem};
-    ghost use Rattle.std.specs.Prelude.{slice_get, Some, None, ◌++◌, ◌∷◌, map, not, is_some, OnErr, IsPermutation};
+    ghost use Rattle.std.specs.Prelude.{◌||◌, nat_lt, None, ◌++◌, ◌∷◌, map, not, is_some, OnErr, IsPermutation};
     ghost use Rattle.std.specs.List.Sorted.{IsSortedByKey};
     ghost use Rattle.std.specs.Ordering.{nat_cmp};
     ghost use Rattle.std.specs.Str.{bytes_eq};
     ghost use Rattle.std.specs.Option.{option_map};
-    ghost use Rattle.std.specs.Prelude.{◌||◌, nat_lt};
     ghost use Rattle.indexmap.specs.IndexMap.{get_by, index_map_len, insert_entry};
     ghost use Rattle.awk_lib.specs.Arrays.{most_elements};
     ghost use Rattle.awk_lib.specs.Numbering.{put_in, rows};
@@ -103,9 +102,7 @@ impl<V> Elements<V> {
     fn put(&mut self, key: Vec<u8>, number: u64, value: V) -> Result<bool, Memory>
     where
         V: Drop,
-        ensures ok { OnOk result (self.new.map.entries
-            ≡ insert_entry (λ x y. bytes_eq x.items y.items) self.old.map.entries key
-                (put_in (get_by (λ k. bytes_eq key.items k.items) self.old.map) number value)) }
+        ensures ok { OnOk result (self.new.map.entries ≡ insert_entry (λ x y. bytes_eq x.items y.items) self.old.map.entries key (put_in (get_by (λ k. bytes_eq key.items k.items) self.old.map) number value)) }
         ensures new { IfOk result (λ new. new ≡ not (is_some (get_by (λ k. bytes_eq key.items k.items) self.old.map))) }
         ensures err { OnErr result (self.new.map.entries ≡ self.old.map.entries) }
     {
@@ -229,8 +226,8 @@ impl<V: Drop> Array<V> {
     pub fn get_or_insert(&mut self, key: &[u8], value: V) -> Result<&mut V, Fault>
         ensures* writes_back { sem 𝓛 (lends_put V.row self.entry key.now result) }
         ensures value { IfOk result (λ x. x.now ≡ unwrap_or (element self.old key.now) value) }
-        ensures room { OnOk result (put self.old key.now value ≡ Ok (with_element self.old key.now value)) }
-        ensures err { IfErr result (λ e. (e ≡ Fault.Memory) ⊎ (put self.old key.now value ≡ Err e)) }
+        ensures room { OnOk result ((w : V) → put self.old key.now w ≡ Ok (with_element self.old key.now w)) }
+        ensures err { IfErr result (λ e. (e ≡ Fault.Memory) ⊎ ((w : V) → put self.old key.now w ≡ Err e)) }
     {
         if let Some(place) = self.elements.map.get_index_of(key) {
             return Ok(self.elements.value_mut(place));

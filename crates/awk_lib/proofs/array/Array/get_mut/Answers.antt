@@ -6,15 +6,18 @@ use Rattle.awk_lib.proofs.array.Array.get_mut.Goals as goal
 pub returns-in_err-place : goal.returns-in_err-place
 returns-in_err-place g c =
     let es = c.self.inside.elements.map.entries in
-    rw (c.from_residual.ensures, ← c.self.view_is) (refl, record {
-      writes_back = tt;
-      value = sym (element_rows (λ k. k.items) c.args.key.now es c.self.invariant.keys ∙ ap (option_map (λ x. x.value)) (none_of _ (sym c.in_err-place.ensures.found)));
-    })
+    rw (c.from_residual.ensures, ← c.self.view_is) (
+      refl,
+      record {
+        writes_back = tt;
+        value = sym (element_rows (λ k. k.items) c.args.key.now es c.self.invariant.keys ∙ ap (option_map (λ x. x.value)) (none_of _ (sym c.in_err-place.ensures.found)));
+      },
+    )
 
 pub invariant_of-self-lent : goal.invariant_of-self-lent
 invariant_of-self-lent g c = λ w.
     place_numbered (λ k. k.items) c.args.key.now c.self.inside.elements.map.entries c.in_ok-place.place (sym c.in_ok-place.ensures.index)
-        c.self.inside.settled c.self.inside.next w c.self.invariant
+    c.self.inside.settled c.self.inside.next w c.self.invariant
 
 pub returns : goal.returns
 returns g c =

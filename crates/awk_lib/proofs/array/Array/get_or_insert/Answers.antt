@@ -13,7 +13,7 @@ use Rattle.awk_lib.proofs.array.Array.get_or_insert.Goals as goal
 pub invariant_of-self-lent : goal.invariant_of-self-lent
 invariant_of-self-lent g c = λ w.
     place_numbered (λ k. k.items) c.args.key.now c.self.inside.elements.map.entries c.in-Some.place (sym c.in-Some.ensures.index)
-        c.self.inside.settled c.self.inside.next w c.self.invariant
+    c.self.inside.settled c.self.inside.next w c.self.invariant
 
 pub returns-in-Some : goal.returns-in-Some
 returns-in-Some g c =
@@ -28,7 +28,7 @@ returns-in-Some g c =
       record {
         writes_back = tt;
         value = sym (ap (λ o. unwrap_or o c.args.value) (element_at (λ k. k.items) key es place found keys ∙ c.value_mut.ensures.value));
-        room = put_allowed array key c.args.value (ap (λ b. b || nat_lt (length array) most_elements) (has_at (λ k. k.items) key es place found keys));
+        room = λ w. put_allowed array key w (ap (λ b. b || nat_lt (length array) most_elements) (has_at (λ k. k.items) key es place found keys));
         err = tt;
       },
     )
@@ -40,12 +40,15 @@ returns-then-len-ge-MOST_ELEMENTS g c =
     let no : is_some (lookup (λ k. bytes_eq key k.items) es) ≡ false = sym c.get_index_of.ensures.found ∙ ap is_some c.in_default.is in
     let many : 1000000 ≤ length es = omega (arith, c.if-len-ge-MOST_ELEMENTS.true, c.len.ensures.len) in
     let full : nat_lt (length es) most_elements ≡ false = grind (arith, nat_tests, many) in
-    rw (← c.self.view_is) (refl, record {
-      writes_back = tt;
-      value = tt;
-      room = tt;
-      err = inr (put_refused (shown (rows (λ k. k.items) es)) key c.args.value (room_rows (λ k. k.items) key es c.self.invariant.keys ∙ (λ i. no i || full i)));
-    })
+    rw (← c.self.view_is) (
+      refl,
+      record {
+        writes_back = tt;
+        value = tt;
+        room = tt;
+        err = inr (λ w. put_refused (shown (rows (λ k. k.items) es)) key w (room_rows (λ k. k.items) key es c.self.invariant.keys ∙ (λ i. no i || full i)));
+      },
+    )
 
 pub invariant_of-self-lent-2 : goal.invariant_of-self-lent-2
 invariant_of-self-lent-2 g c = λ w.
@@ -56,7 +59,7 @@ invariant_of-self-lent-2 g c = λ w.
     let settled = c.self.inside.settled in
     let none : lookup (λ k. bytes_eq key k.items) es ≡ None = none_of _ (sym c.get_index_of.ensures.found ∙ ap is_some c.in_default.is) in
     subst (λ n. AreNumbered settled n (rows (λ k. k.items) (set_value_at fs place (record { number = number_at fs place; value = w })))) (sym c.in-Some-checked_add.ensures.1)
-        (last_numbered (λ k. k.items) settled c.self.inside.next key es c.self.invariant none c.args.value fs c.in_ok-place.ensures.added place c.in_ok-place.ensures.ok w)
+    (last_numbered (λ k. k.items) settled c.self.inside.next key es c.self.invariant none c.args.value fs c.in_ok-place.ensures.added place c.in_ok-place.ensures.ok w)
 
 pub returns : goal.returns
 returns g c =
@@ -80,7 +83,7 @@ returns g c =
         writes_back = tt;
         value = same_Some _ _ (sym c.value_mut-2.ensures.value ∙ last_value (λ k. k.items) settled next key es c.self.invariant none c.args.value fs added place last)
             ∙ sym (ap (λ o. unwrap_or o c.args.value) absent);
-        room = put_allowed (shown (rows (λ k. k.items) es)) key c.args.value (room_rows (λ k. k.items) key es keys ∙ (λ i. no i || room i));
+        room = λ w. put_allowed (shown (rows (λ k. k.items) es)) key w (room_rows (λ k. k.items) key es keys ∙ (λ i. no i || room i));
         err = tt;
       },
     )

@@ -34,7 +34,7 @@ invariant_of-self-2 g c =
     let new = rows (λ k. k.items) fs in
     let moves = IsPermutation-map (row_of (λ k. k.items)) es fs c.settle.ensures.same in
     moved c.self.inside.settled true c.self.inside.next old new c.self.invariant moves
-        (λ e. rising_rows (λ k. k.items) fs c.in_ok-settle.ensures.ok (numbers_permuted old new moves c.self.invariant.distinct))
+    (λ e. rising_rows (λ k. k.items) fs c.in_ok-settle.ensures.ok (numbers_permuted old new moves c.self.invariant.distinct))
 
 pub returns-clause-ok : goal.returns-clause-ok
 returns-clause-ok g c =

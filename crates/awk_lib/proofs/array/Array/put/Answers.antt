@@ -20,7 +20,7 @@ invariant_of-self-then-branch g c =
     let none : lookup (λ k. bytes_eq key.items k.items) es ≡ None = none_of _ (not_true _ (sym c.in_ok-put.ensures.new ∙ c.if-branch.true)) in
     let is = ap (rows (λ k. k.items)) c.in_ok-put.ensures.ok ∙ rows_put_new (λ k. k.items) key next c.args.value es none in
     subst (λ n. AreNumbered c.self.inside.settled n (rows (λ k. k.items) c.put.new.self.map.entries)) (sym c.in-Some.ensures.1)
-        (new_numbered (λ k. k.items) c.self.inside.settled next key.items es c.self.invariant none c.args.value c.put.new.self.map.entries is)
+    (new_numbered (λ k. k.items) c.self.inside.settled next key.items es c.self.invariant none c.args.value c.put.new.self.map.entries is)
 
 pub invariant_of-self-else-branch : goal.invariant_of-self-else-branch
 invariant_of-self-else-branch g c =
@@ -40,8 +40,8 @@ returns-then-branch-clause-ok g c =
     let is = ap (rows (λ k. k.items)) c.in_ok-put.ensures.ok ∙ rows_put_new (λ k. k.items) key next c.args.value es none in
     let room = rw c.as_slice.ensures.value at c.has_room.ensures in
     rw (← c.self.view_is) (
-        put_allowed (shown (rows (λ k. k.items) es)) key.items c.args.value (room_rows (λ k. k.items) key.items es c.self.invariant.keys ∙ sym room ∙ c.if-not-has_room.false)
-        ∙ ap Ok (sym (new_shown (λ k. k.items) c.self.inside.settled next key.items es c.self.invariant none c.args.value c.put.new.self.map.entries is)))
+    put_allowed (shown (rows (λ k. k.items) es)) key.items c.args.value (room_rows (λ k. k.items) key.items es c.self.invariant.keys ∙ sym room ∙ c.if-not-has_room.false)
+    ∙ ap Ok (sym (new_shown (λ k. k.items) c.self.inside.settled next key.items es c.self.invariant none c.args.value c.put.new.self.map.entries is)))
 
 pub returns-else-branch-clause-ok : goal.returns-else-branch-clause-ok
 returns-else-branch-clause-ok g c =
@@ -52,5 +52,5 @@ returns-else-branch-clause-ok g c =
     let is = ap (rows (λ k. k.items)) c.in_ok-put.ensures.ok ∙ rows_put_there (λ k. k.items) key next c.args.value es there c.self.invariant.keys in
     let room = rw c.as_slice.ensures.value at c.has_room.ensures in
     rw (← c.self.view_is) (
-        put_allowed (shown (rows (λ k. k.items) es)) key.items c.args.value (room_rows (λ k. k.items) key.items es c.self.invariant.keys ∙ sym room ∙ c.if-not-has_room.false)
-        ∙ ap Ok (sym (ap shown is ∙ shown_set (rows (λ k. k.items) es) key.items c.args.value (has_rows (λ k. k.items) key.items es c.self.invariant.keys ∙ there))))
+    put_allowed (shown (rows (λ k. k.items) es)) key.items c.args.value (room_rows (λ k. k.items) key.items es c.self.invariant.keys ∙ sym room ∙ c.if-not-has_room.false)
+    ∙ ap Ok (sym (ap shown is ∙ shown_set (rows (λ k. k.items) es) key.items c.args.value (has_rows (λ k. k.items) key.items es c.self.invariant.keys ∙ there))))

@@ -20,7 +20,7 @@ invariant_of-self g c =
     let fs = c.swap_remove_index.new.self.entries in
     let out = gone_place (λ k. k.items) c.args.key.now es fs c.in-Some.place c.swap_remove_index.result (sym c.in-Some.ensures.index) c.in-Some.ensures.within c.swap_remove_index.ensures.entry c.swap_remove_index.ensures.entries in
     gone c.self.inside.settled c.self.inside.next (rows (λ k. k.items) es) out.0 (rows (λ k. k.items) fs) c.is_empty-self-inside.result c.self.invariant out.1
-        (λ e. length-map fs (row_of (λ k. k.items)) ∙ c.is_empty-self-inside.ensures.0 e)
+    (λ e. length-map fs (row_of (λ k. k.items)) ∙ c.is_empty-self-inside.ensures.0 e)
 
 pub returns : goal.returns
 returns g c =
