@@ -1,6 +1,8 @@
-//! What awk's built-in functions do with texts (POSIX.1-2017 XCU awk, "String Functions").
+//! awk's arrays, and what its built-in functions do with texts (POSIX.1-2017 XCU awk, "Variables and
+//! Special Variables" and "String Functions").
 #![tactic(auto)]
 
+pub mod array;
 mod new_text;
 pub mod replacing;
 pub mod texts;
