@@ -1,9 +1,9 @@
 -- A text spells one pattern, and a search for it has one answer.
-use Rattle.std.proofs.Common.{◌≡◌, ℕ, ◌≤◌, Bool, true, false, List, length, Option, refl, sym, ap, subst, arith}
+use Rattle.std.proofs.Common.{◌≡◌, ℕ, ◌≤◌, Bool, true, false, length, refl, sym, subst, arith}
 use Rattle.std.specs.Prelude.{Some, None, IsTrue, ◌↔◌}
 use Rattle.awk_ere.specs.Best.{Best}
 use Rattle.awk_ere.specs.Laws.{OneReading, OnePattern, OneMatch, OneFinding, OneTest}
-use Rattle.awk_ere.specs.Pattern.{Pattern, Matches}
+use Rattle.awk_ere.specs.Pattern.{Matches}
 use Rattle.awk_ere.proofs.Unique.{one_spelling}
 
 pub one_reading : OneReading
