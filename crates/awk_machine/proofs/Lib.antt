@@ -1,0 +1,3 @@
+mod OneMatch
+mod OneAnswer
+mod OneRun
