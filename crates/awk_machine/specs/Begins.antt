@@ -14,7 +14,7 @@ use Rattle.awk_program.specs.declared.program.Name.{Name}
 use Rattle.awk_machine.specs.Library.{Array}
 use Rattle.awk_machine.specs.Operators.{of_count}
 use Rattle.awk_machine.specs.Pieces.{nowhere, Piece, Do, Target, Variable, Element, Set, Environ, Enter}
-use Rattle.awk_machine.specs.State.{State, Given, Beginning, Ruling, Ending}
+use Rattle.awk_machine.specs.State.{State, Course, Given, Beginning, Ruling, Ending}
 
 -- ---- the variables and the arrays of the script
 
@@ -40,6 +40,9 @@ values_at_start program name = if list_any (is_variable name) program.variables 
 abbrev pub arrays_at_start : Program → Text → Option Array
 arrays_at_start program name = if list_any (is_array name) program.variables then Some [] else None
 
+abbrev pub nothing : Course
+nothing = record { events = []; used = 0 }
+
 abbrev pub first_state : Given → State
 first_state g = record {
   values = values_at_start g.program;
@@ -53,8 +56,7 @@ first_state g = record {
   main = record { position = 1; current = None; named = false; ended = false; failed = false };
   taken = λ key. 0;
   status = None;
-  used = 0;
-  events = [];
+  course = nothing;
 }
 
 -- ---- what is done first: the operands, the host's own assignments, and the environment

@@ -10,16 +10,12 @@ use Rattle.awk_program.specs.Program.{Expression, Arguments, Program, Function}
 use Rattle.awk_machine.specs.Builtins.{first}
 use Rattle.awk_machine.specs.Forms.{value}
 use Rattle.awk_machine.specs.Library.{Array}
-use Rattle.awk_machine.specs.Pieces.{Value_of, Leave, At, Do, Each, Step, Call, Then, Goes, Cut, give, ends, fails}
+use Rattle.awk_machine.specs.Pieces.{Value_of, Leave, At, Do, Each, Step, Call, Then, Goes, give, fails}
 use Rattle.awk_machine.specs.State.{State, Given, Frame, Bound, Scalar, Handed, Made}
 use Rattle.awk_machine.specs.Variables.{reference}
 
 abbrev pub most_depth : ℕ
 most_depth = 200
-
--- a step is taken, or the run is cut
-abbrev pub step : ℕ → Then
-step bound k s = if nat_lt s.used bound then Goes k (record s { used = s.used + 1 }) else Goes (ends Cut) s
 
 -- the function with this number
 abbrev pub function : Program → ℕ → Function
@@ -81,7 +77,7 @@ entered f given others k s =
 abbrev pub enter : Given → Place → ℕ → Arguments → List Value → Then
 enter g place n xs vs k s =
     if nat_lt s.depth most_depth then
-      entered (function g.program n) (all_handed s (arguments xs) vs) (drop (length vs) (function g.program n).parameters) k s
+    entered (function g.program n) (all_handed s (arguments xs) vs) (drop (length vs) (function g.program n).parameters) k s
     else fails CallDepth place s
 
 -- a call ends: the caller's parameters are back, with the value that was returned or none

@@ -41,4 +41,4 @@ close_by place text so_far (Some x) k s =
     Asks (want place (Shuts (Named x.class x.text))) (λ r. Do (Close place text (Some (first_answer so_far (shut_answer r)))) ∷ k) s
 
 abbrev pub close : Place → Text → Option Value → Then
-close place text so_far k s = close_by place text so_far (first_stream text (open_streams s.events)) k s
+close place text so_far k s = close_by place text so_far (first_stream text (open_streams s.course.events)) k s

@@ -21,7 +21,7 @@ use Rattle.awk_program.specs.Program.{Expression, Pipes}
 use Rattle.awk_machine.specs.Forms.{value, spot}
 use Rattle.awk_machine.specs.Pieces.{Part, Pipes_of, Piece, At, Do, Give, Set, Target, Read, Fetch, Take, Count, Then, Goes, Asks, give, granted, fails}
 use Rattle.awk_machine.specs.State.{State}
-use Rattle.awk_machine.specs.Streams.{want, is_live, unread, has_ended, left, with_taken}
+use Rattle.awk_machine.specs.Streams.{want, unread, has_ended, left}
 use Rattle.awk_machine.specs.Targets.{target}
 use Rattle.awk_machine.specs.Variables.{own_text, own_value, with_own}
 
@@ -32,7 +32,7 @@ failure = v.Num (negsuc 0)
 
 -- the first record of what is unread, by RS as it is now
 abbrev pub first_record : Key → State → Head
-first_record key s = head (own_text s (codes "RS")) (unread key s) (has_ended key s.events)
+first_record key s = head (own_text s (codes "RS")) (unread key s) (has_ended key s.course.events)
 
 -- after a request for more
 abbrev pub read_on : Place → Key → List Piece → Reply → List Piece
@@ -45,7 +45,7 @@ read_by place key need_more k s = Asks (want place (Reads key)) (λ r. read_on p
 read_by place key done k s = Goes (give (v.Num (pos 0)) k) s
 read_by place key too_long k s = fails TextTooLong place s
 
--- ---- the stream of a text: standard input, one that is open, or one that is opened
+-- ---- the stream of a text: standard input, or one that is opened where it is not open
 
 abbrev pub input_mode : Class → Mode
 input_mode InputCommand = mode.RunIn
@@ -56,9 +56,7 @@ opened place key k (reply.Opened n) = Do (Read place key) ∷ k
 opened place key k other = give failure k
 
 abbrev pub fetch : Place → Class → Text → Then
-fetch place class text k s =
-    if is_live (Named class text) s.events then Goes (Do (Read place (Named class text)) ∷ k) s
-    else Asks (want place (Opens (input_mode class) class text)) (λ r. opened place (Named class text) k r) (with_taken (Named class text) 0 s)
+fetch place class text k s = Asks (want place (Opens (input_mode class) class text)) (λ r. opened place (Named class text) k r) s
 
 abbrev pub fetch_file : Place → Text → List Piece → List Piece
 fetch_file place text k = if bytes_eq text (codes "-") then Do (Read place (Standard 0)) ∷ k else Do (Fetch place InputFile text) ∷ k

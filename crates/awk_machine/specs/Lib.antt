@@ -17,6 +17,7 @@ pub mod MainInput
 pub mod Rules
 pub mod Closing
 pub mod Moves
+pub mod Advances
 pub mod Begins
 pub mod Plays
 pub mod Laws

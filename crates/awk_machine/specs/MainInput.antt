@@ -56,7 +56,7 @@ past (Standard n) k s = Goes k (with_main (record s.main { current = None; ended
 past (Named class text) k s = Asks (want nowhere (Shuts (Named class text))) (λ r. k) (with_main (record s.main { current = None }) s)
 
 abbrev pub forget : Key → Then
-forget key k s = Goes k (with_taken key (length (came key s.events)) s)
+forget key k s = Goes k (with_taken key (length (came key s.course.events)) s)
 
 -- a message to the standard error output; its reply changes nothing
 abbrev pub report : Text → Text → Then
@@ -94,7 +94,7 @@ abbrev pub is_assignment : Given → Text → Bool
 is_assignment g text = list_any is_equals text && g.can_assign (before_first is_equals text)
 
 abbrev pub file : Given → Text → Then
-file g text k s = if bytes_eq text (codes "-") then Goes (Do (Begun (Standard 0) text) ∷ k) s else Asks (operand_want g text (Opens mode.Read OperandFile text)) (λ r. opened text k r) (with_taken (Named OperandFile text) 0 s)
+file g text k s = if bytes_eq text (codes "-") then Goes (Do (Begun (Standard 0) text) ∷ k) s else Asks (operand_want g text (Opens mode.Read OperandFile text)) (λ r. opened text k r) s
 
 abbrev pub assignment : Given → Text → Text → Text → Then
 assignment g text name new k s = Asks (operand_want g text (Assigns name new)) (λ r. assigned name new k r) s

@@ -4,11 +4,11 @@ use Rattle.awk_text.specs.declared.value.Value.{Value}
 use Rattle.awk_text.specs.declared.value.Value.TheVariants as v
 use Rattle.box_world.specs.declared.ask.Reply.{Reply}
 use Rattle.box_world.specs.declared.ask.Reply.TheVariants as reply
-use Rattle.box_world.specs.Events.{Looks, open_streams}
+use Rattle.box_world.specs.Events.{Looks}
 use Rattle.awk_program.specs.Slots.{Text}
 use Rattle.awk_program.specs.Program.{global}
 use Rattle.awk_machine.specs.Builtins.{locate, located, replace, fill}
-use Rattle.awk_machine.specs.Calls.{step, enter, leave}
+use Rattle.awk_machine.specs.Calls.{enter, leave}
 use Rattle.awk_machine.specs.Closing.{close}
 use Rattle.awk_machine.specs.Expressions.{step_value, step_target, terms, texts, ands, ors, members}
 use Rattle.awk_machine.specs.Forms.{pattern}
@@ -16,11 +16,11 @@ use Rattle.awk_machine.specs.Getline.{pipe, read_by, first_record, fetch, count}
 use Rattle.awk_machine.specs.MainInput.{take_record, operand, look, begun, report, forget, past}
 use Rattle.awk_machine.specs.Operators.{of_truth}
 use Rattle.awk_machine.specs.Pieces as p
-use Rattle.awk_machine.specs.Pieces.{nowhere, Part, Task, Piece, At, Do, Next, Then, Goes, Asks, Seeks, give}
+use Rattle.awk_machine.specs.Pieces.{nowhere, Part, Task, Piece, At, Do, Next, Then, Goes, Steps, Asks, Seeks, Over, give}
 use Rattle.awk_machine.specs.Printing.{open_output, put}
 use Rattle.awk_machine.specs.Questions as q
 use Rattle.awk_machine.specs.Rules as phases
-use Rattle.awk_machine.specs.Rules.{read_records, choose, rules, finish, shut_all}
+use Rattle.awk_machine.specs.Rules.{read_records, choose, rules, finish}
 use Rattle.awk_machine.specs.State.{State, Given}
 use Rattle.awk_machine.specs.Statements.{each, start, do_statement, test, then_test, turns}
 use Rattle.awk_machine.specs.Streams.{want}
@@ -70,7 +70,7 @@ do_task g (p.Replace place to new old ms) k s = replace place to new old ms k s
 do_task g (p.Split at a by text) k s = Seeks (q.Divides by text) (λ parts. Do (p.Fill at a (q.texts parts)) ∷ k) s
 do_task g (p.Fill at a parts) k s = fill at a parts k s
 do_task g (p.Call place f xs vs) k s = enter g place f xs vs k s
-do_task g p.Step k s = step g.bound k s
+do_task g p.Step k s = Steps k s
 do_task g (p.Start x) k s = start x k s
 do_task g (p.Each xs) k s = each xs k s
 do_task g (p.Keys place a x rest) k s = turns place a x rest k s
@@ -91,7 +91,7 @@ do_task g (p.Environ names) k s = environ names k s
 do_task g (p.Enter phase) k s = phases.enter g phase k s
 do_task g (p.Rules n xs) k s = rules n xs k s
 do_task g p.Finish k s = finish k s
-do_task g (p.Closing outcome) k s = shut_all outcome (open_streams s.events) k s
+do_task g (p.Closing outcome) k s = Over outcome
 
 abbrev pub move : Given → List Piece → State → Next
 move g [] s = finish [] s

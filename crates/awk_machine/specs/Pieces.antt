@@ -110,9 +110,11 @@ pub data Piece : Type 0 where
   At : Part → List Value → Piece
   Do : Task → Piece
 
--- what a move leads to: on, to a request and then by its reply, to a question and then by its answer, or to the end
+-- what a move leads to: on, on with a step taken, to a request and then by its reply, to a question and then by its
+-- answer, or to the end
 pub data Next : Type 0 where
   Goes : List Piece → State → Next
+  Steps : List Piece → State → Next
   Asks : Want → (Reply → List Piece) → State → Next
   Seeks : Question → (Answer → List Piece) → State → Next
   Over : Outcome → Next

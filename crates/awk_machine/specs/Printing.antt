@@ -1,6 +1,6 @@
 -- print and printf (POSIX.1-2017 XCU awk, "Output Statements"): the items, the target, and then the text; one request
 -- opens a stream that is not open, and one puts the text.
-use Rattle.std.specs.Prelude.{if◌then◌else◌, List, [], ◌∷◌, ◌++◌, length, take, drop, codes, Option, Some, None, Result}
+use Rattle.std.specs.Prelude.{List, [], ◌∷◌, ◌++◌, length, take, drop, codes, Option, Some, None, Result}
 use Rattle.awk_text.specs.declared.place.Place.{Place}
 use Rattle.awk_text.specs.declared.value.Value.{Value}
 use Rattle.awk_text.specs.declared.fault.Fault.{Fault}
@@ -22,7 +22,7 @@ use Rattle.awk_machine.specs.Forms.{each_of}
 use Rattle.awk_machine.specs.Operators.{limited}
 use Rattle.awk_machine.specs.Pieces.{Part, Piece, Do, Open, Put, Then, Asks, Goes, granted, ends, Faulted}
 use Rattle.awk_machine.specs.State.{State}
-use Rattle.awk_machine.specs.Streams.{want, is_live}
+use Rattle.awk_machine.specs.Streams.{want}
 use Rattle.awk_machine.specs.Variables.{own_text}
 
 -- the items' texts with OFS between, and ORS
@@ -47,9 +47,7 @@ unless_failed place k reply.Failed = ends (Faulted Output place)
 unless_failed place k other = k
 
 abbrev pub open_output : Place → Mode → Class → Text → Then
-open_output place mode class text k s =
-    if is_live (Named class text) s.events then Goes k s
-    else Asks (want place (Opens mode class text)) (λ r. unless_failed place k r) s
+open_output place mode class text k s = Asks (want place (Opens mode class text)) (λ r. unless_failed place k r) s
 
 abbrev pub put : Place → Key → Text → Then
 put place key text k s = Asks (want place (Writes key text)) (λ r. unless_failed place k r) s

@@ -4,14 +4,12 @@ use Rattle.std.specs.List.{flat_map}
 use Rattle.awk_text.specs.declared.value.Value.{Value}
 use Rattle.awk_text.specs.declared.value.Value.TheVariants as v
 use Rattle.awk_text.specs.Values.{truth}
-use Rattle.box_world.specs.Events.{Named, Shuts, Stream}
 use Rattle.awk_program.specs.Program as p
 use Rattle.awk_program.specs.Program.{Expression, Statement, When, Rule, Program}
 use Rattle.awk_machine.specs.Forms.{value, unary, if_true}
 use Rattle.awk_machine.specs.Getline.{main_counters, counting}
-use Rattle.awk_machine.specs.Pieces.{nowhere, Part, Records, Choosing, Piece, At, Do, Set, Field, Step, Each, Take, Rules, Finish, Outcome, Status, Then, Goes, Asks, Over, ends}
+use Rattle.awk_machine.specs.Pieces.{nowhere, Part, Records, Choosing, Piece, At, Do, Set, Field, Step, Each, Take, Rules, Finish, Status, Then, Goes, ends}
 use Rattle.awk_machine.specs.State.{State, Given, Phase, Beginning, Ruling, Ending}
-use Rattle.awk_machine.specs.Streams.{want}
 
 -- ---- BEGIN, the records, and END
 
@@ -70,8 +68,3 @@ choose n x part vs k s = choose_by x.when n x part vs k s
 -- the status that an `exit` gave, or 2 where an operand failed
 abbrev pub finish : Then
 finish k s = Goes (ends (Status (unwrap_or s.status (if s.main.failed then 2 else 0)))) s
-
--- the streams that are open are shut in order of opening; the replies change nothing
-abbrev pub shut_all : Outcome → List Stream → Then
-shut_all outcome [] k s = Over outcome
-shut_all outcome (stream ∷ streams) k s = Asks (want nowhere (Shuts (Named stream.class stream.text))) (λ r. ends outcome) s

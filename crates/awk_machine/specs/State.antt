@@ -40,6 +40,13 @@ pub record Main : Type 0 where
   -- whether an operand's file could not be opened or read
   pub failed : Bool
 
+-- what happened so far: moves read it, and do not change it
+pub record Course : Type 0 where
+  -- what was asked and answered, the newest first
+  pub events : List Event
+  -- the steps that were taken
+  pub used : ℕ
+
 pub record State : Type 0 where
   -- the variables and the arrays of the whole script by their names; there are no others
   pub values : Text → Option Value
@@ -58,10 +65,7 @@ pub record State : Type 0 where
   pub taken : Key → ℕ
   -- the status that an `exit` gave
   pub status : Option ℕ
-  -- the steps that were taken
-  pub used : ℕ
-  -- what was asked and answered, the newest first
-  pub events : List Event
+  pub course : Course
 
 -- what a run is given, and keeps
 pub record Given : Type 0 where

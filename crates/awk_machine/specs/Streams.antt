@@ -1,13 +1,13 @@
 -- Streams, read off what was asked and answered; the newest event comes first
 -- (POSIX.1-2017 XCU awk, "Input/Output and General Functions").
-use Rattle.std.specs.Prelude.{ℕ, ◌-◌, Bool, true, false, if◌then◌else◌, ◌&&◌, ◌==◌, List, [], ◌∷◌, ◌++◌, drop, length, is_some}
+use Rattle.std.specs.Prelude.{ℕ, ◌+◌, ◌-◌, Bool, true, false, if◌then◌else◌, ◌&&◌, ◌==◌, List, [], ◌∷◌, ◌++◌, drop, length, is_some}
 use Rattle.std.specs.Str.{bytes_eq}
 use Rattle.awk_text.specs.declared.place.Place.{Place}
 use Rattle.awk_program.specs.Slots.{Text}
 use Rattle.box_world.specs.declared.ask.Reply.{Reply}
 use Rattle.box_world.specs.declared.ask.Reply.TheVariants.{Opened, Bytes, End}
 use Rattle.box_world.specs.Events.{Key, Standard, Named, class_number, Wish, Opens, Reads, Want, Event, find_stream, open_streams}
-use Rattle.awk_machine.specs.State.{State}
+use Rattle.awk_machine.specs.State.{State, Course}
 
 abbrev pub same_key : Key → Key → Bool
 same_key (Standard m) (Standard n) = m == n
@@ -44,14 +44,14 @@ has_ended key (e ∷ es) = ended_after key e.want.wish e.reply (has_ended key es
 
 -- what came and was not taken
 abbrev pub unread : Key → State → Text
-unread key s = drop (s.taken key) (came key s.events)
+unread key s = drop (s.taken key) (came key s.course.events)
 
 abbrev pub with_taken : Key → ℕ → State → State
 with_taken key n s = record s { taken = λ other. if same_key key other then n else s.taken other }
 
 -- a record is taken, and this is left behind it
 abbrev pub left : Key → Text → State → State
-left key rest s = with_taken key (length (came key s.events) - length rest) s
+left key rest s = with_taken key (length (came key s.course.events) - length rest) s
 
 -- ---- requests
 
@@ -62,6 +62,13 @@ want place wish = record { place = place; given = false; wish = wish }
 abbrev pub event : Want → Reply → Event
 event w reply = record { want = w; reply = reply }
 
--- the state, as a move sees it after these events: moves read the events, and do not change them
-abbrev pub seen : State → List Event → State
-seen s es = record s { events = es }
+-- the state, as a move sees it after this course
+abbrev pub seen : State → Course → State
+seen s c = record s { course = c }
+
+-- one step more, and one event more
+abbrev pub with_step : Course → Course
+with_step c = record c { used = c.used + 1 }
+
+abbrev pub with_event : Want → Reply → Course → Course
+with_event w reply c = record c { events = event w reply ∷ c.events }
