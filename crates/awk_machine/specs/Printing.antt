@@ -3,6 +3,7 @@
 use Rattle.std.specs.Prelude.{List, [], ◌∷◌, ◌++◌, length, take, drop, codes, Option, Some, None, Result}
 use Rattle.awk_text.specs.declared.place.Place.{Place}
 use Rattle.awk_text.specs.declared.value.Value.{Value}
+use Rattle.awk_text.specs.declared.value.Value.TheVariants as v
 use Rattle.awk_text.specs.declared.fault.Fault.{Fault}
 use Rattle.awk_text.specs.declared.fault.Fault.TheVariants.{Output}
 use Rattle.awk_text.specs.Values.{text_of}
@@ -25,9 +26,14 @@ use Rattle.awk_machine.specs.State.{State}
 use Rattle.awk_machine.specs.Streams.{want}
 use Rattle.awk_machine.specs.Variables.{own_text}
 
+-- `$0`, as it is by then, where there are no items
+abbrev pub items : State → List Value → List Value
+items s [] = v.Input s.row.whole ∷ []
+items s (x ∷ xs) = x ∷ xs
+
 -- the items' texts with OFS between, and ORS
 abbrev pub printed : State → List Value → Result Text Fault
-printed s vs = limited (joined (own_text s (codes "OFS")) vs ++ own_text s (codes "ORS"))
+printed s vs = limited (joined (own_text s (codes "OFS")) (items s vs) ++ own_text s (codes "ORS"))
 
 -- ---- the stream
 
