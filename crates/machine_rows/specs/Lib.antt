@@ -1,0 +1,6 @@
+pub mod Scopes
+pub mod Starts
+pub mod Forms
+pub mod Lowered
+pub mod LoweredStatements
+pub mod Programs
