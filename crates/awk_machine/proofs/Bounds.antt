@@ -1,15 +1,14 @@
 -- The steps that a run takes never pass the bound.
-use Rattle.std.proofs.Common.{◌≡◌, ◌≤◌, ◌<◌, ◌+◌, ℕ, Bool, true, false, List, Option, refl, sym, ◌∙◌, arith, nat_lt}
+use Rattle.std.proofs.Common.{◌≡◌, ◌≤◌, ◌<◌, ◌+◌, ℕ, Bool, true, false, List, Option, refl, arith, nat_lt}
 use Rattle.std.specs.Prelude.{Some, None, if◌then◌else◌, [], ◌∷◌}
 use Rattle.std.proofs.lemmas.Bool.Decides.{nat_tests}
 use Rattle.box_world.specs.declared.ask.Reply.{Reply}
 use Rattle.box_world.specs.Events.{Named, Shuts, Want, Stream, open_streams}
-use Rattle.awk_machine.specs.Advances.{known, asked_by, over_by, held, advance}
-use Rattle.awk_machine.specs.Begins.{nothing, first_pieces, first_state}
+use Rattle.awk_machine.specs.Advances.{known, asked_by, over_by, held}
 use Rattle.awk_machine.specs.Laws.{WithinBound}
 use Rattle.awk_machine.specs.Moves.{move}
 use Rattle.awk_machine.specs.Pieces.{nowhere, Piece, Next, Goes, Steps, Asks, Seeks, Over, Outcome, Cut, ends}
-use Rattle.awk_machine.specs.Plays.{Plays, Reaches, here, goes, steps, asks, seeks}
+use Rattle.awk_machine.specs.Plays.{Reaches, here, goes, steps, asks, seeks}
 use Rattle.awk_machine.specs.State.{State, Course, Given}
 use Rattle.awk_machine.specs.Streams.{want, seen}
 

@@ -6,12 +6,12 @@ use Rattle.std.specs.Str.{bytes_eq}
 use Rattle.box_world.specs.declared.ask.Mode.{Mode}
 use Rattle.box_world.specs.declared.ask.Reply.{Reply}
 use Rattle.box_world.specs.declared.ask.Reply.TheVariants as reply
-use Rattle.box_world.specs.Events.{Class, class_number, Key, Standard, Named, Wish, Opens, Reads, Writes, Shuts, Runs, Looks, Assigns, Want, Event, Stream, is_named, find_stream, without_stream, streams_after, open_streams}
-use Rattle.awk_machine.specs.Advances.{known, asked_by, asked, over_by, held, advance}
+use Rattle.box_world.specs.Events.{Class, class_number, Standard, Named, Wish, Opens, Reads, Writes, Shuts, Runs, Looks, Assigns, Want, Event, Stream, is_named, find_stream, without_stream, streams_after, open_streams}
+use Rattle.awk_machine.specs.Advances.{known, asked_by, asked, over_by, held}
 use Rattle.awk_machine.specs.Laws.{opens_once, shuts_once, times_opened, times_shut, IsWhole, InTurn, AllShut}
 use Rattle.awk_machine.specs.Moves.{move}
 use Rattle.awk_machine.specs.Pieces.{nowhere, Piece, Next, Goes, Steps, Asks, Seeks, Over, Outcome, Cut, ends}
-use Rattle.awk_machine.specs.Plays.{Plays, Reaches, here, goes, steps, asks, seeks, Stands, over, lacks, unlogged}
+use Rattle.awk_machine.specs.Plays.{Reaches, here, goes, steps, asks, seeks, Stands, over, lacks, unlogged}
 use Rattle.awk_machine.specs.State.{State, Course, Given}
 use Rattle.awk_machine.specs.Streams.{is_live, want, event, seen}
 
@@ -191,7 +191,7 @@ module _ (class : Class) (text : List ℕ) where
       StillInTurn class text (Opens m c t) (reply.Opened n) es
   opening m c t n es h x =
       let p = with_opened (is_named class text (named c t)) (times_opened class text es) (times_shut class text es) (among class text (open_streams es))
-                (λ same. absent class text c t (open_streams es) same h) x.0 x.1 in
+      (λ same. absent class text c t (open_streams es) same h) x.0 x.1 in
       let e = among-append class text (open_streams es) (record { class = c; text = t; number = n }) in
       (p.0 ∙ ap (λ k. 0 + times_shut class text es + k) (sym e), subst (λ z. z ≤ 1) (sym e) p.1)
 

@@ -1,6 +1,6 @@
 -- Calls of the built-in functions (POSIX.1-2017 XCU awk, "Functions"): the arguments from left to right, and then what
 -- the function gives.
-use Rattle.std.specs.Prelude.{ℕ, ◌+◌, ◌-◌, nat_le, Bool, true, false, if◌then◌else◌, negsuc, List, [], ◌∷◌, length, drop, codes, Option, Some, None, Result, Ok}
+use Rattle.std.specs.Prelude.{ℕ, ◌+◌, ◌-◌, nat_le, Bool, true, false, if◌then◌else◌, negsuc, List, [], ◌∷◌, length, drop, codes, Some, None, Result, Ok}
 use Rattle.std.specs.Fmt.{decimal}
 use Rattle.awk_text.specs.declared.place.Place.{Place}
 use Rattle.awk_text.specs.declared.value.Value.{Value}
@@ -24,7 +24,7 @@ use Rattle.awk_program.specs.declared.operators.Measure.TheVariants as m
 use Rattle.awk_machine.specs.Forms.{value, spot, source, binary, checked}
 use Rattle.awk_machine.specs.Library.{Array, most_elements, index, substr, to_case, replaced}
 use Rattle.awk_machine.specs.Operators.{of_count, limited}
-use Rattle.awk_machine.specs.Pieces.{Part, Value_of, Piece, At, Do, Target, Get, Set, Give, Locate, Located, Substitute, Split, Then, Goes, Seeks, Asks, give, granted, fails}
+use Rattle.awk_machine.specs.Pieces.{Part, Piece, At, Do, Target, Get, Set, Give, Locate, Located, Substitute, Split, Then, Goes, Seeks, Asks, give, granted, fails}
 use Rattle.awk_machine.specs.Questions.{Finds, places}
 use Rattle.awk_machine.specs.Streams.{want}
 use Rattle.awk_machine.specs.Targets.{target, check_separator}

@@ -1,5 +1,5 @@
 -- What each form of an expression does next, one line a form (POSIX.1-2017 XCU awk, "Expressions in awk").
-use Rattle.std.specs.Prelude.{ℤ, Bool, true, false, not, if◌then◌else◌, List, [], ◌∷◌, ◌++◌, None, Ok}
+use Rattle.std.specs.Prelude.{ℤ, true, false, not, List, [], ◌∷◌, ◌++◌, None, Ok}
 use Rattle.awk_text.specs.declared.place.Place.{Place}
 use Rattle.awk_text.specs.declared.value.Value.{Value}
 use Rattle.awk_text.specs.declared.value.Value.TheVariants as v
@@ -17,7 +17,7 @@ use Rattle.awk_machine.specs.Forms.{value, spot, source, answer, deliver, if_tru
 use Rattle.awk_machine.specs.Getline.{getline, getline_file}
 use Rattle.awk_machine.specs.Library.{has}
 use Rattle.awk_machine.specs.Operators.{of_truth, computed, signed, stepped, compared, limited}
-use Rattle.awk_machine.specs.Pieces.{Part, Value_of, Target_of, Terms_of, Texts_of, Ands_of, Ors_of, Members_of, Pipes_of, At, Do, Get, Set, Check, Match, Give, Close, Then, Goes, give, granted}
+use Rattle.awk_machine.specs.Pieces.{Part, Target_of, Terms_of, Texts_of, Ands_of, Ors_of, Members_of, Pipes_of, At, Do, Get, Set, Check, Match, Give, Close, Then, Goes, give, granted}
 use Rattle.awk_machine.specs.Targets.{target, field_of, store}
 use Rattle.awk_machine.specs.Variables.{array}
 

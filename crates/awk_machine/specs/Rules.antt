@@ -14,8 +14,8 @@ use Rattle.awk_machine.specs.State.{State, Given, Phase, Beginning, Ruling, Endi
 -- ---- BEGIN, the records, and END
 
 -- the actions of several BEGINs or ENDs, one after the other
-abbrev pub joined : List (List Statement) → List Statement
-joined actions = flat_map (λ action. action) actions
+abbrev pub concatenated : List (List Statement) → List Statement
+concatenated actions = flat_map (λ action. action) actions
 
 -- records are read where there is a rule for them, or an END
 abbrev pub records : Program → List Piece
@@ -26,9 +26,9 @@ records program = records_for program.rules program.end
     records_for rules end = At Records [] ∷ []
 
 abbrev pub enter : Given → Phase → Then
-enter g Beginning k s = Goes (Do (Each (joined g.program.begin)) ∷ k) (record s { phase = Beginning })
+enter g Beginning k s = Goes (Do (Each (concatenated g.program.begin)) ∷ k) (record s { phase = Beginning })
 enter g Ruling k s = Goes (records g.program ++ k) (record s { phase = Ruling })
-enter g Ending k s = Goes (Do (Each (joined g.program.end)) ∷ Do Finish ∷ []) (record s { phase = Ending })
+enter g Ending k s = Goes (Do (Each (concatenated g.program.end)) ∷ Do Finish ∷ []) (record s { phase = Ending })
 
 -- each record is set and counted, takes a step, and then meets the rules
 abbrev pub read_records : Given → List Value → Then

@@ -1,5 +1,5 @@
 -- What each form of a statement does next, one line a form (POSIX.1-2017 XCU awk, "Actions").
-use Rattle.std.specs.Prelude.{Bool, true, false, if◌then◌else◌, List, [], ◌∷◌, pos, unsigned_abs, Option, Some, None}
+use Rattle.std.specs.Prelude.{if◌then◌else◌, List, [], ◌∷◌, pos, unsigned_abs, Option, Some, None}
 use Rattle.std.specs.Int.{int_rem_euclid}
 use Rattle.awk_text.specs.declared.place.Place.{Place}
 use Rattle.awk_text.specs.declared.value.Value.{Value}

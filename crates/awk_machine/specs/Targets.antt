@@ -16,7 +16,6 @@ use Rattle.awk_machine.specs.Library.{element, put}
 use Rattle.awk_machine.specs.Operators.{of_count, limited}
 use Rattle.awk_machine.specs.Pieces.{Piece, Do, Target, Variable, Element, Field, Give, Set, Whole, Rebuild, Check, Then, Goes, Seeks, give, granted, ends, Faulted}
 use Rattle.awk_machine.specs.Questions.{Spells, Fields, yes, values}
-use Rattle.awk_machine.specs.State.{State}
 use Rattle.awk_machine.specs.Variables.{is_nf, own_text, variable, with_variable, array, with_array}
 
 -- ---- the target that is meant
