@@ -1,6 +1,0 @@
-mod Matching
-mod Playing
-mod Scripts
-mod FormRows
-mod Replays
-mod Choices

@@ -1,6 +1,0 @@
-pub mod Scopes
-pub mod Starts
-pub mod Forms
-pub mod Lowered
-pub mod LoweredStatements
-pub mod Programs
