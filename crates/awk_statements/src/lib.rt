@@ -9,7 +9,7 @@ mod items;
 mod open;
 mod places;
 mod prints;
-mod signs;
+mod statement_signs;
 mod simple;
 mod statement;
 

@@ -6,9 +6,9 @@ ghost use Rattle.awk_tree.specs.Input.{Reads};
 ghost use Rattle.awk_tree.specs.Statements as spec;
 ghost use Rattle.awk_tree.specs.View.{view, view_printed, view_redirection, view_statement};
 
-use crate::signs::{ends_print, redirect};
-use awk_chains::Level;
-use awk_expressions::{Tokens, is, joined, pair};
+use crate::statement_signs::{ends_print, redirect};
+use awk_expressions::Level;
+use awk_cursor::{Tokens, is, joined, many, pair};
 use awk_text::place::Place;
 use awk_tree::{Expr, Fault, Goal, Printed, Redirection, Statement, Terminal};
 use sqlite_items::{Boxed, Items};
@@ -36,18 +36,12 @@ fn next_printed(level: &Level, tokens: &mut Tokens<'_>) -> Result<Boxed<Expr>, F
 fn more_printed(level: &Level, tokens: &mut Tokens<'_>) -> Result<Items<Expr>, Fault>
     ensures { Reads (map view) (spec.more_printed level.now.depth (expr level.now.depth) tokens.old) result tokens.new }
 {
-    let mut found = Items::new(level.alloc);
-    for _turn in 0..tokens.left() {
-        if !is(Terminal::Comma, tokens.ahead()) {
-            return Ok(found);
-        }
-        found.push(next_printed(level, tokens)?.into_inner())?;
-    }
-    if is(Terminal::Comma, tokens.ahead()) {
-        Err(tokens.refuse())
-    } else {
-        Ok(found)
-    }
+    many(
+        level.alloc,
+        tokens,
+        |kind| is(Terminal::Comma, kind),
+        |tokens| Ok(next_printed(level, tokens)?.into_inner()),
+    )
 }
 
 /// The list, from its first item on.
