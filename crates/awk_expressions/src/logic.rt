@@ -7,8 +7,8 @@ ghost use Rattle.awk_tree.specs.Input.{Reads};
 ghost use Rattle.awk_tree.specs.View.{view};
 
 use crate::grammar::Grammar;
-use awk_cursor::nodes::{and_of, assign, choose, is_lvalue, or_of};
 use awk_cursor::expression_signs::assignment;
+use awk_cursor::nodes::{and_of, assign, choose, is_lvalue, or_of};
 use awk_cursor::{Tokens, is, many, pair};
 use awk_tree::{Expr, Fault, Goal, Terminal};
 use sqlite_items::{Boxed, Items};
@@ -149,10 +149,7 @@ impl<F: Fn(Global, &mut Tokens<'_>, usize, Goal) -> Result<Boxed<Expr>, Fault>> 
             return Ok(left);
         }
         let both = pair(left, self.then_branch(tokens, in_print))?;
-        let ((left, then), otherwise) = pair(
-            both,
-            self.nested(tokens, Goal::Expr(in_print)),
-        )?;
+        let ((left, then), otherwise) = pair(both, self.nested(tokens, Goal::Expr(in_print)))?;
         Ok(choose(self.alloc, left, then, otherwise)?)
     }
 

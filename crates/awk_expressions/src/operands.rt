@@ -6,8 +6,8 @@ ghost use Rattle.awk_tree.specs.Input.{Reads};
 ghost use Rattle.awk_tree.specs.View.{view};
 
 use crate::grammar::Grammar;
-use awk_cursor::nodes::{after, before, is_lvalue, paren, power, signed, text_of};
 use awk_cursor::expression_signs::{sign, step};
+use awk_cursor::nodes::{after, before, is_lvalue, paren, power, signed, text_of};
 use awk_cursor::{Tokens, is, name_of};
 use awk_tree::{Expr, Fault, Goal, Sign, Step, Terminal};
 use sqlite_items::Boxed;

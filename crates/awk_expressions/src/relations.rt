@@ -9,10 +9,10 @@ ghost use Rattle.awk_tree.specs.Tree.{trees_of};
 ghost use Rattle.awk_tree.specs.View.{view, view_piped};
 
 use crate::grammar::Grammar;
-use awk_cursor::nodes::{compare, joined, matched, paren, pipe_of, unboxed};
-use awk_cursor::expression_signs::{comparison, matching};
-use awk_cursor::{Tokens, is, many, pair};
 use crate::members::{in_name, in_names, in_rest};
+use awk_cursor::expression_signs::{comparison, matching};
+use awk_cursor::nodes::{compare, joined, matched, paren, pipe_of, unboxed};
+use awk_cursor::{Tokens, is, many, pair};
 use awk_text::place::Place;
 use awk_tree::{Expr, Fault, Goal, Member, Piped, Terminal};
 use sqlite_items::{Boxed, Items};
