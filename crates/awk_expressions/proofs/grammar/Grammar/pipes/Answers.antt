@@ -3,9 +3,9 @@ use Rattle.awk_tree.specs.declared.terminals.Terminal.TheVariants as w
 use Rattle.awk_tree.specs.Terminals.{is}
 use Rattle.awk_tree.specs.View.{view_piped}
 use Rattle.awk_tree.specs.Expressions.{expr, one_pipe, pipes}
-use Rattle.awk_cursor.proofs.PartLemmas.{many_reads}
+use Rattle.awk_cursor.proofs.PartLemmas.{reads_many}
 use Rattle.awk_expressions.proofs.grammar.Grammar.pipes.Goals as goal
 
 pub returns : goal.returns
 unfolding pipes
-returns g c = many_reads view_piped (is w.BarGetline) (one_pipe c.args.self.now.depth (expr c.args.self.now.depth)) _ _ (λ kind b h. search rules) (λ old new r h. search rules) _ _ _ c.many.ensures
+returns g c = reads_many view_piped (is w.BarGetline) (one_pipe c.args.self.now.depth (expr c.args.self.now.depth)) c.many.ensures (λ kind b h. search rules) (λ old new r h. search rules)
