@@ -118,7 +118,7 @@ fn function(alloc: Global, f: &Function, out: &mut Vec<Token>) -> Result<(), Mem
     last_action(alloc, f.body.as_slice(), out)
 }
 
-pub(crate) fn entry(alloc: Global, item: &Item, out: &mut Vec<Token>) -> Result<(), Memory>
+fn entry(alloc: Global, item: &Item, out: &mut Vec<Token>) -> Result<(), Memory>
     ensures { OnOk result (out.new.items ≡ out.old.items ++ spec.canon_entry (view_item item.now)) }
 {
     match item {

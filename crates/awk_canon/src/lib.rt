@@ -10,8 +10,6 @@ mod expressions;
 mod items;
 mod spelling;
 mod statements;
-mod text;
 mod tokens;
 
 pub use items::canon;
-pub use text::{item_text, script_text};
