@@ -8,12 +8,10 @@
 pub mod expression_signs;
 pub mod nodes;
 mod pairs;
-mod repeat;
 mod terminals;
 mod tokens;
 
 pub use nodes::{joined, name_of};
 pub use pairs::{pair, refused};
-pub use repeat::many;
 pub use terminals::{is, terminal};
 pub use tokens::Tokens;

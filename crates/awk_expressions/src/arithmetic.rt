@@ -9,7 +9,7 @@ ghost use Rattle.awk_tree.specs.View.{view, view_term};
 use crate::grammar::Grammar;
 use awk_cursor::expression_signs::{arithmetic_of, begins_part, is_factor_sign, is_term_sign};
 use awk_cursor::nodes::{concat_of, product_of, sum_of};
-use awk_cursor::{Tokens, many, pair, terminal};
+use awk_cursor::{Tokens, pair, terminal};
 use awk_tree::{Expr, Fault, Goal, Term};
 use sqlite_items::{Boxed, Items};
 use std::alloc::Global;
@@ -34,12 +34,18 @@ impl<F: Fn(Global, &mut Tokens<'_>, usize, Goal) -> Result<Boxed<Expr>, Fault>> 
         requires { Nests self.now.depth (F.pre self.now.inner) (F.post self.now.inner) }
         ensures { Reads (map view_term) (spec.factors self.now.depth (spec.expr self.now.depth) tokens.old) result tokens.new }
     {
-        many(
-            self.alloc,
-            tokens,
-            is_factor_sign,
-            |tokens| self.factor(tokens),
-        )
+        let mut found = Items::new(self.alloc);
+        for _turn in 0..tokens.left() {
+            if !is_factor_sign(tokens.ahead()) {
+                return Ok(found);
+            }
+            found.push(self.factor(tokens)?)?;
+        }
+        if is_factor_sign(tokens.ahead()) {
+            Err(tokens.refuse())
+        } else {
+            Ok(found)
+        }
     }
 
     /// `{ (* | / | %) unary }`
@@ -76,12 +82,18 @@ impl<F: Fn(Global, &mut Tokens<'_>, usize, Goal) -> Result<Boxed<Expr>, Fault>> 
         requires { Nests self.now.depth (F.pre self.now.inner) (F.post self.now.inner) }
         ensures { Reads (map view_term) (spec.addends self.now.depth (spec.expr self.now.depth) tokens.old) result tokens.new }
     {
-        many(
-            self.alloc,
-            tokens,
-            is_term_sign,
-            |tokens| self.addend(tokens),
-        )
+        let mut found = Items::new(self.alloc);
+        for _turn in 0..tokens.left() {
+            if !is_term_sign(tokens.ahead()) {
+                return Ok(found);
+            }
+            found.push(self.addend(tokens)?)?;
+        }
+        if is_term_sign(tokens.ahead()) {
+            Err(tokens.refuse())
+        } else {
+            Ok(found)
+        }
     }
 
     /// `{ (+ | -) mul }`
@@ -113,12 +125,18 @@ impl<F: Fn(Global, &mut Tokens<'_>, usize, Goal) -> Result<Boxed<Expr>, Fault>> 
         requires { Nests self.now.depth (F.pre self.now.inner) (F.post self.now.inner) }
         ensures { Reads (map view) (spec.parts self.now.depth (spec.expr self.now.depth) tokens.old) result tokens.new }
     {
-        many(
-            self.alloc,
-            tokens,
-            begins_part,
-            |tokens| Ok(self.part(tokens)?.into_inner()),
-        )
+        let mut found = Items::new(self.alloc);
+        for _turn in 0..tokens.left() {
+            if !begins_part(tokens.ahead()) {
+                return Ok(found);
+            }
+            found.push(self.part(tokens)?.into_inner())?;
+        }
+        if begins_part(tokens.ahead()) {
+            Err(tokens.refuse())
+        } else {
+            Ok(found)
+        }
     }
 
     /// `{ add }`

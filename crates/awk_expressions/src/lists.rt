@@ -7,7 +7,7 @@ ghost use Rattle.awk_tree.specs.Input.{Reads};
 ghost use Rattle.awk_tree.specs.View.{view};
 
 use crate::grammar::Grammar;
-use awk_cursor::{Tokens, is, joined, many};
+use awk_cursor::{Tokens, is, joined};
 use awk_tree::{Expr, Fault, Goal, Terminal};
 use sqlite_items::{Boxed, Items};
 use std::alloc::Global;
@@ -30,12 +30,18 @@ impl<F: Fn(Global, &mut Tokens<'_>, usize, Goal) -> Result<Boxed<Expr>, Fault>> 
         requires { Nests self.now.depth (F.pre self.now.inner) (F.post self.now.inner) }
         ensures { Reads (map view) (spec.commas self.now.depth (spec.expr self.now.depth) tokens.old) result tokens.new }
     {
-        many(
-            self.alloc,
-            tokens,
-            |kind| is(Terminal::Comma, kind),
-            |tokens| Ok(self.next_in_list(tokens)?.into_inner()),
-        )
+        let mut found = Items::new(self.alloc);
+        for _turn in 0..tokens.left() {
+            if !is(Terminal::Comma, tokens.ahead()) {
+                return Ok(found);
+            }
+            found.push(self.next_in_list(tokens)?.into_inner())?;
+        }
+        if is(Terminal::Comma, tokens.ahead()) {
+            Err(tokens.refuse())
+        } else {
+            Ok(found)
+        }
     }
 
     /// `expr { , expr }`

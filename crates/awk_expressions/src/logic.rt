@@ -9,7 +9,7 @@ ghost use Rattle.awk_tree.specs.View.{view};
 use crate::grammar::Grammar;
 use awk_cursor::expression_signs::assignment;
 use awk_cursor::nodes::{and_of, assign, choose, is_lvalue, or_of};
-use awk_cursor::{Tokens, is, many, pair};
+use awk_cursor::{Tokens, is, pair};
 use awk_tree::{Expr, Fault, Goal, Terminal};
 use sqlite_items::{Boxed, Items};
 use std::alloc::Global;
@@ -61,12 +61,18 @@ impl<F: Fn(Global, &mut Tokens<'_>, usize, Goal) -> Result<Boxed<Expr>, Fault>> 
         requires { Nests self.now.depth (F.pre self.now.inner) (F.post self.now.inner) }
         ensures { Reads (map view) (spec.conjuncts self.now.depth (spec.expr self.now.depth) in_print tokens.old) result tokens.new }
     {
-        many(
-            self.alloc,
-            tokens,
-            |kind| is(Terminal::And, kind),
-            |tokens| Ok(self.next_conjunct(tokens, in_print)?.into_inner()),
-        )
+        let mut found = Items::new(self.alloc);
+        for _turn in 0..tokens.left() {
+            if !is(Terminal::And, tokens.ahead()) {
+                return Ok(found);
+            }
+            found.push(self.next_conjunct(tokens, in_print)?.into_inner())?;
+        }
+        if is(Terminal::And, tokens.ahead()) {
+            Err(tokens.refuse())
+        } else {
+            Ok(found)
+        }
     }
 
     /// `{ && isin }`
@@ -100,12 +106,18 @@ impl<F: Fn(Global, &mut Tokens<'_>, usize, Goal) -> Result<Boxed<Expr>, Fault>> 
         requires { Nests self.now.depth (F.pre self.now.inner) (F.post self.now.inner) }
         ensures { Reads (map view) (spec.disjuncts self.now.depth (spec.expr self.now.depth) in_print tokens.old) result tokens.new }
     {
-        many(
-            self.alloc,
-            tokens,
-            |kind| is(Terminal::Or, kind),
-            |tokens| Ok(self.next_disjunct(tokens, in_print)?.into_inner()),
-        )
+        let mut found = Items::new(self.alloc);
+        for _turn in 0..tokens.left() {
+            if !is(Terminal::Or, tokens.ahead()) {
+                return Ok(found);
+            }
+            found.push(self.next_disjunct(tokens, in_print)?.into_inner())?;
+        }
+        if is(Terminal::Or, tokens.ahead()) {
+            Err(tokens.refuse())
+        } else {
+            Ok(found)
+        }
     }
 
     /// `{ || and }`

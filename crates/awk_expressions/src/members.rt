@@ -6,7 +6,7 @@ ghost use Rattle.awk_tree.specs.Input.{Reads};
 ghost use Rattle.awk_tree.specs.View.{view};
 
 use awk_cursor::nodes::member_of;
-use awk_cursor::{Tokens, is, many, name_of};
+use awk_cursor::{Tokens, is, name_of};
 use awk_tree::{Expr, Fault, Member, Terminal};
 use sqlite_items::{Boxed, Items};
 use std::alloc::Global;
@@ -26,12 +26,18 @@ pub(crate) fn in_name(alloc: Global, tokens: &mut Tokens<'_>) -> Result<Member, 
 pub(crate) fn in_names(alloc: Global, tokens: &mut Tokens<'_>) -> Result<Items<Member>, Fault>
     ensures { Reads (λ ms. ms) (spec.in_names tokens.old) result tokens.new }
 {
-    many(
-        alloc,
-        tokens,
-        |kind| is(Terminal::In, kind),
-        |tokens| in_name(alloc, tokens),
-    )
+    let mut found = Items::new(alloc);
+    for _turn in 0..tokens.left() {
+        if !is(Terminal::In, tokens.ahead()) {
+            return Ok(found);
+        }
+        found.push(in_name(alloc, tokens)?)?;
+    }
+    if is(Terminal::In, tokens.ahead()) {
+        Err(tokens.refuse())
+    } else {
+        Ok(found)
+    }
 }
 
 /// `{ in NAME }` behind what was read.

@@ -12,7 +12,7 @@ use crate::grammar::Grammar;
 use crate::members::{in_name, in_names, in_rest};
 use awk_cursor::expression_signs::{comparison, matching};
 use awk_cursor::nodes::{compare, joined, matched, paren, pipe_of, unboxed};
-use awk_cursor::{Tokens, is, many, pair};
+use awk_cursor::{Tokens, is, pair};
 use awk_text::place::Place;
 use awk_tree::{Expr, Fault, Goal, Member, Piped, Terminal};
 use sqlite_items::{Boxed, Items};
@@ -50,12 +50,18 @@ impl<F: Fn(Global, &mut Tokens<'_>, usize, Goal) -> Result<Boxed<Expr>, Fault>> 
         requires { Nests self.now.depth (F.pre self.now.inner) (F.post self.now.inner) }
         ensures { Reads (map view_piped) (spec.pipes self.now.depth (spec.expr self.now.depth) tokens.old) result tokens.new }
     {
-        many(
-            self.alloc,
-            tokens,
-            |kind| is(Terminal::BarGetline, kind),
-            |tokens| self.one_pipe(tokens),
-        )
+        let mut found = Items::new(self.alloc);
+        for _turn in 0..tokens.left() {
+            if !is(Terminal::BarGetline, tokens.ahead()) {
+                return Ok(found);
+            }
+            found.push(self.one_pipe(tokens)?)?;
+        }
+        if is(Terminal::BarGetline, tokens.ahead()) {
+            Err(tokens.refuse())
+        } else {
+            Ok(found)
+        }
     }
 
     /// `{ | getline [ lvalue ] }`

@@ -8,7 +8,7 @@ ghost use Rattle.awk_tree.specs.View.{view, view_item, view_pattern, view_statem
 use crate::bodies::Bodies;
 use crate::statement::statement;
 use crate::statement_signs::{ends_item, is_done};
-use awk_cursor::{Tokens, is, joined, many, name_of, pair, refused};
+use awk_cursor::{Tokens, is, joined, name_of, pair, refused};
 use awk_expressions::Level;
 use awk_tokens::Token;
 use awk_tree::{Expr, Fault, Function, Item, Name, Pattern, Statement, Terminal};
@@ -102,12 +102,18 @@ fn next_param(alloc: Global, tokens: &mut Tokens<'_>) -> Result<Name, Fault>
 fn more_params(alloc: Global, tokens: &mut Tokens<'_>) -> Result<Items<Name>, Fault>
     ensures { Reads (λ ns. ns) (spec.more_params tokens.old) result tokens.new }
 {
-    many(
-        alloc,
-        tokens,
-        |kind| is(Terminal::Comma, kind),
-        |tokens| next_param(alloc, tokens),
-    )
+    let mut found = Items::new(alloc);
+    for _turn in 0..tokens.left() {
+        if !is(Terminal::Comma, tokens.ahead()) {
+            return Ok(found);
+        }
+        found.push(next_param(alloc, tokens)?)?;
+    }
+    if is(Terminal::Comma, tokens.ahead()) {
+        Err(tokens.refuse())
+    } else {
+        Ok(found)
+    }
 }
 
 /// `[ NAME { , NAME } ]`

@@ -7,7 +7,7 @@ ghost use Rattle.awk_tree.specs.Statements as spec;
 ghost use Rattle.awk_tree.specs.View.{view, view_printed, view_redirection, view_statement};
 
 use crate::statement_signs::{ends_print, redirect};
-use awk_cursor::{Tokens, is, joined, many, pair};
+use awk_cursor::{Tokens, is, joined, pair};
 use awk_expressions::Level;
 use awk_text::place::Place;
 use awk_tree::{Expr, Fault, Goal, Printed, Redirection, Statement, Terminal};
@@ -36,12 +36,18 @@ fn next_printed(level: &Level, tokens: &mut Tokens<'_>) -> Result<Boxed<Expr>, F
 fn more_printed(level: &Level, tokens: &mut Tokens<'_>) -> Result<Items<Expr>, Fault>
     ensures { Reads (map view) (spec.more_printed level.now.depth (expr level.now.depth) tokens.old) result tokens.new }
 {
-    many(
-        level.alloc,
-        tokens,
-        |kind| is(Terminal::Comma, kind),
-        |tokens| Ok(next_printed(level, tokens)?.into_inner()),
-    )
+    let mut found = Items::new(level.alloc);
+    for _turn in 0..tokens.left() {
+        if !is(Terminal::Comma, tokens.ahead()) {
+            return Ok(found);
+        }
+        found.push(next_printed(level, tokens)?.into_inner())?;
+    }
+    if is(Terminal::Comma, tokens.ahead()) {
+        Err(tokens.refuse())
+    } else {
+        Ok(found)
+    }
 }
 
 /// The list, from its first item on.
