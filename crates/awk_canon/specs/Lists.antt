@@ -1,6 +1,6 @@
 -- Lists whose members stand behind one sign each.
 use Rattle.std.specs.Prelude.{List, [], ◌∷◌, ◌++◌}
-use Rattle.awk_tokens.specs.declared.kinds.Token.{Token}
+use Rattle.awk_tokens.specs.declared.token.Token.{Token}
 use Rattle.awk_tree.specs.Tree.{Text, Trees, none, more, Perhaps, absent, present}
 use Rattle.awk_tree.specs.Terminals.{sign}
 use Rattle.awk_tree.specs.Canon.{canon}

@@ -1,13 +1,13 @@
 -- What the canonical spelling of a script is parsed as.
 use Rattle.std.proofs.Common.{◌≡◌, ◌≢◌, List, [], map, ap, sym, ◌∙◌, refl, subst, Ok, Err}
-use Rattle.awk_tokens.specs.declared.kinds.Token.{Token}
+use Rattle.awk_tokens.specs.declared.token.Token.{Token}
 use Rattle.awk_tree.specs.declared.fault.Fault.{Fault}
 use Rattle.awk_tree.specs.declared.fault.Fault.TheVariants as fault
 use Rattle.awk_tree.specs.Tree.{Entry}
 use Rattle.awk_tree.specs.Statements as grammar
 use Rattle.awk_tree.specs.Canon.{canon_script, bare_entry}
-use Rattle.awk_laws.proofs.Law.{done_is}
-use Rattle.awk_laws.proofs.Laws.{scripts_are_read_again}
+use Rattle.awk_grammar_laws.proofs.Law.{done_is}
+use Rattle.awk_grammar_laws.proofs.Laws.{scripts_are_read_again}
 use Rattle.awk_statements.specs.Places as places
 use Rattle.awk_names.specs.Mentions.{part}
 use Rattle.awk_names.specs.Faultless.{Faultless}

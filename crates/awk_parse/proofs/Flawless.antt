@@ -1,7 +1,7 @@
 -- A script without a fault of names and words has no flaw but want of memory.
 use Rattle.std.proofs.Common.{◌≡◌, ◌≢◌, List, refl, Err}
 use Rattle.awk_text.specs.declared.place.Place.{Place}
-use Rattle.awk_tokens.specs.declared.kinds.Token.{Token}
+use Rattle.awk_tokens.specs.declared.token.Token.{Token}
 use Rattle.awk_tree.specs.declared.fault.Fault.{Fault}
 use Rattle.awk_tree.specs.declared.fault.Fault.TheVariants as fault
 use Rattle.awk_tree.specs.Statements as grammar

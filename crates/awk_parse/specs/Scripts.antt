@@ -1,13 +1,13 @@
 -- What an accepted script is, and why others are refused.
 use Rattle.std.specs.Prelude.{◌≡◌, List, [], map, Result, Ok, Err}
-use Rattle.awk_tokens.specs.declared.kinds.Token.{Token}
+use Rattle.awk_tokens.specs.declared.token.Token.{Token}
 use Rattle.awk_tokens.specs.declared.syntax_error.SyntaxError.{SyntaxError}
 use Rattle.awk_tree.specs.declared.fault.Fault.{Fault}
 use Rattle.awk_tree.specs.Tree.{Entry}
 use Rattle.awk_tree.specs.View.{view_item}
 use Rattle.awk_tree.specs.Statements as grammar
 use Rattle.awk_tree.specs.Canon.{bare_entry}
-use Rattle.awk_laws.specs.SpellsScripts.{SpellsScript}
+use Rattle.awk_grammar_laws.specs.SpellsScripts.{SpellsScript}
 use Rattle.awk_statements.specs.Places as places
 use Rattle.awk_names.specs.Mentions.{part}
 use Rattle.awk_names.specs.Faults as names

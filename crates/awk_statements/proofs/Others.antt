@@ -1,6 +1,6 @@
 -- The last case of each choice: no terminal that a case before it takes.
 use Rattle.std.proofs.Common.{◌≡◌, ◌≢◌, ℕ, false, List, refl}
-use Rattle.awk_tokens.specs.declared.kinds.Token.{Token}
+use Rattle.awk_tokens.specs.declared.token.Token.{Token}
 use Rattle.awk_tree.specs.declared.goals.Goal.{Goal}
 use Rattle.awk_tree.specs.declared.goals.Nested.{Nested}
 use Rattle.awk_tree.specs.declared.terminals.Terminal.{Terminal}

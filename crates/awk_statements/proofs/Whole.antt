@@ -1,6 +1,6 @@
 -- A script is read to its end.
 use Rattle.std.proofs.Common.{◌≡◌, true, List, [], ◌∷◌, Result, Ok, Err, IfOk, refl, ap, ◌∙◌}
-use Rattle.awk_tokens.specs.declared.kinds.Token.{Token}
+use Rattle.awk_tokens.specs.declared.token.Token.{Token}
 use Rattle.awk_tree.specs.declared.fault.Fault.{Fault}
 use Rattle.awk_tree.specs.Input.{Outcome, Reads}
 use Rattle.awk_tree.specs.Statements.{is_done}

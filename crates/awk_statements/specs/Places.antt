@@ -1,7 +1,7 @@
 -- Where a script is refused: at the token where so many were left.
 use Rattle.std.specs.Prelude.{ℕ, ◌-◌, List, length, slice_get, Option, Some, None}
 use Rattle.awk_text.specs.declared.place.Place.{Place}
-use Rattle.awk_tokens.specs.declared.kinds.Token.{Token}
+use Rattle.awk_tokens.specs.declared.token.Token.{Token}
 use Rattle.awk_tokens.specs.declared.syntax_error.SyntaxError.{SyntaxError}
 use Rattle.awk_tree.specs.declared.fault.Fault.{Fault}
 use Rattle.awk_tree.specs.declared.fault.Fault.TheVariants.{Memory, Unexpected, TooDeep}

@@ -9,10 +9,10 @@ ghost use Rattle.awk_tree.specs.Statements as spec;
 ghost use Rattle.awk_tree.specs.View.{view, view_statement};
 
 use crate::open::has_else;
-use crate::signs::each_next;
 use crate::simple::{condition, ended, perhaps_until, simple};
-use awk_chains::Level;
-use awk_expressions::{Tokens, is, name_of, pair};
+use crate::statement_signs::each_next;
+use awk_cursor::{Tokens, is, name_of, pair};
+use awk_expressions::Level;
 use awk_text::place::Place;
 use awk_tree::{Expr, Fault, Nested, Statement, Terminal};
 use sqlite_items::{Boxed, Items};

@@ -6,10 +6,10 @@ ghost use Rattle.awk_tree.specs.Statements as spec;
 ghost use Rattle.awk_tree.specs.View.{view, view_item, view_pattern, view_statement};
 
 use crate::bodies::Bodies;
-use crate::signs::{ends_item, is_done};
 use crate::statement::statement;
-use awk_chains::Level;
-use awk_expressions::{Tokens, is, joined, name_of, pair, refused};
+use crate::statement_signs::{ends_item, is_done};
+use awk_cursor::{Tokens, is, joined, name_of, pair, refused};
+use awk_expressions::Level;
 use awk_tokens::Token;
 use awk_tree::{Expr, Fault, Function, Item, Name, Pattern, Statement, Terminal};
 use sqlite_items::{Boxed, Items};

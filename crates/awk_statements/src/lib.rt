@@ -9,9 +9,9 @@ mod items;
 mod open;
 mod places;
 mod prints;
-mod signs;
 mod simple;
 mod statement;
+mod statement_signs;
 
 pub use items::script;
 pub use places::refusal;

@@ -5,7 +5,7 @@ ghost use Rattle.awk_statements.specs.Open as spec;
 ghost use Rattle.awk_tree.specs.Statements as grammar;
 ghost use Rattle.awk_tree.specs.View.{view_statement};
 
-use crate::signs::else_next;
+use crate::statement_signs::else_next;
 use awk_tokens::Token;
 use awk_tree::Statement;
 

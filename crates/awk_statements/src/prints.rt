@@ -6,9 +6,9 @@ ghost use Rattle.awk_tree.specs.Input.{Reads};
 ghost use Rattle.awk_tree.specs.Statements as spec;
 ghost use Rattle.awk_tree.specs.View.{view, view_printed, view_redirection, view_statement};
 
-use crate::signs::{ends_print, redirect};
-use awk_chains::Level;
-use awk_expressions::{Tokens, is, joined, pair};
+use crate::statement_signs::{ends_print, redirect};
+use awk_cursor::{Tokens, is, joined, pair};
+use awk_expressions::Level;
 use awk_text::place::Place;
 use awk_tree::{Expr, Fault, Goal, Printed, Redirection, Statement, Terminal};
 use sqlite_items::{Boxed, Items};

@@ -10,7 +10,7 @@ use Rattle.awk_tokens.specs.Tokens.{IsFirst, text_of}
 use Rattle.awk_tokens.specs.Reads.{ReadsTo, begun, a_gap, a_token, Reads, Stands, Refuses, ends_operand, operand_after, token_of}
 use Rattle.awk_tokens.specs.Scan.{gap_len}
 use Rattle.awk_tokens.specs.Next.{IsNext}
-use Rattle.awk_tokens.specs.declared.kinds.Token.{Token}
+use Rattle.awk_tokens.specs.declared.token.Token.{Token}
 use Rattle.awk_tokens.specs.declared.kinds.TokenKind.{TokenKind}
 use Rattle.awk_tokens.proofs.FirstLemmas.{First}
 use Rattle.awk_tokens.proofs.GapLemmas.{Gap, gap_found}

@@ -5,7 +5,7 @@ use Rattle.awk_tokens.specs.Bytes.{Text}
 use Rattle.awk_tokens.specs.Places.{place_after}
 use Rattle.awk_tokens.specs.Tokens.{IsFirst}
 use Rattle.awk_tokens.specs.Reads.{token_of}
-use Rattle.awk_tokens.specs.declared.kinds.Token.{Token}
+use Rattle.awk_tokens.specs.declared.token.Token.{Token}
 
 -- the token is the first of the text, of this length, where the text stands at this start and place
 pub record IsNext (operand : Bool) (z : Text) (start : ℕ) (place : Place) (token : Token) (len : ℕ) : Type 0 where

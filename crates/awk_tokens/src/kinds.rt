@@ -1,7 +1,4 @@
-// Tokens and their kinds.
-
-use awk_text::octets::Octets;
-use awk_text::place::Place;
+// The kinds of tokens.
 
 /// What a token is, in the terms of the grammar of POSIX.1-2017 XCU awk.
 #[derive(Clone, Copy, Debug, PartialEq, Eq, Drop)]
@@ -24,19 +21,4 @@ pub enum TokenKind {
     CallName,
     /// A sign of one or two bytes, the newline among them.
     Sign,
-}
-
-/// A token of a script.
-#[derive(Drop)]
-pub struct Token {
-    pub kind: TokenKind,
-    /// The bytes of the token. Those of a string stand without its quotes and with their escapes as
-    /// written; those of a pattern stand without its slashes, and `/` where `\/` was written.
-    pub text: Octets,
-    /// How many bytes of the script stand before the token.
-    pub start: usize,
-    /// The place of its first byte.
-    pub place: Place,
-    /// The place directly after its last byte.
-    pub end: Place,
 }

@@ -11,9 +11,11 @@ mod reading;
 mod scan;
 mod signs;
 mod syntax_error;
+mod token;
 mod words;
 
-pub use kinds::{Token, TokenKind};
+pub use kinds::TokenKind;
 pub use reading::tokens;
 pub use syntax_error::SyntaxError;
+pub use token::Token;
 pub use words::{is_name, reserved};

@@ -7,9 +7,10 @@ ghost use Rattle.awk_tokens.specs.Scan as scan;
 ghost use Rattle.awk_tokens.specs.Tokens as spec;
 ghost use Rattle.awk_tokens.specs.Next.{IsNext};
 
-use crate::kinds::{Token, TokenKind};
+use crate::kinds::TokenKind;
 use crate::scan::{first_token, gap_len};
 use crate::syntax_error::SyntaxError;
+use crate::token::Token;
 use awk_text::Memory;
 use awk_text::octets::Octets;
 use awk_text::place::Place;

@@ -2,7 +2,7 @@
 -- (POSIX.1-2017 XCU awk, "Grammar" and "Expressions in awk", whose table of precedence the levels follow).
 use Rattle.std.specs.Prelude.{ℕ, zero, suc, Bool, true, false, if◌then◌else◌, List, [], ◌∷◌, Option, Some, None}
 use Rattle.awk_text.specs.declared.place.Place.{Place}
-use Rattle.awk_tokens.specs.declared.kinds.Token.{Token}
+use Rattle.awk_tokens.specs.declared.token.Token.{Token}
 use Rattle.awk_tree.specs.declared.names.Name.{Name}
 use Rattle.awk_tree.specs.declared.names.Member.{Member}
 use Rattle.awk_tree.specs.declared.names.Slot.TheVariants.{Unbound}

@@ -1,7 +1,7 @@
 -- Which policies and scripts are run.
 use Rattle.std.specs.Prelude.{◌≡◌, ◌≢◌, ℕ, List, ◌⊎◌}
 use Rattle.awk_tokens.specs.Reads.{Reads, Refuses}
-use Rattle.awk_tokens.specs.declared.kinds.Token.{Token}
+use Rattle.awk_tokens.specs.declared.token.Token.{Token}
 use Rattle.box_policy.specs.Refusals.{IsRefused as IsPolicyRefused}
 use Rattle.box_policy.specs.Rulebook.{Rulebook}
 use Rattle.box_policy.specs.Written.{Written}

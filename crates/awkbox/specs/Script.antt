@@ -1,7 +1,7 @@
 -- The scripts of the language that is there today: one BEGIN action (POSIX.1-2017 XCU awk, "Grammar").
 use Rattle.std.specs.Prelude.{◌≡◌, ℕ, Bool, true, false, List, [], ◌∷◌, ◌++◌, All, codes, ◌⊎◌}
 use Rattle.awk_text.specs.Escapes.{unescaped}
-use Rattle.awk_tokens.specs.declared.kinds.Token.{Token}
+use Rattle.awk_tokens.specs.declared.token.Token.{Token}
 use Rattle.awk_tokens.specs.declared.kinds.TokenKind.{TokenKind}
 use Rattle.awk_tokens.specs.declared.kinds.TokenKind.TheVariants.{Keyword, Builtin, Quoted, Sign}
 use Rattle.awkbox.specs.declared.statement.Statement.{Statement}

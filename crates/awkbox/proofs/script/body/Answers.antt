@@ -1,7 +1,7 @@
 use Rattle.std.proofs.Common.{refl, arith, ◌≤◌, length, length-drop, drop}
 use Rattle.awkbox.specs.Script.{begun, separated, then_one}
 use Rattle.awkbox.proofs.Slices.{take-next, take-part, rest_of}
-use Rattle.awk_tokens.specs.declared.kinds.Token.{Token}
+use Rattle.awk_tokens.specs.declared.token.Token.{Token}
 use Rattle.awkbox.proofs.script.body.Goals as goal
 
 pub loop-at-init : goal.loop-at-init

@@ -1,9 +1,0 @@
-use Rattle.std.proofs.Common.{◌≡◌, ◌-◌, map}
-use Rattle.awk_tree.specs.View.{view}
-use Rattle.awk_tree.specs.Input.{many_from}
-use Rattle.awk_tree.specs.Expressions.{begins_part, expr, part, parts}
-use Rattle.awk_expressions.proofs.Loops.{with_front}
-use Rattle.awk_chains.proofs.chains.Chains.parts.Given as goal
-
-abbrev pub invariant-loop-turn : goal.invariant-loop-turn
-invariant-loop-turn g l = with_front (map view l.found) (many_from begins_part (part l.self.operands.depth (expr l.self.operands.depth)) (l._turn-end - l._turn) l.tokens) ≡ parts l.self.operands.depth (expr l.self.operands.depth) l.fn.tokens

@@ -1,4 +1,0 @@
-use Rattle.awk_chains.proofs.nesting.+expr.Given as goal
-
-abbrev pub decreases-expr : goal.decreases-expr
-decreases-expr l = l.depth
