@@ -28,7 +28,7 @@ pub fn expr(
 }
 
 /// The rules at a level of nesting.
-fn rules<F>(alloc: Global, depth: usize, inner: F) -> Grammar<F>
+pub(crate) fn rules<F>(alloc: Global, depth: usize, inner: F) -> Grammar<F>
     ensures { result ≡ record { alloc = alloc; depth = depth; inner = inner } }
 {
     Grammar {
