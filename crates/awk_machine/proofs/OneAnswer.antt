@@ -13,8 +13,8 @@ use Rattle.awk_fields.specs.Rows.{Held, unsplit, known, AreHeld}
 use Rattle.awk_fields.proofs.Bests.{match_le}
 use Rattle.awk_program.specs.Slots.{Text}
 use Rattle.awk_machine.specs.Questions.{Question, Spells, Matches, Finds as FindsIn, Divides, Fields, Answer, Is, Places, Texts, Values, Right}
-use Rattle.awk_machine.specs.Library as all
-use Rattle.awk_machine.specs.Library.{AllFrom, Found, next_from, is_passed}
+use Rattle.awk_lib.specs.Replacing as all
+use Rattle.awk_lib.specs.Replacing.{AllFrom, Found, next_from, is_passed}
 use Rattle.awk_machine.proofs.OneMatch.{one_ere, one_best, one_find, found_inside, one_has}
 
 the_some : {A : Type 0} {x y : A} → Some x ≡ Some y → x ≡ y

@@ -11,10 +11,9 @@ use Rattle.awk_fields.specs.Rows.{known}
 use Rattle.awk_program.specs.Slots.{Text}
 use Rattle.awk_program.specs.Program.{Program, global}
 use Rattle.awk_program.specs.declared.program.Name.{Name}
-use Rattle.awk_machine.specs.Library.{Array}
 use Rattle.awk_machine.specs.Operators.{of_count}
 use Rattle.awk_machine.specs.Pieces.{nowhere, Piece, Do, Target, Variable, Element, Set, Environ, Enter}
-use Rattle.awk_machine.specs.State.{State, Course, Given, Beginning, Ruling, Ending}
+use Rattle.awk_machine.specs.State.{Array, State, Course, Given, Beginning, Ruling, Ending}
 
 -- ---- the variables and the arrays of the script
 

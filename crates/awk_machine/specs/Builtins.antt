@@ -22,7 +22,10 @@ use Rattle.awk_program.specs.declared.operators.Extent.TheVariants as extent
 use Rattle.awk_program.specs.declared.operators.Measure.{Measure}
 use Rattle.awk_program.specs.declared.operators.Measure.TheVariants as m
 use Rattle.awk_machine.specs.Forms.{value, spot, source, binary, checked}
-use Rattle.awk_machine.specs.Library.{Array, most_elements, index, substr, to_case, replaced}
+use Rattle.awk_lib.specs.Arrays.{most_elements}
+use Rattle.awk_lib.specs.Replacing.{replaced}
+use Rattle.awk_lib.specs.Texts.{index, substr, to_case}
+use Rattle.awk_machine.specs.State.{Array}
 use Rattle.awk_machine.specs.Operators.{of_count, limited}
 use Rattle.awk_machine.specs.Pieces.{Part, Piece, At, Do, Target, Get, Set, Give, Locate, Located, Substitute, Split, Then, Goes, Seeks, Asks, give, granted, fails}
 use Rattle.awk_machine.specs.Questions.{Finds, places}

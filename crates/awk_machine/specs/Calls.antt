@@ -9,9 +9,8 @@ use Rattle.awk_program.specs.Program as p
 use Rattle.awk_program.specs.Program.{Expression, Arguments, Program, Function}
 use Rattle.awk_machine.specs.Builtins.{first}
 use Rattle.awk_machine.specs.Forms.{value}
-use Rattle.awk_machine.specs.Library.{Array}
 use Rattle.awk_machine.specs.Pieces.{Value_of, Leave, At, Do, Each, Step, Call, Then, Goes, give, fails}
-use Rattle.awk_machine.specs.State.{State, Given, Frame, Bound, Scalar, Handed, Made}
+use Rattle.awk_machine.specs.State.{Array, State, Given, Frame, Bound, Scalar, Handed, Made}
 use Rattle.awk_machine.specs.Variables.{reference}
 
 abbrev pub most_depth : ℕ

@@ -15,7 +15,7 @@ use Rattle.awk_machine.specs.Builtins.{measured, whole_number, index_of, substr_
 use Rattle.awk_machine.specs.Calls.{call}
 use Rattle.awk_machine.specs.Forms.{value, spot, source, answer, deliver, if_true, unary, binary, ternary, listed, each_of, keyed, checked}
 use Rattle.awk_machine.specs.Getline.{getline, getline_file}
-use Rattle.awk_machine.specs.Library.{has}
+use Rattle.awk_lib.specs.Arrays.{has}
 use Rattle.awk_machine.specs.Operators.{of_truth, computed, signed, stepped, compared, limited}
 use Rattle.awk_machine.specs.Pieces.{Part, Target_of, Terms_of, Texts_of, Ands_of, Ors_of, Members_of, Pipes_of, At, Do, Get, Set, Check, Match, Give, Close, Then, Goes, give, granted}
 use Rattle.awk_machine.specs.Targets.{target, field_of, store}

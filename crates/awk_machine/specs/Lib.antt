@@ -1,4 +1,3 @@
-pub mod Library
 pub mod Questions
 pub mod State
 pub mod Pieces

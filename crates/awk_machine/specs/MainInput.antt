@@ -17,7 +17,7 @@ use Rattle.box_world.specs.declared.ask.Mode.TheVariants as mode
 use Rattle.box_world.specs.declared.ask.Reply.{Reply}
 use Rattle.box_world.specs.declared.ask.Reply.TheVariants as reply
 use Rattle.box_world.specs.Events.{OperandFile, Key, Standard, Named, Wish, Opens, Reads, Writes, Shuts, Assigns, Want}
-use Rattle.awk_machine.specs.Library.{element}
+use Rattle.awk_lib.specs.Arrays.{element}
 use Rattle.awk_machine.specs.Getline.{first_record}
 use Rattle.awk_machine.specs.Pieces.{nowhere, Piece, Do, Set, Variable, Step, Take, Operand, Look, Begun, Report, Forget, Past, Then, Goes, Asks, give, granted, fails}
 use Rattle.awk_machine.specs.State.{State, Given, Main, Shared}

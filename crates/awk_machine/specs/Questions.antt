@@ -7,7 +7,7 @@ use Rattle.awk_fields.specs.Separators.{Separator, IsEre, IsNoEre}
 use Rattle.awk_fields.specs.Fields as fields
 use Rattle.awk_fields.specs.Rows.{Row, HasFields}
 use Rattle.awk_program.specs.Slots.{Text}
-use Rattle.awk_machine.specs.Library.{Found}
+use Rattle.awk_lib.specs.Replacing.{Found}
 
 pub data Question : Type 0 where
   -- whether the text is an ERE

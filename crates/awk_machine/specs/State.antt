@@ -6,7 +6,11 @@ use Rattle.awk_fields.specs.Rows.{Row}
 use Rattle.box_world.specs.Events.{Event, Key}
 use Rattle.awk_program.specs.Slots.{Text}
 use Rattle.awk_program.specs.Program.{Program}
-use Rattle.awk_machine.specs.Library.{Array}
+use Rattle.awk_lib.specs.Arrays as list
+
+-- the elements of an array, in the order in which their keys were added
+abbrev pub Array : Type 0
+Array = list.Array Value
 
 -- which array is meant: one of the whole script, or one that a call made for a parameter without an argument
 pub data Reference : Type 0 where

@@ -1,5 +1,5 @@
 -- What each form of a statement does next, one line a form (POSIX.1-2017 XCU awk, "Actions").
-use Rattle.std.specs.Prelude.{if◌then◌else◌, List, [], ◌∷◌, pos, unsigned_abs, Option, Some, None}
+use Rattle.std.specs.Prelude.{List, [], ◌∷◌, pos, unsigned_abs, Option, Some, None}
 use Rattle.std.specs.Int.{int_rem_euclid}
 use Rattle.awk_text.specs.declared.place.Place.{Place}
 use Rattle.awk_text.specs.declared.value.Value.{Value}
@@ -11,7 +11,7 @@ use Rattle.awk_program.specs.Program as p
 use Rattle.awk_program.specs.Program.{Expression, Statement, Statements}
 use Rattle.awk_machine.specs.Builtins.{formatted_by}
 use Rattle.awk_machine.specs.Forms.{value, unary, each_of, keyed, if_true}
-use Rattle.awk_machine.specs.Library.{keys, without}
+use Rattle.awk_lib.specs.Arrays.{keys, without}
 use Rattle.awk_machine.specs.Pieces.{Loop, Part, Test, Turn, Leave, Records, Doing, Piece, At, Do, Set, Variable, Step, Start, Each, Keys, Enter, Finish, Then, Goes, give, granted, fails}
 use Rattle.awk_machine.specs.Printing.{print_by, printed}
 use Rattle.awk_machine.specs.State.{State, Phase, Ruling, Ending}

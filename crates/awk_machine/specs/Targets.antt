@@ -12,7 +12,7 @@ use Rattle.awk_fields.specs.Rows.{unsplit, known, place_of, with_field, with_cou
 use Rattle.awk_format.specs.Directives.{◌>>=◌}
 use Rattle.awk_program.specs.Slots.{Text}
 use Rattle.awk_program.specs.Program as p
-use Rattle.awk_machine.specs.Library.{element, put}
+use Rattle.awk_lib.specs.Arrays.{element, put}
 use Rattle.awk_machine.specs.Operators.{of_count, limited}
 use Rattle.awk_machine.specs.Pieces.{Piece, Do, Target, Variable, Element, Field, Give, Set, Whole, Rebuild, Check, Then, Goes, Seeks, give, granted, ends, Faulted}
 use Rattle.awk_machine.specs.Questions.{Spells, Fields, yes, values}

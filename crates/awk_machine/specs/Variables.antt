@@ -7,8 +7,7 @@ use Rattle.awk_text.specs.declared.value.Value.TheVariants as v
 use Rattle.awk_text.specs.Values.{text_of}
 use Rattle.awk_program.specs.Slots.{Text}
 use Rattle.awk_program.specs.Program.{Variable, global, parameter}
-use Rattle.awk_machine.specs.Library.{Array}
-use Rattle.awk_machine.specs.State.{State, Bound, Scalar, Handed, Reference, Shared, Made}
+use Rattle.awk_machine.specs.State.{Array, State, Bound, Scalar, Handed, Reference, Shared, Made}
 
 -- another map, in which a name that was there has this; a name that was not there stays without
 abbrev pub changed : {A : Type 0} → (Text → Option A) → Text → A → Text → Option A
