@@ -7,6 +7,7 @@ mod args;
 mod cursor;
 mod fields;
 mod formats;
+mod library;
 mod monitors;
 mod patterns;
 mod policies;

@@ -3,7 +3,9 @@
 use crate::problem::Problem;
 use crate::row::{Arg, Row};
 use crate::shown::Answer;
-use crate::{fields, formats, monitors, patterns, policies, records, runs, tokens, values, worlds};
+use crate::{
+    fields, formats, library, monitors, patterns, policies, records, runs, tokens, values, worlds,
+};
 use awk_text::octets::Octets;
 use std::alloc::Global;
 
@@ -15,6 +17,7 @@ pub enum Table {
     Searches,
     Fields,
     Formats,
+    Library,
     Tokens,
     Policies,
     Worlds,
@@ -22,12 +25,13 @@ pub enum Table {
     Runs,
 }
 
-pub const TABLES: [Table; 10] = [
+pub const TABLES: [Table; 11] = [
     Table::Values,
     Table::Patterns,
     Table::Searches,
     Table::Fields,
     Table::Formats,
+    Table::Library,
     Table::Tokens,
     Table::Policies,
     Table::Worlds,
@@ -43,6 +47,7 @@ impl Table {
             Table::Searches => "searches.txt",
             Table::Fields => "fields.txt",
             Table::Formats => "formats.txt",
+            Table::Library => "library.txt",
             Table::Tokens => "tokens.txt",
             Table::Policies => "policies.txt",
             Table::Worlds => "worlds.txt",
@@ -58,6 +63,7 @@ impl Table {
             Table::Patterns | Table::Searches => patterns::call(alloc, args),
             Table::Fields => fields::call(alloc, args),
             Table::Formats => formats::call(alloc, args),
+            Table::Library => library::call(alloc, args),
             Table::Tokens => tokens::call(alloc, args),
             Table::Policies => policies::call(alloc, args),
             Table::Worlds | Table::Monitors | Table::Runs => Err(Problem::NoCall),
@@ -73,6 +79,7 @@ impl Table {
     ) -> Result<Vec<Octets>, Problem> {
         match self {
             Table::Fields => records::block(alloc, steps),
+            Table::Library => library::block(alloc, steps),
             Table::Policies => policies::block(alloc, args, steps),
             Table::Worlds => worlds::block(alloc, steps),
             Table::Monitors => monitors::block(alloc, args, steps),
