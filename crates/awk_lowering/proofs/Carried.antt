@@ -1,0 +1,40 @@
+-- Lists that are made one by one.
+use Rattle.std.proofs.Common.{◌≡◌, ◌∙◌, ℕ, ◌+◌, ◌<◌, zero, suc, List, [], ◌∷◌, ◌++◌, map, Result, Ok, Err, IfOk, OnOk, length, get_or, drop, ap, sym, refl, arith, add-one}
+
+drop_suc : {A : Type 0} (xs : List A) (i : ℕ) (d : A) → i < length xs → d ≡ get_or xs i d → drop i xs ≡ d ∷ drop (suc i) xs
+drop_suc [] i d h e = absurd (omega arith)
+drop_suc (x ∷ xs) zero d h e = ap (λ y. y ∷ xs) (sym e)
+drop_suc (x ∷ xs) (suc i) d h e = drop_suc xs i d (omega arith) e
+
+drop_here : {A : Type 0} (xs : List A) (i : ℕ) (d : A) → i < length xs → d ≡ get_or xs i d → drop i xs ≡ d ∷ drop (i + 1) xs
+drop_here xs i d h e = rw add-one (drop_suc xs i d h e)
+
+-- what was pushed, by what was to be pushed
+abbrev pub Pushed : {A E : Type 0} → List A → List A → Result A E → Type 0
+Pushed {A} old new next = (y : A) × (next ≡ Ok y) × (new ≡ old ++ y ∷ [])
+
+map_push : {A B : Type 0} (view : A → B) (xs : List A) (y : A) (ys : List B) → map view (xs ++ y ∷ []) ++ ys ≡ map view xs ++ view y ∷ ys
+map_push view [] y ys = refl
+map_push view (x ∷ xs) y ys = ap (λ zs. view x ∷ zs) (map_push view xs y ys)
+
+-- one turn of a loop that pushes
+pub turned : {A B X T E : Type 0} (view : A → B) (low : T → B) (source : X → T) (all : List B) (old new : List A) (next : Result A E) (x : X) (xs : List X) (i : ℕ)
+    → i < length xs → x ≡ get_or xs i x → IfOk next (λ y. view y ≡ low (source x)) → Pushed old new next
+    → all ≡ map view old ++ map low (map source (drop i xs)) → all ≡ map view new ++ map low (map source (drop (i + 1) xs))
+turned view low source all old new next x xs i h e made (y, is, pushed) far =
+    let same : view y ≡ low (source x) = rw is at made in
+    let here : map low (map source (drop i xs)) ≡ low (source x) ∷ map low (map source (drop (i + 1) xs)) = ap (λ ys. map low (map source ys)) (drop_here xs i x h e) in
+    far ∙ ap (λ ys. map view old ++ ys) here ∙ ap (λ z. map view old ++ z ∷ map low (map source (drop (i + 1) xs))) (sym same)
+    ∙ sym (map_push view old y (map low (map source (drop (i + 1) xs)))) ∙ ap (λ ys. map view ys ++ map low (map source (drop (i + 1) xs))) (sym pushed)
+
+-- what is boxed is what was made
+pub boxed_is : {A B E : Type 0} (view : A → B) (boxed made : Result A E) (x : B)
+    → IfOk boxed (λ y. made ≡ Ok y) → IfOk made (λ y. view y ≡ x) → IfOk boxed (λ y. view y ≡ x)
+boxed_is view (Ok y) made x is h = rw is at h
+boxed_is view (Err e) made x is h = tt
+
+-- what is kept of a list, once it is whole
+pub whole : {A B E : Type 0} (view : A → B) (made : Result (List A) E) (list : List A) (filled : Result Unit E) (all : List B)
+    → IfOk made (λ kept. (kept ≡ list) × (filled ≡ Ok tt)) → OnOk filled (map view list ≡ all) → IfOk made (λ kept. map view kept ≡ all)
+whole view (Ok kept) list filled all (is, was) h = ap (map view) is ∙ (rw was at h)
+whole view (Err e) list filled all h k = tt

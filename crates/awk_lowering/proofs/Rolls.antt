@@ -1,0 +1,29 @@
+-- A roll as contracts see it. Where it is kept the keys are not the texts but have them.
+use Rattle.std.proofs.Common.{◌≡◌, ◌+◌, ◌∙◌, ℕ, zero, suc, Bool, true, false, List, [], ◌∷◌, ◌++◌, map, length, cond, if◌then◌else◌, ◌||◌, not, nat_lt, Option, Some, None, slice_get, position, ap, sym, refl}
+use Rattle.std.proofs.lemmas.List.{length-map}
+use Rattle.std.specs.List.{list_any, position_or_len}
+use Rattle.std.specs.Str.{bytes_eq}
+use Rattle.awk_lowering.specs.Rolls.{added}
+
+module _ {K : Type 0} (items : K → List ℕ) where
+  any_named : (x : List ℕ) (ks : List K) → list_any (bytes_eq x) (map items ks) ≡ list_any (λ k. bytes_eq x (items k)) ks
+  any_named x [] = refl
+  any_named x (k ∷ ks) = ap (λ b. bytes_eq x (items k) || b) (any_named x ks)
+
+  first_named : (x : List ℕ) (ks : List K) → position_or_len (bytes_eq x) (map items ks) ≡ position_or_len (λ k. bytes_eq x (items k)) ks
+  first_named x [] = refl
+  first_named x (k ∷ ks) = ap (λ n. cond (not (bytes_eq x (items k))) (1 + n) 0) (first_named x ks)
+
+  pub position_named : (x : List ℕ) (ks : List K) → position (bytes_eq x) (map items ks) ≡ position (λ k. bytes_eq x (items k)) ks
+  position_named x ks = rw (first_named x ks, length-map ks items) refl
+
+  map_last : (k : K) (ks : List K) → map items (ks ++ k ∷ []) ≡ map items ks ++ items k ∷ []
+  map_last k [] = refl
+  map_last k (j ∷ ks) = ap (λ xs. items j ∷ xs) (map_last k ks)
+
+  pub added_named : (k : K) (ks : List K) → map items (if list_any (λ j. bytes_eq (items k) (items j)) ks then ks else ks ++ k ∷ []) ≡ added (items k) (map items ks)
+  added_named k ks = rw (any_named (items k) ks) (by (list_any (λ j. bytes_eq (items k) (items j)) ks))
+    where
+      by : (b : Bool) → map items (if b then ks else ks ++ k ∷ []) ≡ (if b then map items ks else map items ks ++ items k ∷ [])
+      by true = refl
+      by false = map_last k ks
