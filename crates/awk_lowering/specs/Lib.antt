@@ -1,1 +1,7 @@
 pub mod Rolls
+pub mod Scopes
+pub mod Starts
+pub mod Forms
+pub mod Lowered
+pub mod LoweredStatements
+pub mod Made

@@ -1,0 +1,153 @@
+-- The program that the expressions of a script stand for: names for what they stand for, constants made,
+-- parentheses gone, and one form for each thing that can be said (POSIX.1-2017 XCU awk, "Expressions in awk").
+use Rattle.std.specs.Prelude.{ℕ, pos, Bool, true, false, List, [], ◌∷◌, map, codes}
+use Rattle.awk_text.specs.Escapes.{unescaped}
+use Rattle.awk_text.specs.declared.place.Place.{Place}
+use Rattle.awk_tree.specs.Tree as t
+use Rattle.awk_tree.specs.Tree.{Tree, Trees, Perhaps}
+use Rattle.awk_tree.specs.declared.names.Member.{Member}
+use Rattle.awk_tree.specs.declared.operators.Builtin.{Builtin}
+use Rattle.awk_tree.specs.declared.operators.Builtin.TheVariants as b
+use Rattle.awk_program.specs.declared.operators.Measure.TheVariants as m
+use Rattle.awk_program.specs.declared.operators.Operator.TheVariants as o
+use Rattle.awk_program.specs.declared.operators.Taken.TheVariants as taken
+use Rattle.awk_program.specs.Program as p
+use Rattle.awk_program.specs.Program.{Variable, Expression, Reference, Ere, Expressions, Joins, Arguments}
+use Rattle.awk_lowering.specs.Forms.{number_of, whole_record, unwritten, unwritten_target, operator_of, comparison_of, step_of, extent_of, signed_of, assigned, matched_of, of_none, of_one, of_two, of_three}
+use Rattle.awk_lowering.specs.Scopes.{Scope, variable, function, arrays_of}
+use Rattle.awk_lowering.specs.Starts.{start}
+
+-- the arrays behind `in`
+abbrev pub array_in : Scope → Member → Variable
+array_in c x = variable c x.array.text
+
+abbrev pub arrays_in : Scope → List Member → List Variable
+arrays_in c xs = map (array_in c) xs
+
+-- the place of the first `in`
+abbrev pub first_in : Place → List Member → Place
+first_in q [] = q
+first_in q (x ∷ xs) = x.place
+
+-- an array that is handed to a function. Nothing else than a name is.
+abbrev pub handed : Scope → Tree → Variable
+handed c (t.name n) = variable c n.text
+handed c x = p.global []
+
+abbrev mutual
+  pub lowered : Scope → Tree → Expression
+  lowered c (t.number q x) = p.number (pos (number_of x))
+  lowered c (t.quoted q x) = p.text (unescaped x)
+  lowered c (t.pattern q x) = p.pattern q x
+  lowered c (t.name n) = p.read (p.variable (variable c n.text))
+  lowered c (t.element n xs) = p.read (p.element n.place (variable c n.text) (lowered_list c xs))
+  lowered c (t.field q x) = p.read (p.field q (lowered c x))
+  lowered c (t.paren q x) = lowered c x
+  lowered c (t.call n xs) = p.call n.place (function c n.text) (arguments c (arrays_of c n.text) xs)
+  lowered c (t.builtin q which xs) = built c q which xs
+  lowered c (t.bare_length q) = p.measure m.Length (p.read (whole_record q))
+  lowered c (t.split q x n y) = p.split q (lowered c x) n.place (variable c n.text) (separator c y)
+  lowered c (t.substitute q all x y z) = p.substitute q (extent_of all) (ere c x) (lowered c y) (target_or_record c q z)
+  lowered c (t.getline q x y) = got c q (target_or_record c q x) y
+  lowered c (t.before q how x) = p.step q (step_of how) taken.Behind (target c x)
+  lowered c (t.after x q how) = p.step q (step_of how) taken.Before (target c x)
+  lowered c (t.signed q how x) = signed_of q how (lowered c x)
+  lowered c (t.power x q y) = p.chain (lowered c x) (p.term o.Power q (lowered c y) p.no_terms)
+  lowered c (t.product x xs) = p.chain (lowered c x) (lowered_terms c xs)
+  lowered c (t.sum x xs) = p.chain (lowered c x) (lowered_terms c xs)
+  lowered c (t.concat x xs) = p.concat (lowered c x) (lowered_joins c xs)
+  lowered c (t.pipe x xs) = p.pipe (lowered c x) (lowered_pipes c xs)
+  lowered c (t.compare x q how y) = p.compare (comparison_of how) (lowered c x) (lowered c y)
+  lowered c (t.matched x q unlike y) = matched_of q unlike (lowered c x) (ere c y)
+  lowered c (t.group q xs ms) = p.group (first_in q ms) (lowered_list c xs) (arrays_in c ms)
+  lowered c (t.member x ms) = p.member (lowered c x) (arrays_in c ms)
+  lowered c (t.and x xs) = p.and (lowered c x) (lowered_list c xs)
+  lowered c (t.or x xs) = p.or (lowered c x) (lowered_list c xs)
+  lowered c (t.choose x y z) = p.choose (lowered c x) (lowered c y) (lowered c z)
+  lowered c (t.assign x q how y) = assigned q how (target c x) (lowered c y)
+
+  -- what is set: the grammar puts nothing but these three before `=` and beside `++`
+  pub target : Scope → Tree → Reference
+  target c (t.name n) = p.variable (variable c n.text)
+  target c (t.element n xs) = p.element n.place (variable c n.text) (lowered_list c xs)
+  target c (t.field q x) = p.field q (lowered c x)
+  target c x = unwritten_target
+
+  -- what is set, or the whole record where nothing is named
+  pub target_or_record : Scope → Place → Perhaps → Reference
+  target_or_record c q t.absent = whole_record q
+  target_or_record c q (t.present x) = target c x
+
+  -- what stands where a pattern is wanted: an ERE by itself is the pattern, anything else the text of one
+  pub ere : Scope → Tree → Ere
+  ere c (t.pattern q x) = p.constant q x
+  ere c x = p.computed (lowered c x)
+
+  -- split by FS where no separator is named
+  pub separator : Scope → Perhaps → Ere
+  separator c t.absent = p.computed (p.read (p.variable (p.global (codes "FS"))))
+  separator c (t.present x) = ere c x
+
+  -- a getline of the main input, or of a file
+  pub got : Scope → Place → Reference → Perhaps → Expression
+  got c q r t.absent = p.getline q r
+  got c q r (t.present x) = p.getline_file q r (lowered c x)
+
+  -- a built-in function
+  pub built : Scope → Place → Builtin → Trees → Expression
+  built c q b.Match xs = located c q xs
+  built c q b.Sprintf xs = formatted c q xs
+  built c q b.Close xs = called c q b.Close xs
+  built c q b.Gsub xs = called c q b.Gsub xs
+  built c q b.Index xs = called c q b.Index xs
+  built c q b.Int xs = called c q b.Int xs
+  built c q b.Length xs = called c q b.Length xs
+  built c q b.Split xs = called c q b.Split xs
+  built c q b.Sub xs = called c q b.Sub xs
+  built c q b.Substr xs = called c q b.Substr xs
+  built c q b.System xs = called c q b.System xs
+  built c q b.Tolower xs = called c q b.Tolower xs
+  built c q b.Toupper xs = called c q b.Toupper xs
+
+  -- by the number of its arguments
+  pub called : Scope → Place → Builtin → Trees → Expression
+  called c q which t.none = of_none q which
+  called c q which (t.more x t.none) = of_one q which (lowered c x)
+  called c q which (t.more x (t.more y t.none)) = of_two q which (lowered c x) (lowered c y)
+  called c q which (t.more x (t.more y (t.more z t.none))) = of_three q which (lowered c x) (lowered c y) (lowered c z)
+  called c q which (t.more x (t.more y (t.more z (t.more u xs)))) = unwritten
+
+  -- `match ( text , pattern )`
+  pub located : Scope → Place → Trees → Expression
+  located c q t.none = unwritten
+  located c q (t.more x t.none) = unwritten
+  located c q (t.more x (t.more y t.none)) = p.locate q (lowered c x) (ere c y)
+  located c q (t.more x (t.more y (t.more z xs))) = unwritten
+
+  -- `sprintf ( format , list )`
+  pub formatted : Scope → Place → Trees → Expression
+  formatted c q t.none = unwritten
+  formatted c q (t.more x xs) = p.sprintf q (lowered c x) (lowered_list c xs)
+
+  pub lowered_list : Scope → Trees → Expressions
+  lowered_list c t.none = p.none
+  lowered_list c (t.more x xs) = p.more (lowered c x) (lowered_list c xs)
+
+  pub lowered_terms : Scope → t.Terms → p.Terms
+  lowered_terms c t.no_terms = p.no_terms
+  lowered_terms c (t.term how q x xs) = p.term (operator_of how) q (lowered c x) (lowered_terms c xs)
+
+  pub lowered_joins : Scope → Trees → Joins
+  lowered_joins c t.none = p.no_joins
+  lowered_joins c (t.more x xs) = p.join (start x) (lowered c x) (lowered_joins c xs)
+
+  pub lowered_pipes : Scope → t.Pipes → p.Pipes
+  lowered_pipes c t.no_pipes = p.no_pipes
+  lowered_pipes c (t.piped q x xs) = p.piped q (target_or_record c q x) (lowered_pipes c xs)
+
+  -- what is handed to a function: an array where its parameter is one, and a value anywhere else
+  pub arguments : Scope → List Bool → Trees → Arguments
+  arguments c are t.none = p.no_arguments
+  arguments c [] (t.more x xs) = p.by_value (lowered c x) (arguments c [] xs)
+  arguments c (false ∷ are) (t.more x xs) = p.by_value (lowered c x) (arguments c are xs)
+  arguments c (true ∷ are) (t.more x xs) = p.by_name (handed c x) (arguments c are xs)
