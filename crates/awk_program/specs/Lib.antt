@@ -1,0 +1,3 @@
+pub mod Slots
+pub mod Program
+pub mod View
