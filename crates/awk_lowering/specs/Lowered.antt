@@ -1,13 +1,15 @@
 -- The program that the expressions of a script stand for: names for what they stand for, constants made,
 -- parentheses gone, and one form for each thing that can be said (POSIX.1-2017 XCU awk, "Expressions in awk").
-use Rattle.std.specs.Prelude.{ℕ, pos, Bool, true, false, List, [], ◌∷◌, map, codes}
+use Rattle.std.specs.Prelude.{pos, Bool, true, false, List, [], ◌∷◌, map, codes, Option, Some, None}
 use Rattle.awk_text.specs.Escapes.{unescaped}
 use Rattle.awk_text.specs.declared.place.Place.{Place}
 use Rattle.awk_tree.specs.Tree as t
-use Rattle.awk_tree.specs.Tree.{Tree, Trees, Perhaps}
+use Rattle.awk_tree.specs.Tree.{Text, Tree, Trees, Perhaps}
+use Rattle.awk_tree.specs.declared.names.Name.{Name}
 use Rattle.awk_tree.specs.declared.names.Member.{Member}
 use Rattle.awk_tree.specs.declared.operators.Builtin.{Builtin}
 use Rattle.awk_tree.specs.declared.operators.Builtin.TheVariants as b
+use Rattle.awk_names.specs.Mentions.{bare}
 use Rattle.awk_program.specs.declared.operators.Measure.TheVariants as m
 use Rattle.awk_program.specs.declared.operators.Operator.TheVariants as o
 use Rattle.awk_program.specs.declared.operators.Taken.TheVariants as taken
@@ -29,10 +31,35 @@ abbrev pub first_in : Place → List Member → Place
 first_in q [] = q
 first_in q (x ∷ xs) = x.place
 
--- an array that is handed to a function. Nothing else than a name is.
-abbrev pub handed : Scope → Tree → Variable
-handed c (t.name n) = variable c n.text
-handed c x = p.global []
+-- an ERE by itself
+abbrev pub constant : Tree → Option (Place × Text)
+constant (t.pattern q x) = Some (q, x)
+constant x = None
+
+-- what stands where a pattern is wanted: an ERE by itself is the pattern, anything else the text of one
+abbrev pub ere_of : Option (Place × Text) → Expression → Ere
+ere_of (Some e) x = p.constant e.0 e.1
+ere_of None x = p.computed x
+
+-- What is handed to a function: to a parameter that is an array the array of that name, to any other a value. An
+-- array that is handed to another one passes nothing: its function never reads it.
+abbrev pub value_unless : Bool → Expression → Arguments → Arguments
+value_unless false x rest = p.by_value x rest
+value_unless true x rest = p.by_nothing rest
+
+abbrev pub argument : Scope → Bool → Option Name → Expression → Arguments → Arguments
+argument c takes_array None x rest = p.by_value x rest
+argument c true (Some n) x rest = p.by_name (variable c n.text) rest
+argument c false (Some n) x rest = value_unless (c.is_array n.text) x rest
+
+-- whether the next parameter is an array, and the parameters behind it
+abbrev pub takes_array : List Bool → Bool
+takes_array [] = false
+takes_array (b ∷ bs) = b
+
+abbrev pub later : List Bool → List Bool
+later [] = []
+later (b ∷ bs) = bs
 
 abbrev mutual
   pub lowered : Scope → Tree → Expression
@@ -78,10 +105,8 @@ abbrev mutual
   target_or_record c q t.absent = whole_record q
   target_or_record c q (t.present x) = target c x
 
-  -- what stands where a pattern is wanted: an ERE by itself is the pattern, anything else the text of one
   pub ere : Scope → Tree → Ere
-  ere c (t.pattern q x) = p.constant q x
-  ere c x = p.computed (lowered c x)
+  ere c x = ere_of (constant x) (lowered c x)
 
   -- split by FS where no separator is named
   pub separator : Scope → Perhaps → Ere
@@ -145,9 +170,7 @@ abbrev mutual
   lowered_pipes c t.no_pipes = p.no_pipes
   lowered_pipes c (t.piped q x xs) = p.piped q (target_or_record c q x) (lowered_pipes c xs)
 
-  -- what is handed to a function: an array where its parameter is one, and a value anywhere else
+  -- the arguments for parameters of which these are arrays
   pub arguments : Scope → List Bool → Trees → Arguments
   arguments c are t.none = p.no_arguments
-  arguments c [] (t.more x xs) = p.by_value (lowered c x) (arguments c [] xs)
-  arguments c (false ∷ are) (t.more x xs) = p.by_value (lowered c x) (arguments c are xs)
-  arguments c (true ∷ are) (t.more x xs) = p.by_name (handed c x) (arguments c are xs)
+  arguments c are (t.more x xs) = argument c (takes_array are) (bare x) (lowered c x) (arguments c (later are) xs)

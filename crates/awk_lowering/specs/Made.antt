@@ -11,52 +11,60 @@ use Rattle.awk_program.specs.declared.variables.Variable as code
 use Rattle.awk_program.specs.declared.statements.Statement as code_statement
 use Rattle.awk_program.specs.Program as p
 use Rattle.awk_program.specs.Program.{Variable, Expression, Reference, Ere, Arguments, Statement}
-use Rattle.awk_program.specs.View.{Tables, variable_of, view, view_target, view_ere, view_term, view_joined, view_pipes, view_arguments, view_statement}
+use Rattle.awk_program.specs.View.{Names, variable_of, view, view_target, view_ere, view_term, view_joined, view_pipes, view_arguments, view_statement}
 use Rattle.awk_lowering.specs.Scopes.{Scope}
-use Rattle.awk_lowering.specs.declared.names.Names.{Names}
+use Rattle.awk_kinds.specs.Marks.{is_marked}
+use Rattle.awk_kinds.specs.Numbering.{number_in}
+use Rattle.awk_lowering.specs.declared.names.Context.{Context}
 
-abbrev pub tables_in : Names → Tables
-tables_in n = record { variables = n.variables.now; patterns = n.patterns.now }
+-- the names of the variables, by their slots
+abbrev pub names_in : Context → Names
+names_in n = n.variables.now
 
-abbrev pub scope_in : Names → Scope
-scope_in n = record { parameters = n.parameters.now; functions = n.functions.now; arrays = n.arrays.now }
+abbrev pub scope_in : Context → Scope
+scope_in n = record {
+  parameters = n.parameters.now;
+  functions = n.functions.now;
+  arrays = n.arrays.now;
+  is_array = λ x. is_marked n.kinds.now.arrays (number_in n.kinds.now.numbers n.role.now x);
+}
 
 -- what was made is this, unless memory was refused
-abbrev pub Is : {E : Type 0} → Tables → Result Expr E → Expression → Type 0
+abbrev pub Is : {E : Type 0} → Names → Result Expr E → Expression → Type 0
 Is t made x = IfOk made (λ e. view t e ≡ x)
 
-abbrev pub IsPerhaps : {E : Type 0} → Tables → Result (Option Expr) E → Option Expression → Type 0
+abbrev pub IsPerhaps : {E : Type 0} → Names → Result (Option Expr) E → Option Expression → Type 0
 IsPerhaps t made x = IfOk made (λ e. option_map (view t) e ≡ x)
 
-abbrev pub AreAll : {E : Type 0} → Tables → Result (List Expr) E → List Expression → Type 0
+abbrev pub AreAll : {E : Type 0} → Names → Result (List Expr) E → List Expression → Type 0
 AreAll t made xs = IfOk made (λ es. map (view t) es ≡ xs)
 
-abbrev pub AreTerms : {E : Type 0} → Tables → Result (List (Term Expr)) E → List (Term Expression) → Type 0
+abbrev pub AreTerms : {E : Type 0} → Names → Result (List (Term Expr)) E → List (Term Expression) → Type 0
 AreTerms t made xs = IfOk made (λ es. map (view_term t) es ≡ xs)
 
-abbrev pub AreJoins : {E : Type 0} → Tables → Result (List (Joined Expr)) E → List (Joined Expression) → Type 0
+abbrev pub AreJoins : {E : Type 0} → Names → Result (List (Joined Expr)) E → List (Joined Expression) → Type 0
 AreJoins t made xs = IfOk made (λ es. map (view_joined t) es ≡ xs)
 
-abbrev pub ArePipes : {E : Type 0} → Tables → Result (List (Piped Expr)) E → p.Pipes → Type 0
+abbrev pub ArePipes : {E : Type 0} → Names → Result (List (Piped Expr)) E → p.Pipes → Type 0
 ArePipes t made xs = IfOk made (λ es. view_pipes t es ≡ xs)
 
-abbrev pub AreArguments : {E : Type 0} → Tables → Result (List (Argument Expr)) E → Arguments → Type 0
+abbrev pub AreArguments : {E : Type 0} → Names → Result (List (Argument Expr)) E → Arguments → Type 0
 AreArguments t made xs = IfOk made (λ es. view_arguments t es ≡ xs)
 
-abbrev pub IsTarget : {E : Type 0} → Tables → Result (Target Expr) E → Reference → Type 0
+abbrev pub IsTarget : {E : Type 0} → Names → Result (Target Expr) E → Reference → Type 0
 IsTarget t made x = IfOk made (λ e. view_target t e ≡ x)
 
-abbrev pub IsEre : {E : Type 0} → Tables → Result (Pattern Expr) E → Ere → Type 0
+abbrev pub IsEre : {E : Type 0} → Names → Result (Pattern Expr) E → Ere → Type 0
 IsEre t made x = IfOk made (λ e. view_ere t e ≡ x)
 
-abbrev pub IsVariable : {E : Type 0} → Tables → Result code.Variable E → Variable → Type 0
+abbrev pub IsVariable : {E : Type 0} → Names → Result code.Variable E → Variable → Type 0
 IsVariable t made x = IfOk made (λ v. variable_of t v ≡ x)
 
-abbrev pub AreVariables : {E : Type 0} → Tables → Result (List code.Variable) E → List Variable → Type 0
+abbrev pub AreVariables : {E : Type 0} → Names → Result (List code.Variable) E → List Variable → Type 0
 AreVariables t made xs = IfOk made (λ vs. map (variable_of t) vs ≡ xs)
 
-abbrev pub IsStatement : {E : Type 0} → Tables → Result code_statement.Statement E → Statement → Type 0
+abbrev pub IsStatement : {E : Type 0} → Names → Result code_statement.Statement E → Statement → Type 0
 IsStatement t made x = IfOk made (λ s. view_statement t s ≡ x)
 
-abbrev pub AreStatements : {E : Type 0} → Tables → Result (List code_statement.Statement) E → List Statement → Type 0
+abbrev pub AreStatements : {E : Type 0} → Names → Result (List code_statement.Statement) E → List Statement → Type 0
 AreStatements t made xs = IfOk made (λ ss. map (view_statement t) ss ≡ xs)

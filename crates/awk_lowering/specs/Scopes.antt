@@ -14,6 +14,8 @@ pub record Scope : Type 0 where
   pub functions : List Text
   -- of each of them, of each parameter whether it is an array
   pub arrays : List (List Bool)
+  -- whether a name is an array in this item
+  pub is_array : Text → Bool
 
 abbrev pub variable_by : Text → Option ℕ → Variable
 variable_by x (Some n) = p.parameter n
