@@ -88,6 +88,7 @@ mutual
     no_arguments : Arguments
     by_value : Expression → Arguments → Arguments
     by_name : Variable → Arguments → Arguments
+    by_nothing : Arguments → Arguments
 
 abbrev pub expressions_of : List Expression → Expressions
 expressions_of [] = none

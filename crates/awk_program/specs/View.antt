@@ -1,5 +1,5 @@
--- The plain program that the types of the code stand for, by the names of its variables and the texts of its patterns.
-use Rattle.std.specs.Prelude.{ℕ, List, [], ◌∷◌, map, option_map, get_or}
+-- The plain program that the types of the code stand for, by the names of its variables.
+use Rattle.std.specs.Prelude.{List, [], ◌∷◌, map, option_map, get_or}
 use Rattle.awk_program.specs.declared.variables.Variable as code
 use Rattle.awk_program.specs.declared.variables.Variable.TheVariants as kept
 use Rattle.awk_program.specs.declared.expressions.Expr.{Expr}
@@ -27,45 +27,40 @@ use Rattle.awk_program.specs.Slots.{Text}
 use Rattle.awk_program.specs.Program as p
 use Rattle.awk_program.specs.Program.{Expression, Reference, Ere, Pipes, Arguments, Statement, When, Rule, Function, Program, expressions_of, terms_of, joins_of, statements_of}
 
--- what numbers stand for
-pub record Tables : Type 0 where
-  -- the names of the variables by their slots
-  pub variables : List Text
-  -- the texts of the patterns by their numbers
-  pub patterns : List Text
+-- the names of the variables, by their slots
+abbrev pub Names : Type 0
+Names = List Text
 
 -- No name is empty: so a slot that is none is a variable that no script has.
-abbrev pub text_at : List Text → ℕ → Text
-text_at texts n = get_or texts n []
-
-abbrev pub variable_of : Tables → code.Variable → p.Variable
-variable_of t (kept.Global n) = p.global (text_at t.variables n)
+abbrev pub variable_of : Names → code.Variable → p.Variable
+variable_of t (kept.Global n) = p.global (get_or t n [])
 variable_of t (kept.Parameter n) = p.parameter n
 
 -- ---- expressions, whose parts are viewed already
 
-abbrev pub reference_of : Tables → Target Expression → Reference
+abbrev pub reference_of : Names → Target Expression → Reference
 reference_of t (target.Variable v) = p.variable (variable_of t v)
 reference_of t (target.Element place v xs) = p.element place (variable_of t v) (expressions_of xs)
 reference_of t (target.Field place x) = p.field place x
 
-abbrev pub ere_of : Tables → Pattern Expression → Ere
-ere_of t (pattern.Constant place n) = p.constant place (text_at t.patterns n)
-ere_of t (pattern.Computed x) = p.computed x
+abbrev pub ere_of : Pattern Expression → Ere
+ere_of (pattern.Constant place x) = p.constant place x
+ere_of (pattern.Computed x) = p.computed x
 
-abbrev pub pipes_of : Tables → List (Piped Expression) → Pipes
+abbrev pub pipes_of : Names → List (Piped Expression) → Pipes
 pipes_of t [] = p.no_pipes
 pipes_of t (x ∷ xs) = p.piped x.place (reference_of t x.target) (pipes_of t xs)
 
-abbrev pub arguments_of : Tables → List (Argument Expression) → Arguments
+abbrev pub arguments_of : Names → List (Argument Expression) → Arguments
 arguments_of t [] = p.no_arguments
 arguments_of t (argument.Value x ∷ xs) = p.by_value x (arguments_of t xs)
 arguments_of t (argument.Array v ∷ xs) = p.by_name (variable_of t v) (arguments_of t xs)
+arguments_of t (argument.Nothing ∷ xs) = p.by_nothing (arguments_of t xs)
 
-abbrev pub view_step : Tables → Expr-F Expression → Expression
+abbrev pub view_step : Names → Expr-F Expression → Expression
 view_step t (Expr-F.Number n) = p.number n
 view_step t (Expr-F.Text x) = p.text x
-view_step t (Expr-F.Pattern place n) = p.pattern place (text_at t.patterns n)
+view_step t (Expr-F.Pattern place x) = p.pattern place x
 view_step t (Expr-F.Read r) = p.read (reference_of t r)
 view_step t (Expr-F.Assign place r x) = p.assign place (reference_of t r) x
 view_step t (Expr-F.Change place how r x) = p.change place how (reference_of t r) x
@@ -75,7 +70,7 @@ view_step t (Expr-F.Signed place how x) = p.signed place how x
 view_step t (Expr-F.Chain x xs) = p.chain x (terms_of xs)
 view_step t (Expr-F.Concat x xs) = p.concat x (joins_of xs)
 view_step t (Expr-F.Compare how x y) = p.compare how x y
-view_step t (Expr-F.Match place x y) = p.matched place x (ere_of t y)
+view_step t (Expr-F.Match place x y) = p.matched place x (ere_of y)
 view_step t (Expr-F.In x vs) = p.member x (map (variable_of t) vs)
 view_step t (Expr-F.Group place xs vs) = p.group place (expressions_of xs) (map (variable_of t) vs)
 view_step t (Expr-F.And x xs) = p.and x (expressions_of xs)
@@ -91,47 +86,48 @@ view_step t (Expr-F.Index x y) = p.index x y
 view_step t (Expr-F.SubstrFrom place x y) = p.substr_from place x y
 view_step t (Expr-F.Substr place x y z) = p.substr place x y z
 view_step t (Expr-F.Sprintf place x xs) = p.sprintf place x (expressions_of xs)
-view_step t (Expr-F.Locate place x y) = p.locate place x (ere_of t y)
-view_step t (Expr-F.Split place x at v y) = p.split place x at (variable_of t v) (ere_of t y)
-view_step t (Expr-F.Substitute place all x y r) = p.substitute place all (ere_of t x) y (reference_of t r)
+view_step t (Expr-F.Locate place x y) = p.locate place x (ere_of y)
+view_step t (Expr-F.Split place x at v y) = p.split place x at (variable_of t v) (ere_of y)
+view_step t (Expr-F.Substitute place all x y r) = p.substitute place all (ere_of x) y (reference_of t r)
 view_step t (Expr-F.Close place x) = p.close place x
 view_step t (Expr-F.System place x) = p.system place x
 
-unfoldable pub view : Tables → Expr → Expression
+unfoldable pub view : Names → Expr → Expression
 view t = fold-Expr Expression (view_step t)
 
 -- ---- parts of expressions
 
-abbrev pub view_target : Tables → Target Expr → Reference
+abbrev pub view_target : Names → Target Expr → Reference
 view_target t (target.Variable v) = p.variable (variable_of t v)
 view_target t (target.Element place v xs) = p.element place (variable_of t v) (expressions_of (map (view t) xs))
 view_target t (target.Field place x) = p.field place (view t x)
 
-abbrev pub view_ere : Tables → Pattern Expr → Ere
-view_ere t (pattern.Constant place n) = p.constant place (text_at t.patterns n)
+abbrev pub view_ere : Names → Pattern Expr → Ere
+view_ere t (pattern.Constant place x) = p.constant place x
 view_ere t (pattern.Computed x) = p.computed (view t x)
 
-abbrev pub view_term : Tables → Term Expr → Term Expression
+abbrev pub view_term : Names → Term Expr → Term Expression
 view_term t x = record { operator = x.operator; place = x.place; operand = view t x.operand }
 
-abbrev pub view_joined : Tables → Joined Expr → Joined Expression
+abbrev pub view_joined : Names → Joined Expr → Joined Expression
 view_joined t x = record { place = x.place; operand = view t x.operand }
 
-abbrev pub view_pipes : Tables → List (Piped Expr) → Pipes
+abbrev pub view_pipes : Names → List (Piped Expr) → Pipes
 view_pipes t [] = p.no_pipes
 view_pipes t (x ∷ xs) = p.piped x.place (view_target t x.target) (view_pipes t xs)
 
-abbrev pub view_arguments : Tables → List (Argument Expr) → Arguments
+abbrev pub view_arguments : Names → List (Argument Expr) → Arguments
 view_arguments t [] = p.no_arguments
 view_arguments t (argument.Value x ∷ xs) = p.by_value (view t x) (view_arguments t xs)
 view_arguments t (argument.Array v ∷ xs) = p.by_name (variable_of t v) (view_arguments t xs)
+view_arguments t (argument.Nothing ∷ xs) = p.by_nothing (view_arguments t xs)
 
-abbrev pub view_redirection : Tables → Redirection Expr → Redirection Expression
+abbrev pub view_redirection : Names → Redirection Expr → Redirection Expression
 view_redirection t x = record { how = x.how; place = x.place; target = view t x.target }
 
 -- ---- statements
 
-abbrev pub statement_step : Tables → Statement-F Statement → Statement
+abbrev pub statement_step : Names → Statement-F Statement → Statement
 statement_step t (Statement-F.Expr x) = p.plain (view t x)
 statement_step t (Statement-F.Print place xs r) = p.print place (map (view t) xs) (option_map (view_redirection t) r)
 statement_step t (Statement-F.Printf place x xs r) = p.printf place (view t x) (map (view t) xs) (option_map (view_redirection t) r)
@@ -149,26 +145,26 @@ statement_step t (Statement-F.Do y x) = p.do_while y (view t x)
 statement_step t (Statement-F.For x y z u) = p.for_loop (option_map (view t) x) (option_map (view t) y) (option_map (view t) z) u
 statement_step t (Statement-F.ForIn place k a y) = p.for_each place (variable_of t k) (variable_of t a) y
 
-unfoldable pub view_statement : Tables → code_statement.Statement → Statement
+unfoldable pub view_statement : Names → code_statement.Statement → Statement
 view_statement t = fold-Statement Statement (statement_step t)
 
 -- ---- programs
 
-abbrev pub view_when : Tables → code_when.When → When
+abbrev pub view_when : Names → code_when.When → When
 view_when t when.Always = p.always
 view_when t (when.Holds x) = p.holds (view t x)
 view_when t (when.Range x y) = p.range (view t x) (view t y)
 
-abbrev pub view_rule : Tables → code_rule.Rule → Rule
+abbrev pub view_rule : Names → code_rule.Rule → Rule
 view_rule t x = record { when = view_when t x.when; action = map (view_statement t) x.action }
 
-abbrev pub view_function : Tables → code_function.Function → Function
+abbrev pub view_function : Names → code_function.Function → Function
 view_function t x = record { name = x.name; parameters = x.parameters; body = map (view_statement t) x.body }
 
-abbrev pub tables_of : code_program.Program → Tables
-tables_of x = record { variables = map (λ n. n.text) x.variables; patterns = x.patterns }
+abbrev pub names_of : code_program.Program → Names
+names_of x = map (λ n. n.text) x.variables
 
-abbrev pub view_by : Tables → code_program.Program → Program
+abbrev pub view_by : Names → code_program.Program → Program
 view_by t x = record {
   variables = x.variables;
   functions = map (view_function t) x.functions;
@@ -178,4 +174,4 @@ view_by t x = record {
 }
 
 abbrev pub view_program : code_program.Program → Program
-view_program x = view_by (tables_of x) x
+view_program x = view_by (names_of x) x

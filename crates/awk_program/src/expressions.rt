@@ -19,8 +19,8 @@ pub enum Target<E> {
 /// What stands where a pattern is wanted.
 #[derive(Drop)]
 pub enum Pattern<E> {
-    /// The constant with this number among the program's.
-    Constant(Place, u32),
+    /// An ERE, by its text.
+    Constant(Place, Octets),
     /// The text of anything else.
     Computed(Boxed<E>),
 }
@@ -47,11 +47,14 @@ pub struct Piped<E> {
     pub target: Target<E>,
 }
 
-/// What is handed to a function: a value, or an array by its name.
+/// What is handed to a function.
 #[derive(Drop)]
 pub enum Argument<E> {
     Value(E),
+    /// An array, to a parameter that is one.
     Array(Variable),
+    /// An array, to a parameter that is never read.
+    Nothing,
 }
 
 /// An expression. A chain of one level that groups from the left is one list.
@@ -59,8 +62,8 @@ pub enum Argument<E> {
 pub enum Expr {
     Number(i64),
     Text(Octets),
-    /// `$0 ~` the constant pattern with this number
-    Pattern(Place, u32),
+    /// `$0 ~` an ERE
+    Pattern(Place, Octets),
     Read(Target<Expr>),
     /// `target = value`
     Assign(Place, Target<Expr>, Boxed<Expr>),

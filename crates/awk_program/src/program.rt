@@ -39,13 +39,11 @@ pub struct Function {
     pub body: Items<Statement>,
 }
 
-/// A script in the form that runs, with what its numbers stand for.
+/// A script in the form that runs, with the variables that its slots stand for.
 #[derive(Drop)]
 pub struct Program {
     /// The variables by their slots, awk's own first.
     pub variables: Items<Name>,
-    /// The texts of the constant patterns.
-    pub patterns: Items<Octets>,
     pub functions: Items<Function>,
     /// The actions of BEGIN
     pub begin: Items<Items<Statement>>,
