@@ -38,3 +38,15 @@ pub whole : {A B E : Type 0} (view : A → B) (made : Result (List A) E) (list :
     → IfOk made (λ kept. (kept ≡ list) × (filled ≡ Ok tt)) → OnOk filled (map view list ≡ all) → IfOk made (λ kept. map view kept ≡ all)
 whole view (Ok kept) list filled all (is, was) h = ap (map view) is ∙ (rw was at h)
 whole view (Err e) list filled all h k = tt
+
+-- the same, of what is viewed as a whole
+pub whole_as : {A B E : Type 0} (view : List A → B) (made : Result (List A) E) (list : List A) (filled : Result Unit E) (all : B)
+    → IfOk made (λ kept. (kept ≡ list) × (filled ≡ Ok tt)) → OnOk filled (view list ≡ all) → IfOk made (λ kept. view kept ≡ all)
+whole_as view (Ok kept) list filled all (is, was) h = ap view is ∙ (rw was at h)
+whole_as view (Err e) list filled all h k = tt
+
+-- a list of one
+pub only_is : {A B E : Type 0} (view : A → B) (made : Result (List A) E) (next : Result A E) (y : B)
+    → IfOk made (λ list. (x : A) × (next ≡ Ok x) × (list ≡ x ∷ [])) → IfOk next (λ x. view x ≡ y) → IfOk made (λ list. map view list ≡ y ∷ [])
+only_is view (Ok list) next y (x, is, one) h = let same : view x ≡ y = rw is at h in ap (map view) one ∙ ap (λ z. z ∷ []) same
+only_is view (Err e) next y made h = tt

@@ -1,6 +1,7 @@
 -- A roll as contracts see it. Where it is kept the keys are not the texts but have them.
-use Rattle.std.proofs.Common.{◌≡◌, ◌+◌, ◌∙◌, ℕ, zero, suc, Bool, true, false, List, [], ◌∷◌, ◌++◌, map, length, cond, if◌then◌else◌, ◌||◌, not, nat_lt, Option, Some, None, slice_get, position, ap, sym, refl}
+use Rattle.std.proofs.Common.{◌≡◌, ◌+◌, ◌∙◌, ℕ, Bool, true, false, List, [], ◌∷◌, ◌++◌, map, length, cond, if◌then◌else◌, ◌||◌, not, Some, get_or, position, Result, Ok, Err, IfOk, ap, sym, refl}
 use Rattle.std.proofs.lemmas.List.{length-map}
+use Rattle.std.proofs.lemmas.Slice.Eq.{bytes_eq-Decides}
 use Rattle.std.specs.List.{list_any, position_or_len}
 use Rattle.std.specs.Str.{bytes_eq}
 use Rattle.awk_lowering.specs.Rolls.{added}
@@ -27,3 +28,15 @@ module _ {K : Type 0} (items : K → List ℕ) where
       by : (b : Bool) → map items (if b then ks else ks ++ k ∷ []) ≡ (if b then map items ks else map items ks ++ items k ∷ [])
       by true = refl
       by false = map_last k ks
+
+-- a text that is found in a list stands there
+pub stands : (x : List ℕ) (xs : List (List ℕ)) (n : ℕ) → position (bytes_eq x) xs ≡ Some n → get_or xs n [] ≡ x
+stands x xs n e = sym ((bytes_eq-Decides x (get_or xs n [])).0 (position-Some (bytes_eq x) xs n [] e).1)
+
+pub stands_small : (x : List ℕ) (xs : List (List ℕ)) {E : Type 0} (n : ℕ) (r : Result ℕ E) → position (bytes_eq x) xs ≡ Some n → IfOk r (λ m. m ≡ n) → IfOk r (λ m. get_or xs m [] ≡ x)
+stands_small x xs n (Ok m) some same = ap (λ k. get_or xs k []) same ∙ stands x xs n some
+stands_small x xs n (Err e) some same = tt
+
+pub found_small : (x : List ℕ) (xs : List (List ℕ)) {E : Type 0} (n : ℕ) (r : Result ℕ E) → position (bytes_eq x) xs ≡ Some n → IfOk r (λ m. m ≡ n) → IfOk r (λ m. position (bytes_eq x) xs ≡ Some m)
+found_small x xs n (Ok m) some same = some ∙ ap (λ k. Some k) (sym same)
+found_small x xs n (Err e) some same = tt

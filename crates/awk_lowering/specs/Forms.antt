@@ -1,5 +1,5 @@
 -- Forms of a program that no other form of the script is written as, and the operators.
-use Rattle.std.specs.Prelude.{ℕ, ◌-◌, ◌^◌, min, pos, Bool, true, false, codes}
+use Rattle.std.specs.Prelude.{ℕ, ◌-◌, ◌^◌, min, pos, Bool, true, false}
 use Rattle.std.specs.List.{take_while}
 use Rattle.std.specs.Char.{is_ascii_digit}
 use Rattle.std.specs.Str.Parse.{digits_value}
@@ -32,7 +32,7 @@ use Rattle.awk_program.specs.declared.operators.Sign.TheVariants as g
 use Rattle.awk_program.specs.declared.operators.Step.{Step}
 use Rattle.awk_program.specs.declared.operators.Step.TheVariants as i
 use Rattle.awk_program.specs.Program as p
-use Rattle.awk_program.specs.Program.{Expression, Reference, Ere}
+use Rattle.awk_program.specs.Program.{Expression, Reference}
 
 -- no token is a greater number
 abbrev pub number_of : Text → ℕ
@@ -93,10 +93,10 @@ assigned q s.Divide r x = p.change q o.Divide r x
 assigned q s.Remainder r x = p.change q o.Remainder r x
 assigned q s.Power r x = p.change q o.Power r x
 
--- `~`, and with true `!~`
-abbrev pub matched_of : Place → Bool → Expression → Ere → Expression
-matched_of q false x y = p.matched q x y
-matched_of q true x y = p.not (p.matched q x y)
+-- `!~` is `!` of `~`
+abbrev pub negated : Bool → Expression → Expression
+negated false x = x
+negated true x = p.not x
 
 -- ---- built-in functions other than match and sprintf, by the number of their arguments
 

@@ -15,8 +15,8 @@ use Rattle.awk_program.specs.declared.operators.Operator.TheVariants as o
 use Rattle.awk_program.specs.declared.operators.Taken.TheVariants as taken
 use Rattle.awk_program.specs.Program as p
 use Rattle.awk_program.specs.Program.{Variable, Expression, Reference, Ere, Expressions, Joins, Arguments}
-use Rattle.awk_lowering.specs.Forms.{number_of, whole_record, unwritten, unwritten_target, operator_of, comparison_of, step_of, extent_of, signed_of, assigned, matched_of, of_none, of_one, of_two, of_three}
-use Rattle.awk_lowering.specs.Scopes.{Scope, variable, function, arrays_of}
+use Rattle.awk_lowering.specs.Forms.{number_of, whole_record, unwritten, unwritten_target, operator_of, comparison_of, step_of, extent_of, signed_of, assigned, negated, of_none, of_one, of_two, of_three}
+use Rattle.awk_lowering.specs.Scopes.{Scope, variable, function, arrays_of, is_array}
 use Rattle.awk_lowering.specs.Starts.{start}
 
 -- the arrays behind `in`
@@ -50,7 +50,7 @@ value_unless true x rest = p.by_nothing rest
 abbrev pub argument : Scope → Bool → Option Name → Expression → Arguments → Arguments
 argument c takes_array None x rest = p.by_value x rest
 argument c true (Some n) x rest = p.by_name (variable c n.text) rest
-argument c false (Some n) x rest = value_unless (c.is_array n.text) x rest
+argument c false (Some n) x rest = value_unless (is_array c n.text) x rest
 
 -- whether the next parameter is an array, and the parameters behind it
 abbrev pub takes_array : List Bool → Bool
@@ -85,7 +85,7 @@ abbrev mutual
   lowered c (t.concat x xs) = p.concat (lowered c x) (lowered_joins c xs)
   lowered c (t.pipe x xs) = p.pipe (lowered c x) (lowered_pipes c xs)
   lowered c (t.compare x q how y) = p.compare (comparison_of how) (lowered c x) (lowered c y)
-  lowered c (t.matched x q unlike y) = matched_of q unlike (lowered c x) (ere c y)
+  lowered c (t.matched x q unlike y) = negated unlike (p.matched q (lowered c x) (ere c y))
   lowered c (t.group q xs ms) = p.group (first_in q ms) (lowered_list c xs) (arrays_in c ms)
   lowered c (t.member x ms) = p.member (lowered c x) (arrays_in c ms)
   lowered c (t.and x xs) = p.and (lowered c x) (lowered_list c xs)

@@ -1,20 +1,21 @@
 -- What a part is made as.
 use Rattle.std.specs.Prelude.{◌≡◌, List, map, Option, option_map, Result, IfOk}
+use Rattle.awk_text.specs.declared.place.Place.{Place}
 use Rattle.awk_program.specs.declared.expressions.Expr.{Expr}
 use Rattle.awk_program.specs.declared.expressions.Term.{Term}
 use Rattle.awk_program.specs.declared.expressions.Joined.{Joined}
 use Rattle.awk_program.specs.declared.expressions.Piped.{Piped}
 use Rattle.awk_program.specs.declared.expressions.Argument.{Argument}
+use Rattle.awk_program.specs.declared.expressions.Argument.TheVariants as argument
 use Rattle.awk_program.specs.declared.expressions.Target.{Target}
 use Rattle.awk_program.specs.declared.expressions.Pattern.{Pattern}
+use Rattle.awk_program.specs.declared.statements.Redirection.{Redirection}
 use Rattle.awk_program.specs.declared.variables.Variable as code
 use Rattle.awk_program.specs.declared.statements.Statement as code_statement
 use Rattle.awk_program.specs.Program as p
 use Rattle.awk_program.specs.Program.{Variable, Expression, Reference, Ere, Arguments, Statement}
-use Rattle.awk_program.specs.View.{Names, variable_of, view, view_target, view_ere, view_term, view_joined, view_pipes, view_arguments, view_statement}
+use Rattle.awk_program.specs.View.{Names, variable_of, view, view_target, view_ere, view_term, view_joined, view_pipes, view_arguments, view_redirection, view_statement}
 use Rattle.awk_lowering.specs.Scopes.{Scope}
-use Rattle.awk_kinds.specs.Marks.{is_marked}
-use Rattle.awk_kinds.specs.Numbering.{number_in}
 use Rattle.awk_lowering.specs.declared.names.Context.{Context}
 
 -- the names of the variables, by their slots
@@ -26,7 +27,9 @@ scope_in n = record {
   parameters = n.parameters.now;
   functions = n.functions.now;
   arrays = n.arrays.now;
-  is_array = λ x. is_marked n.kinds.now.arrays (number_in n.kinds.now.numbers n.role.now x);
+  own_arrays = n.own_arrays.now;
+  variables = n.variables.now;
+  script_arrays = n.script_arrays.now;
 }
 
 -- what was made is this, unless memory was refused
@@ -51,6 +54,18 @@ ArePipes t made xs = IfOk made (λ es. view_pipes t es ≡ xs)
 abbrev pub AreArguments : {E : Type 0} → Names → Result (List (Argument Expr)) E → Arguments → Type 0
 AreArguments t made xs = IfOk made (λ es. view_arguments t es ≡ xs)
 
+-- an argument in front of others
+abbrev pub with_argument : Names → Argument Expr → Arguments → Arguments
+with_argument t (argument.Value x) rest = p.by_value (view t x) rest
+with_argument t (argument.Array v) rest = p.by_name (variable_of t v) rest
+with_argument t argument.Nothing rest = p.by_nothing rest
+
+abbrev pub IsArgument : {E : Type 0} → Names → Result (Argument Expr) E → (Arguments → Arguments) → Type 0
+IsArgument t made in_front = IfOk made (λ x. (rest : Arguments) → with_argument t x rest ≡ in_front rest)
+
+abbrev pub IsPiped : {E : Type 0} → Names → Result (Piped Expr) E → Place → Reference → Type 0
+IsPiped t made q r = IfOk made (λ x. (x.place ≡ q) × (view_target t x.target ≡ r))
+
 abbrev pub IsTarget : {E : Type 0} → Names → Result (Target Expr) E → Reference → Type 0
 IsTarget t made x = IfOk made (λ e. view_target t e ≡ x)
 
@@ -68,3 +83,6 @@ IsStatement t made x = IfOk made (λ s. view_statement t s ≡ x)
 
 abbrev pub AreStatements : {E : Type 0} → Names → Result (List code_statement.Statement) E → List Statement → Type 0
 AreStatements t made xs = IfOk made (λ ss. map (view_statement t) ss ≡ xs)
+
+abbrev pub AreRedirected : {E : Type 0} → Names → Result (Option (Redirection Expr)) E → Option (Redirection Expression) → Type 0
+AreRedirected t made x = IfOk made (λ r. option_map (view_redirection t) r ≡ x)

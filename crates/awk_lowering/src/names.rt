@@ -1,18 +1,15 @@
 // What the names of an item stand for.
 
-ghost use Rattle.std.specs.Prelude.{◌≡◌, [], get_or, map, IfOk, slice_get};
-ghost use Rattle.std.specs.List.{position_or_len};
+ghost use Rattle.std.specs.Prelude.{◌≡◌, [], get_or, map, position, Some, IfOk};
 ghost use Rattle.std.specs.Str.{bytes_eq};
-ghost use Rattle.awk_kinds.specs.Marks.{is_marked};
-ghost use Rattle.awk_kinds.specs.Numbering.{number_in};
-ghost use Rattle.awk_lowering.specs.Lowered.{arrays_in};
+ghost use Rattle.awk_lowering.specs.Lowered as low;
 ghost use Rattle.awk_lowering.specs.Made.{names_in, scope_in, IsVariable};
 ghost use Rattle.awk_lowering.specs.Scopes as spec;
+ghost use Rattle.awk_program.specs.Program as p;
 ghost use Rattle.awk_program.specs.View.{variable_of};
 
+use crate::kept::push;
 use crate::roll::Roll;
-use awk_kinds::Kinds;
-use awk_names::Role;
 use awk_program::Variable;
 use awk_text::Memory;
 use awk_tree::Member;
@@ -23,15 +20,15 @@ use std::alloc::{AllocError, Global};
 #[derive(Drop)]
 pub struct Context<'a> {
     pub alloc: Global,
-    pub kinds: &'a Kinds,
-    pub role: &'a Role,
-    /// The variables of the whole script, by their slots.
+    /// The variables of the whole script, by their slots, and of each whether it is an array.
     pub variables: &'a Roll,
+    pub script_arrays: &'a [bool],
     /// The functions of the script, and of each parameter of each whether it is an array.
     pub functions: &'a Roll,
     pub arrays: &'a [Items<bool>],
-    /// The parameters of the function that the item is.
+    /// The parameters of the function that the item is, and of each whether it is an array.
     pub parameters: &'a Roll,
+    pub own_arrays: &'a [bool],
 }
 
 /// A number as a program holds it. More names than there are such numbers have no room in memory.
@@ -47,7 +44,7 @@ fn small(n: usize) -> Result<u32, Memory>
 
 /// Where a text stands that stands there: each name of a script is in its roll.
 fn numbered(roll: &Roll, text: &[u8]) -> Result<u32, Memory>
-    ensures place { IfOk result (λ n. n ≡ position_or_len (bytes_eq text.now) roll.now) }
+    ensures place { IfOk result (λ n. position (bytes_eq text.now) roll.now ≡ Some n) }
     ensures text { IfOk result (λ n. get_or roll.now n [] ≡ text.now) }
 {
     match roll.position(text) {
@@ -99,19 +96,28 @@ pub fn arrays_of<'a>(context: &Context<'a>, text: &[u8]) -> &'a [bool]
     }
 }
 
-/// Whether a name is an array in this item.
-pub fn is_array(context: &Context<'_>, text: &[u8]) -> bool
-    ensures { result ≡ is_marked context.now.kinds.now.arrays (number_in context.now.kinds.now.numbers context.now.role.now text.now) }
+fn is_set(flags: &[bool], place: Option<usize>) -> bool
+    ensures { result ≡ spec.is_set flags.now place }
 {
-    match context.kinds.number(context.role, text) {
-        Some(number) => context.kinds.is_array(number),
+    match place {
+        Some(n) => flags.get(n).copied().unwrap_or(false),
         None => false,
+    }
+}
+
+/// Whether a name is an array.
+pub fn is_array(context: &Context<'_>, text: &[u8]) -> bool
+    ensures { result ≡ spec.is_array (scope_in context.now) text.now }
+{
+    match context.parameters.position(text) {
+        Some(n) => is_set(context.own_arrays, Some(n)),
+        None => is_set(context.script_arrays, context.variables.position(text)),
     }
 }
 
 /// The arrays behind `in`.
 pub fn arrays_in(context: &Context<'_>, members: &[Member]) -> Result<Items<Variable>, Memory>
-    ensures { IfOk result (λ vs. map (variable_of (names_in context.now)) vs ≡ arrays_in (scope_in context.now) members.now) }
+    ensures { IfOk result (λ vs. map (variable_of (names_in context.now)) vs ≡ low.arrays_in (scope_in context.now) members.now) }
 {
     let mut out = Items::new(context.alloc);
     for member in members {
