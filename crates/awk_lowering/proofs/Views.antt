@@ -215,6 +215,7 @@ view-Close t q x = opened t _ _ (e.rolls-Close q x)
 pub view-System : (t : Names) (q : Place) (x : Expr) → view t (e.System q x) ≡ p.system q (view t x)
 unfolding layer
 view-System t q x = opened t _ _ (e.rolls-System q x)
+
 -- ---- statements
 
 statement_layer : Names → Statement-F code_statement.Statement → Statement
@@ -287,6 +288,7 @@ statement-For t x y z u = opened_statement t _ _ (s.rolls-For x y z u)
 pub statement-ForIn : (t : Names) (q : Place) (k : code.Variable) (a : code.Variable) (y : code_statement.Statement) → view_statement t (s.ForIn q k a y) ≡ p.for_each q (variable_of t k) (variable_of t a) (view_statement t y)
 unfolding statement_layer
 statement-ForIn t q k a y = opened_statement t _ _ (s.rolls-ForIn q k a y)
+
 pub ruleset views = (view-Number, view-Text, view-Pattern, view-Read, view-Assign, view-Change, view-Step, view-Not, view-Signed, view-Chain, view-Concat, view-Compare, view-Match, view-In, view-Group, view-And, view-Or, view-Choice, view-Call, view-Getline, view-GetlineFile, view-Pipe, view-Measure, view-Int, view-Index, view-SubstrFrom, view-Substr, view-Sprintf, view-Locate, view-Split, view-Substitute, view-Close, view-System)
 
 pub ruleset statement_views = (statement-Expr, statement-Print, statement-Printf, statement-Delete, statement-Break, statement-Continue, statement-Next, statement-Exit, statement-Return, statement-Block, statement-If, statement-IfElse, statement-While, statement-Do, statement-For, statement-ForIn)

@@ -67,15 +67,15 @@ abbrev mutual
   lowered c (t.quoted q x) = p.text (unescaped x)
   lowered c (t.pattern q x) = p.pattern q x
   lowered c (t.name n) = p.read (p.variable (variable c n.text))
-  lowered c (t.element n xs) = p.read (p.element n.place (variable c n.text) (lowered_list c xs))
+  lowered c (t.element n xs) = p.read (element c n xs)
   lowered c (t.field q x) = p.read (p.field q (lowered c x))
   lowered c (t.paren q x) = lowered c x
-  lowered c (t.call n xs) = p.call n.place (function c n.text) (arguments c (arrays_of c n.text) xs)
+  lowered c (t.call n xs) = call c n xs
   lowered c (t.builtin q which xs) = built c q which xs
   lowered c (t.bare_length q) = p.measure m.Length (p.read (whole_record q))
-  lowered c (t.split q x n y) = p.split q (lowered c x) n.place (variable c n.text) (separator c y)
+  lowered c (t.split q x n y) = divided c q x n y
   lowered c (t.substitute q all x y z) = p.substitute q (extent_of all) (ere c x) (lowered c y) (target_or_record c q z)
-  lowered c (t.getline q x y) = got c q (target_or_record c q x) y
+  lowered c (t.getline q x y) = got c q x y
   lowered c (t.before q how x) = p.step q (step_of how) taken.Behind (target c x)
   lowered c (t.after x q how) = p.step q (step_of how) taken.Before (target c x)
   lowered c (t.signed q how x) = signed_of q how (lowered c x)
@@ -93,10 +93,14 @@ abbrev mutual
   lowered c (t.choose x y z) = p.choose (lowered c x) (lowered c y) (lowered c z)
   lowered c (t.assign x q how y) = assigned q how (target c x) (lowered c y)
 
+  -- `NAME [ list ]`
+  pub element : Scope → Name → Trees → Reference
+  element c n xs = p.element n.place (variable c n.text) (lowered_list c xs)
+
   -- what is set: the grammar puts nothing but these three before `=` and beside `++`
   pub target : Scope → Tree → Reference
   target c (t.name n) = p.variable (variable c n.text)
-  target c (t.element n xs) = p.element n.place (variable c n.text) (lowered_list c xs)
+  target c (t.element n xs) = element c n xs
   target c (t.field q x) = p.field q (lowered c x)
   target c x = unwritten_target
 
@@ -113,22 +117,30 @@ abbrev mutual
   separator c t.absent = p.computed (p.read (p.variable (p.global (codes "FS"))))
   separator c (t.present x) = ere c x
 
-  -- a getline of the main input, or of a file
-  pub got : Scope → Place → Reference → Perhaps → Expression
-  got c q r t.absent = p.getline q r
-  got c q r (t.present x) = p.getline_file q r (lowered c x)
+  -- `split ( text , array , separator )`
+  pub divided : Scope → Place → Tree → Name → Perhaps → Expression
+  divided c q x n y = p.split q (lowered c x) n.place (variable c n.text) (separator c y)
 
-  -- a built-in function
+  -- a getline of the main input, or of a file
+  pub got : Scope → Place → Perhaps → Perhaps → Expression
+  got c q x t.absent = p.getline q (target_or_record c q x)
+  got c q x (t.present y) = p.getline_file q (target_or_record c q x) (lowered c y)
+
+  -- `NAME ( list )`
+  pub call : Scope → Name → Trees → Expression
+  call c n xs = p.call n.place (function c n.text) (arguments c (arrays_of c n.text) xs)
+
+  -- a built-in function. The three that are unwritten have forms of their own.
   pub built : Scope → Place → Builtin → Trees → Expression
   built c q b.Match xs = located c q xs
   built c q b.Sprintf xs = formatted c q xs
   built c q b.Close xs = called c q b.Close xs
-  built c q b.Gsub xs = called c q b.Gsub xs
+  built c q b.Gsub xs = unwritten
   built c q b.Index xs = called c q b.Index xs
   built c q b.Int xs = called c q b.Int xs
   built c q b.Length xs = called c q b.Length xs
-  built c q b.Split xs = called c q b.Split xs
-  built c q b.Sub xs = called c q b.Sub xs
+  built c q b.Split xs = unwritten
+  built c q b.Sub xs = unwritten
   built c q b.Substr xs = called c q b.Substr xs
   built c q b.System xs = called c q b.System xs
   built c q b.Tolower xs = called c q b.Tolower xs

@@ -6,6 +6,7 @@
 
 mod blocks;
 mod constants;
+mod expressions;
 mod kept;
 mod names;
 mod nodes;
@@ -13,6 +14,10 @@ mod operators;
 mod parts;
 mod roll;
 mod shapes;
+mod statements;
 mod targets;
 
+pub use expressions::expression;
+pub use names::Context;
 pub use roll::Roll;
+pub use statements::statements;

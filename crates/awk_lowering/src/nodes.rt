@@ -26,7 +26,12 @@ pub fn read_of(target: Result<Target<Expr>, Memory>) -> Result<Expr, Memory>
 }
 
 /// `++` and `--`
-pub fn step_of(place: Place, how: Step, taken: Taken, target: Result<Target<Expr>, Memory>) -> Result<Expr, Memory>
+pub fn step_of(
+    place: Place,
+    how: Step,
+    taken: Taken,
+    target: Result<Target<Expr>, Memory>,
+) -> Result<Expr, Memory>
     ensures { (t : Names) (a : Reference) → IsTarget t target a → Is t result (p.step place how taken a) }
 {
     let target = target?;
@@ -42,7 +47,10 @@ pub fn not_of(x: Result<Boxed<Expr>, Memory>) -> Result<Expr, Memory>
 }
 
 /// A chain
-pub fn chain_of(x: Result<Boxed<Expr>, Memory>, xs: Result<Items<Term<Expr>>, Memory>) -> Result<Expr, Memory>
+pub fn chain_of(
+    x: Result<Boxed<Expr>, Memory>,
+    xs: Result<Items<Term<Expr>>, Memory>,
+) -> Result<Expr, Memory>
     ensures { (t : Names) (a : Expression) (b : List (term.Term Expression)) → Is t x a → AreTerms t xs b → Is t result (p.chain a (terms_of b)) }
 {
     let (x, xs) = both(x, xs)?;
@@ -50,7 +58,10 @@ pub fn chain_of(x: Result<Boxed<Expr>, Memory>, xs: Result<Items<Term<Expr>>, Me
 }
 
 /// A concatenation
-pub fn concat_of(x: Result<Boxed<Expr>, Memory>, xs: Result<Items<Joined<Expr>>, Memory>) -> Result<Expr, Memory>
+pub fn concat_of(
+    x: Result<Boxed<Expr>, Memory>,
+    xs: Result<Items<Joined<Expr>>, Memory>,
+) -> Result<Expr, Memory>
     ensures { (t : Names) (a : Expression) (b : List (joined.Joined Expression)) → Is t x a → AreJoins t xs b → Is t result (p.concat a (joins_of b)) }
 {
     let (x, xs) = both(x, xs)?;
@@ -58,7 +69,11 @@ pub fn concat_of(x: Result<Boxed<Expr>, Memory>, xs: Result<Items<Joined<Expr>>,
 }
 
 /// A comparison
-pub fn compare_of(how: Comparison, x: Result<Boxed<Expr>, Memory>, y: Result<Boxed<Expr>, Memory>) -> Result<Expr, Memory>
+pub fn compare_of(
+    how: Comparison,
+    x: Result<Boxed<Expr>, Memory>,
+    y: Result<Boxed<Expr>, Memory>,
+) -> Result<Expr, Memory>
     ensures { (t : Names) (a : Expression) (b : Expression) → Is t x a → Is t y b → Is t result (p.compare how a b) }
 {
     let (x, y) = both(x, y)?;
@@ -66,7 +81,11 @@ pub fn compare_of(how: Comparison, x: Result<Boxed<Expr>, Memory>, y: Result<Box
 }
 
 /// `text ~ pattern`
-pub fn match_of(place: Place, x: Result<Boxed<Expr>, Memory>, y: Result<Pattern<Expr>, Memory>) -> Result<Expr, Memory>
+pub fn match_of(
+    place: Place,
+    x: Result<Boxed<Expr>, Memory>,
+    y: Result<Pattern<Expr>, Memory>,
+) -> Result<Expr, Memory>
     ensures { (t : Names) (a : Expression) (b : Ere) → Is t x a → IsEre t y b → Is t result (p.matched place a b) }
 {
     let (x, y) = both(x, y)?;
@@ -74,7 +93,10 @@ pub fn match_of(place: Place, x: Result<Boxed<Expr>, Memory>, y: Result<Pattern<
 }
 
 /// `key in array`
-pub fn member_of(x: Result<Boxed<Expr>, Memory>, vs: Result<Items<Variable>, Memory>) -> Result<Expr, Memory>
+pub fn member_of(
+    x: Result<Boxed<Expr>, Memory>,
+    vs: Result<Items<Variable>, Memory>,
+) -> Result<Expr, Memory>
     ensures { (t : Names) (a : Expression) (b : List p.Variable) → Is t x a → AreVariables t vs b → Is t result (p.member a b) }
 {
     let (x, vs) = both(x, vs)?;
@@ -82,7 +104,11 @@ pub fn member_of(x: Result<Boxed<Expr>, Memory>, vs: Result<Items<Variable>, Mem
 }
 
 /// `( list ) in array`
-pub fn group_of(place: Place, xs: Result<Items<Expr>, Memory>, vs: Result<Items<Variable>, Memory>) -> Result<Expr, Memory>
+pub fn group_of(
+    place: Place,
+    xs: Result<Items<Expr>, Memory>,
+    vs: Result<Items<Variable>, Memory>,
+) -> Result<Expr, Memory>
     ensures { (t : Names) (a : List Expression) (b : List p.Variable) → AreAll t xs a → AreVariables t vs b → Is t result (p.group place (expressions_of a) b) }
 {
     let (xs, vs) = both(xs, vs)?;
@@ -90,7 +116,10 @@ pub fn group_of(place: Place, xs: Result<Items<Expr>, Memory>, vs: Result<Items<
 }
 
 /// A chain of `&&`
-pub fn and_of(x: Result<Boxed<Expr>, Memory>, xs: Result<Items<Expr>, Memory>) -> Result<Expr, Memory>
+pub fn and_of(
+    x: Result<Boxed<Expr>, Memory>,
+    xs: Result<Items<Expr>, Memory>,
+) -> Result<Expr, Memory>
     ensures { (t : Names) (a : Expression) (b : List Expression) → Is t x a → AreAll t xs b → Is t result (p.and a (expressions_of b)) }
 {
     let (x, xs) = both(x, xs)?;
@@ -98,7 +127,10 @@ pub fn and_of(x: Result<Boxed<Expr>, Memory>, xs: Result<Items<Expr>, Memory>) -
 }
 
 /// A chain of `||`
-pub fn or_of(x: Result<Boxed<Expr>, Memory>, xs: Result<Items<Expr>, Memory>) -> Result<Expr, Memory>
+pub fn or_of(
+    x: Result<Boxed<Expr>, Memory>,
+    xs: Result<Items<Expr>, Memory>,
+) -> Result<Expr, Memory>
     ensures { (t : Names) (a : Expression) (b : List Expression) → Is t x a → AreAll t xs b → Is t result (p.or a (expressions_of b)) }
 {
     let (x, xs) = both(x, xs)?;
@@ -106,7 +138,11 @@ pub fn or_of(x: Result<Boxed<Expr>, Memory>, xs: Result<Items<Expr>, Memory>) ->
 }
 
 /// `test ? then : else`
-pub fn choose_of(x: Result<Boxed<Expr>, Memory>, y: Result<Boxed<Expr>, Memory>, z: Result<Boxed<Expr>, Memory>) -> Result<Expr, Memory>
+pub fn choose_of(
+    x: Result<Boxed<Expr>, Memory>,
+    y: Result<Boxed<Expr>, Memory>,
+    z: Result<Boxed<Expr>, Memory>,
+) -> Result<Expr, Memory>
     ensures { (t : Names) (a : Expression) (b : Expression) (d : Expression) → Is t x a → Is t y b → Is t z d → Is t result (p.choose a b d) }
 {
     let (x, (y, z)) = both(x, both(y, z))?;
@@ -114,7 +150,11 @@ pub fn choose_of(x: Result<Boxed<Expr>, Memory>, y: Result<Boxed<Expr>, Memory>,
 }
 
 /// `NAME ( list )`
-pub fn call_of(place: Place, f: Result<u32, Memory>, xs: Result<Items<Argument<Expr>>, Memory>) -> Result<Expr, Memory>
+pub fn call_of(
+    place: Place,
+    f: Result<u32, Memory>,
+    xs: Result<Items<Argument<Expr>>, Memory>,
+) -> Result<Expr, Memory>
     ensures { (t : Names) (a : ℕ) (b : Arguments) → IfOk f (λ n. n ≡ a) → AreArguments t xs b → Is t result (p.call place a b) }
 {
     let (f, xs) = both(f, xs)?;
@@ -130,7 +170,11 @@ pub fn getline_of(place: Place, target: Result<Target<Expr>, Memory>) -> Result<
 }
 
 /// `getline target < file`
-pub fn getline_file_of(place: Place, target: Result<Target<Expr>, Memory>, x: Result<Boxed<Expr>, Memory>) -> Result<Expr, Memory>
+pub fn getline_file_of(
+    place: Place,
+    target: Result<Target<Expr>, Memory>,
+    x: Result<Boxed<Expr>, Memory>,
+) -> Result<Expr, Memory>
     ensures { (t : Names) (a : Reference) (b : Expression) → IsTarget t target a → Is t x b → Is t result (p.getline_file place a b) }
 {
     let (target, x) = both(target, x)?;
@@ -138,7 +182,10 @@ pub fn getline_file_of(place: Place, target: Result<Target<Expr>, Memory>, x: Re
 }
 
 /// `command | getline target`
-pub fn pipe_of(x: Result<Boxed<Expr>, Memory>, xs: Result<Items<Piped<Expr>>, Memory>) -> Result<Expr, Memory>
+pub fn pipe_of(
+    x: Result<Boxed<Expr>, Memory>,
+    xs: Result<Items<Piped<Expr>>, Memory>,
+) -> Result<Expr, Memory>
     ensures { (t : Names) (a : Expression) (b : p.Pipes) → Is t x a → ArePipes t xs b → Is t result (p.pipe a b) }
 {
     let (x, xs) = both(x, xs)?;
@@ -154,7 +201,11 @@ pub fn measure_of(how: Measure, x: Result<Boxed<Expr>, Memory>) -> Result<Expr, 
 }
 
 /// `sprintf ( format , list )`
-pub fn sprintf_of(place: Place, x: Result<Boxed<Expr>, Memory>, xs: Result<Items<Expr>, Memory>) -> Result<Expr, Memory>
+pub fn sprintf_of(
+    place: Place,
+    x: Result<Boxed<Expr>, Memory>,
+    xs: Result<Items<Expr>, Memory>,
+) -> Result<Expr, Memory>
     ensures { (t : Names) (a : Expression) (b : List Expression) → Is t x a → AreAll t xs b → Is t result (p.sprintf place a (expressions_of b)) }
 {
     let (x, xs) = both(x, xs)?;
@@ -162,7 +213,11 @@ pub fn sprintf_of(place: Place, x: Result<Boxed<Expr>, Memory>, xs: Result<Items
 }
 
 /// `match ( text , pattern )`
-pub fn locate_of(place: Place, x: Result<Boxed<Expr>, Memory>, y: Result<Pattern<Expr>, Memory>) -> Result<Expr, Memory>
+pub fn locate_of(
+    place: Place,
+    x: Result<Boxed<Expr>, Memory>,
+    y: Result<Pattern<Expr>, Memory>,
+) -> Result<Expr, Memory>
     ensures { (t : Names) (a : Expression) (b : Ere) → Is t x a → IsEre t y b → Is t result (p.locate place a b) }
 {
     let (x, y) = both(x, y)?;
@@ -170,7 +225,13 @@ pub fn locate_of(place: Place, x: Result<Boxed<Expr>, Memory>, y: Result<Pattern
 }
 
 /// `split ( text , array , separator )`
-pub fn split_of(place: Place, x: Result<Boxed<Expr>, Memory>, at: Place, v: Result<Variable, Memory>, y: Result<Pattern<Expr>, Memory>) -> Result<Expr, Memory>
+pub fn split_of(
+    place: Place,
+    x: Result<Boxed<Expr>, Memory>,
+    at: Place,
+    v: Result<Variable, Memory>,
+    y: Result<Pattern<Expr>, Memory>,
+) -> Result<Expr, Memory>
     ensures { (t : Names) (a : Expression) (b : p.Variable) (d : Ere) → Is t x a → IsVariable t v b → IsEre t y d → Is t result (p.split place a at b d) }
 {
     let (x, (v, y)) = both(x, both(v, y))?;
@@ -178,7 +239,13 @@ pub fn split_of(place: Place, x: Result<Boxed<Expr>, Memory>, at: Place, v: Resu
 }
 
 /// `sub ( pattern , with , target )`, and `gsub`
-pub fn substitute_of(place: Place, extent: Extent, x: Result<Pattern<Expr>, Memory>, y: Result<Boxed<Expr>, Memory>, target: Result<Target<Expr>, Memory>) -> Result<Expr, Memory>
+pub fn substitute_of(
+    place: Place,
+    extent: Extent,
+    x: Result<Pattern<Expr>, Memory>,
+    y: Result<Boxed<Expr>, Memory>,
+    target: Result<Target<Expr>, Memory>,
+) -> Result<Expr, Memory>
     ensures { (t : Names) (a : Ere) (b : Expression) (d : Reference) → IsEre t x a → Is t y b → IsTarget t target d → Is t result (p.substitute place extent a b d) }
 {
     let (x, (y, target)) = both(x, both(y, target))?;

@@ -89,11 +89,7 @@ pub fn signed_of(
 pub fn negated(alloc: Global, unlike: bool, x: Result<Expr, Memory>) -> Result<Expr, Memory>
     ensures { (t : Names) (a : Expression) → Is t x a → Is t result (spec.negated unlike a) }
 {
-    if unlike {
-        not_of(boxed(alloc, x))
-    } else {
-        x
-    }
+    if unlike { not_of(boxed(alloc, x)) } else { x }
 }
 
 /// An assignment
@@ -136,11 +132,7 @@ pub fn of_none(alloc: Global, place: Place, which: Builtin) -> Result<Expr, Memo
 }
 
 /// A built-in function of one argument
-pub fn of_one(
-    place: Place,
-    which: Builtin,
-    x: Result<Boxed<Expr>, Memory>,
-) -> Result<Expr, Memory>
+pub fn of_one(place: Place, which: Builtin, x: Result<Boxed<Expr>, Memory>) -> Result<Expr, Memory>
     ensures { (t : Names) (a : Expression) → Is t x a → Is t result (spec.of_one place which a) }
 {
     let x = x?;

@@ -3,7 +3,7 @@
 ghost use Rattle.std.specs.Prelude.{◌≡◌, IfOk, Some, option_copied};
 ghost use Rattle.awk_lowering.specs.Forms as spec;
 ghost use Rattle.awk_lowering.specs.Lowered as low;
-ghost use Rattle.awk_lowering.specs.Made.{Is, IsTarget, IsVariable, IsArgument, IsPiped, names_in, scope_in};
+ghost use Rattle.awk_lowering.specs.Made.{Is, IsPerhaps, IsTarget, IsVariable, IsArgument, IsPiped, names_in, scope_in};
 ghost use Rattle.awk_program.specs.Program as p;
 ghost use Rattle.awk_program.specs.Program.{Expression, Reference};
 ghost use Rattle.awk_program.specs.View.{Names, view_term, view_joined};
@@ -72,10 +72,7 @@ pub fn join_of(
 }
 
 /// `| getline`
-pub fn piped_of(
-    place: Place,
-    target: Result<Target<Expr>, Memory>,
-) -> Result<Piped<Expr>, Memory>
+pub fn piped_of(place: Place, target: Result<Target<Expr>, Memory>) -> Result<Piped<Expr>, Memory>
     ensures { (t : Names) (a : Reference) → IsTarget t target a → IsPiped t result place a }
 {
     let target = target?;
@@ -128,4 +125,12 @@ pub fn argument_of(
         None => value_of(value),
         Some(n) => named_argument(context, takes_array, n, value),
     }
+}
+
+/// An expression that is there
+pub fn given(x: Result<Expr, Memory>) -> Result<Option<Expr>, Memory>
+    ensures { (t : Names) (a : Expression) → Is t x a → IsPerhaps t result (Some a) }
+{
+    let x = x?;
+    Ok(Some(x))
 }

@@ -26,7 +26,11 @@ pub fn variable_of(v: Result<Variable, Memory>) -> Result<Target<Expr>, Memory>
 }
 
 /// `NAME [ list ]`
-pub fn element_of(place: Place, v: Result<Variable, Memory>, xs: Result<Items<Expr>, Memory>) -> Result<Target<Expr>, Memory>
+pub fn element_of(
+    place: Place,
+    v: Result<Variable, Memory>,
+    xs: Result<Items<Expr>, Memory>,
+) -> Result<Target<Expr>, Memory>
     ensures { (t : Names) (a : p.Variable) (b : List Expression) → IsVariable t v a → AreAll t xs b → IsTarget t result (p.element place a (expressions_of b)) }
 {
     let (v, xs) = both(v, xs)?;
@@ -64,11 +68,7 @@ pub fn record_of(alloc: Global, place: Place) -> Result<Target<Expr>, Memory>
 }
 
 /// An ERE by itself
-pub fn constant_of(
-    alloc: Global,
-    place: Place,
-    text: &Octets,
-) -> Result<Pattern<Expr>, Memory>
+pub fn constant_of(alloc: Global, place: Place, text: &Octets) -> Result<Pattern<Expr>, Memory>
     ensures { (t : Names) → IsEre t result (p.constant place text.now) }
 {
     Ok(Pattern::Constant(place, text.copy(alloc)?))
