@@ -1,5 +1,5 @@
 -- Lists that are made one by one.
-use Rattle.std.proofs.Common.{◌≡◌, ◌∙◌, ℕ, ◌+◌, ◌<◌, zero, suc, List, [], ◌∷◌, ◌++◌, map, Result, Ok, Err, IfOk, OnOk, length, get_or, drop, ap, sym, refl, arith, add-one}
+use Rattle.std.proofs.Common.{◌≡◌, ◌∙◌, ℕ, ◌+◌, ◌-◌, ◌<◌, ◌≤◌, zero, suc, List, [], ◌∷◌, ◌++◌, map, Result, Ok, Err, IfOk, OnOk, length, get_or, drop, take, ap, sym, refl, arith, add-one}
 
 drop_suc : {A : Type 0} (xs : List A) (i : ℕ) (d : A) → i < length xs → d ≡ get_or xs i d → drop i xs ≡ d ∷ drop (suc i) xs
 drop_suc [] i d h e = absurd (omega arith)
@@ -50,3 +50,33 @@ pub only_is : {A B E : Type 0} (view : A → B) (made : Result (List A) E) (next
     → IfOk made (λ list. (x : A) × (next ≡ Ok x) × (list ≡ x ∷ [])) → IfOk next (λ x. view x ≡ y) → IfOk made (λ list. map view list ≡ y ∷ [])
 only_is view (Ok list) next y (x, is, one) h = let same : view x ≡ y = rw is at h in ap (map view) one ∙ ap (λ z. z ∷ []) same
 only_is view (Err e) next y made h = tt
+
+-- ---- slices of a few
+
+pub just_one : {A : Type 0} (xs : List A) (x : A) → length xs ≡ 1 → x ≡ get_or xs 0 x → xs ≡ x ∷ []
+just_one [] x n e = absurd (omega (arith, n))
+just_one (y ∷ []) x n e = ap (λ z. z ∷ []) (sym e)
+just_one (y ∷ z ∷ xs) x n e = absurd (omega (arith, n))
+
+pub just_two : {A : Type 0} (xs : List A) (x y : A) → length xs ≡ 2 → x ≡ get_or xs 0 x → y ≡ get_or xs 1 y → xs ≡ x ∷ y ∷ []
+just_two [] x y n e f = absurd (omega (arith, n))
+just_two (u ∷ []) x y n e f = absurd (omega (arith, n))
+just_two (u ∷ v ∷ []) x y n e f = ap (λ z. z ∷ v ∷ []) (sym e) ∙ ap (λ z. x ∷ z ∷ []) (sym f)
+just_two (u ∷ v ∷ w ∷ xs) x y n e f = absurd (omega (arith, n))
+
+pub just_three : {A : Type 0} (xs : List A) (x y z : A) → length xs ≡ 3 → x ≡ get_or xs 0 x → y ≡ get_or xs 1 y → z ≡ get_or xs 2 z → xs ≡ x ∷ y ∷ z ∷ []
+just_three [] x y z n e f g = absurd (omega (arith, n))
+just_three (u ∷ []) x y z n e f g = absurd (omega (arith, n))
+just_three (u ∷ v ∷ []) x y z n e f g = absurd (omega (arith, n))
+just_three (u ∷ v ∷ w ∷ []) x y z n e f g = ap (λ a. a ∷ v ∷ w ∷ []) (sym e) ∙ ap (λ a. x ∷ a ∷ w ∷ []) (sym f) ∙ ap (λ a. x ∷ y ∷ a ∷ []) (sym g)
+just_three (u ∷ v ∷ w ∷ k ∷ xs) x y z n e f g = absurd (omega (arith, n))
+
+take_all : {A : Type 0} (xs : List A) (n : ℕ) → n ≡ length xs → take n xs ≡ xs
+take_all [] zero e = refl
+take_all [] (suc n) e = refl
+take_all (x ∷ xs) zero e = absurd (omega (arith, e))
+take_all (x ∷ xs) (suc n) e = ap (λ ys. x ∷ ys) (take_all xs n (omega (arith, e)))
+
+pub first_and_rest : {A : Type 0} (xs : List A) (d : A) → 1 ≤ length xs → d ≡ get_or xs 0 d → xs ≡ d ∷ take (length xs - 1) (drop 1 xs)
+first_and_rest [] d h e = absurd (omega (arith, h))
+first_and_rest (x ∷ xs) d h e = ap (λ y. y ∷ xs) (sym e) ∙ ap (λ ys. d ∷ ys) (sym (take_all xs (length (x ∷ xs) - 1) (omega arith)))

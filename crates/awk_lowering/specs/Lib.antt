@@ -6,3 +6,4 @@ pub mod Lowered
 pub mod OneByOne
 pub mod LoweredStatements
 pub mod Made
+pub mod Programs

@@ -17,8 +17,8 @@ use sqlite_items::{Boxed, Items};
 use std::alloc::Global;
 
 /// An expression by itself
-pub fn plain_of(x: Result<Expr, Memory>) -> Result<Expr, Memory>
-    ensures { (t : Names) (a : Expression) → Is t x a → Is t result (p.plain a) }
+pub fn plain_of(x: Result<Expr, Memory>) -> Result<Statement, Memory>
+    ensures { (t : Names) (a : Expression) → Is t x a → IsStatement t result (p.plain a) }
 {
     let x = x?;
     Ok(Statement::Expr(x))
@@ -29,8 +29,8 @@ pub fn print_of(
     place: Place,
     xs: Result<Items<Expr>, Memory>,
     to: Result<Option<Redirection<Expr>>, Memory>,
-) -> Result<Expr, Memory>
-    ensures { (t : Names) (a : List Expression) (b : Option (redirection.Redirection Expression)) → AreAll t xs a → AreRedirected t to b → Is t result (p.print place a b) }
+) -> Result<Statement, Memory>
+    ensures { (t : Names) (a : List Expression) (b : Option (redirection.Redirection Expression)) → AreAll t xs a → AreRedirected t to b → IsStatement t result (p.print place a b) }
 {
     let (xs, to) = both(xs, to)?;
     Ok(Statement::Print(place, xs, to))
@@ -42,8 +42,8 @@ pub fn printf_of(
     x: Result<Expr, Memory>,
     xs: Result<Items<Expr>, Memory>,
     to: Result<Option<Redirection<Expr>>, Memory>,
-) -> Result<Expr, Memory>
-    ensures { (t : Names) (a : Expression) (b : List Expression) (d : Option (redirection.Redirection Expression)) → Is t x a → AreAll t xs b → AreRedirected t to d → Is t result (p.printf place a b d) }
+) -> Result<Statement, Memory>
+    ensures { (t : Names) (a : Expression) (b : List Expression) (d : Option (redirection.Redirection Expression)) → Is t x a → AreAll t xs b → AreRedirected t to d → IsStatement t result (p.printf place a b d) }
 {
     let (x, (xs, to)) = both(x, both(xs, to))?;
     Ok(Statement::Printf(place, x, xs, to))
@@ -54,32 +54,32 @@ pub fn delete_of(
     place: Place,
     v: Result<Variable, Memory>,
     xs: Result<Items<Expr>, Memory>,
-) -> Result<Expr, Memory>
-    ensures { (t : Names) (a : p.Variable) (b : List Expression) → IsVariable t v a → AreAll t xs b → Is t result (p.delete place a b) }
+) -> Result<Statement, Memory>
+    ensures { (t : Names) (a : p.Variable) (b : List Expression) → IsVariable t v a → AreAll t xs b → IsStatement t result (p.delete place a b) }
 {
     let (v, xs) = both(v, xs)?;
     Ok(Statement::Delete(place, v, xs))
 }
 
 /// `exit`
-pub fn exit_of(place: Place, x: Result<Option<Expr>, Memory>) -> Result<Expr, Memory>
-    ensures { (t : Names) (a : Option Expression) → IsPerhaps t x a → Is t result (p.exit place a) }
+pub fn exit_of(place: Place, x: Result<Option<Expr>, Memory>) -> Result<Statement, Memory>
+    ensures { (t : Names) (a : Option Expression) → IsPerhaps t x a → IsStatement t result (p.exit place a) }
 {
     let x = x?;
     Ok(Statement::Exit(place, x))
 }
 
 /// `return`
-pub fn return_of(x: Result<Option<Expr>, Memory>) -> Result<Expr, Memory>
-    ensures { (t : Names) (a : Option Expression) → IsPerhaps t x a → Is t result (p.return a) }
+pub fn return_of(x: Result<Option<Expr>, Memory>) -> Result<Statement, Memory>
+    ensures { (t : Names) (a : Option Expression) → IsPerhaps t x a → IsStatement t result (p.return a) }
 {
     let x = x?;
     Ok(Statement::Return(x))
 }
 
 /// `{ }`
-pub fn block_of(body: Result<Items<Statement>, Memory>) -> Result<Expr, Memory>
-    ensures { (t : Names) (a : List p.Statement) → AreStatements t body a → Is t result (p.block (statements_of a)) }
+pub fn block_of(body: Result<Items<Statement>, Memory>) -> Result<Statement, Memory>
+    ensures { (t : Names) (a : List p.Statement) → AreStatements t body a → IsStatement t result (p.block (statements_of a)) }
 {
     let body = body?;
     Ok(Statement::Block(body))
@@ -89,8 +89,8 @@ pub fn block_of(body: Result<Items<Statement>, Memory>) -> Result<Expr, Memory>
 pub fn if_of(
     x: Result<Expr, Memory>,
     body: Result<Boxed<Statement>, Memory>,
-) -> Result<Expr, Memory>
-    ensures { (t : Names) (a : Expression) (b : p.Statement) → Is t x a → IsStatement t body b → Is t result (p.if_then a b) }
+) -> Result<Statement, Memory>
+    ensures { (t : Names) (a : Expression) (b : p.Statement) → Is t x a → IsStatement t body b → IsStatement t result (p.if_then a b) }
 {
     let (x, body) = both(x, body)?;
     Ok(Statement::If(x, body))
@@ -101,8 +101,8 @@ pub fn if_else_of(
     x: Result<Expr, Memory>,
     body: Result<Boxed<Statement>, Memory>,
     other: Result<Boxed<Statement>, Memory>,
-) -> Result<Expr, Memory>
-    ensures { (t : Names) (a : Expression) (b : p.Statement) (d : p.Statement) → Is t x a → IsStatement t body b → IsStatement t other d → Is t result (p.if_else a b d) }
+) -> Result<Statement, Memory>
+    ensures { (t : Names) (a : Expression) (b : p.Statement) (d : p.Statement) → Is t x a → IsStatement t body b → IsStatement t other d → IsStatement t result (p.if_else a b d) }
 {
     let (x, (body, other)) = both(x, both(body, other))?;
     Ok(Statement::IfElse(x, body, other))
@@ -112,8 +112,8 @@ pub fn if_else_of(
 pub fn while_of(
     x: Result<Expr, Memory>,
     body: Result<Boxed<Statement>, Memory>,
-) -> Result<Expr, Memory>
-    ensures { (t : Names) (a : Expression) (b : p.Statement) → Is t x a → IsStatement t body b → Is t result (p.while_do a b) }
+) -> Result<Statement, Memory>
+    ensures { (t : Names) (a : Expression) (b : p.Statement) → Is t x a → IsStatement t body b → IsStatement t result (p.while_do a b) }
 {
     let (x, body) = both(x, body)?;
     Ok(Statement::While(x, body))
@@ -123,8 +123,8 @@ pub fn while_of(
 pub fn do_of(
     body: Result<Boxed<Statement>, Memory>,
     x: Result<Expr, Memory>,
-) -> Result<Expr, Memory>
-    ensures { (t : Names) (a : p.Statement) (b : Expression) → IsStatement t body a → Is t x b → Is t result (p.do_while a b) }
+) -> Result<Statement, Memory>
+    ensures { (t : Names) (a : p.Statement) (b : Expression) → IsStatement t body a → Is t x b → IsStatement t result (p.do_while a b) }
 {
     let (body, x) = both(body, x)?;
     Ok(Statement::Do(body, x))
@@ -136,8 +136,8 @@ pub fn for_of(
     y: Result<Option<Expr>, Memory>,
     z: Result<Option<Expr>, Memory>,
     body: Result<Boxed<Statement>, Memory>,
-) -> Result<Expr, Memory>
-    ensures { (t : Names) (a : Option Expression) (b : Option Expression) (d : Option Expression) (e : p.Statement) → IsPerhaps t x a → IsPerhaps t y b → IsPerhaps t z d → IsStatement t body e → Is t result (p.for_loop a b d e) }
+) -> Result<Statement, Memory>
+    ensures { (t : Names) (a : Option Expression) (b : Option Expression) (d : Option Expression) (e : p.Statement) → IsPerhaps t x a → IsPerhaps t y b → IsPerhaps t z d → IsStatement t body e → IsStatement t result (p.for_loop a b d e) }
 {
     let ((x, y), (z, body)) = both(both(x, y), both(z, body))?;
     Ok(Statement::For(x, y, z, body))
@@ -149,8 +149,8 @@ pub fn for_in_of(
     key: Result<Variable, Memory>,
     array: Result<Variable, Memory>,
     body: Result<Boxed<Statement>, Memory>,
-) -> Result<Expr, Memory>
-    ensures { (t : Names) (a : p.Variable) (b : p.Variable) (d : p.Statement) → IsVariable t key a → IsVariable t array b → IsStatement t body d → Is t result (p.for_each place a b d) }
+) -> Result<Statement, Memory>
+    ensures { (t : Names) (a : p.Variable) (b : p.Variable) (d : p.Statement) → IsVariable t key a → IsVariable t array b → IsStatement t body d → IsStatement t result (p.for_each place a b d) }
 {
     let (key, (array, body)) = both(key, both(array, body))?;
     Ok(Statement::ForIn(place, key, array, body))

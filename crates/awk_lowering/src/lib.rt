@@ -20,4 +20,3 @@ mod targets;
 pub use expressions::expression;
 pub use names::Context;
 pub use roll::Roll;
-pub use statements::statements;
