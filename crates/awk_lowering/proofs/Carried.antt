@@ -27,6 +27,16 @@ turned view low source all old new next x xs i h e made (y, is, pushed) far =
     far ∙ ap (λ ys. map view old ++ ys) here ∙ ap (λ z. map view old ++ z ∷ map low (map source (drop (i + 1) xs))) (sym same)
     ∙ sym (map_push view old y (map low (map source (drop (i + 1) xs)))) ∙ ap (λ ys. map view ys ++ map low (map source (drop (i + 1) xs))) (sym pushed)
 
+-- the same, of a list that is no tree
+pub turned_plain : {A B X E : Type 0} (view : A → B) (low : X → B) (all : List B) (old new : List A) (next : Result A E) (x : X) (xs : List X) (i : ℕ)
+    → i < length xs → x ≡ get_or xs i x → IfOk next (λ y. view y ≡ low x) → Pushed old new next
+    → all ≡ map view old ++ map low (drop i xs) → all ≡ map view new ++ map low (drop (i + 1) xs)
+turned_plain view low all old new next x xs i h e made (y, is, pushed) far =
+    let same : view y ≡ low x = rw is at made in
+    let here : map low (drop i xs) ≡ low x ∷ map low (drop (i + 1) xs) = ap (map low) (drop_here xs i x h e) in
+    far ∙ ap (λ ys. map view old ++ ys) here ∙ ap (λ z. map view old ++ z ∷ map low (drop (i + 1) xs)) (sym same)
+    ∙ sym (map_push view old y (map low (drop (i + 1) xs))) ∙ ap (λ ys. map view ys ++ map low (drop (i + 1) xs)) (sym pushed)
+
 -- what is boxed is what was made
 pub boxed_is : {A B E : Type 0} (view : A → B) (boxed made : Result A E) (x : B)
     → IfOk boxed (λ y. made ≡ Ok y) → IfOk made (λ y. view y ≡ x) → IfOk boxed (λ y. view y ≡ x)
@@ -53,25 +63,29 @@ only_is view (Err e) next y made h = tt
 
 -- ---- slices of a few
 
-pub just_one : {A : Type 0} (xs : List A) (x : A) → length xs ≡ 1 → x ≡ get_or xs 0 x → xs ≡ x ∷ []
-just_one [] x n e = absurd (omega (arith, n))
-just_one (y ∷ []) x n e = ap (λ z. z ∷ []) (sym e)
-just_one (y ∷ z ∷ xs) x n e = absurd (omega (arith, n))
+pub none_left : {A : Type 0} (xs : List A) → length xs < 1 → xs ≡ []
+none_left [] n = refl
+none_left (x ∷ xs) n = absurd (omega (arith, n))
 
-pub just_two : {A : Type 0} (xs : List A) (x y : A) → length xs ≡ 2 → x ≡ get_or xs 0 x → y ≡ get_or xs 1 y → xs ≡ x ∷ y ∷ []
-just_two [] x y n e f = absurd (omega (arith, n))
-just_two (u ∷ []) x y n e f = absurd (omega (arith, n))
-just_two (u ∷ v ∷ []) x y n e f = ap (λ z. z ∷ v ∷ []) (sym e) ∙ ap (λ z. x ∷ z ∷ []) (sym f)
-just_two (u ∷ v ∷ w ∷ xs) x y n e f = absurd (omega (arith, n))
+pub just_one : {A : Type 0} (xs : List A) (x : A) → 1 ≤ length xs → length xs < 2 → x ≡ get_or xs 0 x → xs ≡ x ∷ []
+just_one [] x n m e = absurd (omega (arith, n))
+just_one (y ∷ []) x n m e = ap (λ z. z ∷ []) (sym e)
+just_one (y ∷ z ∷ xs) x n m e = absurd (omega (arith, m))
 
-pub just_three : {A : Type 0} (xs : List A) (x y z : A) → length xs ≡ 3 → x ≡ get_or xs 0 x → y ≡ get_or xs 1 y → z ≡ get_or xs 2 z → xs ≡ x ∷ y ∷ z ∷ []
-just_three [] x y z n e f g = absurd (omega (arith, n))
-just_three (u ∷ []) x y z n e f g = absurd (omega (arith, n))
-just_three (u ∷ v ∷ []) x y z n e f g = absurd (omega (arith, n))
-just_three (u ∷ v ∷ w ∷ []) x y z n e f g = ap (λ a. a ∷ v ∷ w ∷ []) (sym e) ∙ ap (λ a. x ∷ a ∷ w ∷ []) (sym f) ∙ ap (λ a. x ∷ y ∷ a ∷ []) (sym g)
-just_three (u ∷ v ∷ w ∷ k ∷ xs) x y z n e f g = absurd (omega (arith, n))
+pub just_two : {A : Type 0} (xs : List A) (x y : A) → 2 ≤ length xs → length xs < 3 → x ≡ get_or xs 0 x → y ≡ get_or xs 1 y → xs ≡ x ∷ y ∷ []
+just_two [] x y n m e f = absurd (omega (arith, n))
+just_two (u ∷ []) x y n m e f = absurd (omega (arith, n))
+just_two (u ∷ v ∷ []) x y n m e f = ap (λ z. z ∷ v ∷ []) (sym e) ∙ ap (λ z. x ∷ z ∷ []) (sym f)
+just_two (u ∷ v ∷ w ∷ xs) x y n m e f = absurd (omega (arith, m))
 
-take_all : {A : Type 0} (xs : List A) (n : ℕ) → n ≡ length xs → take n xs ≡ xs
+pub just_three : {A : Type 0} (xs : List A) (x y z : A) → 3 ≤ length xs → length xs < 4 → x ≡ get_or xs 0 x → y ≡ get_or xs 1 y → z ≡ get_or xs 2 z → xs ≡ x ∷ y ∷ z ∷ []
+just_three [] x y z n m e f g = absurd (omega (arith, n))
+just_three (u ∷ []) x y z n m e f g = absurd (omega (arith, n))
+just_three (u ∷ v ∷ []) x y z n m e f g = absurd (omega (arith, n))
+just_three (u ∷ v ∷ w ∷ []) x y z n m e f g = ap (λ a. a ∷ v ∷ w ∷ []) (sym e) ∙ ap (λ a. x ∷ a ∷ w ∷ []) (sym f) ∙ ap (λ a. x ∷ y ∷ a ∷ []) (sym g)
+just_three (u ∷ v ∷ w ∷ k ∷ xs) x y z n m e f g = absurd (omega (arith, m))
+
+pub take_all : {A : Type 0} (xs : List A) (n : ℕ) → n ≡ length xs → take n xs ≡ xs
 take_all [] zero e = refl
 take_all [] (suc n) e = refl
 take_all (x ∷ xs) zero e = absurd (omega (arith, e))

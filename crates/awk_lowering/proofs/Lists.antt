@@ -1,5 +1,5 @@
 -- Lists of trees, and lists of what is handed on and of getlines, one by one.
-use Rattle.std.proofs.Common.{◌≡◌, ◌∙◌, ℕ, ◌+◌, ◌<◌, Bool, List, [], ◌∷◌, ◌++◌, map, Result, Ok, Err, IfOk, OnOk, length, get_or, drop, option_map, ap, sym, refl}
+use Rattle.std.proofs.Common.{◌≡◌, ◌∙◌, ℕ, ◌+◌, ◌-◌, ◌<◌, ◌≤◌, Bool, List, [], ◌∷◌, ◌++◌, map, Result, Ok, Err, IfOk, OnOk, length, get_or, drop, take, option_map, ap, sym, refl, arith}
 use Rattle.awk_tree.specs.Tree as t
 use Rattle.awk_tree.specs.Tree.{Tree, trees_of, perhaps_of, terms_of, pipes_of}
 use Rattle.awk_tree.specs.View as tree
@@ -21,7 +21,7 @@ use Rattle.awk_lowering.specs.Made.{with_argument, IsArgument, IsPiped}
 use Rattle.awk_lowering.specs.OneByOne.{lowered_term, lowered_join, then_pipes, then_arguments}
 use Rattle.awk_lowering.specs.Scopes.{Scope}
 use Rattle.awk_lowering.specs.Starts.{start}
-use Rattle.awk_lowering.proofs.Carried.{Pushed, drop_here}
+use Rattle.awk_lowering.proofs.Carried.{Pushed, drop_here, take_all}
 
 pub list_is : (c : Scope) (xs : List Tree) → lowered_list c (trees_of xs) ≡ expressions_of (map (lowered c) xs)
 list_is c [] = refl
@@ -61,6 +61,10 @@ arguments_turn t c all old new next are x xs i h e made (y, is, pushed) far =
     let left : Arguments = arguments c (later are) (trees_of (map tree.view (drop (i + 1) xs))) in
     far ∙ ap (λ ys. then_arguments (view_arguments t old) (arguments c are (trees_of (map tree.view ys)))) (drop_here xs i x h e)
     ∙ ap (then_arguments (view_arguments t old)) (sym (same left)) ∙ sym (arguments_push t old y left) ∙ ap (λ ys. then_arguments (view_arguments t ys) left) (sym pushed)
+
+pub later_is : (are : List Bool) → 1 ≤ length are → take (length are - 1) (drop 1 are) ≡ later are
+later_is [] n = absurd (omega (arith, n))
+later_is (b ∷ are) n = take_all are (length (b ∷ are) - 1) (omega arith)
 
 -- ---- getlines behind a command
 

@@ -5,7 +5,7 @@ use Rattle.awk_program.specs.View as code
 use Rattle.awk_lowering.specs.Lowered.{lowered}
 use Rattle.awk_lowering.specs.OneByOne.{lowered_term, lowered_join}
 use Rattle.awk_lowering.specs.Made.{names_in, scope_in}
-use Rattle.awk_lowering.proofs.Carried.{boxed_is, turned, whole, whole_as}
+use Rattle.awk_lowering.proofs.Carried.{boxed_is, turned, whole, whole_as, none_left, just_one, just_two, just_three, first_and_rest}
 use Rattle.awk_lowering.proofs.Lists.{list_is, terms_are, joins_are, pipes_turn, arguments_turn}
 use Rattle.awk_lowering.proofs.expressions.+expression.Goals as goal
 
@@ -232,6 +232,30 @@ builtin-returns-in-Tolower t c =
 pub builtin-returns-in-Toupper : goal.builtin-returns-in-Toupper
 builtin-returns-in-Toupper t c =
     rw c.in-Toupper.is c.called-in-Toupper.ensures
+
+pub called-returns-in-empty : goal.called-returns-in-empty
+called-returns-in-empty t c =
+    rw (none_left c.args.args.now c.in-empty.len_below) (c.of_none.ensures _)
+
+pub called-returns-in-len1 : goal.called-returns-in-len1
+called-returns-in-len1 t c =
+    rw (just_one c.args.args.now c.x-item.result c.in-len1.len_at_least c.in-len1.len_below c.x-item.is) (c.of_one.ensures _ _ c.part.ensures)
+
+pub called-returns-in-len2 : goal.called-returns-in-len2
+called-returns-in-len2 t c =
+    rw (just_two c.args.args.now c.x-item-in-len2.result c.y-item.result c.in-len2.len_at_least c.in-len2.len_below c.x-item-in-len2.is c.y-item.is) (c.of_two.ensures _ _ _ c.part-x.ensures c.part-in-len2.ensures)
+
+pub called-returns-in-len3 : goal.called-returns-in-len3
+called-returns-in-len3 t c =
+    rw (just_three c.args.args.now c.x-item-in-len3.result c.y-item-in-len3.result c.z-item.result c.in-len3.len_at_least c.in-len3.len_below c.x-item-in-len3.is c.y-item-in-len3.is c.z-item.is) (c.of_three.ensures _ _ _ _ c.part-x-in-len3.ensures c.part-y.ensures c.part-in-len3.ensures)
+
+pub located-returns-in-len2 : goal.located-returns-in-len2
+located-returns-in-len2 t c =
+    rw (just_two c.args.args.now c.x-item.result c.y-item.result c.in-len2.len_at_least c.in-len2.len_below c.x-item.is c.y-item.is) (c.locate_of.ensures _ _ _ c.part-x.ensures c.wanted.ensures)
+
+pub formatted-returns-in-len1-up : goal.formatted-returns-in-len1-up
+formatted-returns-in-len1-up t c =
+    rw (first_and_rest c.args.args.now c.x-item.result c.in-len1-up.len_at_least c.x-item.is, list_is) (c.sprintf_of.ensures _ _ _ c.part-x.ensures c.list.ensures)
 
 pub fill-loop-x-preserved : goal.fill-loop-x-preserved
 fill-loop-x-preserved t c =
