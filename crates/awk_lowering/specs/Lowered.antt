@@ -61,21 +61,68 @@ abbrev pub later : List Bool → List Bool
 later [] = []
 later (b ∷ bs) = bs
 
+-- ---- built-in functions, of arguments whose programs are there
+
+-- by the number of its arguments
+abbrev pub called : Place → Builtin → Expressions → Expression
+called q which p.none = of_none q which
+called q which (p.more x p.none) = of_one q which x
+called q which (p.more x (p.more y p.none)) = of_two q which x y
+called q which (p.more x (p.more y (p.more z p.none))) = of_three q which x y z
+called q which (p.more x (p.more y (p.more z (p.more u xs)))) = unwritten
+
+-- `match ( text , pattern )`
+abbrev pub located : Place → Trees → Expressions → Expression
+located q (t.more x (t.more y t.none)) (p.more u (p.more v p.none)) = p.locate q u (ere_of (constant y) v)
+located q xs us = unwritten
+
+-- `sprintf ( format , list )`
+abbrev pub formatted : Place → Expressions → Expression
+formatted q p.none = unwritten
+formatted q (p.more x xs) = p.sprintf q x xs
+
+-- The three that are unwritten have forms of their own.
+abbrev pub built : Place → Builtin → Trees → Expressions → Expression
+built q b.Match xs us = located q xs us
+built q b.Sprintf xs us = formatted q us
+built q b.Close xs us = called q b.Close us
+built q b.Gsub xs us = unwritten
+built q b.Index xs us = called q b.Index us
+built q b.Int xs us = called q b.Int us
+built q b.Length xs us = called q b.Length us
+built q b.Split xs us = unwritten
+built q b.Sub xs us = unwritten
+built q b.Substr xs us = called q b.Substr us
+built q b.System xs us = called q b.System us
+built q b.Tolower xs us = called q b.Tolower us
+built q b.Toupper xs us = called q b.Toupper us
+
+-- a getline of the main input, or of a file
+abbrev pub got_by : Place → Reference → Option Expression → Expression
+got_by q r None = p.getline q r
+got_by q r (Some x) = p.getline_file q r x
+
+-- `NAME [ list ]`
+abbrev pub element_by : Scope → Name → Expressions → Reference
+element_by c n xs = p.element n.place (variable c n.text) xs
+
+-- ---- expressions
+
 abbrev mutual
   pub lowered : Scope → Tree → Expression
   lowered c (t.number q x) = p.number (pos (number_of x))
   lowered c (t.quoted q x) = p.text (unescaped x)
   lowered c (t.pattern q x) = p.pattern q x
   lowered c (t.name n) = p.read (p.variable (variable c n.text))
-  lowered c (t.element n xs) = p.read (element c n xs)
+  lowered c (t.element n xs) = p.read (element_by c n (lowered_list c xs))
   lowered c (t.field q x) = p.read (p.field q (lowered c x))
   lowered c (t.paren q x) = lowered c x
-  lowered c (t.call n xs) = call c n xs
-  lowered c (t.builtin q which xs) = built c q which xs
+  lowered c (t.call n xs) = p.call n.place (function c n.text) (arguments c (arrays_of c n.text) xs)
+  lowered c (t.builtin q which xs) = built q which xs (lowered_list c xs)
   lowered c (t.bare_length q) = p.measure m.Length (p.read (whole_record q))
-  lowered c (t.split q x n y) = divided c q x n y
-  lowered c (t.substitute q all x y z) = p.substitute q (extent_of all) (ere c x) (lowered c y) (target_or_record c q z)
-  lowered c (t.getline q x y) = got c q x y
+  lowered c (t.split q x n y) = p.split q (lowered c x) n.place (variable c n.text) (separator c y)
+  lowered c (t.substitute q all x y z) = p.substitute q (extent_of all) (ere_of (constant x) (lowered c x)) (lowered c y) (target_or_record c q z)
+  lowered c (t.getline q x y) = got_by q (target_or_record c q x) (lowered_perhaps c y)
   lowered c (t.before q how x) = p.step q (step_of how) taken.Behind (target c x)
   lowered c (t.after x q how) = p.step q (step_of how) taken.Before (target c x)
   lowered c (t.signed q how x) = signed_of q how (lowered c x)
@@ -85,7 +132,7 @@ abbrev mutual
   lowered c (t.concat x xs) = p.concat (lowered c x) (lowered_joins c xs)
   lowered c (t.pipe x xs) = p.pipe (lowered c x) (lowered_pipes c xs)
   lowered c (t.compare x q how y) = p.compare (comparison_of how) (lowered c x) (lowered c y)
-  lowered c (t.matched x q unlike y) = negated unlike (p.matched q (lowered c x) (ere c y))
+  lowered c (t.matched x q unlike y) = negated unlike (p.matched q (lowered c x) (ere_of (constant y) (lowered c y)))
   lowered c (t.group q xs ms) = p.group (first_in q ms) (lowered_list c xs) (arrays_in c ms)
   lowered c (t.member x ms) = p.member (lowered c x) (arrays_in c ms)
   lowered c (t.and x xs) = p.and (lowered c x) (lowered_list c xs)
@@ -93,14 +140,10 @@ abbrev mutual
   lowered c (t.choose x y z) = p.choose (lowered c x) (lowered c y) (lowered c z)
   lowered c (t.assign x q how y) = assigned q how (target c x) (lowered c y)
 
-  -- `NAME [ list ]`
-  pub element : Scope → Name → Trees → Reference
-  element c n xs = p.element n.place (variable c n.text) (lowered_list c xs)
-
   -- what is set: the grammar puts nothing but these three before `=` and beside `++`
   pub target : Scope → Tree → Reference
   target c (t.name n) = p.variable (variable c n.text)
-  target c (t.element n xs) = element c n xs
+  target c (t.element n xs) = element_by c n (lowered_list c xs)
   target c (t.field q x) = p.field q (lowered c x)
   target c x = unwritten_target
 
@@ -109,62 +152,14 @@ abbrev mutual
   target_or_record c q t.absent = whole_record q
   target_or_record c q (t.present x) = target c x
 
-  pub ere : Scope → Tree → Ere
-  ere c x = ere_of (constant x) (lowered c x)
-
   -- split by FS where no separator is named
   pub separator : Scope → Perhaps → Ere
   separator c t.absent = p.computed (p.read (p.variable (p.global (codes "FS"))))
-  separator c (t.present x) = ere c x
+  separator c (t.present x) = ere_of (constant x) (lowered c x)
 
-  -- `split ( text , array , separator )`
-  pub divided : Scope → Place → Tree → Name → Perhaps → Expression
-  divided c q x n y = p.split q (lowered c x) n.place (variable c n.text) (separator c y)
-
-  -- a getline of the main input, or of a file
-  pub got : Scope → Place → Perhaps → Perhaps → Expression
-  got c q x t.absent = p.getline q (target_or_record c q x)
-  got c q x (t.present y) = p.getline_file q (target_or_record c q x) (lowered c y)
-
-  -- `NAME ( list )`
-  pub call : Scope → Name → Trees → Expression
-  call c n xs = p.call n.place (function c n.text) (arguments c (arrays_of c n.text) xs)
-
-  -- a built-in function. The three that are unwritten have forms of their own.
-  pub built : Scope → Place → Builtin → Trees → Expression
-  built c q b.Match xs = located c q xs
-  built c q b.Sprintf xs = formatted c q xs
-  built c q b.Close xs = called c q b.Close xs
-  built c q b.Gsub xs = unwritten
-  built c q b.Index xs = called c q b.Index xs
-  built c q b.Int xs = called c q b.Int xs
-  built c q b.Length xs = called c q b.Length xs
-  built c q b.Split xs = unwritten
-  built c q b.Sub xs = unwritten
-  built c q b.Substr xs = called c q b.Substr xs
-  built c q b.System xs = called c q b.System xs
-  built c q b.Tolower xs = called c q b.Tolower xs
-  built c q b.Toupper xs = called c q b.Toupper xs
-
-  -- by the number of its arguments
-  pub called : Scope → Place → Builtin → Trees → Expression
-  called c q which t.none = of_none q which
-  called c q which (t.more x t.none) = of_one q which (lowered c x)
-  called c q which (t.more x (t.more y t.none)) = of_two q which (lowered c x) (lowered c y)
-  called c q which (t.more x (t.more y (t.more z t.none))) = of_three q which (lowered c x) (lowered c y) (lowered c z)
-  called c q which (t.more x (t.more y (t.more z (t.more u xs)))) = unwritten
-
-  -- `match ( text , pattern )`
-  pub located : Scope → Place → Trees → Expression
-  located c q t.none = unwritten
-  located c q (t.more x t.none) = unwritten
-  located c q (t.more x (t.more y t.none)) = p.locate q (lowered c x) (ere c y)
-  located c q (t.more x (t.more y (t.more z xs))) = unwritten
-
-  -- `sprintf ( format , list )`
-  pub formatted : Scope → Place → Trees → Expression
-  formatted c q t.none = unwritten
-  formatted c q (t.more x xs) = p.sprintf q (lowered c x) (lowered_list c xs)
+  pub lowered_perhaps : Scope → Perhaps → Option Expression
+  lowered_perhaps c t.absent = None
+  lowered_perhaps c (t.present x) = Some (lowered c x)
 
   pub lowered_list : Scope → Trees → Expressions
   lowered_list c t.none = p.none
@@ -186,3 +181,20 @@ abbrev mutual
   pub arguments : Scope → List Bool → Trees → Arguments
   arguments c are t.none = p.no_arguments
   arguments c are (t.more x xs) = argument c (takes_array are) (bare x) (lowered c x) (arguments c (later are) xs)
+
+-- ---- the same in parts
+
+abbrev pub ere : Scope → Tree → Ere
+ere c x = ere_of (constant x) (lowered c x)
+
+abbrev pub element : Scope → Name → Trees → Reference
+element c n xs = element_by c n (lowered_list c xs)
+
+abbrev pub call : Scope → Name → Trees → Expression
+call c n xs = p.call n.place (function c n.text) (arguments c (arrays_of c n.text) xs)
+
+abbrev pub divided : Scope → Place → Tree → Name → Perhaps → Expression
+divided c q x n y = p.split q (lowered c x) n.place (variable c n.text) (separator c y)
+
+abbrev pub got : Scope → Place → Perhaps → Perhaps → Expression
+got c q x y = got_by q (target_or_record c q x) (lowered_perhaps c y)

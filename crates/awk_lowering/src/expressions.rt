@@ -289,7 +289,7 @@ fn builtin(
     args: &[awk_tree::Expr],
     level: u32,
 ) -> Result<Expr, Memory>
-    ensures { Is (names_in context.now) result (low.built (scope_in context.now) place which (trees_of (map view args.now))) }
+    ensures { Is (names_in context.now) result (low.built place which (trees_of (map view args.now)) (low.lowered_list (scope_in context.now) (trees_of (map view args.now)))) }
 {
     match which {
         Builtin::Match => located(context, place, args, level),
@@ -317,7 +317,7 @@ fn called(
     args: &[awk_tree::Expr],
     level: u32,
 ) -> Result<Expr, Memory>
-    ensures { Is (names_in context.now) result (low.called (scope_in context.now) place which (trees_of (map view args.now))) }
+    ensures { Is (names_in context.now) result (low.called place which (low.lowered_list (scope_in context.now) (trees_of (map view args.now)))) }
 {
     match args {
         [] => of_none(context.alloc, place, which),
@@ -343,7 +343,7 @@ fn located(
     args: &[awk_tree::Expr],
     level: u32,
 ) -> Result<Expr, Memory>
-    ensures { Is (names_in context.now) result (low.located (scope_in context.now) place (trees_of (map view args.now))) }
+    ensures { Is (names_in context.now) result (low.located place (trees_of (map view args.now)) (low.lowered_list (scope_in context.now) (trees_of (map view args.now)))) }
 {
     match args {
         [x, y] => {
@@ -362,7 +362,7 @@ fn formatted(
     args: &[awk_tree::Expr],
     level: u32,
 ) -> Result<Expr, Memory>
-    ensures { Is (names_in context.now) result (low.formatted (scope_in context.now) place (trees_of (map view args.now))) }
+    ensures { Is (names_in context.now) result (low.formatted place (low.lowered_list (scope_in context.now) (trees_of (map view args.now)))) }
 {
     match args {
         [] => Err(AllocError),
