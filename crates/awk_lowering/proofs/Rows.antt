@@ -46,9 +46,9 @@ row_steps = refl
 
 -- a[i] += f(a, i)
 row_calls : lowered within (t.assign (t.element (name 1 (codes "a")) (t.more (t.name (name 3 (codes "i"))) t.none)) (at 6) assignment.Add
-      (t.call (name 9 (codes "f")) (t.more (t.name (name 11 (codes "a"))) (t.more (t.name (name 14 (codes "i"))) t.none))))
+    (t.call (name 9 (codes "f")) (t.more (t.name (name 11 (codes "a"))) (t.more (t.name (name 14 (codes "i"))) t.none))))
     ≡ p.change (at 6) operator.Add (p.element (at 1) (p.global (codes "a")) (p.more (p.read (p.variable (p.global (codes "i")))) p.none))
-      (p.call (at 9) 0 (p.by_name (p.global (codes "a")) (p.by_value (p.read (p.variable (p.global (codes "i")))) p.no_arguments)))
+    (p.call (at 9) 0 (p.by_name (p.global (codes "a")) (p.by_value (p.read (p.variable (p.global (codes "i")))) p.no_arguments)))
 row_calls = refl
 
 -- f(a, a): an array that is handed to a value's parameter passes nothing

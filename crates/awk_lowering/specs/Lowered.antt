@@ -1,6 +1,6 @@
 -- The program that the expressions of a script stand for: names for what they stand for, constants made,
 -- parentheses gone, and one form for each thing that can be said (POSIX.1-2017 XCU awk, "Expressions in awk").
-use Rattle.std.specs.Prelude.{pos, Bool, true, false, List, [], ◌∷◌, map, codes, Option, Some, None}
+use Rattle.std.specs.Prelude.{pos, Bool, true, false, List, [], ◌∷◌, map, get_or, codes, Option, Some, None}
 use Rattle.awk_text.specs.Escapes.{unescaped}
 use Rattle.awk_text.specs.declared.place.Place.{Place}
 use Rattle.awk_tree.specs.Tree as t
@@ -54,8 +54,7 @@ argument c false (Some n) x rest = value_unless (is_array c n.text) x rest
 
 -- whether the next parameter is an array, and the parameters behind it
 abbrev pub takes_array : List Bool → Bool
-takes_array [] = false
-takes_array (b ∷ bs) = b
+takes_array are = get_or are 0 false
 
 abbrev pub later : List Bool → List Bool
 later [] = []

@@ -27,7 +27,7 @@ fn constant(text: &[u8]) -> i64
 }
 
 /// NUMBER
-#[tactic(auto, using(crate::proofs::Views::views))]
+
 pub fn number(text: &Octets) -> Expr
     ensures { (t : Names) → view t result ≡ p.number (pos (number_of text.now)) }
 {
@@ -35,7 +35,7 @@ pub fn number(text: &Octets) -> Expr
 }
 
 /// STRING
-#[tactic(auto, using(crate::proofs::Views::views))]
+
 pub fn quoted(alloc: Global, text: &Octets) -> Result<Expr, Memory>
     ensures { (t : Names) → Is t result (p.text (unescaped text.now)) }
 {
@@ -46,7 +46,7 @@ pub fn quoted(alloc: Global, text: &Octets) -> Result<Expr, Memory>
 }
 
 /// ERE, where no pattern is wanted
-#[tactic(auto, using(crate::proofs::Views::views))]
+
 pub fn pattern(alloc: Global, place: Place, text: &Octets) -> Result<Expr, Memory>
     ensures { (t : Names) → Is t result (p.pattern place text.now) }
 {

@@ -69,7 +69,7 @@ pub fn extent(all: bool) -> Extent
 }
 
 /// `!`, `+` and `-` before an operand
-#[tactic(auto, using(crate::proofs::Views::views))]
+
 pub fn signed_of(
     place: Place,
     sign: awk_tree::Sign,

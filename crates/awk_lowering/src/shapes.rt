@@ -102,10 +102,7 @@ pub fn first_in(place: Place, members: &[Member]) -> Place
 pub fn takes_array(arrays: &[bool]) -> bool
     ensures { result ≡ low.takes_array arrays.now }
 {
-    match arrays {
-        [] => false,
-        [first, ..] => *first,
-    }
+    arrays.first().copied().unwrap_or(false)
 }
 
 /// The parameters behind the next one.

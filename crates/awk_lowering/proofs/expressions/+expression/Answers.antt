@@ -291,7 +291,7 @@ pipes-returns t c =
 
 pub fill_arguments-loop-x-preserved : goal.fill_arguments-loop-x-preserved
 fill_arguments-loop-x-preserved t c =
-    let made = rw (c.takes_array.ensures, c.bare.ensures) at c.argument_of.ensures _ c.expression-value.ensures in rw c.later.ensures (arguments_turn (names_in c.args.context.now) (scope_in c.args.context.now) _ _ _ _ c.loop-x.rest c.x-item.result c.args.xs.now c.loop-x.x-index (omega arith) c.x-item.is made c.in_ok-push.ensures c.loop-x.invariant)
+    let made = rw (c.takes_array.ensures, c.bare.ensures) at (c.argument_of.ensures _ c.expression-value.ensures) in rw c.later.ensures (arguments_turn (names_in c.args.context.now) (scope_in c.args.context.now) _ _ _ _ c.loop-x.rest c.x-item.result c.args.xs.now c.loop-x.x-index (omega arith) c.x-item.is made c.in_ok-push.ensures c.loop-x.invariant)
 
 pub arguments-returns : goal.arguments-returns
 arguments-returns t c =
