@@ -23,7 +23,7 @@ use Rattle.awk_program.specs.declared.expressions.Expr.TheFolds.{fold-roll-Expr,
 use Rattle.awk_program.specs.declared.expressions.Expr.TheViews.{roll-Expr}
 use Rattle.awk_program.specs.declared.expressions.Expr.TheVariants as e
 use Rattle.awk_program.specs.declared.expressions.Expr.TheOpen.{Expr-F}
-use Rattle.awk_program.specs.declared.expressions.Expr.TheShapes.{former-Expr-Call-2-at-2 as argument_shape, former-Expr-Pipe-1-at-9 as piped_shape}
+use Rattle.awk_program.specs.declared.expressions.Expr.TheShapes.{former-Expr-Call-2-at-2 as argument_shape, former-Expr-Pipe-1-at-10 as piped_shape}
 use Rattle.awk_program.specs.declared.statements.Redirection.{Redirection}
 use Rattle.awk_program.specs.declared.statements.Statement as code_statement
 use Rattle.awk_program.specs.declared.statements.Statement.TheFolds.{fold-roll-Statement, map-Statement}
