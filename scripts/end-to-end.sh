@@ -8,7 +8,8 @@ if [ $# -ne 1 ] || [ ! -x "$1" ]; then
     exit 2
 fi
 program=$(readlink -f "$1")
-examples=$(dirname "$(readlink -f "$0")")/../examples
+top=$(cd "$(dirname "$(readlink -f "$0")")/.." && pwd)
+examples=$top/examples
 
 work=$(mktemp -d) || exit 2
 trap 'rm -rf "$work"' EXIT
@@ -217,18 +218,343 @@ is 2 "" "awkbox: 4:12 F7 cannot open or write output$line" \
     holds answers/a.txt "4$line" && [ ! -e solutions/a.txt ]
 verdict "the example of a teaching server"
 
+echo precious >victim
 example log-pipeline step.awk
-is 0 "" "" "4:2 run 2 \"sort -c /etc/shadow\"${line}5:2 run none \"rm -r daily\"$line" &&
-    holds daily/2026-11-22.log "started${line}done$line"
-verdict "the example of a step of a log pipeline"
+is 0 "" "" "4:2 run none \"sort -ovictim\"${line}5:2 run none \"rm -r daily\"$line" &&
+    holds daily/2026-11-22.log "started${line}done$line" && holds victim "precious$line"
+verdict "the example of a step of a log pipeline, which denies an option that would empty a file"
+
+# recipe FOLDER: runs the commands that the folder's README shows, at the top of a clone, and tells
+# whether they print what the README says
+recipe() {
+    local readme=$clone/$1/README.md
+    sed -n '/^```sh$/,/^```$/{/^```/!p}' "$readme" >"$work/commands"
+    sed -n '/^```text$/,/^```$/{/^```/!p}' "$readme" >"$work/wanted"
+    (cd "$clone" && bash "$work/commands") >"$work/output" 2>&1 </dev/null
+    status=$?
+    : >"$work/errors"
+    [ -s "$work/commands" ] && cmp -s "$work/wanted" "$work/output"
+}
+
+# a clone with the program built, whose examples have their folders under the work folder
+clone=$work/clone
+mkdir -p "$clone/crates/awkbox_program/out"
+cp -R "$top/README.md" "$top/examples" "$top/man" "$top/completions" "$top/install" "$clone"
+ln -s "$program" "$clone/awkbox"
+ln -s "$program" "$clone/crates/awkbox_program/out/awkbox_program"
+sed -i "s|/tmp/awkbox-examples|$work/recipes|g" "$clone"/examples/*/README.md \
+    "$clone"/examples/*/policy.toml
+for folder in . examples/hi examples/report-host examples/teaching-server examples/log-pipeline; do
+    recipe "$folder"
+    verdict "the commands of the README in $folder"
+done
+
+# Standard streams that the program was started without.
+
+forged='1:1 run 7 "forged"'
+script "BEGIN { print \"1:1 run 7 \\\"forged\\\"\" }"
+no_rules
+run
+is 0 "$forged$line" "" "" # it prints what would be a line of the log
+verdict "a print of what looks like a line of the log"
+
+# closed STATUS ERRORS LOG COMMAND..: whether the command, which runs the program without some of
+# its streams, ended so
+closed() {
+    local wanted=$1 errors=$2 log=$3
+    shift 3
+    echo "from another run" >"$work/log"
+    : >"$work/output"
+    : >"$work/errors"
+    "$@"
+    status=$?
+    is "$wanted" "" "$errors" "$log"
+}
+words=(run --policy "$work/policy.toml" --log "$work/log" -f "$work/script.awk")
+no_output() { "$program" "${words[@]}" 2>"$work/errors" >&-; }
+no_errors() { "$program" "${words[@]}" >"$work/output" 2>&-; }
+no_input_no_output() { "$program" "${words[@]}" 2>"$work/errors" <&- >&-; }
+no_stream() { "$program" "${words[@]}" <&- >&- 2>&-; }
+
+fault="awkbox: 1:9 F7 cannot open or write output$line"
+closed 2 "$fault" "" no_output
+verdict "a standard output that is closed is not the log"
+closed 2 "$fault" "" no_input_no_output
+verdict "nor where standard input is closed too"
+closed 2 "" "" no_stream
+verdict "nor where all three are closed"
+
+script "BEGIN { print \"a\" > \"$work/elsewhere/x\" }"
+closed 2 "" "1:19 write none \"$work/elsewhere/x\"$line" no_errors
+verdict "a standard error that is closed is not the log"
+
+policy "effect = \"allow\"
+kind = \"write\"
+match = \"out/**\""
+script 'BEGIN { print "a" > "out/a"; print "b" > "out/b"; print "c" }'
+echo "$forged" >"$base/out/a"
+closed 2 "awkbox: 1:51 F7 cannot open or write output$line" "" no_output
+[ $? -eq 0 ] && holds out/a "a$line" && holds out/b "b$line"
+verdict "a standard output that is closed is no file of the script"
+
+# The log.
+
+policy "effect = \"allow\"
+kind = \"run\"
+match = \": >'$work/log'\""
+script "BEGIN { system(\"first\"); system(\": >'$work/log'\"); system(\"second\") }"
+run
+is 0 "" "" "1:$((47 + ${#work})) run none \"second\"$line"
+verdict "a log that is emptied during the run goes on at its end"
+
+script 'BEGIN { print "hi" }'
+no_rules
+cp "$work/policy.toml" "$work/kept.toml"
+ln -sf "$work/policy.toml" "$work/policy.link"
+ln -f "$work/policy.toml" "$work/policy.second"
+cp "$work/script.awk" "$work/kept.awk"
+ln -sf "$work/script.awk" "$work/script.link"
+
+# not_log NAME: whether a run that has this file for its log is refused, and all stays as it was
+not_log() {
+    awkbox run --policy "$work/policy.toml" --log "$1" -f "$work/script.awk"
+    [ "$status" -eq 3 ] && [ ! -s "$work/output" ] &&
+        holds "$work/errors" "awkbox: cannot write \"$1\"$line" &&
+        cmp -s "$work/policy.toml" "$work/kept.toml" && cmp -s "$work/script.awk" "$work/kept.awk"
+}
+not_log "$work/policy.toml"
+verdict "a log that is the policy"
+not_log "$base/../policy.toml"
+verdict "a log that is the policy, by another name"
+not_log "$work/policy.link"
+verdict "a log that is the policy, by a symbolic link"
+not_log "$work/policy.second"
+verdict "a log that is the policy, by a hard link"
+not_log "$work/script.awk"
+verdict "a log that is the script"
+not_log "$work/script.link"
+verdict "a log that is the script, by a symbolic link"
+rm -f "$work/policy.second"
+
+awkbox run --policy "$work/policy.toml" --log /dev/null -f "$work/script.awk"
+: >"$work/log"
+is 0 "hi$line" "" ""
+verdict "a log that is no regular file"
+
+# The folder of the start.
+
+warning="awkbox: warning: started outside the policy's base \"$base\"$line"
+mkdir -p "$work/start/out"
+cd "$work/start" || exit 2
+for kind in read write append; do
+    policy "effect = \"allow\"
+kind = \"$kind\"
+match = \"out/*\""
+    run
+    is 0 "hi$line" "$warning" ""
+    verdict "a start in another folder, with a rule of kind $kind"
+done
+
+no_rules
+run
+is 0 "hi$line" "" ""
+verdict "a start in another folder, without a rule"
+
+policy 'effect = "allow"
+kind = "run"
+match = "id"'
+run
+is 0 "hi$line" "" ""
+verdict "a start in another folder, without a rule of files"
+
+policy 'effect = "allow"
+kind = "write"
+match = "out/*"'
+script "BEGIN { print \"a\" > \"$work/elsewhere/x\" }"
+run
+is 2 "" "${warning}awkbox: 1:19 F7 cannot open or write output$line" \
+    "1:19 write none \"$work/elsewhere/x\"$line"
+verdict "a start in another folder changes neither the status nor the rest"
+
+script 'BEGIN { print ) }'
+run
+[ "$status" -eq 3 ] && [ ! -s "$work/output" ] && [ "$(wc -l <"$work/errors")" -eq 1 ] &&
+    grep -Eqx 'awkbox: script 1:[0-9]+ S[1-9]' "$work/errors"
+verdict "a start in another folder, without a run"
+
+script 'BEGIN { print "hi" }'
+ln -s "$base" "$work/way"
+cd "$work/way" || exit 2
+run
+is 0 "hi$line" "" ""
+verdict "a start in the base, by way of a link"
+
+cd "$base" || exit 2
+sed -i 's|^base = .*|base = "/nowhere \\"at all\\""|' "$work/policy.toml"
+run
+is 0 "hi$line" "awkbox: warning: started outside the policy's base \"/nowhere \\x22at all\\x22\"$line" ""
+verdict "a base that is no folder"
+
+# What commands give back, and a pipe that nobody reads.
+
+policy 'effect = "allow"
+kind = "run"
+match = "**"'
+for command in 'exit 0' 'exit 3' 'exit 255' 'kill -9 $$' 'kill -13 $$'; do
+    script "BEGIN { system(\"$command\"); print \"on\" }"
+    run
+    is 0 "on$line" "" ""
+    verdict "a command that ends by $command"
+done
+
+script 'BEGIN { system("echo told >&2; echo said"); print "on" }'
+run
+is 0 "said${line}on$line" "told$line" ""
+verdict "a command shares standard output and standard error"
+
+script 'BEGIN { system("cat"); print "on" }'
+echo fed | run
+status=0
+is 0 "fed${line}on$line" "" ""
+verdict "a command shares standard input"
+
+script 'BEGIN { print "a" }'
+: >"$work/output"
+{
+    sleep 0.5 # by then nobody reads
+    "$program" "${words[@]}" 2>"$work/errors"
+    echo $? >"$work/status"
+} | :
+status=$(cat "$work/status")
+is 2 "" "awkbox: 1:9 F7 cannot open or write output$line" ""
+verdict "a standard output that is a pipe that nobody reads"
+
+# The words of the command line: the help, the manual page and the completions say what
+# docs/options.txt says.
 
 awkbox --help
-[ "$status" -eq 0 ] && grep -q '^Usage: awkbox' "$work/output" && [ ! -s "$work/errors" ]
+[ "$status" -eq 0 ] && grep -q '^Usage: awkbox <COMMAND>' "$work/output" && [ ! -s "$work/errors" ]
 verdict "the help"
 
 awkbox run --help
-[ "$status" -eq 0 ] && grep -q -e '--policy <FILE>' "$work/output" && [ ! -s "$work/errors" ]
+[ "$status" -eq 0 ] && grep -q '^Usage: awkbox run ' "$work/output" && [ ! -s "$work/errors" ]
 verdict "the help of run"
+
+# flat FILE..: the files' words in one line, without marks of layout
+flat() {
+    cat "$@" | sed 's/^\.It Fl Fl /--/; s/^\.It Fl /-/; s/^\.It Cm //; s/^\.It //; s/ Ar / /g' |
+        tr -s ' \n' '  '
+}
+{
+    "$program" --help
+    "$program" run --help
+} >"$work/helps"
+facts=0
+differing=
+while IFS=$'\t' read -r kind name value words; do
+    case $kind in command | option | status) ;; *) continue ;; esac
+    facts=$((facts + 1))
+    flat "$work/helps" | grep -qF -- "$words" || differing="$differing help:$name"
+    flat "$top/man/awkbox.1" | grep -qF -- "$name${value:+ $value} $words" ||
+        [ "$name" = --help ] || differing="$differing manual:$name"
+    [ "$kind" = status ] && continue
+    grep -qF -- "$name" "$top/completions/awkbox.bash" || differing="$differing bash:$name"
+    grep -qF -- "$words" "$top/completions/_awkbox" || differing="$differing zsh:$name"
+done <"$top/docs/options.txt"
+options() { grep -oE -- '(^|[ ,])--?[a-z]+' | tr -d ' ,' | sort -u; }
+said=$(options <"$work/helps" | grep -vx -e '-h')
+known=$(cut -f 2 <"$top/docs/options.txt" | grep '^-' | sort -u)
+echo "differing:$differing; said:" $said "; known:" $known >"$work/output"
+[ "$facts" -ge 8 ] && [ -z "$differing" ] && [ "$said" = "$known" ]
+verdict "the words of the help, the manual page and the completions are those of docs/options.txt"
+
+for page in awkbox.1 awkbox-policy.5; do
+    checked=no
+    : >"$work/output"
+    if command -v mandoc >/dev/null; then
+        mandoc -T lint -W warning "$top/man/$page" >"$work/output" 2>&1
+        checked=yes
+    elif man -l "$top/man/$page" >/dev/null 2>&1; then
+        LC_ALL=C man -l --warnings=mac "$top/man/$page" 2>"$work/output" >/dev/null
+        checked=yes
+    fi
+    [ "$checked" = no ] || [ ! -s "$work/output" ]
+    verdict "the manual page $page (checked: $checked)"
+done
+
+prefix=$work/prefix
+"$clone/install" "$prefix" >"$work/output" 2>&1
+status=$?
+[ "$status" -eq 0 ] && cmp -s "$prefix/bin/awkbox" "$program" && [ ! -L "$prefix/bin/awkbox" ] &&
+    cmp -s "$prefix/share/man/man1/awkbox.1" "$top/man/awkbox.1" &&
+    cmp -s "$prefix/share/man/man5/awkbox-policy.5" "$top/man/awkbox-policy.5" &&
+    cmp -s "$prefix/share/zsh/site-functions/_awkbox" "$top/completions/_awkbox" &&
+    cmp -s "$prefix/share/bash-completion/completions/awkbox" "$top/completions/awkbox.bash"
+verdict "the installation"
+
+# The wrapper, over three crates and a prover that are made up.
+fresh=$work/fresh
+mkdir -p "$fresh/bin" "$fresh"/crates/{low,high,aside,awkbox_program}/src
+cp "$top/awkbox" "$fresh"
+printf '%s\n' 'awkbox_program: high clap' 'aside: low' 'high: low' 'low: itoa' >"$fresh/crates.txt"
+cat >"$fresh/bin/rt" <<'END'
+#!/bin/sh
+name=$(basename "$PWD")
+echo "fn $name::main: proved"
+[ "$name" != "${FAILS:-}" ] || exit 1
+if [ "$1" = run ]; then
+    mkdir -p out && printf '#!/bin/sh\necho ran "$@"\n' >out/awkbox_program &&
+        chmod +x out/awkbox_program
+fi
+END
+chmod +x "$fresh/bin/rt"
+prover=$fresh/crates/awkbox_program/out/build.log
+
+# wrapper [NAME]: runs the wrapper, with a prover that fails at this crate
+wrapper() {
+    PATH=$fresh/bin:$PATH FAILS=${1:-} "$fresh/awkbox" run "a b" >"$work/output" 2>"$work/errors"
+    status=$?
+}
+
+# tells LINE..: whether standard error has these lines, the time so far aside
+tells() {
+    printf 'awkbox: %s\n' "$@" |
+        cmp -s - <(grep -v '^fn' "$work/errors" | sed 's/, [0-9]* min [0-9]* s so far$//')
+}
+begins="proving and building the program; the first time this takes about 10 minutes"
+wrapper high
+[ "$status" -eq 1 ] && holds "$work/output" "" && [ "$(grep -c '^fn' "$work/errors")" -eq 2 ] &&
+    tells "$begins" "what the prover says is in $prover" "1 of 3: low" "2 of 3: high" \
+        "high failed; the end of $prover:" "the program could not be built"
+verdict "the wrapper where a crate is not proved"
+wrapper
+[ "$status" -eq 0 ] && holds "$work/output" "ran run a b$line" && [ "$(wc -l <"$prover")" -eq 3 ] &&
+    tells "$begins" "what the prover says is in $prover" "1 of 3: low" "2 of 3: high" \
+        "3 of 3: awkbox_program" "built $fresh/crates/awkbox_program/out/awkbox_program"
+verdict "the wrapper's progress"
+wrapper
+[ "$status" -eq 0 ] && holds "$work/output" "ran run a b$line" && holds "$work/errors" ""
+verdict "the wrapper once the program is built"
+
+# completed WORD..: what bash offers for the last of the words
+completed() {
+    bash -c '. "$1" && shift && COMP_WORDS=("$@") && COMP_CWORD=$(($# - 1)) && _awkbox &&
+        echo "${COMPREPLY[@]}"' - "$top/completions/awkbox.bash" "$@" 2>&1
+}
+[ "$(completed awkbox r)" = run ] && [ "$(completed awkbox run --p)" = --policy ] &&
+    [ "$(completed awkbox run --policy "$work/kept.t")" = "$work/kept.toml" ]
+verdict "the completions for bash"
+if command -v zsh >/dev/null; then
+    zsh -n "$top/completions/_awkbox"
+    verdict "the completions for zsh can be read"
+fi
+
+script 'BEGIN { print "hi" }'
+no_rules
+cp "$work/script.awk" "$base/-a.awk"
+awkbox run -f -a.awk "--log=$work/log" --policy "$work/policy.toml"
+is 0 "hi$line" "" ""
+verdict "words in another order, a value behind =, and one that begins with -"
 
 # fault NAME WORD..: the words are at fault
 fault() {

@@ -14,6 +14,7 @@ pub mod Trees
 pub mod Wholes
 pub mod Machines
 pub mod Unique
+pub mod Alone
 pub mod Tables
 pub mod Gathering
 pub mod Seeking

@@ -46,15 +46,16 @@ no_fault (t ∷ ts) (u ∷ us) p q r fault (l, one, rest) (m, two, more) e f =
 faultless : (s : List ℕ) (p : Pattern) (size : ℕ) (fault : Fault) → Spelled s p size → HasFault s fault → ⊥
 faultless s p size fault (ts, read, spells) h = no_fault ts h.0 (first_spot s) read.0 h.1 fault read.1 h.2 read.2 h.3
 
-one_size : (s : List ℕ) (p q : Pattern) (n m : ℕ) → Spelled s p n → Spelled s q m → n ≡ m
-one_size s p q n m (ts, read, spells) (us, again, others) =
+-- a text spells one pattern at most, of one size
+pub one_spelling : (s : List ℕ) (p q : Pattern) (n m : ℕ) → Spelled s p n → Spelled s q m → (p ≡ q) × (n ≡ m)
+one_spelling s p q n m (ts, read, spells) (us, again, others) =
     let same = same_tokens us ts (first_spot s) again.0 read.0 again.1 read.1 again.2 read.2 in
-    (one_pattern ts p q n m spells (subst (λ x. Spells ere x q m) same others)).1
+    one_pattern ts p q n m spells (subst (λ x. Spells ere x q m) same others)
 
 -- a text that spells a pattern within the limits is refused for memory alone
 pub memory_alone : (s : List ℕ) (code : ℕ) → IsRefused s code → (p : Pattern) → IsPattern s p → code ≡ 4
 memory_alone s code (inl (is, long)) p h = absurd (omega (arith, h.short))
 memory_alone s code (inr (inl (is, short, fault))) p h = absurd (faultless s p h.size _ h.spelled fault)
 memory_alone s code (inr (inr (inl (is, short, fault)))) p h = absurd (faultless s p h.size _ h.spelled fault)
-memory_alone s code (inr (inr (inr (inl (is, short, (q, n, spelled, large)))))) p h = absurd (let e = one_size s p q h.size n h.spelled spelled in omega (arith, h.small))
+memory_alone s code (inr (inr (inr (inl (is, short, (q, n, spelled, large)))))) p h = absurd (let e : h.size ≡ n = (one_spelling s p q h.size n h.spelled spelled).1 in omega (arith, h.small))
 memory_alone s code (inr (inr (inr (inr is)))) p h = is

@@ -7,6 +7,8 @@ pub mod Token
 pub mod Reading
 pub mod Grammar
 pub mod Spelled
+pub mod Refusals
+pub mod Laws
 pub mod Program
 pub mod Search
 pub mod Table

@@ -7,7 +7,14 @@ use Rattle.awk_ere.specs.Reading.{IsRead, HasFault}
 use Rattle.awk_ere.specs.Grammar.{ere, Spells}
 use Rattle.awk_ere.specs.declared.error.Fault.{Fault}
 use Rattle.awk_ere.specs.declared.error.Fault.TheVariants.{Syntax, Interval, Size, Memory}
-use Rattle.awk_ere.specs.declared.error.TheConstants.{MAX_BYTES, MAX_SIZE}
+
+-- the most bytes that a pattern's text may have
+abbrev pub most_pattern_bytes : ℕ
+most_pattern_bytes = 4096
+
+-- the greatest size that a pattern may have
+abbrev pub most_size : ℕ
+most_size = 20000
 
 -- the number of a refusal
 abbrev pub code_of : Fault → ℕ
@@ -24,17 +31,17 @@ Spelled s p size = (ts : List Token) × IsRead s ts × Spells ere ts p size
 pub record IsPattern (s : List ℕ) (p : Pattern) : Type 0 where
   pub size : ℕ
   pub spelled : Spelled s p size
-  pub short : length s ≤ MAX_BYTES
-  pub small : size ≤ MAX_SIZE
+  pub short : length s ≤ most_pattern_bytes
+  pub small : size ≤ most_size
 
 -- the text is refused with this code: E3 where it is too long, then E1 or E2 for its leftmost fault,
 -- then E3 where its pattern is too large; E4, which memory alone causes, says nothing of the text
 abbrev pub IsRefused : List ℕ → ℕ → Type 0
 IsRefused s code =
-    ((code ≡ 3) × (MAX_BYTES < length s))
-    ⊎ ((code ≡ 1) × (length s ≤ MAX_BYTES) × HasFault s Syntax)
-    ⊎ ((code ≡ 2) × (length s ≤ MAX_BYTES) × HasFault s Interval)
-    ⊎ ((code ≡ 3) × (length s ≤ MAX_BYTES) × ((p : Pattern) × (size : ℕ) × Spelled s p size × (MAX_SIZE < size)))
+    ((code ≡ 3) × (most_pattern_bytes < length s))
+    ⊎ ((code ≡ 1) × (length s ≤ most_pattern_bytes) × HasFault s Syntax)
+    ⊎ ((code ≡ 2) × (length s ≤ most_pattern_bytes) × HasFault s Interval)
+    ⊎ ((code ≡ 3) × (length s ≤ most_pattern_bytes) × ((p : Pattern) × (size : ℕ) × Spelled s p size × (most_size < size)))
     ⊎ (code ≡ 4)
 
 -- the best match of the pattern that the source spells

@@ -1,8 +1,11 @@
 // Why a text is refused as a pattern, and the limits.
-ghost use Rattle.std.specs.Prelude.{◌≡◌};
+ghost use Rattle.std.specs.Prelude.{◌≡◌, Some};
+ghost use Rattle.awk_ere.specs.Refusals.{refusal_text};
 ghost use Rattle.awk_ere.specs.Spelled.{code_of};
 
 use std::alloc::{AllocError, AllocFailed};
+use std::error::Error;
+use std::fmt;
 
 /// The most bytes that a pattern's text may have.
 pub const MAX_BYTES: usize = 4096;
@@ -24,11 +27,21 @@ pub enum Fault {
     Memory,
 }
 
-/// A refusal. Codes: 1 syntax, 2 interval, 3 too long or too large, 4 memory.
-#[derive(Clone, Copy, Debug, PartialEq, Eq)]
+/// A refusal. Codes: 1 syntax, 2 interval, 3 too long or too large, 4 memory. It is shown as `E1` to `E4`.
+#[derive(Clone, Copy, Debug, PartialEq, Eq, Drop)]
 pub struct EreError {
     pub code: u8,
 }
+
+impl fmt::Display for EreError {
+    ghost output = { λ e. Some (refusal_text e) };
+
+    fn fmt<W: fmt::Write>(&self, f: &mut fmt::Formatter<W>) -> fmt::Result {
+        write!(f, "E{}", self.code)
+    }
+}
+
+impl Error for EreError {}
 
 impl Fault {
     /// The number of the refusal.

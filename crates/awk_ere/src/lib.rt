@@ -8,6 +8,7 @@ pub mod error;
 mod escape;
 mod front;
 mod interval;
+pub mod laws;
 mod literal;
 mod node;
 pub mod plain;

@@ -7,3 +7,4 @@ pub mod Places
 pub mod HeadLemmas
 pub mod RowLemmas
 pub mod StreamLemmas
+pub mod Alone

@@ -8,3 +8,4 @@ pub mod Unread
 pub mod Takes
 pub mod Rows
 pub mod Parts
+pub mod Laws

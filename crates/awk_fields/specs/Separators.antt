@@ -20,6 +20,13 @@ separator [] rs_empty = nothing
 separator (b ∷ []) rs_empty = if b == 32 then blanks else byte b rs_empty
 separator (b ∷ c ∷ s) rs_empty = ere (b ∷ c ∷ s) rs_empty
 
+-- the matches of an ERE separate
+abbrev pub IsByEre : Separator → Type 0
+IsByEre blanks = ⊥
+IsByEre nothing = ⊥
+IsByEre (byte b newline) = ⊥
+IsByEre (ere source newline) = Unit {0}
+
 -- the text is an ERE
 abbrev pub IsEre : List ℕ → Type 0
 IsEre s = (p : Pattern) × IsPattern s p

@@ -4,6 +4,7 @@
 
 mod front;
 mod joining;
+pub mod laws;
 mod parts;
 pub mod reader;
 pub mod row;

@@ -1,7 +1,7 @@
 // What separates fields, and texts cut into fields.
-ghost use Rattle.std.specs.Prelude.{◌≡◌, ◌<◌, ◌⊎◌, List, ℕ, false, length, IfOk, OnOk, IfErr};
+ghost use Rattle.std.specs.Prelude.{◌≡◌, ◌<◌, ◌⊎◌, List, ℕ, false, length, IfOk, OnOk, IfErr, OnErr};
 ghost use Rattle.awk_fields.specs.Fields.{Fields};
-ghost use Rattle.awk_fields.specs.Separators.{IsEre, IsNoEre, separator, ere};
+ghost use Rattle.awk_fields.specs.Separators.{IsByEre, IsEre, IsNoEre, separator, ere};
 ghost use Rattle.awk_fields.specs.Spans.{AreSpans};
 
 use crate::spans::{Span, blank_spans, byte_spans, ere_spans, single_spans, texts};
@@ -92,9 +92,10 @@ impl Splitter {
     /// A splitter that splits as this one does. The compiled ERE is shared, so nothing is parsed
     /// and no memory is taken.
     ///
-    /// Fails with `Memory` only where 2^64 - 1 splitters share the ERE already.
+    /// Fails with `Memory` only where an ERE separates, and 2^64 - 1 splitters share it already.
     pub fn share(&self) -> Result<Splitter, Memory>
-        ensures { IfOk result (λ s. s ≡ self.now) }
+        ensures ok { IfOk result (λ s. s ≡ self.now) }
+        ensures err { OnErr result (IsByEre self.now) }
     {
         let by = match &self.by {
             By::Blanks => By::Blanks,

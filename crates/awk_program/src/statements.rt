@@ -18,7 +18,7 @@ pub struct Redirection<E> {
 #[derive(Drop)]
 pub enum Statement {
     Expr(Expr),
-    /// `print` of these; the whole record stands there for an empty list
+    /// `print` of these, or of the whole record where there are none
     Print(Place, Items<Expr>, Option<Redirection<Expr>>),
     /// `printf` of a format and its values
     Printf(Place, Expr, Items<Expr>, Option<Redirection<Expr>>),

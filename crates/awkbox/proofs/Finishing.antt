@@ -1,5 +1,5 @@
 -- How a run ends.
-use Rattle.std.proofs.Common.{◌≡◌, ℕ, Bool, List, [], ◌∷◌, ◌++◌, refl, ap, sym, ◌∙◌, map, subst}
+use Rattle.std.proofs.Common.{◌≡◌, ℕ, Bool, List, [], map}
 use Rattle.awk_text.specs.declared.fault.Fault.TheVariants.{Log as NoLog}
 use Rattle.awk_text.specs.declared.place.Place.{Place}
 use Rattle.box_world.specs.Calls.{Call}
@@ -14,7 +14,7 @@ use Rattle.awkbox.specs.declared.walk.Halt.TheVariants.{Output, Memory, Log}
 use Rattle.awkbox.specs.OutputStreams.{texts_of}
 use Rattle.awkbox.specs.Sublist.{IsSublist}
 use Rattle.awkbox.specs.Walks.{Stands, Halted, Done, Part, Ends, Finishes, IsOwn, Ran, outcome_of}
-use Rattle.awkbox.specs.Wanted.{body_wants, names_opened, shut_want, wanted}
+use Rattle.awkbox.specs.Wanted.{body_wants, names_opened, shut_want}
 use Rattle.awkbox.proofs.Sublists.{IsSublist-refl, IsSublist-append, IsSublist-more, IsSublist-trans, IsSublist-map, names_opened-part}
 
 module _ {W : Type 0} (follows : W → List Call → W → Type 0) (open_numbers : W → List ℕ) (has_stopped : W → Bool) (stops : W → List Call → Ask → W → Type 0) where

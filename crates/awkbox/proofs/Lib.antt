@@ -1,6 +1,5 @@
 pub mod Finishing
 pub mod Known
-pub mod OsRising
 pub mod Passing
 pub mod QuotedText
 pub mod Slices

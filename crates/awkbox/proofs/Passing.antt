@@ -1,13 +1,11 @@
 -- What a monitor passes on and tells of calls, as events.
-use Rattle.std.proofs.Common.{◌≡◌, ℕ, ◌<◌, Bool, true, false, cond, List, [], ◌∷◌, ◌++◌, length, get_or, refl, ap, sym, ◌∙◌, subst, append-nil, arith, length-append, Option, Some, None}
-use Rattle.std.specs.Prelude.{All, IsSome, is_none, filter, filter_map, option_to_list}
+use Rattle.std.proofs.Common.{◌≡◌, Bool, true, false, cond, List, [], ◌∷◌, ◌++◌, length, refl, ap, sym, ◌∙◌, subst, append-nil, arith, length-append, Option, Some, None}
+use Rattle.std.specs.Prelude.{All, IsSome, is_none, filter_map, option_to_list}
 use Rattle.std.proofs.Math.ListN.{get_or-append}
 use Rattle.std.proofs.Math.Seq.{get_or-append_seam}
 use Rattle.std.proofs.lemmas.List.Elements.{filter-append, filter_map-append}
 use Rattle.awk_text.specs.declared.place.Place.{Place}
-use Rattle.box_world.specs.Calls.{Call}
 use Rattle.box_world.specs.Events.{Event, Stream, Want, Wish, Opens, Reads, Writes, Shuts, Runs, Looks, Assigns, ask_of, calls, open_streams, request_of, streams_after}
-use Rattle.box_world.specs.declared.ask.Reply.{Reply}
 use Rattle.box_world.specs.declared.ask.Reply.TheVariants.{Failed}
 use Rattle.box_policy.specs.Rulebook.{Rulebook}
 use Rattle.box_monitor.specs.Asked.{AllFailed, FailsIfDenied, asked, told}

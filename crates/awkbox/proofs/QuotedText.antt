@@ -1,10 +1,10 @@
 -- A quoted text is ASCII, so it is UTF-8.
-use Rattle.std.proofs.Common.{◌≡◌, ℕ, ◌+◌, ◌<◌, ◌≤◌, ◌/◌, ◌%◌, Bool, true, false, cond, nat_lt, List, [], ◌∷◌, ◌++◌, get_or, suc, refl, arith}
+use Rattle.std.proofs.Common.{◌≡◌, ℕ, ◌<◌, ◌/◌, ◌%◌, Bool, true, false, cond, List, [], ◌∷◌, get_or, suc, refl, arith}
 use Rattle.std.specs.Str.{IsAscii, IsUtf8}
 use Rattle.std.proofs.lemmas.Bool.Decides.{nat_tests}
 use Rattle.std.proofs.lemmas.Str.{IsAscii-append, IsUtf8-from_ascii}
 use Rattle.std.proofs.lemmas.Str.Ascii.{IsAscii-nil, IsAscii-cons}
-use Rattle.awk_text.specs.Quoted.{hex_digit, is_plain, quoted, quoted_byte}
+use Rattle.awk_text.specs.Quoted.{hex_digit, is_plain, quoted}
 
 digit_is_ascii : (n : ℕ) → n < 16 → hex_digit n < 128
 digit_is_ascii n h = grind (arith, nat_tests)

@@ -1,20 +1,20 @@
 -- How the parts of a run are put together.
-use Rattle.std.proofs.Common.{◌≡◌, ℕ, Bool, List, [], ◌∷◌, ◌++◌, Result, Ok, Err, MatchResult, OnOk, refl, ap, sym, ◌∙◌, append_assoc, append-nil, subst, Option, Some, None, false, ◌+◌, ◌<◌, ◌≤◌, length, get_or, drop, take, map, take-append-drop, add-one, drop-cons, suc}
+use Rattle.std.proofs.Common.{◌≡◌, ℕ, Bool, List, [], ◌∷◌, ◌++◌, Result, Ok, Err, MatchResult, OnOk, refl, ap, sym, ◌∙◌, append_assoc, append-nil, subst, Some, None, false, ◌+◌, ◌<◌, ◌≤◌, length, get_or, drop, take, map, take-append-drop, add-one, drop-cons, suc}
 use Rattle.std.proofs.lemmas.List.{map-append, drop_all, take_more}
 use Rattle.awk_text.specs.declared.place.Place.{Place}
-use Rattle.box_world.specs.Calls.{Call, open_after, numbers_after}
+use Rattle.box_world.specs.Calls.{Call, open_after}
 use Rattle.box_world.specs.declared.ask.Ask.{Ask}
 use Rattle.box_world.specs.declared.ask.Mode.TheVariants.{Write}
 use Rattle.box_world.specs.declared.ask.Reply.{Reply}
 use Rattle.box_world.specs.declared.ask.Reply.TheVariants.{Opened}
-use Rattle.box_world.specs.declared.ask.Request.TheVariants.{Open, Shut}
-use Rattle.box_world.specs.Events.{Event, Stream, Want, Opens, OutputFile, calls, wants, open_streams, streams_after, ask_of, request_of}
+use Rattle.box_world.specs.declared.ask.Request.TheVariants.{Shut}
+use Rattle.box_world.specs.Events.{Event, Stream, Want, Opens, OutputFile, calls, wants, open_streams, streams_after, ask_of}
 use Rattle.awkbox.specs.declared.streams.OutputStream.{OutputStream}
 use Rattle.awkbox.specs.declared.walk.Halt.{Halt}
 use Rattle.awkbox.specs.declared.walk.Halt.TheVariants.{Output, Memory, Log}
-use Rattle.awkbox.specs.OutputStreams.{stream_of, streams_of, texts_of, numbers_of}
+use Rattle.awkbox.specs.OutputStreams.{stream_of, streams_of, texts_of}
 use Rattle.awkbox.specs.Sublist.{IsSublist}
-use Rattle.awkbox.specs.Walks.{Stands, Unlogged, Unanswered, StopsAt, Halted, Done, Part, Does}
+use Rattle.awkbox.specs.Walks.{Stands, StopsAt, Done, Part, Does}
 use Rattle.awkbox.specs.Wanted.{names_opened, want_at, shut_want, wants_of, body_wants}
 use Rattle.awkbox.specs.Replies.{number_given}
 use Rattle.awkbox.proofs.Sublists.{IsSublist-none, IsSublist-refl, IsSublist-append, IsSublist-more, IsSublist-tail, names_opened-append}

@@ -5,8 +5,8 @@ use Rattle.awk_tokens.specs.declared.kinds.Token.{Token}
 use Rattle.box_policy.specs.Refusals.{IsRefused as IsPolicyRefused}
 use Rattle.box_policy.specs.Rulebook.{Rulebook}
 use Rattle.box_policy.specs.Written.{Written}
-use Rattle.awkbox.specs.declared.drive.Refusal.{Refusal}
-use Rattle.awkbox.specs.declared.drive.Refusal.TheVariants.{Policy, Script, Assign}
+use Rattle.awkbox.specs.declared.driver.Refusal.{Refusal}
+use Rattle.awkbox.specs.declared.driver.Refusal.TheVariants.{Policy, Script, Assign}
 use Rattle.awkbox.specs.declared.statement.Statement.{Statement}
 use Rattle.awkbox.specs.Script.{SpellsScript}
 
@@ -28,3 +28,7 @@ IsRefused policy script (Policy e) = IsPolicyRefused policy e
 IsRefused policy script (Script e) =
     (book : Rulebook) × Written policy book × (e.code ≢ 9 → Refuses script e.code e.place ⊎ ((e.code ≡ 4) × ((tokens : List Token) × Reads script tokens)))
 IsRefused policy script (Assign n) = ⊥
+
+-- the texts write this policy and spell some statements
+abbrev pub IsAccepted : List ℕ → List ℕ → Rulebook → Type 0
+IsAccepted policy script book = (statements : List Statement) × Accepted policy script book statements

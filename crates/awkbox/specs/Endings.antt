@@ -4,8 +4,8 @@ use Rattle.awkbox.specs.Messages.{message_status}
 use Rattle.awkbox.specs.declared.messages.Message.TheVariants as says
 use Rattle.awkbox.specs.declared.messages.Ending.{Ending}
 use Rattle.awkbox.specs.declared.messages.Ending.TheVariants.{Quiet, Said}
-use Rattle.awkbox.specs.declared.drive.Refusal.{Refusal}
-use Rattle.awkbox.specs.declared.drive.Refusal.TheVariants.{Policy, Script, Assign}
+use Rattle.awkbox.specs.declared.driver.Refusal.{Refusal}
+use Rattle.awkbox.specs.declared.driver.Refusal.TheVariants.{Policy, Script, Assign}
 use Rattle.awkbox.specs.declared.report.Outcome.{Outcome}
 use Rattle.awkbox.specs.declared.report.Outcome.TheVariants.{Status, Fault, Cut}
 use Rattle.awkbox.specs.declared.report.Report.{Report}

@@ -2,8 +2,6 @@ pub mod Accepted
 pub mod Drives
 pub mod Endings
 pub mod Messages
-pub mod OsFollows
-pub mod OsNumbers
 pub mod OutputStreams
 pub mod Replies
 pub mod Script

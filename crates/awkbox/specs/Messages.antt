@@ -8,6 +8,8 @@ use Rattle.awk_text.specs.declared.fault.Fault.TheVariants.{StepBound as F11, Me
 use Rattle.awk_tokens.specs.Refusals.{refusal_text}
 use Rattle.awkbox.specs.declared.messages.Message.{Message}
 use Rattle.awkbox.specs.declared.messages.Message.TheVariants.{Fault, StepBound, Policy, Script, Assignment, CannotRead, CannotWrite, OutOfMemory}
+use Rattle.awkbox.specs.declared.messages.Warning.{Warning}
+use Rattle.awkbox.specs.declared.messages.Warning.TheVariants.{OutsideBase}
 use Rattle.box_policy.specs.Refusals.{refusal_text as policy_text}
 
 -- the line, without its newline
@@ -43,3 +45,11 @@ abbrev pub SaysCannotWrite : List ℕ → Message → Type 0
 SaysCannotWrite name (CannotWrite shown) = string_bytes shown ≡ quoted name
 SaysCannotWrite name OutOfMemory = Unit {0}
 SaysCannotWrite name message = ⊥
+
+-- a warning's line, without its newline
+abbrev pub warning_text : Warning → List ℕ
+warning_text (OutsideBase base) = codes "awkbox: warning: started outside the policy's base \"" ++ string_bytes base ++ codes "\""
+
+-- a warning that the run starts outside this base
+abbrev pub WarnsOutside : List ℕ → Warning → Type 0
+WarnsOutside base (OutsideBase shown) = string_bytes shown ≡ quoted base

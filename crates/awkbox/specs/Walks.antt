@@ -1,12 +1,12 @@
 -- How far a run has come, and what its parts owe.
-use Rattle.std.specs.Prelude.{◌≡◌, ℕ, Bool, List, [], ◌∷◌, ◌++◌, Result, MatchResult}
+use Rattle.std.specs.Prelude.{◌≡◌, ℕ, Bool, List, [], ◌++◌, Result, MatchResult}
 use Rattle.awk_text.specs.declared.fault.Fault.TheVariants.{Output, Memory as OutOfMemory, Log as NoLog}
 use Rattle.awk_text.specs.declared.place.Place.{Place}
 use Rattle.box_world.specs.Calls.{Call}
 use Rattle.box_world.specs.declared.ask.Ask.{Ask}
 use Rattle.box_world.specs.Events.{Event, Want, calls, wants, open_streams, ask_of}
 use Rattle.awkbox.specs.declared.report.Outcome.{Outcome}
-use Rattle.awkbox.specs.declared.report.Outcome.TheVariants.{Status, Fault, Cut}
+use Rattle.awkbox.specs.declared.report.Outcome.TheVariants.{Fault}
 use Rattle.awkbox.specs.declared.statement.Statement.{Statement}
 use Rattle.awkbox.specs.declared.streams.OutputStream.{OutputStream}
 use Rattle.awkbox.specs.declared.walk.Halt.{Halt}

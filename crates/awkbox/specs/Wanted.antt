@@ -1,11 +1,11 @@
 -- What a script wants of the world, in order, if all goes well (POSIX.1-2017 XCU awk, "Output Statements",
 -- "Input/Output and General Functions").
-use Rattle.std.specs.Prelude.{◌≡◌, ℕ, List, [], ◌∷◌, ◌++◌, map, false, if◌then◌else◌}
+use Rattle.std.specs.Prelude.{ℕ, List, [], ◌∷◌, ◌++◌, map, false, if◌then◌else◌}
 use Rattle.std.specs.List.{list_any}
 use Rattle.std.specs.Str.{bytes_eq}
 use Rattle.awk_text.specs.declared.place.Place.{Place}
 use Rattle.box_world.specs.declared.ask.Mode.TheVariants.{Write}
-use Rattle.box_world.specs.Events.{Key, Standard, Named, OutputFile, Wish, Opens, Reads, Writes, Shuts, Runs, Looks, Assigns, Want}
+use Rattle.box_world.specs.Events.{Key, Standard, Named, OutputFile, Wish, Opens, Writes, Shuts, Runs, Want}
 use Rattle.awkbox.specs.declared.statement.Statement.{Statement}
 use Rattle.awkbox.specs.declared.statement.Statement.TheVariants.{Print, PrintTo, System}
 

@@ -2,7 +2,7 @@
 ghost use Rattle.std.specs.Prelude.{◌≡◌, Some, IfOk, string_bytes};
 ghost use Rattle.awk_text.specs.Quoted.{quoted};
 
-use crate::drive::Refusal;
+use crate::driver::Refusal;
 use crate::report::{Outcome, Report};
 use awk_text::Memory;
 use awk_text::fault::Fault;
@@ -32,6 +32,14 @@ pub enum Message {
     CannotWrite(String),
     /// Memory was refused outside the run.
     OutOfMemory,
+}
+
+/// One line on standard error, before a run that goes on.
+#[derive(Debug, Drop)]
+pub enum Warning {
+    /// The program runs in another folder than the base of the policy, though rules speak of files.
+    /// The base is quoted, as the log of denials has it.
+    OutsideBase(String),
 }
 
 /// How the program ends.
@@ -133,6 +141,34 @@ impl fmt::Display for Message {
     }
 }
 
+impl Warning {
+    ghost use Rattle.awkbox.specs.Messages.{WarnsOutside};
+
+    /// That the run starts outside this base.
+    pub fn outside_base(alloc: Global, base: &str) -> Result<Warning, Memory>
+        ensures { IfOk result (WarnsOutside base.now) }
+    {
+        Ok(Warning::OutsideBase(quoted_name(alloc, base)?))
+    }
+}
+
+impl fmt::Display for Warning {
+    ghost use Rattle.awkbox.specs.Messages.{warning_text};
+
+    ghost output = { λ warning. Some (warning_text warning) };
+
+    fn fmt<W: fmt::Write>(&self, f: &mut fmt::Formatter<W>) -> fmt::Result {
+        match self {
+            Warning::OutsideBase(base) => {
+                write!(
+                    f,
+                    "awkbox: warning: started outside the policy's base \"{base}\""
+                )
+            }
+        }
+    }
+}
+
 impl Ending {
     ghost use Rattle.awkbox.specs.Endings.{ending_of, ending_status};
 
@@ -162,6 +198,3 @@ impl Ending {
         }
     }
 }
-
-#[cfg(test)]
-mod tests;

@@ -1,7 +1,7 @@
 -- Patterns of components and of bytes, as patterns of tokens.
 use Rattle.std.proofs.Common.{◌≡◌, ◌∙◌, ℕ, Bool, true, false, ◌&&◌, ◌||◌, not, List, [], ◌∷◌, ◌++◌, map, cond, sym, ap, refl, append_assoc, codes, bytes_eq, arith, inl, inr}
 use Rattle.std.proofs.lemmas.Bool.{true≢false, or_cases, or_left, or_right, and_parts, and_from, cond_both}
-use Rattle.box_policy.specs.declared.matching.Sort.TheVariants.{Component, Command, Name}
+use Rattle.box_policy.specs.declared.tokens.Sort.TheVariants.{Component, Command, Name}
 use Rattle.box_policy.specs.declared.tokens.Token.{Token}
 use Rattle.box_policy.specs.declared.tokens.Token.TheVariants.{Open, Byte, Close}
 use Rattle.box_policy.specs.Division.{Symbol, fits}

@@ -3,8 +3,8 @@ use Rattle.std.proofs.Common.{◌≡◌, ◌∙◌, ℕ, Bool, true, false, ◌&
 use Rattle.std.specs.Prelude.{◌==◌}
 use Rattle.std.specs.List.{list_all}
 use Rattle.std.proofs.lemmas.Bool.{true≢false, and_parts, or_parts, not-true, cases_eq, eq-eqb, ne_eqb}
-use Rattle.box_policy.specs.declared.matching.Sort.{Sort}
-use Rattle.box_policy.specs.declared.matching.Sort.TheVariants.{Component, Command, Name}
+use Rattle.box_policy.specs.declared.tokens.Sort.{Sort}
+use Rattle.box_policy.specs.declared.tokens.Sort.TheVariants.{Component, Command, Name}
 use Rattle.box_policy.specs.Division.{Symbol, fits}
 use Rattle.box_policy.specs.Patterns.{symbols, component_symbol, base_symbol, component_byte, name_byte, command_byte, command_symbols, is_name_byte, is_word_byte, one, run}
 use Rattle.box_policy.specs.Plain.{is_wild, is_plain_pattern}

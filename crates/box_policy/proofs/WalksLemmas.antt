@@ -2,8 +2,8 @@
 use Rattle.std.proofs.Common.{◌≡◌, ◌≢◌, ◌∙◌, ◌<◌, ◌≤◌, ◌+◌, ◌*◌, ◌/◌, ◌%◌, ◌^◌, ℕ, zero, suc, Bool, true, false, ◌&&◌, ◌||◌, List, [], ◌∷◌, ◌++◌, length, map, cond, sym, ap, refl, arith, take, get_or, set, inl, inr, bit_or, replicate, subst, append-nil, get_or-take}
 use Rattle.std.proofs.lemmas.Bool.{cases_lt}
 use Rattle.std.proofs.lemmas.List.{take-map, get_or_past, length-map, length-take, take-replicate, length-replicate}
-use Rattle.box_policy.specs.declared.matching.Sort.{Sort}
-use Rattle.box_policy.specs.declared.matching.Sort.TheVariants.{Component}
+use Rattle.box_policy.specs.declared.tokens.Sort.{Sort}
+use Rattle.box_policy.specs.declared.tokens.Sort.TheVariants.{Component}
 use Rattle.box_policy.specs.declared.table.Block.{Block}
 use Rattle.box_policy.specs.declared.tokens.Token.{Token}
 use Rattle.box_policy.specs.declared.tokens.Token.TheVariants.{Open, Byte, Close}

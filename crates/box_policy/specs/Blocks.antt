@@ -2,7 +2,7 @@
 use Rattle.std.specs.Prelude.{◌≡◌, ℕ, zero, suc, ◌/◌, ◌%◌, Bool, true, false, not, ◌&&◌, ◌||◌, ◌==◌, List, if◌then◌else◌, slice_index_or, bit_or}
 use Rattle.std.specs.Int.{bit_at}
 use Rattle.box_policy.specs.declared.table.Block.{Block}
-use Rattle.box_policy.specs.declared.matching.Sort.{Sort}
+use Rattle.box_policy.specs.declared.tokens.Sort.{Sort}
 use Rattle.box_policy.specs.declared.tokens.Token.{Token}
 use Rattle.box_policy.specs.declared.tokens.Element.{Element}
 use Rattle.box_policy.specs.Symbols.{class_of, is_read, symbol_of}

@@ -1,6 +1,6 @@
 -- Whether a rule's pattern fits what is asked for.
 use Rattle.std.specs.Prelude.{ℕ, Bool, true, false, ◌&&◌, List, Option, Some, None}
-use Rattle.box_policy.specs.declared.matching.Sort.TheVariants.{Command, Name}
+use Rattle.box_policy.specs.declared.tokens.Sort.TheVariants.{Command, Name}
 use Rattle.box_policy.specs.declared.policy.Kind.{Kind}
 use Rattle.box_policy.specs.declared.policy.Kind.TheVariants.{Read, Write, Append, Run, Env, Assign}
 use Rattle.box_policy.specs.Division.{Symbol, fits}

@@ -2,6 +2,7 @@ pub mod Paths
 pub mod NamesLeft
 pub mod Division
 pub mod Divides
+pub mod Files
 pub mod Fits
 pub mod Patterns
 pub mod Bases

@@ -1,8 +1,8 @@
 -- Patterns whose bytes all stand for themselves.
 use Rattle.std.specs.Prelude.{ℕ, Bool, not, ◌&&◌, ◌||◌, ◌==◌, List}
 use Rattle.std.specs.List.{list_all}
-use Rattle.box_policy.specs.declared.matching.Sort.{Sort}
-use Rattle.box_policy.specs.declared.matching.Sort.TheVariants.{Component, Command, Name}
+use Rattle.box_policy.specs.declared.tokens.Sort.{Sort}
+use Rattle.box_policy.specs.declared.tokens.Sort.TheVariants.{Component, Command, Name}
 
 -- the byte stands for more than itself in a pattern of this sort
 abbrev pub is_wild : Sort → ℕ → Bool

@@ -1,7 +1,7 @@
 -- What an element of a pattern stands for.
 use Rattle.std.specs.Prelude.{ℕ, Bool, true}
-use Rattle.box_policy.specs.declared.matching.Sort.{Sort}
-use Rattle.box_policy.specs.declared.matching.Sort.TheVariants.{Component, Command, Name}
+use Rattle.box_policy.specs.declared.tokens.Sort.{Sort}
+use Rattle.box_policy.specs.declared.tokens.Sort.TheVariants.{Component, Command, Name}
 use Rattle.box_policy.specs.declared.tokens.Token.{Token}
 use Rattle.box_policy.specs.declared.tokens.Element.{Element}
 use Rattle.box_policy.specs.declared.tokens.Element.TheVariants.{One, Any, Run, All}

@@ -1,6 +1,6 @@
 -- What the table of a pattern holds.
 use Rattle.std.specs.Prelude.{◌≡◌, ℕ, Bool, true, false, ◌&&◌, ◌||◌, List, ◌++◌, map}
-use Rattle.box_policy.specs.declared.matching.Sort.{Sort}
+use Rattle.box_policy.specs.declared.tokens.Sort.{Sort}
 use Rattle.box_policy.specs.declared.table.Block.{Block}
 use Rattle.box_policy.specs.declared.tokens.Token.{Token}
 use Rattle.box_policy.specs.Division.{Symbol}

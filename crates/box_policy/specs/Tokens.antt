@@ -1,8 +1,8 @@
 -- What a walk over a subject reads, and the patterns of paths as patterns of that.
 use Rattle.std.specs.Prelude.{ℕ, Bool, true, false, ◌&&◌, if◌then◌else◌, List, [], ◌∷◌, ◌++◌, map, codes, ◌==◌, ◌+◌, length}
 use Rattle.std.specs.Str.{bytes_eq}
-use Rattle.box_policy.specs.declared.matching.Sort.{Sort}
-use Rattle.box_policy.specs.declared.matching.Sort.TheVariants.{Component, Command}
+use Rattle.box_policy.specs.declared.tokens.Sort.{Sort}
+use Rattle.box_policy.specs.declared.tokens.Sort.TheVariants.{Component, Command}
 use Rattle.box_policy.specs.declared.tokens.Token.{Token}
 use Rattle.box_policy.specs.declared.tokens.Token.TheVariants.{Open, Byte, Close}
 use Rattle.box_policy.specs.Division.{Symbol}

@@ -4,7 +4,7 @@ ghost use Rattle.std.specs.Prelude.{◌≡◌, ◌<◌, ◌≤◌, ◌+◌, ◌*
 ghost use Rattle.std.specs.List.{list_all};
 ghost use Rattle.std.specs.Str.{bytes_eq};
 ghost use Rattle.std.specs.Bool.{Decides};
-ghost use Rattle.box_policy.specs.declared.matching.Sort.TheVariants.{Component};
+ghost use Rattle.box_policy.specs.declared.tokens.Sort.TheVariants.{Component};
 ghost use Rattle.box_policy.specs.declared.tokens.Token.{Token as TokenOf};
 ghost use Rattle.box_policy.specs.declared.tokens.Token.TheVariants.{Open, Byte, Close};
 ghost use Rattle.box_policy.specs.Bases.{IsBehind};
@@ -21,15 +21,7 @@ ghost use Rattle.box_policy.specs.Plain.{is_wild, is_plain_pattern};
 
 use crate::names::{Names, first_name, is_absolute};
 use crate::table::{Block, is_none_reached, is_reached, put, start, step, walk_text};
-use crate::tokens::{Element, Token, next_element};
-
-/// What a pattern of bytes is compared with.
-#[derive(Clone, Copy)]
-pub(crate) enum Sort {
-    Component,
-    Command,
-    Name,
-}
+use crate::tokens::{Element, Sort, Token, next_element};
 
 /// Has the pattern stand from this place on, and tells the place behind it.
 fn put_text(blocks: &mut [Block], mut at: usize, sort: Sort, pattern: &[u8]) -> usize

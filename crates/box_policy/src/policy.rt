@@ -2,15 +2,17 @@
 ghost use Rattle.std.specs.Prelude.{◌≡◌, ℕ, ◌≤◌, ◌<◌, true, length, IfOk, IfErr};
 ghost use Rattle.toml.specs.View.{table_view};
 ghost use Rattle.box_policy.specs.Decisions.{decision, decision_from, speaks};
+ghost use Rattle.box_policy.specs.Files.{is_of_files, speaks_of_files};
 ghost use Rattle.box_policy.specs.Fits.{is_readable, pattern_fits};
 ghost use Rattle.box_policy.specs.Short.{are_short};
 ghost use Rattle.box_policy.specs.Refusals.{IsRefused, IsRefusedBy, refusal};
 ghost use Rattle.box_policy.specs.Written.{Writes, Written};
 
 use crate::error::PolicyError;
-use crate::matching::{Sort, path_fits, text_fits};
+use crate::matching::{path_fits, text_fits};
 use crate::names::{can_resolve, is_text};
 use crate::reading::{read_document, read_rules, read_table};
+use crate::tokens::Sort;
 use awk_text::octets::Octets;
 use std::alloc::Global;
 use std::marker::Model;
@@ -130,12 +132,36 @@ impl Policy {
         judged(base, self.rules.as_slice(), kind, subject, given)
     }
 
+    /// The path that relative ones stand under, as it is written. Takes no memory.
+    pub fn base(&self) -> &[u8]
+        ensures { result.now ≡ self.now.base }
+    {
+        self.base.bytes()
+    }
+
+    /// Whether a rule is of kind read, write or append: whether the policy speaks of files. Takes no
+    /// memory.
+    pub fn speaks_of_files(&self) -> bool
+        ensures { result ≡ speaks_of_files self.now }
+    {
+        self.rules.iter().any(|rule| is_of_files(rule.kind))
+    }
+
     /// The number of rules, at most 1,024. Takes no memory.
     pub fn count(&self) -> usize
         ensures count { result ≡ length self.now.rules }
         ensures limit { result ≤ 1024 }
     {
         self.rules.len()
+    }
+}
+
+fn is_of_files(kind: Kind) -> bool
+    ensures { result ≡ is_of_files kind }
+{
+    match kind {
+        Kind::Read | Kind::Write | Kind::Append => true,
+        Kind::Run | Kind::Env | Kind::Assign => false,
     }
 }
 

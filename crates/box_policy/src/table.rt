@@ -1,7 +1,7 @@
 // The places of a pattern as bits of words, and a walk over them without memory.
 ghost use Rattle.std.specs.Prelude.{◌≡◌, ◌<◌, ◌≤◌, ◌+◌, ◌*◌, ◌&&◌, ◌||◌, ◌==◌, ◌++◌, [], ◌∷◌, ℕ, List, length, map, slice_set as set};
 ghost use Rattle.std.specs.List.{list_all};
-ghost use Rattle.box_policy.specs.declared.matching.Sort.{Sort as SortOf};
+ghost use Rattle.box_policy.specs.declared.tokens.Sort.{Sort as SortOf};
 ghost use Rattle.box_policy.specs.declared.tokens.Token.{Token as TokenOf};
 ghost use Rattle.box_policy.specs.declared.tokens.Token.TheVariants.{Byte};
 ghost use Rattle.box_policy.specs.Division.{Symbol as SymbolOf};
@@ -10,8 +10,7 @@ ghost use Rattle.box_policy.specs.Cells.{row, never, reach, ones};
 ghost use Rattle.box_policy.specs.Symbols.{symbol_of};
 ghost use Rattle.box_policy.specs.Tables.{IsTable, Holds};
 
-use crate::matching::Sort;
-use crate::tokens::{Element, Token, is_in_class};
+use crate::tokens::{Element, Sort, Token, is_in_class};
 
 /// 64 places of a pattern, a bit of each word for each of them. Place k stands before the k-th of
 /// the elements that stand for one token, counted from 0, and the last place behind all.

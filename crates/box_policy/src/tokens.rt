@@ -4,7 +4,13 @@ ghost use Rattle.box_policy.specs.Patterns.{is_name_byte, is_word_byte, symbols}
 ghost use Rattle.box_policy.specs.Tokens.{lifted, starts_all};
 ghost use Rattle.box_policy.specs.Symbols.{class_of, symbol_of};
 
-use crate::matching::Sort;
+/// What a pattern of bytes is compared with.
+#[derive(Clone, Copy)]
+pub(crate) enum Sort {
+    Component,
+    Command,
+    Name,
+}
 
 /// What a walk over a subject reads: its bytes, and of a path where each component begins and
 /// where it ends.

@@ -1,9 +1,10 @@
 -- What opening and shutting keep of the numbers that are open.
-use Rattle.std.proofs.Common.{◌≡◌, ℕ, ◌+◌, Bool, true, false, cond, nat_eq, nat_lt, List, [], ◌∷◌, ◌++◌, refl, ap, arith}
+use Rattle.std.proofs.Common.{◌≡◌, ℕ, ◌+◌, ◌==◌, Less, Equal, Greater, Bool, true, false, cond, nat_eq, nat_lt, List, [], ◌∷◌, ◌++◌, refl, ap, arith}
 use Rattle.std.proofs.lemmas.Bool.Decides.{nat_tests}
-use Rattle.std.specs.BTreeMap.{insert_entry}
+use Rattle.std.proofs.Math.Path.{fun_ext}
+use Rattle.std.specs.BTreeMap.{insert_entry, is_at}
 use Rattle.std.specs.Map.{keys_of, remove_entry}
-use Rattle.std.specs.Ordering.{nat_cmp}
+use Rattle.std.specs.Ordering.{nat_cmp, is_eq}
 use Rattle.box_world.specs.Calls.{is_among}
 use Rattle.box_world.specs.MemoryNumbers.{AllBelow}
 
@@ -13,6 +14,15 @@ is_among-next next [] below = refl
 is_among-next next (k ∷ ks) below =
     let other : nat_eq k next ≡ false = grind (arith, nat_tests) in
     rw other (is_among-next next ks below.1)
+
+-- a map finds a number where its order says that it is equal
+pub is_at-number : (n : ℕ) → is_at (nat_cmp n) ≡ (λ k. k == n)
+is_at-number n = fun_ext (λ k. by k (nat_lt n k) refl (nat_eq n k) refl)
+  where
+    by : (k : ℕ) (less : Bool) → nat_lt n k ≡ less → (same : Bool) → nat_eq n k ≡ same → is_eq (cond less Less (cond same Equal Greater)) ≡ nat_eq k n
+    by k true p same q = let other : nat_eq k n ≡ false = grind (arith, nat_tests) in rw other refl
+    by k false p true q = let equal : nat_eq k n ≡ true = grind (arith, nat_tests) in rw equal refl
+    by k false p false q = let other : nat_eq k n ≡ false = grind (arith, nat_tests) in rw other refl
 
 module _ {X : Type 0} where
   -- a key that is past all others goes last

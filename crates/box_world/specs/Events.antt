@@ -1,6 +1,6 @@
 -- What a script asks of the world, as plain awk speaks of it: streams go by keys, never by numbers
 -- (POSIX.1-2017 XCU awk, "Input and Output").
-use Rattle.std.specs.Prelude.{ℕ, List, [], ◌∷◌, ◌++◌, Bool, true, false, if◌then◌else◌, ◌&&◌, ◌==◌, Option, Some, None, unwrap_or, map}
+use Rattle.std.specs.Prelude.{ℕ, ◌^◌, List, [], ◌∷◌, ◌++◌, Bool, true, false, if◌then◌else◌, ◌&&◌, ◌==◌, Option, Some, None, unwrap_or, map}
 use Rattle.std.specs.Str.{bytes_eq}
 use Rattle.awk_text.specs.declared.place.Place.{Place}
 use Rattle.box_world.specs.declared.ask.Ask.{Ask}
@@ -84,10 +84,14 @@ abbrev pub open_streams : List Event → List Stream
 open_streams [] = []
 open_streams (e ∷ es) = streams_after e.want.wish e.reply (open_streams es)
 
+-- a number that no stream has: those of streams are below it
+abbrev pub no_stream : ℕ
+no_stream = 2 ^ 32
+
 -- the number that stands for a key; one that is not open has none, and no run names it
 abbrev pub number_of : Key → List Stream → ℕ
 number_of (Standard n) streams = n
-number_of (Named class text) streams = unwrap_or (find_stream class text streams) 0
+number_of (Named class text) streams = unwrap_or (find_stream class text streams) no_stream
 
 -- the request of the world that a wish is, where these streams are open
 abbrev pub request_of : Wish → List Stream → Request

@@ -1,31 +1,91 @@
--- What a world in memory answers, and what the answer leaves.
-use Rattle.std.specs.Prelude.{ℕ, ℤ, pos, ◌+◌, ◌^◌, ◌==◌, nat_lt, Bool, if◌then◌else◌, List, [], ◌∷◌, ◌++◌, length}
-use Rattle.std.specs.Map.{lookup, remove_entry}
+-- What a world in memory answers.
+use Rattle.std.specs.Prelude.{ℕ, ℤ, pos, ◌+◌, ◌^◌, ◌==◌, ◌&&◌, nat_lt, Bool, true, false, if◌then◌else◌, List, [], ◌∷◌, length, take, drop, Option, Some, None, is_some, unwrap_or}
+use Rattle.std.specs.Map.{lookup}
 use Rattle.std.specs.Option.{option_map_or}
 use Rattle.std.specs.Str.{bytes_eq}
-use Rattle.box_world.specs.declared.ask.Ask.{Ask}
-use Rattle.box_world.specs.declared.ask.Mode.TheVariants.{Write}
+use Rattle.box_world.specs.declared.ask.Mode.{Mode}
+use Rattle.box_world.specs.declared.ask.Mode.TheVariants.{Read, Write, Append, RunIn, RunOut}
 use Rattle.box_world.specs.declared.ask.Reply.{Reply}
-use Rattle.box_world.specs.declared.ask.Reply.TheVariants.{Opened, Done, Status, Failed}
+use Rattle.box_world.specs.declared.ask.Reply.TheVariants.{Opened, Bytes, End, Done, Status, Value, Failed}
 use Rattle.box_world.specs.declared.ask.Request.{Request}
-use Rattle.box_world.specs.declared.ask.Request.TheVariants.{Open, Put, Shut, System}
-use Rattle.box_world.specs.MemoryState.{Contents, MemoryState}
-use Rattle.box_world.specs.MemoryTexts.{with_text, with_more}
+use Rattle.box_world.specs.declared.ask.Request.TheVariants.{Open, Next, Put, Shut, System, Env, Assign}
+use Rattle.box_world.specs.declared.memory_world.store.Stream.{Stream}
+use Rattle.box_world.specs.MemoryState.{Behavior, Contents, MemoryState}
 
 -- a command that was not put has no output and the status 127
-abbrev pub status_of : List ℕ → Contents → ℤ
-status_of text store = option_map_or (λ c. c.status) (lookup (bytes_eq text) store.commands) (pos 127)
+abbrev pub status_of : List ℕ → List (List ℕ × Behavior) → ℤ
+status_of text commands = option_map_or (λ c. c.status) (lookup (bytes_eq text) commands) (pos 127)
 
-abbrev pub output_of : List ℕ → Contents → List ℕ
-output_of text store = option_map_or (λ c. c.output) (lookup (bytes_eq text) store.commands) []
+abbrev pub output_of : List ℕ → List (List ℕ × Behavior) → List ℕ
+output_of text commands = option_map_or (λ c. c.output) (lookup (bytes_eq text) commands) []
+
+-- a file that is opened to be read must be there
+abbrev pub can_open : Mode → List ℕ → Contents → Bool
+can_open Read text store = is_some (lookup (bytes_eq text) store.files)
+can_open mode text store = true
+
+abbrev pub opening : Mode → List ℕ → Contents → Reply
+opening mode text store = if can_open mode text store && nat_lt store.next (2 ^ 32) then Opened store.next else Failed
+
+-- what a stream reads: the file as it is now, or what the command prints
+abbrev pub source : Mode → List ℕ → Contents → Option (List ℕ)
+source Read text store = Some (unwrap_or (lookup (bytes_eq text) store.files) [])
+source RunIn text store = Some (output_of text store.commands)
+source mode text store = None
+
+-- the next bytes of what is unread
+abbrev pub next_of : ℕ → List ℕ → Reply
+next_of chunk [] = End
+next_of chunk (b ∷ bs) = Bytes (take chunk (b ∷ bs))
+
+abbrev pub reading_of : Stream → Contents → Reply
+reading_of stream store = option_map_or (λ text. next_of store.chunk (drop stream.read text)) (source stream.mode stream.text store) Failed
+
+abbrev pub reading_from : ℕ → Contents → Reply
+reading_from n store = option_map_or (λ stream. reading_of stream store) (lookup (λ k. k == n) store.streams) Failed
+
+-- 0 is the standard input
+abbrev pub reading : ℕ → Contents → Reply
+reading n store = if n == 0 then next_of store.chunk (drop store.read store.input) else reading_from n store
+
+-- whether a stream that was opened so is written to
+abbrev pub is_written : Mode → Bool
+is_written Read = false
+is_written RunIn = false
+is_written mode = true
+
+abbrev pub is_written_in : ℕ → List (ℕ × Stream) → Bool
+is_written_in n streams = option_map_or (λ stream. is_written stream.mode) (lookup (λ k. k == n) streams) false
+
+-- nothing is put to the standard input, or to what is read
+abbrev pub putting : ℕ → Contents → Reply
+putting n store =
+    if n == 0 then Failed
+    else if n == 1 then Done
+    else if n == 2 then Done
+    else if is_written_in n store.streams then Done else Failed
+
+-- the shutting of a command gives its status
+abbrev pub shutting_of : Mode → List ℕ → Contents → Reply
+shutting_of RunIn text store = Status (status_of text store.commands)
+shutting_of RunOut text store = Status (status_of text store.commands)
+shutting_of mode text store = Done
+
+abbrev pub shutting : ℕ → Contents → Reply
+shutting n store = option_map_or (λ stream. shutting_of stream.mode stream.text store) (lookup (λ k. k == n) store.streams) Done
+
+abbrev pub value_of : List ℕ → Contents → Reply
+value_of name store = option_map_or (λ text. Value text) (lookup (bytes_eq name) store.environment) Failed
 
 -- the reply to a request that does not fail by its number
 abbrev pub plain_reply : Contents → Request → Reply
-plain_reply store (Open Write text) = if nat_lt store.next (2 ^ 32) then Opened store.next else Failed
-plain_reply store (Put n bytes) = if n == 0 then Failed else Done
-plain_reply store (Shut n) = Done
-plain_reply store (System text) = Status (status_of text store)
-plain_reply store request = Failed
+plain_reply store (Open mode text) = opening mode text store
+plain_reply store (Next n) = reading n store
+plain_reply store (Put n bytes) = putting n store
+plain_reply store (Shut n) = shutting n store
+plain_reply store (System text) = Status (status_of text store.commands)
+plain_reply store (Env name) = value_of name store
+plain_reply store (Assign name text) = Done
 
 -- asks are counted from 1
 abbrev pub is_failing : MemoryState → Bool
@@ -33,39 +93,3 @@ is_failing state = length state.asked + 1 == state.fail_at
 
 abbrev pub reply_of : MemoryState → Request → Reply
 reply_of state request = if is_failing state then Failed else plain_reply state.store request
-
--- a file that is opened to be written is empty then, and is made where there is none
-abbrev pub with_open : ℕ → List ℕ → Contents → Contents
-with_open n text store = record store {
-  files = with_text text [] store.files;
-  streams = store.streams ++ (n, text) ∷ [];
-  next = store.next + 1;
-}
-
--- what is put to 1 or 2 is kept as output or errors, and else goes to the end of the stream's file
-abbrev pub with_put : ℕ → List ℕ → Contents → Contents
-with_put n bytes store =
-    if n == 1 then record store { output = store.output ++ bytes }
-    else if n == 2 then record store { errors = store.errors ++ bytes }
-    else record store { files = option_map_or (λ text. with_more text bytes store.files) (lookup (λ k. k == n) store.streams) store.files }
-
-abbrev pub with_shut : ℕ → Contents → Contents
-with_shut n store = record store { streams = remove_entry (λ k. k == n) store.streams }
-
-abbrev pub with_run : List ℕ → Contents → Contents
-with_run text store = record store { output = store.output ++ output_of text store }
-
--- What an answered request leaves. One that failed leaves all as it was, but a number is shut whatever the reply.
-abbrev pub left_by : Request → Reply → Contents → Contents
-left_by (Open mode text) (Opened n) store = with_open n text store
-left_by (Put n bytes) Done store = with_put n bytes store
-left_by (Shut n) reply store = with_shut n store
-left_by (System text) (Status s) store = with_run text store
-left_by request reply store = store
-
--- the world after one more ask and its reply
-abbrev pub answered : Ask → Reply → MemoryState → MemoryState
-answered ask reply state = record state {
-  asked = state.asked ++ (ask, reply) ∷ [];
-  store = left_by ask.request reply state.store;
-}

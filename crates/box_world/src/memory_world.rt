@@ -1,12 +1,14 @@
 // A world in memory, for tests and for hosts that give a script no real files.
-ghost use Rattle.std.specs.Prelude.{◌≡◌, ◌∷◌, [], false, IfErr, IfOk, OnErr, OnOk};
+ghost use Rattle.std.specs.Prelude.{◌≡◌, ◌<◌, ◌∷◌, [], false, Ok, IfErr, IfOk, OnErr, OnOk};
 ghost use Rattle.std.specs.Map.{lookup};
 ghost use Rattle.std.specs.Option.{option_copied};
 ghost use Rattle.std.specs.Str.{bytes_eq};
 ghost use Rattle.box_world.specs.Calls.{IsFitting, IsStatus};
 ghost use Rattle.box_world.specs.MemoryLaw.{Leads, Leads-append, Leads-none, Leads-open, numbers_of};
 ghost use Rattle.box_world.specs.MemoryNumbers.{GivesNext};
-ghost use Rattle.box_world.specs.MemoryReplies.{answered, reply_of};
+ghost use Rattle.box_world.specs.MemoryChanges.{answered};
+ghost use Rattle.box_world.specs.MemoryReplies.{reply_of};
+ghost use Rattle.box_world.specs.MemoryState.{nothing};
 ghost use Rattle.box_world.specs.MemoryTexts.{with_text};
 ghost use Rattle.box_world.specs.declared.ask.Stop.TheVariants.{Memory as OutOfMemory};
 
@@ -23,9 +25,8 @@ use store::Store;
 
 /// A world whose files and commands are in memory. It keeps all that it is asked, with its replies.
 ///
-/// For now it opens files to write, takes what is put to them and to the standard output and
-/// error, shuts streams and runs commands. All other requests are not there yet: they are `Failed`.
-/// It never answers `Stop::Log`.
+/// A file, a command or a name is what was put under exactly this text; a file that is written
+/// is kept. The standard input is what was put as it. It never answers `Stop::Log`.
 #[derive(Drop)]
 pub struct MemoryWorld {
     alloc: Global,
@@ -48,7 +49,7 @@ impl MemoryWorld {
         ensures { result ≡ record {
           asked = [];
           fail_at = 0;
-          store = record { commands = []; files = []; streams = []; output = []; errors = []; next = 3 };
+          store = nothing;
         } }
     {
         MemoryWorld {
@@ -73,6 +74,46 @@ impl MemoryWorld {
         self.store.put_command(text, output, status)
     }
 
+    /// From now on the file of this text has these bytes, in the place of those that it had.
+    /// `Memory` changes nothing.
+    pub fn put_file(&mut self, text: Octets, bytes: Octets) -> Result<(), Memory>
+        ensures ok { OnOk result (self.new ≡ record self.old {
+          store = record self.old.store { files = with_text text bytes self.old.store.files };
+        }) }
+        ensures err { OnErr result (self.new ≡ self.old) }
+    {
+        self.store.put_file(text, bytes)
+    }
+
+    /// From now on the name of the environment has this value. A second put of one name replaces
+    /// the first. `Memory` changes nothing.
+    pub fn put_env(&mut self, name: Octets, value: Octets) -> Result<(), Memory>
+        ensures ok { OnOk result (self.new ≡ record self.old {
+          store = record self.old.store { environment = with_text name value self.old.store.environment };
+        }) }
+        ensures err { OnErr result (self.new ≡ self.old) }
+    {
+        self.store.put_env(name, value)
+    }
+
+    /// From now on these bytes, none of which was read, are the standard input, in the place of
+    /// what it was. It is always `Ok` today; a world that keeps a copy would answer `Memory`.
+    pub fn put_input(&mut self, bytes: Octets) -> Result<(), Memory>
+        ensures done { result ≡ Ok tt }
+        ensures input { self.new ≡ record self.old { store = record self.old.store { input = bytes; read = 0 } } }
+    {
+        self.store.put_input(bytes);
+        Ok(())
+    }
+
+    /// From now on one reading gives at most so many bytes: 8,192 until then. Takes no memory.
+    pub fn chunk(&mut self, n: usize)
+        requires { 0 < n }
+        ensures { self.new ≡ record self.old { store = record self.old.store { chunk = n } } }
+    {
+        self.store.set_chunk(n);
+    }
+
     /// Makes the ask of this number fail, and no other. Answered asks are counted from 1, those of
     /// the past too; 0 is none of them. Takes no memory.
     pub fn fail_at(&mut self, n: usize)
@@ -86,6 +127,14 @@ impl MemoryWorld {
         ensures { option_copied result ≡ lookup (bytes_eq text.now) self.now.store.files }
     {
         self.store.file(text)
+    }
+
+    /// What was put to the command of this text, over all its openings to be written to, or `None`
+    /// where it was never opened so. Takes no memory.
+    pub fn fed(&self, text: &[u8]) -> Option<&[u8]>
+        ensures { option_copied result ≡ lookup (bytes_eq text.now) self.now.store.fed }
+    {
+        self.store.fed(text)
     }
 
     /// What was put to the standard output, and what commands printed. Takes no memory.
@@ -109,13 +158,13 @@ impl MemoryWorld {
         self.asked.as_slice()
     }
 
-    fn reply_to(&self, request: &Request) -> Reply
-        ensures reply { result ≡ reply_of self.now request.now }
-        ensures fits { IsFitting (numbers_of self.now) request.now result }
-        ensures next { GivesNext self.now.store.next result }
+    fn reply_to(&self, request: &Request) -> Result<Reply, Memory>
+        ensures reply { IfOk result (λ r. r ≡ reply_of self.now request.now) }
+        ensures fits { IfOk result (IsFitting (numbers_of self.now) request.now) }
+        ensures next { IfOk result (GivesNext self.now.store.next) }
     {
         if self.asked.len() + 1 == self.fail_at {
-            return Reply::Failed;
+            return Ok(Reply::Failed);
         }
         self.store.reply_to(request)
     }
@@ -144,7 +193,7 @@ impl World for MemoryWorld {
         ensures err { OnErr result (self.new ≡ self.old) }
         ensures memory { IfErr result (λ e. e ≡ OutOfMemory) }
     {
-        let reply = self.reply_to(&ask.request);
+        let reply = self.reply_to(&ask.request)?;
         let told = reply.copy(self.alloc)?;
         let kept = ask.copy(self.alloc)?;
         self.asked.reserve(1)?;

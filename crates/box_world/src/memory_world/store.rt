@@ -1,11 +1,14 @@
 // What a world in memory holds.
-ghost use Rattle.std.specs.Prelude.{◌≡◌, [], OnOk, OnErr};
+ghost use Rattle.std.specs.Prelude.{◌≡◌, ◌<◌, ◌++◌, [], IfOk, OnOk, OnErr, drop};
 ghost use Rattle.std.specs.Map.{keys_of, lookup};
 ghost use Rattle.std.specs.Option.{option_copied};
 ghost use Rattle.std.specs.Str.{bytes_eq};
-ghost use Rattle.box_world.specs.Calls.{IsFitting, IsStatus};
+ghost use Rattle.box_world.specs.Calls.{IsFitting, IsOpening, IsReading, IsDoing, IsShutting, IsStatus, IsValuing};
+ghost use Rattle.box_world.specs.MemoryChanges.{files_made, fed_made, left_by, stream_read, with_end, with_open, with_put, with_read, with_read_from, with_shut};
 ghost use Rattle.box_world.specs.MemoryNumbers.{GivesNext};
-ghost use Rattle.box_world.specs.MemoryReplies.{left_by, output_of, plain_reply, status_of, with_open, with_put, with_run, with_shut};
+ghost use Rattle.box_world.specs.MemoryReplies as spec;
+ghost use Rattle.box_world.specs.MemoryReplies.{next_of, output_of, plain_reply};
+ghost use Rattle.box_world.specs.MemoryState.{nothing};
 ghost use Rattle.box_world.specs.MemoryTexts.{with_text};
 
 use super::texts::{Growing, Texts};
@@ -49,14 +52,97 @@ impl Command {
     }
 }
 
+/// An open stream: how it was opened, on what, and how many bytes were read of it.
+#[derive(Drop)]
+pub struct Stream {
+    pub mode: Mode,
+    pub text: Octets,
+    pub read: usize,
+}
+
+impl Stream {
+    fn advance(&mut self, count: usize)
+        ensures { self.new ≡ stream_read count self.old }
+    {
+        self.read = self.read.saturating_add(count);
+    }
+}
+
+fn status_of(commands: &Texts<Command>, text: &[u8]) -> i64
+    ensures status { result ≡ spec.status_of text.now commands.now.pairs }
+    ensures valid { IsStatus result }
+{
+    match commands.get(text) {
+        Some(command) => command.status(),
+        None => 127,
+    }
+}
+
+fn output_of<'a>(commands: &'a Texts<Command>, text: &[u8]) -> &'a [u8]
+    ensures { result.now ≡ output_of text.now commands.now.pairs }
+{
+    match commands.get(text) {
+        Some(command) => command.output(),
+        None => &[],
+    }
+}
+
+/// Adds what the command prints. `Memory` changes nothing.
+fn run(commands: &Texts<Command>, text: &[u8], output: &mut Vec<u8>) -> Result<(), Memory>
+    ensures ok { OnOk result (output.new.items ≡ output.old.items ++ output_of text.now commands.now.pairs) }
+    ensures err { OnErr result (output.new.items ≡ output.old.items) }
+{
+    output.extend_from_slice(output_of(commands, text))
+}
+
+/// The next bytes of a text of which so many were read.
+fn read_on(alloc: Global, text: &[u8], read: usize, chunk: usize) -> Result<Reply, Memory>
+    requires { 0 < chunk }
+    ensures reply { IfOk result (λ r. r ≡ next_of chunk (drop read text.now)) }
+    ensures fits { IfOk result IsReading }
+{
+    let unread = &text[read.min(text.len())..];
+    if unread.is_empty() {
+        return Ok(Reply::End);
+    }
+    let bytes = Vec::from_slice(alloc, &unread[..unread.len().min(chunk)])?;
+    Ok(Reply::Bytes(Octets::new(bytes)))
+}
+
+/// Makes what an opening makes. There is room for it.
+fn make(
+    files: &mut Texts<Growing>,
+    fed: &mut Texts<Growing>,
+    alloc: Global,
+    mode: Mode,
+    text: Octets,
+)
+    requires files { 0 < files.old.room }
+    requires fed { 0 < fed.old.room }
+    ensures files { files.new.pairs ≡ files_made mode text files.old.pairs }
+    ensures fed { fed.new.pairs ≡ fed_made mode text fed.old.pairs }
+{
+    match mode {
+        Mode::Read | Mode::RunIn => {}
+        Mode::Write => files.put(text, Growing::new(alloc)).unwrap(),
+        Mode::Append => files.put_new(alloc, text),
+        Mode::RunOut => fed.put_new(alloc, text),
+    }
+}
+
 /// What a world in memory holds: what was put, the open streams, and what was written.
 #[derive(Drop)]
 pub struct Store {
     alloc: Global,
     commands: Texts<Command>,
     files: Texts<Growing>,
-    // The texts of the open files by their numbers, which ascend in order of opening.
-    streams: BTreeMap<u32, Octets>,
+    environment: Texts<Octets>,
+    input: Octets,
+    read: usize,
+    chunk: usize,
+    // The open streams by their numbers, which ascend in order of opening.
+    streams: BTreeMap<u32, Stream>,
+    fed: Texts<Growing>,
     output: Vec<u8>,
     errors: Vec<u8>,
     // 2^32 where no number is left.
@@ -64,6 +150,7 @@ pub struct Store {
 }
 
 impl Model for Store {
+    ghost use Rattle.std.specs.Prelude.{◌<◌};
     ghost use Rattle.std.specs.Map.{keys_of};
     ghost use Rattle.box_world.specs.MemoryNumbers.{IsNumbered};
     ghost use Rattle.box_world.specs.MemoryState.{Contents};
@@ -73,24 +160,34 @@ impl Model for Store {
     ghost view = { λ s. record {
       commands = s.commands.pairs;
       files = s.files.pairs;
+      environment = s.environment.pairs;
+      input = s.input;
+      read = s.read;
+      chunk = s.chunk;
       streams = s.streams.entries;
+      fed = s.fed.pairs;
       output = s.output.items;
       errors = s.errors.items;
       next = s.next;
     } };
 
-    ghost invariant = { λ s. IsNumbered s.next (keys_of s.streams.entries) };
+    ghost invariant = { λ s. IsNumbered s.next (keys_of s.streams.entries) × (0 < s.chunk) };
 }
 
 impl Store {
     pub fn new(alloc: Global) -> Store
-        ensures { result ≡ record { commands = []; files = []; streams = []; output = []; errors = []; next = 3 } }
+        ensures { result ≡ nothing }
     {
         Store {
             alloc,
             commands: Texts::new(alloc),
             files: Texts::new(alloc),
+            environment: Texts::new(alloc),
+            input: Octets::new(Vec::new(alloc)),
+            read: 0,
+            chunk: 8192,
             streams: BTreeMap::new(alloc),
+            fed: Texts::new(alloc),
             output: Vec::new(alloc),
             errors: Vec::new(alloc),
             next: 3,
@@ -107,10 +204,47 @@ impl Store {
         self.commands.put(text, Command { output, status })
     }
 
+    pub fn put_file(&mut self, text: Octets, bytes: Octets) -> Result<(), Memory>
+        ensures ok { OnOk result (self.new ≡ record self.old { files = with_text text bytes self.old.files }) }
+        ensures err { OnErr result (self.new ≡ self.old) }
+    {
+        self.files.put(text, Growing::of(bytes))
+    }
+
+    pub fn put_env(&mut self, name: Octets, value: Octets) -> Result<(), Memory>
+        ensures ok { OnOk result (self.new ≡ record self.old { environment = with_text name value self.old.environment }) }
+        ensures err { OnErr result (self.new ≡ self.old) }
+    {
+        self.environment.put(name, value)
+    }
+
+    pub fn put_input(&mut self, bytes: Octets)
+        ensures { self.new ≡ record self.old { input = bytes; read = 0 } }
+    {
+        self.input = bytes;
+        self.read = 0;
+    }
+
+    pub fn set_chunk(&mut self, n: usize)
+        requires { 0 < n }
+        ensures { self.new ≡ record self.old { chunk = n } }
+    {
+        self.chunk = n;
+    }
+
     pub fn file(&self, text: &[u8]) -> Option<&[u8]>
         ensures { option_copied result ≡ lookup (bytes_eq text.now) self.now.files }
     {
         match self.files.get(text) {
+            Some(growing) => Some(growing.bytes()),
+            None => None,
+        }
+    }
+
+    pub fn fed(&self, text: &[u8]) -> Option<&[u8]>
+        ensures { option_copied result ≡ lookup (bytes_eq text.now) self.now.fed }
+    {
+        match self.fed.get(text) {
             Some(growing) => Some(growing.bytes()),
             None => None,
         }
@@ -128,47 +262,162 @@ impl Store {
         self.errors.as_slice()
     }
 
-    fn status_of(&self, text: &[u8]) -> i64
-        ensures status { result ≡ status_of text.now self.now }
-        ensures valid { IsStatus result }
+    fn opening(&self, mode: Mode, text: &[u8]) -> Reply
+        ensures reply { result ≡ spec.opening mode text.now self.now }
+        ensures fits { IsOpening (keys_of self.now.streams) result }
+        ensures next { GivesNext self.now.next result }
     {
-        match self.commands.get(text) {
-            Some(command) => command.status(),
-            None => 127,
+        if mode == Mode::Read && self.files.get(text).is_none() {
+            return Reply::Failed;
+        }
+        match u32::try_from(self.next) {
+            Ok(number) => Reply::Opened(number),
+            Err(_) => Reply::Failed,
         }
     }
 
-    /// The reply to a request that is not made to fail.
-    pub fn reply_to(&self, request: &Request) -> Reply
-        ensures reply { result ≡ plain_reply self.now request.now }
-        ensures fits { IsFitting (keys_of self.now.streams) request.now result }
-        ensures next { GivesNext self.now.next result }
+    fn source(&self, stream: &Stream) -> Option<&[u8]>
+        ensures { option_copied result ≡ spec.source stream.now.mode stream.now.text self.now }
     {
-        match request {
-            Request::Open(Mode::Write, _) => match u32::try_from(self.next) {
-                Ok(number) => Reply::Opened(number),
-                Err(_) => Reply::Failed,
+        match stream.mode {
+            Mode::Read => Some(self.file(stream.text.bytes()).unwrap_or(&[])),
+            Mode::RunIn => Some(output_of(&self.commands, stream.text.bytes())),
+            Mode::Write | Mode::Append | Mode::RunOut => None,
+        }
+    }
+
+    fn reading_of(&self, stream: &Stream) -> Result<Reply, Memory>
+        ensures reply { IfOk result (λ r. r ≡ spec.reading_of stream.now self.now) }
+        ensures fits { IfOk result IsReading }
+    {
+        match self.source(stream) {
+            Some(text) => read_on(self.alloc, text, stream.read, self.chunk),
+            None => Ok(Reply::Failed),
+        }
+    }
+
+    fn reading_from(&self, number: u32) -> Result<Reply, Memory>
+        ensures reply { IfOk result (λ r. r ≡ spec.reading_from number self.now) }
+        ensures fits { IfOk result IsReading }
+    {
+        match self.streams.get(&number) {
+            Some(stream) => self.reading_of(stream),
+            None => Ok(Reply::Failed),
+        }
+    }
+
+    fn reading(&self, number: u32) -> Result<Reply, Memory>
+        ensures reply { IfOk result (λ r. r ≡ spec.reading number self.now) }
+        ensures fits { IfOk result IsReading }
+    {
+        match number {
+            0 => read_on(self.alloc, self.input.bytes(), self.read, self.chunk),
+            _ => self.reading_from(number),
+        }
+    }
+
+    fn is_written(&self, number: u32) -> bool
+        ensures { result ≡ spec.is_written_in number self.now.streams }
+    {
+        match self.streams.get(&number) {
+            Some(stream) => match stream.mode {
+                Mode::Read | Mode::RunIn => false,
+                Mode::Write | Mode::Append | Mode::RunOut => true,
             },
-            Request::Put(0, _) => Reply::Failed,
-            Request::Put(_, _) => Reply::Done,
-            Request::Shut(_) => Reply::Done,
-            Request::System(text) => Reply::Status(self.status_of(text.bytes())),
+            None => false,
+        }
+    }
+
+    fn putting(&self, number: u32) -> Reply
+        ensures reply { result ≡ spec.putting number self.now }
+        ensures fits { IsDoing result }
+    {
+        match number {
+            0 => Reply::Failed,
+            1 | 2 => Reply::Done,
+            _ if self.is_written(number) => Reply::Done,
             _ => Reply::Failed,
         }
     }
 
-    fn open(&mut self, number: u32, text: &Octets) -> Result<(), Memory>
+    fn shutting(&self, number: u32) -> Reply
+        ensures reply { result ≡ spec.shutting number self.now }
+        ensures fits { IsShutting result }
+    {
+        match self.streams.get(&number) {
+            Some(stream) => match stream.mode {
+                Mode::RunIn | Mode::RunOut => {
+                    Reply::Status(status_of(&self.commands, stream.text.bytes()))
+                }
+                Mode::Read | Mode::Write | Mode::Append => Reply::Done,
+            },
+            None => Reply::Done,
+        }
+    }
+
+    fn value_of(&self, name: &[u8]) -> Result<Reply, Memory>
+        ensures reply { IfOk result (λ r. r ≡ spec.value_of name.now self.now) }
+        ensures fits { IfOk result IsValuing }
+    {
+        match self.environment.get(name) {
+            Some(value) => Ok(Reply::Value(value.copy(self.alloc)?)),
+            None => Ok(Reply::Failed),
+        }
+    }
+
+    /// The reply to a request that is not made to fail.
+    pub fn reply_to(&self, request: &Request) -> Result<Reply, Memory>
+        ensures reply { IfOk result (λ r. r ≡ plain_reply self.now request.now) }
+        ensures fits { IfOk result (IsFitting (keys_of self.now.streams) request.now) }
+        ensures next { IfOk result (GivesNext self.now.next) }
+    {
+        match request {
+            Request::Open(mode, text) => Ok(self.opening(*mode, text.bytes())),
+            Request::Next(number) => self.reading(*number),
+            Request::Put(number, _) => Ok(self.putting(*number)),
+            Request::Shut(number) => Ok(self.shutting(*number)),
+            Request::System(text) => Ok(Reply::Status(status_of(&self.commands, text.bytes()))),
+            Request::Env(name) => self.value_of(name.bytes()),
+            Request::Assign(_, _) => Ok(Reply::Done),
+        }
+    }
+
+    fn open(&mut self, number: u32, mode: Mode, text: &Octets) -> Result<(), Memory>
         requires { number ≡ self.old.next }
-        ensures ok { OnOk result (self.new ≡ with_open number text.now self.old) }
+        ensures ok { OnOk result (self.new ≡ with_open mode number text.now self.old) }
         ensures err { OnErr result (self.new ≡ self.old) }
     {
         let name = text.copy(self.alloc)?;
         let opened = text.copy(self.alloc)?;
         self.files.make_room()?;
-        self.streams.insert(number, opened)?;
-        self.files.put(name, Growing::new(self.alloc)).unwrap();
+        self.fed.make_room()?;
+        let stream = Stream {
+            mode,
+            text: opened,
+            read: 0,
+        };
+        self.streams.insert(number, stream)?;
+        make(&mut self.files, &mut self.fed, self.alloc, mode, name);
         self.next += 1;
         Ok(())
+    }
+
+    fn advance_stream(&mut self, number: u32, count: usize)
+        ensures { self.new ≡ with_read_from number count self.old }
+    {
+        match self.streams.get_mut(&number) {
+            Some(stream) => stream.advance(count),
+            None => {}
+        }
+    }
+
+    fn advance(&mut self, number: u32, count: usize)
+        ensures { self.new ≡ with_read number count self.old }
+    {
+        match number {
+            0 => self.read = self.read.saturating_add(count),
+            _ => self.advance_stream(number, count),
+        }
     }
 
     fn put(&mut self, number: u32, bytes: &[u8]) -> Result<(), Memory>
@@ -179,9 +428,27 @@ impl Store {
             1 => self.output.extend_from_slice(bytes),
             2 => self.errors.extend_from_slice(bytes),
             _ => match self.streams.get(&number) {
-                Some(text) => self.files.add(text.bytes(), bytes),
+                Some(stream) => match stream.mode {
+                    Mode::Write | Mode::Append => self.files.add(stream.text.bytes(), bytes),
+                    Mode::RunOut => self.fed.add(stream.text.bytes(), bytes),
+                    Mode::Read | Mode::RunIn => Ok(()),
+                },
                 None => Ok(()),
             },
+        }
+    }
+
+    /// A command that was written to prints once its input has ended. `Memory` changes nothing.
+    fn end(&mut self, number: u32) -> Result<(), Memory>
+        ensures ok { OnOk result (self.new ≡ with_end number self.old) }
+        ensures err { OnErr result (self.new ≡ self.old) }
+    {
+        match self.streams.get(&number) {
+            Some(stream) => match stream.mode {
+                Mode::RunOut => run(&self.commands, stream.text.bytes(), &mut self.output),
+                Mode::Read | Mode::Write | Mode::Append | Mode::RunIn => Ok(()),
+            },
+            None => Ok(()),
         }
     }
 
@@ -191,39 +458,31 @@ impl Store {
         self.streams.remove(&number);
     }
 
-    fn run(&mut self, text: &[u8]) -> Result<(), Memory>
-        ensures ok { OnOk result (self.new ≡ with_run text.now self.old) }
-        ensures err { OnErr result (self.new ≡ self.old) }
-    {
-        match self.commands.get(text) {
-            Some(command) => self.output.extend_from_slice(command.output()),
-            None => Ok(()),
-        }
-    }
-
     /// Does what the reply says of the request. `Memory` changes nothing.
     pub fn leave(&mut self, request: &Request, reply: &Reply) -> Result<(), Memory>
         requires { GivesNext self.old.next reply.now }
         ensures ok { OnOk result (self.new ≡ left_by request.now reply.now self.old) }
         ensures err { OnErr result (self.new ≡ self.old) }
     {
-        match request {
-            Request::Open(_, text) => match reply {
-                Reply::Opened(number) => self.open(*number, text),
-                _ => Ok(()),
-            },
-            Request::Put(number, bytes) => match reply {
-                Reply::Done => self.put(*number, bytes.bytes()),
-                _ => Ok(()),
-            },
-            Request::Shut(number) => {
+        match (request, reply) {
+            (Request::Open(mode, text), Reply::Opened(number)) => self.open(*number, *mode, text),
+            (Request::Next(number), Reply::Bytes(bytes)) => {
+                self.advance(*number, bytes.bytes().len());
+                Ok(())
+            }
+            (Request::Put(number, bytes), Reply::Done) => self.put(*number, bytes.bytes()),
+            (Request::Shut(number), Reply::Failed) => {
                 self.shut(*number);
                 Ok(())
             }
-            Request::System(text) => match reply {
-                Reply::Status(_) => self.run(text.bytes()),
-                _ => Ok(()),
-            },
+            (Request::Shut(number), _) => {
+                self.end(*number)?;
+                self.shut(*number);
+                Ok(())
+            }
+            (Request::System(text), Reply::Status(_)) => {
+                run(&self.commands, text.bytes(), &mut self.output)
+            }
             _ => Ok(()),
         }
     }

@@ -3,7 +3,7 @@ ghost use Rattle.std.specs.Prelude.{◌≡◌, ◌<◌, [], OnOk, OnErr, IsOk};
 ghost use Rattle.std.specs.Map.{lookup};
 ghost use Rattle.std.specs.Option.{option_copied};
 ghost use Rattle.std.specs.Str.{bytes_eq};
-ghost use Rattle.box_world.specs.MemoryTexts.{with_text, with_more};
+ghost use Rattle.box_world.specs.MemoryTexts.{with_text, with_more, with_new};
 
 use awk_text::Memory;
 use awk_text::octets::Octets;
@@ -81,6 +81,14 @@ impl Model for Growing {
 impl Growing {
     ghost use Rattle.std.specs.Prelude.{◌++◌};
 
+    pub fn of(bytes: Octets) -> Growing
+        ensures { result ≡ bytes }
+    {
+        Growing {
+            bytes: bytes.into_bytes(),
+        }
+    }
+
     pub fn new(alloc: Global) -> Growing
         ensures { result ≡ [] }
     {
@@ -104,6 +112,16 @@ impl Growing {
 }
 
 impl Texts<Growing> {
+    /// Puts no bytes under the text, where nothing stands there yet. There is room for it.
+    pub fn put_new(&mut self, alloc: Global, text: Octets)
+        requires { 0 < self.old.room }
+        ensures { self.new.pairs ≡ with_new text self.old.pairs }
+    {
+        if self.get(text.bytes()).is_none() {
+            self.put(text, Growing::new(alloc)).unwrap();
+        }
+    }
+
     /// Adds the bytes to what stands under the text, if anything does. `Memory` changes nothing.
     pub fn add(&mut self, text: &[u8], bytes: &[u8]) -> Result<(), Memory>
         ensures ok { OnOk result (self.new.pairs ≡ with_more text.now bytes.now self.old.pairs) }

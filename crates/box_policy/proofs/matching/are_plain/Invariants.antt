@@ -1,6 +1,6 @@
 use Rattle.std.proofs.Common.{◌≡◌, length}
 use Rattle.std.specs.List.{list_all}
-use Rattle.box_policy.specs.declared.matching.Sort.TheVariants.{Component}
+use Rattle.box_policy.specs.declared.tokens.Sort.TheVariants.{Component}
 use Rattle.box_policy.specs.Paths.{names}
 use Rattle.box_policy.specs.Plain.{is_plain_pattern}
 use Rattle.box_policy.proofs.matching.are_plain.Given as goal

@@ -1,5 +1,5 @@
 use Rattle.std.proofs.Common.{◌≡◌, ◌+◌, ◌≤◌, ◌++◌, List, length, map}
-use Rattle.box_policy.specs.declared.matching.Sort.TheVariants.{Component}
+use Rattle.box_policy.specs.declared.tokens.Sort.TheVariants.{Component}
 use Rattle.box_policy.specs.declared.tokens.Token.{Token}
 use Rattle.box_policy.specs.Division.{Symbol}
 use Rattle.box_policy.specs.Paths.{names}

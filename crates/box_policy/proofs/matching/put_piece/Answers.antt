@@ -1,5 +1,5 @@
 use Rattle.std.proofs.Common.{◌≡◌, ◌∙◌, ◌++◌, ◌∷◌, sym, subst, map, false, bytes_eq, codes, rules}
-use Rattle.box_policy.specs.declared.matching.Sort.TheVariants.{Component}
+use Rattle.box_policy.specs.declared.tokens.Sort.TheVariants.{Component}
 use Rattle.box_policy.specs.Patterns.{symbols, one}
 use Rattle.box_policy.specs.Tables.{Holds}
 use Rattle.box_policy.specs.Tokens.{lifted, is_close}

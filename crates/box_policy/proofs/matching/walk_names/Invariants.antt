@@ -1,5 +1,5 @@
 use Rattle.std.proofs.Common.{◌≡◌, ◌<◌, ◌*◌, ◌++◌, List, length}
-use Rattle.box_policy.specs.declared.matching.Sort.TheVariants.{Component}
+use Rattle.box_policy.specs.declared.tokens.Sort.TheVariants.{Component}
 use Rattle.box_policy.specs.declared.tokens.Token.{Token}
 use Rattle.box_policy.specs.Blocks.{has}
 use Rattle.box_policy.specs.Cells.{row, never, reach, ones}

@@ -1,0 +1,8 @@
+use Rattle.awk_fields.proofs.Alone as alone
+use Rattle.awk_fields.proofs.laws.one_list.Goals as goal
+
+pub returns-clause-texts : goal.returns-clause-texts
+returns-clause-texts c = alone.one_list
+
+pub returns-clause-values : goal.returns-clause-values
+returns-clause-values c = alone.one_row

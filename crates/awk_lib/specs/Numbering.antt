@@ -1,0 +1,56 @@
+-- How an array is kept: each value with the number of its element, in any order. Elements are numbered as they are added,
+-- so that the list which contracts see is that of the elements in the order of their numbers.
+use Rattle.std.specs.Prelude.{◌≡◌, ℕ, ◌<◌, nat_lt, nat_eq, Bool, true, if◌then◌else◌, List, [], ◌∷◌, map, ⊤, slice_get, Option, Some, None}
+use Rattle.std.specs.Option.{option_map_or}
+use Rattle.std.specs.Map.{values_of}
+use Rattle.std.specs.Str.{bytes_eq}
+use Rattle.std.specs.List.{AllByRecursion, IsDistinct}
+use Rattle.awk_lib.specs.Arrays.{Array}
+use Rattle.awk_lib.specs.declared.array.Numbered.{Numbered}
+
+module _ {P : Type 0} where
+  -- the row, put before the first one with a greater number
+  abbrev pub into : ℕ × P → List (ℕ × P) → List (ℕ × P)
+  into row [] = row ∷ []
+  into row (r ∷ rs) = if nat_lt r.0 row.0 then r ∷ into row rs else row ∷ r ∷ rs
+
+  abbrev pub in_order : List (ℕ × P) → List (ℕ × P)
+  in_order [] = []
+  in_order (r ∷ rs) = into r (in_order rs)
+
+  abbrev pub numbers : List (ℕ × P) → List ℕ
+  numbers rows = map (λ r. r.0) rows
+
+  -- each number is below those after it
+  abbrev pub AreRising : List (ℕ × P) → Type 0
+  AreRising [] = ⊤
+  AreRising (r ∷ rs) = AllByRecursion (λ s. r.0 < s.0) rs × AreRising rs
+
+module _ {V : Type 0} where
+  abbrev pub texts : List (ℕ × (List ℕ × V)) → List (List ℕ)
+  texts rows = map (λ r. r.1.0) rows
+
+  -- the pairs in the order of their numbers: the list that contracts see
+  abbrev pub shown : List (ℕ × (List ℕ × V)) → Array V
+  shown rows = map (λ r. r.1) (in_order rows)
+
+  -- the numbers differ and are below the next one, no two keys are the same, and where the rows are settled they stand in order
+  pub record AreNumbered (settled : Bool) (next : ℕ) (rows : List (ℕ × (List ℕ × V))) : Type 0 where
+    pub below : AllByRecursion (λ r. r.0 < next) rows
+    pub distinct : IsDistinct nat_eq (numbers rows)
+    pub keys : IsDistinct bytes_eq (texts rows)
+    pub rising : settled ≡ true → AreRising rows
+
+module _ {K V : Type 0} (text : K → List ℕ) where
+  -- the elements as they lie in the map
+  abbrev pub rows : List (K × Numbered V) → List (ℕ × (List ℕ × V))
+  rows elements = map (λ e. (e.1.number, (text e.0, e.1.value))) elements
+
+-- the number of the element that lies at the place
+abbrev pub number_at : {K V : Type 0} → List (K × Numbered V) → ℕ → ℕ
+number_at elements place = option_map_or (λ x. x.number) (slice_get (values_of elements) place) 0
+
+-- what is put where the key has the first element, or none
+abbrev pub put_in : {V : Type 0} → Option (Numbered V) → ℕ → V → Numbered V
+put_in (Some x) number value = record { number = x.number; value = value }
+put_in None number value = record { number = number; value = value }

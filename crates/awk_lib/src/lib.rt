@@ -1,0 +1,11 @@
+//! awk's arrays, and what its built-in functions do with texts (POSIX.1-2017 XCU awk, "Variables and
+//! Special Variables" and "String Functions").
+#![tactic(auto)]
+
+pub mod array;
+mod new_text;
+pub mod replacing;
+pub mod texts;
+
+pub use replacing::{replace as replace, replace_any as replace_any};
+pub use texts::{index as index, substr as substr, to_case as to_case};

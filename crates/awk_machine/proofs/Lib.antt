@@ -1,0 +1,5 @@
+mod OneMatch
+mod OneAnswer
+mod OneRun
+mod Bounds
+mod Shutting

@@ -1,0 +1,33 @@
+//! An awk script under a written policy, for hosts that embed it: [`drive`] runs a script over a world,
+//! and the world is asked only what the policy allows.
+//!
+//! A host gives [`drive`] the two texts, a [`Setup`], a [`World`] and a log. [`OsWorld`] is the world of
+//! real files and commands, [`MemoryWorld`] one in memory, for tests. [`Ending`] is what the program
+//! `awkbox` says and ends with after an answer.
+#![tactic(auto)]
+
+mod driver;
+mod messages;
+mod report;
+mod script;
+mod setup;
+mod statement;
+mod streams;
+mod walk;
+
+pub use awk_text::Memory;
+pub use awk_text::fault::Fault;
+pub use awk_text::octets::Octets;
+pub use awk_text::place::Place;
+pub use awk_tokens::SyntaxError;
+pub use box_monitor::log_end::LogEnd;
+pub use box_os::OsWorld;
+pub use box_policy::error::PolicyError;
+pub use box_policy::policy::Policy;
+pub use box_world::ask::{Ask, Mode, Reply, Request, Stop};
+pub use box_world::memory_world::MemoryWorld;
+pub use box_world::world::World;
+pub use driver::{Driven, Refusal, drive, policy_of};
+pub use messages::{Ending, Message, Warning};
+pub use report::{Outcome, Report};
+pub use setup::{Setup, SetupError};

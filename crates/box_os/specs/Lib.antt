@@ -1,0 +1,2 @@
+pub mod OsFollows
+pub mod OsNumbers

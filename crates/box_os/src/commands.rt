@@ -1,0 +1,42 @@
+// Commands that `sh` runs.
+ghost use Rattle.std.specs.Prelude.{◌≡◌, pos, ◌≤ℤ◌, IfErr, IfOk};
+ghost use Rattle.box_world.specs.Calls.{IsRunning};
+ghost use Rattle.box_world.specs.declared.ask.Stop.TheVariants.{Memory};
+
+use crate::refusals::refused;
+use box_world::ask::{Reply, Stop};
+use std::alloc::{AllocError, Global};
+use std::process::{Command, ExitStatus};
+
+/// The status that a command ended with, or 256 where a signal ended it.
+fn number_of(status: ExitStatus) -> i64
+    ensures low { pos 0 ≤ℤ result }
+    ensures high { result ≤ℤ pos 256 }
+{
+    match status.code() {
+        Some(code) if 0 <= code && code <= 255 => i64::from(code),
+        _ => 256,
+    }
+}
+
+fn shell(alloc: Global, text: &str) -> Result<Command, AllocError> {
+    let mut command = Command::new(alloc, "sh")?;
+    command.arg("-c")?;
+    command.arg(text)?;
+    Ok(command)
+}
+
+/// Runs `sh -c TEXT` with the standard streams of this process, and waits for its end. `Failed`
+/// where it cannot be started; `Stop::Memory` where memory is refused before it is.
+pub fn run_command(rt: &HostRuntime, alloc: Global, text: &[u8]) -> Result<Reply, Stop>
+    ensures fits { IfOk result (λ reply. IsRunning reply) }
+    ensures memory { IfErr result (λ e. e ≡ Memory) }
+{
+    let Ok(text) = std::str::from_utf8(text) else {
+        return Ok(Reply::Failed);
+    };
+    match shell(alloc, text)?.status(rt) {
+        Ok(status) => Ok(Reply::Status(number_of(status))),
+        Err(error) => refused(error),
+    }
+}

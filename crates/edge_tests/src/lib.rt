@@ -1,0 +1,20 @@
+//! What only a test in Rattle can show: a reader and a writer that give and take little or fail, memory that
+//! is refused, trees made by hand, whole runs and the calls of the system. These tests, and nothing else: they
+//! stand above all crates, since a crate with tests is proved once more for them. All other worked rows stand in
+//! the tables of `rows`.
+#![tactic(auto)]
+
+#[cfg(test)]
+mod drive;
+#[cfg(test)]
+mod messages;
+#[cfg(test)]
+mod monitors;
+#[cfg(test)]
+mod os_world;
+#[cfg(test)]
+mod policies;
+#[cfg(test)]
+mod readers;
+#[cfg(test)]
+mod spellings;

@@ -1,0 +1,35 @@
+//! Checks the worked rows. Each line of a table of the folder that this is started in names a call,
+//! its arguments and the answer that it is to have; the program makes the call, and tells each line
+//! that does not hold and how many do. The tables begin with what a user needs to add one.
+#![tactic(auto)]
+
+mod args;
+mod cursor;
+mod fields;
+mod formats;
+mod monitors;
+mod patterns;
+mod policies;
+mod problem;
+mod records;
+mod report;
+mod row;
+mod runs;
+mod shown;
+mod table;
+mod tokens;
+mod values;
+mod words;
+mod worlds;
+
+use report::Report;
+use std::process::ExitCode;
+use table::TABLES;
+
+fn main(rt: HostRuntime) -> ExitCode {
+    let mut report = Report::new();
+    for table in TABLES {
+        report.check_file(&rt, table);
+    }
+    ExitCode::from(report.end(&rt))
+}
