@@ -1,5 +1,11 @@
 -- Lists that are made one by one.
-use Rattle.std.proofs.Common.{◌≡◌, ◌∙◌, ℕ, ◌+◌, ◌-◌, ◌<◌, ◌≤◌, zero, suc, List, [], ◌∷◌, ◌++◌, map, Result, Ok, Err, IfOk, OnOk, length, get_or, drop, take, ap, sym, refl, arith, add-one}
+use Rattle.std.proofs.Common.{◌≡◌, ◌∙◌, ◌⊎◌, inl, inr, Option, Some, None, ℕ, ◌+◌, ◌-◌, ◌<◌, ◌≤◌, zero, suc, List, [], ◌∷◌, ◌++◌, map, Result, Ok, Err, IfOk, OnOk, length, get_or, drop, take, ap, sym, refl, arith, add-one}
+use Rattle.awk_program.specs.declared.expressions.Expr.{Expr}
+use Rattle.awk_program.specs.declared.expressions.Argument.{Argument}
+use Rattle.awk_program.specs.Program as p
+use Rattle.awk_program.specs.Program.{Expression, Arguments}
+use Rattle.awk_program.specs.View.{Names}
+use Rattle.awk_lowering.specs.Made.{with_argument, or_value, IsArgument}
 
 drop_suc : {A : Type 0} (xs : List A) (i : ℕ) (d : A) → i < length xs → d ≡ get_or xs i d → drop i xs ≡ d ∷ drop (suc i) xs
 drop_suc [] i d h e = absurd (omega arith)
@@ -94,3 +100,16 @@ take_all (x ∷ xs) (suc n) e = ap (λ ys. x ∷ ys) (take_all xs n (omega (arit
 pub first_and_rest : {A : Type 0} (xs : List A) (d : A) → 1 ≤ length xs → d ≡ get_or xs 0 d → xs ≡ d ∷ take (length xs - 1) (drop 1 xs)
 first_and_rest [] d h e = absurd (omega (arith, h))
 first_and_rest (x ∷ xs) d h e = ap (λ y. y ∷ xs) (sym e) ∙ ap (λ ys. d ∷ ys) (sym (take_all xs (length (x ∷ xs) - 1) (omega arith)))
+
+-- what is handed on is the name by itself, or else the value
+pub named_is : {E : Type 0} (t : Names) (front : Expression → Arguments → Arguments) (a : Expression) (found : Result (Option (Argument Expr)) E) (value made : Result (Argument Expr) E)
+    → IfOk made (λ x. (found ≡ Ok (Some x)) ⊎ ((found ≡ Ok None) × (value ≡ Ok x)))
+    → IfOk found (λ y. (b : Expression) (rest : Arguments) → or_value t y b rest ≡ front b rest)
+    → IsArgument t value (λ rest. p.by_value a rest) → IsArgument t made (front a)
+named_is t front a found value (Ok x) (inl e) h v =
+    let same : (b : Expression) (rest : Arguments) → or_value t (Some x) b rest ≡ front b rest = rw e at h in same a
+named_is t front a found value (Ok x) (inr (e, f)) h v =
+    let same : (b : Expression) (rest : Arguments) → or_value t None b rest ≡ front b rest = rw e at h in
+    let is : (rest : Arguments) → with_argument t x rest ≡ p.by_value a rest = rw f at v in
+    λ rest. is rest ∙ same a rest
+named_is t front a found value (Err e) is h v = tt

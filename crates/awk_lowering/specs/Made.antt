@@ -1,5 +1,5 @@
 -- What a part is made as.
-use Rattle.std.specs.Prelude.{◌≡◌, List, map, Option, option_map, Result, IfOk}
+use Rattle.std.specs.Prelude.{◌≡◌, List, map, Option, Some, None, option_map, Result, IfOk}
 use Rattle.awk_text.specs.declared.place.Place.{Place}
 use Rattle.awk_program.specs.declared.expressions.Expr.{Expr}
 use Rattle.awk_program.specs.declared.expressions.Term.{Term}
@@ -59,6 +59,11 @@ abbrev pub with_argument : Names → Argument Expr → Arguments → Arguments
 with_argument t (argument.Value x) rest = p.by_value (view t x) rest
 with_argument t (argument.Array v) rest = p.by_name (variable_of t v) rest
 with_argument t argument.Nothing rest = p.by_nothing rest
+
+-- a name that is handed on by itself, or else the value
+abbrev pub or_value : Names → Option (Argument Expr) → Expression → Arguments → Arguments
+or_value t None x rest = p.by_value x rest
+or_value t (Some found) x rest = with_argument t found rest
 
 abbrev pub IsArgument : {E : Type 0} → Names → Result (Argument Expr) E → (Arguments → Arguments) → Type 0
 IsArgument t made in_front = IfOk made (λ x. (rest : Arguments) → with_argument t x rest ≡ in_front rest)

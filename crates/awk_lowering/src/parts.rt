@@ -3,18 +3,18 @@
 ghost use Rattle.std.specs.Prelude.{◌≡◌, IfOk, Some, option_copied};
 ghost use Rattle.awk_lowering.specs.Forms as spec;
 ghost use Rattle.awk_lowering.specs.Lowered as low;
-ghost use Rattle.awk_lowering.specs.Made.{Is, IsPerhaps, IsTarget, IsVariable, IsArgument, IsPiped, names_in, scope_in};
+ghost use Rattle.awk_lowering.specs.Made.{Is, IsPerhaps, IsTarget, IsArgument, IsPiped, or_value, names_in, scope_in};
 ghost use Rattle.awk_program.specs.Program as p;
-ghost use Rattle.awk_program.specs.Program.{Expression, Reference};
+ghost use Rattle.awk_program.specs.Program.{Arguments, Expression, Reference};
 ghost use Rattle.awk_program.specs.View.{Names, view_term, view_joined};
 ghost use Rattle.awk_program.specs.declared.operators.Operator.TheVariants as o;
 ghost use Rattle.awk_text.specs.declared.place.Place as spot;
 
-use crate::kept::{both, only};
+use crate::kept::{both, either, only};
 use crate::names::{Context, is_array, variable};
 use crate::nodes::chain_of;
 use crate::operators::operator;
-use awk_program::{Argument, Expr, Joined, Operator, Piped, Target, Term, Variable};
+use awk_program::{Argument, Expr, Joined, Operator, Piped, Target, Term};
 use awk_text::Memory;
 use awk_text::place::Place;
 use awk_tree::{Arithmetic, Name};
@@ -87,29 +87,23 @@ fn value_of(x: Result<Expr, Memory>) -> Result<Argument<Expr>, Memory>
     Ok(Argument::Value(x))
 }
 
-/// An array
-fn array_of(v: Result<Variable, Memory>) -> Result<Argument<Expr>, Memory>
-    ensures { (t : Names) (a : p.Variable) → IsVariable t v a → IsArgument t result (λ rest. p.by_name a rest) }
-{
-    let v = v?;
-    Ok(Argument::Array(v))
-}
-
-fn named_argument(
+/// What a name by itself is handed on as, unless it is by its value.
+fn by_name(
     context: &Context<'_>,
     takes_array: bool,
     n: &Name,
-    value: Result<Expr, Memory>,
-) -> Result<Argument<Expr>, Memory>
-    ensures { (a : Expression) → Is (names_in context.now) value a → IsArgument (names_in context.now) result (low.argument (scope_in context.now) takes_array (Some n.now) a) }
+) -> Result<Option<Argument<Expr>>, Memory>
+    ensures { IfOk result (λ found. (a : Expression) (rest : Arguments) → or_value (names_in context.now) found a rest ≡ low.argument (scope_in context.now) takes_array (Some n.now) a rest) }
 {
+    let text = n.text.bytes();
     if takes_array {
-        return array_of(variable(context, n.text.bytes()));
+        let v = variable(context, text)?;
+        Ok(Some(Argument::Array(v)))
+    } else if is_array(context, text) {
+        Ok(Some(Argument::Nothing))
+    } else {
+        Ok(None)
     }
-    if is_array(context, n.text.bytes()) {
-        return Ok(Argument::Nothing);
-    }
-    value_of(value)
 }
 
 /// What is handed to a function, which is a name by itself or this value.
@@ -123,7 +117,7 @@ pub fn argument_of(
 {
     match name {
         None => value_of(value),
-        Some(n) => named_argument(context, takes_array, n, value),
+        Some(n) => either(by_name(context, takes_array, n), value_of(value)),
     }
 }
 
