@@ -1,5 +1,5 @@
 -- A roll as contracts see it. Where it is kept the keys are not the texts but have them.
-use Rattle.std.proofs.Common.{◌≡◌, ◌+◌, ◌∙◌, ℕ, Bool, true, false, List, [], ◌∷◌, ◌++◌, map, length, cond, if◌then◌else◌, ◌||◌, not, Some, get_or, position, Result, Ok, Err, IfOk, ap, sym, refl}
+use Rattle.std.proofs.Common.{◌≡◌, ◌+◌, ◌∙◌, ℕ, Bool, true, false, List, [], ◌∷◌, ◌++◌, map, cond, if◌then◌else◌, ◌||◌, not, Some, get_or, position, Result, Ok, Err, IfOk, ap, sym, refl}
 use Rattle.std.proofs.lemmas.List.{length-map}
 use Rattle.std.proofs.lemmas.List.Quantifiers.{position-Some}
 use Rattle.std.proofs.lemmas.Slice.Eq.{bytes_eq-Decides}

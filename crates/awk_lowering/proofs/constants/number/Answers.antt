@@ -1,4 +1,4 @@
-use Rattle.std.proofs.Common.{◌≡◌, ◌<◌, ◌-◌, ◌^◌, ℕ, pos, min, ap, arith, w64, to_z}
+use Rattle.std.proofs.Common.{◌≡◌, ◌-◌, ◌^◌, pos, ap, arith, w64, to_z}
 use Rattle.std.proofs.Math.Nat.{min-le_right}
 use Rattle.std.proofs.lemmas.Int.{to_z_pos}
 use Rattle.std.specs.List.{take_while}

@@ -1,4 +1,4 @@
-use Rattle.std.proofs.Common.{rules, refl}
+use Rattle.std.proofs.Common.{refl}
 use Rattle.awk_tree.proofs.Views.{view-Number, view-Quoted, view-Pattern, view-Name, view-Element, view-Field, view-Paren, view-Call, view-Builtin, view-Length, view-Split, view-Substitute, view-Getline, view-Before, view-Signed, view-Group, view-After, view-Power, view-Product, view-Sum, view-Concat, view-Pipe, view-Compare, view-Match, view-In, view-And, view-Or, view-Choice, view-Assign}
 use Rattle.awk_lowering.proofs.shapes.+start.Goals as goal
 

@@ -1,4 +1,4 @@
-use Rattle.std.proofs.Common.{sym, ◌∙◌, ap, map}
+use Rattle.std.proofs.Common.{◌∙◌, ap, map}
 use Rattle.awk_lowering.proofs.Rolls.{added_named}
 use Rattle.awk_lowering.proofs.roll.Roll.add.Goals as goal
 
