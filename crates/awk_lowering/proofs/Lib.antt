@@ -1,0 +1,5 @@
+pub mod Carried
+pub mod Lists
+pub mod Rolls
+pub mod Rows
+pub mod Views

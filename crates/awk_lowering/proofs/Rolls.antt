@@ -1,0 +1,43 @@
+-- A roll as contracts see it. Where it is kept the keys are not the texts but have them.
+use Rattle.std.proofs.Common.{◌≡◌, ◌+◌, ◌∙◌, ℕ, Bool, true, false, List, [], ◌∷◌, ◌++◌, map, cond, if◌then◌else◌, ◌||◌, not, Some, get_or, position, Result, Ok, Err, IfOk, ap, sym, refl}
+use Rattle.std.proofs.lemmas.List.{length-map}
+use Rattle.std.proofs.lemmas.List.Quantifiers.{position-Some}
+use Rattle.std.proofs.lemmas.Slice.Eq.{bytes_eq-Decides}
+use Rattle.std.specs.List.{list_any, position_or_len}
+use Rattle.std.specs.Str.{bytes_eq}
+use Rattle.awk_lowering.specs.Rolls.{added}
+
+module _ {K : Type 0} (items : K → List ℕ) where
+  any_named : (x : List ℕ) (ks : List K) → list_any (bytes_eq x) (map items ks) ≡ list_any (λ k. bytes_eq x (items k)) ks
+  any_named x [] = refl
+  any_named x (k ∷ ks) = ap (λ b. bytes_eq x (items k) || b) (any_named x ks)
+
+  first_named : (x : List ℕ) (ks : List K) → position_or_len (bytes_eq x) (map items ks) ≡ position_or_len (λ k. bytes_eq x (items k)) ks
+  first_named x [] = refl
+  first_named x (k ∷ ks) = ap (λ n. cond (not (bytes_eq x (items k))) (1 + n) 0) (first_named x ks)
+
+  pub position_named : (x : List ℕ) (ks : List K) → position (bytes_eq x) (map items ks) ≡ position (λ k. bytes_eq x (items k)) ks
+  position_named x ks = rw (first_named x ks, length-map ks items) refl
+
+  map_last : (k : K) (ks : List K) → map items (ks ++ k ∷ []) ≡ map items ks ++ items k ∷ []
+  map_last k [] = refl
+  map_last k (j ∷ ks) = ap (λ xs. items j ∷ xs) (map_last k ks)
+
+  pub added_named : (k : K) (ks : List K) → map items (if list_any (λ j. bytes_eq (items k) (items j)) ks then ks else ks ++ k ∷ []) ≡ added (items k) (map items ks)
+  added_named k ks = rw (any_named (items k) ks) (by (list_any (λ j. bytes_eq (items k) (items j)) ks))
+    where
+      by : (b : Bool) → map items (if b then ks else ks ++ k ∷ []) ≡ (if b then map items ks else map items ks ++ items k ∷ [])
+      by true = refl
+      by false = map_last k ks
+
+-- a text that is found in a list stands there
+pub stands : (x : List ℕ) (xs : List (List ℕ)) (n : ℕ) → position (bytes_eq x) xs ≡ Some n → get_or xs n [] ≡ x
+stands x xs n e = sym ((bytes_eq-Decides x (get_or xs n [])).0 (position-Some (bytes_eq x) xs n [] e).1)
+
+pub stands_small : (x : List ℕ) (xs : List (List ℕ)) {E : Type 0} (n : ℕ) (r : Result ℕ E) → position (bytes_eq x) xs ≡ Some n → IfOk r (λ m. m ≡ n) → IfOk r (λ m. get_or xs m [] ≡ x)
+stands_small x xs n (Ok m) some same = ap (λ k. get_or xs k []) same ∙ stands x xs n some
+stands_small x xs n (Err e) some same = tt
+
+pub found_small : (x : List ℕ) (xs : List (List ℕ)) {E : Type 0} (n : ℕ) (r : Result ℕ E) → position (bytes_eq x) xs ≡ Some n → IfOk r (λ m. m ≡ n) → IfOk r (λ m. position (bytes_eq x) xs ≡ Some m)
+found_small x xs n (Ok m) some same = some ∙ ap (λ k. Some k) (sym same)
+found_small x xs n (Err e) some same = tt

@@ -1,0 +1,8 @@
+use Rattle.std.proofs.Common.{rules, refl}
+use Rattle.awk_lowering.proofs.parts.value_of.Goals as goal
+
+pub returns-in_err-x : goal.returns-in_err-x
+returns-in_err-x c = λ t a h. search rules
+
+pub returns : goal.returns
+returns c = λ t a h. let p = rw c.in_ok-x.was at h in λ rest. rw p refl

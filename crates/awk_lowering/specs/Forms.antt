@@ -1,0 +1,123 @@
+-- Forms of a program that no other form of the script is written as, and the operators.
+use Rattle.std.specs.Prelude.{ℕ, ◌-◌, ◌^◌, min, pos, Bool, true, false}
+use Rattle.std.specs.List.{take_while}
+use Rattle.std.specs.Char.{is_ascii_digit}
+use Rattle.std.specs.Str.Parse.{digits_value}
+use Rattle.awk_text.specs.declared.place.Place.{Place}
+use Rattle.awk_tree.specs.Tree.{Text}
+use Rattle.awk_tree.specs.declared.operators.Arithmetic as tree_arithmetic
+use Rattle.awk_tree.specs.declared.operators.Arithmetic.TheVariants as a
+use Rattle.awk_tree.specs.declared.operators.Assignment as tree_assignment
+use Rattle.awk_tree.specs.declared.operators.Assignment.TheVariants as s
+use Rattle.awk_tree.specs.declared.operators.Comparison as tree_comparison
+use Rattle.awk_tree.specs.declared.operators.Comparison.TheVariants as tc
+use Rattle.awk_tree.specs.declared.operators.Sign as tree_sign
+use Rattle.awk_tree.specs.declared.operators.Sign.TheVariants as ts
+use Rattle.awk_tree.specs.declared.operators.Step as tree_step
+use Rattle.awk_tree.specs.declared.operators.Step.TheVariants as tp
+use Rattle.awk_tree.specs.declared.operators.Redirect as tree_redirect
+use Rattle.awk_tree.specs.declared.operators.Redirect.TheVariants as tr
+use Rattle.awk_tree.specs.declared.operators.Builtin as tree_builtin
+use Rattle.awk_tree.specs.declared.operators.Builtin.TheVariants as b
+use Rattle.awk_program.specs.declared.operators.Operator.{Operator}
+use Rattle.awk_program.specs.declared.operators.Operator.TheVariants as o
+use Rattle.awk_program.specs.declared.operators.Comparison.{Comparison}
+use Rattle.awk_program.specs.declared.operators.Comparison.TheVariants as c
+use Rattle.awk_program.specs.declared.operators.Extent.{Extent}
+use Rattle.awk_program.specs.declared.operators.Extent.TheVariants as extent
+use Rattle.awk_program.specs.declared.operators.Measure.TheVariants as m
+use Rattle.awk_program.specs.declared.operators.Redirect.{Redirect}
+use Rattle.awk_program.specs.declared.operators.Redirect.TheVariants as r
+use Rattle.awk_program.specs.declared.operators.Sign.TheVariants as g
+use Rattle.awk_program.specs.declared.operators.Step.{Step}
+use Rattle.awk_program.specs.declared.operators.Step.TheVariants as i
+use Rattle.awk_program.specs.Program as p
+use Rattle.awk_program.specs.Program.{Expression, Reference}
+
+-- no token is a greater number
+abbrev pub number_of : Text → ℕ
+number_of x = min (digits_value 10 (take_while is_ascii_digit x)) (2 ^ 63 - 1)
+
+-- `$0`
+abbrev pub whole_record : Place → Reference
+whole_record q = p.field q (p.number (pos 0))
+
+-- what the grammar never puts where it stands
+abbrev pub unwritten : Expression
+unwritten = p.number (pos 0)
+
+abbrev pub unwritten_target : Reference
+unwritten_target = whole_record (record { line = 0; column = 0 })
+
+-- ---- operators
+
+abbrev pub operator_of : tree_arithmetic.Arithmetic → Operator
+operator_of a.Add = o.Add
+operator_of a.Subtract = o.Subtract
+operator_of a.Multiply = o.Multiply
+operator_of a.Divide = o.Divide
+operator_of a.Remainder = o.Remainder
+
+abbrev pub comparison_of : tree_comparison.Comparison → Comparison
+comparison_of tc.Less = c.Less
+comparison_of tc.LessOrEqual = c.LessOrEqual
+comparison_of tc.Equal = c.Equal
+comparison_of tc.NotEqual = c.NotEqual
+comparison_of tc.Greater = c.Greater
+comparison_of tc.GreaterOrEqual = c.GreaterOrEqual
+
+abbrev pub step_of : tree_step.Step → Step
+step_of tp.Increment = i.Increment
+step_of tp.Decrement = i.Decrement
+
+abbrev pub redirect_of : tree_redirect.Redirect → Redirect
+redirect_of tr.Write = r.Write
+redirect_of tr.Append = r.Append
+redirect_of tr.Command = r.Command
+
+abbrev pub extent_of : Bool → Extent
+extent_of false = extent.First
+extent_of true = extent.All
+
+abbrev pub signed_of : Place → tree_sign.Sign → Expression → Expression
+signed_of q ts.Not x = p.not x
+signed_of q ts.Plus x = p.signed q g.Plus x
+signed_of q ts.Minus x = p.signed q g.Minus x
+
+abbrev pub assigned : Place → tree_assignment.Assignment → Reference → Expression → Expression
+assigned q s.Set r x = p.assign q r x
+assigned q s.Add r x = p.change q o.Add r x
+assigned q s.Subtract r x = p.change q o.Subtract r x
+assigned q s.Multiply r x = p.change q o.Multiply r x
+assigned q s.Divide r x = p.change q o.Divide r x
+assigned q s.Remainder r x = p.change q o.Remainder r x
+assigned q s.Power r x = p.change q o.Power r x
+
+-- `!~` is `!` of `~`
+abbrev pub negated : Bool → Expression → Expression
+negated false x = x
+negated true x = p.not x
+
+-- ---- built-in functions other than match and sprintf, by the number of their arguments
+
+abbrev pub of_none : Place → tree_builtin.Builtin → Expression
+of_none q b.Length = p.measure m.Length (p.read (whole_record q))
+of_none q which = unwritten
+
+abbrev pub of_one : Place → tree_builtin.Builtin → Expression → Expression
+of_one q b.Close x = p.close q x
+of_one q b.Int x = p.int q x
+of_one q b.Length x = p.measure m.Length x
+of_one q b.System x = p.system q x
+of_one q b.Tolower x = p.measure m.Tolower x
+of_one q b.Toupper x = p.measure m.Toupper x
+of_one q which x = unwritten
+
+abbrev pub of_two : Place → tree_builtin.Builtin → Expression → Expression → Expression
+of_two q b.Index x y = p.index x y
+of_two q b.Substr x y = p.substr_from q x y
+of_two q which x y = unwritten
+
+abbrev pub of_three : Place → tree_builtin.Builtin → Expression → Expression → Expression → Expression
+of_three q b.Substr x y z = p.substr q x y z
+of_three q which x y z = unwritten

@@ -1,0 +1,199 @@
+-- The program that the expressions of a script stand for: names for what they stand for, constants made,
+-- parentheses gone, and one form for each thing that can be said (POSIX.1-2017 XCU awk, "Expressions in awk").
+use Rattle.std.specs.Prelude.{pos, Bool, true, false, List, [], ◌∷◌, map, get_or, codes, Option, Some, None}
+use Rattle.awk_text.specs.Escapes.{unescaped}
+use Rattle.awk_text.specs.declared.place.Place.{Place}
+use Rattle.awk_tree.specs.Tree as t
+use Rattle.awk_tree.specs.Tree.{Text, Tree, Trees, Perhaps}
+use Rattle.awk_tree.specs.declared.names.Name.{Name}
+use Rattle.awk_tree.specs.declared.names.Member.{Member}
+use Rattle.awk_tree.specs.declared.operators.Builtin.{Builtin}
+use Rattle.awk_tree.specs.declared.operators.Builtin.TheVariants as b
+use Rattle.awk_names.specs.Mentions.{bare}
+use Rattle.awk_program.specs.declared.operators.Measure.TheVariants as m
+use Rattle.awk_program.specs.declared.operators.Operator.TheVariants as o
+use Rattle.awk_program.specs.declared.operators.Taken.TheVariants as taken
+use Rattle.awk_program.specs.Program as p
+use Rattle.awk_program.specs.Program.{Variable, Expression, Reference, Ere, Expressions, Joins, Arguments}
+use Rattle.awk_lowering.specs.Forms.{number_of, whole_record, unwritten, unwritten_target, operator_of, comparison_of, step_of, extent_of, signed_of, assigned, negated, of_none, of_one, of_two, of_three}
+use Rattle.awk_lowering.specs.Scopes.{Scope, variable, function, arrays_of, is_array}
+use Rattle.awk_lowering.specs.Starts.{start}
+
+-- the arrays behind `in`
+abbrev pub array_in : Scope → Member → Variable
+array_in c x = variable c x.array.text
+
+abbrev pub arrays_in : Scope → List Member → List Variable
+arrays_in c xs = map (array_in c) xs
+
+-- the place of the first `in`
+abbrev pub first_in : Place → List Member → Place
+first_in q [] = q
+first_in q (x ∷ xs) = x.place
+
+-- an ERE by itself
+abbrev pub constant : Tree → Option (Place × Text)
+constant (t.pattern q x) = Some (q, x)
+constant x = None
+
+-- what stands where a pattern is wanted: an ERE by itself is the pattern, anything else the text of one
+abbrev pub ere_of : Option (Place × Text) → Expression → Ere
+ere_of (Some e) x = p.constant e.0 e.1
+ere_of None x = p.computed x
+
+-- What is handed to a function: to a parameter that is an array the array of that name, to any other a value. An
+-- array that is handed to another one passes nothing: its function never reads it.
+abbrev pub value_unless : Bool → Expression → Arguments → Arguments
+value_unless false x rest = p.by_value x rest
+value_unless true x rest = p.by_nothing rest
+
+abbrev pub argument : Scope → Bool → Option Name → Expression → Arguments → Arguments
+argument c takes_array None x rest = p.by_value x rest
+argument c true (Some n) x rest = p.by_name (variable c n.text) rest
+argument c false (Some n) x rest = value_unless (is_array c n.text) x rest
+
+-- whether the next parameter is an array, and the parameters behind it
+abbrev pub takes_array : List Bool → Bool
+takes_array are = get_or are 0 false
+
+abbrev pub later : List Bool → List Bool
+later [] = []
+later (b ∷ bs) = bs
+
+-- ---- built-in functions, of arguments whose programs are there
+
+-- by the number of its arguments
+abbrev pub called : Place → Builtin → Expressions → Expression
+called q which p.none = of_none q which
+called q which (p.more x p.none) = of_one q which x
+called q which (p.more x (p.more y p.none)) = of_two q which x y
+called q which (p.more x (p.more y (p.more z p.none))) = of_three q which x y z
+called q which (p.more x (p.more y (p.more z (p.more u xs)))) = unwritten
+
+-- `match ( text , pattern )`
+abbrev pub located : Place → Trees → Expressions → Expression
+located q (t.more x (t.more y t.none)) (p.more u (p.more v p.none)) = p.locate q u (ere_of (constant y) v)
+located q xs us = unwritten
+
+-- `sprintf ( format , list )`
+abbrev pub formatted : Place → Expressions → Expression
+formatted q p.none = unwritten
+formatted q (p.more x xs) = p.sprintf q x xs
+
+-- The three that are unwritten have forms of their own.
+abbrev pub built : Place → Builtin → Trees → Expressions → Expression
+built q b.Match xs us = located q xs us
+built q b.Sprintf xs us = formatted q us
+built q b.Close xs us = called q b.Close us
+built q b.Gsub xs us = unwritten
+built q b.Index xs us = called q b.Index us
+built q b.Int xs us = called q b.Int us
+built q b.Length xs us = called q b.Length us
+built q b.Split xs us = unwritten
+built q b.Sub xs us = unwritten
+built q b.Substr xs us = called q b.Substr us
+built q b.System xs us = called q b.System us
+built q b.Tolower xs us = called q b.Tolower us
+built q b.Toupper xs us = called q b.Toupper us
+
+-- a getline of the main input, or of a file
+abbrev pub got_by : Place → Reference → Option Expression → Expression
+got_by q r None = p.getline q r
+got_by q r (Some x) = p.getline_file q r x
+
+-- `NAME [ list ]`
+abbrev pub element_by : Scope → Name → Expressions → Reference
+element_by c n xs = p.element n.place (variable c n.text) xs
+
+-- ---- expressions
+
+abbrev mutual
+  pub lowered : Scope → Tree → Expression
+  lowered c (t.number q x) = p.number (pos (number_of x))
+  lowered c (t.quoted q x) = p.text (unescaped x)
+  lowered c (t.pattern q x) = p.pattern q x
+  lowered c (t.name n) = p.read (p.variable (variable c n.text))
+  lowered c (t.element n xs) = p.read (element_by c n (lowered_list c xs))
+  lowered c (t.field q x) = p.read (p.field q (lowered c x))
+  lowered c (t.paren q x) = lowered c x
+  lowered c (t.call n xs) = p.call n.place (function c n.text) (arguments c (arrays_of c n.text) xs)
+  lowered c (t.builtin q which xs) = built q which xs (lowered_list c xs)
+  lowered c (t.bare_length q) = p.measure m.Length (p.read (whole_record q))
+  lowered c (t.split q x n y) = p.split q (lowered c x) n.place (variable c n.text) (separator c y)
+  lowered c (t.substitute q all x y z) = p.substitute q (extent_of all) (ere_of (constant x) (lowered c x)) (lowered c y) (target_or_record c q z)
+  lowered c (t.getline q x y) = got_by q (target_or_record c q x) (lowered_perhaps c y)
+  lowered c (t.before q how x) = p.step q (step_of how) taken.Behind (target c x)
+  lowered c (t.after x q how) = p.step q (step_of how) taken.Before (target c x)
+  lowered c (t.signed q how x) = signed_of q how (lowered c x)
+  lowered c (t.power x q y) = p.chain (lowered c x) (p.term o.Power q (lowered c y) p.no_terms)
+  lowered c (t.product x xs) = p.chain (lowered c x) (lowered_terms c xs)
+  lowered c (t.sum x xs) = p.chain (lowered c x) (lowered_terms c xs)
+  lowered c (t.concat x xs) = p.concat (lowered c x) (lowered_joins c xs)
+  lowered c (t.pipe x xs) = p.pipe (lowered c x) (lowered_pipes c xs)
+  lowered c (t.compare x q how y) = p.compare (comparison_of how) (lowered c x) (lowered c y)
+  lowered c (t.matched x q unlike y) = negated unlike (p.matched q (lowered c x) (ere_of (constant y) (lowered c y)))
+  lowered c (t.group q xs ms) = p.group (first_in q ms) (lowered_list c xs) (arrays_in c ms)
+  lowered c (t.member x ms) = p.member (lowered c x) (arrays_in c ms)
+  lowered c (t.and x xs) = p.and (lowered c x) (lowered_list c xs)
+  lowered c (t.or x xs) = p.or (lowered c x) (lowered_list c xs)
+  lowered c (t.choose x y z) = p.choose (lowered c x) (lowered c y) (lowered c z)
+  lowered c (t.assign x q how y) = assigned q how (target c x) (lowered c y)
+
+  -- what is set: the grammar puts nothing but these three before `=` and beside `++`
+  pub target : Scope → Tree → Reference
+  target c (t.name n) = p.variable (variable c n.text)
+  target c (t.element n xs) = element_by c n (lowered_list c xs)
+  target c (t.field q x) = p.field q (lowered c x)
+  target c x = unwritten_target
+
+  -- what is set, or the whole record where nothing is named
+  pub target_or_record : Scope → Place → Perhaps → Reference
+  target_or_record c q t.absent = whole_record q
+  target_or_record c q (t.present x) = target c x
+
+  -- split by FS where no separator is named
+  pub separator : Scope → Perhaps → Ere
+  separator c t.absent = p.computed (p.read (p.variable (p.global (codes "FS"))))
+  separator c (t.present x) = ere_of (constant x) (lowered c x)
+
+  pub lowered_perhaps : Scope → Perhaps → Option Expression
+  lowered_perhaps c t.absent = None
+  lowered_perhaps c (t.present x) = Some (lowered c x)
+
+  pub lowered_list : Scope → Trees → Expressions
+  lowered_list c t.none = p.none
+  lowered_list c (t.more x xs) = p.more (lowered c x) (lowered_list c xs)
+
+  pub lowered_terms : Scope → t.Terms → p.Terms
+  lowered_terms c t.no_terms = p.no_terms
+  lowered_terms c (t.term how q x xs) = p.term (operator_of how) q (lowered c x) (lowered_terms c xs)
+
+  pub lowered_joins : Scope → Trees → Joins
+  lowered_joins c t.none = p.no_joins
+  lowered_joins c (t.more x xs) = p.join (start x) (lowered c x) (lowered_joins c xs)
+
+  pub lowered_pipes : Scope → t.Pipes → p.Pipes
+  lowered_pipes c t.no_pipes = p.no_pipes
+  lowered_pipes c (t.piped q x xs) = p.piped q (target_or_record c q x) (lowered_pipes c xs)
+
+  -- the arguments for parameters of which these are arrays
+  pub arguments : Scope → List Bool → Trees → Arguments
+  arguments c are t.none = p.no_arguments
+  arguments c are (t.more x xs) = argument c (takes_array are) (bare x) (lowered c x) (arguments c (later are) xs)
+
+-- ---- the same in parts
+
+abbrev pub ere : Scope → Tree → Ere
+ere c x = ere_of (constant x) (lowered c x)
+
+abbrev pub element : Scope → Name → Trees → Reference
+element c n xs = element_by c n (lowered_list c xs)
+
+abbrev pub call : Scope → Name → Trees → Expression
+call c n xs = p.call n.place (function c n.text) (arguments c (arrays_of c n.text) xs)
+
+abbrev pub divided : Scope → Place → Tree → Name → Perhaps → Expression
+divided c q x n y = p.split q (lowered c x) n.place (variable c n.text) (separator c y)
+
+abbrev pub got : Scope → Place → Perhaps → Perhaps → Expression
+got c q x y = got_by q (target_or_record c q x) (lowered_perhaps c y)

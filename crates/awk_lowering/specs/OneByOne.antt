@@ -1,0 +1,28 @@
+-- Parts of chains and of lists one by one.
+use Rattle.awk_tree.specs.Tree.{Tree}
+use Rattle.awk_tree.specs.declared.expressions.Term as tree_term
+use Rattle.awk_program.specs.declared.expressions.Term.{Term}
+use Rattle.awk_program.specs.declared.expressions.Joined.{Joined}
+use Rattle.awk_program.specs.Program as p
+use Rattle.awk_program.specs.Program.{Expression, Pipes, Arguments}
+use Rattle.awk_lowering.specs.Forms.{operator_of}
+use Rattle.awk_lowering.specs.Lowered.{lowered}
+use Rattle.awk_lowering.specs.Scopes.{Scope}
+use Rattle.awk_lowering.specs.Starts.{start}
+
+abbrev pub lowered_term : Scope → tree_term.Term Tree → Term Expression
+lowered_term c x = record { operator = operator_of x.operator; place = x.place; operand = lowered c x.operand }
+
+abbrev pub lowered_join : Scope → Tree → Joined Expression
+lowered_join c x = record { place = start x; operand = lowered c x }
+
+-- one list behind another
+abbrev pub then_pipes : Pipes → Pipes → Pipes
+then_pipes p.no_pipes ys = ys
+then_pipes (p.piped q r xs) ys = p.piped q r (then_pipes xs ys)
+
+abbrev pub then_arguments : Arguments → Arguments → Arguments
+then_arguments p.no_arguments ys = ys
+then_arguments (p.by_value x xs) ys = p.by_value x (then_arguments xs ys)
+then_arguments (p.by_name v xs) ys = p.by_name v (then_arguments xs ys)
+then_arguments (p.by_nothing xs) ys = p.by_nothing (then_arguments xs ys)

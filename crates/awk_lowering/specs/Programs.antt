@@ -1,0 +1,93 @@
+-- The program that a script stands for (POSIX.1-2017 XCU awk, "Overall Program Structure").
+use Rattle.std.specs.Prelude.{Bool, List, [], ◌∷◌, ◌++◌, map, position, false, None}
+use Rattle.std.specs.Str.{bytes_eq}
+use Rattle.awk_tree.specs.Tree as t
+use Rattle.awk_tree.specs.Tree.{Text, Entry, Condition}
+use Rattle.awk_tree.specs.Terminals.{nowhere}
+use Rattle.awk_names.specs.Kinds.{texts}
+use Rattle.awk_program.specs.declared.program.Name.{Name}
+use Rattle.awk_program.specs.Program as p
+use Rattle.awk_program.specs.Program.{Statement, When, Rule, Function, Program}
+use Rattle.awk_lowering.specs.Lowered.{lowered}
+use Rattle.awk_lowering.specs.LoweredStatements.{statement}
+use Rattle.awk_lowering.specs.Scopes.{Scope, arrays_by}
+
+-- what the names of a whole script are
+pub record Tables : Type 0 where
+  -- its variables, awk's own first, and of each whether it is an array
+  pub variables : List Text
+  pub script_arrays : List Bool
+  -- its functions, in order, and of each parameter of each whether it is an array
+  pub functions : List Text
+  pub arrays : List (List Bool)
+
+-- an item that is no function has no parameters
+abbrev pub scope_with : Tables → List Text → List Bool → Scope
+scope_with n ps are = record {
+  parameters = ps;
+  own_arrays = are;
+  variables = n.variables;
+  script_arrays = n.script_arrays;
+  functions = n.functions;
+  arrays = n.arrays;
+}
+
+abbrev pub outer : Tables → Scope
+outer n = scope_with n [] []
+
+abbrev pub flags : Tables → Text → List Bool
+flags n f = arrays_by n.arrays (position (bytes_eq f) n.functions)
+
+abbrev pub body : Scope → List t.Statement → List Statement
+body c xs = map (statement c) xs
+
+-- a missing action is `print`, which stands nowhere in the script
+abbrev pub printed : List Statement
+printed = p.print nowhere [] None ∷ []
+
+abbrev pub when_of : Scope → Condition → When
+when_of c (t.single x) = p.holds (lowered c x)
+when_of c (t.range x y) = p.range (lowered c x) (lowered c y)
+
+abbrev pub rule_of : When → List Statement → Rule
+rule_of when action = record { when = when; action = action }
+
+abbrev pub function_of : Tables → Text → List Text → List t.Statement → Function
+function_of n f ps xs = record { name = f; parameters = flags n f; body = body (scope_with n ps (flags n f)) xs }
+
+abbrev pub functions_of : Tables → Entry → List Function
+functions_of n (t.function f ps xs) = function_of n f.text (texts ps) xs ∷ []
+functions_of n x = []
+
+abbrev pub begins_of : Tables → Entry → List (List Statement)
+begins_of n (t.at_begin xs) = body (outer n) xs ∷ []
+begins_of n x = []
+
+abbrev pub ends_of : Tables → Entry → List (List Statement)
+ends_of n (t.at_end xs) = body (outer n) xs ∷ []
+ends_of n x = []
+
+abbrev pub rules_of : Tables → Entry → List Rule
+rules_of n (t.always xs) = rule_of p.always (body (outer n) xs) ∷ []
+rules_of n (t.shown x) = rule_of (when_of (outer n) x) printed ∷ []
+rules_of n (t.rule x xs) = rule_of (when_of (outer n) x) (body (outer n) xs) ∷ []
+rules_of n x = []
+
+-- of each item in turn
+abbrev pub each : {A : Type 0} → (Entry → List A) → List Entry → List A
+each f [] = []
+each f (x ∷ xs) = f x ++ each f xs
+
+abbrev pub names : List Text → List Bool → List Name
+names [] are = []
+names (x ∷ xs) [] = record { text = x; is_array = false } ∷ names xs []
+names (x ∷ xs) (a ∷ are) = record { text = x; is_array = a } ∷ names xs are
+
+abbrev pub program : Tables → List Entry → Program
+program n items = record {
+  variables = names n.variables n.script_arrays;
+  functions = each (functions_of n) items;
+  begin = each (begins_of n) items;
+  rules = each (rules_of n) items;
+  end = each (ends_of n) items;
+}

@@ -1,0 +1,179 @@
+// Statements of parts that are made already. A part that was refused refuses the whole.
+
+ghost use Rattle.std.specs.Prelude.{◌≡◌, List, Option, Some};
+ghost use Rattle.awk_lowering.specs.Forms as forms;
+ghost use Rattle.awk_lowering.specs.Made.{Is, IsPerhaps, AreAll, AreRedirected, AreStatements, IsStatement, IsVariable};
+ghost use Rattle.awk_program.specs.Program as p;
+ghost use Rattle.awk_program.specs.Program.{Expression, statements_of};
+ghost use Rattle.awk_program.specs.View.{Names};
+ghost use Rattle.awk_program.specs.declared.statements.Redirection as redirection;
+
+use crate::kept::both;
+use crate::operators::redirect;
+use awk_program::{Expr, Redirection, Statement, Variable};
+use awk_text::Memory;
+use awk_text::place::Place;
+use sqlite_items::{Boxed, Items};
+use std::alloc::Global;
+
+/// An expression by itself
+pub fn plain_of(x: Result<Expr, Memory>) -> Result<Statement, Memory>
+    ensures { (t : Names) (a : Expression) → Is t x a → IsStatement t result (p.plain a) }
+{
+    let x = x?;
+    Ok(Statement::Expr(x))
+}
+
+/// `print`
+pub fn print_of(
+    place: Place,
+    xs: Result<Items<Expr>, Memory>,
+    to: Result<Option<Redirection<Expr>>, Memory>,
+) -> Result<Statement, Memory>
+    ensures { (t : Names) (a : List Expression) (b : Option (redirection.Redirection Expression)) → AreAll t xs a → AreRedirected t to b → IsStatement t result (p.print place a b) }
+{
+    let (xs, to) = both(xs, to)?;
+    Ok(Statement::Print(place, xs, to))
+}
+
+/// `printf`
+pub fn printf_of(
+    place: Place,
+    x: Result<Expr, Memory>,
+    xs: Result<Items<Expr>, Memory>,
+    to: Result<Option<Redirection<Expr>>, Memory>,
+) -> Result<Statement, Memory>
+    ensures { (t : Names) (a : Expression) (b : List Expression) (d : Option (redirection.Redirection Expression)) → Is t x a → AreAll t xs b → AreRedirected t to d → IsStatement t result (p.printf place a b d) }
+{
+    let (x, (xs, to)) = both(x, both(xs, to))?;
+    Ok(Statement::Printf(place, x, xs, to))
+}
+
+/// `delete NAME [ list ]`
+pub fn delete_of(
+    place: Place,
+    v: Result<Variable, Memory>,
+    xs: Result<Items<Expr>, Memory>,
+) -> Result<Statement, Memory>
+    ensures { (t : Names) (a : p.Variable) (b : List Expression) → IsVariable t v a → AreAll t xs b → IsStatement t result (p.delete place a b) }
+{
+    let (v, xs) = both(v, xs)?;
+    Ok(Statement::Delete(place, v, xs))
+}
+
+/// `exit`
+pub fn exit_of(place: Place, x: Result<Option<Expr>, Memory>) -> Result<Statement, Memory>
+    ensures { (t : Names) (a : Option Expression) → IsPerhaps t x a → IsStatement t result (p.exit place a) }
+{
+    let x = x?;
+    Ok(Statement::Exit(place, x))
+}
+
+/// `return`
+pub fn return_of(x: Result<Option<Expr>, Memory>) -> Result<Statement, Memory>
+    ensures { (t : Names) (a : Option Expression) → IsPerhaps t x a → IsStatement t result (p.return a) }
+{
+    let x = x?;
+    Ok(Statement::Return(x))
+}
+
+/// `{ }`
+pub fn block_of(body: Result<Items<Statement>, Memory>) -> Result<Statement, Memory>
+    ensures { (t : Names) (a : List p.Statement) → AreStatements t body a → IsStatement t result (p.block (statements_of a)) }
+{
+    let body = body?;
+    Ok(Statement::Block(body))
+}
+
+/// `if`
+pub fn if_of(
+    x: Result<Expr, Memory>,
+    body: Result<Boxed<Statement>, Memory>,
+) -> Result<Statement, Memory>
+    ensures { (t : Names) (a : Expression) (b : p.Statement) → Is t x a → IsStatement t body b → IsStatement t result (p.if_then a b) }
+{
+    let (x, body) = both(x, body)?;
+    Ok(Statement::If(x, body))
+}
+
+/// `if` with `else`
+pub fn if_else_of(
+    x: Result<Expr, Memory>,
+    body: Result<Boxed<Statement>, Memory>,
+    other: Result<Boxed<Statement>, Memory>,
+) -> Result<Statement, Memory>
+    ensures { (t : Names) (a : Expression) (b : p.Statement) (d : p.Statement) → Is t x a → IsStatement t body b → IsStatement t other d → IsStatement t result (p.if_else a b d) }
+{
+    let (x, (body, other)) = both(x, both(body, other))?;
+    Ok(Statement::IfElse(x, body, other))
+}
+
+/// `while`
+pub fn while_of(
+    x: Result<Expr, Memory>,
+    body: Result<Boxed<Statement>, Memory>,
+) -> Result<Statement, Memory>
+    ensures { (t : Names) (a : Expression) (b : p.Statement) → Is t x a → IsStatement t body b → IsStatement t result (p.while_do a b) }
+{
+    let (x, body) = both(x, body)?;
+    Ok(Statement::While(x, body))
+}
+
+/// `do` body `while`
+pub fn do_of(
+    body: Result<Boxed<Statement>, Memory>,
+    x: Result<Expr, Memory>,
+) -> Result<Statement, Memory>
+    ensures { (t : Names) (a : p.Statement) (b : Expression) → IsStatement t body a → Is t x b → IsStatement t result (p.do_while a b) }
+{
+    let (body, x) = both(body, x)?;
+    Ok(Statement::Do(body, x))
+}
+
+/// `for` with a test
+pub fn for_of(
+    x: Result<Option<Expr>, Memory>,
+    y: Result<Option<Expr>, Memory>,
+    z: Result<Option<Expr>, Memory>,
+    body: Result<Boxed<Statement>, Memory>,
+) -> Result<Statement, Memory>
+    ensures { (t : Names) (a : Option Expression) (b : Option Expression) (d : Option Expression) (e : p.Statement) → IsPerhaps t x a → IsPerhaps t y b → IsPerhaps t z d → IsStatement t body e → IsStatement t result (p.for_loop a b d e) }
+{
+    let ((x, y), (z, body)) = both(both(x, y), both(z, body))?;
+    Ok(Statement::For(x, y, z, body))
+}
+
+/// `for ( key in array )`
+pub fn for_in_of(
+    place: Place,
+    key: Result<Variable, Memory>,
+    array: Result<Variable, Memory>,
+    body: Result<Boxed<Statement>, Memory>,
+) -> Result<Statement, Memory>
+    ensures { (t : Names) (a : p.Variable) (b : p.Variable) (d : p.Statement) → IsVariable t key a → IsVariable t array b → IsStatement t body d → IsStatement t result (p.for_each place a b d) }
+{
+    let (key, (array, body)) = both(key, both(array, body))?;
+    Ok(Statement::ForIn(place, key, array, body))
+}
+
+/// The empty statement
+#[tactic(auto, using(crate::proofs::Views::statement_views))]
+pub fn nothing(alloc: Global) -> Result<Statement, Memory>
+    ensures { (t : Names) → IsStatement t result (p.block p.no_more) }
+{
+    let none = Items::new(alloc);
+    Ok(Statement::Block(none))
+}
+
+/// Where output goes
+pub fn redirection_of(
+    how: awk_tree::Redirect,
+    place: Place,
+    target: Result<Expr, Memory>,
+) -> Result<Option<Redirection<Expr>>, Memory>
+    ensures { (t : Names) (a : Expression) → Is t target a → AreRedirected t result (Some (record { how = forms.redirect_of how; place = place; target = a })) }
+{
+    let target = target?;
+    let how = redirect(how);
+    Ok(Some(Redirection { how, place, target }))
+}

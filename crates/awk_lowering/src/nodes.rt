@@ -1,0 +1,253 @@
+// Expressions of parts that are made already. A part that was refused refuses the whole.
+
+ghost use Rattle.std.specs.Prelude.{◌≡◌, ℕ, IfOk, List};
+ghost use Rattle.awk_lowering.specs.Made.{Is, AreAll, AreTerms, AreJoins, ArePipes, AreArguments, AreVariables, IsTarget, IsEre, IsVariable};
+ghost use Rattle.awk_program.specs.Program as p;
+ghost use Rattle.awk_program.specs.Program.{Expression, Reference, Ere, Arguments, expressions_of, terms_of, joins_of};
+ghost use Rattle.awk_program.specs.View.{Names};
+ghost use Rattle.awk_program.specs.declared.expressions.Term as term;
+ghost use Rattle.awk_program.specs.declared.expressions.Joined as joined;
+
+use crate::kept::both;
+use awk_program::{
+    Argument, Comparison, Expr, Extent, Joined, Measure, Pattern, Piped, Step, Taken, Target, Term,
+    Variable,
+};
+use awk_text::Memory;
+use awk_text::place::Place;
+use sqlite_items::{Boxed, Items};
+
+/// What is read
+pub fn read_of(target: Result<Target<Expr>, Memory>) -> Result<Expr, Memory>
+    ensures { (t : Names) (a : Reference) → IsTarget t target a → Is t result (p.read a) }
+{
+    let target = target?;
+    Ok(Expr::Read(target))
+}
+
+/// `++` and `--`
+pub fn step_of(
+    place: Place,
+    how: Step,
+    taken: Taken,
+    target: Result<Target<Expr>, Memory>,
+) -> Result<Expr, Memory>
+    ensures { (t : Names) (a : Reference) → IsTarget t target a → Is t result (p.step place how taken a) }
+{
+    let target = target?;
+    Ok(Expr::Step(place, how, taken, target))
+}
+
+/// `! operand`
+pub fn not_of(x: Result<Boxed<Expr>, Memory>) -> Result<Expr, Memory>
+    ensures { (t : Names) (a : Expression) → Is t x a → Is t result (p.not a) }
+{
+    let x = x?;
+    Ok(Expr::Not(x))
+}
+
+/// A chain
+pub fn chain_of(
+    x: Result<Boxed<Expr>, Memory>,
+    xs: Result<Items<Term<Expr>>, Memory>,
+) -> Result<Expr, Memory>
+    ensures { (t : Names) (a : Expression) (b : List (term.Term Expression)) → Is t x a → AreTerms t xs b → Is t result (p.chain a (terms_of b)) }
+{
+    let (x, xs) = both(x, xs)?;
+    Ok(Expr::Chain(x, xs))
+}
+
+/// A concatenation
+pub fn concat_of(
+    x: Result<Boxed<Expr>, Memory>,
+    xs: Result<Items<Joined<Expr>>, Memory>,
+) -> Result<Expr, Memory>
+    ensures { (t : Names) (a : Expression) (b : List (joined.Joined Expression)) → Is t x a → AreJoins t xs b → Is t result (p.concat a (joins_of b)) }
+{
+    let (x, xs) = both(x, xs)?;
+    Ok(Expr::Concat(x, xs))
+}
+
+/// A comparison
+pub fn compare_of(
+    how: Comparison,
+    x: Result<Boxed<Expr>, Memory>,
+    y: Result<Boxed<Expr>, Memory>,
+) -> Result<Expr, Memory>
+    ensures { (t : Names) (a : Expression) (b : Expression) → Is t x a → Is t y b → Is t result (p.compare how a b) }
+{
+    let (x, y) = both(x, y)?;
+    Ok(Expr::Compare(how, x, y))
+}
+
+/// `text ~ pattern`
+pub fn match_of(
+    place: Place,
+    x: Result<Boxed<Expr>, Memory>,
+    y: Result<Pattern<Expr>, Memory>,
+) -> Result<Expr, Memory>
+    ensures { (t : Names) (a : Expression) (b : Ere) → Is t x a → IsEre t y b → Is t result (p.matched place a b) }
+{
+    let (x, y) = both(x, y)?;
+    Ok(Expr::Match(place, x, y))
+}
+
+/// `key in array`
+pub fn member_of(
+    x: Result<Boxed<Expr>, Memory>,
+    vs: Result<Items<Variable>, Memory>,
+) -> Result<Expr, Memory>
+    ensures { (t : Names) (a : Expression) (b : List p.Variable) → Is t x a → AreVariables t vs b → Is t result (p.member a b) }
+{
+    let (x, vs) = both(x, vs)?;
+    Ok(Expr::In(x, vs))
+}
+
+/// `( list ) in array`
+pub fn group_of(
+    place: Place,
+    xs: Result<Items<Expr>, Memory>,
+    vs: Result<Items<Variable>, Memory>,
+) -> Result<Expr, Memory>
+    ensures { (t : Names) (a : List Expression) (b : List p.Variable) → AreAll t xs a → AreVariables t vs b → Is t result (p.group place (expressions_of a) b) }
+{
+    let (xs, vs) = both(xs, vs)?;
+    Ok(Expr::Group(place, xs, vs))
+}
+
+/// A chain of `&&`
+pub fn and_of(
+    x: Result<Boxed<Expr>, Memory>,
+    xs: Result<Items<Expr>, Memory>,
+) -> Result<Expr, Memory>
+    ensures { (t : Names) (a : Expression) (b : List Expression) → Is t x a → AreAll t xs b → Is t result (p.and a (expressions_of b)) }
+{
+    let (x, xs) = both(x, xs)?;
+    Ok(Expr::And(x, xs))
+}
+
+/// A chain of `||`
+pub fn or_of(
+    x: Result<Boxed<Expr>, Memory>,
+    xs: Result<Items<Expr>, Memory>,
+) -> Result<Expr, Memory>
+    ensures { (t : Names) (a : Expression) (b : List Expression) → Is t x a → AreAll t xs b → Is t result (p.or a (expressions_of b)) }
+{
+    let (x, xs) = both(x, xs)?;
+    Ok(Expr::Or(x, xs))
+}
+
+/// `test ? then : else`
+pub fn choose_of(
+    x: Result<Boxed<Expr>, Memory>,
+    y: Result<Boxed<Expr>, Memory>,
+    z: Result<Boxed<Expr>, Memory>,
+) -> Result<Expr, Memory>
+    ensures { (t : Names) (a : Expression) (b : Expression) (d : Expression) → Is t x a → Is t y b → Is t z d → Is t result (p.choose a b d) }
+{
+    let (x, (y, z)) = both(x, both(y, z))?;
+    Ok(Expr::Choice(x, y, z))
+}
+
+/// `NAME ( list )`
+pub fn call_of(
+    place: Place,
+    f: Result<u32, Memory>,
+    xs: Result<Items<Argument<Expr>>, Memory>,
+) -> Result<Expr, Memory>
+    ensures { (t : Names) (a : ℕ) (b : Arguments) → IfOk f (λ n. n ≡ a) → AreArguments t xs b → Is t result (p.call place a b) }
+{
+    let (f, xs) = both(f, xs)?;
+    Ok(Expr::Call(place, f, xs))
+}
+
+/// `getline target`
+pub fn getline_of(place: Place, target: Result<Target<Expr>, Memory>) -> Result<Expr, Memory>
+    ensures { (t : Names) (a : Reference) → IsTarget t target a → Is t result (p.getline place a) }
+{
+    let target = target?;
+    Ok(Expr::Getline(place, target))
+}
+
+/// `getline target < file`
+pub fn getline_file_of(
+    place: Place,
+    target: Result<Target<Expr>, Memory>,
+    x: Result<Boxed<Expr>, Memory>,
+) -> Result<Expr, Memory>
+    ensures { (t : Names) (a : Reference) (b : Expression) → IsTarget t target a → Is t x b → Is t result (p.getline_file place a b) }
+{
+    let (target, x) = both(target, x)?;
+    Ok(Expr::GetlineFile(place, target, x))
+}
+
+/// `command | getline target`
+pub fn pipe_of(
+    x: Result<Boxed<Expr>, Memory>,
+    xs: Result<Items<Piped<Expr>>, Memory>,
+) -> Result<Expr, Memory>
+    ensures { (t : Names) (a : Expression) (b : p.Pipes) → Is t x a → ArePipes t xs b → Is t result (p.pipe a b) }
+{
+    let (x, xs) = both(x, xs)?;
+    Ok(Expr::Pipe(x, xs))
+}
+
+/// A built-in function of one text
+pub fn measure_of(how: Measure, x: Result<Boxed<Expr>, Memory>) -> Result<Expr, Memory>
+    ensures { (t : Names) (a : Expression) → Is t x a → Is t result (p.measure how a) }
+{
+    let x = x?;
+    Ok(Expr::Measure(how, x))
+}
+
+/// `sprintf ( format , list )`
+pub fn sprintf_of(
+    place: Place,
+    x: Result<Boxed<Expr>, Memory>,
+    xs: Result<Items<Expr>, Memory>,
+) -> Result<Expr, Memory>
+    ensures { (t : Names) (a : Expression) (b : List Expression) → Is t x a → AreAll t xs b → Is t result (p.sprintf place a (expressions_of b)) }
+{
+    let (x, xs) = both(x, xs)?;
+    Ok(Expr::Sprintf(place, x, xs))
+}
+
+/// `match ( text , pattern )`
+pub fn locate_of(
+    place: Place,
+    x: Result<Boxed<Expr>, Memory>,
+    y: Result<Pattern<Expr>, Memory>,
+) -> Result<Expr, Memory>
+    ensures { (t : Names) (a : Expression) (b : Ere) → Is t x a → IsEre t y b → Is t result (p.locate place a b) }
+{
+    let (x, y) = both(x, y)?;
+    Ok(Expr::Locate(place, x, y))
+}
+
+/// `split ( text , array , separator )`
+pub fn split_of(
+    place: Place,
+    x: Result<Boxed<Expr>, Memory>,
+    at: Place,
+    v: Result<Variable, Memory>,
+    y: Result<Pattern<Expr>, Memory>,
+) -> Result<Expr, Memory>
+    ensures { (t : Names) (a : Expression) (b : p.Variable) (d : Ere) → Is t x a → IsVariable t v b → IsEre t y d → Is t result (p.split place a at b d) }
+{
+    let (x, (v, y)) = both(x, both(v, y))?;
+    Ok(Expr::Split(place, x, at, v, y))
+}
+
+/// `sub ( pattern , with , target )`, and `gsub`
+pub fn substitute_of(
+    place: Place,
+    extent: Extent,
+    x: Result<Pattern<Expr>, Memory>,
+    y: Result<Boxed<Expr>, Memory>,
+    target: Result<Target<Expr>, Memory>,
+) -> Result<Expr, Memory>
+    ensures { (t : Names) (a : Ere) (b : Expression) (d : Reference) → IsEre t x a → Is t y b → IsTarget t target d → Is t result (p.substitute place extent a b d) }
+{
+    let (x, (y, target)) = both(x, both(y, target))?;
+    Ok(Expr::Substitute(place, extent, x, y, target))
+}

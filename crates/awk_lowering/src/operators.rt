@@ -1,0 +1,182 @@
+// What the signs and words of a script do, and the forms that they decide.
+
+ghost use Rattle.std.specs.Prelude.{◌≡◌, IfOk};
+ghost use Rattle.awk_lowering.specs.Forms as spec;
+ghost use Rattle.awk_lowering.specs.Made.{Is, IsTarget};
+ghost use Rattle.awk_program.specs.Program as p;
+ghost use Rattle.awk_program.specs.Program.{Expression, Reference};
+ghost use Rattle.awk_program.specs.View.{Names};
+ghost use Rattle.awk_program.specs.declared.operators.Measure.TheVariants as m;
+
+use crate::kept::{both, boxed};
+use crate::nodes::{measure_of, not_of, read_of};
+use crate::targets::record_of;
+use awk_program::{Comparison, Expr, Extent, Measure, Operator, Redirect, Sign, Step, Target};
+use awk_text::Memory;
+use awk_text::place::Place;
+use awk_tree::{Arithmetic, Assignment, Builtin};
+use sqlite_items::Boxed;
+use std::alloc::{AllocError, Global};
+
+pub fn operator(how: Arithmetic) -> Operator
+    ensures { result ≡ spec.operator_of how }
+{
+    match how {
+        Arithmetic::Add => Operator::Add,
+        Arithmetic::Subtract => Operator::Subtract,
+        Arithmetic::Multiply => Operator::Multiply,
+        Arithmetic::Divide => Operator::Divide,
+        Arithmetic::Remainder => Operator::Remainder,
+    }
+}
+
+pub fn comparison(how: awk_tree::Comparison) -> Comparison
+    ensures { result ≡ spec.comparison_of how }
+{
+    match how {
+        awk_tree::Comparison::Less => Comparison::Less,
+        awk_tree::Comparison::LessOrEqual => Comparison::LessOrEqual,
+        awk_tree::Comparison::Equal => Comparison::Equal,
+        awk_tree::Comparison::NotEqual => Comparison::NotEqual,
+        awk_tree::Comparison::Greater => Comparison::Greater,
+        awk_tree::Comparison::GreaterOrEqual => Comparison::GreaterOrEqual,
+    }
+}
+
+pub fn step(how: awk_tree::Step) -> Step
+    ensures { result ≡ spec.step_of how }
+{
+    match how {
+        awk_tree::Step::Increment => Step::Increment,
+        awk_tree::Step::Decrement => Step::Decrement,
+    }
+}
+
+pub fn redirect(how: awk_tree::Redirect) -> Redirect
+    ensures { result ≡ spec.redirect_of how }
+{
+    match how {
+        awk_tree::Redirect::Write => Redirect::Write,
+        awk_tree::Redirect::Append => Redirect::Append,
+        awk_tree::Redirect::Command => Redirect::Command,
+    }
+}
+
+pub fn extent(all: bool) -> Extent
+    ensures { result ≡ spec.extent_of all }
+{
+    if all { Extent::All } else { Extent::First }
+}
+
+/// `!`, `+` and `-` before an operand
+
+pub fn signed_of(
+    place: Place,
+    sign: awk_tree::Sign,
+    x: Result<Boxed<Expr>, Memory>,
+) -> Result<Expr, Memory>
+    ensures { (t : Names) (a : Expression) → Is t x a → Is t result (spec.signed_of place sign a) }
+{
+    let x = x?;
+    match sign {
+        awk_tree::Sign::Not => Ok(Expr::Not(x)),
+        awk_tree::Sign::Plus => Ok(Expr::Signed(place, Sign::Plus, x)),
+        awk_tree::Sign::Minus => Ok(Expr::Signed(place, Sign::Minus, x)),
+    }
+}
+
+/// With true the opposite
+pub fn negated(alloc: Global, unlike: bool, x: Result<Expr, Memory>) -> Result<Expr, Memory>
+    ensures { (t : Names) (a : Expression) → Is t x a → Is t result (spec.negated unlike a) }
+{
+    if unlike { not_of(boxed(alloc, x)) } else { x }
+}
+
+/// An assignment
+pub fn assign_of(
+    place: Place,
+    how: Assignment,
+    target: Result<Target<Expr>, Memory>,
+    x: Result<Boxed<Expr>, Memory>,
+) -> Result<Expr, Memory>
+    ensures { (t : Names) (a : Reference) (b : Expression) → IsTarget t target a → Is t x b → Is t result (spec.assigned place how a b) }
+{
+    let (target, x) = both(target, x)?;
+    match how {
+        Assignment::Set => Ok(Expr::Assign(place, target, x)),
+        Assignment::Add => Ok(Expr::Change(place, Operator::Add, target, x)),
+        Assignment::Subtract => Ok(Expr::Change(place, Operator::Subtract, target, x)),
+        Assignment::Multiply => Ok(Expr::Change(place, Operator::Multiply, target, x)),
+        Assignment::Divide => Ok(Expr::Change(place, Operator::Divide, target, x)),
+        Assignment::Remainder => Ok(Expr::Change(place, Operator::Remainder, target, x)),
+        Assignment::Power => Ok(Expr::Change(place, Operator::Power, target, x)),
+    }
+}
+
+/// `length` of the whole record
+pub fn record_length(alloc: Global, place: Place) -> Result<Expr, Memory>
+    ensures { (t : Names) → Is t result (p.measure m.Length (p.read (spec.whole_record place))) }
+{
+    let record = read_of(record_of(alloc, place));
+    measure_of(Measure::Length, boxed(alloc, record))
+}
+
+/// A built-in function without arguments
+pub fn of_none(alloc: Global, place: Place, which: Builtin) -> Result<Expr, Memory>
+    ensures { (t : Names) → Is t result (spec.of_none place which) }
+{
+    match which {
+        Builtin::Length => record_length(alloc, place),
+        _ => Err(AllocError),
+    }
+}
+
+/// A built-in function of one argument
+pub fn of_one(place: Place, which: Builtin, x: Result<Boxed<Expr>, Memory>) -> Result<Expr, Memory>
+    ensures { (t : Names) (a : Expression) → Is t x a → Is t result (spec.of_one place which a) }
+{
+    let x = x?;
+    match which {
+        Builtin::Close => Ok(Expr::Close(place, x)),
+        Builtin::Int => Ok(Expr::Int(place, x)),
+        Builtin::Length => Ok(Expr::Measure(Measure::Length, x)),
+        Builtin::System => Ok(Expr::System(place, x)),
+        Builtin::Tolower => Ok(Expr::Measure(Measure::Tolower, x)),
+        Builtin::Toupper => Ok(Expr::Measure(Measure::Toupper, x)),
+        _ => Err(AllocError),
+    }
+}
+
+/// A built-in function of two arguments
+pub fn of_two(
+    place: Place,
+    which: Builtin,
+    x: Result<Boxed<Expr>, Memory>,
+    y: Result<Boxed<Expr>, Memory>,
+) -> Result<Expr, Memory>
+    ensures { (t : Names) (a b : Expression) → Is t x a → Is t y b → Is t result (spec.of_two place which a b) }
+{
+    let (x, y) = both(x, y)?;
+    match which {
+        Builtin::Index => Ok(Expr::Index(x, y)),
+        Builtin::Substr => Ok(Expr::SubstrFrom(place, x, y)),
+        _ => Err(AllocError),
+    }
+}
+
+/// A built-in function of three arguments
+pub fn of_three(
+    place: Place,
+    which: Builtin,
+    x: Result<Boxed<Expr>, Memory>,
+    y: Result<Boxed<Expr>, Memory>,
+    z: Result<Boxed<Expr>, Memory>,
+) -> Result<Expr, Memory>
+    ensures { (t : Names) (a b d : Expression) → Is t x a → Is t y b → Is t z d → Is t result (spec.of_three place which a b d) }
+{
+    let (x, (y, z)) = both(x, both(y, z))?;
+    match which {
+        Builtin::Substr => Ok(Expr::Substr(place, x, y, z)),
+        _ => Err(AllocError),
+    }
+}
