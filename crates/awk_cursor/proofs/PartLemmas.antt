@@ -75,15 +75,15 @@ module _ {A T : Type 0} (view : T → A) (test : Terminal → Bool) (item : Pars
   many_reads ts (Err e) left p = λ h. stopped ts e (p h) h
 
 -- the same, as a caller of the loop cites it: what the loop ensures comes first, since it says which calls are meant
-pub reads_many : {A T : Type 0} (view : T → A) (test : Terminal → Bool) (item : Parser A) {tests : Terminal → Bool → Type 0} {reads : MutBor (List Token) → Result T Fault → MutBor (List Token) → Type 0} {ts : List Token} {r : Result (List T) Fault} {left : List Token}
+pub reads_many : {A T : Type 0} (view : T → A) (test : Terminal → Bool) (item : Parser A) (tests : Terminal → Bool → Type 0) (reads : MutBor (List Token) → Result T Fault → MutBor (List Token) → Type 0) (ts : List Token) (r : Result (List T) Fault) (left : List Token)
     → ReadsParts tests reads ts r left → ((kind : Terminal) (b : Bool) → tests kind b → b ≡ test kind) → ((old new : MutBor (List Token)) (r : Result T Fault) → reads old r new → Reads view (item old.now) r new.now) → Reads (map view) (many test item ts) r left
-reads_many view test item p says gives = many_reads view test item _ _ says gives _ _ _ p
+reads_many view test item tests reads ts r left p says gives = many_reads view test item tests reads says gives ts r left p
 
 -- the same where the parts are what the grammar reads
 plain : {A : Type 0} (o : Outcome (List A)) (r : Result (List A) Fault) (left : List Token) → Reads (map (λ x. x)) o r left → Reads (λ xs. xs) o r left
 plain o (Ok xs) left p = p ∙ ap (λ ys. Ok (ys, left)) (map-id xs)
 plain o (Err e) left p = p
 
-pub reads_many_plain : {T : Type 0} (test : Terminal → Bool) (item : Parser T) {tests : Terminal → Bool → Type 0} {reads : MutBor (List Token) → Result T Fault → MutBor (List Token) → Type 0} {ts : List Token} {r : Result (List T) Fault} {left : List Token}
+pub reads_many_plain : {T : Type 0} (test : Terminal → Bool) (item : Parser T) (tests : Terminal → Bool → Type 0) (reads : MutBor (List Token) → Result T Fault → MutBor (List Token) → Type 0) (ts : List Token) (r : Result (List T) Fault) (left : List Token)
     → ReadsParts tests reads ts r left → ((kind : Terminal) (b : Bool) → tests kind b → b ≡ test kind) → ((old new : MutBor (List Token)) (r : Result T Fault) → reads old r new → Reads (λ x. x) (item old.now) r new.now) → Reads (λ xs. xs) (many test item ts) r left
-reads_many_plain test item {ts} {r} {left} p says gives = plain (many test item ts) r left (reads_many (λ x. x) test item p says gives)
+reads_many_plain test item tests reads ts r left p says gives = plain (many test item ts) r left (reads_many (λ x. x) test item tests reads ts r left p says gives)

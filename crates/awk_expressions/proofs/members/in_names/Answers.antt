@@ -7,4 +7,4 @@ use Rattle.awk_expressions.proofs.members.in_names.Goals as goal
 
 pub returns : goal.returns
 unfolding in_names
-returns c = reads_many_plain (is w.In) in_name c.many.ensures (λ kind b h. search rules) (λ old new r h. search rules)
+returns c = reads_many_plain (is w.In) in_name _ _ _ _ _ c.many.ensures (λ kind b h. search rules) (λ old new r h. search rules)

@@ -7,4 +7,4 @@ use Rattle.awk_statements.proofs.items.more_params.Goals as goal
 
 pub returns : goal.returns
 unfolding more_params
-returns c = reads_many_plain (is w.Comma) next_param c.many.ensures (λ kind b h. search rules) (λ old new r h. search rules)
+returns c = reads_many_plain (is w.Comma) next_param _ _ _ _ _ c.many.ensures (λ kind b h. search rules) (λ old new r h. search rules)

@@ -9,4 +9,4 @@ use Rattle.awk_statements.proofs.prints.more_printed.Goals as goal
 
 pub returns : goal.returns
 unfolding more_printed
-returns c = reads_many view (is w.Comma) (next_printed c.args.level.now.depth (expr c.args.level.now.depth)) c.many.ensures (λ kind b h. search rules) (λ old new r h. search rules)
+returns c = reads_many view (is w.Comma) (next_printed c.args.level.now.depth (expr c.args.level.now.depth)) _ _ _ _ _ c.many.ensures (λ kind b h. search rules) (λ old new r h. search rules)

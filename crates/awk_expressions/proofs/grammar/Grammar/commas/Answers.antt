@@ -8,4 +8,4 @@ use Rattle.awk_expressions.proofs.grammar.Grammar.commas.Goals as goal
 
 pub returns : goal.returns
 unfolding commas
-returns g c = reads_many view (is w.Comma) (next_in_list c.args.self.now.depth (expr c.args.self.now.depth)) c.many.ensures (λ kind b h. search rules) (λ old new r h. search rules)
+returns g c = reads_many view (is w.Comma) (next_in_list c.args.self.now.depth (expr c.args.self.now.depth)) _ _ _ _ _ c.many.ensures (λ kind b h. search rules) (λ old new r h. search rules)

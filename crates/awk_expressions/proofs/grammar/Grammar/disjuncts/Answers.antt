@@ -8,4 +8,4 @@ use Rattle.awk_expressions.proofs.grammar.Grammar.disjuncts.Goals as goal
 
 pub returns : goal.returns
 unfolding disjuncts
-returns g c = reads_many view (is w.Or) (next_disjunct c.args.self.now.depth (expr c.args.self.now.depth) c.args.in_print) c.many.ensures (λ kind b h. search rules) (λ old new r h. search rules)
+returns g c = reads_many view (is w.Or) (next_disjunct c.args.self.now.depth (expr c.args.self.now.depth) c.args.in_print) _ _ _ _ _ c.many.ensures (λ kind b h. search rules) (λ old new r h. search rules)

@@ -8,4 +8,4 @@ use Rattle.awk_expressions.proofs.grammar.Grammar.pipes.Goals as goal
 
 pub returns : goal.returns
 unfolding pipes
-returns g c = reads_many view_piped (is w.BarGetline) (one_pipe c.args.self.now.depth (expr c.args.self.now.depth)) c.many.ensures (λ kind b h. search rules) (λ old new r h. search rules)
+returns g c = reads_many view_piped (is w.BarGetline) (one_pipe c.args.self.now.depth (expr c.args.self.now.depth)) _ _ _ _ _ c.many.ensures (λ kind b h. search rules) (λ old new r h. search rules)
