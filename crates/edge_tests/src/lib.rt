@@ -15,4 +15,4 @@ mod policies;
 #[cfg(test)]
 mod readers;
 #[cfg(test)]
-mod spellings;
+mod slots;

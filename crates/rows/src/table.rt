@@ -3,7 +3,9 @@
 use crate::problem::Problem;
 use crate::row::{Arg, Row};
 use crate::shown::Answer;
-use crate::{fields, formats, monitors, patterns, policies, records, runs, tokens, values, worlds};
+use crate::{
+    fields, formats, monitors, patterns, policies, records, runs, scripts, tokens, values, worlds,
+};
 use awk_text::octets::Octets;
 use std::alloc::Global;
 
@@ -16,19 +18,23 @@ pub enum Table {
     Fields,
     Formats,
     Tokens,
+    Scripts,
+    Trees,
     Policies,
     Worlds,
     Monitors,
     Runs,
 }
 
-pub const TABLES: [Table; 10] = [
+pub const TABLES: [Table; 12] = [
     Table::Values,
     Table::Patterns,
     Table::Searches,
     Table::Fields,
     Table::Formats,
     Table::Tokens,
+    Table::Scripts,
+    Table::Trees,
     Table::Policies,
     Table::Worlds,
     Table::Monitors,
@@ -44,6 +50,8 @@ impl Table {
             Table::Fields => "fields.txt",
             Table::Formats => "formats.txt",
             Table::Tokens => "tokens.txt",
+            Table::Scripts => "scripts.txt",
+            Table::Trees => "trees.txt",
             Table::Policies => "policies.txt",
             Table::Worlds => "worlds.txt",
             Table::Monitors => "monitors.txt",
@@ -59,6 +67,7 @@ impl Table {
             Table::Fields => fields::call(alloc, args),
             Table::Formats => formats::call(alloc, args),
             Table::Tokens => tokens::call(alloc, args),
+            Table::Scripts | Table::Trees => scripts::call(alloc, args),
             Table::Policies => policies::call(alloc, args),
             Table::Worlds | Table::Monitors | Table::Runs => Err(Problem::NoCall),
         }
