@@ -1,4 +1,5 @@
-use Rattle.std.proofs.Common.{rules, refl, arith}
+use Rattle.std.proofs.Common.{rules, refl, arith, ◌∙◌, sym}
+use Rattle.std.proofs.lemmas.List.{drop_all}
 use Rattle.awk_tree.specs.View.{view, view_term}
 use Rattle.awk_tree.proofs.Views.{view-Number, view-Quoted, view-Pattern, view-Name, view-Element, view-Field, view-Paren, view-Call, view-Builtin, view-Length, view-Split, view-Substitute, view-Getline, view-Before, view-After, view-Signed, view-Power, view-Product, view-Sum, view-Concat, view-Pipe, view-Compare, view-Match, view-Group, view-In, view-And, view-Or, view-Choice, view-Assign}
 use Rattle.awk_program.specs.View as code
@@ -6,7 +7,7 @@ use Rattle.awk_lowering.specs.Lowered.{lowered}
 use Rattle.awk_lowering.specs.OneByOne.{lowered_term, lowered_join}
 use Rattle.awk_lowering.specs.Made.{names_in, scope_in}
 use Rattle.awk_lowering.proofs.Carried.{boxed_is, turned, whole, whole_as, none_left, just_one, just_two, just_three, first_and_rest}
-use Rattle.awk_lowering.proofs.Lists.{list_is, terms_are, joins_are, pipes_turn, arguments_turn}
+use Rattle.awk_lowering.proofs.Lists.{list_is, terms_are, joins_are, pipes_end, pipes_turn, arguments_end, arguments_turn}
 use Rattle.awk_lowering.proofs.expressions.+expression.Goals as goal
 
 pub expression-returns-in-Number : goal.expression-returns-in-Number
@@ -285,6 +286,10 @@ pub fill_pipes-loop-x-preserved : goal.fill_pipes-loop-x-preserved
 fill_pipes-loop-x-preserved t c =
     pipes_turn (names_in c.args.context.now) (scope_in c.args.context.now) _ _ _ _ c.x-item.result c.args.xs.now c.loop-x.x-index (omega arith) c.x-item.is (c.piped_of.ensures _ _ c.piped_target-target.ensures) c.in_ok-push.ensures c.loop-x.invariant
 
+pub fill_pipes-returns : goal.fill_pipes-returns
+fill_pipes-returns t c =
+    let far = rw (drop_all c.loop-x.x-index c.args.xs.now (omega arith)) at c.loop-x.invariant in sym (far ∙ pipes_end _)
+
 pub pipes-returns : goal.pipes-returns
 pipes-returns t c =
     whole_as (code.view_pipes (names_in c.args.context.now)) _ _ _ _ c.kept.ensures (rw c.new-out.ensures at c.fill_pipes-filled.ensures)
@@ -292,6 +297,10 @@ pipes-returns t c =
 pub fill_arguments-loop-x-preserved : goal.fill_arguments-loop-x-preserved
 fill_arguments-loop-x-preserved t c =
     let made = rw (c.takes_array.ensures, c.bare.ensures) at (c.argument_of.ensures _ c.expression-value.ensures) in rw c.later.ensures (arguments_turn (names_in c.args.context.now) (scope_in c.args.context.now) _ _ _ _ c.loop-x.rest c.x-item.result c.args.xs.now c.loop-x.x-index (omega arith) c.x-item.is made c.in_ok-push.ensures c.loop-x.invariant)
+
+pub fill_arguments-returns : goal.fill_arguments-returns
+fill_arguments-returns t c =
+    let far = rw (drop_all c.loop-x.x-index c.args.xs.now (omega arith)) at c.loop-x.invariant in sym (far ∙ arguments_end _)
 
 pub arguments-returns : goal.arguments-returns
 arguments-returns t c =
