@@ -1,0 +1,6 @@
+mod Matching
+mod Playing
+mod Scripts
+mod FormRows
+mod Replays
+mod Choices

@@ -1,0 +1,2 @@
+//! Rows of the definition of plain awk: whole runs, computed.
+#![tactic(auto)]
