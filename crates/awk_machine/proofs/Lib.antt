@@ -1,4 +1,3 @@
-mod OneMatch
 mod OneAnswer
 mod OneRun
 mod Bounds

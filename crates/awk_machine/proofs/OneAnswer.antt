@@ -1,21 +1,16 @@
 -- A question has one right answer.
-use Rattle.std.proofs.Common.{◌≡◌, ℕ, Bool, true, false, List, [], ◌∷◌, ◌<◌, ◌+◌, length, Option, refl, sym, ◌∙◌, ap, subst, true≢false, arith}
-use Rattle.std.specs.Prelude.{Some, None, map, option_to_list}
-use Rattle.awk_text.specs.declared.value.Value.{Value}
-use Rattle.awk_text.specs.declared.value.Value.TheVariants.{Input}
-use Rattle.awk_ere.specs.Best.{Best}
+use Rattle.std.proofs.Common.{◌≡◌, ℕ, Bool, true, false, List, ◌∷◌, ◌<◌, length, Option, refl, sym, ◌∙◌, ap, subst, true≢false, arith}
+use Rattle.std.specs.Prelude.{Some, None, option_to_list}
 use Rattle.awk_ere.specs.Spelled.{Finds}
 use Rattle.awk_ere.proofs.Unique.{memory_alone}
-use Rattle.awk_fields.specs.Separators.{Separator, blanks, nothing, byte, ere, IsEre, IsNoEre}
-use Rattle.awk_fields.specs.Fields as f
-use Rattle.awk_fields.specs.Fields.{FindsSeparator, Separators, behind, no_more, passed, then_one, between, separating}
-use Rattle.awk_fields.specs.Rows.{Held, unsplit, known, AreHeld}
+use Rattle.awk_fields.specs.Separators.{IsEre, IsNoEre}
 use Rattle.awk_fields.proofs.Bests.{match_le}
 use Rattle.awk_program.specs.Slots.{Text}
 use Rattle.awk_machine.specs.Questions.{Question, Spells, Matches, Finds as FindsIn, Divides, Fields, Answer, Is, Places, Texts, Values, Right}
 use Rattle.awk_lib.specs.Replacing as all
 use Rattle.awk_lib.specs.Replacing.{AllFrom, Found, next_from, is_passed}
-use Rattle.awk_machine.proofs.OneMatch.{one_ere, one_best, one_find, found_inside, one_has}
+use Rattle.awk_ere.proofs.Alone.{one_finding, one_test}
+use Rattle.awk_fields.proofs.Alone.{one_list, one_row}
 
 the_some : {A : Type 0} {x y : A} → Some x ≡ Some y → x ≡ y
 the_some e = cc
@@ -27,13 +22,13 @@ none_some e = cc
 
 module _ (source text : Text) where
   same_match : {from : ℕ} {m n : ℕ × ℕ} → Finds source text from (Some m) → Finds source text from (Some n) → m ≡ n
-  same_match {from = from} {m = m} {n = n} h g = the_some (one_find source text from (Some m) (Some n) h g)
+  same_match {from = from} {m = m} {n = n} h g = the_some (one_finding source text from (Some m) (Some n) h g)
 
   no_match : {from : ℕ} {m : ℕ × ℕ} → Finds source text from None → Finds source text from (Some m) → ⊥
-  no_match {from = from} {m = m} h g = none_some (one_find source text from None (Some m) h g)
+  no_match {from = from} {m = m} h g = none_some (one_finding source text from None (Some m) h g)
 
   outside : {from : ℕ} {m : ℕ × ℕ} → length text < from → Finds source text from (Some m) → ⊥
-  outside {from = from} {m = m} h g = let le = found_inside source text from m g in omega arith
+  outside {m = m} h (p, is, best) = let le = match_le text p m.0 m.1 best.matches in omega (arith, best.after, best.within)
 
   one_all : {from : ℕ} {last : Option ℕ} {ms ns : List (ℕ × ℕ)} → AllFrom source text from last ms → AllFrom source text from last ns → ms ≡ ns
   one_all (all.behind from last h) (all.behind a b g) = refl
@@ -60,61 +55,7 @@ module _ (source text : Text) where
 
   one_found : (b : Bool) (ms ns : List (ℕ × ℕ)) → Found source text b ms → Found source text b ns → ms ≡ ns
   one_found true ms ns h g = one_all h g
-  one_found false ms ns (a, h, e) (b, g, d) = e ∙ ap option_to_list (one_find source text 0 a b h g) ∙ sym d
-
--- ---- what an ERE separates
-
-separates_once : (source : Text) (newline : Bool) (s : Text) (from : ℕ) (a b : Option (ℕ × ℕ)) → FindsSeparator source newline s from a → FindsSeparator source newline s from b → a ≡ b
-separates_once source newline s from a b (p, is, best) (q, again, other) =
-    one_best s (separating newline p) from a b best (subst (λ x. Best s (separating newline x) from b) (one_ere source q p again is) other)
-
-module _ (source : Text) (newline : Bool) (s : Text) (from : ℕ) where
-  same_separator : {m n : ℕ × ℕ} → FindsSeparator source newline s from (Some m) → FindsSeparator source newline s from (Some n) → m ≡ n
-  same_separator {m = m} {n = n} h g = the_some (separates_once source newline s from (Some m) (Some n) h g)
-
-  no_separator : {m : ℕ × ℕ} → FindsSeparator source newline s from None → FindsSeparator source newline s from (Some m) → ⊥
-  no_separator {m = m} h g = none_some (separates_once source newline s from None (Some m) h g)
-
-  beyond : {m : ℕ × ℕ} → length s < from → FindsSeparator source newline s from (Some m) → ⊥
-  beyond {m = m} h (p, is, best) = let le = match_le s (separating newline p) m.0 m.1 best.matches in omega (arith, best.after, best.within)
-
-one_separators : {source : Text} {newline : Bool} {s : Text} {from : ℕ} {ms ns : List (ℕ × ℕ)} → Separators source newline s from ms → Separators source newline s from ns → ms ≡ ns
-one_separators (behind a b c d h) (behind a' b' c' d' g) = refl
-one_separators (behind a b c d h) (no_more a' b' c' d' g) = refl
-one_separators (behind a b c d h) (passed a' b' c' d' at rest g e) = absurd (beyond a b c d h g)
-one_separators (behind a b c d h) (then_one a' b' c' d' start end rest l g e) = absurd (beyond a b c d h g)
-one_separators (no_more a b c d h) (behind a' b' c' d' g) = refl
-one_separators (no_more a b c d h) (no_more a' b' c' d' g) = refl
-one_separators (no_more a b c d h) (passed a' b' c' d' at rest g e) = absurd (no_separator a b c d h g)
-one_separators (no_more a b c d h) (then_one a' b' c' d' start end rest l g e) = absurd (no_separator a b c d h g)
-one_separators (passed a b c d at rest h e) (behind a' b' c' d' g) = absurd (beyond a b c d g h)
-one_separators (passed a b c d at rest h e) (no_more a' b' c' d' g) = absurd (no_separator a b c d g h)
-one_separators (passed a b c d at rest h e) (passed a' b' c' d' at' rest' g e') =
-    one_separators e (subst (λ n. Separators a b c (n + 1) rest') (ap (λ m. m.0) (same_separator a b c d g h)) e')
-one_separators (passed a b c d at rest h e) (then_one a' b' c' d' start end rest' l g e') =
-    absurd (let x = same_separator a b c d h g in let y : at ≡ start = ap (λ m. m.0) x in let z : at ≡ end = ap (λ m. m.1) x in omega arith)
-one_separators (then_one a b c d start end rest l h e) (behind a' b' c' d' g) = absurd (beyond a b c d g h)
-one_separators (then_one a b c d start end rest l h e) (no_more a' b' c' d' g) = absurd (no_separator a b c d g h)
-one_separators (then_one a b c d start end rest l h e) (passed a' b' c' d' at rest' g e') =
-    absurd (let x = same_separator a b c d g h in let y : at ≡ start = ap (λ m. m.0) x in let z : at ≡ end = ap (λ m. m.1) x in omega arith)
-one_separators (then_one a b c d start end rest l h e) (then_one a' b' c' d' start' end' rest' l' g e') =
-    let m = same_separator a b c d h g in
-    let r = one_separators e (subst (λ n. Separators a b c n rest') (ap (λ m. m.1) (sym m)) e') in
-    ap (λ xs. (start, end) ∷ xs) r ∙ ap (λ x. x ∷ rest') m
-
-one_parts : (by : Separator) (s : Text) (xs ys : List Text) → f.Parts by s xs → f.Parts by s ys → xs ≡ ys
-one_parts blanks s xs ys h g = h ∙ sym g
-one_parts nothing s xs ys h g = h ∙ sym g
-one_parts (byte c newline) s xs ys h g = h ∙ sym g
-one_parts (ere source newline) s xs ys (ms, h, e) (ns, g, d) = e ∙ ap (between s 0) (one_separators h g) ∙ sym d
-
-one_fields : (by : Separator) (s : Text) (xs ys : List Text) → f.Fields by s xs → f.Fields by s ys → xs ≡ ys
-one_fields by [] xs ys h g = h ∙ sym g
-one_fields by (b ∷ s) xs ys h g = one_parts by (b ∷ s) xs ys h g
-
-one_held : (whole : Text) (held : Held) (vs ws : List Value) → AreHeld whole held vs → AreHeld whole held ws → vs ≡ ws
-one_held whole (unsplit by) vs ws (xs, h, e) (ys, g, d) = e ∙ ap (map Input) (one_fields by whole xs ys h g) ∙ sym d
-one_held whole (known found) vs ws h g = h ∙ sym g
+  one_found false ms ns (a, h, e) (b, g, d) = e ∙ ap option_to_list (one_finding source text 0 a b h g) ∙ sym d
 
 -- ---- answers by their questions
 
@@ -135,7 +76,7 @@ one_answer (Spells source) (Is b) (Values vs) h g = absurd g
 one_answer (Spells source) (Places ms) a h g = absurd h
 one_answer (Spells source) (Texts xs) a h g = absurd h
 one_answer (Spells source) (Values vs) a h g = absurd h
-one_answer (Matches source text) (Is b) (Is c) h g = ap Is (one_has source text b c h g)
+one_answer (Matches source text) (Is b) (Is c) h g = ap Is (one_test source text b c h g)
 one_answer (Matches source text) (Is b) (Places ms) h g = absurd g
 one_answer (Matches source text) (Is b) (Texts xs) h g = absurd g
 one_answer (Matches source text) (Is b) (Values vs) h g = absurd g
@@ -149,14 +90,14 @@ one_answer (FindsIn source text all) (Places ms) (Values vs) h g = absurd g
 one_answer (FindsIn source text all) (Is b) a h g = absurd h
 one_answer (FindsIn source text all) (Texts xs) a h g = absurd h
 one_answer (FindsIn source text all) (Values vs) a h g = absurd h
-one_answer (Divides by text) (Texts xs) (Texts ys) h g = ap Texts (one_fields by text xs ys h g)
+one_answer (Divides by text) (Texts xs) (Texts ys) h g = ap Texts (one_list by text xs ys h g)
 one_answer (Divides by text) (Texts xs) (Is b) h g = absurd g
 one_answer (Divides by text) (Texts xs) (Places ms) h g = absurd g
 one_answer (Divides by text) (Texts xs) (Values vs) h g = absurd g
 one_answer (Divides by text) (Is b) a h g = absurd h
 one_answer (Divides by text) (Places ms) a h g = absurd h
 one_answer (Divides by text) (Values vs) a h g = absurd h
-one_answer (Fields row) (Values vs) (Values ws) h g = ap Values (one_held row.whole row.fields vs ws h g)
+one_answer (Fields row) (Values vs) (Values ws) h g = ap Values (one_row row vs ws h g)
 one_answer (Fields row) (Values vs) (Is b) h g = absurd g
 one_answer (Fields row) (Values vs) (Places ms) h g = absurd g
 one_answer (Fields row) (Values vs) (Texts xs) h g = absurd g

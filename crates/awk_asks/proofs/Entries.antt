@@ -1,0 +1,147 @@
+-- The table of streams, as contracts see it, after the calls of the map that holds it.
+use Rattle.std.proofs.Common.{◌≡◌, ℕ, Bool, true, false, cond, List, [], ◌∷◌, ◌++◌, map, Option, Some, None, refl, ap, sym}
+use Rattle.std.specs.Prelude.{if◌then◌else◌}
+use Rattle.std.specs.Option.{option_map}
+use Rattle.std.specs.Map.{lookup, remove_entry, set_value}
+use Rattle.indexmap.specs.IndexMap.{insert_entry}
+use Rattle.box_world.specs.Events.{Class, Stream, is_named, find_stream}
+use Rattle.std.specs.Prelude.{◌&&◌, nat_eq, Result, Ok, Err, OnOk, IfOk, IfErr, IsOk}
+use Rattle.std.specs.Str.{bytes_eq}
+use Rattle.box_world.specs.Events.{class_number}
+use Rattle.awk_asks.specs.contracts.streams.NamePartialEq.TheImpl.{eq-value}
+use Rattle.awk_asks.specs.contracts.streams.ClassPartialEq.TheImpl as classes
+use Rattle.awk_asks.specs.declared.streams.Class as code
+use Rattle.awk_asks.specs.declared.streams.Class.TheVariants as class
+use Rattle.awk_asks.specs.declared.streams.Name.{Name}
+use Rattle.awk_asks.specs.declared.streams.Open.{Open}
+use Rattle.awk_fields.specs.Takes.{Input}
+use Rattle.awk_asks.specs.Tables.{kind, entry_of, entries_without, find_input, with_input}
+
+-- a test of names by class and text
+abbrev pub IsTest : (Name → Bool) → Class → List ℕ → Type 0
+IsTest test c text = (e : Name × Open) → test e.0 ≡ is_named c text (entry_of e).stream
+
+abbrev pub streams_of : List (Name × Open) → List Stream
+streams_of es = map (λ e. e.stream) (map entry_of es)
+
+module _ (test : Name → Bool) (c : Class) (text : List ℕ) (is : IsTest test c text) where
+  pub find-entries : (es : List (Name × Open)) → find_stream c text (streams_of es) ≡ option_map (λ o. o.number) (lookup test es)
+  find-entries [] = refl
+  find-entries (e ∷ es) = rw (sym (is e)) (by (test e.0) (find-entries es))
+    where
+      by : (b : Bool) → find_stream c text (streams_of es) ≡ option_map (λ o. o.number) (lookup test es) →
+          (if b then Some e.1.number else find_stream c text (streams_of es)) ≡ option_map (λ o. o.number) (cond b (Some e.1) (lookup test es))
+      by true rest = refl
+      by false rest = rest
+
+  pub input-entries : (es : List (Name × Open)) → find_input c text (map entry_of es) ≡ option_map (λ o. o.reader) (lookup test es)
+  input-entries [] = refl
+  input-entries (e ∷ es) = rw (sym (is e)) (by (test e.0) (input-entries es))
+    where
+      by : (b : Bool) → find_input c text (map entry_of es) ≡ option_map (λ o. o.reader) (lookup test es) →
+          (if b then Some e.1.reader else find_input c text (map entry_of es)) ≡ option_map (λ o. o.reader) (cond b (Some e.1) (lookup test es))
+      by true rest = refl
+      by false rest = rest
+
+  pub without-entries : (es : List (Name × Open)) → entries_without c text (map entry_of es) ≡ map entry_of (remove_entry test es)
+  without-entries [] = refl
+  without-entries (e ∷ es) = rw (sym (is e)) (by (test e.0) (without-entries es))
+    where
+      by : (b : Bool) → entries_without c text (map entry_of es) ≡ map entry_of (remove_entry test es) →
+          (if b then map entry_of es else entry_of e ∷ entries_without c text (map entry_of es)) ≡ map entry_of (cond b es (e ∷ remove_entry test es))
+      by true rest = refl
+      by false rest = ap (λ l. entry_of e ∷ l) rest
+
+-- an entry whose reader is changed
+module _ (test : Name → Bool) (c : Class) (text : List ℕ) (is : IsTest test c text) (change : Input → Input) where
+  pub with_input-entries : (es : List (Name × Open)) (o : Open) → lookup test es ≡ Some o → with_input c text change (map entry_of es) ≡ map entry_of (set_value test es (record o { reader = change o.reader }))
+  with_input-entries [] o h = refl
+  with_input-entries (e ∷ es) o h = rw (sym (is e)) (by (test e.0) h (with_input-entries es o))
+    where
+      by : (b : Bool) → cond b (Some e.1) (lookup test es) ≡ Some o → (lookup test es ≡ Some o → with_input c text change (map entry_of es) ≡ map entry_of (set_value test es (record o { reader = change o.reader }))) →
+          (if b then record (entry_of e) { input = change (entry_of e).input } ∷ map entry_of es else entry_of e ∷ with_input c text change (map entry_of es))
+          ≡ map entry_of (cond b ((e.0, record o { reader = change o.reader }) ∷ es) (e ∷ set_value test es (record o { reader = change o.reader })))
+      by true p rest = let q : o ≡ e.1 = cc in rw q refl
+      by false p rest = ap (λ l. entry_of e ∷ l) (rest p)
+
+  pub with_input-absent : (es : List (Name × Open)) → lookup test es ≡ None → with_input c text change (map entry_of es) ≡ map entry_of es
+  with_input-absent [] h = refl
+  with_input-absent (e ∷ es) h = rw (sym (is e)) (by (test e.0) h (with_input-absent es))
+    where
+      by : (b : Bool) → cond b (Some e.1) (lookup test es) ≡ None → (lookup test es ≡ None → with_input c text change (map entry_of es) ≡ map entry_of es) →
+          (if b then record (entry_of e) { input = change (entry_of e).input } ∷ map entry_of es else entry_of e ∷ with_input c text change (map entry_of es)) ≡ entry_of e ∷ map entry_of es
+      by true p rest = absurd (cc)
+      by false p rest = ap (λ l. entry_of e ∷ l) (rest p)
+
+-- an entry that is put where it is stays
+pub set_same : (test : Name → Bool) (es : List (Name × Open)) (o : Open) → lookup test es ≡ Some o → set_value test es o ≡ es
+set_same test [] o h = refl
+set_same test (e ∷ es) o h = by (test e.0) h (set_same test es o)
+  where
+    by : (b : Bool) → cond b (Some e.1) (lookup test es) ≡ Some o → (lookup test es ≡ Some o → set_value test es o ≡ es) → cond b ((e.0, o) ∷ es) (e ∷ set_value test es o) ≡ e ∷ es
+    by true p rest = let q : o ≡ e.1 = cc in ap (λ (x : Open). (e.0, x) ∷ es) q
+    by false p rest = ap (λ l. e ∷ l) (rest p)
+
+-- a name that is not there goes last
+pub insert-entries : (eq : Name → Name → Bool) (name : Name) (o : Open) (es : List (Name × Open)) → lookup (eq name) es ≡ None →
+    map entry_of (insert_entry eq es name o) ≡ map entry_of es ++ entry_of (name, o) ∷ []
+insert-entries eq name o [] e = refl
+insert-entries eq name o (x ∷ xs) e = by (eq name x.0) e (insert-entries eq name o xs)
+  where
+    by : (b : Bool) → cond b (Some x.1) (lookup (eq name) xs) ≡ None → (lookup (eq name) xs ≡ None → map entry_of (insert_entry eq xs name o) ≡ map entry_of xs ++ entry_of (name, o) ∷ []) →
+        map entry_of (if b then (x.0, o) ∷ xs else x ∷ insert_entry eq xs name o) ≡ entry_of x ∷ map entry_of xs ++ entry_of (name, o) ∷ []
+    by true p rest = absurd (cc)
+    by false p rest = ap (λ l. entry_of x ∷ l) (rest p)
+
+-- ---- names
+
+class_test : (c d : code.Class) → classes.eq-value.it c d ≡ nat_eq (class_number (kind c)) (class_number (kind d))
+class_test class.OperandFile class.OperandFile = refl
+class_test class.OperandFile class.InputFile = refl
+class_test class.OperandFile class.InputCommand = refl
+class_test class.OperandFile class.OutputFile = refl
+class_test class.OperandFile class.OutputCommand = refl
+class_test class.InputFile class.OperandFile = refl
+class_test class.InputFile class.InputFile = refl
+class_test class.InputFile class.InputCommand = refl
+class_test class.InputFile class.OutputFile = refl
+class_test class.InputFile class.OutputCommand = refl
+class_test class.InputCommand class.OperandFile = refl
+class_test class.InputCommand class.InputFile = refl
+class_test class.InputCommand class.InputCommand = refl
+class_test class.InputCommand class.OutputFile = refl
+class_test class.InputCommand class.OutputCommand = refl
+class_test class.OutputFile class.OperandFile = refl
+class_test class.OutputFile class.InputFile = refl
+class_test class.OutputFile class.InputCommand = refl
+class_test class.OutputFile class.OutputFile = refl
+class_test class.OutputFile class.OutputCommand = refl
+class_test class.OutputCommand class.OperandFile = refl
+class_test class.OutputCommand class.InputFile = refl
+class_test class.OutputCommand class.InputCommand = refl
+class_test class.OutputCommand class.OutputFile = refl
+class_test class.OutputCommand class.OutputCommand = refl
+
+pub name_test : (n : Name) → IsTest (eq-value.it n) (kind n.class) n.text.items
+name_test n e = ap (λ b. b && bytes_eq n.text.items e.0.text.items) (class_test n.class e.0.class)
+
+-- ---- results
+
+pub on_ok : {A B P : Type 0} (r : Result A B) → IsOk r → OnOk r P → P
+on_ok (Ok x) ok p = p
+on_ok (Err x) ok p = absurd (cc)
+
+pub none_of : {A B : Type 0} (f : A → B) (x : Option A) → option_map f x ≡ None → x ≡ None
+none_of f None e = refl
+none_of f (Some x) e = absurd (cc)
+
+pub if_ok : {A B : Type 0} {P Q : A → Type 0} (r : Result A B) → ((x : A) → P x → Q x) → IfOk r P → IfOk r Q
+if_ok (Ok x) f p = f x p
+if_ok (Err x) f p = tt
+
+pub if_err : {A B : Type 0} {P Q : B → Type 0} (r : Result A B) → ((x : B) → P x → Q x) → IfErr r P → IfErr r Q
+if_err (Ok x) f p = tt
+if_err (Err x) f p = f x p
+
+pub some_of : {A : Type 0} (x y : A) → Some x ≡ Some y → x ≡ y
+some_of x y e = cc

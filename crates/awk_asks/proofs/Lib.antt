@@ -1,0 +1,10 @@
+pub mod Chain
+pub mod Numbers
+mod Entries
+pub mod Asking
+mod Opened
+pub mod Leading
+mod Shut
+pub mod Lifting
+pub mod Reading
+pub mod Records

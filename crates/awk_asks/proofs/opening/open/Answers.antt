@@ -1,0 +1,11 @@
+use Rattle.std.proofs.Common.{ap, sym, ◌∙◌, ◌++◌, ◌∷◌, [], false, Some}
+use Rattle.awk_asks.specs.Tables.{kind}
+use Rattle.awk_asks.proofs.Leading.{owns_opened}
+use Rattle.awk_asks.proofs.opening.open.Goals as goal
+
+pub returns-in-Some-clause-owns : goal.returns-in-Some-clause-owns
+returns-in-Some-clause-owns g c =
+    owns_opened (g.W.World.open_numbers c.args.world.now) _ c.args.mode c.new-sent.result (kind c.args.name.class) c.args.name.text.items c.args.streams.now c.add.new.self c.in_ok-reply.reply (Some c.in-Some.number)
+    c.in_ok-reply.ensures.numbers (sym c.number_opened.ensures ∙ c.in-Some.is)
+    (c.add.ensures.entries ∙ ap (λ es. es ++ (record { stream = record { class = kind c.args.name.class; text = c.args.name.text.items; number = c.in-Some.number }; input = record { unread = []; ended = false } }) ∷ []) c.make_room.ensures.entries)
+    c.requires.owns

@@ -1,0 +1,36 @@
+// Why a part of a run is not done.
+ghost use Rattle.std.specs.Prelude.{◌≡◌};
+ghost use Rattle.awk_asks.specs.Chains.{halt_by};
+
+use awk_text::fault::Fault;
+use awk_text::place::Place;
+use box_world::ask::Stop;
+
+/// Why a part of a run ends before it is done.
+#[derive(Clone, Copy, Debug, PartialEq, Eq, Drop)]
+pub enum Halt {
+    /// The script has a fault at the place: the run shuts its streams.
+    Fault(Fault, Place),
+    /// No step is left: the run shuts its streams.
+    Cut,
+    /// `next`: the record is done with.
+    Next,
+    /// `exit`: what is left are the actions of END.
+    Exit,
+    /// Memory was refused, and the run ends as it stands.
+    Memory,
+    /// The denial of a request at the place could not be logged, and the run ends as it stands.
+    Log(Place),
+}
+
+impl Halt {
+    /// How a part ends whose request at the place was not answered. Takes no memory.
+    pub fn by(place: Place, stop: Stop) -> Halt
+        ensures { result ≡ halt_by place stop }
+    {
+        match stop {
+            Stop::Memory => Halt::Memory,
+            Stop::Log => Halt::Log(place),
+        }
+    }
+}

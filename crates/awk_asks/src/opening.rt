@@ -1,0 +1,119 @@
+// Streams are opened.
+ghost use Rattle.std.specs.Prelude.{◌≡◌, Some, None, IfOk, IfSome};
+ghost use Rattle.box_world.specs.Events.{Named, find_stream};
+ghost use Rattle.box_world.specs.declared.ask.Request.TheVariants.{Open};
+ghost use Rattle.awk_machine.specs.Getline as getline;
+ghost use Rattle.awk_machine.specs.Pieces as machine;
+ghost use Rattle.awk_machine.specs.Pieces.{Do};
+ghost use Rattle.awk_machine.specs.State.{Given, State};
+ghost use Rattle.awk_asks.specs.Tables.{kind, open_of};
+ghost use Rattle.awk_asks.specs.Tasks.{Does, Opens, Owns, fetched, goes_on};
+
+use crate::halt::Halt;
+use crate::requests::request;
+use crate::streams::{Class, Name, Streams};
+use awk_text::fault::Fault;
+use awk_text::octets::Octets;
+use awk_text::place::Place;
+use box_world::ask::{Mode, Reply, Request};
+use box_world::world::World;
+use std::alloc::Global;
+
+fn number_opened(reply: &Reply) -> Option<u32>
+    ensures { result ≡ Rattle.awk_asks.specs.Tasks.number_opened reply.now }
+{
+    match reply {
+        Reply::Opened(number) => Some(*number),
+        _ => None,
+    }
+}
+
+/// Opens a stream that is not open yet, and answers its number; `None` where the world does not
+/// open it. All memory is taken before the world is asked.
+pub fn open<W: World>(
+    alloc: Global,
+    place: Place,
+    given: bool,
+    mode: Mode,
+    name: Name,
+    streams: &mut Streams,
+    world: &mut W,
+) -> Result<Option<u32>, Halt>
+    requires owns { Owns (W.open_numbers world.old) streams.old }
+    requires new { find_stream (kind name.class) name.text.items (open_of streams.old) ≡ None }
+    ensures opens { Opens W.follows W.has_stopped W.stops (W.open_numbers world.old)
+        (record { place = place; given = given; request = Open mode name.text.items }) (kind name.class) name.text.items streams.old world.old result streams.new world.new }
+    ensures owns { Owns (W.open_numbers world.new) streams.new }
+{
+    let Ok(text) = Vec::from_slice(alloc, name.text.as_slice()) else {
+        return Err(Halt::Memory);
+    };
+    if streams.make_room().is_err() {
+        return Err(Halt::Memory);
+    }
+    let sent = Octets::new(text);
+    let reply = request(place, given, Request::Open(mode, sent), world)?;
+    match number_opened(&reply) {
+        Some(number) => {
+            streams.add(name, number);
+            Ok(Some(number))
+        }
+        None => Ok(None),
+    }
+}
+
+/// Opens a stream that is to be written, unless it is open, and answers its number; a failure is a
+/// fault of the script.
+pub fn open_output<W: World>(
+    alloc: Global,
+    place: Place,
+    mode: Mode,
+    name: Name,
+    streams: &mut Streams,
+    world: &mut W,
+) -> Result<u32, Halt>
+    requires { Owns (W.open_numbers world.old) streams.old }
+    ensures task { (g : Given) (s : State) → Does W.follows W.has_stopped W.stops g s
+        (Do (machine.Open place mode (kind name.class) name.text.items)) goes_on streams.old world.old result streams.new world.new }
+    ensures found { IfOk result (λ n. find_stream (kind name.class) name.text.items (open_of streams.new) ≡ Some n) }
+    ensures owns { Owns (W.open_numbers world.new) streams.new }
+{
+    if let Some(number) = streams.number(&name) {
+        return Ok(number);
+    }
+    let Some(number) = open(alloc, place, false, mode, name, streams, world)? else {
+        return Err(Halt::Fault(Fault::Output, place));
+    };
+    Ok(number)
+}
+
+/// Opens a stream that is to be read, unless it is open, and answers its number; `None` where the
+/// world does not open it.
+pub fn open_input<W: World>(
+    alloc: Global,
+    place: Place,
+    name: Name,
+    streams: &mut Streams,
+    world: &mut W,
+) -> Result<Option<u32>, Halt>
+    requires { Owns (W.open_numbers world.old) streams.old }
+    ensures task { (g : Given) (s : State) → Does W.follows W.has_stopped W.stops g s
+        (Do (machine.Fetch place (kind name.class) name.text.items)) (fetched place (Named (kind name.class) name.text.items)) streams.old world.old result streams.new world.new }
+    ensures found { IfOk result (λ o. IfSome o (λ n. find_stream (kind name.class) name.text.items (open_of streams.new) ≡ Some n)) }
+    ensures owns { Owns (W.open_numbers world.new) streams.new }
+{
+    if let Some(number) = streams.number(&name) {
+        return Ok(Some(number));
+    }
+    let mode = input_mode(name.class);
+    open(alloc, place, false, mode, name, streams, world)
+}
+
+fn input_mode(class: Class) -> Mode
+    ensures { result ≡ getline.input_mode (kind class) }
+{
+    match class {
+        Class::InputCommand => Mode::RunIn,
+        _ => Mode::Read,
+    }
+}

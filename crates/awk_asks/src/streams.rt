@@ -1,0 +1,165 @@
+// The streams that a run has open.
+ghost use Rattle.std.specs.Prelude.{◌≡◌, ◌<◌, [], ◌∷◌, ◌++◌, true, false, None, Some, OnOk, OnErr, IfOk, IfErr, IsOkUnless, ◌⊎◌, drop, slice_get, option_map};
+ghost use Rattle.awk_fields.specs.Heads.{head, too_long};
+ghost use Rattle.awk_fields.specs.Takes.{Input};
+ghost use Rattle.box_world.specs.Events.{find_stream};
+ghost use Rattle.awk_asks.specs.Tables.{kind, open_of, entries_without, find_input, with_input, TakesOf};
+
+use awk_fields::reader::{Reader, Taken};
+use awk_text::Memory;
+use awk_text::fault::Fault;
+use indexmap::IndexMap;
+use std::alloc::Global;
+use std::marker::Model;
+
+/// What sort of stream a text names. Streams of two classes are two, whatever their texts.
+#[derive(Clone, Copy, Debug, PartialEq, Eq, Hash, Drop)]
+pub enum Class {
+    OperandFile,
+    InputFile,
+    InputCommand,
+    OutputFile,
+    OutputCommand,
+}
+
+/// The name of a stream that the script opens.
+#[derive(PartialEq, Eq, Hash, Drop)]
+pub struct Name {
+    pub class: Class,
+    pub text: Vec<u8>,
+}
+
+/// An open stream: its number in the world, and what was read of it.
+#[derive(Drop)]
+struct Open {
+    number: u32,
+    reader: Reader,
+}
+
+/// The open streams by their names, in order of opening, and what was read of the standard input.
+#[derive(Drop)]
+pub struct Streams {
+    table: IndexMap<Name, Open>,
+    input: Reader,
+}
+
+impl Model for Streams {
+    ghost use Rattle.std.specs.Prelude.{map};
+    ghost use Rattle.indexmap.specs.IndexMap.{spare};
+    ghost use Rattle.awk_asks.specs.Tables.{Table, entry_of};
+
+    ghost Value = { Table };
+
+    ghost view = { λ s. record { entries = map entry_of s.table.entries; input = s.input; room = spare s.table } };
+}
+
+impl Streams {
+    /// No stream is open, and nothing is read. Takes no memory.
+    pub fn new(alloc: Global) -> Streams
+        ensures none { result.entries ≡ [] }
+        ensures input { result.input ≡ record { unread = []; ended = false } }
+    {
+        Streams {
+            table: IndexMap::new(alloc),
+            input: Reader::new(alloc),
+        }
+    }
+
+    /// The number of the stream of this name, if it is open. Takes no memory.
+    pub fn number(&self, name: &Name) -> Option<u32>
+        ensures { result ≡ find_stream (kind name.now.class) name.now.text.items (open_of self.now) }
+    {
+        match self.table.get(name) {
+            Some(open) => Some(open.number),
+            None => None,
+        }
+    }
+
+    /// Makes room for one more stream, or answers `Memory`.
+    pub fn make_room(&mut self) -> Result<(), Memory>
+        ensures entries { self.new.entries ≡ self.old.entries }
+        ensures input { self.new.input ≡ self.old.input }
+        ensures ok { OnOk result (0 < self.new.room) }
+    {
+        self.table.reserve(1)
+    }
+
+    /// Adds a stream of which nothing is read yet, last. There is room for it.
+    pub fn add(&mut self, name: Name, number: u32)
+        requires room { 0 < self.old.room }
+        requires new { find_stream (kind name.class) name.text.items (open_of self.old) ≡ None }
+        ensures entries { self.new.entries ≡ self.old.entries ++ record {
+          stream = record { class = kind name.class; text = name.text.items; number = number };
+          input = record { unread = []; ended = false };
+        } ∷ [] }
+        ensures input { self.new.input ≡ self.old.input }
+    {
+        let reader = Reader::new(*self.table.allocator());
+        self.table.insert(name, Open { number, reader }).unwrap();
+    }
+
+    /// Takes a stream away, if it is open. Takes no memory.
+    pub fn remove(&mut self, name: &Name)
+        ensures entries { self.new.entries ≡ entries_without (kind name.now.class) name.now.text.items self.old.entries }
+        ensures input { self.new.input ≡ self.old.input }
+    {
+        let _removed = self.table.shift_remove(name);
+    }
+
+    /// The number of the stream that was opened first. Takes no memory.
+    pub fn first_number(&self) -> Option<u32>
+        ensures { result ≡ option_map (λ e. e.stream.number) (slice_get self.now.entries 0) }
+    {
+        match self.table.first() {
+            Some((_, open)) => Some(open.number),
+            None => None,
+        }
+    }
+
+    /// Takes the stream away that was opened first. Takes no memory.
+    pub fn remove_first(&mut self)
+        ensures entries { self.new.entries ≡ drop 1 self.old.entries }
+        ensures input { self.new.input ≡ self.old.input }
+    {
+        let _removed = self.table.shift_remove_index(0);
+    }
+
+    /// Adds the next bytes of an input that has not ended, if it is open. `Memory` changes nothing.
+    pub fn push(&mut self, name: &Name, bytes: &[u8]) -> Result<(), Fault>
+        requires { (i : Input) → find_input (kind name.now.class) name.now.text.items self.old.entries ≡ Some i → i.ended ≡ false }
+        ensures ok { OnOk result (self.new.entries ≡ with_input (kind name.now.class) name.now.text.items (λ i. record { unread = i.unread ++ bytes.now; ended = false }) self.old.entries) }
+        ensures err { OnErr result (self.new.entries ≡ self.old.entries) }
+        ensures memory { IsOkUnless result Fault.Memory }
+        ensures input { self.new.input ≡ self.old.input }
+    {
+        match self.table.get_mut(name) {
+            Some(open) => open.reader.push(bytes),
+            None => Ok(()),
+        }
+    }
+
+    /// The first record of what is held unread of an input, which is taken; see `Reader::take`. A
+    /// stream that is not open has none. Where it fails, nothing was taken.
+    pub fn take(&mut self, name: &Name, rs: &[u8]) -> Result<Taken, Fault>
+        ensures ok { IfOk result (λ taken. TakesOf (kind name.now.class) name.now.text.items rs.now self.old.entries taken self.new.entries) }
+        ensures err { OnErr result (self.new.entries ≡ self.old.entries) }
+        ensures fault { IfErr result (λ e. (i : Input) → find_input (kind name.now.class) name.now.text.items self.old.entries ≡ Some i
+            → (e ≡ Fault.Memory) ⊎ ((e ≡ Fault.TextTooLong) × (head rs.now i.unread i.ended ≡ too_long))) }
+        ensures input { self.new.input ≡ self.old.input }
+    {
+        match self.table.get_mut(name) {
+            Some(open) => open.reader.take(rs),
+            None => Ok(Taken::Done),
+        }
+    }
+
+    /// Says that an input has ended, if it is open. Takes no memory.
+    pub fn finish(&mut self, name: &Name)
+        ensures entries { self.new.entries ≡ with_input (kind name.now.class) name.now.text.items (λ i. record { unread = i.unread; ended = true }) self.old.entries }
+        ensures input { self.new.input ≡ self.old.input }
+    {
+        if let Some(open) = self.table.get_mut(name) {
+            open.reader.finish();
+        }
+    }
+}

@@ -1,0 +1,5 @@
+pub mod Inputs
+pub mod Kept
+pub mod Changes
+pub mod States
+pub mod Laws

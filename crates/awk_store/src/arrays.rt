@@ -1,0 +1,169 @@
+// Arrays.
+ghost use Rattle.std.specs.Prelude.{◌≡◌, ◌⊎◌, [], Ok, slice_get, slice_set, unwrap_or, length, IfOk, IfErr, OnOk, IsOkUnless};
+ghost use Rattle.std.specs.Option.{option_copied};
+ghost use Rattle.awk_lib.specs.Arrays.{element, has, keys, put, without};
+ghost use Rattle.awk_machine.specs.State as state;
+ghost use Rattle.awk_store.specs.Kept.{array, array_at, array_found, bound_reference, listed, reference};
+ghost use Rattle.awk_store.specs.Changes.{change_at, given_array, with_array};
+
+use crate::cell::Cell;
+use crate::frame::{Bound, Reference};
+use crate::store::Store;
+use awk_lib::array::Array;
+use awk_program::Variable;
+use awk_text::fault::Fault;
+use awk_text::octets::Octets;
+use awk_text::value::Value;
+use std::mem;
+
+fn handed(frame: &[Bound], place: usize) -> Reference
+    ensures { result ≡ bound_reference (slice_get frame.now place) }
+{
+    match frame.get(place) {
+        Some(Bound::Handed(reference)) => *reference,
+        Some(Bound::Scalar(_)) | None => Reference::Nothing,
+    }
+}
+
+fn found(cells: &[Cell], slot: usize) -> Option<&Array<Value>>
+    ensures { option_copied result ≡ listed (slice_get cells.now slot) }
+{
+    match cells.get(slot) {
+        Some(Cell::Array(array)) => Some(array),
+        Some(Cell::Value(_)) | None => None,
+    }
+}
+
+/// Puts an array in place of the one at a slot, and answers that, or `none` where there is no array.
+fn replace_in_cells(
+    cells: &mut Vec<Cell>,
+    slot: usize,
+    array: Array<Value>,
+    none: Array<Value>,
+) -> Array<Value>
+    ensures value { result ≡ unwrap_or (listed (slice_get cells.old.items slot)) none }
+    ensures after { cells.new.items ≡ change_at (given_array array) cells.old.items slot }
+{
+    match cells.get_mut(slot) {
+        Some(cell) => cell.replace_array(array, none),
+        None => none,
+    }
+}
+
+/// The same among the arrays that calls have made.
+fn replace_made(
+    made: &mut Vec<Array<Value>>,
+    place: usize,
+    array: Array<Value>,
+    none: Array<Value>,
+) -> Array<Value>
+    ensures value { result ≡ unwrap_or (slice_get made.old.items place) none }
+    ensures after { made.new.items ≡ slice_set made.old.items place array }
+{
+    if place < made.len() {
+        return mem::replace(&mut made[place], array);
+    }
+    none
+}
+
+impl Store {
+    /// Which array a variable is.
+    pub fn reference(&self, variable: Variable) -> Reference
+        ensures { result ≡ reference self.now variable }
+    {
+        match variable {
+            Variable::Global(slot) => Reference::Shared(slot),
+            Variable::Parameter(place) => handed(self.frame.as_slice(), place as usize),
+        }
+    }
+
+    /// The array, where there is one. Takes no memory.
+    pub fn array_at(&self, at: Reference) -> Option<&Array<Value>>
+        ensures { option_copied result ≡ array_found self.now at }
+    {
+        match at {
+            Reference::Shared(slot) => found(self.cells.as_slice(), slot as usize),
+            Reference::Made(place) => self.made.get(place as usize),
+            Reference::Nothing => None,
+        }
+    }
+
+    /// Puts an array in place of another, and answers that. Where there is no array nothing changes, and the answer is
+    /// empty. Takes no memory.
+    ///
+    /// So an array can be changed outside the store: taken out with an empty one in its place, and put back.
+    pub fn replace(&mut self, at: Reference, array: Array<Value>) -> Array<Value>
+        ensures value { result ≡ array_at self.old at }
+        ensures after { self.new ≡ with_array at array self.old }
+    {
+        let none = Array::new(self.alloc);
+        match at {
+            Reference::Shared(slot) => replace_in_cells(
+                &mut self.cells,
+                slot as usize,
+                array,
+                none,
+            ),
+            Reference::Made(place) => replace_made(&mut self.made, place as usize, array, none),
+            Reference::Nothing => none,
+        }
+    }
+
+    /// The value of an element, where it is there. Takes no memory.
+    pub fn element(&self, name: Variable, key: &[u8]) -> Option<&Value>
+        ensures { option_copied result ≡ element (array self.now name) key.now }
+    {
+        self.array_at(self.reference(name))?.get(key)
+    }
+
+    /// Whether the key is there. Takes no memory.
+    pub fn contains(&self, name: Variable, key: &[u8]) -> bool
+        ensures { result ≡ has (array self.now name) key.now }
+    {
+        match self.array_at(self.reference(name)) {
+            Some(elements) => elements.contains(key),
+            None => false,
+        }
+    }
+
+    /// Gives an element a value: in its place where it is there, and else last. Where the variable is no array nothing
+    /// changes, and the answer is `Ok`.
+    ///
+    /// Fails with `Fault::TooManyElements` exactly where the key is one too many, and with `Fault::Memory` where memory
+    /// is refused; then nothing has changed.
+    pub fn put(&mut self, name: Variable, key: Vec<u8>, value: Value) -> Result<(), Fault>
+        ensures ok { OnOk result ((new : state.Array) × (put (array self.old name) key.items value ≡ Ok new) × (self.new ≡ with_array (reference self.old name) new self.old)) }
+        ensures err { IfErr result (λ e. (self.new ≡ self.old) × ((e ≡ Fault.Memory) ⊎ (put (array self.old name) key.items value ≡ Err e))) }
+    {
+        let at = self.reference(name);
+        let mut elements = self.replace(at, Array::new(self.alloc));
+        let result = elements.put(key, value);
+        self.replace(at, elements);
+        result
+    }
+
+    /// Removes an element, if it is there. Takes no memory.
+    pub fn remove(&mut self, name: Variable, key: &[u8])
+        ensures { self.new ≡ with_array (reference self.old name) (without (array self.old name) key.now) self.old }
+    {
+        let at = self.reference(name);
+        let mut elements = self.replace(at, Array::new(self.alloc));
+        elements.remove(key);
+        self.replace(at, elements);
+    }
+
+    /// The keys, in the order in which they were added.
+    ///
+    /// Fails with `Fault::Memory` alone, where memory is refused.
+    pub fn keys(&mut self, name: Variable) -> Result<Vec<Octets>, Fault>
+        ensures ok { IfOk result (λ texts. texts.items ≡ keys (array self.old name)) }
+        ensures err { IsOkUnless result Fault.Memory }
+        ensures same { self.new ≡ self.old }
+    {
+        let at = self.reference(name);
+        let mut elements = self.replace(at, Array::new(self.alloc));
+        let result = elements.keys();
+        self.replace(at, elements);
+        result
+    }
+}

@@ -1,0 +1,119 @@
+// Variables of the whole script.
+ghost use Rattle.std.specs.Prelude.{◌≡◌, Some, [], unwrap_or, IfOk, IsOkUnless};
+ghost use Rattle.std.specs.Option.{option_copied};
+ghost use Rattle.awk_machine.specs.Begins.{first_value};
+
+use awk_lib::array::Array;
+use awk_program::Name;
+use awk_text::fault::Fault;
+use awk_text::octets::Octets;
+use awk_text::value::Value;
+use std::alloc::Global;
+use std::mem;
+
+/// What a variable of the whole script holds.
+#[derive(Drop)]
+pub enum Cell {
+    Value(Value),
+    Array(Array<Value>),
+}
+
+impl Cell {
+    ghost use Rattle.awk_store.specs.Kept.{scalar, listed};
+    ghost use Rattle.awk_store.specs.Changes.{first_cell, given_value, given_array};
+
+    /// A variable as it is when a run begins.
+    ///
+    /// Fails with `Fault::Memory` alone, where memory is refused.
+    pub(crate) fn first(alloc: Global, name: &Name) -> Result<Cell, Fault>
+        ensures ok { IfOk result (λ cell. cell ≡ first_cell name.now) }
+        ensures err { IsOkUnless result Fault.Memory }
+    {
+        if name.is_array {
+            return Ok(Cell::Array(Array::new(alloc)));
+        }
+        Ok(Cell::Value(first_value(alloc, name.text.bytes())?))
+    }
+
+    /// The value, where it holds one.
+    pub(crate) fn value(&self) -> Option<&Value>
+        ensures { option_copied result ≡ scalar (Some self.now) }
+    {
+        match self {
+            Cell::Value(value) => Some(value),
+            Cell::Array(_) => None,
+        }
+    }
+
+    /// The array, where it holds one.
+    pub(crate) fn array(&self) -> Option<&Array<Value>>
+        ensures { option_copied result ≡ listed (Some self.now) }
+    {
+        match self {
+            Cell::Value(_) => None,
+            Cell::Array(array) => Some(array),
+        }
+    }
+
+    /// Sets the value. An array stays as it is.
+    pub(crate) fn set_value(&mut self, value: Value)
+        ensures { self.new ≡ given_value value self.old }
+    {
+        if let Cell::Value(old) = self {
+            *old = value;
+        }
+    }
+
+    /// Puts an array in place of the one that it holds, and answers that. A value stays as it is.
+    pub(crate) fn replace_array(&mut self, array: Array<Value>, none: Array<Value>) -> Array<Value>
+        ensures value { result ≡ unwrap_or (listed (Some self.old)) none }
+        ensures after { self.new ≡ given_array array self.old }
+    {
+        match self {
+            Cell::Value(_) => none,
+            Cell::Array(old) => mem::replace(old, array),
+        }
+    }
+}
+
+/// A text as a value.
+fn text(alloc: Global, text: &[u8]) -> Result<Value, Fault>
+    ensures ok { IfOk result (λ value. value ≡ Value.Text text.now) }
+    ensures err { IsOkUnless result Fault.Memory }
+{
+    Ok(Value::Text(Octets::new(Vec::from_slice(alloc, text)?)))
+}
+
+/// The value that a variable of this name has when a run begins.
+fn first_value(alloc: Global, name: &[u8]) -> Result<Value, Fault>
+    ensures ok { IfOk result (λ value. value ≡ first_value name.now) }
+    ensures err { IsOkUnless result Fault.Memory }
+{
+    if name == b"CONVFMT".as_slice() {
+        text(alloc, b"%.6g".as_slice())
+    } else if name == b"FILENAME".as_slice() {
+        Ok(Value::Input(Octets::new(Vec::new(alloc))))
+    } else if name == b"FNR".as_slice() {
+        Ok(Value::Num(0))
+    } else if name == b"FS".as_slice() {
+        text(alloc, b" ".as_slice())
+    } else if name == b"NR".as_slice() {
+        Ok(Value::Num(0))
+    } else if name == b"OFMT".as_slice() {
+        text(alloc, b"%.6g".as_slice())
+    } else if name == b"OFS".as_slice() {
+        text(alloc, b" ".as_slice())
+    } else if name == b"ORS".as_slice() {
+        text(alloc, b"\n".as_slice())
+    } else if name == b"RLENGTH".as_slice() {
+        Ok(Value::Num(-1))
+    } else if name == b"RS".as_slice() {
+        text(alloc, b"\n".as_slice())
+    } else if name == b"RSTART".as_slice() {
+        Ok(Value::Num(0))
+    } else if name == b"SUBSEP".as_slice() {
+        text(alloc, b"\x1c".as_slice())
+    } else {
+        Ok(Value::Unset)
+    }
+}

@@ -1,0 +1,132 @@
+// Variables.
+ghost use Rattle.std.specs.Prelude.{◌≡◌, Ok, Err, ℤ, length, slice_get, slice_set, unwrap_or, IfOk, IfErr, OnOk, OnErr};
+ghost use Rattle.std.specs.Option.{option_copied};
+ghost use Rattle.awk_text.specs.Values.{text_of};
+ghost use Rattle.awk_program.specs.Slots.{slot_of};
+ghost use Rattle.awk_store.specs.Kept.{bound_scalar, is_nf, own_text, own_value, scalar, value, value_at};
+ghost use Rattle.awk_store.specs.Changes.{change_at, counted, given_value, with_own, with_value};
+
+use crate::cell::Cell;
+use crate::frame::Bound;
+use crate::store::Store;
+use awk_program::{Own, Variable};
+use awk_text::arithmetic::add;
+use awk_text::fault::Fault;
+use awk_text::value::{Value, number_of, text_in};
+use itoa::Buffer;
+
+/// The value at a slot. There is none in an array, nor where the slot is none.
+fn value_at(cells: &[Cell], slot: usize) -> Option<&Value>
+    ensures { option_copied result ≡ scalar (slice_get cells.now slot) }
+{
+    cells.get(slot)?.value()
+}
+
+/// The value of a parameter. There is none in an array, nor where the place is none.
+fn bound_value(frame: &[Bound], place: usize) -> Option<&Value>
+    ensures { option_copied result ≡ bound_scalar (slice_get frame.now place) }
+{
+    match frame.get(place) {
+        Some(Bound::Scalar(value)) => Some(value),
+        Some(Bound::Handed(_)) | None => None,
+    }
+}
+
+/// The text of one of awk's own variables.
+pub(crate) fn own_text<'a>(cells: &'a [Cell], name: Own, buffer: &'a mut Buffer) -> &'a [u8]
+    ensures { result.now ≡ text_of (value_at cells.now (slot_of name)) }
+{
+    match value_at(cells, name.slot() as usize) {
+        Some(value) => text_in(value, buffer),
+        None => &[],
+    }
+}
+
+/// Sets the value at a slot. An array stays as it is.
+fn set_value(cells: &mut Vec<Cell>, slot: usize, value: Value)
+    ensures { cells.new.items ≡ change_at (given_value value) cells.old.items slot }
+{
+    match cells.get_mut(slot) {
+        Some(cell) => cell.set_value(value),
+        None => (),
+    }
+}
+
+/// Sets a parameter to a value.
+fn set_bound(frame: &mut Vec<Bound>, place: usize, value: Value)
+    ensures { frame.new.items ≡ slice_set frame.old.items place (Bound.Scalar value) }
+{
+    if place < frame.len() {
+        frame[place] = Bound::Scalar(value);
+    }
+}
+
+/// Whether a variable is NF, which is no variable but a property of the record.
+pub fn is_nf(variable: Variable) -> bool
+    ensures { result ≡ is_nf variable }
+{
+    match variable {
+        Variable::Global(slot) => slot == Own::Nf.slot(),
+        Variable::Parameter(_) => false,
+    }
+}
+
+impl Store {
+    /// The value of a variable: none stands for one that is unset. Takes no memory.
+    pub fn value(&self, variable: Variable) -> Option<&Value>
+        ensures { unwrap_or (option_copied result) Value.Unset ≡ value self.now variable }
+    {
+        match variable {
+            Variable::Global(slot) => value_at(self.cells.as_slice(), slot as usize),
+            Variable::Parameter(place) => bound_value(self.frame.as_slice(), place as usize),
+        }
+    }
+
+    /// Sets a variable to a value. A variable that is an array, or none, stays as it is, but a parameter holds the value
+    /// from now on. Takes no memory.
+    pub fn set(&mut self, variable: Variable, value: Value)
+        ensures { self.new ≡ with_value variable value self.old }
+    {
+        match variable {
+            Variable::Global(slot) => set_value(&mut self.cells, slot as usize, value),
+            Variable::Parameter(place) => set_bound(&mut self.frame, place as usize, value),
+        }
+    }
+
+    /// The value of one of awk's own variables: none stands for one that is unset. Takes no memory.
+    pub fn own(&self, name: Own) -> Option<&Value>
+        ensures { unwrap_or (option_copied result) Value.Unset ≡ own_value self.now name }
+    {
+        value_at(self.cells.as_slice(), name.slot() as usize)
+    }
+
+    /// The text of one of awk's own variables: a number's is written into the buffer. Takes no memory.
+    pub fn own_text<'a>(&'a self, name: Own, buffer: &'a mut Buffer) -> &'a [u8]
+        ensures { result.now ≡ own_text self.now name }
+    {
+        own_text(self.cells.as_slice(), name, buffer)
+    }
+
+    /// Sets one of awk's own variables. Takes no memory.
+    pub fn set_own(&mut self, name: Own, value: Value)
+        ensures { self.new ≡ with_own name value self.old }
+    {
+        set_value(&mut self.cells, name.slot() as usize, value);
+    }
+
+    /// Adds 1 to the number of a counter, as NR. Takes no memory.
+    ///
+    /// Fails with `Fault::OutOfRange` exactly where the number or the sum is out of range; then nothing has changed.
+    pub fn count(&mut self, name: Own) -> Result<(), Fault>
+        ensures ok { OnOk result ((n : ℤ) × (counted (own_value self.old name) ≡ Ok n) × (self.new ≡ with_own name (Value.Num n) self.old)) }
+        ensures err { IfErr result (λ e. (counted (own_value self.old name) ≡ Err e) × (self.new ≡ self.old)) }
+    {
+        let number = match self.own(name) {
+            Some(value) => number_of(value)?,
+            None => 0,
+        };
+        let sum = add(number, 1)?;
+        self.set_own(name, Value::Num(sum));
+        Ok(())
+    }
+}

@@ -1,0 +1,4 @@
+pub mod Cached
+pub mod Filling
+pub mod Lines
+pub mod Replaced

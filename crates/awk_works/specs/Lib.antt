@@ -1,0 +1,5 @@
+pub mod Cached
+pub mod Filled
+pub mod Lines
+pub mod Numbers
+pub mod Searches

@@ -1,0 +1,129 @@
+// The patterns of a run, compiled once.
+ghost use Rattle.std.specs.Prelude.{◌≡◌, ◌⊎◌, IfOk, IfErr, IfSome};
+ghost use Rattle.awk_fields.specs.Separators.{IsEre, IsNoEre};
+ghost use Rattle.awk_text.specs.Values.{text_of};
+ghost use Rattle.awk_works.specs.Cached.{AreEres};
+
+use awk_ere::Ere;
+use awk_text::Memory;
+use awk_text::fault::Fault;
+use awk_text::value::{Value, text_in};
+use itoa::Buffer;
+use lru::LruCache;
+use std::alloc::Global;
+use std::marker::Model;
+use std::num::NonZeroUsize;
+use std::rc::Rc;
+
+/// How many patterns are kept.
+const MOST_KEPT: usize = 64;
+
+/// The patterns that were used last, by their texts.
+type Cache = LruCache<Vec<u8>, Rc<Ere>>;
+
+/// The patterns of a run. Those that were used last are kept, as compiled; which ones never shows.
+#[derive(Drop)]
+pub struct Patterns {
+    /// `None` until a pattern is first kept.
+    cache: Option<Cache>,
+}
+
+impl Model for Patterns {
+    ghost use Rattle.std.specs.Prelude.{MatchOption};
+    ghost use Rattle.awk_works.specs.Cached.{AreEres};
+
+    ghost Value = { Unit {0} };
+
+    ghost view = { λ _. tt };
+
+    ghost invariant = { λ p. MatchOption p.cache (Unit {0}) (λ c. AreEres (λ k. k.items) (λ e. e.value) c.entries) };
+}
+
+/// The ERE that the text spells.
+fn compiled(alloc: Global, source: &[u8]) -> Result<Rc<Ere>, Fault>
+    ensures ok { IfOk result (λ e. (e.value ≡ source.now) × IsEre source.now) }
+    ensures err { IfErr result (λ e. (e ≡ Fault.Memory) ⊎ ((e ≡ Fault.Pattern) × IsNoEre source.now)) }
+{
+    match Ere::parse(alloc, source) {
+        Ok(ere) => Ok(Rc::new(alloc, ere)?),
+        Err(refusal) if refusal.code == 4 => Err(Fault::Memory),
+        Err(_) => Err(Fault::Pattern),
+    }
+}
+
+/// The pattern that the cache has of this text. It is the one used last now.
+fn cached(cache: &mut Cache, source: &[u8]) -> Option<Rc<Ere>>
+    requires { AreEres (λ k. k.items) (λ e. e.value) cache.old.entries }
+    ensures found { IfSome result (λ e. (e.value ≡ source.now) × IsEre source.now) }
+    ensures kept { AreEres (λ k. k.items) (λ e. e.value) cache.new.entries }
+{
+    cache.promote(source);
+    let kept = cache.peek(source)?;
+    match kept.clone() {
+        Ok(shared) => Some(shared),
+        Err(_) => None,
+    }
+}
+
+/// Puts the pattern into the cache, in place of the one that was used longest ago where it is full.
+fn store(alloc: Global, cache: &mut Cache, source: &[u8], ere: &Rc<Ere>) -> Result<(), Memory>
+    requires cached { AreEres (λ k. k.items) (λ e. e.value) cache.old.entries }
+    requires same { ere.now.value ≡ source.now }
+    requires ere { IsEre source.now }
+    ensures { AreEres (λ k. k.items) (λ e. e.value) cache.new.entries }
+{
+    let key = Vec::from_slice(alloc, source)?;
+    let shared = ere.clone()?;
+    cache.put(key, shared)?;
+    Ok(())
+}
+
+impl Patterns {
+    /// No patterns yet. Takes no memory.
+    pub fn new() -> Patterns {
+        Patterns { cache: None }
+    }
+
+    /// Keeps the pattern, or leaves all as it is where memory is refused.
+    fn keep(&mut self, alloc: Global, source: &[u8], ere: &Rc<Ere>) -> Result<(), Memory>
+        requires same { ere.now.value ≡ source.now }
+        requires ere { IsEre source.now }
+    {
+        if let Some(cache) = &mut self.cache {
+            return store(alloc, cache, source, ere);
+        }
+        let mut cache = LruCache::new(alloc, NonZeroUsize::new(MOST_KEPT).unwrap())?;
+        store(alloc, &mut cache, source, ere)?;
+        self.cache = Some(cache);
+        Ok(())
+    }
+
+    /// The pattern that the text spells, compiled now or before.
+    ///
+    /// Fails with `Fault::Pattern` exactly where the text is no ERE within the limits, and with `Fault::Memory`
+    /// where memory is refused. Where memory is refused for its keeping alone, the pattern is made for this once.
+    pub fn find(&mut self, alloc: Global, source: &[u8]) -> Result<Rc<Ere>, Fault>
+        ensures ok { IfOk result (λ e. (e.value ≡ source.now) × IsEre source.now) }
+        ensures err { IfErr result (λ e. (e ≡ Fault.Memory) ⊎ ((e ≡ Fault.Pattern) × IsNoEre source.now)) }
+    {
+        if let Some(cache) = &mut self.cache
+            && let Some(ere) = cached(cache, source)
+        {
+            return Ok(ere);
+        }
+        let ere = compiled(alloc, source)?;
+        let _ = self.keep(alloc, source, &ere);
+        Ok(ere)
+    }
+
+    /// The pattern that the text of a value spells, as `find` has it.
+    ///
+    /// Fails as `find` does.
+    pub fn find_of(&mut self, alloc: Global, pattern: &Value) -> Result<Rc<Ere>, Fault>
+        ensures ok { IfOk result (λ e. (e.value ≡ text_of pattern.now) × IsEre (text_of pattern.now)) }
+        ensures err { IfErr result (λ e. (e ≡ Fault.Memory) ⊎ ((e ≡ Fault.Pattern) × IsNoEre (text_of pattern.now))) }
+    {
+        let mut buffer = Buffer::new();
+        self.find(alloc, text_in(pattern, &mut buffer))
+    }
+}
