@@ -1,12 +1,12 @@
 //! An awk script's tree made into the program that runs.
 //!
 //! specs/Lowered.antt says which program a tree stands for: names are resolved, constants are made,
-//! and there is one form for each thing that a script can say. Here are the parts that the walk over
-//! a tree is made of.
+//! and there is one form for each thing that a script can say.
 #![tactic(auto)]
 
 pub mod blocks;
 pub mod constants;
+pub mod expressions;
 pub mod kept;
 pub mod names;
 pub mod nodes;
@@ -14,6 +14,7 @@ pub mod operators;
 pub mod parts;
 mod roll;
 pub mod shapes;
+pub mod statements;
 pub mod targets;
 
 pub use names::Context;

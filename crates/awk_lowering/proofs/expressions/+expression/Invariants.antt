@@ -1,0 +1,98 @@
+use Rattle.std.proofs.Common.{◌≡◌, ◌+◌, ◌*◌, ◌++◌, drop, map}
+use Rattle.awk_tree.specs.Tree.{trees_of, pipes_of}
+use Rattle.awk_tree.specs.View.{view, view_term, view_piped}
+use Rattle.awk_program.specs.View as code
+use Rattle.awk_lowering.specs.Lowered.{lowered, lowered_pipes, arguments}
+use Rattle.awk_lowering.specs.OneByOne.{lowered_term, lowered_join, then_pipes, then_arguments}
+use Rattle.awk_lowering.specs.Made.{names_in, scope_in}
+use Rattle.awk_lowering.proofs.expressions.+expression.Given as goal
+
+abbrev pub decreases-expression : goal.decreases-expression
+decreases-expression l = 16 * l.level
+
+abbrev pub decreases-part : goal.decreases-part
+decreases-part l = 1 + 16 * l.level
+
+abbrev pub decreases-fill : goal.decreases-fill
+decreases-fill l = 1 + 16 * l.level
+
+abbrev pub decreases-list : goal.decreases-list
+decreases-list l = 2 + 16 * l.level
+
+abbrev pub decreases-fill_terms : goal.decreases-fill_terms
+decreases-fill_terms l = 1 + 16 * l.level
+
+abbrev pub decreases-terms : goal.decreases-terms
+decreases-terms l = 2 + 16 * l.level
+
+abbrev pub decreases-fill_joins : goal.decreases-fill_joins
+decreases-fill_joins l = 1 + 16 * l.level
+
+abbrev pub decreases-joins : goal.decreases-joins
+decreases-joins l = 2 + 16 * l.level
+
+abbrev pub decreases-element : goal.decreases-element
+decreases-element l = 3 + 16 * l.level
+
+abbrev pub decreases-target : goal.decreases-target
+decreases-target l = 4 + 16 * l.level
+
+abbrev pub decreases-target_or_record : goal.decreases-target_or_record
+decreases-target_or_record l = 5 + 16 * l.level
+
+abbrev pub decreases-piped_target : goal.decreases-piped_target
+decreases-piped_target l = 5 + 16 * l.level
+
+abbrev pub decreases-fill_pipes : goal.decreases-fill_pipes
+decreases-fill_pipes l = 6 + 16 * l.level
+
+abbrev pub decreases-pipes : goal.decreases-pipes
+decreases-pipes l = 7 + 16 * l.level
+
+abbrev pub decreases-wanted : goal.decreases-wanted
+decreases-wanted l = 2 + 16 * l.level
+
+abbrev pub decreases-separator : goal.decreases-separator
+decreases-separator l = 3 + 16 * l.level
+
+abbrev pub decreases-split : goal.decreases-split
+decreases-split l = 4 + 16 * l.level
+
+abbrev pub decreases-getline : goal.decreases-getline
+decreases-getline l = 6 + 16 * l.level
+
+abbrev pub decreases-fill_arguments : goal.decreases-fill_arguments
+decreases-fill_arguments l = 1 + 16 * l.level
+
+abbrev pub decreases-arguments : goal.decreases-arguments
+decreases-arguments l = 2 + 16 * l.level
+
+abbrev pub decreases-call : goal.decreases-call
+decreases-call l = 3 + 16 * l.level
+
+abbrev pub decreases-called : goal.decreases-called
+decreases-called l = 2 + 16 * l.level
+
+abbrev pub decreases-located : goal.decreases-located
+decreases-located l = 3 + 16 * l.level
+
+abbrev pub decreases-formatted : goal.decreases-formatted
+decreases-formatted l = 3 + 16 * l.level
+
+abbrev pub decreases-builtin : goal.decreases-builtin
+decreases-builtin l = 4 + 16 * l.level
+
+abbrev pub invariant-fill-loop-x : goal.invariant-fill-loop-x
+invariant-fill-loop-x l = map (code.view (names_in l.context)) l.initial.out ++ map (lowered (scope_in l.context)) (map view l.xs) ≡ map (code.view (names_in l.context)) l.out ++ map (lowered (scope_in l.context)) (map view (drop l.x-index l.xs))
+
+abbrev pub invariant-fill_terms-loop-x : goal.invariant-fill_terms-loop-x
+invariant-fill_terms-loop-x l = map (code.view_term (names_in l.context)) l.initial.out ++ map (lowered_term (scope_in l.context)) (map view_term l.xs) ≡ map (code.view_term (names_in l.context)) l.out ++ map (lowered_term (scope_in l.context)) (map view_term (drop l.x-index l.xs))
+
+abbrev pub invariant-fill_joins-loop-x : goal.invariant-fill_joins-loop-x
+invariant-fill_joins-loop-x l = map (code.view_joined (names_in l.context)) l.initial.out ++ map (lowered_join (scope_in l.context)) (map view l.xs) ≡ map (code.view_joined (names_in l.context)) l.out ++ map (lowered_join (scope_in l.context)) (map view (drop l.x-index l.xs))
+
+abbrev pub invariant-fill_pipes-loop-x : goal.invariant-fill_pipes-loop-x
+invariant-fill_pipes-loop-x l = then_pipes (code.view_pipes (names_in l.context) l.initial.out) (lowered_pipes (scope_in l.context) (pipes_of (map view_piped l.xs))) ≡ then_pipes (code.view_pipes (names_in l.context) l.out) (lowered_pipes (scope_in l.context) (pipes_of (map view_piped (drop l.x-index l.xs))))
+
+abbrev pub invariant-fill_arguments-loop-x : goal.invariant-fill_arguments-loop-x
+invariant-fill_arguments-loop-x l = then_arguments (code.view_arguments (names_in l.context) l.initial.out) (arguments (scope_in l.context) l.arrays (trees_of (map view l.xs))) ≡ then_arguments (code.view_arguments (names_in l.context) l.out) (arguments (scope_in l.context) l.rest (trees_of (map view (drop l.x-index l.xs))))
