@@ -1,8 +1,8 @@
-mod Cells
+pub mod Cells
 mod Missing
-mod Slots
-mod Reading
-mod Setting
-mod Calling
-mod Ranges
-mod Beginning
+pub mod Slots
+pub mod Reading
+pub mod Setting
+pub mod Calling
+pub mod Ranges
+pub mod Beginning

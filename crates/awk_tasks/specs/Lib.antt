@@ -1,0 +1,3 @@
+pub mod Wholes
+pub mod Acts
+pub mod Spots

@@ -1,0 +1,11 @@
+//! The tasks of a run of an awk script: what is done once values are there ("Expressions in awk", "Actions" and "Functions" of
+//! POSIX.1-2017 XCU awk). Each function does one task of the machine of plain awk; none sees the script.
+//!
+//! What asks nothing of the world is said by `Acts` (specs/Acts.antt).
+#![tactic(auto)]
+
+mod faults;
+mod spot;
+pub mod variables;
+
+pub use spot::Spot;
