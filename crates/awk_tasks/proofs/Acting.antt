@@ -1,5 +1,5 @@
 -- The steps that answers about tasks are made of.
-use Rattle.std.proofs.Common.{◌≡◌, ◌⊎◌, inl, inr, refl, sym, subst, ◌∙◌, ℕ, List, [], ◌∷◌}
+use Rattle.std.proofs.Common.{◌≡◌, ◌⊎◌, inl, inr, refl, sym, subst, ◌∙◌, List, ◌∷◌}
 use Rattle.std.specs.Prelude.{Result, Ok, Err}
 use Rattle.awk_text.specs.declared.fault.Fault.{Fault}
 use Rattle.awk_text.specs.declared.fault.Fault.TheVariants as fault
@@ -11,12 +11,12 @@ use Rattle.awk_machine.specs.Advances.{advance}
 use Rattle.awk_machine.specs.Pieces.{Piece, Goes, Seeks, Faulted, ends}
 use Rattle.awk_machine.specs.Plays.{Reaches, here, goes, seeks, lacks}
 use Rattle.awk_machine.specs.Questions.{Question, Answer, Right}
-use Rattle.awk_machine.specs.State.{State, Course, Given}
+use Rattle.awk_machine.specs.State.{Course, Given}
 use Rattle.awk_machine.specs.Streams.{seen}
 use Rattle.awk_store.specs.States.{Hidden}
 use Rattle.awk_asks.specs.declared.halt.Halt.{Halt}
 use Rattle.awk_asks.specs.declared.halt.Halt.TheVariants as halt
-use Rattle.awk_asks.specs.Chains.{Comes, Halted, Meets}
+use Rattle.awk_asks.specs.Chains.{Halted, Meets}
 use Rattle.awk_asks.proofs.Chain.{join}
 use Rattle.awk_tasks.specs.Wholes.{Whole, Agreeing, base, used}
 use Rattle.awk_tasks.specs.Acts.{Settles, HaltsSo, Passes, Acts, halt_at}

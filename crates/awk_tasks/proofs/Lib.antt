@@ -1,3 +1,6 @@
 pub mod Acting
 pub mod Reading
-pub mod Targets
+pub mod Rebuilding
+pub mod VariableSteps
+pub mod ArraySteps
+pub mod RecordSteps

@@ -1,5 +1,5 @@
 -- What the machine reads of its state, where the code reads of its store.
-use Rattle.std.proofs.Common.{◌≡◌, refl, sym, ap, ◌∙◌, Bool, ℕ, List, length}
+use Rattle.std.proofs.Common.{◌≡◌, refl, ap, ◌∙◌, List}
 use Rattle.awk_fields.specs.Rows.{IsKept, HasFields}
 use Rattle.awk_fields.proofs.Alone.{kept_again, kept_fields}
 use Rattle.awk_text.specs.declared.value.Value.{Value}
@@ -13,7 +13,7 @@ use Rattle.awk_machine.specs.Streams.{seen}
 use Rattle.awk_machine.specs.Variables as variables
 use Rattle.awk_store.specs.Changes as changes
 use Rattle.awk_store.specs.Kept as kept
-use Rattle.awk_store.specs.States.{Hidden, state, reference_of}
+use Rattle.awk_store.specs.States.{Hidden}
 use Rattle.awk_store.proofs.Reading as law
 use Rattle.awk_store.proofs.Setting as set
 use Rattle.awk_tasks.specs.Wholes.{Whole, Agreeing, base, names_in}

@@ -1,5 +1,5 @@
 -- What the code of a run holds, and the state of the machine that it stands for.
-use Rattle.std.specs.Prelude.{◌≡◌, ℕ, List, length, map}
+use Rattle.std.specs.Prelude.{◌≡◌, ℕ, length, map}
 use Rattle.awk_fields.specs.Rows.{IsKept}
 use Rattle.awk_program.specs.View.{Names}
 use Rattle.awk_machine.specs.State.{State, Course, Given}

@@ -4,8 +4,11 @@
 //! What asks nothing of the world is said by `Acts` (specs/Acts.antt).
 #![tactic(auto)]
 
+pub mod elements;
 mod faults;
+pub mod fields;
 mod spot;
+mod values;
 pub mod variables;
 
 pub use spot::Spot;

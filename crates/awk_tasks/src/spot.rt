@@ -9,6 +9,6 @@ pub enum Spot {
     Variable(Variable),
     /// An element of an array by its key, with the place of the array's name
     Element(Place, Variable, Octets),
-    /// A field by its number, from 0 to 65,535
-    Field(i64),
+    /// A field by its number: 0 is the whole record
+    Field(u16),
 }

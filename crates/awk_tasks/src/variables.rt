@@ -1,6 +1,5 @@
 // Variables.
-ghost use Rattle.std.specs.Prelude.{◌≡◌, true, unwrap_or, IfOk};
-ghost use Rattle.std.specs.Option.{option_copied};
+ghost use Rattle.std.specs.Prelude.{◌≡◌, true};
 ghost use Rattle.awk_store.specs.Kept as kept;
 ghost use Rattle.awk_machine.specs.Pieces as machine;
 ghost use Rattle.awk_machine.specs.Pieces.{Do, Get, Set, give};
@@ -12,23 +11,13 @@ ghost use Rattle.awk_tasks.specs.Acts.{Acts};
 ghost use Rattle.awk_tasks.specs.Wholes.{names_in};
 
 use crate::faults::at;
+use crate::values::copied;
 use awk_asks::halt::Halt;
 use awk_program::Variable;
 use awk_store::{Store, is_nf};
-use awk_text::fault::Fault;
 use awk_text::place::Place;
 use awk_text::value::{Value, number_of};
 use std::alloc::Global;
-
-/// A value of its own for what is lent; none stands for one that is unset.
-fn copied(alloc: Global, value: Option<&Value>) -> Result<Value, Fault>
-    ensures { IfOk result (λ x. x ≡ unwrap_or (option_copied value.entry) Value.Unset) }
-{
-    match value {
-        None => Ok(Value::Unset),
-        Some(value) => value.copy(alloc),
-    }
-}
 
 /// NF, as a value.
 fn count_fields(store: &mut Store) -> Result<Value, Halt>
@@ -50,7 +39,7 @@ pub fn read_variable(alloc: Global, store: &mut Store, variable: Variable) -> Re
     let Ok(value) = copied(alloc, store.value(variable)) else {
         return Err(Halt::Memory);
     };
-    Ok(value)
+    Ok(value.unwrap_or(Value::Unset))
 }
 
 /// Sets NF to the number of a value.

@@ -2,7 +2,7 @@ use Rattle.std.proofs.Common.{rules, ap, w64}
 use Rattle.std.proofs.lemmas.Int.{to_z-of_z}
 use Rattle.awk_store.specs.Kept.{Kept}
 use Rattle.awk_tasks.proofs.Acting.{lacking}
-use Rattle.awk_tasks.proofs.Targets.{counted_nf}
+use Rattle.awk_tasks.proofs.VariableSteps.{counted_nf}
 use Rattle.awk_tasks.proofs.variables.count_fields.Goals as goal
 
 pub returns-in_default : goal.returns-in_default

@@ -1,7 +1,7 @@
 use Rattle.std.proofs.Common.{rules, sym, ◌∙◌, w64}
 use Rattle.std.proofs.lemmas.Int.{to_z-of_z}
 use Rattle.std.proofs.lemmas.Result.{err_from_is_err_and}
-use Rattle.awk_tasks.proofs.Targets.{no_number, nf_result, ok_at}
+use Rattle.awk_tasks.proofs.VariableSteps.{no_number, nf_result, ok_at}
 use Rattle.awk_tasks.proofs.variables.set_count.Goals as goal
 
 pub returns-in_err-count : goal.returns-in_err-count

@@ -1,5 +1,5 @@
 use Rattle.std.proofs.Common.{sym, ◌∙◌}
-use Rattle.awk_tasks.proofs.Targets.{sets_variable}
+use Rattle.awk_tasks.proofs.VariableSteps.{sets_variable}
 use Rattle.awk_tasks.proofs.variables.set_variable.Goals as goal
 
 pub returns-then-is_nf : goal.returns-then-is_nf

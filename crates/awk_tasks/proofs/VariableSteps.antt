@@ -1,11 +1,7 @@
 -- How targets are read and set.
-use Rattle.std.proofs.Common.{◌≡◌, ◌⊎◌, ◌<◌, inl, inr, refl, sym, ap, subst, ◌∙◌, ℕ, ℤ, Bool, true, false, List, [], ◌∷◌, length, arith}
-use Rattle.std.proofs.lemmas.Bool.Decides.{nat_tests}
-use Rattle.std.specs.Prelude.{Result, Ok, Err, pos, ◌≤◌, nat_le, OnOk, OnErr, IfErr}
-use Rattle.awk_works.proofs.Replaced.{limited_ok}
-use Rattle.awk_fields.specs.Rows.{Row, IsKept, HasFields, SetsCount, SetsNoCount, IsRebuilt, known, with_count, joined, place_of}
-use Rattle.awk_fields.proofs.Alone.{kept_again}
-use Rattle.awk_text.specs.Limits.{most_bytes}
+use Rattle.std.proofs.Common.{◌≡◌, ◌⊎◌, inl, inr, refl, sym, ap, subst, ◌∙◌, ℕ, ℤ, true, false, List, ◌∷◌, length}
+use Rattle.std.specs.Prelude.{Result, Ok, Err, pos, OnOk, OnErr, IfErr}
+use Rattle.awk_fields.specs.Rows.{Row, IsKept, HasFields, SetsCount, SetsNoCount, with_count, place_of}
 use Rattle.awk_format.specs.Directives.{◌>>=◌}
 use Rattle.awk_text.specs.Values.{number_of}
 use Rattle.awk_text.specs.declared.fault.Fault.{Fault}
@@ -18,7 +14,7 @@ use Rattle.awk_program.specs.declared.variables.Own.TheVariants as own
 use Rattle.awk_program.specs.declared.variables.Variable.{Variable}
 use Rattle.awk_program.specs.declared.variables.Variable.TheVariants.{Global, Parameter}
 use Rattle.awk_machine.specs.Advances.{advance}
-use Rattle.awk_machine.specs.Operators.{of_count, limited}
+use Rattle.awk_machine.specs.Operators.{of_count}
 use Rattle.awk_machine.specs.Pieces as machine
 use Rattle.awk_machine.specs.Pieces.{Piece, Do, Get, Set, Rebuild, Goes, Seeks, give, ends, Faulted}
 use Rattle.awk_machine.specs.Questions.{Fields, Values, values}
@@ -34,15 +30,9 @@ use Rattle.awk_asks.specs.Tasks.{goes_on}
 use Rattle.awk_asks.specs.declared.halt.Halt.{Halt}
 use Rattle.awk_tasks.specs.Wholes.{Whole, Agreeing, base, names_in}
 use Rattle.awk_tasks.specs.Acts.{Acts, Passes, halt_at, result_at}
-use Rattle.awk_tasks.proofs.Acting.{at_rest, moves, alters, keeps, finds, done, closed, lacking, faulted}
-use Rattle.awk_tasks.proofs.Reading.{nf-so, variable-so, variable-set, own-text-so, fields-so}
-
-limited_by : (b : Bool) (text : List ℕ) → nat_le (length text) most_bytes ≡ b → most_bytes < length text → limited text ≡ Err fault.TextTooLong
-limited_by true text e h = absurd (grind (arith, nat_tests))
-limited_by false text e h = rw e refl
-
-limited_err : (text : List ℕ) → most_bytes < length text → limited text ≡ Err fault.TextTooLong
-limited_err text h = limited_by (nat_le (length text) most_bytes) text refl h
+use Rattle.awk_tasks.proofs.Acting.{at_rest, moves, alters, keeps, finds, done, faulted}
+use Rattle.awk_tasks.proofs.Reading.{nf-so, variable-so, variable-set, fields-so}
+use Rattle.awk_tasks.proofs.Rebuilding.{agreeing_row, rebuilt, rebuild_moves, rebuild_faults}
 
 -- ---- variables are read
 
@@ -58,14 +48,10 @@ module _ (g : Given) (old : Whole) (x : Variable) where
   pub reads_variable : kept.is_nf x ≡ false → Acts g (Do (Get (machine.Variable (variable_of (names_in g) x)))) give old (Ok (kept.value old.0 x)) old
   reads_variable n = done (moves (at_rest _ old) (variable_moves n))
 
-  -- the store's record has its fields now
-  agreeing_row : (row : Row) → IsKept old.0.row row → (hid : Hidden) (c : Course) → Agreeing g old hid c → Agreeing g (changes.with_row row old.0, old.1) hid c
-  agreeing_row row is hid c a = record { tells = a.tells; row = kept_again hid.row old.0.row row a.row is; cells = a.cells; sound = a.sound }
-
   pub counts_fields : (row : Row) (vs : List Value) → kept.is_nf x ≡ true → IsKept old.0.row row → HasFields row vs →
       Acts g (Do (Get (machine.Variable (variable_of (names_in g) x)))) give old (Ok (v.Num (pos (length vs)))) (changes.with_row row old.0, old.1)
   counts_fields row vs y is has =
-      done (keeps refl (λ hid. refl) (agreeing_row row is)
+      done (keeps refl (λ hid. refl) (agreeing_row g old row is)
       (finds (λ hid. Fields hid.row) (Values vs) (at_rest _ old) (λ k hid c a. (nf_moves y k hid c a, fields-so g old hid c a row vs is has))))
 
   pub counted_nf : (new : Kept) (n : ℤ) → kept.is_nf x ≡ true → new ≡ changes.with_row new.row old.0 → IsKept old.0.row new.row → (vs : List Value) × HasFields new.row vs × (n ≡ pos (length vs)) →
@@ -112,20 +98,6 @@ module _ (g : Given) (old : Whole) (x : Variable) where
       ≡ Seeks (Fields hid.row) (λ a. Do (Rebuild place (with_count (values a) n)) ∷ k) (seen (base g old hid) c)
   nf_set_moves place val n y is k hid c a = rw (nf-so g old hid c a x, y, is) refl
 
-  -- ---- the record is rebuilt of its fields
-
-  rebuilt : List Value → Row
-  rebuilt vs = record { whole = joined (kept.own_text old.0 own.Ofs) vs; fields = known vs }
-
-  rebuild_moves : (place : Place) (vs : List Value) → length (joined (kept.own_text old.0 own.Ofs) vs) ≤ most_bytes → (k : List Piece) (hid : Hidden) (c : Course) → Agreeing g old hid c →
-      advance g (Do (Rebuild place vs) ∷ k) (seen (base g old hid) c) ≡ Goes k (seen (base g old (record hid { row = rebuilt vs })) c)
-  unfolding rebuilt
-  rebuild_moves place vs fits k hid c a = rw (own-text-so g old hid c a own.Ofs, limited_ok (joined (kept.own_text old.0 own.Ofs) vs) fits) refl
-
-  rebuild_faults : (place : Place) (vs : List Value) → most_bytes < length (joined (kept.own_text old.0 own.Ofs) vs) → (k : List Piece) (hid : Hidden) (c : Course) → Agreeing g old hid c →
-      advance g (Do (Rebuild place vs) ∷ k) (seen (base g old hid) c) ≡ Goes (ends (Faulted fault.TextTooLong place)) (seen (base g old hid) c)
-  rebuild_faults place vs over k hid c a = rw (own-text-so g old hid c a own.Ofs, limited_err (joined (kept.own_text old.0 own.Ofs) vs) over) refl
-
   -- ---- NF: its number, the fields, and the record
 
   number_so : (val : Value) (n : ℤ) → number_of val ≡ Ok n → (number_of val >>= place_of) ≡ place_of n
@@ -148,7 +120,6 @@ module _ (g : Given) (old : Whole) (x : Variable) where
     -- it is set: of the fields that there are or are added, the text is made
     pub set_nf : (new : Kept) (n : ℤ) → number_of val ≡ Ok n → new ≡ changes.with_row new.row old.0 → SetsCount old.0.row n (kept.own_text old.0 own.Ofs) new.row →
         Acts g (Do (Set (machine.Variable (variable_of (names_in g) x)) place val)) goes_on old (Ok (tt {0})) (new, old.1)
-    unfolding rebuilt
     set_nf new n e same s =
         let vs = with_count s.values s.count in
         subst (λ (k : Kept). Acts g (Do (Set (machine.Variable (variable_of (names_in g) x)) place val)) goes_on old (Ok (tt {0})) (k, old.1)) (sym same)
@@ -156,9 +127,9 @@ module _ (g : Given) (old : Whole) (x : Variable) where
         (finds {then_ = λ k a. Do (Rebuild place (with_count (values a) s.count)) ∷ k} (λ hid. Fields hid.row) (Values s.values) (at_rest _ old)
         (λ k hid c a. (nf_set_moves place val s.count y (number_so val n e ∙ s.count_is) k hid c a, fields-so g old hid c a old.0.row s.values (inl refl) s.before)))
         (λ k hid c a. (
-          record hid { row = rebuilt vs },
+          record hid { row = rebuilt old vs },
           record { tells = a.tells; row = inl s.after.new_is; cells = a.cells; sound = a.sound },
-          rebuild_moves place vs s.after.fits k hid c a,
+          rebuild_moves g old place vs s.after.fits k hid c a,
         ))))
 
     -- it is not: the number is none of a field, or the text would be too long
@@ -169,7 +140,7 @@ module _ (g : Given) (old : Whole) (x : Variable) where
         (faulted refl (why_so why))
       where
         at_end : Passes g nf_task old (λ k. ends (Faulted met place)) old → Passes g nf_task old (λ k. ends (Faulted met place)) (changes.with_row new.row old.0, old.1)
-        at_end h = keeps refl (λ hid. refl) (agreeing_row new.row is) h
+        at_end h = keeps refl (λ hid. refl) (agreeing_row g old new.row is) h
 
         why_so : SetsNoCount old.0.row n (kept.own_text old.0 own.Ofs) met → (met ≡ fault.Memory) ⊎ Passes g nf_task old (λ k. ends (Faulted met place)) (changes.with_row new.row old.0, old.1)
         why_so (inl m) = inl m
@@ -178,7 +149,7 @@ module _ (g : Given) (old : Whole) (x : Variable) where
             inr (at_end (moves
             (finds {then_ = λ k a. Do (Rebuild place (with_count (values a) count)) ∷ k} (λ hid. Fields hid.row) (Values vs) (at_rest _ old)
             (λ k hid c a. (nf_set_moves place val count y (number_so val n e ∙ is_count) k hid c a, fields-so g old hid c a old.0.row vs (inl refl) has)))
-            (λ k hid c a. rebuild_faults place (with_count vs count) over k hid c a ∙ ap (λ (x : Fault). Goes (ends (Faulted x place)) (seen (base g old hid) c)) (sym f))))
+            (λ k hid c a. rebuild_faults g old place (with_count vs count) over k hid c a ∙ ap (λ (x : Fault). Goes (ends (Faulted x place)) (seen (base g old hid) c)) (sym f))))
 
     pub nf_result : (r : Result (Unit {0}) Fault) (new : Kept) (n : ℤ) → number_of val ≡ Ok n → OnOk r (SetsCount old.0.row n (kept.own_text old.0 own.Ofs) new.row) → OnErr r (IsKept old.0.row new.row) →
         new ≡ changes.with_row new.row old.0 → IfErr r (λ e. SetsNoCount old.0.row n (kept.own_text old.0 own.Ofs) e) →

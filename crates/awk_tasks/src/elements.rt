@@ -1,0 +1,55 @@
+// Elements of arrays.
+ghost use Rattle.std.specs.Prelude.{◌≡◌, IfOk};
+ghost use Rattle.awk_machine.specs.Pieces as machine;
+ghost use Rattle.awk_machine.specs.Pieces.{Do, Get, Set, give};
+ghost use Rattle.awk_machine.specs.State.{Given};
+ghost use Rattle.awk_asks.specs.Tables.{Table};
+ghost use Rattle.awk_asks.specs.Tasks.{goes_on};
+ghost use Rattle.awk_program.specs.View.{variable_of};
+ghost use Rattle.awk_tasks.specs.Acts.{Acts};
+ghost use Rattle.awk_tasks.specs.Wholes.{names_in};
+
+use crate::faults::at;
+use crate::values::copied;
+use awk_asks::halt::Halt;
+use awk_program::Variable;
+use awk_store::Store;
+use awk_text::place::Place;
+use awk_text::value::Value;
+use std::alloc::Global;
+
+/// Reads an element by its key, and makes it where it is not there. A fault is at the place of the array's name.
+pub fn read_element(
+    alloc: Global,
+    store: &mut Store,
+    place: Place,
+    array: Variable,
+    key: &[u8],
+) -> Result<Value, Halt>
+    ensures { (g : Given) (t : Table) → Acts g (Do (Get (machine.Element (variable_of (names_in g) array) key.now place))) give (store.old, t) result (store.new, t) }
+{
+    let Ok(found) = copied(alloc, store.element(array, key)) else {
+        return Err(Halt::Memory);
+    };
+    if let Some(value) = found {
+        return Ok(value);
+    }
+    let Ok(owned) = Vec::from_slice(alloc, key) else {
+        return Err(Halt::Memory);
+    };
+    at(place, store.put(array, owned, Value::Unset))?;
+    Ok(Value::Unset)
+}
+
+/// Sets an element by its key. A fault is at the place of the array's name.
+pub fn set_element(
+    store: &mut Store,
+    at_name: Place,
+    array: Variable,
+    key: Vec<u8>,
+    value: Value,
+) -> Result<(), Halt>
+    ensures { (g : Given) (t : Table) (place : Place) → Acts g (Do (Set (machine.Element (variable_of (names_in g) array) key.items at_name) place value)) goes_on (store.old, t) result (store.new, t) }
+{
+    at(at_name, store.put(array, key, value))
+}
