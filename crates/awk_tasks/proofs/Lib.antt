@@ -4,3 +4,5 @@ pub mod Rebuilding
 pub mod VariableSteps
 pub mod ArraySteps
 pub mod RecordSteps
+pub mod CallSteps
+pub mod Spots

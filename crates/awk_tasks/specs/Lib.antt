@@ -1,3 +1,4 @@
 pub mod Wholes
 pub mod Acts
 pub mod Spots
+pub mod Calling

@@ -4,10 +4,12 @@
 //! What asks nothing of the world is said by `Acts` (specs/Acts.antt).
 #![tactic(auto)]
 
+pub mod calls;
 pub mod elements;
 mod faults;
 pub mod fields;
 mod spot;
+pub mod targets;
 mod values;
 pub mod variables;
 

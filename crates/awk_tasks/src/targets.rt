@@ -1,0 +1,91 @@
+// What is read or set, of whichever sort it is.
+ghost use Rattle.std.specs.Prelude.{◌≡◌, IfOk};
+ghost use Rattle.awk_machine.specs.Pieces.{Do, Get, Set, give};
+ghost use Rattle.awk_machine.specs.State.{Given};
+ghost use Rattle.awk_machine.specs.Targets as machine;
+ghost use Rattle.awk_asks.specs.Tables.{Table};
+ghost use Rattle.awk_asks.specs.Tasks.{goes_on};
+ghost use Rattle.awk_text.specs.Values as values;
+ghost use Rattle.awk_tasks.specs.Acts.{Acts};
+ghost use Rattle.awk_tasks.specs.Spots as spec;
+ghost use Rattle.awk_tasks.specs.Spots.{meant};
+ghost use Rattle.awk_tasks.specs.Wholes.{names_in};
+
+use crate::elements::{read_element, set_element};
+use crate::fields::{read_field, set_field};
+use crate::spot::Spot;
+use crate::variables::{read_variable, set_variable};
+use awk_asks::halt::Halt;
+use awk_store::{Store, is_nf};
+use awk_text::fault::Fault;
+use awk_text::octets::Octets;
+use awk_text::place::Place;
+use awk_text::value::{Value, number_of, text_of};
+use std::alloc::Global;
+
+/// Reads it.
+pub fn read(alloc: Global, store: &mut Store, target: &Spot) -> Result<Value, Halt>
+    ensures { (g : Given) (t : Table) → Acts g (Do (Get (meant (names_in g) target.now))) give (store.old, t) result (store.new, t) }
+{
+    match target {
+        Spot::Variable(variable) => read_variable(alloc, store, *variable),
+        Spot::Element(place, array, key) => {
+            read_element(alloc, store, *place, *array, key.bytes())
+        }
+        Spot::Field(number) => read_field(store, *number),
+    }
+}
+
+/// Sets it.
+pub fn set(
+    alloc: Global,
+    store: &mut Store,
+    target: Spot,
+    place: Place,
+    value: Value,
+) -> Result<(), Halt>
+    ensures { (g : Given) (t : Table) → Acts g (Do (Set (meant (names_in g) target) place value)) goes_on (store.old, t) result (store.new, t) }
+{
+    match target {
+        Spot::Variable(variable) => set_variable(store, variable, place, value),
+        Spot::Element(at_name, array, key) => {
+            set_element(store, at_name, array, key.into_bytes(), value)
+        }
+        Spot::Field(number) => set_field(alloc, store, number, place, value),
+    }
+}
+
+/// The number of a value, as a value.
+fn as_number(value: &Value) -> Value
+    ensures { result ≡ machine.as_number (values.number_of value.now) }
+{
+    match number_of(value) {
+        Ok(number) => Value::Num(number),
+        Err(_) => Value::Unset,
+    }
+}
+
+/// What the target holds once the value is set there: `$0` is always input, and NF always a number.
+///
+/// Fails where memory is refused.
+pub fn stored(alloc: Global, target: &Spot, value: &Value) -> Result<Value, Fault>
+    ensures { IfOk result (λ x. x ≡ spec.stored target.now value.now) }
+{
+    match target {
+        Spot::Variable(variable) => {
+            if is_nf(*variable) {
+                Ok(as_number(value))
+            } else {
+                value.copy(alloc)
+            }
+        }
+        Spot::Element(_, _, _) => value.copy(alloc),
+        Spot::Field(number) => {
+            if *number == 0 {
+                Ok(Value::Input(Octets::new(text_of(alloc, value)?)))
+            } else {
+                value.copy(alloc)
+            }
+        }
+    }
+}
