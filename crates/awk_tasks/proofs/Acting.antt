@@ -112,6 +112,14 @@ module _ {g : Given} where
         halted-so h (p ∷ k) (q ∷ to k) old mid new hid y.hidden c y.chain z;
   }
 
+  -- a piece that leads on to another is done with it
+  passes-at : {A : Type 0} (r : Result A Halt) {p q : Piece} {old mid new : Whole} {on : A → List Piece → List Piece} → Passes g p old (λ k. q ∷ k) mid → Acts g q on mid r new → Acts g p on old r new
+  passes-at (Ok x) h m = done (doing x h m refl)
+  passes-at (Err x) h m = stop x h m refl
+
+  pub passes : {A : Type 0} {r : Result A Halt} {p q : Piece} {old mid new : Whole} {on : A → List Piece → List Piece} → Passes g p old (λ k. q ∷ k) mid → Acts g q on mid r new → Acts g p on old r new
+  passes {r = r} h m = passes-at r h m
+
   -- ---- faults as the code has them
 
   fault-so : (e : Fault) (place : Place) (from : List Piece) (old new : Whole) (hid : Hidden) (c : Course) → (e ≡ fault.Memory) ⊎ Settles g from old hid c (ends (Faulted e place)) new →

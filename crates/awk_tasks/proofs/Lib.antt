@@ -6,3 +6,5 @@ pub mod ArraySteps
 pub mod RecordSteps
 pub mod CallSteps
 pub mod Spots
+pub mod SearchSteps
+pub mod SplitSteps

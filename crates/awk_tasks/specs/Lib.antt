@@ -2,3 +2,5 @@ pub mod Wholes
 pub mod Acts
 pub mod Spots
 pub mod Calling
+pub mod Searching
+pub mod Checks
