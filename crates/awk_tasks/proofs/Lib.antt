@@ -8,3 +8,5 @@ pub mod CallSteps
 pub mod Spots
 pub mod SearchSteps
 pub mod SplitSteps
+pub mod Lifting
+pub mod PrintSteps

@@ -70,7 +70,7 @@ ere_at Q place (Err met) h = h
 pub matches_so : (g : Given) (w : Whole) (source text : Text) (b : Bool) → HasMatch source text b → Acts g (Do (Match source text)) (λ b. give (of_truth b)) w (Ok b) w
 matches_so g w source text b has = done (finds {then_ = λ k a. give (of_truth (yes a)) k} (λ hid. Matches source text) (Is b) (at_rest _ w) (λ k hid c a. (refl, has)))
 
-whole_kept : (a b : Row) → IsKept a b → b.whole ≡ a.whole
+pub whole_kept : (a b : Row) → IsKept a b → b.whole ≡ a.whole
 whole_kept a b (inl e) = ap (λ (r : Row). r.whole) e
 whole_kept a b (inr (vs, has, e)) = ap (λ (r : Row). r.whole) e
 
@@ -82,10 +82,10 @@ record_first g w place source = moves (at_rest _ w) (λ k hid c a. ap (λ t. Goe
 
 module _ (g : Given) (old : Whole) where
   -- one of awk's own variables is set
-  own-set : (hid : Hidden) (c : Course) → Agreeing g old hid c → (x : Own) (val : Value) → variables.with_own (name_of x) val (seen (base g old hid) c) ≡ seen (base g (changes.with_own x val old.0, old.1) hid) c
+  pub own-set : (hid : Hidden) (c : Course) → Agreeing g old hid c → (x : Own) (val : Value) → variables.with_own (name_of x) val (seen (base g old hid) c) ≡ seen (base g (changes.with_own x val old.0, old.1) hid) c
   own-set hid c a x val = ap (λ s. seen s c) (set.own (names_in g) old.0 hid a.sound x val)
 
-  own_agrees : (hid : Hidden) (c : Course) → Agreeing g old hid c → (x : Own) (val : Value) → Agreeing g (changes.with_own x val old.0, old.1) hid c
+  pub own_agrees : (hid : Hidden) (c : Course) → Agreeing g old hid c → (x : Own) (val : Value) → Agreeing g (changes.with_own x val old.0, old.1) hid c
   own_agrees hid c a x val = record { tells = a.tells; row = a.row; cells = change_count (changes.given_value val) old.0.cells (Rattle.awk_program.specs.Slots.slot_of x) ∙ a.cells; sound = a.sound }
 
 module _ (g : Given) (old : Whole) (source text : Text) where

@@ -4,3 +4,4 @@ pub mod Spots
 pub mod Calling
 pub mod Searching
 pub mod Checks
+pub mod Printed

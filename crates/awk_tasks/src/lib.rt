@@ -5,10 +5,12 @@
 #![tactic(auto)]
 
 pub mod calls;
+pub mod counters;
 pub mod elements;
 mod faults;
 pub mod fields;
 pub mod patterns;
+pub mod printing;
 pub mod searches;
 pub mod splits;
 mod spot;

@@ -1,0 +1,21 @@
+// Counters, as NR.
+ghost use Rattle.std.specs.Prelude.{◌≡◌};
+ghost use Rattle.awk_machine.specs.Pieces.{Count, Do};
+ghost use Rattle.awk_machine.specs.State.{Given};
+ghost use Rattle.awk_asks.specs.Tables.{Table};
+ghost use Rattle.awk_asks.specs.Tasks.{goes_on};
+ghost use Rattle.awk_program.specs.Slots.{name_of};
+ghost use Rattle.awk_tasks.specs.Acts.{Acts};
+
+use crate::faults::at;
+use awk_asks::halt::Halt;
+use awk_program::Own;
+use awk_store::Store;
+use awk_text::place::Place;
+
+/// Adds 1 to the number of one of awk's own variables.
+pub fn count(store: &mut Store, place: Place, name: Own) -> Result<(), Halt>
+    ensures { (g : Given) (t : Table) → Acts g (Do (Count place (name_of name))) goes_on (store.old, t) result (store.new, t) }
+{
+    at(place, store.count(name))
+}

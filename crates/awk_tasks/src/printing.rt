@@ -1,0 +1,48 @@
+// The text that print puts.
+ghost use Rattle.std.specs.Prelude.{◌≡◌, ◌⊎◌, Ok, Err, IfOk, IfErr};
+ghost use Rattle.std.specs.Prelude.{◌++◌};
+ghost use Rattle.awk_machine.specs.Operators.{limited};
+ghost use Rattle.awk_tasks.specs.Printed as spec;
+
+use awk_program::Own;
+use awk_store::Store;
+use awk_text::fault::Fault;
+use awk_text::octets::Octets;
+use awk_text::value::Value;
+use awk_works::line::Line;
+use awk_works::texts::printed;
+use itoa::Buffer;
+use std::alloc::Global;
+
+/// The texts of the items with OFS between, or of the whole record where there are none, and then ORS. It is made in the line,
+/// whose room is kept for the next one.
+pub fn text_of_items(
+    alloc: Global,
+    line: &mut Line,
+    store: &Store,
+    items: &[Value],
+) -> Result<Octets, Fault>
+    ensures ok { IfOk result (λ text. spec.printed store.now items.now ≡ Ok text) }
+    ensures err { IfErr result (λ e. (e ≡ Fault.Memory) ⊎ (spec.printed store.now items.now ≡ Err e)) }
+{
+    let (mut first, mut second) = (Buffer::new(), Buffer::new());
+    let ofs = store.own_text(Own::Ofs, &mut first);
+    let ors = store.own_text(Own::Ors, &mut second);
+    if items.is_empty() {
+        return text_of_record(alloc, line, store.whole(), ors);
+    }
+    let text = printed(line, items, ofs, ors)?;
+    Ok(Octets::new(Vec::from_slice(alloc, text)?))
+}
+
+/// A record and what ends it.
+fn text_of_record(alloc: Global, line: &mut Line, whole: &[u8], ors: &[u8]) -> Result<Octets, Fault>
+    ensures ok { IfOk result (λ text. limited (whole.now ++ ors.now) ≡ Ok text) }
+    ensures err { IfErr result (λ e. (e ≡ Fault.Memory) ⊎ (limited (whole.now ++ ors.now) ≡ Err e)) }
+{
+    line.clear();
+    line.push(whole)?;
+    line.push(ors)?;
+    let text = line.text()?;
+    Ok(Octets::new(Vec::from_slice(alloc, text)?))
+}
