@@ -1,8 +1,13 @@
 //! Work to be timed by hand, beside another awk. The words: `tokens`, for the number of tokens of the
 //! script on standard input; `format N`, for N lines as `printf` makes them; `log N`, for N lines like
 //! those of a log; `match ERE` or `find ERE`, for the number of lines of standard input that it
-//! matches; `fields FS`, for the number of fields of the lines of standard input.
+//! matches; `fields FS`, for the number of fields of the lines of standard input; `gsub ERE`, for how
+//! many matches in them are replaced; `texts N` for N puts and gets of text keys, `counters N` for N
+//! times `a[i]++`, `front N`, `back N` and `mixed N` for N elements that are put and then removed in
+//! that order.
 #![tactic(auto)]
+
+mod arrays;
 
 use anyhow::{Result, bail};
 use awk_ere::Ere;
@@ -123,6 +128,16 @@ fn count_fields(alloc: Global, text: Vec<u8>, splitter: &Splitter) -> Result<u64
     Ok(count)
 }
 
+/// The work on arrays of this name, done so many times; none is of another name.
+fn worked(alloc: Global, task: &str, count: u64) -> Result<Option<u64>> {
+    match task {
+        "texts" => Ok(Some(arrays::texts(alloc, count)?)),
+        "counters" => Ok(Some(arrays::counters(alloc, count)?)),
+        "front" | "back" | "mixed" => Ok(Some(arrays::removes(alloc, count, task)?)),
+        _ => Ok(None),
+    }
+}
+
 fn main(rt: HostRuntime) -> Result<()> {
     let alloc = rt.alloc();
     let mut words = std::env::args(&rt)?;
@@ -161,6 +176,23 @@ fn main(rt: HostRuntime) -> Result<()> {
         let found = tokens(alloc, script.as_slice())?.len();
         println!(rt; "{found} tokens")?;
         return Ok(());
+    }
+    if task.as_str() == "gsub" {
+        let Some(pattern) = count else {
+            bail!("no ERE")
+        };
+        let mut text = Vec::new(alloc);
+        rt.reader().read_to_end(&mut text)?;
+        let found = arrays::substitutions(alloc, pattern.as_str().as_bytes(), text.as_slice())?;
+        println!(rt; "{found} replaced")?;
+        return Ok(());
+    }
+    if let Some(word) = &count {
+        let number = word.as_str().parse::<u64>()?;
+        if let Some(answer) = worked(alloc, task.as_str(), number)? {
+            println!(rt; "{answer}")?;
+            return Ok(());
+        }
     }
     let count = match &count {
         Some(word) => word.as_str().parse::<i64>()?,
