@@ -2,4 +2,3 @@ pub mod Carried
 pub mod Lists
 pub mod Rolls
 pub mod Rows
-pub mod Views

@@ -157,7 +157,7 @@ pub fn for_in_of(
 }
 
 /// The empty statement
-#[tactic(auto, using(crate::proofs::Views::statement_views))]
+#[tactic(auto, using(awk_program::proofs::Views::statement_views))]
 pub fn nothing(alloc: Global) -> Result<Statement, Memory>
     ensures { (t : Names) → IsStatement t result (p.block p.no_more) }
 {

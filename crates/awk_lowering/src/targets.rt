@@ -53,7 +53,7 @@ pub fn computed_of(x: Result<Boxed<Expr>, Memory>) -> Result<Pattern<Expr>, Memo
     Ok(Pattern::Computed(x))
 }
 
-#[tactic(auto, using(crate::proofs::Views::views))]
+#[tactic(auto, using(awk_program::proofs::Views::views))]
 fn zero() -> Result<Expr, Memory>
     ensures { (t : Names) → Is t result (p.number (pos 0)) }
 {

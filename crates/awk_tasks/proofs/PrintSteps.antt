@@ -27,8 +27,8 @@ use Rattle.awk_tasks.specs.Wholes.{Whole, Agreeing, base, names_in}
 use Rattle.awk_tasks.specs.Acts.{Acts, halt_at, result_at}
 use Rattle.awk_tasks.specs.Printed as spec
 use Rattle.awk_tasks.proofs.Acting.{at_rest, moves, alters, done, faulted}
-use Rattle.awk_tasks.proofs.Reading.{own-text-so}
-use Rattle.awk_tasks.proofs.SearchSteps.{whole_kept, own-set, own_agrees}
+use Rattle.awk_tasks.proofs.Reading.{own-text-so, whole_kept}
+use Rattle.awk_tasks.proofs.SearchSteps.{own-set, own_agrees}
 
 -- ---- the text of a print
 

@@ -1,6 +1,6 @@
 -- What the machine reads of its state, where the code reads of its store.
-use Rattle.std.proofs.Common.{◌≡◌, refl, ap, ◌∙◌, List}
-use Rattle.awk_fields.specs.Rows.{IsKept, HasFields}
+use Rattle.std.proofs.Common.{◌≡◌, inl, inr, refl, ap, ◌∙◌, List}
+use Rattle.awk_fields.specs.Rows.{Row, IsKept, HasFields}
 use Rattle.awk_fields.proofs.Alone.{kept_again, kept_fields}
 use Rattle.awk_text.specs.declared.value.Value.{Value}
 use Rattle.awk_program.specs.Slots.{name_of}
@@ -17,6 +17,12 @@ use Rattle.awk_store.specs.States.{Hidden}
 use Rattle.awk_store.proofs.Reading as law
 use Rattle.awk_store.proofs.Setting as set
 use Rattle.awk_tasks.specs.Wholes.{Whole, Agreeing, base, names_in}
+
+-- ---- a record that is kept has the same text
+
+pub whole_kept : (a b : Row) → IsKept a b → b.whole ≡ a.whole
+whole_kept a b (inl e) = ap (λ (r : Row). r.whole) e
+whole_kept a b (inr (vs, has, e)) = ap (λ (r : Row). r.whole) e
 
 -- ---- the course is no part of what variables hold
 

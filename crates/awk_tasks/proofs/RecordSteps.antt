@@ -29,7 +29,7 @@ use Rattle.awk_asks.specs.Tasks.{goes_on}
 use Rattle.awk_tasks.specs.Wholes.{Whole, base}
 use Rattle.awk_tasks.specs.Acts.{Acts, Passes, halt_at, result_at}
 use Rattle.awk_tasks.proofs.Acting.{at_rest, moves, alters, keeps, finds, reworded, done, faulted}
-use Rattle.awk_tasks.proofs.Reading.{own-text-so, fields-so}
+use Rattle.awk_tasks.proofs.Reading.{own-text-so, fields-so, whole_kept}
 use Rattle.awk_tasks.proofs.Rebuilding.{limited_err, agreeing_row, rebuilt, rebuild_moves, rebuild_faults}
 
 -- ---- numbers of fields
@@ -49,10 +49,6 @@ the_place : (a b : ℕ) → placed a ≡ placed b → a ≡ b
 the_place a b e = cc
 
 -- ---- a field is read
-
-whole_kept : (a b : Row) → IsKept a b → b.whole ≡ a.whole
-whole_kept a b (inl e) = ap (λ (r : Row). r.whole) e
-whole_kept a b (inr (vs, has, e)) = ap (λ (r : Row). r.whole) e
 
 module _ (g : Given) (old : Whole) where
   reads_at : (n : ℕ) (row : Row) (val : Value) → IsKept old.0.row row → IsValueAt row n val → Acts g (Do (Get (machine.Field n))) give old (Ok val) (changes.with_row row old.0, old.1)

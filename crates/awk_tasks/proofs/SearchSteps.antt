@@ -2,7 +2,6 @@
 use Rattle.std.proofs.Common.{◌≡◌, ◌⊎◌, inl, inr, refl, sym, ap, subst, ◌∙◌, ℕ, ℤ, Bool, true, false, List, [], ◌∷◌, length}
 use Rattle.std.specs.Prelude.{Result, Ok, Err, Option, Some, None, pos, if◌then◌else◌, IfOk, IfErr}
 use Rattle.awk_ere.specs.Spelled.{HasMatch}
-use Rattle.awk_fields.specs.Rows.{Row, IsKept}
 use Rattle.awk_fields.specs.Separators.{IsEre, IsNoEre}
 use Rattle.awk_lib.specs.Replacing.{Found, replaced}
 use Rattle.awk_text.specs.declared.fault.Fault.{Fault}
@@ -32,6 +31,7 @@ use Rattle.awk_tasks.specs.Wholes.{Whole, Agreeing, base, names_in}
 use Rattle.awk_tasks.specs.Acts.{Acts, Passes, halt_at, result_at}
 use Rattle.awk_tasks.specs.Checks.{gives_text}
 use Rattle.awk_tasks.specs.Searching.{then_set}
+use Rattle.awk_tasks.proofs.Reading.{whole_kept}
 use Rattle.awk_tasks.proofs.Acting.{at_rest, moves, alters, finds, reworded, done, faulted}
 
 -- ---- a text is an ERE, or it is none
@@ -69,10 +69,6 @@ ere_at Q place (Err met) h = h
 
 pub matches_so : (g : Given) (w : Whole) (source text : Text) (b : Bool) → HasMatch source text b → Acts g (Do (Match source text)) (λ b. give (of_truth b)) w (Ok b) w
 matches_so g w source text b has = done (finds {then_ = λ k a. give (of_truth (yes a)) k} (λ hid. Matches source text) (Is b) (at_rest _ w) (λ k hid c a. (refl, has)))
-
-pub whole_kept : (a b : Row) → IsKept a b → b.whole ≡ a.whole
-whole_kept a b (inl e) = ap (λ (r : Row). r.whole) e
-whole_kept a b (inr (vs, has, e)) = ap (λ (r : Row). r.whole) e
 
 pub record_first : (g : Given) (w : Whole) (place : Place) (source : Text) →
     Passes g (At (Value_of (program.pattern place source)) []) w (λ k. Do (Check place source) ∷ Do (Match source w.0.row.whole) ∷ k) w

@@ -1,5 +1,5 @@
 -- Rows made by the reference: scripts as texts, the world's replies, and what a run then was.
-use Rattle.std.specs.Prelude.{◌≡◌, refl, ℕ, ◌&&◌, Bool, true, false, List, [], ◌∷◌, codes, Option, Some, None}
+use Rattle.std.specs.Prelude.{◌≡◌, refl, ℕ, ◌&&◌, Bool, true, false, List, [], ◌∷◌, codes, Option, Some, None, pos}
 use Rattle.std.specs.List.{list_any}
 use Rattle.std.specs.Str.{bytes_eq}
 use Rattle.awk_text.specs.declared.place.Place.{Place}
@@ -7,9 +7,11 @@ use Rattle.awk_tree.specs.Tree.{Text}
 use Rattle.box_world.specs.Calls.{Call}
 use Rattle.box_world.specs.declared.ask.Request.{Request}
 use Rattle.box_world.specs.declared.ask.Request.TheVariants as r
+use Rattle.box_world.specs.declared.ask.Mode.TheVariants as mode
 use Rattle.box_world.specs.declared.ask.Reply.{Reply}
 use Rattle.box_world.specs.declared.ask.Reply.TheVariants as reply
-use Rattle.awk_machine.specs.Pieces.{Outcome, Status}
+use Rattle.awk_machine.specs.Pieces.{Outcome, Status, Faulted}
+use Rattle.awk_text.specs.declared.fault.Fault.TheVariants.{Pattern}
 use Rattle.awk_machine.specs.State.{Given}
 use Rattle.machine_rows.proofs.Playing.{replayed}
 use Rattle.machine_rows.proofs.Scripts.{program_of, rules}
@@ -239,3 +241,45 @@ row_15 :
     )
 unfolding rules
 row_15 = refl
+
+-- ---- the order of what is asked, and what comes before what
+arguments_in_order :
+    replay (given [] [] false [] [] [] None 1000 (codes "function f(a, b) { return a b } BEGIN { print f(system(\"p\"), system(\"q\")) }")) ((reply.Status (pos 1)) ∷ (reply.Status (pos 2)) ∷ reply.Done ∷ [])
+    ≡ Some (
+      (Status 0),
+      3,
+      call (at 1 49) false (r.System (codes "p")) (reply.Status (pos 1)) ∷ call (at 1 62) false (r.System (codes "q")) (reply.Status (pos 2)) ∷ call (at 1 41) false (r.Put 1 (codes "12\n")) reply.Done ∷ [],
+    )
+unfolding rules
+arguments_in_order = refl
+
+close_gives_the_first_status :
+    replay (given [] [] false [] [] [] None 1000 (codes "BEGIN { print \"x\" | \"c\"; \"c\" | getline; r = close(\"c\"); print r }")) ((reply.Opened 3) ∷ reply.Done ∷ (reply.Opened 4) ∷ (reply.Bytes (codes "y\n")) ∷ (reply.Status (pos 3)) ∷ (reply.Status (pos 0)) ∷ reply.Done ∷ [])
+    ≡ Some (
+      (Status 0),
+      4,
+      call (at 1 19) false (r.Open mode.RunOut (codes "c")) (reply.Opened 3) ∷ call (at 1 19) false (r.Put 3 (codes "x\n")) reply.Done ∷ call (at 1 32) false (r.Open mode.RunIn (codes "c")) (reply.Opened 4) ∷ call (at 1 32) false (r.Next 4) (reply.Bytes (codes "y\n")) ∷ call (at 1 45) false (r.Shut 3) (reply.Status (pos 3)) ∷ call (at 1 45) false (r.Shut 4) (reply.Status (pos 0)) ∷ call (at 1 57) false (r.Put 1 (codes "3\n")) reply.Done ∷ [],
+    )
+unfolding rules
+close_gives_the_first_status = refl
+
+items_before_the_target :
+    replay (given [] [] false [] [] [] None 1000 (codes "BEGIN { print system(\"p\") > \"f\" system(\"q\") }")) ((reply.Status (pos 1)) ∷ (reply.Status (pos 2)) ∷ (reply.Opened 3) ∷ reply.Done ∷ reply.Done ∷ [])
+    ≡ Some (
+      (Status 0),
+      1,
+      call (at 1 15) false (r.System (codes "p")) (reply.Status (pos 1)) ∷ call (at 1 33) false (r.System (codes "q")) (reply.Status (pos 2)) ∷ call (at 1 27) false (r.Open mode.Write (codes "f2")) (reply.Opened 3) ∷ call (at 1 27) false (r.Put 3 (codes "1\n")) reply.Done ∷ call (at 0 0) false (r.Shut 3) reply.Done ∷ [],
+    )
+unfolding rules
+items_before_the_target = refl
+
+-- the record is set before it is counted: so its fault comes first
+record_before_its_number :
+    replay (given [] [] false [] [] [] None 1000 (codes "BEGIN { FS = \"((\"; NR = 9223372036854775807 } { }")) ((reply.Bytes (codes "a\n")) ∷ [])
+    ≡ Some (
+      (Faulted Pattern (at 0 0)),
+      2,
+      call (at 0 0) false (r.Next 0) (reply.Bytes (codes "a\n")) ∷ [],
+    )
+unfolding rules
+record_before_its_number = refl

@@ -1,5 +1,5 @@
 use Rattle.std.proofs.Common.{rules, refl}
-use Rattle.awk_lowering.proofs.Views.{statement-Block}
+use Rattle.awk_program.proofs.Views.{statement-Block}
 use Rattle.awk_lowering.proofs.blocks.block_of.Goals as goal
 
 pub returns-in_err-body : goal.returns-in_err-body

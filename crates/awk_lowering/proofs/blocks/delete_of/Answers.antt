@@ -1,5 +1,5 @@
 use Rattle.std.proofs.Common.{rules, refl}
-use Rattle.awk_lowering.proofs.Views.{statement-Delete}
+use Rattle.awk_program.proofs.Views.{statement-Delete}
 use Rattle.awk_lowering.proofs.blocks.delete_of.Goals as goal
 
 pub returns-in_err-v : goal.returns-in_err-v

@@ -1,5 +1,5 @@
 use Rattle.std.proofs.Common.{rules, refl}
-use Rattle.awk_lowering.proofs.Views.{statement-ForIn}
+use Rattle.awk_program.proofs.Views.{statement-ForIn}
 use Rattle.awk_lowering.proofs.blocks.for_in_of.Goals as goal
 
 pub returns-in_err-key : goal.returns-in_err-key

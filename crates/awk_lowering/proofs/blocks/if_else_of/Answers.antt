@@ -1,5 +1,5 @@
 use Rattle.std.proofs.Common.{rules, refl}
-use Rattle.awk_lowering.proofs.Views.{statement-IfElse}
+use Rattle.awk_program.proofs.Views.{statement-IfElse}
 use Rattle.awk_lowering.proofs.blocks.if_else_of.Goals as goal
 
 pub returns-in_err-x : goal.returns-in_err-x

@@ -1,5 +1,5 @@
 use Rattle.std.proofs.Common.{rules, refl}
-use Rattle.awk_lowering.proofs.Views.{statement-Print}
+use Rattle.awk_program.proofs.Views.{statement-Print}
 use Rattle.awk_lowering.proofs.blocks.print_of.Goals as goal
 
 pub returns-in_err-xs : goal.returns-in_err-xs

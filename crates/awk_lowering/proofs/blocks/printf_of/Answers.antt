@@ -1,5 +1,5 @@
 use Rattle.std.proofs.Common.{rules, refl}
-use Rattle.awk_lowering.proofs.Views.{statement-Printf}
+use Rattle.awk_program.proofs.Views.{statement-Printf}
 use Rattle.awk_lowering.proofs.blocks.printf_of.Goals as goal
 
 pub returns-in_err-x : goal.returns-in_err-x

@@ -7,7 +7,7 @@ use Rattle.std.specs.Str.Parse.{digits_value}
 use Rattle.awk_tree.specs.Tree.{Text}
 use Rattle.awk_program.specs.Program as p
 use Rattle.awk_lowering.specs.Forms.{number_of}
-use Rattle.awk_lowering.proofs.Views.{view-Number}
+use Rattle.awk_program.proofs.Views.{view-Number}
 use Rattle.awk_lowering.proofs.constants.number.Goals as goal
 
 -- no token is a number of more than 63 bits

@@ -1,5 +1,5 @@
 use Rattle.std.proofs.Common.{refl}
-use Rattle.awk_lowering.proofs.Views.{view-Pattern}
+use Rattle.awk_program.proofs.Views.{view-Pattern}
 use Rattle.awk_lowering.proofs.constants.pattern.Goals as goal
 
 pub returns : goal.returns

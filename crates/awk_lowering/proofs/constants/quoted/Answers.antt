@@ -1,5 +1,5 @@
 use Rattle.std.proofs.Common.{refl}
-use Rattle.awk_lowering.proofs.Views.{view-Text}
+use Rattle.awk_program.proofs.Views.{view-Text}
 use Rattle.awk_lowering.proofs.constants.quoted.Goals as goal
 
 pub returns-in-Ok : goal.returns-in-Ok

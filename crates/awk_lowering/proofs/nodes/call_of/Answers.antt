@@ -1,5 +1,5 @@
 use Rattle.std.proofs.Common.{rules, refl}
-use Rattle.awk_lowering.proofs.Views.{view-Call}
+use Rattle.awk_program.proofs.Views.{view-Call}
 use Rattle.awk_lowering.proofs.nodes.call_of.Goals as goal
 
 pub returns-in_err-f : goal.returns-in_err-f

@@ -1,5 +1,5 @@
 use Rattle.std.proofs.Common.{rules, refl}
-use Rattle.awk_lowering.proofs.Views.{view-Measure}
+use Rattle.awk_program.proofs.Views.{view-Measure}
 use Rattle.awk_lowering.proofs.nodes.measure_of.Goals as goal
 
 pub returns-in_err-x : goal.returns-in_err-x

@@ -1,5 +1,5 @@
 use Rattle.std.proofs.Common.{rules, refl}
-use Rattle.awk_lowering.proofs.Views.{view-Read}
+use Rattle.awk_program.proofs.Views.{view-Read}
 use Rattle.awk_lowering.proofs.nodes.read_of.Goals as goal
 
 pub returns-in_err-target : goal.returns-in_err-target

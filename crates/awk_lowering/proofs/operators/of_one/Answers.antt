@@ -1,5 +1,5 @@
 use Rattle.std.proofs.Common.{rules, refl}
-use Rattle.awk_lowering.proofs.Views.{view-Close, view-Int, view-Measure, view-System}
+use Rattle.awk_program.proofs.Views.{view-Close, view-Int, view-Measure, view-System}
 use Rattle.awk_lowering.proofs.operators.of_one.Goals as goal
 
 pub returns-in_err-x : goal.returns-in_err-x

@@ -6,7 +6,7 @@ use Rattle.awk_lowering.specs.LoweredStatements.{statement}
 use Rattle.awk_lowering.specs.Made.{names_in, scope_in}
 use Rattle.awk_lowering.proofs.Carried.{boxed_is, turned, whole}
 use Rattle.awk_lowering.proofs.Lists.{statements_are}
-use Rattle.awk_lowering.proofs.Views as program
+use Rattle.awk_program.proofs.Views as program
 use Rattle.awk_lowering.proofs.statements.+statement.Goals as goal
 
 pub statement-returns-in-Empty : goal.statement-returns-in-Empty
