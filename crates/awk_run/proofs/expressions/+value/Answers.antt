@@ -1,6 +1,11 @@
 use Rattle.std.proofs.Common.{rules, refl, sym, ap, ◌∙◌, ◌∷◌, [], w64}
 use Rattle.std.proofs.lemmas.Int.{to_z-of_z}
-use Rattle.awk_machine.specs.Pieces.{At, Do, Get, Value_of}
+use Rattle.awk_text.specs.declared.value.Value.TheVariants as v
+use Rattle.awk_machine.specs.Pieces.{At, Do, Get, Set, Give, Value_of}
+use Rattle.awk_machine.specs.Targets.{stored}
+use Rattle.awk_works.specs.Numbers.{as_value}
+use Rattle.awk_tasks.proofs.Spots.{stored-so}
+use Rattle.awk_tasks.proofs.VariableSteps.{ok_at}
 use Rattle.awk_program.specs.Program as p
 use Rattle.awk_program.specs.View.{view, view_target}
 use Rattle.awk_tasks.specs.Spots.{meant, value_of}
@@ -9,7 +14,7 @@ use Rattle.std.proofs.lemmas.Result.{err_from_is_err_and}
 use Rattle.awk_program.proofs.Views.{view-Number, view-Compare, view-Change}
 use Rattle.awk_asks.proofs.Chain.{at_once, part, done, stop, lacking}
 use Rattle.awk_tasks.proofs.Acting.{acted}
-use Rattle.awk_run.proofs.Steps.{quietly}
+use Rattle.awk_run.proofs.Steps.{quietly, faults_so}
 use Rattle.awk_run.proofs.expressions.+value.Goals as goal
 
 pub change-returns-in_err-to : goal.change-returns-in_err-to
@@ -37,16 +42,41 @@ change-returns-in_err-old g t c =
         (acted (c.read.ensures m _)) c.in_err-old.was); owns = c.value.ensures.owns }
 
 pub change-returns-in_err-number : goal.change-returns-in_err-number
-change-returns-in_err-number g t c = ?
+change-returns-in_err-number g t c =
+    record { plays = λ m is.
+        let e = err_from_is_err_and c.from_residual-in_err-number.result c.from_residual-in_err-number.ensures.1 in
+        rw (e.1, e.2) (stop _ (λ k. refl) (part _ (quietly {then_ = λ k. Do (Get (meant (names_in m) c.in_ok-to.to)) ∷ At (Value_of (p.change c.args.place c.args.how (view_target (names_in m) c.args.target.now) (view (names_in m) c.args.x.now))) (c.in_ok-operand.operand ∷ value_of c.in_ok-to.to ∷ []) ∷ k}
+        (part _ (quietly (part _ (quietly (at_once _ _ _) (λ k hid d a. refl)) (c.target_of.ensures.plays.plays m is) c.in_ok-to.was) (λ k hid d a. refl)) (c.value.ensures.plays m is) c.in_ok-operand.was)
+        (λ k hid d a. rw (c.in_ok-to.ensures.spot (names_in m)) refl))
+        (acted (c.read.ensures m _)) c.in_ok-old.was)
+        (acted (faults_so {A = Unit {0}} {on = λ u k. k} m _ (At (Value_of (p.change c.args.place c.args.how (view_target (names_in m) c.args.target.now) (view (names_in m) c.args.x.now))) (c.in_ok-old.old ∷ c.in_ok-operand.operand ∷ value_of c.in_ok-to.to ∷ [])) c.args.place c.computed.result _ (sym c.at.ensures ∙ c.in_err-number.was) (λ f met k hid d a. rw (sym c.computed.ensures ∙ ap as_value met) refl))) refl); owns = c.value.ensures.owns }
 
 pub change-returns-in_default : goal.change-returns-in_default
-change-returns-in_default g t c = ?
+change-returns-in_default g t c = record { plays = λ m is. lacking (part _ (quietly {then_ = λ k. Do (Get (meant (names_in m) c.in_ok-to.to)) ∷ At (Value_of (p.change c.args.place c.args.how (view_target (names_in m) c.args.target.now) (view (names_in m) c.args.x.now))) (c.in_ok-operand.operand ∷ value_of c.in_ok-to.to ∷ []) ∷ k}
+        (part _ (quietly (part _ (quietly (at_once _ _ _) (λ k hid d a. refl)) (c.target_of.ensures.plays.plays m is) c.in_ok-to.was) (λ k hid d a. refl)) (c.value.ensures.plays m is) c.in_ok-operand.was)
+        (λ k hid d a. rw (c.in_ok-to.ensures.spot (names_in m)) refl))
+        (acted (c.read.ensures m _)) c.in_ok-old.was); owns = c.value.ensures.owns }
 
 pub change-returns-in_err-set : goal.change-returns-in_err-set
-change-returns-in_err-set g t c = ?
+change-returns-in_err-set g t c =
+    record { plays = λ m is.
+        let e = err_from_is_err_and c.from_residual-in_err-set.result c.from_residual-in_err-set.ensures.1 in
+        rw (e.1, e.2) (stop _ (λ k. refl) (quietly {then_ = λ k. Do (Set (meant (names_in m) c.in_ok-to.to) c.args.place (v.Num c.in_ok-number.number)) ∷ Do (Give (stored (meant (names_in m) c.in_ok-to.to) (v.Num c.in_ok-number.number))) ∷ k}
+        (part _ (quietly {then_ = λ k. Do (Get (meant (names_in m) c.in_ok-to.to)) ∷ At (Value_of (p.change c.args.place c.args.how (view_target (names_in m) c.args.target.now) (view (names_in m) c.args.x.now))) (c.in_ok-operand.operand ∷ value_of c.in_ok-to.to ∷ []) ∷ k}
+        (part _ (quietly (part _ (quietly (at_once _ _ _) (λ k hid d a. refl)) (c.target_of.ensures.plays.plays m is) c.in_ok-to.was) (λ k hid d a. refl)) (c.value.ensures.plays m is) c.in_ok-operand.was)
+        (λ k hid d a. rw (c.in_ok-to.ensures.spot (names_in m)) refl))
+        (acted (c.read.ensures m _)) c.in_ok-old.was)
+        (λ k hid d a. rw (sym c.computed.ensures ∙ ap as_value (ok_at c.args.place c.computed.result c.in_ok-number.number (sym c.at.ensures ∙ c.in_ok-number.was)), c.in_ok-to.ensures.spot (names_in m)) refl)) (acted (rw (to_z-of_z w64 c.in_ok-number.number (search rules)) at (c.set.ensures m c.value.new.run.streams))) c.in_err-set.was); owns = c.value.ensures.owns }
 
 pub change-returns : goal.change-returns
-change-returns g t c = ?
+change-returns g t c =
+    record { plays = λ m is. done (quietly (part _ (quietly {then_ = λ k. Do (Set (meant (names_in m) c.in_ok-to.to) c.args.place (v.Num c.in_ok-number.number)) ∷ Do (Give (stored (meant (names_in m) c.in_ok-to.to) (v.Num c.in_ok-number.number))) ∷ k}
+        (part _ (quietly {then_ = λ k. Do (Get (meant (names_in m) c.in_ok-to.to)) ∷ At (Value_of (p.change c.args.place c.args.how (view_target (names_in m) c.args.target.now) (view (names_in m) c.args.x.now))) (c.in_ok-operand.operand ∷ value_of c.in_ok-to.to ∷ []) ∷ k}
+        (part _ (quietly (part _ (quietly (at_once _ _ _) (λ k hid d a. refl)) (c.target_of.ensures.plays.plays m is) c.in_ok-to.was) (λ k hid d a. refl)) (c.value.ensures.plays m is) c.in_ok-operand.was)
+        (λ k hid d a. rw (c.in_ok-to.ensures.spot (names_in m)) refl))
+        (acted (c.read.ensures m _)) c.in_ok-old.was)
+        (λ k hid d a. rw (sym c.computed.ensures ∙ ap as_value (ok_at c.args.place c.computed.result c.in_ok-number.number (sym c.at.ensures ∙ c.in_ok-number.was)), c.in_ok-to.ensures.spot (names_in m)) refl)) (acted (rw (to_z-of_z w64 c.in_ok-number.number (search rules)) at (c.set.ensures m c.value.new.run.streams))) c.in_ok-set.was)
+        (λ k hid d a. rw (stored-so m _ hid d a c.in_ok-to.to (v.Num c.in_ok-number.number) ∙ sym (rw (to_z-of_z w64 c.in_ok-number.number (search rules)) at c.in-Ok.ensures)) refl)); owns = c.value.ensures.owns }
 
 pub compare-returns-in_err-left : goal.compare-returns-in_err-left
 compare-returns-in_err-left g t c = 
