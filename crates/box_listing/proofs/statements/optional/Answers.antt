@@ -1,0 +1,11 @@
+use Rattle.std.proofs.Common.{◌++◌, refl, ap, map, option_map, append-nil, append_assoc}
+use Rattle.awk_program.specs.View.{view, view_redirection}
+use Rattle.box_listing.specs.Sites as spec
+use Rattle.box_listing.proofs.Finding.{same, then, after}
+use Rattle.box_listing.proofs.statements.optional.Goals as goal
+
+pub returns-in-None : goal.returns-in-None
+returns-in-None c = λ n. rw (c.in-None.is, append-nil) refl
+
+pub returns-in-Some : goal.returns-in-Some
+returns-in-Some c = same _ _ _ _ (λ n. spec.optional (option_map (view n) c.args.x.now)) c.value.ensures (λ n. rw (c.in-Some.is) refl)

@@ -1,0 +1,4 @@
+pub mod Sites
+pub mod Listings
+pub mod Verdicts
+pub mod Walks

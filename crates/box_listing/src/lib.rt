@@ -1,0 +1,19 @@
+//! What an awk script may ask of the world, said before it runs.
+//!
+//! A site is a place where a run of the script may ask: each redirection of `print` and `printf`, each
+//! `system`, each `getline` with a file or a command ("Output Statements" and "Input/Output and General
+//! Functions" of POSIX.1-2017 XCU awk), and at 0:0 the operands and the environment. specs/Sites.antt
+//! says which a program has, and specs/Listings.antt in which order they are listed.
+#![tactic(auto)]
+
+mod expressions;
+mod listing;
+mod order;
+mod program;
+pub mod site;
+mod statements;
+pub mod verdict;
+
+pub use listing::listed;
+pub use site::Site;
+pub use verdict::{Sites, Verdict, judge};
