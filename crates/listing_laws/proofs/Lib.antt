@@ -1,3 +1,5 @@
 mod Standing
 mod Steps
 mod Forms
+mod Doing
+mod Tasks
