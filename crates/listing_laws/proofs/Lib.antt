@@ -3,3 +3,4 @@ mod Steps
 mod Forms
 mod Doing
 mod Tasks
+mod Coverage

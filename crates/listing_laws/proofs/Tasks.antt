@@ -1,6 +1,6 @@
 -- Tasks: each keeps what is listed, and asks for what is covered.
 use Rattle.std.proofs.Common.{◌≡◌, ◌∙◌, ◌+◌, ◌-◌, ℕ, zero, suc, Bool, true, false, List, [], ◌∷◌, ◌++◌, length, drop, refl, sym, ap, subst}
-use Rattle.std.specs.Prelude.{Option, Some, None, if◌then◌else◌, codes, Result, Ok, Err, ℤ, pos, slice_index_or, nat_lt, nat_le}
+use Rattle.std.specs.Prelude.{Option, Some, None, if◌then◌else◌, codes, Result, Ok, Err, ℤ, pos, slice_index_or, int_lt, nat_lt, nat_le}
 use Rattle.std.specs.List.{before_first, after_first}
 use Rattle.std.specs.Fmt.{decimal}
 use Rattle.std.specs.Str.{bytes_eq}
@@ -23,14 +23,15 @@ use Rattle.awk_program.specs.Program as p
 use Rattle.awk_program.specs.Program.{Expression, Statement, Statements, Rule, When, Function, Program, Arguments, statements_of}
 use Rattle.box_policy.specs.declared.policy.Kind.TheVariants as kind
 use Rattle.box_world.specs.declared.ask.Mode.{Mode}
+use Rattle.box_world.specs.declared.ask.Mode.TheVariants as mode
 use Rattle.box_world.specs.declared.ask.Reply.{Reply}
 use Rattle.box_world.specs.declared.ask.Reply.TheVariants as reply
 use Rattle.box_world.specs.Events.{Class, OperandFile, Key, Standard, Named, Opens, Assigns, Stream, open_streams}
 use Rattle.awk_machine.specs.Builtins as built
 use Rattle.awk_machine.specs.Calls as calls
 use Rattle.awk_machine.specs.Closing as closing
-use Rattle.awk_machine.specs.Forms.{value, if_true}
-use Rattle.awk_machine.specs.Getline as g
+use Rattle.awk_machine.specs.Forms.{value, unary, if_true}
+use Rattle.awk_machine.specs.Getline as getline
 use Rattle.awk_machine.specs.MainInput as main
 use Rattle.awk_machine.specs.Moves as moves
 use Rattle.awk_machine.specs.Operators.{limited, of_count}
@@ -40,7 +41,7 @@ use Rattle.awk_machine.specs.Printing as printing
 use Rattle.awk_machine.specs.Questions as q
 use Rattle.awk_machine.specs.Questions.{Answer}
 use Rattle.awk_machine.specs.Rules as r
-use Rattle.awk_machine.specs.State.{State, Given, Phase, Beginning, Ruling, Ending, Shared}
+use Rattle.awk_machine.specs.State.{State, Given, Bound, Phase, Beginning, Ruling, Ending, Shared}
 use Rattle.awk_machine.specs.Statements as st
 use Rattle.awk_machine.specs.Targets as to
 use Rattle.awk_machine.specs.Variables.{is_nf, variable, own_text, own_value, with_variable, with_own, array, array_at, with_array}
@@ -124,7 +125,7 @@ module _ (S : Listed) where
   body_of (f ∷ fs) zero h = front S (s.all_done f.body) (s.functions fs) h
   body_of (f ∷ fs) (suc n) h = body_of fs n (back S (s.all_done f.body) (s.functions fs) h)
 
-  enters_by : (b : Bool) (place : Place) (f : Function) (given : List Rattle.awk_machine.specs.State.Bound) (others : List Bool) (k : List Piece) (t : State) → Sub S (s.all_done f.body) → Stack S (hands None) k →
+  enters_by : (b : Bool) (place : Place) (f : Function) (given : List Bound) (others : List Bool) (k : List Piece) (t : State) → Sub S (s.all_done f.body) → Stack S (hands None) k →
       Keeps S (if b then calls.entered f given others k t else m.fails fault.CallDepth place t)
   enters_by true place f given others k t h rest = (h, (tt, tt, rest))
   enters_by false place f given others k t h rest = ended S (m.Faulted fault.CallDepth place)
@@ -136,8 +137,13 @@ module _ (S : Listed) where
 
   -- ---- statements
 
+  stepping : (x : Statement) (k : List Piece) → Ready S k → Ready S (st.stepping x k)
+  stepping (p.block (p.then_also x xs)) k h = h
+  stepping (p.block p.no_more) k h = (tt, h)
+  stepping other k h = (tt, h)
+
   pub starts : (x : Statement) (k : List Piece) (t : State) → Sub S (s.done x) → Ready S k → Keeps S (st.start x k t)
-  starts x k t h rest = ?
+  starts x k t h rest = stepping x (At (m.Doing x) [] ∷ k) (h, tt, rest)
 
   pub eaches : (xs : List Statement) (k : List Piece) (t : State) → Sub S (s.all_done xs) → Ready S k → Keeps S (st.each xs k t)
   eaches [] k t h rest = rest
@@ -164,8 +170,8 @@ module _ (S : Listed) where
   pub puts : (place : Place) (key : Key) (text : Text) (k : List Piece) (t : State) → Ready S k → Keeps S (printing.put place key text k t)
   puts place key text k t rest = (tt, λ r. unfailed place k r rest)
 
-  reads_on : (place : Place) (key : Key) (k : List Piece) (r : Reply) → Stack S (hands None) k → Ready S (g.read_on place key k r)
-  reads_on place key k reply.Failed h = hand S None g.failure k tt h
+  reads_on : (place : Place) (key : Key) (k : List Piece) (r : Reply) → Stack S (hands None) k → Ready S (getline.read_on place key k r)
+  reads_on place key k reply.Failed h = hand S None getline.failure k tt h
   reads_on place key k (reply.Opened n) h = (tt, h)
   reads_on place key k (reply.Bytes b) h = (tt, h)
   reads_on place key k reply.End h = (tt, h)
@@ -173,25 +179,25 @@ module _ (S : Listed) where
   reads_on place key k (reply.Status z) h = (tt, h)
   reads_on place key k (reply.Value b) h = (tt, h)
 
-  pub reads : (place : Place) (key : Key) (head : Head) (k : List Piece) (t : State) → Stack S (hands None) k → Keeps S (g.read_by place key head k t)
+  pub reads : (place : Place) (key : Key) (head : Head) (k : List Piece) (t : State) → Stack S (hands None) k → Keeps S (getline.read_by place key head k t)
   reads place key (taken text left) k t rest = hand S None (v.Input text) k tt rest
   reads place key need_more k t rest = (tt, λ r. reads_on place key k r rest)
   reads place key done k t rest = hand S None (v.Num (pos 0)) k tt rest
   reads place key too_long k t rest = ended S (m.Faulted fault.TextTooLong place)
 
-  opened : (place : Place) (key : Key) (k : List Piece) (r : Reply) → Stack S (hands None) k → Ready S (g.opened place key k r)
-  opened place key k reply.Failed h = hand S None g.failure k tt h
+  opened : (place : Place) (key : Key) (k : List Piece) (r : Reply) → Stack S (hands None) k → Ready S (getline.opened place key k r)
+  opened place key k reply.Failed h = hand S None getline.failure k tt h
   opened place key k (reply.Opened n) h = (tt, h)
-  opened place key k (reply.Bytes b) h = hand S None g.failure k tt h
-  opened place key k reply.End h = hand S None g.failure k tt h
-  opened place key k reply.Done h = hand S None g.failure k tt h
-  opened place key k (reply.Status z) h = hand S None g.failure k tt h
-  opened place key k (reply.Value b) h = hand S None g.failure k tt h
+  opened place key k (reply.Bytes b) h = hand S None getline.failure k tt h
+  opened place key k reply.End h = hand S None getline.failure k tt h
+  opened place key k reply.Done h = hand S None getline.failure k tt h
+  opened place key k (reply.Status z) h = hand S None getline.failure k tt h
+  opened place key k (reply.Value b) h = hand S None getline.failure k tt h
 
-  pub fetches : (place : Place) (class : Class) (text : Text) (k : List Piece) (t : State) → Fit S (m.Fetch place class text) → Stack S (hands None) k → Keeps S (g.fetch place class text k t)
+  pub fetches : (place : Place) (class : Class) (text : Text) (k : List Piece) (t : State) → Fit S (m.Fetch place class text) → Stack S (hands None) k → Keeps S (getline.fetch place class text k t)
   fetches place class text k t fit rest = (fit, λ r. opened place (Named class text) k r rest)
 
-  pub counts : (place : Place) (name : Text) (k : List Piece) (t : State) → Ready S k → Keeps S (g.count place name k t)
+  pub counts : (place : Place) (name : Text) (k : List Piece) (t : State) → Ready S k → Keeps S (getline.count place name k t)
   counts place name k t rest = through S place (number_of (own_value t name) >>= λ n. on.add n (pos 1)) (λ n k s. Goes k (with_own name (v.Num n) s)) k t (λ n. rest)
 
   pub closes : (place : Place) (text : Text) (so_far : Option Value) (o : Option Stream) (k : List Piece) (t : State) → Stack S (hands None) k → Keeps S (closing.close_by place text so_far o k t)
@@ -217,7 +223,7 @@ module _ (S : Listed) where
 
   takes_from : (o : Option Key) (k : List Piece) (t : State) → Holds S found.MainInput → Stack S (hands None) k → Keeps S (main.take_from o k t)
   takes_from None k t fit rest = (fit, (fit, rest))
-  takes_from (Some key) k t fit rest = takes_by key (g.first_record key t) k t fit rest
+  takes_from (Some key) k t fit rest = takes_by key (getline.first_record key t) k t fit rest
 
   taken_if : (b : Bool) (k : List Piece) (t : State) → Holds S found.MainInput → Stack S (hands None) k →
       Keeps S (if b then Goes (give (v.Num (pos 0)) k) t else main.take_from t.main.current k t)
@@ -240,7 +246,7 @@ module _ (S : Listed) where
 
   pub operands : (k : List Piece) (t : State) → Holds S found.MainInput → Ready S k → Keeps S (main.operand k t)
   operands k t fit rest =
-      through S nowhere (number_of (own_value t (codes "ARGC"))) main.next_operand k t (λ count. next_by (Rattle.std.specs.Prelude.int_lt (pos t.main.position) count) t.main.named k t fit rest)
+      through S nowhere (number_of (own_value t (codes "ARGC"))) main.next_operand k t (λ count. next_by (int_lt (pos t.main.position) count) t.main.named k t fit rest)
 
   assigned : (name text : Text) (k : List Piece) (r : Reply) → Ready S k → Ready S (main.assigned name text k r)
   assigned name text k reply.Done h = (tt, h)
@@ -260,5 +266,110 @@ module _ (S : Listed) where
   operand_opened text k (reply.Value b) h = (tt, h)
   operand_opened text k reply.Failed h = (tt, h)
 
-  at_beginning : (x : kind.Kind) (place : Place) → S (at_start x) → Unit {0}
-  at_beginning x place h = tt
+  looked : (b : Bool) (g : Given) (text : Text) (k : List Piece) (t : State) → Holds S found.MainInput → Ready S k →
+      Keeps S (if b then Goes (Do (m.Begun (Standard 0) text) ∷ k) t else Asks (main.operand_want g text (Opens mode.Read OperandFile text)) (λ r. main.opened text k r) t)
+  looked true g text k t fit rest = (tt, rest)
+  looked false g text k t fit rest =
+      ((at_start kind.Read, fit.0, record { same_place = refl; same_kind = refl; same_text = tt }, λ e. refl), λ r. operand_opened text k r rest)
+
+  assigns : (g : Given) (text name new : Text) (k : List Piece) (t : State) → Holds S found.MainInput → Ready S k → Keeps S (main.assignment g text name new k t)
+  assigns g text name new k t fit rest =
+      ((at_start kind.Assign, fit.1, record { same_place = refl; same_kind = refl; same_text = tt }, λ e. refl), λ r. assigned name new k r rest)
+
+  operand_by : (b : Bool) (g : Given) (text : Text) (k : List Piece) (t : State) → Holds S found.MainInput → Ready S k →
+      Keeps S (if b then main.assignment g text (before_first main.is_equals text) (after_first main.is_equals text) k t
+      else main.file g text k (main.with_main (record t.main { named = true }) t))
+  operand_by true g text k t fit rest = assigns g text (before_first main.is_equals text) (after_first main.is_equals text) k t fit rest
+  operand_by false g text k t fit rest = looked (bytes_eq text (codes "-")) g text k (main.with_main (record t.main { named = true }) t) fit rest
+
+  operand_of : (g : Given) (text : Text) (k : List Piece) (t : State) → Holds S found.MainInput → Ready S k → Keeps S (main.operand_of g text k t)
+  operand_of g [] k t fit rest = rest
+  operand_of g (b ∷ bs) k t fit rest = operand_by (main.is_assignment g (b ∷ bs)) g (b ∷ bs) k t fit rest
+
+  pub looks : (g : Given) (k : List Piece) (t : State) → Holds S found.MainInput → Ready S k → Keeps S (main.look g k t)
+  looks g k t fit rest =
+      operand_of g (main.text_in (element (array_at t (Shared (codes "ARGV"))) (decimal t.main.position))) k (main.with_main (record t.main { position = t.main.position + 1 }) t) fit rest
+
+  -- ---- the environment
+
+  environ_by : (name : Text) (k : List Piece) (r : Reply) → Ready S k → Ready S (moves.environ_by name k r)
+  environ_by name k (reply.Value text) h = (tt, h)
+  environ_by name k (reply.Opened n) h = h
+  environ_by name k (reply.Bytes b) h = h
+  environ_by name k reply.End h = h
+  environ_by name k reply.Done h = h
+  environ_by name k (reply.Status z) h = h
+  environ_by name k reply.Failed h = h
+
+  fewer : (name : Text) (names : List Text) → EnvironFit S (name ∷ names) → EnvironFit S names
+  fewer name [] h = tt
+  fewer name (next ∷ names) h = h
+
+  pub environs : (names : List Text) (k : List Piece) (t : State) → EnvironFit S names → Ready S k → Keeps S (moves.environ names k t)
+  environs [] k t fit rest = rest
+  environs (name ∷ names) k t fit rest =
+      ((at_start kind.Env, fit, record { same_place = refl; same_kind = refl; same_text = tt }, λ e. refl),
+      λ r. environ_by name (Do (m.Environ names) ∷ k) r (fewer name names fit, rest))
+
+  -- ---- rules, and the phases
+
+  all_of : (xs ys : List Statement) → Sub S (s.all_done xs) → Sub S (s.all_done ys) → Sub S (s.all_done (xs ++ ys))
+  all_of [] ys h i = i
+  all_of (x ∷ xs) ys h i =
+      both S (s.done x) (s.all_done (xs ++ ys)) (front S (s.done x) (s.all_done xs) h) (all_of xs ys (back S (s.done x) (s.all_done xs) h) i)
+
+  actions : (xs : List (List Statement)) → Sub S (s.actions xs) → Sub S (s.all_done (r.concatenated xs))
+  actions [] h = tt
+  actions (x ∷ xs) h = all_of x (r.concatenated xs) (front S (s.all_done x) (s.actions xs) h) (actions xs (back S (s.all_done x) (s.actions xs) h))
+
+  records : (program : Program) (rs : List Rule) (end : List (List Statement)) (k : List Piece) → Sub S (s.records rs end) → Ready S k →
+      Ready S (r.records (record program { rules = rs; end = end }) ++ k)
+  records program [] [] k h rest = rest
+  records program (x ∷ rs) [] k h rest = (h.0, tt, rest)
+  records program [] (x ∷ end) k h rest = (h.0, tt, rest)
+  records program (y ∷ rs) (x ∷ end) k h rest = (h.0, tt, rest)
+
+  pub phases : (g : Given) (phase : Phase) (k : List Piece) (t : State) → Whole S g → Ready S k → Keeps S (r.enter g phase k t)
+  phases g Beginning k t w rest = (actions g.program.begin w.begin, rest)
+  phases g Ruling k t w rest = records g.program g.program.rules g.program.end k w.records rest
+  phases g Ending k t w rest = (actions g.program.end w.end, (tt, tt))
+
+  pub rules : (n : ℕ) (xs : List Rule) (k : List Piece) (t : State) → Sub S (s.rules xs) → Ready S k → Keeps S (r.rules n xs k t)
+  rules n [] k t h rest = rest
+  rules n (x ∷ xs) k t h rest = (front S (s.rule x) (s.rules xs) h, tt, (back S (s.rule x) (s.rules xs) h, rest))
+
+  turned_by : (b : Bool) (n : ℕ) (x : Rule) (k : List Piece) (t : State) → Sub S (s.rule x) → Ready S k →
+      Keeps S (if b then Goes (At (Choosing n x) [] ∷ k) (r.with_on n true t) else Goes k t)
+  turned_by true n x k t h rest = (h, tt, rest)
+  turned_by false n x k t h rest = rest
+
+  ranges_by : (b : Bool) (n : ℕ) (x : Rule) (first last : Expression) (vs : List Value) (k : List Piece) (t : State) → Sub S (s.value first) → Sub S (s.value last) → Sub S (s.rule x) →
+      Sub S (s.all_done x.action) → Ready S k →
+      Keeps S (if b then unary (value last) (Choosing n x) (λ v k s. Goes (r.action x k) (if truth v then r.with_on n false s else s)) vs k t
+      else unary (value first) (Choosing n x) (λ v k s. if truth v then Goes (At (Choosing n x) [] ∷ k) (r.with_on n true s) else Goes k s) vs k t)
+  ranges_by true n x first last vs k t h i rule act rest =
+      one S (value last) (Choosing n x) (λ v k s. Goes (r.action x k) (if truth v then r.with_on n false s else s)) vs k t (push_value S last (Choosing n x) [] k i rule (λ y says. tt) rest)
+      (λ v. (act, rest))
+  ranges_by false n x first last vs k t h i rule act rest =
+      one S (value first) (Choosing n x) (λ v k s. if truth v then Goes (At (Choosing n x) [] ∷ k) (r.with_on n true s) else Goes k s) vs k t
+      (push_value S first (Choosing n x) [] k h rule (λ y says. tt) rest) (λ v. turned_by (truth v) n x k t rule rest)
+
+  chooses_by : (w : When) (n : ℕ) (x : Rule) (vs : List Value) (k : List Piece) (t : State) → Sub S (s.when w) → Sub S (s.rule x) → Sub S (s.all_done x.action) → Ready S k →
+      Keeps S (r.choose_by w n x (Choosing n x) vs k t)
+  chooses_by p.always n x vs k t h rule act rest = (act, rest)
+  chooses_by (p.holds y) n x vs k t h rule act rest =
+      one S (value y) (Choosing n x) (λ v k s. if_true v (r.action x k) k s) vs k t (push_value S y (Choosing n x) [] k h rule (λ y says. tt) rest)
+      (λ v. either S v (r.action x k) k t (act, rest) rest)
+  chooses_by (p.range first last) n x vs k t h rule act rest =
+      ranges_by (t.on n) n x first last vs k t (front S (s.value first) (s.value last) h) (back S (s.value first) (s.value last) h) rule act rest
+
+  pub chooses : (n : ℕ) (x : Rule) (vs : List Value) (k : List Piece) (t : State) → Sub S (s.rule x) → Ready S k → Keeps S (r.choose n x (Choosing n x) vs k t)
+  chooses n x vs k t rule rest = chooses_by x.when n x vs k t (front S (s.when x.when) (s.all_done x.action) rule) rule (back S (s.when x.when) (s.all_done x.action) rule) rest
+
+  pub reads_records : (g : Given) (vs : List Value) (k : List Piece) (t : State) → Whole S g → Holds S found.MainInput → Ready S k → Keeps S (r.read_records g vs k t)
+  reads_records g [] k t w fit rest = (fit, (fit, λ y says. tt, rest))
+  reads_records g (v.Input text ∷ vs) k t w fit rest =
+      (tt, counted S nowhere getline.main_counters (Do m.Step ∷ Do (m.Rules 0 g.program.rules) ∷ At Records [] ∷ k) (tt, (w.rules, (fit, tt, rest))))
+  reads_records g (v.Text text ∷ vs) k t w fit rest = rest
+  reads_records g (v.Num n ∷ vs) k t w fit rest = rest
+  reads_records g (v.Unset ∷ vs) k t w fit rest = rest
