@@ -1,5 +1,5 @@
 -- How what is found is put together.
-use Rattle.std.proofs.Common.{◌≡◌, ◌∙◌, List, [], ◌∷◌, ◌++◌, Result, Ok, Err, ap, sym, append_assoc, append-nil}
+use Rattle.std.proofs.Common.{◌≡◌, ◌∙◌, List, [], ◌++◌, Result, Ok, Err, ap, sym, append_assoc, append-nil}
 use Rattle.awk_program.specs.View.{Names}
 use Rattle.box_listing.specs.declared.site.Found.{Found}
 use Rattle.box_listing.specs.Walks.{Finds}

@@ -1,10 +1,9 @@
 -- The listing of a program: its sites in order of place, then of kind, and then as the program has them.
-use Rattle.std.specs.Prelude.{◌≡◌, ℕ, Bool, true, false, if◌then◌else◌, List, [], ◌∷◌, ◌++◌, None}
+use Rattle.std.specs.Prelude.{ℕ, Bool, true, false, List, [], ◌∷◌, ◌++◌, None}
 use Rattle.std.specs.List.{list_any}
 use Rattle.std.specs.List.Sorted.{IsPermutation, IsSorted, IsStable}
 use Rattle.std.specs.declared.cmp.Ordering.{Ordering}
 use Rattle.std.specs.Ordering.{nat_cmp, ordering_then}
-use Rattle.awk_text.specs.declared.place.Place.{Place}
 use Rattle.awk_program.specs.Program.{Program}
 use Rattle.box_policy.specs.declared.policy.Kind.{Kind}
 use Rattle.box_policy.specs.declared.policy.Kind.TheVariants.{Read, Env, Assign}

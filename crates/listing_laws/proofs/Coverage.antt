@@ -1,23 +1,22 @@
 -- Each request of a run is covered: so it is of each move, and from the first pieces on.
-use Rattle.std.proofs.Common.{◌≡◌, ◌∙◌, ◌+◌, ℕ, Bool, true, false, List, [], ◌∷◌, ◌++◌, length, map, refl, sym, ap, subst, true≢false}
+use Rattle.std.proofs.Common.{◌≡◌, ◌∙◌, ◌+◌, ℕ, Bool, true, false, List, [], ◌∷◌, ◌++◌, map, refl, sym, subst, true≢false, append_assoc, arith}
 use Rattle.std.specs.Prelude.{Option, Some, None, if◌then◌else◌, codes, nat_lt, All, Contains, filter}
 use Rattle.std.proofs.lemmas.List.Elements.{All-nil, All-cons, Contains-append_left, Contains-append_right}
 use Rattle.std.proofs.lemmas.List.Sorted.{Contains-permutation}
-use Rattle.std.specs.Fmt.{decimal}
+use Rattle.awk_text.specs.declared.place.Place.{Place}
 use Rattle.awk_text.specs.Escapes.{unescaped}
 use Rattle.awk_text.specs.declared.value.Value.{Value}
 use Rattle.awk_text.specs.declared.value.Value.TheVariants as v
 use Rattle.awk_program.specs.Slots.{Text}
 use Rattle.awk_program.specs.Program.{global}
-use Rattle.box_policy.specs.declared.policy.Kind.{Kind}
 use Rattle.box_policy.specs.declared.policy.Kind.TheVariants.{Read, Env, Assign}
 use Rattle.box_world.specs.declared.ask.Reply.{Reply}
 use Rattle.box_world.specs.Events.{Named, Shuts, Want, Event, Stream, open_streams}
 use Rattle.box_monitor.specs.Subjects.{Subject}
-use Rattle.awk_machine.specs.Advances.{known, asked_by, asked, over_by, held, afresh}
+use Rattle.awk_machine.specs.Advances.{known, asked_by, over_by, held}
 use Rattle.awk_machine.specs.Begins as b
 use Rattle.awk_machine.specs.Closing.{first_stream}
-use Rattle.awk_machine.specs.Builtins.{first, status_of}
+use Rattle.awk_machine.specs.Builtins.{first}
 use Rattle.awk_machine.specs.Getline.{first_record}
 use Rattle.awk_machine.specs.Moves.{do_part, do_task, move}
 use Rattle.awk_machine.specs.Operators.{of_truth}
@@ -25,17 +24,17 @@ use Rattle.awk_machine.specs.Pieces as m
 use Rattle.awk_machine.specs.Pieces.{nowhere, Part, Value_of, Target_of, Pattern_of, Terms_of, Texts_of, Ands_of, Ors_of, Members_of, Pipes_of, Doing, Test, Turn, Leave, Records, Choosing, Task, Piece, At, Do, Next, Goes, Steps, Asks, Seeks, Over, Outcome, Cut, ends}
 use Rattle.awk_machine.specs.Plays.{Plays, Reaches, here, goes, steps, asks, seeks}
 use Rattle.awk_machine.specs.Questions as q
-use Rattle.awk_machine.specs.State.{State, Course, Given}
-use Rattle.awk_machine.specs.Streams.{want, event, seen, with_step, with_event}
+use Rattle.awk_machine.specs.State.{State, Course, Given, Beginning, Ruling, Ending}
+use Rattle.awk_machine.specs.Streams.{want, seen}
 use Rattle.box_listing.specs.declared.site.Site.{Site}
 use Rattle.box_listing.specs.declared.site.Found.{Found}
 use Rattle.box_listing.specs.declared.site.Found.TheVariants as found
 use Rattle.box_listing.specs.Listings as l
 use Rattle.box_listing.specs.Listings.{IsListing, at_start, sites_of}
 use Rattle.box_listing.specs.Sites as s
-use Rattle.listing_laws.specs.Covers.{Covers, IsCoveredAt, IsCovered, AllCovered, subject_of_want}
-use Rattle.listing_laws.proofs.Standing.{Listed, Holds, Sub, Wanted, IsWanted, Says, Hands, nothing, hands, handed_by, done_by, Kept, Knows, Fit, EnvironFit, Stack, Ready, Keeps, Whole}
-use Rattle.listing_laws.proofs.Steps.{front, back, both, hand, ended}
+use Rattle.listing_laws.specs.Covers.{IsCoveredAt, IsCovered, AllCovered, subject_of_want}
+use Rattle.listing_laws.proofs.Standing.{Listed, Holds, Sub, Wanted, IsWanted, handed_by, done_by, Kept, Knows, Fit, EnvironFit, Stack, Ready, Keeps, Whole}
+use Rattle.listing_laws.proofs.Steps.{front, back, hand, ended}
 use Rattle.listing_laws.proofs.Forms.{values, targets, patterns, terms, texts, ands, ors, members, pipes}
 use Rattle.listing_laws.proofs.Doing.{statements, tested, behind}
 use Rattle.listing_laws.proofs.Tasks as t
@@ -166,8 +165,77 @@ module _ (S : Listed) where
 
   first_ready : (g : Given) → Whole S g → Ready S (b.first_pieces g)
   first_ready g w =
-      operands_ready 0 (codes "awk" ∷ g.operands) _ (separators_ready g.separator _ (assigns_ready (filter (λ a. g.can_assign a.0) g.assigns) _
-      (environ_ready g.names_environ g.environment w.environ, (tt, (tt, (tt, tt))))))
+      let rest : List Piece = Do (m.Environ (if g.names_environ then g.environment else [])) ∷ Do (m.Enter Beginning) ∷ Do (m.Enter Ruling) ∷ Do (m.Enter Ending) ∷ [] in
+      let h : Ready S rest = (environ_ready g.names_environ g.environment w.environ, (tt, (tt, (tt, tt)))) in
+      let i : Ready S (b.operands 0 (codes "awk" ∷ g.operands) ++ (b.separators g.separator ++ (b.assigns g ++ rest))) =
+      operands_ready 0 (codes "awk" ∷ g.operands) (b.separators g.separator ++ (b.assigns g ++ rest))
+      (separators_ready g.separator (b.assigns g ++ rest) (assigns_ready (filter (λ a. g.can_assign a.0) g.assigns) rest h)) in
+      let e = append_assoc (b.operands 0 (codes "awk" ∷ g.operands) ++ b.separators g.separator) (b.assigns g) rest
+      ∙ append_assoc (b.operands 0 (codes "awk" ∷ g.operands)) (b.separators g.separator) (b.assigns g ++ rest) in
+      subst (λ z. Ready S z) (sym e) i
 
   pub all_wanted : (g : Given) (events : List Event) (o : Outcome) (n : ℕ) (last : Option Want) → Whole S g → Plays g events o n last → AllWanted events
   all_wanted g events o n last w x = chained w x.chain (first_ready g w) tt
+
+-- ---- the whole listing
+
+module _ (sites : List Site) where
+  abbrev pub Is : Listed
+  Is site = Contains sites site
+
+  held_main : (reads names : Bool) → ((site : Site) → Contains (l.started reads names) site → Contains sites site) → reads ≡ true → Holds Is found.MainInput
+  held_main true names h e = (
+    h (at_start Read) (0, omega arith, refl),
+    h (at_start Assign) (Contains-append_right (l.if_so true Read) (l.if_so names Env ++ l.if_so true Assign) (at_start Assign)
+        (Contains-append_right (l.if_so names Env) (l.if_so true Assign) (at_start Assign) (0, omega arith, refl))),
+  )
+  held_main false names h e = absurd (true≢false (sym e))
+
+  held_environ : (reads names : Bool) → ((site : Site) → Contains (l.started reads names) site → Contains sites site) → names ≡ true → Contains sites (at_start Env)
+  held_environ reads true h e =
+      h (at_start Env) (Contains-append_right (l.if_so reads Read) (l.if_so true Env ++ l.if_so reads Assign) (at_start Env)
+      (Contains-append_left (l.if_so true Env) (l.if_so reads Assign) (at_start Env) (0, omega arith, refl)))
+  held_environ reads false h e = absurd (true≢false (sym e))
+
+  all_held : (xs : List Found) → ((site : Site) → Contains (l.placed xs) site → Contains sites site) → (l.reads_main xs ≡ true → Holds Is found.MainInput) → Sub Is xs
+  all_held [] h main = tt
+  all_held (found.MainInput ∷ xs) h main = (main refl, all_held xs h (λ e. main refl))
+  all_held (found.At site ∷ xs) h main =
+      (h site (0, omega arith, refl), all_held xs (λ other c. h other (Contains-append_right (site ∷ []) (l.placed xs) other c)) main)
+
+  whole : (g : Given) → IsListing g.program g.names_environ sites → Whole Is g
+  whole g listing =
+      let xs = s.found g.program in
+      let reads = l.reads_main xs in
+      let into : (site : Site) → Contains (sites_of xs g.names_environ) site → Contains sites site =
+      λ site c. Contains-permutation (sites_of xs g.names_environ) sites site listing.same c in
+      let first_ones : (site : Site) → Contains (l.started reads g.names_environ) site → Contains sites site =
+      λ site c. into site (Contains-append_left (l.started reads g.names_environ) (l.placed xs) site c) in
+      let others : (site : Site) → Contains (l.placed xs) site → Contains sites site =
+      λ site c. into site (Contains-append_right (l.started reads g.names_environ) (l.placed xs) site c) in
+      let all = all_held xs others (held_main reads g.names_environ first_ones) in
+      let i = back Is (s.records g.program.rules g.program.end) (s.actions g.program.begin ++ (s.rules g.program.rules ++ (s.actions g.program.end ++ s.functions g.program.functions))) all in
+      let j = back Is (s.actions g.program.begin) (s.rules g.program.rules ++ (s.actions g.program.end ++ s.functions g.program.functions)) i in
+      let k = back Is (s.rules g.program.rules) (s.actions g.program.end ++ s.functions g.program.functions) j in
+      record {
+        records = front Is (s.records g.program.rules g.program.end) (s.actions g.program.begin ++ (s.rules g.program.rules ++ (s.actions g.program.end ++ s.functions g.program.functions))) all;
+        begin = front Is (s.actions g.program.begin) (s.rules g.program.rules ++ (s.actions g.program.end ++ s.functions g.program.functions)) i;
+        rules = front Is (s.rules g.program.rules) (s.actions g.program.end ++ s.functions g.program.functions) j;
+        end = front Is (s.actions g.program.end) (s.functions g.program.functions) k;
+        functions = back Is (s.actions g.program.end) (s.functions g.program.functions) k;
+        environ = held_environ reads g.names_environ first_ones;
+      }
+
+  pub wanted : (g : Given) (events : List Event) (o : Outcome) (n : ℕ) (last : Option Want) → IsListing g.program g.names_environ sites → Plays g events o n last → AllWanted Is events
+  wanted g events o n last listing x = all_wanted Is g events o n last (whole g listing) x
+
+  plain : (place : Place) (given : Bool) (o : Option Subject) → Wanted Is place given o → IsCoveredAt sites place o
+  plain place given None h = tt
+  plain place given (Some subject) h = (h.0, h.1, h.2)
+
+  each_covered : (es : List Event) → AllWanted Is es → All (IsCovered sites) es
+  each_covered [] h = All-nil (IsCovered sites)
+  each_covered (e ∷ es) h = All-cons (IsCovered sites) e es (plain e.want.place e.want.given (subject_of_want e.want) h.0) (each_covered es h.1)
+
+pub all_covered : AllCovered
+all_covered g sites events o n last listing x = each_covered sites events (wanted sites g events o n last listing x)

@@ -1,6 +1,6 @@
 -- Statements: each form keeps what is listed, and asks for what is covered.
-use Rattle.std.proofs.Common.{◌≡◌, ◌∙◌, ◌<◌, ◌+◌, ℕ, zero, suc, Bool, true, false, List, [], ◌∷◌, ◌++◌, length, drop, take, refl, sym, ap, subst, arith}
-use Rattle.std.specs.Prelude.{Option, Some, None, if◌then◌else◌, slice_get, reverse, codes, Result, pos, unsigned_abs}
+use Rattle.std.proofs.Common.{◌≡◌, ◌∙◌, ◌<◌, ℕ, zero, suc, false, List, [], ◌∷◌, ◌++◌, length, drop, take, refl, sym, ap, subst, arith}
+use Rattle.std.specs.Prelude.{Option, Some, None, slice_get, reverse, codes, Result, pos, unsigned_abs}
 use Rattle.std.specs.Int.{int_rem_euclid}
 use Rattle.std.proofs.Math.Seq.{drop-append_seam}
 use Rattle.std.proofs.lemmas.List.{reverse-append, length-reverse}
@@ -8,8 +8,7 @@ use Rattle.awk_text.specs.declared.place.Place.{Place}
 use Rattle.awk_text.specs.declared.fault.Fault.{Fault}
 use Rattle.awk_text.specs.declared.fault.Fault.TheVariants.{NextOutside}
 use Rattle.awk_text.specs.declared.value.Value.{Value}
-use Rattle.awk_text.specs.declared.value.Value.TheVariants as v
-use Rattle.awk_text.specs.Values.{text_of, number_of, truth}
+use Rattle.awk_text.specs.Values.{text_of, number_of}
 use Rattle.awk_fields.specs.Rows.{joined}
 use Rattle.awk_lib.specs.Arrays.{without}
 use Rattle.awk_program.specs.Slots.{Text}
@@ -18,14 +17,13 @@ use Rattle.awk_program.specs.Program.{Expression, Statement, Statements, stateme
 use Rattle.awk_program.specs.declared.operators.Redirect.{Redirect}
 use Rattle.awk_program.specs.declared.operators.Redirect.TheVariants as to
 use Rattle.awk_program.specs.declared.statements.Redirection.{Redirection}
-use Rattle.box_world.specs.Events.{Standard, Named}
 use Rattle.box_monitor.specs.Subjects.{kind_of}
 use Rattle.awk_machine.specs.Builtins.{first, formatted_by}
 use Rattle.awk_machine.specs.Forms.{value, each_by, if_true}
 use Rattle.awk_machine.specs.Operators.{limited}
 use Rattle.awk_machine.specs.Pieces as m
 use Rattle.awk_machine.specs.Pieces.{Loop, Part, Value_of, Doing, Test, Turn, Leave, Records, Piece, At, Do, Goes, Then, Next, give, granted, ends}
-use Rattle.awk_machine.specs.Printing.{print_by, printed, output, mode_of, class_of, target_of}
+use Rattle.awk_machine.specs.Printing.{print_by, printed, output, mode_of}
 use Rattle.awk_machine.specs.State.{State, Phase, Beginning, Ruling, Ending}
 use Rattle.awk_machine.specs.Statements as st
 use Rattle.awk_machine.specs.Variables.{own_text, array, with_array}
@@ -108,17 +106,18 @@ module _ (S : Listed) where
   pushed xs d part vs k x e sub kept has rest =
       push_value S x part vs k sub kept
       (λ y says. has y (λ h.
-          let r = last_one xs d.target (length vs) x e h in
-          let f : first (drop (length xs) (reverse (y ∷ vs))) ≡ y = subst (λ n. first (drop n (reverse (y ∷ vs))) ≡ y) r.0 (newest y vs) in
-          subst (λ z. Says (s.constant d.target) z) (sym f) (subst (λ z. Says (s.constant z) y) (sym r.1) says)))
+      let r = last_one xs d.target (length vs) x e h in
+      let f : first (drop (length xs) (reverse (y ∷ vs))) ≡ y = subst (λ n. first (drop n (reverse (y ∷ vs))) ≡ y) r.0 (newest y vs) in
+      subst (λ z. Says (s.constant d.target) z) (sym f) (subst (λ z. Says (s.constant z) y) (sym r.1) says)))
       rest
 
   to_target : (place : Place) (d : Redirection Expression) (name : Value) (text : Text) (k : List Piece) (t : State) → Sub S (s.redirected d) → Says (s.constant d.target) name → Ready S k →
       Keeps S (output place (Some d) name text k t)
-  to_target place d name text k t h says rest =
-      (subst (λ kind. Wanted S d.place false (Some (record { kind = kind; text = text_of name }))) (same_kind d.how)
-          (at_site S d.place (s.kind_of d.how) (s.constant d.target) (text_of name) (front S (s.site d.place (s.kind_of d.how) (s.constant d.target)) (s.value d.target) h) (has_text (s.constant d.target) name says)),
-      (tt, rest))
+  to_target place d name text k t h says rest = (
+    subst (λ kind. Wanted S d.place false (Some (record { kind = kind; text = text_of name }))) (same_kind d.how)
+        (at_site S d.place (s.kind_of d.how) (s.constant d.target) (text_of name) (front S (s.site d.place (s.kind_of d.how) (s.constant d.target)) (s.value d.target) h) (has_text (s.constant d.target) name says)),
+    (tt, rest),
+  )
 
   redirected_by : (o : Option Expression) (text : State → List Value → Result Text Fault) (place : Place) (xs : List Expression) (d : Redirection Expression) (part : Part) (vs : List Value) (k : List Piece) (t : State) →
       slice_get (xs ++ d.target ∷ []) (length vs) ≡ o → Perhaps (λ x. Sub S (s.value x)) o → Sub S (s.redirected d) → Kept S part →

@@ -6,7 +6,6 @@ use Rattle.awk_text.specs.declared.place.Place.{Place}
 use Rattle.awk_text.specs.declared.value.Value.{Value}
 use Rattle.awk_text.specs.declared.value.Value.TheVariants as v
 use Rattle.awk_text.specs.Values.{text_of, number_of, truth}
-use Rattle.awk_lib.specs.Arrays.{has}
 use Rattle.awk_program.specs.Slots.{Text}
 use Rattle.awk_program.specs.Program as p
 use Rattle.awk_program.specs.Program.{Expression, Expressions, Ere, Terms, Joins, Pipes, Arguments}
@@ -15,7 +14,7 @@ use Rattle.awk_program.specs.declared.operators.Extent.{Extent}
 use Rattle.awk_program.specs.declared.operators.Step.{Step}
 use Rattle.awk_program.specs.declared.operators.Taken.{Taken}
 use Rattle.box_policy.specs.declared.policy.Kind.TheVariants.{Read, Run}
-use Rattle.box_world.specs.Events.{InputFile, InputCommand, Standard}
+use Rattle.box_world.specs.Events.{InputFile, Standard}
 use Rattle.awk_machine.specs.Builtins as built
 use Rattle.awk_machine.specs.Calls as calls
 use Rattle.awk_machine.specs.Expressions as e
@@ -32,9 +31,8 @@ use Rattle.awk_machine.specs.Variables.{own_text}
 use Rattle.awk_fields.specs.Rows.{joined}
 use Rattle.awk_fields.specs.Separators.{separator}
 use Rattle.box_listing.specs.Sites as s
-use Rattle.listing_laws.specs.Covers.{IsText}
-use Rattle.listing_laws.proofs.Standing.{Listed, Sub, Wanted, Says, Hands, nothing, hands, handed_by, Kept, Has, Knows, KnowsBy, Called, Second, Piping, Stack, Ready, Keeps}
-use Rattle.listing_laws.proofs.Steps.{Each, Perhaps, at_index, has_text, front, back, each_listed, at_site, weaken, hand, ended, push_value, push_target, push_pattern, through, delivered, one, two, three, each, either, ready_if, looked, counted, came}
+use Rattle.listing_laws.proofs.Standing.{Listed, Sub, Says, hands, Knows, Stack, Ready, Keeps}
+use Rattle.listing_laws.proofs.Steps.{Each, Perhaps, at_index, has_text, front, back, each_listed, at_site, weaken, hand, push_value, push_target, push_pattern, through, delivered, one, two, three, each, either, ready_if, looked, came}
 
 -- ---- arguments of a call
 

@@ -1,6 +1,7 @@
-mod Standing
-mod Steps
-mod Forms
-mod Doing
-mod Tasks
-mod Coverage
+pub mod Standing
+pub mod Steps
+pub mod Forms
+pub mod Doing
+pub mod Tasks
+pub mod Coverage
+pub mod Refusals

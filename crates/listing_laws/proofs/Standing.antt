@@ -1,6 +1,6 @@
 -- What holds of the pieces of a run, so that each request is covered: each piece is a part of the program, and a part
 -- whose operand is a constant has that constant's text once it is there.
-use Rattle.std.proofs.Common.{◌≡◌, ◌<◌, ℕ, Bool, true, false, List, [], ◌∷◌, ◌++◌, length, drop, reverse}
+use Rattle.std.proofs.Common.{◌≡◌, ◌<◌, ℕ, Bool, true, false, List, [], ◌∷◌, length, drop, reverse}
 use Rattle.std.specs.Prelude.{Option, Some, None}
 use Rattle.awk_text.specs.declared.place.Place.{Place}
 use Rattle.awk_text.specs.declared.value.Value.{Value}
@@ -10,7 +10,6 @@ use Rattle.awk_program.specs.Program as p
 use Rattle.awk_program.specs.Program.{Expression, Pipes, Statement}
 use Rattle.awk_program.specs.declared.statements.Redirection.{Redirection}
 use Rattle.box_policy.specs.declared.policy.Kind.TheVariants.{Read, Env, Assign}
-use Rattle.box_world.specs.declared.ask.Mode.TheVariants as mode
 use Rattle.box_world.specs.declared.ask.Reply.{Reply}
 use Rattle.box_world.specs.Events.{Want, request_of}
 use Rattle.box_monitor.specs.Subjects.{Subject, kind_of, subject_of}

@@ -1,5 +1,5 @@
 -- The steps that the proofs over the forms are made of.
-use Rattle.std.proofs.Common.{◌≡◌, ◌<◌, ℕ, zero, suc, Bool, true, false, true≢false, List, [], ◌∷◌, ◌++◌, length, refl, sym, arith}
+use Rattle.std.proofs.Common.{ℕ, zero, suc, Bool, true, false, true≢false, List, [], ◌∷◌, ◌++◌, length, refl, sym}
 use Rattle.std.specs.Prelude.{Option, Some, None, if◌then◌else◌, slice_get, reverse, Result, Ok, Err}
 use Rattle.awk_text.specs.declared.place.Place.{Place}
 use Rattle.awk_text.specs.declared.fault.Fault.{Fault}
@@ -10,17 +10,15 @@ use Rattle.awk_program.specs.Slots.{Text}
 use Rattle.awk_program.specs.Program as p
 use Rattle.awk_program.specs.Program.{Expression, Expressions, Ere, expressions_of}
 use Rattle.box_policy.specs.declared.policy.Kind.{Kind}
-use Rattle.box_monitor.specs.Subjects.{Subject}
-use Rattle.awk_machine.specs.Forms.{unary, binary, ternary, listed, each_by, each_of, keyed, if_true, deliver, checked}
+use Rattle.awk_machine.specs.Forms.{unary, binary, ternary, listed, each_by, each_of, if_true, deliver, checked}
 use Rattle.awk_machine.specs.Getline.{counting, got}
 use Rattle.awk_machine.specs.Pieces as m
 use Rattle.awk_machine.specs.Pieces.{Part, Value_of, Target_of, Pattern_of, Piece, At, Do, Outcome, Next, Then, Goes, ends, give, granted}
 use Rattle.awk_machine.specs.State.{State}
-use Rattle.box_listing.specs.declared.site.Site.{Site}
 use Rattle.box_listing.specs.declared.site.Found.{Found}
 use Rattle.box_listing.specs.Sites as s
 use Rattle.listing_laws.specs.Covers.{IsText}
-use Rattle.listing_laws.proofs.Standing.{Listed, Holds, Sub, Wanted, Says, Hands, nothing, hands, handed_by, Kept, Has, Knows, KnowsBy, Fit, Stack, Ready, Keeps}
+use Rattle.listing_laws.proofs.Standing.{Listed, Sub, Wanted, Says, hands, handed_by, Kept, Has, KnowsBy, Stack, Ready, Keeps}
 
 -- each element of a list
 abbrev pub Each : {A : Type 0} → (A → Type 0) → List A → Type 0

@@ -1,11 +1,10 @@
 -- Tasks: each keeps what is listed, and asks for what is covered.
-use Rattle.std.proofs.Common.{◌≡◌, ◌∙◌, ◌+◌, ◌-◌, ℕ, zero, suc, Bool, true, false, List, [], ◌∷◌, ◌++◌, length, drop, refl, sym, ap, subst}
-use Rattle.std.specs.Prelude.{Option, Some, None, if◌then◌else◌, codes, Result, Ok, Err, ℤ, pos, slice_index_or, int_lt, nat_lt, nat_le}
+use Rattle.std.proofs.Common.{◌+◌, ℕ, zero, suc, Bool, true, false, List, [], ◌∷◌, ◌++◌, length, drop, refl}
+use Rattle.std.specs.Prelude.{Option, Some, None, if◌then◌else◌, codes, pos, slice_index_or, int_lt, nat_lt, nat_le}
 use Rattle.std.specs.List.{before_first, after_first}
 use Rattle.std.specs.Fmt.{decimal}
 use Rattle.std.specs.Str.{bytes_eq}
 use Rattle.awk_text.specs.declared.place.Place.{Place}
-use Rattle.awk_text.specs.declared.fault.Fault.{Fault}
 use Rattle.awk_text.specs.declared.fault.Fault.TheVariants as fault
 use Rattle.awk_text.specs.declared.value.Value.{Value}
 use Rattle.awk_text.specs.declared.value.Value.TheVariants as v
@@ -26,7 +25,7 @@ use Rattle.box_world.specs.declared.ask.Mode.{Mode}
 use Rattle.box_world.specs.declared.ask.Mode.TheVariants as mode
 use Rattle.box_world.specs.declared.ask.Reply.{Reply}
 use Rattle.box_world.specs.declared.ask.Reply.TheVariants as reply
-use Rattle.box_world.specs.Events.{Class, OperandFile, Key, Standard, Named, Opens, Assigns, Stream, open_streams}
+use Rattle.box_world.specs.Events.{Class, OperandFile, Key, Standard, Named, Opens, Stream}
 use Rattle.awk_machine.specs.Builtins as built
 use Rattle.awk_machine.specs.Calls as calls
 use Rattle.awk_machine.specs.Closing as closing
@@ -48,7 +47,7 @@ use Rattle.awk_machine.specs.Variables.{is_nf, variable, own_text, own_value, wi
 use Rattle.box_listing.specs.declared.site.Found.TheVariants as found
 use Rattle.box_listing.specs.Listings.{at_start}
 use Rattle.box_listing.specs.Sites as s
-use Rattle.listing_laws.proofs.Standing.{Listed, Holds, Sub, Wanted, IsWanted, Says, Hands, nothing, hands, handed_by, Kept, Has, Knows, KnowsBy, Fit, EnvironFit, Stack, Ready, Keeps, Whole}
+use Rattle.listing_laws.proofs.Standing.{Listed, Holds, Sub, hands, Fit, EnvironFit, Stack, Ready, Keeps, Whole}
 use Rattle.listing_laws.proofs.Steps.{front, back, both, hand, ended, push_value, through, one, either, ready_if, counted}
 
 module _ (S : Listed) where
@@ -307,9 +306,10 @@ module _ (S : Listed) where
 
   pub environs : (names : List Text) (k : List Piece) (t : State) → EnvironFit S names → Ready S k → Keeps S (moves.environ names k t)
   environs [] k t fit rest = rest
-  environs (name ∷ names) k t fit rest =
-      ((at_start kind.Env, fit, record { same_place = refl; same_kind = refl; same_text = tt }, λ e. refl),
-      λ r. environ_by name (Do (m.Environ names) ∷ k) r (fewer name names fit, rest))
+  environs (name ∷ names) k t fit rest = (
+    (at_start kind.Env, fit, record { same_place = refl; same_kind = refl; same_text = tt }, λ e. refl),
+    λ r. environ_by name (Do (m.Environ names) ∷ k) r (fewer name names fit, rest),
+  )
 
   -- ---- rules, and the phases
 

@@ -1,5 +1,5 @@
 -- Which request of a run a site covers, and what that says of a policy.
-use Rattle.std.specs.Prelude.{◌≡◌, ℕ, Bool, false, true, List, [], ◌∷◌, Option, Some, None, All, Contains, IsSome}
+use Rattle.std.specs.Prelude.{◌≡◌, ℕ, false, List, [], Option, Some, None, All, Contains, IsSome}
 use Rattle.awk_text.specs.declared.place.Place.{Place}
 use Rattle.awk_machine.specs.Pieces.{Outcome}
 use Rattle.awk_machine.specs.Plays.{Plays}

@@ -1,5 +1,7 @@
 //! What holds of the sites of a script and of its runs.
 //!
-//! The crate has one definition, which site covers which request (specs/Covers.antt), and laws over the
-//! definition of plain awk.
+//! Sites are listed by `box_listing`, and runs are those of plain awk, by the definition in `awk_machine`.
+//! The crate says which request a site covers (specs/Covers.antt), and has laws on that.
 #![tactic(auto)]
+
+pub mod laws;

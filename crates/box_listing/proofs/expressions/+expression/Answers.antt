@@ -1,11 +1,10 @@
-use Rattle.std.proofs.Common.{◌++◌, [], ◌∷◌, drop, option_copied, refl, arith, sym, ap, ◌∙◌, None, map, append-nil}
+use Rattle.std.proofs.Common.{◌++◌, [], ◌∷◌, option_copied, refl, arith, sym, ap, map, append-nil}
 use Rattle.awk_program.specs.Program.{expressions_of, terms_of, joins_of}
 use Rattle.awk_program.specs.View.{view, view_target, view_ere, view_term, view_joined, view_pipes, view_arguments}
 use Rattle.awk_program.proofs.Views.{view-Number, view-Text, view-Pattern, view-Read, view-Assign, view-Change, view-Step, view-Not, view-Signed, view-Chain, view-Concat, view-Compare, view-Match, view-In, view-Group, view-And, view-Or, view-Choice, view-Call, view-Getline, view-GetlineFile, view-Pipe, view-Measure, view-Int, view-Index, view-SubstrFrom, view-Substr, view-Sprintf, view-Locate, view-Split, view-Substitute, view-Close, view-System}
 use Rattle.box_policy.specs.declared.policy.Kind.TheVariants as kind
 use Rattle.box_listing.specs.Sites as spec
 use Rattle.box_listing.proofs.Finding.{same, then}
-use Rattle.box_listing.proofs.Lists.{drop_here}
 use Rattle.box_listing.proofs.Walking.{argument_first, all_found, turn, turn_pipes, all_pipes}
 use Rattle.box_listing.proofs.expressions.+expression.Goals as goal
 

@@ -1,7 +1,5 @@
-use Rattle.std.proofs.Common.{◌≡◌, arith, refl}
-use Rattle.awk_program.specs.View.{Names, view}
+use Rattle.std.proofs.Common.{arith, refl}
 use Rattle.awk_program.proofs.Views.{view-Text, views}
-use Rattle.box_listing.specs.Sites as spec
 use Rattle.box_listing.proofs.expressions.constant.Goals as goal
 
 pub returns-in-Text : goal.returns-in-Text

@@ -1,7 +1,7 @@
-use Rattle.std.proofs.Common.{◌++◌, refl, ap, map, option_map, append-nil, append_assoc}
+use Rattle.std.proofs.Common.{◌++◌, refl, map, option_map}
 use Rattle.awk_program.specs.View.{view, view_redirection}
 use Rattle.box_listing.specs.Sites as spec
-use Rattle.box_listing.proofs.Finding.{same, then, after}
+use Rattle.box_listing.proofs.Finding.{then}
 use Rattle.box_listing.proofs.statements.print.Goals as goal
 
 pub returns : goal.returns

@@ -1,7 +1,7 @@
-use Rattle.std.proofs.Common.{◌++◌, refl, ap, map, option_map, append-nil, append_assoc}
-use Rattle.awk_program.specs.View.{view, view_redirection}
+use Rattle.std.proofs.Common.{refl, option_map, append-nil}
+use Rattle.awk_program.specs.View.{view_redirection}
 use Rattle.box_listing.specs.Sites as spec
-use Rattle.box_listing.proofs.Finding.{same, then, after}
+use Rattle.box_listing.proofs.Finding.{same}
 use Rattle.box_listing.proofs.statements.target.Goals as goal
 
 pub returns-in-None : goal.returns-in-None

@@ -1,0 +1,109 @@
+-- What a verdict says of the requests that a site covers.
+use Rattle.std.proofs.Common.{◌≡◌, ◌<◌, ℕ, zero, suc, Bool, true, false, not, List, [], ◌∷◌, length, refl, sym, subst, true≢false, arith}
+use Rattle.std.specs.Prelude.{Option, Some, None, if◌then◌else◌, All, Contains, filter, is_none, slice_index_or, IsSome}
+use Rattle.std.proofs.lemmas.List.Elements.{All-nil, All-cons}
+use Rattle.awk_text.specs.declared.place.Place.{Place}
+use Rattle.awk_program.specs.Slots.{Text}
+use Rattle.box_policy.specs.Rulebook.{Rulebook}
+use Rattle.box_policy.specs.Decisions.{decision}
+use Rattle.box_policy.specs.declared.policy.Kind.{Kind}
+use Rattle.box_policy.specs.declared.policy.Decision.{Decision}
+use Rattle.box_policy.specs.declared.policy.Decision.TheVariants.{Allow, Deny, NoRule}
+use Rattle.box_monitor.specs.Denials.{told_at, denial_at}
+use Rattle.box_monitor.specs.Subjects.{Subject}
+use Rattle.box_world.specs.Events.{Event}
+use Rattle.box_listing.specs.Verdicts.{is_allow, denies, is_denied, is_open, verdict_by}
+use Rattle.box_listing.specs.declared.site.Site.{Site}
+use Rattle.box_listing.specs.declared.verdict.Verdict.TheVariants.{Clean, Refused}
+use Rattle.listing_laws.specs.Covers.{IsText, IsAllowed, NoneDenied, RefusedDenied, subject_of_want}
+use Rattle.listing_laws.proofs.Standing.{Wanted}
+use Rattle.listing_laws.proofs.Coverage.{Is, AllWanted, wanted}
+
+-- ---- lists that are filtered
+
+none_passes_by : (p : Site → Bool) (y : Site) (ys : List Site) (b : Bool) → p y ≡ b → (if b then y ∷ filter p ys else filter p ys) ≡ [] → (p y ≡ false) × (filter p ys ≡ [])
+none_passes_by p y ys true e h = absurd (cc)
+none_passes_by p y ys false e h = (e, h)
+
+none_passes : (p : Site → Bool) (xs : List Site) (x : Site) (k : ℕ) → filter p xs ≡ [] → k < length xs → slice_index_or xs k x ≡ x → p x ≡ false
+none_passes p [] x k h below e = absurd (omega (arith, below))
+none_passes p (y ∷ ys) x zero h below e = subst (λ z. p z ≡ false) e (none_passes_by p y ys (p y) refl h).0
+none_passes p (y ∷ ys) x (suc k) h below e = none_passes p ys x k (none_passes_by p y ys (p y) refl h).1 (omega (arith, below)) e
+
+mutual_pass : (p : Site → Bool) (y : Site) (ys : List Site) (b : Bool) (x : Site) (k : ℕ) → p y ≡ b → k < length (if b then y ∷ filter p ys else filter p ys) →
+    slice_index_or (if b then y ∷ filter p ys else filter p ys) k x ≡ x → ((j : ℕ) → j < length (filter p ys) → slice_index_or (filter p ys) j x ≡ x → p x ≡ true) → p x ≡ true
+mutual_pass p y ys true x zero is below e ih = subst (λ z. p z ≡ true) e is
+mutual_pass p y ys true x (suc k) is below e ih = ih k (omega (arith, below)) e
+mutual_pass p y ys false x k is below e ih = ih k below e
+
+passes : (p : Site → Bool) (xs : List Site) (x : Site) (k : ℕ) → k < length (filter p xs) → slice_index_or (filter p xs) k x ≡ x → p x ≡ true
+passes p [] x k below e = absurd (omega (arith, below))
+passes p (y ∷ ys) x k below e = mutual_pass p y ys (p y) x k refl below e (passes p ys x)
+
+-- ---- verdicts
+
+clean_by : (xs ys : List Site) → verdict_by xs ys ≡ Clean → (xs ≡ []) × (ys ≡ [])
+clean_by [] [] h = (refl, refl)
+clean_by [] (y ∷ ys) h = absurd (cc)
+clean_by (x ∷ xs) ys h = absurd (cc)
+
+refused_by : (xs ys zs : List Site) → verdict_by xs ys ≡ Refused zs → xs ≡ zs
+refused_by [] [] zs h = absurd (cc)
+refused_by [] (y ∷ ys) zs h = absurd (cc)
+refused_by (x ∷ xs) ys zs h = cc
+
+-- ---- decisions
+
+untold : (place : Place) (subject : Subject) (d : Decision) → not (is_allow d) ≡ false → told_at place subject d ≡ None
+untold place subject (Allow n) h = refl
+untold place subject (Deny n) h = absurd (true≢false h)
+untold place subject NoRule h = absurd (true≢false h)
+
+told : (place : Place) (subject : Subject) (d : Decision) → not (is_allow d) ≡ true → IsSome (told_at place subject d)
+told place subject (Allow n) h = absurd (true≢false (sym h))
+told place subject (Deny n) h = refl
+told place subject NoRule h = refl
+
+decided : (book : Rulebook) (kind : Kind) (text : Text) (subject : Subject) → kind ≡ subject.kind → text ≡ subject.text →
+    decision book kind text false ≡ decision book subject.kind subject.text false
+decided book kind text subject e f = λ i. decision book (e i) (f i) false
+
+allowed_by : (book : Rulebook) (kind : Kind) (c : Option Text) (place : Place) (given : Bool) (subject : Subject) → is_none c ≡ false → denies book kind c ≡ false → kind ≡ subject.kind →
+    IsText c subject.text → (given ≡ true → c ≡ None) → denial_at book place given (Some subject) ≡ None
+allowed_by book kind None place given subject known allowed e f g = absurd (true≢false known)
+allowed_by book kind (Some text) place true subject known allowed e f g = let z : Some text ≡ None = g refl in absurd (cc)
+allowed_by book kind (Some text) place false subject known allowed e f g =
+    subst (λ d. told_at place subject d ≡ None) (decided book kind text subject e f) (untold place subject (decision book kind text false) allowed)
+
+denied_by : (book : Rulebook) (kind : Kind) (c : Option Text) (place : Place) (subject : Subject) → denies book kind c ≡ true → kind ≡ subject.kind → IsText c subject.text →
+    IsSome c × IsSome (denial_at book place false (Some subject))
+denied_by book kind None place subject denied e f = absurd (true≢false (sym denied))
+denied_by book kind (Some text) place subject denied e f =
+    (refl, subst (λ d. IsSome (told_at place subject d)) (decided book kind text subject e f) (told place subject (decision book kind text false) denied))
+
+-- ---- the laws
+
+module _ (book : Rulebook) (sites : List Site) where
+  allowed : (place : Place) (given : Bool) (o : Option Subject) → filter (is_denied book) sites ≡ [] → filter is_open sites ≡ [] → Wanted (Is sites) place given o → denial_at book place given o ≡ None
+  allowed place given None none known h = refl
+  allowed place given (Some subject) none known h =
+      let site = h.0 in
+      let c = h.1 in
+      allowed_by book site.kind site.text place given subject (none_passes is_open sites site c.0 known c.1 c.2) (none_passes (is_denied book) sites site c.0 none c.1 c.2)
+      h.2.same_kind h.2.same_text h.3
+
+  each_allowed : (es : List Event) → filter (is_denied book) sites ≡ [] → filter is_open sites ≡ [] → AllWanted (Is sites) es → All (IsAllowed book) es
+  each_allowed [] none known h = All-nil (IsAllowed book)
+  each_allowed (e ∷ es) none known h =
+      All-cons (IsAllowed book) e es (allowed e.want.place e.want.given (subject_of_want e.want) none known h.0) (each_allowed es none known h.1)
+
+pub none_denied : NoneDenied
+none_denied g book sites events o n last listing clean x =
+    let both = clean_by (filter (is_denied book) sites) (filter is_open sites) clean in
+    each_allowed book sites events both.0 both.1 (wanted sites g events o n last listing x)
+
+pub refused_denied : RefusedDenied
+refused_denied book sites refused site place subject is c covers =
+    let e = refused_by (filter (is_denied book) sites) (filter is_open sites) refused is in
+    let d : Contains (filter (is_denied book) sites) site = subst (λ z. Contains z site) (sym e) c in
+    denied_by book site.kind site.text place subject (passes (is_denied book) sites site d.0 d.1 d.2) covers.same_kind covers.same_text
