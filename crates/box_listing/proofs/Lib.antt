@@ -1,3 +1,4 @@
 pub mod Lists
 pub mod Finding
 pub mod Walking
+pub mod Texts

@@ -1,4 +1,5 @@
 pub mod Sites
 pub mod Listings
 pub mod Verdicts
+pub mod Lines
 pub mod Walks

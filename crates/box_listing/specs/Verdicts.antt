@@ -1,11 +1,13 @@
 -- What a policy says of a listing before a run.
-use Rattle.std.specs.Prelude.{Bool, true, false, not, List, [], ◌∷◌, Option, Some, None, filter, is_none}
+use Rattle.std.specs.Prelude.{◌≡◌, Bool, true, false, not, List, [], ◌∷◌, Option, Some, None, filter, is_none}
+use Rattle.awk_program.specs.Program.{Program}
 use Rattle.awk_program.specs.Slots.{Text}
 use Rattle.box_policy.specs.declared.policy.Kind.{Kind}
 use Rattle.box_policy.specs.declared.policy.Decision.{Decision}
 use Rattle.box_policy.specs.declared.policy.Decision.TheVariants.{Allow, Deny, NoRule}
 use Rattle.box_policy.specs.Decisions.{decision}
 use Rattle.box_policy.specs.Rulebook.{Rulebook}
+use Rattle.box_listing.specs.Listings.{IsListing}
 use Rattle.box_listing.specs.declared.site.Site.{Site}
 use Rattle.box_listing.specs.declared.verdict.Verdict.{Verdict}
 use Rattle.box_listing.specs.declared.verdict.Verdict.TheVariants.{Clean, Open, Refused}
@@ -34,3 +36,9 @@ verdict_by [] [] = Clean
 
 abbrev pub verdict : Rulebook → List Site → Verdict
 verdict book sites = verdict_by (filter (is_denied book) sites) (filter is_open sites)
+
+-- the verdict on the listing of a program, which names ENVIRON or not
+pub record IsVerdict (program : Program) (names : Bool) (book : Rulebook) (result : Verdict) : Type 0 where
+  pub sites : List Site
+  pub listing : IsListing program names sites
+  pub is : result ≡ verdict book sites

@@ -6,7 +6,9 @@
 //! says which a program has, and specs/Listings.antt in which order they are listed.
 #![tactic(auto)]
 
+mod checking;
 mod expressions;
+mod lines;
 mod listing;
 mod order;
 mod program;
@@ -14,6 +16,8 @@ pub mod site;
 mod statements;
 pub mod verdict;
 
+pub use checking::checked;
+pub use lines::{line_of, lines_of, verdict_lines};
 pub use listing::listed;
 pub use site::Site;
 pub use verdict::{Sites, Verdict, judge};

@@ -4,3 +4,4 @@ mod Scripts
 mod FormRows
 mod Replays
 mod Choices
+mod Listings

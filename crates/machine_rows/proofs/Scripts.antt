@@ -58,7 +58,7 @@ items_of (Some ts) = parsed (st.script ts)
 abbrev Arrays : Type 0
 Arrays = List (Text × Text)
 
-abbrev tokens_of : Option (List Token) → List Token
+abbrev pub tokens_of : Option (List Token) → List Token
 tokens_of None = []
 tokens_of (Some ts) = ts
 
