@@ -1,5 +1,7 @@
 -- Rows of the sites of scripts, and of what a policy says of them: scripts as texts, computed.
-use Rattle.std.specs.Prelude.{◌≡◌, refl, ℕ, Bool, true, false, List, [], ◌∷◌, length, map, codes, Option, Some, None}
+use Rattle.std.specs.Prelude.{◌≡◌, refl, ℕ, false, List, [], ◌∷◌, length, map, codes, Option, Some, None}
+use Rattle.std.specs.Str.{is_utf8, chars}
+use lib.Utf8.{encode}
 use Rattle.awk_tree.specs.Tree.{Text}
 use Rattle.awk_names.specs.Faults.{names_environ}
 use Rattle.awk_names.specs.Mentions.{part}
@@ -10,7 +12,6 @@ use Rattle.box_policy.specs.declared.policy.Rule.{Rule}
 use Rattle.box_policy.specs.declared.policy.Effect.{Effect}
 use Rattle.box_policy.specs.Rulebook.{Rulebook}
 use Rattle.box_listing.specs.declared.site.Site.{Site}
-use Rattle.box_listing.specs.declared.verdict.Verdict.{Verdict}
 use Rattle.box_listing.specs.declared.verdict.Verdict.TheVariants.{Clean, Open, Refused}
 use Rattle.box_listing.specs.Listings.{sites_of}
 use Rattle.box_listing.specs.Sites.{found}
@@ -98,25 +99,25 @@ nothing = refl
 -- ---- verdicts
 
 clean : verdict book (listed (codes "BEGIN { print \"a\" > \"/w/out/a\" }")) ≡ Clean
-unfolding rules
+unfolding rules is_utf8 chars encode
 clean = refl
 
 no_sites : verdict empty (listed (codes "BEGIN { x = 1 }")) ≡ Clean
-unfolding rules
+unfolding rules is_utf8 chars encode
 no_sites = refl
 
 refused : verdict book (listed (codes "BEGIN { system(\"id\") }")) ≡ Refused (site 1 9 Run (Some (codes "id")) ∷ [])
-unfolding rules
+unfolding rules is_utf8 chars encode
 refused = refl
 
 refused_alone : verdict book (listed (codes "{ system(\"id\") }")) ≡ Refused (site 1 3 Run (Some (codes "id")) ∷ [])
-unfolding rules
+unfolding rules is_utf8 chars encode
 refused_alone = refl
 
-open : verdict book (listed (codes "BEGIN { f = \"/x\"; print \"a\" > f }")) ≡ Open (site 1 29 Write None ∷ [])
-unfolding rules
-open = refl
+unknown : verdict book (listed (codes "BEGIN { f = \"/x\"; print \"a\" > f }")) ≡ Open (site 1 29 Write None ∷ [])
+unfolding rules is_utf8 chars encode
+unknown = refl
 
 denied : verdict book (listed (codes "BEGIN { getline x < \"in/secret1\"; getline y < \"in/a\"; getline z < f }")) ≡ Refused (site 1 9 Read (Some (codes "in/secret1")) ∷ [])
-unfolding rules
+unfolding rules is_utf8 chars encode
 denied = refl

@@ -1,5 +1,5 @@
 -- Rows made by the reference: scripts as texts, the world's replies, and what a run then was.
-use Rattle.std.specs.Prelude.{◌≡◌, refl, ℕ, ◌&&◌, Bool, true, false, List, [], ◌∷◌, pos, codes, Option, Some, None}
+use Rattle.std.specs.Prelude.{◌≡◌, refl, ℕ, Bool, true, false, List, [], ◌∷◌, pos, codes, Option, Some, None}
 use Rattle.std.specs.List.{list_any}
 use Rattle.std.specs.Str.{bytes_eq}
 use Rattle.awk_text.specs.declared.place.Place.{Place}
