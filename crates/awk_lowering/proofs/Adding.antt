@@ -1,56 +1,19 @@
 -- A program that grows by what an item is.
 use Rattle.std.proofs.Common.{◌≡◌, ◌∙◌, Bool, List, [], ◌∷◌, ◌++◌, map, Result, Ok, Err, IfOk, OnOk, ap, sym, refl, subst, append-nil, append_assoc}
-use Rattle.std.proofs.lemmas.List.{map-append}
-use Rattle.awk_tree.specs.Tree as t
-use Rattle.awk_tree.specs.Tree.{Text, Entry, Condition}
-use Rattle.awk_tree.specs.declared.names.Name as tree_name
-use Rattle.awk_names.specs.Kinds.{texts}
+use Rattle.awk_tree.specs.Tree.{Text, Entry}
 use Rattle.awk_program.specs.declared.program.Name.{Name}
 use Rattle.awk_program.specs.declared.program.Program as code
-use Rattle.awk_program.specs.Program as p
 use Rattle.awk_program.specs.Program.{Statement, Rule, Function, Program}
 use Rattle.awk_program.specs.View.{Names, view_by, view_program}
 use Rattle.awk_lowering.specs.Scopes.{Scope}
-use Rattle.awk_lowering.specs.Programs.{Tables, functions_of, begins_of, ends_of, rules_of, rule_of, function_of, when_of, printed, body, outer, each, names, program, with_entry, with_entries}
-use Rattle.awk_lowering.proofs.Carried.{Pushed}
-
-pub on_ok : {E P Q : Type 0} (r : Result Unit E) → (P → Q) → OnOk r P → OnOk r Q
-on_ok (Ok u) f h = f h
-on_ok (Err e) f h = tt
+use Rattle.awk_lowering.specs.Programs.{Tables, functions_of, begins_of, ends_of, rules_of, each, names, program, with_entry, with_entries}
 
 -- what is said of equal names and scopes
 pub in_scope : (F : Names → Scope → Type 0) (t u : Names) (s r : Scope) → t ≡ u → s ≡ r → F t s → F u r
 in_scope F t u s r e f h = subst (λ y. F u y) f (subst (λ x. F x s) e h)
 
--- what was pushed, as it is viewed
-pub pushed_is : {A B E : Type 0} (v : A → B) (old new : List A) (next : Result A E) (b : B) → IfOk next (λ y. v y ≡ b) → Pushed old new next → map v new ≡ map v old ++ b ∷ []
-pushed_is v old new next b made (y, is, pushed) =
-    let same : v y ≡ b = rw is at made in
-    ap (map v) pushed ∙ map-append v old (y ∷ []) ∙ ap (λ z. map v old ++ z ∷ []) same
-
 abbrev pub of_lists : List Name → List Function → List (List Statement) → List Rule → List (List Statement) → Program
 of_lists vs fs bs rs es = record { variables = vs; functions = fs; begin = bs; rules = rs; end = es }
-
-module _ (n : Tables) (vs : List Name) (fs : List Function) (bs : List (List Statement)) (rs : List Rule) (es : List (List Statement)) where
-  pub with_begin : (xs : List t.Statement) (new : List (List Statement)) → new ≡ bs ++ body (outer n) xs ∷ [] → of_lists vs fs new rs es ≡ with_entry n (t.at_begin xs) (of_lists vs fs bs rs es)
-  with_begin xs new e = rw (e, append-nil fs, append-nil rs, append-nil es) refl
-
-  pub with_end : (xs : List t.Statement) (new : List (List Statement)) → new ≡ es ++ body (outer n) xs ∷ [] → of_lists vs fs bs rs new ≡ with_entry n (t.at_end xs) (of_lists vs fs bs rs es)
-  with_end xs new e = rw (e, append-nil fs, append-nil rs, append-nil bs) refl
-
-  pub with_always : (xs : List t.Statement) (new : List Rule) → new ≡ rs ++ rule_of p.always (body (outer n) xs) ∷ [] → of_lists vs fs bs new es ≡ with_entry n (t.always xs) (of_lists vs fs bs rs es)
-  with_always xs new e = rw (e, append-nil fs, append-nil es, append-nil bs) refl
-
-  pub with_shown : (x : Condition) (new : List Rule) → new ≡ rs ++ rule_of (when_of (outer n) x) printed ∷ [] → of_lists vs fs bs new es ≡ with_entry n (t.shown x) (of_lists vs fs bs rs es)
-  with_shown x new e = rw (e, append-nil fs, append-nil es, append-nil bs) refl
-
-  pub with_rule : (x : Condition) (xs : List t.Statement) (new : List Rule) → new ≡ rs ++ rule_of (when_of (outer n) x) (body (outer n) xs) ∷ [] → of_lists vs fs bs new es ≡ with_entry n (t.rule x xs) (of_lists vs fs bs rs es)
-  with_rule x xs new e = rw (e, append-nil fs, append-nil es, append-nil bs) refl
-
-  pub with_function : (f : tree_name.Name) (ps : List tree_name.Name) (xs : List t.Statement) (new : List Function) → new ≡ fs ++ function_of n f.text (texts ps) xs ∷ [] → of_lists vs new bs rs es ≡ with_entry n (t.function f ps xs) (of_lists vs fs bs rs es)
-  with_function f ps xs new e = rw (e, append-nil rs, append-nil es, append-nil bs) refl
-
--- ---- all items
 
 entries_are : (n : Tables) (es : List Entry) (q : Program)
     → with_entries n es q ≡ of_lists q.variables (q.functions ++ each (functions_of n) es) (q.begin ++ each (begins_of n) es) (q.rules ++ each (rules_of n) es) (q.end ++ each (ends_of n) es)
