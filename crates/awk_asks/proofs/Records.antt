@@ -25,7 +25,7 @@ use Rattle.awk_asks.proofs.Reading.{tells_taken}
 module _ {W : Type 0} (F : W → List Call → W → Type 0) (E : W → List Call → Ask → W → Type 0) (g : Given) (s : State) (place : Place) (key : Key) (rs : Text) (rs_is : own_text s (codes "RS") ≡ rs) (mid : Table) (before : Input)
     (live : input_at key mid ≡ Some before) where
   -- the machine's first record is the reader's
-  head_is : (k : Key → ℕ) (c : Course) → Tells mid k c → first_record key (seen (beside s mid k) c) ≡ head rs before.unread before.ended
+  pub head_is : (k : Key → ℕ) (c : Course) → Tells mid k c → first_record key (seen (beside s mid k) c) ≡ head rs before.unread before.ended
   head_is k c a =
       let x = a.inputs key before live in
       ap (λ r. head r (drop (k key) (came key c.events)) (has_ended key c.events)) rs_is ∙ ap (λ u. head rs u (has_ended key c.events)) (sym x.unread) ∙ ap (head rs before.unread) (sym x.ended)
