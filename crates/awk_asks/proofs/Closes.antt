@@ -1,6 +1,6 @@
 -- Every stream of a text is shut.
-use Rattle.std.proofs.Common.{◌≡◌, inr, refl, sym, ◌∙◌, ap, subst, arith, nat_eq, ℕ, zero, suc, ◌+◌, ◌<◌, ◌≤◌, ◌-◌, Bool, true, false, true≢false, ◌&&◌, List, [], ◌∷◌, length, map}
-use Rattle.std.specs.Prelude.{ℤ, Option, Some, None, Result, Ok, Err, if◌then◌else◌, is_some, option_map}
+use Rattle.std.proofs.Common.{◌≡◌, inr, refl, sym, ◌∙◌, ap, subst, arith, nat_eq, ℕ, suc, ◌<◌, Bool, true, false, true≢false, ◌&&◌, List, [], ◌∷◌, length, map}
+use Rattle.std.specs.Prelude.{ℤ, Option, Some, None, Ok, Err, if◌then◌else◌, is_some, option_map}
 use Rattle.std.specs.Str.{bytes_eq}
 use Rattle.std.proofs.lemmas.Slice.Eq.{bytes_eq-Decides}
 use Rattle.awk_text.specs.declared.place.Place.{Place}
@@ -17,18 +17,18 @@ use Rattle.box_world.specs.Events.{Class, Key, Standard, Named, Shuts, Stream, c
 use Rattle.awk_program.specs.Slots.{Text}
 use Rattle.awk_machine.specs.Advances.{advance, asked_by, held}
 use Rattle.awk_machine.specs.Closing.{is_closed, first_stream, shut_answer, first_answer, answer_or, close_by}
-use Rattle.awk_machine.specs.Pieces.{Piece, Do, Close, Asks, Goes, give}
+use Rattle.awk_machine.specs.Pieces.{Piece, Do, Close, Asks, give}
 use Rattle.awk_machine.specs.State.{Course, Given, State}
 use Rattle.awk_machine.specs.Streams.{seen, want, with_event}
 use Rattle.awk_asks.specs.declared.halt.Halt.{Halt}
 use Rattle.awk_asks.specs.Chains.{Led, Ended, Leads, Meets}
 use Rattle.awk_asks.specs.Closings.{first_of, first_status, shut_status}
 use Rattle.awk_asks.specs.Tables.{Table, Entry, open_of, find_input, entries_without}
-use Rattle.awk_asks.specs.Tasks.{Answered, Refused, Distinct, Tells, IsRead, Owns, beside, input_at, one_if, times}
+use Rattle.awk_asks.specs.Tasks.{Answered, Refused, Distinct, Tells, IsRead, Owns, beside, input_at}
 use Rattle.awk_asks.proofs.Asking.{fits_here, number_at}
 use Rattle.awk_asks.proofs.Chain.{Laws, asked, changes, done, unanswered}
 use Rattle.awk_asks.proofs.Numbers.{among_all, found_once, times-without, times-without_stream}
-use Rattle.awk_asks.proofs.Opened.{both, named_self, none_named, number_eq, number_is, some_is}
+use Rattle.awk_asks.proofs.Opened.{both, none_named, number_eq, number_is, some_is}
 use Rattle.awk_asks.proofs.Reading.{class_is}
 
 -- ---- the first of a text

@@ -1,6 +1,5 @@
 -- What a reading takes of what is held unread, and what it answers.
-use Rattle.std.proofs.Common.{◌≡◌, ◌⊎◌, inl, inr, refl, sym, ◌∙◌, ap, ap₂, ℕ, suc, ◌+◌, Bool, true, false, cond, nat_lt, ◌==◌, List, [], ◌∷◌, length, take, drop, Option, Some, None, option_map}
-use Rattle.std.specs.Prelude.{Result, Ok, Err, IfOk, IfErr, OnErr, pos}
+use Rattle.std.proofs.Common.{◌≡◌, ◌⊎◌, inl, inr, refl, sym, ◌∙◌, ap, ℕ, ◌+◌, Bool, true, false, cond, nat_lt, ◌==◌, List, [], ◌∷◌, length, take, drop, Option, Some, None}
 use Rattle.std.specs.List.{position_or_len, prefix_len, before_first, after_first}
 use Rattle.awk_text.specs.Limits.{most_bytes}
 use Rattle.awk_text.specs.declared.fault.Fault.{Fault}
@@ -9,13 +8,12 @@ use Rattle.awk_text.specs.declared.place.Place.{Place}
 use Rattle.awk_text.specs.declared.value.Value.TheVariants as v
 use Rattle.awk_fields.specs.declared.reader.Taken.{Taken}
 use Rattle.awk_fields.specs.declared.reader.Taken.TheVariants as taking
-use Rattle.awk_fields.specs.Heads.{Head, taken, need_more, done, too_long, last, line, is_newline, pair_place, trimmed, ended_by, paragraph, head}
+use Rattle.awk_fields.specs.Heads.{Head, taken, need_more, done, too_long, last, is_newline, pair_place, trimmed, ended_by, head}
 use Rattle.awk_fields.specs.Takes.{Input, Takes}
 use Rattle.box_world.specs.Events.{Key}
-use Rattle.awk_asks.specs.declared.halt.Halt.{Halt}
-use Rattle.awk_asks.specs.Readings.{FailsFirst, FirstIs, Holds, value_taken, halted}
+use Rattle.awk_asks.specs.Readings.{FailsFirst, FirstIs, value_taken, halted}
 use Rattle.awk_asks.specs.Tables.{Table}
-use Rattle.awk_asks.specs.Tasks.{IsReadAt, input_at}
+use Rattle.awk_asks.specs.Tasks.{IsReadAt}
 use Rattle.awk_asks.proofs.Reading.{drop_drop}
 
 -- ---- what is left behind a record

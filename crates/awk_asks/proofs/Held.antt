@@ -1,6 +1,5 @@
 -- What is held unread of a stream changes.
 use Rattle.std.proofs.Common.{◌≡◌, ◌⊎◌, refl, ◌∙◌, ap, subst, List, ℕ}
-use Rattle.std.specs.Prelude.{Some}
 use Rattle.awk_fields.specs.declared.reader.Taken.{Taken}
 use Rattle.awk_text.specs.declared.fault.Fault.{Fault}
 use Rattle.awk_text.specs.declared.fault.Fault.TheVariants as fault

@@ -1,18 +1,17 @@
 -- Streams that are read stand open.
-use Rattle.std.proofs.Common.{◌≡◌, inl, inr, refl, sym, ◌∙◌, ap, subst, arith, nat_eq, ℕ, ◌<◌, ◌==◌, Bool, true, false, true≢false, ◌&&◌, List, [], ◌∷◌, map}
+use Rattle.std.proofs.Common.{◌≡◌, inl, inr, refl, sym, ◌∙◌, ap, arith, ℕ, ◌==◌, Bool, true, false, true≢false, ◌&&◌, List, [], ◌∷◌, map}
 use Rattle.std.specs.Prelude.{Option, Some, None, IfSome, if◌then◌else◌, is_some}
 use Rattle.std.specs.Str.{bytes_eq}
-use Rattle.std.proofs.lemmas.Bool.Decides.{nat_tests}
 use Rattle.std.proofs.lemmas.Slice.Eq.{bytes_eq-Decides}
 use Rattle.awk_fields.specs.Takes.{Input}
 use Rattle.box_world.specs.Calls.{IsStream}
-use Rattle.box_world.specs.Events.{Class, Key, Standard, Named, Stream, class_number, is_named, find_stream}
+use Rattle.box_world.specs.Events.{Class, Key, Standard, Named, class_number, is_named, find_stream}
 use Rattle.awk_program.specs.Slots.{Text}
 use Rattle.awk_machine.specs.State.{Course}
 use Rattle.awk_machine.specs.Streams.{is_live, same_key}
 use Rattle.awk_asks.specs.declared.inputs.Source.{Source}
 use Rattle.awk_asks.specs.declared.inputs.Source.TheVariants as source
-use Rattle.awk_asks.specs.Readings.{IsLive, Holds, key_of}
+use Rattle.awk_asks.specs.Readings.{IsLive, key_of}
 use Rattle.awk_asks.specs.Tables.{Table, Entry, open_of, find_input, kind, with_input}
 use Rattle.awk_asks.specs.Tasks.{IsNumber, IsReadAt, IsSame, Owns, Tells, input_at}
 use Rattle.awk_asks.proofs.Numbers.{among_all, found_once}

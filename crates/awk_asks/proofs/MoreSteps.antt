@@ -1,10 +1,8 @@
 -- The moves of a reading that ask for more.
-use Rattle.std.proofs.Common.{◌≡◌, ◌⊎◌, inl, inr, refl, sym, ◌∙◌, ap, subst, ℕ, Bool, true, false, true≢false, List, [], ◌∷◌, ◌++◌}
-use Rattle.std.specs.Prelude.{Option, Some, None, is_some, Result, Ok, Err, IfOk, codes, pos, if◌then◌else◌}
+use Rattle.std.proofs.Common.{◌≡◌, inl, inr, refl, sym, ◌∙◌, ap, subst, ℕ, Bool, true, false, List, ◌∷◌, ◌++◌}
+use Rattle.std.specs.Prelude.{Option, Some, None, is_some, Ok, Err, codes, if◌then◌else◌}
 use Rattle.awk_text.specs.declared.place.Place.{Place}
-use Rattle.awk_text.specs.declared.fault.Fault.TheVariants.{TextTooLong}
 use Rattle.awk_text.specs.declared.value.Value.{Value}
-use Rattle.awk_text.specs.declared.value.Value.TheVariants as v
 use Rattle.awk_fields.specs.Heads.{Head, taken, need_more, done, too_long, head}
 use Rattle.awk_fields.specs.Takes.{Input}
 use Rattle.box_world.specs.Calls.{Call, IsFitting, open_after}
@@ -15,18 +13,18 @@ use Rattle.box_world.specs.declared.ask.Request.TheVariants as request
 use Rattle.box_world.specs.Events.{Key, Reads, calls}
 use Rattle.awk_program.specs.Slots.{Text}
 use Rattle.awk_machine.specs.Advances.{advance, asked_by, held}
-use Rattle.awk_machine.specs.Getline.{failure, read_by, read_on}
-use Rattle.awk_machine.specs.Pieces.{Piece, Do, Read, Asks, Faulted, ends, give}
+use Rattle.awk_machine.specs.Getline.{read_by, read_on}
+use Rattle.awk_machine.specs.Pieces.{Piece, Do, Read, Asks, give}
 use Rattle.awk_machine.specs.State.{State, Course, Given}
-use Rattle.awk_machine.specs.Streams.{came, has_ended, seen, want, with_event}
+use Rattle.awk_machine.specs.Streams.{seen, want, with_event}
 use Rattle.awk_machine.specs.Variables.{own_text}
 use Rattle.awk_asks.specs.declared.halt.Halt.{Halt}
 use Rattle.awk_asks.specs.declared.halt.Halt.TheVariants as halt
 use Rattle.awk_asks.specs.declared.inputs.Source.{Source}
 use Rattle.awk_asks.specs.Chains.{Led, Ended, Leads, Meets}
-use Rattle.awk_asks.specs.Readings.{FailsFirst, FirstIs, GoesOn, HasCome, Holds, IsLive, Received, Waits, key_of, read_further}
+use Rattle.awk_asks.specs.Readings.{FailsFirst, FirstIs, GoesOn, HasCome, Received, Waits, key_of, read_further}
 use Rattle.awk_asks.specs.Tables.{Table}
-use Rattle.awk_asks.specs.Tasks.{Answered, Refused, Tells, IsNumber, IsRead, IsReadAt, IsSame, Owns, beside, Does, fetched, input_at}
+use Rattle.awk_asks.specs.Tasks.{Answered, Refused, Tells, IsNumber, IsReadAt, IsSame, Owns, beside, Does, fetched, input_at}
 use Rattle.awk_asks.proofs.Asking.{fits_here, number_at}
 use Rattle.awk_asks.proofs.Chain.{Laws, asked, at_once, closed, done as finished, lacking, settled, turned, unanswered}
 use Rattle.awk_asks.proofs.Firsts.{behind, waits_on}

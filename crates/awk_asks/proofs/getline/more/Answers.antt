@@ -1,4 +1,3 @@
-use Rattle.std.proofs.Common.{sym}
 use Rattle.std.proofs.lemmas.Result.{err_from_is_err_and}
 use Rattle.awk_asks.specs.Readings.{key_of}
 use Rattle.awk_asks.proofs.Asking.{laws_of}

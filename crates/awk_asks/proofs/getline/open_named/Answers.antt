@@ -4,7 +4,6 @@ use Rattle.std.proofs.lemmas.Result.{err_from_is_err_and}
 use Rattle.box_world.specs.Events.{Named}
 use Rattle.awk_machine.specs.Getline as getline
 use Rattle.awk_machine.specs.Pieces.{Do, Fetch}
-use Rattle.awk_asks.specs.Readings.{read_further}
 use Rattle.awk_asks.specs.Tables.{kind}
 use Rattle.awk_asks.proofs.Asking.{laws_of}
 use Rattle.awk_asks.proofs.Chain.{at_once, done, lacking, part, stop, turned}

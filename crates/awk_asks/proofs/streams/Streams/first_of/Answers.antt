@@ -1,10 +1,7 @@
-use Rattle.std.proofs.Common.{refl, sym, ap, ap₂, ◌∙◌, ◌&&◌, true, false}
-use Rattle.std.specs.Prelude.{Some, None}
+use Rattle.std.proofs.Common.{refl, sym, ap, ap₂, ◌∙◌, ◌&&◌}
 use Rattle.std.specs.Str.{bytes_eq}
 use Rattle.std.specs.Option.{option_map}
 use Rattle.std.specs.Map.Iter.{deref_pair}
-use Rattle.awk_machine.specs.Closing.{is_closed}
-use Rattle.awk_asks.specs.Tables.{kind}
 use Rattle.awk_asks.proofs.Scans.{first_here, first_next, first_none, first_past}
 use Rattle.awk_asks.proofs.streams.Streams.first_of.Goals as goal
 use Rattle.awk_asks.proofs.streams.Streams.first_of.Goals.{in-Some+else-is_closed, else-is_closed-via-then-is_closed+else-eq, else-is_closed-via-else-is_closed, in_default}
@@ -25,18 +22,18 @@ loop-i-preserved c =
     let i = rw (← c.self.view_is) at c.loop-i.invariant in
     elim c.match-get_index.branch [
       | in-Some+else-is_closed w ↦
-        let at = sym c.get_index.ensures.entry ∙ ap (option_map deref_pair) w.in-Some.is in
-        elim w.else-is_closed.branch [
-          | else-is_closed-via-then-is_closed+else-eq u ↦
-            let b = ap₂ (λ x y. x && y) (sym w.is_closed.ensures ∙ u.if-is_closed.true) (ap (bytes_eq c.args.text.now) (sym u.as_slice.ensures.value) ∙ sym u.eq.ensures ∙ u.if-eq.false) in
-            rw (← c.self.view_is) (i ∙ first_next c.args.text.now c.self.inside.table.entries c.loop-i.i _ at b)
-          | else-is_closed-via-else-is_closed u ↦
-            let b = ap (λ x. x && bytes_eq c.args.text.now w.in-Some.name.now.text.items) (sym w.is_closed.ensures ∙ u.if-is_closed.false) in
-            rw (← c.self.view_is) (i ∙ first_next c.args.text.now c.self.inside.table.entries c.loop-i.i _ at b)
-        ]
+          let at = sym c.get_index.ensures.entry ∙ ap (option_map deref_pair) w.in-Some.is in
+          elim w.else-is_closed.branch [
+            | else-is_closed-via-then-is_closed+else-eq u ↦
+                let b = ap₂ (λ x y. x && y) (sym w.is_closed.ensures ∙ u.if-is_closed.true) (ap (bytes_eq c.args.text.now) (sym u.as_slice.ensures.value) ∙ sym u.eq.ensures ∙ u.if-eq.false) in
+                rw (← c.self.view_is) (i ∙ first_next c.args.text.now c.self.inside.table.entries c.loop-i.i _ at b)
+            | else-is_closed-via-else-is_closed u ↦
+                let b = ap (λ x. x && bytes_eq c.args.text.now w.in-Some.name.now.text.items) (sym w.is_closed.ensures ∙ u.if-is_closed.false) in
+                rw (← c.self.view_is) (i ∙ first_next c.args.text.now c.self.inside.table.entries c.loop-i.i _ at b)
+          ]
       | in_default w ↦
-        let at = sym c.get_index.ensures.entry ∙ ap (option_map deref_pair) w.in_default.is in
-        rw (← c.self.view_is) (i ∙ first_none c.args.text.now c.self.inside.table.entries c.loop-i.i at)
+          let at = sym c.get_index.ensures.entry ∙ ap (option_map deref_pair) w.in_default.is in
+          rw (← c.self.view_is) (i ∙ first_none c.args.text.now c.self.inside.table.entries c.loop-i.i at)
     ]
 
 pub returns : goal.returns
