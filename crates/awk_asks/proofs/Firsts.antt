@@ -5,13 +5,13 @@ use Rattle.awk_text.specs.Limits.{most_bytes}
 use Rattle.awk_text.specs.declared.fault.Fault.{Fault}
 use Rattle.awk_text.specs.declared.fault.Fault.TheVariants as fault
 use Rattle.awk_text.specs.declared.place.Place.{Place}
-use Rattle.awk_text.specs.declared.value.Value.TheVariants as v
+use Rattle.awk_asks.specs.declared.getline.Found.TheVariants as found
 use Rattle.awk_fields.specs.declared.reader.Taken.{Taken}
 use Rattle.awk_fields.specs.declared.reader.Taken.TheVariants as taking
 use Rattle.awk_fields.specs.Heads.{Head, taken, need_more, done, too_long, last, is_newline, pair_place, trimmed, ended_by, head}
 use Rattle.awk_fields.specs.Takes.{Input, Takes}
 use Rattle.box_world.specs.Events.{Key}
-use Rattle.awk_asks.specs.Readings.{FailsFirst, FirstIs, value_taken, halted}
+use Rattle.awk_asks.specs.Readings.{FailsFirst, FirstIs, read_taken, halted}
 use Rattle.awk_asks.specs.Tables.{Table}
 use Rattle.awk_asks.specs.Tasks.{IsReadAt}
 use Rattle.awk_asks.proofs.Reading.{drop_drop}
@@ -93,8 +93,8 @@ waits_on [] u ended h = by (pair_place (drop (prefix_len is_newline u) u)) h
 
 -- ---- what is answered
 
-pub first_is : (key : Key) (old new : Table) (i j : Input) (h : Head) (t : Taken) → Takes h t i j → IsReadAt key j old new → FirstIs key old new i h (value_taken t)
-first_is key old new i j (taken text rest) (taking.Record given) (same, e) r = (ap v.Input same, rw e at r)
+pub first_is : (key : Key) (old new : Table) (i j : Input) (h : Head) (t : Taken) → Takes h t i j → IsReadAt key j old new → FirstIs key old new i h (read_taken t)
+first_is key old new i j (taken text rest) (taking.Record given) (same, e) r = (ap found.Record same, rw e at r)
 first_is key old new i j (taken text rest) taking.NeedMore x r = absurd x
 first_is key old new i j (taken text rest) taking.Done x r = absurd x
 first_is key old new i j need_more (taking.Record given) x r = absurd x

@@ -11,7 +11,7 @@ use Rattle.awk_machine.specs.State.{Course}
 use Rattle.awk_machine.specs.Streams.{is_live, same_key}
 use Rattle.awk_asks.specs.declared.inputs.Source.{Source}
 use Rattle.awk_asks.specs.declared.inputs.Source.TheVariants as source
-use Rattle.awk_asks.specs.Readings.{IsLive, key_of}
+use Rattle.awk_asks.specs.Readings.{GoesOn, IsLive, key_of}
 use Rattle.awk_asks.specs.Tables.{Table, Entry, open_of, find_input, kind, with_input}
 use Rattle.awk_asks.specs.Tasks.{IsNumber, IsReadAt, IsSame, Owns, Tells, input_at}
 use Rattle.awk_asks.proofs.Numbers.{among_all, found_once}
@@ -75,6 +75,9 @@ live_read key i old new r = (i, input_read key i old new r)
 
 pub live_same : (key : Key) (old new : Table) → IsSame old new → IsLive key old → IsLive key new
 live_same key old new same live = (live.0, input_same key old new same ∙ live.1)
+
+pub goes_on_same : (key : Key) (old new : Table) → IsSame old new → GoesOn key old → GoesOn key new
+goes_on_same key old new same open_ i live = open_ i (sym (input_same key old new same) ∙ live)
 
 pub owns_read : (numbers : List ℕ) (key : Key) (i : Input) (old new : Table) → IsReadAt key i old new → Owns numbers old → Owns numbers new
 owns_read numbers key i old new r owns = rw r.streams owns

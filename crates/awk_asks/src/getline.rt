@@ -1,13 +1,13 @@
 // A record of a stream is read.
-ghost use Rattle.std.specs.Prelude.{◌≡◌, codes, true, is_some, IfOk, IfErr, OnOk, OnErr};
+ghost use Rattle.std.specs.Prelude.{◌≡◌, codes, List, false, true, IfOk, IfErr, OnOk, OnErr};
 ghost use Rattle.awk_fields.specs.Heads.{head};
 ghost use Rattle.awk_machine.specs.Pieces as machine;
-ghost use Rattle.awk_machine.specs.Pieces.{Do, give};
+ghost use Rattle.awk_machine.specs.Pieces.{Do, Piece, give};
 ghost use Rattle.awk_machine.specs.State.{Given, State};
 ghost use Rattle.awk_machine.specs.Variables.{own_text};
 ghost use Rattle.box_world.specs.Events.{Named};
 ghost use Rattle.awk_asks.specs.Readings as spec;
-ghost use Rattle.awk_asks.specs.Readings.{FailsFirst, FirstIs, GoesOn, HasCome, Holds, IsLive, Received, Waits, fetching, key_of, read_further};
+ghost use Rattle.awk_asks.specs.Readings.{FailsFirst, FailsOpen, FirstIs, GoesOn, HasCome, Holds, IsLive, IsReading, Received, Waits, fetching, further, key_of, read_further};
 ghost use Rattle.awk_asks.specs.Tables.{kind};
 ghost use Rattle.awk_asks.specs.Tasks.{Does, IsSame, Owns};
 
@@ -19,20 +19,30 @@ use crate::streams::{Name, Streams};
 use awk_fields::reader::Taken;
 use awk_text::Memory;
 use awk_text::fault::Fault;
+use awk_text::octets::Octets;
 use awk_text::place::Place;
 use awk_text::value::Value;
 use box_world::ask::{Reply, Request};
 use box_world::world::World;
 use std::alloc::{AllocError, Global};
 
-/// The value of what was taken: a record is input, and the end is 0.
-fn value_taken(taken: Taken) -> Option<Value>
-    ensures { result ≡ spec.value_taken taken }
+/// What a reading answers.
+#[derive(Drop)]
+pub enum Found {
+    Record(Octets),
+    /// The stream has ended, and no record is left.
+    End,
+    /// The stream can't be read.
+    Failed,
+}
+
+fn read_taken(taken: Taken) -> Option<Found>
+    ensures { result ≡ spec.read_taken taken }
 {
     match taken {
-        Taken::Record(text) => Some(Value::Input(text)),
+        Taken::Record(text) => Some(Found::Record(text)),
         Taken::NeedMore => None,
-        Taken::Done => Some(Value::Num(0)),
+        Taken::Done => Some(Found::End),
     }
 }
 
@@ -45,21 +55,20 @@ fn halted(place: Place, fault: Fault) -> Halt
     }
 }
 
-/// The first record of what is held unread, 0 where the stream has ended, or `None` where more is
-/// to come.
+/// The first record of what is held unread, or the end; `None` where more is to come.
 fn first(
     place: Place,
     source: &Source,
     rs: &[u8],
     streams: &mut Streams,
-) -> Result<Option<Value>, Halt>
+) -> Result<Option<Found>, Halt>
     ensures ok { IfOk result (λ answer. Holds (key_of source.now) streams.old
         (λ i. FirstIs (key_of source.now) streams.old streams.new i (head rs.now i.unread i.ended) answer)) }
     ensures same { OnErr result (IsSame streams.old streams.new) }
     ensures err { IfErr result (λ h. Holds (key_of source.now) streams.old (λ i. FailsFirst place (head rs.now i.unread i.ended) h)) }
 {
     match take(streams, source, rs) {
-        Ok(taken) => Ok(value_taken(taken)),
+        Ok(taken) => Ok(read_taken(taken)),
         Err(fault) => Err(halted(place, fault)),
     }
 }
@@ -94,8 +103,9 @@ fn more<W: World>(
     requires owns { Owns (W.open_numbers world.old) streams.old }
     requires live { IsLive (key_of source.now) streams.old }
     requires open { GoesOn (key_of source.now) streams.old }
-    ensures task { (g : Given) (s : State) → Waits (own_text s (codes "RS")) (key_of source.now) streams.old
-        → Does W.follows W.has_stopped W.stops g s (Do (machine.Read place (key_of source.now))) (read_further place (key_of source.now)) streams.old world.old result streams.new world.new }
+    ensures task { (g : Given) (s : State) (p : Piece) (to : Found → List Piece → List Piece) → IsReading g s p place (key_of source.now) to → Waits (own_text s (codes "RS")) (key_of source.now) streams.old
+        → Does W.follows W.has_stopped W.stops g s p (further p to) streams.old world.old result streams.new world.new }
+    ensures failed { IfOk result (λ on. on ≡ false → GoesOn (key_of source.now) streams.new) }
     ensures live { OnOk result (IsLive (key_of source.now) streams.new) }
     ensures owns { Owns (W.open_numbers world.new) streams.new }
 {
@@ -107,8 +117,45 @@ fn more<W: World>(
     }
 }
 
+/// Reads a record of a stream that stands open, for any piece of the machine that does. `rs` is RS
+/// as it is now. What is unread stays for the next one.
+pub fn record<W: World>(
+    place: Place,
+    source: &Source,
+    rs: &[u8],
+    streams: &mut Streams,
+    world: &mut W,
+) -> Result<Found, Halt>
+    requires owns { Owns (W.open_numbers world.old) streams.old }
+    requires live { IsLive (key_of source.now) streams.old }
+    ensures task { (g : Given) (s : State) (p : Piece) (to : Found → List Piece → List Piece) → IsReading g s p place (key_of source.now) to → own_text s (codes "RS") ≡ rs.now
+        → Does W.follows W.has_stopped W.stops g s p to streams.old world.old result streams.new world.new }
+    ensures failed { IfOk result (λ x. FailsOpen (key_of source.now) x streams.new) }
+    ensures owns { Owns (W.open_numbers world.new) streams.new }
+{
+    for _ in 0..u64::MAX {
+        if let Some(found) = first(place, source, rs, streams)? {
+            return Ok(found);
+        }
+        if !more(place, source, streams, world)? {
+            return Ok(Found::Failed);
+        }
+    }
+    Err(Halt::Memory)
+}
+
+fn read_value(found: Found) -> Value
+    ensures { result ≡ spec.read_value found }
+{
+    match found {
+        Found::Record(text) => Value::Input(text),
+        Found::End => Value::Num(0),
+        Found::Failed => Value::Num(-1),
+    }
+}
+
 /// Reads a record of a stream that stands open: the record as input, 0 at its end, or -1 where it
-/// can't be read. `rs` is RS as it is now. What is unread stays for the next one.
+/// can't be read.
 pub fn read<W: World>(
     place: Place,
     source: &Source,
@@ -122,15 +169,8 @@ pub fn read<W: World>(
         → Does W.follows W.has_stopped W.stops g s (Do (machine.Read place (key_of source.now))) give streams.old world.old result streams.new world.new }
     ensures owns { Owns (W.open_numbers world.new) streams.new }
 {
-    for _ in 0..u64::MAX {
-        if let Some(value) = first(place, source, rs, streams)? {
-            return Ok(value);
-        }
-        if !more(place, source, streams, world)? {
-            return Ok(Value::Num(-1));
-        }
-    }
-    Err(Halt::Memory)
+    let found = record(place, source, rs, streams, world)?;
+    Ok(read_value(found))
 }
 
 fn copied(alloc: Global, name: &Name) -> Result<Name, Memory>

@@ -4,7 +4,7 @@ use Rattle.awk_asks.proofs.Firsts.{fails_first, first_is}
 use Rattle.awk_asks.proofs.getline.first.Goals as goal
 
 pub returns-in-Ok-clause-ok : goal.returns-in-Ok-clause-ok
-returns-in-Ok-clause-ok c = rw c.value_taken.ensures (λ i live.
+returns-in-Ok-clause-ok c = rw c.read_taken.ensures (λ i live.
     let x = c.in-Ok.ensures.ok i live in
     first_is (key_of c.args.source.now) c.args.streams.now c.take.new.streams i x.0 (head c.args.rs.now i.unread i.ended) c.in-Ok.taken x.1 x.2)
 
