@@ -26,7 +26,7 @@ rest_same : (text rest text' rest' : List ℕ) → taken text rest ≡ taken tex
 unfolding rest_of
 rest_same text rest text' rest' e = ap rest_of (sym e)
 
-drop_all : (u : List ℕ) → drop (length u) u ≡ []
+pub drop_all : (u : List ℕ) → drop (length u) u ≡ []
 drop_all [] = refl
 drop_all (b ∷ u) = drop_all u
 

@@ -1,5 +1,5 @@
 -- The moves of a reading that ask for more.
-use Rattle.std.proofs.Common.{◌≡◌, inl, inr, refl, sym, ◌∙◌, ap, subst, ℕ, Bool, true, false, true≢false, List, ◌∷◌, ◌++◌}
+use Rattle.std.proofs.Common.{◌≡◌, inl, inr, refl, sym, ◌∙◌, ap, subst, arith, ℕ, ◌-◌, Bool, true, false, true≢false, List, [], ◌∷◌, ◌++◌, length}
 use Rattle.std.specs.Prelude.{Option, Some, None, is_some, Ok, Err, codes, if◌then◌else◌}
 use Rattle.awk_text.specs.declared.place.Place.{Place}
 use Rattle.awk_fields.specs.Heads.{Head, taken, need_more, done, too_long, head}
@@ -9,14 +9,14 @@ use Rattle.box_world.specs.declared.ask.Ask.{Ask}
 use Rattle.box_world.specs.declared.ask.Reply.{Reply}
 use Rattle.box_world.specs.declared.ask.Reply.TheVariants as reply
 use Rattle.box_world.specs.declared.ask.Request.TheVariants as request
-use Rattle.box_world.specs.Events.{Key, Reads, calls}
+use Rattle.box_world.specs.Events.{Key, Standard, Reads, calls}
 use Rattle.awk_program.specs.Slots.{Text}
 use Rattle.awk_machine.specs.Advances.{advance, asked_by, held}
 use Rattle.awk_machine.specs.Getline.{read_by, read_on}
 use Rattle.awk_machine.specs.Pieces as machine
 use Rattle.awk_machine.specs.Pieces.{Piece, Do, Asks}
 use Rattle.awk_machine.specs.State.{State, Course, Given}
-use Rattle.awk_machine.specs.Streams.{seen, want, with_event}
+use Rattle.awk_machine.specs.Streams.{came, same_key, seen, want, with_event}
 use Rattle.awk_machine.specs.Variables.{own_text}
 use Rattle.awk_asks.specs.declared.halt.Halt.{Halt}
 use Rattle.awk_asks.specs.declared.halt.Halt.TheVariants as halt
@@ -25,13 +25,13 @@ use Rattle.awk_asks.specs.declared.inputs.Source.{Source}
 use Rattle.awk_asks.specs.Chains.{Led, Ended, Leads, Meets}
 use Rattle.awk_asks.specs.Readings.{FailsFirst, FailsOpen, FirstIs, GoesOn, HasCome, IsReading, Received, Waits, further, gives_read, key_of, read_further}
 use Rattle.awk_asks.specs.Tables.{Table}
-use Rattle.awk_asks.specs.Tasks.{Answered, Refused, Tells, IsNumber, IsReadAt, IsSame, Owns, beside, Does, fetched, input_at}
+use Rattle.awk_asks.specs.Tasks.{Answered, Refused, Tells, IsNumber, IsReadAt, IsSame, Owns, beside, Does, fetched, goes_on, input_at}
 use Rattle.awk_asks.proofs.Asking.{fits_here, number_at}
-use Rattle.awk_asks.proofs.Chain.{Laws, asked, at_once, closed, done as finished, lacking, settled, turned, unanswered}
-use Rattle.awk_asks.proofs.Firsts.{behind, waits_on}
-use Rattle.awk_asks.proofs.Lives.{goes_on_same, input_read, live_in, owns_read, read_with, table_with, tells_unread}
+use Rattle.awk_asks.proofs.Chain.{Laws, asked, at_once, changes, closed, done as finished, lacking, settled, turned, unanswered}
+use Rattle.awk_asks.proofs.Firsts.{behind, drop_all, waits_on}
+use Rattle.awk_asks.proofs.Lives.{goes_on_same, input_read, live_in, owns_read, read_standard, read_with, table_with, tells_unread}
 use Rattle.awk_asks.proofs.Opened.{some_is, tells_same}
-use Rattle.awk_asks.proofs.Reading.{tells_bytes, tells_end}
+use Rattle.awk_asks.proofs.Reading.{tells_bytes, tells_end, tells_taken}
 use Rattle.awk_asks.proofs.Records.{head_moves, reads_record, reads_end, reads_long}
 
 -- ---- what came
@@ -244,3 +244,17 @@ first_opens key old new before (taken text rest) x y = rw y.0 tt
 first_opens key old new before need_more x y = absurd y
 first_opens key old new before done x y = rw y.0 tt
 first_opens key old new before too_long x y = absurd y
+
+-- ---- what is held unread of the standard input is dropped
+
+minus_nothing : (n : ℕ) → n - length {A = ℕ} [] ≡ n
+minus_nothing n = omega arith
+
+pub forgets : {W : Type 0} (F : W → List Call → W → Type 0) (E : W → List Call → Ask → W → Type 0) (g : Given) (s : State) (old new : Table) (w : W) → GoesOn (Standard 0) old → new.entries ≡ old.entries → new.input ≡ record { unread = []; ended = false } →
+    Meets F E (beside s) Tells (λ t. s.course.used) g (Do (machine.Forget (Standard 0))) (goes_on {A = Unit {0}}) old w (Ok (tt {0})) new w
+forgets F E g s old new w open_ es is = finished (changes refl (at_once _ old w) (λ k t c a. (
+  λ other. if same_key (Standard 0) other then length (came (Standard 0) c.events) else t other,
+  subst (λ n. Tells new (λ other. if same_key (Standard 0) other then n else t other) c) (minus_nothing (length (came (Standard 0) c.events)))
+      (tells_taken (Standard 0) old new t c old.input [] (length old.input.unread) a refl (sym (drop_all old.input.unread)) (read_standard (record { unread = []; ended = old.input.ended }) old new es (is ∙ ap (λ b. record { unread = []; ended = b }) (sym (open_ old.input refl))))),
+  refl,
+)))

@@ -217,4 +217,12 @@ impl Streams {
     {
         self.input.finish();
     }
+
+    /// Drops what is held unread of the standard input, whose end has not come. Takes no memory.
+    pub fn forget_standard(&mut self)
+        ensures input { self.new.input ≡ record { unread = []; ended = false } }
+        ensures entries { self.new.entries ≡ self.old.entries }
+    {
+        self.input = Reader::new(*self.table.allocator());
+    }
 }

@@ -1,0 +1,2 @@
+pub mod Gots
+pub mod Performs

@@ -1,0 +1,59 @@
+// A record is set and counted.
+ghost use Rattle.std.specs.Prelude.{◌≡◌, List};
+ghost use Rattle.awk_machine.specs.Getline.{counting};
+ghost use Rattle.awk_machine.specs.Pieces.{Piece, give};
+ghost use Rattle.awk_machine.specs.State.{Given};
+ghost use Rattle.awk_asks.specs.Tables.{Table};
+ghost use Rattle.awk_tasks.specs.Acts.{Acts, Passes};
+ghost use Rattle.awk_tasks.specs.Spots.{meant};
+ghost use Rattle.awk_tasks.specs.Wholes.{Whole, names_in};
+ghost use Rattle.awk_records.specs.Gots as spec;
+ghost use Rattle.awk_records.specs.Gots.{Counts, IsGot, names_of};
+
+use awk_asks::halt::Halt;
+use awk_program::Own;
+use awk_store::Store;
+use awk_tasks::Spot;
+use awk_tasks::counters::count;
+use awk_tasks::targets::set;
+use awk_text::place::Place;
+use awk_text::value::Value;
+use std::alloc::Global;
+
+/// Adds 1 to each of these variables, in their order.
+pub fn count_all(store: &mut Store, place: Place, counters: &[Own]) -> Result<(), Halt>
+    ensures { (g : Given) (t : Table) (p : Piece) (old : Whole) (to : List Piece → List Piece) → Passes g p old (λ k. counting place (names_of counters.now) (to k)) (store.old, t)
+        → Counts g p old to result (store.new, t) }
+{
+    for counter in counters {
+        count(store, place, *counter)?;
+    }
+    Ok(())
+}
+
+fn is_record(value: &Value) -> bool
+    ensures { result ≡ spec.is_record value.now }
+{
+    matches!(value, Value::Input(_))
+}
+
+/// Sets the target to a record that was read, and adds 1 to each of these variables; answers 1. What
+/// came in place of a record is the answer itself.
+pub fn set_record(
+    alloc: Global,
+    store: &mut Store,
+    place: Place,
+    target: Spot,
+    counters: &[Own],
+    record: Value,
+) -> Result<Value, Halt>
+    ensures { (g : Given) (t : Table) (p : Piece) (to : List Piece → List Piece) → IsGot g p place (meant (names_in g) target) (names_of counters.now) record to
+        → Acts g p (λ v k. give v (to k)) (store.old, t) result (store.new, t) }
+{
+    if !is_record(&record) {
+        return Ok(record);
+    }
+    set(alloc, store, target, place, record)?;
+    count_all(store, place, counters)?;
+    Ok(Value::Num(1))
+}
