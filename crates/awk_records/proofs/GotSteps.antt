@@ -1,11 +1,10 @@
 -- A record is set and counted.
-use Rattle.std.proofs.Common.{◌≡◌, refl, sym, ap, subst, ◌∙◌, ℕ, suc, ◌+◌, Bool, true, false, true≢false, List, [], ◌∷◌, map, drop, length, slice_get, arith}
-use Rattle.std.specs.Prelude.{Result, Ok, Err, pos, Some}
+use Rattle.std.proofs.Common.{◌≡◌, refl, sym, ap, ◌∙◌, true, false, true≢false, List, [], ◌∷◌}
+use Rattle.std.specs.Prelude.{Result, Ok, Err, pos}
 use Rattle.awk_text.specs.declared.place.Place.{Place}
 use Rattle.awk_text.specs.declared.value.Value.{Value}
 use Rattle.awk_text.specs.declared.value.Value.TheVariants as v
-use Rattle.awk_program.specs.Slots.{Text, name_of}
-use Rattle.awk_program.specs.declared.variables.Own.{Own}
+use Rattle.awk_program.specs.Slots.{Text}
 use Rattle.awk_machine.specs.Advances.{held}
 use Rattle.awk_machine.specs.Getline.{counting, got}
 use Rattle.awk_machine.specs.Pieces.{Piece, Target, Do, Set, Count, Give, Goes, give}
@@ -16,24 +15,9 @@ use Rattle.awk_asks.specs.declared.halt.Halt.{Halt}
 use Rattle.awk_tasks.specs.Acts.{Acts, Passes}
 use Rattle.awk_tasks.specs.Wholes.{Whole, base}
 use Rattle.awk_tasks.proofs.Acting.{at_rest, moves, doing, done, reworded, stop}
-use Rattle.awk_records.specs.Gots.{Counts, IsGot, is_record, names_of}
+use Rattle.awk_records.specs.Gots.{Counts, IsGot, is_record}
 
 -- ---- counters
-
--- the names from a place on
-pub names_at : (xs : List Own) (i : ℕ) (x : Own) → slice_get xs i ≡ Some x → names_of (drop i xs) ≡ name_of x ∷ names_of (drop (i + 1) xs)
-names_at xs i x h = let n : i + 1 ≡ suc i = omega arith in rw n (by xs i h)
-  where
-    by : (ys : List Own) (j : ℕ) → slice_get ys j ≡ Some x → names_of (drop j ys) ≡ name_of x ∷ names_of (drop (suc j) ys)
-    by [] j h = absurd (cc)
-    by (y ∷ ys) 0 h = let q : y ≡ x = cc in rw q refl
-    by (y ∷ ys) (suc j) h = by ys j h
-
-pub names_past : (xs : List Own) (i : ℕ) → i ≡ length xs → names_of (drop i xs) ≡ []
-names_past [] 0 h = refl
-names_past [] (suc i) h = refl
-names_past (x ∷ xs) 0 h = absurd (omega arith)
-names_past (x ∷ xs) (suc i) h = names_past xs i (omega arith)
 
 module _ (g : Given) (p : Piece) (old mid new : Whole) (place : Place) (to : List Piece → List Piece) (name : Text) (names : List Text) (h : Passes g p old (λ k. counting place (name ∷ names) (to k)) mid) where
   pub counts_next : (r : Result (Unit {0}) Halt) → Acts g (Do (Count place name)) goes_on mid r new → r ≡ Ok (tt {0}) → Passes g p old (λ k. counting place names (to k)) new
@@ -41,6 +25,11 @@ module _ (g : Given) (p : Piece) (old mid new : Whole) (place : Place) (to : Lis
 
   pub counts_not : (r : Result (Unit {0}) Halt) (e : Halt) → Acts g (Do (Count place name)) goes_on mid r new → r ≡ Err e → Acts g p (goes_on {A = Unit {0}}) old (Err e) new
   counts_not r e task is = stop e h task is
+
+pub counts_last : (g : Given) (p : Piece) (old mid new : Whole) (place : Place) (to : List Piece → List Piece) (name : Text) → Passes g p old (λ k. counting place (name ∷ []) (to k)) mid →
+    (r : Result (Unit {0}) Halt) → Acts g (Do (Count place name)) goes_on mid r new → Counts g p old to r new
+counts_last g p old mid new place to name h (Ok tt) task = doing tt h task refl
+counts_last g p old mid new place to name h (Err e) task = stop e h task refl
 
 -- ---- the record
 

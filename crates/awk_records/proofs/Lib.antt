@@ -1,1 +1,2 @@
 pub mod GotSteps
+pub mod ReadSteps

@@ -20,15 +20,32 @@ use awk_text::place::Place;
 use awk_text::value::Value;
 use std::alloc::Global;
 
-/// Adds 1 to each of these variables, in their order.
-pub fn count_all(store: &mut Store, place: Place, counters: &[Own]) -> Result<(), Halt>
-    ensures { (g : Given) (t : Table) (p : Piece) (old : Whole) (to : List Piece → List Piece) → Passes g p old (λ k. counting place (names_of counters.now) (to k)) (store.old, t)
+/// Which of awk's variables count a record: those of the main input, of a command, or none.
+#[derive(Clone, Copy, Debug, PartialEq, Eq, Drop)]
+pub enum Counted {
+    Nothing,
+    Nr,
+    NrAndFnr,
+}
+
+fn count_both(store: &mut Store, place: Place) -> Result<(), Halt>
+    ensures { (g : Given) (t : Table) (p : Piece) (old : Whole) (to : List Piece → List Piece) → Passes g p old (λ k. counting place (names_of spec.both) (to k)) (store.old, t)
         → Counts g p old to result (store.new, t) }
 {
-    for counter in counters {
-        count(store, place, *counter)?;
+    count(store, place, Own::Nr)?;
+    count(store, place, Own::Fnr)
+}
+
+/// Adds 1 to each of these variables, NR first.
+pub fn count_all(store: &mut Store, place: Place, counters: Counted) -> Result<(), Halt>
+    ensures { (g : Given) (t : Table) (p : Piece) (old : Whole) (to : List Piece → List Piece) → Passes g p old (λ k. counting place (names_of counters) (to k)) (store.old, t)
+        → Counts g p old to result (store.new, t) }
+{
+    match counters {
+        Counted::Nothing => Ok(()),
+        Counted::Nr => count(store, place, Own::Nr),
+        Counted::NrAndFnr => count_both(store, place),
     }
-    Ok(())
 }
 
 fn is_record(value: &Value) -> bool
@@ -44,16 +61,16 @@ pub fn set_record(
     store: &mut Store,
     place: Place,
     target: Spot,
-    counters: &[Own],
-    record: Value,
+    counters: Counted,
+    answer: Value,
 ) -> Result<Value, Halt>
-    ensures { (g : Given) (t : Table) (p : Piece) (to : List Piece → List Piece) → IsGot g p place (meant (names_in g) target) (names_of counters.now) record to
+    ensures { (g : Given) (t : Table) (p : Piece) (to : List Piece → List Piece) → IsGot g p place (meant (names_in g) target) (names_of counters) answer to
         → Acts g p (λ v k. give v (to k)) (store.old, t) result (store.new, t) }
 {
-    if !is_record(&record) {
-        return Ok(record);
+    if !is_record(&answer) {
+        return Ok(answer);
     }
-    set(alloc, store, target, place, record)?;
+    set(alloc, store, target, place, answer)?;
     count_all(store, place, counters)?;
     Ok(Value::Num(1))
 }

@@ -12,7 +12,7 @@ ghost use Rattle.awk_tasks.specs.Spots.{IsSpotOf, value_of};
 ghost use Rattle.awk_tasks.specs.Wholes.{names_in};
 ghost use Rattle.awk_records.specs.Performs.{Performs};
 
-use crate::counted::set_record;
+use crate::counted::{Counted, set_record};
 use awk_asks::getline::fetch;
 use awk_asks::halt::Halt;
 use awk_asks::inputs::Source;
@@ -31,7 +31,7 @@ use std::alloc::Global;
 fn file_source(text: Octets) -> Source
     ensures { (place : Place) (k : List Piece) → machine.fetch_file place text k ≡ Do (fetching place (key_of result)) ∷ k }
 {
-    if text.bytes() == b"-" {
+    if text.bytes() == b"-".as_slice() {
         return Source::Standard;
     }
     Source::Stream(Name {
@@ -74,8 +74,8 @@ pub fn getline_file<W: World>(
     ensures owns { Owns (W.open_numbers world.new) streams.new }
 {
     let source = file_source(file);
-    let record = fetch_record(alloc, place, &source, store, streams, world)?;
-    set_record(alloc, store, place, target, &[], record)
+    let answer = fetch_record(alloc, place, &source, store, streams, world)?;
+    set_record(alloc, store, place, target, Counted::Nothing, answer)
 }
 
 /// `command | getline target`, once the command and what is set are known.
@@ -97,6 +97,6 @@ pub fn getline_pipe<W: World>(
         class: Class::InputCommand,
         text: command.into_bytes(),
     });
-    let record = fetch_record(alloc, place, &source, store, streams, world)?;
-    set_record(alloc, store, place, target, &[Own::Nr], record)
+    let answer = fetch_record(alloc, place, &source, store, streams, world)?;
+    set_record(alloc, store, place, target, Counted::Nr, answer)
 }
