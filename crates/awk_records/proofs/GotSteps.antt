@@ -66,3 +66,7 @@ gives_one g p to old new h = done (moves h (λ k hid c a. refl))
 -- what is halted is halted whatever was to come
 pub halts_as : {A B : Type 0} {last : B → List Piece → List Piece} {on : A → List Piece → List Piece} (g : Given) (p : Piece) (old new : Whole) (h : Halt) → Acts g p on old (Err h) new → Acts g p last old (Err h) new
 halts_as g p old new h x = record { same = x.same; settles = λ k hid c a. x.settles k hid c a }
+
+pub counts_so : (g : Given) (p : Piece) (old new : Whole) (to : Unit {0} → List Piece → List Piece) (r : Result (Unit {0}) Halt) → Counts g p old (to (tt {0})) r new → Acts g p to old r new
+counts_so g p old new to (Ok tt) h = done h
+counts_so g p old new to (Err e) h = halts_as g p old new e h

@@ -1,2 +1,4 @@
 pub mod GotSteps
 pub mod ReadSteps
+pub mod MainSteps
+pub mod RangeSteps

@@ -5,3 +5,7 @@
 
 pub mod counted;
 pub mod getline;
+pub mod main_input;
+mod progress;
+pub mod ranges;
+mod reports;
