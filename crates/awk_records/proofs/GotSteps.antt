@@ -14,7 +14,7 @@ use Rattle.awk_asks.specs.Tasks.{goes_on}
 use Rattle.awk_asks.specs.declared.halt.Halt.{Halt}
 use Rattle.awk_tasks.specs.Acts.{Acts, Passes}
 use Rattle.awk_tasks.specs.Wholes.{Whole, base}
-use Rattle.awk_tasks.proofs.Acting.{at_rest, moves, doing, done, reworded, stop}
+use Rattle.awk_tasks.proofs.Acting.{at_rest, moves, doing, done, stop}
 use Rattle.awk_records.specs.Gots.{Counts, IsGot, is_record}
 
 -- ---- counters

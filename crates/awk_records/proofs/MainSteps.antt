@@ -1,11 +1,10 @@
 -- How the machine goes on with the main input.
 use Rattle.std.proofs.Common.{◌≡◌, inr, refl, sym, ap, subst, ◌∙◌, ℕ, ℤ, Bool, true, false, List, [], ◌∷◌}
-use Rattle.std.specs.Prelude.{Result, Ok, Err, Some, None, not, pos, int_lt, if◌then◌else◌, codes}
+use Rattle.std.specs.Prelude.{Result, Ok, Err, Some, None, not, pos, int_lt, if◌then◌else◌}
 use Rattle.awk_text.specs.declared.fault.Fault.{Fault}
 use Rattle.awk_text.specs.declared.value.Value.{Value}
 use Rattle.awk_text.specs.declared.value.Value.TheVariants as v
 use Rattle.awk_text.specs.Values.{number_of}
-use Rattle.awk_fields.specs.Heads.{Head}
 use Rattle.box_world.specs.Calls.{Call, open_after}
 use Rattle.box_world.specs.declared.ask.Ask.{Ask}
 use Rattle.box_world.specs.declared.ask.Reply.{Reply}
@@ -27,8 +26,6 @@ use Rattle.awk_store.specs.Kept as kept
 use Rattle.awk_store.specs.Kept.{Kept}
 use Rattle.awk_store.specs.States.{Hidden}
 use Rattle.awk_store.proofs.Reading as law
-use Rattle.awk_asks.specs.declared.getline.Found.{Found}
-use Rattle.awk_asks.specs.declared.getline.Found.TheVariants as found
 use Rattle.awk_asks.specs.declared.halt.Halt.{Halt}
 use Rattle.awk_asks.specs.Chains.{Led, Ended, Leads, Meets}
 use Rattle.awk_asks.specs.Readings.{IsReading}

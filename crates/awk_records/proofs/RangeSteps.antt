@@ -7,10 +7,10 @@ use Rattle.awk_program.specs.Program as p
 use Rattle.awk_program.specs.Program.{Expression, Rule, When}
 use Rattle.awk_machine.specs.Advances.{advance, held}
 use Rattle.awk_machine.specs.Forms.{unary, value}
-use Rattle.awk_machine.specs.Pieces.{Piece, At, Choosing, Goes, Next}
+use Rattle.awk_machine.specs.Pieces.{Piece, At, Choosing, Goes}
 use Rattle.awk_machine.specs.Rules as machine
 use Rattle.awk_machine.specs.Rules.{action, choose_by}
-use Rattle.awk_machine.specs.State.{State, Course, Given}
+use Rattle.awk_machine.specs.State.{Course, Given}
 use Rattle.awk_machine.specs.Streams.{seen}
 use Rattle.awk_store.specs.Changes.{with_on}
 use Rattle.awk_store.specs.Kept.{Kept}
