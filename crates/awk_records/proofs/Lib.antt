@@ -2,3 +2,4 @@ pub mod GotSteps
 pub mod ReadSteps
 pub mod MainSteps
 pub mod RangeSteps
+pub mod OutputSteps

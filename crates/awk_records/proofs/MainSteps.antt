@@ -27,19 +27,21 @@ use Rattle.awk_store.specs.Kept.{Kept}
 use Rattle.awk_store.specs.States.{Hidden}
 use Rattle.awk_store.proofs.Reading as law
 use Rattle.awk_asks.specs.declared.halt.Halt.{Halt}
-use Rattle.awk_asks.specs.Chains.{Led, Ended, Leads, Meets}
+use Rattle.awk_asks.specs.declared.halt.Halt.TheVariants as halt
+use Rattle.awk_asks.specs.Chains.{Led, Ended, Halted, Leads, Meets}
 use Rattle.awk_asks.specs.Readings.{IsReading}
 use Rattle.awk_asks.specs.Tables.{Table}
 use Rattle.awk_asks.specs.Tasks.{Answered, Refused, goes_on}
 use Rattle.awk_asks.proofs.Asking.{fits_here, tells_written}
-use Rattle.awk_asks.proofs.Chain.{Laws, asked, at_once, done as finished, quiet, unanswered}
-use Rattle.awk_tasks.specs.Acts.{Acts, Passes, halt_at, result_at}
+use Rattle.awk_asks.proofs.Chain.{Laws, asked, at_once, done as finished, halted-after, quiet, unanswered}
+use Rattle.awk_tasks.specs.Acts.{Acts, HaltsSo, Passes, halt_at, result_at}
 use Rattle.awk_tasks.specs.Spots.{IsSpotOf, meant, value_of}
 use Rattle.awk_tasks.specs.Wholes.{Whole, Agreeing, base, names_in, used}
 use Rattle.awk_tasks.specs.declared.spot.Spot.{Spot}
-use Rattle.awk_tasks.proofs.Acting.{at_rest, moves, alters, done, faulted}
+use Rattle.awk_tasks.proofs.Acting.{acted, at_rest, moves, alters, done, faulted}
 use Rattle.awk_records.specs.Gots.{IsGot}
-use Rattle.awk_records.specs.Inputs.{after_operands, found_main, message, past_standard, taken}
+use Rattle.awk_records.specs.Performs.{LeadsOn, Performs, PerformsIn}
+use Rattle.awk_records.specs.Inputs.{after_operands, found_main, meeting, message, past_standard, taken}
 
 -- ---- how far the main input is read
 
@@ -177,3 +179,53 @@ module _ (g : Given) (r : p.Reference) (spot : Spot) (place : _) where
 pub record_first : (g : Given) (text : Text) (vs : List Value) (old : Whole) →
     Passes g (At Records (v.Input text ∷ vs)) old (λ k. Do (Set (machine.Field 0) nowhere (v.Input text)) ∷ counting nowhere main_counters (Do Step ∷ Do (machine.Rules 0 g.program.rules) ∷ At Records [] ∷ k)) old
 record_first g text vs old = moves (at_rest _ old) (λ k hid c a. refl)
+
+pub records_first : {W : Type 0} {F : W → List Call → W → Type 0} {E : W → List Call → Ask → W → Type 0} (g : Given) (old : Whole) (w : W) → Leads F E (base g) (Agreeing g) used g (At Records []) old w (λ k. Do Take ∷ At Records [] ∷ k) old w
+records_first g old w = quiet (at_once _ old w) (λ k hid c. refl)
+
+-- where no record is left, the rules are done with
+pub no_record : (g : Given) (x : Value) (vs : List Value) (old : Whole) → ((text : Text) → x ≡ v.Input text → ⊥) → Passes g (At Records (x ∷ vs)) old (λ k. k) old
+no_record g (v.Input text) vs old f = absurd (f text refl)
+no_record g v.Unset vs old f = moves (at_rest _ old) (λ k hid c a. refl)
+no_record g (v.Num n) vs old f = moves (at_rest _ old) (λ k hid c a. refl)
+no_record g (v.Text text) vs old f = moves (at_rest _ old) (λ k hid c a. refl)
+
+pub no_record_meets : {W : Type 0} {F : W → List Call → W → Type 0} {E : W → List Call → Ask → W → Type 0} (g : Given) (x : Value) (old : Whole) (w : W) → ((text : Text) → x ≡ v.Input text → ⊥) →
+    Meets F E (base g) (Agreeing g) used g (At Records (x ∷ [])) (meeting g) old w (Ok false) old w
+no_record_meets g x old w f = acted (done (no_record g x [] old f))
+
+-- ---- in the midst of records
+
+-- a task of the store halts wherever it stands
+anywhere : {W : Type 0} (F : W → List Call → W → Type 0) (E : W → List Call → Ask → W → Type 0) (g : Given) (mid new : Whole) (w : W) (h : Halt) (first : W) (from k l : List Piece) (s : State) (c d : Course) (here : Hidden) →
+    HaltsSo g from mid here d new h → Halted F E (base g) (Agreeing g) used g first from s c k new w h → Halted F E (base g) (Agreeing g) used g first from s c l new w h
+anywhere F E g mid new w (halt.Fault fault place) first from k l s c d here x y = y
+anywhere F E g mid new w halt.Cut first from k l s c d here x y = y
+anywhere F E g mid new w halt.Next first from k l s c d here x y = absurd x
+anywhere F E g mid new w halt.Exit first from k l s c d here x y = y
+anywhere F E g mid new w halt.Memory first from k l s c d here x y = y
+anywhere F E g mid new w (halt.Log place) first from k l s c d here x y = y
+
+module _ {W : Type 0} {follows : W → List Call → W → Type 0} {has_stopped : W → Bool} {stops : W → List Call → Ask → W → Type 0} {g : Given} {p : Piece} {rest : List Piece → List Piece} {old new : Whole} {w w' : W} where
+  pub done_in : {A : Type 0} {to : A → List Piece → List Piece} {x : A} → LeadsOn follows has_stopped stops g p old w (λ k. to x k) new w' → PerformsIn follows has_stopped stops g p to rest old w (Ok x) new w'
+  done_in h = record { plays = λ first k hid c a. h.plays first k hid c a }
+
+  module _ {mid : Whole} where
+    pub stop_in : {A B : Type 0} {to : A → List Piece → List Piece} {on : B → List Piece → List Piece} {q : Piece} {r : Result B Halt} {w'' : W} (x : Halt) →
+        LeadsOn follows has_stopped stops g p old w (λ k. q ∷ rest k) mid w' → Performs follows has_stopped stops g q on mid w' r new w'' → r ≡ Err x → PerformsIn follows has_stopped stops g p to rest old w (Err x) new w''
+    stop_in {q = q} {w'' = w''} x h m e = record {
+      plays = λ first k hid c a. let y = h.plays first k hid c a in
+          let z : Halted (Led follows has_stopped) (Ended follows stops) (base g) (Agreeing g) used g first (q ∷ rest k) (seen (base g mid y.hidden) y.course) y.course (rest k) new w'' x = rw e at (m.plays first (rest k) y.hidden y.course y.knows) in
+          halted-after (Led follows has_stopped) (Ended follows stops) (base g) (Agreeing g) used g x first (p ∷ k) (q ∷ rest k) (rest k) (rest k) (seen (base g old hid) c) (seen (base g mid y.hidden) y.course) c y.course new w'' y.chain refl z;
+    }
+
+    pub stop_acts : {A B : Type 0} {to : A → List Piece → List Piece} {on : B → List Piece → List Piece} {q : Piece} {r : Result B Halt} (x : Halt) →
+        LeadsOn follows has_stopped stops g p old w (λ k. q ∷ k) mid w' → Acts g q on mid r new → r ≡ Err x → PerformsIn follows has_stopped stops g p to rest old w (Err x) new w'
+    stop_acts {on = on} {q = q} {r = r} x h m e = record {
+      plays = λ first k hid c a. let y = h.plays first k hid c a in
+          let u : HaltsSo g (q ∷ k) mid y.hidden y.course new x = rw e at (m.settles k y.hidden y.course y.knows.agrees) in
+          let t : Performs follows has_stopped stops g q on mid w' r new w' = acted m in
+          let z : Halted (Led follows has_stopped) (Ended follows stops) (base g) (Agreeing g) used g first (q ∷ k) (seen (base g mid y.hidden) y.course) y.course k new w' x = rw e at (t.plays first k y.hidden y.course y.knows) in
+          let v = anywhere (Led follows has_stopped) (Ended follows stops) g mid new w' x first (q ∷ k) k (rest k) (seen (base g mid y.hidden) y.course) y.course y.course y.hidden u z in
+          halted-after (Led follows has_stopped) (Ended follows stops) (base g) (Agreeing g) used g x first (p ∷ k) (q ∷ k) (rest k) (rest k) (seen (base g old hid) c) (seen (base g mid y.hidden) y.course) c y.course new w' y.chain refl v;
+    }

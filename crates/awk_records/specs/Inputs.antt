@@ -49,6 +49,14 @@ taken None k = Do Take ∷ k
 abbrev pub counted_on : Given → Unit {0} → List Piece → List Piece
 counted_on g u k = Do Step ∷ Do (Rules 0 g.program.rules) ∷ At Records [] ∷ k
 
+-- where there was a record; and else what is behind the main input
+abbrev pub meeting : Given → Bool → List Piece → List Piece
+meeting g true k = counted_on g (tt {0}) k
+meeting g false k = k
+
+abbrev pub at_records : List Piece → List Piece
+at_records k = At Records [] ∷ k
+
 -- behind whatever was done the machine leads on, or the whole is halted
 abbrev pub Onward : {W : Type 0} → (W → List Call → W → Type 0) → (W → Bool) → (W → List Call → Ask → W → Type 0) → Given → Piece → Whole → W → (List Piece → List Piece) → Result (Unit {0}) Halt → Whole → W → Type 0
 Onward follows has_stopped stops g p old w to (Ok u) new w' = LeadsOn follows has_stopped stops g p old w to new w'

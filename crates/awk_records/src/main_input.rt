@@ -15,8 +15,8 @@ ghost use Rattle.awk_asks.specs.Tasks.{Owns, goes_on};
 ghost use Rattle.awk_tasks.specs.Acts.{Acts};
 ghost use Rattle.awk_tasks.specs.Spots.{IsSpotOf, value_of};
 ghost use Rattle.awk_tasks.specs.Wholes.{Whole, names_in};
-ghost use Rattle.awk_records.specs.Inputs.{Onward, counted_on, found_main, taken};
-ghost use Rattle.awk_records.specs.Performs.{LeadsOn, Performs};
+ghost use Rattle.awk_records.specs.Inputs.{Onward, at_records, counted_on, found_main, meeting, taken};
+ghost use Rattle.awk_records.specs.Performs.{LeadsOn, Performs, PerformsIn};
 
 use crate::counted::{Counted, count_both, set_record};
 use crate::progress::{is_nothing, is_standard, pass_operands, pass_standard};
@@ -202,4 +202,25 @@ pub fn begin_record(alloc: Global, store: &mut Store, text: Octets) -> Result<()
     let place = Place { line: 0, column: 0 };
     set_field(alloc, store, 0, place, Value::Input(text))?;
     count_both(store, place)
+}
+
+/// The next record of the main input is set and counted, for the rules to meet it; answers whether
+/// there was one.
+pub fn next_record<W: World>(
+    alloc: Global,
+    store: &mut Store,
+    streams: &mut Streams,
+    world: &mut W,
+) -> Result<bool, Halt>
+    requires { Owns (W.open_numbers world.old) streams.old }
+    ensures task { (g : Given) → PerformsIn W.follows W.has_stopped W.stops g (At Records []) (meeting g) at_records (store.old, streams.old) world.old result (store.new, streams.new) world.new }
+    ensures owns { Owns (W.open_numbers world.new) streams.new }
+{
+    match take(alloc, store, streams, world)? {
+        Value::Input(text) => {
+            begin_record(alloc, store, text)?;
+            Ok(true)
+        }
+        _ => Ok(false),
+    }
 }
