@@ -76,7 +76,7 @@ put_asks g s place (Standard n) text k number table taken c is a = refl
 put_asks g s place (Named d t) text k number table taken c is a = rw (found_in d t number table c.events a.streams is) refl
 
 -- what is written changes no stream
-tells_written : (table : Table) (taken : Key → ℕ) (c : Course) (place : Place) (key : Key) (text : Text) (r : Reply) → Tells table taken c → Tells table taken (with_event (want place (Writes key text)) r c)
+pub tells_written : (table : Table) (taken : Key → ℕ) (c : Course) (place : Place) (key : Key) (text : Text) (r : Reply) → Tells table taken c → Tells table taken (with_event (want place (Writes key text)) r c)
 tells_written table taken c place key text r a = record {
   streams = a.streams;
   distinct = a.distinct;

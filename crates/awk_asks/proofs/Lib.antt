@@ -8,3 +8,9 @@ mod Shut
 pub mod Lifting
 pub mod Reading
 pub mod Records
+pub mod Firsts
+pub mod Lives
+pub mod MoreSteps
+mod Closes
+mod Held
+mod Scans

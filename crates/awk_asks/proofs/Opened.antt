@@ -28,7 +28,7 @@ bool_same false false f h = refl
 pub number_is : (m n : ℕ) → nat_eq m n ≡ true → m ≡ n
 number_is m n e = grind arith
 
-number_eq : (m n : ℕ) → m ≡ n → nat_eq m n ≡ true
+pub number_eq : (m n : ℕ) → m ≡ n → nat_eq m n ≡ true
 number_eq m n e = grind (arith, nat_tests)
 
 number_sym : (m n : ℕ) → nat_eq m n ≡ nat_eq n m
@@ -52,7 +52,7 @@ module _ (d : Class) (t : Text) where
   no_by true s input ss es rest e = absurd (cc)
   no_by false s input ss es rest e = rest e
 
-  no_input : (es : List Entry) → find_stream d t (map (λ e. e.stream) es) ≡ None → find_input d t es ≡ None
+  pub no_input : (es : List Entry) → find_stream d t (map (λ e. e.stream) es) ≡ None → find_input d t es ≡ None
   no_input [] h = refl
   no_input (e ∷ es) h = no_by (is_named d t e.stream) e.stream e.input (map (λ e. e.stream) es) es (no_input es) h
 
@@ -113,7 +113,7 @@ fresh c text taken other = if same_key (Named c text) other then 0 else taken ot
 abbrev pub opening : Place → Bool → Mode → Class → Text → Want
 opening place given mode c text = record { place = place; given = given; wish = Opens mode c text }
 
-input_same : (key : Key) (old new : Table) → IsSame old new → input_at key new ≡ input_at key old
+pub input_same : (key : Key) (old new : Table) → IsSame old new → input_at key new ≡ input_at key old
 input_same (Standard n) old new i = ap (λ x. if n == 0 then Some x else None) i.input
 input_same (Named c text) old new i = ap (find_input c text) i.entries
 

@@ -31,7 +31,7 @@ class_back InputCommand = refl
 class_back OutputFile = refl
 class_back OutputCommand = refl
 
-class_is : (c d : Class) → class_number c ≡ class_number d → c ≡ d
+pub class_is : (c d : Class) → class_number c ≡ class_number d → c ≡ d
 class_is c d e = sym (class_back c) ∙ ap class_at e ∙ class_back d
 
 pub key_is : (a b : Key) → same_key a b ≡ true → a ≡ b
@@ -145,7 +145,7 @@ drop_nil : (n : ℕ) → drop {A = ℕ} n [] ≡ []
 drop_nil zero = refl
 drop_nil (suc n) = refl
 
-drop_drop : (m t : ℕ) (xs : List ℕ) → drop m (drop t xs) ≡ drop (t + m) xs
+pub drop_drop : (m t : ℕ) (xs : List ℕ) → drop m (drop t xs) ≡ drop (t + m) xs
 drop_drop m zero xs = let e : 0 + m ≡ m = omega arith in rw e refl
 drop_drop m (suc t) [] = drop_nil m ∙ sym (drop_nil (suc t + m))
 drop_drop m (suc t) (x ∷ xs) = let e : suc t + m ≡ suc (t + m) = omega arith in rw e (drop_drop m t xs)

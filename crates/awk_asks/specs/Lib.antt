@@ -1,3 +1,5 @@
 pub mod Chains
+pub mod Closings
+pub mod Readings
 pub mod Tables
 pub mod Tasks

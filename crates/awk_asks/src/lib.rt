@@ -3,7 +3,9 @@
 #![tactic(auto)]
 
 pub mod closing;
+pub mod getline;
 pub mod halt;
+pub mod inputs;
 pub mod opening;
 pub mod requests;
 pub mod streams;

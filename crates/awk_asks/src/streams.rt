@@ -1,8 +1,10 @@
 // The streams that a run has open.
 ghost use Rattle.std.specs.Prelude.{◌≡◌, ◌<◌, [], ◌∷◌, ◌++◌, true, false, None, Some, OnOk, OnErr, IfOk, IfErr, IsOkUnless, ◌⊎◌, drop, slice_get, option_map};
 ghost use Rattle.awk_fields.specs.Heads.{head, too_long};
-ghost use Rattle.awk_fields.specs.Takes.{Input};
+ghost use Rattle.awk_fields.specs.Takes.{Input, Takes};
+ghost use Rattle.awk_machine.specs.Closing as spec;
 ghost use Rattle.box_world.specs.Events.{find_stream};
+ghost use Rattle.awk_asks.specs.Closings.{first_of};
 ghost use Rattle.awk_asks.specs.Tables.{kind, open_of, entries_without, find_input, with_input, TakesOf};
 
 use awk_fields::reader::{Reader, Taken};
@@ -51,6 +53,13 @@ impl Model for Streams {
     ghost Value = { Table };
 
     ghost view = { λ s. record { entries = map entry_of s.table.entries; input = s.input; room = spare s.table } };
+}
+
+/// Whether `close` shuts the streams of this sort.
+fn is_closed(class: Class) -> bool
+    ensures { result ≡ spec.is_closed (kind class) }
+{
+    class != Class::OperandFile
 }
 
 impl Streams {
@@ -116,6 +125,21 @@ impl Streams {
         }
     }
 
+    /// The class and the number of the stream of this text that was opened first, an operand's aside.
+    /// Takes no memory.
+    pub fn first_of(&self, text: &[u8]) -> Option<(Class, u32)>
+        ensures { option_map (λ x. (kind x.0, x.1)) result ≡ first_of text.now self.now.entries }
+    {
+        for i in 0..self.table.len() {
+            if let Some((name, open)) = self.table.get_index(i) {
+                if is_closed(name.class) && text == name.text.as_slice() {
+                    return Some((name.class, open.number));
+                }
+            }
+        }
+        None
+    }
+
     /// Takes the stream away that was opened first. Takes no memory.
     pub fn remove_first(&mut self)
         ensures entries { self.new.entries ≡ drop 1 self.old.entries }
@@ -161,5 +185,44 @@ impl Streams {
         if let Some(open) = self.table.get_mut(name) {
             open.reader.finish();
         }
+    }
+
+    /// Adds the next bytes of the standard input, which has not ended. `Memory` changes nothing.
+    pub fn push_standard(&mut self, bytes: &[u8]) -> Result<(), Fault>
+        requires { self.old.input.ended ≡ false }
+        ensures ok { OnOk result (self.new.input ≡ record { unread = self.old.input.unread ++ bytes.now; ended = false }) }
+        ensures err { OnErr result (self.new.input ≡ self.old.input) }
+        ensures memory { IsOkUnless result Fault.Memory }
+        ensures entries { self.new.entries ≡ self.old.entries }
+    {
+        self.input.push(bytes)
+    }
+
+    /// The first record of what is held unread of the standard input, which is taken; see
+    /// `Reader::take`. Where it fails, nothing was taken.
+    pub fn take_standard(&mut self, rs: &[u8]) -> Result<Taken, Fault>
+        ensures ok { IfOk result (λ taken. Takes (head rs.now self.old.input.unread self.old.input.ended) taken self.old.input self.new.input) }
+        ensures err { OnErr result (self.new.input ≡ self.old.input) }
+        ensures fault { IfErr result (λ e. (e ≡ Fault.Memory)
+            ⊎ ((e ≡ Fault.TextTooLong) × (head rs.now self.old.input.unread self.old.input.ended ≡ too_long))) }
+        ensures entries { self.new.entries ≡ self.old.entries }
+    {
+        self.input.take(rs)
+    }
+
+    /// Says that the standard input has ended. Takes no memory.
+    pub fn finish_standard(&mut self)
+        ensures input { self.new.input ≡ record { unread = self.old.input.unread; ended = true } }
+        ensures entries { self.new.entries ≡ self.old.entries }
+    {
+        self.input.finish();
+    }
+
+    /// Drops what is held unread of the standard input, whose end has not come. Takes no memory.
+    pub fn forget_standard(&mut self)
+        ensures input { self.new.input ≡ record { unread = []; ended = false } }
+        ensures entries { self.new.entries ≡ self.old.entries }
+    {
+        self.input = Reader::new(*self.table.allocator());
     }
 }

@@ -6,6 +6,11 @@ use Rattle.box_world.specs.Calls.{Call}
 use Rattle.box_world.specs.declared.ask.Ask.{Ask}
 use Rattle.awk_machine.specs.Pieces.{Piece}
 use Rattle.awk_machine.specs.State.{State, Course, Given}
+use Rattle.awk_program.specs.Slots.{name_of}
+use Rattle.awk_program.specs.declared.variables.Own.{Own}
+use Rattle.awk_machine.specs.Variables.{own_text}
+use Rattle.awk_store.proofs.Reading as law
+use Rattle.awk_store.specs.Kept as kept
 use Rattle.awk_store.specs.Kept.{Kept}
 use Rattle.awk_store.specs.States.{Sound, state}
 use Rattle.awk_asks.specs.declared.halt.Halt.{Halt}
@@ -16,7 +21,7 @@ use Rattle.awk_asks.specs.Tasks.{Does, Tells, beside}
 use Rattle.awk_tasks.specs.Wholes.{Agreeing, base, names_in, used}
 
 -- what the store alone stands for, with this record, and with the steps that it has
-abbrev apart : Given → Kept → Row → State
+abbrev pub apart : Given → Kept → Row → State
 apart g k row = record (state (names_in g) k (record { taken = λ key. 0; row = row })) { course = record { events = []; used = k.used } }
 
 module _ {W : Type 0} (F : W → List Call → W → Type 0) (E : W → List Call → Ask → W → Type 0) (g : Given) (k : Kept) (row : Row) (kept : IsKept row k.row) (cells : length k.cells ≡ length (names_in g)) (sound : Sound (names_in g)) where
@@ -53,12 +58,23 @@ module _ {W : Type 0} (F : W → List Call → W → Type 0) (E : W → List Cal
   lift_result (Ok x) on first w from to s c t p = lift_comes first w from (on x to) s c t p
   lift_result (Err h) on first w from to s c t p = lift_halted h first w from to s c t p
 
--- A task of the streams is one of the whole.
+-- A task of the streams is one of the whole: where it owes something of what the store alone stands for, and so of all states.
+pub lifted_at : {W A : Type 0} {follows : W → List Call → W → Type 0} {has_stopped : W → Bool} {stops : W → List Call → Ask → W → Type 0} (g : Given) (k : Kept)
+    {p : Piece} {to : A → List Piece → List Piece} {old new : Table} {w w' : W} {result : Result A Halt} →
+    ((row : Row) → length k.cells ≡ length (names_in g) → Sound (names_in g) → Does follows has_stopped stops g (apart g k row) p to old w result new w') →
+    Meets (Led follows has_stopped) (Ended follows stops) (base g) (Agreeing g) used g p to (k, old) w result (k, new) w'
+lifted_at {follows = follows} {has_stopped = has_stopped} {stops = stops} g k {p = p} {to = to} {old = old} {new = new} {w' = w'} {result = result} h = record {
+  plays = λ first rest hid c a.
+      lift_result (Led follows has_stopped) (Ended follows stops) g k hid.row a.agrees.row a.agrees.cells a.agrees.sound result to first w' (p ∷ rest) rest _ c new
+      ((h hid.row a.agrees.cells a.agrees.sound).plays first rest hid.taken c (record { leads = a.leads; agrees = a.agrees.tells; spent = a.spent }));
+}
+
 pub lifted : {W A : Type 0} {follows : W → List Call → W → Type 0} {has_stopped : W → Bool} {stops : W → List Call → Ask → W → Type 0} (g : Given) (k : Kept)
     {p : Piece} {to : A → List Piece → List Piece} {old new : Table} {w w' : W} {result : Result A Halt} → ((s : State) → Does follows has_stopped stops g s p to old w result new w') →
     Meets (Led follows has_stopped) (Ended follows stops) (base g) (Agreeing g) used g p to (k, old) w result (k, new) w'
-lifted {follows = follows} {has_stopped = has_stopped} {stops = stops} g k {p = p} {to = to} {old = old} {new = new} {w' = w'} {result = result} h = record {
-  plays = λ first rest hid c a.
-      lift_result (Led follows has_stopped) (Ended follows stops) g k hid.row a.agrees.row a.agrees.cells a.agrees.sound result to first w' (p ∷ rest) rest _ c new
-      ((h (apart g k hid.row)).plays first rest hid.taken c (record { leads = a.leads; agrees = a.agrees.tells; spent = a.spent }));
-}
+lifted g k h = lifted_at g k (λ row cells sound. h (apart g k row))
+
+-- ---- what a task of the streams reads of the store
+
+pub apart-text : (g : Given) (k : Kept) (row : Row) → length k.cells ≡ length (names_in g) → Sound (names_in g) → (x : Own) → own_text (apart g k row) (name_of x) ≡ kept.own_text k x
+apart-text g k row cells sound x = law.text (names_in g) k (record { taken = λ key. 0; row = row }) sound cells x

@@ -1,0 +1,247 @@
+// A record of a stream is read.
+ghost use Rattle.std.specs.Prelude.{◌≡◌, codes, List, false, true, IfOk, IfErr, OnOk, OnErr};
+ghost use Rattle.awk_fields.specs.Heads.{head};
+ghost use Rattle.awk_machine.specs.Pieces as machine;
+ghost use Rattle.awk_machine.specs.Pieces.{Do, Piece, give};
+ghost use Rattle.awk_machine.specs.State.{Given, State};
+ghost use Rattle.awk_machine.specs.Variables.{own_text};
+ghost use Rattle.box_world.specs.Events.{Named};
+ghost use Rattle.awk_asks.specs.Readings as spec;
+ghost use Rattle.awk_asks.specs.Readings.{FailsFirst, FailsOpen, FirstIs, GoesOn, HasCome, Holds, IsLive, IsReading, Received, Waits, fetching, further, key_of, read_further};
+ghost use Rattle.awk_asks.specs.Tables.{kind};
+ghost use Rattle.awk_asks.specs.Tasks.{Does, IsSame, Owns};
+
+use crate::halt::Halt;
+use crate::inputs::{Source, finish, number, push, take};
+use crate::opening::open_input;
+use crate::requests::request;
+use crate::streams::{Name, Streams};
+use awk_fields::reader::Taken;
+use awk_text::Memory;
+use awk_text::fault::Fault;
+use awk_text::octets::Octets;
+use awk_text::place::Place;
+use awk_text::value::Value;
+use box_world::ask::{Reply, Request};
+use box_world::world::World;
+use std::alloc::{AllocError, Global};
+
+/// What a reading answers.
+#[derive(Drop)]
+pub enum Found {
+    Record(Octets),
+    /// The stream has ended, and no record is left.
+    End,
+    /// The stream can't be read.
+    Failed,
+}
+
+fn read_taken(taken: Taken) -> Option<Found>
+    ensures { result ≡ spec.read_taken taken }
+{
+    match taken {
+        Taken::Record(text) => Some(Found::Record(text)),
+        Taken::NeedMore => None,
+        Taken::Done => Some(Found::End),
+    }
+}
+
+fn halted(place: Place, fault: Fault) -> Halt
+    ensures { result ≡ spec.halted place fault }
+{
+    match fault {
+        Fault::Memory => Halt::Memory,
+        _ => Halt::Fault(fault, place),
+    }
+}
+
+/// The first record of what is held unread, or the end; `None` where more is to come.
+fn first(
+    place: Place,
+    source: &Source,
+    rs: &[u8],
+    streams: &mut Streams,
+) -> Result<Option<Found>, Halt>
+    ensures ok { IfOk result (λ answer. Holds (key_of source.now) streams.old
+        (λ i. FirstIs (key_of source.now) streams.old streams.new i (head rs.now i.unread i.ended) answer)) }
+    ensures same { OnErr result (IsSame streams.old streams.new) }
+    ensures err { IfErr result (λ h. Holds (key_of source.now) streams.old (λ i. FailsFirst place (head rs.now i.unread i.ended) h)) }
+{
+    match take(streams, source, rs) {
+        Ok(taken) => Ok(read_taken(taken)),
+        Err(fault) => Err(halted(place, fault)),
+    }
+}
+
+/// Keeps what came, and answers whether the reading goes on: it does not where it has failed.
+fn receive(streams: &mut Streams, source: &Source, reply: &Reply) -> Result<bool, Memory>
+    requires { GoesOn (key_of source.now) streams.old }
+    ensures ok { IfOk result (λ on. Holds (key_of source.now) streams.old (λ i. Received (key_of source.now) streams.old streams.new i reply.now on)) }
+    ensures same { OnErr result (IsSame streams.old streams.new) }
+    ensures err { OnErr result (HasCome reply.now) }
+{
+    match reply {
+        Reply::Bytes(bytes) => match push(streams, source, bytes.bytes()) {
+            Ok(()) => Ok(true),
+            Err(_) => Err(AllocError),
+        },
+        Reply::End => {
+            finish(streams, source);
+            Ok(true)
+        }
+        _ => Ok(false),
+    }
+}
+
+/// Asks for more of a stream of which no record is whole, and answers whether the reading goes on.
+fn more<W: World>(
+    place: Place,
+    source: &Source,
+    streams: &mut Streams,
+    world: &mut W,
+) -> Result<bool, Halt>
+    requires owns { Owns (W.open_numbers world.old) streams.old }
+    requires live { IsLive (key_of source.now) streams.old }
+    requires open { GoesOn (key_of source.now) streams.old }
+    ensures task { (g : Given) (s : State) (p : Piece) (to : Found → List Piece → List Piece) → IsReading g s p place (key_of source.now) to → Waits (own_text s (codes "RS")) (key_of source.now) streams.old
+        → Does W.follows W.has_stopped W.stops g s p (further p to) streams.old world.old result streams.new world.new }
+    ensures failed { IfOk result (λ on. on ≡ false → GoesOn (key_of source.now) streams.new) }
+    ensures live { OnOk result (IsLive (key_of source.now) streams.new) }
+    ensures owns { Owns (W.open_numbers world.new) streams.new }
+{
+    let number = number(streams, source);
+    let reply = request(place, false, Request::Next(number), world)?;
+    match receive(streams, source, &reply) {
+        Ok(on) => Ok(on),
+        Err(_) => Err(Halt::Memory),
+    }
+}
+
+/// Reads a record of a stream that stands open, for any piece of the machine that does. `rs` is RS
+/// as it is now. What is unread stays for the next one.
+pub fn record<W: World>(
+    place: Place,
+    source: &Source,
+    rs: &[u8],
+    streams: &mut Streams,
+    world: &mut W,
+) -> Result<Found, Halt>
+    requires owns { Owns (W.open_numbers world.old) streams.old }
+    requires live { IsLive (key_of source.now) streams.old }
+    ensures task { (g : Given) (s : State) (p : Piece) (to : Found → List Piece → List Piece) → IsReading g s p place (key_of source.now) to → own_text s (codes "RS") ≡ rs.now
+        → Does W.follows W.has_stopped W.stops g s p to streams.old world.old result streams.new world.new }
+    ensures failed { IfOk result (λ x. FailsOpen (key_of source.now) x streams.new) }
+    ensures owns { Owns (W.open_numbers world.new) streams.new }
+{
+    for _ in 0..u64::MAX {
+        if let Some(found) = first(place, source, rs, streams)? {
+            return Ok(found);
+        }
+        if !more(place, source, streams, world)? {
+            return Ok(Found::Failed);
+        }
+    }
+    Err(Halt::Memory)
+}
+
+fn read_value(found: Found) -> Value
+    ensures { result ≡ spec.read_value found }
+{
+    match found {
+        Found::Record(text) => Value::Input(text),
+        Found::End => Value::Num(0),
+        Found::Failed => Value::Num(-1),
+    }
+}
+
+/// Reads a record of a stream that stands open: the record as input, 0 at its end, or -1 where it
+/// can't be read.
+pub fn read<W: World>(
+    place: Place,
+    source: &Source,
+    rs: &[u8],
+    streams: &mut Streams,
+    world: &mut W,
+) -> Result<Value, Halt>
+    requires owns { Owns (W.open_numbers world.old) streams.old }
+    requires live { IsLive (key_of source.now) streams.old }
+    ensures task { (g : Given) (s : State) → own_text s (codes "RS") ≡ rs.now
+        → Does W.follows W.has_stopped W.stops g s (Do (machine.Read place (key_of source.now))) give streams.old world.old result streams.new world.new }
+    ensures owns { Owns (W.open_numbers world.new) streams.new }
+{
+    let found = record(place, source, rs, streams, world)?;
+    Ok(read_value(found))
+}
+
+fn copied(alloc: Global, name: &Name) -> Result<Name, Memory>
+    ensures class { IfOk result (λ x. x.class ≡ name.now.class) }
+    ensures text { IfOk result (λ x. x.text.items ≡ name.now.text.items) }
+{
+    Ok(Name {
+        class: name.class,
+        text: Vec::from_slice(alloc, name.text.as_slice())?,
+    })
+}
+
+/// Opens a stream that is to be read, unless it is open, and answers whether it is open now.
+fn open_named<W: World>(
+    alloc: Global,
+    place: Place,
+    name: &Name,
+    streams: &mut Streams,
+    world: &mut W,
+) -> Result<bool, Halt>
+    requires { Owns (W.open_numbers world.old) streams.old }
+    ensures task { (g : Given) (s : State) → Does W.follows W.has_stopped W.stops g s
+        (Do (machine.Fetch place (kind name.now.class) name.now.text.items)) (read_further place (Named (kind name.now.class) name.now.text.items)) streams.old world.old result streams.new world.new }
+    ensures live { IfOk result (λ on. on ≡ true → IsLive (Named (kind name.now.class) name.now.text.items) streams.new) }
+    ensures owns { Owns (W.open_numbers world.new) streams.new }
+{
+    if streams.number(name).is_some() {
+        return Ok(true);
+    }
+    let Ok(copy) = copied(alloc, name) else {
+        return Err(Halt::Memory);
+    };
+    let found = open_input(alloc, place, copy, streams, world)?;
+    Ok(found.is_some())
+}
+
+fn open_source<W: World>(
+    alloc: Global,
+    place: Place,
+    source: &Source,
+    streams: &mut Streams,
+    world: &mut W,
+) -> Result<bool, Halt>
+    requires { Owns (W.open_numbers world.old) streams.old }
+    ensures task { (g : Given) (s : State) → Does W.follows W.has_stopped W.stops g s
+        (Do (fetching place (key_of source.now))) (read_further place (key_of source.now)) streams.old world.old result streams.new world.new }
+    ensures live { IfOk result (λ on. on ≡ true → IsLive (key_of source.now) streams.new) }
+    ensures owns { Owns (W.open_numbers world.new) streams.new }
+{
+    match source {
+        Source::Standard => Ok(true),
+        Source::Stream(name) => open_named(alloc, place, name, streams, world),
+    }
+}
+
+/// Reads a record of a stream, which is opened before where it is not open; -1 where it can't be.
+pub fn fetch<W: World>(
+    alloc: Global,
+    place: Place,
+    source: &Source,
+    rs: &[u8],
+    streams: &mut Streams,
+    world: &mut W,
+) -> Result<Value, Halt>
+    requires { Owns (W.open_numbers world.old) streams.old }
+    ensures task { (g : Given) (s : State) → own_text s (codes "RS") ≡ rs.now
+        → Does W.follows W.has_stopped W.stops g s (Do (fetching place (key_of source.now))) give streams.old world.old result streams.new world.new }
+    ensures owns { Owns (W.open_numbers world.new) streams.new }
+{
+    if !open_source(alloc, place, source, streams, world)? {
+        return Ok(Value::Num(-1));
+    }
+    read(place, source, rs, streams, world)
+}

@@ -1,0 +1,5 @@
+pub mod GotSteps
+pub mod ReadSteps
+pub mod MainSteps
+pub mod RangeSteps
+pub mod OutputSteps

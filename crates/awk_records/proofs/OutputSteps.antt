@@ -1,0 +1,30 @@
+-- A text is put to a stream that the script names.
+use Rattle.std.proofs.Common.{◌≡◌, ◌≤◌, inr, refl, arith, ℕ, List, ◌∷◌}
+use Rattle.std.specs.Prelude.{Result, Ok, Err, Some, Bool}
+use Rattle.box_world.specs.Calls.{Call, IsStream}
+use Rattle.box_world.specs.declared.ask.Ask.{Ask}
+use Rattle.box_world.specs.Events.{Class, find_stream}
+use Rattle.awk_machine.specs.Pieces.{Piece}
+use Rattle.awk_machine.specs.State.{Given}
+use Rattle.awk_program.specs.Slots.{Text}
+use Rattle.awk_asks.specs.declared.halt.Halt.{Halt}
+use Rattle.awk_asks.specs.Tables.{Table, open_of}
+use Rattle.awk_asks.specs.Tasks.{Owns, goes_on}
+use Rattle.awk_asks.proofs.Chain.{part, stop}
+use Rattle.awk_asks.proofs.Numbers.{among_all, found_once}
+use Rattle.awk_tasks.specs.Wholes.{Whole}
+use Rattle.awk_records.specs.Inputs.{Onward}
+use Rattle.awk_records.specs.Performs.{LeadsOn, Performs}
+
+-- a stream that is open is the world's
+pub open_duty : (numbers : List ℕ) (c : Class) (t : Text) (n : ℕ) (table : Table) → find_stream c t (open_of table) ≡ Some n → Owns numbers table → IsStream numbers n
+open_duty numbers c t n table h owns =
+    let one = found_once c t (open_of table) n h in
+    let all = owns n in
+    inr (among_all n numbers (omega (arith, one, all)))
+
+-- a last piece, behind whatever was done
+pub onward_last : {W : Type 0} {follows : W → List Call → W → Type 0} {has_stopped : W → Bool} {stops : W → List Call → Ask → W → Type 0} (g : Given) (p q : Piece) (old mid new : Whole) (w w' w'' : W) (r : Result (Unit {0}) Halt) →
+    LeadsOn follows has_stopped stops g p old w (λ l. q ∷ l) mid w' → Performs follows has_stopped stops g q goes_on mid w' r new w'' → Onward follows has_stopped stops g p old w (λ l. l) r new w''
+onward_last g p q old mid new w w' w'' (Ok tt) lead task = part tt lead task refl
+onward_last g p q old mid new w w' w'' (Err h) lead task = stop h (λ k. refl) lead task refl

@@ -1,0 +1,52 @@
+-- A record is read of a file, or of a command.
+use Rattle.std.proofs.Common.{◌≡◌, ap, ◌∙◌, true, false, List, [], ◌∷◌}
+use Rattle.std.specs.Prelude.{codes, if◌then◌else◌}
+use Rattle.std.specs.Str.{bytes_eq}
+use Rattle.awk_text.specs.declared.place.Place.{Place}
+use Rattle.awk_text.specs.declared.value.Value.{Value}
+use Rattle.awk_text.specs.Values.{text_of}
+use Rattle.box_world.specs.Calls.{Call}
+use Rattle.box_world.specs.declared.ask.Ask.{Ask}
+use Rattle.box_world.specs.Events.{InputFile, InputCommand, Key, Standard, Named}
+use Rattle.awk_program.specs.Program as p
+use Rattle.awk_program.specs.Program.{Expression, Pipes}
+use Rattle.awk_program.specs.Slots.{Text}
+use Rattle.awk_machine.specs.Getline.{fetch_file, got}
+use Rattle.awk_machine.specs.Pieces.{Piece, At, Do, Read, Fetch, Goes, Pipes_of, Value_of}
+use Rattle.awk_machine.specs.State.{Given}
+use Rattle.awk_machine.specs.Streams.{seen}
+use Rattle.awk_asks.specs.Chains.{Leads}
+use Rattle.awk_asks.specs.Readings.{fetching}
+use Rattle.awk_asks.proofs.Chain.{at_once, quiet}
+use Rattle.awk_tasks.specs.Spots.{IsSpotOf, meant, value_of}
+use Rattle.awk_tasks.specs.Wholes.{Whole, Agreeing, base, names_in, used}
+use Rattle.awk_tasks.specs.declared.spot.Spot.{Spot}
+use Rattle.awk_records.specs.Gots.{IsGot}
+
+-- the stream of a file's name
+pub standard_file : (place : Place) (text : Text) (k : List Piece) → bytes_eq text (codes "-") ≡ true → fetch_file place text k ≡ Do (fetching place (Standard 0)) ∷ k
+standard_file place text k e = ap (λ z. if z then Do (Read place (Standard 0)) ∷ k else Do (Fetch place InputFile text) ∷ k) e
+
+pub named_file : (place : Place) (text : Text) (k : List Piece) → bytes_eq text (codes "-") ≡ false → fetch_file place text k ≡ Do (fetching place (Named InputFile text)) ∷ k
+named_file place text k e = ap (λ z. if z then Do (Read place (Standard 0)) ∷ k else Do (Fetch place InputFile text) ∷ k) e
+
+module _ {W : Type 0} {F : W → List Call → W → Type 0} {E : W → List Call → Ask → W → Type 0} (g : Given) (place : Place) (r : p.Reference) (spot : Spot) (name : Value) (text : Text) (old : Whole) (w : W) (named : text_of name ≡ text) where
+  -- the machine comes to the reading of a file
+  pub file_first : (x : Expression) (key : Key) → ((place : Place) (k : List Piece) → fetch_file place text k ≡ Do (fetching place key) ∷ k) →
+      Leads F E (base g) (Agreeing g) used g (At (Value_of (p.getline_file place r x)) (name ∷ value_of spot ∷ [])) old w
+      (λ k. Do (fetching place key) ∷ At (Value_of (p.getline_file place r x)) (name ∷ value_of spot ∷ []) ∷ k) old w
+  file_first x key is = quiet (at_once _ old w) (λ k hid c.
+      ap (λ t. Goes (fetch_file place t (At (Value_of (p.getline_file place r x)) (name ∷ value_of spot ∷ []) ∷ k)) (seen (base g old hid) c)) named
+      ∙ ap (λ l. Goes l (seen (base g old hid) c)) (is place (At (Value_of (p.getline_file place r x)) (name ∷ value_of spot ∷ []) ∷ k)))
+
+  -- or of a command
+  pub pipe_first : (xs : Pipes) → Leads F E (base g) (Agreeing g) used g (At (Pipes_of (p.piped place r xs)) (value_of spot ∷ name ∷ [])) old w
+      (λ k. Do (Fetch place InputCommand text) ∷ At (Pipes_of (p.piped place r xs)) (value_of spot ∷ name ∷ []) ∷ k) old w
+  pipe_first xs = quiet (at_once _ old w) (λ k hid c. ap (λ t. Goes (Do (Fetch place InputCommand t) ∷ At (Pipes_of (p.piped place r xs)) (value_of spot ∷ name ∷ []) ∷ k) (seen (base g old hid) c)) named)
+
+module _ (g : Given) (place : Place) (r : p.Reference) (spot : Spot) (name x : Value) (is : IsSpotOf (names_in g) r spot) where
+  pub file_got : (y : Expression) → IsGot g (At (Value_of (p.getline_file place r y)) (x ∷ name ∷ value_of spot ∷ [])) place (meant (names_in g) spot) [] x (λ k. k)
+  file_got y k s = ap (λ z. got place z [] x k s) is
+
+  pub pipe_got : (xs : Pipes) → IsGot g (At (Pipes_of (p.piped place r xs)) (x ∷ value_of spot ∷ name ∷ [])) place (meant (names_in g) spot) (codes "NR" ∷ []) x (λ k. At (Pipes_of xs) [] ∷ k)
+  pipe_got xs k s = ap (λ z. got place z (codes "NR" ∷ []) x (At (Pipes_of xs) [] ∷ k) s) is

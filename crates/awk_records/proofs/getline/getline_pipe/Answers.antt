@@ -1,0 +1,21 @@
+use Rattle.std.proofs.Common.{refl, [], ◌∷◌}
+use Rattle.std.proofs.lemmas.Result.{err_from_is_err_and}
+use Rattle.awk_program.specs.Program as p
+use Rattle.awk_machine.specs.Pieces.{At, Pipes_of}
+use Rattle.awk_asks.proofs.Chain.{part, passes, stop}
+use Rattle.awk_tasks.specs.Spots.{value_of}
+use Rattle.awk_tasks.proofs.Acting.{acted}
+use Rattle.awk_records.proofs.ReadSteps.{pipe_first, pipe_got}
+use Rattle.awk_records.proofs.getline.getline_pipe.Goals as goal
+
+pub returns-in_err-answer-clause-task : goal.returns-in_err-answer-clause-task
+returns-in_err-answer-clause-task g c =
+    let e = err_from_is_err_and c.from_residual.result c.from_residual.ensures.1 in
+    rw (e.1, e.2) (λ m r xs name is named.
+    stop _ (λ k. refl) (pipe_first m c.args.place r c.args.target name c.args.command (c.args.store.now, c.args.streams.now) c.args.world.now named xs) (rw c.into_bytes.ensures at (c.in_err-answer.ensures.task m)) refl)
+
+pub returns-clause-task : goal.returns-clause-task
+returns-clause-task g c = λ m r xs name is named.
+    passes (part c.in_ok-answer.answer (pipe_first m c.args.place r c.args.target name c.args.command (c.args.store.now, c.args.streams.now) c.args.world.now named xs) (rw c.into_bytes.ensures at (c.fetch_record.ensures.task m)) c.in_ok-answer.was)
+    (acted (c.set_record.ensures m c.fetch_record.new.streams (At (Pipes_of (p.piped c.args.place r xs)) (c.in_ok-answer.answer ∷ value_of c.args.target ∷ name ∷ [])) (λ k. At (Pipes_of xs) [] ∷ k)
+    (pipe_got m c.args.place r c.args.target name c.in_ok-answer.answer is xs)))

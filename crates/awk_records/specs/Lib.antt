@@ -1,0 +1,4 @@
+pub mod Gots
+pub mod Inputs
+pub mod Performs
+pub mod Ranges

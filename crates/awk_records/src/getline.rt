@@ -1,0 +1,102 @@
+// getline from a file and from a command.
+ghost use Rattle.std.specs.Prelude.{◌≡◌, [], ◌∷◌, List};
+ghost use Rattle.awk_text.specs.Values.{text_of};
+ghost use Rattle.awk_program.specs.Program as p;
+ghost use Rattle.awk_program.specs.Program.{Expression, Pipes};
+ghost use Rattle.awk_machine.specs.Getline as machine;
+ghost use Rattle.awk_machine.specs.Pieces.{At, Do, Piece, Pipes_of, Value_of, give};
+ghost use Rattle.awk_machine.specs.State.{Given};
+ghost use Rattle.awk_asks.specs.Readings.{fetching, key_of};
+ghost use Rattle.awk_asks.specs.Tasks.{Owns};
+ghost use Rattle.awk_tasks.specs.Spots.{IsSpotOf, value_of};
+ghost use Rattle.awk_tasks.specs.Wholes.{names_in};
+ghost use Rattle.awk_records.specs.Performs.{Performs};
+
+use crate::counted::{Counted, set_record};
+use awk_asks::getline::fetch;
+use awk_asks::halt::Halt;
+use awk_asks::inputs::Source;
+use awk_asks::streams::{Class, Name, Streams};
+use awk_program::Own;
+use awk_store::Store;
+use awk_tasks::Spot;
+use awk_text::octets::Octets;
+use awk_text::place::Place;
+use awk_text::value::Value;
+use box_world::world::World;
+use itoa::Buffer;
+use std::alloc::Global;
+
+/// The stream of a file of this name: `-` is the standard input.
+fn file_source(text: Octets) -> Source
+    ensures { (place : Place) (k : List Piece) → machine.fetch_file place text k ≡ Do (fetching place (key_of result)) ∷ k }
+{
+    if text.bytes() == b"-".as_slice() {
+        return Source::Standard;
+    }
+    Source::Stream(Name {
+        class: Class::InputFile,
+        text: text.into_bytes(),
+    })
+}
+
+/// Reads a record of a stream by RS as it is, and opens the stream before where it is not open.
+fn fetch_record<W: World>(
+    alloc: Global,
+    place: Place,
+    source: &Source,
+    store: &Store,
+    streams: &mut Streams,
+    world: &mut W,
+) -> Result<Value, Halt>
+    requires { Owns (W.open_numbers world.old) streams.old }
+    ensures task { (g : Given) → Performs W.follows W.has_stopped W.stops g (Do (fetching place (key_of source.now))) give (store.now, streams.old) world.old result (store.now, streams.new) world.new }
+    ensures owns { Owns (W.open_numbers world.new) streams.new }
+{
+    let mut buffer = Buffer::new();
+    let rs = store.own_text(Own::Rs, &mut buffer);
+    fetch(alloc, place, source, rs, streams, world)
+}
+
+/// `getline target < file`, once it is known what is set, and the file's name.
+pub fn getline_file<W: World>(
+    alloc: Global,
+    place: Place,
+    target: Spot,
+    file: Octets,
+    store: &mut Store,
+    streams: &mut Streams,
+    world: &mut W,
+) -> Result<Value, Halt>
+    requires { Owns (W.open_numbers world.old) streams.old }
+    ensures task { (g : Given) (r : p.Reference) (x : Expression) (name : Value) → IsSpotOf (names_in g) r target → text_of name ≡ file
+        → Performs W.follows W.has_stopped W.stops g (At (Value_of (p.getline_file place r x)) (name ∷ value_of target ∷ [])) give (store.old, streams.old) world.old result (store.new, streams.new) world.new }
+    ensures owns { Owns (W.open_numbers world.new) streams.new }
+{
+    let source = file_source(file);
+    let answer = fetch_record(alloc, place, &source, store, streams, world)?;
+    set_record(alloc, store, place, target, Counted::Nothing, answer)
+}
+
+/// `command | getline target`, once the command and what is set are known.
+pub fn getline_pipe<W: World>(
+    alloc: Global,
+    place: Place,
+    target: Spot,
+    command: Octets,
+    store: &mut Store,
+    streams: &mut Streams,
+    world: &mut W,
+) -> Result<Value, Halt>
+    requires { Owns (W.open_numbers world.old) streams.old }
+    ensures task { (g : Given) (r : p.Reference) (xs : Pipes) (name : Value) → IsSpotOf (names_in g) r target → text_of name ≡ command
+        → Performs W.follows W.has_stopped W.stops g (At (Pipes_of (p.piped place r xs)) (value_of target ∷ name ∷ [])) (λ v k. give v (At (Pipes_of xs) [] ∷ k)) (store.old, streams.old) world.old result (store.new, streams.new) world.new }
+    ensures owns { Owns (W.open_numbers world.new) streams.new }
+{
+    let source = Source::Stream(Name {
+        class: Class::InputCommand,
+        text: command.into_bytes(),
+    });
+    let answer = fetch_record(alloc, place, &source, store, streams, world)?;
+    set_record(alloc, store, place, target, Counted::Nr, answer)
+}

@@ -1,0 +1,68 @@
+// Output to a stream that the script names.
+ghost use Rattle.std.specs.Prelude.{◌≡◌, ◌∷◌};
+ghost use Rattle.box_world.specs.Events.{Named};
+ghost use Rattle.awk_machine.specs.Pieces as machine;
+ghost use Rattle.awk_machine.specs.Pieces.{Do, Piece};
+ghost use Rattle.awk_machine.specs.Printing as printing;
+ghost use Rattle.awk_machine.specs.State.{Given};
+ghost use Rattle.awk_store.specs.Kept.{Kept};
+ghost use Rattle.awk_asks.specs.Tables.{kind};
+ghost use Rattle.awk_asks.specs.Tasks.{Owns};
+ghost use Rattle.awk_tasks.specs.Wholes.{Whole};
+ghost use Rattle.awk_records.specs.Inputs.{Onward};
+ghost use Rattle.awk_records.specs.Performs.{LeadsOn};
+
+use awk_asks::halt::Halt;
+use awk_asks::opening::open_output;
+use awk_asks::requests::put;
+use awk_asks::streams::{Class, Name, Streams};
+use awk_program::Redirect;
+use awk_text::octets::Octets;
+use awk_text::place::Place;
+use box_world::ask::Mode;
+use box_world::world::World;
+use std::alloc::Global;
+
+fn class_of(how: Redirect) -> Class
+    ensures { kind result ≡ printing.class_of how }
+{
+    match how {
+        Redirect::Write => Class::OutputFile,
+        Redirect::Append => Class::OutputFile,
+        Redirect::Command => Class::OutputCommand,
+    }
+}
+
+fn mode_of(how: Redirect) -> Mode
+    ensures { result ≡ printing.mode_of how }
+{
+    match how {
+        Redirect::Write => Mode::Write,
+        Redirect::Append => Mode::Append,
+        Redirect::Command => Mode::RunOut,
+    }
+}
+
+/// Puts a text to the stream of this name, which is opened before where it is not open.
+pub fn put_to<W: World>(
+    alloc: Global,
+    place: Place,
+    how: Redirect,
+    name: Octets,
+    text: Octets,
+    streams: &mut Streams,
+    world: &mut W,
+) -> Result<(), Halt>
+    requires { Owns (W.open_numbers world.old) streams.old }
+    ensures task { (g : Given) (k : Kept) (p : Piece) (old : Whole) (w : W)
+        → LeadsOn W.follows W.has_stopped W.stops g p old w (λ l. Do (machine.Open place (printing.mode_of how) (printing.class_of how) name) ∷ Do (machine.Put place (Named (printing.class_of how) name) text) ∷ l) (k, streams.old) world.old
+        → Onward W.follows W.has_stopped W.stops g p old w (λ l. l) result (k, streams.new) world.new }
+    ensures owns { Owns (W.open_numbers world.new) streams.new }
+{
+    let stream = Name {
+        class: class_of(how),
+        text: name.into_bytes(),
+    };
+    let number = open_output(alloc, place, mode_of(how), stream, streams, world)?;
+    put(place, number, text, world)
+}
