@@ -20,8 +20,12 @@ entries_are : (n : Tables) (es : List Entry) (q : Program)
 entries_are n [] q = rw (append-nil q.functions, append-nil q.begin, append-nil q.rules, append-nil q.end) refl
 entries_are n (e ∷ es) q =
     entries_are n es (with_entry n e q)
-    ∙ rw (append_assoc q.functions (functions_of n e) (each (functions_of n) es), append_assoc q.begin (begins_of n e) (each (begins_of n) es),
-        append_assoc q.rules (rules_of n e) (each (rules_of n) es), append_assoc q.end (ends_of n e) (each (ends_of n) es)) refl
+    ∙ rw (
+      append_assoc q.functions (functions_of n e) (each (functions_of n) es),
+      append_assoc q.begin (begins_of n e) (each (begins_of n) es),
+      append_assoc q.rules (rules_of n e) (each (rules_of n) es),
+      append_assoc q.end (ends_of n e) (each (ends_of n) es),
+    ) refl
 
 -- ---- variables
 

@@ -62,10 +62,7 @@ fn flags<'a>(tables: &'a Tables, name: &[u8]) -> &'a [bool]
     }
 }
 
-fn action(
-    context: &Context<'_>,
-    body: &[awk_tree::Statement],
-) -> Result<Items<Statement>, Memory>
+fn action(context: &Context<'_>, body: &[awk_tree::Statement]) -> Result<Items<Statement>, Memory>
     ensures { AreStatements (names_in context.now) result (spec.body (scope_in context.now) (map view_statement body.now)) }
 {
     statements(context, body, DEEPEST)
@@ -118,11 +115,7 @@ fn rule(
     rule_of(when, action(context, body))
 }
 
-fn function(
-    alloc: Global,
-    tables: &Tables,
-    f: &awk_tree::Function,
-) -> Result<Function, Memory>
+fn function(alloc: Global, tables: &Tables, f: &awk_tree::Function) -> Result<Function, Memory>
     ensures { IsFunction tables.now.variables result (spec.function_of (tables_in tables.now) f.now.name.text (texts f.now.params) (map view_statement f.now.body)) }
 {
     let parameters = Roll::of_names(alloc, f.params.as_slice())?;
@@ -152,12 +145,7 @@ fn add(alloc: Global, tables: &Tables, item: &Item, out: &mut Program) -> Result
     }
 }
 
-fn add_all(
-    alloc: Global,
-    tables: &Tables,
-    items: &[Item],
-    out: &mut Program,
-) -> Result<(), Memory>
+fn add_all(alloc: Global, tables: &Tables, items: &[Item], out: &mut Program) -> Result<(), Memory>
     ensures { OnOk result (code.view_by tables.now.variables out.new ≡ spec.with_entries (tables_in tables.now) (map view_item items.now) (code.view_by tables.now.variables out.old)) }
 {
     for item in items {
