@@ -1,5 +1,5 @@
 -- What a script is made of.
-use Rattle.std.proofs.Common.{◌≡◌, ◌∙◌, ap, List, map, Result, Ok, Err, IfOk}
+use Rattle.std.proofs.Common.{◌≡◌, ◌∙◌, ap, List, map, Result, Ok, IfOk}
 use Rattle.awk_tree.specs.Tree.{Entry}
 use Rattle.awk_tree.specs.View.{view_item}
 use Rattle.awk_tree.specs.declared.items.Item.{Item}
