@@ -19,5 +19,5 @@ pub mod verdict;
 pub use checking::checked;
 pub use lines::{line_of, lines_of, verdict_lines};
 pub use listing::listed;
-pub use site::Site;
+pub use site::{Site, Sort};
 pub use verdict::{Sites, Verdict, judge};
