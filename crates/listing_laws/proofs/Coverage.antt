@@ -36,7 +36,7 @@ use Rattle.box_listing.specs.Listings.{IsListing, at_start, sites_of}
 use Rattle.box_listing.specs.Sites as s
 use Rattle.listing_laws.specs.Covers.{IsCoveredAt, IsCovered, AllCovered, subject_of_want}
 use Rattle.listing_laws.proofs.Standing.{Listed, Holds, Sub, Wanted, IsWanted, handed_by, done_by, Kept, Knows, Fit, EnvironFit, Stack, Ready, Keeps, Whole}
-use Rattle.listing_laws.proofs.Steps.{front, back, hand, ended}
+use Rattle.listing_laws.proofs.Steps.{front, back, both, hand, ended}
 use Rattle.listing_laws.proofs.Forms.{values, targets, patterns, terms, texts, ands, ors, members, pipes}
 use Rattle.listing_laws.proofs.Doing.{statements, tested, behind}
 use Rattle.listing_laws.proofs.Tasks as t
@@ -210,9 +210,12 @@ module _ (sites : List Site) where
       Sub Is (s.actions begin) × Sub Is (s.rules rs) × Sub Is (s.actions end) × Sub Is (s.functions fs)
   all_items [] begin rs end fs h =
       let i = back Is (s.actions begin) (s.rules rs ++ (s.actions end ++ s.functions fs)) h in
-      let j = back Is (s.rules rs) (s.actions end ++ s.functions fs) i in
-      (front Is (s.actions begin) (s.rules rs ++ (s.actions end ++ s.functions fs)) h, front Is (s.rules rs) (s.actions end ++ s.functions fs) i,
-      front Is (s.actions end) (s.functions fs) j, back Is (s.actions end) (s.functions fs) j)
+      let j = back Is (s.rules rs) (s.actions end ++ s.functions fs) i in (
+        front Is (s.actions begin) (s.rules rs ++ (s.actions end ++ s.functions fs)) h,
+        front Is (s.rules rs) (s.actions end ++ s.functions fs) i,
+        front Is (s.actions end) (s.functions fs) j,
+        back Is (s.actions end) (s.functions fs) j,
+      )
   all_items (sort.Begin ∷ more) [] rs end fs h = all_items more [] rs end fs h
   all_items (sort.Begin ∷ more) (x ∷ begin) rs end fs h =
       let i = all_items more begin rs end fs (back Is (s.all_done x) (s.items more begin rs end fs) h) in

@@ -1,4 +1,4 @@
-use Rattle.std.proofs.Common.{◌++◌, map, refl}
+use Rattle.std.proofs.Common.{map, refl}
 use Rattle.awk_program.specs.View.{view_by, view_rule, view_statement}
 use Rattle.box_listing.specs.Sites as spec
 use Rattle.box_listing.specs.Walks.{left}
