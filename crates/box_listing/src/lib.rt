@@ -12,9 +12,9 @@ mod lines;
 mod listing;
 mod order;
 mod program;
-pub mod site;
+mod site;
 mod statements;
-pub mod verdict;
+mod verdict;
 
 pub use checking::checked;
 pub use lines::{line_of, lines_of, verdict_lines};

@@ -12,7 +12,7 @@ pub struct Site {
     pub text: Option<Octets>,
 }
 
-/// What is found in a program: a part that reads the main input, or a site that has a place.
+/// What the walk finds: a part that reads the main input, or a site that has a place.
 #[derive(Drop)]
 pub enum Found {
     MainInput,
