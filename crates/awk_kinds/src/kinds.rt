@@ -3,7 +3,8 @@
 ghost use Rattle.std.specs.Prelude.{◌≡◌, ◌↔◌, [], true, List, Some, IfOk, IfErr, OnOk};
 ghost use Rattle.awk_names.specs.Faults.{Misdefined};
 ghost use Rattle.awk_names.specs.Faultless.{GivesArrays};
-ghost use Rattle.awk_names.specs.Kinds.{Agrees, Clashes, NotAfter};
+ghost use Rattle.awk_names.specs.Kinds.{Agrees, Clashes, NotAfter, global, parameter};
+ghost use Rattle.awk_names.specs.Kinds as names;
 ghost use Rattle.awk_names.specs.declared.mention.Part as items;
 ghost use Rattle.awk_text.specs.declared.place.Place as places;
 ghost use Rattle.awk_kinds.specs.Marks.{AreKinds};
@@ -137,5 +138,19 @@ impl Kinds {
         ensures { result ≡ spec.is_marked self.now.arrays (Some number) }
     {
         is_marked(&self.arrays, Some(number))
+    }
+
+    /// Whether a variable of the whole script is an array. Takes no memory.
+    pub fn is_array_variable(&self, name: &[u8]) -> bool
+        ensures { result ≡ spec.has self.now (global name.now) names.array }
+    {
+        is_marked(&self.arrays, self.numbers.global(name))
+    }
+
+    /// Whether a parameter of a function is an array. Takes no memory.
+    pub fn is_array_parameter(&self, function: &[u8], name: &[u8]) -> bool
+        ensures { result ≡ spec.has self.now (parameter function.now name.now) names.array }
+    {
+        is_marked(&self.arrays, self.numbers.parameter(function, name))
     }
 }

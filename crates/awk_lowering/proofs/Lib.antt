@@ -1,3 +1,4 @@
+pub mod Adding
 pub mod Carried
 pub mod Lists
 pub mod Rolls

@@ -1,5 +1,7 @@
 -- A roll as contracts see it. Where it is kept the keys are not the texts but have them.
-use Rattle.std.proofs.Common.{◌≡◌, ◌+◌, ◌∙◌, ℕ, Bool, true, false, List, [], ◌∷◌, ◌++◌, map, cond, if◌then◌else◌, ◌||◌, not, Some, get_or, position, Result, Ok, Err, IfOk, ap, sym, refl}
+use Rattle.std.proofs.Common.{◌≡◌, ◌+◌, ◌≤◌, ◌∙◌, ℕ, Bool, true, false, List, [], ◌∷◌, ◌++◌, map, cond, if◌then◌else◌, ◌||◌, not, Some, None, get_or, length, ltb, position, Result, Ok, Err, IfOk, OnOk, ap, sym, refl, arith}
+use Rattle.std.proofs.lemmas.List.Folds.{list_any_none}
+use Rattle.std.proofs.lemmas.List.Sums.{fails_before_first}
 use Rattle.std.proofs.lemmas.List.{length-map}
 use Rattle.std.proofs.lemmas.List.Quantifiers.{position-Some}
 use Rattle.std.proofs.lemmas.Slice.Eq.{bytes_eq-Decides}
@@ -41,3 +43,20 @@ stands_small x xs n (Err e) some same = tt
 pub found_small : (x : List ℕ) (xs : List (List ℕ)) {E : Type 0} (n : ℕ) (r : Result ℕ E) → position (bytes_eq x) xs ≡ Some n → IfOk r (λ m. m ≡ n) → IfOk r (λ m. position (bytes_eq x) xs ≡ Some m)
 found_small x xs n (Ok m) some same = some ∙ ap (λ k. Some k) (sym same)
 found_small x xs n (Err e) some same = tt
+
+-- a text that stands nowhere in a list is put last
+none_past : (n m : ℕ) → cond (ltb n m) (Some n) None ≡ None → m ≤ n
+none_past n m e = grind arith
+
+not_before : (p : List ℕ → Bool) (xs : List (List ℕ)) → length xs ≤ position_or_len p xs → list_any p xs ≡ false
+not_before p xs h = list_any_none p xs (λ k d i. fails_before_first p xs k d (omega arith))
+
+pub none_among : (x : List ℕ) (xs : List (List ℕ)) → position (bytes_eq x) xs ≡ None → list_any (bytes_eq x) xs ≡ false
+none_among x xs e = not_before (bytes_eq x) xs (none_past (position_or_len (bytes_eq x) xs) (length xs) e)
+
+pub added_last : (x : List ℕ) (xs : List (List ℕ)) → position (bytes_eq x) xs ≡ None → added x xs ≡ xs ++ x ∷ []
+added_last x xs e = rw (none_among x xs e) refl
+
+pub pushed_last : {E : Type 0} (x : List ℕ) (xs new : List (List ℕ)) (r : Result Unit E) → position (bytes_eq x) xs ≡ None → OnOk r (new ≡ added x xs) → OnOk r (new ≡ xs ++ x ∷ [])
+pushed_last x xs new (Ok u) none e = e ∙ added_last x xs none
+pushed_last x xs new (Err f) none e = tt

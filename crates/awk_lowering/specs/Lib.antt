@@ -7,3 +7,4 @@ pub mod OneByOne
 pub mod LoweredStatements
 pub mod Made
 pub mod Programs
+pub mod MadeRules

@@ -91,3 +91,18 @@ program n items = record {
   rules = each (rules_of n) items;
   end = each (ends_of n) items;
 }
+
+-- ---- one item after the other
+
+abbrev pub with_entry : Tables → Entry → Program → Program
+with_entry n e before = record {
+  variables = before.variables;
+  functions = before.functions ++ functions_of n e;
+  begin = before.begin ++ begins_of n e;
+  rules = before.rules ++ rules_of n e;
+  end = before.end ++ ends_of n e;
+}
+
+abbrev pub with_entries : Tables → List Entry → Program → Program
+with_entries n [] before = before
+with_entries n (e ∷ es) before = with_entries n es (with_entry n e before)

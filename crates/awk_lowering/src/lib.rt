@@ -7,15 +7,20 @@
 pub mod blocks;
 pub mod constants;
 pub mod expressions;
+mod items;
 pub mod kept;
 pub mod names;
 pub mod nodes;
 pub mod operators;
 pub mod parts;
 mod roll;
+pub mod rules;
 pub mod shapes;
 pub mod statements;
+mod tables;
 pub mod targets;
 
+pub use items::program;
 pub use names::Context;
 pub use roll::Roll;
+pub use tables::Tables;

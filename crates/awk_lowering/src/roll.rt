@@ -1,13 +1,15 @@
 // Names in the order of a script.
 
-ghost use Rattle.std.specs.Prelude.{◌≡◌, [], length, position, OnOk, OnErr};
+ghost use Rattle.std.specs.Prelude.{◌≡◌, ◌++◌, [], ◌∷◌, length, map, position, IfOk, OnOk, OnErr};
 ghost use Rattle.std.specs.Str.{bytes_eq};
 ghost use Rattle.awk_lowering.specs.Rolls.{added};
+ghost use Rattle.awk_names.specs.Kinds.{texts};
 
 use awk_text::Memory;
 use awk_text::octets::Octets;
+use awk_tree::Name;
 use indexmap::IndexSet;
-use std::alloc::Global;
+use std::alloc::{AllocError, Global};
 use std::marker::Model;
 
 /// Texts, each once, in the order in which they came. A look-up takes no more time where there are many.
@@ -33,6 +35,24 @@ impl Roll {
         }
     }
 
+    /// The texts of these names, in order, or `Memory` where one stands twice or memory is refused.
+    pub fn of_names(alloc: Global, names: &[Name]) -> Result<Roll, Memory>
+        ensures { IfOk result (λ roll. roll ≡ texts names.now) }
+    {
+        let mut roll = Roll::new(alloc);
+        for name in names {
+            roll.push(name.text.copy(alloc)?)?;
+        }
+        Ok(roll)
+    }
+
+    /// The texts, in order. Takes no memory.
+    pub fn texts(&self) -> &[Vec<u8>]
+        ensures { map (λ t. t.items) result.now ≡ self.now }
+    {
+        self.texts.as_slice()
+    }
+
     /// Where a text stands. Takes no memory.
     pub fn position(&self, text: &[u8]) -> Option<usize>
         ensures { result ≡ position (bytes_eq text.now) self.now }
@@ -54,5 +74,17 @@ impl Roll {
     {
         self.texts.insert(text.into_bytes())?;
         Ok(())
+    }
+
+    /// Puts a text last, or answers `Memory`, with nothing changed, where it is there already or
+    /// memory is refused.
+    pub fn push(&mut self, text: Octets) -> Result<(), Memory>
+        ensures ok { OnOk result (self.new ≡ self.old ++ text ∷ []) }
+        ensures err { OnErr result (self.new ≡ self.old) }
+    {
+        match self.position(text.bytes()) {
+            Some(_) => Err(AllocError),
+            None => self.add(text),
+        }
     }
 }

@@ -1,3 +1,4 @@
+pub mod Making
 pub mod Flawless
 pub mod Twice
 pub mod Again

@@ -15,6 +15,10 @@ use Rattle.awk_names.specs.Faultless.{Faultless}
 use Rattle.awk_kinds.specs.Marks.{AreKinds}
 use Rattle.awk_kinds.specs.Slots.{AreSlots}
 use Rattle.awk_binding.specs.Binding.{bound}
+use Rattle.awk_program.specs.View.{view_program, names_of}
+use Rattle.awk_lowering.specs.Programs.{program}
+use Rattle.awk_tables.specs.Tables.{tables}
+use Rattle.awk_tables.specs.Sound.{Sound}
 use Rattle.awk_parse.specs.Flaws as flaws
 use Rattle.awk_parse.specs.Flaws.{Flawed}
 use Rattle.awk_parse.specs.declared.flaw.Flaw.{Flaw}
@@ -25,12 +29,16 @@ abbrev pub tree : Script → List Entry
 tree s = map view_item s.tree.items
 
 -- A script of these items: no word and no name of them stands where it cannot, no name is of two
--- kinds, and its tree is the items with what each name stands for, which tells the names that it uses apart.
+-- kinds, its tree is the items with what each name stands for, which tells the names that it uses apart, and its program is what they stand for.
 pub record IsScriptOf (items : List Entry) (s : Script) : Type 0 where
   pub faultless : Faultless (map part items)
   pub kinds : AreKinds (map part items) s.kinds
   pub slots : AreSlots (map part items) s.kinds
   pub bound : tree s ≡ bound s.kinds items
+  -- the program that the items stand for, by the tables of their names
+  pub program : view_program s.program ≡ program (tables s.kinds (map part items)) items
+  -- whose variables are told apart by their names, and awk's own have their slots
+  pub sound : Sound (names_of s.program)
   pub environ : s.names_environ ≡ names.names_environ (map part items)
   pub main : s.reads_main ≡ names.reads_main (map part items)
 

@@ -17,7 +17,10 @@ ghost use Rattle.awk_tree.specs.View.{view_item};
 use crate::flaw::Flaw;
 use awk_binding::bind;
 use awk_kinds::Kinds;
+use awk_lowering::kept::both;
 use awk_names::{Part, misdefined, misplaced, names_environ, parts, reads_main};
+use awk_program::Program;
+use awk_tables::lower;
 use awk_text::Memory;
 use awk_tokens::Token;
 use awk_tree::Item;
@@ -27,6 +30,7 @@ use std::alloc::Global;
 #[derive(Drop)]
 pub struct Script {
     tree: awk_tree::Script,
+    program: Program,
     kinds: Kinds,
     names_environ: bool,
     reads_main: bool,
@@ -59,10 +63,12 @@ impl Script {
         ensures flawed { IfErr result (λ flaw. Flawed (map part (map view_item items.now)) flaw) }
     {
         let kinds = kinds(alloc, parts)?;
-        match bind(alloc, &kinds, items) {
+        let program = lower(alloc, &kinds, parts, items);
+        match both(bind(alloc, &kinds, items), program) {
             Err(_) => Err(Flaw::Memory),
-            Ok(bound) => Ok(Script {
+            Ok((bound, program)) => Ok(Script {
                 tree: awk_tree::Script::new(bound),
+                program,
                 kinds,
                 names_environ: names_environ(parts),
                 reads_main: reads_main(parts),
@@ -85,6 +91,13 @@ impl Script {
         ensures { result.now ≡ self.now.tree.items }
     {
         self.tree.items()
+    }
+
+    /// The script in the form that runs. Takes no memory.
+    pub fn program(&self) -> &Program
+        ensures { result.now ≡ self.now.program }
+    {
+        &self.program
     }
 
     /// What each name of the script is used as. Takes no memory.

@@ -1,0 +1,8 @@
+use Rattle.std.proofs.Common.{rules, refl}
+use Rattle.awk_lowering.proofs.rules.range.Goals as goal
+
+pub returns-in_err-x : goal.returns-in_err-x
+returns-in_err-x c = λ t a b h0 h1. search rules
+
+pub returns : goal.returns
+returns c = λ t a b h0 h1. let p0 = rw c.in_ok-x.ensures.0 at h0 in let p1 = rw c.in_ok-x.ensures.1 at h1 in rw (p0, p1) refl

@@ -1,0 +1,191 @@
+// The items of a script.
+
+ghost use Rattle.std.specs.Prelude.{◌≡◌, [], map, IfOk, OnOk};
+ghost use Rattle.awk_lowering.specs.Made.{AreStatements, names_in, scope_in};
+ghost use Rattle.awk_lowering.specs.MadeRules.{IsWhen, IsRule, IsFunction, tables_in};
+ghost use Rattle.awk_lowering.specs.Programs as spec;
+ghost use Rattle.awk_names.specs.Kinds.{texts};
+ghost use Rattle.awk_program.specs.Program as p;
+ghost use Rattle.awk_program.specs.View as code;
+ghost use Rattle.awk_tree.specs.View.{view_item, view_pattern, view_statement};
+
+use crate::blocks::print_of;
+use crate::expressions::expression;
+use crate::kept::{finished, only, push};
+use crate::names::Context;
+use crate::roll::Roll;
+use crate::rules::{function_of, holds, range, rule_of};
+use crate::statements::statements;
+use crate::tables::Tables;
+use awk_program::{Function, Name, Program, Rule, Statement, When};
+use awk_text::Memory;
+use awk_text::octets::Octets;
+use awk_text::place::Place;
+use awk_tree::{Item, Pattern};
+use sqlite_items::Items;
+use std::alloc::Global;
+
+/// No tree is so deep: each level is a box of its own, and so many boxes have no room in memory.
+const DEEPEST: u32 = u32::MAX;
+
+/// What an item is read in that has these parameters.
+fn within<'a>(
+    alloc: Global,
+    tables: &'a Tables,
+    parameters: &'a Roll,
+    own_arrays: &'a [bool],
+) -> Context<'a>
+    ensures names { names_in result ≡ tables.now.variables }
+    ensures scope { scope_in result ≡ spec.scope_with (tables_in tables.now) parameters.now own_arrays.now }
+{
+    Context {
+        alloc,
+        variables: &tables.variables,
+        script_arrays: tables.script_arrays.as_slice(),
+        functions: &tables.functions,
+        arrays: tables.arrays.as_slice(),
+        parameters,
+        own_arrays,
+    }
+}
+
+/// Of each parameter of a function whether it is an array.
+fn flags<'a>(tables: &'a Tables, name: &[u8]) -> &'a [bool]
+    ensures { result.now ≡ spec.flags (tables_in tables.now) name.now }
+{
+    match tables.functions.position(name) {
+        Some(n) => match tables.arrays.as_slice().get(n) {
+            Some(arrays) => arrays.as_slice(),
+            None => &[],
+        },
+        None => &[],
+    }
+}
+
+fn action(context: &Context<'_>, body: &[awk_tree::Statement]) -> Result<Items<Statement>, Memory>
+    ensures { AreStatements (names_in context.now) result (spec.body (scope_in context.now) (map view_statement body.now)) }
+{
+    statements(context, body, DEEPEST)
+}
+
+/// What a missing action means.
+fn printed(alloc: Global) -> Result<Items<Statement>, Memory>
+    ensures { (t : code.Names) → AreStatements t result spec.printed }
+{
+    let nowhere = Place { line: 0, column: 0 };
+    only(alloc, print_of(nowhere, Ok(Items::new(alloc)), Ok(None)))
+}
+
+fn when(context: &Context<'_>, pattern: &Pattern) -> Result<When, Memory>
+    ensures { IsWhen (names_in context.now) result (spec.when_of (scope_in context.now) (view_pattern pattern.now)) }
+{
+    match pattern {
+        Pattern::Expr(x) => holds(expression(context, x, DEEPEST)),
+        Pattern::Range(x, y) => {
+            let x = expression(context, x, DEEPEST);
+            range(x, expression(context, y, DEEPEST))
+        }
+    }
+}
+
+/// `action` by itself
+fn always(context: &Context<'_>, body: &[awk_tree::Statement]) -> Result<Rule, Memory>
+    ensures { IsRule (names_in context.now) result (spec.rule_of p.always (spec.body (scope_in context.now) (map view_statement body.now))) }
+{
+    rule_of(Ok(When::Always), action(context, body))
+}
+
+/// `pattern` by itself
+fn shown(context: &Context<'_>, pattern: &Pattern) -> Result<Rule, Memory>
+    ensures { IsRule (names_in context.now) result (spec.rule_of (spec.when_of (scope_in context.now) (view_pattern pattern.now)) spec.printed) }
+{
+    let when = when(context, pattern);
+    rule_of(when, printed(context.alloc))
+}
+
+/// `pattern action`
+fn rule(
+    context: &Context<'_>,
+    pattern: &Pattern,
+    body: &[awk_tree::Statement],
+) -> Result<Rule, Memory>
+    ensures { IsRule (names_in context.now) result (spec.rule_of (spec.when_of (scope_in context.now) (view_pattern pattern.now)) (spec.body (scope_in context.now) (map view_statement body.now))) }
+{
+    let when = when(context, pattern);
+    rule_of(when, action(context, body))
+}
+
+fn function(alloc: Global, tables: &Tables, f: &awk_tree::Function) -> Result<Function, Memory>
+    ensures { IsFunction tables.now.variables result (spec.function_of (tables_in tables.now) f.now.name.text (texts f.now.params) (map view_statement f.now.body)) }
+{
+    let parameters = Roll::of_names(alloc, f.params.as_slice())?;
+    let flags = flags(tables, f.name.text.bytes());
+    let context = within(alloc, tables, &parameters, flags);
+    let body = action(&context, f.body.as_slice());
+    function_of(
+        f.name.text.copy(alloc),
+        Items::from_slice(alloc, flags),
+        body,
+    )
+}
+
+/// Puts what an item is behind the others of its kind.
+fn add(alloc: Global, tables: &Tables, item: &Item, out: &mut Program) -> Result<(), Memory>
+    ensures { OnOk result (code.view_by tables.now.variables out.new ≡ spec.with_entry (tables_in tables.now) (view_item item.now) (code.view_by tables.now.variables out.old)) }
+{
+    let none = Roll::new(alloc);
+    let context = within(alloc, tables, &none, &[]);
+    match item {
+        Item::Begin(body) => push(&mut out.begin, action(&context, body.as_slice())),
+        Item::End(body) => push(&mut out.end, action(&context, body.as_slice())),
+        Item::Always(body) => push(&mut out.rules, always(&context, body.as_slice())),
+        Item::Shown(x) => push(&mut out.rules, shown(&context, x)),
+        Item::Rule(x, body) => push(&mut out.rules, rule(&context, x, body.as_slice())),
+        Item::Function(f) => push(&mut out.functions, function(alloc, tables, f)),
+    }
+}
+
+fn add_all(alloc: Global, tables: &Tables, items: &[Item], out: &mut Program) -> Result<(), Memory>
+    ensures { OnOk result (code.view_by tables.now.variables out.new ≡ spec.with_entries (tables_in tables.now) (map view_item items.now) (code.view_by tables.now.variables out.old)) }
+{
+    for item in items {
+        add(alloc, tables, item, out)?;
+    }
+    Ok(())
+}
+
+/// The variables of a script, by their slots.
+fn named(alloc: Global, texts: &[Vec<u8>], are: &[bool]) -> Result<Items<Name>, Memory>
+    ensures { IfOk result (λ made. made ≡ spec.names (map (λ t. t.items) texts.now) are.now) }
+{
+    let mut out = Items::new(alloc);
+    for text in texts {
+        let is_array = are.get(out.len()).copied().unwrap_or(false);
+        let text = Octets::new(Vec::from_slice(alloc, text.as_slice())?);
+        out.push(Name { text, is_array })?;
+    }
+    Ok(out)
+}
+
+fn empty(alloc: Global, variables: Items<Name>) -> Program
+    ensures { result ≡ record { variables = variables; functions = []; begin = []; rules = []; end = [] } }
+{
+    Program {
+        variables,
+        functions: Items::new(alloc),
+        begin: Items::new(alloc),
+        rules: Items::new(alloc),
+        end: Items::new(alloc),
+    }
+}
+
+/// The program of these items, or `Memory` where memory is refused.
+pub fn program(alloc: Global, tables: &Tables, items: &[Item]) -> Result<Program, Memory>
+    ensures { IfOk result (λ made. code.view_program made ≡ spec.program (tables_in tables.now) (map view_item items.now)) }
+{
+    let texts = tables.variables.texts();
+    let variables = named(alloc, texts, tables.script_arrays.as_slice())?;
+    let mut out = empty(alloc, variables);
+    let filled = add_all(alloc, tables, items, &mut out);
+    finished(out, filled)
+}

@@ -1,0 +1,59 @@
+// Rules and functions of parts that are made already. A part that was refused refuses the whole.
+
+ghost use Rattle.std.specs.Prelude.{◌≡◌, Bool, List, IfOk};
+ghost use Rattle.awk_lowering.specs.Made.{Is, AreStatements};
+ghost use Rattle.awk_lowering.specs.MadeRules.{IsWhen, IsRule, IsFunction};
+ghost use Rattle.awk_lowering.specs.Programs as spec;
+ghost use Rattle.awk_program.specs.Program as p;
+ghost use Rattle.awk_program.specs.Program.{Expression};
+ghost use Rattle.awk_program.specs.Slots.{Text};
+ghost use Rattle.awk_program.specs.View.{Names};
+
+use crate::kept::both;
+use awk_program::{Expr, Function, Rule, Statement, When};
+use awk_text::Memory;
+use awk_text::octets::Octets;
+use sqlite_items::Items;
+
+/// Records for which this holds
+pub fn holds(x: Result<Expr, Memory>) -> Result<When, Memory>
+    ensures { (t : Names) (a : Expression) → Is t x a → IsWhen t result (p.holds a) }
+{
+    let x = x?;
+    Ok(When::Holds(x))
+}
+
+/// `first , last`
+pub fn range(x: Result<Expr, Memory>, y: Result<Expr, Memory>) -> Result<When, Memory>
+    ensures { (t : Names) (a b : Expression) → Is t x a → Is t y b → IsWhen t result (p.range a b) }
+{
+    let (x, y) = both(x, y)?;
+    Ok(When::Range(x, y))
+}
+
+/// `pattern action`
+pub fn rule_of(
+    when: Result<When, Memory>,
+    action: Result<Items<Statement>, Memory>,
+) -> Result<Rule, Memory>
+    ensures { (t : Names) (a : p.When) (b : List p.Statement) → IsWhen t when a → AreStatements t action b → IsRule t result (spec.rule_of a b) }
+{
+    let (when, action) = both(when, action)?;
+    Ok(Rule { when, action })
+}
+
+/// `function name ( parameters ) body`
+pub fn function_of(
+    name: Result<Octets, Memory>,
+    parameters: Result<Items<bool>, Memory>,
+    body: Result<Items<Statement>, Memory>,
+) -> Result<Function, Memory>
+    ensures { (t : Names) (n : Text) (are : List Bool) (b : List p.Statement) → IfOk name (λ m. m ≡ n) → IfOk parameters (λ m. m ≡ are) → AreStatements t body b → IsFunction t result (record { name = n; parameters = are; body = b }) }
+{
+    let (name, (parameters, body)) = both(name, both(parameters, body))?;
+    Ok(Function {
+        name,
+        parameters,
+        body,
+    })
+}
