@@ -46,7 +46,12 @@ pub fn sites(alloc: Global, script: &Script) -> Result<Vec<Site>, Memory>
     ensures { IfOk result (λ sites. (items : List Entry) → IsScriptOf items script.now → IsListingOf script.now items sites.items) }
 {
     let order = order_of(alloc, script.items())?;
-    listed(alloc, script.program(), order.as_slice(), script.names_environ())
+    listed(
+        alloc,
+        script.program(),
+        order.as_slice(),
+        script.names_environ(),
+    )
 }
 
 /// What a policy says of all runs of a script, before any: of its sites, `Refused` with those whose text is known and
@@ -56,5 +61,11 @@ pub fn check(alloc: Global, script: &Script, policy: &Policy) -> Result<Verdict,
     ensures { IfOk result (λ verdict. (items : List Entry) → IsScriptOf items script.now → IsVerdictOf script.now items policy.now verdict) }
 {
     let order = order_of(alloc, script.items())?;
-    checked(alloc, script.program(), order.as_slice(), script.names_environ(), policy)
+    checked(
+        alloc,
+        script.program(),
+        order.as_slice(),
+        script.names_environ(),
+        policy,
+    )
 }
