@@ -2,4 +2,5 @@ pub mod Sites
 pub mod Listings
 pub mod Verdicts
 pub mod Lines
+pub mod Scripts
 pub mod Walks

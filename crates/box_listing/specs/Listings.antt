@@ -9,6 +9,7 @@ use Rattle.box_policy.specs.declared.policy.Kind.{Kind}
 use Rattle.box_policy.specs.declared.policy.Kind.TheVariants.{Read, Env, Assign}
 use Rattle.box_policy.specs.Decisions.{kind_number}
 use Rattle.box_listing.specs.declared.site.Site.{Site}
+use Rattle.box_listing.specs.declared.site.Sort.{Sort}
 use Rattle.box_listing.specs.declared.site.Found.{Found}
 use Rattle.box_listing.specs.declared.site.Found.TheVariants.{MainInput, At}
 use Rattle.box_listing.specs.Sites.{found}
@@ -61,6 +62,6 @@ pub record IsInOrder (xs ys : List Site) : Type 0 where
   pub sorted : IsSorted compared ys
   pub stable : IsStable compared xs ys
 
--- the listing of a program, which names ENVIRON or not
-abbrev pub IsListing : Program → Bool → List Site → Type 0
-IsListing program names sites = IsInOrder (sites_of (found program) names) sites
+-- the listing of a program, by the order of its items in the script, which names ENVIRON or not
+abbrev pub IsListing : Program → List Sort → Bool → List Site → Type 0
+IsListing program order names sites = IsInOrder (sites_of (found order program) names) sites

@@ -12,6 +12,8 @@ use Rattle.awk_program.specs.declared.operators.Redirect.TheVariants as to
 use Rattle.awk_program.specs.declared.statements.Redirection.{Redirection}
 use Rattle.box_policy.specs.declared.policy.Kind.{Kind}
 use Rattle.box_policy.specs.declared.policy.Kind.TheVariants.{Read, Write, Append, Run}
+use Rattle.box_listing.specs.declared.site.Sort.{Sort}
+use Rattle.box_listing.specs.declared.site.Sort.TheVariants as sort
 use Rattle.box_listing.specs.declared.site.Found.{Found}
 use Rattle.box_listing.specs.declared.site.Found.TheVariants.{MainInput, At}
 
@@ -178,5 +180,18 @@ abbrev pub records : List Rule → List (List Statement) → List Found
 records [] [] = []
 records rules end = MainInput ∷ []
 
-abbrev pub found : Program → List Found
-found x = records x.rules x.end ++ (actions x.begin ++ (rules x.rules ++ (actions x.end ++ functions x.functions)))
+-- The items in the order of these sorts, each the next one of its sort, and then the others.
+abbrev pub items : List Sort → List (List Statement) → List Rule → List (List Statement) → List Function → List Found
+items [] begin rs end fs = actions begin ++ (rules rs ++ (actions end ++ functions fs))
+items (sort.Begin ∷ more) [] rs end fs = items more [] rs end fs
+items (sort.Begin ∷ more) (x ∷ begin) rs end fs = all_done x ++ items more begin rs end fs
+items (sort.Rule ∷ more) begin [] end fs = items more begin [] end fs
+items (sort.Rule ∷ more) begin (x ∷ rs) end fs = rule x ++ items more begin rs end fs
+items (sort.End ∷ more) begin rs [] fs = items more begin rs [] fs
+items (sort.End ∷ more) begin rs (x ∷ end) fs = all_done x ++ items more begin rs end fs
+items (sort.Function ∷ more) begin rs end [] = items more begin rs end []
+items (sort.Function ∷ more) begin rs end (f ∷ fs) = all_done f.body ++ items more begin rs end fs
+
+-- by the order of the items in the script
+abbrev pub found : List Sort → Program → List Found
+found order x = records x.rules x.end ++ items order x.begin x.rules x.end x.functions

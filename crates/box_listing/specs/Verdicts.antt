@@ -9,6 +9,7 @@ use Rattle.box_policy.specs.Decisions.{decision}
 use Rattle.box_policy.specs.Rulebook.{Rulebook}
 use Rattle.box_listing.specs.Listings.{IsListing}
 use Rattle.box_listing.specs.declared.site.Site.{Site}
+use Rattle.box_listing.specs.declared.site.Sort.{Sort}
 use Rattle.box_listing.specs.declared.verdict.Verdict.{Verdict}
 use Rattle.box_listing.specs.declared.verdict.Verdict.TheVariants.{Clean, Open, Refused}
 
@@ -38,7 +39,7 @@ abbrev pub verdict : Rulebook → List Site → Verdict
 verdict book sites = verdict_by (filter (is_denied book) sites) (filter is_open sites)
 
 -- the verdict on the listing of a program, which names ENVIRON or not
-pub record IsVerdict (program : Program) (names : Bool) (book : Rulebook) (result : Verdict) : Type 0 where
+pub record IsVerdict (program : Program) (order : List Sort) (names : Bool) (book : Rulebook) (result : Verdict) : Type 0 where
   pub sites : List Site
-  pub listing : IsListing program names sites
+  pub listing : IsListing program order names sites
   pub is : result ≡ verdict book sites

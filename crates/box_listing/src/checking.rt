@@ -5,6 +5,7 @@ ghost use Rattle.awk_program.specs.View.{view_program};
 ghost use Rattle.box_listing.specs.Verdicts.{IsVerdict};
 
 use crate::listing::listed;
+use crate::site::Sort;
 use crate::verdict::{Verdict, judge};
 use awk_program::Program;
 use awk_text::Memory;
@@ -12,15 +13,16 @@ use box_policy::policy::Policy;
 use std::alloc::Global;
 
 /// What a policy says of all runs of a program: its sites are listed and judged, as `listed` and `judge` do.
-/// `names_environ` says that the script names ENVIRON. `Memory` where memory is refused.
+/// `order` and `names_environ` are what they are there. `Memory` where memory is refused.
 pub fn checked(
     alloc: Global,
     program: &Program,
+    order: &[Sort],
     names_environ: bool,
     policy: &Policy,
 ) -> Result<Verdict, Memory>
-    ensures { IfOk result (IsVerdict (view_program program.now) names_environ policy.now) }
+    ensures { IfOk result (IsVerdict (view_program program.now) order.now names_environ policy.now) }
 {
-    let sites = listed(alloc, program, names_environ)?;
+    let sites = listed(alloc, program, order, names_environ)?;
     judge(alloc, policy, sites)
 }

@@ -12,12 +12,14 @@ mod lines;
 mod listing;
 mod order;
 mod program;
-pub mod site;
+mod scripts;
+mod site;
 mod statements;
-pub mod verdict;
+mod verdict;
 
 pub use checking::checked;
 pub use lines::{line_of, lines_of, verdict_lines};
 pub use listing::listed;
-pub use site::Site;
+pub use scripts::{check, sites};
+pub use site::{Site, Sort};
 pub use verdict::{Sites, Verdict, judge};

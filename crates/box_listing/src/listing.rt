@@ -7,7 +7,7 @@ ghost use Rattle.box_listing.specs.Listings.{IsListing};
 
 use crate::order::in_order;
 use crate::program::found;
-use crate::site::{Found, Site};
+use crate::site::{Found, Site, Sort};
 use awk_program::Program;
 use awk_text::Memory;
 use awk_text::place::Place;
@@ -73,12 +73,18 @@ fn push_placed(xs: Vec<Found>, sites: &mut Vec<Site>) -> Result<(), Memory>
 }
 
 /// What a program may ask, at each place where a run of it can ask: the sites in order of place, then of
-/// kind, and then as the program has them. `names_environ` says that the script names ENVIRON. `Memory`
-/// where memory is refused.
-pub fn listed(alloc: Global, program: &Program, names_environ: bool) -> Result<Vec<Site>, Memory>
-    ensures { IfOk result (λ sites. IsListing (view_program program.now) names_environ sites.items) }
+/// kind, and then as the script has them. `order` says of what sort the script's items are, in their order: it
+/// matters only where places do not tell sites apart, and items that it leaves out come last. `names_environ` says
+/// that the script names ENVIRON. `Memory` where memory is refused.
+pub fn listed(
+    alloc: Global,
+    program: &Program,
+    order: &[Sort],
+    names_environ: bool,
+) -> Result<Vec<Site>, Memory>
+    ensures { IfOk result (λ sites. IsListing (view_program program.now) order.now names_environ sites.items) }
 {
-    let found = found(alloc, program)?;
+    let found = found(alloc, program, order)?;
     let mut sites = started(alloc, reads_main(found.as_slice()), names_environ)?;
     push_placed(found, &mut sites)?;
     in_order(&mut sites)?;

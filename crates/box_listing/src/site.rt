@@ -12,9 +12,27 @@ pub struct Site {
     pub text: Option<Octets>,
 }
 
-/// What is found in a program: a part that reads the main input, or a site that has a place.
+/// What the walk finds: a part that reads the main input, or a site that has a place.
 #[derive(Drop)]
 pub enum Found {
     MainInput,
     At(Site),
+}
+
+/// What an item of a script is: an action of BEGIN or of END, a rule for records, or a function.
+#[derive(Clone, Copy, Debug, PartialEq, Eq, Drop)]
+pub enum Sort {
+    Begin,
+    Rule,
+    End,
+    Function,
+}
+
+/// How many items of each sort are behind.
+#[derive(Clone, Copy, Drop)]
+pub struct Behind {
+    pub begin: usize,
+    pub rules: usize,
+    pub end: usize,
+    pub functions: usize,
 }

@@ -8,7 +8,7 @@ use Rattle.awk_text.specs.Escapes.{unescaped}
 use Rattle.awk_text.specs.declared.value.Value.{Value}
 use Rattle.awk_text.specs.declared.value.Value.TheVariants as v
 use Rattle.awk_program.specs.Slots.{Text}
-use Rattle.awk_program.specs.Program.{global}
+use Rattle.awk_program.specs.Program.{Statement, Rule, Function, global}
 use Rattle.box_policy.specs.declared.policy.Kind.TheVariants.{Read, Env, Assign}
 use Rattle.box_world.specs.declared.ask.Reply.{Reply}
 use Rattle.box_world.specs.Events.{Named, Shuts, Want, Event, Stream, open_streams}
@@ -27,6 +27,8 @@ use Rattle.awk_machine.specs.Questions as q
 use Rattle.awk_machine.specs.State.{State, Course, Given, Beginning, Ruling, Ending}
 use Rattle.awk_machine.specs.Streams.{want, seen}
 use Rattle.box_listing.specs.declared.site.Site.{Site}
+use Rattle.box_listing.specs.declared.site.Sort.{Sort}
+use Rattle.box_listing.specs.declared.site.Sort.TheVariants as sort
 use Rattle.box_listing.specs.declared.site.Found.{Found}
 use Rattle.box_listing.specs.declared.site.Found.TheVariants as found
 use Rattle.box_listing.specs.Listings as l
@@ -34,7 +36,7 @@ use Rattle.box_listing.specs.Listings.{IsListing, at_start, sites_of}
 use Rattle.box_listing.specs.Sites as s
 use Rattle.listing_laws.specs.Covers.{IsCoveredAt, IsCovered, AllCovered, subject_of_want}
 use Rattle.listing_laws.proofs.Standing.{Listed, Holds, Sub, Wanted, IsWanted, handed_by, done_by, Kept, Knows, Fit, EnvironFit, Stack, Ready, Keeps, Whole}
-use Rattle.listing_laws.proofs.Steps.{front, back, hand, ended}
+use Rattle.listing_laws.proofs.Steps.{front, back, both, hand, ended}
 use Rattle.listing_laws.proofs.Forms.{values, targets, patterns, terms, texts, ands, ors, members, pipes}
 use Rattle.listing_laws.proofs.Doing.{statements, tested, behind}
 use Rattle.listing_laws.proofs.Tasks as t
@@ -203,9 +205,37 @@ module _ (sites : List Site) where
   all_held (found.At site ∷ xs) h main =
       (h site (0, omega arith, refl), all_held xs (λ other c. h other (Contains-append_right (site ∷ []) (l.placed xs) other c)) main)
 
-  whole : (g : Given) → IsListing g.program g.names_environ sites → Whole Is g
-  whole g listing =
-      let xs = s.found g.program in
+  -- in whatever order, no item is left out
+  all_items : (order : List Sort) (begin : List (List Statement)) (rs : List Rule) (end : List (List Statement)) (fs : List Function) → Sub Is (s.items order begin rs end fs) →
+      Sub Is (s.actions begin) × Sub Is (s.rules rs) × Sub Is (s.actions end) × Sub Is (s.functions fs)
+  all_items [] begin rs end fs h =
+      let i = back Is (s.actions begin) (s.rules rs ++ (s.actions end ++ s.functions fs)) h in
+      let j = back Is (s.rules rs) (s.actions end ++ s.functions fs) i in (
+        front Is (s.actions begin) (s.rules rs ++ (s.actions end ++ s.functions fs)) h,
+        front Is (s.rules rs) (s.actions end ++ s.functions fs) i,
+        front Is (s.actions end) (s.functions fs) j,
+        back Is (s.actions end) (s.functions fs) j,
+      )
+  all_items (sort.Begin ∷ more) [] rs end fs h = all_items more [] rs end fs h
+  all_items (sort.Begin ∷ more) (x ∷ begin) rs end fs h =
+      let i = all_items more begin rs end fs (back Is (s.all_done x) (s.items more begin rs end fs) h) in
+      (both Is (s.all_done x) (s.actions begin) (front Is (s.all_done x) (s.items more begin rs end fs) h) i.0, i.1, i.2, i.3)
+  all_items (sort.Rule ∷ more) begin [] end fs h = all_items more begin [] end fs h
+  all_items (sort.Rule ∷ more) begin (x ∷ rs) end fs h =
+      let i = all_items more begin rs end fs (back Is (s.rule x) (s.items more begin rs end fs) h) in
+      (i.0, both Is (s.rule x) (s.rules rs) (front Is (s.rule x) (s.items more begin rs end fs) h) i.1, i.2, i.3)
+  all_items (sort.End ∷ more) begin rs [] fs h = all_items more begin rs [] fs h
+  all_items (sort.End ∷ more) begin rs (x ∷ end) fs h =
+      let i = all_items more begin rs end fs (back Is (s.all_done x) (s.items more begin rs end fs) h) in
+      (i.0, i.1, both Is (s.all_done x) (s.actions end) (front Is (s.all_done x) (s.items more begin rs end fs) h) i.2, i.3)
+  all_items (sort.Function ∷ more) begin rs end [] h = all_items more begin rs end [] h
+  all_items (sort.Function ∷ more) begin rs end (f ∷ fs) h =
+      let i = all_items more begin rs end fs (back Is (s.all_done f.body) (s.items more begin rs end fs) h) in
+      (i.0, i.1, i.2, both Is (s.all_done f.body) (s.functions fs) (front Is (s.all_done f.body) (s.items more begin rs end fs) h) i.3)
+
+  whole : (g : Given) (order : List Sort) → IsListing g.program order g.names_environ sites → Whole Is g
+  whole g order listing =
+      let xs = s.found order g.program in
       let reads = l.reads_main xs in
       let into : (site : Site) → Contains (sites_of xs g.names_environ) site → Contains sites site =
       λ site c. Contains-permutation (sites_of xs g.names_environ) sites site listing.same c in
@@ -214,20 +244,19 @@ module _ (sites : List Site) where
       let others : (site : Site) → Contains (l.placed xs) site → Contains sites site =
       λ site c. into site (Contains-append_right (l.started reads g.names_environ) (l.placed xs) site c) in
       let all = all_held xs others (held_main reads g.names_environ first_ones) in
-      let i = back Is (s.records g.program.rules g.program.end) (s.actions g.program.begin ++ (s.rules g.program.rules ++ (s.actions g.program.end ++ s.functions g.program.functions))) all in
-      let j = back Is (s.actions g.program.begin) (s.rules g.program.rules ++ (s.actions g.program.end ++ s.functions g.program.functions)) i in
-      let k = back Is (s.rules g.program.rules) (s.actions g.program.end ++ s.functions g.program.functions) j in
+      let i = all_items order g.program.begin g.program.rules g.program.end g.program.functions
+      (back Is (s.records g.program.rules g.program.end) (s.items order g.program.begin g.program.rules g.program.end g.program.functions) all) in
       record {
-        records = front Is (s.records g.program.rules g.program.end) (s.actions g.program.begin ++ (s.rules g.program.rules ++ (s.actions g.program.end ++ s.functions g.program.functions))) all;
-        begin = front Is (s.actions g.program.begin) (s.rules g.program.rules ++ (s.actions g.program.end ++ s.functions g.program.functions)) i;
-        rules = front Is (s.rules g.program.rules) (s.actions g.program.end ++ s.functions g.program.functions) j;
-        end = front Is (s.actions g.program.end) (s.functions g.program.functions) k;
-        functions = back Is (s.actions g.program.end) (s.functions g.program.functions) k;
+        records = front Is (s.records g.program.rules g.program.end) (s.items order g.program.begin g.program.rules g.program.end g.program.functions) all;
+        begin = i.0;
+        rules = i.1;
+        end = i.2;
+        functions = i.3;
         environ = held_environ reads g.names_environ first_ones;
       }
 
-  pub wanted : (g : Given) (events : List Event) (o : Outcome) (n : ℕ) (last : Option Want) → IsListing g.program g.names_environ sites → Plays g events o n last → AllWanted Is events
-  wanted g events o n last listing x = all_wanted Is g events o n last (whole g listing) x
+  pub wanted : (g : Given) (order : List Sort) (events : List Event) (o : Outcome) (n : ℕ) (last : Option Want) → IsListing g.program order g.names_environ sites → Plays g events o n last → AllWanted Is events
+  wanted g order events o n last listing x = all_wanted Is g events o n last (whole g order listing) x
 
   plain : (place : Place) (given : Bool) (o : Option Subject) → Wanted Is place given o → IsCoveredAt sites place o
   plain place given None h = tt
@@ -238,4 +267,4 @@ module _ (sites : List Site) where
   each_covered (e ∷ es) h = All-cons (IsCovered sites) e es (plain e.want.place e.want.given (subject_of_want e.want) h.0) (each_covered es h.1)
 
 pub all_covered : AllCovered
-all_covered g sites events o n last listing x = each_covered sites events (wanted sites g events o n last listing x)
+all_covered g order sites events o n last listing x = each_covered sites events (wanted sites g order events o n last listing x)

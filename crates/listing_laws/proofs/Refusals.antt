@@ -98,9 +98,9 @@ module _ (book : Rulebook) (sites : List Site) where
       All-cons (IsAllowed book) e es (allowed e.want.place e.want.given (subject_of_want e.want) none known h.0) (each_allowed es none known h.1)
 
 pub none_denied : NoneDenied
-none_denied g book sites events o n last listing clean x =
+none_denied g order book sites events o n last listing clean x =
     let both = clean_by (filter (is_denied book) sites) (filter is_open sites) clean in
-    each_allowed book sites events both.0 both.1 (wanted sites g events o n last listing x)
+    each_allowed book sites events both.0 both.1 (wanted sites g order events o n last listing x)
 
 pub refused_denied : RefusedDenied
 refused_denied book sites refused site place subject is c covers =

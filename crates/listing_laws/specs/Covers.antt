@@ -11,6 +11,7 @@ use Rattle.box_monitor.specs.Subjects.{Subject, subject_of}
 use Rattle.box_listing.specs.Listings.{IsListing}
 use Rattle.box_listing.specs.Verdicts.{verdict}
 use Rattle.box_listing.specs.declared.site.Site.{Site}
+use Rattle.box_listing.specs.declared.site.Sort.{Sort}
 use Rattle.box_listing.specs.declared.verdict.Verdict.TheVariants.{Clean, Refused}
 
 -- ---- covering
@@ -49,14 +50,14 @@ IsAllowed book e = denial_at book e.want.place e.want.given (subject_of_want e.w
 -- each request of each run that a policy could deny is covered by a site of the listing
 abbrev pub AllCovered : Type 0
 AllCovered =
-    (g : Given) (sites : List Site) (events : List Event) (o : Outcome) (n : ℕ) (last : Option Want) →
-    IsListing g.program g.names_environ sites → Plays g events o n last → All (IsCovered sites) events
+    (g : Given) (order : List Sort) (sites : List Site) (events : List Event) (o : Outcome) (n : ℕ) (last : Option Want) →
+    IsListing g.program order g.names_environ sites → Plays g events o n last → All (IsCovered sites) events
 
 -- of a script that is clean under a policy, no run has a request that the policy denies
 abbrev pub NoneDenied : Type 0
 NoneDenied =
-    (g : Given) (book : Rulebook) (sites : List Site) (events : List Event) (o : Outcome) (n : ℕ) (last : Option Want) →
-    IsListing g.program g.names_environ sites → verdict book sites ≡ Clean → Plays g events o n last → All (IsAllowed book) events
+    (g : Given) (order : List Sort) (book : Rulebook) (sites : List Site) (events : List Event) (o : Outcome) (n : ℕ) (last : Option Want) →
+    IsListing g.program order g.names_environ sites → verdict book sites ≡ Clean → Plays g events o n last → All (IsAllowed book) events
 
 -- a site that is refused has a text, and what it covers is denied where it is no operand that was given
 abbrev pub RefusedDenied : Type 0

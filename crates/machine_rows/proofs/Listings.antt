@@ -2,7 +2,8 @@
 use Rattle.std.specs.Prelude.{◌≡◌, refl, ℕ, false, List, [], ◌∷◌, length, map, codes, Option, Some, None}
 use Rattle.std.specs.Str.{is_utf8, chars}
 use lib.Utf8.{encode}
-use Rattle.awk_tree.specs.Tree.{Text}
+use Rattle.awk_tree.specs.Tree as t
+use Rattle.awk_tree.specs.Tree.{Text, Entry}
 use Rattle.awk_names.specs.Faults.{names_environ}
 use Rattle.awk_names.specs.Mentions.{part}
 use Rattle.box_policy.specs.declared.policy.Effect.TheVariants.{Allow, Deny}
@@ -12,14 +13,27 @@ use Rattle.box_policy.specs.declared.policy.Rule.{Rule}
 use Rattle.box_policy.specs.declared.policy.Effect.{Effect}
 use Rattle.box_policy.specs.Rulebook.{Rulebook}
 use Rattle.box_listing.specs.declared.site.Site.{Site}
+use Rattle.box_listing.specs.declared.site.Sort.{Sort}
+use Rattle.box_listing.specs.declared.site.Sort.TheVariants as sort
 use Rattle.box_listing.specs.declared.verdict.Verdict.TheVariants.{Clean, Open, Refused}
 use Rattle.box_listing.specs.Listings.{sites_of}
 use Rattle.box_listing.specs.Sites.{found}
 use Rattle.box_listing.specs.Verdicts.{verdict}
 use Rattle.machine_rows.proofs.Scripts.{program_of, items_of, read, rules}
 
+-- the sorts of the items of a script, in order
+abbrev order_of : List Entry → List Sort
+order_of [] = []
+order_of (t.at_begin xs ∷ more) = sort.Begin ∷ order_of more
+order_of (t.at_end xs ∷ more) = sort.End ∷ order_of more
+order_of (t.function f ps xs ∷ more) = sort.Function ∷ order_of more
+order_of (other ∷ more) = sort.Rule ∷ order_of more
+
+abbrev items : Text → List Entry
+items source = items_of (read (length source) [] source [])
+
 abbrev listed : Text → List Site
-listed source = sites_of (found (program_of [] source)) (names_environ (map part (items_of (read (length source) [] source []))))
+listed source = sites_of (found (order_of (items source)) (program_of [] source)) (names_environ (map part (items source)))
 
 abbrev site : ℕ → ℕ → Kind → Option Text → Site
 site line column kind text = record { place = record { line = line; column = column }; kind = kind; text = text }
@@ -91,6 +105,11 @@ uncalled = refl
 environment : listed (codes "{ print ENVIRON[$1] > \"x\" }") ≡ site 0 0 Read None ∷ site 0 0 Env None ∷ site 0 0 Assign None ∷ site 1 21 Write (Some (codes "x")) ∷ []
 unfolding rules
 environment = refl
+
+mixed : listed (codes "function f() { system(\"a\") } BEGIN { system(\"b\") } { system(\"c\") }")
+    ≡ site 0 0 Read None ∷ site 0 0 Assign None ∷ site 1 16 Run (Some (codes "a")) ∷ site 1 38 Run (Some (codes "b")) ∷ site 1 54 Run (Some (codes "c")) ∷ []
+unfolding rules
+mixed = refl
 
 nothing : listed (codes "BEGIN { x = 1 }") ≡ []
 unfolding rules
