@@ -1,5 +1,5 @@
 -- What asks nothing of the world, in any world: jumps, and steps.
-use Rattle.std.proofs.Common.{◌≡◌, refl, sym, ap, subst, ◌∙◌, ℕ, ◌<◌, ◌≤◌, Bool, true, false, List, [], ◌∷◌, arith}
+use Rattle.std.proofs.Common.{◌≡◌, refl, sym, ap, subst, ◌∙◌, ℕ, ◌<◌, ◌≤◌, Bool, true, false, List, ◌∷◌, arith}
 use Rattle.std.proofs.lemmas.Bool.Decides.{nat_tests}
 use Rattle.std.specs.Prelude.{Result, Ok, Err, nat_lt, if◌then◌else◌}
 use Rattle.box_world.specs.Calls.{Call}
@@ -9,8 +9,7 @@ use Rattle.awk_machine.specs.Advances.{advance}
 use Rattle.awk_machine.specs.Pieces.{Piece, Goes, Steps as Stepping, Do, Step, Cut, ends}
 use Rattle.awk_machine.specs.State.{State, Course, Given}
 use Rattle.awk_machine.specs.Streams.{seen, with_step}
-use Rattle.awk_store.specs.Changes as changes
-use Rattle.awk_store.specs.States.{Hidden, phase_of}
+use Rattle.awk_store.specs.States.{phase_of}
 use Rattle.awk_asks.specs.Chains.{Leads, Meets}
 use Rattle.awk_asks.specs.Tables.{Table}
 use Rattle.awk_asks.specs.Tasks.{goes_on, Tells}

@@ -1,6 +1,6 @@
 -- The statements that leave what is left to be done.
-use Rattle.std.proofs.Common.{◌≡◌, refl, sym, ap, subst, ◌∙◌, ℕ, ◌<◌, ◌≤◌, ◌≢◌, ℤ, Bool, true, false, List, [], ◌∷◌, arith}
-use Rattle.std.specs.Prelude.{Result, Ok, Err, Option, Some, None, pos, unsigned_abs, if◌then◌else◌}
+use Rattle.std.proofs.Common.{◌≡◌, refl, sym, ap, subst, ◌∙◌, ℕ, ◌≢◌, ℤ, List, [], ◌∷◌}
+use Rattle.std.specs.Prelude.{Result, Ok, Err, Some, None, pos, unsigned_abs}
 use Rattle.std.specs.Int.{int_rem_euclid}
 use Rattle.awk_text.specs.declared.fault.Fault.{Fault}
 use Rattle.awk_text.specs.declared.fault.Fault.TheVariants as fault
@@ -10,11 +10,9 @@ use Rattle.awk_text.specs.Values.{number_of}
 use Rattle.awk_format.specs.Directives.{◌>>=◌}
 use Rattle.awk_program.specs.Program as p
 use Rattle.awk_program.specs.Program.{Expression}
-use Rattle.awk_machine.specs.Advances.{advance, held}
-use Rattle.awk_machine.specs.Forms.{value}
-use Rattle.awk_machine.specs.Pieces.{Piece, At, Do, Doing, Value_of, Goes, Faulted, ends, granted}
+use Rattle.awk_machine.specs.Advances.{held}
+use Rattle.awk_machine.specs.Pieces.{Piece, At, Doing, Goes, Faulted, ends, granted}
 use Rattle.awk_machine.specs.State.{State, Course, Given}
-use Rattle.awk_machine.specs.State as m
 use Rattle.awk_machine.specs.Statements.{next, unwound, after_exit, to_records}
 use Rattle.awk_machine.specs.Streams.{seen}
 use Rattle.awk_store.specs.Changes as changes
@@ -24,7 +22,6 @@ use Rattle.awk_store.specs.declared.phase.Phase.{Phase}
 use Rattle.awk_store.specs.declared.phase.Phase.TheVariants as phase
 use Rattle.awk_works.specs.Numbers.{exit_status}
 use Rattle.awk_asks.specs.declared.halt.Halt.{Halt}
-use Rattle.awk_asks.specs.declared.halt.Halt.TheVariants as halt
 use Rattle.awk_asks.specs.Tables.{Table}
 use Rattle.awk_tasks.specs.Wholes.{Whole, Agreeing, base}
 use Rattle.awk_tasks.specs.Acts.{Passes, halt_at}

@@ -1,3 +1,4 @@
+pub mod Ending
 pub mod Framing
 pub mod Leading
 pub mod Leaving

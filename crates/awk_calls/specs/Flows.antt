@@ -1,5 +1,5 @@
 -- How a statement ends that is not halted, and what is left to be done then (POSIX.1-2017 XCU awk, "Actions").
-use Rattle.std.specs.Prelude.{List, [], ◌∷◌, Some, None}
+use Rattle.std.specs.Prelude.{List, Some, None}
 use Rattle.awk_machine.specs.Pieces.{Piece, give}
 use Rattle.awk_machine.specs.Statements.{after_break, after_continue, to_leave}
 use Rattle.awk_calls.specs.declared.flow.Flow.{Flow}

@@ -1,5 +1,5 @@
 -- Statements that leave what is left to be done (POSIX.1-2017 XCU awk, "Actions").
-use Rattle.std.specs.Prelude.{◌≡◌, List}
+use Rattle.std.specs.Prelude.{◌≡◌}
 use Rattle.awk_machine.specs.Pieces.{Piece, Faulted, ends}
 use Rattle.awk_machine.specs.State.{Given}
 use Rattle.awk_machine.specs.Statements.{to_records, after_exit}

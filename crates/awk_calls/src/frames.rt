@@ -32,7 +32,12 @@ fn bound(store: &Store, x: &Argument<Expr>, value: Value) -> Bound
 }
 
 /// What the first parameters hold.
-fn handed(alloc: Global, store: &Store, xs: &[Argument<Expr>], values: Vec<Value>) -> Result<Vec<Bound>, Memory>
+fn handed(
+    alloc: Global,
+    store: &Store,
+    xs: &[Argument<Expr>],
+    values: Vec<Value>,
+) -> Result<Vec<Bound>, Memory>
     ensures frame { IfOk result (λ bounds. (g : Given) (t : Table) (hid : Hidden) → machine.all_handed (base g (store.now, t) hid) (machine.arguments (view_arguments (names_in g) xs.now)) values.items ≡ map (bound_of (names_in g)) bounds.items) }
 {
     let mut given = Vec::new(alloc);
@@ -66,14 +71,27 @@ fn parameters_of(program: &Program, f: u32) -> &[bool]
 }
 
 /// Begins a call with these values, one for each argument, and answers what the caller waits with.
-pub fn begin(alloc: Global, program: &Program, place: Place, f: u32, xs: &[Argument<Expr>], values: Vec<Value>, store: &mut Store) -> Result<Caller, Halt>
+pub fn begin(
+    alloc: Global,
+    program: &Program,
+    place: Place,
+    f: u32,
+    xs: &[Argument<Expr>],
+    values: Vec<Value>,
+    store: &mut Store,
+) -> Result<Caller, Halt>
     ensures { (g : Given) (t : Table) → g.program ≡ view_program program.now → Acts g (Do (Call place f (view_arguments (names_in g) xs.now) values.items)) (begun g f) (store.old, t) result (store.new, t) }
 {
     let count = values.len();
     let Ok(given) = handed(alloc, store, xs, values) else {
         return Err(Halt::Memory);
     };
-    enter(store, place, given, others(parameters_of(program, f), count))
+    enter(
+        store,
+        place,
+        given,
+        others(parameters_of(program, f), count),
+    )
 }
 
 /// Those behind the first ones.

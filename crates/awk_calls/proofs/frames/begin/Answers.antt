@@ -1,4 +1,4 @@
-use Rattle.std.proofs.Common.{◌≡◌, sym, ap, ◌∙◌, drop, length}
+use Rattle.std.proofs.Common.{sym, ap, ◌∙◌, drop, length}
 use Rattle.awk_machine.specs.Calls.{function}
 use Rattle.awk_program.specs.View.{view_arguments}
 use Rattle.awk_tasks.specs.Wholes.{names_in}

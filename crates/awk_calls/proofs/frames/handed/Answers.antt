@@ -1,4 +1,4 @@
-use Rattle.std.proofs.Common.{◌≡◌, ◌∷◌, [], length, sym, ap, subst, ◌∙◌, arith}
+use Rattle.std.proofs.Common.{◌≡◌, ◌∷◌, length, sym, ap, subst, ◌∙◌, arith}
 use Rattle.std.specs.Vec.Iter.{into_iter_items}
 use Rattle.awk_tasks.specs.Wholes.{base, names_in}
 use Rattle.awk_calls.proofs.Framing.{HandedTo, handed_more, handed_all, handed_past, is_there, is_past, nothing_left}
@@ -18,7 +18,7 @@ loop-value-preserved c =
       λ g t hid.
           let s = base g (c.args.store.now, t) hid in
           let h : HandedTo (names_in g) s c.args.xs.now c.args.values.items at.given.items (c.in-Some.value ∷ into_iter_items c.next.new.self)
-              = subst (λ ws. HandedTo (names_in g) s c.args.xs.now c.args.values.items at.given.items ws) steps (at.invariant.0 g t hid) in
+          = subst (λ ws. HandedTo (names_in g) s c.args.xs.now c.args.values.items at.given.items ws) steps (at.invariant.0 g t hid) in
           subst (λ bs. HandedTo (names_in g) s c.args.xs.now c.args.values.items bs (into_iter_items c.next.new.self)) (sym c.in_ok-push.ensures.items)
           (handed_more (names_in g) s c.args.xs.now c.args.values.items at.given.items c.in-Some-get.x.now c.in-Some.value (into_iter_items c.next.new.self) c.bound.result h found (c.bound.ensures g t hid)),
       let was = at.invariant.1 in
