@@ -1,22 +1,17 @@
 -- The steps that answers about parts of a run are made of, beside those of parts that ask.
-use Rattle.std.proofs.Common.{◌≡◌, refl, sym, ap, subst, ◌∙◌, inr, ℕ, ◌<◌, ◌≤◌, Bool, true, false, List, [], ◌∷◌, arith}
-use Rattle.std.specs.Prelude.{Result, Ok, Err, nat_lt, if◌then◌else◌}
+use Rattle.std.proofs.Common.{◌≡◌, refl, sym, ◌∙◌, List, ◌∷◌}
+use Rattle.std.specs.Prelude.{Result, Ok, Err}
 use Rattle.box_world.specs.Calls.{Call}
 use Rattle.box_world.specs.declared.ask.Ask.{Ask}
 use Rattle.awk_machine.specs.Advances.{advance}
-use Rattle.awk_machine.specs.Pieces.{Piece, Goes, Do, Step, Cut, Faulted, ends}
+use Rattle.awk_machine.specs.Pieces.{Piece, Goes}
 use Rattle.awk_machine.specs.State.{Course, Given}
-use Rattle.awk_machine.specs.Streams.{seen, with_step}
-use Rattle.awk_store.specs.States.{Hidden, phase_of}
+use Rattle.awk_machine.specs.Streams.{seen}
+use Rattle.awk_store.specs.States.{Hidden}
 use Rattle.awk_asks.specs.Chains.{Leads, Meets}
-use Rattle.awk_asks.specs.Tables.{Table}
-use Rattle.awk_asks.specs.Tasks.{goes_on, Tells}
-use Rattle.awk_asks.proofs.Chain.{changes, at_once, stepped, part, done, stop, closed, cut, nexts, exits, lacking}
-use Rattle.awk_text.specs.declared.fault.Fault.{Fault}
-use Rattle.awk_text.specs.declared.place.Place.{Place}
+use Rattle.awk_asks.proofs.Chain.{changes, part, done, stop}
 use Rattle.awk_asks.specs.declared.halt.Halt.{Halt}
-use Rattle.awk_asks.specs.declared.halt.Halt.TheVariants as halt
-use Rattle.awk_tasks.specs.Acts.{Acts, Passes, halt_at, result_at}
+use Rattle.awk_tasks.specs.Acts.{Passes}
 use Rattle.awk_tasks.specs.Wholes.{Whole, Agreeing, base, used}
 
 module _ {W : Type 0} {F : W → List Call → W → Type 0} {E : W → List Call → Ask → W → Type 0} {g : Given} {p : Piece} {old mid : Whole} {w w' : W} where

@@ -1,6 +1,6 @@
 -- The turns of the loops that evaluate lists.
-use Rattle.std.proofs.Common.{◌≡◌, refl, sym, ap, subst, ◌∙◌, ℕ, zero, suc, ◌+◌, ◌<◌, ◌≤◌, Bool, List, [], ◌∷◌, ◌++◌, length, reverse, drop, map, arith}
-use Rattle.std.specs.Prelude.{true, false, if◌then◌else◌, IfOk, IfErr, Result, Ok, Err, Option, Some, None, slice_get, option_map, get_or}
+use Rattle.std.proofs.Common.{◌≡◌, refl, sym, ap, subst, ◌∙◌, ℕ, suc, ◌+◌, ◌<◌, Bool, List, [], ◌∷◌, ◌++◌, length, reverse, drop, map, arith}
+use Rattle.std.specs.Prelude.{true, false, if◌then◌else◌, IfOk, IfErr, Result, Ok, Err, Option, Some, slice_get, option_map, get_or}
 use Rattle.std.proofs.lemmas.List.{reverse-append, length-reverse, length-append, length-map, drop_more}
 use Rattle.std.proofs.lemmas.Option.{slice_get-map, slice_get-get_or}
 use Rattle.box_world.specs.Calls.{Call}
@@ -9,8 +9,6 @@ use Rattle.awk_text.specs.declared.value.Value.{Value}
 use Rattle.awk_text.specs.declared.value.Value.TheVariants as v
 use Rattle.awk_program.specs.Program as p
 use Rattle.awk_program.specs.Program.{Expression, Expressions, expressions_of}
-use Rattle.awk_program.specs.View.{Names, view}
-use Rattle.awk_program.specs.declared.expressions.Expr.{Expr}
 use Rattle.awk_machine.specs.Advances.{advance, held}
 use Rattle.awk_machine.specs.Forms.{value, each_of, each_by, listed}
 use Rattle.awk_machine.specs.Moves.{move}
@@ -19,7 +17,6 @@ use Rattle.awk_machine.specs.State.{State, Given}
 use Rattle.awk_machine.specs.Statements.{to_records}
 use Rattle.awk_asks.specs.declared.halt.Halt.{Halt}
 use Rattle.awk_asks.specs.Chains.{Led, Ended, Leads, Meets}
-use Rattle.awk_asks.specs.Tasks.{Owns}
 use Rattle.awk_asks.proofs.Chain as chain
 use Rattle.awk_asks.specs.declared.halt.Halt.TheVariants as halt
 use Rattle.awk_text.specs.Values.{truth}
@@ -27,7 +24,7 @@ use Rattle.awk_machine.specs.Operators.{of_truth}
 use Rattle.awk_tasks.specs.Acts.{Acts}
 use Rattle.awk_tasks.proofs.Acting as acting
 use Rattle.awk_forms.proofs.Rests.{listed-of}
-use Rattle.awk_tasks.specs.Wholes.{Whole, Agreeing, base, used, names_in}
+use Rattle.awk_tasks.specs.Wholes.{Whole, Agreeing, base, used}
 use Rattle.awk_run.specs.Along.{Filling}
 use Rattle.awk_run.specs.Runs.{IsGiven, Does, Fills, Waits}
 use Rattle.awk_run.specs.declared.context.Context.{Context}

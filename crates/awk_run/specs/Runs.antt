@@ -1,5 +1,5 @@
 -- What a part of a run owes, over any world.
-use Rattle.std.specs.Prelude.{◌≡◌, ℕ, ◌+◌, Bool, List, [], ◌∷◌, length, reverse, slice_get, Option, Some, Result}
+use Rattle.std.specs.Prelude.{◌≡◌, ℕ, ◌+◌, Bool, List, ◌∷◌, length, reverse, slice_get, Some, Result}
 use Rattle.awk_text.specs.declared.value.Value.{Value}
 use Rattle.box_world.specs.Calls.{Call}
 use Rattle.box_world.specs.declared.ask.Ask.{Ask}

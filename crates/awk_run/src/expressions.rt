@@ -15,8 +15,8 @@ use crate::lists::{element_group, formatted};
 use crate::targets::{assign, change, increment, read_target};
 use awk_asks::halt::Halt;
 use awk_forms::chains::{join, members, term};
-use awk_forms::operands::{Binary, Unary, part_of};
 use awk_forms::made::owned;
+use awk_forms::operands::{Binary, Unary, part_of};
 use awk_program::{Expr, Joined, Term, Variable};
 use awk_text::place::Place;
 use awk_text::value::{Value, truth};
@@ -25,7 +25,13 @@ use box_world::world::World;
 
 /// The value of an expression. Each part is evaluated one level lower; where there is none left, memory for the parts is refused.
 #[cycle(run)]
-pub fn value<W: World>(cx: &Context<'_>, e: &Expr, level: u32, run: &mut Run, world: &mut W) -> Result<Value, Halt>
+pub fn value<W: World>(
+    cx: &Context<'_>,
+    e: &Expr,
+    level: u32,
+    run: &mut Run,
+    world: &mut W,
+) -> Result<Value, Halt>
     requires { Owns (W.open_numbers world.old) run.old.streams }
     ensures { Does W.follows W.has_stopped W.stops W.open_numbers cx.now (λ g. value (view (names_in g) e.now)) (λ g. give)
         (run.old.store, run.old.streams) world.old result (run.new.store, run.new.streams) world.new }
@@ -52,11 +58,27 @@ pub fn value<W: World>(cx: &Context<'_>, e: &Expr, level: u32, run: &mut Run, wo
         Expr::Int(place, x) => unary(cx, Unary::Int(*place), x.get(), below, run, world),
         Expr::Measure(how, x) => unary(cx, Unary::Measure(*how), x.get(), below, run, world),
         Expr::Compare(how, x, y) => {
-            binary(cx, Binary::Compare(*how), x.get(), y.get(), below, run, world)
+            binary(
+                cx,
+                Binary::Compare(*how),
+                x.get(),
+                y.get(),
+                below,
+                run,
+                world,
+            )
         }
         Expr::Index(x, y) => binary(cx, Binary::Index, x.get(), y.get(), below, run, world),
         Expr::SubstrFrom(place, x, y) => {
-            binary(cx, Binary::SubstrFrom(*place), x.get(), y.get(), below, run, world)
+            binary(
+                cx,
+                Binary::SubstrFrom(*place),
+                x.get(),
+                y.get(),
+                below,
+                run,
+                world,
+            )
         }
         Expr::Substr(place, x, y, z) => {
             substr(cx, *place, x.get(), y.get(), z.get(), below, run, world)
@@ -65,7 +87,15 @@ pub fn value<W: World>(cx: &Context<'_>, e: &Expr, level: u32, run: &mut Run, wo
         Expr::Concat(x, xs) => concat(cx, x.get(), xs.as_slice(), below, run, world),
         Expr::In(x, arrays) => within(cx, x.get(), arrays.as_slice(), below, run, world),
         Expr::Group(place, xs, arrays) => {
-            element_group(cx, *place, xs.as_slice(), arrays.as_slice(), below, run, world)
+            element_group(
+                cx,
+                *place,
+                xs.as_slice(),
+                arrays.as_slice(),
+                below,
+                run,
+                world,
+            )
         }
         Expr::And(x, xs) => all(cx, x.get(), xs.as_slice(), below, run, world),
         Expr::Or(x, xs) => any(cx, x.get(), xs.as_slice(), below, run, world),
@@ -79,7 +109,14 @@ pub fn value<W: World>(cx: &Context<'_>, e: &Expr, level: u32, run: &mut Run, wo
 
 /// A form of one operand.
 #[cycle(run)]
-fn unary<W: World>(cx: &Context<'_>, form: Unary, x: &Expr, level: u32, run: &mut Run, world: &mut W) -> Result<Value, Halt>
+fn unary<W: World>(
+    cx: &Context<'_>,
+    form: Unary,
+    x: &Expr,
+    level: u32,
+    run: &mut Run,
+    world: &mut W,
+) -> Result<Value, Halt>
     requires { Owns (W.open_numbers world.old) run.old.streams }
     ensures { Does W.follows W.has_stopped W.stops W.open_numbers cx.now (λ g. value (unary_of form (view (names_in g) x.now))) (λ g. give)
         (run.old.store, run.old.streams) world.old result (run.new.store, run.new.streams) world.new }
@@ -90,7 +127,15 @@ fn unary<W: World>(cx: &Context<'_>, form: Unary, x: &Expr, level: u32, run: &mu
 
 /// A form of two operands.
 #[cycle(run)]
-fn binary<W: World>(cx: &Context<'_>, form: Binary, x: &Expr, y: &Expr, level: u32, run: &mut Run, world: &mut W) -> Result<Value, Halt>
+fn binary<W: World>(
+    cx: &Context<'_>,
+    form: Binary,
+    x: &Expr,
+    y: &Expr,
+    level: u32,
+    run: &mut Run,
+    world: &mut W,
+) -> Result<Value, Halt>
     requires { Owns (W.open_numbers world.old) run.old.streams }
     ensures { Does W.follows W.has_stopped W.stops W.open_numbers cx.now (λ g. value (binary_of form (view (names_in g) x.now) (view (names_in g) y.now))) (λ g. give)
         (run.old.store, run.old.streams) world.old result (run.new.store, run.new.streams) world.new }
@@ -102,7 +147,16 @@ fn binary<W: World>(cx: &Context<'_>, form: Binary, x: &Expr, y: &Expr, level: u
 
 /// `substr ( text , place , length )`
 #[cycle(run)]
-fn substr<W: World>(cx: &Context<'_>, place: Place, x: &Expr, y: &Expr, z: &Expr, level: u32, run: &mut Run, world: &mut W) -> Result<Value, Halt>
+fn substr<W: World>(
+    cx: &Context<'_>,
+    place: Place,
+    x: &Expr,
+    y: &Expr,
+    z: &Expr,
+    level: u32,
+    run: &mut Run,
+    world: &mut W,
+) -> Result<Value, Halt>
     requires { Owns (W.open_numbers world.old) run.old.streams }
     ensures { Does W.follows W.has_stopped W.stops W.open_numbers cx.now (λ g. value (p.substr place (view (names_in g) x.now) (view (names_in g) y.now) (view (names_in g) z.now))) (λ g. give)
         (run.old.store, run.old.streams) world.old result (run.new.store, run.new.streams) world.new }
@@ -115,7 +169,14 @@ fn substr<W: World>(cx: &Context<'_>, place: Place, x: &Expr, y: &Expr, z: &Expr
 
 /// A chain of `+` and `-`, or of `*`, `/` and `%`; or one `^`.
 #[cycle(run)]
-fn chain<W: World>(cx: &Context<'_>, x: &Expr, xs: &[Term<Expr>], level: u32, run: &mut Run, world: &mut W) -> Result<Value, Halt>
+fn chain<W: World>(
+    cx: &Context<'_>,
+    x: &Expr,
+    xs: &[Term<Expr>],
+    level: u32,
+    run: &mut Run,
+    world: &mut W,
+) -> Result<Value, Halt>
     requires { Owns (W.open_numbers world.old) run.old.streams }
     ensures { Does W.follows W.has_stopped W.stops W.open_numbers cx.now (λ g. value (p.chain (view (names_in g) x.now) (terms_of (map (view_term (names_in g)) xs.now)))) (λ g. give)
         (run.old.store, run.old.streams) world.old result (run.new.store, run.new.streams) world.new }
@@ -130,7 +191,14 @@ fn chain<W: World>(cx: &Context<'_>, x: &Expr, xs: &[Term<Expr>], level: u32, ru
 
 /// Operands one directly after the other.
 #[cycle(run)]
-fn concat<W: World>(cx: &Context<'_>, x: &Expr, xs: &[Joined<Expr>], level: u32, run: &mut Run, world: &mut W) -> Result<Value, Halt>
+fn concat<W: World>(
+    cx: &Context<'_>,
+    x: &Expr,
+    xs: &[Joined<Expr>],
+    level: u32,
+    run: &mut Run,
+    world: &mut W,
+) -> Result<Value, Halt>
     requires { Owns (W.open_numbers world.old) run.old.streams }
     ensures { Does W.follows W.has_stopped W.stops W.open_numbers cx.now (λ g. value (p.concat (view (names_in g) x.now) (joins_of (map (view_joined (names_in g)) xs.now)))) (λ g. give)
         (run.old.store, run.old.streams) world.old result (run.new.store, run.new.streams) world.new }
@@ -145,7 +213,14 @@ fn concat<W: World>(cx: &Context<'_>, x: &Expr, xs: &[Joined<Expr>], level: u32,
 
 /// `key in array in array ..`
 #[cycle(run)]
-fn within<W: World>(cx: &Context<'_>, x: &Expr, arrays: &[Variable], level: u32, run: &mut Run, world: &mut W) -> Result<Value, Halt>
+fn within<W: World>(
+    cx: &Context<'_>,
+    x: &Expr,
+    arrays: &[Variable],
+    level: u32,
+    run: &mut Run,
+    world: &mut W,
+) -> Result<Value, Halt>
     requires { Owns (W.open_numbers world.old) run.old.streams }
     ensures { Does W.follows W.has_stopped W.stops W.open_numbers cx.now (λ g. value (p.member (view (names_in g) x.now) (map (variable_of (names_in g)) arrays.now))) (λ g. give)
         (run.old.store, run.old.streams) world.old result (run.new.store, run.new.streams) world.new }
@@ -156,7 +231,14 @@ fn within<W: World>(cx: &Context<'_>, x: &Expr, arrays: &[Variable], level: u32,
 
 /// A chain of `&&`.
 #[cycle(run)]
-fn all<W: World>(cx: &Context<'_>, x: &Expr, xs: &[Expr], level: u32, run: &mut Run, world: &mut W) -> Result<Value, Halt>
+fn all<W: World>(
+    cx: &Context<'_>,
+    x: &Expr,
+    xs: &[Expr],
+    level: u32,
+    run: &mut Run,
+    world: &mut W,
+) -> Result<Value, Halt>
     requires { Owns (W.open_numbers world.old) run.old.streams }
     ensures { Does W.follows W.has_stopped W.stops W.open_numbers cx.now (λ g. value (p.and (view (names_in g) x.now) (expressions_of (map (view (names_in g)) xs.now)))) (λ g. give)
         (run.old.store, run.old.streams) world.old result (run.new.store, run.new.streams) world.new }
@@ -173,7 +255,14 @@ fn all<W: World>(cx: &Context<'_>, x: &Expr, xs: &[Expr], level: u32, run: &mut 
 
 /// A chain of `||`.
 #[cycle(run)]
-fn any<W: World>(cx: &Context<'_>, x: &Expr, xs: &[Expr], level: u32, run: &mut Run, world: &mut W) -> Result<Value, Halt>
+fn any<W: World>(
+    cx: &Context<'_>,
+    x: &Expr,
+    xs: &[Expr],
+    level: u32,
+    run: &mut Run,
+    world: &mut W,
+) -> Result<Value, Halt>
     requires { Owns (W.open_numbers world.old) run.old.streams }
     ensures { Does W.follows W.has_stopped W.stops W.open_numbers cx.now (λ g. value (p.or (view (names_in g) x.now) (expressions_of (map (view (names_in g)) xs.now)))) (λ g. give)
         (run.old.store, run.old.streams) world.old result (run.new.store, run.new.streams) world.new }
@@ -190,7 +279,15 @@ fn any<W: World>(cx: &Context<'_>, x: &Expr, xs: &[Expr], level: u32, run: &mut 
 
 /// `test ? then : else`
 #[cycle(run)]
-fn choose<W: World>(cx: &Context<'_>, x: &Expr, y: &Expr, z: &Expr, level: u32, run: &mut Run, world: &mut W) -> Result<Value, Halt>
+fn choose<W: World>(
+    cx: &Context<'_>,
+    x: &Expr,
+    y: &Expr,
+    z: &Expr,
+    level: u32,
+    run: &mut Run,
+    world: &mut W,
+) -> Result<Value, Halt>
     requires { Owns (W.open_numbers world.old) run.old.streams }
     ensures { Does W.follows W.has_stopped W.stops W.open_numbers cx.now (λ g. value (p.choose (view (names_in g) x.now) (view (names_in g) y.now) (view (names_in g) z.now))) (λ g. give)
         (run.old.store, run.old.streams) world.old result (run.new.store, run.new.streams) world.new }

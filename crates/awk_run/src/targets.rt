@@ -25,7 +25,14 @@ use box_world::world::World;
 
 /// `$ operand`
 #[cycle(run)]
-fn field<W: World>(cx: &Context<'_>, place: Place, x: &Expr, level: u32, run: &mut Run, world: &mut W) -> Result<Spot, Halt>
+fn field<W: World>(
+    cx: &Context<'_>,
+    place: Place,
+    x: &Expr,
+    level: u32,
+    run: &mut Run,
+    world: &mut W,
+) -> Result<Spot, Halt>
     requires { Owns (W.open_numbers world.old) run.old.streams }
     ensures plays { Does W.follows W.has_stopped W.stops W.open_numbers cx.now (λ g. spot (p.field place (view (names_in g) x.now))) (λ g s. give (value_of s))
         (run.old.store, run.old.streams) world.old result (run.new.store, run.new.streams) world.new }
@@ -37,7 +44,13 @@ fn field<W: World>(cx: &Context<'_>, place: Place, x: &Expr, level: u32, run: &m
 
 /// What is read or set: its subscripts or its number come first.
 #[cycle(run)]
-pub fn target_of<W: World>(cx: &Context<'_>, target: &Target<Expr>, level: u32, run: &mut Run, world: &mut W) -> Result<Spot, Halt>
+pub fn target_of<W: World>(
+    cx: &Context<'_>,
+    target: &Target<Expr>,
+    level: u32,
+    run: &mut Run,
+    world: &mut W,
+) -> Result<Spot, Halt>
     requires { Owns (W.open_numbers world.old) run.old.streams }
     ensures plays { Does W.follows W.has_stopped W.stops W.open_numbers cx.now (λ g. spot (view_target (names_in g) target.now)) (λ g s. give (value_of s))
         (run.old.store, run.old.streams) world.old result (run.new.store, run.new.streams) world.new }
@@ -54,7 +67,13 @@ pub fn target_of<W: World>(cx: &Context<'_>, target: &Target<Expr>, level: u32, 
 
 /// The value of a variable, of an element or of a field.
 #[cycle(run)]
-pub fn read_target<W: World>(cx: &Context<'_>, target: &Target<Expr>, level: u32, run: &mut Run, world: &mut W) -> Result<Value, Halt>
+pub fn read_target<W: World>(
+    cx: &Context<'_>,
+    target: &Target<Expr>,
+    level: u32,
+    run: &mut Run,
+    world: &mut W,
+) -> Result<Value, Halt>
     requires { Owns (W.open_numbers world.old) run.old.streams }
     ensures { Does W.follows W.has_stopped W.stops W.open_numbers cx.now (λ g. value (p.read (view_target (names_in g) target.now))) (λ g. give)
         (run.old.store, run.old.streams) world.old result (run.new.store, run.new.streams) world.new }
@@ -65,7 +84,15 @@ pub fn read_target<W: World>(cx: &Context<'_>, target: &Target<Expr>, level: u32
 
 /// `target = value`
 #[cycle(run)]
-pub fn assign<W: World>(cx: &Context<'_>, place: Place, target: &Target<Expr>, x: &Expr, level: u32, run: &mut Run, world: &mut W) -> Result<Value, Halt>
+pub fn assign<W: World>(
+    cx: &Context<'_>,
+    place: Place,
+    target: &Target<Expr>,
+    x: &Expr,
+    level: u32,
+    run: &mut Run,
+    world: &mut W,
+) -> Result<Value, Halt>
     requires { Owns (W.open_numbers world.old) run.old.streams }
     ensures { Does W.follows W.has_stopped W.stops W.open_numbers cx.now (λ g. value (p.assign place (view_target (names_in g) target.now) (view (names_in g) x.now))) (λ g. give)
         (run.old.store, run.old.streams) world.old result (run.new.store, run.new.streams) world.new }
@@ -81,7 +108,16 @@ pub fn assign<W: World>(cx: &Context<'_>, place: Place, target: &Target<Expr>, x
 
 /// `target += value`, and with the other operators.
 #[cycle(run)]
-pub fn change<W: World>(cx: &Context<'_>, place: Place, how: Operator, target: &Target<Expr>, x: &Expr, level: u32, run: &mut Run, world: &mut W) -> Result<Value, Halt>
+pub fn change<W: World>(
+    cx: &Context<'_>,
+    place: Place,
+    how: Operator,
+    target: &Target<Expr>,
+    x: &Expr,
+    level: u32,
+    run: &mut Run,
+    world: &mut W,
+) -> Result<Value, Halt>
     requires { Owns (W.open_numbers world.old) run.old.streams }
     ensures { Does W.follows W.has_stopped W.stops W.open_numbers cx.now (λ g. value (p.change place how (view_target (names_in g) target.now) (view (names_in g) x.now))) (λ g. give)
         (run.old.store, run.old.streams) world.old result (run.new.store, run.new.streams) world.new }
@@ -99,7 +135,16 @@ pub fn change<W: World>(cx: &Context<'_>, place: Place, how: Operator, target: &
 
 /// `target ++` and `target --`, before and behind.
 #[cycle(run)]
-pub fn increment<W: World>(cx: &Context<'_>, place: Place, how: Step, taken: Taken, target: &Target<Expr>, level: u32, run: &mut Run, world: &mut W) -> Result<Value, Halt>
+pub fn increment<W: World>(
+    cx: &Context<'_>,
+    place: Place,
+    how: Step,
+    taken: Taken,
+    target: &Target<Expr>,
+    level: u32,
+    run: &mut Run,
+    world: &mut W,
+) -> Result<Value, Halt>
     requires { Owns (W.open_numbers world.old) run.old.streams }
     ensures { Does W.follows W.has_stopped W.stops W.open_numbers cx.now (λ g. value (p.step place how taken (view_target (names_in g) target.now))) (λ g. give)
         (run.old.store, run.old.streams) world.old result (run.new.store, run.new.streams) world.new }

@@ -1,4 +1,4 @@
-use Rattle.std.proofs.Common.{◌+◌, ◌*◌, List, [], ◌∷◌, drop, map}
+use Rattle.std.proofs.Common.{◌+◌, ◌*◌, [], ◌∷◌, drop, map}
 use Rattle.awk_program.specs.Program as p
 use Rattle.awk_program.specs.Program.{expressions_of, terms_of, joins_of}
 use Rattle.awk_program.specs.View.{view, view_term, view_joined}
