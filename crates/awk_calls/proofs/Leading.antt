@@ -15,7 +15,7 @@ use Rattle.awk_asks.specs.Tables.{Table}
 use Rattle.awk_asks.specs.Tasks.{goes_on, Tells}
 use Rattle.awk_asks.specs.declared.halt.Halt.{Halt}
 use Rattle.awk_asks.specs.declared.halt.Halt.TheVariants as halt
-use Rattle.awk_asks.proofs.Chain.{at_once, stepped, done, closed, cut, nexts, exits, lacking}
+use Rattle.awk_asks.proofs.Chain.{at_once, stepped, done, closed, cut, nexts, exits}
 use Rattle.awk_tasks.specs.Acts.{Passes}
 use Rattle.awk_tasks.specs.Wholes.{Whole, Agreeing, base, used}
 use Rattle.awk_calls.specs.Jumps.{Jumps}
@@ -35,7 +35,7 @@ module _ {W : Type 0} {F : W → List Call → W → Type 0} {E : W → List Cal
   jumped halt.Next x = nexts (led x)
   jumped halt.Exit x = exits (phase_of new.0.phase) (λ hid. refl) (led x)
   jumped halt.Cut x = absurd x
-  jumped {to = to} halt.Memory x = subst (λ n. Meets F E (base g) (Agreeing g) used g p to old w (Err halt.Memory) n w) (sym x) (lacking (at_once p old w))
+  jumped halt.Memory x = absurd x
   jumped (halt.Log place) x = absurd x
 
 -- ---- steps

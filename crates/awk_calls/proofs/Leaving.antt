@@ -1,11 +1,14 @@
 -- The statements that leave what is left to be done.
-use Rattle.std.proofs.Common.{◌≡◌, refl, sym, ap, subst, ◌∙◌, ℕ, ◌≢◌, ℤ, List, [], ◌∷◌}
-use Rattle.std.specs.Prelude.{Result, Ok, Err, Some, None, pos, unsigned_abs}
+use Rattle.std.proofs.Common.{◌≡◌, refl, sym, ap, subst, ◌∙◌, ℕ, ◌≢◌, ℤ, Bool, true, false, List, [], ◌∷◌}
+use Rattle.std.specs.Prelude.{Result, Ok, Err, Some, None, pos, unsigned_abs, if◌then◌else◌}
 use Rattle.std.specs.Int.{int_rem_euclid}
 use Rattle.awk_text.specs.declared.fault.Fault.{Fault}
 use Rattle.awk_text.specs.declared.fault.Fault.TheVariants as fault
 use Rattle.awk_text.specs.declared.place.Place.{Place}
 use Rattle.awk_text.specs.declared.value.Value.{Value}
+use Rattle.awk_text.specs.declared.value.Value.TheVariants as v
+use Rattle.awk_text.specs.Arithmetic.{is_in_range}
+use Rattle.awk_text.specs.Numerals.{number}
 use Rattle.awk_text.specs.Values.{number_of}
 use Rattle.awk_format.specs.Directives.{◌>>=◌}
 use Rattle.awk_program.specs.Program as p
@@ -23,7 +26,7 @@ use Rattle.awk_store.specs.declared.phase.Phase.TheVariants as phase
 use Rattle.awk_works.specs.Numbers.{exit_status}
 use Rattle.awk_asks.specs.declared.halt.Halt.{Halt}
 use Rattle.awk_asks.specs.Tables.{Table}
-use Rattle.awk_tasks.specs.Wholes.{Whole, Agreeing, base}
+use Rattle.awk_tasks.specs.Wholes.{Agreeing, base}
 use Rattle.awk_tasks.specs.Acts.{Passes, halt_at}
 use Rattle.awk_tasks.proofs.Acting.{at_rest, moves, alters}
 use Rattle.awk_calls.specs.Jumps.{Jumps}
@@ -96,23 +99,22 @@ module _ (g : Given) (old : Kept) (t : Table) where
   exit_with_is place x val n mid new is unwinds_to same =
       subst (λ (m : Kept). Passes g (At (Doing (p.exit place (Some x))) (val ∷ [])) (old, t) (λ k. after_exit (phase_of m.phase)) (m, t)) (sym (same ∙ ap (changes.with_status n) unwinds_to)) (exit_with_so place x val n is)
 
--- a fault at a place; for want of memory nothing is said
-jumps_at : (g : Given) (piece : Piece) (w : Whole) (f : Fault) (place : Place) → Passes g piece w (λ k. ends (Faulted f place)) w → Jumps g piece w (halt_at place f) w
-jumps_at g piece w fault.OutOfRange place h = h
-jumps_at g piece w fault.ZeroDivisor place h = h
-jumps_at g piece w fault.Pattern place h = h
-jumps_at g piece w fault.Format place h = h
-jumps_at g piece w fault.CallDepth place h = h
-jumps_at g piece w fault.TextTooLong place h = h
-jumps_at g piece w fault.Output place h = h
-jumps_at g piece w fault.NextOutside place h = h
-jumps_at g piece w fault.FieldNumber place h = h
-jumps_at g piece w fault.TooManyElements place h = h
-jumps_at g piece w fault.StepBound place h = h
-jumps_at g piece w fault.Log place h = h
-jumps_at g piece w fault.Memory place h = refl
+-- the one fault that a status can have
+ranged_by : (z : ℤ) (b : Bool) (f : Fault) → ((if b then Ok z else Err fault.OutOfRange) >>= λ n. Ok (unsigned_abs (int_rem_euclid n (pos 256)))) ≡ Err f → f ≡ fault.OutOfRange
+ranged_by z true f is = absurd (cc)
+ranged_by z false f is = sym (err_inj fault.OutOfRange f is)
+  where
+    err_inj : (a b : Fault) → status_err a ≡ status_err b → a ≡ b
+    err_inj a b e = cc
+
+status_fault : (val : Value) (f : Fault) → exit_status val ≡ Err f → f ≡ fault.OutOfRange
+status_fault v.Unset f is = absurd (cc)
+status_fault (v.Num n) f is = absurd (cc)
+status_fault (v.Text text) f is = ranged_by (number text) (is_in_range (number text)) f is
+status_fault (v.Input text) f is = ranged_by (number text) (is_in_range (number text)) f is
 
 pub exit_with_is_not : (g : Given) (old : Kept) (t : Table) (place : Place) (x : Expression) (val : Value) (f : Fault) (h : Halt) → exit_status val ≡ Err f → h ≡ halt_at place f →
     Jumps g (At (Doing (p.exit place (Some x))) (val ∷ [])) (old, t) h (old, t)
 exit_with_is_not g old t place x val f h is same =
-    subst (λ y. Jumps g (At (Doing (p.exit place (Some x))) (val ∷ [])) (old, t) y (old, t)) (sym same) (jumps_at g (At (Doing (p.exit place (Some x))) (val ∷ [])) (old, t) f place (exit_with_not g old t place x val f is))
+    subst (λ y. Jumps g (At (Doing (p.exit place (Some x))) (val ∷ [])) (old, t) y (old, t)) (sym (same ∙ ap (halt_at place) (status_fault val f is)))
+    (exit_with_not g old t place x val fault.OutOfRange (is ∙ ap status_err (status_fault val f is)))
