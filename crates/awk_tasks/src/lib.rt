@@ -7,7 +7,7 @@
 pub mod calls;
 pub mod counters;
 pub mod elements;
-mod faults;
+pub mod faults;
 pub mod fields;
 pub mod patterns;
 pub mod printing;

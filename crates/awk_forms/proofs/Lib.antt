@@ -1,0 +1,4 @@
+pub mod Granted
+pub mod Listed
+pub mod Making
+pub mod Rests

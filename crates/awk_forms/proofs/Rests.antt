@@ -1,0 +1,28 @@
+-- Lists, and what was made.
+use Rattle.std.proofs.Common.{◌≡◌, refl, ap, sym, ℕ, zero, suc, ◌≤◌, ◌<◌, drop, List, [], ◌∷◌, length, arith}
+use Rattle.std.specs.Prelude.{Result, Ok, Err, IfOk, IfErr, get_or}
+use Rattle.awk_program.specs.Program.{Expression, expressions_of}
+use Rattle.awk_machine.specs.Forms.{listed}
+
+pub listed-of : (xs : List Expression) → listed (expressions_of xs) ≡ xs
+listed-of [] = refl
+listed-of (x ∷ xs) = ap (λ ys. x ∷ ys) (listed-of xs)
+
+pub just_one : {X : Type 0} (xs : List X) (x : X) → 1 ≤ length xs → length xs < 2 → x ≡ get_or xs 0 x → xs ≡ x ∷ []
+just_one [] x some few is = absurd (omega (arith, some))
+just_one (y ∷ []) x some few is = ap (λ z. z ∷ []) (sym is)
+just_one (y ∷ z ∷ ys) x some few is = absurd (omega (arith, few))
+
+pub ok_for : {X E : Type 0} {P Q : X → Type 0} (r : Result X E) → ((x : X) → P x → Q x) → IfOk r P → IfOk r Q
+ok_for (Ok x) f h = f x h
+ok_for (Err e) f h = h
+
+pub err_for : {X E : Type 0} {P Q : E → Type 0} (r : Result X E) → ((e : E) → P e → Q e) → IfErr r P → IfErr r Q
+err_for (Ok x) f h = h
+err_for (Err e) f h = f e h
+
+pub drop_all : {X : Type 0} (xs : List X) (n : ℕ) → length xs ≤ n → drop n xs ≡ []
+drop_all [] zero far = refl
+drop_all [] (suc n) far = refl
+drop_all (x ∷ xs) zero far = absurd (omega (arith, far))
+drop_all (x ∷ xs) (suc n) far = drop_all xs n (omega (arith, far))

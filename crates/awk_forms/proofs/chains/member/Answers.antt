@@ -1,0 +1,16 @@
+use Rattle.std.proofs.Common.{◌≡◌, refl, sym, ap, ◌∙◌, ℕ, List, [], ◌∷◌, length, reverse}
+use Rattle.awk_forms.proofs.Making.{gives_so, text_so, as_text_so, both_so, number_so}
+use Rattle.awk_machine.specs.Pieces.{give, At, Do, Terms_of, Texts_of, Members_of, granted}
+use Rattle.awk_lib.specs.Arrays.{has}
+use Rattle.awk_text.specs.Values.{text_of}
+use Rattle.awk_machine.specs.Operators as ops
+use Rattle.awk_machine.specs.Pieces.{Goes}
+use Rattle.awk_machine.specs.Streams.{seen}
+use Rattle.awk_tasks.specs.Wholes.{base, names_in}
+use Rattle.awk_program.specs.View.{variable_of}
+use Rattle.awk_tasks.proofs.Reading.{array-so}
+use Rattle.awk_forms.proofs.chains.member.Goals as goal
+
+pub returns : goal.returns
+returns c = λ g t rest. rw (c.truth_value.ensures, c.contains.ensures, c.text_in.ensures) (gives_so g (c.args.store.now, t) _ (λ v k. At (Members_of rest) (v ∷ []) ∷ k) _
+    (λ k hid d a. ap (λ xs. Goes (At (Members_of rest) (ops.of_truth (has xs (text_of c.args.key.now)) ∷ []) ∷ k) (seen (base g (c.args.store.now, t) hid) d)) (array-so g (c.args.store.now, t) hid d a c.args.array)))

@@ -1,0 +1,8 @@
+use Rattle.std.proofs.Common.{◌≡◌, refl, sym, ap, ◌∙◌, ℕ, List, [], ◌∷◌, length, reverse}
+use Rattle.awk_forms.proofs.Granted.{given_so, given_or_lacks, given_now, met_now, owned_so}
+use Rattle.awk_machine.specs.Pieces.{give, At, Do, Terms_of, Texts_of, Members_of, granted}
+use Rattle.awk_machine.specs.Operators as ops
+use Rattle.awk_forms.proofs.chains.term.Goals as goal
+
+pub returns : goal.returns
+returns c = λ g w x xs. rw (c.number_at.ensures, c.computed.ensures) (given_so g w _ c.args.place (λ v k. At (Terms_of xs) (v ∷ []) ∷ k) (ops.computed c.args.how c.args.left.now c.args.right.now) (λ k hid d a. refl))

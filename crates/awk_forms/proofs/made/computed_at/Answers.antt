@@ -1,0 +1,17 @@
+use Rattle.std.proofs.Common.{◌≡◌, refl, sym, ap, ◌∙◌, ℕ, List, [], ◌∷◌, length, reverse}
+use Rattle.awk_forms.proofs.Granted.{given_so, given_or_lacks, given_now, met_now, owned_so}
+use Rattle.awk_forms.proofs.Making.{gives_so, text_so, as_text_so, both_so, number_so}
+use Rattle.awk_machine.specs.Pieces.{give, At, Do, Terms_of, Texts_of, Members_of, granted}
+use Rattle.awk_machine.specs.Operators as ops
+use Rattle.awk_machine.specs.Advances.{held}
+use Rattle.awk_machine.specs.Pieces.{Goes}
+use Rattle.awk_machine.specs.Streams.{seen}
+use Rattle.awk_machine.specs.Targets.{store, target}
+use Rattle.awk_tasks.specs.Wholes.{base}
+use Rattle.awk_forms.specs.Made.{storing}
+use Rattle.awk_forms.proofs.made.computed_at.Goals as goal
+
+pub returns : goal.returns
+returns c = λ g w r x at. rw c.at.ensures (given_so g w _ c.args.place (storing c.args.place r at) c.computed.result (λ k hid d a.
+    ap (λ m. held g (seen (base g w hid) d) (granted c.args.place m (store (target r at) c.args.place) k (seen (base g w hid) d))) (sym c.computed.ensures)
+    ∙ ap (held g (seen (base g w hid) d)) (number_so c.args.place c.computed.result (store (target r at) c.args.place) k (seen (base g w hid) d))))

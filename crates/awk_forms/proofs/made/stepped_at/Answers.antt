@@ -1,0 +1,8 @@
+use Rattle.std.proofs.Common.{◌≡◌, refl, sym, ap, ◌∙◌, ℕ, List, [], ◌∷◌, length, reverse}
+use Rattle.awk_forms.proofs.Granted.{given_so, given_or_lacks, given_now, met_now, owned_so}
+use Rattle.awk_forms.proofs.Making.{gives_so, text_so, as_text_so, both_so, number_so}
+use Rattle.awk_forms.specs.Made.{both_numbers, stepping}
+use Rattle.awk_forms.proofs.made.stepped_at.Goals as goal
+
+pub returns : goal.returns
+returns c = λ g w taken r at. rw (c.at.ensures, c.steps_of.ensures) (given_so g w _ c.args.place (stepping c.args.place taken r at) (both_numbers c.args.how c.args.value.now) (λ k hid d a. both_so c.args.place c.args.how taken r at c.args.value.now g k _))

@@ -1,0 +1,18 @@
+use Rattle.std.proofs.Common.{rules, w64}
+use Rattle.std.proofs.lemmas.Int.{to_z-of_z}
+use Rattle.std.proofs.Common.{◌≡◌, refl, sym, ap, ◌∙◌, ℕ, List, [], ◌∷◌, length, reverse}
+use Rattle.awk_forms.proofs.Granted.{given_so, given_or_lacks, given_now, met_now, owned_so}
+use Rattle.awk_forms.proofs.Making.{gives_so, text_so, as_text_so, both_so, number_so}
+use Rattle.awk_machine.specs.Pieces.{give, At, Do, Terms_of, Texts_of, Members_of, granted}
+use Rattle.awk_machine.specs.Operators as ops
+use Rattle.awk_machine.specs.Builtins as builtin
+use Rattle.awk_forms.proofs.operands.Binary.give.Goals as goal
+
+pub returns-in-Compare : goal.returns-in-Compare
+returns-in-Compare c = λ g w x y. rw (c.in-Compare.is, c.truth_value.ensures, c.compared.ensures) (gives_so g w _ give _ (λ k hid d a. refl))
+
+pub returns-in-Index : goal.returns-in-Index
+returns-in-Index c = λ g w x y. rw (c.in-Index.is, to_z-of_z w64 c.index_of.result (search rules), c.index_of.ensures) (gives_so g w _ give _ (λ k hid d a. refl))
+
+pub returns-in-SubstrFrom : goal.returns-in-SubstrFrom
+returns-in-SubstrFrom c = λ g w x y. rw c.in-SubstrFrom.is (c.rest_of.ensures g w x y)

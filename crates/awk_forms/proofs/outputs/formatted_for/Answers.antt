@@ -1,0 +1,20 @@
+use Rattle.std.proofs.Common.{◌≡◌, refl, sym, ap, ◌∙◌, ℕ, List, [], ◌∷◌, length, reverse}
+use Rattle.std.specs.Prelude.{None, Some}
+use Rattle.awk_forms.proofs.Granted.{given_so, given_or_lacks, given_now, met_now, owned_so}
+use Rattle.awk_machine.specs.Pieces.{give, At, Do, Terms_of, Texts_of, Members_of, granted}
+use Rattle.awk_machine.specs.Builtins as builtin
+use Rattle.awk_machine.specs.Printing as machine
+use Rattle.awk_machine.specs.Advances.{held}
+use Rattle.awk_machine.specs.Pieces.{Goes, Doing}
+use Rattle.awk_machine.specs.Streams.{seen}
+use Rattle.awk_program.specs.Program as p
+use Rattle.awk_tasks.specs.Wholes.{base}
+use Rattle.awk_tasks.specs.Printed as spec
+use Rattle.awk_tasks.proofs.PrintSteps.{printed-so}
+use Rattle.awk_forms.specs.Outputs.{to_standard, to_stream}
+use Rattle.awk_forms.proofs.Listed.{printed_none, printed_some}
+use Rattle.awk_forms.proofs.outputs.formatted_for.Goals as goal
+
+pub returns : goal.returns
+returns c = λ g w x xs r e. rw c.at.ensures (given_or_lacks g w _ c.args.place (to_stream r c.args.name.now) (builtin.formatted_by c.args.values.now) c.text_of_format.result c.text_of_format.ensures.ok c.text_of_format.ensures.err
+    (λ k hid d a. ap (held g (seen (base g w hid) d)) (printed_some (λ s. builtin.formatted_by) c.args.place (x ∷ xs) (Doing (p.printf c.args.place x xs (Some r))) r c.args.name.now c.args.values.now k (seen (base g w hid) d) e)))

@@ -1,0 +1,32 @@
+-- What forms make that the code keeps apart from values.
+use Rattle.std.specs.Prelude.{ℤ, List, ◌∷◌, Result, Ok}
+use Rattle.awk_text.specs.Values.{number_of}
+use Rattle.awk_text.specs.declared.place.Place.{Place}
+use Rattle.awk_text.specs.declared.value.Value.{Value}
+use Rattle.awk_text.specs.declared.value.Value.TheVariants as v
+use Rattle.awk_text.specs.declared.fault.Fault.{Fault}
+use Rattle.awk_format.specs.Directives.{◌>>=◌}
+use Rattle.awk_program.specs.Slots.{Text}
+use Rattle.awk_program.specs.Program.{Reference}
+use Rattle.awk_program.specs.declared.operators.Step.{Step}
+use Rattle.awk_program.specs.declared.operators.Taken.{Taken}
+use Rattle.awk_machine.specs.Expressions.{either}
+use Rattle.awk_machine.specs.Operators.{stepped}
+use Rattle.awk_machine.specs.Pieces.{Piece, Do, Give, Set}
+use Rattle.awk_machine.specs.Targets.{target, stored}
+
+-- a text as a value, where there is no fault
+abbrev pub as_text : Result Text Fault → Result Value Fault
+as_text made = made >>= λ t. Ok (v.Text t)
+
+-- the old number and the new one of `++` and `--`
+abbrev pub both_numbers : Step → Value → Result (ℤ × ℤ) Fault
+both_numbers how x = number_of x >>= λ old. stepped how old >>= λ new. Ok (old, new)
+
+-- what is left to be done once these are known
+abbrev pub stepping : Place → Taken → Reference → Value → ℤ × ℤ → List Piece → List Piece
+stepping place taken r at (old, new) k = Do (Set (target r at) place (v.Num new)) ∷ Do (Give (either taken old new)) ∷ k
+
+-- what is left to be done once the number is known that is stored
+abbrev pub storing : Place → Reference → Value → ℤ → List Piece → List Piece
+storing place r at n k = Do (Set (target r at) place (v.Num n)) ∷ Do (Give (stored (target r at) (v.Num n))) ∷ k
