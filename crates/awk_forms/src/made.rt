@@ -1,5 +1,5 @@
 // What was made of values, as a value.
-ghost use Rattle.std.specs.Prelude.{◌≡◌, ◌∷◌, [], IfOk, IfErr};
+ghost use Rattle.std.specs.Prelude.{◌≡◌, ◌∷◌, ◌++◌, [], IfOk, IfErr, OnOk};
 ghost use Rattle.awk_machine.specs.Pieces.{At, Value_of};
 ghost use Rattle.awk_machine.specs.State.{Given};
 ghost use Rattle.awk_program.specs.Program as p;
@@ -72,4 +72,15 @@ pub fn computed_at(place: Place, how: Operator, old: &Value, operand: &Value) ->
     ensures { (g : Given) (w : Whole) (r : Reference) (x : Expression) (at : Value) → Acts g (At (Value_of (p.change place how r x)) (old.now ∷ operand.now ∷ at ∷ [])) (storing place r at) w result w }
 {
     at(place, computed(how, old, operand))
+}
+
+/// Adds a value behind the others.
+pub fn append(values: &mut Vec<Value>, value: Value) -> Result<(), Halt>
+    ensures ok { OnOk result (values.new.items ≡ values.old.items ++ value ∷ []) }
+    ensures err { IfErr result (λ h. h ≡ Halt.Memory) }
+{
+    match values.push(value) {
+        Ok(()) => Ok(()),
+        Err(_) => Err(Halt::Memory),
+    }
 }

@@ -9,6 +9,7 @@ use Rattle.awk_machine.specs.Advances.{advance}
 use Rattle.awk_machine.specs.Forms.{value}
 use Rattle.awk_machine.specs.Pieces.{Part, Piece, At, Goes}
 use Rattle.awk_machine.specs.State.{State, Given}
+use Rattle.awk_machine.specs.Statements.{to_records}
 use Rattle.awk_asks.specs.declared.halt.Halt.{Halt}
 use Rattle.awk_asks.specs.Chains.{Led, Ended, Meets}
 use Rattle.awk_asks.specs.Tasks.{Owns}
@@ -29,10 +30,10 @@ pub record Does {W A : Type 0} (follows : W → List Call → W → Type 0) (has
 
 -- ---- lists of parts
 
--- the part evaluates these from its n-th one on, as each is wanted
-abbrev pub Waits : Given → Part → ℕ → List Expression → Type 0
-Waits g part n xs =
-    (m : ℕ) (x : Expression) → slice_get xs m ≡ Some x → (vs : List Value) → length vs ≡ n + m → (k : List Piece) (s : State) → advance g (At part vs ∷ k) s ≡ Goes (value x ∷ At part vs ∷ k) s
+-- the part evaluates these from its n-th one on, as each is wanted; it is not the one that reads records
+pub record Waits (g : Given) (part : Part) (n : ℕ) (xs : List Expression) : Type 0 where
+  pub next : (m : ℕ) (x : Expression) → slice_get xs m ≡ Some x → (vs : List Value) → length vs ≡ n + m → (k : List Piece) (s : State) → advance g (At part vs ∷ k) s ≡ Goes (value x ∷ At part vs ∷ k) s
+  pub passed : (vs : List Value) (k : List Piece) → to_records (At part vs ∷ k) ≡ to_records k
 
 -- a list of parts is evaluated from left to right, for whatever part waits for them behind the values that it has
 pub record Fills {W A : Type 0} (follows : W → List Call → W → Type 0) (has_stopped : W → Bool) (stops : W → List Call → Ask → W → Type 0) (open_numbers : W → List ℕ)

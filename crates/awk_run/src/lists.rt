@@ -14,6 +14,7 @@ use crate::context::{Context, Run};
 use crate::expressions::value;
 use awk_asks::halt::Halt;
 use awk_forms::chains::members;
+use awk_forms::made::append;
 use awk_forms::outputs::sprintf;
 use awk_forms::keys::{element_key, group_key};
 use awk_program::{Expr, Variable};
@@ -32,9 +33,7 @@ pub fn fill<W: World>(cx: &Context<'_>, xs: &[Expr], values: &mut Vec<Value>, le
 {
     for x in xs {
         let next = value(cx, x, level, run, world)?;
-        if values.push(next).is_err() {
-            return Err(Halt::Memory);
-        }
+        append(values, next)?;
     }
     Ok(())
 }
@@ -75,9 +74,7 @@ pub fn formatted<W: World>(cx: &Context<'_>, place: Place, x: &Expr, xs: &[Expr]
 {
     let format = value(cx, x, level, run, world)?;
     let mut values = Vec::new(cx.alloc);
-    if values.push(format).is_err() {
-        return Err(Halt::Memory);
-    }
+    append(&mut values, format)?;
     fill(cx, xs, &mut values, level, run, world)?;
     sprintf(cx.alloc, place, values.as_slice())
 }

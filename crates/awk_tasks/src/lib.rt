@@ -15,7 +15,7 @@ pub mod searches;
 pub mod splits;
 mod spot;
 pub mod targets;
-mod values;
+pub mod values;
 pub mod variables;
 
 pub use spot::Spot;
