@@ -84,7 +84,10 @@ got_of f xs i x is below = slice_get-map f xs i ∙ ap (option_map f) (slice_get
 
 pub waits_listed : (g : Given) (part : Part) (ks : List Expression) (f : List Value → Then) → ((vs : List Value) (k : List Piece) (s : State) → move g (At part vs ∷ k) s ≡ each_of (listed (expressions_of ks)) part f vs k s) →
     ((vs : List Value) (k : List Piece) → to_records (At part vs ∷ k) ≡ to_records k) → Waits g part 0 ks
-waits_listed g part ks f is passed = waits_each g part (listed (expressions_of ks)) ks 0 f is (λ m x got. ap (λ xs. slice_get xs m) (listed-of ks) ∙ got) passed
+waits_listed g part ks f is passed = waits_each g part (listed (expressions_of ks)) ks 0 f is (λ m x got. ap (λ n. slice_get (listed (expressions_of ks)) n) (none_plus m) ∙ ap (λ xs. slice_get xs m) (listed-of ks) ∙ got) passed
+  where
+    none_plus : (m : ℕ) → 0 + m ≡ m
+    none_plus m = omega (arith)
 
 pub waits_behind : (g : Given) (part : Part) (x : Expression) (ks : List Expression) (f : List Value → Then) → ((vs : List Value) (k : List Piece) (s : State) → move g (At part vs ∷ k) s ≡ each_of (x ∷ listed (expressions_of ks)) part f vs k s) →
     ((vs : List Value) (k : List Piece) → to_records (At part vs ∷ k) ≡ to_records k) → Waits g part 1 ks
@@ -94,7 +97,7 @@ waits_behind g part x ks f is passed = waits_each g part (x ∷ listed (expressi
     one_plus m = omega (arith)
 
 pub count_listed : {X : Type 0} (f : X → Expression) (xs : List X) (had has : List Value) → had ≡ [] → length has ≡ length had + length xs → length (listed (expressions_of (map f xs))) ≡ length has
-count_listed f xs had has none e = ap length (listed-of (map f xs)) ∙ length-map xs f ∙ sym (rw none at e)
+count_listed f xs had has none e = let a = ap length (listed-of (map f xs)) ∙ length-map xs f in let b = rw none at e in omega (arith, a, b)
 
 module _ {W A : Type 0} {follows : W → List Call → W → Type 0} {has_stopped : W → Bool} {stops : W → List Call → Ask → W → Type 0} {open_numbers : W → List ℕ} {cx : Context} {xs : Given → List Expression} {has : List Value} {old : Whole} {w : W} {r : Result A Halt} {new : Whole} {w' : W} where
   pub filled_from : (had hs : List Value) → had ≡ hs → Fills follows has_stopped stops open_numbers cx xs had has old w r new w' → (g : Given) → IsGiven cx g → (part : Part) → Waits g part (length hs) (xs g) →

@@ -34,7 +34,7 @@ expressions::value-returns-in-Number g t c =
 
 pub expressions::value-returns-in-Text : goal.expressions::value-returns-in-Text
 expressions::value-returns-in-Text g t c =
-    record { plays = λ m is. rw (c.in-Text.is, view-Text) (hands (at_once _ _ _) (acted (text_given m (c.args.run.now.store, c.args.run.now.streams) _ c.owned.result c.owned.ensures.ok c.owned.ensures.err))); owns = c.requires }
+    record { plays = λ m is. rw (c.in-Text.is, view-Text) (acted {g = m} (text_given m (c.args.run.now.store, c.args.run.now.streams) c.in-Text.text c.owned.result (rw c.bytes.ensures at c.owned.ensures.ok) c.owned.ensures.err)); owns = c.requires }
 
 pub expressions::value-returns-in-Read : goal.expressions::value-returns-in-Read
 expressions::value-returns-in-Read g t c =
@@ -296,7 +296,7 @@ expressions::choose-returns-then-truth g t c =
 pub expressions::choose-returns : goal.expressions::choose-returns
 expressions::choose-returns g t c =
     record { plays = λ m is.
-        hands (quietly (part _ (quietly (at_once _ _ _) (λ k hid d a. refl)) (c.value.ensures.plays m is) c.in_ok-test.was) (λ k hid d a. choose_so m (view (names_in m) c.args.x.now) (view (names_in m) c.args.y.now) (view (names_in m) c.args.z.now) c.in_ok-test.test false k _ (sym c.truth.ensures ∙ c.if-truth.false))) (c.value-2.ensures.plays m is); owns = c.value-2.ensures.owns }
+        hands (quietly (part _ (quietly (at_once _ _ _) (λ k hid d a. refl)) (c.value.ensures.plays m is) c.in_ok-test.was) (λ k hid d a. choose_so m (view (names_in m) c.args.x.now) (view (names_in m) c.args.y.now) (view (names_in m) c.args.z.now) c.in_ok-test.test false k _ (sym c.truth.ensures ∙ c.if-truth.false))) (c.value-else-truth.ensures.plays m is); owns = c.value-else-truth.ensures.owns }
 
 pub targets::field-returns-in_err-operand : goal.targets::field-returns-in_err-operand
 targets::field-returns-in_err-operand g t c =
@@ -423,7 +423,7 @@ targets::increment-returns-in-Before g t c =
 
 pub targets::increment-returns : goal.targets::increment-returns
 targets::increment-returns g t c =
-    record { plays = λ m is. rw (to_z-of_z w64 c.in_ok-before.behind (search rules)) (done (quietly (part _ (turned {then_ = λ k. Do (Set (meant (names_in m) c.in_ok-to.to) c.args.place (v.Num c.in_ok-before.behind)) ∷ Do (Give (either c.args.taken c.in_ok-before.before c.in_ok-before.behind)) ∷ k} (part _ (part _ (quietly {then_ = λ k. Do (Get (meant (names_in m) c.in_ok-to.to)) ∷ At (Value_of (p.step c.args.place c.args.how c.args.taken (view_target (names_in m) c.args.target.now))) (value_of c.in_ok-to.to ∷ []) ∷ k} (part _ (quietly (at_once _ _ _) (λ k hid d a. refl)) (c.target_of.ensures.plays.plays m is) c.in_ok-to.was) (λ k hid d a. rw (c.in_ok-to.ensures.spot (names_in m)) refl)) (acted (c.read.ensures m c.target_of.new.run.streams)) c.in_ok-old.was) (acted (c.stepped_at.ensures m (c.read.new.store, c.target_of.new.run.streams) c.args.taken (view_target (names_in m) c.args.target.now) (value_of c.in_ok-to.to))) c.in_ok-before.was) (λ k. ap (λ t. Do (Set t c.args.place (v.Num c.in_ok-before.behind)) ∷ Do (Give (either c.args.taken c.in_ok-before.before c.in_ok-before.behind)) ∷ k) (c.in_ok-to.ensures.spot (names_in m)))) (acted (rw (to_z-of_z w64 c.in_ok-before.behind (search rules)) at (c.set.ensures m c.target_of.new.run.streams))) c.in_ok-set.was) (λ k hid d a. rw c.in_default.is refl))); owns = c.target_of.ensures.plays.owns }
+    record { plays = λ m is. rw (to_z-of_z w64 c.in_ok-before.behind (search rules)) (done (quietly (part _ (turned {then_ = λ k. Do (Set (meant (names_in m) c.in_ok-to.to) c.args.place (v.Num c.in_ok-before.behind)) ∷ Do (Give (either c.args.taken c.in_ok-before.before c.in_ok-before.behind)) ∷ k} (part _ (part _ (quietly {then_ = λ k. Do (Get (meant (names_in m) c.in_ok-to.to)) ∷ At (Value_of (p.step c.args.place c.args.how c.args.taken (view_target (names_in m) c.args.target.now))) (value_of c.in_ok-to.to ∷ []) ∷ k} (part _ (quietly (at_once _ _ _) (λ k hid d a. refl)) (c.target_of.ensures.plays.plays m is) c.in_ok-to.was) (λ k hid d a. rw (c.in_ok-to.ensures.spot (names_in m)) refl)) (acted (c.read.ensures m c.target_of.new.run.streams)) c.in_ok-old.was) (acted (c.stepped_at.ensures m (c.read.new.store, c.target_of.new.run.streams) c.args.taken (view_target (names_in m) c.args.target.now) (value_of c.in_ok-to.to))) c.in_ok-before.was) (λ k. ap (λ t. Do (Set t c.args.place (v.Num c.in_ok-before.behind)) ∷ Do (Give (either c.args.taken c.in_ok-before.before c.in_ok-before.behind)) ∷ k) (c.in_ok-to.ensures.spot (names_in m)))) (acted (rw (to_z-of_z w64 c.in_ok-before.behind (search rules)) at (c.set.ensures m c.target_of.new.run.streams))) c.in_ok-set.was) (λ k hid d a. rw c.in-Behind.is refl))); owns = c.target_of.ensures.plays.owns }
 
 pub lists::fill-loop-x-init : goal.lists::fill-loop-x-init
 lists::fill-loop-x-init g t c =
@@ -431,7 +431,7 @@ lists::fill-loop-x-init g t c =
 
 pub lists::fill-returns-in_err-next : goal.lists::fill-returns-in_err-next
 lists::fill-returns-in_err-next g t c =
-    let e = err_from_is_err_and c.from_residual.result c.from_residual.ensures.1 in rw (e.1, e.2) (record { plays = record { plays = λ m is q w. fill_stop (λ m. view (names_in m) c.x-item.result) c.in_err-next.field-0.0 _ c.loop-x.invariant (λ m. got_of (view (names_in m)) c.args.xs.now c.loop-x.x-index c.x-item.result c.x-item.is c.loop-x-test.true) c.value.ensures c.in_err-next.was m is q w; owns = c.value.ensures.owns }; count = tt })
+    let e = err_from_is_err_and c.from_residual.result c.from_residual.ensures.1 in rw (e.1, e.2) (record { plays = record { plays = λ m is q w. fill_stop (λ m. view (names_in m) c.x-item.result) c.in_err-next.field-0.0 c.loop-x.values.items c.loop-x.invariant (λ m. got_of (view (names_in m)) c.args.xs.now c.loop-x.x-index c.x-item.result c.x-item.is c.loop-x-test.true) c.value.ensures c.in_err-next.was m is q w; owns = c.value.ensures.owns }; count = tt })
 
 pub lists::fill-returns-in_err-append : goal.lists::fill-returns-in_err-append
 lists::fill-returns-in_err-append g t c =
