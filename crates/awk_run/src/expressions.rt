@@ -10,8 +10,10 @@ ghost use Rattle.awk_program.specs.View.{view, view_target, view_term, view_join
 ghost use Rattle.awk_tasks.specs.Wholes.{names_in};
 ghost use Rattle.awk_run.specs.Runs.{Does};
 
+use crate::calls::call;
 use crate::context::{Context, Run};
 use crate::lists::{element_group, formatted};
+use crate::output::command;
 use crate::targets::{assign, change, increment, read_target};
 use awk_asks::halt::Halt;
 use awk_forms::chains::{join, members, term};
@@ -70,6 +72,8 @@ pub fn value<W: World>(cx: &Context<'_>, e: &Expr, level: u32, run: &mut Run, wo
         Expr::And(x, xs) => all(cx, x.get(), xs.as_slice(), below, run, world),
         Expr::Or(x, xs) => any(cx, x.get(), xs.as_slice(), below, run, world),
         Expr::Choice(x, y, z) => choose(cx, x.get(), y.get(), z.get(), below, run, world),
+        Expr::Call(place, f, xs) => call(cx, *place, *f, xs.as_slice(), below, run, world),
+        Expr::System(place, x) => command(cx, *place, x.get(), below, run, world),
         Expr::Sprintf(place, x, xs) => {
             formatted(cx, *place, x.get(), xs.as_slice(), below, run, world)
         }
