@@ -269,4 +269,4 @@ use Rattle.awk_run.proofs.+run.Goals as goal
 '''.replace('use Rattle.awk_program.proofs.Views.views\n','').replace('VIEWS',', '.join(['view-'+a for a in ['Number','Text']]+['view-'+a[0] for a in arms]))
 import sys
 only=sys.argv[1:] 
-open('/work/run/crates/awk_run/proofs/+run/Answers.antt','w').write(head+'\n'.join(out))
+open('crates/awk_run/proofs/+run/Answers.antt','w').write(head+'\n'.join(out))

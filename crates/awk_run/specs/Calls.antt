@@ -1,5 +1,5 @@
 -- The arguments of calls (POSIX.1-2017 XCU awk, "User-Defined Functions").
-use Rattle.std.specs.Prelude.{ℕ, Bool, List, reverse, Result}
+use Rattle.std.specs.Prelude.{ℕ, Bool, List, ◌∷◌, reverse, Result}
 use Rattle.awk_text.specs.declared.place.Place.{Place}
 use Rattle.awk_text.specs.declared.value.Value.{Value}
 use Rattle.box_world.specs.Calls.{Call}

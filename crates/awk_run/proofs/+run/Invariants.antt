@@ -154,8 +154,8 @@ invariant-expressions::any-loop-y g l = Along g.W.World.follows g.W.World.has_st
 abbrev pub invariant-statements::body-loop-x : goal.invariant-statements::body-loop-x
 invariant-statements::body-loop-x g l = Along g.W.World.follows g.W.World.has_stopped g.W.World.stops g.W.World.open_numbers l.cx (λ m. Do (Each (map (view_statement (names_in m)) l.xs))) (λ m k. Do (Each (map (view_statement (names_in m)) (drop l.x-index l.xs))) ∷ k) (l.fn.run.store, l.fn.run.streams) l.fn.world (l.run.store, l.run.streams) l.world
 
-abbrev pub invariant-loops::turns-loop-_turn : goal.invariant-loops::turns-loop-_turn
-invariant-loops::turns-loop-_turn g l = Along g.W.World.follows g.W.World.has_stopped g.W.World.stops g.W.World.open_numbers l.cx (λ m. At (Test (loop_of (names_in m) (option_copied l.test) l.inner (option_copied l.after))) []) (λ m k. At (Test (loop_of (names_in m) (option_copied l.test) l.inner (option_copied l.after))) [] ∷ k) (l.fn.run.store, l.fn.run.streams) l.fn.world (l.run.store, l.run.streams) l.world
+abbrev pub invariant-loops::turns-loop-turn : goal.invariant-loops::turns-loop-turn
+invariant-loops::turns-loop-turn g l = Along g.W.World.follows g.W.World.has_stopped g.W.World.stops g.W.World.open_numbers l.cx (λ m. At (Test (loop_of (names_in m) (option_copied l.test) l.inner (option_copied l.after))) []) (λ m k. At (Test (loop_of (names_in m) (option_copied l.test) l.inner (option_copied l.after))) [] ∷ k) (l.fn.run.store, l.fn.run.streams) l.fn.world (l.run.store, l.run.streams) l.world
 
 abbrev pub invariant-loops::over-loop-key : goal.invariant-loops::over-loop-key
 invariant-loops::over-loop-key g l = Along g.W.World.follows g.W.World.has_stopped g.W.World.stops g.W.World.open_numbers l.cx (λ m. Do (Keys l.place (variable_of (names_in m) l.variable) (view_statement (names_in m) l.inner) l.keys)) (λ m k. Do (Keys l.place (variable_of (names_in m) l.variable) (view_statement (names_in m) l.inner) (drop l.key-index l.keys)) ∷ k) (l.fn.run.store, l.fn.run.streams) l.fn.world (l.run.store, l.run.streams) l.world
