@@ -5,7 +5,6 @@ pub mod Messages
 pub mod OutputStreams
 pub mod Replies
 pub mod Script
-pub mod SetupParts
 pub mod Statuses
 pub mod Sublist
 pub mod Walks

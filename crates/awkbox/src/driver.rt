@@ -2,12 +2,12 @@
 ghost use Rattle.std.specs.Prelude.{◌≡◌, IfOk, IfErr};
 ghost use Rattle.awkbox.specs.Accepted.{Accepted, IsAccepted, IsRefused};
 ghost use Rattle.awkbox.specs.Drives.{DrivesText};
-ghost use Rattle.awkbox.specs.SetupParts.{IsPlain};
+ghost use Rattle.awk_setup.specs.SetupParts.{IsPlain};
 ghost use Rattle.box_monitor.specs.declared.log_end.LogEnd.TheVariants.{Whole};
 
 use crate::report::Report;
 use crate::script::statements;
-use crate::setup::Setup;
+use awk_setup::Setup;
 use crate::statement::Statement;
 use crate::walk::run;
 use awk_tokens::{SyntaxError, tokens};

@@ -10,11 +10,11 @@ mod driver;
 mod messages;
 mod report;
 mod script;
-mod setup;
 mod statement;
 mod streams;
 mod walk;
 
+pub use awk_setup::{Setup, SetupError};
 pub use awk_text::Memory;
 pub use awk_text::fault::Fault;
 pub use awk_text::octets::Octets;
@@ -30,4 +30,3 @@ pub use box_world::world::World;
 pub use driver::{Driven, Refusal, drive, policy_of};
 pub use messages::{Ending, Message, Warning};
 pub use report::{Outcome, Report};
-pub use setup::{Setup, SetupError};

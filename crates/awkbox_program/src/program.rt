@@ -1,5 +1,5 @@
 // The program from its words to its exit status.
-ghost use Rattle.awkbox.specs.SetupParts.{IsPlain};
+ghost use Rattle.awk_setup.specs.SetupParts.{IsPlain};
 
 use crate::command_line::Run;
 use crate::files::{Identity, Source, make_log, read, runs_in};

@@ -1,5 +1,5 @@
 // Runs whose log fails, and a setup with pairs. All other runs stand in the tables of `rows`.
-ghost use Rattle.awkbox.specs.SetupParts.{IsPlain};
+ghost use Rattle.awk_setup.specs.SetupParts.{IsPlain};
 
 use awkbox::{
     Fault, LogEnd, Memory, MemoryWorld, Octets, Outcome, Place, Refusal, Report, Setup, drive,

@@ -1,5 +1,5 @@
 // Whole runs: a script under a policy, over the world in memory.
-ghost use Rattle.awkbox.specs.SetupParts.{IsPlain};
+ghost use Rattle.awk_setup.specs.SetupParts.{IsPlain};
 
 use crate::args::{number, text, word};
 use crate::problem::Problem;

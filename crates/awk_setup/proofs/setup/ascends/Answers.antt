@@ -1,6 +1,6 @@
 use Rattle.std.proofs.Common.{◌≡◌, ℕ, true, ◌≤◌, ◌-◌, List, [], ◌∷◌, length, length-drop, drop, refl, sym, ◌∙◌, arith}
-use Rattle.awkbox.specs.SetupParts.{ascends}
-use Rattle.awkbox.proofs.setup.ascends.Goals as goal
+use Rattle.awk_setup.specs.SetupParts.{ascends}
+use Rattle.awk_setup.proofs.setup.ascends.Goals as goal
 
 -- one text alone ascends
 one-ascends : (names : List (List ℕ)) → length names ≤ 1 → ascends names ≡ true

@@ -1,6 +1,6 @@
 use Rattle.std.proofs.Common.{◌≡◌, ◌+◌, drop}
-use Rattle.awkbox.specs.SetupParts.{first_unspelled}
-use Rattle.awkbox.proofs.setup.first_unspelled.Given as goal
+use Rattle.awk_setup.specs.SetupParts.{first_unspelled}
+use Rattle.awk_setup.proofs.setup.first_unspelled.Given as goal
 
 -- the pairs so far are counted, and the first that is left is the first of all
 abbrev pub invariant-loop-name : goal.invariant-loop-name

@@ -1,6 +1,6 @@
 use Rattle.std.proofs.Common.{◌≡◌, ◌-◌, drop}
-use Rattle.awkbox.specs.SetupParts.{ascends}
-use Rattle.awkbox.proofs.setup.ascends.Given as goal
+use Rattle.awk_setup.specs.SetupParts.{ascends}
+use Rattle.awk_setup.proofs.setup.ascends.Given as goal
 
 -- whether all ascend is decided by those that are left, with the one before them
 abbrev pub invariant-loop-i : goal.invariant-loop-i

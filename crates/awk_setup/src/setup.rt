@@ -3,7 +3,7 @@ ghost use Rattle.std.specs.Prelude.{◌≡◌, ◌+◌, ◌<◌, ◌^◌, length
 ghost use Rattle.std.specs.List.{list_all};
 ghost use Rattle.awk_tokens.specs.Bytes.{begins_name, continues_name};
 ghost use Rattle.awk_tokens.specs.Words.{is_name};
-ghost use Rattle.awkbox.specs.SetupParts.{ascends, first_unspelled};
+ghost use Rattle.awk_setup.specs.SetupParts.{ascends, first_unspelled};
 
 use awk_text::octets::Octets;
 use std::cmp::Ordering;
@@ -20,7 +20,7 @@ pub struct Setup {
 }
 
 impl Model for Setup {
-    ghost use Rattle.awkbox.specs.SetupParts.{SetupParts};
+    ghost use Rattle.awk_setup.specs.SetupParts.{SetupParts};
 
     ghost Value = { SetupParts };
 

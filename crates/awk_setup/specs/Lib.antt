@@ -1,0 +1,2 @@
+pub mod Givens
+pub mod SetupParts
