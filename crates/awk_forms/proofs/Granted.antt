@@ -1,12 +1,9 @@
 -- What a form makes at a place, or the fault that it meets there.
-use Rattle.std.proofs.Common.{◌≡◌, ◌⊎◌, inl, inr, refl, sym, ap, subst, ◌∙◌, List, [], ◌∷◌}
+use Rattle.std.proofs.Common.{◌≡◌, ◌⊎◌, inl, inr, refl, sym, ap, subst, ◌∙◌, List, ◌∷◌}
 use Rattle.std.specs.Prelude.{Result, Ok, Err, IfOk, IfErr}
 use Rattle.awk_text.specs.declared.fault.Fault.{Fault}
 use Rattle.awk_text.specs.declared.fault.Fault.TheVariants as fault
 use Rattle.awk_text.specs.declared.place.Place.{Place}
-use Rattle.awk_text.specs.declared.value.Value.{Value}
-use Rattle.awk_text.specs.declared.value.Value.TheVariants as v
-use Rattle.awk_program.specs.Slots.{Text}
 use Rattle.awk_machine.specs.Advances.{advance, held}
 use Rattle.awk_machine.specs.Pieces.{Piece, Goes, granted, Faulted, ends}
 use Rattle.awk_machine.specs.State.{Course, Given}

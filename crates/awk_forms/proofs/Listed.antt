@@ -1,6 +1,6 @@
 -- Forms that wait for a list of values.
-use Rattle.std.proofs.Common.{◌≡◌, refl, sym, ap, subst, ◌∙◌, ℕ, ◌≤◌, ◌+◌, List, [], ◌∷◌, ◌++◌, length, reverse, take, drop, arith}
-use Rattle.std.specs.Prelude.{Result, Ok, Err, Option, Some, None, slice_get, codes}
+use Rattle.std.proofs.Common.{◌≡◌, refl, sym, ap, subst, ◌∙◌, ◌+◌, List, [], ◌∷◌, ◌++◌, length, reverse, take, drop, arith}
+use Rattle.std.specs.Prelude.{Result, Ok, Err, Some, None}
 use Rattle.std.proofs.lemmas.List.{reverse-reverse, length-reverse, reverse-append, length-append}
 use Rattle.std.proofs.lemmas.Option.{slice_get_past}
 use Rattle.awk_fields.specs.Rows.{joined}
@@ -97,8 +97,8 @@ module _ (g : Given) (w : Whole) (place : Place) (x : Variable) (xs : List Expre
         hid,
         array_agrees g w x (without (kept.array w.0 x) key) hid c a,
         by_key (Ok key) is k hid c a
-        ∙ ap (λ arr. Goes k (variables.with_array (variable_of (names_in g) x) (without arr key) (seen (base g w hid) c))) (array-so g w hid c a x)
-        ∙ ap (λ s. Goes k s) (array-set g w x (without (kept.array w.0 x) key) hid c a),
+            ∙ ap (λ arr. Goes k (variables.with_array (variable_of (names_in g) x) (without arr key) (seen (base g w hid) c))) (array-so g w hid c a x)
+            ∙ ap (λ s. Goes k s) (array-set g w x (without (kept.array w.0 x) key) hid c a),
       ))))
 
   pub removes_not : (f : Fault) → limited (joined (kept.own_text w.0 own.Subsep) vs) ≡ Err f → (k : List Piece) (hid : Hidden) (c : Course) → Agreeing g w hid c →

@@ -1,5 +1,5 @@
 -- What forms of one value or two make.
-use Rattle.std.proofs.Common.{◌≡◌, ◌⊎◌, inl, inr, refl, sym, ap, subst, ◌∙◌, ℤ, List, [], ◌∷◌}
+use Rattle.std.proofs.Common.{◌≡◌, ◌⊎◌, inl, inr, refl, ap, subst, ℤ, List, [], ◌∷◌}
 use Rattle.std.specs.Prelude.{ℕ, pos, nat_abs, Result, Ok, Err, IfOk, IfErr}
 use Rattle.awk_fields.specs.Rows.{place_of}
 use Rattle.awk_format.specs.Directives.{◌>>=◌}
@@ -16,17 +16,16 @@ use Rattle.awk_program.specs.declared.operators.Step.{Step}
 use Rattle.awk_program.specs.declared.operators.Taken.{Taken}
 use Rattle.awk_machine.specs.Advances.{advance, held}
 use Rattle.awk_machine.specs.Operators.{stepped, of_count}
-use Rattle.awk_machine.specs.Pieces.{Piece, At, Value_of, Then, Goes, granted, give}
+use Rattle.awk_machine.specs.Pieces.{Piece, At, Value_of, Then, Goes, granted}
 use Rattle.awk_machine.specs.State.{State, Course, Given}
 use Rattle.awk_machine.specs.Streams.{seen}
 use Rattle.awk_store.specs.States.{Hidden}
-use Rattle.awk_asks.specs.declared.halt.Halt.{Halt}
 use Rattle.awk_tasks.specs.Wholes.{Whole, Agreeing, base}
-use Rattle.awk_tasks.specs.Acts.{Acts, halt_at, result_at}
+use Rattle.awk_tasks.specs.Acts.{Acts, result_at}
 use Rattle.awk_tasks.proofs.Acting.{at_rest, moves, done}
 use Rattle.awk_works.specs.Numbers.{as_value}
 use Rattle.awk_forms.specs.Made.{as_text, both_numbers, stepping}
-use Rattle.awk_forms.proofs.Granted.{given_so, given_or_lacks}
+use Rattle.awk_forms.proofs.Granted.{given_or_lacks}
 
 abbrev value_ok : Value → Result Value Fault
 value_ok x = Ok x
@@ -64,6 +63,7 @@ both_so place how taken r at x g k s = by_old (number_of x) refl
         advance g (At (Value_of (p.step place how taken r)) (x ∷ at ∷ []) ∷ k) s ≡ held g s (granted place (both_numbers how x) (λ n k s. Goes (stepping place taken r at n k) s) k s)
     by_new old (Ok new) e f = rw (e, f) refl
     by_new old (Err met) e f = rw (e, f) refl
+
     by_old : (old : Result ℤ Fault) → number_of x ≡ old →
         advance g (At (Value_of (p.step place how taken r)) (x ∷ at ∷ []) ∷ k) s ≡ held g s (granted place (both_numbers how x) (λ n k s. Goes (stepping place taken r at n k) s) k s)
     by_old (Ok old) e = by_new old (stepped how old) e refl

@@ -31,7 +31,12 @@ use itoa::Buffer;
 use std::alloc::Global;
 
 /// The texts of the subscripts with SUBSEP between.
-fn joined_key(line: &mut Line, store: &Store, alloc: Global, subscripts: &[Value]) -> Result<Octets, Fault>
+fn joined_key(
+    line: &mut Line,
+    store: &Store,
+    alloc: Global,
+    subscripts: &[Value],
+) -> Result<Octets, Fault>
     ensures ok { IfOk result (λ text. limited (joined (own_text store.now own.Subsep) subscripts.now) ≡ Ok text) }
     ensures err { IfErr result (λ e. (e ≡ Fault.Memory) ⊎ (limited (joined (own_text store.now own.Subsep) subscripts.now) ≡ Err e)) }
 {
@@ -55,7 +60,12 @@ fn single_key(alloc: Global, subscript: &Value) -> Result<Octets, Fault>
 ///
 /// Fails with `Fault::TextTooLong` exactly where it has more than `MOST_BYTES` bytes, and with `Fault::Memory` where memory is
 /// refused.
-pub fn key(alloc: Global, line: &mut Line, store: &Store, subscripts: &[Value]) -> Result<Octets, Fault>
+pub fn key(
+    alloc: Global,
+    line: &mut Line,
+    store: &Store,
+    subscripts: &[Value],
+) -> Result<Octets, Fault>
     ensures ok { IfOk result (λ text. limited (joined (own_text store.now own.Subsep) subscripts.now) ≡ Ok text) }
     ensures err { IfErr result (λ e. (e ≡ Fault.Memory) ⊎ (limited (joined (own_text store.now own.Subsep) subscripts.now) ≡ Err e)) }
 {

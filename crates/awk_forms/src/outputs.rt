@@ -42,7 +42,13 @@ pub fn sprintf(alloc: Global, place: Place, values: &[Value]) -> Result<Value, H
 }
 
 /// The text that print puts to the standard output.
-pub fn printed_line(alloc: Global, line: &mut Line, store: &Store, place: Place, items: &[Value]) -> Result<Octets, Halt>
+pub fn printed_line(
+    alloc: Global,
+    line: &mut Line,
+    store: &Store,
+    place: Place,
+    items: &[Value],
+) -> Result<Octets, Halt>
     ensures { (g : Given) (t : Table) (xs : List Expression) → length xs ≡ length items.now
         → Acts g (At (Doing (p.print place xs None)) (reverse items.now)) (to_standard place) (store.now, t) result (store.now, t) }
 {
@@ -58,7 +64,14 @@ pub fn formatted_line(alloc: Global, place: Place, values: &[Value]) -> Result<O
 }
 
 /// The text that print puts to the stream of this name.
-pub fn printed_for(alloc: Global, line: &mut Line, store: &Store, place: Place, items: &[Value], name: &Value) -> Result<Octets, Halt>
+pub fn printed_for(
+    alloc: Global,
+    line: &mut Line,
+    store: &Store,
+    place: Place,
+    items: &[Value],
+    name: &Value,
+) -> Result<Octets, Halt>
     ensures { (g : Given) (t : Table) (xs : List Expression) (r : Redirection Expression) → length xs ≡ length items.now
         → Acts g (At (Doing (p.print place xs (Some r))) (name.now ∷ reverse items.now)) (to_stream r name.now) (store.now, t) result (store.now, t) }
 {
@@ -66,7 +79,12 @@ pub fn printed_for(alloc: Global, line: &mut Line, store: &Store, place: Place, 
 }
 
 /// The text that printf puts to the stream of this name: the first value is the format.
-pub fn formatted_for(alloc: Global, place: Place, values: &[Value], name: &Value) -> Result<Octets, Halt>
+pub fn formatted_for(
+    alloc: Global,
+    place: Place,
+    values: &[Value],
+    name: &Value,
+) -> Result<Octets, Halt>
     ensures { (g : Given) (w : Whole) (x : Expression) (xs : List Expression) (r : Redirection Expression) → length (x ∷ xs) ≡ length values.now
         → Acts g (At (Doing (p.printf place x xs (Some r))) (name.now ∷ reverse values.now)) (to_stream r name.now) w result w }
 {

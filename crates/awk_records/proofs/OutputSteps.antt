@@ -1,5 +1,5 @@
 -- A text is put to a stream that the script names.
-use Rattle.std.proofs.Common.{◌≡◌, ◌≤◌, inr, refl, arith, ℕ, List, ◌∷◌}
+use Rattle.std.proofs.Common.{◌≡◌, inr, refl, arith, ℕ, List, ◌∷◌}
 use Rattle.std.specs.Prelude.{Result, Ok, Err, Some, Bool}
 use Rattle.box_world.specs.Calls.{Call, IsStream}
 use Rattle.box_world.specs.declared.ask.Ask.{Ask}

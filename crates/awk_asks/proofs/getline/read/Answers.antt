@@ -1,8 +1,8 @@
-use Rattle.std.proofs.Common.{refl, ap}
+use Rattle.std.proofs.Common.{refl}
 use Rattle.std.proofs.lemmas.Result.{err_from_is_err_and}
-use Rattle.awk_machine.specs.Pieces.{Do, Read, give}
+use Rattle.awk_machine.specs.Pieces.{Do, Read}
 use Rattle.awk_asks.specs.Readings.{gives_read, key_of}
-use Rattle.awk_asks.proofs.Chain.{at_once, done, part, stop, turned}
+use Rattle.awk_asks.proofs.Chain.{at_once, done, part, stop}
 use Rattle.awk_asks.proofs.MoreSteps.{reads_so}
 use Rattle.awk_asks.proofs.getline.read.Goals as goal
 

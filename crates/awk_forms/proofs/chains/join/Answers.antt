@@ -1,6 +1,6 @@
-use Rattle.std.proofs.Common.{◌≡◌, refl, sym, ap, ◌∙◌, ℕ, List, [], ◌∷◌, length, reverse}
-use Rattle.awk_forms.proofs.Making.{gives_so, text_so, as_text_so, both_so, number_so}
-use Rattle.awk_machine.specs.Pieces.{give, At, Do, Terms_of, Texts_of, Members_of, granted}
+use Rattle.std.proofs.Common.{ap, [], ◌∷◌}
+use Rattle.awk_forms.proofs.Making.{text_so, as_text_so}
+use Rattle.awk_machine.specs.Pieces.{At, Texts_of}
 use Rattle.awk_machine.specs.Operators as ops
 use Rattle.std.proofs.Common.{◌++◌}
 use Rattle.awk_text.specs.Values.{text_of}

@@ -1,13 +1,12 @@
-use Rattle.std.proofs.Common.{◌≡◌, refl, sym, ap, ◌∙◌, ℕ, List, [], ◌∷◌, length, reverse}
-use Rattle.awk_forms.proofs.Making.{gives_so, text_so, as_text_so, both_so, number_so}
-use Rattle.awk_machine.specs.Pieces.{give, At, Do, Terms_of, Texts_of, Members_of, granted}
+use Rattle.std.proofs.Common.{ap, [], ◌∷◌}
+use Rattle.awk_forms.proofs.Making.{gives_so}
+use Rattle.awk_machine.specs.Pieces.{At, Members_of}
 use Rattle.awk_lib.specs.Arrays.{has}
 use Rattle.awk_text.specs.Values.{text_of}
 use Rattle.awk_machine.specs.Operators as ops
 use Rattle.awk_machine.specs.Pieces.{Goes}
 use Rattle.awk_machine.specs.Streams.{seen}
-use Rattle.awk_tasks.specs.Wholes.{base, names_in}
-use Rattle.awk_program.specs.View.{variable_of}
+use Rattle.awk_tasks.specs.Wholes.{base}
 use Rattle.awk_tasks.proofs.Reading.{array-so}
 use Rattle.awk_forms.proofs.chains.member.Goals as goal
 

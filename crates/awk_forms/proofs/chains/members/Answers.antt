@@ -1,4 +1,4 @@
-use Rattle.std.proofs.Common.{◌≡◌, refl, sym, ap, ◌∙◌, ℕ, List, [], ◌∷◌, length, reverse}
+use Rattle.std.proofs.Common.{refl, ap, [], ◌∷◌}
 use Rattle.std.proofs.lemmas.List.{drop_more}
 use Rattle.awk_forms.proofs.Rests.{drop_all}
 use Rattle.std.proofs.Common.{drop, map, ◌+◌}

@@ -1,4 +1,4 @@
-use Rattle.std.proofs.Common.{List, [], ◌∷◌, drop, map}
+use Rattle.std.proofs.Common.{[], ◌∷◌, drop, map}
 use Rattle.awk_machine.specs.Pieces.{At, Members_of}
 use Rattle.awk_machine.specs.State.{Given}
 use Rattle.awk_program.specs.View.{variable_of}

@@ -1,6 +1,6 @@
-use Rattle.std.proofs.Common.{◌≡◌, refl, sym, ap, ◌∙◌, ℕ, List, [], ◌∷◌, length, reverse}
-use Rattle.awk_forms.proofs.Granted.{given_so, given_or_lacks, given_now, met_now, owned_so}
-use Rattle.awk_machine.specs.Pieces.{give, At, Do, Terms_of, Texts_of, Members_of, granted}
+use Rattle.std.proofs.Common.{refl, [], ◌∷◌}
+use Rattle.awk_forms.proofs.Granted.{given_so}
+use Rattle.awk_machine.specs.Pieces.{At, Terms_of}
 use Rattle.awk_machine.specs.Operators as ops
 use Rattle.awk_forms.proofs.chains.term.Goals as goal
 

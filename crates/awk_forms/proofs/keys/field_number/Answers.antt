@@ -8,11 +8,11 @@ use Rattle.awk_machine.specs.Forms.{answer}
 use Rattle.awk_machine.specs.Pieces.{Goes}
 use Rattle.awk_machine.specs.Streams.{seen}
 use Rattle.awk_tasks.specs.Wholes.{base}
-use Rattle.std.proofs.Common.{◌≡◌, refl, sym, ap, ◌∙◌, ℕ, List, [], ◌∷◌, length, reverse}
-use Rattle.awk_forms.proofs.Granted.{given_so, given_or_lacks, given_now, met_now, owned_so, as_halted}
+use Rattle.std.proofs.Common.{refl, sym, ap, ◌∙◌}
+use Rattle.awk_forms.proofs.Granted.{met_now, as_halted}
 use Rattle.awk_works.specs.Numbers.{as_value}
-use Rattle.awk_forms.proofs.Making.{gives_so, text_so, as_text_so, both_so, number_so, field_is}
-use Rattle.awk_machine.specs.Pieces.{give, At, Do, Terms_of, Texts_of, Members_of, granted}
+use Rattle.awk_forms.proofs.Making.{gives_so, field_is}
+use Rattle.awk_machine.specs.Pieces.{give, granted}
 use Rattle.awk_machine.specs.Operators as ops
 use Rattle.awk_machine.specs.Targets.{field_of}
 use Rattle.awk_forms.proofs.keys.field_number.Goals as goal

@@ -1,11 +1,11 @@
-use Rattle.std.proofs.Common.{◌≡◌, refl, sym, ap, ◌∙◌, ℕ, List, [], ◌∷◌, length, reverse}
-use Rattle.awk_forms.proofs.Granted.{given_so, given_or_lacks, given_now, met_now, owned_so}
-use Rattle.awk_machine.specs.Pieces.{give, At, Do, Terms_of, Texts_of, Members_of, granted}
+use Rattle.std.proofs.Common.{ap, ◌∙◌, [], ◌∷◌}
+use Rattle.awk_forms.proofs.Granted.{given_or_lacks}
+use Rattle.awk_machine.specs.Pieces.{At, Members_of}
 use Rattle.awk_text.specs.declared.value.Value.TheVariants as v
 use Rattle.awk_fields.specs.Rows.{joined}
 use Rattle.awk_machine.specs.Operators as ops
 use Rattle.awk_machine.specs.Advances.{held}
-use Rattle.awk_machine.specs.Pieces.{Goes, Value_of, Target_of}
+use Rattle.awk_machine.specs.Pieces.{Goes, Value_of}
 use Rattle.awk_machine.specs.Forms.{listed, keyed}
 use Rattle.awk_machine.specs.Streams.{seen}
 use Rattle.awk_program.specs.Program as p

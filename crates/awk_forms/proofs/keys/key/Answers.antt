@@ -1,8 +1,7 @@
-use Rattle.std.proofs.Common.{◌≡◌, refl, sym, ap, ◌∙◌, ℕ, List, [], ◌∷◌, length, reverse}
 use Rattle.awk_program.specs.declared.variables.Own.TheVariants as own
 use Rattle.awk_store.specs.Kept.{own_text}
 use Rattle.awk_forms.proofs.Rests.{just_one, ok_for, err_for}
-use Rattle.std.proofs.Common.{inl, inr, ◌⊎◌}
+use Rattle.std.proofs.Common.{inl, inr}
 use Rattle.awk_forms.proofs.keys.key.Goals as goal
 
 pub returns-in-len1-clause-ok : goal.returns-in-len1-clause-ok

@@ -1,25 +1,12 @@
-use Rattle.std.proofs.Common.{◌≡◌, refl, sym, ap, ◌∙◌, ℕ, List, [], ◌∷◌, length, reverse}
+use Rattle.std.proofs.Common.{sym, ◌∙◌}
 use Rattle.awk_machine.specs.Operators as ops
 use Rattle.std.proofs.lemmas.Result.{err_from_is_err_and}
 use Rattle.awk_fields.specs.Rows.{joined}
-use Rattle.awk_lib.specs.Arrays.{without}
-use Rattle.awk_machine.specs.Advances.{held}
-use Rattle.awk_machine.specs.Pieces.{Doing, Goes, granted}
-use Rattle.awk_machine.specs.Forms.{keyed}
-use Rattle.awk_machine.specs.Streams.{seen}
-use Rattle.awk_machine.specs.Variables as variables
-use Rattle.awk_program.specs.Program as p
-use Rattle.awk_program.specs.View.{variable_of}
 use Rattle.awk_program.specs.declared.variables.Own.TheVariants as own
 use Rattle.awk_store.specs.Kept as kept
-use Rattle.awk_tasks.specs.Wholes.{base, names_in}
-use Rattle.awk_tasks.proofs.ArraySteps.{array-set, array_agrees, array_used}
-use Rattle.awk_tasks.proofs.Acting.{at_rest, alters, done}
 use Rattle.awk_tasks.proofs.VariableSteps.{ok_at}
-use Rattle.awk_tasks.proofs.Reading.{array-so}
 use Rattle.awk_forms.proofs.Granted.{met_so}
-use Rattle.awk_forms.proofs.Listed.{all_there, keyed_so, removes_so, removes_not}
-use Rattle.awk_forms.proofs.Rests.{ok_for}
+use Rattle.awk_forms.proofs.Listed.{removes_so, removes_not}
 use Rattle.awk_forms.proofs.keys.remove.Goals as goal
 
 pub returns-in_err-key : goal.returns-in_err-key

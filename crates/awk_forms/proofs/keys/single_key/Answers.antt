@@ -1,4 +1,3 @@
-use Rattle.std.proofs.Common.{◌≡◌, refl, sym, ap, ◌∙◌, ℕ, List, [], ◌∷◌, length, reverse}
 use Rattle.awk_forms.proofs.keys.single_key.Goals as goal
 
 pub returns-clause-ok : goal.returns-clause-ok

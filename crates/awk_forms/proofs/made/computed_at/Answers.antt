@@ -1,10 +1,8 @@
-use Rattle.std.proofs.Common.{◌≡◌, refl, sym, ap, ◌∙◌, ℕ, List, [], ◌∷◌, length, reverse}
-use Rattle.awk_forms.proofs.Granted.{given_so, given_or_lacks, given_now, met_now, owned_so}
-use Rattle.awk_forms.proofs.Making.{gives_so, text_so, as_text_so, both_so, number_so}
-use Rattle.awk_machine.specs.Pieces.{give, At, Do, Terms_of, Texts_of, Members_of, granted}
-use Rattle.awk_machine.specs.Operators as ops
+use Rattle.std.proofs.Common.{sym, ap, ◌∙◌}
+use Rattle.awk_forms.proofs.Granted.{given_so}
+use Rattle.awk_forms.proofs.Making.{number_so}
+use Rattle.awk_machine.specs.Pieces.{granted}
 use Rattle.awk_machine.specs.Advances.{held}
-use Rattle.awk_machine.specs.Pieces.{Goes}
 use Rattle.awk_machine.specs.Streams.{seen}
 use Rattle.awk_machine.specs.Targets.{store, target}
 use Rattle.awk_tasks.specs.Wholes.{base}

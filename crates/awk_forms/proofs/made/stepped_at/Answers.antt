@@ -1,6 +1,5 @@
-use Rattle.std.proofs.Common.{◌≡◌, refl, sym, ap, ◌∙◌, ℕ, List, [], ◌∷◌, length, reverse}
-use Rattle.awk_forms.proofs.Granted.{given_so, given_or_lacks, given_now, met_now, owned_so}
-use Rattle.awk_forms.proofs.Making.{gives_so, text_so, as_text_so, both_so, number_so}
+use Rattle.awk_forms.proofs.Granted.{given_so}
+use Rattle.awk_forms.proofs.Making.{both_so}
 use Rattle.awk_forms.specs.Made.{both_numbers, stepping}
 use Rattle.awk_forms.proofs.made.stepped_at.Goals as goal
 

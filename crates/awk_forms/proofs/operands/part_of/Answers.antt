@@ -1,8 +1,7 @@
-use Rattle.std.proofs.Common.{◌≡◌, refl, sym, ap, ◌∙◌, ℕ, List, [], ◌∷◌, length, reverse}
-use Rattle.awk_forms.proofs.Granted.{given_so, given_or_lacks, given_now, met_now, owned_so}
-use Rattle.awk_machine.specs.Pieces.{give, At, Do, Terms_of, Texts_of, Members_of, granted}
+use Rattle.std.proofs.Common.{refl}
+use Rattle.awk_forms.proofs.Granted.{met_now, owned_so}
+use Rattle.awk_machine.specs.Pieces.{give}
 use Rattle.awk_machine.specs.Builtins as builtin
-use Rattle.std.specs.Prelude.{Ok, Err}
 use Rattle.awk_forms.proofs.operands.part_of.Goals as goal
 
 pub returns-in-Ok : goal.returns-in-Ok

@@ -1,8 +1,7 @@
-use Rattle.std.proofs.Common.{◌≡◌, refl, sym, ap, ◌∙◌, ℕ, List, [], ◌∷◌, length, reverse}
-use Rattle.std.specs.Prelude.{None, Some}
-use Rattle.awk_forms.proofs.Granted.{given_so, given_or_lacks, given_now, met_now, owned_so}
-use Rattle.awk_machine.specs.Pieces.{give, At, Do, Terms_of, Texts_of, Members_of, granted}
-use Rattle.awk_machine.specs.Builtins as builtin
+use Rattle.std.proofs.Common.{ap, ◌∙◌}
+use Rattle.std.specs.Prelude.{None}
+use Rattle.awk_forms.proofs.Granted.{given_or_lacks}
+use Rattle.awk_machine.specs.Pieces.{granted}
 use Rattle.awk_machine.specs.Printing as machine
 use Rattle.awk_machine.specs.Advances.{held}
 use Rattle.awk_machine.specs.Pieces.{Goes, Doing}
@@ -11,8 +10,8 @@ use Rattle.awk_program.specs.Program as p
 use Rattle.awk_tasks.specs.Wholes.{base}
 use Rattle.awk_tasks.specs.Printed as spec
 use Rattle.awk_tasks.proofs.PrintSteps.{printed-so}
-use Rattle.awk_forms.specs.Outputs.{to_standard, to_stream}
-use Rattle.awk_forms.proofs.Listed.{printed_none, printed_some}
+use Rattle.awk_forms.specs.Outputs.{to_standard}
+use Rattle.awk_forms.proofs.Listed.{printed_none}
 use Rattle.awk_forms.proofs.outputs.printed_line.Goals as goal
 
 pub returns : goal.returns

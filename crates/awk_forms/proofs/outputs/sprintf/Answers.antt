@@ -1,10 +1,10 @@
-use Rattle.std.proofs.Common.{◌≡◌, refl, sym, ap, ◌∙◌, ℕ, List, [], ◌∷◌, length, reverse}
-use Rattle.awk_forms.proofs.Making.{gives_so, text_so, as_text_so, both_so, number_so}
-use Rattle.awk_machine.specs.Pieces.{give, At, Do, Terms_of, Texts_of, Members_of, granted}
+use Rattle.std.proofs.Common.{ap, ◌∷◌}
+use Rattle.awk_forms.proofs.Making.{text_so}
+use Rattle.awk_machine.specs.Pieces.{give}
 use Rattle.awk_machine.specs.Builtins as builtin
 use Rattle.awk_machine.specs.Forms.{listed, deliver}
 use Rattle.awk_machine.specs.Advances.{held}
-use Rattle.awk_machine.specs.Pieces.{Goes, Value_of}
+use Rattle.awk_machine.specs.Pieces.{Value_of}
 use Rattle.awk_machine.specs.Streams.{seen}
 use Rattle.awk_program.specs.Program as p
 use Rattle.awk_tasks.specs.Wholes.{base}

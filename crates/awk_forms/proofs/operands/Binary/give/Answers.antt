@@ -1,11 +1,8 @@
 use Rattle.std.proofs.Common.{rules, w64}
 use Rattle.std.proofs.lemmas.Int.{to_z-of_z}
-use Rattle.std.proofs.Common.{◌≡◌, refl, sym, ap, ◌∙◌, ℕ, List, [], ◌∷◌, length, reverse}
-use Rattle.awk_forms.proofs.Granted.{given_so, given_or_lacks, given_now, met_now, owned_so}
-use Rattle.awk_forms.proofs.Making.{gives_so, text_so, as_text_so, both_so, number_so}
-use Rattle.awk_machine.specs.Pieces.{give, At, Do, Terms_of, Texts_of, Members_of, granted}
-use Rattle.awk_machine.specs.Operators as ops
-use Rattle.awk_machine.specs.Builtins as builtin
+use Rattle.std.proofs.Common.{refl}
+use Rattle.awk_forms.proofs.Making.{gives_so}
+use Rattle.awk_machine.specs.Pieces.{give}
 use Rattle.awk_forms.proofs.operands.Binary.give.Goals as goal
 
 pub returns-in-Compare : goal.returns-in-Compare

@@ -1,0 +1,4 @@
+pub mod Framing
+pub mod Leading
+pub mod Leaving
+pub mod Stepping

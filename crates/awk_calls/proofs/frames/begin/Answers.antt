@@ -1,0 +1,12 @@
+use Rattle.std.proofs.Common.{◌≡◌, sym, ap, ◌∙◌, drop, length}
+use Rattle.awk_machine.specs.Calls.{function}
+use Rattle.awk_program.specs.View.{view_arguments}
+use Rattle.awk_tasks.specs.Wholes.{names_in}
+use Rattle.awk_calls.proofs.frames.begin.Goals as goal
+
+pub returns : goal.returns
+returns c = λ g t e.
+    c.enter.ensures g t c.args.f (view_arguments (names_in g) c.args.xs.now) c.args.values.items
+    (c.others.ensures ∙ ap (λ n. drop n c.parameters_of.result.now) (c.len-count.ensures ∙ c.args.values.ok.0)
+    ∙ ap (drop (length c.args.values.items)) (c.parameters_of.ensures ∙ ap (λ p. (function p c.args.f).parameters) (sym e)))
+    (c.in-Ok.ensures.frame g t)

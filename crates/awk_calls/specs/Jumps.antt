@@ -1,0 +1,18 @@
+-- Statements that leave what is left to be done (POSIX.1-2017 XCU awk, "Actions").
+use Rattle.std.specs.Prelude.{◌≡◌, List}
+use Rattle.awk_machine.specs.Pieces.{Piece, Faulted, ends}
+use Rattle.awk_machine.specs.State.{Given}
+use Rattle.awk_machine.specs.Statements.{to_records, after_exit}
+use Rattle.awk_asks.specs.declared.halt.Halt.{Halt}
+use Rattle.awk_asks.specs.declared.halt.Halt.TheVariants as halt
+use Rattle.awk_store.specs.States.{phase_of}
+use Rattle.awk_tasks.specs.Wholes.{Whole}
+use Rattle.awk_tasks.specs.Acts.{Passes}
+
+-- from its piece the run is halted so
+abbrev pub Jumps : Given → Piece → Whole → Halt → Whole → Type 0
+Jumps g p old (halt.Fault fault place) new = Passes g p old (λ k. ends (Faulted fault place)) new
+Jumps g p old halt.Next new = Passes g p old to_records new
+Jumps g p old halt.Exit new = Passes g p old (λ k. after_exit (phase_of new.0.phase)) new
+Jumps g p old halt.Memory new = new ≡ old
+Jumps g p old other new = ⊥

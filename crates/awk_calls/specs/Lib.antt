@@ -1,0 +1,4 @@
+pub mod Flows
+pub mod Calls
+pub mod Jumps
+pub mod Steps
