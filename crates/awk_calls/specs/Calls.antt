@@ -1,5 +1,5 @@
 -- Calls of a script's functions, as the code has them (POSIX.1-2017 XCU awk, "User-Defined Functions").
-use Rattle.std.specs.Prelude.{◌≡◌, Some, None}
+use Rattle.std.specs.Prelude.{Some}
 use Rattle.awk_text.specs.declared.value.Value.{Value}
 use Rattle.awk_text.specs.declared.value.Value.TheVariants as v
 use Rattle.awk_program.specs.View.{Names, view, variable_of}
@@ -16,9 +16,6 @@ argument_of names (argument.Array a) = by_name (variable_of names a)
 argument_of names argument.Nothing = by_nothing
 
 -- the value of a call whose body ended so
-abbrev pub returns : Flow → Value → Type 0
-returns flow.On x = x ≡ v.Unset
-returns flow.Break x = ⊥
-returns flow.Continue x = ⊥
-returns (flow.Return None) x = x ≡ v.Unset
-returns (flow.Return (Some y)) x = x ≡ y
+abbrev pub returned : Flow → Value
+returned (flow.Return (Some x)) = x
+returned other = v.Unset

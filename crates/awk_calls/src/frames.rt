@@ -1,5 +1,5 @@
 // What a call begins with, and what it leaves.
-ghost use Rattle.std.specs.Prelude.{◌≡◌, ◌∷◌, ◌⊎◌, [], List, map, drop, length, IfOk, IfErr};
+ghost use Rattle.std.specs.Prelude.{◌≡◌, ◌∷◌, List, map, drop, length, IfOk};
 ghost use Rattle.awk_asks.specs.Tables.{Table};
 ghost use Rattle.awk_machine.specs.Calls as machine;
 ghost use Rattle.awk_machine.specs.Pieces.{At, Do, Call, Leave, give};
@@ -9,7 +9,8 @@ ghost use Rattle.awk_store.specs.States.{Hidden, bound_of};
 ghost use Rattle.awk_tasks.specs.Acts.{Acts};
 ghost use Rattle.awk_tasks.specs.Calling.{begun};
 ghost use Rattle.awk_tasks.specs.Wholes.{base, names_in};
-ghost use Rattle.awk_calls.specs.Calls.{argument_of, returns};
+ghost use Rattle.awk_calls.specs.Calls as calls;
+ghost use Rattle.awk_calls.specs.Calls.{argument_of};
 
 use crate::flow::Flow;
 use awk_asks::halt::Halt;
@@ -105,15 +106,12 @@ fn others(parameters: &[bool], given: usize) -> &[bool]
     }
 }
 
-/// The value of a call whose body ended so. No loop is left around a call's body, so that no `break` and no `continue` ends it.
-pub fn returned(flow: Flow) -> Result<Value, Halt>
-    ensures ok { IfOk result (λ v. returns flow v) }
-    ensures err { IfErr result (λ h. (h ≡ Halt.Memory) × ((flow ≡ Flow.Break) ⊎ (flow ≡ Flow.Continue))) }
+/// The value of a call whose body ended so: the one that it returned, or none. Takes no memory.
+pub fn returned(flow: Flow) -> Value
+    ensures { result ≡ calls.returned flow }
 {
     match flow {
-        Flow::On => Ok(Value::Unset),
-        Flow::Return(None) => Ok(Value::Unset),
-        Flow::Return(Some(value)) => Ok(value),
-        Flow::Break | Flow::Continue => Err(Halt::Memory),
+        Flow::Return(Some(value)) => value,
+        _ => Value::Unset,
     }
 }

@@ -89,6 +89,16 @@ impl Splitter {
         })
     }
 
+    /// The matches of an ERE that is compiled already, as what separates. RS plays no part. Takes no
+    /// memory.
+    pub fn by_compiled(compiled: Rc<Ere>) -> Splitter
+        ensures { result ≡ ere compiled.value false }
+    {
+        Splitter {
+            by: By::Ere(compiled, false),
+        }
+    }
+
     /// A splitter that splits as this one does. The compiled ERE is shared, so nothing is parsed
     /// and no memory is taken.
     ///

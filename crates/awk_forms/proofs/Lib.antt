@@ -1,4 +1,5 @@
 pub mod Granted
 pub mod Listed
 pub mod Making
+pub mod Matching
 pub mod Rests

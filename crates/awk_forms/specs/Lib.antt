@@ -1,3 +1,4 @@
 pub mod Made
 pub mod Operands
 pub mod Outputs
+pub mod Patterns

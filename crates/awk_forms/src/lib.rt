@@ -8,3 +8,5 @@ pub mod keys;
 pub mod made;
 pub mod operands;
 pub mod outputs;
+pub mod patterns;
+pub mod replacements;

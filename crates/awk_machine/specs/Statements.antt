@@ -12,7 +12,7 @@ use Rattle.awk_program.specs.Program.{Expression, Statement, Statements}
 use Rattle.awk_machine.specs.Builtins.{formatted_by}
 use Rattle.awk_machine.specs.Forms.{value, unary, each_of, keyed, if_true}
 use Rattle.awk_lib.specs.Arrays.{keys, without}
-use Rattle.awk_machine.specs.Pieces.{Loop, Part, Test, Turn, Leave, Records, Doing, Piece, At, Do, Set, Variable, Step, Start, Each, Keys, Enter, Finish, Then, Goes, give, granted, fails}
+use Rattle.awk_machine.specs.Pieces.{Loop, Part, Test, Turn, Leave, Records, Doing, Piece, At, Do, Set, Variable, Step, Start, Each, Keys, Enter, Finish, Then, Goes, granted, fails}
 use Rattle.awk_machine.specs.Printing.{print_by, printed}
 use Rattle.awk_machine.specs.State.{State, Phase, Ruling, Ending}
 use Rattle.awk_machine.specs.Variables.{array, with_array}
@@ -62,24 +62,28 @@ abbrev pub turns : Place → p.Variable → Statement → List Text → Then
 turns place a x [] k s = Goes k s
 turns place a x (key ∷ rest) k s = Goes (Do (Set (Variable a) place (v.Text key)) ∷ Do (Start x) ∷ Do (Keys place a x rest) ∷ k) s
 
--- ---- jumps: what is left to be done after them
+-- ---- jumps: what is left to be done after them. A jump leaves the statements that it stands in, up to its loop or its call
 
 abbrev pub after_break : List Piece → List Piece
-after_break [] = []
+after_break (Do (Each xs) ∷ k) = after_break k
 after_break (At (Turn x) vs ∷ k) = k
 after_break (Do (Keys place a x rest) ∷ k) = k
-after_break (piece ∷ k) = after_break k
+after_break other = other
 
 abbrev pub after_continue : List Piece → List Piece
-after_continue [] = []
-after_continue (At (Turn x) vs ∷ k) = At (Turn x) vs ∷ k
-after_continue (Do (Keys place a x rest) ∷ k) = Do (Keys place a x rest) ∷ k
-after_continue (piece ∷ k) = after_continue k
+after_continue (Do (Each xs) ∷ k) = after_continue k
+after_continue other = other
 
 abbrev pub to_leave : List Piece → List Piece
-to_leave [] = []
-to_leave (At (Leave locals n) vs ∷ k) = At (Leave locals n) vs ∷ k
-to_leave (piece ∷ k) = to_leave k
+to_leave (Do (Each xs) ∷ k) = to_leave k
+to_leave (At (Turn x) vs ∷ k) = to_leave k
+to_leave (Do (Keys place a x rest) ∷ k) = to_leave k
+to_leave other = other
+
+-- the value of a call goes to its end
+abbrev pub leave_with : Value → List Piece → List Piece
+leave_with v (At (Leave locals n) vs ∷ k) = At (Leave locals n) (v ∷ vs) ∷ k
+leave_with v other = other
 
 abbrev pub to_records : List Piece → List Piece
 to_records [] = []
@@ -107,7 +111,7 @@ exit place (Some x) part vs k s =
 
 abbrev pub return : Option Expression → Part → List Value → Then
 return None part vs k s = Goes (to_leave k) s
-return (Some x) part vs k s = unary (value x) part (λ v k s. Goes (give v (to_leave k)) s) vs k s
+return (Some x) part vs k s = unary (value x) part (λ v k s. Goes (leave_with v (to_leave k)) s) vs k s
 
 abbrev pub delete : Place → p.Variable → List Expression → Part → List Value → Then
 delete place a xs part vs k s = each_of xs part (λ vs. keyed place vs (λ key k s. Goes k (with_array a (without (array s a) key) s))) vs k s

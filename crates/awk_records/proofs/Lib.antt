@@ -3,3 +3,10 @@ pub mod ReadSteps
 pub mod MainSteps
 pub mod RangeSteps
 pub mod OutputSteps
+pub mod Hosting
+mod Restored
+mod AssignSteps
+mod OperandSteps
+mod Opening
+mod Shutting
+mod FileSteps

@@ -9,7 +9,7 @@ use Rattle.box_world.specs.Calls.{Call, open_after}
 use Rattle.box_world.specs.declared.ask.Ask.{Ask}
 use Rattle.box_world.specs.declared.ask.Reply.{Reply}
 use Rattle.box_world.specs.declared.ask.Request.TheVariants as request
-use Rattle.box_world.specs.Events.{Standard, Writes, calls}
+use Rattle.box_world.specs.Events.{Key, Standard, Writes, calls}
 use Rattle.awk_program.specs.Program as p
 use Rattle.awk_program.specs.Slots.{Text}
 use Rattle.awk_program.specs.declared.variables.Own.TheVariants as own
@@ -56,7 +56,7 @@ not_so false = refl
 pub past_so : (x : Main) → record x { current = None; ended = not x.named } ≡ past_standard x
 past_so x = ap (λ b. record x { current = None; ended = b }) (not_so x.named)
 
-main_agrees : (g : Given) (old : Whole) (main : Main) (hid : Hidden) (c : Course) → Agreeing g old hid c → Agreeing g (with_main main old.0, old.1) hid c
+pub main_agrees : (g : Given) (old : Whole) (main : Main) (hid : Hidden) (c : Course) → Agreeing g old hid c → Agreeing g (with_main main old.0, old.1) hid c
 main_agrees g old main hid c a = record { tells = a.tells; row = a.row; cells = a.cells; sound = a.sound }
 
 -- ---- operands
@@ -65,7 +65,7 @@ err_of : Halt → Result (Unit {0}) Halt
 err_of h = Err h
 
 module _ (g : Given) (old : Whole) where
-  operand_by : (made : Result ℤ Fault) → number_of (kept.own_value old.0 own.Argc) ≡ made → (k : List Piece) (hid : Hidden) (c : Course) → Agreeing g old hid c →
+  pub operand_by : (made : Result ℤ Fault) → number_of (kept.own_value old.0 own.Argc) ≡ made → (k : List Piece) (hid : Hidden) (c : Course) → Agreeing g old hid c →
       advance g (Do Operand ∷ k) (seen (base g old hid) c) ≡ held g (seen (base g old hid) c) (granted nowhere made next_operand k (seen (base g old hid) c))
   operand_by made is k hid c a = ap (λ r. held g (seen (base g old hid) c) (granted nowhere r next_operand k (seen (base g old hid) c))) (ap number_of (law.own (names_in g) old.0 hid a.sound a.cells own.Argc) ∙ is)
 
@@ -115,10 +115,10 @@ module _ (g : Given) (old : Whole) where
       ap (λ b. held g (seen (base g old hid) c) (if b then Goes (give (v.Num (pos 0)) k) (seen (base g old hid) c) else take_from old.0.main.current k (seen (base g old hid) c))) e
       ∙ ap (λ o. held g (seen (base g old hid) c) (take_from o k (seen (base g old hid) c))) f)
 
-pub takes_so : (g : Given) (s : State) → s.main.ended ≡ false → s.main.current ≡ Some (Standard 0) → IsReading g s (Do Take) nowhere (Standard 0) (found_main (Standard 0))
-takes_so g s e f = record {
-  by_head = take_by (Standard 0);
-  then_ = λ k r. take_on (Standard 0) k r;
+pub takes_so : (g : Given) (s : State) (key : Key) → s.main.ended ≡ false → s.main.current ≡ Some key → IsReading g s (Do Take) nowhere key (found_main key)
+takes_so g s key e f = record {
+  by_head = take_by key;
+  then_ = λ k r. take_on key k r;
   moves = λ k table t c.
       let u = seen (record s { taken = t }) c in
       ap (λ b. if b then Goes (give (v.Num (pos 0)) k) u else take_from s.main.current k u) e ∙ ap (λ o. take_from o k u) f;

@@ -1,25 +1,25 @@
-// The main input: standard input, where there is no operand.
-ghost use Rattle.std.specs.Prelude.{◌≡◌, [], ◌∷◌, false, true, pos, List, None, Some, int_lt, IfOk};
+// The main input: what the operands name, or standard input where they name none.
+ghost use Rattle.std.specs.Prelude.{◌≡◌, [], ◌∷◌, false, List, Some, IfOk};
 ghost use Rattle.box_world.specs.Events.{Standard};
 ghost use Rattle.awk_text.specs.declared.value.Value.{Value};
-ghost use Rattle.awk_text.specs.Values as values;
 ghost use Rattle.awk_program.specs.Program as p;
-ghost use Rattle.awk_program.specs.declared.variables.Own.TheVariants as own;
-ghost use Rattle.awk_machine.specs.Pieces as machine;
 ghost use Rattle.awk_machine.specs.Pieces.{At, Do, Piece, Records, Take, Value_of, give};
 ghost use Rattle.awk_machine.specs.State.{Given};
-ghost use Rattle.awk_store.specs.Kept.{own_value};
 ghost use Rattle.awk_asks.specs.Readings.{FailsOpen, GoesOn};
 ghost use Rattle.awk_asks.specs.Tables.{Table};
 ghost use Rattle.awk_asks.specs.Tasks.{Owns, goes_on};
 ghost use Rattle.awk_tasks.specs.Acts.{Acts};
 ghost use Rattle.awk_tasks.specs.Spots.{IsSpotOf, value_of};
 ghost use Rattle.awk_tasks.specs.Wholes.{Whole, names_in};
+ghost use Rattle.awk_records.specs.Hosts.{IsHost};
 ghost use Rattle.awk_records.specs.Inputs.{Onward, at_records, counted_on, found_main, meeting, taken};
 ghost use Rattle.awk_records.specs.Performs.{LeadsOn, Performs, PerformsIn};
 
 use crate::counted::{Counted, count_both, set_record};
-use crate::progress::{is_nothing, is_standard, pass_operands, pass_standard};
+use crate::files::take_file;
+use crate::host::Host;
+use crate::operands::operand;
+use crate::progress::{is_nothing, is_standard, pass_standard};
 use crate::reports::report;
 use awk_asks::getline::{Found, record};
 use awk_asks::halt::Halt;
@@ -28,47 +28,13 @@ use awk_asks::streams::Streams;
 use awk_program::Own;
 use awk_store::Store;
 use awk_tasks::Spot;
-use awk_tasks::faults::at;
 use awk_tasks::fields::set_field;
-use awk_text::fault::Fault;
 use awk_text::octets::Octets;
 use awk_text::place::Place;
-use awk_text::value::{Value, number_of};
+use awk_text::value::Value;
 use box_world::world::World;
 use itoa::Buffer;
 use std::alloc::Global;
-
-fn argument_count(store: &Store) -> Result<i64, Fault>
-    ensures { result ≡ values.number_of (own_value store.now own.Argc) }
-{
-    match store.own(Own::Argc) {
-        Some(value) => number_of(value),
-        None => Ok(0),
-    }
-}
-
-fn is_left(position: u64, count: i64) -> bool
-    ensures { result ≡ int_lt (pos position) count }
-{
-    match u64::try_from(count) {
-        Ok(count) => position < count,
-        Err(_) => false,
-    }
-}
-
-/// Goes on to the next operand, or to the standard input where none is left. Operands are not read
-/// yet: the run ends where there is one.
-fn operand(store: &mut Store) -> Result<(), Halt>
-    ensures { (g : Given) (t : Table) → Acts g (Do machine.Operand) goes_on (store.old, t) result (store.new, t) }
-{
-    let place = Place { line: 0, column: 0 };
-    let count = at(place, argument_count(store))?;
-    if is_left(store.main().position, count) {
-        return Err(Halt::Memory);
-    }
-    pass_operands(store);
-    Ok(())
-}
 
 /// Reads a record of the standard input.
 fn read_standard<W: World>(
@@ -137,40 +103,44 @@ fn take_standard<W: World>(
 /// One step towards the next record: it is taken, or the main input has ended, or there is more to do.
 fn turn<W: World>(
     alloc: Global,
+    host: &Host,
     store: &mut Store,
     streams: &mut Streams,
     world: &mut W,
 ) -> Result<Option<Value>, Halt>
     requires { Owns (W.open_numbers world.old) streams.old }
-    ensures task { (g : Given) → Performs W.follows W.has_stopped W.stops g (Do Take) taken (store.old, streams.old) world.old result (store.new, streams.new) world.new }
+    ensures task { (g : Given) → IsHost host.now g
+        → Performs W.follows W.has_stopped W.stops g (Do Take) taken (store.old, streams.old) world.old result (store.new, streams.new) world.new }
     ensures owns { Owns (W.open_numbers world.new) streams.new }
 {
     if store.main().ended {
         return Ok(Some(Value::Num(0)));
     }
     if is_nothing(store.main()) {
-        operand(store)?;
+        operand(alloc, host, store, streams, world)?;
         return Ok(None);
     }
     if is_standard(store.main()) {
         return take_standard(alloc, store, streams, world);
     }
-    Err(Halt::Memory)
+    take_file(alloc, store, streams, world)
 }
 
 /// Takes the next record of the main input: the record as input, or 0 where it has ended for good.
 pub fn take<W: World>(
     alloc: Global,
+    host: &Host,
     store: &mut Store,
     streams: &mut Streams,
     world: &mut W,
 ) -> Result<Value, Halt>
     requires { Owns (W.open_numbers world.old) streams.old }
-    ensures task { (g : Given) → Performs W.follows W.has_stopped W.stops g (Do Take) give (store.old, streams.old) world.old result (store.new, streams.new) world.new }
+    ensures task { (g : Given) → IsHost host.now g
+        → Performs W.follows W.has_stopped W.stops g (Do Take) give (store.old, streams.old) world.old result (store.new, streams.new) world.new }
     ensures owns { Owns (W.open_numbers world.new) streams.new }
 {
     for _ in 0..u64::MAX {
-        if let Some(value) = turn(alloc, store, streams, world)? {
+        if let Some(value) = turn(alloc, host, store, streams, world)? {
             return Ok(value);
         }
     }
@@ -180,6 +150,7 @@ pub fn take<W: World>(
 /// `getline target`, once it is known what is set.
 pub fn getline_main<W: World>(
     alloc: Global,
+    host: &Host,
     place: Place,
     target: Spot,
     store: &mut Store,
@@ -187,11 +158,11 @@ pub fn getline_main<W: World>(
     world: &mut W,
 ) -> Result<Value, Halt>
     requires { Owns (W.open_numbers world.old) streams.old }
-    ensures task { (g : Given) (r : p.Reference) → IsSpotOf (names_in g) r target
+    ensures task { (g : Given) → IsHost host.now g → (r : p.Reference) → IsSpotOf (names_in g) r target
         → Performs W.follows W.has_stopped W.stops g (At (Value_of (p.getline place r)) (value_of target ∷ [])) give (store.old, streams.old) world.old result (store.new, streams.new) world.new }
     ensures owns { Owns (W.open_numbers world.new) streams.new }
 {
-    let answer = take(alloc, store, streams, world)?;
+    let answer = take(alloc, host, store, streams, world)?;
     set_record(alloc, store, place, target, Counted::NrAndFnr, answer)
 }
 
@@ -208,15 +179,17 @@ pub fn begin_record(alloc: Global, store: &mut Store, text: Octets) -> Result<()
 /// there was one.
 pub fn next_record<W: World>(
     alloc: Global,
+    host: &Host,
     store: &mut Store,
     streams: &mut Streams,
     world: &mut W,
 ) -> Result<bool, Halt>
     requires { Owns (W.open_numbers world.old) streams.old }
-    ensures task { (g : Given) → PerformsIn W.follows W.has_stopped W.stops g (At Records []) (meeting g) at_records (store.old, streams.old) world.old result (store.new, streams.new) world.new }
+    ensures task { (g : Given) → IsHost host.now g
+        → PerformsIn W.follows W.has_stopped W.stops g (At Records []) (meeting g) at_records (store.old, streams.old) world.old result (store.new, streams.new) world.new }
     ensures owns { Owns (W.open_numbers world.new) streams.new }
 {
-    match take(alloc, store, streams, world)? {
+    match take(alloc, host, store, streams, world)? {
         Value::Input(text) => {
             begin_record(alloc, store, text)?;
             Ok(true)

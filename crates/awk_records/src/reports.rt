@@ -1,7 +1,8 @@
 // Messages of a run.
-ghost use Rattle.std.specs.Prelude.{◌≡◌, IfOk};
+ghost use Rattle.std.specs.Prelude.{◌≡◌, true, IfOk, OnOk};
 ghost use Rattle.awk_machine.specs.Pieces.{Do, Report};
 ghost use Rattle.awk_machine.specs.State.{Given};
+ghost use Rattle.awk_store.specs.Changes.{with_main};
 ghost use Rattle.awk_asks.specs.Tables.{Table};
 ghost use Rattle.awk_asks.specs.Tasks.{goes_on};
 ghost use Rattle.awk_records.specs.Inputs as spec;
@@ -42,6 +43,7 @@ pub fn report<W: World>(
 ) -> Result<(), Halt>
     ensures task { (g : Given) (t : Table) → Performs W.follows W.has_stopped W.stops g (Do (Report what.now name.now)) goes_on (store.old, t) world.old result (store.new, t) world.new }
     ensures numbers { W.open_numbers world.new ≡ W.open_numbers world.old }
+    ensures failed { OnOk result (store.new ≡ with_main (record store.old.main { failed = true }) store.old) }
 {
     let Ok(text) = message(alloc, what, name) else {
         return Err(Halt::Memory);

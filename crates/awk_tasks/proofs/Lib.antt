@@ -9,4 +9,5 @@ pub mod Spots
 pub mod SearchSteps
 pub mod SplitSteps
 pub mod Lifting
+pub mod Lent
 pub mod PrintSteps

@@ -37,10 +37,10 @@ pub fn replaced(
     place: Place,
     ere: &Ere,
     new: &Value,
-    old: &Value,
+    old: &[u8],
     all: bool,
 ) -> Result<Option<(Octets, i64)>, Halt>
-    ensures { (g : Given) (w : Whole) (to : Target) → Acts g (Do (Substitute place to ere.now (text_of new.now) (text_of old.now) all)) (then_set place to) w result w }
+    ensures { (g : Given) (w : Whole) (to : Target) → Acts g (Do (Substitute place to ere.now (text_of new.now) old.now all)) (then_set place to) w result w }
 {
     at(place, searches::substitute(alloc, ere, new, old, all))
 }

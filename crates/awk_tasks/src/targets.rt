@@ -1,12 +1,12 @@
 // What is read or set, of whichever sort it is.
-ghost use Rattle.std.specs.Prelude.{◌≡◌, IfOk};
+ghost use Rattle.std.specs.Prelude.{◌≡◌, IfOk, IfSome};
 ghost use Rattle.awk_machine.specs.Pieces.{Do, Get, Set, give};
 ghost use Rattle.awk_machine.specs.State.{Given};
 ghost use Rattle.awk_machine.specs.Targets as machine;
 ghost use Rattle.awk_asks.specs.Tables.{Table};
 ghost use Rattle.awk_asks.specs.Tasks.{goes_on};
 ghost use Rattle.awk_text.specs.Values as values;
-ghost use Rattle.awk_tasks.specs.Acts.{Acts};
+ghost use Rattle.awk_tasks.specs.Acts.{Acts, Passes};
 ghost use Rattle.awk_tasks.specs.Spots as spec;
 ghost use Rattle.awk_tasks.specs.Spots.{meant};
 ghost use Rattle.awk_tasks.specs.Wholes.{names_in};
@@ -20,7 +20,8 @@ use awk_store::{Store, is_nf};
 use awk_text::fault::Fault;
 use awk_text::octets::Octets;
 use awk_text::place::Place;
-use awk_text::value::{Value, number_of, text_of};
+use awk_text::value::{Value, number_of, text_in, text_of};
+use itoa::Buffer;
 use std::alloc::Global;
 
 /// Reads it.
@@ -33,6 +34,30 @@ pub fn read(alloc: Global, store: &mut Store, target: &Spot) -> Result<Value, Ha
             read_element(alloc, store, *place, *array, key.bytes())
         }
         Spot::Field(number) => read_field(store, *number),
+    }
+}
+
+/// The text that it holds, lent, where that is there and reading it changes nothing: of `$0`, of an element, and of a variable
+/// that is not NF. Takes no memory.
+pub fn lent<'a>(store: &'a Store, target: &Spot, buffer: &'a mut Buffer) -> Option<&'a [u8]>
+    ensures { IfSome result (λ text. (g : Given) (t : Table) → (x : Value) × (values.text_of x ≡ text.now) × Passes g (Do (Get (meant (names_in g) target.now))) (store.now, t) (give x) (store.now, t)) }
+{
+    match target {
+        Spot::Variable(variable) => {
+            if is_nf(*variable) {
+                return None;
+            }
+            Some(text_in(store.value(*variable)?, buffer))
+        }
+        Spot::Element(_, array, key) => {
+            Some(text_in(store.element(*array, key.bytes())?, buffer))
+        }
+        Spot::Field(number) => {
+            if *number == 0 {
+                return Some(store.whole());
+            }
+            None
+        }
     }
 }
 

@@ -73,8 +73,8 @@ pub fn locate(ere: &Ere, value: &Value) -> Result<Location, Fault>
     locate_in(ere, text_in(value, &mut buffer))
 }
 
-/// The text of a value with its first match, or each one, replaced by the text of another, and how many were; or
-/// `None` where there is no match, and then nothing is copied.
+/// The text with its first match, or each one, replaced by the text of a value, and how many were; or `None` where
+/// there is no match, and then nothing is copied.
 ///
 /// Fails with `Fault::TextTooLong` exactly where something is replaced and the new text has more than
 /// `MOST_BYTES` bytes, and with `Fault::Memory` where memory is refused.
@@ -82,17 +82,17 @@ pub fn substitute(
     alloc: Global,
     ere: &Ere,
     new: &Value,
-    old: &Value,
+    old: &[u8],
     all: bool,
 ) -> Result<Option<(Octets, i64)>, Fault>
-    ensures ok { IfOk result (λ r. (ms : List (ℕ × ℕ)) × Found ere.now (text_of old.now) all ms
-        × (substituted (text_of new.now) (text_of old.now) ms ≡ Ok r)) }
-    ensures err { IfErr result (λ e. (e ≡ Fault.Memory) ⊎ ((ms : List (ℕ × ℕ)) × Found ere.now (text_of old.now) all ms
-        × (substituted (text_of new.now) (text_of old.now) ms ≡ Err e))) }
+    ensures ok { IfOk result (λ r. (ms : List (ℕ × ℕ)) × Found ere.now old.now all ms
+        × (substituted (text_of new.now) old.now ms ≡ Ok r)) }
+    ensures err { IfErr result (λ e. (e ≡ Fault.Memory) ⊎ ((ms : List (ℕ × ℕ)) × Found ere.now old.now all ms
+        × (substituted (text_of new.now) old.now ms ≡ Err e))) }
 {
-    let (mut first, mut second) = (Buffer::new(), Buffer::new());
-    let with = text_in(new, &mut first);
-    match replace_any(alloc, ere, with, text_in(old, &mut second), all)? {
+    let mut buffer = Buffer::new();
+    let with = text_in(new, &mut buffer);
+    match replace_any(alloc, ere, with, old, all)? {
         Some(replaced) => Ok(Some(replaced)),
         None => Ok(None),
     }

@@ -1,5 +1,5 @@
 -- Numbers that rise: what a new number does, what the loss of one does, and where a search finds one.
-use Rattle.std.proofs.Common.{◌≡◌, ℕ, zero, suc, ◌+◌, ◌<◌, ◌≤◌, Bool, true, false, cond, nat_eq, List, [], ◌∷◌, ◌++◌, length, get_or, take, drop, map, Result, Ok, Err, IfOk, IfErr, refl, ap, sym, add-one, arith}
+use Rattle.std.proofs.Common.{◌≡◌, ℕ, zero, suc, ◌+◌, ◌<◌, ◌≤◌, Bool, true, false, ◌||◌, cond, nat_eq, List, [], ◌∷◌, ◌++◌, length, get_or, take, drop, map, Result, Ok, Err, IfOk, IfErr, refl, ap, sym, add-one, arith}
 use Rattle.std.specs.List.{HoldsAt}
 use Rattle.std.specs.List.Sorted.{IsSearchInRange, IsBinarySearchResult, IsNonDecreasingBy}
 use Rattle.std.specs.Ordering.{nat_cmp, ordering_index}
@@ -39,6 +39,18 @@ next-is_new low next (k ∷ ks) p =
     let e : nat_eq k next ≡ false = grind (arith, nat_tests) in
     rw e (next-is_new (k + 1) next ks p.1)
 
+-- a number below them all is none of them
+pub below-is_new : (low next n : ℕ) (ks : List ℕ) → n < low → Rises low next ks → is_among ks n ≡ false
+below-is_new low next n [] h p = refl
+below-is_new low next n (k ∷ ks) h p =
+    let above = p.0 in
+    let e : nat_eq k n ≡ false = grind (arith, nat_tests) in
+    rw e (below-is_new (k + 1) next n ks (omega arith) p.1)
+
+or-true : (a b : Bool) → b ≡ true → (a || b) ≡ true
+or-true true b h = refl
+or-true false b h = h
+
 module _ {X : Type 0} (key : X → ℕ) where
   at-least : (low next : ℕ) (xs : List X) (i : ℕ) (d : X) → Rises low next (map key xs) → i < length xs → low ≤ key (get_or xs i d)
   at-least low next [] i d p h = absurd (omega arith)
@@ -69,6 +81,14 @@ module _ {X : Type 0} (key : X → ℕ) where
       let e : nat_eq (key x) n ≡ false = grind (arith, nat_tests) in
       rw e (ap (λ ks. key x ∷ ks) (without-at (key x + 1) next n xs i p.1 (omega arith) at))
 
+  -- at the place where n stands, it is among them
+  among-at : (n : ℕ) (xs : List X) (i : ℕ) → i < length xs → HoldsAt (λ y. key y ≡ n) xs i → is_among (map key xs) n ≡ true
+  among-at n [] i h at = absurd (omega arith)
+  among-at n (x ∷ xs) zero h at =
+      let e : nat_eq (key x) n ≡ true = grind (arith, nat_tests, at x) in
+      rw e refl
+  among-at n (x ∷ xs) (suc i) h at = or-true (nat_eq (key x) n) (is_among (map key xs) n) (among-at n xs i (omega arith) at)
+
   -- where n is none of them, nothing is taken out
   without-absent : (n : ℕ) (xs : List X) → ((i : ℕ) (d : X) → i < length xs → key (get_or xs i d) ≡ n → ⊥) → without n (map key xs) ≡ map key xs
   without-absent n [] none = refl
@@ -89,8 +109,8 @@ module _ {X : Type 0} (key : X → ℕ) where
       let after : i ≤ k → n < key (get_or xs k d) = λ le. ranked _ n _ (sym (parted.1 k d le h)) in
       grind (arith, before, after))
 
-  -- what a binary search for n answers says what the numbers are without it
+  -- what a binary search for n answers says whether it is among the numbers, and what they are without it
   pub searched : (low next n : ℕ) (xs : List X) (r : Result ℕ ℕ) → Rises low next (map key xs) → IsSearchInRange r (length xs) → IsBinarySearchResult (λ y. nat_cmp (key y) n) xs r
-      → record { within : IfOk r (λ at. at < length xs); found : IfOk r (λ at. without n (map key xs) ≡ map key (take at xs) ++ map key (drop (at + 1) xs)); absent : IfErr r (λ _. without n (map key xs) ≡ map key xs) }
-  searched low next n xs (Ok at) p h result = record { within = h; found = found-without low next n xs at p h result; absent = tt }
-  searched low next n xs (Err at) p h result = record { within = tt; found = tt; absent = gap-without low next n xs at p result }
+      → record { within : IfOk r (λ at. at < length xs); among : IfOk r (λ _. is_among (map key xs) n ≡ true); found : IfOk r (λ at. without n (map key xs) ≡ map key (take at xs) ++ map key (drop (at + 1) xs)); absent : IfErr r (λ _. without n (map key xs) ≡ map key xs) }
+  searched low next n xs (Ok at) p h result = record { within = h; among = among-at n xs at h (λ d. ranked _ n _ (sym (result d))); found = found-without low next n xs at p h result; absent = tt }
+  searched low next n xs (Err at) p h result = record { within = tt; among = tt; found = tt; absent = gap-without low next n xs at p result }

@@ -1,9 +1,9 @@
--- The numbers of the open files.
+-- The numbers of the open streams.
 use Rattle.std.specs.Prelude.{ℕ, ◌+◌, ◌≤◌, List, [], ◌∷◌, map}
-use Rattle.box_os.specs.declared.files.OpenFile.{OpenFile}
+use Rattle.box_os.specs.declared.table.OpenStream.{OpenStream}
 
-abbrev pub numbers_of : List OpenFile → List ℕ
-numbers_of files = map (λ f. f.number) files
+abbrev pub numbers_of : List OpenStream → List ℕ
+numbers_of streams = map (λ s. s.number) streams
 
 -- the numbers rise, from low on and below next
 abbrev pub Rises : ℕ → ℕ → List ℕ → Type 0

@@ -6,7 +6,8 @@ ghost use Rattle.box_world.specs.declared.ask.Stop.TheVariants.{Memory};
 use crate::refusals::refused;
 use box_world::ask::{Reply, Stop};
 use std::alloc::{AllocError, Global};
-use std::process::{Command, ExitStatus};
+use std::io;
+use std::process::{Child, Command, ExitStatus, Stdio};
 
 /// The status that a command ended with, or 256 where a signal ended it.
 fn number_of(status: ExitStatus) -> i64
@@ -38,5 +39,27 @@ pub fn run_command(rt: &HostRuntime, alloc: Global, text: &[u8]) -> Result<Reply
     match shell(alloc, text)?.status(rt) {
         Ok(status) => Ok(Reply::Status(number_of(status))),
         Err(error) => refused(error),
+    }
+}
+
+/// Starts `sh -c TEXT`, whose output is read.
+pub fn listen_to(rt: &HostRuntime, alloc: Global, text: &str) -> io::Result<Child> {
+    shell(alloc, text)?.stdout(Stdio::piped()).spawn(rt)
+}
+
+/// Starts `sh -c TEXT`, which is written to.
+pub fn speak_to(rt: &HostRuntime, alloc: Global, text: &str) -> io::Result<Child> {
+    shell(alloc, text)?.stdin(Stdio::piped()).spawn(rt)
+}
+
+/// Closes this process's end of the command's pipe, and waits for its end.
+pub fn wait_for(mut child: Child) -> Reply
+    ensures { IsRunning result }
+{
+    drop(child.stdout.take());
+    // the pipe to its input is closed by this call
+    match child.wait() {
+        Ok(status) => Reply::Status(number_of(status)),
+        Err(_) => Reply::Failed,
     }
 }

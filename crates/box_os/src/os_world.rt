@@ -1,26 +1,31 @@
 // The world of real files and commands.
-ghost use Rattle.std.specs.Prelude.{◌≡◌, ℕ, List, [], false, refl, IfOk, IfErr, OnErr};
-ghost use Rattle.box_world.specs.Calls.{IsFitting, IsDoing, IsOpening, IsRunning, IsShutting, numbers_after, without};
-ghost use Rattle.box_world.specs.declared.ask.Mode.TheVariants.{Write};
+ghost use Rattle.std.specs.Prelude.{◌≡◌, ℕ, ◌<◌, ◌⊎◌, List, [], false, refl, IfOk, IfErr, OnErr};
+ghost use Rattle.box_world.specs.Calls.{IsFitting, IsDoing, IsOpening, IsReading, IsRunning, IsShutting, IsValuing, numbers_after, without};
+ghost use Rattle.box_world.specs.declared.ask.Reply.TheVariants.{Done, Failed};
 ghost use Rattle.box_world.specs.declared.ask.Request.TheVariants.{Open};
 ghost use Rattle.box_world.specs.declared.ask.Stop.TheVariants.{Memory};
 ghost use Rattle.box_os.specs.OsFollows.{Follows, Follows-append};
+ghost use Rattle.box_os.specs.OsOwn.{IsOwn};
+ghost use Rattle.box_os.specs.OsReading.{IsWithin};
 
 use crate::commands::run_command;
-use crate::files::{OpenFile, put_to, shut_file, write_out};
+use crate::environment::value_of;
 use crate::refusals::refused;
+use crate::streams::open_stream;
+use crate::table::{OpenStream, next_of, put_to, take_stream};
+use crate::transfers::{read_from, write_out};
 use box_world::ask::{Ask, Mode, Reply, Request, Stop};
 use box_world::world::World;
 use std::alloc::Global;
-use std::fs::File;
 use std::marker::Model;
 
-/// A world over the files of the system and over commands that `sh -c` runs. Names of files are
-/// opened as they are written, so a relative one is read from the folder of the process.
+/// A world over the files and the environment of the system and over commands that `sh -c` runs. Names of
+/// files are opened as they are written, so a relative one is read from the folder of the process.
+/// A command has the standard streams of this process but for the pipe that it is read or written by.
 ///
-/// It answers `Open` for writing, `Put`, `Shut` and `System`; every other request is `Failed`. A
-/// name or a command that is not UTF-8, or holds NUL, is `Failed` too. It never answers
-/// `Stop::Log`.
+/// A name or a command that is not UTF-8, or holds NUL, is `Failed`. A stream is read in pieces of at
+/// most 8,192 bytes, and no further than what was asked; what is put to it is written at once. It
+/// never answers `Stop::Log`.
 ///
 /// Contracts see the numbers that are open, in order of opening. What a file or a command gives
 /// and takes is the system's, and no contract speaks of it.
@@ -28,7 +33,7 @@ use std::marker::Model;
 pub struct OsWorld {
     rt: HostRuntime,
     alloc: Global,
-    files: Vec<OpenFile>,
+    streams: Vec<OpenStream>,
     // 2^32 where every number has been given
     next: u64,
 }
@@ -39,9 +44,9 @@ impl Model for OsWorld {
 
     ghost Value = { List ℕ };
 
-    ghost view = { λ w. numbers_of w.files.items };
+    ghost view = { λ w. numbers_of w.streams.items };
 
-    ghost invariant = { λ w. Rises 3 w.next (numbers_of w.files.items) };
+    ghost invariant = { λ w. Rises 3 w.next (numbers_of w.streams.items) };
 }
 
 impl OsWorld {
@@ -53,52 +58,69 @@ impl OsWorld {
         OsWorld {
             rt,
             alloc,
-            files: Vec::new(alloc),
+            streams: Vec::new(alloc),
             next: 3,
         }
     }
 
-    // Room for the new file is made before the old one of the name is emptied.
-    fn open(&mut self, name: &[u8]) -> Result<Reply, Stop>
-        ensures ok { IfOk result (λ reply. self.new ≡ numbers_after (Open Write name.now) reply self.old) }
+    // Room for the new stream is made before a file is emptied or a command is started.
+    fn open(&mut self, mode: Mode, text: &[u8]) -> Result<Reply, Stop>
+        ensures ok { IfOk result (λ reply. self.new ≡ numbers_after (Open mode text.now) reply self.old) }
         ensures fits { IfOk result (λ reply. IsOpening self.old reply) }
         ensures err { OnErr result (self.new ≡ self.old) }
         ensures memory { IfErr result (λ e. e ≡ Memory) }
     {
-        let Ok(name) = std::str::from_utf8(name) else {
+        let Ok(text) = std::str::from_utf8(text) else {
             return Ok(Reply::Failed);
         };
         let Ok(number) = u32::try_from(self.next) else {
             return Ok(Reply::Failed);
         };
-        self.files.reserve(1)?;
-        match File::create(&self.rt, name) {
-            Ok(file) => {
+        self.streams.reserve(1)?;
+        match open_stream(&self.rt, self.alloc, mode, text) {
+            Ok(stream) => {
                 self.next += 1;
-                self.files.push(OpenFile { number, file }).unwrap();
+                self.streams.push(OpenStream { number, stream }).unwrap();
                 Ok(Reply::Opened(number))
             }
             Err(error) => refused(error),
         }
     }
 
+    fn next(&mut self, number: u32) -> Result<Reply, Stop>
+        ensures same { self.new ≡ self.old }
+        ensures fits { IfOk result (λ reply. IsReading reply) }
+        ensures size { IfOk result (λ reply. IsWithin 8192 reply) }
+        ensures outputs { (number ≡ 1) ⊎ (number ≡ 2) → IfOk result (λ reply. reply ≡ Failed) }
+        ensures memory { IfErr result (λ e. e ≡ Memory) }
+    {
+        match number {
+            0 => read_from(self.alloc, &mut self.rt.stdin()),
+            _ => next_of(&mut self.streams, self.alloc, number),
+        }
+    }
+
     fn put(&mut self, number: u32, bytes: &[u8]) -> Reply
         ensures same { self.new ≡ self.old }
         ensures fits { IsDoing result }
+        ensures input { number ≡ 0 → result ≡ Failed }
     {
         match number {
             1 => write_out(&mut self.rt.stdout(), bytes),
             2 => write_out(&mut self.rt.stderr(), bytes),
-            _ => put_to(&mut self.files, number, bytes),
+            _ => put_to(&mut self.streams, number, bytes),
         }
     }
 
     fn shut(&mut self, number: u32) -> Reply
         ensures shut { self.new ≡ without number self.old }
         ensures fits { IsShutting result }
+        ensures standard { number < 3 → result ≡ Done }
     {
-        shut_file(&mut self.files, number);
-        Reply::Done
+        match take_stream(&mut self.streams, number) {
+            Some(stream) => stream.shut(),
+            None => Reply::Done,
+        }
     }
 }
 
@@ -111,13 +133,27 @@ impl World for OsWorld {
 
     ghost stops = { λ _ _ _ _. ⊥ };
 
-    fn ask(&mut self, ask: &Ask) -> Result<Reply, Stop> {
+    /// Answers the ask, or answers `Stop::Memory` with nothing done.
+    fn ask(&mut self, ask: &Ask) -> Result<Reply, Stop>
+        // What a world owes.
+        ensures ok { IfOk result (λ reply. self.new ≡ numbers_after ask.now.request reply self.old) }
+        ensures fits { IfOk result (λ reply. IsFitting self.old ask.now.request reply) }
+
+        // What it says by itself, whatever the system does.
+        ensures own { IfOk result (λ reply. IsOwn ask.now.request reply) }
+
+        // It fails by want of memory alone.
+        ensures err { OnErr result (self.new ≡ self.old) }
+        ensures memory { IfErr result (λ e. e ≡ Memory) }
+    {
         match &ask.request {
-            Request::Open(Mode::Write, name) => self.open(name.bytes()),
+            Request::Open(mode, text) => self.open(*mode, text.bytes()),
+            Request::Next(number) => self.next(*number),
             Request::Put(number, bytes) => Ok(self.put(*number, bytes.bytes())),
             Request::Shut(number) => Ok(self.shut(*number)),
             Request::System(command) => run_command(&self.rt, self.alloc, command.bytes()),
-            _ => Ok(Reply::Failed),
+            Request::Env(name) => value_of(&self.rt, self.alloc, name.bytes()),
+            Request::Assign(_, _) => Ok(Reply::Done),
         }
     }
 

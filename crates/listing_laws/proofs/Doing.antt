@@ -28,9 +28,9 @@ use Rattle.awk_machine.specs.State.{State, Phase, Beginning, Ruling, Ending}
 use Rattle.awk_machine.specs.Statements as st
 use Rattle.awk_machine.specs.Variables.{own_text, array, with_array}
 use Rattle.box_listing.specs.Sites as s
-use Rattle.listing_laws.proofs.Standing.{Listed, Sub, Wanted, Says, Hands, nothing, hands, handed_by, LoopKept, Kept, Has, Knows, KnowsBy, Stack, Ready, Keeps}
+use Rattle.listing_laws.proofs.Standing.{Listed, Sub, Wanted, Says, Hands, nothing, handed_by, LoopKept, Kept, Has, Knows, KnowsBy, Stack, Ready, Keeps}
 use Rattle.listing_laws.proofs.Standing as standing
-use Rattle.listing_laws.proofs.Steps.{Each, Perhaps, at_index, each_append, has_text, front, back, both, each_of_list, at_site, hand, ended, push_value, through, one, each, either}
+use Rattle.listing_laws.proofs.Steps.{Each, Perhaps, at_index, each_append, has_text, front, back, both, each_of_list, at_site, ended, push_value, through, one, each, either}
 
 -- ---- the target of a redirection: the value behind those of the items
 
@@ -62,33 +62,25 @@ same_kind to.Command = refl
 module _ (S : Listed) where
   -- ---- what is left after a jump
 
-  pub after_break : (e : Hands) (k : List Piece) → Stack S e k → Ready S (st.after_break k)
-  after_break e [] h = tt
-  after_break e (At (Turn x) vs ∷ k) h = h.2
-  after_break e (Do (m.Keys place a x rest) ∷ k) h = h.1
-  after_break e (At part vs ∷ k) h = after_break (handed_by part) k h.2
-  after_break e (Do task ∷ k) h = after_break (standing.done_by task) k h.1
+  pub after_break : (k : List Piece) → Ready S k → Ready S (st.after_break k)
+  after_break (Do (m.Each xs) ∷ k) h = after_break k h.1
+  after_break (At (Turn x) vs ∷ k) h = h.2
+  after_break (Do (m.Keys place a x rest) ∷ k) h = h.1
+  after_break other h = h
 
-  pub after_continue : (e : Hands) (k : List Piece) → Stack S e k → Ready S (st.after_continue k)
-  after_continue e [] h = tt
-  after_continue e (At (Turn x) [] ∷ k) h = (h.0, tt, h.2)
-  after_continue e (At (Turn x) (v ∷ vs) ∷ k) h = (h.0, tt, h.2)
-  after_continue e (Do (m.Keys place a x rest) ∷ k) h = h
-  after_continue e (At part vs ∷ k) h = after_continue (handed_by part) k h.2
-  after_continue e (Do task ∷ k) h = after_continue (standing.done_by task) k h.1
+  pub after_continue : (k : List Piece) → Ready S k → Ready S (st.after_continue k)
+  after_continue (Do (m.Each xs) ∷ k) h = after_continue k h.1
+  after_continue other h = h
 
-  pub to_leave : (e : Hands) (k : List Piece) → Stack S e k → Stack S (hands None) (st.to_leave k)
-  to_leave e [] h = tt
-  to_leave e (At (Leave locals n) vs ∷ k) h = (tt, λ y says. tt, h.2)
-  to_leave e (At part vs ∷ k) h = to_leave (handed_by part) k h.2
-  to_leave e (Do task ∷ k) h = to_leave (standing.done_by task) k h.1
+  pub to_leave : (k : List Piece) → Ready S k → Ready S (st.to_leave k)
+  to_leave (Do (m.Each xs) ∷ k) h = to_leave k h.1
+  to_leave (At (Turn x) vs ∷ k) h = to_leave k h.2
+  to_leave (Do (m.Keys place a x rest) ∷ k) h = to_leave k h.1
+  to_leave other h = h
 
-  left_ready : (e : Hands) (k : List Piece) → Stack S e k → Ready S (st.to_leave k)
-  left_ready e [] h = tt
-  left_ready e (At (Leave locals n) [] ∷ k) h = (tt, tt, h.2)
-  left_ready e (At (Leave locals n) (v ∷ vs) ∷ k) h = (tt, tt, h.2)
-  left_ready e (At part vs ∷ k) h = left_ready (handed_by part) k h.2
-  left_ready e (Do task ∷ k) h = left_ready (standing.done_by task) k h.1
+  leave_with : (v : Value) (k : List Piece) → Ready S k → Ready S (st.leave_with v k)
+  leave_with v (At (Leave locals n) vs ∷ k) h = (tt, tt, h.2)
+  leave_with v other h = h
 
   pub to_records : (e : Hands) (k : List Piece) → Stack S e k → Ready S (st.to_records k)
   to_records e [] h = tt
@@ -193,9 +185,9 @@ module _ (S : Listed) where
       (λ v. through S place (number_of v) (λ n k s. Goes (st.after_exit s.phase) (record (st.unwound s) { status = Some (unsigned_abs (int_rem_euclid n (pos 256))) })) k t (λ n. exits t.phase))
 
   returned : (o : Option Expression) (vs : List Value) (k : List Piece) (t : State) → Sub S (s.optional o) → Ready S k → Keeps S (st.return o (Doing (p.return o)) vs k t)
-  returned None vs k t h rest = left_ready nothing k rest
+  returned None vs k t h rest = to_leave k rest
   returned (Some x) vs k t h rest =
-      one S (value x) (Doing (p.return (Some x))) _ vs k t (push_value S x (Doing (p.return (Some x))) [] k h h (λ y says. tt) rest) (λ v. hand S None v (st.to_leave k) tt (to_leave nothing k rest))
+      one S (value x) (Doing (p.return (Some x))) _ vs k t (push_value S x (Doing (p.return (Some x))) [] k h h (λ y says. tt) rest) (λ v. leave_with v (st.to_leave k) (to_leave k rest))
 
   -- ---- all forms
 
@@ -212,8 +204,8 @@ module _ (S : Listed) where
   statements (p.delete place a xs) vs k t h n rest =
       each S xs (Doing (p.delete place a xs)) _ vs k t (each_of_list S xs h) h (λ y. tt) rest
       (λ ws. through S place (limited (joined (own_text t (codes "SUBSEP")) ws)) (λ key k s. Goes k (with_array a (without (array s a) key) s)) k t (λ key. rest))
-  statements p.break vs k t h n rest = after_break nothing k rest
-  statements p.continue vs k t h n rest = after_continue nothing k rest
+  statements p.break vs k t h n rest = after_break k rest
+  statements p.continue vs k t h n rest = after_continue k rest
   statements (p.next place) vs k t h n rest = nexts t.phase place k t rest
   statements (p.exit place x) vs k t h n rest = exited place x vs k t h rest
   statements (p.return x) vs k t h n rest = returned x vs k t h rest

@@ -2,9 +2,10 @@ use Rattle.std.proofs.Common.{◌∷◌}
 use Rattle.awk_machine.specs.Pieces.{Do, Take}
 use Rattle.awk_machine.specs.State.{Given}
 use Rattle.awk_asks.specs.Tasks.{Owns}
+use Rattle.awk_records.specs.Hosts.{IsHost}
 use Rattle.awk_records.specs.Performs.{LeadsOn}
 use Rattle.awk_records.proofs.main_input.take.Given as goal
 
 abbrev pub invariant-loop : goal.invariant-loop
 invariant-loop g l =
-    ((m : Given) → LeadsOn g.W.World.follows g.W.World.has_stopped g.W.World.stops m (Do Take) (l.fn.store, l.fn.streams) l.fn.world (λ k. Do Take ∷ k) (l.store, l.streams) l.world) × Owns (g.W.World.open_numbers l.world) l.streams
+    ((m : Given) → IsHost l.fn.host m → LeadsOn g.W.World.follows g.W.World.has_stopped g.W.World.stops m (Do Take) (l.fn.store, l.fn.streams) l.fn.world (λ k. Do Take ∷ k) (l.store, l.streams) l.world) × Owns (g.W.World.open_numbers l.world) l.streams

@@ -1,5 +1,4 @@
-use Rattle.std.proofs.Common.{[], ◌∷◌, refl, sym, ap₂, subst, ◌∙◌}
-use Rattle.awk_lib.specs.Replacing.{Found}
+use Rattle.std.proofs.Common.{[], ◌∷◌, refl, sym, ap, ◌∙◌}
 use Rattle.awk_works.specs.Searches.{substituted}
 use Rattle.awk_works.proofs.Replaced.{is_substituted}
 use Rattle.awk_works.proofs.searches.substitute.Goals as goal
@@ -10,11 +9,11 @@ returns-in-Some-clause-ok c =
     let fits = rw c.in-Some.is at c.in_ok-replaced.ensures.fits in
     let ms = ok.0 ∷ ok.1 in (
       ms,
-      subst (λ t. Found c.args.ere.now t c.args.all ms) c.text_in.ensures ok.2.found,
-      sym (ap₂ (λ a b. substituted a b ms) c.text_in-with.ensures c.text_in.ensures)
-          ∙ is_substituted c.args.ere.now c.text_in-with.result.now c.text_in.result.now c.args.all ok.0 ok.1 c.in-Some.replaced.0 c.in-Some.replaced.1 ok.2 fits,
+      ok.2.found,
+      sym (ap (λ with. substituted with c.args.old.now ms) c.text_in-with.ensures)
+          ∙ is_substituted c.args.ere.now c.text_in-with.result.now c.args.old.now c.args.all ok.0 ok.1 c.in-Some.replaced.0 c.in-Some.replaced.1 ok.2 fits,
     )
 
 pub returns-in-None-clause-ok : goal.returns-in-None-clause-ok
 returns-in-None-clause-ok c =
-    ([], subst (λ t. Found c.args.ere.now t c.args.all []) c.text_in.ensures (rw c.in-None.is at c.in_ok-replaced.ensures.ok), refl)
+    ([], rw c.in-None.is at c.in_ok-replaced.ensures.ok, refl)

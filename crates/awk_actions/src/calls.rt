@@ -1,0 +1,89 @@
+// Calls of the script's functions.
+ghost use Rattle.std.specs.Prelude.{◌≡◌, ◌∷◌, [], List, length, IfOk, map, reverse};
+ghost use Rattle.awk_asks.specs.Tasks.{Owns};
+ghost use Rattle.awk_machine.specs.Forms.{value};
+ghost use Rattle.awk_machine.specs.Pieces.{At, Value_of, give};
+ghost use Rattle.awk_program.specs.Program as p;
+ghost use Rattle.awk_program.specs.View.{view, view_arguments};
+ghost use Rattle.awk_tasks.specs.Wholes.{names_in};
+ghost use Rattle.awk_calls.specs.Calls.{argument_of};
+ghost use Rattle.awk_actions.specs.Calls.{Argued, Argues};
+ghost use Rattle.awk_actions.specs.Runs.{Does};
+
+use crate::context::{Context, Run};
+use crate::expressions::value;
+use crate::statements::body;
+use awk_asks::halt::Halt;
+use awk_calls::frames::{begin, body_of, returned};
+use awk_calls::steps::step;
+use awk_forms::made::append;
+use awk_program::{Argument, Expr};
+use awk_tasks::calls::leave;
+use awk_text::place::Place;
+use awk_text::value::Value;
+use box_world::world::World;
+
+/// The value of an argument; what is handed otherwise is unset.
+#[cycle(run)]
+fn argument<W: World>(
+    cx: &Context<'_>,
+    x: &Argument<Expr>,
+    level: u32,
+    run: &mut Run,
+    world: &mut W,
+) -> Result<Value, Halt>
+    requires { Owns (W.open_numbers world.old) run.old.streams }
+    ensures { Argued W.follows W.has_stopped W.stops W.open_numbers cx.now (λ g. argument_of (names_in g) x.now)
+        (run.old.store, run.old.streams) world.old result (run.new.store, run.new.streams) world.new }
+{
+    match x {
+        Argument::Value(x) => value(cx, x, level, run, world),
+        Argument::Array(_) => Ok(Value::Unset),
+        Argument::Nothing => Ok(Value::Unset),
+    }
+}
+
+/// The values of the arguments, from left to right.
+#[cycle(run)]
+fn arguments<W: World>(
+    cx: &Context<'_>,
+    xs: &[Argument<Expr>],
+    level: u32,
+    run: &mut Run,
+    world: &mut W,
+) -> Result<Vec<Value>, Halt>
+    requires { Owns (W.open_numbers world.old) run.old.streams }
+    ensures plays { Argues W.follows W.has_stopped W.stops W.open_numbers cx.now (λ g. view_arguments (names_in g) xs.now)
+        (run.old.store, run.old.streams) world.old result (run.new.store, run.new.streams) world.new }
+    ensures count { IfOk result (λ vs. length vs.items ≡ length xs.now) }
+{
+    let mut values = Vec::new(cx.alloc);
+    for x in xs {
+        let next = argument(cx, x, level, run, world)?;
+        append(&mut values, next)?;
+    }
+    Ok(values)
+}
+
+/// `function ( list )`
+#[cycle(run)]
+pub fn call<W: World>(
+    cx: &Context<'_>,
+    place: Place,
+    f: u32,
+    xs: &[Argument<Expr>],
+    level: u32,
+    run: &mut Run,
+    world: &mut W,
+) -> Result<Value, Halt>
+    requires { Owns (W.open_numbers world.old) run.old.streams }
+    ensures { Does W.follows W.has_stopped W.stops W.open_numbers cx.now (λ g. value (p.call place f (view_arguments (names_in g) xs.now))) (λ g. give)
+        (run.old.store, run.old.streams) world.old result (run.new.store, run.new.streams) world.new }
+{
+    let values = arguments(cx, xs, level, run, world)?;
+    step(cx.host.bound(), &mut run.store)?;
+    let caller = begin(cx.alloc, cx.program, place, f, xs, values, &mut run.store)?;
+    let flow = body(cx, body_of(cx.program, f), level, run, world)?;
+    leave(&mut run.store, caller);
+    Ok(returned(flow))
+}

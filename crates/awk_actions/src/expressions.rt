@@ -1,0 +1,343 @@
+// Expressions.
+ghost use Rattle.std.specs.Prelude.{◌≡◌, ◌∷◌, [], List, map};
+ghost use Rattle.awk_asks.specs.Tasks.{Owns};
+ghost use Rattle.awk_forms.specs.Operands.{unary_of, binary_of};
+ghost use Rattle.awk_machine.specs.Forms.{value};
+ghost use Rattle.awk_machine.specs.Pieces.{give};
+ghost use Rattle.awk_program.specs.Program as p;
+ghost use Rattle.awk_program.specs.Program.{expressions_of, terms_of, joins_of};
+ghost use Rattle.awk_program.specs.View.{view, view_target, view_term, view_joined, variable_of, view_arguments};
+ghost use Rattle.awk_tasks.specs.Wholes.{names_in};
+ghost use Rattle.awk_actions.specs.Runs.{Does};
+
+use crate::calls::call;
+use crate::context::{Context, Run};
+use crate::inputs::{close, from_commands, from_file, getline, system};
+use crate::lists::{element_group, formatted};
+use crate::patterns::{locate, matches, split, substitute};
+use crate::targets::{assign, change, increment, read_target};
+use awk_asks::halt::Halt;
+use awk_forms::chains::{join, members, term};
+use awk_forms::made::owned;
+use awk_forms::operands::{Binary, Unary, part_of};
+use awk_forms::patterns::matched_record;
+use awk_program::{Expr, Joined, Term, Variable};
+use awk_text::place::Place;
+use awk_text::value::{Value, truth};
+use awk_works::operators::truth_value;
+use box_world::world::World;
+
+/// The value of an expression. Each part is evaluated one level lower; where there is none left, memory for the parts is refused.
+#[cycle(run)]
+pub fn value<W: World>(
+    cx: &Context<'_>,
+    e: &Expr,
+    level: u32,
+    run: &mut Run,
+    world: &mut W,
+) -> Result<Value, Halt>
+    requires { Owns (W.open_numbers world.old) run.old.streams }
+    ensures { Does W.follows W.has_stopped W.stops W.open_numbers cx.now (λ g. value (view (names_in g) e.now)) (λ g. give)
+        (run.old.store, run.old.streams) world.old result (run.new.store, run.new.streams) world.new }
+{
+    if level == 0 {
+        return Err(Halt::Memory);
+    }
+    let below = level - 1;
+    match e {
+        Expr::Number(number) => Ok(Value::Num(*number)),
+        Expr::Text(text) => owned(cx.alloc, text.bytes()),
+        Expr::Read(target) => read_target(cx, target, below, run, world),
+        Expr::Assign(place, target, x) => assign(cx, *place, target, x.get(), below, run, world),
+        Expr::Change(place, how, target, x) => {
+            change(cx, *place, *how, target, x.get(), below, run, world)
+        }
+        Expr::Step(place, how, taken, target) => {
+            increment(cx, *place, *how, *taken, target, below, run, world)
+        }
+        Expr::Not(x) => unary(cx, Unary::Not, x.get(), below, run, world),
+        Expr::Signed(place, how, x) => {
+            unary(cx, Unary::Signed(*place, *how), x.get(), below, run, world)
+        }
+        Expr::Int(place, x) => unary(cx, Unary::Int(*place), x.get(), below, run, world),
+        Expr::Measure(how, x) => unary(cx, Unary::Measure(*how), x.get(), below, run, world),
+        Expr::Compare(how, x, y) => {
+            binary(
+                cx,
+                Binary::Compare(*how),
+                x.get(),
+                y.get(),
+                below,
+                run,
+                world,
+            )
+        }
+        Expr::Index(x, y) => binary(cx, Binary::Index, x.get(), y.get(), below, run, world),
+        Expr::SubstrFrom(place, x, y) => {
+            binary(
+                cx,
+                Binary::SubstrFrom(*place),
+                x.get(),
+                y.get(),
+                below,
+                run,
+                world,
+            )
+        }
+        Expr::Substr(place, x, y, z) => {
+            substr(cx, *place, x.get(), y.get(), z.get(), below, run, world)
+        }
+        Expr::Chain(x, xs) => chain(cx, x.get(), xs.as_slice(), below, run, world),
+        Expr::Concat(x, xs) => concat(cx, x.get(), xs.as_slice(), below, run, world),
+        Expr::In(x, arrays) => within(cx, x.get(), arrays.as_slice(), below, run, world),
+        Expr::Group(place, xs, arrays) => {
+            element_group(
+                cx,
+                *place,
+                xs.as_slice(),
+                arrays.as_slice(),
+                below,
+                run,
+                world,
+            )
+        }
+        Expr::And(x, xs) => all(cx, x.get(), xs.as_slice(), below, run, world),
+        Expr::Or(x, xs) => any(cx, x.get(), xs.as_slice(), below, run, world),
+        Expr::Choice(x, y, z) => choose(cx, x.get(), y.get(), z.get(), below, run, world),
+        Expr::Call(place, f, xs) => call(cx, *place, *f, xs.as_slice(), below, run, world),
+        Expr::Getline(place, target) => getline(cx, *place, target, below, run, world),
+        Expr::GetlineFile(place, target, x) => {
+            from_file(cx, *place, target, x.get(), below, run, world)
+        }
+        Expr::Pipe(x, xs) => from_commands(cx, x.get(), xs.as_slice(), below, run, world),
+        Expr::Close(place, x) => close(cx, *place, x.get(), below, run, world),
+        Expr::System(place, x) => system(cx, *place, x.get(), below, run, world),
+        Expr::Pattern(place, text) => {
+            matched_record(
+                cx.alloc,
+                &mut run.patterns,
+                &run.store,
+                *place,
+                text.bytes(),
+            )
+        }
+        Expr::Match(place, x, pattern) => {
+            matches(cx, *place, x.get(), pattern, below, run, world)
+        }
+        Expr::Locate(place, x, pattern) => {
+            locate(cx, *place, x.get(), pattern, below, run, world)
+        }
+        Expr::Split(place, x, at_name, array, by) => {
+            split(cx, *place, x.get(), *at_name, *array, by, below, run, world)
+        }
+        Expr::Substitute(place, extent, pattern, x, target) => {
+            substitute(
+                cx,
+                *place,
+                *extent,
+                pattern,
+                x.get(),
+                target,
+                below,
+                run,
+                world,
+            )
+        }
+        Expr::Sprintf(place, x, xs) => {
+            formatted(cx, *place, x.get(), xs.as_slice(), below, run, world)
+        }
+    }
+}
+
+/// A form of one operand.
+#[cycle(run)]
+fn unary<W: World>(
+    cx: &Context<'_>,
+    form: Unary,
+    x: &Expr,
+    level: u32,
+    run: &mut Run,
+    world: &mut W,
+) -> Result<Value, Halt>
+    requires { Owns (W.open_numbers world.old) run.old.streams }
+    ensures { Does W.follows W.has_stopped W.stops W.open_numbers cx.now (λ g. value (unary_of form (view (names_in g) x.now))) (λ g. give)
+        (run.old.store, run.old.streams) world.old result (run.new.store, run.new.streams) world.new }
+{
+    let operand = value(cx, x, level, run, world)?;
+    form.give(cx.alloc, &operand)
+}
+
+/// A form of two operands.
+#[cycle(run)]
+fn binary<W: World>(
+    cx: &Context<'_>,
+    form: Binary,
+    x: &Expr,
+    y: &Expr,
+    level: u32,
+    run: &mut Run,
+    world: &mut W,
+) -> Result<Value, Halt>
+    requires { Owns (W.open_numbers world.old) run.old.streams }
+    ensures { Does W.follows W.has_stopped W.stops W.open_numbers cx.now (λ g. value (binary_of form (view (names_in g) x.now) (view (names_in g) y.now))) (λ g. give)
+        (run.old.store, run.old.streams) world.old result (run.new.store, run.new.streams) world.new }
+{
+    let left = value(cx, x, level, run, world)?;
+    let right = value(cx, y, level, run, world)?;
+    form.give(cx.alloc, &left, &right)
+}
+
+/// `substr ( text , place , length )`
+#[cycle(run)]
+fn substr<W: World>(
+    cx: &Context<'_>,
+    place: Place,
+    x: &Expr,
+    y: &Expr,
+    z: &Expr,
+    level: u32,
+    run: &mut Run,
+    world: &mut W,
+) -> Result<Value, Halt>
+    requires { Owns (W.open_numbers world.old) run.old.streams }
+    ensures { Does W.follows W.has_stopped W.stops W.open_numbers cx.now (λ g. value (p.substr place (view (names_in g) x.now) (view (names_in g) y.now) (view (names_in g) z.now))) (λ g. give)
+        (run.old.store, run.old.streams) world.old result (run.new.store, run.new.streams) world.new }
+{
+    let text = value(cx, x, level, run, world)?;
+    let from = value(cx, y, level, run, world)?;
+    let count = value(cx, z, level, run, world)?;
+    part_of(cx.alloc, place, &text, &from, &count)
+}
+
+/// A chain of `+` and `-`, or of `*`, `/` and `%`; or one `^`.
+#[cycle(run)]
+fn chain<W: World>(
+    cx: &Context<'_>,
+    x: &Expr,
+    xs: &[Term<Expr>],
+    level: u32,
+    run: &mut Run,
+    world: &mut W,
+) -> Result<Value, Halt>
+    requires { Owns (W.open_numbers world.old) run.old.streams }
+    ensures { Does W.follows W.has_stopped W.stops W.open_numbers cx.now (λ g. value (p.chain (view (names_in g) x.now) (terms_of (map (view_term (names_in g)) xs.now)))) (λ g. give)
+        (run.old.store, run.old.streams) world.old result (run.new.store, run.new.streams) world.new }
+{
+    let mut so_far = value(cx, x, level, run, world)?;
+    for next in xs {
+        let operand = value(cx, &next.operand, level, run, world)?;
+        so_far = term(next.place, next.operator, &so_far, &operand)?;
+    }
+    Ok(so_far)
+}
+
+/// Operands one directly after the other.
+#[cycle(run)]
+fn concat<W: World>(
+    cx: &Context<'_>,
+    x: &Expr,
+    xs: &[Joined<Expr>],
+    level: u32,
+    run: &mut Run,
+    world: &mut W,
+) -> Result<Value, Halt>
+    requires { Owns (W.open_numbers world.old) run.old.streams }
+    ensures { Does W.follows W.has_stopped W.stops W.open_numbers cx.now (λ g. value (p.concat (view (names_in g) x.now) (joins_of (map (view_joined (names_in g)) xs.now)))) (λ g. give)
+        (run.old.store, run.old.streams) world.old result (run.new.store, run.new.streams) world.new }
+{
+    let mut so_far = value(cx, x, level, run, world)?;
+    for next in xs {
+        let operand = value(cx, &next.operand, level, run, world)?;
+        so_far = join(cx.alloc, next.place, so_far, &operand)?;
+    }
+    Ok(so_far)
+}
+
+/// `key in array in array ..`
+#[cycle(run)]
+fn within<W: World>(
+    cx: &Context<'_>,
+    x: &Expr,
+    arrays: &[Variable],
+    level: u32,
+    run: &mut Run,
+    world: &mut W,
+) -> Result<Value, Halt>
+    requires { Owns (W.open_numbers world.old) run.old.streams }
+    ensures { Does W.follows W.has_stopped W.stops W.open_numbers cx.now (λ g. value (p.member (view (names_in g) x.now) (map (variable_of (names_in g)) arrays.now))) (λ g. give)
+        (run.old.store, run.old.streams) world.old result (run.new.store, run.new.streams) world.new }
+{
+    let key = value(cx, x, level, run, world)?;
+    Ok(members(&run.store, arrays, key))
+}
+
+/// A chain of `&&`.
+#[cycle(run)]
+fn all<W: World>(
+    cx: &Context<'_>,
+    x: &Expr,
+    xs: &[Expr],
+    level: u32,
+    run: &mut Run,
+    world: &mut W,
+) -> Result<Value, Halt>
+    requires { Owns (W.open_numbers world.old) run.old.streams }
+    ensures { Does W.follows W.has_stopped W.stops W.open_numbers cx.now (λ g. value (p.and (view (names_in g) x.now) (expressions_of (map (view (names_in g)) xs.now)))) (λ g. give)
+        (run.old.store, run.old.streams) world.old result (run.new.store, run.new.streams) world.new }
+{
+    let mut last = value(cx, x, level, run, world)?;
+    for y in xs {
+        if !truth(&last) {
+            return Ok(truth_value(false));
+        }
+        last = value(cx, y, level, run, world)?;
+    }
+    Ok(truth_value(truth(&last)))
+}
+
+/// A chain of `||`.
+#[cycle(run)]
+fn any<W: World>(
+    cx: &Context<'_>,
+    x: &Expr,
+    xs: &[Expr],
+    level: u32,
+    run: &mut Run,
+    world: &mut W,
+) -> Result<Value, Halt>
+    requires { Owns (W.open_numbers world.old) run.old.streams }
+    ensures { Does W.follows W.has_stopped W.stops W.open_numbers cx.now (λ g. value (p.or (view (names_in g) x.now) (expressions_of (map (view (names_in g)) xs.now)))) (λ g. give)
+        (run.old.store, run.old.streams) world.old result (run.new.store, run.new.streams) world.new }
+{
+    let mut last = value(cx, x, level, run, world)?;
+    for y in xs {
+        if truth(&last) {
+            return Ok(truth_value(true));
+        }
+        last = value(cx, y, level, run, world)?;
+    }
+    Ok(truth_value(truth(&last)))
+}
+
+/// `test ? then : else`
+#[cycle(run)]
+fn choose<W: World>(
+    cx: &Context<'_>,
+    x: &Expr,
+    y: &Expr,
+    z: &Expr,
+    level: u32,
+    run: &mut Run,
+    world: &mut W,
+) -> Result<Value, Halt>
+    requires { Owns (W.open_numbers world.old) run.old.streams }
+    ensures { Does W.follows W.has_stopped W.stops W.open_numbers cx.now (λ g. value (p.choose (view (names_in g) x.now) (view (names_in g) y.now) (view (names_in g) z.now))) (λ g. give)
+        (run.old.store, run.old.streams) world.old result (run.new.store, run.new.streams) world.new }
+{
+    let test = value(cx, x, level, run, world)?;
+    if truth(&test) {
+        value(cx, y, level, run, world)
+    } else {
+        value(cx, z, level, run, world)
+    }
+}

@@ -1,0 +1,154 @@
+// getline in its forms, `close` and `system`.
+ghost use Rattle.std.specs.Prelude.{◌≡◌, ◌∷◌, [], List};
+ghost use Rattle.awk_asks.specs.Tasks.{Owns};
+ghost use Rattle.awk_machine.specs.Forms.{value};
+ghost use Rattle.awk_machine.specs.Pieces.{give};
+ghost use Rattle.awk_program.specs.Program as p;
+ghost use Rattle.awk_program.specs.View.{view, view_pipes, view_target};
+ghost use Rattle.awk_tasks.specs.Wholes.{names_in};
+ghost use Rattle.awk_actions.specs.Runs.{Does};
+
+use crate::context::{Context, Run};
+use crate::expressions::value;
+use crate::targets::target_of;
+use awk_asks::halt::Halt;
+use awk_asks::{closing, requests};
+use awk_program::{Expr, Piped, Target};
+use awk_records::getline::{getline_file, getline_pipe};
+use awk_records::main_input::getline_main;
+use awk_tasks::values::into_text;
+use awk_text::place::Place;
+use awk_text::value::Value;
+use box_world::world::World;
+
+/// `getline target`, from the main input.
+#[cycle(run)]
+pub fn getline<W: World>(
+    cx: &Context<'_>,
+    place: Place,
+    target: &Target<Expr>,
+    level: u32,
+    run: &mut Run,
+    world: &mut W,
+) -> Result<Value, Halt>
+    requires { Owns (W.open_numbers world.old) run.old.streams }
+    ensures { Does W.follows W.has_stopped W.stops W.open_numbers cx.now (λ g. value (p.getline place (view_target (names_in g) target.now))) (λ g. give)
+        (run.old.store, run.old.streams) world.old result (run.new.store, run.new.streams) world.new }
+{
+    let to = target_of(cx, target, level, run, world)?;
+    getline_main(
+        cx.alloc,
+        cx.host,
+        place,
+        to,
+        &mut run.store,
+        &mut run.streams,
+        world,
+    )
+}
+
+/// `getline target < file`
+#[cycle(run)]
+pub fn from_file<W: World>(
+    cx: &Context<'_>,
+    place: Place,
+    target: &Target<Expr>,
+    x: &Expr,
+    level: u32,
+    run: &mut Run,
+    world: &mut W,
+) -> Result<Value, Halt>
+    requires { Owns (W.open_numbers world.old) run.old.streams }
+    ensures { Does W.follows W.has_stopped W.stops W.open_numbers cx.now (λ g. value (p.getline_file place (view_target (names_in g) target.now) (view (names_in g) x.now))) (λ g. give)
+        (run.old.store, run.old.streams) world.old result (run.new.store, run.new.streams) world.new }
+{
+    let to = target_of(cx, target, level, run, world)?;
+    let name = value(cx, x, level, run, world)?;
+    let Ok(file) = into_text(cx.alloc, name) else {
+        return Err(Halt::Memory);
+    };
+    getline_file(
+        cx.alloc,
+        place,
+        to,
+        file,
+        &mut run.store,
+        &mut run.streams,
+        world,
+    )
+}
+
+/// `command | getline target`, and a chain of them.
+#[cycle(run)]
+pub fn from_commands<W: World>(
+    cx: &Context<'_>,
+    x: &Expr,
+    xs: &[Piped<Expr>],
+    level: u32,
+    run: &mut Run,
+    world: &mut W,
+) -> Result<Value, Halt>
+    requires { Owns (W.open_numbers world.old) run.old.streams }
+    ensures { Does W.follows W.has_stopped W.stops W.open_numbers cx.now (λ g. value (p.pipe (view (names_in g) x.now) (view_pipes (names_in g) xs.now))) (λ g. give)
+        (run.old.store, run.old.streams) world.old result (run.new.store, run.new.streams) world.new }
+{
+    let mut so_far = value(cx, x, level, run, world)?;
+    for next in xs {
+        let to = target_of(cx, &next.target, level, run, world)?;
+        let Ok(command) = into_text(cx.alloc, so_far) else {
+            return Err(Halt::Memory);
+        };
+        so_far = getline_pipe(
+            cx.alloc,
+            next.place,
+            to,
+            command,
+            &mut run.store,
+            &mut run.streams,
+            world,
+        )?;
+    }
+    Ok(so_far)
+}
+
+/// `close ( name )`
+#[cycle(run)]
+pub fn close<W: World>(
+    cx: &Context<'_>,
+    place: Place,
+    x: &Expr,
+    level: u32,
+    run: &mut Run,
+    world: &mut W,
+) -> Result<Value, Halt>
+    requires { Owns (W.open_numbers world.old) run.old.streams }
+    ensures { Does W.follows W.has_stopped W.stops W.open_numbers cx.now (λ g. value (p.close place (view (names_in g) x.now))) (λ g. give)
+        (run.old.store, run.old.streams) world.old result (run.new.store, run.new.streams) world.new }
+{
+    let operand = value(cx, x, level, run, world)?;
+    let Ok(name) = into_text(cx.alloc, operand) else {
+        return Err(Halt::Memory);
+    };
+    closing::close(place, name.into_bytes(), &mut run.streams, world)
+}
+
+/// `system ( command )`
+#[cycle(run)]
+pub fn system<W: World>(
+    cx: &Context<'_>,
+    place: Place,
+    x: &Expr,
+    level: u32,
+    run: &mut Run,
+    world: &mut W,
+) -> Result<Value, Halt>
+    requires { Owns (W.open_numbers world.old) run.old.streams }
+    ensures { Does W.follows W.has_stopped W.stops W.open_numbers cx.now (λ g. value (p.system place (view (names_in g) x.now))) (λ g. give)
+        (run.old.store, run.old.streams) world.old result (run.new.store, run.new.streams) world.new }
+{
+    let operand = value(cx, x, level, run, world)?;
+    let Ok(command) = into_text(cx.alloc, operand) else {
+        return Err(Halt::Memory);
+    };
+    requests::system(place, command, world)
+}

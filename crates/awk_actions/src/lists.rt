@@ -1,0 +1,123 @@
+// Lists of expressions.
+ghost use Rattle.std.specs.Prelude.{◌≡◌, ◌+◌, ◌∷◌, [], List, ℕ, length, IfOk, OnOk, map};
+ghost use Rattle.awk_asks.specs.Tasks.{Owns};
+ghost use Rattle.awk_machine.specs.Forms.{value, spot};
+ghost use Rattle.awk_machine.specs.Pieces.{give};
+ghost use Rattle.awk_program.specs.Program as p;
+ghost use Rattle.awk_program.specs.Program.{expressions_of};
+ghost use Rattle.awk_program.specs.View.{view, variable_of};
+ghost use Rattle.awk_tasks.specs.Spots.{IsSpotOf, value_of};
+ghost use Rattle.awk_tasks.specs.Wholes.{names_in};
+ghost use Rattle.awk_actions.specs.Runs.{Does, Fills};
+
+use crate::context::{Context, Run};
+use crate::expressions::value;
+use awk_asks::halt::Halt;
+use awk_forms::chains::members;
+use awk_forms::keys::{element_key, group_key};
+use awk_forms::made::append;
+use awk_forms::outputs::sprintf;
+use awk_program::{Expr, Variable};
+use awk_tasks::Spot;
+use awk_text::place::Place;
+use awk_text::value::Value;
+use box_world::world::World;
+
+/// Adds the values of a list of expressions, from left to right, to those that are there.
+#[cycle(run)]
+pub fn fill<W: World>(
+    cx: &Context<'_>,
+    xs: &[Expr],
+    values: &mut Vec<Value>,
+    level: u32,
+    run: &mut Run,
+    world: &mut W,
+) -> Result<(), Halt>
+    requires { Owns (W.open_numbers world.old) run.old.streams }
+    ensures plays { Fills W.follows W.has_stopped W.stops W.open_numbers cx.now (λ g. map (view (names_in g)) xs.now) values.old.items values.new.items
+        (run.old.store, run.old.streams) world.old result (run.new.store, run.new.streams) world.new }
+    ensures count { OnOk result (length values.new.items ≡ length values.old.items + length xs.now) }
+{
+    for x in xs {
+        let next = value(cx, x, level, run, world)?;
+        append(values, next)?;
+    }
+    Ok(())
+}
+
+/// `array [ list ]`
+#[cycle(run)]
+pub fn element<W: World>(
+    cx: &Context<'_>,
+    place: Place,
+    array: Variable,
+    keys: &[Expr],
+    level: u32,
+    run: &mut Run,
+    world: &mut W,
+) -> Result<Spot, Halt>
+    requires { Owns (W.open_numbers world.old) run.old.streams }
+    ensures plays { Does W.follows W.has_stopped W.stops W.open_numbers cx.now (λ g. spot (p.element place (variable_of (names_in g) array) (expressions_of (map (view (names_in g)) keys.now)))) (λ g s. give (value_of s))
+        (run.old.store, run.old.streams) world.old result (run.new.store, run.new.streams) world.new }
+    ensures spot { IfOk result (λ s. (names : List (List ℕ)) → IsSpotOf names (p.element place (variable_of names array) (expressions_of (map (view names) keys.now))) s) }
+{
+    let mut values = Vec::new(cx.alloc);
+    fill(cx, keys, &mut values, level, run, world)?;
+    let key = element_key(
+        cx.alloc,
+        &mut run.line,
+        &run.store,
+        place,
+        values.as_slice(),
+    )?;
+    Ok(Spot::Element(place, array, key))
+}
+
+/// `( list ) in array in array ..`
+#[cycle(run)]
+pub fn element_group<W: World>(
+    cx: &Context<'_>,
+    place: Place,
+    xs: &[Expr],
+    arrays: &[Variable],
+    level: u32,
+    run: &mut Run,
+    world: &mut W,
+) -> Result<Value, Halt>
+    requires { Owns (W.open_numbers world.old) run.old.streams }
+    ensures { Does W.follows W.has_stopped W.stops W.open_numbers cx.now (λ g. value (p.group place (expressions_of (map (view (names_in g)) xs.now)) (map (variable_of (names_in g)) arrays.now))) (λ g. give)
+        (run.old.store, run.old.streams) world.old result (run.new.store, run.new.streams) world.new }
+{
+    let mut values = Vec::new(cx.alloc);
+    fill(cx, xs, &mut values, level, run, world)?;
+    let key = group_key(
+        cx.alloc,
+        &mut run.line,
+        &run.store,
+        place,
+        values.as_slice(),
+    )?;
+    Ok(members(&run.store, arrays, Value::Text(key)))
+}
+
+/// `sprintf ( format , list )`
+#[cycle(run)]
+pub fn formatted<W: World>(
+    cx: &Context<'_>,
+    place: Place,
+    x: &Expr,
+    xs: &[Expr],
+    level: u32,
+    run: &mut Run,
+    world: &mut W,
+) -> Result<Value, Halt>
+    requires { Owns (W.open_numbers world.old) run.old.streams }
+    ensures { Does W.follows W.has_stopped W.stops W.open_numbers cx.now (λ g. value (p.sprintf place (view (names_in g) x.now) (expressions_of (map (view (names_in g)) xs.now)))) (λ g. give)
+        (run.old.store, run.old.streams) world.old result (run.new.store, run.new.streams) world.new }
+{
+    let format = value(cx, x, level, run, world)?;
+    let mut values = Vec::new(cx.alloc);
+    append(&mut values, format)?;
+    fill(cx, xs, &mut values, level, run, world)?;
+    sprintf(cx.alloc, place, values.as_slice())
+}

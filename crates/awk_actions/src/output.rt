@@ -1,0 +1,120 @@
+// Output.
+ghost use Rattle.std.specs.Prelude.{◌≡◌, ◌∷◌, [], List, map, option_map};
+ghost use Rattle.awk_asks.specs.Tasks.{Owns};
+ghost use Rattle.awk_machine.specs.Pieces.{At, Doing};
+ghost use Rattle.awk_program.specs.Program as p;
+ghost use Rattle.awk_program.specs.View.{view, view_redirection};
+ghost use Rattle.awk_tasks.specs.Wholes.{names_in};
+ghost use Rattle.awk_calls.specs.Flows.{flows};
+ghost use Rattle.awk_actions.specs.Runs.{Does};
+
+use crate::context::{Context, Run};
+use crate::expressions::value;
+use crate::lists::fill;
+use awk_asks::halt::Halt;
+use awk_asks::requests::put;
+use awk_calls::Flow;
+use awk_forms::made::append;
+use awk_forms::outputs::{formatted_for, formatted_line, printed_for, printed_line};
+use awk_program::{Expr, Redirection};
+use awk_records::outputs::put_to;
+use awk_tasks::values::into_text;
+use awk_text::place::Place;
+use box_world::world::World;
+
+/// The number of the standard output.
+const STANDARD_OUTPUT: u32 = 1;
+
+/// `print`
+#[cycle(run)]
+pub fn print<W: World>(
+    cx: &Context<'_>,
+    place: Place,
+    xs: &[Expr],
+    to: &Option<Redirection<Expr>>,
+    level: u32,
+    run: &mut Run,
+    world: &mut W,
+) -> Result<Flow, Halt>
+    requires { Owns (W.open_numbers world.old) run.old.streams }
+    ensures { Does W.follows W.has_stopped W.stops W.open_numbers cx.now (λ g. At (Doing (p.print place (map (view (names_in g)) xs.now) (option_map (view_redirection (names_in g)) to.now))) []) (λ g. flows)
+        (run.old.store, run.old.streams) world.old result (run.new.store, run.new.streams) world.new }
+{
+    let mut values = Vec::new(cx.alloc);
+    fill(cx, xs, &mut values, level, run, world)?;
+    let Some(to) = to else {
+        let text = printed_line(
+            cx.alloc,
+            &mut run.line,
+            &run.store,
+            place,
+            values.as_slice(),
+        )?;
+        put(place, STANDARD_OUTPUT, text, world)?;
+        return Ok(Flow::On);
+    };
+    let target = value(cx, &to.target, level, run, world)?;
+    let text = printed_for(
+        cx.alloc,
+        &mut run.line,
+        &run.store,
+        place,
+        values.as_slice(),
+        &target,
+    )?;
+    let Ok(name) = into_text(cx.alloc, target) else {
+        return Err(Halt::Memory);
+    };
+    put_to(
+        cx.alloc,
+        to.place,
+        to.how,
+        name,
+        text,
+        &mut run.streams,
+        world,
+    )?;
+    Ok(Flow::On)
+}
+
+/// `printf`
+#[cycle(run)]
+pub fn printf<W: World>(
+    cx: &Context<'_>,
+    place: Place,
+    x: &Expr,
+    xs: &[Expr],
+    to: &Option<Redirection<Expr>>,
+    level: u32,
+    run: &mut Run,
+    world: &mut W,
+) -> Result<Flow, Halt>
+    requires { Owns (W.open_numbers world.old) run.old.streams }
+    ensures { Does W.follows W.has_stopped W.stops W.open_numbers cx.now (λ g. At (Doing (p.printf place (view (names_in g) x.now) (map (view (names_in g)) xs.now) (option_map (view_redirection (names_in g)) to.now))) []) (λ g. flows)
+        (run.old.store, run.old.streams) world.old result (run.new.store, run.new.streams) world.new }
+{
+    let format = value(cx, x, level, run, world)?;
+    let mut values = Vec::new(cx.alloc);
+    append(&mut values, format)?;
+    fill(cx, xs, &mut values, level, run, world)?;
+    let Some(to) = to else {
+        let text = formatted_line(cx.alloc, place, values.as_slice())?;
+        put(place, STANDARD_OUTPUT, text, world)?;
+        return Ok(Flow::On);
+    };
+    let target = value(cx, &to.target, level, run, world)?;
+    let text = formatted_for(cx.alloc, place, values.as_slice(), &target)?;
+    let Ok(name) = into_text(cx.alloc, target) else {
+        return Err(Halt::Memory);
+    };
+    put_to(
+        cx.alloc,
+        to.place,
+        to.how,
+        name,
+        text,
+        &mut run.streams,
+        world,
+    )?;
+    Ok(Flow::On)
+}

@@ -1,0 +1,160 @@
+// What is read or set.
+ghost use Rattle.std.specs.Prelude.{◌≡◌, ◌∷◌, [], List, ℕ, IfOk, map};
+ghost use Rattle.awk_asks.specs.Tasks.{Owns};
+ghost use Rattle.awk_machine.specs.Forms.{value, spot};
+ghost use Rattle.awk_machine.specs.Pieces.{give};
+ghost use Rattle.awk_program.specs.Program as p;
+ghost use Rattle.awk_program.specs.Program.{expressions_of};
+ghost use Rattle.awk_program.specs.View.{view, view_target, variable_of};
+ghost use Rattle.awk_tasks.specs.Spots.{IsSpotOf, value_of};
+ghost use Rattle.awk_tasks.specs.Wholes.{names_in};
+ghost use Rattle.awk_actions.specs.Runs.{Does};
+
+use crate::context::{Context, Run};
+use crate::expressions::value;
+use crate::lists::element;
+use awk_asks::halt::Halt;
+use awk_forms::keys::field_number;
+use awk_forms::made::{computed_at, stepped_at};
+use awk_program::{Expr, Operator, Step, Taken, Target};
+use awk_tasks::Spot;
+use awk_tasks::targets::{read, set, stored};
+use awk_text::place::Place;
+use awk_text::value::Value;
+use box_world::world::World;
+
+/// `$ operand`
+#[cycle(run)]
+fn field<W: World>(
+    cx: &Context<'_>,
+    place: Place,
+    x: &Expr,
+    level: u32,
+    run: &mut Run,
+    world: &mut W,
+) -> Result<Spot, Halt>
+    requires { Owns (W.open_numbers world.old) run.old.streams }
+    ensures plays { Does W.follows W.has_stopped W.stops W.open_numbers cx.now (λ g. spot (p.field place (view (names_in g) x.now))) (λ g s. give (value_of s))
+        (run.old.store, run.old.streams) world.old result (run.new.store, run.new.streams) world.new }
+    ensures spot { IfOk result (λ s. (names : List (List ℕ)) → IsSpotOf names (p.field place (view names x.now)) s) }
+{
+    let operand = value(cx, x, level, run, world)?;
+    Ok(Spot::Field(field_number(place, &operand)?))
+}
+
+/// What is read or set: its subscripts or its number come first.
+#[cycle(run)]
+pub fn target_of<W: World>(
+    cx: &Context<'_>,
+    target: &Target<Expr>,
+    level: u32,
+    run: &mut Run,
+    world: &mut W,
+) -> Result<Spot, Halt>
+    requires { Owns (W.open_numbers world.old) run.old.streams }
+    ensures plays { Does W.follows W.has_stopped W.stops W.open_numbers cx.now (λ g. spot (view_target (names_in g) target.now)) (λ g s. give (value_of s))
+        (run.old.store, run.old.streams) world.old result (run.new.store, run.new.streams) world.new }
+    ensures spot { IfOk result (λ s. (names : List (List ℕ)) → IsSpotOf names (view_target names target.now) s) }
+{
+    match target {
+        Target::Variable(variable) => Ok(Spot::Variable(*variable)),
+        Target::Element(place, array, keys) => {
+            element(cx, *place, *array, keys.as_slice(), level, run, world)
+        }
+        Target::Field(place, x) => field(cx, *place, x.get(), level, run, world),
+    }
+}
+
+/// The value of a variable, of an element or of a field.
+#[cycle(run)]
+pub fn read_target<W: World>(
+    cx: &Context<'_>,
+    target: &Target<Expr>,
+    level: u32,
+    run: &mut Run,
+    world: &mut W,
+) -> Result<Value, Halt>
+    requires { Owns (W.open_numbers world.old) run.old.streams }
+    ensures { Does W.follows W.has_stopped W.stops W.open_numbers cx.now (λ g. value (p.read (view_target (names_in g) target.now))) (λ g. give)
+        (run.old.store, run.old.streams) world.old result (run.new.store, run.new.streams) world.new }
+{
+    let from = target_of(cx, target, level, run, world)?;
+    read(cx.alloc, &mut run.store, &from)
+}
+
+/// `target = value`
+#[cycle(run)]
+pub fn assign<W: World>(
+    cx: &Context<'_>,
+    place: Place,
+    target: &Target<Expr>,
+    x: &Expr,
+    level: u32,
+    run: &mut Run,
+    world: &mut W,
+) -> Result<Value, Halt>
+    requires { Owns (W.open_numbers world.old) run.old.streams }
+    ensures { Does W.follows W.has_stopped W.stops W.open_numbers cx.now (λ g. value (p.assign place (view_target (names_in g) target.now) (view (names_in g) x.now))) (λ g. give)
+        (run.old.store, run.old.streams) world.old result (run.new.store, run.new.streams) world.new }
+{
+    let to = target_of(cx, target, level, run, world)?;
+    let new = value(cx, x, level, run, world)?;
+    let Ok(kept) = stored(cx.alloc, &to, &new) else {
+        return Err(Halt::Memory);
+    };
+    set(cx.alloc, &mut run.store, to, place, new)?;
+    Ok(kept)
+}
+
+/// `target += value`, and with the other operators.
+#[cycle(run)]
+pub fn change<W: World>(
+    cx: &Context<'_>,
+    place: Place,
+    how: Operator,
+    target: &Target<Expr>,
+    x: &Expr,
+    level: u32,
+    run: &mut Run,
+    world: &mut W,
+) -> Result<Value, Halt>
+    requires { Owns (W.open_numbers world.old) run.old.streams }
+    ensures { Does W.follows W.has_stopped W.stops W.open_numbers cx.now (λ g. value (p.change place how (view_target (names_in g) target.now) (view (names_in g) x.now))) (λ g. give)
+        (run.old.store, run.old.streams) world.old result (run.new.store, run.new.streams) world.new }
+{
+    let to = target_of(cx, target, level, run, world)?;
+    let operand = value(cx, x, level, run, world)?;
+    let old = read(cx.alloc, &mut run.store, &to)?;
+    let number = computed_at(place, how, &old, &operand)?;
+    let Ok(kept) = stored(cx.alloc, &to, &Value::Num(number)) else {
+        return Err(Halt::Memory);
+    };
+    set(cx.alloc, &mut run.store, to, place, Value::Num(number))?;
+    Ok(kept)
+}
+
+/// `target ++` and `target --`, before and behind.
+#[cycle(run)]
+pub fn increment<W: World>(
+    cx: &Context<'_>,
+    place: Place,
+    how: Step,
+    taken: Taken,
+    target: &Target<Expr>,
+    level: u32,
+    run: &mut Run,
+    world: &mut W,
+) -> Result<Value, Halt>
+    requires { Owns (W.open_numbers world.old) run.old.streams }
+    ensures { Does W.follows W.has_stopped W.stops W.open_numbers cx.now (λ g. value (p.step place how taken (view_target (names_in g) target.now))) (λ g. give)
+        (run.old.store, run.old.streams) world.old result (run.new.store, run.new.streams) world.new }
+{
+    let to = target_of(cx, target, level, run, world)?;
+    let old = read(cx.alloc, &mut run.store, &to)?;
+    let (before, behind) = stepped_at(place, how, &old)?;
+    set(cx.alloc, &mut run.store, to, place, Value::Num(behind))?;
+    match taken {
+        Taken::Before => Ok(Value::Num(before)),
+        Taken::Behind => Ok(Value::Num(behind)),
+    }
+}

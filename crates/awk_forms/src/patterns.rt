@@ -1,0 +1,179 @@
+// Forms that search for a pattern: an ERE by itself, `~`, match and split.
+ghost use Rattle.std.specs.Prelude.{◌≡◌, ◌∷◌, [], List, ℕ, false, IfOk};
+ghost use Rattle.awk_asks.specs.Tables.{Table};
+ghost use Rattle.awk_fields.specs.Separators as separators;
+ghost use Rattle.awk_forms.specs.Patterns.{source_value, IsSourceOf};
+ghost use Rattle.awk_machine.specs.Builtins.{split_by};
+ghost use Rattle.awk_machine.specs.Forms.{checked, source, value};
+ghost use Rattle.awk_machine.specs.Pieces.{At, Do, Piece, Split, Value_of, give};
+ghost use Rattle.awk_machine.specs.State.{Given};
+ghost use Rattle.awk_machine.specs.Targets.{check_separator};
+ghost use Rattle.awk_program.specs.Program as p;
+ghost use Rattle.awk_program.specs.Program.{Expression};
+ghost use Rattle.awk_program.specs.View.{variable_of};
+ghost use Rattle.awk_tasks.specs.Acts.{Acts, Passes};
+ghost use Rattle.awk_tasks.specs.Wholes.{Whole, names_in};
+ghost use Rattle.awk_text.specs.Values.{text_of};
+
+use awk_asks::halt::Halt;
+use awk_ere::Ere;
+use awk_fields::Splitter;
+use awk_program::Variable;
+use awk_store::Store;
+use awk_tasks::faults::at;
+use awk_tasks::patterns::{check, matches, matches_record};
+use awk_tasks::{searches, splits};
+use awk_text::place::Place;
+use awk_text::value::{Value, text_in};
+use awk_works::operators::truth_value;
+use awk_works::patterns::Patterns;
+use itoa::Buffer;
+use std::alloc::Global;
+use std::rc::Rc;
+
+/// What stands where a pattern is wanted, once it has a value.
+#[derive(Drop)]
+pub enum Source {
+    /// A constant, which was checked where it stands
+    Constant(Rc<Ere>),
+    /// What was computed: its text is checked where it is used
+    Computed(Value),
+}
+
+/// What an ERE that stands by itself gives: whether it matches somewhere in the record.
+pub fn matched_record(
+    alloc: Global,
+    patterns: &mut Patterns,
+    store: &Store,
+    place: Place,
+    text: &[u8],
+) -> Result<Value, Halt>
+    ensures { (g : Given) (t : Table) → Acts g (value (p.pattern place text.now)) give (store.now, t) result (store.now, t) }
+{
+    let found = matches_record(alloc, patterns, store, place, text)?;
+    Ok(truth_value(found))
+}
+
+/// The source of a pattern that is a constant.
+pub fn constant(
+    alloc: Global,
+    patterns: &mut Patterns,
+    place: Place,
+    text: &[u8],
+) -> Result<Source, Halt>
+    ensures plays { (g : Given) (w : Whole) → Acts g (source (p.constant place text.now)) (λ s. give (source_value s)) w result w }
+    ensures kind { IfOk result (λ s. IsSourceOf (p.constant place text.now) s) }
+{
+    let ere = check(alloc, patterns, place, text)?;
+    Ok(Source::Constant(ere))
+}
+
+/// The ERE of a pattern where it is used: from whatever leads to its check on to what stands behind it.
+pub fn used(
+    alloc: Global,
+    patterns: &mut Patterns,
+    place: Place,
+    pattern: Source,
+) -> Result<Rc<Ere>, Halt>
+    ensures check { (g : Given) (w : Whole) (y : p.Ere) → IsSourceOf y pattern → (from : Piece) (to : List Piece → List Piece)
+        → Passes g from w (λ k. checked y place (text_of (source_value pattern)) (to k)) w → Acts g from (λ e. to) w result w }
+    ensures ere { IfOk result (λ e. e.value ≡ text_of (source_value pattern)) }
+{
+    match pattern {
+        Source::Constant(ere) => Ok(ere),
+        Source::Computed(computed) => {
+            let mut buffer = Buffer::new();
+            check(alloc, patterns, place, text_in(&computed, &mut buffer))
+        }
+    }
+}
+
+/// What `text ~ pattern` gives.
+pub fn matched(
+    alloc: Global,
+    patterns: &mut Patterns,
+    place: Place,
+    text: &Value,
+    pattern: Source,
+) -> Result<Value, Halt>
+    ensures { (g : Given) (w : Whole) (x : Expression) (y : p.Ere) → IsSourceOf y pattern
+        → Acts g (At (Value_of (p.matched place x y)) (source_value pattern ∷ text.now ∷ [])) give w result w }
+{
+    let ere = used(alloc, patterns, place, pattern)?;
+    let mut buffer = Buffer::new();
+    let found = matches(&ere, text_in(text, &mut buffer))?;
+    Ok(truth_value(found))
+}
+
+/// What `match ( text , pattern )` gives. It sets RSTART and RLENGTH.
+pub fn located(
+    alloc: Global,
+    patterns: &mut Patterns,
+    store: &mut Store,
+    place: Place,
+    text: &Value,
+    pattern: Source,
+) -> Result<Value, Halt>
+    ensures { (g : Given) (t : Table) (x : Expression) (y : p.Ere) → IsSourceOf y pattern
+        → Acts g (At (Value_of (p.locate place x y)) (source_value pattern ∷ text.now ∷ [])) give (store.old, t) result (store.new, t) }
+{
+    let ere = used(alloc, patterns, place, pattern)?;
+    let start = searches::locate(store, &ere, text)?;
+    Ok(Value::Num(start))
+}
+
+/// What a text that was computed separates by: an ERE where it has two bytes or more.
+fn computed_splitter(
+    alloc: Global,
+    patterns: &mut Patterns,
+    place: Place,
+    by: &[u8],
+) -> Result<Splitter, Halt>
+    ensures { (g : Given) (w : Whole) (at : Place) (a : p.Variable) (text : List ℕ) (from : Piece)
+        → Passes g from w (λ k. check_separator place by.now (Do (Split at a (separators.separator by.now false) text) ∷ k)) w
+        → Acts g from (λ s k. Do (Split at a s text) ∷ k) w result w }
+{
+    if by.len() > 1 {
+        let ere = check(alloc, patterns, place, by)?;
+        return Ok(Splitter::by_compiled(ere));
+    }
+    at(place, Splitter::new(alloc, by, false))
+}
+
+/// What split separates by: from whatever leads to the check of a separator on to the splitting.
+fn splitter(
+    alloc: Global,
+    patterns: &mut Patterns,
+    place: Place,
+    by: Source,
+) -> Result<Splitter, Halt>
+    ensures { (g : Given) (w : Whole) (y : p.Ere) → IsSourceOf y by → (at : Place) (a : p.Variable) (text : List ℕ) (from : Piece)
+        → Passes g from w (split_by y place at a text (text_of (source_value by))) w → Acts g from (λ s k. Do (Split at a s text) ∷ k) w result w }
+{
+    match by {
+        Source::Constant(ere) => Ok(Splitter::by_compiled(ere)),
+        Source::Computed(computed) => {
+            let mut buffer = Buffer::new();
+            computed_splitter(alloc, patterns, place, text_in(&computed, &mut buffer))
+        }
+    }
+}
+
+/// What `split ( text , array , separator )` gives: how many parts there are. The array holds them, in place of what it held.
+pub fn split(
+    alloc: Global,
+    patterns: &mut Patterns,
+    store: &mut Store,
+    place: Place,
+    at_name: Place,
+    array: Variable,
+    text: &Value,
+    by: Source,
+) -> Result<Value, Halt>
+    ensures { (g : Given) (t : Table) (x : Expression) (y : p.Ere) → IsSourceOf y by
+        → Acts g (At (Value_of (p.split place x at_name (variable_of (names_in g) array) y)) (source_value by ∷ text.now ∷ [])) give (store.old, t) result (store.new, t) }
+{
+    let separator = splitter(alloc, patterns, place, by)?;
+    let count = splits::split(alloc, store, at_name, array, &separator, text)?;
+    Ok(Value::Num(count))
+}

@@ -1,0 +1,147 @@
+-- The parts of a program: how each begins, and what ends it.
+use Rattle.std.proofs.Common.{◌≡◌, refl, sym, ap, subst, ◌∙◌, Bool, true, false, List, [], ◌∷◌, ◌++◌, map}
+use Rattle.std.specs.Prelude.{Some, None, Ok}
+use Rattle.box_world.specs.Calls.{Call}
+use Rattle.box_world.specs.declared.ask.Ask.{Ask}
+use Rattle.awk_program.specs.Program.{Statement}
+use Rattle.awk_program.specs.View.{view_program, view_rule, view_statement}
+use Rattle.awk_program.specs.declared.program.Program as code
+use Rattle.awk_program.specs.declared.program.Rule as code_rule
+use Rattle.awk_program.specs.declared.statements.Statement as code_statement
+use Rattle.awk_machine.specs.Advances.{advance}
+use Rattle.awk_machine.specs.Pieces as machine
+use Rattle.awk_machine.specs.Pieces.{Piece, At, Do, Each, Enter, Finish, Records, Goes, Faulted, ends}
+use Rattle.awk_machine.specs.Rules.{concatenated, records}
+use Rattle.awk_machine.specs.State.{State, Given, Ending}
+use Rattle.awk_machine.specs.Streams.{seen}
+use Rattle.awk_store.specs.Changes.{with_phase}
+use Rattle.awk_store.specs.Kept.{Kept}
+use Rattle.awk_store.specs.States.{phase_of}
+use Rattle.awk_store.specs.declared.phase.Phase.{Phase}
+use Rattle.awk_store.specs.declared.phase.Phase.TheVariants as phase
+use Rattle.awk_asks.specs.Chains.{Led, Ended, Leads, Meets}
+use Rattle.awk_asks.specs.Tables.{Table}
+use Rattle.awk_asks.proofs.Chain.{at_once, changes, done}
+use Rattle.awk_calls.specs.Flows.{flows}
+use Rattle.awk_calls.specs.declared.flow.Flow.{Flow}
+use Rattle.awk_calls.specs.declared.flow.Flow.TheVariants as flow
+use Rattle.awk_tasks.specs.Wholes.{Whole, Agreeing, base, names_in, used}
+use Rattle.awk_actions.specs.Runs.{IsGiven}
+use Rattle.awk_actions.specs.declared.context.Context.{Context}
+use Rattle.awk_phases.specs.Outcomes.{own_status}
+use Rattle.awk_phases.specs.Rules.{is_on}
+use Rattle.awk_phases.specs.Runs.{Reached}
+use Rattle.awk_phases.proofs.Reaching.{then_move, then_part}
+
+-- ---- the actions of BEGIN and of END
+
+pub flows_each : (f : Flow) (xs : List Statement) (k : List Piece) → is_on f ≡ true → flows f (Do (Each xs) ∷ k) ≡ Do (Each xs) ∷ k
+flows_each flow.On xs k e = refl
+flows_each flow.Break xs k e = absurd (cc)
+flows_each flow.Continue xs k e = absurd (cc)
+flows_each (flow.Return x) xs k e = absurd (cc)
+
+pub flows_past : (f : Flow) (xs : List Statement) (k : List Piece) → is_on f ≡ false → flows f (Do (Each xs) ∷ k) ≡ flows f k
+flows_past flow.On xs k e = absurd (cc)
+flows_past flow.Break xs k e = refl
+flows_past flow.Continue xs k e = refl
+flows_past (flow.Return None) xs k e = refl
+flows_past (flow.Return (Some v)) xs k e = refl
+
+pub past_twice : (f : Flow) (xs ys : List Statement) (k : List Piece) → is_on f ≡ false → flows f (Do (Each xs) ∷ k) ≡ flows f (Do (Each ys) ∷ k)
+past_twice f xs ys k e = flows_past f xs k e ∙ sym (flows_past f ys k e)
+
+-- what stands behind BEGIN and END is done whatever ended them
+pub flows_task : (f : Flow) (phase : _) (k : List Piece) → flows f (Do (Enter phase) ∷ k) ≡ Do (Enter phase) ∷ k
+flows_task flow.On phase k = refl
+flows_task flow.Break phase k = refl
+flows_task flow.Continue phase k = refl
+flows_task (flow.Return None) phase k = refl
+flows_task (flow.Return (Some v)) phase k = refl
+
+pub flows_finish : (f : Flow) (k : List Piece) → flows f (Do Finish ∷ k) ≡ Do Finish ∷ k
+flows_finish flow.On k = refl
+flows_finish flow.Break k = refl
+flows_finish flow.Continue k = refl
+flows_finish (flow.Return None) k = refl
+flows_finish (flow.Return (Some v)) k = refl
+
+module _ (g : Given) (cx : Context) (is : IsGiven cx g) where
+  names_so : names_in g ≡ map (λ n. n.text) cx.program.now.variables
+  names_so = ap (λ q. map (λ n. n.text) q.variables) is.program
+
+  pub begin_so : g.program.begin ≡ map (map (view_statement (names_in g))) cx.program.now.begin
+  begin_so = ap (λ q. q.begin) is.program ∙ ap (λ names. map (map (view_statement names)) cx.program.now.begin) (sym names_so)
+
+  pub end_so : g.program.end ≡ map (map (view_statement (names_in g))) cx.program.now.end
+  end_so = ap (λ q. q.end) is.program ∙ ap (λ names. map (map (view_statement names)) cx.program.now.end) (sym names_so)
+
+-- ---- whether records are read
+
+pub reads_none : (x : code.Program) (k : List Piece) → x.rules ≡ [] → x.end ≡ [] → records (view_program x) ++ k ≡ k
+reads_none x k e f = reads_by x.rules x.end e f
+  where
+    reads_by : (rules : List code_rule.Rule) (end : List (List code_statement.Statement)) → rules ≡ [] → end ≡ [] → records (record (view_program x) { rules = map (view_rule (map (λ n. n.text) x.variables)) rules; end = map (map (view_statement (map (λ n. n.text) x.variables))) end }) ++ k ≡ k
+    reads_by [] [] e f = refl
+    reads_by [] (y ∷ ys) e f = absurd (cc)
+    reads_by (y ∷ ys) end e f = absurd (cc)
+
+pub reads_end : (x : code.Program) (k : List Piece) → (x.end ≡ [] → ⊥) → records (view_program x) ++ k ≡ At Records [] ∷ k
+reads_end x k f = reads_by x.rules x.end f
+  where
+    reads_by : (rules : List code_rule.Rule) (end : List (List code_statement.Statement)) → (end ≡ [] → ⊥) → records (record (view_program x) { rules = map (view_rule (map (λ n. n.text) x.variables)) rules; end = map (map (view_statement (map (λ n. n.text) x.variables))) end }) ++ k ≡ At Records [] ∷ k
+    reads_by [] [] f = absurd (f refl)
+    reads_by [] (y ∷ ys) f = refl
+    reads_by (y ∷ ys) end f = refl
+
+pub reads_rules : (x : code.Program) (k : List Piece) → (x.rules ≡ [] → ⊥) → records (view_program x) ++ k ≡ At Records [] ∷ k
+reads_rules x k f = reads_by x.rules x.end f
+  where
+    reads_by : (rules : List code_rule.Rule) (end : List (List code_statement.Statement)) → (rules ≡ [] → ⊥) → records (record (view_program x) { rules = map (view_rule (map (λ n. n.text) x.variables)) rules; end = map (map (view_statement (map (λ n. n.text) x.variables))) end }) ++ k ≡ At Records [] ∷ k
+    reads_by [] end f = absurd (f refl)
+    reads_by (y ∷ ys) end f = refl
+
+-- ---- a part begins
+
+abbrev pub entered : Given → Phase → List Piece → List Piece
+entered g phase.Beginning k = Do (Each (concatenated g.program.begin)) ∷ k
+entered g phase.Ruling k = records g.program ++ k
+entered g phase.Ending k = Do (Each (concatenated g.program.end)) ∷ Do Finish ∷ []
+
+enter_so : (g : Given) (ph : Phase) (k : List Piece) (s : State) → advance g (Do (Enter (phase_of ph)) ∷ k) s ≡ Goes (entered g ph k) (record s { phase = phase_of ph })
+enter_so g phase.Beginning k s = refl
+enter_so g phase.Ruling k s = refl
+enter_so g phase.Ending k s = refl
+
+module _ {W : Type 0} {F : W → List Call → W → Type 0} {E : W → List Call → Ask → W → Type 0} {g : Given} where
+  entered_now : (ph : Phase) (old : Kept) (t : Table) (w : W) → Leads F E (base g) (Agreeing g) used g (Do (Enter (phase_of ph))) (old, t) w (entered g ph) (with_phase ph old, t) w
+  entered_now ph old t w = changes refl (at_once _ (old, t) w) (λ k hid c a. (
+    hid,
+    record { tells = a.tells; row = a.row; cells = a.cells; sound = a.sound },
+    enter_so g ph k (seen (base g (old, t) hid) c),
+  ))
+
+  pub enters : (ph : Phase) (old new : Kept) (t : Table) (w : W) → new ≡ with_phase ph old → Leads F E (base g) (Agreeing g) used g (Do (Enter (phase_of ph))) (old, t) w (entered g ph) (new, t) w
+  enters ph old new t w same = subst (λ (n : Kept). Leads F E (base g) (Agreeing g) used g (Do (Enter (phase_of ph))) (old, t) w (entered g ph) (n, t) w) (sym same) (entered_now ph old t w)
+
+-- ---- the end of a run's own work
+
+module _ {W : Type 0} {follows : W → List Call → W → Type 0} {has_stopped : W → Bool} {stops : W → List Call → Ask → W → Type 0} {g : Given} {first : W} {now : Whole} {w : W} where
+  pub finishes : Reached follows has_stopped stops g first (Do Finish ∷ []) now w → Reached follows has_stopped stops g first (ends (machine.Status (own_status now.0))) now w
+  finishes y = then_move (ends (machine.Status (own_status now.0))) y (λ hid c. refl)
+
+  -- where nothing is left to be done, the run has ended too
+  pub runs_out : Reached follows has_stopped stops g first [] now w → Reached follows has_stopped stops g first (ends (machine.Status (own_status now.0))) now w
+  runs_out y = then_move (ends (machine.Status (own_status now.0))) y (λ hid c. refl)
+
+-- END begins
+module _ {W : Type 0} {follows : W → List Call → W → Type 0} {has_stopped : W → Bool} {stops : W → List Call → Ask → W → Type 0} (g : Given) (cx : Context) (is : IsGiven cx g) {first w : W} where
+  pub ending : (old new : Kept) (t : Table) → new ≡ with_phase phase.Ending old → Reached follows has_stopped stops g first (Do (Enter Ending) ∷ []) (old, t) w →
+      Reached follows has_stopped stops g first (Do (Each (concatenated (map (map (view_statement (names_in g))) cx.program.now.end))) ∷ Do Finish ∷ []) (new, t) w
+  ending old new t same y =
+      subst (λ xs. Reached follows has_stopped stops g first (Do (Each (concatenated xs)) ∷ Do Finish ∷ []) (new, t) w) (end_so g cx is)
+      (then_part (tt {0}) y (done_as {to = λ u k. Do (Each (concatenated g.program.end)) ∷ Do Finish ∷ []} (enters {F = Led follows has_stopped} {E = Ended follows stops} {g = g} phase.Ending old new t w same)) refl)
+    where
+      done_as : {to : Unit {0} → List Piece → List Piece} → Leads (Led follows has_stopped) (Ended follows stops) (base g) (Agreeing g) used g (Do (Enter Ending)) (old, t) w (to (tt {0})) (new, t) w →
+          Meets (Led follows has_stopped) (Ended follows stops) (base g) (Agreeing g) used g (Do (Enter Ending)) to (old, t) w (Ok (tt {0})) (new, t) w
+      done_as h = done h

@@ -1,0 +1,5 @@
+pub mod Outcomes
+pub mod Reports
+pub mod Rules
+pub mod Runs
+pub mod Starts

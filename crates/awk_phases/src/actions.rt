@@ -1,0 +1,69 @@
+// The actions of BEGIN and of END.
+ghost use Rattle.std.specs.Prelude.{◌≡◌, ◌∷◌, ◌++◌, List, map};
+ghost use Rattle.awk_asks.specs.Tasks.{Owns};
+ghost use Rattle.awk_calls.specs.Flows.{flows};
+ghost use Rattle.awk_machine.specs.Pieces.{Do, Each};
+ghost use Rattle.awk_machine.specs.Rules.{concatenated};
+ghost use Rattle.awk_machine.specs.State.{Given};
+ghost use Rattle.awk_program.specs.Program as p;
+ghost use Rattle.awk_program.specs.View.{view_statement};
+ghost use Rattle.awk_tasks.specs.Wholes.{names_in};
+ghost use Rattle.awk_actions.specs.Runs.{Does};
+ghost use Rattle.awk_phases.specs.Rules as spec;
+
+use crate::rules::MOST_LEVELS;
+use awk_actions::{Context, Run, statement};
+use awk_asks::halt::Halt;
+use awk_calls::Flow;
+use awk_program::Statement;
+use box_world::world::World;
+use sqlite_items::Items;
+
+/// Whether the next statement follows. Takes no memory.
+fn is_on(flow: &Flow) -> bool
+    ensures { result ≡ spec.is_on flow.now }
+{
+    matches!(flow, Flow::On)
+}
+
+/// The statements of one action, with what stands behind them in other actions.
+fn action<W: World>(
+    cx: &Context<'_>,
+    xs: &[Statement],
+    run: &mut Run,
+    world: &mut W,
+) -> Result<Flow, Halt>
+    requires { Owns (W.open_numbers world.old) run.old.streams }
+    ensures { (rest : Given → List p.Statement) → Does W.follows W.has_stopped W.stops W.open_numbers cx.now
+        (λ g. Do (Each (map (view_statement (names_in g)) xs.now ++ rest g))) (λ g f k. flows f (Do (Each (rest g)) ∷ k))
+        (run.old.store, run.old.streams) world.old result (run.new.store, run.new.streams) world.new }
+{
+    for x in xs {
+        let flow = statement(cx, x, MOST_LEVELS, run, world)?;
+        if !is_on(&flow) {
+            return Ok(flow);
+        }
+    }
+    Ok(Flow::On)
+}
+
+/// Several actions, one after the other.
+pub fn actions<W: World>(
+    cx: &Context<'_>,
+    xs: &[Items<Statement>],
+    run: &mut Run,
+    world: &mut W,
+) -> Result<Flow, Halt>
+    requires { Owns (W.open_numbers world.old) run.old.streams }
+    ensures { Does W.follows W.has_stopped W.stops W.open_numbers cx.now
+        (λ g. Do (Each (concatenated (map (map (view_statement (names_in g))) xs.now)))) (λ g. flows)
+        (run.old.store, run.old.streams) world.old result (run.new.store, run.new.streams) world.new }
+{
+    for x in xs {
+        let flow = action(cx, x.as_slice(), run, world)?;
+        if !is_on(&flow) {
+            return Ok(flow);
+        }
+    }
+    Ok(Flow::On)
+}

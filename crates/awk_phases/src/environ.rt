@@ -1,0 +1,68 @@
+// ENVIRON.
+ghost use Rattle.std.specs.Prelude.{◌≡◌, ◌∷◌, List, codes};
+ghost use Rattle.awk_asks.specs.Tables.{Table};
+ghost use Rattle.awk_asks.specs.Tasks.{Owns, goes_on};
+ghost use Rattle.awk_machine.specs.Pieces as machine;
+ghost use Rattle.awk_machine.specs.Pieces.{nowhere, Do, Set};
+ghost use Rattle.awk_machine.specs.State.{Given};
+ghost use Rattle.awk_program.specs.Program.{global};
+ghost use Rattle.awk_program.specs.Slots.{Text};
+ghost use Rattle.awk_tasks.specs.Acts.{Acts};
+ghost use Rattle.awk_actions.specs.Runs.{Does};
+
+use awk_actions::{Context, Run};
+use awk_asks::halt::Halt;
+use awk_asks::requests::environment;
+use awk_program::{Own, Variable};
+use awk_store::Store;
+use awk_tasks::elements::set_element;
+use awk_text::octets::Octets;
+use awk_text::place::Place;
+use awk_text::value::Value;
+use box_world::world::World;
+use std::alloc::Global;
+
+/// Sets the element of ENVIRON for this name.
+fn set_environ(alloc: Global, store: &mut Store, name: &[u8], text: Octets) -> Result<(), Halt>
+    ensures { (g : Given) (t : Table) → Acts g (Do (Set (machine.Element (global (codes "ENVIRON")) name.now nowhere) nowhere (Value.Input text))) goes_on (store.old, t) result (store.new, t) }
+{
+    let Ok(key) = Vec::from_slice(alloc, name) else {
+        return Err(Halt::Memory);
+    };
+    let place = Place { line: 0, column: 0 };
+    let array = Variable::Global(Own::Environ.slot());
+    set_element(store, place, array, key, Value::Input(text))
+}
+
+/// Looks a name of the environment up, and sets its element of ENVIRON where it has a value.
+fn look<W: World>(cx: &Context<'_>, name: &Octets, run: &mut Run, world: &mut W) -> Result<(), Halt>
+    requires { Owns (W.open_numbers world.old) run.old.streams }
+    ensures { (names : List Text) → Does W.follows W.has_stopped W.stops W.open_numbers cx.now (λ g. Do (machine.Environ (name.now ∷ names))) (λ g u k. Do (machine.Environ names) ∷ k)
+        (run.old.store, run.old.streams) world.old result (run.new.store, run.new.streams) world.new }
+{
+    let Ok(sent) = name.copy(cx.alloc) else {
+        return Err(Halt::Memory);
+    };
+    let found = environment(sent, world)?;
+    let Some(text) = found else {
+        return Ok(());
+    };
+    set_environ(cx.alloc, &mut run.store, name.bytes(), text)
+}
+
+/// Looks the names of the environment up, one after the other.
+pub fn environ<W: World>(
+    cx: &Context<'_>,
+    names: &[Octets],
+    run: &mut Run,
+    world: &mut W,
+) -> Result<(), Halt>
+    requires { Owns (W.open_numbers world.old) run.old.streams }
+    ensures { Does W.follows W.has_stopped W.stops W.open_numbers cx.now (λ g. Do (machine.Environ names.now)) (λ g. goes_on)
+        (run.old.store, run.old.streams) world.old result (run.new.store, run.new.streams) world.new }
+{
+    for name in names {
+        look(cx, name, run, world)?;
+    }
+    Ok(())
+}

@@ -1,0 +1,121 @@
+// BEGIN, the rules for records, and END, in their order.
+ghost use Rattle.std.specs.Prelude.{◌≡◌, ◌∷◌, ◌++◌, [], List};
+ghost use Rattle.awk_asks.specs.Tasks.{Owns, goes_on};
+ghost use Rattle.awk_calls.specs.Flows.{flows};
+ghost use Rattle.awk_machine.specs.Pieces.{Do, Enter, Finish, Piece};
+ghost use Rattle.awk_machine.specs.Rules as machine;
+ghost use Rattle.awk_machine.specs.State.{Beginning, Ending, Given, Ruling};
+ghost use Rattle.awk_program.specs.View.{view_program};
+ghost use Rattle.awk_actions.specs.Runs.{Does, IsGiven};
+ghost use Rattle.awk_phases.specs.Rules.{more};
+ghost use Rattle.awk_phases.specs.Runs.{Finished, Goes_on, Reached, Stopped};
+
+use crate::actions::actions;
+use crate::ends::{End, done, goes_to_end, last};
+use crate::records::records;
+use awk_actions::{Context, Run};
+use awk_asks::halt::Halt;
+use awk_calls::Flow;
+use awk_program::Program;
+use awk_store::Phase;
+use box_world::world::World;
+
+/// The actions of BEGIN.
+fn begin<W: World>(cx: &Context<'_>, run: &mut Run, world: &mut W) -> Result<Flow, Halt>
+    requires { Owns (W.open_numbers world.old) run.old.streams }
+    ensures { Does W.follows W.has_stopped W.stops W.open_numbers cx.now (λ g. Do (Enter Beginning)) (λ g. flows)
+        (run.old.store, run.old.streams) world.old result (run.new.store, run.new.streams) world.new }
+{
+    run.store.set_phase(Phase::Beginning);
+    actions(cx, cx.program.begin.as_slice(), run, world)
+}
+
+/// Whether records are read: where there is a rule for them, or an END.
+fn reads(program: &Program) -> bool
+    ensures { (k : List Piece) → machine.records (view_program program.now) ++ k ≡ more result k }
+{
+    if !program.rules.is_empty() {
+        return true;
+    }
+    if !program.end.is_empty() {
+        return true;
+    }
+    false
+}
+
+/// The rules for records.
+fn read<W: World>(cx: &Context<'_>, run: &mut Run, world: &mut W) -> Result<(), Halt>
+    requires { Owns (W.open_numbers world.old) run.old.streams }
+    ensures { Does W.follows W.has_stopped W.stops W.open_numbers cx.now (λ g. Do (Enter Ruling)) (λ g. goes_on)
+        (run.old.store, run.old.streams) world.old result (run.new.store, run.new.streams) world.new }
+{
+    run.store.set_phase(Phase::Ruling);
+    if !reads(cx.program) {
+        return Ok(());
+    }
+    records(cx, run, world)
+}
+
+/// BEGIN and the rules for records.
+fn before_end<W: World>(cx: &Context<'_>, run: &mut Run, world: &mut W) -> Result<(), Halt>
+    requires { Owns (W.open_numbers world.old) run.old.streams }
+    ensures plays { (g : Given) → IsGiven cx.now g → (first : W)
+        → Reached W.follows W.has_stopped W.stops g first (Do (Enter Beginning) ∷ Do (Enter Ruling) ∷ Do (Enter Ending) ∷ []) (run.old.store, run.old.streams) world.old
+        → Goes_on W.follows W.has_stopped W.stops g first (λ u. Do (Enter Ending) ∷ []) result (run.new.store, run.new.streams) world.new }
+    ensures owns { Owns (W.open_numbers world.new) run.new.streams }
+{
+    begin(cx, run, world)?;
+    read(cx, run, world)
+}
+
+/// The actions of END.
+fn end_actions<W: World>(cx: &Context<'_>, run: &mut Run, world: &mut W) -> Result<(), Halt>
+    requires { Owns (W.open_numbers world.old) run.old.streams }
+    ensures plays { (g : Given) → IsGiven cx.now g → (first : W) → Reached W.follows W.has_stopped W.stops g first (Do (Enter Ending) ∷ []) (run.old.store, run.old.streams) world.old
+        → Goes_on W.follows W.has_stopped W.stops g first (λ u. Do Finish ∷ []) result (run.new.store, run.new.streams) world.new }
+    ensures owns { Owns (W.open_numbers world.new) run.new.streams }
+{
+    run.store.set_phase(Phase::Ending);
+    actions(cx, cx.program.end.as_slice(), run, world)?;
+    Ok(())
+}
+
+/// END.
+fn end<W: World>(cx: &Context<'_>, run: &mut Run, world: &mut W) -> End
+    requires { Owns (W.open_numbers world.old) run.old.streams }
+    ensures plays { (g : Given) → IsGiven cx.now g → (first : W) → Reached W.follows W.has_stopped W.stops g first (Do (Enter Ending) ∷ []) (run.old.store, run.old.streams) world.old
+        → Finished W.follows W.has_stopped W.stops g first result (run.new.store, run.new.streams) world.new }
+    ensures owns { Owns (W.open_numbers world.new) run.new.streams }
+{
+    match end_actions(cx, run, world) {
+        Ok(()) => done(&run.store),
+        Err(halt) => last(halt, &run.store),
+    }
+}
+
+/// What is left to be done after a halt: END, or nothing.
+fn after<W: World>(cx: &Context<'_>, halt: Halt, run: &mut Run, world: &mut W) -> End
+    requires { Owns (W.open_numbers world.old) run.old.streams }
+    ensures plays { (g : Given) → IsGiven cx.now g → (first : W) → Stopped W.follows W.has_stopped W.stops g first halt (run.old.store, run.old.streams) world.old
+        → Finished W.follows W.has_stopped W.stops g first result (run.new.store, run.new.streams) world.new }
+    ensures owns { Owns (W.open_numbers world.new) run.new.streams }
+{
+    if goes_to_end(halt, run.store.phase()) {
+        return end(cx, run, world);
+    }
+    last(halt, &run.store)
+}
+
+/// BEGIN, the rules for records, and END.
+pub fn play<W: World>(cx: &Context<'_>, run: &mut Run, world: &mut W) -> End
+    requires { Owns (W.open_numbers world.old) run.old.streams }
+    ensures plays { (g : Given) → IsGiven cx.now g → (first : W)
+        → Reached W.follows W.has_stopped W.stops g first (Do (Enter Beginning) ∷ Do (Enter Ruling) ∷ Do (Enter Ending) ∷ []) (run.old.store, run.old.streams) world.old
+        → Finished W.follows W.has_stopped W.stops g first result (run.new.store, run.new.streams) world.new }
+    ensures owns { Owns (W.open_numbers world.new) run.new.streams }
+{
+    match before_end(cx, run, world) {
+        Ok(()) => end(cx, run, world),
+        Err(halt) => after(cx, halt, run, world),
+    }
+}

@@ -1,0 +1,75 @@
+// The records of the main input, and the rules for each.
+ghost use Rattle.std.specs.Prelude.{◌≡◌, [], List, Err};
+ghost use Rattle.awk_asks.specs.Tasks.{Owns, goes_on};
+ghost use Rattle.awk_machine.specs.Pieces.{At, Records};
+ghost use Rattle.awk_actions.specs.Runs.{Does};
+ghost use Rattle.awk_records.specs.Inputs.{at_records};
+ghost use Rattle.awk_phases.specs.Rules as spec;
+ghost use Rattle.awk_phases.specs.Rules.{more};
+ghost use Rattle.awk_phases.specs.Runs.{DoesIn};
+
+use crate::rules::rules;
+use awk_actions::{Context, Run};
+use awk_asks::halt::Halt;
+use awk_calls::steps::step;
+use awk_records::main_input::next_record;
+use box_world::world::World;
+
+/// Reads the next record, and does the rules for it; answers whether there was one.
+fn meet<W: World>(cx: &Context<'_>, run: &mut Run, world: &mut W) -> Result<bool, Halt>
+    requires { Owns (W.open_numbers world.old) run.old.streams }
+    ensures { DoesIn W.follows W.has_stopped W.stops W.open_numbers cx.now (λ g. At Records []) (λ g. more) at_records
+        (run.old.store, run.old.streams) world.old result (run.new.store, run.new.streams) world.new }
+{
+    let is_there = next_record(cx.alloc, cx.host, &mut run.store, &mut run.streams, world)?;
+    if !is_there {
+        return Ok(false);
+    }
+    step(cx.host.bound(), &mut run.store)?;
+    rules(cx, run, world)?;
+    Ok(true)
+}
+
+/// Where a `next` comes back to the records, more may follow. Takes no memory.
+fn after(halt: Halt) -> Result<bool, Halt>
+    ensures { result ≡ spec.come_back (Err halt) }
+{
+    match halt {
+        Halt::Next => Ok(true),
+        _ => Err(halt),
+    }
+}
+
+/// `next` comes back to the records. Takes no memory.
+fn come_back(met: Result<bool, Halt>) -> Result<bool, Halt>
+    ensures { result ≡ spec.come_back met }
+{
+    match met {
+        Ok(more) => Ok(more),
+        Err(halt) => after(halt),
+    }
+}
+
+/// Reads the next record, and does the rules for it, to their end or to a `next`; answers whether more may follow.
+fn turn<W: World>(cx: &Context<'_>, run: &mut Run, world: &mut W) -> Result<bool, Halt>
+    requires { Owns (W.open_numbers world.old) run.old.streams }
+    ensures { Does W.follows W.has_stopped W.stops W.open_numbers cx.now (λ g. At Records []) (λ g. more)
+        (run.old.store, run.old.streams) world.old result (run.new.store, run.new.streams) world.new }
+{
+    come_back(meet(cx, run, world))
+}
+
+/// Reads the records of the main input, while there are any, and does the rules for each.
+pub fn records<W: World>(cx: &Context<'_>, run: &mut Run, world: &mut W) -> Result<(), Halt>
+    requires { Owns (W.open_numbers world.old) run.old.streams }
+    ensures { Does W.follows W.has_stopped W.stops W.open_numbers cx.now (λ g. At Records []) (λ g. goes_on)
+        (run.old.store, run.old.streams) world.old result (run.new.store, run.new.streams) world.new }
+{
+    for _record in 0..u64::MAX {
+        let goes_on = turn(cx, run, world)?;
+        if !goes_on {
+            return Ok(());
+        }
+    }
+    Err(Halt::Memory)
+}

@@ -1,0 +1,30 @@
+-- What a run is started with (POSIX.1-2017 XCU awk, "Options" and "Operands").
+use Rattle.std.specs.Prelude.{ℕ, ◌+◌, Bool, true, false, ◌&&◌, List, [], ◌∷◌, Option, Some, None, if◌then◌else◌}
+use Rattle.std.specs.Cmp.Lexicographic.{slice_cmp}
+use Rattle.std.specs.Ordering.{nat_cmp}
+use Rattle.std.specs.declared.cmp.Ordering.{Ordering}
+use Rattle.std.specs.declared.cmp.Ordering.TheVariants.{Less, Equal, Greater}
+use Rattle.awk_tokens.specs.Words.{is_name}
+
+-- the operand words, the names of the environment, the pairs of `-v`, and the text of `-F`
+pub record SetupParts : Type 0 where
+  pub operands : List (List ℕ)
+  pub names : List (List ℕ)
+  pub assigns : List (List ℕ × List ℕ)
+  pub separator : Option (List ℕ)
+
+-- the number of the first pair whose name is not spelled as one; they are numbered from n
+abbrev pub first_unspelled : ℕ → List (List ℕ × List ℕ) → Option ℕ
+first_unspelled n [] = None
+first_unspelled n (pair ∷ pairs) = if is_name pair.0 then first_unspelled (n + 1) pairs else Some n
+
+abbrev pub is_less : Ordering → Bool
+is_less Less = true
+is_less Equal = false
+is_less Greater = false
+
+-- each text stands before the next, byte by byte
+abbrev pub ascends : List (List ℕ) → Bool
+ascends [] = true
+ascends (x ∷ []) = true
+ascends (x ∷ y ∷ rest) = is_less (slice_cmp nat_cmp x y) && ascends (y ∷ rest)
