@@ -1,6 +1,6 @@
 # Completion of awkbox for bash.
 _awkbox() {
-    local word=${COMP_WORDS[COMP_CWORD]} before=${COMP_WORDS[COMP_CWORD-1]}
+    local word=${COMP_WORDS[COMP_CWORD]} before=${COMP_WORDS[COMP_CWORD-1]} options
     COMPREPLY=()
     case $before in
     --policy | --log | -f)
@@ -8,10 +8,25 @@ _awkbox() {
         mapfile -t COMPREPLY < <(compgen -f -- "$word")
         return
         ;;
+    --steps | -F | -v) return ;;
     esac
-    case $COMP_CWORD in
-    1) mapfile -t COMPREPLY < <(compgen -W 'run --help' -- "$word") ;;
-    *) mapfile -t COMPREPLY < <(compgen -W '--policy --log -f --help' -- "$word") ;;
+    if [ "$COMP_CWORD" -eq 1 ]; then
+        mapfile -t COMPREPLY < <(compgen -W 'run list check --help' -- "$word")
+        return
+    fi
+    case " ${COMP_WORDS[*]:2:COMP_CWORD-2} " in
+    *' -- '*) # OPERAND
+        compopt -o filenames 2>/dev/null
+        mapfile -t COMPREPLY < <(compgen -f -- "$word")
+        return
+        ;;
     esac
+    case ${COMP_WORDS[1]} in
+    run) options='--policy --log --steps -F -v -f --help --' ;;
+    list) options='-f --help' ;;
+    check) options='--policy -f --help' ;;
+    *) options= ;;
+    esac
+    mapfile -t COMPREPLY < <(compgen -W "$options" -- "$word")
 }
 complete -F _awkbox awkbox

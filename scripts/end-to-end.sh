@@ -42,10 +42,10 @@ awkbox() {
     status=$?
 }
 
-# run: runs the script file under the policy file
+# run WORD..: runs the script file under the policy file, with these words more
 run() {
     echo "from another run" >"$work/log"
-    awkbox run --policy "$work/policy.toml" --log "$work/log" -f "$work/script.awk"
+    awkbox run --policy "$work/policy.toml" --log "$work/log" -f "$work/script.awk" "$@"
 }
 
 # holds FILE TEXT: whether the file has just this text
@@ -395,6 +395,214 @@ run
 is 0 "hi$line" "awkbox: warning: started outside the policy's base \"/nowhere \\x22at all\\x22\"$line" ""
 verdict "a base that is no folder"
 
+# The words of run: variables, separator, steps and operands.
+
+no_rules
+script '{ print v, $2 }'
+echo 'x:y z' >"$work/input"
+run -v 'v=a\tb' -F : <"$work/input"
+is 0 "a	b y z$line" "" ""
+verdict "a variable and a separator"
+
+run -vv=1 -v v=2=3 -F: <"$work/input"
+is 0 "2=3 y z$line" "" ""
+verdict "values in one word with their options, and a variable that is set twice"
+
+run -F -v <<<"a-vb"
+is 0 " b$line" "" ""
+verdict "a separator that looks like an option"
+
+script 'function f() { } BEGIN { x[1] = 1 }'
+run -v y=1 -v x=1 -v f=1
+is 3 "" "awkbox: assignment 2 U3$line" ""
+verdict "a variable that is an array"
+
+for word in 1=2 x =x ''; do
+    awkbox run --policy none --log none -f none -v y=1 -v "$word"
+    : >"$work/log"
+    is 3 "" "awkbox: assignment 2 U1$line" ""
+    verdict "a variable without a name: '$word'"
+done
+
+script 'BEGIN { while (1) { n++; print n } }'
+run --steps 5
+is 4 "1${line}2$line" "awkbox: F11 step bound reached$line" ""
+verdict "a bound of steps"
+
+script 'BEGIN { }'
+for steps in 0 007 1000000000000; do
+    run --steps "$steps"
+    is 0 "" "" ""
+    verdict "a bound of $steps steps"
+done
+
+mkdir -p in
+printf '1\n2\n' >in/a
+printf '3' >in/b
+policy 'effect = "allow"
+kind = "read"
+match = "**"
+from = "given"' 'effect = "allow"
+kind = "assign"
+match = "v"'
+script '{ print FILENAME, FNR, NR, v, $0 } END { print NR }'
+run -- in/a v=x w=y in/b <"$work/input"
+is 0 "in/a 1 1  1${line}in/a 2 2  2${line}in/b 1 3 x 3${line}3$line" "" "0:0 assign none \"w\"$line"
+verdict "operands: files, a variable that is set and one that is denied"
+
+run -- - in/none <"$work/input"
+is 2 "- 1 1  x:y z${line}1$line" "awkbox: cannot open \"in/none\"$line" ""
+verdict "operands: the standard input and a file that is not there"
+
+run -- in/b $'\xff' -- -f
+is 2 "in/b 1 1  3${line}1$line" \
+    "awkbox: cannot open \"\\xff\"${line}awkbox: cannot open \"--\"${line}awkbox: cannot open \"-f\"$line" \
+    "0:0 read none \"\\xff\"$line"
+verdict "operands: one that is no text, and words that look like options"
+
+run <"$work/input"
+is 0 " 1 1  x:y z${line}1$line" "" ""
+verdict "no operand"
+
+script 'BEGIN { ARGV[2] = "in/b"; ARGC = 3 } { print FILENAME, $0 }'
+run -- in/a
+is 2 "in/a 1${line}in/a 2$line" "awkbox: cannot open \"in/b\"$line" "0:0 read none \"in/b\"$line"
+verdict "an operand that the script adds is not given"
+
+script '{ r = (getline l < "in/a"); print r; exit }'
+run -- in/a
+is 0 "-1$line" "" "1:8 read none \"in/a\"$line"
+verdict "an operand's file that the script opens is not given"
+
+# The environment.
+
+policy 'effect = "allow"
+kind = "env"
+match = "LANG"'
+script 'BEGIN { for (k in ENVIRON) print k, ENVIRON[k] }'
+env -i Z=1 LANG=C A= B $'\xff=x' "$program" run --policy "$work/policy.toml" --log "$work/log" \
+    -f "$work/script.awk" >"$work/output" 2>"$work/errors"
+status=$?
+is 0 "LANG C$line" "" "0:0 env none \"A\"${line}0:0 env none \"Z\"$line"
+verdict "the environment"
+
+script 'BEGIN { print "hi" }'
+run
+is 0 "hi$line" "" ""
+verdict "an environment that the script does not name"
+
+# Streams.
+
+policy 'effect = "allow"
+kind = "read"
+match = "in/**"' 'effect = "allow"
+kind = "write"
+match = "out/*"' 'effect = "allow"
+kind = "append"
+match = "out/*"' 'effect = "allow"
+kind = "run"
+match = "sort *"' 'effect = "allow"
+kind = "run"
+match = "echo *"'
+script 'BEGIN { while ((getline l < "in/a") > 0) n += l; print n; print (getline l < "in/none"), (getline l < "none") }'
+run
+is 0 "3${line}-1 -1$line" "" "1:91 read none \"none\"$line"
+verdict "a file that is read to its end"
+
+script 'BEGIN { "echo a b" | getline x; "echo c" | getline; print x, $0; print close("echo a b"), close("none") }'
+run
+is 0 "a b c${line}0 -1$line" "" ""
+verdict "commands that are read"
+
+printf 'b 1\na 2\nc 3\n' >in/c
+script '{ print $1 | "sort -r" } END { print "end" }'
+run -- in/c
+is 0 "end${line}c${line}b${line}a$line" "" ""
+verdict "a command that is written to"
+
+script 'BEGIN { print "a" > "out/a"; print "b" >> "out/a"; close("out/a"); print "c" >> "out/a"; print "d" > "out/b"; close("out/b"); getline x < "out/b"; print x }'
+cp in/b out/a
+run
+is 0 "$line" "" "1:127 read none \"out/b\"$line" && holds out/a "a${line}b${line}c$line" && holds out/b "d$line"
+verdict "files that are written, added to and closed"
+
+policy 'effect = "allow"
+kind = "run"
+match = "**"'
+script 'BEGIN { print system("exit 3"), system("kill -9 $$"); "exit 5" | getline; print close("exit 5") }'
+run
+is 0 "3 256${line}5$line" "" ""
+verdict "the statuses of commands"
+
+script 'BEGIN { exit 5 } END { print "end" }'
+run
+is 5 "end$line" "" ""
+verdict "the status of a script"
+
+# Listings and verdicts.
+
+# told STATUS OUTPUT ERRORS: whether the program ended with these
+told() {
+    [ "$status" -eq "$1" ] && holds "$work/output" "$2" && holds "$work/errors" "$3"
+}
+
+script '{ print $1 | "sort -r" }'
+awkbox list -f "$work/script.awk"
+told 0 "0:0 read *${line}0:0 assign *${line}1:12 run \"sort -r\"$line" ""
+verdict "a listing"
+
+printf 'BEGIN { print ENVIRON["x"] > "\303\251" ; "a" | getline x | getline; getline < ("-") }\n' \
+    >"$work/script.awk"
+awkbox list "-f$work/script.awk"
+told 0 "0:0 env *${line}1:28 write \"\\xc3\\xa9\"${line}1:43 run \"a\"${line}1:55 run *$line" ""
+verdict "a listing with a text that is quoted, and a chain"
+
+policy 'effect = "allow"
+kind = "run"
+match = "sort *"'
+check() { awkbox check --policy "$work/policy.toml" -f "$work/script.awk"; }
+script 'BEGIN { system("sort -r") }'
+check
+told 0 "clean$line" ""
+verdict "a script that is clean"
+
+script '{ system("id"); print > $1 }'
+check
+told 1 "refused${line}1:3 run \"id\"$line" ""
+verdict "a script that is refused"
+
+script 'BEGIN { f = "/x"; print "a" > f; print "b" | "sort -r" }'
+check
+told 1 "open${line}1:29 write *$line" ""
+verdict "a script that is open"
+
+script 'BEGIN { print ) }'
+check
+told 3 "" "awkbox: script 1:15 S4$line"
+verdict "a verdict on a script that is refused"
+awkbox list -f "$work/script.awk"
+told 3 "" "awkbox: script 1:15 S4$line"
+verdict "a listing of a script that is refused"
+
+printf 'version = 3\n' >"$work/policy.toml"
+check
+told 3 "" "awkbox: policy P2$line"
+verdict "a verdict by a policy that is refused"
+
+awkbox check --policy "$work/none" -f "$work/none.awk"
+told 3 "" "awkbox: cannot read \"$work/none\"$line"
+verdict "a verdict by a policy that is not there"
+awkbox list -f "$work/none.awk"
+told 3 "" "awkbox: cannot read \"$work/none.awk\"$line"
+verdict "a listing of a script that is not there"
+
+script 'BEGIN { system("id") }'
+"$program" list -f "$work/script.awk" >/dev/full 2>"$work/errors"
+status=$?
+: >"$work/output"
+told 0 "" ""
+verdict "a listing that cannot be written"
+
 # What commands give back, and a pipe that nobody reads.
 
 policy 'effect = "allow"
@@ -436,9 +644,11 @@ awkbox --help
 [ "$status" -eq 0 ] && grep -q '^Usage: awkbox <COMMAND>' "$work/output" && [ ! -s "$work/errors" ]
 verdict "the help"
 
-awkbox run --help
-[ "$status" -eq 0 ] && grep -q '^Usage: awkbox run ' "$work/output" && [ ! -s "$work/errors" ]
-verdict "the help of run"
+for command in run list check; do
+    awkbox "$command" --help
+    [ "$status" -eq 0 ] && grep -q "^Usage: awkbox $command " "$work/output" && [ ! -s "$work/errors" ]
+    verdict "the help of $command"
+done
 
 # flat FILE..: the files' words in one line, without marks of layout
 flat() {
@@ -448,24 +658,26 @@ flat() {
 {
     "$program" --help
     "$program" run --help
+    "$program" list --help
+    "$program" check --help
 } >"$work/helps"
 facts=0
 differing=
 while IFS=$'\t' read -r kind name value words; do
-    case $kind in command | option | status) ;; *) continue ;; esac
+    case $kind in command | option | operand | status | told) ;; *) continue ;; esac
     facts=$((facts + 1))
     flat "$work/helps" | grep -qF -- "$words" || differing="$differing help:$name"
     flat "$top/man/awkbox.1" | grep -qF -- "$name${value:+ $value} $words" ||
         [ "$name" = --help ] || differing="$differing manual:$name"
-    [ "$kind" = status ] && continue
+    case $kind in operand | status | told) continue ;; esac
     grep -qF -- "$name" "$top/completions/awkbox.bash" || differing="$differing bash:$name"
     grep -qF -- "$words" "$top/completions/_awkbox" || differing="$differing zsh:$name"
 done <"$top/docs/options.txt"
-options() { grep -oE -- '(^|[ ,])--?[a-z]+' | tr -d ' ,' | sort -u; }
+options() { grep -oE -- '(^|[ ,])--?[a-zA-Z]+' | tr -d ' ,' | sort -u; }
 said=$(options <"$work/helps" | grep -vx -e '-h')
 known=$(cut -f 2 <"$top/docs/options.txt" | grep '^-' | sort -u)
 echo "differing:$differing; said:" $said "; known:" $known >"$work/output"
-[ "$facts" -ge 8 ] && [ -z "$differing" ] && [ "$said" = "$known" ]
+[ "$facts" -ge 18 ] && [ -z "$differing" ] && [ "$said" = "$known" ]
 verdict "the words of the help, the manual page and the completions are those of docs/options.txt"
 
 for page in awkbox.1 awkbox-policy.5; do
@@ -542,6 +754,9 @@ completed() {
         echo "${COMPREPLY[@]}"' - "$top/completions/awkbox.bash" "$@" 2>&1
 }
 [ "$(completed awkbox r)" = run ] && [ "$(completed awkbox run --p)" = --policy ] &&
+    [ "$(completed awkbox check --)" = "--policy --help" ] &&
+    [ "$(completed awkbox list -f a -)" = "-f --help" ] &&
+    [ "$(completed awkbox run -f a -- "$work/kept.t")" = "$work/kept.toml" ] &&
     [ "$(completed awkbox run --policy "$work/kept.t")" = "$work/kept.toml" ]
 verdict "the completions for bash"
 if command -v zsh >/dev/null; then
@@ -555,6 +770,15 @@ cp "$work/script.awk" "$base/-a.awk"
 awkbox run -f -a.awk "--log=$work/log" --policy "$work/policy.toml"
 is 0 "hi$line" "" ""
 verdict "words in another order, a value behind =, and one that begins with -"
+
+cp "$work/script.awk" "$base/=x"
+cp "$work/script.awk" "$base/--"
+for words in '-f=x' '-f =x' '-f--' '-f --' '-f-a.awk'; do
+    # shellcheck disable=SC2086
+    awkbox run --policy "$work/policy.toml" --log "$work/log" $words
+    is 0 "hi$line" "" ""
+    verdict "a file by the words $words"
+done
 
 # fault NAME WORD..: the words are at fault
 fault() {
@@ -571,6 +795,13 @@ fault "an unknown option" run --policy p --log l -f f --more
 fault "an option twice" run --policy p --log l -f f -f g
 fault "a word too many" run --policy p --log l -f f g
 fault "a word that is not UTF-8" run --policy p --log l -f $'\xff'
+fault "a separator twice" run --policy p --log l -F a -F b -f f
+for steps in +5 -1 1e3 1000000000001 99999999999999999999 ''; do
+    fault "a bound of '$steps' steps" run --policy p --log l --steps "$steps" -f f
+done
+fault "an operand of list" list -f f -- a
+fault "an operand of check" check --policy p -f f -- a
+fault "a policy of list" list --policy p -f f
 
 echo "$passed passed, $failed failed"
 [ "$failed" -eq 0 ]

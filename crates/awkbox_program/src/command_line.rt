@@ -1,89 +1,211 @@
-// The words that the program is started with.
+// What the words ask for.
 use clap::error::ErrorKind;
 use clap::{Arg, ArgAction, ArgMatches, Command, Error};
 use std::alloc::{AllocError, Global};
 
-/// What `awkbox run` is asked for: the names of three files.
+/// What `awkbox run` is asked for, operands aside. Policy, log and script are names of files.
 #[derive(Debug, Drop)]
 pub struct Run<'a> {
-    /// The policy.
     pub policy: &'a str,
-    /// Where the denials are told.
     pub log: &'a str,
-    /// The awk script.
     pub script: &'a str,
+    /// How many steps the run may take.
+    pub steps: u64,
+    /// The text that FS is set to.
+    pub separator: Option<&'a str>,
+    /// The words of `-v`.
+    pub assigns: Vec<&'a str>,
+}
+
+/// What the program is asked for. Policy and script are names of files.
+#[derive(Debug, Drop)]
+pub enum Asked<'a> {
+    Run(Run<'a>),
+    List { script: &'a str },
+    Check { policy: &'a str, script: &'a str },
 }
 
 /// The name that users know the program by, whatever the file is called that runs.
-const NAME: &str = "awkbox";
+pub const NAME: &str = "awkbox";
 
-// The words of the options and of the statuses stand in docs/options.txt too, for the manual page and
-// the completions; scripts/end-to-end.sh compares them.
-const STATUSES: &str = "\
+/// The most steps that a run may take.
+const MOST_STEPS: u64 = 1_000_000_000_000;
+
+// The words of the commands, options and statuses stand in docs/options.txt too, for the manual page
+// and the completions; scripts/end-to-end.sh compares them.
+const RUN_STATUSES: &str = "\
 Exit status:
   The script's own, where it came to its end; else
   2  A fault ended the run, or the log could not be written
   3  Nothing was run: the policy, the script or the command line was refused, or a file could not be read or made
   4  The step bound ended the run";
 
-// An option that has to be there, and whose value may begin with `-`.
-fn file_option<'a>(alloc: Global, id: &'a str, help: &'a str) -> Arg<'a> {
+const TOLD_STATUSES: &str = "\
+Exit status:
+  0  The sites are listed, or a check found the script clean
+  1  A check found the script refused or open
+  2  There was no memory for the answer
+  3  The policy, the script or the command line was refused, or a file could not be read";
+
+// An option that has a value, which may begin with `-`.
+fn option<'a>(alloc: Global, id: &'a str, value: &'a str, help: &'a str) -> Arg<'a> {
     Arg::new(alloc, id)
-        .required(true)
         .action(ArgAction::Set)
         .allow_hyphen_values(true)
-        .value_name("FILE")
+        .value_name(value)
         .help(help)
 }
 
+fn policy<'a>(alloc: Global) -> Arg<'a> {
+    let help = "The policy that decides what the script may do";
+    option(alloc, "policy", "FILE", help)
+        .long("policy")
+        .required(true)
+}
+
+fn log<'a>(alloc: Global) -> Arg<'a> {
+    let help = "Where each denial is told; made or emptied, and then added to at its end";
+    option(alloc, "log", "FILE", help)
+        .long("log")
+        .required(true)
+}
+
+fn script<'a>(alloc: Global) -> Arg<'a> {
+    option(alloc, "script", "FILE", "The awk script")
+        .short('f')
+        .required(true)
+}
+
+fn steps<'a>(alloc: Global) -> Arg<'a> {
+    let help = "How many steps the run may take, up to 1000000000000";
+    option(alloc, "steps", "N", help)
+        .long("steps")
+        .default_value("10000000")
+}
+
+fn separator<'a>(alloc: Global) -> Arg<'a> {
+    let help = "The text that FS is set to before BEGIN";
+    option(alloc, "separator", "FS", help).short('F')
+}
+
+fn assigns<'a>(alloc: Global) -> Arg<'a> {
+    let help = "A variable that is set before BEGIN; may be given more than once";
+    option(alloc, "assigns", "NAME=TEXT", help)
+        .short('v')
+        .action(ArgAction::Append)
+}
+
+// What stands behind `--`; the words there are taken off before the others are read.
+fn operands<'a>(alloc: Global) -> Arg<'a> {
+    Arg::new(alloc, "operands")
+        .last(true)
+        .num_args(0..)
+        .value_name("OPERAND")
+        .help("A file that is read, - for the standard input, or NAME=TEXT")
+}
+
 fn run_command<'a>(alloc: Global) -> Result<Command<'a>, AllocError> {
-    let policy = file_option(
-        alloc,
-        "policy",
-        "The policy that decides what the script may do",
-    );
-    let log = file_option(
-        alloc,
-        "log",
-        "Where each denial is told; made or emptied, and then added to at its end",
-    );
-    let script = file_option(alloc, "script", "The awk script");
     Command::new(alloc, "run")
         .about("Runs an awk script under a policy")
-        .after_help(STATUSES)
-        .arg(policy.long("policy"))?
-        .arg(log.long("log"))?
-        .arg(script.short('f'))
+        .after_help(RUN_STATUSES)
+        .arg(policy(alloc))?
+        .arg(log(alloc))?
+        .arg(steps(alloc))?
+        .arg(separator(alloc))?
+        .arg(assigns(alloc))?
+        .arg(script(alloc))?
+        .arg(operands(alloc))
+}
+
+fn list_command<'a>(alloc: Global) -> Result<Command<'a>, AllocError> {
+    Command::new(alloc, "list")
+        .about("Lists where a run of a script may ask for a file, a command or the environment")
+        .after_help(TOLD_STATUSES)
+        .arg(script(alloc))
+}
+
+fn check_command<'a>(alloc: Global) -> Result<Command<'a>, AllocError> {
+    Command::new(alloc, "check")
+        .about("Tells before any run whether a policy denies what a script may ask for")
+        .after_help(TOLD_STATUSES)
+        .arg(policy(alloc))?
+        .arg(script(alloc))
 }
 
 fn command<'a>(alloc: Global) -> Result<Command<'a>, AllocError> {
     Command::new(alloc, NAME)
         .bin_name(NAME)?
-        .after_help(STATUSES)
         .about("Runs awk scripts in a sandbox, under a written policy")
         .subcommand_required(true)
-        .subcommand(run_command(alloc)?)
+        .subcommand(run_command(alloc)?)?
+        .subcommand(list_command(alloc)?)?
+        .subcommand(check_command(alloc)?)
 }
 
-fn run_of<'a>(matches: &ArgMatches<'a>) -> Option<Run<'a>> {
-    let (_, matches) = matches.subcommand()?;
-    Some(Run {
-        policy: matches.get_str("policy")?,
-        log: matches.get_str("log")?,
-        script: matches.get_str("script")?,
+// Digits alone, where `parse` would take a sign too.
+fn steps_of(text: &str) -> Option<u64> {
+    if !text.as_bytes().iter().all(|b| b.is_ascii_digit()) {
+        return None;
+    }
+    match text.parse::<u64>() {
+        Ok(steps) if steps <= MOST_STEPS => Some(steps),
+        _ => None,
+    }
+}
+
+// The words of `-v`, in order.
+fn assigns_of<'a>(alloc: Global, matches: &ArgMatches<'a>) -> Result<Vec<&'a str>, AllocError> {
+    match matches.get_strs("assigns") {
+        Some(words) => Vec::from_slice(alloc, words),
+        None => Ok(Vec::new(alloc)),
+    }
+}
+
+// The value of an option that is required, or has a default.
+fn value_of<'a>(alloc: Global, matches: &ArgMatches<'a>, id: &str) -> Result<&'a str, Error> {
+    match matches.get_str(id) {
+        Some(value) => Ok(value),
+        None => Err(fault(alloc, "a word is missing")),
+    }
+}
+
+fn run_of<'a>(alloc: Global, matches: &ArgMatches<'a>) -> Result<Run<'a>, Error> {
+    let Some(steps) = steps_of(value_of(alloc, matches, "steps")?) else {
+        let text = "the value of --steps is not a whole number from 0 to 1000000000000";
+        return Err(fault(alloc, text));
+    };
+    Ok(Run {
+        policy: value_of(alloc, matches, "policy")?,
+        log: value_of(alloc, matches, "log")?,
+        script: value_of(alloc, matches, "script")?,
+        steps,
+        separator: matches.get_str("separator"),
+        assigns: assigns_of(alloc, matches)?,
     })
 }
 
-/// Reads the words, of which the first is the program's own name.
+fn asked_of<'a>(alloc: Global, matches: &ArgMatches<'a>) -> Result<Asked<'a>, Error> {
+    let Some((name, matches)) = matches.subcommand() else {
+        return Err(fault(alloc, "a command is missing"));
+    };
+    if name == "run" {
+        return Ok(Asked::Run(run_of(alloc, matches)?));
+    }
+    let script = value_of(alloc, matches, "script")?;
+    if name == "list" {
+        return Ok(Asked::List { script });
+    }
+    let policy = value_of(alloc, matches, "policy")?;
+    Ok(Asked::Check { policy, script })
+}
+
+/// Reads the words before `--`, of which the first is the program's own name.
 ///
 /// The error is `clap`'s, with the text for the user: of a fault, of the help that was asked for, or
 /// of memory that was refused.
-pub fn read<'a>(alloc: Global, words: &'a [String]) -> Result<Run<'a>, Error> {
+pub fn read<'a>(alloc: Global, words: &'a [String]) -> Result<Asked<'a>, Error> {
     let matches = command(alloc)?.try_get_matches_from(words)?;
-    match run_of(&matches) {
-        Some(run) => Ok(run),
-        None => Err(fault(alloc, "a word is missing")),
-    }
+    asked_of(alloc, &matches)
 }
 
 /// A fault that is no one word's, with the usage.

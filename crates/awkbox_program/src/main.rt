@@ -1,10 +1,14 @@
-// The program awkbox: it runs an awk script in a sandbox, under a written policy.
+// The program awkbox: it runs an awk script in a sandbox, under a written policy, and tells before a run what
+// the script may ask for.
 #![tactic(auto)]
 
 mod command_line;
 mod files;
+mod process;
 mod program;
+mod setup;
 mod standard;
+mod words;
 
 use std::process::ExitCode;
 

@@ -1,18 +1,13 @@
 // The program from its words to its exit status.
-ghost use Rattle.awkbox.specs.SetupParts.{IsPlain};
-
-use crate::command_line::Run;
+use crate::command_line::{Asked, Run};
 use crate::files::{Identity, Source, make_log, read, runs_in};
+use crate::setup::setup_of;
 use crate::standard::hold_closed;
-use crate::{command_line, standard};
-use awkbox::{Ending, Message, OsWorld, Setup, Warning, drive, policy_of};
-use std::alloc::{AllocError, Global};
-use std::env;
+use crate::words::Words;
+use crate::{command_line, standard, words};
+use awkbox::{Ending, Message, Octets, OsWorld, Setup, Warning, drive, policy_of};
+use awkbox_listing::{Answer, Refusal, check, list};
 use std::fs::File;
-use std::io::ErrorKind;
-
-/// How many steps a run may take.
-const STEPS: u64 = 10_000_000;
 
 /// The exit status where the words are at fault.
 const WORDS_REFUSED: u8 = 3;
@@ -25,22 +20,24 @@ pub fn run(rt: &HostRuntime) -> u8 {
         let message = Message::cannot_read(rt.alloc(), standard::NOTHING);
         return say(rt, &Ending::Said(message));
     };
-    match words(rt) {
-        Ok(words) => match command_line::read(rt.alloc(), words.as_slice()) {
-            Ok(run) => say(rt, &run_files(rt, &run)),
-            Err(error) => say_words(rt, &error),
-        },
+    match words::read(rt) {
+        Ok(words) => follow(rt, words),
         Err(error) => say_words(rt, &error),
     }
 }
 
-// The words of the command line. They are text: one that is not UTF-8 is at fault.
-fn words(rt: &HostRuntime) -> Result<Vec<String>, clap::Error> {
-    match env::args(rt) {
-        Ok(words) => Ok(words.collect(rt.alloc())?),
-        Err(error) if error.kind() == ErrorKind::OutOfMemory => Err(clap::Error::from(AllocError)),
-        Err(_) => Err(command_line::fault(rt.alloc(), "a word is not UTF-8")),
-    }
+fn follow(rt: &HostRuntime, words: Words) -> u8 {
+    let Words { options, operands } = words;
+    let ending = match command_line::read(rt.alloc(), options.as_slice()) {
+        Ok(Asked::Run(run)) => run_files(rt, &run, operands),
+        Ok(_) if !operands.is_empty() => {
+            return say_words(rt, &command_line::fault(rt.alloc(), "a word too many"));
+        }
+        Ok(Asked::List { script }) => list_file(rt, script),
+        Ok(Asked::Check { policy, script }) => check_files(rt, policy, script),
+        Err(error) => return say_words(rt, &error),
+    };
+    say(rt, &ending.unwrap_or_else(Ending::Said))
 }
 
 fn say_words(rt: &HostRuntime, error: &clap::Error) -> u8 {
@@ -58,27 +55,19 @@ fn say(rt: &HostRuntime, ending: &Ending) -> u8 {
     ending.status()
 }
 
-fn run_files(rt: &HostRuntime, run: &Run<'_>) -> Ending {
-    match run_script(rt, run) {
-        Ok(ending) => ending,
-        Err(message) => Ending::Said(message),
-    }
-}
-
-fn run_script(rt: &HostRuntime, run: &Run<'_>) -> Result<Ending, Message> {
+fn run_files(rt: &HostRuntime, run: &Run<'_>, operands: Vec<Octets>) -> Result<Ending, Message> {
+    let setup = setup_of(rt, run, operands)?;
     let policy = read_source(rt, run.policy)?;
     let script = read_source(rt, run.script)?;
     let log = make_log_of(rt, run.log, &[policy.identity, script.identity])?;
-    warn(rt, policy.bytes.as_slice(), script.bytes.as_slice())?;
+    warn(rt, policy.bytes.as_slice(), script.bytes.as_slice(), &setup)?;
     let world = OsWorld::new(rt.clone()?);
-    let alloc = rt.alloc();
-    let setup = no_setup(alloc);
     let driven = drive(
-        alloc,
+        rt.alloc(),
         policy.bytes.as_slice(),
         script.bytes.as_slice(),
         &setup,
-        STEPS,
+        run.steps,
         world,
         log,
     );
@@ -88,8 +77,8 @@ fn run_script(rt: &HostRuntime, run: &Run<'_>) -> Result<Ending, Message> {
 // Tells where the names that rules allow are not those that the run will open: the policy judges a
 // relative name under its base, and the system opens it under the folder that the program runs in.
 // Nothing is told where there will be no run.
-fn warn(rt: &HostRuntime, policy: &[u8], script: &[u8]) -> Result<(), Message> {
-    let Ok(policy) = policy_of(rt.alloc(), policy, script) else {
+fn warn(rt: &HostRuntime, policy: &[u8], script: &[u8], setup: &Setup) -> Result<(), Message> {
+    let Ok(policy) = policy_of(rt.alloc(), policy, script, setup) else {
         return Ok(());
     };
     let Ok(base) = std::str::from_utf8(policy.base()) else {
@@ -102,12 +91,33 @@ fn warn(rt: &HostRuntime, policy: &[u8], script: &[u8]) -> Result<(), Message> {
     Ok(())
 }
 
-// No operand, no name of the environment, no assignment and no separator.
-fn no_setup(alloc: Global) -> Setup
-    ensures { IsPlain result }
-{
-    let (operands, names, assigns) = (Vec::new(alloc), Vec::new(alloc), Vec::new(alloc));
-    Setup::read(operands, names, assigns, None).unwrap()
+fn list_file(rt: &HostRuntime, script: &str) -> Result<Ending, Message> {
+    let script = read_source(rt, script)?;
+    told(rt, list(rt.alloc(), script.bytes.as_slice()))
+}
+
+fn check_files(rt: &HostRuntime, policy: &str, script: &str) -> Result<Ending, Message> {
+    let policy = read_source(rt, policy)?;
+    let script = read_source(rt, script)?;
+    let answer = check(
+        rt.alloc(),
+        policy.bytes.as_slice(),
+        script.bytes.as_slice(),
+    );
+    told(rt, answer)
+}
+
+// Prints a listing or a verdict. That it cannot be written is passed over.
+fn told(rt: &HostRuntime, answer: Result<Answer, Refusal>) -> Result<Ending, Message> {
+    match answer {
+        Ok(answer) => {
+            let _ = rt.stdout().write_all(answer.lines.as_slice());
+            Ok(Ending::Quiet(answer.status))
+        }
+        Err(Refusal::Policy(error)) => Err(Message::Policy(error)),
+        Err(Refusal::Script(error)) => Err(Message::Script(error)),
+        Err(Refusal::Memory) => Err(Message::OutOfMemory),
+    }
 }
 
 fn read_source(rt: &HostRuntime, name: &str) -> Result<Source, Message> {

@@ -1,0 +1,47 @@
+// What a run is started with.
+use crate::command_line::Run;
+use crate::process::names;
+use awkbox::{Memory, Message, Octets, Setup};
+use std::alloc::{AllocError, Global};
+
+fn octets(alloc: Global, text: &str) -> Result<Octets, Memory> {
+    Ok(Octets::new(Vec::from_slice(alloc, text.as_bytes())?))
+}
+
+// The name, up to the first `=`, and the text of a word of `-v`. One without `=` has no name, and is
+// refused for that.
+fn pair_of(alloc: Global, word: &str) -> Result<(Octets, Octets), Memory> {
+    let (name, text) = word.split_once('=').unwrap_or(("", word));
+    Ok((octets(alloc, name)?, octets(alloc, text)?))
+}
+
+// Fewer than 2^32 words, of which no more have room in memory.
+fn pairs_of(alloc: Global, words: &[&str]) -> Result<Vec<(Octets, Octets)>, Memory> {
+    if words.len() > u32::MAX as usize {
+        return Err(AllocError);
+    }
+    let mut pairs = Vec::new(alloc);
+    for word in words {
+        pairs.push(pair_of(alloc, word)?)?;
+    }
+    Ok(pairs)
+}
+
+fn separator_of(alloc: Global, run: &Run<'_>) -> Result<Option<Octets>, Memory> {
+    match run.separator {
+        Some(text) => Ok(Some(octets(alloc, text)?)),
+        None => Ok(None),
+    }
+}
+
+/// The setup of a run with these operands, or the message that refuses a word of `-v`.
+pub fn setup_of(rt: &HostRuntime, run: &Run<'_>, operands: Vec<Octets>) -> Result<Setup, Message> {
+    let alloc = rt.alloc();
+    let assigns = pairs_of(alloc, run.assigns.as_slice())?;
+    let separator = separator_of(alloc, run)?;
+    match Setup::read(operands, names(rt)?, assigns, separator) {
+        Ok(setup) => Ok(setup),
+        // the names ascend, so it is a pair that is refused
+        Err(error) => Err(Message::Unspelled(error.pair)),
+    }
+}
