@@ -1,5 +1,4 @@
 // The program from its words to its exit status.
-
 use crate::command_line::Run;
 use crate::files::{Identity, Source, make_log, read, runs_in};
 use crate::standard::hold_closed;

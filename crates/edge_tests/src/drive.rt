@@ -1,5 +1,4 @@
 // Runs whose log fails, and a setup with pairs. All other runs stand in the tables of `rows`.
-
 use awkbox::{
     Fault, LogEnd, Memory, MemoryWorld, Octets, Outcome, Place, Refusal, Report, Setup, drive,
 };

@@ -1,5 +1,4 @@
 // Whole runs: a script under a policy, over the world in memory.
-
 use crate::args::{number, text, word};
 use crate::problem::Problem;
 use crate::row::{Arg, Row};
