@@ -596,6 +596,17 @@ awkbox list -f "$work/none.awk"
 told 3 "" "awkbox: cannot read \"$work/none.awk\"$line"
 verdict "a listing of a script that is not there"
 
+for example in hi/hi report-host/report teaching-server/exercise log-pipeline/step; do
+    folder=$examples/${example%/*}
+    awkbox list -f "$examples/$example.awk"
+    [ "$status" -eq 0 ] && cmp -s "$work/output" "$folder/listing.txt" && holds "$work/errors" ""
+    verdict "the listing of the example $example"
+    awkbox check --policy "$folder/policy.toml" -f "$examples/$example.awk"
+    [ "$status" -eq "$([ "$example" = hi/hi ]; echo $?)" ] &&
+        cmp -s "$work/output" "$folder/verdict.txt" && holds "$work/errors" ""
+    verdict "what the policy says of the example $example"
+done
+
 script 'BEGIN { system("id") }'
 "$program" list -f "$work/script.awk" >/dev/full 2>"$work/errors"
 status=$?
