@@ -480,7 +480,7 @@ policy 'effect = "allow"
 kind = "env"
 match = "LANG"'
 script 'BEGIN { for (k in ENVIRON) print k, ENVIRON[k] }'
-env -i Z=1 LANG=C A= B $'\xff=x' "$program" run --policy "$work/policy.toml" --log "$work/log" \
+env -i Z=1 LANG=C A= $'\xff=x' "$program" run --policy "$work/policy.toml" --log "$work/log" \
     -f "$work/script.awk" >"$work/output" 2>"$work/errors"
 status=$?
 is 0 "LANG C$line" "" "0:0 env none \"A\"${line}0:0 env none \"Z\"$line"

@@ -99,11 +99,7 @@ fn list_file(rt: &HostRuntime, script: &str) -> Result<Ending, Message> {
 fn check_files(rt: &HostRuntime, policy: &str, script: &str) -> Result<Ending, Message> {
     let policy = read_source(rt, policy)?;
     let script = read_source(rt, script)?;
-    let answer = check(
-        rt.alloc(),
-        policy.bytes.as_slice(),
-        script.bytes.as_slice(),
-    );
+    let answer = check(rt.alloc(), policy.bytes.as_slice(), script.bytes.as_slice());
     told(rt, answer)
 }
 

@@ -2,7 +2,7 @@
 use crate::command_line::Run;
 use crate::process::names;
 use awkbox::{Memory, Message, Octets, Setup};
-use std::alloc::{AllocError, Global};
+use std::alloc::Global;
 
 fn octets(alloc: Global, text: &str) -> Result<Octets, Memory> {
     Ok(Octets::new(Vec::from_slice(alloc, text.as_bytes())?))
@@ -15,11 +15,7 @@ fn pair_of(alloc: Global, word: &str) -> Result<(Octets, Octets), Memory> {
     Ok((octets(alloc, name)?, octets(alloc, text)?))
 }
 
-// Fewer than 2^32 words, of which no more have room in memory.
 fn pairs_of(alloc: Global, words: &[&str]) -> Result<Vec<(Octets, Octets)>, Memory> {
-    if words.len() > u32::MAX as usize {
-        return Err(AllocError);
-    }
     let mut pairs = Vec::new(alloc);
     for word in words {
         pairs.push(pair_of(alloc, word)?)?;
@@ -39,6 +35,10 @@ pub fn setup_of(rt: &HostRuntime, run: &Run<'_>, operands: Vec<Octets>) -> Resul
     let alloc = rt.alloc();
     let assigns = pairs_of(alloc, run.assigns.as_slice())?;
     let separator = separator_of(alloc, run)?;
+    // no memory holds so many words
+    if assigns.len() > u32::MAX as usize {
+        return Err(Message::OutOfMemory);
+    }
     match Setup::read(operands, names(rt)?, assigns, separator) {
         Ok(setup) => Ok(setup),
         // the names ascend, so it is a pair that is refused
