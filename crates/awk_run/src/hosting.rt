@@ -13,7 +13,7 @@ use awk_records::{Host, Use};
 use awk_setup::Setup;
 use awk_text::Memory;
 use awk_text::octets::Octets;
-use std::alloc::Global;
+use std::alloc::{AllocError, Global};
 
 /// Adds the words that the run was started with.
 fn add_words(alloc: Global, host: &mut Host, words: &[Octets]) -> Result<(), Memory>
@@ -45,7 +45,7 @@ fn add_variables(alloc: Global, host: &mut Host, script: &Script) -> Result<(), 
     let variables = script.program().variables.as_slice();
     for i in 0..variables.len() {
         let Ok(slot) = u32::try_from(i) else {
-            return Err(Memory);
+            return Err(AllocError);
         };
         let name = &variables[i].text;
         let what = use_of(script, slot, name.bytes());
