@@ -28,7 +28,7 @@ use Rattle.awk_records.proofs.Hosting.{given_added, use_added}
 use Rattle.awk_setup.specs.SetupParts.{SetupParts}
 use Rattle.awk_run.specs.Givens.{given_of}
 use Rattle.awk_run.specs.Hosting.{host_of, nothing_told, with_functions, with_variables, with_words}
-use Rattle.awk_run.proofs.Naming.{Has, All_forced, array_is_variable, function_is_defined, functions_are_forced, functions_named}
+use Rattle.awk_run.proofs.Naming.{Has, AllForced, array_is_variable, function_is_defined, functions_are_forced, functions_named}
 
 -- ---- words
 
@@ -87,7 +87,7 @@ module _ (free : Text → Bool) (names : List Text) where
 
   last_length : (pre : List Text) (x : Text) → length (pre ++ x ∷ []) ≡ length pre + 1
   last_length [] x = refl
-  last_length (y ∷ pre) x = ap suc (last_length pre x)
+  last_length (y ∷ pre) x = omega (arith, last_length pre x)
 
   variable_right : (x : Text) (n : ℕ) → get_or names n [] ≡ x → IsRight x (if free x then Variable n else Barred)
   variable_right x n at = by (free x) refl
@@ -103,11 +103,11 @@ module _ (free : Text → Bool) (names : List Text) where
       variables_right (pre ++ x ∷ []) xs (n + 1) (with_name x (if free x then Variable n else Barred) h) (e ∙ sym (append_assoc pre (x ∷ []) xs)) (ap (λ m. m + 1) at ∙ sym (last_length pre x))
       (right_added x (if free x then Variable n else Barred) h (variable_right x n here) all)
 
-  abbrev All_barred : List Text → Type 0
-  All_barred [] = Unit {0}
-  All_barred (x ∷ xs) = (free x ≡ false) × All_barred xs
+  abbrev AllBarred : List Text → Type 0
+  AllBarred [] = Unit {0}
+  AllBarred (x ∷ xs) = (free x ≡ false) × AllBarred xs
 
-  functions_right : (xs : List Text) (h : Hosted) → All_barred xs → Right h → Right (with_functions xs h)
+  functions_right : (xs : List Text) (h : Hosted) → AllBarred xs → Right h → Right (with_functions xs h)
   functions_right [] h barred all = all
   functions_right (x ∷ xs) h barred all = functions_right xs (with_name x Barred h) barred.1 (right_added x Barred h barred.0 all)
 
@@ -132,11 +132,12 @@ variables_keep free n (x ∷ xs) h y known = variables_keep free (n + 1) xs (wit
 
 variables_known : (free : Text → Bool) (n : ℕ) (xs : List Text) (h : Hosted) (y : Text) → Has y xs → Knows y (with_variables free n xs h)
 variables_known free n [] h y has = absurd (true≢false (sym has))
-variables_known free n (x ∷ xs) h y has = by (bytes_eq y x) refl has
+variables_known free n (x ∷ xs) h y has = by (bytes_eq y x) refl has (variables_known free (n + 1) xs (with_name x (if free x then Variable n else Barred) h) y)
   where
-    by : (b : Bool) → bytes_eq y x ≡ b → (b || list_any (bytes_eq y) xs) ≡ true → Knows y (with_variables free (n + 1) xs (with_name x (if free x then Variable n else Barred) h))
-    by true e f = variables_keep free (n + 1) xs (with_name x (if free x then Variable n else Barred) h) y (knows_so x y (if free x then Variable n else Barred) h true e refl)
-    by false e f = variables_known free (n + 1) xs (with_name x (if free x then Variable n else Barred) h) y f
+    by : (b : Bool) → bytes_eq y x ≡ b → (b || list_any (bytes_eq y) xs) ≡ true → (Has y xs → Knows y (with_variables free (n + 1) xs (with_name x (if free x then Variable n else Barred) h)))
+        → Knows y (with_variables free (n + 1) xs (with_name x (if free x then Variable n else Barred) h))
+    by true e f rest = variables_keep free (n + 1) xs (with_name x (if free x then Variable n else Barred) h) y (knows_so x y (if free x then Variable n else Barred) h true e refl)
+    by false e f rest = rest f
 
 functions_keep : (xs : List Text) (h : Hosted) (y : Text) → Knows y h → Knows y (with_functions xs h)
 functions_keep [] h y known = known
@@ -144,11 +145,11 @@ functions_keep (x ∷ xs) h y known = functions_keep xs (with_name x Barred h) y
 
 functions_known : (xs : List Text) (h : Hosted) (y : Text) → Has y xs → Knows y (with_functions xs h)
 functions_known [] h y has = absurd (true≢false (sym has))
-functions_known (x ∷ xs) h y has = by (bytes_eq y x) refl has
+functions_known (x ∷ xs) h y has = by (bytes_eq y x) refl has (functions_known xs (with_name x Barred h) y)
   where
-    by : (b : Bool) → bytes_eq y x ≡ b → (b || list_any (bytes_eq y) xs) ≡ true → Knows y (with_functions xs (with_name x Barred h))
-    by true e f = functions_keep xs (with_name x Barred h) y (knows_so x y Barred h true e refl)
-    by false e f = functions_known xs (with_name x Barred h) y f
+    by : (b : Bool) → bytes_eq y x ≡ b → (b || list_any (bytes_eq y) xs) ≡ true → (Has y xs → Knows y (with_functions xs (with_name x Barred h))) → Knows y (with_functions xs (with_name x Barred h))
+    by true e f rest = functions_keep xs (with_name x Barred h) y (knows_so x y Barred h true e refl)
+    by false e f rest = rest f
 
 -- ---- a host that knows all arrays and functions of a script, and is right, may set what a host may assign to
 
@@ -212,7 +213,7 @@ viewed_names : (t : Names) (fs : List Function) → map (λ f. f.name) (map (vie
 viewed_names t [] = refl
 viewed_names t (f ∷ fs) = ap (λ ys. f.name ∷ ys) (viewed_names t fs)
 
-barred_all : (parts : List Part) (c : Kinds) → AreKinds parts c → (names xs : List Text) → All_forced parts xs → All_barred (can_assign c) names xs
+barred_all : (parts : List Part) (c : Kinds) → AreKinds parts c → (names xs : List Text) → AllForced parts xs → AllBarred (can_assign c) names xs
 barred_all parts c kinds names [] forced = tt
 barred_all parts c kinds names (x ∷ xs) (one, rest) = (by (can_assign c x) refl, barred_all parts c kinds names xs rest)
   where
@@ -253,8 +254,8 @@ host_is s setup steps (tokens, items, read, of) =
     let all : List Part = map part items in
     let names_are : names_of s.program ≡ variables all = ap (λ q. map (λ m. m.text) q.variables) of.program ∙ texts_are (variables all) (variable_flags (arrays_by s.kinds) (variables all)) in
     let functions_are : fs s setup steps ≡ texts (defined all) = sym (viewed_names (names_of s.program) s.program.functions) ∙ (ap (λ q. map (λ f. f.name) q.functions) of.program ∙ functions_named (tables s.kinds all) items) in
-    let barred : All_barred (can_assign s.kinds) (names_of s.program) (fs s setup steps) =
-        subst (λ (xs : List Text). All_barred (can_assign s.kinds) (names_of s.program) xs) (sym functions_are) (barred_all all s.kinds of.kinds (names_of s.program) (texts (defined all)) (functions_are_forced all)) in
+    let barred : AllBarred (can_assign s.kinds) (names_of s.program) (fs s setup steps) =
+        subst (λ (xs : List Text). AllBarred (can_assign s.kinds) (names_of s.program) xs) (sym functions_are) (barred_all all s.kinds of.kinds (names_of s.program) (texts (defined all)) (functions_are_forced all)) in
     let right : Right (can_assign s.kinds) (names_of s.program) (host_of s setup steps) =
         functions_right (can_assign s.kinds) (names_of s.program) (fs s setup steps) (varied s setup steps) barred
         (variables_right (can_assign s.kinds) (names_of s.program) [] (names_of s.program) 0 (worded s setup steps) refl refl (nothing_right (can_assign s.kinds) (names_of s.program) setup.operands steps)) in
