@@ -469,6 +469,44 @@ run -- in/a
 is 2 "in/a 1${line}in/a 2$line" "awkbox: cannot open \"in/b\"$line" "0:0 read none \"in/b\"$line"
 verdict "an operand that the script adds is not given"
 
+# Elements of ARGV that are not the words of the command line are not given.
+policy 'effect = "allow"
+kind = "read"
+match = "**"
+from = "given"' 'effect = "allow"
+kind = "assign"
+match = "ARGC"' 'effect = "allow"
+kind = "read"
+match = "in/list"'
+echo in/b >in/list
+not_given() {
+    is 2 "$1" "awkbox: cannot open \"in/b\"$line" "0:0 read none \"in/b\"$line"
+}
+script 'BEGIN { ARGV[1] = "in/b" } { print FILENAME, $0 }'
+run -- in/a
+not_given ""
+verdict "an operand that is changed before the records"
+
+script 'FNR == 1 { ARGV[ARGC] = "in/b"; ARGC++ } { print FILENAME, $0 }'
+run -- in/a
+not_given "in/a 1${line}in/a 2$line"
+verdict "an operand that is added in a rule"
+
+script 'BEGIN { getline ARGV[1] < "in/list" } { print FILENAME, $0 }'
+run -- in/a
+not_given ""
+verdict "an operand that is changed by getline"
+
+script 'BEGIN { ARGV[3] = "in/b" } { print FILENAME, $0 }'
+run -- ARGC=4 in/a
+not_given "in/a 1${line}in/a 2$line"
+verdict "an operand that another operand lets in"
+
+script 'BEGIN { ARGV[2] = ARGV[1]; ARGV[3] = "in/./b"; delete ARGV[1] } { print FILENAME, $0 }'
+run -- in/a in/b in/b
+is 2 "in/a 1${line}in/a 2$line" "awkbox: cannot open \"in/./b\"$line" "0:0 read none \"in/./b\"$line"
+verdict "an operand that is moved, and one that is spelled otherwise"
+
 script '{ r = (getline l < "in/a"); print r; exit }'
 run -- in/a
 is 0 "-1$line" "" "1:8 read none \"in/a\"$line"
@@ -533,6 +571,36 @@ script 'BEGIN { print system("exit 3"), system("kill -9 $$"); "exit 5" | getline
 run
 is 0 "3 256${line}5$line" "" ""
 verdict "the statuses of commands"
+
+script 'BEGIN { while (("ls in" | getline f) > 0) print f }'
+run
+is 0 "a${line}b${line}c${line}list$line" "" ""
+verdict "a folder that a command lists"
+
+script 'BEGIN { for (i = 1000000; i > 0; i--) print i | "sort -n" }'
+run
+[ "$status" -eq 0 ] && seq 1000000 | cmp -s - "$work/output" && holds "$work/errors" ""
+verdict "a million lines to a command"
+
+script 'BEGIN { for (i = 0; i < 1000; i++) { c = "echo " i; c | getline x; n += x; print i | "cat"; close(c); close("cat") }; print n }'
+echo "from another run" >"$work/log"
+bash -c 'ulimit -n 32 && exec "$@"' - "$program" run --policy "$work/policy.toml" --log "$work/log" \
+    -f "$work/script.awk" >"$work/output" 2>"$work/errors"
+status=$?
+is 0 "$(seq 0 999)${line}499500$line" "" ""
+verdict "two thousand commands, with few descriptors"
+
+policy 'effect = "allow"
+kind = "read"
+match = "in/*"'
+mkfifo in/fifo
+script 'BEGIN { while ((getline l < "in/fifo") > 0) print "got " l }'
+(printf 'x\ny' >in/fifo) &
+run
+wait
+is 0 "got x${line}got y$line" "" ""
+verdict "a pipe with a name"
+rm in/fifo
 
 script 'BEGIN { exit 5 } END { print "end" }'
 run
