@@ -547,9 +547,9 @@ run
 is 0 "3${line}-1 -1$line" "" "1:91 read none \"none\"$line"
 verdict "a file that is read to its end"
 
-script 'BEGIN { "echo a b" | getline x; "echo c" | getline; print x, $0; print close("echo a b"), close("none") }'
+script 'BEGIN { "echo ab" | getline x; "echo c" | getline; print x, $0; print close("echo ab"), close("none") }'
 run
-is 0 "a b c${line}0 -1$line" "" ""
+is 0 "ab c${line}0 -1$line" "" ""
 verdict "commands that are read"
 
 printf 'b 1\na 2\nc 3\n' >in/c
@@ -582,7 +582,7 @@ run
 [ "$status" -eq 0 ] && seq 1000000 | cmp -s - "$work/output" && holds "$work/errors" ""
 verdict "a million lines to a command"
 
-script 'BEGIN { for (i = 0; i < 1000; i++) { c = "echo " i; c | getline x; n += x; print i | "cat"; close(c); close("cat") }; print n }'
+script 'BEGIN { for (i = 0; i < 1000; i++) { c = "echo " i; c | getline x; n += x; print i | "cat"; close(c); close("cat") } print n }'
 echo "from another run" >"$work/log"
 bash -c 'ulimit -n 32 && exec "$@"' - "$program" run --policy "$work/policy.toml" --log "$work/log" \
     -f "$work/script.awk" >"$work/output" 2>"$work/errors"
