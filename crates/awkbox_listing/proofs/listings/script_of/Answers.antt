@@ -1,4 +1,4 @@
-use Rattle.std.proofs.Common.{List, Result, IfOk, IfErr, inl}
+use Rattle.std.proofs.Common.{IfOk, IfErr, inl}
 use Rattle.std.proofs.lemmas.Result.{err_from_is_err_and}
 use Rattle.awk_parse.specs.Scripts.{IsRead, IsRefused}
 use Rattle.awkbox_listing.proofs.Spelling.{spelled, refused}
