@@ -174,7 +174,7 @@ module _ (book : Rulebook) where
       let p = trail x in
       let q = trail y in
       let same = meet p.chain q.chain (failed_since p.events [] (subst (DeniedFail book) p.grown a)).0 (failed_since q.events [] (subst (DeniedFail book) q.grown b)).0
-          (rw (p.grown, q.grown, allowed_since p.events [], allowed_since q.events []) at like) in
+      (rw (p.grown, q.grown, allowed_since p.events [], allowed_since q.events []) at like) in
       rw (p.grown, q.grown, answers_since p.events [], answers_since q.events []) same
 
 -- ---- the law

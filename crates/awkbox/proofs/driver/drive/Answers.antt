@@ -3,7 +3,7 @@ use Rattle.awk_run.specs.Givens.{given_of}
 use Rattle.awk_phases.specs.Outcomes.{view_outcome}
 use Rattle.awkbox.proofs.driver.drive.Goals as goal
 
-pub run-report-requires : goal.run-requires
+pub run-report-requires : goal.run-report-requires
 run-report-requires g c = (c.in-Ok.ensures.ok.read.tokens, c.in-Ok.ensures.ok.read.read)
 
 pub returns-clause-driven : goal.returns-clause-driven
