@@ -1,5 +1,5 @@
 -- What a host knows once it is told of a script.
-use Rattle.std.proofs.Common.{◌≡◌, ◌↔◌, ◌∙◌, ℕ, zero, suc, ◌+◌, Bool, true, false, true≢false, ◌&&◌, ◌||◌, not, List, [], ◌∷◌, ◌++◌, Option, Some, None, is_none, Result, Ok, Err, IfOk, length, get_or, map, if◌then◌else◌, ap, sym, refl, subst, arith, append_assoc}
+use Rattle.std.proofs.Common.{◌≡◌, ◌↔◌, ◌∙◌, ℕ, ◌+◌, Bool, true, false, true≢false, ◌&&◌, ◌||◌, not, List, [], ◌∷◌, ◌++◌, Option, Some, None, is_none, Result, Ok, Err, IfOk, length, get_or, map, if◌then◌else◌, ap, sym, refl, subst, arith, append_assoc}
 use Rattle.std.specs.List.{list_any}
 use Rattle.std.specs.Str.{bytes_eq}
 use Rattle.std.proofs.lemmas.Slice.Eq.{bytes_eq-Decides}
@@ -265,14 +265,14 @@ host_is s setup steps (tokens, (items, read, of)) =
     let names_are : names_of s.program ≡ variables all = ap (λ q. map (λ m. m.text) q.variables) of.program ∙ texts_are (variables all) (variable_flags (arrays_by s.kinds) (variables all)) in
     let functions_are : fs s setup steps ≡ texts (defined all) = sym (viewed_names (names_of s.program) s.program.functions) ∙ (ap (λ q. map (λ f. f.name) q.functions) of.program ∙ functions_named (tables s.kinds all) items) in
     let barred : AllBarred (can_assign s.kinds) (names_of s.program) (fs s setup steps) =
-        subst (λ (xs : List Text). AllBarred (can_assign s.kinds) (names_of s.program) xs) (sym functions_are) (barred_all all s.kinds of.kinds (names_of s.program) (texts (defined all)) (functions_are_forced all)) in
+    subst (λ (xs : List Text). AllBarred (can_assign s.kinds) (names_of s.program) xs) (sym functions_are) (barred_all all s.kinds of.kinds (names_of s.program) (texts (defined all)) (functions_are_forced all)) in
     let right : Right (can_assign s.kinds) (names_of s.program) (host_of s setup steps) =
-        functions_right (can_assign s.kinds) (names_of s.program) (fs s setup steps) (varied s setup steps) barred
-        (variables_right (can_assign s.kinds) (names_of s.program) [] (names_of s.program) 0 (worded s setup steps) refl refl (nothing_right (can_assign s.kinds) (names_of s.program) setup.operands steps)) in
+    functions_right (can_assign s.kinds) (names_of s.program) (fs s setup steps) (varied s setup steps) barred
+    (variables_right (can_assign s.kinds) (names_of s.program) [] (names_of s.program) 0 (worded s setup steps) refl refl (nothing_right (can_assign s.kinds) (names_of s.program) setup.operands steps)) in
     let arrays_known : (y : Text) → Forced all (global y) k.array → Knows y (host_of s setup steps) =
-        λ y forced. names_known s setup steps y (subst (λ (xs : List Text). Has y xs) (sym names_are) (array_is_variable all (global y) k.array y refl refl forced)) in
+    λ y forced. names_known s setup steps y (subst (λ (xs : List Text). Has y xs) (sym names_are) (array_is_variable all (global y) k.array y refl refl forced)) in
     let functions_known_all : (y : Text) → Forced all (global y) k.function → Knows y (host_of s setup steps) =
-        λ y forced. functions_known (fs s setup steps) (varied s setup steps) y (subst (λ (xs : List Text). Has y xs) (sym functions_are) (function_is_defined all y forced)) in
+    λ y forced. functions_known (fs s setup steps) (varied s setup steps) y (subst (λ (xs : List Text). Has y xs) (sym functions_are) (function_is_defined all y forced)) in
     record {
       bound = sym (stays s setup steps).0;
       words = words_are s setup steps;

@@ -1,5 +1,5 @@
 -- What a run is given.
-use Rattle.std.proofs.Common.{◌≡◌, ◌∙◌, Bool, List, map, sym, subst, refl}
+use Rattle.std.proofs.Common.{◌≡◌, ◌∙◌, Bool, List, map, sym, subst}
 use Rattle.awk_tree.specs.Tree.{Entry}
 use Rattle.awk_names.specs.Faults.{names_environ}
 use Rattle.awk_names.specs.Mentions.{part}
