@@ -1,5 +1,5 @@
 -- What a host knows once it is told of a script.
-use Rattle.std.proofs.Common.{◌≡◌, ◌∙◌, ℕ, zero, suc, ◌+◌, Bool, true, false, true≢false, ◌&&◌, ◌||◌, not, List, [], ◌∷◌, ◌++◌, Option, Some, None, is_none, length, get_or, map, if◌then◌else◌, ap, sym, refl, subst, arith, append_assoc}
+use Rattle.std.proofs.Common.{◌≡◌, ◌↔◌, ◌∙◌, ℕ, ◌+◌, Bool, true, false, true≢false, ◌&&◌, ◌||◌, not, List, [], ◌∷◌, ◌++◌, Option, Some, None, is_none, Result, Ok, Err, IfOk, length, get_or, map, if◌then◌else◌, ap, sym, refl, subst, arith, append_assoc}
 use Rattle.std.specs.List.{list_any}
 use Rattle.std.specs.Str.{bytes_eq}
 use Rattle.std.proofs.lemmas.Slice.Eq.{bytes_eq-Decides}
@@ -9,7 +9,7 @@ use Rattle.awk_names.specs.Kinds as k
 use Rattle.awk_names.specs.Kinds.{global, Forced, texts}
 use Rattle.awk_names.specs.Mentions.{part}
 use Rattle.awk_names.specs.declared.mention.Part.{Part}
-use Rattle.awk_kinds.specs.Assigns.{can_assign}
+use Rattle.awk_kinds.specs.Assigns.{CanAssign, can_assign}
 use Rattle.awk_kinds.specs.Marks.{has, AreKinds}
 use Rattle.awk_kinds.specs.Slots.{defined}
 use Rattle.awk_kinds.specs.declared.kinds.Kinds.{Kinds}
@@ -19,7 +19,7 @@ use Rattle.awk_tables.specs.Tables.{tables, variables, variable_flags, arrays_by
 use Rattle.awk_program.specs.Slots.{Text}
 use Rattle.awk_program.specs.View.{names_of, view_function, Names}
 use Rattle.awk_program.specs.declared.program.Function.{Function}
-use Rattle.awk_parse.specs.Scripts.{IsScript}
+use Rattle.awk_parse.specs.Scripts.{IsScript, IsScriptOf}
 use Rattle.awk_parse.specs.declared.script.Script.{Script}
 use Rattle.awk_records.specs.Hosts.{Hosted, IsHost, IsSlotIn, can_set, is_free, is_given, slot_in, slot_of, use_of, with_name, with_word}
 use Rattle.awk_records.specs.declared.host.Use.{Use}
@@ -110,6 +110,16 @@ module _ (free : Text → Bool) (names : List Text) where
   functions_right : (xs : List Text) (h : Hosted) → AllBarred xs → Right h → Right (with_functions xs h)
   functions_right [] h barred all = all
   functions_right (x ∷ xs) h barred all = functions_right xs (with_name x Barred h) barred.1 (right_added x Barred h barred.0 all)
+
+-- a script says of a name what its kinds say
+pub assigns_so : (s : Script) (x : Text) (b : Bool) → IsScript s → ((items : List Entry) → IsScriptOf items s → (b ≡ true) ↔ CanAssign (map part items) x) → b ≡ can_assign s.kinds x
+assigns_so s x b (tokens, (items, read, of)) says = by b (can_assign s.kinds x) refl refl
+  where
+    by : (c d : Bool) → b ≡ c → can_assign s.kinds x ≡ d → c ≡ d
+    by true true e f = refl
+    by true false e f = absurd (true≢false (sym ((may_assign (map part items) s.kinds x of.kinds).1 ((says items of).0 e)) ∙ f))
+    by false true e f = absurd (true≢false (sym ((says items of).1 ((may_assign (map part items) s.kinds x of.kinds).0 f)) ∙ e))
+    by false false e f = refl
 
 -- ---- what it knows
 
@@ -250,22 +260,26 @@ module _ (s : Script) (setup : SetupParts) (steps : ℕ) where
   names_known y has = functions_keep fs varied y (variables_known (can_assign s.kinds) 0 (names_of s.program) worded y has)
 
 pub host_is : (s : Script) (setup : SetupParts) (steps : ℕ) → IsScript s → IsHost (host_of s setup steps) (given_of s setup steps)
-host_is s setup steps (tokens, items, read, of) =
+host_is s setup steps (tokens, (items, read, of)) =
     let all : List Part = map part items in
     let names_are : names_of s.program ≡ variables all = ap (λ q. map (λ m. m.text) q.variables) of.program ∙ texts_are (variables all) (variable_flags (arrays_by s.kinds) (variables all)) in
     let functions_are : fs s setup steps ≡ texts (defined all) = sym (viewed_names (names_of s.program) s.program.functions) ∙ (ap (λ q. map (λ f. f.name) q.functions) of.program ∙ functions_named (tables s.kinds all) items) in
     let barred : AllBarred (can_assign s.kinds) (names_of s.program) (fs s setup steps) =
-        subst (λ (xs : List Text). AllBarred (can_assign s.kinds) (names_of s.program) xs) (sym functions_are) (barred_all all s.kinds of.kinds (names_of s.program) (texts (defined all)) (functions_are_forced all)) in
+    subst (λ (xs : List Text). AllBarred (can_assign s.kinds) (names_of s.program) xs) (sym functions_are) (barred_all all s.kinds of.kinds (names_of s.program) (texts (defined all)) (functions_are_forced all)) in
     let right : Right (can_assign s.kinds) (names_of s.program) (host_of s setup steps) =
-        functions_right (can_assign s.kinds) (names_of s.program) (fs s setup steps) (varied s setup steps) barred
-        (variables_right (can_assign s.kinds) (names_of s.program) [] (names_of s.program) 0 (worded s setup steps) refl refl (nothing_right (can_assign s.kinds) (names_of s.program) setup.operands steps)) in
+    functions_right (can_assign s.kinds) (names_of s.program) (fs s setup steps) (varied s setup steps) barred
+    (variables_right (can_assign s.kinds) (names_of s.program) [] (names_of s.program) 0 (worded s setup steps) refl refl (nothing_right (can_assign s.kinds) (names_of s.program) setup.operands steps)) in
     let arrays_known : (y : Text) → Forced all (global y) k.array → Knows y (host_of s setup steps) =
-        λ y forced. names_known s setup steps y (subst (λ (xs : List Text). Has y xs) (sym names_are) (array_is_variable all (global y) k.array y refl refl forced)) in
+    λ y forced. names_known s setup steps y (subst (λ (xs : List Text). Has y xs) (sym names_are) (array_is_variable all (global y) k.array y refl refl forced)) in
     let functions_known_all : (y : Text) → Forced all (global y) k.function → Knows y (host_of s setup steps) =
-        λ y forced. functions_known (fs s setup steps) (varied s setup steps) y (subst (λ (xs : List Text). Has y xs) (sym functions_are) (function_is_defined all y forced)) in
+    λ y forced. functions_known (fs s setup steps) (varied s setup steps) y (subst (λ (xs : List Text). Has y xs) (sym functions_are) (function_is_defined all y forced)) in
     record {
       bound = sym (stays s setup steps).0;
       words = words_are s setup steps;
       can_assign = may_set all s.kinds of.kinds (names_of s.program) (host_of s setup steps) right arrays_known functions_known_all (names_known s setup steps);
       slots = has_slot all s.kinds of.kinds (names_of s.program) (host_of s setup steps) right arrays_known functions_known_all (names_known s setup steps);
     }
+
+pub told_is : {E : Type 0} (s : Script) (setup : SetupParts) (steps : ℕ) (r : Result Hosted E) → IsScript s → IfOk r (λ h. h ≡ host_of s setup steps) → IfOk r (λ h. IsHost h (given_of s setup steps))
+told_is s setup steps (Ok h) is same = subst (λ (z : Hosted). IsHost z (given_of s setup steps)) (sym same) (host_is s setup steps is)
+told_is s setup steps (Err e) is same = tt
