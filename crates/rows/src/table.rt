@@ -100,6 +100,7 @@ impl Table {
             Table::Policies => policies::block(alloc, args, steps),
             Table::Worlds => worlds::block(alloc, steps),
             Table::Monitors => monitors::block(alloc, args, steps),
+            Table::Listings => listings::block(alloc, args, steps),
             Table::Runs
             | Table::Choices
             | Table::Scripts
