@@ -1,12 +1,7 @@
-<<<<<<< HEAD
 // Whole runs: scripts under a policy, over the world in memory.
 
 use crate::args::{text, word};
 use crate::asked::asked;
-=======
-// Whole runs: a script under a policy, over the world in memory.
-use crate::args::{number, text, word};
->>>>>>> d2acb3721f56733669208954a7ec33618cfbef5d
 use crate::problem::Problem;
 use crate::row::{Arg, Row};
 use crate::run_log::RunLog;
@@ -18,18 +13,6 @@ use awk_text::octets::Octets;
 use awkbox::{Driven, Ending, LogEnd, MemoryWorld, Refusal, Report};
 use std::alloc::Global;
 
-<<<<<<< HEAD
-=======
-/// How many steps a run may take.
-const STEPS: u64 = 1_000;
-
-// No operand, no name of the environment, no assignment and no separator.
-fn no_setup(alloc: Global) -> Setup {
-    let (operands, names, assigns) = (Vec::new(alloc), Vec::new(alloc), Vec::new(alloc));
-    Setup::read(operands, names, assigns, None).unwrap()
-}
-
->>>>>>> d2acb3721f56733669208954a7ec33618cfbef5d
 /// What the program says at its end: nothing, or a message.
 fn message(alloc: Global, answer: Result<Report, Refusal>) -> Answer {
     match Ending::of(answer) {
