@@ -1,10 +1,10 @@
 -- A run over a monitor, as a run under its policy.
-use Rattle.std.proofs.Common.{◌≡◌, ℕ, Bool, List, refl, sym, ◌∙◌, ap, subst, Option, Some, None, inl, inr, ◌⊎◌}
+use Rattle.std.proofs.Common.{◌≡◌, ℕ, Bool, List, refl, sym, ◌∙◌, ap, subst, Option, Some, None, inl, inr}
 use Rattle.std.specs.Prelude.{is_some, unwrap_or}
 use Rattle.std.specs.Io.KnownBytes.{Appends}
-use Rattle.awk_machine.specs.Laws.{EndsBy, Played}
+use Rattle.awk_machine.specs.Laws.{EndsBy}
 use Rattle.awk_machine.specs.Pieces.{Outcome, Faulted, Piece}
-use Rattle.awk_machine.specs.Plays.{Stands, over, lacks, unlogged}
+use Rattle.awk_machine.specs.Plays.{Stands, unlogged}
 use Rattle.awk_machine.specs.State.{Course, Given, State}
 use Rattle.awk_phases.specs.Reports.{IsTold, Reported}
 use Rattle.awk_text.specs.declared.fault.Fault.TheVariants.{Log as NoLog}

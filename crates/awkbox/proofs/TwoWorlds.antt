@@ -1,6 +1,6 @@
 -- Two runs under one policy whose allowed requests get equal replies get equal replies to all of them.
-use Rattle.std.proofs.Common.{◌≡◌, ℕ, Bool, true, false, cond, List, [], ◌∷◌, ◌++◌, Option, refl, sym, ◌∙◌, ap, subst, append_assoc, append-nil}
-use Rattle.std.specs.Prelude.{filter, is_none, IsSome, Some, None}
+use Rattle.std.proofs.Common.{◌≡◌, Bool, true, false, cond, List, [], ◌∷◌, ◌++◌, Option, refl, sym, ◌∙◌, ap, subst, append_assoc, append-nil}
+use Rattle.std.specs.Prelude.{is_none, IsSome, Some, None}
 use Rattle.box_world.specs.declared.ask.Reply.{Reply}
 use Rattle.box_world.specs.declared.ask.Reply.TheVariants.{Failed}
 use Rattle.box_world.specs.Events.{Want, Event, calls}
@@ -8,9 +8,9 @@ use Rattle.box_policy.specs.Rulebook.{Rulebook}
 use Rattle.box_monitor.specs.Lines.{log_text}
 use Rattle.box_monitor.specs.Passed.{DeniedFail, denial_of_want, passed_on, told_of}
 use Rattle.awk_machine.specs.Advances.{advance}
-use Rattle.awk_machine.specs.Begins.{nothing, first_pieces, first_state}
+use Rattle.awk_machine.specs.Begins.{nothing}
 use Rattle.awk_machine.specs.Laws.{replies, Alike, OneRun}
-use Rattle.awk_machine.specs.Pieces.{Piece, Next, Goes, Steps, Asks, Seeks, Outcome}
+use Rattle.awk_machine.specs.Pieces.{Piece, Next, Goes, Steps, Asks, Seeks}
 use Rattle.awk_machine.specs.Plays.{Reaches, here, goes, steps, asks, seeks}
 use Rattle.awk_machine.specs.Questions.{Question, Answer, Right}
 use Rattle.awk_machine.specs.State.{State, Course, Given}
@@ -174,7 +174,7 @@ module _ (book : Rulebook) where
       let p = trail x in
       let q = trail y in
       let same = meet p.chain q.chain (failed_since p.events [] (subst (DeniedFail book) p.grown a)).0 (failed_since q.events [] (subst (DeniedFail book) q.grown b)).0
-          (rw (p.grown, q.grown, allowed_since p.events [], allowed_since q.events []) at like) in
+      (rw (p.grown, q.grown, allowed_since p.events [], allowed_since q.events []) at like) in
       rw (p.grown, q.grown, answers_since p.events [], answers_since q.events []) same
 
 -- ---- the law

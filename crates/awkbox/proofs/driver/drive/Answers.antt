@@ -3,8 +3,8 @@ use Rattle.awk_run.specs.Givens.{given_of}
 use Rattle.awk_phases.specs.Outcomes.{view_outcome}
 use Rattle.awkbox.proofs.driver.drive.Goals as goal
 
-pub run-requires : goal.run-requires
-run-requires g c = (c.in-Ok.ensures.ok.read.tokens, c.in-Ok.ensures.ok.read.read)
+pub run-report-requires : goal.run-report-requires
+run-report-requires g c = (c.in-Ok.ensures.ok.read.tokens, c.in-Ok.ensures.ok.read.read)
 
 pub returns-clause-driven : goal.returns-clause-driven
 returns-clause-driven g c =
