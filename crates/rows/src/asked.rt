@@ -62,9 +62,11 @@ fn call(alloc: Global, request: &Request) -> Answer {
 fn is_told(alloc: Global, ask: &Ask, args: &[Arg<'_>]) -> Result<bool, Problem> {
     let (first, second) = texts(&ask.request);
     let is_same = first == text(args, 3) && second == text(args, 4);
-    Ok(is_same
-        && place(alloc, ask)?.as_slice() == bare(args, 2)
-        && call(alloc, &ask.request)?.as_slice() == bare(args, 3))
+    Ok(
+        is_same
+            && place(alloc, ask)?.as_slice() == bare(args, 2)
+            && call(alloc, &ask.request)?.as_slice() == bare(args, 3),
+    )
 }
 
 /// A request in one text: `1:19 put 3 [a] done`.

@@ -134,7 +134,13 @@ pub fn block(alloc: Global, args: &[Arg<'_>], rows: &[Row<'_>]) -> Result<Vec<Oc
         };
         answers.push(told(alloc, bytes(alloc, b"done"))?)?;
         let (here, later) = rest.split_at(run_len(rest).min(rest.len()));
-        run(alloc, text(args, 1), text(&first.args, 1), here, &mut answers)?;
+        run(
+            alloc,
+            text(args, 1),
+            text(&first.args, 1),
+            here,
+            &mut answers,
+        )?;
         left = later;
     }
     Ok(answers)

@@ -4,8 +4,8 @@ use crate::problem::Problem;
 use crate::row::{Arg, Row};
 use crate::shown::Answer;
 use crate::{
-    fields, formats, library, listings, monitors, patterns, policies, records, runs, tokens, values,
-    worlds,
+    fields, formats, library, listings, monitors, patterns, policies, records, runs, tokens,
+    values, worlds,
 };
 use awk_text::octets::Octets;
 use std::alloc::Global;
@@ -101,11 +101,8 @@ impl Table {
             Table::Worlds => worlds::block(alloc, steps),
             Table::Monitors => monitors::block(alloc, args, steps),
             Table::Listings => listings::block(alloc, args, steps),
-            Table::Runs
-            | Table::Choices
-            | Table::Scripts
-            | Table::Streams
-            | Table::Operands => runs::block(alloc, args, steps),
+            Table::Runs | Table::Choices | Table::Scripts | Table::Streams | Table::Operands =>
+                runs::block(alloc, args, steps),
             _ => Err(Problem::NoCall),
         }
     }
