@@ -4,10 +4,12 @@
 #![tactic(auto)]
 
 mod args;
+mod asked;
 mod cursor;
 mod fields;
 mod formats;
 mod library;
+mod listings;
 mod monitors;
 mod patterns;
 mod policies;
@@ -15,8 +17,10 @@ mod problem;
 mod records;
 mod report;
 mod row;
+mod run_log;
 mod runs;
 mod shown;
+mod start;
 mod table;
 mod tokens;
 mod values;

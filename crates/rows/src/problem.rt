@@ -21,6 +21,8 @@ pub enum Problem {
     TwoAnswers,
     /// The world did not do what the call begins with.
     NotDone,
+    /// The words of the host make no setup.
+    NoSetup,
     Fault(Fault),
     Pattern(EreError),
     Policy(PolicyError),
@@ -35,6 +37,7 @@ impl fmt::Display for Problem {
             Problem::NoArgument => f.write_str("an argument is missing or of another sort"),
             Problem::TwoAnswers => f.write_str("two ways give two answers"),
             Problem::NotDone => f.write_str("the world did not do it"),
+            Problem::NoSetup => f.write_str("the words of the host make no setup"),
             Problem::Fault(fault) => write!(f, "F{} {}", fault.code(), fault.text()),
             Problem::Pattern(error) => write!(f, "E{}", error.code),
             Problem::Policy(error) => error.fmt(f),

@@ -1,24 +1,17 @@
-// Whole runs: a script under a policy, over the world in memory.
-use crate::args::{number, text, word};
+// Whole runs: scripts under a policy, over the world in memory.
+
+use crate::args::{text, word};
+use crate::asked::asked;
 use crate::problem::Problem;
 use crate::row::{Arg, Row};
+use crate::run_log::RunLog;
 use crate::shown::{Answer, bytes, show, told};
+use crate::start::{Start, is_start};
 use crate::words::Word;
-use crate::worlds::{left, prepare, show_reply};
-use awkbox::{
-    Ask, Driven, Ending, LogEnd, MemoryWorld, Mode, Octets, Refusal, Reply, Report, Request, Setup,
-    drive,
-};
+use crate::worlds::left;
+use awk_text::octets::Octets;
+use awkbox::{Driven, Ending, LogEnd, MemoryWorld, Refusal, Report};
 use std::alloc::Global;
-
-/// How many steps a run may take.
-const STEPS: u64 = 1_000;
-
-// No operand, no name of the environment, no assignment and no separator.
-fn no_setup(alloc: Global) -> Setup {
-    let (operands, names, assigns) = (Vec::new(alloc), Vec::new(alloc), Vec::new(alloc));
-    Setup::read(operands, names, assigns, None).unwrap()
-}
 
 /// What the program says at its end: nothing, or a message.
 fn message(alloc: Global, answer: Result<Report, Refusal>) -> Answer {
@@ -56,115 +49,99 @@ fn refused(alloc: Global, answer: Result<Report, Refusal>) -> Answer {
     Ok(format!(in alloc; "{letter}{code}")?.into_bytes())
 }
 
-/// A request in a word, and the number and the text that it has.
-fn parts(request: &Request) -> (&'static str, Option<u32>, &[u8]) {
-    match request {
-        Request::Open(mode, name) => (mode_word(*mode), None, name.bytes()),
-        Request::Next(number) => ("next", Some(*number), b""),
-        Request::Put(number, text) => ("put", Some(*number), text.bytes()),
-        Request::Shut(number) => ("shut", Some(*number), b""),
-        Request::System(text) => ("system", None, text.bytes()),
-        Request::Env(name) => ("env", None, name.bytes()),
-        Request::Assign(name, _) => ("assign", None, name.bytes()),
-    }
-}
-
-fn mode_word(mode: Mode) -> &'static str {
-    match mode {
-        Mode::Read => "read",
-        Mode::Write => "write",
-        Mode::Append => "append",
-        Mode::RunIn => "read from",
-        Mode::RunOut => "write to",
-    }
-}
-
-/// A call of the world: `write "/w/out/a" 3`.
-fn asked(alloc: Global, ask: &Ask, reply: &Reply) -> Answer {
-    let (call, number, text) = parts(&ask.request);
-    let mut shown = Vec::from_slice(alloc, call.as_bytes())?;
-    if let Some(number) = number {
-        shown.extend_from_slice(format!(in alloc; " {number}")?.as_bytes())?;
-    }
-    shown.extend_from_slice(b" [".as_slice())?;
-    shown.extend_from_slice(text)?;
-    shown.extend_from_slice(b"] ".as_slice())?;
-    shown.extend_from_slice(&show_reply(alloc, reply)?)?;
-    Ok(shown)
-}
-
-/// The call of the world of this number, counted from 1.
-fn asked_at(alloc: Global, world: &MemoryWorld, number: i64) -> Answer {
-    let Ok(number) = usize::try_from(number) else {
-        return Err(Problem::NoArgument);
-    };
-    match world.asked().get(number.wrapping_sub(1)) {
-        Some((ask, reply)) => asked(alloc, ask, reply),
-        None => bytes(alloc, b"none"),
-    }
-}
-
 /// What is told after the run.
-fn end(alloc: Global, driven: &Driven<MemoryWorld, Vec<u8>>, args: &[Arg<'_>]) -> Answer {
+fn end(alloc: Global, driven: &Driven<MemoryWorld, RunLog>, args: &[Arg<'_>]) -> Answer {
     match word(args, 0) {
         Word::Says => message(alloc, driven.answer),
         Word::Status => show(alloc, Ending::of(driven.answer).status()),
         Word::Refused => refused(alloc, driven.answer),
         Word::Steps => used(alloc, driven.answer),
-        Word::Log => bytes(alloc, &driven.log),
+        Word::Log => bytes(alloc, &driven.log.text),
         Word::LogEnd => log_end(alloc, driven.log_end),
-        Word::Asked => asked_at(alloc, &driven.world, number(args, 1)?),
+        Word::Asked => asked(alloc, &driven.world, args),
         _ => left(alloc, &driven.world, args),
     }
 }
 
-/// The answers of the steps that are left.
-fn ends(
+/// How many rows stand before the next run.
+fn run_len(rows: &[Row<'_>]) -> usize {
+    for at in 0..rows.len() {
+        if matches!(word(&rows[at].args, 0), Word::Run) {
+            return at;
+        }
+    }
+    rows.len()
+}
+
+/// How many rows say what the run begins with.
+fn start_len(rows: &[Row<'_>]) -> usize {
+    for at in 0..rows.len() {
+        if !is_start(word(&rows[at].args, 0)) {
+            return at;
+        }
+    }
+    rows.len()
+}
+
+/// The answers of the rows that say what the run begins with.
+fn begin(
     alloc: Global,
-    driven: &Driven<MemoryWorld, Vec<u8>>,
-    steps: &[Row<'_>],
+    start: &mut Start,
+    rows: &[Row<'_>],
     answers: &mut Vec<Octets>,
 ) -> Result<(), Problem> {
-    for row in steps.iter().skip(answers.len()) {
+    for row in rows {
+        answers.push(told(alloc, start.add(alloc, &row.args))?)?;
+    }
+    Ok(())
+}
+
+/// The answers of the rows that tell what came of the run.
+fn ends(
+    alloc: Global,
+    driven: &Driven<MemoryWorld, RunLog>,
+    rows: &[Row<'_>],
+    answers: &mut Vec<Octets>,
+) -> Result<(), Problem> {
+    for row in rows {
         answers.push(told(alloc, end(alloc, driven, &row.args))?)?;
     }
     Ok(())
 }
 
-/// The answers of the steps that say what the world begins with.
-fn prepared(
+/// The answers of the rows that stand behind one run of the script.
+fn run(
     alloc: Global,
-    world: &mut MemoryWorld,
-    steps: &[Row<'_>],
+    policy: &[u8],
+    script: &[u8],
+    rows: &[Row<'_>],
     answers: &mut Vec<Octets>,
 ) -> Result<(), Problem> {
-    for row in steps {
-        match word(&row.args, 0) {
-            Word::Command | Word::FailAt => {
-                answers.push(told(alloc, prepare(alloc, world, &row.args))?)?;
-            }
-            _ => return Ok(()),
-        }
-    }
-    Ok(())
+    let (before, after) = rows.split_at(start_len(rows).min(rows.len()));
+    let mut start = Start::new(alloc);
+    begin(alloc, &mut start, before, answers)?;
+    let driven = start.drive(alloc, policy, script)?;
+    ends(alloc, &driven, after, answers)
 }
 
-/// The answers of the steps, before and after a run of the script under the policy.
-pub fn block(alloc: Global, args: &[Arg<'_>], steps: &[Row<'_>]) -> Result<Vec<Octets>, Problem> {
+/// The answers of the rows behind a policy: runs under it, each with the rows that follow it.
+pub fn block(alloc: Global, args: &[Arg<'_>], rows: &[Row<'_>]) -> Result<Vec<Octets>, Problem> {
     let mut answers = Vec::new(alloc);
-    let mut world = MemoryWorld::new(alloc);
-    prepared(alloc, &mut world, steps, &mut answers)?;
-    let setup = no_setup(alloc);
-    let log = Vec::new(alloc);
-    let driven = drive(
-        alloc,
-        text(args, 1),
-        text(args, 2),
-        &setup,
-        STEPS,
-        world,
-        log,
-    );
-    ends(alloc, &driven, steps, &mut answers)?;
+    let mut left = rows;
+    for _ in 0..rows.len() {
+        let [first, rest @ ..] = left else {
+            break;
+        };
+        answers.push(told(alloc, bytes(alloc, b"done"))?)?;
+        let (here, later) = rest.split_at(run_len(rest).min(rest.len()));
+        run(
+            alloc,
+            text(args, 1),
+            text(&first.args, 1),
+            here,
+            &mut answers,
+        )?;
+        left = later;
+    }
     Ok(answers)
 }

@@ -4,7 +4,8 @@ use crate::problem::Problem;
 use crate::row::{Arg, Row};
 use crate::shown::Answer;
 use crate::{
-    fields, formats, library, monitors, patterns, policies, records, runs, tokens, values, worlds,
+    fields, formats, library, listings, monitors, patterns, policies, records, runs, tokens,
+    values, worlds,
 };
 use awk_text::octets::Octets;
 use std::alloc::Global;
@@ -22,10 +23,15 @@ pub enum Table {
     Policies,
     Worlds,
     Monitors,
+    Listings,
     Runs,
+    Choices,
+    Scripts,
+    Streams,
+    Operands,
 }
 
-pub const TABLES: [Table; 11] = [
+pub const TABLES: [Table; 16] = [
     Table::Values,
     Table::Patterns,
     Table::Searches,
@@ -36,7 +42,12 @@ pub const TABLES: [Table; 11] = [
     Table::Policies,
     Table::Worlds,
     Table::Monitors,
+    Table::Listings,
     Table::Runs,
+    Table::Choices,
+    Table::Scripts,
+    Table::Streams,
+    Table::Operands,
 ];
 
 impl Table {
@@ -52,7 +63,12 @@ impl Table {
             Table::Policies => "policies.txt",
             Table::Worlds => "worlds.txt",
             Table::Monitors => "monitors.txt",
+            Table::Listings => "listings.txt",
             Table::Runs => "runs.txt",
+            Table::Choices => "choices.txt",
+            Table::Scripts => "scripts.txt",
+            Table::Streams => "streams.txt",
+            Table::Operands => "operands.txt",
         }
     }
 
@@ -66,7 +82,8 @@ impl Table {
             Table::Library => library::call(alloc, args),
             Table::Tokens => tokens::call(alloc, args),
             Table::Policies => policies::call(alloc, args),
-            Table::Worlds | Table::Monitors | Table::Runs => Err(Problem::NoCall),
+            Table::Listings => listings::call(alloc, args),
+            _ => Err(Problem::NoCall),
         }
     }
 
@@ -83,7 +100,9 @@ impl Table {
             Table::Policies => policies::block(alloc, args, steps),
             Table::Worlds => worlds::block(alloc, steps),
             Table::Monitors => monitors::block(alloc, args, steps),
-            Table::Runs => runs::block(alloc, args, steps),
+            Table::Listings => listings::block(alloc, args, steps),
+            Table::Runs | Table::Choices | Table::Scripts | Table::Streams | Table::Operands =>
+                runs::block(alloc, args, steps),
             _ => Err(Problem::NoCall),
         }
     }

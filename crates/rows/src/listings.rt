@@ -1,0 +1,53 @@
+// What scripts may ask, as it is listed, and as it stands to a policy.
+
+use crate::args::{text, word};
+use crate::problem::Problem;
+use crate::row::{Arg, Row};
+use crate::shown::{Answer, told};
+use crate::words::Word;
+use awk_parse::{Script, parse};
+use awk_text::octets::Octets;
+use awk_tokens::tokens;
+use box_listing::{check, lines_of, sites, verdict_lines};
+use box_policy::policy::Policy;
+use std::alloc::Global;
+
+fn script(alloc: Global, text: &[u8]) -> Result<Script, Problem> {
+    let tokens = tokens(alloc, text)?;
+    Ok(parse(alloc, &tokens)?)
+}
+
+fn listed(alloc: Global, text: &[u8]) -> Answer {
+    let script = script(alloc, text)?;
+    Ok(lines_of(alloc, &sites(alloc, &script)?)?)
+}
+
+fn judged(alloc: Global, policy: &Policy, text: &[u8]) -> Answer {
+    let script = script(alloc, text)?;
+    Ok(verdict_lines(alloc, &check(alloc, &script, policy)?)?)
+}
+
+/// The answer of the call.
+pub fn call(alloc: Global, args: &[Arg<'_>]) -> Answer {
+    match word(args, 0) {
+        Word::List => listed(alloc, text(args, 1)),
+        _ => Err(Problem::NoCall),
+    }
+}
+
+fn step(alloc: Global, policy: &Policy, args: &[Arg<'_>]) -> Answer {
+    match word(args, 0) {
+        Word::Check => judged(alloc, policy, text(args, 1)),
+        _ => Err(Problem::NoCall),
+    }
+}
+
+/// The answers of the steps, under the policy of the line before them.
+pub fn block(alloc: Global, args: &[Arg<'_>], steps: &[Row<'_>]) -> Result<Vec<Octets>, Problem> {
+    let policy = Policy::read(alloc, text(args, 1))?;
+    let mut answers = Vec::new(alloc);
+    for row in steps {
+        answers.push(told(alloc, step(alloc, &policy, &row.args))?)?;
+    }
+    Ok(answers)
+}

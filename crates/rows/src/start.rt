@@ -1,0 +1,116 @@
+// What a run begins with.
+
+use crate::args::{number, octets, text, word};
+use crate::problem::Problem;
+use crate::row::Arg;
+use crate::run_log::RunLog;
+use crate::shown::{Answer, bytes};
+use crate::words::Word;
+use crate::worlds::prepare;
+use awk_text::octets::Octets;
+use awkbox::{Driven, MemoryWorld, Setup, drive};
+use std::alloc::Global;
+
+/// How many steps a run may take where its row does not say.
+const STEPS: u64 = 1_000;
+
+/// The most pairs of `-v` that a row may have.
+const MOST_PAIRS: usize = 1_000;
+
+/// What a run begins with.
+#[derive(Drop)]
+pub struct Start {
+    world: MemoryWorld,
+    operands: Vec<Octets>,
+    names: Vec<Octets>,
+    assigns: Vec<(Octets, Octets)>,
+    separator: Option<Octets>,
+    bound: u64,
+    log: RunLog,
+}
+
+/// Whether a step with this word says what a run begins with.
+pub fn is_start(word: Word) -> bool {
+    matches!(
+        word,
+        Word::Command
+            | Word::PutFile
+            | Word::PutEnv
+            | Word::PutInput
+            | Word::Chunk
+            | Word::FailAt
+            | Word::Operand
+            | Word::Assign
+            | Word::Separator
+            | Word::Bound
+            | Word::FailWrite
+            | Word::FailFlush
+    )
+}
+
+fn count(args: &[Arg<'_>]) -> Result<u32, Problem> {
+    match u32::try_from(number(args, 1)?) {
+        Ok(count) => Ok(count),
+        Err(_) => Err(Problem::NoArgument),
+    }
+}
+
+impl Start {
+    /// An empty world, no words of the host, the usual bound and a log that never fails.
+    pub fn new(alloc: Global) -> Start {
+        Start {
+            world: MemoryWorld::new(alloc),
+            operands: Vec::new(alloc),
+            names: Vec::new(alloc),
+            assigns: Vec::new(alloc),
+            separator: None,
+            bound: STEPS,
+            log: RunLog::new(alloc),
+        }
+    }
+
+    // A name of the environment is the host's word too.
+    fn add_env(&mut self, alloc: Global, args: &[Arg<'_>]) -> Answer {
+        self.names.push(octets(alloc, text(args, 1))?)?;
+        prepare(alloc, &mut self.world, args)
+    }
+
+    fn add_pair(&mut self, alloc: Global, args: &[Arg<'_>]) -> Result<(), Problem> {
+        let name = octets(alloc, text(args, 1))?;
+        self.assigns.push((name, octets(alloc, text(args, 2))?))?;
+        Ok(())
+    }
+
+    /// Adds what the step says.
+    pub fn add(&mut self, alloc: Global, args: &[Arg<'_>]) -> Answer {
+        match word(args, 0) {
+            Word::Operand => self.operands.push(octets(alloc, text(args, 1))?)?,
+            Word::Assign => self.add_pair(alloc, args)?,
+            Word::Separator => self.separator = Some(octets(alloc, text(args, 1))?),
+            Word::Bound => self.bound = u64::from(count(args)?),
+            Word::FailWrite => self.log.bad_write = count(args)?,
+            Word::FailFlush => self.log.bad_flush = count(args)?,
+            Word::PutEnv => return self.add_env(alloc, args),
+            _ => return prepare(alloc, &mut self.world, args),
+        }
+        bytes(alloc, b"done")
+    }
+
+    /// Runs the script under the policy.
+    pub fn drive(
+        self,
+        alloc: Global,
+        policy: &[u8],
+        script: &[u8],
+    ) -> Result<Driven<MemoryWorld, RunLog>, Problem> {
+        if self.assigns.len() > MOST_PAIRS {
+            return Err(Problem::NoArgument);
+        }
+        match Setup::read(self.operands, self.names, self.assigns, self.separator) {
+            Ok(setup) => Ok(drive(
+                alloc, policy, script, &setup, self.bound, self.world, self.log,
+            )),
+            Err(_) => Err(Problem::NoSetup),
+        }
+    }
+}
