@@ -63,10 +63,14 @@ fn end(alloc: Global, driven: &Driven<MemoryWorld, RunLog>, args: &[Arg<'_>]) ->
     }
 }
 
+fn is_run(row: &Row<'_>) -> bool {
+    matches!(word(&row.args, 0), Word::Run)
+}
+
 /// How many rows stand before the next run.
 fn run_len(rows: &[Row<'_>]) -> usize {
     for at in 0..rows.len() {
-        if matches!(word(&rows[at].args, 0), Word::Run) {
+        if is_run(&rows[at]) {
             return at;
         }
     }
@@ -127,21 +131,21 @@ fn run(
 /// The answers of the rows behind a policy: runs under it, each with the rows that follow it.
 pub fn block(alloc: Global, args: &[Arg<'_>], rows: &[Row<'_>]) -> Result<Vec<Octets>, Problem> {
     let mut answers = Vec::new(alloc);
-    let mut left = rows;
-    for _ in 0..rows.len() {
-        let [first, rest @ ..] = left else {
-            break;
-        };
-        answers.push(told(alloc, bytes(alloc, b"done"))?)?;
-        let (here, later) = rest.split_at(run_len(rest).min(rest.len()));
-        run(
-            alloc,
-            text(args, 1),
-            text(&first.args, 1),
-            here,
-            &mut answers,
-        )?;
-        left = later;
+    for at in 0..rows.len() {
+        if is_run(&rows[at]) {
+            let rest = &rows[at + 1..];
+            let here = &rest[..run_len(rest).min(rest.len())];
+            answers.push(told(alloc, bytes(alloc, b"done"))?)?;
+            run(
+                alloc,
+                text(args, 1),
+                text(&rows[at].args, 1),
+                here,
+                &mut answers,
+            )?;
+        } else if at == 0 {
+            return Err(Problem::NoCall);
+        }
     }
     Ok(answers)
 }
