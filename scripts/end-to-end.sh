@@ -436,6 +436,24 @@ for steps in 0 007 1000000000000; do
     verdict "a bound of $steps steps"
 done
 
+# As many levels as a run may nest have room on the stack.
+nested() {
+    local text=
+    for _ in $(seq 90); do text+=$1; done
+    text+="$2"
+    for _ in $(seq 90); do text+=$3; done
+    script "function f(n) { if (n == 0) return 7; $text } BEGIN { a[1]; f($4); print \"back\" }"
+    run
+}
+for body in 'if (1) {|}' 'while (1) {|}' 'for (k in a) {|}'; do
+    nested "${body%|*}" ' return f(n - 1) ' "${body#*|}" 10
+    is 0 "back$line" "" ""
+    verdict "ten calls in 90 levels of $body"
+    nested "${body%|*}" ' return f(n - 1) ' "${body#*|}" 198
+    is 2 "" "awkbox: 0:0 F13 out of memory$line" ""
+    verdict "calls in too many levels of $body"
+done
+
 mkdir -p in
 printf '1\n2\n' >in/a
 printf '3' >in/b
@@ -812,7 +830,7 @@ tells() {
     printf 'awkbox: %s\n' "$@" |
         cmp -s - <(grep -v '^fn' "$work/errors" | sed 's/, [0-9]* min [0-9]* s so far$//')
 }
-begins="proving and building the program; the first time this takes about 10 minutes"
+begins="proving and building the program; the first time this takes about an hour"
 wrapper high
 [ "$status" -eq 1 ] && holds "$work/output" "" && [ "$(grep -c '^fn' "$work/errors")" -eq 2 ] &&
     tells "$begins" "what the prover says is in $prover" "1 of 3: low" "2 of 3: high" \
