@@ -1,6 +1,6 @@
 // The kinds of the names of a script.
 
-ghost use Rattle.std.specs.Prelude.{◌≡◌, ◌↔◌, true, List, Some, IfOk, IfErr, OnOk};
+ghost use Rattle.std.specs.Prelude.{◌≡◌, ◌↔◌, true, List, IfOk, IfErr, OnOk};
 ghost use Rattle.awk_names.specs.Faults.{Misdefined};
 ghost use Rattle.awk_names.specs.Faultless.{GivesArrays};
 ghost use Rattle.awk_names.specs.Kinds.{Agrees, Clashes, NotAfter, global, parameter};
@@ -9,8 +9,7 @@ ghost use Rattle.awk_names.specs.declared.mention.Part as items;
 ghost use Rattle.awk_text.specs.declared.place.Place as places;
 ghost use Rattle.awk_kinds.specs.Marks.{AreKinds};
 ghost use Rattle.awk_kinds.specs.Marks as spec;
-ghost use Rattle.awk_kinds.specs.Numbering.{number_in, numbers};
-ghost use Rattle.awk_kinds.specs.Uses as uses;
+ghost use Rattle.awk_kinds.specs.Numbering.{numbers};
 ghost use Rattle.awk_kinds.specs.Assigns.{CanAssign};
 ghost use Rattle.awk_kinds.specs.Assigns as assigns;
 
@@ -18,7 +17,7 @@ use crate::clash::first_clash;
 use crate::numbers::Numbers;
 use crate::reach::reached;
 use crate::uses::{arrays, links, scalars, uses};
-use awk_names::{Part, Role};
+use awk_names::Part;
 use awk_text::Memory;
 use awk_text::place::Place;
 use awk_tokens::{is_name, reserved};
@@ -94,34 +93,6 @@ impl Kinds {
         ensures { (parts : List items.Part) → AreKinds parts self.now → (result ≡ true) ↔ CanAssign parts name.now }
     {
         self.may_assign(name)
-    }
-
-    /// The number of what a text is in an item of this role. Takes no memory.
-    pub fn number(&self, role: &Role, text: &[u8]) -> Option<usize>
-        ensures { result ≡ number_in self.now.numbers role.now text.now }
-    {
-        self.numbers.number(role, text)
-    }
-
-    /// The numbers of the parameters of this function, in order. Takes no memory.
-    pub fn parameters(&self, function: &[u8]) -> &[usize]
-        ensures { result.now ≡ uses.parameters self.now.numbers function.now }
-    {
-        self.numbers.parameters(function)
-    }
-
-    /// How many numbers are given. Takes no memory.
-    pub fn count(&self) -> usize
-        ensures { result ≡ self.now.numbers.count }
-    {
-        self.numbers.count
-    }
-
-    /// Whether the name of this number is an array. Takes no memory.
-    pub fn is_array(&self, number: usize) -> bool
-        ensures { result ≡ spec.is_marked self.now.arrays (Some number) }
-    {
-        is_marked(&self.arrays, Some(number))
     }
 
     /// Whether a variable of the whole script is an array. Takes no memory.

@@ -19,13 +19,7 @@ fn octets(alloc: Global, bytes: &[u8]) -> Result<Octets, Memory> {
 
 fn name(alloc: Global, text: &[u8]) -> Result<Boxed<Expr>, Memory> {
     let text = octets(alloc, text)?;
-    Boxed::new(
-        alloc,
-        Expr::Name(Name {
-            text,
-            place: PLACE,
-        }),
-    )
+    Boxed::new(alloc, Expr::Name(Name { text, place: PLACE }))
 }
 
 fn number(alloc: Global, digits: &[u8]) -> Result<Boxed<Expr>, Memory> {
