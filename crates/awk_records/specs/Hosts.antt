@@ -1,9 +1,9 @@
 -- What the host of a run gave (POSIX.1-2017 XCU awk, "OPERANDS", "OPTIONS").
-use Rattle.std.specs.Prelude.{◌≡◌, ℕ, ◌&&◌, Bool, true, false, if◌then◌else◌, List, [], ◌∷◌, ◌++◌, get_or, Option, Some, None}
+use Rattle.std.specs.Prelude.{◌≡◌, ℕ, ◌&&◌, Bool, true, false, if◌then◌else◌, List, [], ◌∷◌, ◌++◌, get_or, Option, Some, None, is_none}
 use Rattle.std.specs.List.{list_any}
 use Rattle.std.specs.Map.{lookup}
 use Rattle.std.specs.Str.{bytes_eq}
-use Rattle.awk_tokens.specs.Words.{is_name}
+use Rattle.awk_tokens.specs.Words.{is_name, reserved}
 use Rattle.awk_program.specs.Slots.{Text}
 use Rattle.awk_machine.specs.State.{Given}
 use Rattle.awk_tasks.specs.Wholes.{names_in}
@@ -32,7 +32,7 @@ is_free (Some what.Barred) = false
 
 -- whether it may set a variable of this name
 abbrev pub can_set : Hosted → Text → Bool
-can_set h name = is_name name && is_free (use_of h name)
+can_set h name = (is_name name && is_none (reserved name)) && is_free (use_of h name)
 
 abbrev pub slot_in : Option Use → Option ℕ
 slot_in None = None

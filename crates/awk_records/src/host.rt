@@ -5,7 +5,7 @@ ghost use Rattle.awk_records.specs.Hosts.{with_name, with_word};
 
 use awk_text::Memory;
 use awk_text::octets::Octets;
-use awk_tokens::is_name;
+use awk_tokens::{is_name, reserved};
 use indexmap::{IndexMap, IndexSet};
 use std::alloc::Global;
 use std::marker::Model;
@@ -90,12 +90,12 @@ impl Host {
         }
     }
 
-    /// Whether the host may set a variable of this name: it is spelled as a name, and not barred.
-    /// Takes no memory.
+    /// Whether the host may set a variable of this name: it is spelled as a name, is no word of the
+    /// language, and is not barred. Takes no memory.
     pub fn can_assign(&self, name: &[u8]) -> bool
         ensures { result ≡ spec.can_set self.now name.now }
     {
-        is_name(name) && is_free(self.use_of(name))
+        is_name(name) && reserved(name).is_none() && is_free(self.use_of(name))
     }
 
     /// The slot of a name, where it is a variable of the script that the host may set. Takes no
