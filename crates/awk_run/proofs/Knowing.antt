@@ -1,5 +1,5 @@
 -- What a host knows once it is told of a script.
-use Rattle.std.proofs.Common.{◌≡◌, ◌∙◌, ℕ, zero, suc, ◌+◌, Bool, true, false, true≢false, ◌&&◌, ◌||◌, not, List, [], ◌∷◌, ◌++◌, Option, Some, None, is_none, length, get_or, map, if◌then◌else◌, ap, sym, refl, subst, arith, append_assoc}
+use Rattle.std.proofs.Common.{◌≡◌, ◌↔◌, ◌∙◌, ℕ, ◌+◌, Bool, true, false, true≢false, ◌&&◌, ◌||◌, not, List, [], ◌∷◌, ◌++◌, Option, Some, None, is_none, Result, Ok, Err, IfOk, length, get_or, map, if◌then◌else◌, ap, sym, refl, subst, arith, append_assoc}
 use Rattle.std.specs.List.{list_any}
 use Rattle.std.specs.Str.{bytes_eq}
 use Rattle.std.proofs.lemmas.Slice.Eq.{bytes_eq-Decides}
@@ -9,7 +9,7 @@ use Rattle.awk_names.specs.Kinds as k
 use Rattle.awk_names.specs.Kinds.{global, Forced, texts}
 use Rattle.awk_names.specs.Mentions.{part}
 use Rattle.awk_names.specs.declared.mention.Part.{Part}
-use Rattle.awk_kinds.specs.Assigns.{can_assign}
+use Rattle.awk_kinds.specs.Assigns.{CanAssign, can_assign}
 use Rattle.awk_kinds.specs.Marks.{has, AreKinds}
 use Rattle.awk_kinds.specs.Said.{defined}
 use Rattle.awk_kinds.specs.declared.kinds.Kinds.{Kinds}
@@ -19,7 +19,7 @@ use Rattle.awk_tables.specs.Tables.{tables, variables, variable_flags, arrays_by
 use Rattle.awk_program.specs.Slots.{Text}
 use Rattle.awk_program.specs.View.{names_of, view_function, Names}
 use Rattle.awk_program.specs.declared.program.Function.{Function}
-use Rattle.awk_parse.specs.Scripts.{IsScript}
+use Rattle.awk_parse.specs.Scripts.{IsScript, IsScriptOf}
 use Rattle.awk_parse.specs.declared.script.Script.{Script}
 use Rattle.awk_records.specs.Hosts.{Hosted, IsHost, IsSlotIn, can_set, is_free, is_given, slot_in, slot_of, use_of, with_name, with_word}
 use Rattle.awk_records.specs.declared.host.Use.{Use}
@@ -28,7 +28,7 @@ use Rattle.awk_records.proofs.Hosting.{given_added, use_added}
 use Rattle.awk_setup.specs.SetupParts.{SetupParts}
 use Rattle.awk_run.specs.Givens.{given_of}
 use Rattle.awk_run.specs.Hosting.{host_of, nothing_told, with_functions, with_variables, with_words}
-use Rattle.awk_run.proofs.Naming.{Has, All_forced, array_is_variable, function_is_defined, functions_are_forced, functions_named}
+use Rattle.awk_run.proofs.Naming.{Has, AllForced, array_is_variable, function_is_defined, functions_are_forced, functions_named}
 
 -- ---- words
 
@@ -87,7 +87,7 @@ module _ (free : Text → Bool) (names : List Text) where
 
   last_length : (pre : List Text) (x : Text) → length (pre ++ x ∷ []) ≡ length pre + 1
   last_length [] x = refl
-  last_length (y ∷ pre) x = ap suc (last_length pre x)
+  last_length (y ∷ pre) x = omega (arith, last_length pre x)
 
   variable_right : (x : Text) (n : ℕ) → get_or names n [] ≡ x → IsRight x (if free x then Variable n else Barred)
   variable_right x n at = by (free x) refl
@@ -103,13 +103,23 @@ module _ (free : Text → Bool) (names : List Text) where
       variables_right (pre ++ x ∷ []) xs (n + 1) (with_name x (if free x then Variable n else Barred) h) (e ∙ sym (append_assoc pre (x ∷ []) xs)) (ap (λ m. m + 1) at ∙ sym (last_length pre x))
       (right_added x (if free x then Variable n else Barred) h (variable_right x n here) all)
 
-  abbrev All_barred : List Text → Type 0
-  All_barred [] = Unit {0}
-  All_barred (x ∷ xs) = (free x ≡ false) × All_barred xs
+  abbrev AllBarred : List Text → Type 0
+  AllBarred [] = Unit {0}
+  AllBarred (x ∷ xs) = (free x ≡ false) × AllBarred xs
 
-  functions_right : (xs : List Text) (h : Hosted) → All_barred xs → Right h → Right (with_functions xs h)
+  functions_right : (xs : List Text) (h : Hosted) → AllBarred xs → Right h → Right (with_functions xs h)
   functions_right [] h barred all = all
   functions_right (x ∷ xs) h barred all = functions_right xs (with_name x Barred h) barred.1 (right_added x Barred h barred.0 all)
+
+-- a script says of a name what its kinds say
+pub assigns_so : (s : Script) (x : Text) (b : Bool) → IsScript s → ((items : List Entry) → IsScriptOf items s → (b ≡ true) ↔ CanAssign (map part items) x) → b ≡ can_assign s.kinds x
+assigns_so s x b (tokens, (items, read, of)) says = by b (can_assign s.kinds x) refl refl
+  where
+    by : (c d : Bool) → b ≡ c → can_assign s.kinds x ≡ d → c ≡ d
+    by true true e f = refl
+    by true false e f = absurd (true≢false (sym ((may_assign (map part items) s.kinds x of.kinds).1 ((says items of).0 e)) ∙ f))
+    by false true e f = absurd (true≢false (sym ((says items of).1 ((may_assign (map part items) s.kinds x of.kinds).0 f)) ∙ e))
+    by false false e f = refl
 
 -- ---- what it knows
 
@@ -132,11 +142,12 @@ variables_keep free n (x ∷ xs) h y known = variables_keep free (n + 1) xs (wit
 
 variables_known : (free : Text → Bool) (n : ℕ) (xs : List Text) (h : Hosted) (y : Text) → Has y xs → Knows y (with_variables free n xs h)
 variables_known free n [] h y has = absurd (true≢false (sym has))
-variables_known free n (x ∷ xs) h y has = by (bytes_eq y x) refl has
+variables_known free n (x ∷ xs) h y has = by (bytes_eq y x) refl has (variables_known free (n + 1) xs (with_name x (if free x then Variable n else Barred) h) y)
   where
-    by : (b : Bool) → bytes_eq y x ≡ b → (b || list_any (bytes_eq y) xs) ≡ true → Knows y (with_variables free (n + 1) xs (with_name x (if free x then Variable n else Barred) h))
-    by true e f = variables_keep free (n + 1) xs (with_name x (if free x then Variable n else Barred) h) y (knows_so x y (if free x then Variable n else Barred) h true e refl)
-    by false e f = variables_known free (n + 1) xs (with_name x (if free x then Variable n else Barred) h) y f
+    by : (b : Bool) → bytes_eq y x ≡ b → (b || list_any (bytes_eq y) xs) ≡ true → (Has y xs → Knows y (with_variables free (n + 1) xs (with_name x (if free x then Variable n else Barred) h)))
+        → Knows y (with_variables free (n + 1) xs (with_name x (if free x then Variable n else Barred) h))
+    by true e f rest = variables_keep free (n + 1) xs (with_name x (if free x then Variable n else Barred) h) y (knows_so x y (if free x then Variable n else Barred) h true e refl)
+    by false e f rest = rest f
 
 functions_keep : (xs : List Text) (h : Hosted) (y : Text) → Knows y h → Knows y (with_functions xs h)
 functions_keep [] h y known = known
@@ -144,11 +155,11 @@ functions_keep (x ∷ xs) h y known = functions_keep xs (with_name x Barred h) y
 
 functions_known : (xs : List Text) (h : Hosted) (y : Text) → Has y xs → Knows y (with_functions xs h)
 functions_known [] h y has = absurd (true≢false (sym has))
-functions_known (x ∷ xs) h y has = by (bytes_eq y x) refl has
+functions_known (x ∷ xs) h y has = by (bytes_eq y x) refl has (functions_known xs (with_name x Barred h) y)
   where
-    by : (b : Bool) → bytes_eq y x ≡ b → (b || list_any (bytes_eq y) xs) ≡ true → Knows y (with_functions xs (with_name x Barred h))
-    by true e f = functions_keep xs (with_name x Barred h) y (knows_so x y Barred h true e refl)
-    by false e f = functions_known xs (with_name x Barred h) y f
+    by : (b : Bool) → bytes_eq y x ≡ b → (b || list_any (bytes_eq y) xs) ≡ true → (Has y xs → Knows y (with_functions xs (with_name x Barred h))) → Knows y (with_functions xs (with_name x Barred h))
+    by true e f rest = functions_keep xs (with_name x Barred h) y (knows_so x y Barred h true e refl)
+    by false e f rest = rest f
 
 -- ---- a host that knows all arrays and functions of a script, and is right, may set what a host may assign to
 
@@ -212,7 +223,7 @@ viewed_names : (t : Names) (fs : List Function) → map (λ f. f.name) (map (vie
 viewed_names t [] = refl
 viewed_names t (f ∷ fs) = ap (λ ys. f.name ∷ ys) (viewed_names t fs)
 
-barred_all : (parts : List Part) (c : Kinds) → AreKinds parts c → (names xs : List Text) → All_forced parts xs → All_barred (can_assign c) names xs
+barred_all : (parts : List Part) (c : Kinds) → AreKinds parts c → (names xs : List Text) → AllForced parts xs → AllBarred (can_assign c) names xs
 barred_all parts c kinds names [] forced = tt
 barred_all parts c kinds names (x ∷ xs) (one, rest) = (by (can_assign c x) refl, barred_all parts c kinds names xs rest)
   where
@@ -249,22 +260,26 @@ module _ (s : Script) (setup : SetupParts) (steps : ℕ) where
   names_known y has = functions_keep fs varied y (variables_known (can_assign s.kinds) 0 (names_of s.program) worded y has)
 
 pub host_is : (s : Script) (setup : SetupParts) (steps : ℕ) → IsScript s → IsHost (host_of s setup steps) (given_of s setup steps)
-host_is s setup steps (tokens, items, read, of) =
+host_is s setup steps (tokens, (items, read, of)) =
     let all : List Part = map part items in
     let names_are : names_of s.program ≡ variables all = ap (λ q. map (λ m. m.text) q.variables) of.program ∙ texts_are (variables all) (variable_flags (arrays_by s.kinds) (variables all)) in
     let functions_are : fs s setup steps ≡ texts (defined all) = sym (viewed_names (names_of s.program) s.program.functions) ∙ (ap (λ q. map (λ f. f.name) q.functions) of.program ∙ functions_named (tables s.kinds all) items) in
-    let barred : All_barred (can_assign s.kinds) (names_of s.program) (fs s setup steps) =
-        subst (λ (xs : List Text). All_barred (can_assign s.kinds) (names_of s.program) xs) (sym functions_are) (barred_all all s.kinds of.kinds (names_of s.program) (texts (defined all)) (functions_are_forced all)) in
+    let barred : AllBarred (can_assign s.kinds) (names_of s.program) (fs s setup steps) =
+    subst (λ (xs : List Text). AllBarred (can_assign s.kinds) (names_of s.program) xs) (sym functions_are) (barred_all all s.kinds of.kinds (names_of s.program) (texts (defined all)) (functions_are_forced all)) in
     let right : Right (can_assign s.kinds) (names_of s.program) (host_of s setup steps) =
-        functions_right (can_assign s.kinds) (names_of s.program) (fs s setup steps) (varied s setup steps) barred
-        (variables_right (can_assign s.kinds) (names_of s.program) [] (names_of s.program) 0 (worded s setup steps) refl refl (nothing_right (can_assign s.kinds) (names_of s.program) setup.operands steps)) in
+    functions_right (can_assign s.kinds) (names_of s.program) (fs s setup steps) (varied s setup steps) barred
+    (variables_right (can_assign s.kinds) (names_of s.program) [] (names_of s.program) 0 (worded s setup steps) refl refl (nothing_right (can_assign s.kinds) (names_of s.program) setup.operands steps)) in
     let arrays_known : (y : Text) → Forced all (global y) k.array → Knows y (host_of s setup steps) =
-        λ y forced. names_known s setup steps y (subst (λ (xs : List Text). Has y xs) (sym names_are) (array_is_variable all (global y) k.array y refl refl forced)) in
+    λ y forced. names_known s setup steps y (subst (λ (xs : List Text). Has y xs) (sym names_are) (array_is_variable all (global y) k.array y refl refl forced)) in
     let functions_known_all : (y : Text) → Forced all (global y) k.function → Knows y (host_of s setup steps) =
-        λ y forced. functions_known (fs s setup steps) (varied s setup steps) y (subst (λ (xs : List Text). Has y xs) (sym functions_are) (function_is_defined all y forced)) in
+    λ y forced. functions_known (fs s setup steps) (varied s setup steps) y (subst (λ (xs : List Text). Has y xs) (sym functions_are) (function_is_defined all y forced)) in
     record {
       bound = sym (stays s setup steps).0;
       words = words_are s setup steps;
       can_assign = may_set all s.kinds of.kinds (names_of s.program) (host_of s setup steps) right arrays_known functions_known_all (names_known s setup steps);
       slots = has_slot all s.kinds of.kinds (names_of s.program) (host_of s setup steps) right arrays_known functions_known_all (names_known s setup steps);
     }
+
+pub told_is : {E : Type 0} (s : Script) (setup : SetupParts) (steps : ℕ) (r : Result Hosted E) → IsScript s → IfOk r (λ h. h ≡ host_of s setup steps) → IfOk r (λ h. IsHost h (given_of s setup steps))
+told_is s setup steps (Ok h) is same = subst (λ (z : Hosted). IsHost z (given_of s setup steps)) (sym same) (host_is s setup steps is)
+told_is s setup steps (Err e) is same = tt

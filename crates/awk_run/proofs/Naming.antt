@@ -1,5 +1,5 @@
 -- Which names of a script are its variables, and which its functions.
-use Rattle.std.proofs.Common.{◌≡◌, ◌∙◌, ℕ, zero, suc, ◌+◌, ◌<◌, Bool, true, false, true≢false, ◌||◌, List, [], ◌∷◌, ◌++◌, Option, Some, None, Contains, slice_get, length, get_or, map, if◌then◌else◌, ap, sym, refl, subst, arith}
+use Rattle.std.proofs.Common.{◌≡◌, ◌∙◌, ℕ, zero, suc, ◌<◌, Bool, true, false, true≢false, ◌||◌, List, [], ◌∷◌, ◌++◌, Option, Some, None, Contains, slice_get, length, get_or, map, if◌then◌else◌, ap, sym, refl, subst, arith}
 use Rattle.std.specs.List.{list_any}
 use Rattle.std.specs.Str.{bytes_eq}
 use Rattle.std.proofs.lemmas.List.Folds.{list_any_at, list_any-append}
@@ -203,21 +203,21 @@ function_is_defined parts x forced = by (function_only parts (global x) k.functi
         defined_has x parts p k h e (subst (λ (z : Text). Has z (own_functions p)) (sym same) own)
 
 -- each that an item defines is one
-abbrev All_forced : List Part → List Text → Type 0
-All_forced parts [] = Unit {0}
-All_forced parts (x ∷ xs) = Forced parts (global x) k.function × All_forced parts xs
+abbrev pub AllForced : List Part → List Text → Type 0
+AllForced parts [] = Unit {0}
+AllForced parts (x ∷ xs) = Forced parts (global x) k.function × AllForced parts xs
 
-all_defined : (all parts : List Part) → ((p : Part) → Contains parts p → Contains all p) → All_forced all (texts (defined parts))
+all_defined : (all parts : List Part) → ((p : Part) → Contains parts p → Contains all p) → AllForced all (texts (defined parts))
 all_defined all [] inside = tt
 all_defined all (p ∷ ps) inside = by p.role refl (all_defined all ps (λ q (j, h, e). inside q (suc j, omega (arith, h), e)))
   where
-    by : (r : Role) → p.role ≡ r → All_forced all (texts (defined ps)) → All_forced all (texts (defined_by r ++ defined ps))
+    by : (r : Role) → p.role ≡ r → AllForced all (texts (defined ps)) → AllForced all (texts (defined_by r ++ defined ps))
     by role.Begin e rest = rest
     by role.End e rest = rest
     by role.Rule e rest = rest
     by (role.Function f qs) e rest = (k.defined f qs (p, inside p (zero, omega arith, refl), e), rest)
 
-pub functions_are_forced : (parts : List Part) → All_forced parts (texts (defined parts))
+pub functions_are_forced : (parts : List Part) → AllForced parts (texts (defined parts))
 functions_are_forced parts = all_defined parts parts (λ p c. c)
 
 -- ---- the functions of a program

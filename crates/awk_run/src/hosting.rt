@@ -25,12 +25,20 @@ fn add_words(alloc: Global, host: &mut Host, words: &[Octets]) -> Result<(), Mem
     Ok(())
 }
 
+/// Whether the host may set the variable of this name. Takes no memory.
+fn can_assign(script: &Script, name: &[u8]) -> bool
+    requires { IsScript script.now }
+    ensures { result ≡ kinds.can_assign script.now.kinds name.now }
+{
+    script.can_assign(name)
+}
+
 /// What the variable of a script with this slot and name is to the host. Takes no memory.
 fn use_of(script: &Script, slot: u32, name: &[u8]) -> Use
     requires { IsScript script.now }
     ensures { result ≡ (if kinds.can_assign script.now.kinds name.now then Use.Variable slot else Use.Barred) }
 {
-    if script.can_assign(name) {
+    if can_assign(script, name) {
         Use::Variable(slot)
     } else {
         Use::Barred
