@@ -29,6 +29,11 @@ impl Model for Setup {
       assigns = s.assigns.items;
       separator = s.separator;
     } };
+
+    // so that the number of each pair is a u32
+    ghost use Rattle.std.specs.Prelude.{◌<◌, ◌^◌, length};
+
+    ghost invariant = { λ s. length s.assigns.items < 2 ^ 32 };
 }
 
 /// Why words make no setup: U1, a pair of `-v` whose name is none, with the number of the first such
@@ -136,9 +141,10 @@ impl Setup {
         self.separator.as_ref()
     }
 
-    /// The pairs of `-v`, in order. Takes no memory.
+    /// The pairs of `-v`, in order: fewer than 2^32. Takes no memory.
     pub fn assigns(&self) -> &[(Octets, Octets)]
-        ensures { result.now ≡ self.now.assigns }
+        ensures pairs { result.now ≡ self.now.assigns }
+        ensures few { length self.now.assigns < 2 ^ 32 }
     {
         self.assigns.as_slice()
     }

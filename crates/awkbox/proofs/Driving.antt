@@ -2,6 +2,11 @@
 use Rattle.std.proofs.Common.{◌≡◌, ℕ, Bool, List, refl, sym, ◌∙◌, ap, subst, Option, Some, None, inl, inr}
 use Rattle.std.specs.Prelude.{is_some, unwrap_or}
 use Rattle.std.specs.Io.KnownBytes.{Appends}
+use Rattle.awk_machine.specs.Laws.{EndsBy}
+use Rattle.awk_machine.specs.Pieces.{Outcome, Faulted, Piece}
+use Rattle.awk_machine.specs.Plays.{Stands, unlogged}
+use Rattle.awk_machine.specs.State.{Course, Given, State}
+use Rattle.awk_phases.specs.Reports.{IsTold, Reported}
 use Rattle.awk_text.specs.declared.fault.Fault.TheVariants.{Log as NoLog}
 use Rattle.awk_text.specs.declared.place.Place.{Place}
 use Rattle.box_world.specs.Calls.{Call}
@@ -15,11 +20,7 @@ use Rattle.box_monitor.specs.Stops.{LogEnds, Stops, StopsAtLog, StopsInside}
 use Rattle.box_monitor.specs.Watch.{Watch}
 use Rattle.box_monitor.specs.declared.log_end.LogEnd.{LogEnd}
 use Rattle.box_monitor.specs.declared.log_end.LogEnd.TheVariants.{Whole, Part, Unsure}
-use Rattle.awkbox.specs.declared.report.Outcome.{Outcome}
-use Rattle.awkbox.specs.declared.report.Outcome.TheVariants.{Fault}
-use Rattle.awkbox.specs.declared.statement.Statement.{Statement}
 use Rattle.awkbox.specs.Drives.{Drives, EndsAtLog, EndsInside, EndsWhole, LogStands}
-use Rattle.awkbox.specs.Walks.{Ends, Ran}
 use Rattle.awkbox.proofs.Passing.{asked-calls, denial-same, denied-calls, told-calls}
 
 -- a monitor that did not stop
@@ -37,31 +38,33 @@ ended (Some Unsure) old new text line h = h
 abbrev pub fresh : {W L : Type 0} → Rulebook → W → L → Watch W L
 fresh book world log = record { policy = book; world = world; log = log; denials = 0; stop = None }
 
-module _ {W L : Type 0} (follows : W → List Call → W → Type 0) (open_numbers : W → List ℕ) (has_stopped : W → Bool) (stops : W → List Call → Ask → W → Type 0) (contents : L → Option (List ℕ)) where
+-- only the log ends a run at a request
+at_request : {g : Given} {k : List Piece} {s : State} {c : Course} {o : Outcome} {want : Want} → Stands g k s c o (Some want) → o ≡ Faulted NoLog want.place
+at_request (unlogged e) = refl
+
+module _ {W L : Type 0} (follows : W → List Call → W → Type 0) (has_stopped : W → Bool) (stops : W → List Call → Ask → W → Type 0) (contents : L → Option (List ℕ)) where
   module _ (book : Rulebook) (world : W) (log : L) (m : Watch W L) (es : List Event) (leads : Leads follows has_stopped contents (fresh book world log) (calls es) m) (failed : DeniedFail book es) where
-    at-log : (want : Want) (place : Place) → want.place ≡ place → StopsAtLog contents (fresh book world log) (calls es) (ask_of want (open_streams es)) m
-        → EndsAtLog follows stops contents book world log es place (unwrap_or m.stop Whole) m.world m.log
-    at-log want place at a = record {
-      want = want;
-      at = at;
+    at_log : (want : Want) → StopsAtLog contents (fresh book world log) (calls es) (ask_of want (open_streams es)) m
+        → EndsAtLog stops contents book log es want (unwrap_or m.stop Whole) m.log
+    at_log want a = record {
       line = a.line;
       denied = sym (denial-same book want (open_streams es)) ∙ a.denied;
       ends = ended m.stop (contents log) (contents m.log) (log_text (told_of book es)) (line_of a.line)
           (subst (λ t. LogEnds m.stop (contents log) (contents m.log) (log_text t) (line_of a.line)) (told-calls book es) a.log);
     }
 
-    inside : (want : Want) (place : Place) → want.place ≡ place → StopsInside stops contents (fresh book world log) (calls es) (ask_of want (open_streams es)) m
-        → EndsInside follows stops contents book world log es place (unwrap_or m.stop Whole) m.world m.log
-    inside want place at a = record {
-      want = want;
-      at = at;
+    inside : (want : Want) → StopsInside stops contents (fresh book world log) (calls es) (ask_of want (open_streams es)) m
+        → EndsInside stops contents book world log es want (unwrap_or m.stop Whole) m.world m.log
+    inside want a = record {
       allowed = sym (denial-same book want (open_streams es)) ∙ a.allowed;
       inner = subst (λ z. stops world z (ask_of want (open_streams es)) m.world) (asked-calls book es failed) a.inner;
-      whole = ap (λ s. unwrap_or s Whole) a.stop;
-      lines = subst (λ t. Appends (contents log) (contents m.log) (log_text t)) (told-calls book es) a.log;
+      whole = record {
+        whole = ap (λ s. unwrap_or s Whole) a.stop;
+        lines = subst (λ t. Appends (contents log) (contents m.log) (log_text t)) (told-calls book es) a.log;
+      };
     }
 
-    whole : is_some m.stop ≡ is_some {T = LogEnd} None → EndsWhole follows stops contents book log es (unwrap_or m.stop Whole) m.log
+    whole : is_some m.stop ≡ is_some {T = LogEnd} None → EndsWhole stops contents book log es (unwrap_or m.stop Whole) m.log
     whole h =
         let none : m.stop ≡ None = going m.stop h in
         record {
@@ -69,23 +72,35 @@ module _ {W L : Type 0} (follows : W → List Call → W → Type 0) (open_numbe
           lines = subst (λ t. Appends (contents log) (contents m.log) (log_text t)) (told-calls book es) (leads.goes none).log;
         }
 
-    stands : (outcome : Outcome) → Ends (Leads follows has_stopped contents) (λ (w : Watch W L). open_numbers w.world) (λ (w : Watch W L). is_some w.stop) (Stops stops contents) (fresh book world log) es outcome m
-        → LogStands follows stops contents book world log es outcome (unwrap_or m.stop Whole) m.world m.log
-    stands (Fault NoLog place) u = elim u.unlogged [
+    at_last : (place : Place) (want : Want) → Stops stops contents (fresh book world log) (calls es) (ask_of want (open_streams es)) m
+        → LogStands stops contents book world log es (Faulted NoLog place) (Some want) (unwrap_or m.stop Whole) m.world m.log
+    at_last place want s = elim s [
       | inl a ↦ cc
-      | inr r ↦ elim r [ inl a ↦ inl (at-log u.want place u.at a) | inr a ↦ inr (inside u.want place u.at a) ]
+      | inr r ↦ elim r [ inl a ↦ inl (at_log want a) | inr a ↦ inr (inside want a) ]
     ]
-    stands outcome h = whole h
 
-  pub drives : (book : Rulebook) (statements : List Statement) (world : W) (log : L) (outcome : Outcome) (m : Watch W L)
-      → Ran (Leads follows has_stopped contents) (λ (w : Watch W L). open_numbers w.world) (λ (w : Watch W L). is_some w.stop) (Stops stops contents) statements outcome (fresh book world log) m
-      → Drives follows stops contents book statements world log outcome (unwrap_or m.stop Whole) m.world m.log
-  drives book statements world log outcome m r =
-      let failed = denied-calls book r.events r.leads.failed in
+    at_end : (outcome : Outcome) → IsTold outcome None → EndsWhole stops contents book log es (unwrap_or m.stop Whole) m.log
+        → LogStands stops contents book world log es outcome None (unwrap_or m.stop Whole) m.world m.log
+    at_end (Faulted NoLog place) told h = absurd told
+    at_end outcome told h = h
+
+    stands : {g : Given} {k : List Piece} {s : State} {c : Course} (outcome : Outcome) (last : Option Want) → Stands g k s c outcome last → IsTold outcome last
+        → EndsBy (λ (w : Watch W L). is_some w.stop) (Stops stops contents) (fresh book world log) es last m
+        → LogStands stops contents book world log es outcome last (unwrap_or m.stop Whole) m.world m.log
+    stands outcome None at told h = at_end outcome told (whole h)
+    stands outcome (Some want) at told h =
+        subst (λ (o : Outcome). LogStands stops contents book world log es o (Some want) (unwrap_or m.stop Whole) m.world m.log) (sym (at_request at)) (at_last want.place want h)
+
+  pub drives : (book : Rulebook) (g : Given) (world : W) (log : L) (o : Outcome) (used : ℕ) (m : Watch W L)
+      → Reported (Leads follows has_stopped contents) (λ (w : Watch W L). is_some w.stop) (Stops stops contents) g (fresh book world log) o used m
+      → Drives follows stops contents book g world log o used (unwrap_or m.stop Whole) m.world m.log
+  drives book g world log o used m r =
+      let y = r.played in
+      let failed = denied-calls book y.events y.leads.failed in
       record {
-        events = r.events;
-        part = r.part;
-        failed = failed;
-        passed = subst (λ z. follows world z m.world) (asked-calls book r.events failed) r.leads.inner;
-        log_stands = stands book world log m r.events r.leads failed outcome r.ends;
+        events = y.events;
+        last = y.last;
+        plays = record { plays = y.plays; failed = failed };
+        passed = subst (λ z. follows world z m.world) (asked-calls book y.events failed) y.leads.inner;
+        stands = stands book world log m y.events y.leads failed o y.last y.plays.stands r.told y.ends;
       }

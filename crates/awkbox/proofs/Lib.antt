@@ -1,8 +1,5 @@
-pub mod Finishing
-pub mod Known
+pub mod Driving
+pub mod OneAnswer
 pub mod Passing
 pub mod QuotedText
-pub mod Slices
-pub mod Sublists
-pub mod Walking
-pub mod Driving
+pub mod TwoWorlds

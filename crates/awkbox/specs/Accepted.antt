@@ -1,34 +1,54 @@
--- Which policies and scripts are run.
-use Rattle.std.specs.Prelude.{◌≡◌, ◌≢◌, ℕ, List, ◌⊎◌}
+-- What is run, and what is refused before a run: the policy first, then the script, then the assignments of `-v`.
+use Rattle.std.specs.Prelude.{◌≡◌, ◌≢◌, ℕ, ◌+◌, List, [], ◌∷◌, Option, Some, None, ◌⊎◌, if◌then◌else◌}
+use Rattle.awk_kinds.specs.Assigns.{can_assign}
+use Rattle.awk_kinds.specs.declared.kinds.Kinds.{Kinds}
+use Rattle.awk_parse.specs.Scripts.{IsRead, IsSpelled, IsRefused as IsRefusedByGrammar}
+use Rattle.awk_parse.specs.declared.script.Script.{Script as Spelled}
 use Rattle.awk_tokens.specs.Reads.{Reads, Refuses}
+use Rattle.awk_tokens.specs.declared.syntax_error.SyntaxError.{SyntaxError}
 use Rattle.awk_tokens.specs.declared.token.Token.{Token}
 use Rattle.box_policy.specs.Refusals.{IsRefused as IsPolicyRefused}
 use Rattle.box_policy.specs.Rulebook.{Rulebook}
 use Rattle.box_policy.specs.Written.{Written}
-use Rattle.awkbox.specs.declared.driver.Refusal.{Refusal}
-use Rattle.awkbox.specs.declared.driver.Refusal.TheVariants.{Policy, Script, Assign}
-use Rattle.awkbox.specs.declared.statement.Statement.{Statement}
-use Rattle.awkbox.specs.Script.{SpellsScript}
+use Rattle.awkbox.specs.declared.accepting.Refusal.{Refusal}
+use Rattle.awkbox.specs.declared.accepting.Refusal.TheVariants.{Policy, Script, Assign}
 
--- the bytes are read as tokens that spell the statements
-pub record ReadsScript (script : List ℕ) (statements : List Statement) : Type 0 where
+-- the bytes are read as tokens, which spell the script
+pub record ReadsScript (script : List ℕ) (s : Spelled) : Type 0 where
   pub tokens : List Token
   pub reads : Reads script tokens
-  pub spells : SpellsScript tokens statements
+  pub spelled : IsSpelled tokens s
+  pub read : IsRead tokens s
 
--- the texts write the policy and spell the statements
-pub record Accepted (policy script : List ℕ) (book : Rulebook) (statements : List Statement) : Type 0 where
+-- The number of the first pair of `-v` whose name is one that a host may not set; they are numbered from n.
+abbrev pub first_barred : Kinds → ℕ → List (List ℕ × List ℕ) → Option ℕ
+first_barred kinds n [] = None
+first_barred kinds n (pair ∷ pairs) = if can_assign kinds pair.0 then first_barred kinds (n + 1) pairs else Some n
+
+-- the texts write the policy and spell the script, and each pair may be set
+pub record Accepted (policy script : List ℕ) (pairs : List (List ℕ × List ℕ)) (book : Rulebook) (s : Spelled) : Type 0 where
   pub written : Written policy book
-  pub read : ReadsScript script statements
+  pub read : ReadsScript script s
+  pub assigns : first_barred s.kinds 1 pairs ≡ None
 
--- Why they are not run, the policy first. S1 to S3 stand where they say, and S4 where the bytes are tokens; S9 is want
--- of memory.
-abbrev pub IsRefused : List ℕ → List ℕ → Refusal → Type 0
-IsRefused policy script (Policy e) = IsPolicyRefused policy e
-IsRefused policy script (Script e) =
-    (book : Rulebook) × Written policy book × (e.code ≢ 9 → Refuses script e.code e.place ⊎ ((e.code ≡ 4) × ((tokens : List Token) × Reads script tokens)))
-IsRefused policy script (Assign n) = ⊥
+-- Why the bytes spell no script: S9 is want of memory, S1 to S3 stand where no token does, and S4 to S8 where tokens do.
+abbrev pub IsScriptRefused : List ℕ → SyntaxError → Type 0
+IsScriptRefused script e = (e.code ≢ 9 → Refuses script e.code e.place) ⊎ ((tokens : List Token) × Reads script tokens × IsRefusedByGrammar tokens e)
 
--- the texts write this policy and spell some statements
-abbrev pub IsAccepted : List ℕ → List ℕ → Rulebook → Type 0
-IsAccepted policy script book = (statements : List Statement) × Accepted policy script book statements
+-- the texts write some policy and spell a script, of which this pair is the first that may not be set
+pub record IsBarred (policy script : List ℕ) (pairs : List (List ℕ × List ℕ)) (n : ℕ) : Type 0 where
+  pub book : Rulebook
+  pub written : Written policy book
+  pub spelled : Spelled
+  pub read : ReadsScript script spelled
+  pub first : first_barred spelled.kinds 1 pairs ≡ Some n
+
+-- Why nothing is run: of the policy, the script and the pairs, the first that is refused.
+abbrev pub IsRefused : List ℕ → List ℕ → List (List ℕ × List ℕ) → Refusal → Type 0
+IsRefused policy script pairs (Policy e) = IsPolicyRefused policy e
+IsRefused policy script pairs (Script e) = (book : Rulebook) × Written policy book × IsScriptRefused script e
+IsRefused policy script pairs (Assign n) = IsBarred policy script pairs n
+
+-- the texts write this policy and spell some script
+abbrev pub IsAccepted : List ℕ → List ℕ → List (List ℕ × List ℕ) → Rulebook → Type 0
+IsAccepted policy script pairs book = (s : Spelled) × Accepted policy script pairs book s

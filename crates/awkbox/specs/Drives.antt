@@ -1,10 +1,15 @@
--- What a run under a policy does.
+-- What a run under a policy does: it is plain awk's, but for what the policy denies (POSIX.1-2017 XCU awk).
 use Rattle.std.specs.Prelude.{◌≡◌, ℕ, List, Option, None, Some, ◌⊎◌}
 use Rattle.std.specs.Io.KnownBytes.{Appends}
+use Rattle.awk_machine.specs.Pieces.{Outcome, Faulted}
+use Rattle.awk_machine.specs.Plays.{Plays}
+use Rattle.awk_machine.specs.State.{Given}
+use Rattle.awk_parse.specs.declared.script.Script.{Script}
+use Rattle.awk_run.specs.Givens.{given_of}
+use Rattle.awk_setup.specs.SetupParts.{SetupParts}
 use Rattle.awk_text.specs.declared.fault.Fault.TheVariants.{Log as NoLog}
-use Rattle.awk_text.specs.declared.place.Place.{Place}
 use Rattle.box_world.specs.Calls.{Call}
-use Rattle.box_world.specs.Events.{Event, Want, ask_of, calls, open_streams, wants}
+use Rattle.box_world.specs.Events.{Event, Want, ask_of, calls, open_streams}
 use Rattle.box_world.specs.declared.ask.Ask.{Ask}
 use Rattle.box_policy.specs.Rulebook.{Rulebook}
 use Rattle.box_monitor.specs.Lines.{line_of, log_text}
@@ -13,54 +18,52 @@ use Rattle.box_monitor.specs.Stops.{LogEnds}
 use Rattle.box_monitor.specs.Told.{Told}
 use Rattle.box_monitor.specs.declared.log_end.LogEnd.{LogEnd}
 use Rattle.box_monitor.specs.declared.log_end.LogEnd.TheVariants.{Whole}
-use Rattle.awkbox.specs.declared.report.Outcome.{Outcome}
-use Rattle.awkbox.specs.declared.report.Outcome.TheVariants.{Fault}
-use Rattle.awkbox.specs.declared.statement.Statement.{Statement}
 use Rattle.awkbox.specs.Accepted.{Accepted}
-use Rattle.awkbox.specs.Sublist.{IsSublist}
-use Rattle.awkbox.specs.Wanted.{wanted}
 
-module _ {W L : Type 0} (follows : W → List Call → W → Type 0) (stops : W → List Call → Ask → W → Type 0) (contents : L → Option (List ℕ)) where
-  -- the log did not take the line of the last request, which is denied
-  pub record EndsAtLog (book : Rulebook) (world : W) (log : L) (events : List Event) (place : Place) (end : LogEnd) (world' : W) (log' : L) : Type 0 where
-    pub want : Want
-    pub at : want.place ≡ place
-    pub line : Told
-    pub denied : denial_of_want book want ≡ Some line
-    pub ends : LogEnds (Some end) (contents log) (contents log') (log_text (told_of book events)) (line_of line)
+-- Plain awk plays these events, the newest first, to this outcome, in these steps, and each that the policy denies has
+-- failed, as awk lets it fail. The last request, which is no event, is the one that the log ended the run at.
+pub record PlaysUnder (book : Rulebook) (g : Given) (events : List Event) (o : Outcome) (used : ℕ) (last : Option Want) : Type 0 where
+  pub plays : Plays g events o used last
+  pub failed : DeniedFail book events
 
-  -- the world itself answered the last request so, which is not denied
-  pub record EndsInside (book : Rulebook) (world : W) (log : L) (events : List Event) (place : Place) (end : LogEnd) (world' : W) (log' : L) : Type 0 where
-    pub want : Want
-    pub at : want.place ≡ place
-    pub allowed : denial_of_want book want ≡ None
-    pub inner : stops world (calls (passed_on book events)) (ask_of want (open_streams events)) world'
-    pub whole : end ≡ Whole
-    pub lines : Appends (contents log) (contents log') (log_text (told_of book events))
-
-  -- the log has the line of each denial, and no more
+module _ {W L : Type 0} (stops : W → List Call → Ask → W → Type 0) (contents : L → Option (List ℕ)) where
+  -- the log has the line of each denial, in order, and no more
   pub record EndsWhole (book : Rulebook) (log : L) (events : List Event) (end : LogEnd) (log' : L) : Type 0 where
     pub whole : end ≡ Whole
     pub lines : Appends (contents log) (contents log') (log_text (told_of book events))
 
-  -- how the log stands: whole, but where it ended the run
-  abbrev pub LogStands : Rulebook → W → L → List Event → Outcome → LogEnd → W → L → Type 0
-  LogStands book world log events (Fault NoLog place) end world' log' =
-      EndsAtLog book world log events place end world' log' ⊎ EndsInside book world log events place end world' log'
-  LogStands book world log events outcome end world' log' = EndsWhole book log events end log'
+  -- the last request is denied, and the log did not take its line whole
+  pub record EndsAtLog (book : Rulebook) (log : L) (events : List Event) (want : Want) (end : LogEnd) (log' : L) : Type 0 where
+    pub line : Told
+    pub denied : denial_of_want book want ≡ Some line
+    pub ends : LogEnds (Some end) (contents log) (contents log') (log_text (told_of book events)) (line_of line)
 
-  -- The run of the statements under the policy: what it asked is a part of what they want, in order; what is denied failed;
-  -- the world was asked exactly the rest, unchanged and in order; and the log tells of what is denied.
-  pub record Drives (book : Rulebook) (statements : List Statement) (world : W) (log : L) (outcome : Outcome) (end : LogEnd) (world' : W) (log' : L) : Type 0 where
+  -- the last request is not denied, and the world may stop at it of itself
+  pub record EndsInside (book : Rulebook) (world : W) (log : L) (events : List Event) (want : Want) (end : LogEnd) (world' : W) (log' : L) : Type 0 where
+    pub allowed : denial_of_want book want ≡ None
+    pub inner : stops world (calls (passed_on book events)) (ask_of want (open_streams events)) world'
+    pub whole : EndsWhole book log events end log'
+
+  -- How the log stands: whole, but where the last request ended the run with F12.
+  abbrev pub LogStands : Rulebook → W → L → List Event → Outcome → Option Want → LogEnd → W → L → Type 0
+  LogStands book world log events (Faulted NoLog place) (Some want) end world' log' =
+      EndsAtLog book log events want end log' ⊎ EndsInside book world log events want end world' log'
+  LogStands book world log events (Faulted NoLog place) None end world' log' = ⊥
+  LogStands book world log events outcome last end world' log' = EndsWhole book log events end log'
+
+module _ {W L : Type 0} (follows : W → List Call → W → Type 0) (stops : W → List Call → Ask → W → Type 0) (contents : L → Option (List ℕ)) where
+  -- The run is plain awk's over some events, of which each denied one failed; the world comes from the first one by exactly
+  -- the others, unchanged and in order; and the log tells of the denied ones.
+  pub record Drives (book : Rulebook) (g : Given) (world : W) (log : L) (o : Outcome) (used : ℕ) (end : LogEnd) (world' : W) (log' : L) : Type 0 where
     pub events : List Event
-    pub part : IsSublist (wants events) (wanted statements)
-    pub failed : DeniedFail book events
+    pub last : Option Want
+    pub plays : PlaysUnder book g events o used last
     pub passed : follows world (calls (passed_on book events)) world'
-    pub log_stands : LogStands book world log events outcome end world' log'
+    pub stands : LogStands stops contents book world log events o last end world' log'
 
   -- the same of the texts of a policy and of a script
-  pub record DrivesText (policy script : List ℕ) (world : W) (log : L) (outcome : Outcome) (end : LogEnd) (world' : W) (log' : L) : Type 0 where
+  pub record DrivesText (policy script : List ℕ) (setup : SetupParts) (steps : ℕ) (world : W) (log : L) (o : Outcome) (used : ℕ) (end : LogEnd) (world' : W) (log' : L) : Type 0 where
     pub book : Rulebook
-    pub statements : List Statement
-    pub accepted : Accepted policy script book statements
-    pub drives : Drives book statements world log outcome end world' log'
+    pub spelled : Script
+    pub accepted : Accepted policy script setup.assigns book spelled
+    pub drives : Drives book (given_of spelled setup steps) world log o used end world' log'

@@ -4,11 +4,11 @@ use Rattle.awkbox.specs.Messages.{message_status}
 use Rattle.awkbox.specs.declared.messages.Message.TheVariants as says
 use Rattle.awkbox.specs.declared.messages.Ending.{Ending}
 use Rattle.awkbox.specs.declared.messages.Ending.TheVariants.{Quiet, Said}
-use Rattle.awkbox.specs.declared.driver.Refusal.{Refusal}
-use Rattle.awkbox.specs.declared.driver.Refusal.TheVariants.{Policy, Script, Assign}
-use Rattle.awkbox.specs.declared.report.Outcome.{Outcome}
-use Rattle.awkbox.specs.declared.report.Outcome.TheVariants.{Status, Fault, Cut}
-use Rattle.awkbox.specs.declared.report.Report.{Report}
+use Rattle.awkbox.specs.declared.accepting.Refusal.{Refusal}
+use Rattle.awkbox.specs.declared.accepting.Refusal.TheVariants.{Policy, Script, Assign}
+use Rattle.awk_phases.specs.declared.report.Outcome.{Outcome}
+use Rattle.awk_phases.specs.declared.report.Outcome.TheVariants.{Status, Fault, Cut}
+use Rattle.awk_phases.specs.declared.report.Report.{Report}
 
 abbrev pub ending_of_outcome : Outcome → Ending
 ending_of_outcome (Status status) = Quiet status

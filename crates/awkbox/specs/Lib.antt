@@ -1,12 +1,5 @@
 pub mod Accepted
 pub mod Drives
 pub mod Endings
+pub mod Laws
 pub mod Messages
-pub mod OutputStreams
-pub mod Replies
-pub mod Script
-pub mod SetupParts
-pub mod Statuses
-pub mod Sublist
-pub mod Walks
-pub mod Wanted

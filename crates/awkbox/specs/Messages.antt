@@ -7,7 +7,7 @@ use Rattle.awk_text.specs.Quoted.{quoted}
 use Rattle.awk_text.specs.declared.fault.Fault.TheVariants.{StepBound as F11, Memory as F13}
 use Rattle.awk_tokens.specs.Refusals.{refusal_text}
 use Rattle.awkbox.specs.declared.messages.Message.{Message}
-use Rattle.awkbox.specs.declared.messages.Message.TheVariants.{Fault, StepBound, Policy, Script, Assignment, CannotRead, CannotWrite, OutOfMemory}
+use Rattle.awkbox.specs.declared.messages.Message.TheVariants.{Fault, StepBound, Policy, Script, Unspelled, Assignment, CannotRead, CannotWrite, OutOfMemory}
 use Rattle.awkbox.specs.declared.messages.Warning.{Warning}
 use Rattle.awkbox.specs.declared.messages.Warning.TheVariants.{OutsideBase}
 use Rattle.box_policy.specs.Refusals.{refusal_text as policy_text}
@@ -18,6 +18,7 @@ message_text (Fault fault place) = codes "awkbox: " ++ place_text place ++ codes
 message_text StepBound = codes "awkbox: F11 " ++ fault_text F11
 message_text (Policy error) = codes "awkbox: policy " ++ policy_text error
 message_text (Script error) = codes "awkbox: script " ++ refusal_text error
+message_text (Unspelled pair) = codes "awkbox: assignment " ++ decimal pair ++ codes " U1"
 message_text (Assignment pair) = codes "awkbox: assignment " ++ decimal pair ++ codes " U3"
 message_text (CannotRead name) = codes "awkbox: cannot read \"" ++ string_bytes name ++ codes "\""
 message_text (CannotWrite name) = codes "awkbox: cannot write \"" ++ string_bytes name ++ codes "\""
@@ -29,6 +30,7 @@ message_status (Fault fault place) = 2
 message_status StepBound = 4
 message_status (Policy error) = 3
 message_status (Script error) = 3
+message_status (Unspelled pair) = 3
 message_status (Assignment pair) = 3
 message_status (CannotRead name) = 3
 message_status (CannotWrite name) = 3

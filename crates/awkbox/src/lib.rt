@@ -1,20 +1,19 @@
 //! An awk script under a written policy, for hosts that embed it: [`drive`] runs a script over a world,
 //! and the world is asked only what the policy allows.
 //!
-//! A host gives [`drive`] the two texts, a [`Setup`], a [`World`] and a log. [`OsWorld`] is the world of
-//! real files and commands, [`MemoryWorld`] one in memory, for tests. [`Ending`] is what the program
-//! `awkbox` says and ends with after an answer.
+//! A host gives [`drive`] the two texts, a [`Setup`], a bound of steps, a [`World`] and a log.
+//! [`OsWorld`] is the world of real files and commands, [`MemoryWorld`] one in memory, for tests.
+//! [`Ending`] is what the program `awkbox` says and ends with after an answer. specs/Drives.antt says
+//! what a run is.
 #![tactic(auto)]
 
+mod accepting;
 mod driver;
+pub mod laws;
 mod messages;
-mod report;
-mod script;
-mod setup;
-mod statement;
-mod streams;
-mod walk;
 
+pub use accepting::{Refusal, policy_of};
+pub use awk_run::{Outcome, Report, Setup, SetupError};
 pub use awk_text::Memory;
 pub use awk_text::fault::Fault;
 pub use awk_text::octets::Octets;
@@ -27,7 +26,5 @@ pub use box_policy::policy::Policy;
 pub use box_world::ask::{Ask, Mode, Reply, Request, Stop};
 pub use box_world::memory_world::MemoryWorld;
 pub use box_world::world::World;
-pub use driver::{Driven, Refusal, drive, policy_of};
+pub use driver::{Driven, drive};
 pub use messages::{Ending, Message, Warning};
-pub use report::{Outcome, Report};
-pub use setup::{Setup, SetupError};

@@ -2,8 +2,8 @@
 ghost use Rattle.std.specs.Prelude.{◌≡◌, Some, IfOk, string_bytes};
 ghost use Rattle.awk_text.specs.Quoted.{quoted};
 
-use crate::driver::Refusal;
-use crate::report::{Outcome, Report};
+use crate::accepting::Refusal;
+use awk_run::{Outcome, Report};
 use awk_text::Memory;
 use awk_text::fault::Fault;
 use awk_text::place::Place;
@@ -24,6 +24,8 @@ pub enum Message {
     Policy(PolicyError),
     /// The script was refused.
     Script(SyntaxError),
+    /// The name of the `-v` pair of this number, counted from 1, is not spelled as one.
+    Unspelled(u32),
     /// The `-v` pair of this number, counted from 1, names nothing that may be assigned.
     Assignment(u32),
     /// A file could not be read. The name is quoted, as the log of denials has it.
@@ -106,6 +108,7 @@ impl Message {
             Message::StepBound => 4,
             Message::Policy(_)
             | Message::Script(_)
+            | Message::Unspelled(_)
             | Message::Assignment(_)
             | Message::CannotRead(_)
             | Message::CannotWrite(_) => 3,
@@ -130,6 +133,7 @@ impl fmt::Display for Message {
             }
             Message::Policy(error) => write!(f, "awkbox: policy {error}"),
             Message::Script(error) => write!(f, "awkbox: script {error}"),
+            Message::Unspelled(pair) => write!(f, "awkbox: assignment {pair} U1"),
             Message::Assignment(pair) => write!(f, "awkbox: assignment {pair} U3"),
             Message::CannotRead(name) => write!(f, "awkbox: cannot read \"{name}\""),
             Message::CannotWrite(name) => write!(f, "awkbox: cannot write \"{name}\""),

@@ -1,6 +1,4 @@
 // The program from its words to its exit status.
-ghost use Rattle.awkbox.specs.SetupParts.{IsPlain};
-
 use crate::command_line::Run;
 use crate::files::{Identity, Source, make_log, read, runs_in};
 use crate::standard::hold_closed;
@@ -69,10 +67,10 @@ fn run_script(rt: &HostRuntime, run: &Run<'_>) -> Result<Ending, Message> {
     let policy = read_source(rt, run.policy)?;
     let script = read_source(rt, run.script)?;
     let log = make_log_of(rt, run.log, &[policy.identity, script.identity])?;
-    warn(rt, policy.bytes.as_slice(), script.bytes.as_slice())?;
-    let world = OsWorld::new(rt.clone()?);
     let alloc = rt.alloc();
     let setup = no_setup(alloc);
+    warn(rt, policy.bytes.as_slice(), script.bytes.as_slice(), &setup)?;
+    let world = OsWorld::new(rt.clone()?);
     let driven = drive(
         alloc,
         policy.bytes.as_slice(),
@@ -88,8 +86,13 @@ fn run_script(rt: &HostRuntime, run: &Run<'_>) -> Result<Ending, Message> {
 // Tells where the names that rules allow are not those that the run will open: the policy judges a
 // relative name under its base, and the system opens it under the folder that the program runs in.
 // Nothing is told where there will be no run.
-fn warn(rt: &HostRuntime, policy: &[u8], script: &[u8]) -> Result<(), Message> {
-    let Ok(policy) = policy_of(rt.alloc(), policy, script) else {
+fn warn(
+    rt: &HostRuntime,
+    policy: &[u8],
+    script: &[u8],
+    setup: &Setup,
+) -> Result<(), Message> {
+    let Ok(policy) = policy_of(rt.alloc(), policy, script, setup) else {
         return Ok(());
     };
     let Ok(base) = std::str::from_utf8(policy.base()) else {
@@ -103,9 +106,7 @@ fn warn(rt: &HostRuntime, policy: &[u8], script: &[u8]) -> Result<(), Message> {
 }
 
 // No operand, no name of the environment, no assignment and no separator.
-fn no_setup(alloc: Global) -> Setup
-    ensures { IsPlain result }
-{
+fn no_setup(alloc: Global) -> Setup {
     let (operands, names, assigns) = (Vec::new(alloc), Vec::new(alloc), Vec::new(alloc));
     Setup::read(operands, names, assigns, None).unwrap()
 }

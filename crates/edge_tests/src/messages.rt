@@ -22,6 +22,7 @@ fn tells_in_one_line(rt: HostRuntime) -> Result<(), Fail> {
             Message::Script(SyntaxError { code: 8, place }),
             "awkbox: script 1:19 S8",
         ),
+        (Message::Unspelled(2), "awkbox: assignment 2 U1"),
         (Message::Assignment(1), "awkbox: assignment 1 U3"),
         (
             Message::cannot_read(alloc, "in/\"a\"\t"),

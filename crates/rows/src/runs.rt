@@ -1,6 +1,4 @@
 // Whole runs: a script under a policy, over the world in memory.
-ghost use Rattle.awkbox.specs.SetupParts.{IsPlain};
-
 use crate::args::{number, text, word};
 use crate::problem::Problem;
 use crate::row::{Arg, Row};
@@ -17,9 +15,7 @@ use std::alloc::Global;
 const STEPS: u64 = 1_000;
 
 // No operand, no name of the environment, no assignment and no separator.
-fn no_setup(alloc: Global) -> Setup
-    ensures { IsPlain result }
-{
+fn no_setup(alloc: Global) -> Setup {
     let (operands, names, assigns) = (Vec::new(alloc), Vec::new(alloc), Vec::new(alloc));
     Setup::read(operands, names, assigns, None).unwrap()
 }

@@ -6,7 +6,7 @@ pub returns : goal.returns
 returns c = λ steps. record {
   operands = sym c.operands.ensures;
   environment = sym c.names.ensures;
-  assigns = sym c.assigns.ensures;
+  assigns = sym c.assigns.ensures.pairs;
   separator = sym c.separator.ensures;
   names_environ = environ_so c.args.script.now c.names_environ.result c.requires c.names_environ.ensures;
 }

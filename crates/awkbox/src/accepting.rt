@@ -1,0 +1,98 @@
+// What is run, and what is refused before a run.
+ghost use Rattle.std.specs.Prelude.{◌≡◌, ◌<◌, ◌^◌, length, IfOk, IfErr};
+ghost use Rattle.awk_kinds.specs.Assigns.{can_assign};
+ghost use Rattle.awk_parse.specs.Scripts.{IsScript};
+ghost use Rattle.awkbox.specs.Accepted.{Accepted, IsAccepted, IsRefused, IsScriptRefused, ReadsScript, first_barred};
+
+use awk_parse::{Script, parse};
+use awk_run::Setup;
+use awk_text::octets::Octets;
+use awk_tokens::{SyntaxError, tokens};
+use box_policy::error::PolicyError;
+use box_policy::policy::Policy;
+use std::alloc::Global;
+
+/// Why nothing was run: the policy, the script, or the `-v` pair of this number was refused.
+#[derive(Clone, Copy, Debug, PartialEq, Eq, Drop)]
+pub enum Refusal {
+    Policy(PolicyError),
+    Script(SyntaxError),
+    Assign(u32),
+}
+
+/// The script that the bytes spell.
+fn read_script(alloc: Global, script: &[u8]) -> Result<Script, SyntaxError>
+    ensures ok { IfOk result (ReadsScript script.now) }
+    ensures refused { IfErr result (IsScriptRefused script.now) }
+{
+    let tokens = match tokens(alloc, script) {
+        Ok(tokens) => tokens,
+        Err(error) => return Err(error),
+    };
+    parse(alloc, tokens.as_slice())
+}
+
+/// Whether a host may set the variable of this name.
+fn may_set(script: &Script, name: &[u8]) -> bool
+    requires { IsScript script.now }
+    ensures { result ≡ can_assign script.now.kinds name.now }
+{
+    script.can_assign(name)
+}
+
+/// The number of the first pair whose name may not be set, counted from 1.
+fn first_barred(script: &Script, assigns: &[(Octets, Octets)]) -> Option<u32>
+    requires script { IsScript script.now }
+    requires few { length assigns.now < 2 ^ 32 }
+    ensures { result ≡ first_barred script.now.kinds 1 assigns.now }
+{
+    let mut number = 0u32;
+    for (name, _) in assigns {
+        number += 1;
+        if !may_set(script, name.bytes()) {
+            return Some(number);
+        }
+    }
+    None
+}
+
+/// The policy and the script, or the first refusal.
+pub(crate) fn accepted(
+    alloc: Global,
+    policy: &[u8],
+    script: &[u8],
+    setup: &Setup,
+) -> Result<(Policy, Script), Refusal>
+    ensures ok { IfOk result (λ parts. Accepted policy.now script.now setup.now.assigns parts.0 parts.1) }
+    ensures refused { IfErr result (IsRefused policy.now script.now setup.now.assigns) }
+{
+    let policy = match Policy::read(alloc, policy) {
+        Ok(policy) => policy,
+        Err(error) => return Err(Refusal::Policy(error)),
+    };
+    let script = match read_script(alloc, script) {
+        Ok(script) => script,
+        Err(error) => return Err(Refusal::Script(error)),
+    };
+    match first_barred(&script, setup.assigns()) {
+        Some(pair) => Err(Refusal::Assign(pair)),
+        None => Ok((policy, script)),
+    }
+}
+
+/// The policy that a run would be under, for what a host wants to know of it before the run; or the
+/// refusal that [`crate::drive`] would answer.
+pub fn policy_of(
+    alloc: Global,
+    policy: &[u8],
+    script: &[u8],
+    setup: &Setup,
+) -> Result<Policy, Refusal>
+    ensures ok { IfOk result (IsAccepted policy.now script.now setup.now.assigns) }
+    ensures refused { IfErr result (IsRefused policy.now script.now setup.now.assigns) }
+{
+    match accepted(alloc, policy, script, setup) {
+        Ok((policy, _)) => Ok(policy),
+        Err(refusal) => Err(refusal),
+    }
+}
