@@ -9,7 +9,7 @@ ghost use Rattle.awk_tree.specs.View.{view, view_term, view_piped};
 use awk_text::octets::Octets;
 use awk_text::place::Place;
 use awk_tokens::Token;
-use awk_tree::{Assignment, Comparison, Expr, Member, Name, Piped, Sign, Slot, Step, Term};
+use awk_tree::{Assignment, Comparison, Expr, Member, Name, Piped, Sign, Step, Term};
 use sqlite_items::{Boxed, Items};
 use std::alloc::{AllocError, Global};
 
@@ -27,7 +27,6 @@ pub fn name_of(alloc: Global, token: &Token) -> Result<Name, AllocError>
     Ok(Name {
         text: token.text.copy(alloc)?,
         place: token.place,
-        slot: Slot::Unbound,
     })
 }
 

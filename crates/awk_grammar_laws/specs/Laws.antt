@@ -39,6 +39,6 @@ ScriptsAreWhole = (ts rest : List Token) (items : List Entry) → script ts ≡ 
 abbrev pub ScriptsAreSpelled : Type 0
 ScriptsAreSpelled = (ts : List Token) (items : List Entry) → script ts ≡ Ok (items, []) → SpellsScript ts items
 
--- and its canonical spelling is read as the same tree, places and slots aside
+-- and its canonical spelling is read as the same tree, places aside
 abbrev pub ScriptsAreReadAgain : Type 0
 ScriptsAreReadAgain = (items : List Entry) → IsScript items → script (canon_script items) ≡ Ok (map bare_entry items, [])

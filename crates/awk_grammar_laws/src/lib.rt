@@ -26,7 +26,7 @@ pub fn simple_statements()
 
 /// Tokens that the rules read as a script are all of them a script by the grammar, and the items are
 /// those that they spell. The canonical spelling of the items of a script is read as the same
-/// items, places and slots aside.
+/// items, places aside.
 #[tactic(auto, using(crate::proofs::Laws::scripts_are_whole, crate::proofs::Laws::scripts_are_spelled, crate::proofs::Laws::scripts_are_read_again))]
 pub fn scripts()
     ensures whole { ScriptsAreWhole }

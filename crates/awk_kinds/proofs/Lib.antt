@@ -8,4 +8,3 @@ pub mod AllKinds
 pub mod Clashing
 pub mod Agreeing
 pub mod Assigning
-pub mod Telling

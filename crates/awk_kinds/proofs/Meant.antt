@@ -21,7 +21,7 @@ use Rattle.awk_names.proofs.Lists.{contains_first, contains_cases}
 use Rattle.awk_names.proofs.Naming.{among_contains, contains_among, split_at}
 use Rattle.awk_kinds.specs.Numbering as s
 use Rattle.awk_kinds.specs.Numbering.{number, number_in, in_scope, in_perhaps}
-use Rattle.awk_kinds.specs.Slots.{Names}
+use Rattle.awk_kinds.specs.Said.{Names}
 use Rattle.awk_kinds.specs.declared.numbers.Scope.{Scope}
 use Rattle.awk_kinds.specs.declared.numbers.Numbers.{Numbers}
 use Rattle.awk_kinds.proofs.Numbered.{Scoped, scope_known, scope_numbers, Injective, Scopes, Grows, Known, grows_on, own_grows, own_known, known_keeps, parts_grow, parts_known, functions_injective, functions_scopes, functions_have, nothing_injective, there_is}

@@ -19,7 +19,7 @@ use Rattle.awk_names.proofs.TableLemmas.{put_same, put_other}
 use Rattle.awk_names.proofs.Lists.{contains_first, contains_later, contains_none, contains_cases}
 use Rattle.awk_kinds.specs.Numbering as s
 use Rattle.awk_kinds.specs.Numbering.{number, number_in, in_scope, at_position, in_perhaps}
-use Rattle.awk_kinds.specs.Slots.{Names}
+use Rattle.awk_kinds.specs.Said.{Names}
 use Rattle.awk_kinds.specs.declared.numbers.Scope.{Scope}
 use Rattle.awk_kinds.specs.declared.numbers.Numbers.{Numbers}
 

@@ -3,6 +3,6 @@ pub mod Marking
 pub mod Numbering
 pub mod Uses
 pub mod Marks
-pub mod Slots
+pub mod Said
 pub mod Clash
 pub mod Assigns

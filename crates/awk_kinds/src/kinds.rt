@@ -1,6 +1,6 @@
 // The kinds of the names of a script.
 
-ghost use Rattle.std.specs.Prelude.{◌≡◌, ◌↔◌, [], true, List, Some, IfOk, IfErr, OnOk};
+ghost use Rattle.std.specs.Prelude.{◌≡◌, ◌↔◌, true, List, IfOk, IfErr, OnOk};
 ghost use Rattle.awk_names.specs.Faults.{Misdefined};
 ghost use Rattle.awk_names.specs.Faultless.{GivesArrays};
 ghost use Rattle.awk_names.specs.Kinds.{Agrees, Clashes, NotAfter, global, parameter};
@@ -9,22 +9,18 @@ ghost use Rattle.awk_names.specs.declared.mention.Part as items;
 ghost use Rattle.awk_text.specs.declared.place.Place as places;
 ghost use Rattle.awk_kinds.specs.Marks.{AreKinds};
 ghost use Rattle.awk_kinds.specs.Marks as spec;
-ghost use Rattle.awk_kinds.specs.Numbering.{number_in, numbers};
-ghost use Rattle.awk_kinds.specs.Slots as slots;
-ghost use Rattle.awk_kinds.specs.Uses as uses;
+ghost use Rattle.awk_kinds.specs.Numbering.{numbers};
 ghost use Rattle.awk_kinds.specs.Assigns.{CanAssign};
 ghost use Rattle.awk_kinds.specs.Assigns as assigns;
 
 use crate::clash::first_clash;
 use crate::numbers::Numbers;
 use crate::reach::reached;
-use crate::slots::{functions, slot};
 use crate::uses::{arrays, links, scalars, uses};
-use awk_names::{Part, Role, Table};
+use awk_names::Part;
 use awk_text::Memory;
 use awk_text::place::Place;
 use awk_tokens::{is_name, reserved};
-use awk_tree::Slot;
 use sqlite_items::Items;
 use std::alloc::Global;
 
@@ -32,7 +28,6 @@ use std::alloc::Global;
 #[derive(Drop)]
 pub struct Kinds {
     pub(crate) numbers: Numbers,
-    pub(crate) functions: Table<usize>,
     pub(crate) scalars: Items<bool>,
     pub(crate) arrays: Items<bool>,
 }
@@ -50,7 +45,6 @@ impl Kinds {
     fn marked(alloc: Global, parts: &[Part]) -> Result<Kinds, Memory>
         requires { (place : places.Place) → Misdefined parts.now place → ⊥ }
         ensures numbers { IfOk result (λ kinds. kinds.numbers ≡ numbers parts.now) }
-        ensures functions { IfOk result (λ kinds. kinds.functions ≡ slots.functions 0 [] parts.now) }
         ensures kinds { IfOk result (λ kinds. AreKinds parts.now kinds) }
     {
         let numbers = Numbers::of(alloc, parts)?;
@@ -61,7 +55,6 @@ impl Kinds {
         Ok(Kinds {
             scalars: reached(alloc, scalars.as_slice(), links.as_slice())?,
             arrays: reached(alloc, arrays.as_slice(), links.as_slice())?,
-            functions: functions(alloc, parts)?,
             numbers,
         })
     }
@@ -71,9 +64,7 @@ impl Kinds {
     pub fn of(alloc: Global, parts: &[Part]) -> Result<Result<Kinds, Place>, Memory>
         requires { (place : places.Place) → Misdefined parts.now place → ⊥ }
         ensures numbers { IfOk result (λ found. IfOk found (λ kinds. kinds.numbers ≡ numbers parts.now)) }
-        ensures functions { IfOk result (λ found. IfOk found (λ kinds. kinds.functions ≡ slots.functions 0 [] parts.now)) }
         ensures kinds { IfOk result (λ found. IfOk found (λ kinds. AreKinds parts.now kinds)) }
-        ensures slots { IfOk result (λ found. IfOk found (λ kinds. slots.AreSlots parts.now kinds)) }
         ensures agree { IfOk result (λ found. OnOk found (Agrees parts.now)) }
         ensures none { IfOk result (λ found. OnOk found ((place : places.Place) → Clashes parts.now place → ⊥)) }
         ensures gives { IfOk result (λ found. OnOk found (GivesArrays parts.now)) }
@@ -102,42 +93,6 @@ impl Kinds {
         ensures { (parts : List items.Part) → AreKinds parts self.now → (result ≡ true) ↔ CanAssign parts name.now }
     {
         self.may_assign(name)
-    }
-
-    /// What a text stands for in an item of this role, or `Memory` where there are more names than
-    /// a slot can tell apart.
-    pub fn slot(&self, role: &Role, text: &[u8]) -> Result<Slot, Memory>
-        ensures { IfOk result (λ slot. slot ≡ slots.slot self.now role.now text.now) }
-    {
-        slot(self, role, text)
-    }
-
-    /// The number of what a text is in an item of this role. Takes no memory.
-    pub fn number(&self, role: &Role, text: &[u8]) -> Option<usize>
-        ensures { result ≡ number_in self.now.numbers role.now text.now }
-    {
-        self.numbers.number(role, text)
-    }
-
-    /// The numbers of the parameters of this function, in order. Takes no memory.
-    pub fn parameters(&self, function: &[u8]) -> &[usize]
-        ensures { result.now ≡ uses.parameters self.now.numbers function.now }
-    {
-        self.numbers.parameters(function)
-    }
-
-    /// How many numbers are given. Takes no memory.
-    pub fn count(&self) -> usize
-        ensures { result ≡ self.now.numbers.count }
-    {
-        self.numbers.count
-    }
-
-    /// Whether the name of this number is an array. Takes no memory.
-    pub fn is_array(&self, number: usize) -> bool
-        ensures { result ≡ spec.is_marked self.now.arrays (Some number) }
-    {
-        is_marked(&self.arrays, Some(number))
     }
 
     /// Whether a variable of the whole script is an array. Takes no memory.

@@ -5,7 +5,6 @@ mod clash;
 mod kinds;
 mod numbers;
 mod reach;
-mod slots;
 mod uses;
 
 pub use kinds::Kinds;

@@ -3,7 +3,6 @@
 ghost use Rattle.std.specs.Prelude.{◌≡◌, map, length, slice_get, IfOk, OnOk};
 ghost use Rattle.awk_names.specs.Kinds.{global, parameter};
 ghost use Rattle.awk_kinds.specs.Numbering as spec;
-ghost use Rattle.awk_kinds.specs.Slots as slots;
 ghost use Rattle.awk_kinds.specs.Uses as uses;
 
 use awk_names::{ARRAYS, Mention, Part, Role, SCALARS, Table};
@@ -83,16 +82,6 @@ impl Numbers {
     {
         match self.functions.get(function) {
             Some(scope) => scope.number(text),
-            None => None,
-        }
-    }
-
-    /// Where the parameter of this text stands among those of this function.
-    pub fn position(&self, function: &[u8], text: &[u8]) -> Option<usize>
-        ensures { result ≡ slots.position self.now function.now text.now }
-    {
-        match self.functions.get(function) {
-            Some(scope) => scope.positions.get(text).copied(),
             None => None,
         }
     }

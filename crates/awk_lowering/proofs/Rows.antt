@@ -4,7 +4,6 @@ use Rattle.awk_text.specs.declared.place.Place.{Place}
 use Rattle.awk_tree.specs.Tree as t
 use Rattle.awk_tree.specs.Tree.{Text}
 use Rattle.awk_tree.specs.declared.names.Name.{Name}
-use Rattle.awk_tree.specs.declared.names.Slot.TheVariants.{Unbound}
 use Rattle.awk_tree.specs.declared.operators.Arithmetic.TheVariants as arithmetic
 use Rattle.awk_tree.specs.declared.operators.Assignment.TheVariants as assignment
 use Rattle.awk_tree.specs.declared.operators.Sign.TheVariants as tree_sign
@@ -21,7 +20,7 @@ abbrev at : ℕ → Place
 at n = record { line = 1; column = n }
 
 abbrev name : ℕ → Text → Name
-name n x = record { text = x; place = at n; slot = Unbound }
+name n x = record { text = x; place = at n }
 
 -- a function f of an array and of a value, whose body has the parameter x
 abbrev within : Scope

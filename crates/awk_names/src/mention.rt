@@ -55,6 +55,5 @@ pub fn copy_name(alloc: Global, name: &Name) -> Result<Name, Memory>
     Ok(Name {
         text: name.text.copy(alloc)?,
         place: name.place,
-        slot: name.slot,
     })
 }

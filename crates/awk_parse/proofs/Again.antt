@@ -12,7 +12,6 @@ use Rattle.awk_statements.specs.Places as places
 use Rattle.awk_names.specs.Mentions.{part}
 use Rattle.awk_names.specs.Faultless.{Faultless}
 use Rattle.awk_names.proofs.Displacing.{faultless_places_aside}
-use Rattle.awk_binding.proofs.Keeping.{same_items, same_spelling}
 use Rattle.awk_parse.specs.declared.flaw.Flaw.{Flaw}
 use Rattle.awk_parse.specs.declared.script.Script.{Script}
 use Rattle.awk_parse.specs.Flaws as flaws
@@ -26,10 +25,10 @@ pub read_again :
     (tokens ts : List Token) (s : Script) (items : List Entry) → grammar.script ts ≡ Ok (items, []) → IsScriptOf items s → tokens ≡ canon_script (tree s) →
     grammar.script tokens ≡ Ok (map bare_entry items, [])
 read_again tokens ts s items read of e =
-    ap grammar.script (e ∙ (ap canon_script of.bound ∙ same_spelling s.kinds items)) ∙ scripts_are_read_again items (ts, read)
+    ap grammar.script (e ∙ ap canon_script of.tree_is) ∙ scripts_are_read_again items (ts, read)
 
 bare_tree : (s : Script) (items : List Entry) → IsScriptOf items s → map bare_entry (tree s) ≡ map bare_entry items
-bare_tree s items of = ap (map bare_entry) of.bound ∙ same_items s.kinds items
+bare_tree s items of = ap (map bare_entry) of.tree_is
 
 -- where the script is of the items that were read, it is the same, places aside
 pub same_tree :

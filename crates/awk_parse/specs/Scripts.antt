@@ -13,8 +13,6 @@ use Rattle.awk_names.specs.Mentions.{part}
 use Rattle.awk_names.specs.Faults as names
 use Rattle.awk_names.specs.Faultless.{Faultless}
 use Rattle.awk_kinds.specs.Marks.{AreKinds}
-use Rattle.awk_kinds.specs.Slots.{AreSlots}
-use Rattle.awk_binding.specs.Binding.{bound}
 use Rattle.awk_program.specs.View.{view_program, names_of}
 use Rattle.awk_lowering.specs.Programs.{program}
 use Rattle.awk_tables.specs.Tables.{tables}
@@ -29,12 +27,11 @@ abbrev pub tree : Script → List Entry
 tree s = map view_item s.tree.items
 
 -- A script of these items: no word and no name of them stands where it cannot, no name is of two
--- kinds, its tree is the items with what each name stands for, which tells the names that it uses apart, and its program is what they stand for.
+-- kinds, its tree is these items, and its program is what they stand for.
 pub record IsScriptOf (items : List Entry) (s : Script) : Type 0 where
   pub faultless : Faultless (map part items)
   pub kinds : AreKinds (map part items) s.kinds
-  pub slots : AreSlots (map part items) s.kinds
-  pub bound : tree s ≡ bound s.kinds items
+  pub tree_is : tree s ≡ items
   -- the program that the items stand for, by the tables of their names
   pub program : view_program s.program ≡ program (tables s.kinds (map part items)) items
   -- whose variables are told apart by their names, and awk's own have their slots
@@ -60,7 +57,7 @@ pub data IsRefused (tokens : List Token) : SyntaxError → Type 0 where
   by_flaw : (items : List Entry) (flaw : Flaw) → grammar.script tokens ≡ Ok (items, []) → Flawed (map part items) flaw → IsRefused tokens (flaws.refusal flaw)
   by_memory : IsRefused tokens (record { code = 9; place = record { line = 0; column = 0 } })
 
--- the same tree, places and slots aside, or want of memory
+-- the same tree, places aside, or want of memory
 abbrev pub IsAgain : Script → Result Script SyntaxError → Type 0
 IsAgain s (Ok r) = map bare_entry (tree r) ≡ map bare_entry (tree s)
 IsAgain s (Err e) = e.code ≡ 9

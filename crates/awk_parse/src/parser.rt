@@ -11,8 +11,7 @@ use awk_tokens::{SyntaxError, Token};
 use std::alloc::Global;
 
 /// The script that the tokens spell ("Grammar" in POSIX.1-2017 XCU awk, with at most 200 levels of
-/// nesting). Where they are the canonical spelling of a script, it has the same tree, places and slots
-/// aside.
+/// nesting). Where they are the canonical spelling of a script, it has the same tree, places aside.
 ///
 /// Refused: S4 at a token that cannot stand there, or behind the last one; S5 at a token that opens
 /// a level too much; S6 at the first appearance of a name that is used in two kinds, or at the word
@@ -28,7 +27,7 @@ pub fn parse(alloc: Global, tokens: &[Token]) -> Result<Script, SyntaxError>
 {
     match script(alloc, tokens) {
         Err(fault) => Err(refusal(tokens, fault)),
-        Ok(items) => match Script::of(alloc, items.as_slice()) {
+        Ok(items) => match Script::of(alloc, items) {
             Err(flaw) => Err(flaw.refusal()),
             Ok(script) => Ok(script),
         },

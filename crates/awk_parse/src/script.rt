@@ -1,10 +1,8 @@
 // Scripts that are accepted.
 
 ghost use Rattle.std.specs.Prelude.{◌≡◌, ◌↔◌, true, List, map, IfOk, IfErr, OnOk};
-ghost use Rattle.awk_binding.specs.Binding as binding;
 ghost use Rattle.awk_kinds.specs.Assigns.{CanAssign};
 ghost use Rattle.awk_kinds.specs.Marks.{AreKinds};
-ghost use Rattle.awk_kinds.specs.Slots.{AreSlots};
 ghost use Rattle.awk_names.specs.Faultless.{Faultless};
 ghost use Rattle.awk_names.specs.Faults as names;
 ghost use Rattle.awk_names.specs.Mentions.{part};
@@ -15,18 +13,17 @@ ghost use Rattle.awk_tree.specs.Tree as t;
 ghost use Rattle.awk_tree.specs.View.{view_item};
 
 use crate::flaw::Flaw;
-use awk_binding::bind;
 use awk_kinds::Kinds;
-use awk_lowering::kept::both;
 use awk_names::{Part, misdefined, misplaced, names_environ, parts, reads_main};
 use awk_program::Program;
 use awk_tables::lower;
 use awk_text::Memory;
 use awk_tokens::Token;
 use awk_tree::Item;
+use sqlite_items::Items;
 use std::alloc::Global;
 
-/// A script in which every name has one kind and stands for one thing.
+/// A script in which every name has one kind, as the tree that was read and as the program that it stands for.
 #[derive(Drop)]
 pub struct Script {
     tree: awk_tree::Script,
@@ -40,7 +37,6 @@ pub struct Script {
 fn kinds(alloc: Global, parts: &[Part]) -> Result<Kinds, Flaw>
     ensures faultless { OnOk result (Faultless parts.now) }
     ensures kinds { IfOk result (λ kinds. AreKinds parts.now kinds) }
-    ensures slots { IfOk result (λ kinds. AreSlots parts.now kinds) }
     ensures flawed { IfErr result (λ flaw. Flawed parts.now flaw) }
 {
     if let Some(place) = misplaced(parts) {
@@ -57,36 +53,32 @@ fn kinds(alloc: Global, parts: &[Part]) -> Result<Kinds, Flaw>
 
 impl Script {
     /// The script of these items, which are these parts, or its flaw.
-    fn of_parts(alloc: Global, items: &[Item], parts: &[Part]) -> Result<Script, Flaw>
-        requires { parts.now ≡ map part (map view_item items.now) }
-        ensures script { IfOk result (λ script. IsScriptOf (map view_item items.now) script) }
-        ensures flawed { IfErr result (λ flaw. Flawed (map part (map view_item items.now)) flaw) }
+    fn of_parts(alloc: Global, items: Items<Item>, parts: &[Part]) -> Result<Script, Flaw>
+        requires { parts.now ≡ map part (map view_item items) }
+        ensures script { IfOk result (λ script. IsScriptOf (map view_item items) script) }
+        ensures flawed { IfErr result (λ flaw. Flawed (map part (map view_item items)) flaw) }
     {
         let kinds = kinds(alloc, parts)?;
-        let program = lower(alloc, &kinds, parts, items);
-        match both(bind(alloc, &kinds, items), program) {
-            Err(_) => Err(Flaw::Memory),
-            Ok((bound, program)) => Ok(Script {
-                tree: awk_tree::Script::new(bound),
-                program,
-                kinds,
-                names_environ: names_environ(parts),
-                reads_main: reads_main(parts),
-            }),
-        }
+        let program = lower(alloc, &kinds, parts, items.as_slice())?;
+        Ok(Script {
+            tree: awk_tree::Script::new(items),
+            program,
+            kinds,
+            names_environ: names_environ(parts),
+            reads_main: reads_main(parts),
+        })
     }
 
     /// The script of these items, or its flaw.
-    pub(crate) fn of(alloc: Global, items: &[Item]) -> Result<Script, Flaw>
-        ensures script { IfOk result (λ script. IsScriptOf (map view_item items.now) script) }
-        ensures flawed { IfErr result (λ flaw. Flawed (map part (map view_item items.now)) flaw) }
+    pub(crate) fn of(alloc: Global, items: Items<Item>) -> Result<Script, Flaw>
+        ensures script { IfOk result (λ script. IsScriptOf (map view_item items) script) }
+        ensures flawed { IfErr result (λ flaw. Flawed (map part (map view_item items)) flaw) }
     {
-        let parts = parts(alloc, items)?;
+        let parts = parts(alloc, items.as_slice())?;
         Script::of_parts(alloc, items, parts.as_slice())
     }
 
-    /// The items of the script, in order. Each name has what it stands for in its slot. Takes no
-    /// memory.
+    /// The items of the script, in order. Takes no memory.
     pub fn items(&self) -> &[Item]
         ensures { result.now ≡ self.now.tree.items }
     {
@@ -133,7 +125,7 @@ impl Script {
 }
 
 /// The canonical spelling of a script: its tokens, all at the place 0:0, or `Memory` where memory
-/// is refused. `parse` reads them as the same tree again, places and slots aside.
+/// is refused. `parse` reads them as the same tree again, places aside.
 pub fn canon(alloc: Global, script: &Script) -> Result<Vec<Token>, Memory>
     ensures { IfOk result (λ tokens. tokens.items ≡ canon_script (tree script.now)) }
 {

@@ -11,7 +11,7 @@ use Rattle.awk_names.specs.Mentions.{part}
 use Rattle.awk_names.specs.declared.mention.Part.{Part}
 use Rattle.awk_kinds.specs.Assigns.{CanAssign, can_assign}
 use Rattle.awk_kinds.specs.Marks.{has, AreKinds}
-use Rattle.awk_kinds.specs.Slots.{defined}
+use Rattle.awk_kinds.specs.Said.{defined}
 use Rattle.awk_kinds.specs.declared.kinds.Kinds.{Kinds}
 use Rattle.awk_kinds.proofs.Assigning.{may_assign}
 use Rattle.awk_lowering.proofs.Adding.{texts_are}

@@ -16,7 +16,7 @@ use Rattle.awk_names.specs.declared.mention.Mention.TheVariants.{Array, Call}
 use Rattle.awk_names.specs.declared.mention.Role.{Role}
 use Rattle.awk_names.specs.declared.mention.Role.TheVariants as role
 use Rattle.awk_names.specs.declared.mention.Part.{Part}
-use Rattle.awk_kinds.specs.Slots.{defined, defined_by}
+use Rattle.awk_kinds.specs.Said.{defined, defined_by}
 use Rattle.awk_lowering.specs.Programs.{Tables, each, functions_of}
 use Rattle.awk_lowering.specs.Rolls.{added}
 use Rattle.awk_tables.specs.Tables.{given, used, all_used, own_of, outside, mentioned, behind, variables}

@@ -14,7 +14,7 @@ use Rattle.awk_names.specs.declared.mention.Role.{Role}
 use Rattle.awk_names.specs.declared.mention.Role.TheVariants as role
 use Rattle.awk_names.specs.declared.mention.Part.{Part}
 use Rattle.awk_kinds.specs.Marks.{has}
-use Rattle.awk_kinds.specs.Slots.{defined}
+use Rattle.awk_kinds.specs.Said.{defined}
 use Rattle.awk_kinds.specs.declared.kinds.Kinds.{Kinds}
 use Rattle.awk_lowering.specs.Rolls.{added}
 use Rattle.awk_lowering.specs.Programs.{Tables}

@@ -1,7 +1,7 @@
 // The functions of a script.
 
 ghost use Rattle.std.specs.Prelude.{◌≡◌, IfOk};
-ghost use Rattle.awk_kinds.specs.Slots.{defined};
+ghost use Rattle.awk_kinds.specs.Said.{defined};
 ghost use Rattle.awk_names.specs.Kinds.{texts};
 
 use awk_lowering::Roll;

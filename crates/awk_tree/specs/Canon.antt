@@ -5,7 +5,6 @@ use Rattle.awk_tokens.specs.declared.token.Token.{Token}
 use Rattle.awk_tokens.specs.declared.kinds.TokenKind.TheVariants as kind
 use Rattle.awk_tree.specs.declared.names.Name.{Name}
 use Rattle.awk_tree.specs.declared.names.Member.{Member}
-use Rattle.awk_tree.specs.declared.names.Slot.TheVariants.{Unbound}
 use Rattle.awk_tree.specs.declared.operators.Arithmetic.{Arithmetic}
 use Rattle.awk_tree.specs.declared.operators.Arithmetic.TheVariants as arithmetic
 use Rattle.awk_tree.specs.declared.operators.Comparison.{Comparison}
@@ -221,7 +220,7 @@ canon_script items = flat_map canon_entry items
 -- ---- trees without places
 
 abbrev pub bare_name : Name → Name
-bare_name n = record n { place = nowhere; slot = Unbound }
+bare_name n = record n { place = nowhere }
 
 abbrev pub bare_member : Member → Member
 bare_member m = record { place = nowhere; array = bare_name m.array }

@@ -5,7 +5,6 @@ use Rattle.awk_text.specs.declared.place.Place.{Place}
 use Rattle.awk_tokens.specs.declared.token.Token.{Token}
 use Rattle.awk_tree.specs.declared.names.Name.{Name}
 use Rattle.awk_tree.specs.declared.names.Member.{Member}
-use Rattle.awk_tree.specs.declared.names.Slot.TheVariants.{Unbound}
 use Rattle.awk_tree.specs.declared.operators.Arithmetic.{Arithmetic}
 use Rattle.awk_tree.specs.declared.operators.Arithmetic.TheVariants as arithmetic
 use Rattle.awk_tree.specs.declared.operators.Assignment.{Assignment}
@@ -95,7 +94,7 @@ assignment other = None
 -- ---- nodes
 
 abbrev pub name_of : Token → Name
-name_of token = record { text = token.text; place = token.place; slot = Unbound }
+name_of token = record { text = token.text; place = token.place }
 
 abbrev pub is_lvalue : Tree → Bool
 is_lvalue (t.name n) = true

@@ -19,7 +19,7 @@ pub use expressions::{Expr, Piped, Term};
 pub use fault::Fault;
 pub use goals::{Goal, Nested};
 pub use items::{Function, Item, Pattern, Script};
-pub use names::{Member, Name, Slot};
+pub use names::{Member, Name};
 pub use operators::{Arithmetic, Assignment, Builtin, Comparison, Redirect, Sign, Step};
 pub use statements::{Printed, Redirection, Statement};
 pub use terminals::Terminal;

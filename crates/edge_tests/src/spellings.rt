@@ -5,7 +5,7 @@ use awk_text::Memory;
 use awk_text::octets::Octets;
 use awk_text::place::Place;
 use awk_tokens::{Token, TokenKind};
-use awk_tree::{Arithmetic, Expr, Item, Name, Pattern, Printed, Script, Slot, Statement, Term};
+use awk_tree::{Arithmetic, Expr, Item, Name, Pattern, Printed, Script, Statement, Term};
 use sqlite_items::{Boxed, Items};
 use std::alloc::Global;
 
@@ -19,14 +19,7 @@ fn octets(alloc: Global, bytes: &[u8]) -> Result<Octets, Memory> {
 
 fn name(alloc: Global, text: &[u8]) -> Result<Boxed<Expr>, Memory> {
     let text = octets(alloc, text)?;
-    Boxed::new(
-        alloc,
-        Expr::Name(Name {
-            text,
-            place: PLACE,
-            slot: Slot::Unbound,
-        }),
-    )
+    Boxed::new(alloc, Expr::Name(Name { text, place: PLACE }))
 }
 
 fn number(alloc: Global, digits: &[u8]) -> Result<Boxed<Expr>, Memory> {

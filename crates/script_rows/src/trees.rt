@@ -1,8 +1,8 @@
-// Worked rows of trees: what groups with what, and what names stand for.
+// Worked rows of trees: what groups with what.
 
 use crate::scripts::script;
 use awk_parse::Script;
-use awk_tree::{Expr, Item, Redirection, Slot, Statement};
+use awk_tree::{Expr, Item, Redirection, Statement};
 use std::alloc::Global;
 use std::process::Abort;
 
@@ -374,44 +374,6 @@ fn statements_and_their_bodies(rt: HostRuntime) {
     ];
     for (text, whole, inner, then) in rows {
         consists(&rt, rt.alloc(), text.as_bytes(), whole, inner, then);
-    }
-}
-
-fn slot(e: Option<&Expr>) -> Slot {
-    match e {
-        Some(Expr::Name(n)) | Some(Expr::Element(n, _)) | Some(Expr::Call(n, _)) => n.slot,
-        _ => Slot::Unbound,
-    }
-}
-
-/// What the first statement of the function in this item returns.
-fn returned(script: &Script, at: usize) -> Option<&Expr> {
-    match script.items().get(at) {
-        Some(Item::Function(f)) => match f.body.get(0) {
-            Some(Statement::Return(_, Some(e))) => Some(e),
-            _ => None,
-        },
-        _ => None,
-    }
-}
-
-fn tells_apart(rt: &impl Abort, script: &Script) {
-    assert!(rt; slot(returned(script, 1)) == Slot::Local(1));
-    assert!(rt; slot(returned(script, 2)) == Slot::Function(0));
-    assert!(rt; slot(value(script)) == Slot::Function(1));
-    let (Some(set), Some(call)) = (expression(script, 0), returned(script, 2)) else {
-        panic!(rt; "no such expressions");
-    };
-    assert!(rt; slot(first(set)) == slot(first(call)));
-    assert!(rt; slot(first(call)) != slot(last(call)));
-}
-
-#[test]
-fn what_names_stand_for(rt: HostRuntime) {
-    let text = "BEGIN { y = g() } function f(a, b) { return b } function g() { return f(y, NR) }";
-    match script(rt.alloc(), text.as_bytes()) {
-        Err(e) => panic!(rt; "refused: {e}"),
-        Ok(script) => tells_apart(&rt, &script),
     }
 }
 

@@ -22,25 +22,25 @@ returns-in-Err-clause-again c =
 pub returns-in-Err-of-clause-refused : goal.returns-in-Err-of-clause-refused
 returns-in-Err-of-clause-refused c =
     let read : grammar.script c.args.tokens.now ≡ Ok (map view_item c.in-Ok.items, []) = c.in-Ok.ensures in
-    let flawed : Flawed (map part (map view_item c.in-Ok.items)) c.in-Err-of.flaw = rw c.as_slice.ensures at c.in-Err-of.ensures.flawed in
+    let flawed : Flawed (map part (map view_item c.in-Ok.items)) c.in-Err-of.flaw = c.in-Err-of.ensures.flawed in
     rw c.refusal-in-Err-of.ensures (by_flaw (map view_item c.in-Ok.items) c.in-Err-of.flaw read flawed)
 
 pub returns-in-Err-of-clause-again : goal.returns-in-Err-of-clause-again
 returns-in-Err-of-clause-again c =
     λ s is e.
     let read : grammar.script c.args.tokens.now ≡ Ok (map view_item c.in-Ok.items, []) = c.in-Ok.ensures in
-    let flawed : Flawed (map part (map view_item c.in-Ok.items)) c.in-Err-of.flaw = rw c.as_slice.ensures at c.in-Err-of.ensures.flawed in
+    let flawed : Flawed (map part (map view_item c.in-Ok.items)) c.in-Err-of.flaw = c.in-Err-of.ensures.flawed in
     rw c.refusal-in-Err-of.ensures (same_flaw c.args.tokens.now is.0 s is.1.0 (map view_item c.in-Ok.items) c.in-Err-of.flaw is.1.1 is.1.2 e read flawed)
 
-pub returns-clause-spelled : goal.returns-clause-spelled
-returns-clause-spelled c =
+pub returns-in-Ok-of-clause-spelled : goal.returns-in-Ok-of-clause-spelled
+returns-in-Ok-of-clause-spelled c =
     let read : grammar.script c.args.tokens.now ≡ Ok (map view_item c.in-Ok.items, []) = c.in-Ok.ensures in
-    let of : IsScriptOf (map view_item c.in-Ok.items) c.in-Ok-of.script = rw c.as_slice.ensures at c.in-Ok-of.ensures.script in
+    let of : IsScriptOf (map view_item c.in-Ok.items) c.in-Ok-of.script = c.in-Ok-of.ensures.script in
     (map view_item c.in-Ok.items, scripts_are_spelled c.args.tokens.now (map view_item c.in-Ok.items) read, of)
 
-pub returns-clause-again : goal.returns-clause-again
-returns-clause-again c =
+pub returns-in-Ok-of-clause-again : goal.returns-in-Ok-of-clause-again
+returns-in-Ok-of-clause-again c =
     λ s is e.
     let read : grammar.script c.args.tokens.now ≡ Ok (map view_item c.in-Ok.items, []) = c.in-Ok.ensures in
-    let of : IsScriptOf (map view_item c.in-Ok.items) c.in-Ok-of.script = rw c.as_slice.ensures at c.in-Ok-of.ensures.script in
+    let of : IsScriptOf (map view_item c.in-Ok.items) c.in-Ok-of.script = c.in-Ok-of.ensures.script in
     same_tree c.args.tokens.now is.0 s c.in-Ok-of.script is.1.0 (map view_item c.in-Ok.items) is.1.1 is.1.2 e read of

@@ -1,5 +1,5 @@
 use Rattle.std.proofs.Common.{◌≡◌, ◌++◌, drop}
-use Rattle.awk_kinds.specs.Slots.{defined}
+use Rattle.awk_kinds.specs.Said.{defined}
 use Rattle.awk_names.specs.Kinds.{texts}
 use Rattle.awk_tables.proofs.functions.function_names.Given as goal
 

@@ -1,4 +1,3 @@
-use Rattle.std.proofs.Common.{[]}
 use Rattle.awk_kinds.proofs.AllKinds.{marked_kinds}
 use Rattle.awk_kinds.proofs.kinds.Kinds.marked.Goals as goal
 
@@ -9,4 +8,4 @@ returns-clause-kinds c =
     let used3 = rw c.as_slice-3.ensures at c.in_ok-links.ensures in
     let hs = rw (c.as_slice-4.ensures, c.as_slice-5.ensures.value) at c.in_ok-reached.ensures in
     let ha = rw (c.as_slice-6.ensures, c.as_slice-7.ensures.value) at c.in_ok-reached-2.ensures in
-    marked_kinds _ c.requires (record { numbers = c.in_ok-numbers.numbers; functions = []; scalars = c.in_ok-reached.field-0; arrays = c.in_ok-reached-2.field-0 }) c.in_ok-uses.uses c.in_ok-scalars.scalars c.in_ok-arrays.arrays c.in_ok-links.links.items c.in_ok-numbers.ensures c.in_ok-uses.ensures used used2 used3 hs ha
+    marked_kinds _ c.requires (record { numbers = c.in_ok-numbers.numbers; scalars = c.in_ok-reached.field-0; arrays = c.in_ok-reached-2.field-0 }) c.in_ok-uses.uses c.in_ok-scalars.scalars c.in_ok-arrays.arrays c.in_ok-links.links.items c.in_ok-numbers.ensures c.in_ok-uses.ensures used used2 used3 hs ha

@@ -1,7 +1,6 @@
 use Rattle.std.proofs.Common.{sym, ◌∙◌}
 use Rattle.awk_names.specs.Kinds.{no_array}
 use Rattle.awk_kinds.proofs.Agreeing.{agrees, no_clash, clashes, comes_first}
-use Rattle.awk_kinds.proofs.Telling.{slots}
 use Rattle.awk_kinds.proofs.kinds.Kinds.of.Goals as goal
 
 pub returns-in-Some-clause-clash : goal.returns-in-Some-clause-clash
@@ -19,7 +18,3 @@ returns-in-None-clause-gives c = λ r f args i q calls none takes forced.
 
 pub returns-in-Some-clause-first : goal.returns-in-Some-clause-first
 returns-in-Some-clause-first c = comes_first _ c.requires c.in_ok-kinds.kinds c.in_ok-kinds.ensures.numbers c.in_ok-kinds.ensures.kinds _ (sym c.first_clash.ensures ∙ c.in-Some.is)
-
-pub returns-in-None-clause-slots : goal.returns-in-None-clause-slots
-returns-in-None-clause-slots c =
-    slots _ c.requires (agrees _ c.requires c.in_ok-kinds.kinds c.in_ok-kinds.ensures.numbers c.in_ok-kinds.ensures.kinds (sym c.first_clash.ensures ∙ c.in-None.is)) c.in_ok-kinds.kinds c.in_ok-kinds.ensures.numbers c.in_ok-kinds.ensures.functions

@@ -1,9 +1,0 @@
-use Rattle.std.proofs.Common.{rules, refl}
-use Rattle.awk_tree.proofs.Views.{statement-Block}
-use Rattle.awk_binding.proofs.blocks.block_of.Goals as goal
-
-pub returns-in_err-body : goal.returns-in_err-body
-returns-in_err-body c = λ a h0. search rules
-
-pub returns : goal.returns
-returns c = λ a h0. let p0 = rw c.in_ok-body.was at h0 in rw (statement-Block, p0) refl

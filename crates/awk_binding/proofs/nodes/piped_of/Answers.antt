@@ -1,8 +1,0 @@
-use Rattle.std.proofs.Common.{rules, refl}
-use Rattle.awk_binding.proofs.nodes.piped_of.Goals as goal
-
-pub returns-in_err-target : goal.returns-in_err-target
-returns-in_err-target c = λ a h. search rules
-
-pub returns : goal.returns
-returns c = λ a h. let p = rw c.in_ok-target.was at h in rw p refl

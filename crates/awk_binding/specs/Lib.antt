@@ -1,3 +1,0 @@
-pub mod Binding
-pub mod Scopes
-pub mod Laws
