@@ -15,21 +15,179 @@ use crate::context::{Context, Run};
 use crate::inputs::{close, from_commands, from_file, getline, system};
 use crate::lists::{element_group, formatted};
 use crate::patterns::{locate, matches, split, substitute};
-use crate::targets::{assign, change, increment, read_target};
+use crate::targets::{alter, assign, change, increment, put, read_target, step_target};
 use awk_asks::halt::Halt;
-use awk_forms::chains::{join, members, term};
+use awk_forms::at_hand::number_at_hand;
+use awk_forms::chains::{join, members, operated};
 use awk_forms::made::owned;
 use awk_forms::operands::{Binary, Unary, part_of};
 use awk_forms::patterns::matched_record;
-use awk_program::{Expr, Joined, Term, Variable};
+use awk_program::{Comparison, Expr, Joined, Term, Variable};
 use awk_text::place::Place;
-use awk_text::value::{Value, truth};
-use awk_works::operators::truth_value;
+use awk_text::fault::Fault;
+use awk_text::value::{Value, number_of, truth};
+use awk_works::operators::{compared, truth_value};
 use box_world::world::World;
 
-/// The value of an expression. Each part is evaluated one level lower; where there is none left, memory for the parts is refused.
+/// The value of an expression.
 #[cycle(run)]
 pub fn value<W: World>(
+    cx: &Context<'_>,
+    e: &Expr,
+    level: u32,
+    run: &mut Run,
+    world: &mut W,
+) -> Result<Value, Halt>
+    requires { Owns (W.open_numbers world.old) run.old.streams }
+    ensures { Does W.follows W.has_stopped W.stops W.open_numbers cx.now (λ g. value (view (names_in g) e.now)) (λ g. give)
+        (run.old.store, run.old.streams) world.old result (run.new.store, run.new.streams) world.new }
+{
+    if let Some(number) = number_at_hand(&run.store, e) {
+        return Ok(Value::Num(number));
+    }
+    if level == 0 {
+        return Err(Halt::Memory);
+    }
+    match e {
+        Expr::Chain(x, xs) => chain(cx, x.get(), xs.as_slice(), level - 1, run, world),
+        Expr::Read(target) => read_target(cx, target, level - 1, run, world),
+        _ => evaluate(cx, e, level - 1, run, world),
+    }
+}
+
+/// The number of an expression's value.
+#[cycle(run)]
+pub fn number<W: World>(
+    cx: &Context<'_>,
+    e: &Expr,
+    level: u32,
+    run: &mut Run,
+    world: &mut W,
+) -> Result<Result<i64, Fault>, Halt>
+{
+    if let Some(number) = number_at_hand(&run.store, e) {
+        return Ok(Ok(number));
+    }
+    if level == 0 {
+        return Err(Halt::Memory);
+    }
+    match e {
+        Expr::Chain(x, xs) => chain_number(cx, x.get(), xs.as_slice(), level - 1, run, world),
+        _ => {
+            let found = evaluate(cx, e, level - 1, run, world)?;
+            Ok(number_of(&found))
+        }
+    }
+}
+
+#[cycle(run)]
+fn chain_number<W: World>(
+    cx: &Context<'_>,
+    x: &Expr,
+    xs: &[Term<Expr>],
+    level: u32,
+    run: &mut Run,
+    world: &mut W,
+) -> Result<Result<i64, Fault>, Halt>
+{
+    let Some((first, rest)) = xs.split_first() else {
+        return number(cx, x, level, run, world);
+    };
+    Ok(Ok(sum(cx, x, first, rest, level, run, world)?))
+}
+
+#[cycle(run)]
+fn sum<W: World>(
+    cx: &Context<'_>,
+    x: &Expr,
+    first: &Term<Expr>,
+    rest: &[Term<Expr>],
+    level: u32,
+    run: &mut Run,
+    world: &mut W,
+) -> Result<i64, Halt>
+{
+    let left = number(cx, x, level, run, world)?;
+    let right = number(cx, &first.operand, level, run, world)?;
+    let mut so_far = operated(first.place, first.operator, left, right)?;
+    for next in rest {
+        let operand = number(cx, &next.operand, level, run, world)?;
+        so_far = operated(next.place, next.operator, Ok(so_far), operand)?;
+    }
+    Ok(so_far)
+}
+
+/// Whether the value of an expression is true.
+#[cycle(run)]
+pub fn truth_of<W: World>(
+    cx: &Context<'_>,
+    e: &Expr,
+    level: u32,
+    run: &mut Run,
+    world: &mut W,
+) -> Result<bool, Halt>
+{
+    if level == 0 {
+        return Err(Halt::Memory);
+    }
+    match e {
+        Expr::Compare(how, x, y) => compare(cx, *how, x.get(), y.get(), level - 1, run, world),
+        _ => {
+            let found = value(cx, e, level, run, world)?;
+            Ok(truth(&found))
+        }
+    }
+}
+
+#[cycle(run)]
+fn compare<W: World>(
+    cx: &Context<'_>,
+    how: Comparison,
+    x: &Expr,
+    y: &Expr,
+    level: u32,
+    run: &mut Run,
+    world: &mut W,
+) -> Result<bool, Halt>
+{
+    let left = value(cx, x, level, run, world)?;
+    let right = value(cx, y, level, run, world)?;
+    Ok(compared(how, &left, &right))
+}
+
+/// Does what an expression does, whose value nothing wants.
+#[cycle(run)]
+pub fn effect<W: World>(
+    cx: &Context<'_>,
+    e: &Expr,
+    level: u32,
+    run: &mut Run,
+    world: &mut W,
+) -> Result<(), Halt>
+{
+    if level == 0 {
+        return Err(Halt::Memory);
+    }
+    let below = level - 1;
+    match e {
+        Expr::Assign(place, target, x) => put(cx, *place, target, x.get(), below, run, world),
+        Expr::Change(place, how, target, x) => {
+            alter(cx, *place, *how, target, x.get(), below, run, world)
+        }
+        Expr::Step(place, how, _, target) => {
+            step_target(cx, *place, *how, target, below, run, world)?;
+            Ok(())
+        }
+        _ => {
+            value(cx, e, level, run, world)?;
+            Ok(())
+        }
+    }
+}
+
+/// Each part is evaluated one level lower; where there is none left, memory for the parts is refused.
+#[cycle(run)]
+fn evaluate<W: World>(
     cx: &Context<'_>,
     e: &Expr,
     level: u32,
@@ -223,12 +381,11 @@ fn chain<W: World>(
     ensures { Does W.follows W.has_stopped W.stops W.open_numbers cx.now (λ g. value (p.chain (view (names_in g) x.now) (terms_of (map (view_term (names_in g)) xs.now)))) (λ g. give)
         (run.old.store, run.old.streams) world.old result (run.new.store, run.new.streams) world.new }
 {
-    let mut so_far = value(cx, x, level, run, world)?;
-    for next in xs {
-        let operand = value(cx, &next.operand, level, run, world)?;
-        so_far = term(next.place, next.operator, &so_far, &operand)?;
-    }
-    Ok(so_far)
+    let Some((first, rest)) = xs.split_first() else {
+        return value(cx, x, level, run, world);
+    };
+    let total = sum(cx, x, first, rest, level, run, world)?;
+    Ok(Value::Num(total))
 }
 
 /// Operands one directly after the other.
@@ -285,14 +442,14 @@ fn all<W: World>(
     ensures { Does W.follows W.has_stopped W.stops W.open_numbers cx.now (λ g. value (p.and (view (names_in g) x.now) (expressions_of (map (view (names_in g)) xs.now)))) (λ g. give)
         (run.old.store, run.old.streams) world.old result (run.new.store, run.new.streams) world.new }
 {
-    let mut last = value(cx, x, level, run, world)?;
+    let mut last = truth_of(cx, x, level, run, world)?;
     for y in xs {
-        if !truth(&last) {
+        if !last {
             return Ok(truth_value(false));
         }
-        last = value(cx, y, level, run, world)?;
+        last = truth_of(cx, y, level, run, world)?;
     }
-    Ok(truth_value(truth(&last)))
+    Ok(truth_value(last))
 }
 
 /// A chain of `||`.
@@ -309,14 +466,14 @@ fn any<W: World>(
     ensures { Does W.follows W.has_stopped W.stops W.open_numbers cx.now (λ g. value (p.or (view (names_in g) x.now) (expressions_of (map (view (names_in g)) xs.now)))) (λ g. give)
         (run.old.store, run.old.streams) world.old result (run.new.store, run.new.streams) world.new }
 {
-    let mut last = value(cx, x, level, run, world)?;
+    let mut last = truth_of(cx, x, level, run, world)?;
     for y in xs {
-        if truth(&last) {
+        if last {
             return Ok(truth_value(true));
         }
-        last = value(cx, y, level, run, world)?;
+        last = truth_of(cx, y, level, run, world)?;
     }
-    Ok(truth_value(truth(&last)))
+    Ok(truth_value(last))
 }
 
 /// `test ? then : else`
@@ -334,8 +491,7 @@ fn choose<W: World>(
     ensures { Does W.follows W.has_stopped W.stops W.open_numbers cx.now (λ g. value (p.choose (view (names_in g) x.now) (view (names_in g) y.now) (view (names_in g) z.now))) (λ g. give)
         (run.old.store, run.old.streams) world.old result (run.new.store, run.new.streams) world.new }
 {
-    let test = value(cx, x, level, run, world)?;
-    if truth(&test) {
+    if truth_of(cx, x, level, run, world)? {
         value(cx, y, level, run, world)
     } else {
         value(cx, z, level, run, world)

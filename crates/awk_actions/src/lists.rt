@@ -14,11 +14,11 @@ use crate::context::{Context, Run};
 use crate::expressions::value;
 use awk_asks::halt::Halt;
 use awk_forms::chains::members;
-use awk_forms::keys::{element_key, group_key};
+use awk_forms::keys::{element_key, group_key, one_key};
 use awk_forms::made::append;
 use awk_forms::outputs::sprintf;
 use awk_program::{Expr, Variable};
-use awk_tasks::Spot;
+use awk_tasks::{Key, Spot};
 use awk_text::place::Place;
 use awk_text::value::Value;
 use box_world::world::World;
@@ -61,6 +61,10 @@ pub fn element<W: World>(
         (run.old.store, run.old.streams) world.old result (run.new.store, run.new.streams) world.new }
     ensures spot { IfOk result (λ s. (names : List (List ℕ)) → IsSpotOf names (p.element place (variable_of names array) (expressions_of (map (view names) keys.now))) s) }
 {
+    if let [one] = keys {
+        let subscript = value(cx, one, level, run, world)?;
+        return Ok(Spot::Element(place, array, one_key(place, subscript)?));
+    }
     let mut values = Vec::new(cx.alloc);
     fill(cx, keys, &mut values, level, run, world)?;
     let key = element_key(
@@ -70,7 +74,7 @@ pub fn element<W: World>(
         place,
         values.as_slice(),
     )?;
-    Ok(Spot::Element(place, array, key))
+    Ok(Spot::Element(place, array, Key::new(Value::Text(key))))
 }
 
 /// `( list ) in array in array ..`

@@ -11,7 +11,7 @@ ghost use Rattle.awk_actions.specs.Runs.{Does};
 
 use crate::context::{Context, Run};
 use crate::ends::end_of;
-use crate::expressions::value;
+use crate::expressions::{effect, truth_of};
 use crate::statements::statement;
 use awk_asks::halt::Halt;
 use awk_calls::Flow;
@@ -19,7 +19,7 @@ use awk_program::{Expr, Statement, Variable};
 use awk_tasks::variables::set_variable;
 use awk_text::octets::Octets;
 use awk_text::place::Place;
-use awk_text::value::{Value, truth};
+use awk_text::value::Value;
 use box_world::world::World;
 
 /// Whether the test holds; a missing one does.
@@ -39,10 +39,7 @@ fn holds<W: World>(
 {
     match test {
         None => Ok(true),
-        Some(test) => {
-            let found = value(cx, test, level, run, world)?;
-            Ok(truth(&found))
-        }
+        Some(test) => truth_of(cx, test, level, run, world),
     }
 }
 
@@ -64,8 +61,7 @@ fn behind<W: World>(
     let Some(after) = after else {
         return Ok(());
     };
-    value(cx, after, level, run, world)?;
-    Ok(())
+    effect(cx, after, level, run, world)
 }
 
 /// The turns of a loop.
@@ -157,7 +153,7 @@ pub fn first_then<W: World>(
     let Some(first) = first else {
         return turns(cx, test, inner, after, level, run, world);
     };
-    value(cx, first, level, run, world)?;
+    effect(cx, first, level, run, world)?;
     turns(cx, test, inner, after, level, run, world)
 }
 

@@ -10,7 +10,7 @@ ghost use Rattle.awk_actions.specs.Runs.{Does};
 
 use crate::context::{Context, Run};
 use crate::ends::is_on;
-use crate::expressions::value;
+use crate::expressions::{effect, truth_of, value};
 use crate::lists::fill;
 use crate::loops::{first_then, over_keys, turn_first, while_loop};
 use crate::output::{print, printf};
@@ -21,7 +21,6 @@ use awk_calls::steps::{is_one, step};
 use awk_forms::keys::remove;
 use awk_program::{Expr, Statement, Variable};
 use awk_text::place::Place;
-use awk_text::value::truth;
 use box_world::world::World;
 
 /// Statements, one after the other.
@@ -66,6 +65,9 @@ pub fn statement<W: World>(
         return perform(cx, x, level - 1, run, world);
     }
     step(cx.host.bound(), &mut run.store)?;
+    if let Statement::Expr(e) = x {
+        return plain(cx, e, level - 1, run, world);
+    }
     perform(cx, x, level - 1, run, world)
 }
 
@@ -127,7 +129,7 @@ fn plain<W: World>(
     ensures { Does W.follows W.has_stopped W.stops W.open_numbers cx.now (λ g. At (Doing (p.plain (view (names_in g) e.now))) []) (λ g. flows)
         (run.old.store, run.old.streams) world.old result (run.new.store, run.new.streams) world.new }
 {
-    value(cx, e, level, run, world)?;
+    effect(cx, e, level, run, world)?;
     Ok(Flow::On)
 }
 
@@ -218,8 +220,7 @@ fn when<W: World>(
     ensures { Does W.follows W.has_stopped W.stops W.open_numbers cx.now (λ g. At (Doing (p.if_then (view (names_in g) test.now) (view_statement (names_in g) then.now))) []) (λ g. flows)
         (run.old.store, run.old.streams) world.old result (run.new.store, run.new.streams) world.new }
 {
-    let test = value(cx, test, level, run, world)?;
-    if truth(&test) {
+    if truth_of(cx, test, level, run, world)? {
         statement(cx, then, level, run, world)
     } else {
         Ok(Flow::On)
@@ -241,8 +242,7 @@ fn either<W: World>(
     ensures { Does W.follows W.has_stopped W.stops W.open_numbers cx.now (λ g. At (Doing (p.if_else (view (names_in g) test.now) (view_statement (names_in g) then.now) (view_statement (names_in g) other.now))) []) (λ g. flows)
         (run.old.store, run.old.streams) world.old result (run.new.store, run.new.streams) world.new }
 {
-    let test = value(cx, test, level, run, world)?;
-    if truth(&test) {
+    if truth_of(cx, test, level, run, world)? {
         statement(cx, then, level, run, world)
     } else {
         statement(cx, other, level, run, world)

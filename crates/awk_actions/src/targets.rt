@@ -19,6 +19,7 @@ use awk_forms::made::{computed_at, stepped_at};
 use awk_program::{Expr, Operator, Step, Taken, Target};
 use awk_tasks::Spot;
 use awk_tasks::targets::{read, set, stored};
+use awk_tasks::variables::{read_variable, set_variable};
 use awk_text::place::Place;
 use awk_text::value::Value;
 use box_world::world::World;
@@ -78,8 +79,74 @@ pub fn read_target<W: World>(
     ensures { Does W.follows W.has_stopped W.stops W.open_numbers cx.now (λ g. value (p.read (view_target (names_in g) target.now))) (λ g. give)
         (run.old.store, run.old.streams) world.old result (run.new.store, run.new.streams) world.new }
 {
+    if let Target::Variable(variable) = target {
+        return read_variable(cx.alloc, &mut run.store, *variable);
+    }
     let from = target_of(cx, target, level, run, world)?;
     read(cx.alloc, &mut run.store, &from)
+}
+
+#[cycle(run)]
+pub fn put<W: World>(
+    cx: &Context<'_>,
+    place: Place,
+    target: &Target<Expr>,
+    x: &Expr,
+    level: u32,
+    run: &mut Run,
+    world: &mut W,
+) -> Result<(), Halt>
+{
+    if let Target::Variable(variable) = target {
+        let new = value(cx, x, level, run, world)?;
+        return set_variable(&mut run.store, *variable, place, new);
+    }
+    let to = target_of(cx, target, level, run, world)?;
+    let new = value(cx, x, level, run, world)?;
+    set(cx.alloc, &mut run.store, to, place, new)
+}
+
+#[cycle(run)]
+pub fn alter<W: World>(
+    cx: &Context<'_>,
+    place: Place,
+    how: Operator,
+    target: &Target<Expr>,
+    x: &Expr,
+    level: u32,
+    run: &mut Run,
+    world: &mut W,
+) -> Result<(), Halt>
+{
+    let to = target_of(cx, target, level, run, world)?;
+    let operand = value(cx, x, level, run, world)?;
+    let old = read(cx.alloc, &mut run.store, &to)?;
+    let number = computed_at(place, how, &old, &operand)?;
+    set(cx.alloc, &mut run.store, to, place, Value::Num(number))
+}
+
+#[cycle(run)]
+pub fn step_target<W: World>(
+    cx: &Context<'_>,
+    place: Place,
+    how: Step,
+    target: &Target<Expr>,
+    level: u32,
+    run: &mut Run,
+    world: &mut W,
+) -> Result<(i64, i64), Halt>
+{
+    if let Target::Variable(variable) = target {
+        let old = read_variable(cx.alloc, &mut run.store, *variable)?;
+        let (before, behind) = stepped_at(place, how, &old)?;
+        set_variable(&mut run.store, *variable, place, Value::Num(behind))?;
+        return Ok((before, behind));
+    }
+    let to = target_of(cx, target, level, run, world)?;
+    let old = read(cx.alloc, &mut run.store, &to)?;
+    let (before, behind) = stepped_at(place, how, &old)?;
+    set(cx.alloc, &mut run.store, to, place, Value::Num(behind))?;
+    Ok((before, behind))
 }
 
 /// `target = value`
@@ -149,10 +216,7 @@ pub fn increment<W: World>(
     ensures { Does W.follows W.has_stopped W.stops W.open_numbers cx.now (λ g. value (p.step place how taken (view_target (names_in g) target.now))) (λ g. give)
         (run.old.store, run.old.streams) world.old result (run.new.store, run.new.streams) world.new }
 {
-    let to = target_of(cx, target, level, run, world)?;
-    let old = read(cx.alloc, &mut run.store, &to)?;
-    let (before, behind) = stepped_at(place, how, &old)?;
-    set(cx.alloc, &mut run.store, to, place, Value::Num(behind))?;
+    let (before, behind) = step_target(cx, place, how, target, level, run, world)?;
     match taken {
         Taken::Before => Ok(Value::Num(before)),
         Taken::Behind => Ok(Value::Num(behind)),

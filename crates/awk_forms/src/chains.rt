@@ -15,7 +15,9 @@ use awk_program::{Operator, Variable};
 use awk_store::Store;
 use awk_text::place::Place;
 use awk_text::value::{Value, text_in};
-use awk_works::operators::{computed, truth_value};
+use awk_tasks::faults::{at, halt_at};
+use awk_text::fault::Fault;
+use awk_works::operators::{computed, operation, truth_value};
 use awk_works::texts::concatenated;
 use itoa::Buffer;
 use std::alloc::Global;
@@ -25,6 +27,14 @@ pub fn term(place: Place, how: Operator, left: &Value, right: &Value) -> Result<
     ensures { (g : Given) (w : Whole) (x : Expression) (xs : Terms) → Acts g (At (Terms_of (p.term how place x xs)) (right.now ∷ left.now ∷ [])) (λ v k. At (Terms_of xs) (v ∷ []) ∷ k) w result w }
 {
     number_at(place, computed(how, left, right))
+}
+
+/// The same of the numbers of the two.
+pub fn operated(place: Place, how: Operator, left: Result<i64, Fault>, right: Result<i64, Fault>) -> Result<i64, Halt>
+{
+    let Ok(first) = left else { return Err(halt_at(place, Fault::OutOfRange)); };
+    let Ok(second) = right else { return Err(halt_at(place, Fault::OutOfRange)); };
+    at(place, operation(how, first, second))
 }
 
 /// One operand more of a concatenation.

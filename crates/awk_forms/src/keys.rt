@@ -19,6 +19,7 @@ ghost use Rattle.awk_tasks.specs.Wholes.{Whole, names_in};
 use awk_asks::halt::Halt;
 use awk_program::{Own, Variable};
 use awk_store::Store;
+use awk_tasks::Key;
 use awk_tasks::faults::{at, halt_at};
 use awk_text::fault::Fault;
 use awk_text::octets::Octets;
@@ -87,6 +88,15 @@ pub fn element_key(
         → Acts g (At (Target_of (p.element place a xs)) (reverse subscripts.now)) (λ text. give (v.Text text)) (store.now, t) result (store.now, t) }
 {
     at(place, key(alloc, line, store, subscripts))
+}
+
+/// The key of an element by one subscript. Takes no memory.
+pub fn one_key(place: Place, subscript: Value) -> Result<Key, Halt>
+    ensures { (g : Given) (w : Whole) (a : p.Variable) (x : Expression) → Acts g (At (Target_of (p.element place a (p.more x p.none))) (subscript ∷ [])) (λ key. give (v.Text key)) w result w }
+{
+    let mut buffer = Buffer::new();
+    at(place, texts::key_of_one(&subscript, &mut buffer))?;
+    Ok(Key::new(subscript))
 }
 
 /// The key of `( list ) in array in array ..`.

@@ -3,6 +3,7 @@
 //! evaluates a part.
 #![tactic(auto)]
 
+pub mod at_hand;
 pub mod chains;
 pub mod keys;
 pub mod made;

@@ -219,6 +219,21 @@ impl<V: Drop> Array<V> {
         Ok(())
     }
 
+    /// Gives the key the value, as `put` does. The key is lent: it is copied where it is new.
+    ///
+    /// Fails as `put` does. Takes no memory where the key is there.
+    pub fn set(&mut self, key: &[u8], value: V) -> Result<(), Fault>
+        ensures ok { OnOk result (put self.old key.now value ≡ Ok self.new) }
+        ensures err { IfErr result (λ e. (self.new ≡ self.old) × ((e ≡ Fault.Memory) ⊎ (put self.old key.now value ≡ Err e))) }
+    {
+        if let Some(old) = self.get_mut(key) {
+            *old = value;
+            return Ok(());
+        }
+        let own = Vec::from_slice(*self.elements.map.allocator(), key)?;
+        self.put(own, value)
+    }
+
     /// The value of the key, to write. Where the key is not there, it is added last, with the
     /// value that is given.
     ///

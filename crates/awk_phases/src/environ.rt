@@ -20,18 +20,14 @@ use awk_text::octets::Octets;
 use awk_text::place::Place;
 use awk_text::value::Value;
 use box_world::world::World;
-use std::alloc::Global;
 
 /// Sets the element of ENVIRON for this name.
-fn set_environ(alloc: Global, store: &mut Store, name: &[u8], text: Octets) -> Result<(), Halt>
+fn set_environ(store: &mut Store, name: &[u8], text: Octets) -> Result<(), Halt>
     ensures { (g : Given) (t : Table) → Acts g (Do (Set (machine.Element (global (codes "ENVIRON")) name.now nowhere) nowhere (Value.Input text))) goes_on (store.old, t) result (store.new, t) }
 {
-    let Ok(key) = Vec::from_slice(alloc, name) else {
-        return Err(Halt::Memory);
-    };
     let place = Place { line: 0, column: 0 };
     let array = Variable::Global(Own::Environ.slot());
-    set_element(store, place, array, key, Value::Input(text))
+    set_element(store, place, array, name, Value::Input(text))
 }
 
 /// Looks a name of the environment up, and sets its element of ENVIRON where it has a value.
@@ -47,7 +43,7 @@ fn look<W: World>(cx: &Context<'_>, name: &Octets, run: &mut Run, world: &mut W)
     let Some(text) = found else {
         return Ok(());
     };
-    set_environ(cx.alloc, &mut run.store, name.bytes(), text)
+    set_environ(&mut run.store, name.bytes(), text)
 }
 
 /// Looks the names of the environment up, one after the other.

@@ -46,26 +46,17 @@ pub struct Start<'a> {
     pub names_environ: bool,
 }
 
-/// A number as the key of an element.
-fn key_of(alloc: Global, n: u64) -> Result<Vec<u8>, Memory>
-    ensures { IfOk result (λ key. key.items ≡ decimal n) }
-{
-    let mut buffer = Buffer::new();
-    Vec::from_slice(alloc, buffer.format(n).as_bytes())
-}
-
 /// Sets the element of ARGV with this number.
 fn set_argument(alloc: Global, store: &mut Store, n: u64, text: &[u8]) -> Result<(), Halt>
     ensures { (g : Given) (t : Table) → Acts g (set_at_start (target.Element (global (codes "ARGV")) (decimal n) nowhere) (Value.Input text.now)) goes_on (store.old, t) result (store.new, t) }
 {
-    let Ok(key) = key_of(alloc, n) else {
-        return Err(Halt::Memory);
-    };
     let Ok(copy) = Vec::from_slice(alloc, text) else {
         return Err(Halt::Memory);
     };
     let place = Place { line: 0, column: 0 };
     let array = Variable::Global(Own::Argv.slot());
+    let mut buffer = Buffer::new();
+    let key = buffer.format(n).as_bytes();
     set_element(store, place, array, key, Value::Input(Octets::new(copy)))
 }
 

@@ -96,3 +96,26 @@ err_so (Err e) p f = f e p
 pub ok_always : {T E P : Type 0} (r : Result T E) → P → OnOk r P
 ok_always (Ok x) p = p
 ok_always (Err e) p = tt
+
+-- ---- an array that is changed where it lies
+
+pub made_found : (as_ : List Array) (k : ℕ) (a : Array) → k < length as_ → a ≡ slice_index_or as_ k a → slice_get as_ k ≡ Some a
+made_found [] k a inside is = absurd (omega (arith, inside))
+made_found (x ∷ as_) zero a inside is = ap Some (sym is)
+made_found (x ∷ as_) (suc k) a inside is = made_found as_ k a (omega (arith, inside)) is
+
+pub made_nowhere : (as_ : List Array) (k : ℕ) → length as_ ≤ k → slice_get as_ k ≡ None
+made_nowhere [] k past = refl
+made_nowhere (x ∷ as_) zero past = absurd (omega (arith, past))
+made_nowhere (x ∷ as_) (suc k) past = made_nowhere as_ k (omega (arith, past))
+
+pub set_nowhere : (as_ : List Array) (k : ℕ) (a : Array) → length as_ ≤ k → as_ ≡ slice_set as_ k a
+set_nowhere [] k a past = refl
+set_nowhere (x ∷ as_) zero a past = absurd (omega (arith, past))
+set_nowhere (x ∷ as_) (suc k) a past = ap (λ ys. x ∷ ys) (set_nowhere as_ k a (omega (arith, past)))
+
+-- what is there, put where it is
+pub set_here : {X : Type 0} (xs : List X) (k : ℕ) (x : X) → x ≡ slice_index_or xs k x → slice_set xs k x ≡ xs
+set_here [] k x is = refl
+set_here (y ∷ xs) zero x is = ap (λ z. z ∷ xs) is
+set_here (y ∷ xs) (suc k) x is = ap (λ ys. y ∷ ys) (set_here xs k x is)

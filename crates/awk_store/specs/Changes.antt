@@ -1,13 +1,15 @@
 -- How what a store holds changes, one definition for each call that changes it.
-use Rattle.std.specs.Prelude.{ℕ, zero, suc, ◌+◌, ◌-◌, Bool, true, false, if◌then◌else◌, ℤ, pos, List, [], ◌∷◌, ◌++◌, length, take, map, replicate, slice_set, Some, None, Result}
+use Rattle.std.specs.Prelude.{◌≡◌, ◌⊎◌, Option, Ok, Err, unwrap_or, ℕ, zero, suc, ◌+◌, ◌-◌, Bool, true, false, if◌then◌else◌, ℤ, pos, List, [], ◌∷◌, ◌++◌, length, take, map, replicate, slice_set, Some, None, Result}
 use Rattle.awk_text.specs.declared.value.Value.{Value}
 use Rattle.awk_text.specs.declared.value.Value.TheVariants as v
 use Rattle.awk_text.specs.declared.fault.Fault.{Fault}
+use Rattle.awk_text.specs.declared.fault.Fault.TheVariants.{Memory as NoMemory}
 use Rattle.awk_text.specs.Arithmetic.{add}
 use Rattle.awk_text.specs.Values.{number_of}
 use Rattle.awk_fields.specs.Rows.{Row, known, unsplit}
 use Rattle.awk_fields.specs.Separators.{separator}
 use Rattle.awk_format.specs.Directives.{◌>>=◌}
+use Rattle.awk_lib.specs.Arrays.{put}
 use Rattle.awk_program.specs.Slots.{Text, slot_of}
 use Rattle.awk_program.specs.declared.program.Name.{Name}
 use Rattle.awk_program.specs.declared.variables.Own.{Own}
@@ -81,6 +83,14 @@ abbrev pub with_array : Reference → Array → Kept → Kept
 with_array (Shared k) a kept = record kept { cells = change_at (given_array a) kept.cells k }
 with_array (Made k) a kept = record kept { made = slice_set kept.made k a }
 with_array Nothing a kept = kept
+
+-- an element of an array, where there is one, is given a value: what holds the array then holds the new one
+abbrev pub Puts : Option Array → Text → Value → (Array → Type 0) → Type 0
+Puts at key x Holds = (new : Array) × (put (unwrap_or at []) key x ≡ Ok new) × Holds new
+
+-- why it is not
+abbrev pub PutsNot : Option Array → Text → Value → Fault → Type 0
+PutsNot at key x e = (e ≡ NoMemory) ⊎ (put (unwrap_or at []) key x ≡ Err e)
 
 -- ---- calls
 

@@ -4,7 +4,7 @@ ghost use Rattle.std.specs.Option.{option_copied};
 ghost use Rattle.awk_lib.specs.Arrays.{element, has, keys, put, without};
 ghost use Rattle.awk_machine.specs.State as state;
 ghost use Rattle.awk_store.specs.Kept.{array, array_at, array_found, bound_reference, listed, reference};
-ghost use Rattle.awk_store.specs.Changes.{change_at, given_array, with_array};
+ghost use Rattle.awk_store.specs.Changes.{change_at, given_array, with_array, Puts, PutsNot};
 
 use crate::cell::Cell;
 use crate::frame::{Bound, Reference};
@@ -64,6 +64,38 @@ fn replace_made(
         return mem::replace(&mut made[place], array);
     }
     none
+}
+
+/// Gives an element of the array at a slot a value. Where there is no array nothing changes.
+fn put_in_cells(
+    cells: &mut Vec<Cell>,
+    slot: usize,
+    key: &[u8],
+    value: Value,
+) -> Result<(), Fault>
+    ensures ok { OnOk result (Puts (listed (slice_get cells.old.items slot)) key.now value (λ new. cells.new.items ≡ change_at (given_array new) cells.old.items slot)) }
+    ensures err { IfErr result (λ e. (cells.new.items ≡ cells.old.items) × PutsNot (listed (slice_get cells.old.items slot)) key.now value e) }
+{
+    match cells.get_mut(slot) {
+        Some(cell) => cell.put(key, value),
+        None => Ok(()),
+    }
+}
+
+/// The same among the arrays that calls have made.
+fn put_made(
+    made: &mut Vec<Array<Value>>,
+    place: usize,
+    key: &[u8],
+    value: Value,
+) -> Result<(), Fault>
+    ensures ok { OnOk result (Puts (slice_get made.old.items place) key.now value (λ new. made.new.items ≡ slice_set made.old.items place new)) }
+    ensures err { IfErr result (λ e. (made.new.items ≡ made.old.items) × PutsNot (slice_get made.old.items place) key.now value e) }
+{
+    match made.get_mut(place) {
+        Some(array) => array.set(key, value),
+        None => Ok(()),
+    }
 }
 
 impl Store {
@@ -131,15 +163,15 @@ impl Store {
     ///
     /// Fails with `Fault::TooManyElements` exactly where the key is one too many, and with `Fault::Memory` where memory
     /// is refused; then nothing has changed.
-    pub fn put(&mut self, name: Variable, key: Vec<u8>, value: Value) -> Result<(), Fault>
-        ensures ok { OnOk result ((new : state.Array) × (put (array self.old name) key.items value ≡ Ok new) × (self.new ≡ with_array (reference self.old name) new self.old)) }
-        ensures err { IfErr result (λ e. (self.new ≡ self.old) × ((e ≡ Fault.Memory) ⊎ (put (array self.old name) key.items value ≡ Err e))) }
+    pub fn put(&mut self, name: Variable, key: &[u8], value: Value) -> Result<(), Fault>
+        ensures ok { OnOk result ((new : state.Array) × (put (array self.old name) key.now value ≡ Ok new) × (self.new ≡ with_array (reference self.old name) new self.old)) }
+        ensures err { IfErr result (λ e. (self.new ≡ self.old) × ((e ≡ Fault.Memory) ⊎ (put (array self.old name) key.now value ≡ Err e))) }
     {
-        let at = self.reference(name);
-        let mut elements = self.replace(at, Array::new(self.alloc));
-        let result = elements.put(key, value);
-        self.replace(at, elements);
-        result
+        match self.reference(name) {
+            Reference::Shared(slot) => put_in_cells(&mut self.cells, slot as usize, key, value),
+            Reference::Made(place) => put_made(&mut self.made, place as usize, key, value),
+            Reference::Nothing => Ok(()),
+        }
     }
 
     /// Removes an element, if it is there. Takes no memory.

@@ -1,5 +1,5 @@
 // Variables of the whole script.
-ghost use Rattle.std.specs.Prelude.{◌≡◌, Some, [], unwrap_or, IfOk, IsOkUnless};
+ghost use Rattle.std.specs.Prelude.{◌≡◌, Some, [], unwrap_or, IfOk, IfErr, OnOk, IsOkUnless};
 ghost use Rattle.std.specs.Option.{option_copied};
 ghost use Rattle.awk_machine.specs.Begins.{first_value};
 
@@ -20,7 +20,7 @@ pub enum Cell {
 
 impl Cell {
     ghost use Rattle.awk_store.specs.Kept.{scalar, listed};
-    ghost use Rattle.awk_store.specs.Changes.{first_cell, given_value, given_array};
+    ghost use Rattle.awk_store.specs.Changes.{first_cell, given_value, given_array, Puts, PutsNot};
 
     /// A variable as it is when a run begins.
     ///
@@ -61,6 +61,19 @@ impl Cell {
     {
         if let Cell::Value(old) = self {
             *old = value;
+        }
+    }
+
+    /// Gives an element of the array a value. A value stays as it is.
+    ///
+    /// Fails as `Array::set` does; then nothing has changed.
+    pub(crate) fn put(&mut self, key: &[u8], value: Value) -> Result<(), Fault>
+        ensures ok { OnOk result (Puts (listed (Some self.old)) key.now value (λ new. self.new ≡ given_array new self.old)) }
+        ensures err { IfErr result (λ e. (self.new ≡ self.old) × PutsNot (listed (Some self.old)) key.now value e) }
+    {
+        match self {
+            Cell::Value(_) => Ok(()),
+            Cell::Array(array) => array.set(key, value),
         }
     }
 

@@ -34,10 +34,7 @@ pub fn read_element(
     if let Some(value) = found {
         return Ok(value);
     }
-    let Ok(owned) = Vec::from_slice(alloc, key) else {
-        return Err(Halt::Memory);
-    };
-    at(place, store.put(array, owned, Value::Unset))?;
+    at(place, store.put(array, key, Value::Unset))?;
     Ok(Value::Unset)
 }
 
@@ -46,10 +43,10 @@ pub fn set_element(
     store: &mut Store,
     at_name: Place,
     array: Variable,
-    key: Vec<u8>,
+    key: &[u8],
     value: Value,
 ) -> Result<(), Halt>
-    ensures { (g : Given) (t : Table) (place : Place) → Acts g (Do (Set (machine.Element (variable_of (names_in g) array) key.items at_name) place value)) goes_on (store.old, t) result (store.new, t) }
+    ensures { (g : Given) (t : Table) (place : Place) → Acts g (Do (Set (machine.Element (variable_of (names_in g) array) key.now at_name) place value)) goes_on (store.old, t) result (store.new, t) }
 {
     at(at_name, store.put(array, key, value))
 }

@@ -18,4 +18,4 @@ pub mod targets;
 pub mod values;
 pub mod variables;
 
-pub use spot::Spot;
+pub use spot::{Key, Spot};

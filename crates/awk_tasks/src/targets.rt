@@ -31,7 +31,8 @@ pub fn read(alloc: Global, store: &mut Store, target: &Spot) -> Result<Value, Ha
     match target {
         Spot::Variable(variable) => read_variable(alloc, store, *variable),
         Spot::Element(place, array, key) => {
-            read_element(alloc, store, *place, *array, key.bytes())
+            let mut buffer = Buffer::new();
+            read_element(alloc, store, *place, *array, key.text(&mut buffer))
         }
         Spot::Field(number) => read_field(store, *number),
     }
@@ -50,7 +51,8 @@ pub fn lent<'a>(store: &'a Store, target: &Spot, buffer: &'a mut Buffer) -> Opti
             Some(text_in(store.value(*variable)?, buffer))
         }
         Spot::Element(_, array, key) => {
-            Some(text_in(store.element(*array, key.bytes())?, buffer))
+            let mut digits = Buffer::new();
+            Some(text_in(store.element(*array, key.text(&mut digits))?, buffer))
         }
         Spot::Field(number) => {
             if *number == 0 {
@@ -74,7 +76,8 @@ pub fn set(
     match target {
         Spot::Variable(variable) => set_variable(store, variable, place, value),
         Spot::Element(at_name, array, key) => {
-            set_element(store, at_name, array, key.into_bytes(), value)
+            let mut buffer = Buffer::new();
+            set_element(store, at_name, array, key.text(&mut buffer), value)
         }
         Spot::Field(number) => set_field(alloc, store, number, place, value),
     }

@@ -11,7 +11,7 @@ pub returns-in_ok-element-in-Element : goal.returns-in_ok-element-in-Element
 returns-in_ok-element-in-Element c = λ g t. (
   c.in_ok-element-in-Element.field-0.now,
   sym c.text_in-in-Element.ensures,
-  rw c.in-Element.is (lends_element g (c.args.store.now, t) c.in-Element.field-0 c.in-Element.array c.in-Element.key c.in_ok-element-in-Element.field-0.now (sym (rw c.bytes.ensures at c.in_ok-element-in-Element.ensures))),
+  rw c.in-Element.is (lends_element g (c.args.store.now, t) c.in-Element.field-0 c.in-Element.array c.in-Element.key c.in_ok-element-in-Element.field-0.now (sym (rw c.text.ensures at c.in_ok-element-in-Element.ensures))),
 )
 
 pub returns-then-number-eq0 : goal.returns-then-number-eq0
