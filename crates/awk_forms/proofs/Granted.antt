@@ -59,3 +59,8 @@ met_so {on = on} g w p place spec (Err f) h (inr m) is e = subst (λ z. Acts g p
 -- what is halted gives nothing, of whatever kind
 pub as_halted : {A B : Type 0} {g : Given} {p : Piece} {old new : Whole} {on : A → List Piece → List Piece} {to : B → List Piece → List Piece} {h : Halt} → Acts g p on old (Err h) new → Acts g p to old (Err h) new
 as_halted x = record { same = x.same; settles = λ k hid c a. x.settles k hid c a }
+
+pub met_by : {A X : Type 0} {P : Fault → Type 0} {on : A → List Piece → List Piece} (g : Given) (w : Whole) (p : Piece) (place : Place) (made : Result X Fault) (h : Halt) → IfErr made P → result_at place made ≡ Err h →
+    ((f : Fault) → P f → (k : List Piece) (hid : Hidden) (c : Course) → Agreeing g w hid c → advance g (p ∷ k) (seen (base g w hid) c) ≡ Goes (ends (Faulted f place)) (seen (base g w hid) c)) → Acts g p on w (Err h) w
+met_by g w p place (Ok x) h why is e = absurd (cc)
+met_by {on = on} g w p place (Err f) h why is e = subst (λ z. Acts g p on w (Err z) w) (same_halt (halt_at place f) h is) (faulted refl (inr (moves (at_rest _ w) (e f why))))

@@ -1,3 +1,4 @@
+pub mod AtHand
 pub mod Granted
 pub mod Listed
 pub mod Making

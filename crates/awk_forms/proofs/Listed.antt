@@ -1,12 +1,15 @@
 -- Forms that wait for a list of values.
 use Rattle.std.proofs.Common.{◌≡◌, refl, sym, ap, subst, ◌∙◌, ◌+◌, List, [], ◌∷◌, ◌++◌, length, reverse, take, drop, arith}
-use Rattle.std.specs.Prelude.{Result, Ok, Err, Some, None}
+use Rattle.std.specs.Prelude.{Bool, true, false, if◌then◌else◌, nat_le, Result, Ok, Err, IfOk, Some, None}
 use Rattle.std.proofs.lemmas.List.{reverse-reverse, length-reverse, reverse-append, length-append}
 use Rattle.std.proofs.lemmas.Option.{slice_get_past}
 use Rattle.awk_fields.specs.Rows.{joined}
 use Rattle.awk_text.specs.declared.place.Place.{Place}
 use Rattle.awk_text.specs.declared.value.Value.{Value}
 use Rattle.awk_text.specs.declared.fault.Fault.{Fault}
+use Rattle.awk_text.specs.declared.fault.Fault.TheVariants.{TextTooLong}
+use Rattle.awk_text.specs.Limits.{most_bytes}
+use Rattle.awk_text.specs.Values.{text_of}
 use Rattle.awk_program.specs.Program as p
 use Rattle.awk_program.specs.Program.{Expression}
 use Rattle.awk_program.specs.View.{variable_of}
@@ -29,11 +32,14 @@ use Rattle.awk_store.specs.Kept as kept
 use Rattle.awk_store.specs.States.{Hidden}
 use Rattle.awk_tasks.specs.Wholes.{Whole, Agreeing, base, names_in}
 use Rattle.awk_asks.specs.Tasks.{goes_on}
-use Rattle.awk_tasks.specs.Acts.{Acts}
+use Rattle.awk_tasks.specs.Acts.{Acts, result_at}
 use Rattle.awk_tasks.proofs.Acting.{at_rest, alters, done}
 use Rattle.awk_tasks.proofs.ArraySteps.{array-set, array_agrees, array_used}
 use Rattle.awk_tasks.proofs.Reading.{own-text-so, array-so}
 use Rattle.awk_forms.specs.Outputs.{to_standard, to_stream}
+
+abbrev text_ok : Text → Result Text Fault
+text_ok x = Ok x
 
 -- once all are there, the form goes on with them
 pub all_there : (xs : List Expression) (part : Part) (f : List Value → Then) (vs : List Value) (k : List Piece) (s : State) → length xs ≡ length vs → each_of xs part f (reverse vs) k s ≡ f vs k s
@@ -104,3 +110,17 @@ module _ (g : Given) (w : Whole) (place : Place) (x : Variable) (xs : List Expre
   pub removes_not : (f : Fault) → limited (joined (kept.own_text w.0 own.Subsep) vs) ≡ Err f → (k : List Piece) (hid : Hidden) (c : Course) → Agreeing g w hid c →
       advance g (removing ∷ k) (seen (base g w hid) c) ≡ Goes (ends (Faulted f place)) (seen (base g w hid) c)
   removes_not f is k hid c a = by_key (Err f) is k hid c a
+
+-- ---- the key that one subscript is
+
+limited_is : (t u : Text) → limited t ≡ Ok u → limited t ≡ Ok t
+limited_is t u e = by_room (nat_le (length t) most_bytes) e
+  where
+    by_room : (b : Bool) → (if b then text_ok t else Err TextTooLong) ≡ Ok u → (if b then text_ok t else Err TextTooLong) ≡ Ok t
+    by_room true e = refl
+    by_room false e = absurd (cc)
+
+pub key_is : {X : Type 0} (now : X → Text) (place : Place) (made : Result X Fault) (y : X) (s : Value) → IfOk made (λ x. (by : Text) → limited (joined by (s ∷ [])) ≡ Ok (now x)) →
+    result_at place made ≡ Ok y → (by : Text) → limited (joined by (s ∷ [])) ≡ Ok (text_of s)
+key_is now place (Ok x) y s ok is by = limited_is (text_of s ++ []) (now x) (ok by) ∙ ap text_ok (nil_right (text_of s))
+key_is now place (Err f) y s ok is by = absurd (cc)

@@ -12,10 +12,11 @@ use Rattle.awk_text.specs.Values.{number_of}
 use Rattle.awk_program.specs.Program as p
 use Rattle.awk_program.specs.Program.{Reference}
 use Rattle.awk_program.specs.Slots.{Text}
+use Rattle.awk_program.specs.declared.operators.Operator.{Operator}
 use Rattle.awk_program.specs.declared.operators.Step.{Step}
 use Rattle.awk_program.specs.declared.operators.Taken.{Taken}
 use Rattle.awk_machine.specs.Advances.{advance, held}
-use Rattle.awk_machine.specs.Operators.{stepped, of_count}
+use Rattle.awk_machine.specs.Operators.{computed, operation, stepped, of_count}
 use Rattle.awk_machine.specs.Pieces.{Piece, At, Value_of, Then, Goes, granted}
 use Rattle.awk_machine.specs.State.{State, Course, Given}
 use Rattle.awk_machine.specs.Streams.{seen}
@@ -24,7 +25,7 @@ use Rattle.awk_tasks.specs.Wholes.{Whole, Agreeing, base}
 use Rattle.awk_tasks.specs.Acts.{Acts, result_at}
 use Rattle.awk_tasks.proofs.Acting.{at_rest, moves, done}
 use Rattle.awk_works.specs.Numbers.{as_value}
-use Rattle.awk_forms.specs.Made.{as_text, both_numbers, stepping}
+use Rattle.awk_forms.specs.Made.{as_text, both_numbers, of_both, stepping}
 use Rattle.awk_forms.proofs.Granted.{given_or_lacks}
 
 abbrev value_ok : Value → Result Value Fault
@@ -88,3 +89,16 @@ place_is (Err met) z e = absurd (cc)
 pub field_is : (made : Result ℤ Fault) (z : ℤ) → (made >>= λ y. place_of y >>= λ n. Ok (of_count n)) ≡ Ok (v.Num z) → pos (nat_abs z) ≡ z
 field_is (Ok y) z e = place_is (place_of y) z e
 field_is (Err met) z e = absurd (cc)
+
+-- what is computed of two values is computed of their numbers
+pub computed_so : (how : Operator) (x y : Value) → computed how x y ≡ as_value (of_both how (number_of x) (number_of y))
+computed_so how x y = by_both (number_of x) (number_of y)
+  where
+    by_last : (made : Result ℤ Fault) → (made >>= λ z. value_ok (v.Num z)) ≡ as_value made
+    by_last (Ok z) = refl
+    by_last (Err e) = refl
+
+    by_both : (a b : Result ℤ Fault) → (a >>= λ m. b >>= λ n. operation how m n >>= λ z. value_ok (v.Num z)) ≡ as_value (of_both how a b)
+    by_both (Err e) b = refl
+    by_both (Ok m) (Err e) = refl
+    by_both (Ok m) (Ok n) = by_last (operation how m n)

@@ -1,6 +1,6 @@
 -- Lists, and what was made.
 use Rattle.std.proofs.Common.{◌≡◌, refl, ap, sym, ℕ, zero, suc, ◌≤◌, ◌<◌, drop, List, [], ◌∷◌, length, arith}
-use Rattle.std.specs.Prelude.{Result, Ok, Err, IfOk, IfErr, get_or}
+use Rattle.std.specs.Prelude.{Option, Some, None, IfSome, Result, Ok, Err, IfOk, IfErr, get_or}
 use Rattle.awk_program.specs.Program.{Expression, expressions_of}
 use Rattle.awk_machine.specs.Forms.{listed}
 
@@ -26,3 +26,7 @@ drop_all [] zero far = refl
 drop_all [] (suc n) far = refl
 drop_all (x ∷ xs) zero far = absurd (omega (arith, far))
 drop_all (x ∷ xs) (suc n) far = drop_all xs n (omega (arith, far))
+
+pub some_for : {X : Type 0} {P Q : X → Type 0} (r : Option X) → ((x : X) → P x → Q x) → IfSome r P → IfSome r Q
+some_for None f h = tt
+some_for (Some x) f h = f x h

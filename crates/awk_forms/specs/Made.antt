@@ -8,16 +8,21 @@ use Rattle.awk_text.specs.declared.fault.Fault.{Fault}
 use Rattle.awk_format.specs.Directives.{◌>>=◌}
 use Rattle.awk_program.specs.Slots.{Text}
 use Rattle.awk_program.specs.Program.{Reference}
+use Rattle.awk_program.specs.declared.operators.Operator.{Operator}
 use Rattle.awk_program.specs.declared.operators.Step.{Step}
 use Rattle.awk_program.specs.declared.operators.Taken.{Taken}
 use Rattle.awk_machine.specs.Expressions.{either}
-use Rattle.awk_machine.specs.Operators.{stepped}
+use Rattle.awk_machine.specs.Operators.{operation, stepped}
 use Rattle.awk_machine.specs.Pieces.{Piece, Do, Give, Set}
 use Rattle.awk_machine.specs.Targets.{target, stored}
 
 -- a text as a value, where there is no fault
 abbrev pub as_text : Result Text Fault → Result Value Fault
 as_text made = made >>= λ t. Ok (v.Text t)
+
+-- what an operator gives at two numbers, the left one of which is looked at first
+abbrev pub of_both : Operator → Result ℤ Fault → Result ℤ Fault → Result ℤ Fault
+of_both how a b = a >>= λ m. b >>= λ n. operation how m n
 
 -- the old number and the new one of `++` and `--`
 abbrev pub both_numbers : Step → Value → Result (ℤ × ℤ) Fault

@@ -1,5 +1,9 @@
 // Chains: each operand is joined to what stands before it.
-ghost use Rattle.std.specs.Prelude.{◌∷◌, [], List, Ok, map};
+ghost use Rattle.std.specs.Prelude.{◌≡◌, ◌∷◌, [], List, Ok, map};
+ghost use Rattle.awk_forms.specs.Made.{of_both};
+ghost use Rattle.awk_text.specs.Values.{number_of};
+ghost use Rattle.awk_text.specs.declared.value.Value.{Value as Val};
+ghost use Rattle.awk_text.specs.declared.value.Value.TheVariants as v;
 ghost use Rattle.awk_asks.specs.Tables.{Table};
 ghost use Rattle.awk_machine.specs.Pieces.{At, Terms_of, Texts_of, Members_of, give};
 ghost use Rattle.awk_machine.specs.State.{Given};
@@ -13,14 +17,23 @@ use crate::made::{number_at, text_at};
 use awk_asks::halt::Halt;
 use awk_program::{Operator, Variable};
 use awk_store::Store;
+use awk_tasks::faults::at;
+use awk_text::fault::Fault;
 use awk_text::place::Place;
 use awk_text::value::{Value, text_in};
-use awk_tasks::faults::{at, halt_at};
-use awk_text::fault::Fault;
 use awk_works::operators::{computed, operation, truth_value};
 use awk_works::texts::concatenated;
 use itoa::Buffer;
 use std::alloc::Global;
+
+/// What the operator gives at two numbers, the left one of which is looked at first.
+fn both(how: Operator, left: Result<i64, Fault>, right: Result<i64, Fault>) -> Result<i64, Fault>
+    ensures { result ≡ of_both how left right }
+{
+    let first = left?;
+    let second = right?;
+    operation(how, first, second)
+}
 
 /// One operand more of a chain of `+` and `-`, or of `*`, `/` and `%`; or the one of `^`.
 pub fn term(place: Place, how: Operator, left: &Value, right: &Value) -> Result<Value, Halt>
@@ -29,12 +42,17 @@ pub fn term(place: Place, how: Operator, left: &Value, right: &Value) -> Result<
     number_at(place, computed(how, left, right))
 }
 
-/// The same of the numbers of the two.
-pub fn operated(place: Place, how: Operator, left: Result<i64, Fault>, right: Result<i64, Fault>) -> Result<i64, Halt>
+/// The same where the numbers of the two are known.
+pub fn operated(
+    place: Place,
+    how: Operator,
+    left: Result<i64, Fault>,
+    right: Result<i64, Fault>,
+) -> Result<i64, Halt>
+    ensures { (g : Given) (w : Whole) (x : Expression) (xs : Terms) (l r : Val) → left ≡ number_of l → right ≡ number_of r
+        → Acts g (At (Terms_of (p.term how place x xs)) (r ∷ l ∷ [])) (λ n k. At (Terms_of xs) (v.Num n ∷ []) ∷ k) w result w }
 {
-    let Ok(first) = left else { return Err(halt_at(place, Fault::OutOfRange)); };
-    let Ok(second) = right else { return Err(halt_at(place, Fault::OutOfRange)); };
-    at(place, operation(how, first, second))
+    at(place, both(how, left, right))
 }
 
 /// One operand more of a concatenation.
