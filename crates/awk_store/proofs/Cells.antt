@@ -1,12 +1,16 @@
 -- Cells and arrays that are changed where they lie.
 use Rattle.std.specs.Prelude.{◌≡◌, ◌<◌, ◌≤◌, ℕ, zero, suc, List, [], ◌∷◌, length, slice_get, slice_index_or, slice_set, Some, None, unwrap_or, Result, Ok, Err, OnOk, IfErr, refl}
 use Rattle.std.proofs.Common.{sym, ◌∙◌, ap, arith}
+use Rattle.awk_text.specs.declared.value.Value.{Value}
+use Rattle.awk_program.specs.declared.variables.Variable.{Variable}
+use Rattle.awk_program.specs.declared.variables.Variable.TheVariants.{Global, Parameter}
 use Rattle.awk_machine.specs.State.{Array}
 use Rattle.awk_store.specs.declared.cell.Cell.{Cell}
 use Rattle.awk_store.specs.declared.cell.Cell.TheVariants as cell
+use Rattle.awk_store.specs.declared.frame.Bound.TheVariants.{Scalar}
 use Rattle.awk_store.specs.declared.frame.Reference.{Reference}
 use Rattle.awk_store.specs.declared.frame.Reference.TheVariants.{Shared, Made, Nothing}
-use Rattle.awk_store.specs.Changes.{change_at, given_array, with_array}
+use Rattle.awk_store.specs.Changes.{change_at, given_array, given_value, with_array, with_value}
 use Rattle.awk_store.specs.Kept.{Kept, array_at, listed}
 
 pub change_here : (f : Cell → Cell) (cells : List Cell) (k : ℕ) (c new : Cell) → c ≡ slice_index_or cells k c → new ≡ f c → slice_set cells k new ≡ change_at f cells k
@@ -82,6 +86,21 @@ put_back old mid new at r empty elements is out back =
 
 pub as_it_was : (old new : Kept) (r : Reference) (elements : Array) → new ≡ with_array r elements old → elements ≡ array_at old r → new ≡ old
 as_it_was old new r elements is e = is ∙ ap (λ a. with_array r a old) e ∙ same r old
+
+-- ---- a value that is taken out and set again
+
+given_value_twice : (x y : Value) (c : Cell) → given_value y (given_value x c) ≡ given_value y c
+given_value_twice x y (cell.Value old) = refl
+given_value_twice x y (cell.Array a) = refl
+
+values_twice : (x y : Value) (cells : List Cell) (k : ℕ) → change_at (given_value y) (change_at (given_value x) cells k) k ≡ change_at (given_value y) cells k
+values_twice x y [] k = refl
+values_twice x y (c ∷ cs) zero = ap (λ z. z ∷ cs) (given_value_twice x y c)
+values_twice x y (c ∷ cs) (suc k) = ap (λ ys. c ∷ ys) (values_twice x y cs k)
+
+pub value_twice : (a : Variable) (x y : Value) (k : Kept) → with_value a y (with_value a x k) ≡ with_value a y k
+value_twice (Global n) x y k = ap (λ cs. record k { cells = cs }) (values_twice x y k.cells n)
+value_twice (Parameter n) x y k = ap (λ fs. record k { frame = fs }) (set_twice (Scalar x) (Scalar y) k.frame n)
 
 -- ---- results
 

@@ -64,6 +64,17 @@ impl Cell {
         }
     }
 
+    /// Takes the value out, and leaves it unset. An array stays as it is.
+    pub(crate) fn take_value(&mut self) -> Value
+        ensures value { result ≡ unwrap_or (scalar (Some self.old)) Value.Unset }
+        ensures after { self.new ≡ given_value Value.Unset self.old }
+    {
+        match self {
+            Cell::Value(old) => mem::replace(old, Value::Unset),
+            Cell::Array(_) => Value::Unset,
+        }
+    }
+
     /// Gives an element of the array a value. A value stays as it is.
     ///
     /// Fails as `Array::set` does; then nothing has changed.

@@ -14,6 +14,7 @@ use awk_text::arithmetic::add;
 use awk_text::fault::Fault;
 use awk_text::value::{Value, number_of, text_in};
 use itoa::Buffer;
+use std::mem;
 
 /// The value at a slot. There is none in an array, nor where the slot is none.
 fn value_at(cells: &[Cell], slot: usize) -> Option<&Value>
@@ -61,6 +62,28 @@ fn set_bound(frame: &mut Vec<Bound>, place: usize, value: Value)
     }
 }
 
+/// Takes the value at a slot out, and leaves it unset. An array stays as it is.
+fn take_value(cells: &mut Vec<Cell>, slot: usize) -> Value
+    ensures value { result ≡ value_at cells.old.items slot }
+    ensures after { cells.new.items ≡ change_at (given_value Value.Unset) cells.old.items slot }
+{
+    match cells.get_mut(slot) {
+        Some(cell) => cell.take_value(),
+        None => Value::Unset,
+    }
+}
+
+/// Takes the value of a parameter out, and leaves it unset.
+fn take_bound(frame: &mut Vec<Bound>, place: usize) -> Value
+    ensures value { result ≡ unwrap_or (bound_scalar (slice_get frame.old.items place)) Value.Unset }
+    ensures after { frame.new.items ≡ slice_set frame.old.items place (Bound.Scalar Value.Unset) }
+{
+    if place < frame.len() {
+        return mem::replace(&mut frame[place], Bound::Scalar(Value::Unset)).into_value();
+    }
+    Value::Unset
+}
+
 /// Whether a variable is NF, which is no variable but a property of the record.
 pub fn is_nf(variable: Variable) -> bool
     ensures { result ≡ is_nf variable }
@@ -90,6 +113,19 @@ impl Store {
         match variable {
             Variable::Global(slot) => set_value(&mut self.cells, slot as usize, value),
             Variable::Parameter(place) => set_bound(&mut self.frame, place as usize, value),
+        }
+    }
+
+    /// Takes the value of a variable out, and leaves the variable unset, as `set` does. Takes no memory.
+    ///
+    /// So a value can be changed outside the store: taken out, and set again.
+    pub fn take(&mut self, variable: Variable) -> Value
+        ensures value { result ≡ value self.old variable }
+        ensures after { self.new ≡ with_value variable Value.Unset self.old }
+    {
+        match variable {
+            Variable::Global(slot) => take_value(&mut self.cells, slot as usize),
+            Variable::Parameter(place) => take_bound(&mut self.frame, place as usize),
         }
     }
 
