@@ -1,3 +1,4 @@
+pub mod Growing
 pub mod Made
 pub mod Operands
 pub mod Outputs

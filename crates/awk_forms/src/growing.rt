@@ -1,0 +1,183 @@
+// A text that grows in its place.
+ghost use Rattle.std.specs.Prelude.{◌≡◌, ◌+◌, ◌≤◌, ◌++◌, List, ℕ, true, false, length, map, IfSome, IfOk, IfErr, OnOk};
+ghost use Rattle.awk_asks.specs.Tables.{Table};
+ghost use Rattle.awk_machine.specs.Forms.{value};
+ghost use Rattle.awk_machine.specs.Pieces.{give};
+ghost use Rattle.awk_machine.specs.State.{Given};
+ghost use Rattle.awk_program.specs.Program as p;
+ghost use Rattle.awk_program.specs.Program.{expressions_of, joins_of};
+ghost use Rattle.awk_program.specs.View.{variable_of, view, view_joined};
+ghost use Rattle.awk_store.specs.Changes.{with_value};
+ghost use Rattle.awk_store.specs.Kept as kept;
+ghost use Rattle.awk_tasks.specs.Acts.{Passes};
+ghost use Rattle.awk_tasks.specs.Wholes.{names_in};
+ghost use Rattle.awk_text.specs.Limits.{most_bytes};
+ghost use Rattle.awk_text.specs.Values.{text_of};
+ghost use Rattle.awk_text.specs.declared.value.Value.{Value as Val};
+ghost use Rattle.awk_text.specs.declared.value.Value.TheVariants as v;
+ghost use Rattle.awk_forms.specs.Growing.{Follows, Lends};
+
+use awk_asks::halt::Halt;
+use awk_program::{Expr, Joined, Target, Variable};
+use awk_store::{Store, is_nf};
+use awk_tasks::values::into_text;
+use awk_text::Memory;
+use awk_text::octets::Octets;
+use awk_text::place::Place;
+use awk_text::texts::MOST_BYTES;
+use awk_text::value::{Value, text_in};
+use itoa::Buffer;
+use std::alloc::Global;
+
+/// The text of a constant, or of a variable that is not NF, lent. Takes no memory.
+fn plain_text<'a>(store: &'a Store, e: &'a Expr, buffer: &'a mut Buffer) -> Option<&'a [u8]>
+    ensures { IfSome result (λ text. (g : Given) (t : Table) → Lends g (store.now, t) (view (names_in g) e.now) text.now) }
+{
+    match e {
+        Expr::Number(number) => Some(buffer.format(*number).as_bytes()),
+        Expr::Text(text) => Some(text.bytes()),
+        Expr::Read(Target::Variable(variable)) => {
+            if is_nf(*variable) {
+                return None;
+            }
+            Some(text_in(store.value(*variable)?, buffer))
+        }
+        _ => None,
+    }
+}
+
+/// The text of an element that is there, by one subscript, lent. Takes no memory.
+fn element_text<'a>(
+    store: &'a Store,
+    place: Place,
+    array: Variable,
+    keys: &[Expr],
+    buffer: &'a mut Buffer,
+) -> Option<&'a [u8]>
+    ensures { IfSome result (λ text. (g : Given) (t : Table) → Lends g (store.now, t)
+        (p.read (p.element place (variable_of (names_in g) array) (expressions_of (map (view (names_in g)) keys.now)))) text.now) }
+{
+    let [one] = keys else { return None; };
+    let mut digits = Buffer::new();
+    let key = plain_text(store, one, &mut digits)?;
+    if MOST_BYTES < key.len() {
+        return None;
+    }
+    Some(text_in(store.element(array, key)?, buffer))
+}
+
+/// The text of `$0`, lent, where it is written with the number. Takes no memory.
+fn record_text<'a>(store: &'a Store, place: Place, number: &Expr) -> Option<&'a [u8]>
+    ensures { IfSome result (λ text. (g : Given) (t : Table) → Lends g (store.now, t) (p.read (p.field place (view (names_in g) number.now))) text.now) }
+{
+    match number {
+        Expr::Number(0) => Some(store.whole()),
+        _ => None,
+    }
+}
+
+/// The text of an expression, lent, where that is there and to evaluate it changes nothing: of a constant, of a variable that
+/// is not NF, of an element that is there, and of `$0`. Takes no memory.
+fn text_at_hand<'a>(store: &'a Store, e: &'a Expr, buffer: &'a mut Buffer) -> Option<&'a [u8]>
+    ensures { IfSome result (λ text. (g : Given) (t : Table) → Lends g (store.now, t) (view (names_in g) e.now) text.now) }
+{
+    match e {
+        Expr::Read(Target::Element(place, array, keys)) => {
+            element_text(store, *place, *array, keys.as_slice(), buffer)
+        }
+        Expr::Read(Target::Field(place, number)) => record_text(store, *place, number.get()),
+        _ => plain_text(store, e, buffer),
+    }
+}
+
+/// Adds the text of an operand behind the others, and answers whether it did: it is at hand, and there is room.
+fn add_text(
+    store: &Store,
+    e: &Expr,
+    room: usize,
+    texts: &mut Vec<u8>,
+) -> Result<bool, Memory>
+    ensures room { IfOk result (λ added. added ≡ true → length texts.new.items ≤ room) }
+    ensures text { IfOk result (λ added. added ≡ true → (text : List ℕ) × (texts.new.items ≡ texts.old.items ++ text) × ((g : Given) (t : Table) → Lends g (store.now, t) (view (names_in g) e.now) text)) }
+{
+    let mut buffer = Buffer::new();
+    let Some(text) = text_at_hand(store, e, &mut buffer) else { return Ok(false); };
+    if room < texts.len() + text.len() {
+        return Ok(false);
+    }
+    texts.extend_from_slice(text)?;
+    Ok(true)
+}
+
+/// The texts of the operands, one after the other, where each is at hand and there is room for all.
+fn gathered(
+    alloc: Global,
+    store: &Store,
+    rest: &[Joined<Expr>],
+    room: usize,
+) -> Result<Option<Vec<u8>>, Memory>
+    ensures { IfOk result (λ found. IfSome found (λ more. (g : Given) (t : Table) → Follows g (store.now, t) (joins_of (map (view_joined (names_in g)) rest.now)) room more.items)) }
+{
+    let mut more = Vec::new(alloc);
+    for next in rest {
+        if !add_text(store, &next.operand, room, &mut more)? {
+            return Ok(None);
+        }
+    }
+    Ok(Some(more))
+}
+
+/// How many bytes may stand behind the text that a variable holds, where the expression reads that variable and it is not NF.
+fn room_behind(store: &Store, to: Variable, e: &Expr) -> Option<usize>
+    ensures nf { IfSome result (λ room. kept.is_nf to ≡ false) }
+    ensures reads { IfSome result (λ room. (names : List (List ℕ)) → view names e.now ≡ p.read (p.variable (variable_of names to))) }
+    ensures room { IfSome result (λ room. (text : List ℕ) × (kept.value store.now to ≡ v.Text text) × (length text + room ≤ most_bytes)) }
+{
+    let Expr::Read(Target::Variable(read)) = e else { return None; };
+    if *read != to || is_nf(to) {
+        return None;
+    }
+    match store.value(to)? {
+        Value::Text(text) => MOST_BYTES.checked_sub(text.bytes().len()),
+        Value::Unset | Value::Num(_) | Value::Input(_) => None,
+    }
+}
+
+/// Adds bytes behind the text of a variable, in its place. It holds a text from now on.
+fn grow(alloc: Global, store: &mut Store, to: Variable, more: &[u8]) -> Result<(), Halt>
+    ensures ok { OnOk result (store.new ≡ with_value to (v.Text (text_of (kept.value store.old to) ++ more.now)) store.old) }
+    ensures err { IfErr result (λ h. h ≡ Halt.Memory) }
+    ensures used { store.new.used ≡ store.old.used }
+{
+    let Ok(text) = into_text(alloc, store.take(to)) else { return Err(Halt::Memory); };
+    let mut bytes = text.into_bytes();
+    let Ok(()) = bytes.extend_from_slice(more) else { return Err(Halt::Memory); };
+    store.set(to, Value::Text(Octets::new(bytes)));
+    Ok(())
+}
+
+/// Does the whole of `to = first rest..` where `first` reads `to` too, which holds a text, and each of the others is at hand:
+/// then the text grows in its place, so that many such assignments take time as what they add. Else it does nothing, and
+/// answers `false`; so also where the text would be too long, for the fault has its place in the general way.
+///
+/// Fails with `Halt::Memory` alone, where memory is refused.
+pub fn grown(
+    alloc: Global,
+    store: &mut Store,
+    to: Variable,
+    first: &Expr,
+    rest: &[Joined<Expr>],
+) -> Result<bool, Halt>
+    ensures done { IfOk result (λ is. is ≡ true → (g : Given) (t : Table) (place : Place) → (x : Val) × Passes g
+        (value (p.assign place (p.variable (variable_of (names_in g) to)) (p.concat (view (names_in g) first.now) (joins_of (map (view_joined (names_in g)) rest.now)))))
+        (store.old, t) (give x) (store.new, t)) }
+    ensures not_done { IfOk result (λ is. is ≡ false → store.new ≡ store.old) }
+    ensures err { IfErr result (λ h. h ≡ Halt.Memory) }
+    ensures used { store.new.used ≡ store.old.used }
+{
+    let Some(room) = room_behind(store, to, first) else { return Ok(false); };
+    let Ok(found) = gathered(alloc, store, rest, room) else { return Err(Halt::Memory); };
+    let Some(more) = found else { return Ok(false); };
+    grow(alloc, store, to, more.as_slice())?;
+    Ok(true)
+}
