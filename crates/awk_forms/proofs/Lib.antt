@@ -1,5 +1,6 @@
 pub mod AtHand
 pub mod Granted
+pub mod Grown
 pub mod Listed
 pub mod Making
 pub mod Matching

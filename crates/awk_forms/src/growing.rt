@@ -6,11 +6,11 @@ ghost use Rattle.awk_machine.specs.Pieces.{give};
 ghost use Rattle.awk_machine.specs.State.{Given};
 ghost use Rattle.awk_program.specs.Program as p;
 ghost use Rattle.awk_program.specs.Program.{expressions_of, joins_of};
-ghost use Rattle.awk_program.specs.View.{variable_of, view, view_joined};
+ghost use Rattle.awk_program.specs.View.{Names, variable_of, view, view_joined, view_target};
 ghost use Rattle.awk_store.specs.Changes.{with_value};
 ghost use Rattle.awk_store.specs.Kept as kept;
 ghost use Rattle.awk_tasks.specs.Acts.{Passes};
-ghost use Rattle.awk_tasks.specs.Wholes.{names_in};
+ghost use Rattle.awk_tasks.specs.Wholes.{Whole, names_in};
 ghost use Rattle.awk_text.specs.Limits.{most_bytes};
 ghost use Rattle.awk_text.specs.Values.{text_of};
 ghost use Rattle.awk_text.specs.declared.value.Value.{Value as Val};
@@ -29,20 +29,43 @@ use awk_text::value::{Value, text_in};
 use itoa::Buffer;
 use std::alloc::Global;
 
-/// The text of a constant, or of a variable that is not NF, lent. Takes no memory.
-fn plain_text<'a>(store: &'a Store, e: &'a Expr, buffer: &'a mut Buffer) -> Option<&'a [u8]>
-    ensures { IfSome result (λ text. (g : Given) (t : Table) → Lends g (store.now, t) (view (names_in g) e.now) text.now) }
+/// The text of a constant, lent. Takes no memory.
+fn constant_text<'a>(e: &'a Expr, buffer: &'a mut Buffer) -> Option<&'a [u8]>
+    ensures { IfSome result (λ text. (g : Given) (w : Whole) → Lends g w (view (names_in g) e.now) text.now) }
 {
     match e {
         Expr::Number(number) => Some(buffer.format(*number).as_bytes()),
         Expr::Text(text) => Some(text.bytes()),
-        Expr::Read(Target::Variable(variable)) => {
+        _ => None,
+    }
+}
+
+/// The text of a variable that is not NF, lent. Takes no memory.
+fn variable_text<'a>(
+    store: &'a Store,
+    target: &Target<Expr>,
+    buffer: &'a mut Buffer,
+) -> Option<&'a [u8]>
+    ensures { IfSome result (λ text. (g : Given) (t : Table) → Lends g (store.now, t) (p.read (view_target (names_in g) target.now)) text.now) }
+{
+    match target {
+        Target::Variable(variable) => {
             if is_nf(*variable) {
                 return None;
             }
             Some(text_in(store.value(*variable)?, buffer))
         }
         _ => None,
+    }
+}
+
+/// The text of a constant or of a variable, lent. Takes no memory.
+fn plain_text<'a>(store: &'a Store, e: &'a Expr, buffer: &'a mut Buffer) -> Option<&'a [u8]>
+    ensures { IfSome result (λ text. (g : Given) (t : Table) → Lends g (store.now, t) (view (names_in g) e.now) text.now) }
+{
+    match e {
+        Expr::Read(target) => variable_text(store, target, buffer),
+        _ => constant_text(e, buffer),
     }
 }
 
@@ -57,7 +80,9 @@ fn element_text<'a>(
     ensures { IfSome result (λ text. (g : Given) (t : Table) → Lends g (store.now, t)
         (p.read (p.element place (variable_of (names_in g) array) (expressions_of (map (view (names_in g)) keys.now)))) text.now) }
 {
-    let [one] = keys else { return None; };
+    let [one] = keys else {
+        return None;
+    };
     let mut digits = Buffer::new();
     let key = plain_text(store, one, &mut digits)?;
     if MOST_BYTES < key.len() {
@@ -66,13 +91,35 @@ fn element_text<'a>(
     Some(text_in(store.element(array, key)?, buffer))
 }
 
-/// The text of `$0`, lent, where it is written with the number. Takes no memory.
+/// The text of `$0`, lent, where the number is written so. Takes no memory.
 fn record_text<'a>(store: &'a Store, place: Place, number: &Expr) -> Option<&'a [u8]>
     ensures { IfSome result (λ text. (g : Given) (t : Table) → Lends g (store.now, t) (p.read (p.field place (view (names_in g) number.now))) text.now) }
 {
     match number {
-        Expr::Number(0) => Some(store.whole()),
+        Expr::Number(number) => {
+            if *number == 0 {
+                return Some(store.whole());
+            }
+            None
+        }
         _ => None,
+    }
+}
+
+/// The text of what is read, lent, where that is there and to read it changes nothing. Takes no memory.
+fn target_text<'a>(
+    store: &'a Store,
+    target: &Target<Expr>,
+    buffer: &'a mut Buffer,
+) -> Option<&'a [u8]>
+    ensures { IfSome result (λ text. (g : Given) (t : Table) → Lends g (store.now, t) (p.read (view_target (names_in g) target.now)) text.now) }
+{
+    match target {
+        Target::Variable(_) => variable_text(store, target, buffer),
+        Target::Element(place, array, keys) => {
+            element_text(store, *place, *array, keys.as_slice(), buffer)
+        }
+        Target::Field(place, number) => record_text(store, *place, number.get()),
     }
 }
 
@@ -82,26 +129,20 @@ fn text_at_hand<'a>(store: &'a Store, e: &'a Expr, buffer: &'a mut Buffer) -> Op
     ensures { IfSome result (λ text. (g : Given) (t : Table) → Lends g (store.now, t) (view (names_in g) e.now) text.now) }
 {
     match e {
-        Expr::Read(Target::Element(place, array, keys)) => {
-            element_text(store, *place, *array, keys.as_slice(), buffer)
-        }
-        Expr::Read(Target::Field(place, number)) => record_text(store, *place, number.get()),
-        _ => plain_text(store, e, buffer),
+        Expr::Read(target) => target_text(store, target, buffer),
+        _ => constant_text(e, buffer),
     }
 }
 
 /// Adds the text of an operand behind the others, and answers whether it did: it is at hand, and there is room.
-fn add_text(
-    store: &Store,
-    e: &Expr,
-    room: usize,
-    texts: &mut Vec<u8>,
-) -> Result<bool, Memory>
+fn add_text(store: &Store, e: &Expr, room: usize, texts: &mut Vec<u8>) -> Result<bool, Memory>
     ensures room { IfOk result (λ added. added ≡ true → length texts.new.items ≤ room) }
     ensures text { IfOk result (λ added. added ≡ true → (text : List ℕ) × (texts.new.items ≡ texts.old.items ++ text) × ((g : Given) (t : Table) → Lends g (store.now, t) (view (names_in g) e.now) text)) }
 {
     let mut buffer = Buffer::new();
-    let Some(text) = text_at_hand(store, e, &mut buffer) else { return Ok(false); };
+    let Some(text) = text_at_hand(store, e, &mut buffer) else {
+        return Ok(false);
+    };
     if room < texts.len() + text.len() {
         return Ok(false);
     }
@@ -127,17 +168,35 @@ fn gathered(
     Ok(Some(more))
 }
 
-/// How many bytes may stand behind the text that a variable holds, where the expression reads that variable and it is not NF.
-fn room_behind(store: &Store, to: Variable, e: &Expr) -> Option<usize>
-    ensures nf { IfSome result (λ room. kept.is_nf to ≡ false) }
-    ensures reads { IfSome result (λ room. (names : List (List ℕ)) → view names e.now ≡ p.read (p.variable (variable_of names to))) }
-    ensures room { IfSome result (λ room. (text : List ℕ) × (kept.value store.now to ≡ v.Text text) × (length text + room ≤ most_bytes)) }
+/// Whether this is that variable.
+fn is_variable(target: &Target<Expr>, variable: Variable) -> bool
+    ensures { result ≡ true → (names : Names) → view_target names target.now ≡ p.variable (variable_of names variable) }
 {
-    let Expr::Read(Target::Variable(read)) = e else { return None; };
-    if *read != to || is_nf(to) {
+    match target {
+        Target::Variable(other) => *other == variable,
+        _ => false,
+    }
+}
+
+/// Whether the expression is that variable.
+fn reads_variable(e: &Expr, variable: Variable) -> bool
+    ensures { result ≡ true → (names : Names) → view names e.now ≡ p.read (p.variable (variable_of names variable)) }
+{
+    match e {
+        Expr::Read(target) => is_variable(target, variable),
+        _ => false,
+    }
+}
+
+/// How many bytes may stand behind the text that a variable holds. NF holds none.
+fn room_behind(store: &Store, variable: Variable) -> Option<usize>
+    ensures nf { IfSome result (λ room. kept.is_nf variable ≡ false) }
+    ensures room { IfSome result (λ room. (text : List ℕ) × (kept.value store.now variable ≡ v.Text text) × (length text + room ≤ most_bytes)) }
+{
+    if is_nf(variable) {
         return None;
     }
-    match store.value(to)? {
+    match store.value(variable)? {
         Value::Text(text) => MOST_BYTES.checked_sub(text.bytes().len()),
         Value::Unset | Value::Num(_) | Value::Input(_) => None,
     }
@@ -149,9 +208,13 @@ fn grow(alloc: Global, store: &mut Store, to: Variable, more: &[u8]) -> Result<(
     ensures err { IfErr result (λ h. h ≡ Halt.Memory) }
     ensures used { store.new.used ≡ store.old.used }
 {
-    let Ok(text) = into_text(alloc, store.take(to)) else { return Err(Halt::Memory); };
+    let Ok(text) = into_text(alloc, store.take(to)) else {
+        return Err(Halt::Memory);
+    };
     let mut bytes = text.into_bytes();
-    let Ok(()) = bytes.extend_from_slice(more) else { return Err(Halt::Memory); };
+    let Ok(()) = bytes.extend_from_slice(more) else {
+        return Err(Halt::Memory);
+    };
     store.set(to, Value::Text(Octets::new(bytes)));
     Ok(())
 }
@@ -175,9 +238,18 @@ pub fn grown(
     ensures err { IfErr result (λ h. h ≡ Halt.Memory) }
     ensures used { store.new.used ≡ store.old.used }
 {
-    let Some(room) = room_behind(store, to, first) else { return Ok(false); };
-    let Ok(found) = gathered(alloc, store, rest, room) else { return Err(Halt::Memory); };
-    let Some(more) = found else { return Ok(false); };
+    if !reads_variable(first, to) {
+        return Ok(false);
+    }
+    let Some(room) = room_behind(store, to) else {
+        return Ok(false);
+    };
+    let Ok(found) = gathered(alloc, store, rest, room) else {
+        return Err(Halt::Memory);
+    };
+    let Some(more) = found else {
+        return Ok(false);
+    };
     grow(alloc, store, to, more.as_slice())?;
     Ok(true)
 }

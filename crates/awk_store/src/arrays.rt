@@ -67,12 +67,7 @@ fn replace_made(
 }
 
 /// Gives an element of the array at a slot a value. Where there is no array nothing changes.
-fn put_in_cells(
-    cells: &mut Vec<Cell>,
-    slot: usize,
-    key: &[u8],
-    value: Value,
-) -> Result<(), Fault>
+fn put_in_cells(cells: &mut Vec<Cell>, slot: usize, key: &[u8], value: Value) -> Result<(), Fault>
     ensures ok { OnOk result (Puts (listed (slice_get cells.old.items slot)) key.now value (λ new. cells.new.items ≡ change_at (given_array new) cells.old.items slot)) }
     ensures err { IfErr result (λ e. (cells.new.items ≡ cells.old.items) × PutsNot (listed (slice_get cells.old.items slot)) key.now value e) }
 {

@@ -1,0 +1,148 @@
+-- A text that grows in its place: what is read is there, each operand is joined to the text, and the whole is stored.
+use Rattle.std.proofs.Common.{◌≡◌, refl, sym, ap, subst, ◌∙◌, ◌+◌, ◌≤◌, ◌<◌, ℕ, false, List, [], ◌∷◌, ◌++◌, length, map, drop, get_or, arith, append_assoc}
+use Rattle.std.proofs.lemmas.List.{length-append, drop_more}
+use Rattle.std.specs.Prelude.{Ok, Option, Some, None, IfSome, pos, ℤ}
+use Rattle.awk_text.specs.Limits.{most_bytes}
+use Rattle.awk_text.specs.Values.{text_of}
+use Rattle.awk_text.specs.declared.place.Place.{Place}
+use Rattle.awk_text.specs.declared.value.Value.{Value}
+use Rattle.awk_text.specs.declared.value.Value.TheVariants as v
+use Rattle.awk_program.specs.Program as p
+use Rattle.awk_program.specs.Program.{Expression, Joins, joins_of}
+use Rattle.awk_program.specs.Slots.{Text}
+use Rattle.awk_program.specs.View.{variable_of, view, view_joined}
+use Rattle.awk_program.specs.declared.expressions.Expr.{Expr}
+use Rattle.awk_program.specs.declared.expressions.Joined.{Joined}
+use Rattle.awk_program.specs.declared.variables.Variable.{Variable}
+use Rattle.awk_lib.specs.Arrays.{element}
+use Rattle.awk_machine.specs.Forms.{value}
+use Rattle.awk_machine.specs.Operators.{limited}
+use Rattle.awk_machine.specs.Pieces as machine
+use Rattle.awk_machine.specs.Pieces.{Piece, Part, At, Do, Get, Set, Give, Goes, Value_of, Target_of, Texts_of, give}
+use Rattle.awk_machine.specs.State.{Given}
+use Rattle.awk_store.specs.Changes.{with_value}
+use Rattle.awk_store.specs.Kept as kept
+use Rattle.awk_store.specs.Kept.{Kept}
+use Rattle.awk_tasks.specs.Acts.{Passes}
+use Rattle.awk_tasks.specs.Wholes.{Whole, names_in}
+use Rattle.awk_tasks.proofs.Acting.{at_rest, moves, reworded, doing, done}
+use Rattle.awk_tasks.proofs.Lent.{lends_variable, lends_element, lends_whole}
+use Rattle.awk_tasks.proofs.Reading.{nf-so}
+use Rattle.awk_tasks.proofs.VariableSteps.{sets_variable}
+use Rattle.awk_works.proofs.Replaced.{limited_ok}
+use Rattle.awk_forms.proofs.Rests.{drop_all}
+use Rattle.awk_forms.specs.Growing.{Follows, Lends}
+
+nil_right : {X : Type 0} (xs : List X) → xs ++ [] ≡ xs
+nil_right [] = refl
+nil_right (x ∷ xs) = ap (λ ys. x ∷ ys) (nil_right xs)
+
+-- a piece passes to another one, and that on
+pub on : {g : Given} {p q : Piece} {old mid new : Whole} {to then_ : List Piece → List Piece} → Passes g p old (λ k. q ∷ to k) mid → Passes g q mid then_ new → Passes g p old (λ k. then_ (to k)) new
+on {then_ = then_} h m = doing (tt {0}) h (done {on = λ (u : Unit {0}). then_} m) refl
+
+-- the operands from a place on wait behind a text, and what was added to it
+abbrev pub so_far : Given → List (Joined Expr) → Text → ℕ → Text → List Piece → List Piece
+so_far g rest text n more k = At (Texts_of (joins_of (map (view_joined (names_in g)) (drop n rest)))) (v.Text (text ++ more) ∷ []) ∷ k
+
+module _ (g : Given) (w : Whole) where
+  -- ---- what is there
+
+  pub number_there : (n : ℤ) → Passes g (value (p.number n)) w (give (v.Num n)) w
+  number_there n = moves (at_rest _ w) (λ k hid d a. refl)
+
+  pub text_there : (x : Text) → Passes g (value (p.text x)) w (give (v.Text x)) w
+  text_there x = moves (at_rest _ w) (λ k hid d a. refl)
+
+  pub variable_there : (x : Variable) → kept.is_nf x ≡ false → Passes g (value (p.read (p.variable (variable_of (names_in g) x)))) w (give (kept.value w.0 x)) w
+  variable_there x n =
+      let part : Part = Value_of (p.read (p.variable (variable_of (names_in g) x))) in
+      on (moves {then_ = λ k. Do (Get (machine.Variable (variable_of (names_in g) x))) ∷ k}
+      (moves {then_ = λ k. At part (v.Unset ∷ []) ∷ k}
+      (moves {then_ = λ k. At (Target_of (p.variable (variable_of (names_in g) x))) [] ∷ At part [] ∷ k}
+      (at_rest _ w) (λ k hid d a. refl)) (λ k hid d a. refl)) (λ k hid d a. refl)) (lends_variable g w x n)
+
+  pub whole_there : (place : Place) → Passes g (value (p.read (p.field place (p.number (pos 0))))) w (give (v.Input w.0.row.whole)) w
+  whole_there place =
+      let spot : Part = Target_of (p.field place (p.number (pos 0))) in
+      let part : Part = Value_of (p.read (p.field place (p.number (pos 0)))) in
+      on (moves {then_ = λ k. Do (Get (machine.Field 0)) ∷ k}
+      (moves {then_ = λ k. At part (v.Num (pos 0) ∷ []) ∷ k}
+      (moves {then_ = λ k. At spot (v.Num (pos 0) ∷ []) ∷ At part [] ∷ k}
+      (moves {then_ = λ k. value (p.number (pos 0)) ∷ At spot [] ∷ At part [] ∷ k}
+      (moves {then_ = λ k. At spot [] ∷ At part [] ∷ k}
+      (at_rest _ w) (λ k hid d a. refl)) (λ k hid d a. refl)) (λ k hid d a. refl)) (λ k hid d a. refl)) (λ k hid d a. refl)) (lends_whole g w)
+
+  one_subscript : (sub : Value) (key : Text) → text_of sub ≡ key → length key ≤ most_bytes → limited (text_of sub ++ []) ≡ Ok key
+  one_subscript sub key is fits = ap limited (nil_right (text_of sub) ∙ is) ∙ limited_ok key fits
+
+  pub element_there : (place : Place) (x : Variable) (e : Expression) (key : Text) (val : Value) → Lends g w e key → length key ≤ most_bytes → element (kept.array w.0 x) key ≡ Some val →
+      Passes g (value (p.read (p.element place (variable_of (names_in g) x) (p.more e p.none)))) w (give val) w
+  element_there place x e key val h fits is =
+      let spot : Part = Target_of (p.element place (variable_of (names_in g) x) (p.more e p.none)) in
+      let part : Part = Value_of (p.read (p.element place (variable_of (names_in g) x) (p.more e p.none))) in
+      on (moves {then_ = λ k. Do (Get (machine.Element (variable_of (names_in g) x) key place)) ∷ k}
+      (moves {then_ = λ k. At part (v.Text key ∷ []) ∷ k}
+      (on (moves {then_ = λ k. value e ∷ At spot [] ∷ At part [] ∷ k}
+      (moves {then_ = λ k. At spot [] ∷ At part [] ∷ k}
+      (at_rest _ w) (λ k hid d a. refl)) (λ k hid d a. refl)) h.passes)
+      (λ k hid d a. rw (one_subscript h.val key h.is fits) refl)) (λ k hid d a. refl)) (lends_element g w place x key val is)
+
+  -- ---- operands are joined
+
+  pub joins_next : {from : Piece} {old : Whole} (place : Place) (e : Expression) (xs : Joins) (text more : Text) → Lends g w e more → length (text ++ more) ≤ most_bytes →
+      Passes g from old (λ k. At (Texts_of (p.join place e xs)) (v.Text text ∷ []) ∷ k) w → Passes g from old (λ k. At (Texts_of xs) (v.Text (text ++ more) ∷ []) ∷ k) w
+  joins_next place e xs text more l fits h =
+      moves (on (moves {then_ = λ k. value e ∷ At (Texts_of (p.join place e xs)) (v.Text text ∷ []) ∷ k} h (λ k hid d a. refl)) l.passes)
+      (λ k hid d a. rw (l.is, limited_ok (text ++ more) fits) refl)
+
+  pub joins_end : {from : Piece} {old : Whole} (text : Text) → Passes g from old (λ k. At (Texts_of p.no_joins) (v.Text text ∷ []) ∷ k) w → Passes g from old (give (v.Text text)) w
+  joins_end text h = moves h (λ k hid d a. refl)
+
+  pub joins_first : (xs : Joins) (text more : Text) → more ≡ [] → Passes g (At (Texts_of xs) (v.Text text ∷ [])) w (λ k. At (Texts_of xs) (v.Text (text ++ more) ∷ []) ∷ k) w
+  joins_first xs text more none = reworded (at_rest _ w) (λ k. ap (λ t. At (Texts_of xs) (v.Text t ∷ []) ∷ k) (sym (ap (λ m. text ++ m) none ∙ nil_right text)))
+
+  -- the operand at a place among the others
+  module _ {from : Piece} {old : Whole} (rest : List (Joined Expr)) (i : ℕ) (text : Text) where
+    pub joins_at : (x : Joined Expr) (room : ℕ) (before more after : Text) → i < length rest → x ≡ get_or rest i x → after ≡ before ++ more → length text + room ≤ most_bytes → length after ≤ room → Lends g w (view (names_in g) x.operand) more →
+        Passes g from old (so_far g rest text i before) w → Passes g from old (so_far g rest text (i + 1) after) w
+    joins_at x room before more after inside is e fits within l h =
+        let short : length ((text ++ before) ++ more) ≤ most_bytes = rw (append_assoc text before more, sym e) (rw (length-append text after) (omega arith)) in
+        let there : drop i rest ≡ x ∷ drop (i + 1) rest = drop_more rest i x inside ∙ ap (λ y. y ∷ drop (i + 1) rest) (sym is) in
+        reworded (joins_next x.place (view (names_in g) x.operand) (joins_of (map (view_joined (names_in g)) (drop (i + 1) rest))) (text ++ before) more l short
+        (reworded h (λ k. ap (λ xs. At (Texts_of (joins_of (map (view_joined (names_in g)) xs))) (v.Text (text ++ before) ∷ []) ∷ k) there)))
+        (λ k. ap (λ t. At (Texts_of (joins_of (map (view_joined (names_in g)) (drop (i + 1) rest)))) (v.Text t ∷ []) ∷ k) (append_assoc text before more ∙ ap (λ m. text ++ m) (sym e)))
+
+    pub joins_done : (more : Text) → length rest ≤ i → Passes g from old (so_far g rest text i more) w → Passes g from old (give (v.Text (text ++ more))) w
+    joins_done more past h = joins_end (text ++ more) (reworded h (λ k. ap (λ xs. At (Texts_of (joins_of (map (view_joined (names_in g)) xs))) (v.Text (text ++ more) ∷ []) ∷ k) (drop_all rest i past)))
+
+-- ---- the whole assignment
+
+module _ (g : Given) (w : Whole) (place : Place) (x : Variable) (n : kept.is_nf x ≡ false) (first : Expression) (xs : Joins) (old more : Text) where
+  abbrev assigned : Expression
+  assigned = p.assign place (p.variable (variable_of (names_in g) x)) (p.concat first xs)
+
+  waits : Passes g (value assigned) w (λ k. value first ∷ At (Texts_of xs) [] ∷ At (Value_of assigned) (v.Unset ∷ []) ∷ k) w
+  waits =
+      moves {to = λ k. value (p.concat first xs) ∷ At (Value_of assigned) (v.Unset ∷ []) ∷ k}
+      (moves {to = λ k. At (Value_of assigned) (v.Unset ∷ []) ∷ k}
+      (moves {to = λ k. At (Target_of (p.variable (variable_of (names_in g) x))) [] ∷ At (Value_of assigned) [] ∷ k}
+      (moves (at_rest _ w) (λ k hid d a. refl)) (λ k hid d a. refl)) (λ k hid d a. refl)) (λ k hid d a. refl)
+
+  pub assigns : (room : ℕ) (new : Kept) → first ≡ p.read (p.variable (variable_of (names_in g) x)) → kept.value w.0 x ≡ v.Text old → length old + room ≤ most_bytes → Follows g w xs room more →
+      new ≡ with_value x (v.Text (old ++ more)) w.0 → Passes g (value assigned) w (give (v.Text (old ++ more))) (new, w.1)
+  assigns room new reads holds fits follows same =
+      let read : Passes g (value first) w (give (v.Text old)) w = rw (reads, sym holds) (variable_there g w x n) in
+      let text : Passes g (value assigned) w (λ k. At (Value_of assigned) (v.Text (old ++ more) ∷ v.Unset ∷ []) ∷ k) w = on (on waits read) (follows old fits) in
+      moves (doing (tt {0}) (moves {then_ = λ k. Do (Set (machine.Variable (variable_of (names_in g) x)) place (v.Text (old ++ more))) ∷ Do (Give (v.Text (old ++ more))) ∷ k} text
+      (λ k hid d a. rw (nf-so g w hid d a x, n) refl)) (sets_variable g w x place (v.Text (old ++ more)) new n same) refl) (λ k hid d a. refl)
+
+-- ---- results
+
+pub some_so : {X : Type 0} {P Q : X → Type 0} (r : Option X) → ((x : X) → P x → Q x) → IfSome r P → IfSome r Q
+some_so None f h = tt
+some_so (Some x) f h = f x h
+
+pub some_for_all : {X Q : Type 0} (r : Option X) → Q → IfSome r (λ x. Q)
+some_for_all None h = tt
+some_for_all (Some x) h = h
