@@ -1,4 +1,4 @@
-use Rattle.std.proofs.Common.{sym, ◌∙◌, ap}
+use Rattle.std.proofs.Common.{sym}
 use Rattle.awk_program.specs.View.{view}
 use Rattle.awk_tasks.specs.Wholes.{names_in}
 use Rattle.awk_forms.proofs.Grown.{element_there}

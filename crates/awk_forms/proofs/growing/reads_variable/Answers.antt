@@ -1,4 +1,4 @@
-use Rattle.std.proofs.Common.{ap, ◌∙◌}
+use Rattle.std.proofs.Common.{ap}
 use Rattle.awk_program.proofs.Views.{view-Read}
 use Rattle.awk_program.specs.Program as p
 use Rattle.awk_forms.proofs.growing.reads_variable.Goals as goal
