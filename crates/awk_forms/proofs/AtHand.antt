@@ -1,5 +1,5 @@
 -- Reading what is there.
-use Rattle.std.proofs.Common.{refl, List, [], ◌∷◌}
+use Rattle.std.proofs.Common.{refl, [], ◌∷◌}
 use Rattle.awk_text.specs.declared.value.Value.{Value}
 use Rattle.awk_text.specs.declared.value.Value.TheVariants as v
 use Rattle.awk_program.specs.Program as p

@@ -1,5 +1,5 @@
 -- A text that grows in its place: what is read is there, each operand is joined to the text, and the whole is stored.
-use Rattle.std.proofs.Common.{◌≡◌, refl, sym, ap, subst, ◌∙◌, ◌+◌, ◌≤◌, ◌<◌, ℕ, false, List, [], ◌∷◌, ◌++◌, length, map, drop, get_or, arith, append_assoc}
+use Rattle.std.proofs.Common.{◌≡◌, refl, sym, ap, ◌∙◌, ◌+◌, ◌≤◌, ◌<◌, ℕ, false, List, [], ◌∷◌, ◌++◌, length, map, drop, get_or, arith, append_assoc}
 use Rattle.std.proofs.lemmas.List.{length-append, drop_more}
 use Rattle.std.specs.Prelude.{Ok, Option, Some, None, IfSome, pos, ℤ}
 use Rattle.awk_text.specs.Limits.{most_bytes}

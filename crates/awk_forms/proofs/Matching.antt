@@ -1,5 +1,5 @@
 -- How forms come to the use of their pattern.
-use Rattle.std.proofs.Common.{◌≡◌, ◌⊎◌, ◌<◌, ◌≤◌, inl, inr, refl, ap, ◌∙◌, Bool, true, false, List, [], ◌∷◌, ◌++◌, length, arith}
+use Rattle.std.proofs.Common.{◌≡◌, ◌⊎◌, ◌<◌, ◌≤◌, inl, inr, refl, ap, Bool, true, false, List, [], ◌∷◌, ◌++◌, length, arith}
 use Rattle.std.proofs.lemmas.Bool.Decides.{nat_tests}
 use Rattle.std.specs.Prelude.{ℤ, pos, Option, Some, None, Result, Ok, Err, nat_lt, IfOk, IfErr}
 use Rattle.awk_fields.specs.Separators.{Separator, separator, ere, IsNoEre}

@@ -1,5 +1,5 @@
 -- Operands whose texts are there without a change, and a concatenation of them behind a text.
-use Rattle.std.specs.Prelude.{◌≡◌, ◌+◌, ◌≤◌, ℕ, List, [], ◌∷◌, ◌++◌, length}
+use Rattle.std.specs.Prelude.{◌≡◌, ◌+◌, ◌≤◌, ℕ, [], ◌∷◌, ◌++◌, length}
 use Rattle.awk_text.specs.Limits.{most_bytes}
 use Rattle.awk_text.specs.Values.{text_of}
 use Rattle.awk_text.specs.declared.value.Value.{Value}
