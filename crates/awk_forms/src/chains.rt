@@ -3,7 +3,6 @@ ghost use Rattle.std.specs.Prelude.{◌≡◌, ◌∷◌, [], List, Ok, map};
 ghost use Rattle.awk_forms.specs.Made.{of_both};
 ghost use Rattle.awk_text.specs.Values.{number_of};
 ghost use Rattle.awk_text.specs.declared.value.Value.{Value as Val};
-ghost use Rattle.awk_text.specs.declared.value.Value.TheVariants as v;
 ghost use Rattle.awk_asks.specs.Tables.{Table};
 ghost use Rattle.awk_machine.specs.Pieces.{At, Terms_of, Texts_of, Members_of, give};
 ghost use Rattle.awk_machine.specs.State.{Given};
@@ -17,10 +16,9 @@ use crate::made::{number_at, text_at};
 use awk_asks::halt::Halt;
 use awk_program::{Operator, Variable};
 use awk_store::Store;
-use awk_tasks::faults::at;
 use awk_text::fault::Fault;
 use awk_text::place::Place;
-use awk_text::value::{Value, text_in};
+use awk_text::value::{Value, number_of, text_in};
 use awk_works::operators::{computed, operation, truth_value};
 use awk_works::texts::concatenated;
 use itoa::Buffer;
@@ -42,17 +40,17 @@ pub fn term(place: Place, how: Operator, left: &Value, right: &Value) -> Result<
     number_at(place, computed(how, left, right))
 }
 
-/// The same where the numbers of the two are known.
+/// The same where of the right operand the number is known.
 pub fn operated(
     place: Place,
     how: Operator,
-    left: Result<i64, Fault>,
+    left: &Value,
     right: Result<i64, Fault>,
-) -> Result<i64, Halt>
-    ensures { (g : Given) (w : Whole) (x : Expression) (xs : Terms) (l r : Val) → left ≡ number_of l → right ≡ number_of r
-        → Acts g (At (Terms_of (p.term how place x xs)) (r ∷ l ∷ [])) (λ n k. At (Terms_of xs) (v.Num n ∷ []) ∷ k) w result w }
+) -> Result<Value, Halt>
+    ensures { (g : Given) (w : Whole) (x : Expression) (xs : Terms) (r : Val) → right ≡ number_of r
+        → Acts g (At (Terms_of (p.term how place x xs)) (r ∷ left.now ∷ [])) (λ v k. At (Terms_of xs) (v ∷ []) ∷ k) w result w }
 {
-    at(place, both(how, left, right))
+    number_at(place, both(how, number_of(left), right))
 }
 
 /// One operand more of a concatenation.

@@ -224,16 +224,16 @@ fn grow(alloc: Global, store: &mut Store, to: Variable, more: &[u8]) -> Result<(
 /// answers `false`; so also where the text would be too long, for the fault has its place in the general way.
 ///
 /// Fails with `Halt::Memory` alone, where memory is refused.
-pub fn grown(
+fn grown(
     alloc: Global,
     store: &mut Store,
     to: Variable,
     first: &Expr,
     rest: &[Joined<Expr>],
 ) -> Result<bool, Halt>
-    ensures done { IfOk result (λ is. is ≡ true → (g : Given) (t : Table) (place : Place) → (x : Val) × Passes g
+    ensures done { IfOk result (λ is. is ≡ true → (x : Val) × ((g : Given) (t : Table) (place : Place) → Passes g
         (value (p.assign place (p.variable (variable_of (names_in g) to)) (p.concat (view (names_in g) first.now) (joins_of (map (view_joined (names_in g)) rest.now)))))
-        (store.old, t) (give x) (store.new, t)) }
+        (store.old, t) (give x) (store.new, t))) }
     ensures not_done { IfOk result (λ is. is ≡ false → store.new ≡ store.old) }
     ensures err { IfErr result (λ h. h ≡ Halt.Memory) }
     ensures used { store.new.used ≡ store.old.used }
@@ -252,4 +252,30 @@ pub fn grown(
     };
     grow(alloc, store, to, more.as_slice())?;
     Ok(true)
+}
+
+/// Does the whole of `target = value` where the value is the text of the target with more behind it, all at hand: then that
+/// text grows in its place, so that many such assignments take time as what they add. Else it does nothing, and answers
+/// `false`.
+///
+/// Fails with `Halt::Memory` alone, where memory is refused.
+pub fn assigned(
+    alloc: Global,
+    store: &mut Store,
+    target: &Target<Expr>,
+    x: &Expr,
+) -> Result<bool, Halt>
+    ensures done { IfOk result (λ is. is ≡ true → (val : Val) × ((g : Given) (t : Table) (place : Place) → Passes g
+        (value (p.assign place (view_target (names_in g) target.now) (view (names_in g) x.now))) (store.old, t) (give val) (store.new, t))) }
+    ensures not_done { IfOk result (λ is. is ≡ false → store.new ≡ store.old) }
+    ensures err { IfErr result (λ h. h ≡ Halt.Memory) }
+    ensures used { store.new.used ≡ store.old.used }
+{
+    let Target::Variable(to) = target else {
+        return Ok(false);
+    };
+    match x {
+        Expr::Concat(first, rest) => grown(alloc, store, *to, first.get(), rest.as_slice()),
+        _ => Ok(false),
+    }
 }

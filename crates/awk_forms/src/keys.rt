@@ -1,5 +1,5 @@
 // Subscripts, as one text, and the numbers of fields.
-ghost use Rattle.std.specs.Prelude.{◌≡◌, ◌⊎◌, ◌∷◌, [], ℕ, List, length, reverse, Ok, Err, IfOk, IfErr};
+ghost use Rattle.std.specs.Prelude.{◌≡◌, ◌⊎◌, ◌∷◌, [], ℕ, List, length, reverse, Ok, Err, IfOk, IfErr, IfSome};
 ghost use Rattle.awk_asks.specs.Tables.{Table};
 ghost use Rattle.awk_fields.specs.Rows.{joined};
 ghost use Rattle.awk_machine.specs.Forms.{listed};
@@ -17,7 +17,7 @@ ghost use Rattle.awk_asks.specs.Tasks.{goes_on};
 ghost use Rattle.awk_tasks.specs.Wholes.{Whole, names_in};
 
 use awk_asks::halt::Halt;
-use awk_program::{Own, Variable};
+use awk_program::{Expr, Own, Variable};
 use awk_store::Store;
 use awk_tasks::Key;
 use awk_tasks::faults::{at, halt_at};
@@ -88,6 +88,16 @@ pub fn element_key(
         → Acts g (At (Target_of (p.element place a xs)) (reverse subscripts.now)) (λ text. give (v.Text text)) (store.now, t) result (store.now, t) }
 {
     at(place, key(alloc, line, store, subscripts))
+}
+
+/// The only one of a list of subscripts, if there is but one.
+pub fn only(subscripts: &[Expr]) -> Option<&Expr>
+    ensures { IfSome result (λ x. subscripts.now ≡ x.now ∷ []) }
+{
+    match subscripts {
+        [one] => Some(one),
+        _ => None,
+    }
 }
 
 /// The key of an element by one subscript. Takes no memory.
