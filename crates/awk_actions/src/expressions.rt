@@ -8,7 +8,9 @@ ghost use Rattle.awk_program.specs.Program as p;
 ghost use Rattle.awk_program.specs.Program.{expressions_of, terms_of, joins_of};
 ghost use Rattle.awk_program.specs.View.{view, view_target, view_term, view_joined, variable_of, view_arguments};
 ghost use Rattle.awk_tasks.specs.Wholes.{names_in};
-ghost use Rattle.awk_actions.specs.Runs.{Does};
+ghost use Rattle.awk_actions.specs.Runs.{Does, Tells, IsNumberOf, IsTruthOf, IsUnwanted};
+ghost use Rattle.awk_machine.specs.Operators.{of_truth};
+ghost use Rattle.awk_text.specs.declared.value.Value.TheVariants as v;
 
 use crate::calls::call;
 use crate::context::{Context, Run};
@@ -29,7 +31,7 @@ use awk_text::value::{Value, number_of, truth};
 use awk_works::operators::{compared, truth_value};
 use box_world::world::World;
 
-/// The value of an expression.
+/// The value of an expression. Each part is evaluated one level lower; where there is none left, memory for the parts is refused.
 #[cycle(run)]
 pub fn value<W: World>(
     cx: &Context<'_>,
@@ -42,8 +44,8 @@ pub fn value<W: World>(
     ensures { Does W.follows W.has_stopped W.stops W.open_numbers cx.now (λ g. value (view (names_in g) e.now)) (λ g. give)
         (run.old.store, run.old.streams) world.old result (run.new.store, run.new.streams) world.new }
 {
-    if let Some(number) = number_at_hand(&run.store, e) {
-        return Ok(Value::Num(number));
+    if let Some(known) = number_at_hand(&run.store, e) {
+        return Ok(Value::Num(known));
     }
     if level == 0 {
         return Err(Halt::Memory);
@@ -55,7 +57,7 @@ pub fn value<W: World>(
     }
 }
 
-/// The number of an expression's value.
+/// The number of an expression's value, or that it is out of range, which is a fault only where the number is used.
 #[cycle(run)]
 pub fn number<W: World>(
     cx: &Context<'_>,
@@ -64,57 +66,15 @@ pub fn number<W: World>(
     run: &mut Run,
     world: &mut W,
 ) -> Result<Result<i64, Fault>, Halt>
+    requires { Owns (W.open_numbers world.old) run.old.streams }
+    ensures { Tells W.follows W.has_stopped W.stops W.open_numbers cx.now (λ g. value (view (names_in g) e.now)) IsNumberOf
+        (run.old.store, run.old.streams) world.old result (run.new.store, run.new.streams) world.new }
 {
-    if let Some(number) = number_at_hand(&run.store, e) {
-        return Ok(Ok(number));
+    if let Some(known) = number_at_hand(&run.store, e) {
+        return Ok(Ok(known));
     }
-    if level == 0 {
-        return Err(Halt::Memory);
-    }
-    match e {
-        Expr::Chain(x, xs) => chain_number(cx, x.get(), xs.as_slice(), level - 1, run, world),
-        _ => {
-            let found = evaluate(cx, e, level - 1, run, world)?;
-            Ok(number_of(&found))
-        }
-    }
-}
-
-#[cycle(run)]
-fn chain_number<W: World>(
-    cx: &Context<'_>,
-    x: &Expr,
-    xs: &[Term<Expr>],
-    level: u32,
-    run: &mut Run,
-    world: &mut W,
-) -> Result<Result<i64, Fault>, Halt>
-{
-    let Some((first, rest)) = xs.split_first() else {
-        return number(cx, x, level, run, world);
-    };
-    Ok(Ok(sum(cx, x, first, rest, level, run, world)?))
-}
-
-#[cycle(run)]
-fn sum<W: World>(
-    cx: &Context<'_>,
-    x: &Expr,
-    first: &Term<Expr>,
-    rest: &[Term<Expr>],
-    level: u32,
-    run: &mut Run,
-    world: &mut W,
-) -> Result<i64, Halt>
-{
-    let left = number(cx, x, level, run, world)?;
-    let right = number(cx, &first.operand, level, run, world)?;
-    let mut so_far = operated(first.place, first.operator, left, right)?;
-    for next in rest {
-        let operand = number(cx, &next.operand, level, run, world)?;
-        so_far = operated(next.place, next.operator, Ok(so_far), operand)?;
-    }
-    Ok(so_far)
+    let found = value(cx, e, level, run, world)?;
+    Ok(number_of(&found))
 }
 
 /// Whether the value of an expression is true.
@@ -126,6 +86,9 @@ pub fn truth_of<W: World>(
     run: &mut Run,
     world: &mut W,
 ) -> Result<bool, Halt>
+    requires { Owns (W.open_numbers world.old) run.old.streams }
+    ensures { Tells W.follows W.has_stopped W.stops W.open_numbers cx.now (λ g. value (view (names_in g) e.now)) IsTruthOf
+        (run.old.store, run.old.streams) world.old result (run.new.store, run.new.streams) world.new }
 {
     if level == 0 {
         return Err(Halt::Memory);
@@ -139,6 +102,7 @@ pub fn truth_of<W: World>(
     }
 }
 
+/// Whether a comparison holds.
 #[cycle(run)]
 fn compare<W: World>(
     cx: &Context<'_>,
@@ -149,10 +113,13 @@ fn compare<W: World>(
     run: &mut Run,
     world: &mut W,
 ) -> Result<bool, Halt>
+    requires { Owns (W.open_numbers world.old) run.old.streams }
+    ensures { Does W.follows W.has_stopped W.stops W.open_numbers cx.now (λ g. value (p.compare how (view (names_in g) x.now) (view (names_in g) y.now))) (λ g b. give (of_truth b))
+        (run.old.store, run.old.streams) world.old result (run.new.store, run.new.streams) world.new }
 {
-    let left = value(cx, x, level, run, world)?;
-    let right = value(cx, y, level, run, world)?;
-    Ok(compared(how, &left, &right))
+    let one = value(cx, x, level, run, world)?;
+    let other = value(cx, y, level, run, world)?;
+    Ok(compared(how, &one, &other))
 }
 
 /// Does what an expression does, whose value nothing wants.
@@ -164,6 +131,9 @@ pub fn effect<W: World>(
     run: &mut Run,
     world: &mut W,
 ) -> Result<(), Halt>
+    requires { Owns (W.open_numbers world.old) run.old.streams }
+    ensures { Tells W.follows W.has_stopped W.stops W.open_numbers cx.now (λ g. value (view (names_in g) e.now)) IsUnwanted
+        (run.old.store, run.old.streams) world.old result (run.new.store, run.new.streams) world.new }
 {
     if level == 0 {
         return Err(Halt::Memory);
@@ -185,7 +155,7 @@ pub fn effect<W: World>(
     }
 }
 
-/// Each part is evaluated one level lower; where there is none left, memory for the parts is refused.
+/// The value of an expression, once a level was taken for its parts.
 #[cycle(run)]
 fn evaluate<W: World>(
     cx: &Context<'_>,
@@ -198,78 +168,74 @@ fn evaluate<W: World>(
     ensures { Does W.follows W.has_stopped W.stops W.open_numbers cx.now (λ g. value (view (names_in g) e.now)) (λ g. give)
         (run.old.store, run.old.streams) world.old result (run.new.store, run.new.streams) world.new }
 {
-    if level == 0 {
-        return Err(Halt::Memory);
-    }
-    let below = level - 1;
     match e {
         Expr::Number(number) => Ok(Value::Num(*number)),
         Expr::Text(text) => owned(cx.alloc, text.bytes()),
-        Expr::Read(target) => read_target(cx, target, below, run, world),
-        Expr::Assign(place, target, x) => assign(cx, *place, target, x.get(), below, run, world),
+        Expr::Read(target) => read_target(cx, target, level, run, world),
+        Expr::Assign(place, target, x) => assign(cx, *place, target, x.get(), level, run, world),
         Expr::Change(place, how, target, x) => {
-            change(cx, *place, *how, target, x.get(), below, run, world)
+            change(cx, *place, *how, target, x.get(), level, run, world)
         }
         Expr::Step(place, how, taken, target) => {
-            increment(cx, *place, *how, *taken, target, below, run, world)
+            increment(cx, *place, *how, *taken, target, level, run, world)
         }
-        Expr::Not(x) => unary(cx, Unary::Not, x.get(), below, run, world),
+        Expr::Not(x) => unary(cx, Unary::Not, x.get(), level, run, world),
         Expr::Signed(place, how, x) => {
-            unary(cx, Unary::Signed(*place, *how), x.get(), below, run, world)
+            unary(cx, Unary::Signed(*place, *how), x.get(), level, run, world)
         }
-        Expr::Int(place, x) => unary(cx, Unary::Int(*place), x.get(), below, run, world),
-        Expr::Measure(how, x) => unary(cx, Unary::Measure(*how), x.get(), below, run, world),
+        Expr::Int(place, x) => unary(cx, Unary::Int(*place), x.get(), level, run, world),
+        Expr::Measure(how, x) => unary(cx, Unary::Measure(*how), x.get(), level, run, world),
         Expr::Compare(how, x, y) => {
             binary(
                 cx,
                 Binary::Compare(*how),
                 x.get(),
                 y.get(),
-                below,
+                level,
                 run,
                 world,
             )
         }
-        Expr::Index(x, y) => binary(cx, Binary::Index, x.get(), y.get(), below, run, world),
+        Expr::Index(x, y) => binary(cx, Binary::Index, x.get(), y.get(), level, run, world),
         Expr::SubstrFrom(place, x, y) => {
             binary(
                 cx,
                 Binary::SubstrFrom(*place),
                 x.get(),
                 y.get(),
-                below,
+                level,
                 run,
                 world,
             )
         }
         Expr::Substr(place, x, y, z) => {
-            substr(cx, *place, x.get(), y.get(), z.get(), below, run, world)
+            substr(cx, *place, x.get(), y.get(), z.get(), level, run, world)
         }
-        Expr::Chain(x, xs) => chain(cx, x.get(), xs.as_slice(), below, run, world),
-        Expr::Concat(x, xs) => concat(cx, x.get(), xs.as_slice(), below, run, world),
-        Expr::In(x, arrays) => within(cx, x.get(), arrays.as_slice(), below, run, world),
+        Expr::Chain(x, xs) => chain(cx, x.get(), xs.as_slice(), level, run, world),
+        Expr::Concat(x, xs) => concat(cx, x.get(), xs.as_slice(), level, run, world),
+        Expr::In(x, arrays) => within(cx, x.get(), arrays.as_slice(), level, run, world),
         Expr::Group(place, xs, arrays) => {
             element_group(
                 cx,
                 *place,
                 xs.as_slice(),
                 arrays.as_slice(),
-                below,
+                level,
                 run,
                 world,
             )
         }
-        Expr::And(x, xs) => all(cx, x.get(), xs.as_slice(), below, run, world),
-        Expr::Or(x, xs) => any(cx, x.get(), xs.as_slice(), below, run, world),
-        Expr::Choice(x, y, z) => choose(cx, x.get(), y.get(), z.get(), below, run, world),
-        Expr::Call(place, f, xs) => call(cx, *place, *f, xs.as_slice(), below, run, world),
-        Expr::Getline(place, target) => getline(cx, *place, target, below, run, world),
+        Expr::And(x, xs) => all(cx, x.get(), xs.as_slice(), level, run, world),
+        Expr::Or(x, xs) => any(cx, x.get(), xs.as_slice(), level, run, world),
+        Expr::Choice(x, y, z) => choose(cx, x.get(), y.get(), z.get(), level, run, world),
+        Expr::Call(place, f, xs) => call(cx, *place, *f, xs.as_slice(), level, run, world),
+        Expr::Getline(place, target) => getline(cx, *place, target, level, run, world),
         Expr::GetlineFile(place, target, x) => {
-            from_file(cx, *place, target, x.get(), below, run, world)
+            from_file(cx, *place, target, x.get(), level, run, world)
         }
-        Expr::Pipe(x, xs) => from_commands(cx, x.get(), xs.as_slice(), below, run, world),
-        Expr::Close(place, x) => close(cx, *place, x.get(), below, run, world),
-        Expr::System(place, x) => system(cx, *place, x.get(), below, run, world),
+        Expr::Pipe(x, xs) => from_commands(cx, x.get(), xs.as_slice(), level, run, world),
+        Expr::Close(place, x) => close(cx, *place, x.get(), level, run, world),
+        Expr::System(place, x) => system(cx, *place, x.get(), level, run, world),
         Expr::Pattern(place, text) => {
             matched_record(
                 cx.alloc,
@@ -280,13 +246,13 @@ fn evaluate<W: World>(
             )
         }
         Expr::Match(place, x, pattern) => {
-            matches(cx, *place, x.get(), pattern, below, run, world)
+            matches(cx, *place, x.get(), pattern, level, run, world)
         }
         Expr::Locate(place, x, pattern) => {
-            locate(cx, *place, x.get(), pattern, below, run, world)
+            locate(cx, *place, x.get(), pattern, level, run, world)
         }
         Expr::Split(place, x, at_name, array, by) => {
-            split(cx, *place, x.get(), *at_name, *array, by, below, run, world)
+            split(cx, *place, x.get(), *at_name, *array, by, level, run, world)
         }
         Expr::Substitute(place, extent, pattern, x, target) => {
             substitute(
@@ -296,13 +262,13 @@ fn evaluate<W: World>(
                 pattern,
                 x.get(),
                 target,
-                below,
+                level,
                 run,
                 world,
             )
         }
         Expr::Sprintf(place, x, xs) => {
-            formatted(cx, *place, x.get(), xs.as_slice(), below, run, world)
+            formatted(cx, *place, x.get(), xs.as_slice(), level, run, world)
         }
     }
 }
@@ -381,11 +347,12 @@ fn chain<W: World>(
     ensures { Does W.follows W.has_stopped W.stops W.open_numbers cx.now (λ g. value (p.chain (view (names_in g) x.now) (terms_of (map (view_term (names_in g)) xs.now)))) (λ g. give)
         (run.old.store, run.old.streams) world.old result (run.new.store, run.new.streams) world.new }
 {
-    let Some((first, rest)) = xs.split_first() else {
-        return value(cx, x, level, run, world);
-    };
-    let total = sum(cx, x, first, rest, level, run, world)?;
-    Ok(Value::Num(total))
+    let mut so_far = value(cx, x, level, run, world)?;
+    for next in xs {
+        let operand = number(cx, &next.operand, level, run, world)?;
+        so_far = operated(next.place, next.operator, &so_far, operand)?;
+    }
+    Ok(so_far)
 }
 
 /// Operands one directly after the other.
@@ -442,14 +409,14 @@ fn all<W: World>(
     ensures { Does W.follows W.has_stopped W.stops W.open_numbers cx.now (λ g. value (p.and (view (names_in g) x.now) (expressions_of (map (view (names_in g)) xs.now)))) (λ g. give)
         (run.old.store, run.old.streams) world.old result (run.new.store, run.new.streams) world.new }
 {
-    let mut last = truth_of(cx, x, level, run, world)?;
+    let mut last = value(cx, x, level, run, world)?;
     for y in xs {
-        if !last {
+        if !truth(&last) {
             return Ok(truth_value(false));
         }
-        last = truth_of(cx, y, level, run, world)?;
+        last = value(cx, y, level, run, world)?;
     }
-    Ok(truth_value(last))
+    Ok(truth_value(truth(&last)))
 }
 
 /// A chain of `||`.
@@ -466,14 +433,14 @@ fn any<W: World>(
     ensures { Does W.follows W.has_stopped W.stops W.open_numbers cx.now (λ g. value (p.or (view (names_in g) x.now) (expressions_of (map (view (names_in g)) xs.now)))) (λ g. give)
         (run.old.store, run.old.streams) world.old result (run.new.store, run.new.streams) world.new }
 {
-    let mut last = truth_of(cx, x, level, run, world)?;
+    let mut last = value(cx, x, level, run, world)?;
     for y in xs {
-        if last {
+        if truth(&last) {
             return Ok(truth_value(true));
         }
-        last = truth_of(cx, y, level, run, world)?;
+        last = value(cx, y, level, run, world)?;
     }
-    Ok(truth_value(last))
+    Ok(truth_value(truth(&last)))
 }
 
 /// `test ? then : else`
@@ -491,7 +458,8 @@ fn choose<W: World>(
     ensures { Does W.follows W.has_stopped W.stops W.open_numbers cx.now (λ g. value (p.choose (view (names_in g) x.now) (view (names_in g) y.now) (view (names_in g) z.now))) (λ g. give)
         (run.old.store, run.old.streams) world.old result (run.new.store, run.new.streams) world.new }
 {
-    if truth_of(cx, x, level, run, world)? {
+    let holds = truth_of(cx, x, level, run, world)?;
+    if holds {
         value(cx, y, level, run, world)
     } else {
         value(cx, z, level, run, world)

@@ -14,7 +14,7 @@ use crate::context::{Context, Run};
 use crate::expressions::value;
 use awk_asks::halt::Halt;
 use awk_forms::chains::members;
-use awk_forms::keys::{element_key, group_key, one_key};
+use awk_forms::keys::{element_key, group_key, one_key, only};
 use awk_forms::made::append;
 use awk_forms::outputs::sprintf;
 use awk_program::{Expr, Variable};
@@ -61,9 +61,10 @@ pub fn element<W: World>(
         (run.old.store, run.old.streams) world.old result (run.new.store, run.new.streams) world.new }
     ensures spot { IfOk result (λ s. (names : List (List ℕ)) → IsSpotOf names (p.element place (variable_of names array) (expressions_of (map (view names) keys.now))) s) }
 {
-    if let [one] = keys {
+    if let Some(one) = only(keys) {
         let subscript = value(cx, one, level, run, world)?;
-        return Ok(Spot::Element(place, array, one_key(place, subscript)?));
+        let found = one_key(place, subscript)?;
+        return Ok(Spot::Element(place, array, found));
     }
     let mut values = Vec::new(cx.alloc);
     fill(cx, keys, &mut values, level, run, world)?;

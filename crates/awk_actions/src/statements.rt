@@ -220,7 +220,8 @@ fn when<W: World>(
     ensures { Does W.follows W.has_stopped W.stops W.open_numbers cx.now (λ g. At (Doing (p.if_then (view (names_in g) test.now) (view_statement (names_in g) then.now))) []) (λ g. flows)
         (run.old.store, run.old.streams) world.old result (run.new.store, run.new.streams) world.new }
 {
-    if truth_of(cx, test, level, run, world)? {
+    let holds = truth_of(cx, test, level, run, world)?;
+    if holds {
         statement(cx, then, level, run, world)
     } else {
         Ok(Flow::On)
@@ -242,7 +243,8 @@ fn either<W: World>(
     ensures { Does W.follows W.has_stopped W.stops W.open_numbers cx.now (λ g. At (Doing (p.if_else (view (names_in g) test.now) (view_statement (names_in g) then.now) (view_statement (names_in g) other.now))) []) (λ g. flows)
         (run.old.store, run.old.streams) world.old result (run.new.store, run.new.streams) world.new }
 {
-    if truth_of(cx, test, level, run, world)? {
+    let holds = truth_of(cx, test, level, run, world)?;
+    if holds {
         statement(cx, then, level, run, world)
     } else {
         statement(cx, other, level, run, world)

@@ -8,18 +8,21 @@ ghost use Rattle.awk_program.specs.Program.{expressions_of};
 ghost use Rattle.awk_program.specs.View.{view, view_target, variable_of};
 ghost use Rattle.awk_tasks.specs.Spots.{IsSpotOf, value_of};
 ghost use Rattle.awk_tasks.specs.Wholes.{names_in};
-ghost use Rattle.awk_actions.specs.Runs.{Does};
+ghost use Rattle.awk_actions.specs.Runs.{Does, Tells, IsUnwanted};
+ghost use Rattle.awk_machine.specs.Expressions.{either};
+ghost use Rattle.awk_program.specs.declared.operators.Taken.{Taken as Which};
 
 use crate::context::{Context, Run};
 use crate::expressions::value;
 use crate::lists::element;
 use awk_asks::halt::Halt;
+use awk_forms::growing::assigned;
 use awk_forms::keys::field_number;
 use awk_forms::made::{computed_at, stepped_at};
 use awk_program::{Expr, Operator, Step, Taken, Target};
 use awk_tasks::Spot;
 use awk_tasks::targets::{read, set, stored};
-use awk_tasks::variables::{read_variable, set_variable};
+use awk_tasks::variables::read_variable;
 use awk_text::place::Place;
 use awk_text::value::Value;
 use box_world::world::World;
@@ -86,6 +89,7 @@ pub fn read_target<W: World>(
     read(cx.alloc, &mut run.store, &from)
 }
 
+/// `target = value`, whose value nothing wants: so nothing is copied, and a text grows in its place.
 #[cycle(run)]
 pub fn put<W: World>(
     cx: &Context<'_>,
@@ -96,16 +100,20 @@ pub fn put<W: World>(
     run: &mut Run,
     world: &mut W,
 ) -> Result<(), Halt>
+    requires { Owns (W.open_numbers world.old) run.old.streams }
+    ensures { Tells W.follows W.has_stopped W.stops W.open_numbers cx.now (λ g. value (p.assign place (view_target (names_in g) target.now) (view (names_in g) x.now))) IsUnwanted
+        (run.old.store, run.old.streams) world.old result (run.new.store, run.new.streams) world.new }
 {
-    if let Target::Variable(variable) = target {
-        let new = value(cx, x, level, run, world)?;
-        return set_variable(&mut run.store, *variable, place, new);
+    let is_done = assigned(cx.alloc, &mut run.store, target, x)?;
+    if is_done {
+        return Ok(());
     }
     let to = target_of(cx, target, level, run, world)?;
     let new = value(cx, x, level, run, world)?;
     set(cx.alloc, &mut run.store, to, place, new)
 }
 
+/// `target += value`, and with the other operators, whose value nothing wants.
 #[cycle(run)]
 pub fn alter<W: World>(
     cx: &Context<'_>,
@@ -117,6 +125,9 @@ pub fn alter<W: World>(
     run: &mut Run,
     world: &mut W,
 ) -> Result<(), Halt>
+    requires { Owns (W.open_numbers world.old) run.old.streams }
+    ensures { Tells W.follows W.has_stopped W.stops W.open_numbers cx.now (λ g. value (p.change place how (view_target (names_in g) target.now) (view (names_in g) x.now))) IsUnwanted
+        (run.old.store, run.old.streams) world.old result (run.new.store, run.new.streams) world.new }
 {
     let to = target_of(cx, target, level, run, world)?;
     let operand = value(cx, x, level, run, world)?;
@@ -125,6 +136,7 @@ pub fn alter<W: World>(
     set(cx.alloc, &mut run.store, to, place, Value::Num(number))
 }
 
+/// Sets a target to the next number, or to the one before, and answers the old number and the new one.
 #[cycle(run)]
 pub fn step_target<W: World>(
     cx: &Context<'_>,
@@ -135,13 +147,10 @@ pub fn step_target<W: World>(
     run: &mut Run,
     world: &mut W,
 ) -> Result<(i64, i64), Halt>
+    requires { Owns (W.open_numbers world.old) run.old.streams }
+    ensures { (taken : Which) → Does W.follows W.has_stopped W.stops W.open_numbers cx.now (λ g. value (p.step place how taken (view_target (names_in g) target.now))) (λ g n. give (either taken n.0 n.1))
+        (run.old.store, run.old.streams) world.old result (run.new.store, run.new.streams) world.new }
 {
-    if let Target::Variable(variable) = target {
-        let old = read_variable(cx.alloc, &mut run.store, *variable)?;
-        let (before, behind) = stepped_at(place, how, &old)?;
-        set_variable(&mut run.store, *variable, place, Value::Num(behind))?;
-        return Ok((before, behind));
-    }
     let to = target_of(cx, target, level, run, world)?;
     let old = read(cx.alloc, &mut run.store, &to)?;
     let (before, behind) = stepped_at(place, how, &old)?;

@@ -23,7 +23,6 @@ use awk_records::Host;
 use awk_store::Store;
 use awk_tasks::elements::set_element;
 use awk_tasks::variables::set_variable;
-use awk_text::Memory;
 use awk_text::escape::unescape;
 use awk_text::octets::Octets;
 use awk_text::place::Place;

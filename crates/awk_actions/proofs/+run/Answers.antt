@@ -1,6 +1,7 @@
 use Rattle.awk_actions.proofs.Calling.{argue_name, argue_nothing, argue_stop, argue_turn, argue_value, arguments_so, body_so, called, counted, some_of}
 use Rattle.awk_actions.proofs.Going.{block_first, each_off, each_on, either_off, either_on, if_off, if_on, keys_first, keys_off, keys_on, starts_at_once, starts_stepped, test_first, test_none, test_then, turn_first, turn_none, turn_off, turn_on, turn_then}
-use Rattle.awk_actions.proofs.Leading.{hands, hands_on, quietly}
+use Rattle.awk_program.specs.declared.operators.Taken.TheVariants as taken
+use Rattle.awk_actions.proofs.Leading.{hands, hands_on, as_truth, quietly, rests, rests_told, told_number, told_truth, unwanted}
 use Rattle.awk_actions.proofs.Opens.{binary_first, binary_second, unary_first}
 use Rattle.awk_actions.proofs.Printing.{close_first, count_formatted, count_items, halts, print_target, printf_target, streamed, waits_deleted, waits_formatted, waits_printed}
 use Rattle.awk_actions.proofs.Turns.{and_off, and_on, choose_so, count_behind, count_listed, fill_stop, fill_turn, filled_from, got_of, next_of, or_off, or_on, text_given, waits_behind, waits_listed}
@@ -20,18 +21,22 @@ use Rattle.awk_machine.specs.Targets.{stored}
 use Rattle.awk_program.proofs.Views.{statement-Block, statement-Break, statement-Continue, statement-Delete, statement-Do, statement-Exit, statement-Expr, statement-For, statement-ForIn, statement-If, statement-IfElse, statement-Next, statement-Print, statement-Printf, statement-Return, statement-While, view-And, view-Assign, view-Call, view-Chain, view-Change, view-Choice, view-Close, view-Compare, view-Concat, view-Getline, view-GetlineFile, view-Group, view-In, view-Index, view-Int, view-Locate, view-Match, view-Measure, view-Not, view-Number, view-Or, view-Pattern, view-Pipe, view-Read, view-Signed, view-Split, view-Sprintf, view-Step, view-Substitute, view-Substr, view-SubstrFrom, view-System, view-Text}
 use Rattle.awk_program.specs.Program.{expressions_of, joins_of, terms_of}
 use Rattle.awk_program.specs.View.{variable_of, view, view_arguments, view_ere, view_joined, view_pipes, view_redirection, view_statement, view_target, view_term}
-use Rattle.awk_tasks.proofs.Acting.{acted}
+use Rattle.awk_tasks.proofs.Acting.{acted, done as there, lacking as lacks_there}
 use Rattle.awk_tasks.proofs.Lifting.{lifted}
 use Rattle.awk_tasks.proofs.Reading.{array-so}
 use Rattle.awk_tasks.proofs.Spots.{stored-so}
+use Rattle.awk_text.specs.declared.fault.Fault.{Fault}
 use Rattle.awk_tasks.specs.Calling.{ending}
+use Rattle.awk_tasks.specs.Spots as spots
 use Rattle.awk_tasks.specs.Spots.{meant, value_of}
-use Rattle.awk_tasks.specs.Wholes.{names_in}
+use Rattle.awk_tasks.specs.declared.spot.Spot.TheVariants as spot
+use Rattle.awk_tasks.specs.Wholes.{base, names_in}
+use Rattle.awk_machine.specs.Streams.{seen}
 use Rattle.box_world.specs.Events.{Standard}
 use Rattle.std.proofs.Common.{[], ap, arith, drop, false, length, map, refl, rules, sym, true, w64, ◌++◌, ◌+◌, ◌∙◌, ◌∷◌}
 use Rattle.std.proofs.lemmas.Int.{to_z-of_z}
 use Rattle.std.proofs.lemmas.Result.{err_from_is_err_and}
-use Rattle.std.specs.Prelude.{None, Ok, Some, option_copied, option_map, slice_get}
+use Rattle.std.specs.Prelude.{ℤ, Result, None, Ok, Some, option_copied, option_map, slice_get}
 use Rattle.awk_actions.proofs.+run.Goals as goal
 use Rattle.awk_program.specs.Program as p
 use Rattle.awk_text.specs.declared.value.Value.TheVariants as v
@@ -40,92 +45,88 @@ pub expressions::value-returns-then-level-eq0 : goal.expressions::value-returns-
 expressions::value-returns-then-level-eq0 g t c =
     record { plays = λ m is. lacking (at_once _ _ _); owns = c.requires }
 
-pub expressions::value-returns-in-Number : goal.expressions::value-returns-in-Number
-expressions::value-returns-in-Number g t c =
-    record { plays = λ m is. rw (c.in-Number.is, view-Number, to_z-of_z w64 c.in-Number.number (search rules)) (done (quietly (at_once _ _ _) (λ k hid d a. refl))); owns = c.requires }
-
-pub expressions::value-returns-in-Text : goal.expressions::value-returns-in-Text
-expressions::value-returns-in-Text g t c =
+pub expressions::evaluate-returns-in-Text : goal.expressions::evaluate-returns-in-Text
+expressions::evaluate-returns-in-Text g t c =
     record { plays = λ m is. rw (c.in-Text.is, view-Text) (acted {g = m} (text_given m (c.args.run.now.store, c.args.run.now.streams) c.in-Text.text c.owned.result (rw c.bytes.ensures at c.owned.ensures.ok) c.owned.ensures.err)); owns = c.requires }
 
-pub expressions::value-returns-in-Read : goal.expressions::value-returns-in-Read
-expressions::value-returns-in-Read g t c =
+pub expressions::evaluate-returns-in-Read : goal.expressions::evaluate-returns-in-Read
+expressions::evaluate-returns-in-Read g t c =
     record { plays = λ m is. rw (c.in-Read.is, view-Read) (c.read_target.ensures.plays m is); owns = c.read_target.ensures.owns }
 
-pub expressions::value-returns-in-Assign : goal.expressions::value-returns-in-Assign
-expressions::value-returns-in-Assign g t c =
+pub expressions::evaluate-returns-in-Assign : goal.expressions::evaluate-returns-in-Assign
+expressions::evaluate-returns-in-Assign g t c =
     record { plays = λ m is. rw (c.in-Assign.is, view-Assign) (rw c.get.ensures at (c.assign.ensures.plays m is)); owns = c.assign.ensures.owns }
 
-pub expressions::value-returns-in-Change : goal.expressions::value-returns-in-Change
-expressions::value-returns-in-Change g t c =
+pub expressions::evaluate-returns-in-Change : goal.expressions::evaluate-returns-in-Change
+expressions::evaluate-returns-in-Change g t c =
     record { plays = λ m is. rw (c.in-Change.is, view-Change) (rw c.get-in-Change.ensures at (c.change.ensures.plays m is)); owns = c.change.ensures.owns }
 
-pub expressions::value-returns-in-Step : goal.expressions::value-returns-in-Step
-expressions::value-returns-in-Step g t c =
+pub expressions::evaluate-returns-in-Step : goal.expressions::evaluate-returns-in-Step
+expressions::evaluate-returns-in-Step g t c =
     record { plays = λ m is. rw (c.in-Step.is, view-Step) (c.increment.ensures.plays m is); owns = c.increment.ensures.owns }
 
-pub expressions::value-returns-in-Not : goal.expressions::value-returns-in-Not
-expressions::value-returns-in-Not g t c =
+pub expressions::evaluate-returns-in-Not : goal.expressions::evaluate-returns-in-Not
+expressions::evaluate-returns-in-Not g t c =
     record { plays = λ m is. rw (c.in-Not.is, view-Not) (rw c.get-in-Not.ensures at (c.unary.ensures.plays m is)); owns = c.unary.ensures.owns }
 
-pub expressions::value-returns-in-Signed : goal.expressions::value-returns-in-Signed
-expressions::value-returns-in-Signed g t c =
+pub expressions::evaluate-returns-in-Signed : goal.expressions::evaluate-returns-in-Signed
+expressions::evaluate-returns-in-Signed g t c =
     record { plays = λ m is. rw (c.in-Signed.is, view-Signed) (rw c.get-in-Signed.ensures at (c.unary-in-Signed.ensures.plays m is)); owns = c.unary-in-Signed.ensures.owns }
 
-pub expressions::value-returns-in-Int : goal.expressions::value-returns-in-Int
-expressions::value-returns-in-Int g t c =
+pub expressions::evaluate-returns-in-Int : goal.expressions::evaluate-returns-in-Int
+expressions::evaluate-returns-in-Int g t c =
     record { plays = λ m is. rw (c.in-Int.is, view-Int) (rw c.get-in-Int.ensures at (c.unary-in-Int.ensures.plays m is)); owns = c.unary-in-Int.ensures.owns }
 
-pub expressions::value-returns-in-Measure : goal.expressions::value-returns-in-Measure
-expressions::value-returns-in-Measure g t c =
+pub expressions::evaluate-returns-in-Measure : goal.expressions::evaluate-returns-in-Measure
+expressions::evaluate-returns-in-Measure g t c =
     record { plays = λ m is. rw (c.in-Measure.is, view-Measure) (rw c.get-in-Measure.ensures at (c.unary-in-Measure.ensures.plays m is)); owns = c.unary-in-Measure.ensures.owns }
 
-pub expressions::value-returns-in-Compare : goal.expressions::value-returns-in-Compare
-expressions::value-returns-in-Compare g t c =
+pub expressions::evaluate-returns-in-Compare : goal.expressions::evaluate-returns-in-Compare
+expressions::evaluate-returns-in-Compare g t c =
     record { plays = λ m is. rw (c.in-Compare.is, view-Compare) (rw (c.get-in-Compare.ensures, c.get-in-Compare-2.ensures) at (c.binary.ensures.plays m is)); owns = c.binary.ensures.owns }
 
-pub expressions::value-returns-in-Index : goal.expressions::value-returns-in-Index
-expressions::value-returns-in-Index g t c =
+pub expressions::evaluate-returns-in-Index : goal.expressions::evaluate-returns-in-Index
+expressions::evaluate-returns-in-Index g t c =
     record { plays = λ m is. rw (c.in-Index.is, view-Index) (rw (c.get-in-Index.ensures, c.get-in-Index-2.ensures) at (c.binary-in-Index.ensures.plays m is)); owns = c.binary-in-Index.ensures.owns }
 
-pub expressions::value-returns-in-SubstrFrom : goal.expressions::value-returns-in-SubstrFrom
-expressions::value-returns-in-SubstrFrom g t c =
+pub expressions::evaluate-returns-in-SubstrFrom : goal.expressions::evaluate-returns-in-SubstrFrom
+expressions::evaluate-returns-in-SubstrFrom g t c =
     record { plays = λ m is. rw (c.in-SubstrFrom.is, view-SubstrFrom) (rw (c.get-in-SubstrFrom.ensures, c.get-in-SubstrFrom-2.ensures) at (c.binary-in-SubstrFrom.ensures.plays m is)); owns = c.binary-in-SubstrFrom.ensures.owns }
 
-pub expressions::value-returns-in-Substr : goal.expressions::value-returns-in-Substr
-expressions::value-returns-in-Substr g t c =
+pub expressions::evaluate-returns-in-Substr : goal.expressions::evaluate-returns-in-Substr
+expressions::evaluate-returns-in-Substr g t c =
     record { plays = λ m is. rw (c.in-Substr.is, view-Substr) (rw (c.get-in-Substr.ensures, c.get-in-Substr-2.ensures, c.get-in-Substr-3.ensures) at (c.substr.ensures.plays m is)); owns = c.substr.ensures.owns }
 
-pub expressions::value-returns-in-Chain : goal.expressions::value-returns-in-Chain
-expressions::value-returns-in-Chain g t c =
+pub expressions::evaluate-returns-in-Chain : goal.expressions::evaluate-returns-in-Chain
+expressions::evaluate-returns-in-Chain g t c =
     record { plays = λ m is. rw (c.in-Chain.is, view-Chain) (rw (c.get-in-Chain.ensures, c.as_slice.ensures) at (c.chain.ensures.plays m is)); owns = c.chain.ensures.owns }
 
-pub expressions::value-returns-in-Concat : goal.expressions::value-returns-in-Concat
-expressions::value-returns-in-Concat g t c =
+pub expressions::evaluate-returns-in-Concat : goal.expressions::evaluate-returns-in-Concat
+expressions::evaluate-returns-in-Concat g t c =
     record { plays = λ m is. rw (c.in-Concat.is, view-Concat) (rw (c.get-in-Concat.ensures, c.as_slice-in-Concat.ensures) at (c.concat.ensures.plays m is)); owns = c.concat.ensures.owns }
 
-pub expressions::value-returns-in-In : goal.expressions::value-returns-in-In
-expressions::value-returns-in-In g t c =
+pub expressions::evaluate-returns-in-In : goal.expressions::evaluate-returns-in-In
+expressions::evaluate-returns-in-In g t c =
     record { plays = λ m is. rw (c.in-In.is, view-In) (rw (c.get-in-In.ensures, c.as_slice-in-In.ensures) at (c.within.ensures.plays m is)); owns = c.within.ensures.owns }
 
-pub expressions::value-returns-in-Group : goal.expressions::value-returns-in-Group
-expressions::value-returns-in-Group g t c =
+pub expressions::evaluate-returns-in-Group : goal.expressions::evaluate-returns-in-Group
+expressions::evaluate-returns-in-Group g t c =
     record { plays = λ m is. rw (c.in-Group.is, view-Group) (rw (c.as_slice-in-Group.ensures, c.as_slice-in-Group-2.ensures) at (c.element_group.ensures.plays m is)); owns = c.element_group.ensures.owns }
 
-pub expressions::value-returns-in-And : goal.expressions::value-returns-in-And
-expressions::value-returns-in-And g t c =
+pub expressions::evaluate-returns-in-And : goal.expressions::evaluate-returns-in-And
+expressions::evaluate-returns-in-And g t c =
     record { plays = λ m is. rw (c.in-And.is, view-And) (rw (c.get-in-And.ensures, c.as_slice-in-And.ensures) at (c.all.ensures.plays m is)); owns = c.all.ensures.owns }
 
-pub expressions::value-returns-in-Or : goal.expressions::value-returns-in-Or
-expressions::value-returns-in-Or g t c =
+pub expressions::evaluate-returns-in-Or : goal.expressions::evaluate-returns-in-Or
+expressions::evaluate-returns-in-Or g t c =
     record { plays = λ m is. rw (c.in-Or.is, view-Or) (rw (c.get-in-Or.ensures, c.as_slice-in-Or.ensures) at (c.any.ensures.plays m is)); owns = c.any.ensures.owns }
 
-pub expressions::value-returns-in-Choice : goal.expressions::value-returns-in-Choice
-expressions::value-returns-in-Choice g t c =
+pub expressions::evaluate-returns-in-Choice : goal.expressions::evaluate-returns-in-Choice
+expressions::evaluate-returns-in-Choice g t c =
     record { plays = λ m is. rw (c.in-Choice.is, view-Choice) (rw (c.get-in-Choice.ensures, c.get-in-Choice-2.ensures, c.get-in-Choice-3.ensures) at (c.choose.ensures.plays m is)); owns = c.choose.ensures.owns }
 
-pub expressions::value-returns-in-Sprintf : goal.expressions::value-returns-in-Sprintf
-expressions::value-returns-in-Sprintf g t c =
+pub expressions::evaluate-returns-in-Sprintf : goal.expressions::evaluate-returns-in-Sprintf
+expressions::evaluate-returns-in-Sprintf g t c =
     record { plays = λ m is. rw (c.in-Sprintf.is, view-Sprintf) (rw (c.get-in-Sprintf.ensures, c.as_slice-in-Sprintf.ensures) at (c.formatted.ensures.plays m is)); owns = c.formatted.ensures.owns }
 
 pub expressions::unary-returns-in_err-operand : goal.expressions::unary-returns-in_err-operand
@@ -198,46 +199,6 @@ expressions::substr-returns g t c =
       plays = λ m is.
           hands (part _ (quietly (part _ (quietly (part _ (quietly (at_once _ _ _) (λ k hid d a. refl)) (c.value.ensures.plays m is) c.in_ok-text.was) (λ k hid d a. refl)) (c.value-2.ensures.plays m is) c.in_ok-from.was) (λ k hid d a. refl)) (c.value-3.ensures.plays m is) c.in_ok-count.was) (acted (c.part_of.ensures m (c.value-3.new.run.store, c.value-3.new.run.streams) (view (names_in m) c.args.x.now) (view (names_in m) c.args.y.now) (view (names_in m) c.args.z.now)));
       owns = c.value-3.ensures.owns;
-    }
-
-pub expressions::chain-returns-in_err-so_far : goal.expressions::chain-returns-in_err-so_far
-expressions::chain-returns-in_err-so_far g t c =
-    let e = err_from_is_err_and c.from_residual.result c.from_residual.ensures.1 in rw (e.1, e.2) (record {
-      plays = λ m is.
-          (stop _ (λ k. refl) (quietly (at_once _ _ _) (λ k hid d a. refl)) (c.value.ensures.plays m is) c.in_err-so_far.was);
-      owns = c.value.ensures.owns;
-    })
-
-pub expressions::chain-loop-next-init : goal.expressions::chain-loop-next-init
-expressions::chain-loop-next-init g t c =
-    record { leads = λ m is. (part _ (quietly (at_once _ _ _) (λ k hid d a. refl)) (c.value.ensures.plays m is) c.in_ok-so_far.was); owns = c.value.ensures.owns }
-
-pub expressions::chain-returns-in_err-operand : goal.expressions::chain-returns-in_err-operand
-expressions::chain-returns-in_err-operand g t c =
-    let e = err_from_is_err_and c.from_residual-in_err-operand.result c.from_residual-in_err-operand.ensures.1 in rw (e.1, e.2) (record {
-      plays = λ m is.
-          (stop _ (λ k. refl) (quietly (turned (c.loop-next.invariant.leads m is) (λ k. ap (λ xs. At (Terms_of (terms_of (map (view_term (names_in m)) xs))) (c.loop-next.so_far ∷ []) ∷ k) (next_of c.args.xs.now c.loop-next.next-index c.next-item.result c.next-item.is c.loop-next-test.true))) (λ k hid d a. refl)) (c.value-in-loop-next.ensures.plays m is) c.in_err-operand.was);
-      owns = c.value-in-loop-next.ensures.owns;
-    })
-
-pub expressions::chain-returns-in_err-so_far-2 : goal.expressions::chain-returns-in_err-so_far-2
-expressions::chain-returns-in_err-so_far-2 g t c =
-    let e = err_from_is_err_and c.from_residual-in_err-so_far-2.result c.from_residual-in_err-so_far-2.ensures.1 in rw (e.1, e.2) (record {
-      plays = λ m is.
-          (stop _ (λ k. refl) (part _ (quietly (turned (c.loop-next.invariant.leads m is) (λ k. ap (λ xs. At (Terms_of (terms_of (map (view_term (names_in m)) xs))) (c.loop-next.so_far ∷ []) ∷ k) (next_of c.args.xs.now c.loop-next.next-index c.next-item.result c.next-item.is c.loop-next-test.true))) (λ k hid d a. refl)) (c.value-in-loop-next.ensures.plays m is) c.in_ok-operand.was) (acted (c.term.ensures m (c.value-in-loop-next.new.run.store, c.value-in-loop-next.new.run.streams) (view (names_in m) c.next-item.result.operand) (terms_of (map (view_term (names_in m)) (drop (c.loop-next.next-index + 1) c.args.xs.now))))) c.in_err-so_far-2.was);
-      owns = c.value-in-loop-next.ensures.owns;
-    })
-
-pub expressions::chain-loop-next-preserved : goal.expressions::chain-loop-next-preserved
-expressions::chain-loop-next-preserved g t c =
-    record { leads = λ m is. (part _ (part _ (quietly (turned (c.loop-next.invariant.leads m is) (λ k. ap (λ xs. At (Terms_of (terms_of (map (view_term (names_in m)) xs))) (c.loop-next.so_far ∷ []) ∷ k) (next_of c.args.xs.now c.loop-next.next-index c.next-item.result c.next-item.is c.loop-next-test.true))) (λ k hid d a. refl)) (c.value-in-loop-next.ensures.plays m is) c.in_ok-operand.was) (acted (c.term.ensures m (c.value-in-loop-next.new.run.store, c.value-in-loop-next.new.run.streams) (view (names_in m) c.next-item.result.operand) (terms_of (map (view_term (names_in m)) (drop (c.loop-next.next-index + 1) c.args.xs.now))))) c.in_ok-so_far-2.was); owns = c.value-in-loop-next.ensures.owns }
-
-pub expressions::chain-returns : goal.expressions::chain-returns
-expressions::chain-returns g t c =
-    record {
-      plays = λ m is.
-          done (quietly (turned (c.loop-next.invariant.leads m is) (λ k. ap (λ xs. At (Terms_of (terms_of (map (view_term (names_in m)) xs))) (c.loop-next.so_far ∷ []) ∷ k) (drop_all c.args.xs.now c.loop-next.next-index c.loop-next-test.false))) (λ k hid d a. refl));
-      owns = c.loop-next.invariant.owns;
     }
 
 pub expressions::concat-returns-in_err-so_far : goal.expressions::concat-returns-in_err-so_far
@@ -359,30 +320,6 @@ expressions::any-loop-y-preserved g t c =
 pub expressions::any-returns : goal.expressions::any-returns
 expressions::any-returns g t c =
     record { plays = λ m is. rw (c.truth_value-2.ensures, c.truth-2.ensures) (done (quietly (turned (c.loop-y.invariant.leads m is) (λ k. ap (λ xs. At (Ors_of (expressions_of (map (view (names_in m)) xs))) (c.loop-y.last ∷ []) ∷ k) (drop_all c.args.xs.now c.loop-y.y-index c.loop-y-test.false))) (λ k hid d a. refl))); owns = c.loop-y.invariant.owns }
-
-pub expressions::choose-returns-in_err-test : goal.expressions::choose-returns-in_err-test
-expressions::choose-returns-in_err-test g t c =
-    let e = err_from_is_err_and c.from_residual.result c.from_residual.ensures.1 in rw (e.1, e.2) (record {
-      plays = λ m is.
-          (stop _ (λ k. refl) (quietly (at_once _ _ _) (λ k hid d a. refl)) (c.value.ensures.plays m is) c.in_err-test.was);
-      owns = c.value.ensures.owns;
-    })
-
-pub expressions::choose-returns-then-truth : goal.expressions::choose-returns-then-truth
-expressions::choose-returns-then-truth g t c =
-    record {
-      plays = λ m is.
-          hands (quietly (part _ (quietly (at_once _ _ _) (λ k hid d a. refl)) (c.value.ensures.plays m is) c.in_ok-test.was) (λ k hid d a. choose_so m (view (names_in m) c.args.x.now) (view (names_in m) c.args.y.now) (view (names_in m) c.args.z.now) c.in_ok-test.test true k _ (sym c.truth.ensures ∙ c.if-truth.true))) (c.value-then-truth.ensures.plays m is);
-      owns = c.value-then-truth.ensures.owns;
-    }
-
-pub expressions::choose-returns : goal.expressions::choose-returns
-expressions::choose-returns g t c =
-    record {
-      plays = λ m is.
-          hands (quietly (part _ (quietly (at_once _ _ _) (λ k hid d a. refl)) (c.value.ensures.plays m is) c.in_ok-test.was) (λ k hid d a. choose_so m (view (names_in m) c.args.x.now) (view (names_in m) c.args.y.now) (view (names_in m) c.args.z.now) c.in_ok-test.test false k _ (sym c.truth.ensures ∙ c.if-truth.false))) (c.value-else-truth.ensures.plays m is);
-      owns = c.value-else-truth.ensures.owns;
-    }
 
 pub targets::field-returns-in_err-operand : goal.targets::field-returns-in_err-operand
 targets::field-returns-in_err-operand g t c =
@@ -534,46 +471,6 @@ targets::change-returns g t c =
       owns = c.value.ensures.owns;
     }
 
-pub targets::increment-returns-in_err-to : goal.targets::increment-returns-in_err-to
-targets::increment-returns-in_err-to g t c =
-    let e = err_from_is_err_and c.from_residual.result c.from_residual.ensures.1 in rw (e.1, e.2) (record {
-      plays = λ m is.
-          (stop _ (λ k. refl) (quietly (at_once _ _ _) (λ k hid d a. refl)) (c.target_of.ensures.plays.plays m is) c.in_err-to.was);
-      owns = c.target_of.ensures.plays.owns;
-    })
-
-pub targets::increment-returns-in_err-old : goal.targets::increment-returns-in_err-old
-targets::increment-returns-in_err-old g t c =
-    let e = err_from_is_err_and c.from_residual-in_err-old.result c.from_residual-in_err-old.ensures.1 in rw (e.1, e.2) (record {
-      plays = λ m is.
-          (stop _ (λ k. refl) (quietly {then_ = λ k. Do (Get (meant (names_in m) c.in_ok-to.to)) ∷ At (Value_of (p.step c.args.place c.args.how c.args.taken (view_target (names_in m) c.args.target.now))) (value_of c.in_ok-to.to ∷ []) ∷ k} (part _ (quietly (at_once _ _ _) (λ k hid d a. refl)) (c.target_of.ensures.plays.plays m is) c.in_ok-to.was) (λ k hid d a. rw (c.in_ok-to.ensures.spot (names_in m)) refl)) (acted (c.read.ensures m c.target_of.new.run.streams)) c.in_err-old.was);
-      owns = c.target_of.ensures.plays.owns;
-    })
-
-pub targets::increment-returns-in_err-before : goal.targets::increment-returns-in_err-before
-targets::increment-returns-in_err-before g t c =
-    let e = err_from_is_err_and c.from_residual-in_err-before.result c.from_residual-in_err-before.ensures.1 in rw (e.1, e.2) (record {
-      plays = λ m is.
-          (stop _ (λ k. refl) (part _ (quietly {then_ = λ k. Do (Get (meant (names_in m) c.in_ok-to.to)) ∷ At (Value_of (p.step c.args.place c.args.how c.args.taken (view_target (names_in m) c.args.target.now))) (value_of c.in_ok-to.to ∷ []) ∷ k} (part _ (quietly (at_once _ _ _) (λ k hid d a. refl)) (c.target_of.ensures.plays.plays m is) c.in_ok-to.was) (λ k hid d a. rw (c.in_ok-to.ensures.spot (names_in m)) refl)) (acted (c.read.ensures m c.target_of.new.run.streams)) c.in_ok-old.was) (acted (c.stepped_at.ensures m (c.read.new.store, c.target_of.new.run.streams) c.args.taken (view_target (names_in m) c.args.target.now) (value_of c.in_ok-to.to))) c.in_err-before.was);
-      owns = c.target_of.ensures.plays.owns;
-    })
-
-pub targets::increment-returns-in_err-set : goal.targets::increment-returns-in_err-set
-targets::increment-returns-in_err-set g t c =
-    let e = err_from_is_err_and c.from_residual-in_err-set.result c.from_residual-in_err-set.ensures.1 in rw (e.1, e.2) (record {
-      plays = λ m is.
-          (stop _ (λ k. refl) (turned {then_ = λ k. Do (Set (meant (names_in m) c.in_ok-to.to) c.args.place (v.Num c.in_ok-before.behind)) ∷ Do (Give (either c.args.taken c.in_ok-before.before c.in_ok-before.behind)) ∷ k} (part _ (part _ (quietly {then_ = λ k. Do (Get (meant (names_in m) c.in_ok-to.to)) ∷ At (Value_of (p.step c.args.place c.args.how c.args.taken (view_target (names_in m) c.args.target.now))) (value_of c.in_ok-to.to ∷ []) ∷ k} (part _ (quietly (at_once _ _ _) (λ k hid d a. refl)) (c.target_of.ensures.plays.plays m is) c.in_ok-to.was) (λ k hid d a. rw (c.in_ok-to.ensures.spot (names_in m)) refl)) (acted (c.read.ensures m c.target_of.new.run.streams)) c.in_ok-old.was) (acted (c.stepped_at.ensures m (c.read.new.store, c.target_of.new.run.streams) c.args.taken (view_target (names_in m) c.args.target.now) (value_of c.in_ok-to.to))) c.in_ok-before.was) (λ k. ap (λ t. Do (Set t c.args.place (v.Num c.in_ok-before.behind)) ∷ Do (Give (either c.args.taken c.in_ok-before.before c.in_ok-before.behind)) ∷ k) (c.in_ok-to.ensures.spot (names_in m)))) (acted (rw (to_z-of_z w64 c.in_ok-before.behind (search rules)) at (c.set.ensures m c.target_of.new.run.streams))) c.in_err-set.was);
-      owns = c.target_of.ensures.plays.owns;
-    })
-
-pub targets::increment-returns-in-Before : goal.targets::increment-returns-in-Before
-targets::increment-returns-in-Before g t c =
-    record { plays = λ m is. rw (to_z-of_z w64 c.in_ok-before.before (search rules)) (done (quietly (part _ (turned {then_ = λ k. Do (Set (meant (names_in m) c.in_ok-to.to) c.args.place (v.Num c.in_ok-before.behind)) ∷ Do (Give (either c.args.taken c.in_ok-before.before c.in_ok-before.behind)) ∷ k} (part _ (part _ (quietly {then_ = λ k. Do (Get (meant (names_in m) c.in_ok-to.to)) ∷ At (Value_of (p.step c.args.place c.args.how c.args.taken (view_target (names_in m) c.args.target.now))) (value_of c.in_ok-to.to ∷ []) ∷ k} (part _ (quietly (at_once _ _ _) (λ k hid d a. refl)) (c.target_of.ensures.plays.plays m is) c.in_ok-to.was) (λ k hid d a. rw (c.in_ok-to.ensures.spot (names_in m)) refl)) (acted (c.read.ensures m c.target_of.new.run.streams)) c.in_ok-old.was) (acted (c.stepped_at.ensures m (c.read.new.store, c.target_of.new.run.streams) c.args.taken (view_target (names_in m) c.args.target.now) (value_of c.in_ok-to.to))) c.in_ok-before.was) (λ k. ap (λ t. Do (Set t c.args.place (v.Num c.in_ok-before.behind)) ∷ Do (Give (either c.args.taken c.in_ok-before.before c.in_ok-before.behind)) ∷ k) (c.in_ok-to.ensures.spot (names_in m)))) (acted (rw (to_z-of_z w64 c.in_ok-before.behind (search rules)) at (c.set.ensures m c.target_of.new.run.streams))) c.in_ok-set.was) (λ k hid d a. rw c.in-Before.is refl))); owns = c.target_of.ensures.plays.owns }
-
-pub targets::increment-returns : goal.targets::increment-returns
-targets::increment-returns g t c =
-    record { plays = λ m is. rw (to_z-of_z w64 c.in_ok-before.behind (search rules)) (done (quietly (part _ (turned {then_ = λ k. Do (Set (meant (names_in m) c.in_ok-to.to) c.args.place (v.Num c.in_ok-before.behind)) ∷ Do (Give (either c.args.taken c.in_ok-before.before c.in_ok-before.behind)) ∷ k} (part _ (part _ (quietly {then_ = λ k. Do (Get (meant (names_in m) c.in_ok-to.to)) ∷ At (Value_of (p.step c.args.place c.args.how c.args.taken (view_target (names_in m) c.args.target.now))) (value_of c.in_ok-to.to ∷ []) ∷ k} (part _ (quietly (at_once _ _ _) (λ k hid d a. refl)) (c.target_of.ensures.plays.plays m is) c.in_ok-to.was) (λ k hid d a. rw (c.in_ok-to.ensures.spot (names_in m)) refl)) (acted (c.read.ensures m c.target_of.new.run.streams)) c.in_ok-old.was) (acted (c.stepped_at.ensures m (c.read.new.store, c.target_of.new.run.streams) c.args.taken (view_target (names_in m) c.args.target.now) (value_of c.in_ok-to.to))) c.in_ok-before.was) (λ k. ap (λ t. Do (Set t c.args.place (v.Num c.in_ok-before.behind)) ∷ Do (Give (either c.args.taken c.in_ok-before.before c.in_ok-before.behind)) ∷ k) (c.in_ok-to.ensures.spot (names_in m)))) (acted (rw (to_z-of_z w64 c.in_ok-before.behind (search rules)) at (c.set.ensures m c.target_of.new.run.streams))) c.in_ok-set.was) (λ k hid d a. rw c.in-Behind.is refl))); owns = c.target_of.ensures.plays.owns }
-
 pub lists::fill-loop-x-init : goal.lists::fill-loop-x-init
 lists::fill-loop-x-init g t c =
     record { leads = λ m is part waits. at_once _ _ _; owns = c.requires; count = omega (arith) }
@@ -594,17 +491,6 @@ pub lists::fill-returns : goal.lists::fill-returns
 lists::fill-returns g t c =
     record { plays = record { plays = λ m is q w. done (c.loop-x.invariant.leads m is q w); owns = c.loop-x.invariant.owns }; count = let a = c.loop-x.invariant.count in let b = c.loop-x-test.false in let d = c.loop-x.auto.x-index-end in omega (arith, a, b, d) }
 
-pub lists::element-returns-in_err-fill : goal.lists::element-returns-in_err-fill
-lists::element-returns-in_err-fill g t c =
-    let e = err_from_is_err_and c.from_residual.result c.from_residual.ensures.1 in rw (e.1, e.2) (record {
-      plays = record {
-        plays = λ m is.
-            (stop _ (λ k. refl) (at_once _ _ _) (filled_from _ _ c.new-values.ensures.items c.fill.ensures.plays m is (Target_of (p.element c.args.place (variable_of (names_in m) c.args.array) (expressions_of (map (view (names_in m)) c.args.keys.now)))) (waits_listed m (Target_of (p.element c.args.place (variable_of (names_in m) c.args.array) (expressions_of (map (view (names_in m)) c.args.keys.now)))) (map (view (names_in m)) c.args.keys.now) (λ vs. keyed c.args.place vs (λ text. answer (v.Text text))) (λ vs k s. refl) (λ vs k. refl))) c.in_err-fill.was);
-        owns = c.fill.ensures.plays.owns;
-      };
-      spot = tt;
-    })
-
 pub lists::element-returns-in_err-key : goal.lists::element-returns-in_err-key
 lists::element-returns-in_err-key g t c =
     let e = err_from_is_err_and c.from_residual-in_err-key.result c.from_residual-in_err-key.ensures.1 in rw (e.1, e.2) (record {
@@ -615,14 +501,6 @@ lists::element-returns-in_err-key g t c =
       };
       spot = tt;
     })
-
-pub lists::element-returns-clause-plays : goal.lists::element-returns-clause-plays
-lists::element-returns-clause-plays g t c =
-    record {
-      plays = λ m is.
-          done (part _ (part _ (at_once _ _ _) (filled_from _ _ c.new-values.ensures.items c.fill.ensures.plays m is (Target_of (p.element c.args.place (variable_of (names_in m) c.args.array) (expressions_of (map (view (names_in m)) c.args.keys.now)))) (waits_listed m (Target_of (p.element c.args.place (variable_of (names_in m) c.args.array) (expressions_of (map (view (names_in m)) c.args.keys.now)))) (map (view (names_in m)) c.args.keys.now) (λ vs. keyed c.args.place vs (λ text. answer (v.Text text))) (λ vs k s. refl) (λ vs k. refl))) c.in_ok-fill.was) (acted (rw c.as_slice.ensures.value at (c.element_key.ensures m c.fill.new.run.streams (variable_of (names_in m) c.args.array) (expressions_of (map (view (names_in m)) c.args.keys.now)) (rw c.as_slice.ensures.value (count_listed (view (names_in m)) c.args.keys.now _ _ c.new-values.ensures.items c.in_ok-fill.ensures.count))))) c.in_ok-key.was);
-      owns = c.fill.ensures.plays.owns;
-    }
 
 pub lists::element-returns-clause-spot : goal.lists::element-returns-clause-spot
 lists::element-returns-clause-spot g t c =
@@ -680,24 +558,24 @@ lists::formatted-returns g t c =
       owns = c.fill.ensures.plays.owns;
     }
 
-pub expressions::value-returns-in-Pattern : goal.expressions::value-returns-in-Pattern
-expressions::value-returns-in-Pattern g t c =
+pub expressions::evaluate-returns-in-Pattern : goal.expressions::evaluate-returns-in-Pattern
+expressions::evaluate-returns-in-Pattern g t c =
     record { plays = λ m is. rw (c.in-Pattern.is, view-Pattern) (acted (rw c.bytes-in-Pattern.ensures at (c.matched_record.ensures m c.args.run.now.streams))); owns = c.requires }
 
-pub expressions::value-returns-in-Match : goal.expressions::value-returns-in-Match
-expressions::value-returns-in-Match g t c =
+pub expressions::evaluate-returns-in-Match : goal.expressions::evaluate-returns-in-Match
+expressions::evaluate-returns-in-Match g t c =
     record { plays = λ m is. rw (c.in-Match.is, view-Match) (rw c.get-in-Match.ensures at (c.matches.ensures.plays m is)); owns = c.matches.ensures.owns }
 
-pub expressions::value-returns-in-Locate : goal.expressions::value-returns-in-Locate
-expressions::value-returns-in-Locate g t c =
+pub expressions::evaluate-returns-in-Locate : goal.expressions::evaluate-returns-in-Locate
+expressions::evaluate-returns-in-Locate g t c =
     record { plays = λ m is. rw (c.in-Locate.is, view-Locate) (rw c.get-in-Locate.ensures at (c.locate.ensures.plays m is)); owns = c.locate.ensures.owns }
 
-pub expressions::value-returns-in-Split : goal.expressions::value-returns-in-Split
-expressions::value-returns-in-Split g t c =
+pub expressions::evaluate-returns-in-Split : goal.expressions::evaluate-returns-in-Split
+expressions::evaluate-returns-in-Split g t c =
     record { plays = λ m is. rw (c.in-Split.is, view-Split) (rw c.get-in-Split.ensures at (c.split.ensures.plays m is)); owns = c.split.ensures.owns }
 
-pub expressions::value-returns-in-Substitute : goal.expressions::value-returns-in-Substitute
-expressions::value-returns-in-Substitute g t c =
+pub expressions::evaluate-returns-in-Substitute : goal.expressions::evaluate-returns-in-Substitute
+expressions::evaluate-returns-in-Substitute g t c =
     record { plays = λ m is. rw (c.in-Substitute.is, view-Substitute) (rw c.get-in-Substitute.ensures at (c.substitute.ensures.plays m is)); owns = c.substitute.ensures.owns }
 
 pub patterns::source_of-returns-in-Constant : goal.patterns::source_of-returns-in-Constant
@@ -833,28 +711,28 @@ patterns::substitute-returns g t c =
       owns = c.target_of.ensures.plays.owns;
     }
 
-pub expressions::value-returns-in-Call : goal.expressions::value-returns-in-Call
-expressions::value-returns-in-Call g t c =
+pub expressions::evaluate-returns-in-Call : goal.expressions::evaluate-returns-in-Call
+expressions::evaluate-returns-in-Call g t c =
     record { plays = λ m is. rw (c.in-Call.is, view-Call) (rw c.as_slice-in-Call.ensures at (c.call.ensures.plays m is)); owns = c.call.ensures.owns }
 
-pub expressions::value-returns-in-Getline : goal.expressions::value-returns-in-Getline
-expressions::value-returns-in-Getline g t c =
+pub expressions::evaluate-returns-in-Getline : goal.expressions::evaluate-returns-in-Getline
+expressions::evaluate-returns-in-Getline g t c =
     record { plays = λ m is. rw (c.in-Getline.is, view-Getline) (c.getline.ensures.plays m is); owns = c.getline.ensures.owns }
 
-pub expressions::value-returns-in-GetlineFile : goal.expressions::value-returns-in-GetlineFile
-expressions::value-returns-in-GetlineFile g t c =
+pub expressions::evaluate-returns-in-GetlineFile : goal.expressions::evaluate-returns-in-GetlineFile
+expressions::evaluate-returns-in-GetlineFile g t c =
     record { plays = λ m is. rw (c.in-GetlineFile.is, view-GetlineFile) (rw c.get-in-GetlineFile.ensures at (c.from_file.ensures.plays m is)); owns = c.from_file.ensures.owns }
 
-pub expressions::value-returns-in-Pipe : goal.expressions::value-returns-in-Pipe
-expressions::value-returns-in-Pipe g t c =
+pub expressions::evaluate-returns-in-Pipe : goal.expressions::evaluate-returns-in-Pipe
+expressions::evaluate-returns-in-Pipe g t c =
     record { plays = λ m is. rw (c.in-Pipe.is, view-Pipe) (rw (c.get-in-Pipe.ensures, c.as_slice-in-Pipe.ensures) at (c.from_commands.ensures.plays m is)); owns = c.from_commands.ensures.owns }
 
-pub expressions::value-returns-in-Close : goal.expressions::value-returns-in-Close
-expressions::value-returns-in-Close g t c =
+pub expressions::evaluate-returns-in-Close : goal.expressions::evaluate-returns-in-Close
+expressions::evaluate-returns-in-Close g t c =
     record { plays = λ m is. rw (c.in-Close.is, view-Close) (rw c.get-in-Close.ensures at (c.close.ensures.plays m is)); owns = c.close.ensures.owns }
 
-pub expressions::value-returns-in-System : goal.expressions::value-returns-in-System
-expressions::value-returns-in-System g t c =
+pub expressions::evaluate-returns-in-System : goal.expressions::evaluate-returns-in-System
+expressions::evaluate-returns-in-System g t c =
     record { plays = λ m is. rw (c.in-System.is, view-System) (rw c.get-in-System.ensures at (c.system.ensures.plays m is)); owns = c.system.ensures.owns }
 
 pub statements::body-loop-x-init : goal.statements::body-loop-x-init
@@ -957,14 +835,6 @@ pub statements::perform-returns-in-ForIn : goal.statements::perform-returns-in-F
 statements::perform-returns-in-ForIn g t c =
     record { plays = λ m is. rw (c.in-ForIn.is, statement-ForIn) (rw c.get-in-ForIn.ensures at (c.over_keys.ensures.plays m is)); owns = c.over_keys.ensures.owns }
 
-pub statements::plain-returns-in_err-value : goal.statements::plain-returns-in_err-value
-statements::plain-returns-in_err-value g t c =
-    let e = err_from_is_err_and c.from_residual.result c.from_residual.ensures.1 in rw (e.1, e.2) (record { plays = λ m is. stop _ (λ k. refl) (quietly (at_once _ _ _) (λ k hid d a. refl)) (c.value.ensures.plays m is) c.in_err-value.was; owns = c.value.ensures.owns })
-
-pub statements::plain-returns : goal.statements::plain-returns
-statements::plain-returns g t c =
-    record { plays = λ m is. done (quietly (part _ (quietly (at_once _ _ _) (λ k hid d a. refl)) (c.value.ensures.plays m is) c.in_ok-value.was) (λ k hid d a. refl)); owns = c.value.ensures.owns }
-
 pub statements::delete-returns-in_err-fill : goal.statements::delete-returns-in_err-fill
 statements::delete-returns-in_err-fill g t c =
     let e = err_from_is_err_and c.from_residual.result c.from_residual.ensures.1 in rw (e.1, e.2) (record { plays = λ m is. stop _ (λ k. refl) (at_once _ _ _) (filled_from _ _ c.new-values.ensures.items c.fill.ensures.plays m is (Doing (p.delete c.args.place (variable_of (names_in m) c.args.array) (map (view (names_in m)) c.args.keys.now))) (waits_deleted m c.args.place (variable_of (names_in m) c.args.array) (map (view (names_in m)) c.args.keys.now))) c.in_err-fill.was; owns = c.fill.ensures.plays.owns })
@@ -1000,54 +870,6 @@ statements::give_back-returns-in_err-answer-in-Some g t c =
 pub statements::give_back-returns-in_ok-answer-in-Some : goal.statements::give_back-returns-in_ok-answer-in-Some
 statements::give_back-returns-in_ok-answer-in-Some g t c =
     record { plays = λ m is. rw c.in-Some.is (done (quietly (part _ (quietly (at_once _ _ _) (λ k hid d a. refl)) (c.value.ensures.plays m is) c.in_ok-answer-in-Some.was) (λ k hid d a. refl))); owns = c.value.ensures.owns }
-
-pub statements::when-returns-in_err-test : goal.statements::when-returns-in_err-test
-statements::when-returns-in_err-test g t c =
-    let e = err_from_is_err_and c.from_residual.result c.from_residual.ensures.1 in rw (e.1, e.2) (record { plays = λ m is. stop _ (λ k. refl) (quietly (at_once _ _ _) (λ k hid d a. refl)) (c.value.ensures.plays m is) c.in_err-test.was; owns = c.value.ensures.owns })
-
-pub statements::when-returns-then-truth : goal.statements::when-returns-then-truth
-statements::when-returns-then-truth g t c =
-    record { plays = λ m is. hands (quietly (part _ (quietly (at_once _ _ _) (λ k hid d a. refl)) (c.value.ensures.plays m is) c.in_ok-test.was) (λ k hid d a. if_on m (view (names_in m) c.args.test.now) (view_statement (names_in m) c.args.then.now) c.in_ok-test.test k _ (sym c.truth.ensures ∙ c.if-truth.true))) (c.statement.ensures.plays m is); owns = c.statement.ensures.owns }
-
-pub statements::when-returns : goal.statements::when-returns
-statements::when-returns g t c =
-    record { plays = λ m is. done (quietly (part _ (quietly (at_once _ _ _) (λ k hid d a. refl)) (c.value.ensures.plays m is) c.in_ok-test.was) (λ k hid d a. if_off m (view (names_in m) c.args.test.now) (view_statement (names_in m) c.args.then.now) c.in_ok-test.test k _ (sym c.truth.ensures ∙ c.if-truth.false))); owns = c.value.ensures.owns }
-
-pub statements::either-returns-in_err-test : goal.statements::either-returns-in_err-test
-statements::either-returns-in_err-test g t c =
-    let e = err_from_is_err_and c.from_residual.result c.from_residual.ensures.1 in rw (e.1, e.2) (record { plays = λ m is. stop _ (λ k. refl) (quietly (at_once _ _ _) (λ k hid d a. refl)) (c.value.ensures.plays m is) c.in_err-test.was; owns = c.value.ensures.owns })
-
-pub statements::either-returns-then-truth : goal.statements::either-returns-then-truth
-statements::either-returns-then-truth g t c =
-    record { plays = λ m is. hands (quietly (part _ (quietly (at_once _ _ _) (λ k hid d a. refl)) (c.value.ensures.plays m is) c.in_ok-test.was) (λ k hid d a. either_on m (view (names_in m) c.args.test.now) (view_statement (names_in m) c.args.then.now) (view_statement (names_in m) c.args.other.now) c.in_ok-test.test k _ (sym c.truth.ensures ∙ c.if-truth.true))) (c.statement.ensures.plays m is); owns = c.statement.ensures.owns }
-
-pub statements::either-returns : goal.statements::either-returns
-statements::either-returns g t c =
-    record { plays = λ m is. hands (quietly (part _ (quietly (at_once _ _ _) (λ k hid d a. refl)) (c.value.ensures.plays m is) c.in_ok-test.was) (λ k hid d a. either_off m (view (names_in m) c.args.test.now) (view_statement (names_in m) c.args.then.now) (view_statement (names_in m) c.args.other.now) c.in_ok-test.test k _ (sym c.truth.ensures ∙ c.if-truth.false))) (c.statement-else-truth.ensures.plays m is); owns = c.statement-else-truth.ensures.owns }
-
-pub loops::holds-returns-in-None : goal.loops::holds-returns-in-None
-loops::holds-returns-in-None g t c =
-    record { plays = λ m is. done (quietly (at_once _ _ _) (λ k hid d a. test_none m (loop_of (names_in m) (option_copied c.args.test) c.args.inner.now (option_copied c.args.after)) k _ (ap (λ o. option_map (view (names_in m)) (option_copied o)) c.in-None.is))); owns = c.requires }
-
-pub loops::holds-returns-in_err-found-in-Some : goal.loops::holds-returns-in_err-found-in-Some
-loops::holds-returns-in_err-found-in-Some g t c =
-    let e = err_from_is_err_and c.from_residual.result c.from_residual.ensures.1 in rw (e.1, e.2) (record { plays = λ m is. stop _ (λ k. refl) (quietly (at_once _ _ _) (λ k hid d a. test_first m (loop_of (names_in m) (option_copied c.args.test) c.args.inner.now (option_copied c.args.after)) (view (names_in m) c.in-Some.test.now) k _ (ap (λ o. option_map (view (names_in m)) (option_copied o)) c.in-Some.is))) (c.value.ensures.plays m is) c.in_err-found-in-Some.was; owns = c.value.ensures.owns })
-
-pub loops::holds-returns-in_ok-found-in-Some : goal.loops::holds-returns-in_ok-found-in-Some
-loops::holds-returns-in_ok-found-in-Some g t c =
-    record { plays = λ m is. rw c.truth.ensures (done (quietly (part _ (quietly (at_once _ _ _) (λ k hid d a. test_first m (loop_of (names_in m) (option_copied c.args.test) c.args.inner.now (option_copied c.args.after)) (view (names_in m) c.in-Some.test.now) k _ (ap (λ o. option_map (view (names_in m)) (option_copied o)) c.in-Some.is))) (c.value.ensures.plays m is) c.in_ok-found-in-Some.was) (λ k hid d a. test_then m (loop_of (names_in m) (option_copied c.args.test) c.args.inner.now (option_copied c.args.after)) (view (names_in m) c.in-Some.test.now) c.in_ok-found-in-Some.found k _ (ap (λ o. option_map (view (names_in m)) (option_copied o)) c.in-Some.is)))); owns = c.value.ensures.owns }
-
-pub loops::behind-returns-in_default : goal.loops::behind-returns-in_default
-loops::behind-returns-in_default g t c =
-    record { plays = λ m is. done (quietly (at_once _ _ _) (λ k hid d a. turn_none m (loop_of (names_in m) (option_copied c.args.test) c.args.inner.now (option_copied c.args.after)) k _ (ap (λ o. option_map (view (names_in m)) (option_copied o)) c.in_default.is))); owns = c.requires }
-
-pub loops::behind-returns-in_err-value : goal.loops::behind-returns-in_err-value
-loops::behind-returns-in_err-value g t c =
-    let e = err_from_is_err_and c.from_residual.result c.from_residual.ensures.1 in rw (e.1, e.2) (record { plays = λ m is. stop _ (λ k. refl) (quietly (at_once _ _ _) (λ k hid d a. turn_first m (loop_of (names_in m) (option_copied c.args.test) c.args.inner.now (option_copied c.args.after)) (view (names_in m) c.in-Some.after.now) k _ (ap (λ o. option_map (view (names_in m)) (option_copied o)) c.in-Some.is))) (c.value.ensures.plays m is) c.in_err-value.was; owns = c.value.ensures.owns })
-
-pub loops::behind-returns : goal.loops::behind-returns
-loops::behind-returns g t c =
-    record { plays = λ m is. done (quietly (part _ (quietly (at_once _ _ _) (λ k hid d a. turn_first m (loop_of (names_in m) (option_copied c.args.test) c.args.inner.now (option_copied c.args.after)) (view (names_in m) c.in-Some.after.now) k _ (ap (λ o. option_map (view (names_in m)) (option_copied o)) c.in-Some.is))) (c.value.ensures.plays m is) c.in_ok-value.was) (λ k hid d a. turn_then m (loop_of (names_in m) (option_copied c.args.test) c.args.inner.now (option_copied c.args.after)) (view (names_in m) c.in-Some.after.now) c.in_ok-value.field-0 k _ (ap (λ o. option_map (view (names_in m)) (option_copied o)) c.in-Some.is))); owns = c.value.ensures.owns }
 
 pub loops::turns-loop-turn-init : goal.loops::turns-loop-turn-init
 loops::turns-loop-turn-init g t c =
@@ -1104,14 +926,6 @@ loops::while_loop-returns g t c =
 pub loops::first_then-returns-in_default : goal.loops::first_then-returns-in_default
 loops::first_then-returns-in_default g t c =
     record { plays = λ m is. rw (c.in_default.is) (hands (quietly (at_once _ _ _) (λ k hid d a. refl)) (rw (c.as_ref-test.ensures.value, c.as_ref-after.ensures.value) at (c.turns.ensures.plays m is))); owns = c.turns.ensures.owns }
-
-pub loops::first_then-returns-in_err-value : goal.loops::first_then-returns-in_err-value
-loops::first_then-returns-in_err-value g t c =
-    let e = err_from_is_err_and c.from_residual.result c.from_residual.ensures.1 in rw (e.1, e.2, c.in-Some.is) (record { plays = λ m is. stop _ (λ k. refl) (quietly (at_once _ _ _) (λ k hid d a. refl)) (c.value.ensures.plays m is) c.in_err-value.was; owns = c.value.ensures.owns })
-
-pub loops::first_then-returns : goal.loops::first_then-returns
-loops::first_then-returns g t c =
-    record { plays = λ m is. rw (c.in-Some.is) (hands (quietly (part _ (quietly (at_once _ _ _) (λ k hid d a. refl)) (c.value.ensures.plays m is) c.in_ok-value.was) (λ k hid d a. refl)) (rw (c.as_ref-test.ensures.value, c.as_ref-after.ensures.value) at (c.turns-2.ensures.plays m is))); owns = c.turns-2.ensures.owns }
 
 pub loops::over-loop-key-init : goal.loops::over-loop-key-init
 loops::over-loop-key-init g t c =
@@ -1356,3 +1170,307 @@ output::printf-returns-in_err-put_to g t c =
 pub output::printf-returns : goal.output::printf-returns
 output::printf-returns g t c =
     rw c.in-Some.is (record { plays = λ m is. done (rw c.in_ok-put_to.was at (c.put_to.ensures.task m c.value-2.new.run.store (At (Doing (p.printf c.args.place (view (names_in m) c.args.x.now) (map (view (names_in m)) c.args.xs.now) (Some (view_redirection (names_in m) c.in-Some.to)))) []) (c.args.run.now.store, c.args.run.now.streams) c.args.world.now (turned {then_ = streamed (view_redirection (names_in m) c.in-Some.to) c.in-Ok.name c.in_ok-text-2.text} (part _ (part _ (quietly (part _ (part _ (quietly (at_once _ _ _) (λ k hid d a. refl)) (c.value.ensures.plays m is) c.in_ok-format.was) (filled_from _ (c.in_ok-format.format ∷ []) (c.in_ok-append.ensures.ok ∙ ap (λ vs. vs ++ c.in_ok-format.format ∷ []) c.new-values.ensures.items) c.fill.ensures.plays m is (Doing (p.printf c.args.place (view (names_in m) c.args.x.now) (map (view (names_in m)) c.args.xs.now) (Some (view_redirection (names_in m) c.in-Some.to)))) (waits_formatted m c.args.place (view (names_in m) c.args.x.now) (map (view (names_in m)) c.args.xs.now) (Some (view_redirection (names_in m) c.in-Some.to)))) c.in_ok-fill.was) (λ k hid d a. printf_target m c.args.place (view (names_in m) c.args.x.now) (map (view (names_in m)) c.args.xs.now) (view_redirection (names_in m) c.in-Some.to) _ (count_formatted (view (names_in m)) (view (names_in m) c.args.x.now) c.args.xs.now _ _ _ (c.in_ok-append.ensures.ok ∙ ap (λ vs. vs ++ c.in_ok-format.format ∷ []) c.new-values.ensures.items) c.in_ok-fill.ensures.count) k _)) (c.value-2.ensures.plays m is) c.in_ok-target.was) (acted (rw c.as_slice-2.ensures.value at (c.formatted_for.ensures m (c.value-2.new.run.store, c.value-2.new.run.streams) (view (names_in m) c.args.x.now) (map (view (names_in m)) c.args.xs.now) (view_redirection (names_in m) c.in-Some.to) (rw c.as_slice-2.ensures.value (count_formatted (view (names_in m)) (view (names_in m) c.args.x.now) c.args.xs.now _ _ _ (c.in_ok-append.ensures.ok ∙ ap (λ vs. vs ++ c.in_ok-format.format ∷ []) c.new-values.ensures.items) c.in_ok-fill.ensures.count))))) c.in_ok-text-2.was) (λ k. ap (λ n. streamed (view_redirection (names_in m) c.in-Some.to) n c.in_ok-text-2.text k) (sym c.in-Ok.ensures))))); owns = c.put_to.ensures.owns })
+
+pub expressions::value-returns-in-Chain : goal.expressions::value-returns-in-Chain
+expressions::value-returns-in-Chain g t c =
+    record { plays = λ m is. rw (c.in-Chain.is, view-Chain) (rw (c.get.ensures, c.as_slice.ensures) at (c.chain.ensures.plays m is)); owns = c.chain.ensures.owns }
+
+pub expressions::value-returns-in-Read : goal.expressions::value-returns-in-Read
+expressions::value-returns-in-Read g t c =
+    record { plays = λ m is. rw (c.in-Read.is, view-Read) (c.read_target.ensures.plays m is); owns = c.read_target.ensures.owns }
+
+pub expressions::truth_of-returns-then-level-eq0 : goal.expressions::truth_of-returns-then-level-eq0
+expressions::truth_of-returns-then-level-eq0 g t c =
+    record { val = v.Unset; is = tt; does = record { plays = λ m is. lacking (at_once _ _ _); owns = c.requires } }
+
+pub expressions::effect-returns-then-level-eq0 : goal.expressions::effect-returns-then-level-eq0
+expressions::effect-returns-then-level-eq0 g t c =
+    record { val = v.Unset; is = tt; does = record { plays = λ m is. lacking (at_once _ _ _); owns = c.requires } }
+
+pub expressions::effect-returns-in-Assign : goal.expressions::effect-returns-in-Assign
+expressions::effect-returns-in-Assign g t c =
+    record { val = c.put.ensures.val; is = c.put.ensures.is; does = record { plays = λ m is. rw (c.in-Assign.is, view-Assign) (rw c.get.ensures at (c.put.ensures.does.plays m is)); owns = c.put.ensures.does.owns } }
+
+pub expressions::effect-returns-in-Change : goal.expressions::effect-returns-in-Change
+expressions::effect-returns-in-Change g t c =
+    record { val = c.alter.ensures.val; is = c.alter.ensures.is; does = record { plays = λ m is. rw (c.in-Change.is, view-Change) (rw c.get-in-Change.ensures at (c.alter.ensures.does.plays m is)); owns = c.alter.ensures.does.owns } }
+
+pub targets::read_target-returns-in-Variable : goal.targets::read_target-returns-in-Variable
+targets::read_target-returns-in-Variable g t c =
+    record { plays = λ m is. rw c.in-Variable.is (hands (quietly {then_ = λ k. Do (Get (meant (names_in m) (spot.Variable c.in-Variable.variable))) ∷ k} (quietly {then_ = λ k. At (Value_of (p.read (p.variable (variable_of (names_in m) c.in-Variable.variable)))) (v.Unset ∷ []) ∷ k} (quietly {then_ = λ k. At (Target_of (p.variable (variable_of (names_in m) c.in-Variable.variable))) [] ∷ At (Value_of (p.read (p.variable (variable_of (names_in m) c.in-Variable.variable)))) [] ∷ k} (at_once _ _ _) (λ k hid d a. refl)) (λ k hid d a. refl)) (λ k hid d a. refl)) (acted (c.read_variable.ensures m c.args.run.now.streams))); owns = c.requires }
+
+pub targets::alter-returns-in_err-to : goal.targets::alter-returns-in_err-to
+targets::alter-returns-in_err-to g t c =
+    let e = err_from_is_err_and c.from_residual.result c.from_residual.ensures.1 in rw (e.1, e.2) (record { val = v.Unset; is = tt; does = record { plays = λ m is. stop _ (λ k. refl) (quietly (at_once _ _ _) (λ k hid d a. refl)) (c.target_of.ensures.plays.plays m is) c.in_err-to.was; owns = c.target_of.ensures.plays.owns } })
+
+pub targets::alter-returns-in_err-operand : goal.targets::alter-returns-in_err-operand
+targets::alter-returns-in_err-operand g t c =
+    let e = err_from_is_err_and c.from_residual-in_err-operand.result c.from_residual-in_err-operand.ensures.1 in rw (e.1, e.2) (record { val = v.Unset; is = tt; does = record { plays = λ m is. stop _ (λ k. refl) (quietly (part _ (quietly (at_once _ _ _) (λ k hid d a. refl)) (c.target_of.ensures.plays.plays m is) c.in_ok-to.was) (λ k hid d a. refl)) (c.value.ensures.plays m is) c.in_err-operand.was; owns = c.value.ensures.owns } })
+
+pub targets::alter-returns-in_err-old : goal.targets::alter-returns-in_err-old
+targets::alter-returns-in_err-old g t c =
+    let e = err_from_is_err_and c.from_residual-in_err-old.result c.from_residual-in_err-old.ensures.1 in rw (e.1, e.2) (record { val = v.Unset; is = tt; does = record { plays = λ m is. stop _ (λ k. refl) (quietly {then_ = λ k. Do (Get (meant (names_in m) c.in_ok-to.to)) ∷ At (Value_of (p.change c.args.place c.args.how (view_target (names_in m) c.args.target.now) (view (names_in m) c.args.x.now))) (c.in_ok-operand.operand ∷ value_of c.in_ok-to.to ∷ []) ∷ k} (part _ (quietly (part _ (quietly (at_once _ _ _) (λ k hid d a. refl)) (c.target_of.ensures.plays.plays m is) c.in_ok-to.was) (λ k hid d a. refl)) (c.value.ensures.plays m is) c.in_ok-operand.was) (λ k hid d a. rw (c.in_ok-to.ensures.spot (names_in m)) refl)) (acted (c.read.ensures m c.value.new.run.streams)) c.in_err-old.was; owns = c.value.ensures.owns } })
+
+pub targets::alter-returns-in_err-number : goal.targets::alter-returns-in_err-number
+targets::alter-returns-in_err-number g t c =
+    let e = err_from_is_err_and c.from_residual-in_err-number.result c.from_residual-in_err-number.ensures.1 in rw (e.1, e.2) (record { val = v.Unset; is = tt; does = record { plays = λ m is. stop _ (λ k. refl) (part _ (quietly {then_ = λ k. Do (Get (meant (names_in m) c.in_ok-to.to)) ∷ At (Value_of (p.change c.args.place c.args.how (view_target (names_in m) c.args.target.now) (view (names_in m) c.args.x.now))) (c.in_ok-operand.operand ∷ value_of c.in_ok-to.to ∷ []) ∷ k} (part _ (quietly (part _ (quietly (at_once _ _ _) (λ k hid d a. refl)) (c.target_of.ensures.plays.plays m is) c.in_ok-to.was) (λ k hid d a. refl)) (c.value.ensures.plays m is) c.in_ok-operand.was) (λ k hid d a. rw (c.in_ok-to.ensures.spot (names_in m)) refl)) (acted (c.read.ensures m c.value.new.run.streams)) c.in_ok-old.was) (acted (c.computed_at.ensures m (c.read.new.store, c.value.new.run.streams) (view_target (names_in m) c.args.target.now) (view (names_in m) c.args.x.now) (value_of c.in_ok-to.to))) c.in_err-number.was; owns = c.value.ensures.owns } })
+
+pub targets::alter-returns : goal.targets::alter-returns
+targets::alter-returns g t c =
+    record { val = spots.stored c.in_ok-to.to (v.Num c.in_ok-number.number); is = unwanted c.set.result; does = record { plays = λ m is. rests (hands_on (λ k. refl) (turned {then_ = λ k. Do (Set (meant (names_in m) c.in_ok-to.to) c.args.place (v.Num c.in_ok-number.number)) ∷ Do (Give (stored (meant (names_in m) c.in_ok-to.to) (v.Num c.in_ok-number.number))) ∷ k} (part _ (part _ (quietly {then_ = λ k. Do (Get (meant (names_in m) c.in_ok-to.to)) ∷ At (Value_of (p.change c.args.place c.args.how (view_target (names_in m) c.args.target.now) (view (names_in m) c.args.x.now))) (c.in_ok-operand.operand ∷ value_of c.in_ok-to.to ∷ []) ∷ k} (part _ (quietly (part _ (quietly (at_once _ _ _) (λ k hid d a. refl)) (c.target_of.ensures.plays.plays m is) c.in_ok-to.was) (λ k hid d a. refl)) (c.value.ensures.plays m is) c.in_ok-operand.was) (λ k hid d a. rw (c.in_ok-to.ensures.spot (names_in m)) refl)) (acted (c.read.ensures m c.value.new.run.streams)) c.in_ok-old.was) (acted (c.computed_at.ensures m (c.read.new.store, c.value.new.run.streams) (view_target (names_in m) c.args.target.now) (view (names_in m) c.args.x.now) (value_of c.in_ok-to.to))) c.in_ok-number.was) (λ k. ap (λ t. Do (Set t c.args.place (v.Num c.in_ok-number.number)) ∷ Do (Give (stored t (v.Num c.in_ok-number.number))) ∷ k) (c.in_ok-to.ensures.spot (names_in m)))) (acted (rw (to_z-of_z w64 c.in_ok-number.number (search rules)) at (c.set.ensures m c.value.new.run.streams)))) (λ x k hid d a. rw (stored-so m _ hid d a c.in_ok-to.to (v.Num c.in_ok-number.number)) refl); owns = c.value.ensures.owns } }
+
+pub targets::step_target-returns-in_err-to : goal.targets::step_target-returns-in_err-to
+targets::step_target-returns-in_err-to g t c =
+    let e = err_from_is_err_and c.from_residual.result c.from_residual.ensures.1 in rw (e.1, e.2) (λ which. record { plays = λ m is. stop _ (λ k. refl) (quietly (at_once _ _ _) (λ k hid d a. refl)) (c.target_of.ensures.plays.plays m is) c.in_err-to.was; owns = c.target_of.ensures.plays.owns })
+
+pub targets::step_target-returns-in_err-old : goal.targets::step_target-returns-in_err-old
+targets::step_target-returns-in_err-old g t c =
+    let e = err_from_is_err_and c.from_residual-in_err-old.result c.from_residual-in_err-old.ensures.1 in rw (e.1, e.2) (λ which. record { plays = λ m is. stop _ (λ k. refl) (quietly {then_ = λ k. Do (Get (meant (names_in m) c.in_ok-to.to)) ∷ At (Value_of (p.step c.args.place c.args.how which (view_target (names_in m) c.args.target.now))) (value_of c.in_ok-to.to ∷ []) ∷ k} (part _ (quietly (at_once _ _ _) (λ k hid d a. refl)) (c.target_of.ensures.plays.plays m is) c.in_ok-to.was) (λ k hid d a. rw (c.in_ok-to.ensures.spot (names_in m)) refl)) (acted (c.read.ensures m c.target_of.new.run.streams)) c.in_err-old.was; owns = c.target_of.ensures.plays.owns })
+
+pub targets::step_target-returns-in_err-before : goal.targets::step_target-returns-in_err-before
+targets::step_target-returns-in_err-before g t c =
+    let e = err_from_is_err_and c.from_residual-in_err-before.result c.from_residual-in_err-before.ensures.1 in rw (e.1, e.2) (λ which. record { plays = λ m is. stop _ (λ k. refl) (part _ (quietly {then_ = λ k. Do (Get (meant (names_in m) c.in_ok-to.to)) ∷ At (Value_of (p.step c.args.place c.args.how which (view_target (names_in m) c.args.target.now))) (value_of c.in_ok-to.to ∷ []) ∷ k} (part _ (quietly (at_once _ _ _) (λ k hid d a. refl)) (c.target_of.ensures.plays.plays m is) c.in_ok-to.was) (λ k hid d a. rw (c.in_ok-to.ensures.spot (names_in m)) refl)) (acted (c.read.ensures m c.target_of.new.run.streams)) c.in_ok-old.was) (acted (c.stepped_at.ensures m (c.read.new.store, c.target_of.new.run.streams) which (view_target (names_in m) c.args.target.now) (value_of c.in_ok-to.to))) c.in_err-before.was; owns = c.target_of.ensures.plays.owns })
+
+pub targets::step_target-returns-in_err-set : goal.targets::step_target-returns-in_err-set
+targets::step_target-returns-in_err-set g t c =
+    let e = err_from_is_err_and c.from_residual-in_err-set.result c.from_residual-in_err-set.ensures.1 in rw (e.1, e.2) (λ which. record { plays = λ m is. stop _ (λ k. refl) (turned {then_ = λ k. Do (Set (meant (names_in m) c.in_ok-to.to) c.args.place (v.Num c.in_ok-before.behind)) ∷ Do (Give (either which c.in_ok-before.before c.in_ok-before.behind)) ∷ k} (part _ (part _ (quietly {then_ = λ k. Do (Get (meant (names_in m) c.in_ok-to.to)) ∷ At (Value_of (p.step c.args.place c.args.how which (view_target (names_in m) c.args.target.now))) (value_of c.in_ok-to.to ∷ []) ∷ k} (part _ (quietly (at_once _ _ _) (λ k hid d a. refl)) (c.target_of.ensures.plays.plays m is) c.in_ok-to.was) (λ k hid d a. rw (c.in_ok-to.ensures.spot (names_in m)) refl)) (acted (c.read.ensures m c.target_of.new.run.streams)) c.in_ok-old.was) (acted (c.stepped_at.ensures m (c.read.new.store, c.target_of.new.run.streams) which (view_target (names_in m) c.args.target.now) (value_of c.in_ok-to.to))) c.in_ok-before.was) (λ k. ap (λ t. Do (Set t c.args.place (v.Num c.in_ok-before.behind)) ∷ Do (Give (either which c.in_ok-before.before c.in_ok-before.behind)) ∷ k) (c.in_ok-to.ensures.spot (names_in m)))) (acted (rw (to_z-of_z w64 c.in_ok-before.behind (search rules)) at (c.set.ensures m c.target_of.new.run.streams))) c.in_err-set.was; owns = c.target_of.ensures.plays.owns })
+
+pub targets::step_target-returns : goal.targets::step_target-returns
+targets::step_target-returns g t c =
+    λ which. record { plays = λ m is. rw (to_z-of_z w64 c.in_ok-before.before (search rules), to_z-of_z w64 c.in_ok-before.behind (search rules)) (done (quietly (part _ (turned {then_ = λ k. Do (Set (meant (names_in m) c.in_ok-to.to) c.args.place (v.Num c.in_ok-before.behind)) ∷ Do (Give (either which c.in_ok-before.before c.in_ok-before.behind)) ∷ k} (part _ (part _ (quietly {then_ = λ k. Do (Get (meant (names_in m) c.in_ok-to.to)) ∷ At (Value_of (p.step c.args.place c.args.how which (view_target (names_in m) c.args.target.now))) (value_of c.in_ok-to.to ∷ []) ∷ k} (part _ (quietly (at_once _ _ _) (λ k hid d a. refl)) (c.target_of.ensures.plays.plays m is) c.in_ok-to.was) (λ k hid d a. rw (c.in_ok-to.ensures.spot (names_in m)) refl)) (acted (c.read.ensures m c.target_of.new.run.streams)) c.in_ok-old.was) (acted (c.stepped_at.ensures m (c.read.new.store, c.target_of.new.run.streams) which (view_target (names_in m) c.args.target.now) (value_of c.in_ok-to.to))) c.in_ok-before.was) (λ k. ap (λ t. Do (Set t c.args.place (v.Num c.in_ok-before.behind)) ∷ Do (Give (either which c.in_ok-before.before c.in_ok-before.behind)) ∷ k) (c.in_ok-to.ensures.spot (names_in m)))) (acted (rw (to_z-of_z w64 c.in_ok-before.behind (search rules)) at (c.set.ensures m c.target_of.new.run.streams))) c.in_ok-set.was) (λ k hid d a. refl))); owns = c.target_of.ensures.plays.owns }
+
+pub statements::plain-returns-in_err-effect : goal.statements::plain-returns-in_err-effect
+statements::plain-returns-in_err-effect g t c =
+    let e = err_from_is_err_and c.from_residual.result c.from_residual.ensures.1 in rw (e.1, e.2) (record { plays = λ m is. stop _ (λ k. refl) (quietly (at_once _ _ _) (λ k hid d a. refl)) (c.effect.ensures.does.plays m is) c.in_err-effect.was; owns = c.effect.ensures.does.owns })
+
+pub statements::plain-returns : goal.statements::plain-returns
+statements::plain-returns g t c =
+    record { plays = λ m is. done (quietly (part _ (quietly (at_once _ _ _) (λ k hid d a. refl)) (c.effect.ensures.does.plays m is) c.in_ok-effect.was) (λ k hid d a. refl)); owns = c.effect.ensures.does.owns }
+
+pub statements::statement-returns-in-Expr : goal.statements::statement-returns-in-Expr
+statements::statement-returns-in-Expr g t c =
+    record { plays = λ m is. hands (part _ (quietly {then_ = λ k. Do Step ∷ At (Doing (view_statement (names_in m) c.args.x.now)) [] ∷ k} (at_once _ _ _) (λ k hid d a. starts_stepped m (view_statement (names_in m) c.args.x.now) c.is_one.result (c.is_one.ensures (names_in m)) c.if-not-is_one.false k _)) (takes (is.host.bound ∙ sym c.bound.ensures) (c.step.ensures c.args.run.now.streams)) c.in_ok-step.was) (rw (sym (ap (view_statement (names_in m)) c.in-Expr.is ∙ statement-Expr _ _)) at (c.plain.ensures.plays m is)); owns = c.plain.ensures.owns }
+
+pub loops::holds-returns-in-None : goal.loops::holds-returns-in-None
+loops::holds-returns-in-None g t c =
+    record { plays = λ m is. done (quietly (at_once _ _ _) (λ k hid d a. test_none m (loop_of (names_in m) (option_copied c.args.test) c.args.inner.now (option_copied c.args.after)) k _ (ap (λ o. option_map (view (names_in m)) (option_copied o)) c.in-None.is))); owns = c.requires }
+
+pub loops::behind-returns-in_default : goal.loops::behind-returns-in_default
+loops::behind-returns-in_default g t c =
+    record { plays = λ m is. done (quietly (at_once _ _ _) (λ k hid d a. turn_none m (loop_of (names_in m) (option_copied c.args.test) c.args.inner.now (option_copied c.args.after)) k _ (ap (λ o. option_map (view (names_in m)) (option_copied o)) c.in_default.is))); owns = c.requires }
+
+pub loops::behind-returns : goal.loops::behind-returns
+loops::behind-returns g t c =
+    record { plays = λ m is. rests (hands_on (λ k. refl) (quietly (at_once _ _ _) (λ k hid d a. turn_first m (loop_of (names_in m) (option_copied c.args.test) c.args.inner.now (option_copied c.args.after)) (view (names_in m) c.in-Some.after.now) k _ (ap (λ o. option_map (view (names_in m)) (option_copied o)) c.in-Some.is))) (c.effect.ensures.does.plays m is)) (λ x k hid d a. turn_then m (loop_of (names_in m) (option_copied c.args.test) c.args.inner.now (option_copied c.args.after)) (view (names_in m) c.in-Some.after.now) c.effect.ensures.val k _ (ap (λ o. option_map (view (names_in m)) (option_copied o)) c.in-Some.is)); owns = c.effect.ensures.does.owns }
+
+pub loops::first_then-returns-in_err-effect : goal.loops::first_then-returns-in_err-effect
+loops::first_then-returns-in_err-effect g t c =
+    let e = err_from_is_err_and c.from_residual.result c.from_residual.ensures.1 in rw (e.1, e.2, c.in-Some.is) (record { plays = λ m is. stop _ (λ k. refl) (quietly (at_once _ _ _) (λ k hid d a. refl)) (c.effect.ensures.does.plays m is) c.in_err-effect.was; owns = c.effect.ensures.does.owns })
+
+pub loops::first_then-returns : goal.loops::first_then-returns
+loops::first_then-returns g t c =
+    record { plays = λ m is. rw (c.in-Some.is) (hands (quietly (part _ (quietly (at_once _ _ _) (λ k hid d a. refl)) (c.effect.ensures.does.plays m is) c.in_ok-effect.was) (λ k hid d a. refl)) (rw (c.as_ref-test.ensures.value, c.as_ref-after.ensures.value) at (c.turns-2.ensures.plays m is))); owns = c.turns-2.ensures.owns }
+
+pub expressions::value-returns-in-Some : goal.expressions::value-returns-in-Some
+expressions::value-returns-in-Some g t c =
+    record { plays = λ m is. rw (to_z-of_z w64 c.in-Some.known (search rules)) (acted (there {on = give} {x = v.Num c.in-Some.known} (c.in-Some.ensures m c.args.run.now.streams))); owns = c.requires }
+
+pub expressions::number-returns-in-Some : goal.expressions::number-returns-in-Some
+expressions::number-returns-in-Some g t c =
+    rw (to_z-of_z w64 c.in-Some.known (search rules)) (record { val = v.Num c.in-Some.known; is = refl; does = record { plays = λ m is. acted (there {on = λ (x : Result ℤ Fault). give (v.Num c.in-Some.known)} {x = Ok c.in-Some.known} (c.in-Some.ensures m c.args.run.now.streams)); owns = c.requires } })
+
+pub expressions::number-returns-in_err-found : goal.expressions::number-returns-in_err-found
+expressions::number-returns-in_err-found g t c =
+    let e = err_from_is_err_and c.from_residual.result c.from_residual.ensures.1 in rw (e.1, e.2) (record { val = v.Unset; is = tt; does = record { plays = λ m is. stop _ (λ k. refl) (at_once _ _ _) (c.value.ensures.plays m is) c.in_err-found.was; owns = c.value.ensures.owns } })
+
+pub expressions::number-returns : goal.expressions::number-returns
+expressions::number-returns g t c =
+    record { val = c.in_ok-found.found; is = c.number_of.ensures; does = record { plays = λ m is. done (part _ (at_once _ _ _) (c.value.ensures.plays m is) c.in_ok-found.was); owns = c.value.ensures.owns } }
+
+pub expressions::chain-returns-in_err-so_far : goal.expressions::chain-returns-in_err-so_far
+expressions::chain-returns-in_err-so_far g t c =
+    let e = err_from_is_err_and c.from_residual.result c.from_residual.ensures.1 in rw (e.1, e.2) (record {
+      plays = λ m is.
+          (stop _ (λ k. refl) (quietly (at_once _ _ _) (λ k hid d a. refl)) (c.value.ensures.plays m is) c.in_err-so_far.was);
+      owns = c.value.ensures.owns;
+    })
+
+pub expressions::chain-loop-next-init : goal.expressions::chain-loop-next-init
+expressions::chain-loop-next-init g t c =
+    record { leads = λ m is. (part _ (quietly (at_once _ _ _) (λ k hid d a. refl)) (c.value.ensures.plays m is) c.in_ok-so_far.was); owns = c.value.ensures.owns }
+
+pub expressions::chain-returns-in_err-operand : goal.expressions::chain-returns-in_err-operand
+expressions::chain-returns-in_err-operand g t c =
+    let e = err_from_is_err_and c.from_residual-in_err-operand.result c.from_residual-in_err-operand.ensures.1 in rw (e.1, e.2) (record {
+      plays = λ m is.
+          (stop _ (λ k. refl) (quietly (turned (c.loop-next.invariant.leads m is) (λ k. ap (λ xs. At (Terms_of (terms_of (map (view_term (names_in m)) xs))) (c.loop-next.so_far ∷ []) ∷ k) (next_of c.args.xs.now c.loop-next.next-index c.next-item.result c.next-item.is c.loop-next-test.true))) (λ k hid d a. refl)) (c.number.ensures.does.plays m is) c.in_err-operand.was);
+      owns = c.number.ensures.does.owns;
+    })
+
+pub expressions::chain-returns-in_err-so_far-2 : goal.expressions::chain-returns-in_err-so_far-2
+expressions::chain-returns-in_err-so_far-2 g t c =
+    let e = err_from_is_err_and c.from_residual-in_err-so_far-2.result c.from_residual-in_err-so_far-2.ensures.1 in rw (e.1, e.2) (record {
+      plays = λ m is.
+          (stop _ (λ k. refl) (part _ (quietly (turned (c.loop-next.invariant.leads m is) (λ k. ap (λ xs. At (Terms_of (terms_of (map (view_term (names_in m)) xs))) (c.loop-next.so_far ∷ []) ∷ k) (next_of c.args.xs.now c.loop-next.next-index c.next-item.result c.next-item.is c.loop-next-test.true))) (λ k hid d a. refl)) (c.number.ensures.does.plays m is) c.in_ok-operand.was) (acted (c.operated.ensures m (c.number.new.run.store, c.number.new.run.streams) (view (names_in m) c.next-item.result.operand) (terms_of (map (view_term (names_in m)) (drop (c.loop-next.next-index + 1) c.args.xs.now))) c.number.ensures.val (told_number c.number.ensures.val _ _ c.in_ok-operand.was c.number.ensures.is))) c.in_err-so_far-2.was);
+      owns = c.number.ensures.does.owns;
+    })
+
+pub expressions::chain-loop-next-preserved : goal.expressions::chain-loop-next-preserved
+expressions::chain-loop-next-preserved g t c =
+    record { leads = λ m is. (part _ (part _ (quietly (turned (c.loop-next.invariant.leads m is) (λ k. ap (λ xs. At (Terms_of (terms_of (map (view_term (names_in m)) xs))) (c.loop-next.so_far ∷ []) ∷ k) (next_of c.args.xs.now c.loop-next.next-index c.next-item.result c.next-item.is c.loop-next-test.true))) (λ k hid d a. refl)) (c.number.ensures.does.plays m is) c.in_ok-operand.was) (acted (c.operated.ensures m (c.number.new.run.store, c.number.new.run.streams) (view (names_in m) c.next-item.result.operand) (terms_of (map (view_term (names_in m)) (drop (c.loop-next.next-index + 1) c.args.xs.now))) c.number.ensures.val (told_number c.number.ensures.val _ _ c.in_ok-operand.was c.number.ensures.is))) c.in_ok-so_far-2.was); owns = c.number.ensures.does.owns }
+
+pub expressions::chain-returns : goal.expressions::chain-returns
+expressions::chain-returns g t c =
+    record {
+      plays = λ m is.
+          done (quietly (turned (c.loop-next.invariant.leads m is) (λ k. ap (λ xs. At (Terms_of (terms_of (map (view_term (names_in m)) xs))) (c.loop-next.so_far ∷ []) ∷ k) (drop_all c.args.xs.now c.loop-next.next-index c.loop-next-test.false))) (λ k hid d a. refl));
+      owns = c.loop-next.invariant.owns;
+    }
+
+pub expressions::truth_of-returns-in_err-found-in_default : goal.expressions::truth_of-returns-in_err-found-in_default
+expressions::truth_of-returns-in_err-found-in_default g t c =
+    let e = err_from_is_err_and c.from_residual.result c.from_residual.ensures.1 in rw (e.1, e.2) (record { val = v.Unset; is = tt; does = record { plays = λ m is. stop _ (λ k. refl) (at_once _ _ _) (c.value.ensures.plays m is) c.in_err-found-in_default.was; owns = c.value.ensures.owns } })
+
+pub expressions::truth_of-returns-in_ok-found-in_default : goal.expressions::truth_of-returns-in_ok-found-in_default
+expressions::truth_of-returns-in_ok-found-in_default g t c =
+    record { val = c.in_ok-found-in_default.found; is = c.truth.ensures; does = record { plays = λ m is. done (part _ (at_once _ _ _) (c.value.ensures.plays m is) c.in_ok-found-in_default.was); owns = c.value.ensures.owns } }
+
+pub expressions::truth_of-returns-in-Compare : goal.expressions::truth_of-returns-in-Compare
+expressions::truth_of-returns-in-Compare g t c =
+    let h = as_truth {F = g.W.World.follows} {H = g.W.World.has_stopped} {S = g.W.World.stops} {N = g.W.World.open_numbers} {cx = c.args.cx.now} {p = λ m. value (p.compare c.in-Compare.how (view (names_in m) c.in-Compare.x) (view (names_in m) c.in-Compare.y))} {r = c.compare.result} (record { plays = λ m is. rw (c.get.ensures, c.get-in-Compare.ensures) at (c.compare.ensures.plays m is); owns = c.compare.ensures.owns }) in
+    record { val = h.val; is = h.is; does = record { plays = λ m is. rw (c.in-Compare.is, view-Compare) (h.does.plays m is); owns = h.does.owns } }
+
+pub expressions::compare-returns-in_err-one : goal.expressions::compare-returns-in_err-one
+expressions::compare-returns-in_err-one g t c =
+    let e = err_from_is_err_and c.from_residual.result c.from_residual.ensures.1 in rw (e.1, e.2) (record { plays = λ m is. stop _ (λ k. refl) (quietly (at_once _ _ _) (λ k hid d a. refl)) (c.value.ensures.plays m is) c.in_err-one.was; owns = c.value.ensures.owns })
+
+pub expressions::compare-returns-in_err-other : goal.expressions::compare-returns-in_err-other
+expressions::compare-returns-in_err-other g t c =
+    let e = err_from_is_err_and c.from_residual-in_err-other.result c.from_residual-in_err-other.ensures.1 in rw (e.1, e.2) (record { plays = λ m is. stop _ (λ k. refl) (quietly (part _ (quietly (at_once _ _ _) (λ k hid d a. refl)) (c.value.ensures.plays m is) c.in_ok-one.was) (λ k hid d a. refl)) (c.value-2.ensures.plays m is) c.in_err-other.was; owns = c.value-2.ensures.owns })
+
+pub expressions::compare-returns : goal.expressions::compare-returns
+expressions::compare-returns g t c =
+    record { plays = λ m is. done (quietly (part _ (quietly (part _ (quietly (at_once _ _ _) (λ k hid d a. refl)) (c.value.ensures.plays m is) c.in_ok-one.was) (λ k hid d a. refl)) (c.value-2.ensures.plays m is) c.in_ok-other.was) (λ k hid d a. ap (λ z. Goes (give z k) (seen (base m (c.value-2.new.run.store, c.value-2.new.run.streams) hid) d)) (sym c.compared.ensures))); owns = c.value-2.ensures.owns }
+
+pub expressions::effect-returns-in_err-step_target-in-Step : goal.expressions::effect-returns-in_err-step_target-in-Step
+expressions::effect-returns-in_err-step_target-in-Step g t c =
+    let e = err_from_is_err_and c.from_residual.result c.from_residual.ensures.1 in rw (e.1, e.2) (record { val = v.Unset; is = tt; does = record { plays = λ m is. rw (c.in-Step.is, view-Step) (stop _ (λ k. refl) (at_once _ _ _) ((c.step_target.ensures c.in-Step.field-2).plays m is) c.in_err-step_target-in-Step.was); owns = (c.step_target.ensures c.in-Step.field-2).owns } })
+
+pub expressions::effect-returns-in_ok-step_target-in-Step : goal.expressions::effect-returns-in_ok-step_target-in-Step
+expressions::effect-returns-in_ok-step_target-in-Step g t c =
+    record { val = either c.in-Step.field-2 c.in_ok-step_target-in-Step.field-0.0 c.in_ok-step_target-in-Step.field-0.1; is = tt; does = record { plays = λ m is. rw (c.in-Step.is, view-Step) (done (part _ (at_once _ _ _) ((c.step_target.ensures c.in-Step.field-2).plays m is) c.in_ok-step_target-in-Step.was)); owns = (c.step_target.ensures c.in-Step.field-2).owns } }
+
+pub expressions::effect-returns-in_err-value-in_default : goal.expressions::effect-returns-in_err-value-in_default
+expressions::effect-returns-in_err-value-in_default g t c =
+    let e = err_from_is_err_and c.from_residual-in_err-value-in_default.result c.from_residual-in_err-value-in_default.ensures.1 in rw (e.1, e.2) (record { val = v.Unset; is = tt; does = record { plays = λ m is. stop _ (λ k. refl) (at_once _ _ _) (c.value.ensures.plays m is) c.in_err-value-in_default.was; owns = c.value.ensures.owns } })
+
+pub expressions::effect-returns-in_ok-value-in_default : goal.expressions::effect-returns-in_ok-value-in_default
+expressions::effect-returns-in_ok-value-in_default g t c =
+    record { val = c.in_ok-value-in_default.field-0; is = tt; does = record { plays = λ m is. done (part _ (at_once _ _ _) (c.value.ensures.plays m is) c.in_ok-value-in_default.was); owns = c.value.ensures.owns } }
+
+pub expressions::evaluate-returns-in-Number : goal.expressions::evaluate-returns-in-Number
+expressions::evaluate-returns-in-Number g t c =
+    record { plays = λ m is. rw (c.in-Number.is, view-Number, to_z-of_z w64 c.in-Number.number (search rules)) (done (quietly (at_once _ _ _) (λ k hid d a. refl))); owns = c.requires }
+
+pub expressions::choose-returns-in_err-holds : goal.expressions::choose-returns-in_err-holds
+expressions::choose-returns-in_err-holds g t c =
+    let e = err_from_is_err_and c.from_residual.result c.from_residual.ensures.1 in rw (e.1, e.2) (record { plays = λ m is. stop _ (λ k. refl) (quietly (at_once _ _ _) (λ k hid d a. refl)) (c.truth_of.ensures.does.plays m is) c.in_err-holds.was; owns = c.truth_of.ensures.does.owns })
+
+pub expressions::choose-returns-then-holds : goal.expressions::choose-returns-then-holds
+expressions::choose-returns-then-holds g t c =
+    record { plays = λ m is. hands (quietly (part _ (quietly (at_once _ _ _) (λ k hid d a. refl)) (c.truth_of.ensures.does.plays m is) c.in_ok-holds.was) (λ k hid d a. choose_so m (view (names_in m) c.args.x.now) (view (names_in m) c.args.y.now) (view (names_in m) c.args.z.now) c.truth_of.ensures.val true k _ (sym (told_truth c.truth_of.ensures.val _ _ c.in_ok-holds.was c.truth_of.ensures.is) ∙ c.if-holds.true))) (c.value.ensures.plays m is); owns = c.value.ensures.owns }
+
+pub expressions::choose-returns-else-holds : goal.expressions::choose-returns-else-holds
+expressions::choose-returns-else-holds g t c =
+    record { plays = λ m is. hands (quietly (part _ (quietly (at_once _ _ _) (λ k hid d a. refl)) (c.truth_of.ensures.does.plays m is) c.in_ok-holds.was) (λ k hid d a. choose_so m (view (names_in m) c.args.x.now) (view (names_in m) c.args.y.now) (view (names_in m) c.args.z.now) c.truth_of.ensures.val false k _ (sym (told_truth c.truth_of.ensures.val _ _ c.in_ok-holds.was c.truth_of.ensures.is) ∙ c.if-holds.false))) (c.value-else-holds.ensures.plays m is); owns = c.value-else-holds.ensures.owns }
+
+pub statements::when-returns-in_err-holds : goal.statements::when-returns-in_err-holds
+statements::when-returns-in_err-holds g t c =
+    let e = err_from_is_err_and c.from_residual.result c.from_residual.ensures.1 in rw (e.1, e.2) (record { plays = λ m is. stop _ (λ k. refl) (quietly (at_once _ _ _) (λ k hid d a. refl)) (c.truth_of.ensures.does.plays m is) c.in_err-holds.was; owns = c.truth_of.ensures.does.owns })
+
+pub statements::when-returns-then-holds : goal.statements::when-returns-then-holds
+statements::when-returns-then-holds g t c =
+    record { plays = λ m is. hands (quietly (part _ (quietly (at_once _ _ _) (λ k hid d a. refl)) (c.truth_of.ensures.does.plays m is) c.in_ok-holds.was) (λ k hid d a. if_on m (view (names_in m) c.args.test.now) (view_statement (names_in m) c.args.then.now) c.truth_of.ensures.val k _ (sym (told_truth c.truth_of.ensures.val _ _ c.in_ok-holds.was c.truth_of.ensures.is) ∙ c.if-holds.true))) (c.statement.ensures.plays m is); owns = c.statement.ensures.owns }
+
+pub statements::when-returns-else-holds : goal.statements::when-returns-else-holds
+statements::when-returns-else-holds g t c =
+    record { plays = λ m is. done (quietly (part _ (quietly (at_once _ _ _) (λ k hid d a. refl)) (c.truth_of.ensures.does.plays m is) c.in_ok-holds.was) (λ k hid d a. if_off m (view (names_in m) c.args.test.now) (view_statement (names_in m) c.args.then.now) c.truth_of.ensures.val k _ (sym (told_truth c.truth_of.ensures.val _ _ c.in_ok-holds.was c.truth_of.ensures.is) ∙ c.if-holds.false))); owns = c.truth_of.ensures.does.owns }
+
+pub statements::either-returns-in_err-holds : goal.statements::either-returns-in_err-holds
+statements::either-returns-in_err-holds g t c =
+    let e = err_from_is_err_and c.from_residual.result c.from_residual.ensures.1 in rw (e.1, e.2) (record { plays = λ m is. stop _ (λ k. refl) (quietly (at_once _ _ _) (λ k hid d a. refl)) (c.truth_of.ensures.does.plays m is) c.in_err-holds.was; owns = c.truth_of.ensures.does.owns })
+
+pub statements::either-returns-then-holds : goal.statements::either-returns-then-holds
+statements::either-returns-then-holds g t c =
+    record { plays = λ m is. hands (quietly (part _ (quietly (at_once _ _ _) (λ k hid d a. refl)) (c.truth_of.ensures.does.plays m is) c.in_ok-holds.was) (λ k hid d a. either_on m (view (names_in m) c.args.test.now) (view_statement (names_in m) c.args.then.now) (view_statement (names_in m) c.args.other.now) c.truth_of.ensures.val k _ (sym (told_truth c.truth_of.ensures.val _ _ c.in_ok-holds.was c.truth_of.ensures.is) ∙ c.if-holds.true))) (c.statement.ensures.plays m is); owns = c.statement.ensures.owns }
+
+pub statements::either-returns-else-holds : goal.statements::either-returns-else-holds
+statements::either-returns-else-holds g t c =
+    record { plays = λ m is. hands (quietly (part _ (quietly (at_once _ _ _) (λ k hid d a. refl)) (c.truth_of.ensures.does.plays m is) c.in_ok-holds.was) (λ k hid d a. either_off m (view (names_in m) c.args.test.now) (view_statement (names_in m) c.args.then.now) (view_statement (names_in m) c.args.other.now) c.truth_of.ensures.val k _ (sym (told_truth c.truth_of.ensures.val _ _ c.in_ok-holds.was c.truth_of.ensures.is) ∙ c.if-holds.false))) (c.statement-else-holds.ensures.plays m is); owns = c.statement-else-holds.ensures.owns }
+
+pub loops::holds-returns-in-Some : goal.loops::holds-returns-in-Some
+loops::holds-returns-in-Some g t c =
+    record { plays = λ m is. rests_told c.truth_of.ensures.val c.truth_of.ensures.is (hands_on (λ k. refl) (quietly (at_once _ _ _) (λ k hid d a. test_first m (loop_of (names_in m) (option_copied c.args.test) c.args.inner.now (option_copied c.args.after)) (view (names_in m) c.in-Some.test.now) k _ (ap (λ o. option_map (view (names_in m)) (option_copied o)) c.in-Some.is))) (c.truth_of.ensures.does.plays m is)) (λ b so k hid d a. rw so (test_then m (loop_of (names_in m) (option_copied c.args.test) c.args.inner.now (option_copied c.args.after)) (view (names_in m) c.in-Some.test.now) c.truth_of.ensures.val k _ (ap (λ o. option_map (view (names_in m)) (option_copied o)) c.in-Some.is))); owns = c.truth_of.ensures.does.owns }
+
+pub targets::increment-returns-in_err-before : goal.targets::increment-returns-in_err-before
+targets::increment-returns-in_err-before g t c =
+    let e = err_from_is_err_and c.from_residual.result c.from_residual.ensures.1 in rw (e.1, e.2) (record { plays = λ m is. stop _ (λ k. refl) (at_once _ _ _) ((c.step_target.ensures c.args.taken).plays m is) c.in_err-before.was; owns = (c.step_target.ensures c.args.taken).owns })
+
+pub targets::increment-returns-in-Before : goal.targets::increment-returns-in-Before
+targets::increment-returns-in-Before g t c =
+    record { plays = λ m is. rw (to_z-of_z w64 c.in_ok-before.before (search rules)) (done (turned (part _ (at_once _ _ _) ((c.step_target.ensures c.args.taken).plays m is) c.in_ok-before.was) (λ k. rw c.in-Before.is refl))); owns = (c.step_target.ensures c.args.taken).owns }
+
+pub targets::increment-returns-in-Behind : goal.targets::increment-returns-in-Behind
+targets::increment-returns-in-Behind g t c =
+    record { plays = λ m is. rw (to_z-of_z w64 c.in_ok-before.behind (search rules)) (done (turned (part _ (at_once _ _ _) ((c.step_target.ensures c.args.taken).plays m is) c.in_ok-before.was) (λ k. rw c.in-Behind.is refl))); owns = (c.step_target.ensures c.args.taken).owns }
+
+pub targets::put-returns-in_err-is_done : goal.targets::put-returns-in_err-is_done
+targets::put-returns-in_err-is_done g t c =
+    let e = err_from_is_err_and c.from_residual.result c.from_residual.ensures.1 in rw (e.1, e.2, c.in_err-is_done.ensures.err) (record { val = v.Unset; is = tt; does = record { plays = λ m is. acted (lacks_there c.assigned.ensures.used); owns = c.requires } })
+
+pub targets::put-returns-then-is_done : goal.targets::put-returns-then-is_done
+targets::put-returns-then-is_done g t c =
+    let h = c.in_ok-is_done.ensures.done c.if-is_done.true in record { val = h.0; is = tt; does = record { plays = λ m is. acted (there {on = λ (u : Unit {0}). give h.0} {x = tt} (h.1 m c.args.run.now.streams c.args.place)); owns = c.requires } }
+
+pub targets::put-returns-in_err-to : goal.targets::put-returns-in_err-to
+targets::put-returns-in_err-to g t c =
+    let e = err_from_is_err_and c.from_residual-in_err-to.result c.from_residual-in_err-to.ensures.1 in rw (e.1, e.2) (record { val = v.Unset; is = tt; does = record { plays = λ m is. stop _ (λ k. refl) (quietly (at_once _ _ _) (λ k hid d a. refl)) (rw (c.in_ok-is_done.ensures.not_done c.if-is_done.false) at (c.target_of.ensures.plays.plays m is)) c.in_err-to.was; owns = c.target_of.ensures.plays.owns } })
+
+pub targets::put-returns-in_err-new : goal.targets::put-returns-in_err-new
+targets::put-returns-in_err-new g t c =
+    let e = err_from_is_err_and c.from_residual-in_err-new.result c.from_residual-in_err-new.ensures.1 in rw (e.1, e.2) (record { val = v.Unset; is = tt; does = record { plays = λ m is. stop _ (λ k. refl) (quietly (part _ (quietly (at_once _ _ _) (λ k hid d a. refl)) (rw (c.in_ok-is_done.ensures.not_done c.if-is_done.false) at (c.target_of.ensures.plays.plays m is)) c.in_ok-to.was) (λ k hid d a. refl)) (c.value.ensures.plays m is) c.in_err-new.was; owns = c.value.ensures.owns } })
+
+pub targets::put-returns : goal.targets::put-returns
+targets::put-returns g t c =
+    record { val = spots.stored c.in_ok-to.to c.in_ok-new.new; is = unwanted c.set.result; does = record { plays = λ m is. rests (hands_on (λ k. refl) (quietly {then_ = λ k. Do (Set (meant (names_in m) c.in_ok-to.to) c.args.place c.in_ok-new.new) ∷ Do (Give (stored (meant (names_in m) c.in_ok-to.to) c.in_ok-new.new)) ∷ k} (part _ (quietly (part _ (quietly (at_once _ _ _) (λ k hid d a. refl)) (rw (c.in_ok-is_done.ensures.not_done c.if-is_done.false) at (c.target_of.ensures.plays.plays m is)) c.in_ok-to.was) (λ k hid d a. refl)) (c.value.ensures.plays m is) c.in_ok-new.was) (λ k hid d a. rw (c.in_ok-to.ensures.spot (names_in m)) refl)) (acted (c.set.ensures m c.value.new.run.streams))) (λ x k hid d a. rw (stored-so m _ hid d a c.in_ok-to.to c.in_ok-new.new) refl); owns = c.value.ensures.owns } }
+
+pub lists::element-returns-in_err-fill : goal.lists::element-returns-in_err-fill
+lists::element-returns-in_err-fill g t c =
+    let e = err_from_is_err_and c.from_residual-in_err-fill.result c.from_residual-in_err-fill.ensures.1 in rw (e.1, e.2) (record {
+      plays = record {
+        plays = λ m is.
+            (stop _ (λ k. refl) (at_once _ _ _) (filled_from _ _ c.new-values.ensures.items c.fill.ensures.plays m is (Target_of (p.element c.args.place (variable_of (names_in m) c.args.array) (expressions_of (map (view (names_in m)) c.args.keys.now)))) (waits_listed m (Target_of (p.element c.args.place (variable_of (names_in m) c.args.array) (expressions_of (map (view (names_in m)) c.args.keys.now)))) (map (view (names_in m)) c.args.keys.now) (λ vs. keyed c.args.place vs (λ text. answer (v.Text text))) (λ vs k s. refl) (λ vs k. refl))) c.in_err-fill.was);
+        owns = c.fill.ensures.plays.owns;
+      };
+      spot = tt;
+    })
+
+pub lists::element-returns-clause-plays : goal.lists::element-returns-clause-plays
+lists::element-returns-clause-plays g t c =
+    record {
+      plays = λ m is.
+          rw c.new.ensures (done (part _ (part _ (at_once _ _ _) (filled_from _ _ c.new-values.ensures.items c.fill.ensures.plays m is (Target_of (p.element c.args.place (variable_of (names_in m) c.args.array) (expressions_of (map (view (names_in m)) c.args.keys.now)))) (waits_listed m (Target_of (p.element c.args.place (variable_of (names_in m) c.args.array) (expressions_of (map (view (names_in m)) c.args.keys.now)))) (map (view (names_in m)) c.args.keys.now) (λ vs. keyed c.args.place vs (λ text. answer (v.Text text))) (λ vs k s. refl) (λ vs k. refl))) c.in_ok-fill.was) (acted (rw c.as_slice.ensures.value at (c.element_key.ensures m c.fill.new.run.streams (variable_of (names_in m) c.args.array) (expressions_of (map (view (names_in m)) c.args.keys.now)) (rw c.as_slice.ensures.value (count_listed (view (names_in m)) c.args.keys.now _ _ c.new-values.ensures.items c.in_ok-fill.ensures.count))))) c.in_ok-key.was));
+      owns = c.fill.ensures.plays.owns;
+    }
+
+pub lists::element-returns-in_err-subscript-clause-plays : goal.lists::element-returns-in_err-subscript-clause-plays
+lists::element-returns-in_err-subscript-clause-plays g t c =
+    let e = err_from_is_err_and c.from_residual.result c.from_residual.ensures.1 in rw (e.1, e.2) (record { plays = λ m is. rw c.in-Some.ensures (stop _ (λ k. refl) (quietly (at_once _ _ _) (λ k hid d a. refl)) (c.value.ensures.plays m is) c.in_err-subscript.was); owns = c.value.ensures.owns })
+
+pub lists::element-returns-in_err-found-clause-plays : goal.lists::element-returns-in_err-found-clause-plays
+lists::element-returns-in_err-found-clause-plays g t c =
+    let e = err_from_is_err_and c.from_residual-in_err-found.result c.from_residual-in_err-found.ensures.1 in rw (e.1, e.2) (record { plays = λ m is. rw c.in-Some.ensures (stop _ (λ k. refl) (part _ (quietly (at_once _ _ _) (λ k hid d a. refl)) (c.value.ensures.plays m is) c.in_ok-subscript.was) (acted (c.one_key.ensures m (c.value.new.run.store, c.value.new.run.streams) (variable_of (names_in m) c.args.array) (view (names_in m) c.in-Some.one.now))) c.in_err-found.was); owns = c.value.ensures.owns })
+
+pub lists::element-returns-in-Some-clause-plays : goal.lists::element-returns-in-Some-clause-plays
+lists::element-returns-in-Some-clause-plays g t c =
+    record { plays = λ m is. rw c.in-Some.ensures (done (part _ (part _ (quietly (at_once _ _ _) (λ k hid d a. refl)) (c.value.ensures.plays m is) c.in_ok-subscript.was) (acted (c.one_key.ensures m (c.value.new.run.store, c.value.new.run.streams) (variable_of (names_in m) c.args.array) (view (names_in m) c.in-Some.one.now))) c.in_ok-found.was)); owns = c.value.ensures.owns }

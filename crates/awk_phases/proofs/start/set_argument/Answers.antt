@@ -13,9 +13,6 @@ use Rattle.awk_phases.proofs.start.set_argument.Goals as goal
 pub returns-in_default : goal.returns-in_default
 returns-in_default c = λ m t. lacking refl
 
-pub returns-in_default-from_slice : goal.returns-in_default-from_slice
-returns-in_default-from_slice c = λ m t. lacking refl
-
 pub returns : goal.returns
 returns c = λ m t. where_sound (λ sound. ap (λ x. set_at_start (machine.Element (global x) (decimal c.args.n) nowhere) (v.Input c.args.text.now)) (sound.own own.Argv))
-    (rw (c.slot.ensures, c.in-Ok.ensures, c.new.ensures, c.in-Ok-from_slice.ensures.items) at (c.set_element.ensures m t nowhere))
+    (rw (c.slot.ensures, c.new.ensures, c.in-Ok.ensures.items, c.as_bytes.ensures, c.format.ensures) at (c.set_element.ensures m t nowhere))
