@@ -19,7 +19,7 @@ use awk_store::Store;
 use awk_text::fault::Fault;
 use awk_text::place::Place;
 use awk_text::value::{Value, number_of, text_in};
-use awk_works::operators::{computed, operation, truth_value};
+use awk_works::operators::{operation, truth_value};
 use awk_works::texts::concatenated;
 use itoa::Buffer;
 use std::alloc::Global;
@@ -33,14 +33,7 @@ fn both(how: Operator, left: Result<i64, Fault>, right: Result<i64, Fault>) -> R
     operation(how, first, second)
 }
 
-/// One operand more of a chain of `+` and `-`, or of `*`, `/` and `%`; or the one of `^`.
-pub fn term(place: Place, how: Operator, left: &Value, right: &Value) -> Result<Value, Halt>
-    ensures { (g : Given) (w : Whole) (x : Expression) (xs : Terms) → Acts g (At (Terms_of (p.term how place x xs)) (right.now ∷ left.now ∷ [])) (λ v k. At (Terms_of xs) (v ∷ []) ∷ k) w result w }
-{
-    number_at(place, computed(how, left, right))
-}
-
-/// The same where of the right operand the number is known.
+/// One operand more, whose number is known, of a chain of `+` and `-`, or of `*`, `/` and `%`; or the one of `^`.
 pub fn operated(
     place: Place,
     how: Operator,
