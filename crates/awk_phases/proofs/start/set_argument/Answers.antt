@@ -15,4 +15,4 @@ returns-in_default c = λ m t. lacking refl
 
 pub returns : goal.returns
 returns c = λ m t. where_sound (λ sound. ap (λ x. set_at_start (machine.Element (global x) (decimal c.args.n) nowhere) (v.Input c.args.text.now)) (sound.own own.Argv))
-    (rw (c.slot.ensures, c.new.ensures, c.in-Ok.ensures.items, c.as_bytes.ensures, c.format.ensures) at (c.set_element.ensures m t nowhere))
+    (rw (c.slot.ensures, c.new.ensures, c.in-Ok.ensures.items, c.as_bytes-key.ensures.value, c.format.ensures.text) at (c.set_element.ensures m t nowhere))
