@@ -111,6 +111,12 @@ subscripts_before_the_right_side :
 unfolding rules
 subscripts_before_the_right_side = refl
 
+target_before_the_right_side_of_a_change :
+    replay (given [] [] false [] [] [] None 1000 (codes "BEGIN { a[system(\"p\")] += system(\"q\"); print a[1] }")) ((reply.Status (pos 1)) ∷ (reply.Status (pos 2)) ∷ reply.Done ∷ [])
+    ≡ Some ((Status 0), 2, call (at 1 11) false (r.System (codes "p")) (reply.Status (pos 1)) ∷ call (at 1 27) false (r.System (codes "q")) (reply.Status (pos 2)) ∷ call (at 1 40) false (r.Put 1 (codes "2\n")) reply.Done ∷ [])
+unfolding rules
+target_before_the_right_side_of_a_change = refl
+
 subscripts_in_order :
     replay (given [] [] false [] [] [] None 1000 (codes "BEGIN { print ((system(\"p\"), system(\"q\")) in a); delete a[system(\"r\"), system(\"s\")] }")) ((reply.Status (pos 1)) ∷ (reply.Status (pos 2)) ∷ reply.Done ∷ (reply.Status (pos 3)) ∷ (reply.Status (pos 4)) ∷ [])
     ≡ Some ((Status 0), 2, call (at 1 17) false (r.System (codes "p")) (reply.Status (pos 1)) ∷ call (at 1 30) false (r.System (codes "q")) (reply.Status (pos 2)) ∷ call (at 1 9) false (r.Put 1 (codes "0\n")) reply.Done ∷ call (at 1 59) false (r.System (codes "r")) (reply.Status (pos 3)) ∷ call (at 1 72) false (r.System (codes "s")) (reply.Status (pos 4)) ∷ [])
@@ -122,6 +128,12 @@ operands_in_order :
     ≡ Some ((Status 0), 1, call (at 1 15) false (r.System (codes "p")) (reply.Status (pos 5)) ∷ call (at 1 29) false (r.System (codes "q")) (reply.Status (pos 3)) ∷ call (at 1 42) false (r.System (codes "r")) (reply.Status (pos 1)) ∷ call (at 1 54) false (r.System (codes "s")) (reply.Status (pos 2)) ∷ call (at 1 68) false (r.System (codes "t")) (reply.Status (pos 0)) ∷ call (at 1 82) false (r.System (codes "u")) (reply.Status (pos 1)) ∷ call (at 1 97) false (r.System (codes "v")) (reply.Status (pos 7)) ∷ call (at 1 111) false (r.System (codes "w")) (reply.Status (pos 7)) ∷ call (at 1 9) false (r.Put 1 (codes "2 12 1 1\n")) reply.Done ∷ [])
 unfolding rules
 operands_in_order = refl
+
+a_sum_before_the_next_term :
+    replay (given [] [] false [] [] [] None 1000 (codes "BEGIN { print 9223372036854775807 + 1 + system(\"p\") }")) []
+    ≡ Some ((Faulted f.OutOfRange (at 1 35)), 1, [])
+unfolding rules
+a_sum_before_the_next_term = refl
 
 arguments_of_built_ins_in_order :
     replay (given [] [] false [] [] [] None 1000 (codes "BEGIN { print index(system(\"p\"), system(\"q\")), substr(system(\"r\"), system(\"s\"), system(\"t\")), substr(system(\"u\"), system(\"v\")), match(system(\"w\"), system(\"x\")) }")) ((reply.Status (pos 12)) ∷ (reply.Status (pos 2)) ∷ (reply.Status (pos 123)) ∷ (reply.Status (pos 2)) ∷ (reply.Status (pos 1)) ∷ (reply.Status (pos 123)) ∷ (reply.Status (pos 3)) ∷ (reply.Status (pos 45)) ∷ (reply.Status (pos 5)) ∷ reply.Done ∷ [])
