@@ -301,8 +301,8 @@ unfolding rules
 assignments_after_the_separator = refl
 
 escapes_of_the_host :
-    replay (given [] ((codes "v") ∷ (codes "w") ∷ []) false ((codes "w=r\\ts") ∷ []) [] (((codes "v"), (codes "p\\nq")) ∷ []) (Some (codes "\\t")) 1000 (codes "BEGIN { print v } { print $2, w }")) (reply.Done ∷ reply.Done ∷ (reply.Bytes (codes "a b\tc\n")) ∷ reply.Done ∷ reply.End ∷ [])
-    ≡ Some ((Status 0), 4, call (at 1 9) false (r.Put 1 (codes "p\nq\n")) reply.Done ∷ call (at 0 0) true (r.Assign (codes "w") (codes "r\\ts")) reply.Done ∷ call (at 0 0) false (r.Next 0) (reply.Bytes (codes "a b\tc\n")) ∷ call (at 1 21) false (r.Put 1 (codes "c r\ts\n")) reply.Done ∷ call (at 0 0) false (r.Next 0) reply.End ∷ [])
+    replay (given [] ((codes "v") ∷ (codes "w") ∷ []) false ((codes "w=r\\ts") ∷ []) [] (((codes "v"), (codes "p\\nq")) ∷ []) (Some (codes "\\t")) 1000 (codes "BEGIN { print v length(FS) } { print $2, w }")) (reply.Done ∷ reply.Done ∷ (reply.Bytes (codes "a b\tc\n")) ∷ reply.Done ∷ reply.End ∷ [])
+    ≡ Some ((Status 0), 4, call (at 1 9) false (r.Put 1 (codes "p\nq1\n")) reply.Done ∷ call (at 0 0) true (r.Assign (codes "w") (codes "r\\ts")) reply.Done ∷ call (at 0 0) false (r.Next 0) (reply.Bytes (codes "a b\tc\n")) ∷ call (at 1 32) false (r.Put 1 (codes "c r\ts\n")) reply.Done ∷ call (at 0 0) false (r.Next 0) reply.End ∷ [])
 unfolding rules
 escapes_of_the_host = refl
 
