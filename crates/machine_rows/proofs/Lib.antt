@@ -4,4 +4,5 @@ mod Scripts
 mod FormRows
 mod Replays
 mod Choices
+mod Lines
 mod Listings
