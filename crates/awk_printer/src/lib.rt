@@ -1,0 +1,6 @@
+//! Prints an awk program in the form that runs.
+#![tactic(auto)]
+
+mod expressions;
+mod pieces;
+mod words;
