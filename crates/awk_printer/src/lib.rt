@@ -3,4 +3,8 @@
 
 mod expressions;
 mod pieces;
+mod programs;
+mod statements;
 mod words;
+
+pub use programs::printed;
