@@ -1,5 +1,5 @@
 -- The text that a program is printed as. Every piece has a space before it, and every form that is
--- no leaf stands between parentheses with its name first, so that the text has one reading.
+-- no leaf stands between parentheses with its name first.
 use Rattle.std.specs.Prelude.{ℕ, ◌+◌, List, [], ◌∷◌, ◌++◌, Option, Some, None, codes, decimal, drop}
 use Rattle.std.specs.Fmt.{signed_decimal}
 use Rattle.std.specs.List.{flat_map}

@@ -1,5 +1,5 @@
 -- The pieces that a program is printed in: words, quoted texts and forms.
-use Rattle.std.specs.Prelude.{ℕ, Bool, ◌||◌, ◌==◌, List, [], ◌∷◌, ◌++◌, map, codes, decimal, if◌then◌else◌}
+use Rattle.std.specs.Prelude.{ℕ, Bool, ◌||◌, ◌==◌, List, [], ◌∷◌, ◌++◌, map, codes, if◌then◌else◌}
 use Rattle.std.specs.List.{flat_map}
 use Rattle.awk_text.specs.Places.{place_text}
 use Rattle.awk_text.specs.declared.place.Place.{Place}

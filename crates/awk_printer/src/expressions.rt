@@ -20,12 +20,7 @@ use std::alloc::AllocError;
 
 /// Prints an expression of at most this depth.
 #[cycle(expression)]
-pub fn expression(
-    names: &[Name],
-    e: &Expr,
-    level: u32,
-    out: &mut Vec<u8>,
-) -> Result<(), Memory>
+pub fn expression(names: &[Name], e: &Expr, level: u32, out: &mut Vec<u8>) -> Result<(), Memory>
     ensures { OnOk result (out.new.items ≡ out.old.items ++ expression_text (view (names_in names.now) e.now)) }
 {
     if level == 0 {
@@ -41,7 +36,14 @@ pub fn expression(
         Expr::Change(q, how, r, x) => {
             setting(names, change_text(*how), *q, r, x.get(), below, out)
         }
-        Expr::Step(q, how, taken, r) => at_target(names, step_text(*how, *taken), *q, r, below, out),
+        Expr::Step(q, how, taken, r) => at_target(
+            names,
+            step_text(*how, *taken),
+            *q,
+            r,
+            below,
+            out,
+        ),
         Expr::Not(x) => one(names, "!", x.get(), below, out),
         Expr::Signed(q, how, x) => at_one(names, sign_text(*how), *q, x.get(), below, out),
         Expr::Chain(x, xs) => chain(names, x.get(), xs.as_slice(), below, out),
@@ -89,10 +91,10 @@ fn record_pattern(q: Place, x: &[u8], out: &mut Vec<u8>) -> Result<(), Memory>
 
 /// A form of one expression.
 #[cycle(expression)]
-fn one(names: &[Name], name: &str, x: &Expr, level: u32, out: &mut Vec<u8>) -> Result<(), Memory>
-    ensures { OnOk result (out.new.items ≡ out.old.items ++ spec.form name.now (expression_text (view (names_in names.now) x.now) ∷ [])) }
+fn one(names: &[Name], head: &str, x: &Expr, level: u32, out: &mut Vec<u8>) -> Result<(), Memory>
+    ensures { OnOk result (out.new.items ≡ out.old.items ++ spec.form head.now (expression_text (view (names_in names.now) x.now) ∷ [])) }
 {
-    open(name, out)?;
+    open(head, out)?;
     expression(names, x, level, out)?;
     close(out)
 }
@@ -101,15 +103,15 @@ fn one(names: &[Name], name: &str, x: &Expr, level: u32, out: &mut Vec<u8>) -> R
 #[cycle(expression)]
 fn two(
     names: &[Name],
-    name: &str,
+    head: &str,
     x: &Expr,
     y: &Expr,
     level: u32,
     out: &mut Vec<u8>,
 ) -> Result<(), Memory>
-    ensures { OnOk result (out.new.items ≡ out.old.items ++ spec.form name.now (expression_text (view (names_in names.now) x.now) ∷ expression_text (view (names_in names.now) y.now) ∷ [])) }
+    ensures { OnOk result (out.new.items ≡ out.old.items ++ spec.form head.now (expression_text (view (names_in names.now) x.now) ∷ expression_text (view (names_in names.now) y.now) ∷ [])) }
 {
-    open(name, out)?;
+    open(head, out)?;
     expression(names, x, level, out)?;
     expression(names, y, level, out)?;
     close(out)
@@ -138,15 +140,15 @@ fn choice(
 #[cycle(expression)]
 pub fn at_one(
     names: &[Name],
-    name: &str,
+    head: &str,
     q: Place,
     x: &Expr,
     level: u32,
     out: &mut Vec<u8>,
 ) -> Result<(), Memory>
-    ensures { OnOk result (out.new.items ≡ out.old.items ++ spec.form name.now (spec.placed q ∷ expression_text (view (names_in names.now) x.now) ∷ [])) }
+    ensures { OnOk result (out.new.items ≡ out.old.items ++ spec.form head.now (spec.placed q ∷ expression_text (view (names_in names.now) x.now) ∷ [])) }
 {
-    open(name, out)?;
+    open(head, out)?;
     place(q, out)?;
     expression(names, x, level, out)?;
     close(out)
@@ -156,16 +158,16 @@ pub fn at_one(
 #[cycle(expression)]
 fn at_two(
     names: &[Name],
-    name: &str,
+    head: &str,
     q: Place,
     x: &Expr,
     y: &Expr,
     level: u32,
     out: &mut Vec<u8>,
 ) -> Result<(), Memory>
-    ensures { OnOk result (out.new.items ≡ out.old.items ++ spec.form name.now (spec.placed q ∷ expression_text (view (names_in names.now) x.now) ∷ expression_text (view (names_in names.now) y.now) ∷ [])) }
+    ensures { OnOk result (out.new.items ≡ out.old.items ++ spec.form head.now (spec.placed q ∷ expression_text (view (names_in names.now) x.now) ∷ expression_text (view (names_in names.now) y.now) ∷ [])) }
 {
-    open(name, out)?;
+    open(head, out)?;
     place(q, out)?;
     expression(names, x, level, out)?;
     expression(names, y, level, out)?;
@@ -176,7 +178,7 @@ fn at_two(
 #[cycle(expression)]
 fn at_three(
     names: &[Name],
-    name: &str,
+    head: &str,
     q: Place,
     x: &Expr,
     y: &Expr,
@@ -184,9 +186,9 @@ fn at_three(
     level: u32,
     out: &mut Vec<u8>,
 ) -> Result<(), Memory>
-    ensures { OnOk result (out.new.items ≡ out.old.items ++ spec.form name.now (spec.placed q ∷ expression_text (view (names_in names.now) x.now) ∷ expression_text (view (names_in names.now) y.now) ∷ expression_text (view (names_in names.now) z.now) ∷ [])) }
+    ensures { OnOk result (out.new.items ≡ out.old.items ++ spec.form head.now (spec.placed q ∷ expression_text (view (names_in names.now) x.now) ∷ expression_text (view (names_in names.now) y.now) ∷ expression_text (view (names_in names.now) z.now) ∷ [])) }
 {
-    open(name, out)?;
+    open(head, out)?;
     place(q, out)?;
     expression(names, x, level, out)?;
     expression(names, y, level, out)?;
@@ -198,15 +200,15 @@ fn at_three(
 #[cycle(expression)]
 fn at_target(
     names: &[Name],
-    name: &str,
+    head: &str,
     q: Place,
     r: &Target<Expr>,
     level: u32,
     out: &mut Vec<u8>,
 ) -> Result<(), Memory>
-    ensures { OnOk result (out.new.items ≡ out.old.items ++ spec.form name.now (spec.placed q ∷ reference_text (view_target (names_in names.now) r.now) ∷ [])) }
+    ensures { OnOk result (out.new.items ≡ out.old.items ++ spec.form head.now (spec.placed q ∷ reference_text (view_target (names_in names.now) r.now) ∷ [])) }
 {
-    open(name, out)?;
+    open(head, out)?;
     place(q, out)?;
     target(names, r, level, out)?;
     close(out)
@@ -216,16 +218,16 @@ fn at_target(
 #[cycle(expression)]
 fn setting(
     names: &[Name],
-    name: &str,
+    head: &str,
     q: Place,
     r: &Target<Expr>,
     x: &Expr,
     level: u32,
     out: &mut Vec<u8>,
 ) -> Result<(), Memory>
-    ensures { OnOk result (out.new.items ≡ out.old.items ++ spec.form name.now (spec.placed q ∷ reference_text (view_target (names_in names.now) r.now) ∷ expression_text (view (names_in names.now) x.now) ∷ [])) }
+    ensures { OnOk result (out.new.items ≡ out.old.items ++ spec.form head.now (spec.placed q ∷ reference_text (view_target (names_in names.now) r.now) ∷ expression_text (view (names_in names.now) x.now) ∷ [])) }
 {
-    open(name, out)?;
+    open(head, out)?;
     place(q, out)?;
     target(names, r, level, out)?;
     expression(names, x, level, out)?;
@@ -236,16 +238,16 @@ fn setting(
 #[cycle(expression)]
 fn at_match(
     names: &[Name],
-    name: &str,
+    head: &str,
     q: Place,
     x: &Expr,
     y: &Pattern<Expr>,
     level: u32,
     out: &mut Vec<u8>,
 ) -> Result<(), Memory>
-    ensures { OnOk result (out.new.items ≡ out.old.items ++ spec.form name.now (spec.placed q ∷ expression_text (view (names_in names.now) x.now) ∷ ere_text (view_ere (names_in names.now) y.now) ∷ [])) }
+    ensures { OnOk result (out.new.items ≡ out.old.items ++ spec.form head.now (spec.placed q ∷ expression_text (view (names_in names.now) x.now) ∷ ere_text (view_ere (names_in names.now) y.now) ∷ [])) }
 {
-    open(name, out)?;
+    open(head, out)?;
     place(q, out)?;
     expression(names, x, level, out)?;
     ere(names, y, level, out)?;
@@ -256,15 +258,15 @@ fn at_match(
 #[cycle(expression)]
 fn many(
     names: &[Name],
-    name: &str,
+    head: &str,
     x: &Expr,
     xs: &[Expr],
     level: u32,
     out: &mut Vec<u8>,
 ) -> Result<(), Memory>
-    ensures { OnOk result (out.new.items ≡ out.old.items ++ spec.form name.now (expression_text (view (names_in names.now) x.now) ∷ list_text (map (view (names_in names.now)) xs.now) ∷ [])) }
+    ensures { OnOk result (out.new.items ≡ out.old.items ++ spec.form head.now (expression_text (view (names_in names.now) x.now) ∷ list_text (map (view (names_in names.now)) xs.now) ∷ [])) }
 {
-    open(name, out)?;
+    open(head, out)?;
     expression(names, x, level, out)?;
     list(names, xs, level, out)?;
     close(out)
@@ -349,7 +351,7 @@ fn split(
 #[cycle(expression)]
 fn substitute(
     names: &[Name],
-    name: &str,
+    head: &str,
     q: Place,
     x: &Pattern<Expr>,
     y: &Expr,
@@ -357,9 +359,9 @@ fn substitute(
     level: u32,
     out: &mut Vec<u8>,
 ) -> Result<(), Memory>
-    ensures { OnOk result (out.new.items ≡ out.old.items ++ spec.form name.now (spec.placed q ∷ ere_text (view_ere (names_in names.now) x.now) ∷ expression_text (view (names_in names.now) y.now) ∷ reference_text (view_target (names_in names.now) r.now) ∷ [])) }
+    ensures { OnOk result (out.new.items ≡ out.old.items ++ spec.form head.now (spec.placed q ∷ ere_text (view_ere (names_in names.now) x.now) ∷ expression_text (view (names_in names.now) y.now) ∷ reference_text (view_target (names_in names.now) r.now) ∷ [])) }
 {
-    open(name, out)?;
+    open(head, out)?;
     place(q, out)?;
     ere(names, x, level, out)?;
     expression(names, y, level, out)?;
@@ -369,12 +371,7 @@ fn substitute(
 
 /// Whatever is read or set.
 #[cycle(expression)]
-fn target(
-    names: &[Name],
-    r: &Target<Expr>,
-    level: u32,
-    out: &mut Vec<u8>,
-) -> Result<(), Memory>
+fn target(names: &[Name], r: &Target<Expr>, level: u32, out: &mut Vec<u8>) -> Result<(), Memory>
     ensures { OnOk result (out.new.items ≡ out.old.items ++ reference_text (view_target (names_in names.now) r.now)) }
 {
     match r {
@@ -388,16 +385,16 @@ fn target(
 #[cycle(expression)]
 pub fn element(
     names: &[Name],
-    name: &str,
+    head: &str,
     q: Place,
     v: Variable,
     xs: &[Expr],
     level: u32,
     out: &mut Vec<u8>,
 ) -> Result<(), Memory>
-    ensures { OnOk result (out.new.items ≡ out.old.items ++ spec.form name.now (spec.placed q ∷ variable_text (variable_of (names_in names.now) v) ∷ list_text (map (view (names_in names.now)) xs.now) ∷ [])) }
+    ensures { OnOk result (out.new.items ≡ out.old.items ++ spec.form head.now (spec.placed q ∷ variable_text (variable_of (names_in names.now) v) ∷ list_text (map (view (names_in names.now)) xs.now) ∷ [])) }
 {
-    open(name, out)?;
+    open(head, out)?;
     place(q, out)?;
     variable(names, v, out)?;
     list(names, xs, level, out)?;
@@ -580,12 +577,7 @@ fn arguments(
 }
 
 #[cycle(expression)]
-fn argument(
-    names: &[Name],
-    x: &Argument<Expr>,
-    level: u32,
-    out: &mut Vec<u8>,
-) -> Result<(), Memory>
+fn argument(names: &[Name], x: &Argument<Expr>, level: u32, out: &mut Vec<u8>) -> Result<(), Memory>
     ensures { OnOk result (out.new.items ≡ out.old.items ++ arguments_text (view_arguments (names_in names.now) (x.now ∷ []))) }
 {
     match x {

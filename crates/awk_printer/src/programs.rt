@@ -21,7 +21,11 @@ fn declared(name: &Name, out: &mut Vec<u8>) -> Result<(), Memory>
     ensures { OnOk result (out.new.items ≡ out.old.items ++ declared_name name.now) }
 {
     word(name.text.bytes(), out)?;
-    if name.is_array { text("[]", out) } else { Ok(()) }
+    if name.is_array {
+        text("[]", out)
+    } else {
+        Ok(())
+    }
 }
 
 fn all_declared(names: &[Name], out: &mut Vec<u8>) -> Result<(), Memory>

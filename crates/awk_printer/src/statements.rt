@@ -47,7 +47,14 @@ fn redirection(
 {
     match x {
         None => Ok(()),
-        Some(x) => at_one(names, redirect_text(x.how), x.place, &x.target, DEEPEST, out),
+        Some(x) => at_one(
+            names,
+            redirect_text(x.how),
+            x.place,
+            &x.target,
+            DEEPEST,
+            out,
+        ),
     }
 }
 
@@ -86,10 +93,10 @@ fn printf(
 }
 
 /// A word that is a statement by itself.
-fn bare(name: &str, out: &mut Vec<u8>) -> Result<(), Memory>
-    ensures { OnOk result (out.new.items ≡ out.old.items ++ spec.form name.now []) }
+fn bare(head: &str, out: &mut Vec<u8>) -> Result<(), Memory>
+    ensures { OnOk result (out.new.items ≡ out.old.items ++ spec.form head.now []) }
 {
-    open(name, out)?;
+    open(head, out)?;
     close(out)
 }
 
@@ -152,12 +159,7 @@ fn each_header(
 
 /// Prints a statement of at most this depth.
 #[cycle(statement)]
-fn statement(
-    names: &[Name],
-    s: &Statement,
-    level: u32,
-    out: &mut Vec<u8>,
-) -> Result<(), Memory>
+fn statement(names: &[Name], s: &Statement, level: u32, out: &mut Vec<u8>) -> Result<(), Memory>
     ensures { OnOk result (out.new.items ≡ out.old.items ++ statement_text (view_statement (names_in names.now) s.now)) }
 {
     if level == 0 {
@@ -167,9 +169,7 @@ fn statement(
     match s {
         Statement::Expr(x) => whole(names, x, out),
         Statement::Print(q, xs, target) => print(names, *q, xs.as_slice(), target, out),
-        Statement::Printf(q, x, xs, target) => {
-            printf(names, *q, x, xs.as_slice(), target, out)
-        }
+        Statement::Printf(q, x, xs, target) => { printf(names, *q, x, xs.as_slice(), target, out) }
         Statement::Delete(q, v, xs) => {
             element(names, "delete", *q, *v, xs.as_slice(), DEEPEST, out)
         }
@@ -193,12 +193,7 @@ fn statement(
 }
 
 #[cycle(statement)]
-fn block(
-    names: &[Name],
-    xs: &[Statement],
-    level: u32,
-    out: &mut Vec<u8>,
-) -> Result<(), Memory>
+fn block(names: &[Name], xs: &[Statement], level: u32, out: &mut Vec<u8>) -> Result<(), Memory>
     ensures { OnOk result (out.new.items ≡ out.old.items ++ statement_text (p.block (statements_of (map (view_statement (names_in names.now)) xs.now)))) }
 {
     open("block", out)?;
@@ -210,15 +205,15 @@ fn block(
 #[cycle(statement)]
 fn test(
     names: &[Name],
-    name: &str,
+    head: &str,
     x: &Expr,
     body: &Statement,
     level: u32,
     out: &mut Vec<u8>,
 ) -> Result<(), Memory>
-    ensures { OnOk result (out.new.items ≡ out.old.items ++ spec.form name.now (expression_text (view (names_in names.now) x.now) ∷ statement_text (view_statement (names_in names.now) body.now) ∷ [])) }
+    ensures { OnOk result (out.new.items ≡ out.old.items ++ spec.form head.now (expression_text (view (names_in names.now) x.now) ∷ statement_text (view_statement (names_in names.now) body.now) ∷ [])) }
 {
-    open(name, out)?;
+    open(head, out)?;
     whole(names, x, out)?;
     statement(names, body, level, out)?;
     close(out)
@@ -293,12 +288,7 @@ fn for_each(
 }
 
 #[cycle(statement)]
-fn statements(
-    names: &[Name],
-    xs: &[Statement],
-    level: u32,
-    out: &mut Vec<u8>,
-) -> Result<(), Memory>
+fn statements(names: &[Name], xs: &[Statement], level: u32, out: &mut Vec<u8>) -> Result<(), Memory>
     ensures { OnOk result (out.new.items ≡ out.old.items ++ statements_text (statements_of (map (view_statement (names_in names.now)) xs.now))) }
 {
     for s in xs {

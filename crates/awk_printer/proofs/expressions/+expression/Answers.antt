@@ -1,4 +1,4 @@
-use Rattle.std.proofs.Common.{rules, ◌≡◌, ◌++◌, refl, arith, map, append_assoc, w64}
+use Rattle.std.proofs.Common.{rules, append_assoc, w64}
 use Rattle.std.proofs.lemmas.Int.{to_z-of_z}
 use Rattle.awk_program.proofs.Views.{view-Number, view-Text, view-Pattern, view-Read, view-Assign, view-Change, view-Step, view-Not, view-Signed, view-Chain, view-Concat, view-Compare, view-Match, view-In, view-Group, view-And, view-Or, view-Choice, view-Call, view-Getline, view-GetlineFile, view-Pipe, view-Measure, view-Int, view-Index, view-SubstrFrom, view-Substr, view-Sprintf, view-Locate, view-Split, view-Substitute, view-Close, view-System}
 use Rattle.awk_printer.proofs.expressions.+expression.Goals as goal

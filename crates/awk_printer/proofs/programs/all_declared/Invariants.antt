@@ -1,8 +1,6 @@
-use Rattle.std.proofs.Common.{◌≡◌, ◌++◌, drop, map}
+use Rattle.std.proofs.Common.{◌≡◌, ◌++◌, drop}
 use Rattle.std.specs.List.{flat_map}
-use Rattle.awk_program.specs.View.{view_statement, view_function, view_rule}
-use Rattle.awk_printer.specs.Printed as spec
-use Rattle.awk_printer.specs.Words.{names_in, flag, declared_name}
+use Rattle.awk_printer.specs.Words.{declared_name}
 use Rattle.awk_printer.proofs.programs.all_declared.Given as goal
 
 abbrev pub invariant-loop-name : goal.invariant-loop-name

@@ -1,8 +1,8 @@
 use Rattle.std.proofs.Common.{◌≡◌, ◌++◌, drop, map}
 use Rattle.std.specs.List.{flat_map}
-use Rattle.awk_program.specs.View.{view_statement, view_function, view_rule}
+use Rattle.awk_program.specs.View.{view_statement}
 use Rattle.awk_printer.specs.Printed as spec
-use Rattle.awk_printer.specs.Words.{names_in, flag, declared_name}
+use Rattle.awk_printer.specs.Words.{names_in}
 use Rattle.awk_printer.proofs.programs.ends.Given as goal
 
 abbrev pub invariant-loop-xs : goal.invariant-loop-xs

@@ -1,8 +1,8 @@
 use Rattle.std.proofs.Common.{◌≡◌, ◌++◌, drop, map}
 use Rattle.std.specs.List.{flat_map}
-use Rattle.awk_program.specs.View.{view_statement, view_function, view_rule}
+use Rattle.awk_program.specs.View.{view_rule}
 use Rattle.awk_printer.specs.Printed as spec
-use Rattle.awk_printer.specs.Words.{names_in, flag, declared_name}
+use Rattle.awk_printer.specs.Words.{names_in}
 use Rattle.awk_printer.proofs.programs.rules.Given as goal
 
 abbrev pub invariant-loop-r : goal.invariant-loop-r
