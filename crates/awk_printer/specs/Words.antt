@@ -1,5 +1,5 @@
 -- The pieces that a program is printed in: words, quoted texts and forms.
-use Rattle.std.specs.Prelude.{ℕ, Bool, ◌||◌, ◌==◌, List, [], ◌∷◌, ◌++◌, map, codes, if◌then◌else◌}
+use Rattle.std.specs.Prelude.{ℕ, Bool, ◌||◌, ◌&&◌, ◌==◌, List, [], ◌∷◌, ◌++◌, map, codes, if◌then◌else◌}
 use Rattle.std.specs.List.{flat_map}
 use Rattle.awk_text.specs.Places.{place_text}
 use Rattle.awk_text.specs.declared.place.Place.{Place}
@@ -44,9 +44,10 @@ form text parts = opening text ++ closed parts
 abbrev pub placed : Place → Text
 placed place = word (place_text place)
 
--- `\` before `\` and before the mark that the text stands between, and `\n` for a newline
+-- `\` before the mark that the text stands between, and in a text before `\` too, where a newline is
+-- `\n`: an ERE is as a script spells it, which has `\/` for `/` and keeps every other escape
 abbrev pub escaped_octet : ℕ → ℕ → Text
-escaped_octet mark b = if b == 10 then codes "\\n" else if b == 92 || b == mark then 92 ∷ b ∷ [] else b ∷ []
+escaped_octet mark b = if b == mark || (b == 92 && mark == 34) then 92 ∷ b ∷ [] else if b == 10 then codes "\\n" else b ∷ []
 
 abbrev pub escaped : ℕ → Text → Text
 escaped mark text = flat_map (escaped_octet mark) text

@@ -13,8 +13,8 @@
 //! `(head part part ..)`, and most heads are the word or the operator that the script has there. The
 //! others, and the leaves, are:
 //!
-//! - `12`, `"text"` and `/ere/`: constants. In a text and in an ERE `\` stands before `\` and before
-//!   the mark that it ends with, and a newline is `\n`.
+//! - `12`, `"text"` and `/ere/`: constants. In a text `\` stands before `\` and `"`, and a newline is
+//!   `\n`; an ERE is as a script spells it.
 //! - `x` and `#0`: a variable by its name, and a parameter by its place, the first being 0.
 //! - `3:14`: the place, line and column, of what stands before it or right behind it.
 //! - `(record~ 1:1 /ere/)`: an ERE that is matched with `$0`. Where a pattern is wanted, as behind

@@ -68,10 +68,10 @@ pub fn place(at: Place, out: &mut Vec<u8>) -> Result<(), Memory>
 fn octet(mark: u8, b: u8, out: &mut Vec<u8>) -> Result<(), Memory>
     ensures { OnOk result (out.new.items ≡ out.old.items ++ spec.escaped_octet mark b) }
 {
-    if b == b'\n' {
-        out.extend_from_slice(b"\\n")
-    } else if b == b'\\' || b == mark {
+    if b == mark || (b == b'\\' && mark == b'"') {
         out.extend_from_slice(&[b'\\', b])
+    } else if b == b'\n' {
+        out.extend_from_slice(b"\\n")
     } else {
         out.extend_from_slice(&[b])
     }
