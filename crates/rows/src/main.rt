@@ -14,6 +14,7 @@ mod monitors;
 mod patterns;
 mod policies;
 mod problem;
+mod programs;
 mod records;
 mod report;
 mod row;

@@ -4,8 +4,8 @@ use crate::problem::Problem;
 use crate::row::{Arg, Row};
 use crate::shown::Answer;
 use crate::{
-    fields, formats, library, listings, monitors, patterns, policies, records, runs, tokens,
-    values, worlds,
+    fields, formats, library, listings, monitors, patterns, policies, programs, records, runs,
+    tokens, values, worlds,
 };
 use awk_text::octets::Octets;
 use std::alloc::Global;
@@ -20,6 +20,7 @@ pub enum Table {
     Formats,
     Library,
     Tokens,
+    Programs,
     Policies,
     Worlds,
     Monitors,
@@ -31,7 +32,7 @@ pub enum Table {
     Operands,
 }
 
-pub const TABLES: [Table; 16] = [
+pub const TABLES: [Table; 17] = [
     Table::Values,
     Table::Patterns,
     Table::Searches,
@@ -39,6 +40,7 @@ pub const TABLES: [Table; 16] = [
     Table::Formats,
     Table::Library,
     Table::Tokens,
+    Table::Programs,
     Table::Policies,
     Table::Worlds,
     Table::Monitors,
@@ -60,6 +62,7 @@ impl Table {
             Table::Formats => "formats.txt",
             Table::Library => "library.txt",
             Table::Tokens => "tokens.txt",
+            Table::Programs => "programs.txt",
             Table::Policies => "policies.txt",
             Table::Worlds => "worlds.txt",
             Table::Monitors => "monitors.txt",
@@ -81,6 +84,7 @@ impl Table {
             Table::Formats => formats::call(alloc, args),
             Table::Library => library::call(alloc, args),
             Table::Tokens => tokens::call(alloc, args),
+            Table::Programs => programs::call(alloc, args),
             Table::Policies => policies::call(alloc, args),
             Table::Listings => listings::call(alloc, args),
             _ => Err(Problem::NoCall),

@@ -62,6 +62,7 @@ pub enum Word {
     Pattern,
     Policy,
     Pow,
+    Program,
     Put,
     PutEnv,
     PutFile,
@@ -81,6 +82,7 @@ pub enum Word {
     Separator,
     Set,
     SetNf,
+    Shape,
     Shut,
     Spans,
     Split,
@@ -104,7 +106,7 @@ pub enum Word {
     WriteTo,
 }
 
-const WORDS: [(&[u8], Word); 97] = [
+const WORDS: [(&[u8], Word); 99] = [
     (b"add", Word::Add),
     (b"agree", Word::Agree),
     (b"append", Word::Append),
@@ -162,6 +164,7 @@ const WORDS: [(&[u8], Word); 97] = [
     (b"pattern", Word::Pattern),
     (b"policy", Word::Policy),
     (b"pow", Word::Pow),
+    (b"program", Word::Program),
     (b"put", Word::Put),
     (b"put_env", Word::PutEnv),
     (b"put_file", Word::PutFile),
@@ -181,6 +184,7 @@ const WORDS: [(&[u8], Word); 97] = [
     (b"separator", Word::Separator),
     (b"set", Word::Set),
     (b"set_nf", Word::SetNf),
+    (b"shape", Word::Shape),
     (b"shut", Word::Shut),
     (b"spans", Word::Spans),
     (b"split", Word::Split),

@@ -1,0 +1,33 @@
+use Rattle.std.proofs.Common.{◌≡◌, ◌+◌, ◌*◌, ◌++◌, drop, map}
+use Rattle.awk_program.specs.Program.{statements_of}
+use Rattle.awk_program.specs.View.{view_statement}
+use Rattle.awk_printer.specs.Printed.{statements_text}
+use Rattle.awk_printer.specs.Words.{names_in}
+use Rattle.awk_printer.proofs.statements.+statement.Given as goal
+
+abbrev pub decreases-statement : goal.decreases-statement
+decreases-statement l = 16 * l.level
+
+abbrev pub decreases-test : goal.decreases-test
+decreases-test l = 1 + 16 * l.level
+
+abbrev pub decreases-if_else : goal.decreases-if_else
+decreases-if_else l = 1 + 16 * l.level
+
+abbrev pub decreases-do_while : goal.decreases-do_while
+decreases-do_while l = 1 + 16 * l.level
+
+abbrev pub decreases-for_loop : goal.decreases-for_loop
+decreases-for_loop l = 1 + 16 * l.level
+
+abbrev pub decreases-for_each : goal.decreases-for_each
+decreases-for_each l = 1 + 16 * l.level
+
+abbrev pub decreases-statements : goal.decreases-statements
+decreases-statements l = 1 + 16 * l.level
+
+abbrev pub decreases-block : goal.decreases-block
+decreases-block l = 2 + 16 * l.level
+
+abbrev pub invariant-statements-loop-s : goal.invariant-statements-loop-s
+invariant-statements-loop-s l = l.initial.out.items ++ statements_text (statements_of (map (view_statement (names_in l.names)) l.xs)) ≡ l.out.items ++ statements_text (statements_of (map (view_statement (names_in l.names)) (drop l.s-index l.xs)))

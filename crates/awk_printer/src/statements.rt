@@ -1,0 +1,306 @@
+// Statements. Each call counts down a level, as in the expressions.
+
+ghost use Rattle.std.specs.Prelude.{◌≡◌, [], ◌∷◌, ◌++◌, OnOk, codes, map, option_map};
+ghost use Rattle.awk_printer.specs.Printed.{variable_text, expression_text, list_text, perhaps_text, redirection_text, statement_text, statements_text, action_text};
+ghost use Rattle.awk_printer.specs.Words as spec;
+ghost use Rattle.awk_printer.specs.Words.{names_in};
+ghost use Rattle.awk_program.specs.Program as p;
+ghost use Rattle.awk_program.specs.Program.{statements_of};
+ghost use Rattle.awk_program.specs.View.{variable_of, view, view_redirection, view_statement};
+
+use crate::expressions::{at_one, element, expression, list, perhaps};
+use crate::pieces::{close, open, place, text, variable};
+use crate::words::redirect_text;
+use awk_program::{Expr, Name, Redirection, Statement, Variable};
+use awk_text::Memory;
+use awk_text::place::Place;
+use std::alloc::AllocError;
+
+/// More levels than any program has.
+pub const DEEPEST: u32 = u32::MAX;
+
+/// An expression of a statement.
+fn whole(names: &[Name], x: &Expr, out: &mut Vec<u8>) -> Result<(), Memory>
+    ensures { OnOk result (out.new.items ≡ out.old.items ++ expression_text (view (names_in names.now) x.now)) }
+{
+    expression(names, x, DEEPEST, out)
+}
+
+fn all(names: &[Name], xs: &[Expr], out: &mut Vec<u8>) -> Result<(), Memory>
+    ensures { OnOk result (out.new.items ≡ out.old.items ++ list_text (map (view (names_in names.now)) xs.now)) }
+{
+    list(names, xs, DEEPEST, out)
+}
+
+fn optional(names: &[Name], x: &Option<Expr>, out: &mut Vec<u8>) -> Result<(), Memory>
+    ensures { OnOk result (out.new.items ≡ out.old.items ++ perhaps_text (option_map (view (names_in names.now)) x.now)) }
+{
+    perhaps(names, x, DEEPEST, out)
+}
+
+fn redirection(
+    names: &[Name],
+    x: &Option<Redirection<Expr>>,
+    out: &mut Vec<u8>,
+) -> Result<(), Memory>
+    ensures { OnOk result (out.new.items ≡ out.old.items ++ redirection_text (option_map (view_redirection (names_in names.now)) x.now)) }
+{
+    match x {
+        None => Ok(()),
+        Some(x) => at_one(
+            names,
+            redirect_text(x.how),
+            x.place,
+            &x.target,
+            DEEPEST,
+            out,
+        ),
+    }
+}
+
+fn print(
+    names: &[Name],
+    q: Place,
+    xs: &[Expr],
+    target: &Option<Redirection<Expr>>,
+    out: &mut Vec<u8>,
+) -> Result<(), Memory>
+    ensures { OnOk result (out.new.items ≡ out.old.items ++ statement_text (p.print q (map (view (names_in names.now)) xs.now) (option_map (view_redirection (names_in names.now)) target.now))) }
+{
+    open("print", out)?;
+    place(q, out)?;
+    all(names, xs, out)?;
+    redirection(names, target, out)?;
+    close(out)
+}
+
+fn printf(
+    names: &[Name],
+    q: Place,
+    x: &Expr,
+    xs: &[Expr],
+    target: &Option<Redirection<Expr>>,
+    out: &mut Vec<u8>,
+) -> Result<(), Memory>
+    ensures { OnOk result (out.new.items ≡ out.old.items ++ statement_text (p.printf q (view (names_in names.now) x.now) (map (view (names_in names.now)) xs.now) (option_map (view_redirection (names_in names.now)) target.now))) }
+{
+    open("printf", out)?;
+    place(q, out)?;
+    whole(names, x, out)?;
+    all(names, xs, out)?;
+    redirection(names, target, out)?;
+    close(out)
+}
+
+/// A word that is a statement by itself.
+fn bare(head: &str, out: &mut Vec<u8>) -> Result<(), Memory>
+    ensures { OnOk result (out.new.items ≡ out.old.items ++ spec.form head.now []) }
+{
+    open(head, out)?;
+    close(out)
+}
+
+fn next(q: Place, out: &mut Vec<u8>) -> Result<(), Memory>
+    ensures { OnOk result (out.new.items ≡ out.old.items ++ statement_text (p.next q)) }
+{
+    open("next", out)?;
+    place(q, out)?;
+    close(out)
+}
+
+fn exit(names: &[Name], q: Place, x: &Option<Expr>, out: &mut Vec<u8>) -> Result<(), Memory>
+    ensures { OnOk result (out.new.items ≡ out.old.items ++ statement_text (p.exit q (option_map (view (names_in names.now)) x.now))) }
+{
+    open("exit", out)?;
+    place(q, out)?;
+    optional(names, x, out)?;
+    close(out)
+}
+
+fn give(names: &[Name], x: &Option<Expr>, out: &mut Vec<u8>) -> Result<(), Memory>
+    ensures { OnOk result (out.new.items ≡ out.old.items ++ statement_text (p.return (option_map (view (names_in names.now)) x.now))) }
+{
+    open("return", out)?;
+    optional(names, x, out)?;
+    close(out)
+}
+
+/// `first ; test ; step`
+fn header(
+    names: &[Name],
+    x: &Option<Expr>,
+    y: &Option<Expr>,
+    z: &Option<Expr>,
+    out: &mut Vec<u8>,
+) -> Result<(), Memory>
+    ensures { OnOk result (out.new.items ≡ out.old.items ++ (spec.opening (codes "for") ++ (perhaps_text (option_map (view (names_in names.now)) x.now) ++ (perhaps_text (option_map (view (names_in names.now)) y.now) ++ perhaps_text (option_map (view (names_in names.now)) z.now))))) }
+{
+    open("for", out)?;
+    optional(names, x, out)?;
+    optional(names, y, out)?;
+    optional(names, z, out)
+}
+
+/// `key in array`
+fn each_header(
+    names: &[Name],
+    q: Place,
+    key: Variable,
+    array: Variable,
+    out: &mut Vec<u8>,
+) -> Result<(), Memory>
+    ensures { OnOk result (out.new.items ≡ out.old.items ++ (spec.opening (codes "for-in") ++ (spec.placed q ++ (variable_text (variable_of (names_in names.now) key) ++ variable_text (variable_of (names_in names.now) array))))) }
+{
+    open("for-in", out)?;
+    place(q, out)?;
+    variable(names, key, out)?;
+    variable(names, array, out)
+}
+
+/// Prints a statement of at most this depth.
+#[cycle(statement)]
+fn statement(names: &[Name], s: &Statement, level: u32, out: &mut Vec<u8>) -> Result<(), Memory>
+    ensures { OnOk result (out.new.items ≡ out.old.items ++ statement_text (view_statement (names_in names.now) s.now)) }
+{
+    if level == 0 {
+        return Err(AllocError);
+    }
+    let below = level - 1;
+    match s {
+        Statement::Expr(x) => whole(names, x, out),
+        Statement::Print(q, xs, target) => print(names, *q, xs.as_slice(), target, out),
+        Statement::Printf(q, x, xs, target) => { printf(names, *q, x, xs.as_slice(), target, out) }
+        Statement::Delete(q, v, xs) => {
+            element(names, "delete", *q, *v, xs.as_slice(), DEEPEST, out)
+        }
+        Statement::Break => bare("break", out),
+        Statement::Continue => bare("continue", out),
+        Statement::Next(q) => next(*q, out),
+        Statement::Exit(q, x) => exit(names, *q, x, out),
+        Statement::Return(x) => give(names, x, out),
+        Statement::Block(xs) => block(names, xs.as_slice(), below, out),
+        Statement::If(x, body) => test(names, "if", x, body.get(), below, out),
+        Statement::IfElse(x, body, other) => {
+            if_else(names, x, body.get(), other.get(), below, out)
+        }
+        Statement::While(x, body) => test(names, "while", x, body.get(), below, out),
+        Statement::Do(body, x) => do_while(names, body.get(), x, below, out),
+        Statement::For(x, y, z, body) => for_loop(names, x, y, z, body.get(), below, out),
+        Statement::ForIn(q, key, array, body) => {
+            for_each(names, *q, *key, *array, body.get(), below, out)
+        }
+    }
+}
+
+#[cycle(statement)]
+fn block(names: &[Name], xs: &[Statement], level: u32, out: &mut Vec<u8>) -> Result<(), Memory>
+    ensures { OnOk result (out.new.items ≡ out.old.items ++ statement_text (p.block (statements_of (map (view_statement (names_in names.now)) xs.now)))) }
+{
+    open("block", out)?;
+    statements(names, xs, level, out)?;
+    close(out)
+}
+
+/// A test and a statement.
+#[cycle(statement)]
+fn test(
+    names: &[Name],
+    head: &str,
+    x: &Expr,
+    body: &Statement,
+    level: u32,
+    out: &mut Vec<u8>,
+) -> Result<(), Memory>
+    ensures { OnOk result (out.new.items ≡ out.old.items ++ spec.form head.now (expression_text (view (names_in names.now) x.now) ∷ statement_text (view_statement (names_in names.now) body.now) ∷ [])) }
+{
+    open(head, out)?;
+    whole(names, x, out)?;
+    statement(names, body, level, out)?;
+    close(out)
+}
+
+#[cycle(statement)]
+fn if_else(
+    names: &[Name],
+    x: &Expr,
+    body: &Statement,
+    other: &Statement,
+    level: u32,
+    out: &mut Vec<u8>,
+) -> Result<(), Memory>
+    ensures { OnOk result (out.new.items ≡ out.old.items ++ statement_text (p.if_else (view (names_in names.now) x.now) (view_statement (names_in names.now) body.now) (view_statement (names_in names.now) other.now))) }
+{
+    open("if", out)?;
+    whole(names, x, out)?;
+    statement(names, body, level, out)?;
+    statement(names, other, level, out)?;
+    close(out)
+}
+
+#[cycle(statement)]
+fn do_while(
+    names: &[Name],
+    body: &Statement,
+    x: &Expr,
+    level: u32,
+    out: &mut Vec<u8>,
+) -> Result<(), Memory>
+    ensures { OnOk result (out.new.items ≡ out.old.items ++ statement_text (p.do_while (view_statement (names_in names.now) body.now) (view (names_in names.now) x.now))) }
+{
+    open("do", out)?;
+    statement(names, body, level, out)?;
+    whole(names, x, out)?;
+    close(out)
+}
+
+#[cycle(statement)]
+fn for_loop(
+    names: &[Name],
+    x: &Option<Expr>,
+    y: &Option<Expr>,
+    z: &Option<Expr>,
+    body: &Statement,
+    level: u32,
+    out: &mut Vec<u8>,
+) -> Result<(), Memory>
+    ensures { OnOk result (out.new.items ≡ out.old.items ++ statement_text (p.for_loop (option_map (view (names_in names.now)) x.now) (option_map (view (names_in names.now)) y.now) (option_map (view (names_in names.now)) z.now) (view_statement (names_in names.now) body.now))) }
+{
+    header(names, x, y, z, out)?;
+    statement(names, body, level, out)?;
+    close(out)
+}
+
+#[cycle(statement)]
+fn for_each(
+    names: &[Name],
+    q: Place,
+    key: Variable,
+    array: Variable,
+    body: &Statement,
+    level: u32,
+    out: &mut Vec<u8>,
+) -> Result<(), Memory>
+    ensures { OnOk result (out.new.items ≡ out.old.items ++ statement_text (p.for_each q (variable_of (names_in names.now) key) (variable_of (names_in names.now) array) (view_statement (names_in names.now) body.now))) }
+{
+    each_header(names, q, key, array, out)?;
+    statement(names, body, level, out)?;
+    close(out)
+}
+
+#[cycle(statement)]
+fn statements(names: &[Name], xs: &[Statement], level: u32, out: &mut Vec<u8>) -> Result<(), Memory>
+    ensures { OnOk result (out.new.items ≡ out.old.items ++ statements_text (statements_of (map (view_statement (names_in names.now)) xs.now))) }
+{
+    for s in xs {
+        statement(names, s, level, out)?;
+    }
+    Ok(())
+}
+
+/// Statements, to the end of their line.
+pub fn action(names: &[Name], xs: &[Statement], out: &mut Vec<u8>) -> Result<(), Memory>
+    ensures { OnOk result (out.new.items ≡ out.old.items ++ action_text (map (view_statement (names_in names.now)) xs.now)) }
+{
+    statements(names, xs, DEEPEST, out)?;
+    text("\n", out)
+}

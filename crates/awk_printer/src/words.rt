@@ -1,0 +1,94 @@
+// How operators are written.
+
+ghost use Rattle.std.specs.Prelude.{◌≡◌};
+ghost use Rattle.awk_printer.specs.Words as spec;
+
+use awk_program::{Comparison, Extent, Measure, Operator, Redirect, Sign, Step, Taken};
+
+pub fn operator_text(operator: Operator) -> &'static str
+    ensures { result.now ≡ spec.operator_text operator }
+{
+    match operator {
+        Operator::Add => "+",
+        Operator::Subtract => "-",
+        Operator::Multiply => "*",
+        Operator::Divide => "/",
+        Operator::Remainder => "%",
+        Operator::Power => "^",
+    }
+}
+
+pub fn change_text(operator: Operator) -> &'static str
+    ensures { result.now ≡ spec.change_text operator }
+{
+    match operator {
+        Operator::Add => "+=",
+        Operator::Subtract => "-=",
+        Operator::Multiply => "*=",
+        Operator::Divide => "/=",
+        Operator::Remainder => "%=",
+        Operator::Power => "^=",
+    }
+}
+
+pub fn step_text(step: Step, taken: Taken) -> &'static str
+    ensures { result.now ≡ spec.step_text step taken }
+{
+    match (step, taken) {
+        (Step::Increment, Taken::Before) => "post++",
+        (Step::Increment, Taken::Behind) => "pre++",
+        (Step::Decrement, Taken::Before) => "post--",
+        (Step::Decrement, Taken::Behind) => "pre--",
+    }
+}
+
+pub fn sign_text(sign: Sign) -> &'static str
+    ensures { result.now ≡ spec.sign_text sign }
+{
+    match sign {
+        Sign::Plus => "+",
+        Sign::Minus => "-",
+    }
+}
+
+pub fn comparison_text(comparison: Comparison) -> &'static str
+    ensures { result.now ≡ spec.comparison_text comparison }
+{
+    match comparison {
+        Comparison::Less => "<",
+        Comparison::LessOrEqual => "<=",
+        Comparison::Equal => "==",
+        Comparison::NotEqual => "!=",
+        Comparison::Greater => ">",
+        Comparison::GreaterOrEqual => ">=",
+    }
+}
+
+pub fn measure_text(measure: Measure) -> &'static str
+    ensures { result.now ≡ spec.measure_text measure }
+{
+    match measure {
+        Measure::Length => "length",
+        Measure::Tolower => "tolower",
+        Measure::Toupper => "toupper",
+    }
+}
+
+pub fn extent_text(extent: Extent) -> &'static str
+    ensures { result.now ≡ spec.extent_text extent }
+{
+    match extent {
+        Extent::First => "sub",
+        Extent::All => "gsub",
+    }
+}
+
+pub fn redirect_text(redirect: Redirect) -> &'static str
+    ensures { result.now ≡ spec.redirect_text redirect }
+{
+    match redirect {
+        Redirect::Write => "to>",
+        Redirect::Append => "to>>",
+        Redirect::Command => "to|",
+    }
+}
