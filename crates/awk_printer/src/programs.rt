@@ -154,7 +154,8 @@ fn rules(names: &[Name], rs: &[Rule], out: &mut Vec<u8>) -> Result<(), Memory>
     Ok(())
 }
 
-/// The text of a program, or `Memory` where memory is refused.
+/// The text of a program, which specs/Printed.antt defines, or `Memory` where memory is refused. More
+/// levels of nesting than a u32 counts would be refused so too; no memory has room for them.
 #[tactic(auto, unfolding(crate::specs::Printed::program_text))]
 pub fn printed(alloc: Global, program: &Program) -> Result<Vec<u8>, Memory>
     ensures { IfOk result (λ text. text.items ≡ spec.program_text (view_program program.now)) }
