@@ -139,10 +139,6 @@ module _ (g : Given) (w : Whole) (place : Place) (x : Variable) (n : kept.is_nf 
 
 -- ---- results
 
-pub some_so : {X : Type 0} {P Q : X → Type 0} (r : Option X) → ((x : X) → P x → Q x) → IfSome r P → IfSome r Q
-some_so None f h = tt
-some_so (Some x) f h = f x h
-
 pub some_for_all : {X Q : Type 0} (r : Option X) → Q → IfSome r (λ x. Q)
 some_for_all None h = tt
 some_for_all (Some x) h = h

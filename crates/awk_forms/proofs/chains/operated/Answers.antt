@@ -1,4 +1,4 @@
-use Rattle.std.proofs.Common.{[], ◌∷◌, ap, sym, ◌∙◌}
+use Rattle.std.proofs.Common.{[], ◌∷◌, ap}
 use Rattle.awk_machine.specs.Advances.{held}
 use Rattle.awk_machine.specs.Pieces.{At, Goes, Terms_of, granted}
 use Rattle.awk_machine.specs.Streams.{seen}

@@ -1,10 +1,8 @@
-use Rattle.std.proofs.Common.{ap, refl, sym, ◌∙◌, [], ◌∷◌}
+use Rattle.std.proofs.Common.{ap, sym, ◌∙◌}
 use Rattle.std.proofs.lemmas.Result.{err_from_is_err_and}
 use Rattle.std.specs.Prelude.{codes}
-use Rattle.awk_fields.specs.Rows.{joined}
 use Rattle.awk_machine.specs.Advances.{held}
 use Rattle.awk_machine.specs.Forms.{answer}
-use Rattle.awk_machine.specs.Operators.{limited}
 use Rattle.awk_machine.specs.Pieces.{give, granted}
 use Rattle.awk_machine.specs.Streams.{seen}
 use Rattle.awk_machine.specs.Variables.{own_text}
