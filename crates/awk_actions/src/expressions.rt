@@ -19,8 +19,9 @@ use crate::lists::{element_group, formatted};
 use crate::patterns::{locate, matches, split, substitute};
 use crate::targets::{alter, assign, change, increment, put, read_target, step_target};
 use awk_asks::halt::Halt;
-use awk_forms::at_hand::number_at_hand;
+use awk_forms::at_hand::{MOST_LEVELS, number_at_hand, truth_at_hand, value_at_hand};
 use awk_forms::chains::{join, members, operated};
+use awk_forms::done::done_at_once;
 use awk_forms::made::owned;
 use awk_forms::operands::{Binary, Unary, part_of};
 use awk_forms::patterns::matched_record;
@@ -44,17 +45,13 @@ pub fn value<W: World>(
     ensures { Does W.follows W.has_stopped W.stops W.open_numbers cx.now (λ g. value (view (names_in g) e.now)) (λ g. give)
         (run.old.store, run.old.streams) world.old result (run.new.store, run.new.streams) world.new }
 {
-    if let Some(known) = number_at_hand(&run.store, e) {
-        return Ok(Value::Num(known));
+    if let Some(there) = value_at_hand(cx.alloc, &run.store, e) {
+        return Ok(there);
     }
     if level == 0 {
         return Err(Halt::Memory);
     }
-    match e {
-        Expr::Chain(x, xs) => chain(cx, x.get(), xs.as_slice(), level - 1, run, world),
-        Expr::Read(target) => read_target(cx, target, level - 1, run, world),
-        _ => evaluate(cx, e, level - 1, run, world),
-    }
+    evaluate(cx, e, level - 1, run, world)
 }
 
 /// The number of an expression's value, or that it is out of range, which is a fault only where the number is used.
@@ -70,7 +67,7 @@ pub fn number<W: World>(
     ensures { Tells W.follows W.has_stopped W.stops W.open_numbers cx.now (λ g. value (view (names_in g) e.now)) IsNumberOf
         (run.old.store, run.old.streams) world.old result (run.new.store, run.new.streams) world.new }
 {
-    if let Some(known) = number_at_hand(&run.store, e) {
+    if let Some(known) = number_at_hand(&run.store, e, MOST_LEVELS) {
         return Ok(Ok(known));
     }
     let found = value(cx, e, level, run, world)?;
@@ -90,6 +87,9 @@ pub fn truth_of<W: World>(
     ensures { Tells W.follows W.has_stopped W.stops W.open_numbers cx.now (λ g. value (view (names_in g) e.now)) IsTruthOf
         (run.old.store, run.old.streams) world.old result (run.new.store, run.new.streams) world.new }
 {
+    if let Some(known) = truth_at_hand(&run.store, e) {
+        return Ok(known);
+    }
     if level == 0 {
         return Err(Halt::Memory);
     }
@@ -135,6 +135,9 @@ pub fn effect<W: World>(
     ensures { Tells W.follows W.has_stopped W.stops W.open_numbers cx.now (λ g. value (view (names_in g) e.now)) IsUnwanted
         (run.old.store, run.old.streams) world.old result (run.new.store, run.new.streams) world.new }
 {
+    if done_at_once(cx.alloc, &mut run.store, &mut run.line, e) {
+        return Ok(());
+    }
     if level == 0 {
         return Err(Halt::Memory);
     }

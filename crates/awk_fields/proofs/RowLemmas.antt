@@ -1,6 +1,7 @@
 -- Records, before and after they are split.
 use Rattle.std.proofs.Common.{◌≡◌, ◌≢◌, ℕ, zero, suc, ◌+◌, ◌-◌, List, [], ◌∷◌, length, map, take, set, get_or, replicate, slice_index_or, sym, ap, subst, refl, ◌∙◌, arith}
 use Rattle.std.proofs.lemmas.List.{set-set, set-get_or, take_at}
+use Rattle.std.specs.Prelude.{Option, Some, None, IfSome}
 use Rattle.awk_text.specs.declared.value.Value.{Value}
 use Rattle.awk_text.specs.declared.value.Value.TheVariants.{Unset, Input}
 use Rattle.awk_fields.specs.Separators.{Separator}
@@ -37,3 +38,9 @@ pub put_back : (values : List Value) (at len : ℕ) (value before : Value) → l
 put_back values at len value before len_is was =
     let all = padded values (at + 1) in
     ap (take len) (set-set all at value before ∙ (ap (set all at) was ∙ set-get_or all at before)) ∙ take_at values (replicate (at + 1 - length values) Unset) len (sym len_is)
+
+-- ---- results
+
+pub some_both : {X : Type 0} {P Q R : X → Type 0} (r : Option X) → ((x : X) → P x → Q x → R x) → IfSome r P → IfSome r Q → IfSome r R
+some_both None f p q = tt
+some_both (Some x) f p q = f x p q

@@ -1,11 +1,13 @@
 // The fields of a record, which are split when they are first asked for.
-ghost use Rattle.std.specs.Prelude.{◌≡◌, List, ℕ, All, length, map, IfOk, OnOk, IfErr};
+ghost use Rattle.std.specs.Prelude.{◌≡◌, List, ℕ, All, length, map, IfOk, OnOk, IfErr, IfSome};
 ghost use Rattle.std.specs.List.{slice_index_or};
 ghost use Rattle.awk_fields.specs.Parts.{ArePartsKept, IsSound, IsSplitBy, values_of};
 ghost use Rattle.awk_fields.specs.Spans.{IsWithin, part};
+ghost use Rattle.awk_lent.specs.Lents.{lent_value};
 
 use crate::spans::Span;
 use crate::splitter::Splitter;
+use awk_lent::lent::Lent;
 use awk_text::Memory;
 use awk_text::fault::Fault;
 use awk_text::octets::Octets;
@@ -111,5 +113,36 @@ pub fn field_at(parts: &Parts, whole: &[u8], at: usize) -> Result<Value, Fault>
             Some(value) => value.copy(alloc),
             None => Ok(Value::Unset),
         },
+    }
+}
+
+/// The value of the field at a place, lent, where they are split. Behind the last one it is unset.
+pub fn lent_at<'a>(parts: &'a Parts, whole: &'a [u8], at: usize) -> Option<Lent<'a>>
+    requires { IsSound whole.now parts.now }
+    ensures split { IfSome result (λ v. IsSplitBy parts.now.state) }
+    ensures value { IfSome result (λ v. lent_value v ≡ slice_index_or (values_of whole.now parts.now) at Value.Unset) }
+{
+    match &parts.state {
+        State::Unsplit(_) => None,
+        State::Spans => match parts.spans.get(at) {
+            Some(span) => Some(Lent::Input(&whole[span.start..span.end])),
+            None => Some(Lent::Unset),
+        },
+        State::Values => match parts.values.get(at) {
+            Some(value) => Some(Lent::of(value)),
+            None => Some(Lent::Unset),
+        },
+    }
+}
+
+/// How many fields there are, where they are split.
+pub fn known_count(parts: &Parts) -> Option<usize>
+    ensures split { IfSome result (λ n. IsSplitBy parts.now.state) }
+    ensures count { IfSome result (λ n. (whole : List ℕ) → n ≡ length (values_of whole parts.now)) }
+{
+    match &parts.state {
+        State::Unsplit(_) => None,
+        State::Spans => Some(parts.spans.len()),
+        State::Values => Some(parts.values.len()),
     }
 }

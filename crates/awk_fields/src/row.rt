@@ -1,11 +1,15 @@
 // A record: its whole text, and its fields by number.
-ghost use Rattle.std.specs.Prelude.{◌≡◌, ◌<◌, ◌≤◌, ◌⊎◌, ℕ, List, [], Ok, Err, pos, length, IfOk, OnOk, OnErr, IfErr};
+ghost use Rattle.std.specs.Prelude.{◌≡◌, ◌<◌, ◌≤◌, ◌⊎◌, ℕ, List, [], Ok, Err, pos, length, IfOk, OnOk, OnErr, IfErr, IfSome};
 ghost use Rattle.awk_text.specs.Limits.{most_bytes};
+ghost use Rattle.awk_lent.specs.Lents.{lent_value};
 ghost use Rattle.awk_fields.specs.Rows.{known, unsplit, place_of, field_place, HasFields, IsKept, IsValueAt, SetsField, SetsCount, SetsNoField, SetsNoCount};
 
 use crate::joining::{put, set_len};
-use crate::parts::{Parts, State, field_at, field_count, own_parts, split_parts};
+use crate::parts::{
+    Parts, State, field_at, field_count, known_count, lent_at, own_parts, split_parts,
+};
 use crate::splitter::Splitter;
+use awk_lent::lent::Lent;
 use awk_text::fault::Fault;
 use awk_text::octets::Octets;
 use awk_text::texts::MOST_BYTES;
@@ -167,5 +171,24 @@ impl Record {
     {
         split_parts(&mut self.parts, self.whole.bytes())?;
         Ok(field_count(&self.parts) as i64)
+    }
+
+    /// The value of a field by its number, lent, where that is there without a change: 0 is the whole text, and the others are
+    /// there once the text is split. Takes no memory.
+    pub fn lent(&self, n: u16) -> Option<Lent<'_>>
+        ensures { IfSome result (λ v. IsValueAt self.now n (lent_value v)) }
+    {
+        if n == 0 {
+            return Some(Lent::Input(self.whole.bytes()));
+        }
+        lent_at(&self.parts, self.whole.bytes(), n as usize - 1)
+    }
+
+    /// NF, where the text is split. Takes no memory.
+    pub fn known_count(&self) -> Option<i64>
+        ensures { IfSome result (λ n. (values : List Value) × HasFields self.now values × (n ≡ pos (length values))) }
+    {
+        let count = known_count(&self.parts)?;
+        Some(count as i64)
     }
 }

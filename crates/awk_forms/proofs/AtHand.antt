@@ -1,23 +1,122 @@
--- Reading what is there.
-use Rattle.std.proofs.Common.{refl, [], ◌∷◌}
+-- What is there without a move, and what a chain makes of it.
+use Rattle.std.proofs.Common.{◌≡◌, refl, sym, ap, ◌∙◌, inl, ◌+◌, ◌≤◌, ◌<◌, ℕ, true, false, List, [], ◌∷◌, ◌++◌, length, map, drop, get_or, arith}
+use Rattle.std.proofs.lemmas.List.{drop_more}
+use Rattle.std.specs.Prelude.{ℤ, pos, Option, Some, None, IfSome, Result, Ok, Err}
+use Rattle.awk_text.specs.Limits.{most_bytes}
+use Rattle.awk_text.specs.Values.{number_of, text_of, truth}
+use Rattle.awk_text.specs.declared.place.Place.{Place}
 use Rattle.awk_text.specs.declared.value.Value.{Value}
 use Rattle.awk_text.specs.declared.value.Value.TheVariants as v
+use Rattle.awk_fields.specs.Rows.{HasFields, IsValueAt}
+use Rattle.awk_lib.specs.Arrays.{element}
 use Rattle.awk_program.specs.Program as p
-use Rattle.awk_program.specs.View.{variable_of}
+use Rattle.awk_program.specs.Program.{Expression, Terms, terms_of}
+use Rattle.awk_program.specs.Slots.{Text}
+use Rattle.awk_program.specs.View.{variable_of, view, view_term}
+use Rattle.awk_program.specs.declared.expressions.Expr.{Expr}
+use Rattle.awk_program.specs.declared.expressions.Term.{Term}
+use Rattle.awk_program.specs.declared.operators.Operator.{Operator}
 use Rattle.awk_program.specs.declared.variables.Variable.{Variable}
-use Rattle.awk_machine.specs.Forms.{value}
+use Rattle.awk_machine.specs.Forms.{value, spot}
+use Rattle.awk_machine.specs.Operators.{limited, operation, compared, of_truth}
 use Rattle.awk_machine.specs.Pieces as machine
-use Rattle.awk_machine.specs.Pieces.{Do, Get, give}
+use Rattle.awk_machine.specs.Pieces.{Piece, Part, At, Do, Get, Value_of, Target_of, Terms_of, give}
 use Rattle.awk_machine.specs.State.{Given}
-use Rattle.awk_tasks.specs.Acts.{Passes}
+use Rattle.awk_machine.specs.Targets.{target}
+use Rattle.awk_asks.specs.declared.halt.Halt.{Halt}
+use Rattle.awk_store.specs.Kept as kept
+use Rattle.awk_tasks.specs.Acts.{Acts, Passes}
 use Rattle.awk_tasks.specs.Wholes.{Whole, names_in}
-use Rattle.awk_tasks.proofs.Acting.{at_rest, moves, doing, done}
+use Rattle.awk_tasks.proofs.Acting.{at_rest, moves, reworded, doing, done}
+use Rattle.awk_tasks.proofs.ArraySteps.{reads_element}
+use Rattle.awk_tasks.proofs.RecordSteps.{reads_field, small}
+use Rattle.awk_tasks.proofs.VariableSteps.{reads_variable, counted_nf}
+use Rattle.awk_works.proofs.Replaced.{limited_ok}
+use Rattle.awk_forms.proofs.Rests.{drop_all}
 
--- a variable is read as an expression
-pub reads_there : (g : Given) (w : Whole) (x : Variable) (val : Value) → Passes g (Do (Get (machine.Variable (variable_of (names_in g) x)))) w (give val) w →
-    Passes g (value (p.read (p.variable (variable_of (names_in g) x)))) w (give val) w
-reads_there g w x val h =
-    doing val (moves {then_ = λ k. Do (Get (machine.Variable (variable_of (names_in g) x))) ∷ k}
-    (moves {then_ = λ k. machine.At (machine.Value_of (p.read (p.variable (variable_of (names_in g) x)))) (v.Unset ∷ []) ∷ k}
-    (moves {then_ = λ k. machine.At (machine.Target_of (p.variable (variable_of (names_in g) x))) [] ∷ machine.At (machine.Value_of (p.read (p.variable (variable_of (names_in g) x)))) [] ∷ k}
-    (at_rest _ w) (λ k hid d a. refl)) (λ k hid d a. refl)) (λ k hid d a. refl)) (done {on = give} {x = val} h) refl
+nil_right : {X : Type 0} (xs : List X) → xs ++ [] ≡ xs
+nil_right [] = refl
+nil_right (x ∷ xs) = ap (λ ys. x ∷ ys) (nil_right xs)
+
+-- a piece passes to another one, and that on
+pub on : {g : Given} {p q : Piece} {old mid new : Whole} {to then_ : List Piece → List Piece} → Passes g p old (λ k. q ∷ to k) mid → Passes g q mid then_ new → Passes g p old (λ k. then_ (to k)) new
+on {then_ = then_} h m = doing (tt {0}) h (done {on = λ (u : Unit {0}). then_} m) refl
+
+module _ (g : Given) (w : Whole) where
+  -- ---- what is read or set
+
+  pub variable_spot : (x : Variable) → Passes g (spot (p.variable (variable_of (names_in g) x))) w (give v.Unset) w
+  variable_spot x = moves (at_rest _ w) (λ k hid d a. refl)
+
+  one_subscript : (sub : Value) (key : Text) → text_of sub ≡ key → length key ≤ most_bytes → limited (text_of sub ++ []) ≡ Ok key
+  one_subscript sub key is fits = ap limited (nil_right (text_of sub) ∙ is) ∙ limited_ok key fits
+
+  pub element_spot : (place : Place) (x : p.Variable) (e : Expression) (sub : Value) (key : Text) → Passes g (value e) w (give sub) w → text_of sub ≡ key → length key ≤ most_bytes →
+      Passes g (spot (p.element place x (p.more e p.none))) w (give (v.Text key)) w
+  element_spot place x e sub key h is fits =
+      moves (on (moves {then_ = λ k. value e ∷ At (Target_of (p.element place x (p.more e p.none))) [] ∷ k} (at_rest _ w) (λ k hid d a. refl)) h) (λ k hid d a. rw (one_subscript sub key is fits) refl)
+
+  pub field_spot : (place : Place) (e : Expression) (sub : Value) (n : ℕ) → Passes g (value e) w (give sub) w → number_of sub ≡ Ok (pos n) → n ≤ 65535 →
+      Passes g (spot (p.field place e)) w (give (v.Num (pos n))) w
+  field_spot place e sub n h is fits =
+      moves (on (moves {then_ = λ k. value e ∷ At (Target_of (p.field place e)) [] ∷ k} (at_rest _ w) (λ k hid d a. refl)) h) (λ k hid d a. rw (is, small n fits) refl)
+
+  -- it is read
+  pub reads : (r : p.Reference) (at val : Value) → Passes g (spot r) w (give at) w → Acts g (Do (Get (target r at))) give w (Ok val) w → Passes g (value (p.read r)) w (give val) w
+  reads r at val h get =
+      let part : Part = Value_of (p.read r) in
+      doing val (moves {then_ = λ k. Do (Get (target r at)) ∷ k} (on (moves {then_ = λ k. spot r ∷ At part [] ∷ k} (at_rest _ w) (λ k hid d a. refl)) h) (λ k hid d a. refl)) get refl
+
+  -- ---- what is there
+
+  pub number_there : (n : ℤ) → Passes g (value (p.number n)) w (give (v.Num n)) w
+  number_there n = moves (at_rest _ w) (λ k hid d a. refl)
+
+  pub text_there : (x : Text) → Passes g (value (p.text x)) w (give (v.Text x)) w
+  text_there x = moves (at_rest _ w) (λ k hid d a. refl)
+
+  pub variable_there : (x : Variable) → kept.is_nf x ≡ false → Passes g (value (p.read (p.variable (variable_of (names_in g) x)))) w (give (kept.value w.0 x)) w
+  variable_there x n = reads (p.variable (variable_of (names_in g) x)) v.Unset (kept.value w.0 x) (variable_spot x) (reads_variable g w x n)
+
+  pub nf_there : (x : Variable) (n : ℤ) → kept.is_nf x ≡ true → (vs : List Value) × HasFields w.0.row vs × (n ≡ pos (length vs)) → Passes g (value (p.read (p.variable (variable_of (names_in g) x)))) w (give (v.Num n)) w
+  nf_there x n y h = reads (p.variable (variable_of (names_in g) x)) v.Unset (v.Num n) (variable_spot x) (counted_nf g w x w.0 n y refl (inl refl) h)
+
+  pub element_there : (place : Place) (x : Variable) (e : Expression) (sub : Value) (key : Text) (val : Value) → Passes g (value e) w (give sub) w → text_of sub ≡ key → length key ≤ most_bytes →
+      element (kept.array w.0 x) key ≡ Some val → Passes g (value (p.read (p.element place (variable_of (names_in g) x) (p.more e p.none)))) w (give val) w
+  element_there place x e sub key val h is fits has =
+      reads (p.element place (variable_of (names_in g) x) (p.more e p.none)) (v.Text key) val (element_spot place (variable_of (names_in g) x) e sub key h is fits) (reads_element g w x key place val has)
+
+  pub field_there : (place : Place) (e : Expression) (sub : Value) (n : ℕ) (val : Value) → Passes g (value e) w (give sub) w → number_of sub ≡ Ok (pos n) → n ≤ 65535 → IsValueAt w.0.row n val →
+      Passes g (value (p.read (p.field place e))) w (give val) w
+  field_there place e sub n val h is fits at =
+      reads (p.field place e) (v.Num (pos n)) val (field_spot place e sub n h is fits) (reads_field g w n w.0 val fits refl (inl refl) (n, small n fits, at))
+
+  pub comparison_there : (how : _) (x y : Expression) (a b : Value) → Passes g (value x) w (give a) w → Passes g (value y) w (give b) w → Passes g (value (p.compare how x y)) w (give (compared how a b)) w
+  comparison_there how x y a b h m =
+      let part : Part = Value_of (p.compare how x y) in
+      moves (on (moves {then_ = λ k. value y ∷ At part (a ∷ []) ∷ k} (on (moves {then_ = λ k. value x ∷ At part [] ∷ k} (at_rest _ w) (λ k hid d a. refl)) h) (λ k hid d a. refl)) m) (λ k hid d a. refl)
+
+  -- ---- chains
+
+  pub chain_first : (x : Expression) (xs : Terms) (val : Value) → Passes g (value x) w (give val) w → Passes g (value (p.chain x xs)) w (λ k. At (Terms_of xs) (val ∷ []) ∷ k) w
+  chain_first x xs val h = on (moves {then_ = λ k. value x ∷ At (Terms_of xs) [] ∷ k} (at_rest _ w) (λ k hid d a. refl)) h
+
+  terms_next : {from : Piece} (how : Operator) (place : Place) (y : Expression) (xs : Terms) (val z : Value) (a b c : ℤ) → number_of val ≡ Ok a → number_of z ≡ Ok b → operation how a b ≡ Ok c →
+      Passes g (value y) w (give z) w → Passes g from w (λ k. At (Terms_of (p.term how place y xs)) (val ∷ []) ∷ k) w → Passes g from w (λ k. At (Terms_of xs) (v.Num c ∷ []) ∷ k) w
+  terms_next how place y xs val z a b c first second made h from =
+      moves (on (moves {then_ = λ k. value y ∷ At (Terms_of (p.term how place y xs)) (val ∷ []) ∷ k} from (λ k hid d a. refl)) h) (λ k hid d a. rw (first, second, made) refl)
+
+  -- the terms from a place on wait behind a value
+  abbrev pub waiting : List (Term Expr) → ℕ → Value → List Piece → List Piece
+  waiting xs n val k = At (Terms_of (terms_of (map (view_term (names_in g)) (drop n xs)))) (val ∷ []) ∷ k
+
+  pub terms_at : {from : Piece} (xs : List (Term Expr)) (i : ℕ) (x : Term Expr) (val z : Value) (a b c : ℤ) → i < length xs → x ≡ get_or xs i x → number_of val ≡ Ok a → number_of z ≡ Ok b → operation x.operator a b ≡ Ok c →
+      Passes g (value (view (names_in g) x.operand)) w (give z) w → Passes g from w (waiting xs i val) w → Passes g from w (waiting xs (i + 1) (v.Num c)) w
+  terms_at xs i x val z a b c inside is first second made h from =
+      let there : drop i xs ≡ x ∷ drop (i + 1) xs = drop_more xs i x inside ∙ ap (λ y. y ∷ drop (i + 1) xs) (sym is) in
+      terms_next x.operator x.place (view (names_in g) x.operand) (terms_of (map (view_term (names_in g)) (drop (i + 1) xs))) val z a b c first second made h
+      (reworded from (λ k. ap (λ ys. At (Terms_of (terms_of (map (view_term (names_in g)) ys))) (val ∷ []) ∷ k) there))
+
+  pub terms_done : {from : Piece} (xs : List (Term Expr)) (i : ℕ) (val : Value) → length xs ≤ i → Passes g from w (waiting xs i val) w → Passes g from w (give val) w
+  terms_done xs i val past from =
+      moves (reworded {then_ = λ k. At (Terms_of p.no_terms) (val ∷ []) ∷ k} from (λ k. ap (λ ys. At (Terms_of (terms_of (map (view_term (names_in g)) ys))) (val ∷ []) ∷ k) (drop_all xs i past))) (λ k hid d a. refl)

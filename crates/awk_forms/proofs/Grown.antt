@@ -33,61 +33,15 @@ use Rattle.awk_works.proofs.Replaced.{limited_ok}
 use Rattle.awk_forms.proofs.Rests.{drop_all}
 use Rattle.awk_forms.specs.Growing.{Follows, Lends}
 
-nil_right : {X : Type 0} (xs : List X) → xs ++ [] ≡ xs
+pub nil_right : {X : Type 0} (xs : List X) → xs ++ [] ≡ xs
 nil_right [] = refl
 nil_right (x ∷ xs) = ap (λ ys. x ∷ ys) (nil_right xs)
-
--- a piece passes to another one, and that on
-pub on : {g : Given} {p q : Piece} {old mid new : Whole} {to then_ : List Piece → List Piece} → Passes g p old (λ k. q ∷ to k) mid → Passes g q mid then_ new → Passes g p old (λ k. then_ (to k)) new
-on {then_ = then_} h m = doing (tt {0}) h (done {on = λ (u : Unit {0}). then_} m) refl
 
 -- the operands from a place on wait behind a text, and what was added to it
 abbrev pub so_far : Given → List (Joined Expr) → Text → ℕ → Text → List Piece → List Piece
 so_far g rest text n more k = At (Texts_of (joins_of (map (view_joined (names_in g)) (drop n rest)))) (v.Text (text ++ more) ∷ []) ∷ k
 
 module _ (g : Given) (w : Whole) where
-  -- ---- what is there
-
-  pub number_there : (n : ℤ) → Passes g (value (p.number n)) w (give (v.Num n)) w
-  number_there n = moves (at_rest _ w) (λ k hid d a. refl)
-
-  pub text_there : (x : Text) → Passes g (value (p.text x)) w (give (v.Text x)) w
-  text_there x = moves (at_rest _ w) (λ k hid d a. refl)
-
-  pub variable_there : (x : Variable) → kept.is_nf x ≡ false → Passes g (value (p.read (p.variable (variable_of (names_in g) x)))) w (give (kept.value w.0 x)) w
-  variable_there x n =
-      let part : Part = Value_of (p.read (p.variable (variable_of (names_in g) x))) in
-      on (moves {then_ = λ k. Do (Get (machine.Variable (variable_of (names_in g) x))) ∷ k}
-      (moves {then_ = λ k. At part (v.Unset ∷ []) ∷ k}
-      (moves {then_ = λ k. At (Target_of (p.variable (variable_of (names_in g) x))) [] ∷ At part [] ∷ k}
-      (at_rest _ w) (λ k hid d a. refl)) (λ k hid d a. refl)) (λ k hid d a. refl)) (lends_variable g w x n)
-
-  pub whole_there : (place : Place) → Passes g (value (p.read (p.field place (p.number (pos 0))))) w (give (v.Input w.0.row.whole)) w
-  whole_there place =
-      let spot : Part = Target_of (p.field place (p.number (pos 0))) in
-      let part : Part = Value_of (p.read (p.field place (p.number (pos 0)))) in
-      on (moves {then_ = λ k. Do (Get (machine.Field 0)) ∷ k}
-      (moves {then_ = λ k. At part (v.Num (pos 0) ∷ []) ∷ k}
-      (moves {then_ = λ k. At spot (v.Num (pos 0) ∷ []) ∷ At part [] ∷ k}
-      (moves {then_ = λ k. value (p.number (pos 0)) ∷ At spot [] ∷ At part [] ∷ k}
-      (moves {then_ = λ k. At spot [] ∷ At part [] ∷ k}
-      (at_rest _ w) (λ k hid d a. refl)) (λ k hid d a. refl)) (λ k hid d a. refl)) (λ k hid d a. refl)) (λ k hid d a. refl)) (lends_whole g w)
-
-  one_subscript : (sub : Value) (key : Text) → text_of sub ≡ key → length key ≤ most_bytes → limited (text_of sub ++ []) ≡ Ok key
-  one_subscript sub key is fits = ap limited (nil_right (text_of sub) ∙ is) ∙ limited_ok key fits
-
-  pub element_there : (place : Place) (x : Variable) (e : Expression) (key : Text) (val : Value) → Lends g w e key → length key ≤ most_bytes → element (kept.array w.0 x) key ≡ Some val →
-      Passes g (value (p.read (p.element place (variable_of (names_in g) x) (p.more e p.none)))) w (give val) w
-  element_there place x e key val h fits is =
-      let spot : Part = Target_of (p.element place (variable_of (names_in g) x) (p.more e p.none)) in
-      let part : Part = Value_of (p.read (p.element place (variable_of (names_in g) x) (p.more e p.none))) in
-      on (moves {then_ = λ k. Do (Get (machine.Element (variable_of (names_in g) x) key place)) ∷ k}
-      (moves {then_ = λ k. At part (v.Text key ∷ []) ∷ k}
-      (on (moves {then_ = λ k. value e ∷ At spot [] ∷ At part [] ∷ k}
-      (moves {then_ = λ k. At spot [] ∷ At part [] ∷ k}
-      (at_rest _ w) (λ k hid d a. refl)) (λ k hid d a. refl)) h.passes)
-      (λ k hid d a. rw (one_subscript h.val key h.is fits) refl)) (λ k hid d a. refl)) (lends_element g w place x key val is)
-
   -- ---- operands are joined
 
   pub joins_next : {from : Piece} {old : Whole} (place : Place) (e : Expression) (xs : Joins) (text more : Text) → Lends g w e more → length (text ++ more) ≤ most_bytes →

@@ -1,3 +1,4 @@
+pub mod AtHand
 pub mod Growing
 pub mod Made
 pub mod Operands

@@ -1,23 +1,46 @@
-// Values that are there without a move.
-ghost use Rattle.std.specs.Prelude.{IfSome};
-ghost use Rattle.awk_asks.specs.Tables.{Table};
-ghost use Rattle.awk_machine.specs.Forms.{value};
-ghost use Rattle.awk_machine.specs.Pieces as machine;
-ghost use Rattle.awk_machine.specs.Pieces.{Do, Get, give};
-ghost use Rattle.awk_machine.specs.State.{Given};
+// Values that are there without a move: constants, variables, elements, fields, and what arithmetic makes of them.
+ghost use Rattle.std.specs.Prelude.{◌≡◌, false, map, IfSome};
+ghost use Rattle.awk_forms.specs.AtHand.{HasNumber, HasTruth, IsThere};
+ghost use Rattle.awk_lent.specs.Lents.{lent_value};
 ghost use Rattle.awk_program.specs.Program as p;
-ghost use Rattle.awk_program.specs.View.{view, view_target, variable_of};
-ghost use Rattle.awk_tasks.specs.Acts.{Passes};
-ghost use Rattle.awk_tasks.specs.Wholes.{names_in};
+ghost use Rattle.awk_program.specs.Program.{expressions_of, terms_of};
+ghost use Rattle.awk_program.specs.View.{view, view_target, view_term, variable_of};
+ghost use Rattle.awk_store.specs.Kept as kept;
 ghost use Rattle.awk_text.specs.declared.value.Value.TheVariants as v;
 
-use awk_program::{Expr, Target, Variable};
+use awk_lent::lent::Lent;
+use awk_program::{Comparison, Expr, Target, Term, Variable};
 use awk_store::{Store, is_nf};
+use awk_text::octets::Octets;
+use awk_text::place::Place;
+use awk_text::texts::MOST_BYTES;
 use awk_text::value::Value;
+use awk_works::operators::{compared_lent, compared_numbers, operation};
+use itoa::Buffer;
+use std::alloc::Global;
+
+/// How many levels of arithmetic and of subscripts are looked into. What lies deeper is evaluated, level by level, and each level
+/// looks again: so this bounds how often a part is looked at.
+pub const MOST_LEVELS: u32 = 3;
+
+/// The value of a variable. NF has one where the record is split.
+fn variable_at_hand<'a>(store: &'a Store, variable: Variable) -> Option<Lent<'a>>
+    ensures { IfSome result (λ v. IsThere (λ names. p.read (p.variable (variable_of names variable))) store.now (lent_value v)) }
+{
+    if is_nf(variable) {
+        let count = store.known_field_count()?;
+        return Some(Lent::Num(count));
+    }
+    match store.value(variable) {
+        Some(value) => Some(Lent::of(value)),
+        None => Some(Lent::Unset),
+    }
+}
 
 /// The number that a variable holds, if it holds one. NF is none.
-fn held(store: &Store, variable: Variable) -> Option<i64>
-    ensures { IfSome result (λ n. (g : Given) (t : Table) → Passes g (Do (Get (machine.Variable (variable_of (names_in g) variable)))) (store.now, t) (give (v.Num n)) (store.now, t)) }
+fn number_held(store: &Store, variable: Variable) -> Option<i64>
+    ensures nf { IfSome result (λ n. kept.is_nf variable ≡ false) }
+    ensures number { IfSome result (λ n. kept.value store.now variable ≡ v.Num n) }
 {
     if is_nf(variable) {
         return None;
@@ -29,22 +52,198 @@ fn held(store: &Store, variable: Variable) -> Option<i64>
 }
 
 /// The number of what is read, where that is a variable that holds one.
-fn read_at_hand(store: &Store, target: &Target<Expr>) -> Option<i64>
-    ensures { IfSome result (λ n. (g : Given) (t : Table) → Passes g (value (p.read (view_target (names_in g) target.now))) (store.now, t) (give (v.Num n)) (store.now, t)) }
+fn number_read(store: &Store, target: &Target<Expr>) -> Option<i64>
+    ensures { IfSome result (λ n. IsThere (λ names. p.read (view_target names target.now)) store.now (v.Num n)) }
 {
     match target {
-        Target::Variable(variable) => held(store, *variable),
+        Target::Variable(variable) => number_held(store, *variable),
         Target::Element(_, _, _) | Target::Field(_, _) => None,
     }
 }
 
-/// The number of an expression that is a constant, or a variable that holds one. Takes no memory.
-pub fn number_at_hand(store: &Store, e: &Expr) -> Option<i64>
-    ensures { IfSome result (λ n. (g : Given) (t : Table) → Passes g (value (view (names_in g) e.now)) (store.now, t) (give (v.Num n)) (store.now, t)) }
+/// The value of an element that is there, by one subscript.
+#[cycle(hand)]
+fn element_at_hand<'a>(
+    store: &'a Store,
+    place: Place,
+    array: Variable,
+    keys: &'a [Expr],
+    level: u32,
+) -> Option<Lent<'a>>
+    ensures { IfSome result (λ v. IsThere (λ names. p.read (p.element place (variable_of names array) (expressions_of (map (view names) keys.now)))) store.now (lent_value v)) }
+{
+    let [one] = keys else {
+        return None;
+    };
+    let subscript = at_hand(store, one, level)?;
+    let mut digits = Buffer::new();
+    let key = subscript.text(&mut digits);
+    if MOST_BYTES < key.len() {
+        return None;
+    }
+    let value = store.element(array, key)?;
+    Some(Lent::of(value))
+}
+
+/// The value of a field: of the record as it is, or of one of its parts where it is split.
+#[cycle(hand)]
+fn field_at_hand<'a>(
+    store: &'a Store,
+    place: Place,
+    number: &'a Expr,
+    level: u32,
+) -> Option<Lent<'a>>
+    ensures { IfSome result (λ v. IsThere (λ names. p.read (p.field place (view names number.now))) store.now (lent_value v)) }
+{
+    let number = number_at_hand(store, number, level)?;
+    let Ok(number) = u16::try_from(number) else {
+        return None;
+    };
+    store.lent_field(number)
+}
+
+/// The value of what is read, where to read it changes nothing.
+#[cycle(hand)]
+fn target_at_hand<'a>(store: &'a Store, target: &'a Target<Expr>, level: u32) -> Option<Lent<'a>>
+    ensures { IfSome result (λ v. IsThere (λ names. p.read (view_target names target.now)) store.now (lent_value v)) }
+{
+    match target {
+        Target::Variable(variable) => variable_at_hand(store, *variable),
+        Target::Element(place, array, keys) => {
+            if level == 0 {
+                return None;
+            }
+            element_at_hand(store, *place, *array, keys.as_slice(), level - 1)
+        }
+        Target::Field(place, number) => {
+            if level == 0 {
+                return None;
+            }
+            field_at_hand(store, *place, number.get(), level - 1)
+        }
+    }
+}
+
+/// The number of a chain of `+` and `-`, or of `*`, `/` and `%`, or of one `^`, whose operands are there and which meets no
+/// fault.
+#[cycle(hand)]
+fn chain_at_hand(store: &Store, x: &Expr, xs: &[Term<Expr>], level: u32) -> Option<i64>
+    ensures { IfSome result (λ n. IsThere (λ names. p.chain (view names x.now) (terms_of (map (view_term names) xs.now))) store.now (v.Num n)) }
+{
+    if xs.is_empty() {
+        return None;
+    }
+    let mut so_far = number_at_hand(store, x, level)?;
+    for next in xs {
+        let operand = number_at_hand(store, &next.operand, level)?;
+        let Ok(made) = operation(next.operator, so_far, operand) else {
+            return None;
+        };
+        so_far = made;
+    }
+    Some(so_far)
+}
+
+/// The number of an expression's value, where the value is there.
+#[cycle(hand)]
+pub fn number_at_hand(store: &Store, e: &Expr, level: u32) -> Option<i64>
+    ensures { IfSome result (λ n. HasNumber (λ names. view names e.now) store.now n) }
 {
     match e {
         Expr::Number(number) => Some(*number),
-        Expr::Read(target) => read_at_hand(store, target),
+        Expr::Read(target) => {
+            if let Some(number) = number_read(store, target) {
+                return Some(number);
+            }
+            let value = target_at_hand(store, target, level)?;
+            value.number().ok()
+        }
+        Expr::Chain(x, xs) => {
+            if level == 0 {
+                return None;
+            }
+            chain_at_hand(store, x.get(), xs.as_slice(), level - 1)
+        }
         _ => None,
+    }
+}
+
+/// The value of an expression, where it is there: to evaluate it changes nothing and meets no fault.
+#[cycle(hand)]
+pub fn at_hand<'a>(store: &'a Store, e: &'a Expr, level: u32) -> Option<Lent<'a>>
+    ensures { IfSome result (λ v. IsThere (λ names. view names e.now) store.now (lent_value v)) }
+{
+    match e {
+        Expr::Number(number) => Some(Lent::Num(*number)),
+        Expr::Text(text) => Some(Lent::Text(text.bytes())),
+        Expr::Read(target) => target_at_hand(store, target, level),
+        Expr::Chain(x, xs) => {
+            if level == 0 {
+                return None;
+            }
+            let number = chain_at_hand(store, x.get(), xs.as_slice(), level - 1)?;
+            Some(Lent::Num(number))
+        }
+        _ => None,
+    }
+}
+
+/// The number of a constant, of a variable that holds one, or of arithmetic.
+fn plain_number(store: &Store, e: &Expr) -> Option<i64>
+    ensures { IfSome result (λ n. IsThere (λ names. view names e.now) store.now (v.Num n)) }
+{
+    match e {
+        Expr::Number(number) => Some(*number),
+        Expr::Read(target) => number_read(store, target),
+        Expr::Chain(x, xs) => chain_at_hand(store, x.get(), xs.as_slice(), MOST_LEVELS),
+        _ => None,
+    }
+}
+
+/// A value of its own for what is lent.
+fn owned<'a>(alloc: Global, value: Lent<'a>) -> Option<Value>
+    ensures { IfSome result (λ v. v ≡ lent_value value.entry) }
+{
+    match value {
+        Lent::Unset => Some(Value::Unset),
+        Lent::Num(number) => Some(Value::Num(number)),
+        Lent::Text(text) => Some(Value::Text(Octets::new(Vec::from_slice(alloc, text).ok()?))),
+        Lent::Input(text) => Some(Value::Input(Octets::new(Vec::from_slice(alloc, text).ok()?))),
+    }
+}
+
+/// The value of an expression, where it is there, as one of its own. `None` stands for refused memory too.
+pub fn value_at_hand(alloc: Global, store: &Store, e: &Expr) -> Option<Value>
+    ensures { IfSome result (λ v. IsThere (λ names. view names e.now) store.now v) }
+{
+    if let Some(number) = plain_number(store, e) {
+        return Some(Value::Num(number));
+    }
+    let value = at_hand(store, e, MOST_LEVELS)?;
+    owned(alloc, value)
+}
+
+/// Whether a comparison holds, where both sides are there.
+fn compared_at_hand(store: &Store, how: Comparison, x: &Expr, y: &Expr) -> Option<bool>
+    ensures { IfSome result (λ b. HasTruth (λ names. p.compare how (view names x.now) (view names y.now)) store.now b) }
+{
+    if let (Some(left), Some(right)) = (plain_number(store, x), plain_number(store, y)) {
+        return Some(compared_numbers(how, left, right));
+    }
+    let left = at_hand(store, x, MOST_LEVELS)?;
+    let right = at_hand(store, y, MOST_LEVELS)?;
+    Some(compared_lent(how, left, right))
+}
+
+/// Whether an expression is true, where its value is there, or it is a comparison of two such.
+pub fn truth_at_hand(store: &Store, e: &Expr) -> Option<bool>
+    ensures { IfSome result (λ b. HasTruth (λ names. view names e.now) store.now b) }
+{
+    match e {
+        Expr::Compare(how, x, y) => compared_at_hand(store, *how, x.get(), y.get()),
+        _ => {
+            let value = at_hand(store, e, MOST_LEVELS)?;
+            Some(value.truth())
+        }
     }
 }

@@ -5,6 +5,7 @@
 
 pub mod at_hand;
 pub mod chains;
+pub mod done;
 pub mod growing;
 pub mod keys;
 pub mod made;

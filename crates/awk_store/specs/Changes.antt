@@ -9,7 +9,7 @@ use Rattle.awk_text.specs.Values.{number_of}
 use Rattle.awk_fields.specs.Rows.{Row, known, unsplit}
 use Rattle.awk_fields.specs.Separators.{separator}
 use Rattle.awk_format.specs.Directives.{◌>>=◌}
-use Rattle.awk_lib.specs.Arrays.{put}
+use Rattle.awk_lib.specs.Arrays.{element, put}
 use Rattle.awk_program.specs.Slots.{Text, slot_of}
 use Rattle.awk_program.specs.declared.program.Name.{Name}
 use Rattle.awk_program.specs.declared.variables.Own.{Own}
@@ -91,6 +91,10 @@ Puts at key x Holds = (new : Array) × (put (unwrap_or at []) key x ≡ Ok new) 
 -- why it is not
 abbrev pub PutsNot : Option Array → Text → Value → Fault → Type 0
 PutsNot at key x e = (e ≡ NoMemory) ⊎ (put (unwrap_or at []) key x ≡ Err e)
+
+-- an element that holds a number is given the sum of that and another one
+abbrev pub Adds : Option Array → Text → ℤ → (Array → Type 0) → Type 0
+Adds at key by Holds = (n : ℤ) × (m : ℤ) × (element (unwrap_or at []) key ≡ Some (v.Num n)) × (add n by ≡ Ok m) × Puts at key (v.Num m) Holds
 
 -- ---- calls
 

@@ -1,16 +1,17 @@
 // Arrays.
-ghost use Rattle.std.specs.Prelude.{◌≡◌, ◌⊎◌, [], Ok, slice_get, slice_set, unwrap_or, length, IfOk, IfErr, OnOk, IsOkUnless};
+ghost use Rattle.std.specs.Prelude.{◌≡◌, ◌⊎◌, [], true, false, Ok, Some, slice_get, slice_set, unwrap_or, length, IfOk, IfErr, OnOk, IsOkUnless};
 ghost use Rattle.std.specs.Option.{option_copied};
 ghost use Rattle.awk_lib.specs.Arrays.{element, has, keys, put, without};
 ghost use Rattle.awk_machine.specs.State as state;
 ghost use Rattle.awk_store.specs.Kept.{array, array_at, array_found, bound_reference, listed, reference};
-ghost use Rattle.awk_store.specs.Changes.{change_at, given_array, with_array, Puts, PutsNot};
+ghost use Rattle.awk_store.specs.Changes.{change_at, given_array, with_array, Adds, Puts, PutsNot};
 
 use crate::cell::Cell;
 use crate::frame::{Bound, Reference};
 use crate::store::Store;
 use awk_lib::array::Array;
 use awk_program::Variable;
+use awk_text::arithmetic::add;
 use awk_text::fault::Fault;
 use awk_text::octets::Octets;
 use awk_text::value::Value;
@@ -74,6 +75,46 @@ fn put_in_cells(cells: &mut Vec<Cell>, slot: usize, key: &[u8], value: Value) ->
     match cells.get_mut(slot) {
         Some(cell) => cell.put(key, value),
         None => Ok(()),
+    }
+}
+
+/// Adds to the number that an element holds, where it holds one, and answers whether it did.
+fn add_in(elements: &mut Array<Value>, key: &[u8], by: i64) -> bool
+    ensures done { result ≡ true → Adds (Some elements.old) key.now by (λ new. elements.new ≡ new) }
+    ensures not_done { result ≡ false → elements.new ≡ elements.old }
+{
+    let Some(old) = elements.get_mut(key) else {
+        return false;
+    };
+    let Value::Num(number) = old else {
+        return false;
+    };
+    let Ok(sum) = add(*number, by) else {
+        return false;
+    };
+    *old = Value::Num(sum);
+    true
+}
+
+/// The same of the array at a slot.
+fn add_in_cells(cells: &mut Vec<Cell>, slot: usize, key: &[u8], by: i64) -> bool
+    ensures done { result ≡ true → Adds (listed (slice_get cells.old.items slot)) key.now by (λ new. cells.new.items ≡ change_at (given_array new) cells.old.items slot) }
+    ensures not_done { result ≡ false → cells.new.items ≡ cells.old.items }
+{
+    match cells.get_mut(slot) {
+        Some(Cell::Array(elements)) => add_in(elements, key, by),
+        Some(Cell::Value(_)) | None => false,
+    }
+}
+
+/// The same among the arrays that calls have made.
+fn add_in_made(made: &mut Vec<Array<Value>>, place: usize, key: &[u8], by: i64) -> bool
+    ensures done { result ≡ true → Adds (slice_get made.old.items place) key.now by (λ new. made.new.items ≡ slice_set made.old.items place new) }
+    ensures not_done { result ≡ false → made.new.items ≡ made.old.items }
+{
+    match made.get_mut(place) {
+        Some(elements) => add_in(elements, key, by),
+        None => false,
     }
 }
 
@@ -166,6 +207,19 @@ impl Store {
             Reference::Shared(slot) => put_in_cells(&mut self.cells, slot as usize, key, value),
             Reference::Made(place) => put_made(&mut self.made, place as usize, key, value),
             Reference::Nothing => Ok(()),
+        }
+    }
+
+    /// Adds to the number that an element holds, and answers whether it did. Where the element is not there or holds no
+    /// number, or the sum is out of range, nothing changes. The key is looked up once. Takes no memory.
+    pub fn add_to(&mut self, name: Variable, key: &[u8], by: i64) -> bool
+        ensures done { result ≡ true → Adds (Some (array self.old name)) key.now by (λ new. self.new ≡ with_array (reference self.old name) new self.old) }
+        ensures not_done { result ≡ false → self.new ≡ self.old }
+    {
+        match self.reference(name) {
+            Reference::Shared(slot) => add_in_cells(&mut self.cells, slot as usize, key, by),
+            Reference::Made(place) => add_in_made(&mut self.made, place as usize, key, by),
+            Reference::Nothing => false,
         }
     }
 

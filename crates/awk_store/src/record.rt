@@ -1,5 +1,6 @@
 // The record.
-ghost use Rattle.std.specs.Prelude.{◌≡◌, ◌⊎◌, ◌<◌, ◌≤◌, ℕ, List, Ok, Err, pos, length, IfOk, IfErr, OnOk, OnErr};
+ghost use Rattle.std.specs.Prelude.{◌≡◌, ◌⊎◌, ◌<◌, ◌≤◌, ℕ, List, Ok, Err, pos, length, IfOk, IfErr, IfSome, OnOk, OnErr};
+ghost use Rattle.awk_lent.specs.Lents.{lent_value};
 ghost use Rattle.awk_text.specs.Limits.{most_bytes};
 ghost use Rattle.awk_text.specs.Values.{text_of};
 ghost use Rattle.awk_machine.specs.Targets.{is_empty};
@@ -15,6 +16,7 @@ use crate::separators::Separators;
 use crate::store::Store;
 use crate::variables::own_text;
 use awk_fields::Splitter;
+use awk_lent::lent::Lent;
 use awk_program::Own;
 use awk_text::fault::Fault;
 use awk_text::octets::Octets;
@@ -126,5 +128,20 @@ impl Store {
         let mut buffer = Buffer::new();
         let ofs = own_text(self.cells.as_slice(), Own::Ofs, &mut buffer);
         self.row.set_count(n, ofs)
+    }
+
+    /// The value of a field by its number, lent, where it is there without a change: 0 is the whole text, and the others are
+    /// there once the record is split. Takes no memory.
+    pub fn lent_field(&self, n: u16) -> Option<Lent<'_>>
+        ensures { IfSome result (λ v. IsValueAt self.now.row n (lent_value v)) }
+    {
+        self.row.lent(n)
+    }
+
+    /// NF, where the record is split. Takes no memory.
+    pub fn known_field_count(&self) -> Option<i64>
+        ensures { IfSome result (λ n. (values : List Value) × HasFields self.now.row values × (n ≡ pos (length values))) }
+    {
+        self.row.known_count()
     }
 }

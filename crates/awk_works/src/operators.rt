@@ -1,9 +1,11 @@
 // What the operators give.
 ghost use Rattle.std.specs.Prelude.{◌≡◌};
+ghost use Rattle.awk_lent.specs.Lents.{lent_value};
 ghost use Rattle.awk_machine.specs.Operators as spec;
 ghost use Rattle.awk_machine.specs.Operators.{limited, of_truth};
 ghost use Rattle.awk_works.specs.Numbers.{as_value};
 
+use awk_lent::lent::Lent;
 use awk_program::{Comparison, Operator, Sign, Step};
 use awk_text::arithmetic;
 use awk_text::fault::Fault;
@@ -95,6 +97,16 @@ pub fn compared(how: Comparison, left: &Value, right: &Value) -> bool
         return compared_numbers(how, *first, *second);
     }
     holds(how, compare(left, right))
+}
+
+/// Whether the comparison holds of two values that are lent. Takes no memory.
+pub fn compared_lent<'a>(how: Comparison, left: Lent<'a>, right: Lent<'a>) -> bool
+    ensures { of_truth result ≡ spec.compared how (lent_value left.entry) (lent_value right.entry) }
+{
+    if let (Lent::Num(first), Lent::Num(second)) = (left, right) {
+        return compared_numbers(how, first, second);
+    }
+    holds(how, left.compare(right))
 }
 
 /// The value of a truth: 1 or 0. Takes no memory.

@@ -1,0 +1,39 @@
+-- Expressions whose value is there: to evaluate them changes nothing and meets no fault; and assignments that are done at once.
+use Rattle.std.specs.Prelude.{◌≡◌, ℤ, Bool, Ok}
+use Rattle.awk_text.specs.Values.{number_of, truth}
+use Rattle.awk_text.specs.declared.value.Value.{Value}
+use Rattle.awk_program.specs.Program.{Expression}
+use Rattle.awk_program.specs.View.{Names}
+use Rattle.awk_machine.specs.Forms.{value}
+use Rattle.awk_machine.specs.Pieces.{give}
+use Rattle.awk_machine.specs.State.{Given}
+use Rattle.awk_store.specs.Kept.{Kept}
+use Rattle.awk_asks.specs.Tables.{Table}
+use Rattle.awk_tasks.specs.Acts.{Passes}
+use Rattle.awk_tasks.specs.Wholes.{names_in}
+
+module _ (x : Names → Expression) where
+  -- whatever else a run holds beside the store
+  abbrev pub Gives : Value → Kept → Kept → Type 0
+  Gives val old new = (g : Given) (t : Table) → Passes g (value (x (names_in g))) (old, t) (give val) (new, t)
+
+  module _ (kept : Kept) where
+    abbrev pub IsThere : Value → Type 0
+    IsThere val = Gives val kept kept
+
+    -- a value with this number is there
+    pub record HasNumber (n : ℤ) : Type 0 where
+      pub val : Value
+      pub is : number_of val ≡ Ok n
+      pub there : IsThere val
+
+    -- a value with this truth is there
+    pub record HasTruth (b : Bool) : Type 0 where
+      pub val : Value
+      pub is : truth val ≡ b
+      pub there : IsThere val
+
+  -- the whole is done
+  pub record IsDone (old new : Kept) : Type 0 where
+    pub val : Value
+    pub gives : Gives val old new

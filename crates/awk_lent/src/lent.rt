@@ -1,0 +1,96 @@
+// Values whose texts are lent. Nothing here takes memory.
+ghost use Rattle.std.specs.Prelude.{◌≡◌};
+ghost use Rattle.awk_text.specs.Values.{number_of, numeric, order, text_of, truth};
+ghost use Rattle.awk_lent.specs.Lents.{lent_value};
+
+use awk_text::fault::Fault;
+use awk_text::numeral;
+use awk_text::value::Value;
+use itoa::Buffer;
+use std::cmp::Ordering;
+
+/// A value of a script whose text, if it has one, stands elsewhere.
+#[derive(Clone, Copy, Drop)]
+pub enum Lent<'a> {
+    Unset,
+    Num(i64),
+    Text(&'a [u8]),
+    /// A text from outside, which may look numeric.
+    Input(&'a [u8]),
+}
+
+impl<'a> Lent<'a> {
+    /// The value, lent.
+    pub fn of(value: &'a Value) -> Lent<'a>
+        ensures { lent_value result ≡ value.now }
+    {
+        match value {
+            Value::Unset => Lent::Unset,
+            Value::Num(number) => Lent::Num(*number),
+            Value::Text(text) => Lent::Text(text.bytes()),
+            Value::Input(text) => Lent::Input(text.bytes()),
+        }
+    }
+
+    /// The number: of a text the one that it begins with.
+    ///
+    /// Fails with `Fault::OutOfRange` where that is out of range.
+    pub fn number(self) -> Result<i64, Fault>
+        ensures { result ≡ number_of (lent_value self.entry) }
+    {
+        match self {
+            Lent::Unset => Ok(0),
+            Lent::Num(number) => Ok(number),
+            Lent::Text(text) | Lent::Input(text) => numeral::number(text),
+        }
+    }
+
+    /// The number of a value that is compared and tested as a number.
+    fn numeric(self) -> Option<i64>
+        ensures { result ≡ numeric (lent_value self.entry) }
+    {
+        match self {
+            Lent::Unset => Some(0),
+            Lent::Num(number) => Some(number),
+            Lent::Text(_) => None,
+            Lent::Input(text) => numeral::looks_numeric(text),
+        }
+    }
+
+    /// The text: a number's is written into the buffer.
+    pub fn text(self, buffer: &'a mut Buffer) -> &'a [u8]
+        ensures { result.now ≡ text_of (lent_value self.entry) }
+    {
+        match self {
+            Lent::Unset => &[],
+            Lent::Num(number) => buffer.format(number).as_bytes(),
+            Lent::Text(text) | Lent::Input(text) => text,
+        }
+    }
+
+    /// Whether it is true: a number that is not 0, or a text that is not empty. A text from outside that looks numeric is
+    /// a number here.
+    pub fn truth(self) -> bool
+        ensures { result ≡ truth (lent_value self.entry) }
+    {
+        match self.numeric() {
+            Some(number) => number != 0,
+            None => match self {
+                Lent::Text(text) | Lent::Input(text) => !text.is_empty(),
+                Lent::Unset | Lent::Num(_) => false,
+            },
+        }
+    }
+
+    /// The order of two values: of their numbers where each is a number, unset, or a text from outside that looks numeric,
+    /// and else of their texts, byte by byte.
+    pub fn compare(self, other: Lent<'a>) -> Ordering
+        ensures { result ≡ order (lent_value self.entry) (lent_value other.entry) }
+    {
+        if let (Some(a), Some(b)) = (self.numeric(), other.numeric()) {
+            return a.cmp(&b);
+        }
+        let (mut first, mut second) = (Buffer::new(), Buffer::new());
+        self.text(&mut first).cmp(other.text(&mut second))
+    }
+}

@@ -1,0 +1,4 @@
+// Values whose texts are lent.
+#![tactic(auto)]
+
+pub mod lent;
