@@ -135,9 +135,26 @@ pub fn effect<W: World>(
     ensures { Tells W.follows W.has_stopped W.stops W.open_numbers cx.now (λ g. value (view (names_in g) e.now)) IsUnwanted
         (run.old.store, run.old.streams) world.old result (run.new.store, run.new.streams) world.new }
 {
-    if done_at_once(cx.alloc, &mut run.store, &mut run.line, e) {
+    let is_done = done_at_once(cx.alloc, &mut run.store, &mut run.line, e);
+    if is_done {
         return Ok(());
     }
+    general_effect(cx, e, level, run, world)
+}
+
+/// The same, of what is not done at once.
+#[cycle(run)]
+fn general_effect<W: World>(
+    cx: &Context<'_>,
+    e: &Expr,
+    level: u32,
+    run: &mut Run,
+    world: &mut W,
+) -> Result<(), Halt>
+    requires { Owns (W.open_numbers world.old) run.old.streams }
+    ensures { Tells W.follows W.has_stopped W.stops W.open_numbers cx.now (λ g. value (view (names_in g) e.now)) IsUnwanted
+        (run.old.store, run.old.streams) world.old result (run.new.store, run.new.streams) world.new }
+{
     if level == 0 {
         return Err(Halt::Memory);
     }

@@ -34,7 +34,7 @@ use Rattle.awk_tasks.proofs.VariableSteps.{reads_variable, counted_nf}
 use Rattle.awk_works.proofs.Replaced.{limited_ok}
 use Rattle.awk_forms.proofs.Rests.{drop_all}
 
-nil_right : {X : Type 0} (xs : List X) → xs ++ [] ≡ xs
+pub nil_right : {X : Type 0} (xs : List X) → xs ++ [] ≡ xs
 nil_right [] = refl
 nil_right (x ∷ xs) = ap (λ ys. x ∷ ys) (nil_right xs)
 

@@ -30,12 +30,9 @@ use Rattle.awk_tasks.proofs.Lent.{lends_variable, lends_element, lends_whole}
 use Rattle.awk_tasks.proofs.Reading.{nf-so}
 use Rattle.awk_tasks.proofs.VariableSteps.{sets_variable}
 use Rattle.awk_works.proofs.Replaced.{limited_ok}
+use Rattle.awk_forms.proofs.AtHand.{nil_right, on, variable_there}
 use Rattle.awk_forms.proofs.Rests.{drop_all}
 use Rattle.awk_forms.specs.Growing.{Follows, Lends}
-
-pub nil_right : {X : Type 0} (xs : List X) → xs ++ [] ≡ xs
-nil_right [] = refl
-nil_right (x ∷ xs) = ap (λ ys. x ∷ ys) (nil_right xs)
 
 -- the operands from a place on wait behind a text, and what was added to it
 abbrev pub so_far : Given → List (Joined Expr) → Text → ℕ → Text → List Piece → List Piece

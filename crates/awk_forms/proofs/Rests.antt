@@ -30,3 +30,7 @@ drop_all (x ∷ xs) (suc n) far = drop_all xs n (omega (arith, far))
 pub some_for : {X : Type 0} {P Q : X → Type 0} (r : Option X) → ((x : X) → P x → Q x) → IfSome r P → IfSome r Q
 some_for None f h = tt
 some_for (Some x) f h = f x h
+
+pub some_both : {X : Type 0} {P Q R : X → Type 0} (r : Option X) → ((x : X) → P x → Q x → R x) → IfSome r P → IfSome r Q → IfSome r R
+some_both None f p q = tt
+some_both (Some x) f p q = f x p q

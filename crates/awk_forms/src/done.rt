@@ -1,17 +1,24 @@
 // Assignments that are done at once: what they need is at hand, and their value is not wanted.
-ghost use Rattle.std.specs.Prelude.{◌≡◌, true, false, List, map, IfSome};
+ghost use Rattle.std.specs.Prelude.{◌≡◌, true, false, map, Ok, IfSome};
 ghost use Rattle.awk_asks.specs.Tables.{Table};
-ghost use Rattle.awk_forms.specs.Growing.{Lends};
+ghost use Rattle.awk_forms.specs.AtHand.{IsDone};
+ghost use Rattle.awk_machine.specs.Forms.{spot};
+ghost use Rattle.awk_machine.specs.Pieces.{give};
 ghost use Rattle.awk_machine.specs.State.{Given};
 ghost use Rattle.awk_program.specs.Program as p;
 ghost use Rattle.awk_program.specs.Program.{expressions_of};
 ghost use Rattle.awk_program.specs.View.{view, view_target, variable_of};
+ghost use Rattle.awk_store.specs.Kept as kept;
+ghost use Rattle.awk_program.specs.declared.operators.Taken.{Taken as Which};
+ghost use Rattle.awk_tasks.specs.Acts.{Passes};
 ghost use Rattle.awk_tasks.specs.Wholes.{names_in};
-ghost use Rattle.awk_text.specs.declared.value.Value.{Value as Val};
+ghost use Rattle.awk_text.specs.Values as values;
+ghost use Rattle.awk_text.specs.declared.value.Value.TheVariants as v;
 
 use crate::at_hand::{MOST_LEVELS, at_hand, number_at_hand, value_at_hand};
 use awk_program::{Expr, Operator, Step, Target, Variable};
 use awk_store::{Store, is_nf};
+use awk_text::place::Place;
 use awk_text::value::{Value, number_of};
 use awk_works::line::Line;
 use awk_works::operators::{operation, stepped};
@@ -20,6 +27,7 @@ use std::alloc::Global;
 
 /// The key of one subscript that is at hand, in the line.
 fn key_at_hand<'a>(store: &Store, line: &'a mut Line, keys: &[Expr]) -> Option<&'a [u8]>
+    ensures { IfSome result (λ key. (g : Given) (t : Table) (place : Place) (array : p.Variable) → Passes g (spot (p.element place array (expressions_of (map (view (names_in g)) keys.now)))) (store.now, t) (give (v.Text key.now)) (store.now, t)) }
 {
     let [one] = keys else {
         return None;
@@ -27,14 +35,14 @@ fn key_at_hand<'a>(store: &Store, line: &'a mut Line, keys: &[Expr]) -> Option<&
     let subscript = at_hand(store, one, MOST_LEVELS)?;
     let mut digits = Buffer::new();
     line.clear();
-    let Ok(()) = line.push(subscript.text(&mut digits)) else {
-        return None;
-    };
+    line.push(subscript.text(&mut digits)).ok()?;
     line.text().ok()
 }
 
 /// The number of a variable that is not NF.
 fn number_held(store: &Store, variable: Variable) -> Option<i64>
+    ensures nf { IfSome result (λ n. kept.is_nf variable ≡ false) }
+    ensures number { IfSome result (λ n. values.number_of (kept.value store.now variable) ≡ Ok n) }
 {
     if is_nf(variable) {
         return None;
@@ -47,6 +55,8 @@ fn number_held(store: &Store, variable: Variable) -> Option<i64>
 
 /// `variable = value`
 fn assigned_variable(alloc: Global, store: &mut Store, variable: Variable, x: &Expr) -> bool
+    ensures done { result ≡ true → (place : Place) → IsDone (λ names. p.assign place (p.variable (variable_of names variable)) (view names x.now)) store.old store.new }
+    ensures not_done { result ≡ false → store.new ≡ store.old }
 {
     if is_nf(variable) {
         return false;
@@ -67,6 +77,8 @@ fn assigned_element(
     keys: &[Expr],
     x: &Expr,
 ) -> bool
+    ensures done { result ≡ true → (place at_name : Place) → IsDone (λ names. p.assign place (p.element at_name (variable_of names array) (expressions_of (map (view names) keys.now))) (view names x.now)) store.old store.new }
+    ensures not_done { result ≡ false → store.new ≡ store.old }
 {
     let Some(value) = value_at_hand(alloc, store, x) else {
         return false;
@@ -85,6 +97,8 @@ fn assigned(
     target: &Target<Expr>,
     x: &Expr,
 ) -> bool
+    ensures done { result ≡ true → (place : Place) → IsDone (λ names. p.assign place (view_target names target.now) (view names x.now)) store.old store.new }
+    ensures not_done { result ≡ false → store.new ≡ store.old }
 {
     match target {
         Target::Variable(variable) => assigned_variable(alloc, store, *variable, x),
@@ -97,6 +111,8 @@ fn assigned(
 
 /// `variable += number`, and with the other operators.
 fn changed_variable(store: &mut Store, how: Operator, variable: Variable, x: &Expr) -> bool
+    ensures done { result ≡ true → (place : Place) → IsDone (λ names. p.change place how (p.variable (variable_of names variable)) (view names x.now)) store.old store.new }
+    ensures not_done { result ≡ false → store.new ≡ store.old }
 {
     let Some(operand) = number_at_hand(store, x, MOST_LEVELS) else {
         return false;
@@ -119,6 +135,8 @@ fn added_to_element(
     keys: &[Expr],
     x: &Expr,
 ) -> bool
+    ensures done { result ≡ true → (place at_name : Place) → IsDone (λ names. p.change place Operator.Add (p.element at_name (variable_of names array) (expressions_of (map (view names) keys.now))) (view names x.now)) store.old store.new }
+    ensures not_done { result ≡ false → store.new ≡ store.old }
 {
     let Some(operand) = number_at_hand(store, x, MOST_LEVELS) else {
         return false;
@@ -137,6 +155,8 @@ fn changed(
     target: &Target<Expr>,
     x: &Expr,
 ) -> bool
+    ensures done { result ≡ true → (place : Place) → IsDone (λ names. p.change place how (view_target names target.now) (view names x.now)) store.old store.new }
+    ensures not_done { result ≡ false → store.new ≡ store.old }
 {
     match target {
         Target::Variable(variable) => changed_variable(store, how, *variable, x),
@@ -152,6 +172,8 @@ fn changed(
 
 /// `variable ++` and `variable --`
 fn stepped_variable(store: &mut Store, how: Step, variable: Variable) -> bool
+    ensures done { result ≡ true → (place : Place) (taken : Which) → IsDone (λ names. p.step place how taken (p.variable (variable_of names variable))) store.old store.new }
+    ensures not_done { result ≡ false → store.new ≡ store.old }
 {
     let Some(old) = number_held(store, variable) else {
         return false;
@@ -171,6 +193,8 @@ fn stepped_element(
     array: Variable,
     keys: &[Expr],
 ) -> bool
+    ensures done { result ≡ true → (place at_name : Place) (taken : Which) → IsDone (λ names. p.step place how taken (p.element at_name (variable_of names array) (expressions_of (map (view names) keys.now)))) store.old store.new }
+    ensures not_done { result ≡ false → store.new ≡ store.old }
 {
     let Some(key) = key_at_hand(store, line, keys) else {
         return false;
@@ -184,6 +208,8 @@ fn stepped_element(
 
 /// `target ++` and `target --`
 fn stepped_target(store: &mut Store, line: &mut Line, how: Step, target: &Target<Expr>) -> bool
+    ensures done { result ≡ true → (place : Place) (taken : Which) → IsDone (λ names. p.step place how taken (view_target names target.now)) store.old store.new }
+    ensures not_done { result ≡ false → store.new ≡ store.old }
 {
     match target {
         Target::Variable(variable) => stepped_variable(store, how, *variable),
@@ -197,6 +223,8 @@ fn stepped_target(store: &mut Store, line: &mut Line, how: Step, target: &Target
 /// Does the whole of an assignment whose parts are at hand. Else it does nothing, and answers `false`;
 /// so also where there is a fault, which has its place in the general way.
 pub fn done_at_once(alloc: Global, store: &mut Store, line: &mut Line, e: &Expr) -> bool
+    ensures done { result ≡ true → IsDone (λ names. view names e.now) store.old store.new }
+    ensures not_done { result ≡ false → store.new ≡ store.old }
 {
     match e {
         Expr::Assign(_, target, x) => assigned(alloc, store, line, target, x.get()),

@@ -17,6 +17,7 @@ ghost use Rattle.awk_text.specs.declared.value.Value.{Value as Val};
 ghost use Rattle.awk_text.specs.declared.value.Value.TheVariants as v;
 ghost use Rattle.awk_forms.specs.Growing.{Follows, Lends};
 
+use crate::at_hand::{MOST_LEVELS, at_hand};
 use awk_asks::halt::Halt;
 use awk_program::{Expr, Joined, Target, Variable};
 use awk_store::{Store, is_nf};
@@ -25,124 +26,20 @@ use awk_text::Memory;
 use awk_text::octets::Octets;
 use awk_text::place::Place;
 use awk_text::texts::MOST_BYTES;
-use awk_text::value::{Value, text_in};
+use awk_text::value::Value;
 use itoa::Buffer;
 use std::alloc::Global;
-
-/// The text of a constant, lent. Takes no memory.
-fn constant_text<'a>(e: &'a Expr, buffer: &'a mut Buffer) -> Option<&'a [u8]>
-    ensures { IfSome result (λ text. (g : Given) (w : Whole) → Lends g w (view (names_in g) e.now) text.now) }
-{
-    match e {
-        Expr::Number(number) => Some(buffer.format(*number).as_bytes()),
-        Expr::Text(text) => Some(text.bytes()),
-        _ => None,
-    }
-}
-
-/// The text of a variable that is not NF, lent. Takes no memory.
-fn variable_text<'a>(
-    store: &'a Store,
-    target: &Target<Expr>,
-    buffer: &'a mut Buffer,
-) -> Option<&'a [u8]>
-    ensures { IfSome result (λ text. (g : Given) (t : Table) → Lends g (store.now, t) (p.read (view_target (names_in g) target.now)) text.now) }
-{
-    match target {
-        Target::Variable(variable) => {
-            if is_nf(*variable) {
-                return None;
-            }
-            Some(text_in(store.value(*variable)?, buffer))
-        }
-        _ => None,
-    }
-}
-
-/// The text of a constant or of a variable, lent. Takes no memory.
-fn plain_text<'a>(store: &'a Store, e: &'a Expr, buffer: &'a mut Buffer) -> Option<&'a [u8]>
-    ensures { IfSome result (λ text. (g : Given) (t : Table) → Lends g (store.now, t) (view (names_in g) e.now) text.now) }
-{
-    match e {
-        Expr::Read(target) => variable_text(store, target, buffer),
-        _ => constant_text(e, buffer),
-    }
-}
-
-/// The text of an element that is there, by one subscript, lent. Takes no memory.
-fn element_text<'a>(
-    store: &'a Store,
-    place: Place,
-    array: Variable,
-    keys: &[Expr],
-    buffer: &'a mut Buffer,
-) -> Option<&'a [u8]>
-    ensures { IfSome result (λ text. (g : Given) (t : Table) → Lends g (store.now, t)
-        (p.read (p.element place (variable_of (names_in g) array) (expressions_of (map (view (names_in g)) keys.now)))) text.now) }
-{
-    let [one] = keys else {
-        return None;
-    };
-    let mut digits = Buffer::new();
-    let key = plain_text(store, one, &mut digits)?;
-    if MOST_BYTES < key.len() {
-        return None;
-    }
-    Some(text_in(store.element(array, key)?, buffer))
-}
-
-/// The text of `$0`, lent, where the number is written so. Takes no memory.
-fn record_text<'a>(store: &'a Store, place: Place, number: &Expr) -> Option<&'a [u8]>
-    ensures { IfSome result (λ text. (g : Given) (t : Table) → Lends g (store.now, t) (p.read (p.field place (view (names_in g) number.now))) text.now) }
-{
-    match number {
-        Expr::Number(number) => {
-            if *number == 0 {
-                return Some(store.whole());
-            }
-            None
-        }
-        _ => None,
-    }
-}
-
-/// The text of what is read, lent, where that is there and to read it changes nothing. Takes no memory.
-fn target_text<'a>(
-    store: &'a Store,
-    target: &Target<Expr>,
-    buffer: &'a mut Buffer,
-) -> Option<&'a [u8]>
-    ensures { IfSome result (λ text. (g : Given) (t : Table) → Lends g (store.now, t) (p.read (view_target (names_in g) target.now)) text.now) }
-{
-    match target {
-        Target::Variable(_) => variable_text(store, target, buffer),
-        Target::Element(place, array, keys) => {
-            element_text(store, *place, *array, keys.as_slice(), buffer)
-        }
-        Target::Field(place, number) => record_text(store, *place, number.get()),
-    }
-}
-
-/// The text of an expression, lent, where that is there and to evaluate it changes nothing: of a constant, of a variable that
-/// is not NF, of an element that is there, and of `$0`. Takes no memory.
-fn text_at_hand<'a>(store: &'a Store, e: &'a Expr, buffer: &'a mut Buffer) -> Option<&'a [u8]>
-    ensures { IfSome result (λ text. (g : Given) (t : Table) → Lends g (store.now, t) (view (names_in g) e.now) text.now) }
-{
-    match e {
-        Expr::Read(target) => target_text(store, target, buffer),
-        _ => constant_text(e, buffer),
-    }
-}
 
 /// Adds the text of an operand behind the others, and answers whether it did: it is at hand, and there is room.
 fn add_text(store: &Store, e: &Expr, room: usize, texts: &mut Vec<u8>) -> Result<bool, Memory>
     ensures room { IfOk result (λ added. added ≡ true → length texts.new.items ≤ room) }
     ensures text { IfOk result (λ added. added ≡ true → (text : List ℕ) × (texts.new.items ≡ texts.old.items ++ text) × ((g : Given) (t : Table) → Lends g (store.now, t) (view (names_in g) e.now) text)) }
 {
-    let mut buffer = Buffer::new();
-    let Some(text) = text_at_hand(store, e, &mut buffer) else {
+    let Some(value) = at_hand(store, e, MOST_LEVELS) else {
         return Ok(false);
     };
+    let mut buffer = Buffer::new();
+    let text = value.text(&mut buffer);
     if room < texts.len() + text.len() {
         return Ok(false);
     }

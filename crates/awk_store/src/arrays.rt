@@ -6,12 +6,11 @@ ghost use Rattle.awk_machine.specs.State as state;
 ghost use Rattle.awk_store.specs.Kept.{array, array_at, array_found, bound_reference, listed, reference};
 ghost use Rattle.awk_store.specs.Changes.{change_at, given_array, with_array, Adds, Puts, PutsNot};
 
-use crate::cell::Cell;
+use crate::cell::{Cell, add_in};
 use crate::frame::{Bound, Reference};
 use crate::store::Store;
 use awk_lib::array::Array;
 use awk_program::Variable;
-use awk_text::arithmetic::add;
 use awk_text::fault::Fault;
 use awk_text::octets::Octets;
 use awk_text::value::Value;
@@ -78,32 +77,14 @@ fn put_in_cells(cells: &mut Vec<Cell>, slot: usize, key: &[u8], value: Value) ->
     }
 }
 
-/// Adds to the number that an element holds, where it holds one, and answers whether it did.
-fn add_in(elements: &mut Array<Value>, key: &[u8], by: i64) -> bool
-    ensures done { result ≡ true → Adds (Some elements.old) key.now by (λ new. elements.new ≡ new) }
-    ensures not_done { result ≡ false → elements.new ≡ elements.old }
-{
-    let Some(old) = elements.get_mut(key) else {
-        return false;
-    };
-    let Value::Num(number) = old else {
-        return false;
-    };
-    let Ok(sum) = add(*number, by) else {
-        return false;
-    };
-    *old = Value::Num(sum);
-    true
-}
-
-/// The same of the array at a slot.
+/// Adds to the number that an element of the array at a slot holds, where it holds one, and answers whether it did.
 fn add_in_cells(cells: &mut Vec<Cell>, slot: usize, key: &[u8], by: i64) -> bool
     ensures done { result ≡ true → Adds (listed (slice_get cells.old.items slot)) key.now by (λ new. cells.new.items ≡ change_at (given_array new) cells.old.items slot) }
     ensures not_done { result ≡ false → cells.new.items ≡ cells.old.items }
 {
     match cells.get_mut(slot) {
-        Some(Cell::Array(elements)) => add_in(elements, key, by),
-        Some(Cell::Value(_)) | None => false,
+        Some(cell) => cell.add_to(key, by),
+        None => false,
     }
 }
 
@@ -211,7 +192,7 @@ impl Store {
     }
 
     /// Adds to the number that an element holds, and answers whether it did. Where the element is not there or holds no
-    /// number, or the sum is out of range, nothing changes. The key is looked up once. Takes no memory.
+    /// number, or the sum is out of range, nothing changes. Takes no memory.
     pub fn add_to(&mut self, name: Variable, key: &[u8], by: i64) -> bool
         ensures done { result ≡ true → Adds (Some (array self.old name)) key.now by (λ new. self.new ≡ with_array (reference self.old name) new self.old) }
         ensures not_done { result ≡ false → self.new ≡ self.old }

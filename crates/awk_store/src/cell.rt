@@ -1,10 +1,12 @@
 // Variables of the whole script.
-ghost use Rattle.std.specs.Prelude.{◌≡◌, Some, [], unwrap_or, IfOk, IfErr, OnOk, IsOkUnless};
+ghost use Rattle.std.specs.Prelude.{◌≡◌, Some, [], true, false, unwrap_or, IfOk, IfErr, OnOk, IsOkUnless};
 ghost use Rattle.std.specs.Option.{option_copied};
 ghost use Rattle.awk_machine.specs.Begins.{first_value};
+ghost use Rattle.awk_store.specs.Changes.{Adds};
 
 use awk_lib::array::Array;
 use awk_program::Name;
+use awk_text::arithmetic::add;
 use awk_text::fault::Fault;
 use awk_text::octets::Octets;
 use awk_text::value::Value;
@@ -20,7 +22,7 @@ pub enum Cell {
 
 impl Cell {
     ghost use Rattle.awk_store.specs.Kept.{scalar, listed};
-    ghost use Rattle.awk_store.specs.Changes.{first_cell, given_value, given_array, Puts, PutsNot};
+    ghost use Rattle.awk_store.specs.Changes.{first_cell, given_value, given_array, Adds, Puts, PutsNot};
 
     /// A variable as it is when a run begins.
     ///
@@ -88,6 +90,17 @@ impl Cell {
         }
     }
 
+    /// Adds to the number that an element of the array holds, and answers whether it did.
+    pub(crate) fn add_to(&mut self, key: &[u8], by: i64) -> bool
+        ensures done { result ≡ true → Adds (listed (Some self.old)) key.now by (λ new. self.new ≡ given_array new self.old) }
+        ensures not_done { result ≡ false → self.new ≡ self.old }
+    {
+        match self {
+            Cell::Value(_) => false,
+            Cell::Array(array) => add_in(array, key, by),
+        }
+    }
+
     /// Puts an array in place of the one that it holds, and answers that. A value stays as it is.
     pub(crate) fn replace_array(&mut self, array: Array<Value>, none: Array<Value>) -> Array<Value>
         ensures value { result ≡ unwrap_or (listed (Some self.old)) none }
@@ -98,6 +111,20 @@ impl Cell {
             Cell::Array(old) => mem::replace(old, array),
         }
     }
+}
+
+/// Adds to the number that an element holds, where it holds one, and answers whether it did.
+pub(crate) fn add_in(elements: &mut Array<Value>, key: &[u8], by: i64) -> bool
+    ensures done { result ≡ true → Adds (Some elements.old) key.now by (λ new. elements.new ≡ new) }
+    ensures not_done { result ≡ false → elements.new ≡ elements.old }
+{
+    let Some(Value::Num(number)) = elements.get(key) else {
+        return false;
+    };
+    let Ok(sum) = add(*number, by) else {
+        return false;
+    };
+    elements.set(key, Value::Num(sum)).is_ok()
 }
 
 /// A text as a value.

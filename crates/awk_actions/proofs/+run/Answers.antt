@@ -1171,28 +1171,20 @@ pub output::printf-returns : goal.output::printf-returns
 output::printf-returns g t c =
     rw c.in-Some.is (record { plays = λ m is. done (rw c.in_ok-put_to.was at (c.put_to.ensures.task m c.value-2.new.run.store (At (Doing (p.printf c.args.place (view (names_in m) c.args.x.now) (map (view (names_in m)) c.args.xs.now) (Some (view_redirection (names_in m) c.in-Some.to)))) []) (c.args.run.now.store, c.args.run.now.streams) c.args.world.now (turned {then_ = streamed (view_redirection (names_in m) c.in-Some.to) c.in-Ok.name c.in_ok-text-2.text} (part _ (part _ (quietly (part _ (part _ (quietly (at_once _ _ _) (λ k hid d a. refl)) (c.value.ensures.plays m is) c.in_ok-format.was) (filled_from _ (c.in_ok-format.format ∷ []) (c.in_ok-append.ensures.ok ∙ ap (λ vs. vs ++ c.in_ok-format.format ∷ []) c.new-values.ensures.items) c.fill.ensures.plays m is (Doing (p.printf c.args.place (view (names_in m) c.args.x.now) (map (view (names_in m)) c.args.xs.now) (Some (view_redirection (names_in m) c.in-Some.to)))) (waits_formatted m c.args.place (view (names_in m) c.args.x.now) (map (view (names_in m)) c.args.xs.now) (Some (view_redirection (names_in m) c.in-Some.to)))) c.in_ok-fill.was) (λ k hid d a. printf_target m c.args.place (view (names_in m) c.args.x.now) (map (view (names_in m)) c.args.xs.now) (view_redirection (names_in m) c.in-Some.to) _ (count_formatted (view (names_in m)) (view (names_in m) c.args.x.now) c.args.xs.now _ _ _ (c.in_ok-append.ensures.ok ∙ ap (λ vs. vs ++ c.in_ok-format.format ∷ []) c.new-values.ensures.items) c.in_ok-fill.ensures.count) k _)) (c.value-2.ensures.plays m is) c.in_ok-target.was) (acted (rw c.as_slice-2.ensures.value at (c.formatted_for.ensures m (c.value-2.new.run.store, c.value-2.new.run.streams) (view (names_in m) c.args.x.now) (map (view (names_in m)) c.args.xs.now) (view_redirection (names_in m) c.in-Some.to) (rw c.as_slice-2.ensures.value (count_formatted (view (names_in m)) (view (names_in m) c.args.x.now) c.args.xs.now _ _ _ (c.in_ok-append.ensures.ok ∙ ap (λ vs. vs ++ c.in_ok-format.format ∷ []) c.new-values.ensures.items) c.in_ok-fill.ensures.count))))) c.in_ok-text-2.was) (λ k. ap (λ n. streamed (view_redirection (names_in m) c.in-Some.to) n c.in_ok-text-2.text k) (sym c.in-Ok.ensures))))); owns = c.put_to.ensures.owns })
 
-pub expressions::value-returns-in-Chain : goal.expressions::value-returns-in-Chain
-expressions::value-returns-in-Chain g t c =
-    record { plays = λ m is. rw (c.in-Chain.is, view-Chain) (rw (c.get.ensures, c.as_slice.ensures) at (c.chain.ensures.plays m is)); owns = c.chain.ensures.owns }
-
-pub expressions::value-returns-in-Read : goal.expressions::value-returns-in-Read
-expressions::value-returns-in-Read g t c =
-    record { plays = λ m is. rw (c.in-Read.is, view-Read) (c.read_target.ensures.plays m is); owns = c.read_target.ensures.owns }
-
 pub expressions::truth_of-returns-then-level-eq0 : goal.expressions::truth_of-returns-then-level-eq0
 expressions::truth_of-returns-then-level-eq0 g t c =
     record { val = v.Unset; is = tt; does = record { plays = λ m is. lacking (at_once _ _ _); owns = c.requires } }
 
-pub expressions::effect-returns-then-level-eq0 : goal.expressions::effect-returns-then-level-eq0
-expressions::effect-returns-then-level-eq0 g t c =
+pub expressions::general_effect-returns-then-level-eq0 : goal.expressions::general_effect-returns-then-level-eq0
+expressions::general_effect-returns-then-level-eq0 g t c =
     record { val = v.Unset; is = tt; does = record { plays = λ m is. lacking (at_once _ _ _); owns = c.requires } }
 
-pub expressions::effect-returns-in-Assign : goal.expressions::effect-returns-in-Assign
-expressions::effect-returns-in-Assign g t c =
+pub expressions::general_effect-returns-in-Assign : goal.expressions::general_effect-returns-in-Assign
+expressions::general_effect-returns-in-Assign g t c =
     record { val = c.put.ensures.val; is = c.put.ensures.is; does = record { plays = λ m is. rw (c.in-Assign.is, view-Assign) (rw c.get.ensures at (c.put.ensures.does.plays m is)); owns = c.put.ensures.does.owns } }
 
-pub expressions::effect-returns-in-Change : goal.expressions::effect-returns-in-Change
-expressions::effect-returns-in-Change g t c =
+pub expressions::general_effect-returns-in-Change : goal.expressions::general_effect-returns-in-Change
+expressions::general_effect-returns-in-Change g t c =
     record { val = c.alter.ensures.val; is = c.alter.ensures.is; does = record { plays = λ m is. rw (c.in-Change.is, view-Change) (rw c.get-in-Change.ensures at (c.alter.ensures.does.plays m is)); owns = c.alter.ensures.does.owns } }
 
 pub targets::read_target-returns-in-Variable : goal.targets::read_target-returns-in-Variable
@@ -1271,14 +1263,6 @@ pub loops::first_then-returns : goal.loops::first_then-returns
 loops::first_then-returns g t c =
     record { plays = λ m is. rw (c.in-Some.is) (hands (quietly (part _ (quietly (at_once _ _ _) (λ k hid d a. refl)) (c.effect.ensures.does.plays m is) c.in_ok-effect.was) (λ k hid d a. refl)) (rw (c.as_ref-test.ensures.value, c.as_ref-after.ensures.value) at (c.turns-2.ensures.plays m is))); owns = c.turns-2.ensures.owns }
 
-pub expressions::value-returns-in-Some : goal.expressions::value-returns-in-Some
-expressions::value-returns-in-Some g t c =
-    record { plays = λ m is. rw (to_z-of_z w64 c.in-Some.known (search rules)) (acted (there {on = give} {x = v.Num c.in-Some.known} (c.in-Some.ensures m c.args.run.now.streams))); owns = c.requires }
-
-pub expressions::number-returns-in-Some : goal.expressions::number-returns-in-Some
-expressions::number-returns-in-Some g t c =
-    rw (to_z-of_z w64 c.in-Some.known (search rules)) (record { val = v.Num c.in-Some.known; is = refl; does = record { plays = λ m is. acted (there {on = λ (x : Result ℤ Fault). give (v.Num c.in-Some.known)} {x = Ok c.in-Some.known} (c.in-Some.ensures m c.args.run.now.streams)); owns = c.requires } })
-
 pub expressions::number-returns-in_err-found : goal.expressions::number-returns-in_err-found
 expressions::number-returns-in_err-found g t c =
     let e = err_from_is_err_and c.from_residual.result c.from_residual.ensures.1 in rw (e.1, e.2) (record { val = v.Unset; is = tt; does = record { plays = λ m is. stop _ (λ k. refl) (at_once _ _ _) (c.value.ensures.plays m is) c.in_err-found.was; owns = c.value.ensures.owns } })
@@ -1352,20 +1336,20 @@ pub expressions::compare-returns : goal.expressions::compare-returns
 expressions::compare-returns g t c =
     record { plays = λ m is. done (quietly (part _ (quietly (part _ (quietly (at_once _ _ _) (λ k hid d a. refl)) (c.value.ensures.plays m is) c.in_ok-one.was) (λ k hid d a. refl)) (c.value-2.ensures.plays m is) c.in_ok-other.was) (λ k hid d a. ap (λ z. Goes (give z k) (seen (base m (c.value-2.new.run.store, c.value-2.new.run.streams) hid) d)) (sym c.compared.ensures))); owns = c.value-2.ensures.owns }
 
-pub expressions::effect-returns-in_err-step_target-in-Step : goal.expressions::effect-returns-in_err-step_target-in-Step
-expressions::effect-returns-in_err-step_target-in-Step g t c =
+pub expressions::general_effect-returns-in_err-step_target-in-Step : goal.expressions::general_effect-returns-in_err-step_target-in-Step
+expressions::general_effect-returns-in_err-step_target-in-Step g t c =
     let e = err_from_is_err_and c.from_residual.result c.from_residual.ensures.1 in rw (e.1, e.2) (record { val = v.Unset; is = tt; does = record { plays = λ m is. rw (c.in-Step.is, view-Step) (stop _ (λ k. refl) (at_once _ _ _) ((c.step_target.ensures c.in-Step.field-2).plays m is) c.in_err-step_target-in-Step.was); owns = (c.step_target.ensures c.in-Step.field-2).owns } })
 
-pub expressions::effect-returns-in_ok-step_target-in-Step : goal.expressions::effect-returns-in_ok-step_target-in-Step
-expressions::effect-returns-in_ok-step_target-in-Step g t c =
+pub expressions::general_effect-returns-in_ok-step_target-in-Step : goal.expressions::general_effect-returns-in_ok-step_target-in-Step
+expressions::general_effect-returns-in_ok-step_target-in-Step g t c =
     record { val = either c.in-Step.field-2 c.in_ok-step_target-in-Step.field-0.0 c.in_ok-step_target-in-Step.field-0.1; is = tt; does = record { plays = λ m is. rw (c.in-Step.is, view-Step) (done (part _ (at_once _ _ _) ((c.step_target.ensures c.in-Step.field-2).plays m is) c.in_ok-step_target-in-Step.was)); owns = (c.step_target.ensures c.in-Step.field-2).owns } }
 
-pub expressions::effect-returns-in_err-value-in_default : goal.expressions::effect-returns-in_err-value-in_default
-expressions::effect-returns-in_err-value-in_default g t c =
+pub expressions::general_effect-returns-in_err-value-in_default : goal.expressions::general_effect-returns-in_err-value-in_default
+expressions::general_effect-returns-in_err-value-in_default g t c =
     let e = err_from_is_err_and c.from_residual-in_err-value-in_default.result c.from_residual-in_err-value-in_default.ensures.1 in rw (e.1, e.2) (record { val = v.Unset; is = tt; does = record { plays = λ m is. stop _ (λ k. refl) (at_once _ _ _) (c.value.ensures.plays m is) c.in_err-value-in_default.was; owns = c.value.ensures.owns } })
 
-pub expressions::effect-returns-in_ok-value-in_default : goal.expressions::effect-returns-in_ok-value-in_default
-expressions::effect-returns-in_ok-value-in_default g t c =
+pub expressions::general_effect-returns-in_ok-value-in_default : goal.expressions::general_effect-returns-in_ok-value-in_default
+expressions::general_effect-returns-in_ok-value-in_default g t c =
     record { val = c.in_ok-value-in_default.field-0; is = tt; does = record { plays = λ m is. done (part _ (at_once _ _ _) (c.value.ensures.plays m is) c.in_ok-value-in_default.was); owns = c.value.ensures.owns } }
 
 pub expressions::evaluate-returns-in-Number : goal.expressions::evaluate-returns-in-Number
@@ -1474,3 +1458,27 @@ lists::element-returns-in_err-found-clause-plays g t c =
 pub lists::element-returns-in-Some-clause-plays : goal.lists::element-returns-in-Some-clause-plays
 lists::element-returns-in-Some-clause-plays g t c =
     record { plays = λ m is. rw c.in-Some.ensures (done (part _ (part _ (quietly (at_once _ _ _) (λ k hid d a. refl)) (c.value.ensures.plays m is) c.in_ok-subscript.was) (acted (c.one_key.ensures m (c.value.new.run.store, c.value.new.run.streams) (variable_of (names_in m) c.args.array) (view (names_in m) c.in-Some.one.now))) c.in_ok-found.was)); owns = c.value.ensures.owns }
+
+pub expressions::value-returns-in-Some : goal.expressions::value-returns-in-Some
+expressions::value-returns-in-Some g t c =
+    record { plays = λ m is. acted (there {on = give} {x = c.in-Some.there} (c.in-Some.ensures m c.args.run.now.streams)); owns = c.requires }
+
+pub expressions::number-returns-in-Some : goal.expressions::number-returns-in-Some
+expressions::number-returns-in-Some g t c =
+    let h = c.in-Some.ensures in
+    record { val = h.val; is = rw (to_z-of_z w64 c.in-Some.known (search rules)) at (sym h.is); does = record { plays = λ m is. acted (there {on = λ (x : Result ℤ Fault). give h.val} {x = Ok c.in-Some.known} (h.there m c.args.run.now.streams)); owns = c.requires } }
+
+pub expressions::truth_of-returns-in-Some : goal.expressions::truth_of-returns-in-Some
+expressions::truth_of-returns-in-Some g t c =
+    let h = c.in-Some.ensures in
+    record { val = h.val; is = sym h.is; does = record { plays = λ m is. acted (there {on = λ (x : Bool). give h.val} {x = c.in-Some.known} (h.there m c.args.run.now.streams)); owns = c.requires } }
+
+pub expressions::effect-returns-then-is_done : goal.expressions::effect-returns-then-is_done
+expressions::effect-returns-then-is_done g t c =
+    let h = c.done_at_once.ensures.done c.if-is_done.true in
+    record { val = h.val; is = tt; does = record { plays = λ m is. acted (there {on = λ (u : Unit {0}). give h.val} {x = tt} (h.gives m c.args.run.now.streams)); owns = c.requires } }
+
+pub expressions::effect-returns : goal.expressions::effect-returns
+expressions::effect-returns g t c =
+    let h = c.general_effect.ensures in
+    record { val = h.val; is = h.is; does = record { plays = λ m is. rw (c.done_at_once.ensures.not_done c.if-is_done.false) at (h.does.plays m is); owns = h.does.owns } }
