@@ -51,13 +51,23 @@ fn compiled(alloc: Global, source: &[u8]) -> Result<Rc<Ere>, Fault>
     }
 }
 
-/// The pattern that the cache has of this text. It is the one used last now.
+/// Notes that the pattern of this text is the one used last, where the cache is full, so that the next one takes another's place.
+fn note_use(cache: &mut Cache, source: &[u8])
+    requires { AreEres (λ k. k.items) (λ e. e.value) cache.old.entries }
+    ensures { AreEres (λ k. k.items) (λ e. e.value) cache.new.entries }
+{
+    if cache.len() == MOST_KEPT {
+        cache.promote(source);
+    }
+}
+
+/// The pattern that the cache has of this text.
 fn cached(cache: &mut Cache, source: &[u8]) -> Option<Rc<Ere>>
     requires { AreEres (λ k. k.items) (λ e. e.value) cache.old.entries }
     ensures found { IfSome result (λ e. (e.value ≡ source.now) × IsEre source.now) }
     ensures kept { AreEres (λ k. k.items) (λ e. e.value) cache.new.entries }
 {
-    cache.promote(source);
+    note_use(cache, source);
     let kept = cache.peek(source)?;
     match kept.clone() {
         Ok(shared) => Some(shared),
