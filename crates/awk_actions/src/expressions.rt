@@ -95,6 +95,9 @@ pub fn truth_of<W: World>(
     }
     match e {
         Expr::Compare(how, x, y) => compare(cx, *how, x.get(), y.get(), level - 1, run, world),
+        Expr::Match(place, x, pattern) => {
+            matches(cx, *place, x.get(), pattern, level - 1, run, world)
+        }
         _ => {
             let found = value(cx, e, level, run, world)?;
             Ok(truth(&found))
@@ -266,7 +269,8 @@ fn evaluate<W: World>(
             )
         }
         Expr::Match(place, x, pattern) => {
-            matches(cx, *place, x.get(), pattern, level, run, world)
+            let found = matches(cx, *place, x.get(), pattern, level, run, world)?;
+            Ok(truth_value(found))
         }
         Expr::Locate(place, x, pattern) => {
             locate(cx, *place, x.get(), pattern, level, run, world)

@@ -3,6 +3,7 @@ ghost use Rattle.std.specs.Prelude.{◌≡◌, List, ℕ, IfOk};
 ghost use Rattle.awk_asks.specs.Tasks.{Owns};
 ghost use Rattle.awk_forms.specs.Patterns.{source_value, IsSourceOf};
 ghost use Rattle.awk_machine.specs.Forms.{source, value};
+ghost use Rattle.awk_machine.specs.Operators.{of_truth};
 ghost use Rattle.awk_machine.specs.Pieces.{give};
 ghost use Rattle.awk_program.specs.Program as p;
 ghost use Rattle.awk_program.specs.View.{view, view_ere, view_target, variable_of};
@@ -13,7 +14,8 @@ use crate::context::{Context, Run};
 use crate::expressions::value;
 use crate::targets::target_of;
 use awk_asks::halt::Halt;
-use awk_forms::patterns::{self, Source};
+use awk_forms::patterns::{self, Source, matched_at_hand};
+use awk_forms::at_hand::split_for;
 use awk_forms::replacements;
 use awk_program::{Expr, Extent, Pattern, Target, Variable};
 use awk_text::place::Place;
@@ -45,7 +47,7 @@ fn source_of<W: World>(
     }
 }
 
-/// `text ~ pattern`
+/// Whether `text ~ pattern` holds.
 #[cycle(run)]
 pub fn matches<W: World>(
     cx: &Context<'_>,
@@ -55,11 +57,16 @@ pub fn matches<W: World>(
     level: u32,
     run: &mut Run,
     world: &mut W,
-) -> Result<Value, Halt>
+) -> Result<bool, Halt>
     requires { Owns (W.open_numbers world.old) run.old.streams }
-    ensures { Does W.follows W.has_stopped W.stops W.open_numbers cx.now (λ g. value (p.matched place (view (names_in g) x.now) (view_ere (names_in g) pattern.now))) (λ g. give)
+    ensures { Does W.follows W.has_stopped W.stops W.open_numbers cx.now (λ g. value (p.matched place (view (names_in g) x.now) (view_ere (names_in g) pattern.now))) (λ g b. give (of_truth b))
         (run.old.store, run.old.streams) world.old result (run.new.store, run.new.streams) world.new }
 {
+    split_for(&mut run.store, x)?;
+    let known = matched_at_hand(cx.alloc, &mut run.patterns, &run.store, x, pattern);
+    if let Some(found) = known {
+        return Ok(found);
+    }
     let text = value(cx, x, level, run, world)?;
     let from = source_of(cx, pattern, level, run, world)?;
     patterns::matched(cx.alloc, &mut run.patterns, place, &text, from)

@@ -1,7 +1,7 @@
 -- What is there without a move, and what a chain makes of it.
 use Rattle.std.proofs.Common.{◌≡◌, refl, sym, ap, ◌∙◌, inl, ◌+◌, ◌≤◌, ◌<◌, ℕ, true, false, List, [], ◌∷◌, ◌++◌, length, map, drop, get_or, arith}
 use Rattle.std.proofs.lemmas.List.{drop_more}
-use Rattle.std.specs.Prelude.{ℤ, pos, Option, Some, None, IfSome, Result, Ok, Err}
+use Rattle.std.specs.Prelude.{Bool, ℤ, pos, Option, Some, None, IfSome, Result, Ok, Err}
 use Rattle.awk_text.specs.Limits.{most_bytes}
 use Rattle.awk_text.specs.Values.{number_of, text_of, truth}
 use Rattle.awk_text.specs.declared.place.Place.{Place}
@@ -20,9 +20,10 @@ use Rattle.awk_program.specs.declared.variables.Variable.{Variable}
 use Rattle.awk_machine.specs.Forms.{value, spot}
 use Rattle.awk_machine.specs.Operators.{limited, operation, compared, of_truth}
 use Rattle.awk_machine.specs.Pieces as machine
-use Rattle.awk_machine.specs.Pieces.{Piece, Part, At, Do, Get, Value_of, Target_of, Terms_of, give}
+use Rattle.awk_machine.specs.Pieces.{Piece, Part, At, Do, Get, Match, Pattern_of, Value_of, Target_of, Terms_of, give}
 use Rattle.awk_machine.specs.State.{Given}
 use Rattle.awk_machine.specs.Targets.{target}
+use Rattle.awk_asks.specs.declared.halt.Halt.{Halt}
 use Rattle.awk_asks.specs.declared.halt.Halt.{Halt}
 use Rattle.awk_store.specs.Kept as kept
 use Rattle.awk_tasks.specs.Acts.{Acts, Passes}
@@ -120,3 +121,13 @@ module _ (g : Given) (w : Whole) where
   pub terms_done : {from : Piece} (xs : List (Term Expr)) (i : ℕ) (val : Value) → length xs ≤ i → Passes g from w (waiting xs i val) w → Passes g from w (give val) w
   terms_done xs i val past from =
       moves (reworded {then_ = λ k. At (Terms_of p.no_terms) (val ∷ []) ∷ k} from (λ k. ap (λ ys. At (Terms_of (terms_of (map (view_term (names_in g)) ys))) (val ∷ []) ∷ k) (drop_all xs i past))) (λ k hid d a. refl)
+
+  -- ---- a constant pattern
+
+  pub matches_there : (place at : Place) (x : Expression) (by : Text) (val : Value) (b : Bool) (r : Result Bool Halt) → Passes g (value x) w (give val) w → Passes g (At (Pattern_of (p.constant at by)) []) w (give (v.Text by)) w →
+      Acts g (Do (Match by (text_of val))) (λ b. give (of_truth b)) w r w → r ≡ Ok b → Passes g (value (p.matched place x (p.constant at by))) w (give (of_truth b)) w
+  matches_there place at x by val b r h check match is =
+      let part : Part = Value_of (p.matched place x (p.constant at by)) in
+      doing b (moves {then_ = λ k. Do (Match by (text_of val)) ∷ k}
+      (on (moves {then_ = λ k. At (Pattern_of (p.constant at by)) [] ∷ At part (val ∷ []) ∷ k} (on (moves {then_ = λ k. value x ∷ At part [] ∷ k} (at_rest _ w) (λ k hid d a. refl)) h) (λ k hid d a. refl)) check)
+      (λ k hid d a. refl)) match is

@@ -1,13 +1,18 @@
 // Values that are there without a move: constants, variables, elements, fields, and what arithmetic makes of them.
-ghost use Rattle.std.specs.Prelude.{◌≡◌, false, map, IfSome};
+ghost use Rattle.std.specs.Prelude.{◌≡◌, ◌∷◌, false, map, IfSome};
+ghost use Rattle.awk_asks.specs.Tables.{Table};
 ghost use Rattle.awk_forms.specs.AtHand.{HasNumber, HasTruth, IsThere};
 ghost use Rattle.awk_lent.specs.Lents.{lent_value};
+ghost use Rattle.awk_machine.specs.Pieces.{Piece};
+ghost use Rattle.awk_machine.specs.State.{Given};
 ghost use Rattle.awk_program.specs.Program as p;
 ghost use Rattle.awk_program.specs.Program.{expressions_of, terms_of};
 ghost use Rattle.awk_program.specs.View.{view, view_target, view_term, variable_of};
 ghost use Rattle.awk_store.specs.Kept as kept;
+ghost use Rattle.awk_tasks.specs.Acts.{Acts};
 ghost use Rattle.awk_text.specs.declared.value.Value.TheVariants as v;
 
+use awk_asks::halt::Halt;
 use awk_lent::lent::Lent;
 use awk_program::{Comparison, Expr, Target, Term, Variable};
 use awk_store::{Store, is_nf};
@@ -246,4 +251,25 @@ pub fn truth_at_hand(store: &Store, e: &Expr) -> Option<bool>
             Some(value.truth())
         }
     }
+}
+
+/// Whether an expression is a field other than `$0`.
+fn is_field(e: &Expr) -> bool {
+    match e {
+        Expr::Read(Target::Field(_, number)) => !matches!(number.get(), Expr::Number(0)),
+        _ => false,
+    }
+}
+
+/// Splits the record where the expression is a field, so that the field is at hand.
+pub fn split_for(store: &mut Store, e: &Expr) -> Result<(), Halt>
+    ensures { (g : Given) (t : Table) (q : Piece) → Acts g q (λ u k. q ∷ k) (store.old, t) result (store.new, t) }
+{
+    if !is_field(e) {
+        return Ok(());
+    }
+    let Ok(_) = store.field_count() else {
+        return Err(Halt::Memory);
+    };
+    Ok(())
 }

@@ -1,24 +1,27 @@
 // Forms that search for a pattern: an ERE by itself, `~`, match and split.
-ghost use Rattle.std.specs.Prelude.{◌≡◌, ◌∷◌, [], List, ℕ, false, IfOk};
+ghost use Rattle.std.specs.Prelude.{◌≡◌, ◌∷◌, [], List, ℕ, false, IfOk, IfSome};
 ghost use Rattle.awk_asks.specs.Tables.{Table};
 ghost use Rattle.awk_fields.specs.Separators as separators;
+ghost use Rattle.awk_forms.specs.AtHand.{IsThere};
 ghost use Rattle.awk_forms.specs.Patterns.{source_value, IsSourceOf};
 ghost use Rattle.awk_machine.specs.Builtins.{split_by};
 ghost use Rattle.awk_machine.specs.Forms.{checked, source, value};
+ghost use Rattle.awk_machine.specs.Operators.{of_truth};
 ghost use Rattle.awk_machine.specs.Pieces.{At, Do, Piece, Split, Value_of, give};
 ghost use Rattle.awk_machine.specs.State.{Given};
 ghost use Rattle.awk_machine.specs.Targets.{check_separator};
 ghost use Rattle.awk_program.specs.Program as p;
 ghost use Rattle.awk_program.specs.Program.{Expression};
-ghost use Rattle.awk_program.specs.View.{variable_of};
+ghost use Rattle.awk_program.specs.View.{variable_of, view, view_ere};
 ghost use Rattle.awk_tasks.specs.Acts.{Acts, Passes};
 ghost use Rattle.awk_tasks.specs.Wholes.{Whole, names_in};
 ghost use Rattle.awk_text.specs.Values.{text_of};
 
+use crate::at_hand::{MOST_LEVELS, at_hand};
 use awk_asks::halt::Halt;
 use awk_ere::Ere;
 use awk_fields::Splitter;
-use awk_program::Variable;
+use awk_program::{Expr, Pattern, Variable};
 use awk_store::Store;
 use awk_tasks::faults::at;
 use awk_tasks::patterns::{check, matches, matches_record};
@@ -88,21 +91,45 @@ pub fn used(
     }
 }
 
-/// What `text ~ pattern` gives.
+/// Whether `text ~ pattern` holds.
 pub fn matched(
     alloc: Global,
     patterns: &mut Patterns,
     place: Place,
     text: &Value,
     pattern: Source,
-) -> Result<Value, Halt>
+) -> Result<bool, Halt>
     ensures { (g : Given) (w : Whole) (x : Expression) (y : p.Ere) → IsSourceOf y pattern
-        → Acts g (At (Value_of (p.matched place x y)) (source_value pattern ∷ text.now ∷ [])) give w result w }
+        → Acts g (At (Value_of (p.matched place x y)) (source_value pattern ∷ text.now ∷ [])) (λ b. give (of_truth b)) w result w }
 {
     let ere = used(alloc, patterns, place, pattern)?;
     let mut buffer = Buffer::new();
-    let found = matches(&ere, text_in(text, &mut buffer))?;
-    Ok(truth_value(found))
+    matches(&ere, text_in(text, &mut buffer))
+}
+
+/// Whether `text ~ pattern` holds, where the pattern is a constant and the text is at hand. `None` stands for a fault too, which
+/// has its place in the general way.
+pub fn matched_at_hand(
+    alloc: Global,
+    patterns: &mut Patterns,
+    store: &Store,
+    x: &Expr,
+    pattern: &Pattern<Expr>,
+) -> Option<bool>
+    ensures { IfSome result (λ b. (place : Place) → IsThere (λ names. p.matched place (view names x.now) (view_ere names pattern.now)) store.now (of_truth b)) }
+{
+    let Pattern::Constant(at, source) = pattern else {
+        return None;
+    };
+    let text = at_hand(store, x, MOST_LEVELS)?;
+    let Ok(ere) = check(alloc, patterns, *at, source.bytes()) else {
+        return None;
+    };
+    let mut buffer = Buffer::new();
+    let Ok(found) = matches(&ere, text.text(&mut buffer)) else {
+        return None;
+    };
+    Some(found)
 }
 
 /// What `match ( text , pattern )` gives. It sets RSTART and RLENGTH.
