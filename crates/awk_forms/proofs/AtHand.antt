@@ -1,14 +1,17 @@
 -- What is there without a move, and what a chain makes of it.
-use Rattle.std.proofs.Common.{◌≡◌, refl, sym, ap, ◌∙◌, inl, ◌+◌, ◌≤◌, ◌<◌, ℕ, true, false, List, [], ◌∷◌, ◌++◌, length, map, drop, get_or, arith}
+use Rattle.std.proofs.Common.{◌≡◌, refl, sym, ap, subst, ◌∙◌, inl, ◌+◌, ◌≤◌, ◌<◌, ℕ, true, false, List, [], ◌∷◌, ◌++◌, length, map, drop, get_or, arith}
 use Rattle.std.proofs.lemmas.List.{drop_more}
-use Rattle.std.specs.Prelude.{Bool, ℤ, pos, Option, Some, None, IfSome, Result, Ok, Err}
+use Rattle.std.specs.Int.{FitsUnsignedBits}
+use Rattle.std.specs.Prelude.{Bool, ℤ, pos, negsuc, nat_abs, Option, Some, Result, Ok}
 use Rattle.awk_text.specs.Limits.{most_bytes}
 use Rattle.awk_text.specs.Values.{number_of, text_of, truth}
 use Rattle.awk_text.specs.declared.place.Place.{Place}
 use Rattle.awk_text.specs.declared.value.Value.{Value}
 use Rattle.awk_text.specs.declared.value.Value.TheVariants as v
-use Rattle.awk_fields.specs.Rows.{HasFields, IsValueAt}
+use Rattle.awk_fields.specs.Rows.{HasFields, IsKept, IsValueAt}
+use Rattle.awk_format.specs.Formatted.{within}
 use Rattle.awk_lib.specs.Arrays.{element}
+use Rattle.awk_lib.specs.Written.{written}
 use Rattle.awk_program.specs.Program as p
 use Rattle.awk_program.specs.Program.{Expression, Terms, terms_of}
 use Rattle.awk_program.specs.Slots.{Text}
@@ -19,19 +22,22 @@ use Rattle.awk_program.specs.declared.operators.Operator.{Operator}
 use Rattle.awk_program.specs.declared.variables.Variable.{Variable}
 use Rattle.awk_machine.specs.Forms.{value, spot}
 use Rattle.awk_machine.specs.Operators.{limited, operation, compared, of_truth}
-use Rattle.awk_machine.specs.Pieces as machine
 use Rattle.awk_machine.specs.Pieces.{Piece, Part, At, Do, Get, Match, Pattern_of, Value_of, Target_of, Terms_of, give}
 use Rattle.awk_machine.specs.State.{Given}
 use Rattle.awk_machine.specs.Targets.{target}
 use Rattle.awk_asks.specs.declared.halt.Halt.{Halt}
 use Rattle.awk_asks.specs.declared.halt.Halt.{Halt}
+use Rattle.awk_asks.specs.Tables.{Table}
+use Rattle.awk_store.specs.Changes.{with_row}
 use Rattle.awk_store.specs.Kept as kept
 use Rattle.awk_tasks.specs.Acts.{Acts, Passes}
 use Rattle.awk_tasks.specs.Wholes.{Whole, names_in}
-use Rattle.awk_tasks.proofs.Acting.{at_rest, moves, reworded, doing, done}
+use Rattle.awk_tasks.proofs.Acting.{at_rest, moves, keeps, reworded, doing, done}
 use Rattle.awk_tasks.proofs.ArraySteps.{reads_element}
+use Rattle.awk_tasks.proofs.Rebuilding.{agreeing_row}
 use Rattle.awk_tasks.proofs.RecordSteps.{reads_field, small}
 use Rattle.awk_tasks.proofs.VariableSteps.{reads_variable, counted_nf}
+use Rattle.awk_works.proofs.Lines.{within_held, written_held}
 use Rattle.awk_works.proofs.Replaced.{limited_ok}
 use Rattle.awk_forms.proofs.Rests.{drop_all}
 
@@ -49,13 +55,10 @@ module _ (g : Given) (w : Whole) where
   pub variable_spot : (x : Variable) → Passes g (spot (p.variable (variable_of (names_in g) x))) w (give v.Unset) w
   variable_spot x = moves (at_rest _ w) (λ k hid d a. refl)
 
-  one_subscript : (sub : Value) (key : Text) → text_of sub ≡ key → length key ≤ most_bytes → limited (text_of sub ++ []) ≡ Ok key
-  one_subscript sub key is fits = ap limited (nil_right (text_of sub) ∙ is) ∙ limited_ok key fits
-
-  pub element_spot : (place : Place) (x : p.Variable) (e : Expression) (sub : Value) (key : Text) → Passes g (value e) w (give sub) w → text_of sub ≡ key → length key ≤ most_bytes →
+  pub element_spot : (place : Place) (x : p.Variable) (e : Expression) (sub : Value) (key : Text) → Passes g (value e) w (give sub) w → limited (text_of sub) ≡ Ok key →
       Passes g (spot (p.element place x (p.more e p.none))) w (give (v.Text key)) w
-  element_spot place x e sub key h is fits =
-      moves (on (moves {then_ = λ k. value e ∷ At (Target_of (p.element place x (p.more e p.none))) [] ∷ k} (at_rest _ w) (λ k hid d a. refl)) h) (λ k hid d a. rw (one_subscript sub key is fits) refl)
+  element_spot place x e sub key h is =
+      moves (on (moves {then_ = λ k. value e ∷ At (Target_of (p.element place x (p.more e p.none))) [] ∷ k} (at_rest _ w) (λ k hid d a. refl)) h) (λ k hid d a. rw (ap limited (nil_right (text_of sub)) ∙ is) refl)
 
   pub field_spot : (place : Place) (e : Expression) (sub : Value) (n : ℕ) → Passes g (value e) w (give sub) w → number_of sub ≡ Ok (pos n) → n ≤ 65535 →
       Passes g (spot (p.field place e)) w (give (v.Num (pos n))) w
@@ -85,7 +88,7 @@ module _ (g : Given) (w : Whole) where
   pub element_there : (place : Place) (x : Variable) (e : Expression) (sub : Value) (key : Text) (val : Value) → Passes g (value e) w (give sub) w → text_of sub ≡ key → length key ≤ most_bytes →
       element (kept.array w.0 x) key ≡ Some val → Passes g (value (p.read (p.element place (variable_of (names_in g) x) (p.more e p.none)))) w (give val) w
   element_there place x e sub key val h is fits has =
-      reads (p.element place (variable_of (names_in g) x) (p.more e p.none)) (v.Text key) val (element_spot place (variable_of (names_in g) x) e sub key h is fits) (reads_element g w x key place val has)
+      reads (p.element place (variable_of (names_in g) x) (p.more e p.none)) (v.Text key) val (element_spot place (variable_of (names_in g) x) e sub key h (ap limited is ∙ limited_ok key fits)) (reads_element g w x key place val has)
 
   pub field_there : (place : Place) (e : Expression) (sub : Value) (n : ℕ) (val : Value) → Passes g (value e) w (give sub) w → number_of sub ≡ Ok (pos n) → n ≤ 65535 → IsValueAt w.0.row n val →
       Passes g (value (p.read (p.field place e))) w (give val) w
@@ -131,3 +134,22 @@ module _ (g : Given) (w : Whole) where
       doing b (moves {then_ = λ k. Do (Match by (text_of val)) ∷ k}
       (on (moves {then_ = λ k. At (Pattern_of (p.constant at by)) [] ∷ At part (val ∷ []) ∷ k} (on (moves {then_ = λ k. value x ∷ At part [] ∷ k} (at_rest _ w) (λ k hid d a. refl)) h) (λ k hid d a. refl)) check)
       (λ k hid d a. refl)) match is
+
+-- the record is split, and the machine has not moved
+pub splits : (g : Given) (t : Table) (old new : kept.Kept) (q : Piece) → new ≡ with_row new.row old → IsKept old.row new.row → Passes g q (old, t) (λ k. q ∷ k) (new, t)
+splits g t old new q same is =
+    subst (λ (k : kept.Kept). Passes g q (old, t) (λ l. q ∷ l) (k, t)) (sym same) (keeps refl (λ hid. refl) (agreeing_row g (old, t) new.row is) (at_rest q (old, t)))
+
+-- a number that is one of a field
+pub field_number_is : (z : ℤ) (n : ℕ) → FitsUnsignedBits 16 z → n ≡ nat_abs z → (z ≡ pos n) × (n ≤ 65535)
+field_number_is (pos m) n fits is = (ap pos (sym is), omega (arith, fits, is))
+field_number_is (negsuc m) n fits is = absurd fits
+
+-- ---- what was written into an empty line
+
+pub line_told : (line : Option Text) (text key : Text) → line ≡ written (Some []) text → within line ≡ Ok key → limited text ≡ Ok key
+line_told line text key is told = sym (within_held text) ∙ ap within (sym (written_held [] text)) ∙ ap within (sym is) ∙ told
+
+pub truth_back : (b : Bool) → truth (of_truth b) ≡ b
+truth_back true = refl
+truth_back false = refl

@@ -1,11 +1,9 @@
 -- A text that grows in its place: what is read is there, each operand is joined to the text, and the whole is stored.
 use Rattle.std.proofs.Common.{◌≡◌, refl, sym, ap, ◌∙◌, ◌+◌, ◌≤◌, ◌<◌, ℕ, false, List, [], ◌∷◌, ◌++◌, length, map, drop, get_or, arith, append_assoc}
 use Rattle.std.proofs.lemmas.List.{length-append, drop_more}
-use Rattle.std.specs.Prelude.{Ok, Option, Some, None, IfSome, pos, ℤ}
+use Rattle.std.specs.Prelude.{Option, Some, None, IfSome}
 use Rattle.awk_text.specs.Limits.{most_bytes}
-use Rattle.awk_text.specs.Values.{text_of}
 use Rattle.awk_text.specs.declared.place.Place.{Place}
-use Rattle.awk_text.specs.declared.value.Value.{Value}
 use Rattle.awk_text.specs.declared.value.Value.TheVariants as v
 use Rattle.awk_program.specs.Program as p
 use Rattle.awk_program.specs.Program.{Expression, Joins, joins_of}
@@ -14,9 +12,7 @@ use Rattle.awk_program.specs.View.{variable_of, view, view_joined}
 use Rattle.awk_program.specs.declared.expressions.Expr.{Expr}
 use Rattle.awk_program.specs.declared.expressions.Joined.{Joined}
 use Rattle.awk_program.specs.declared.variables.Variable.{Variable}
-use Rattle.awk_lib.specs.Arrays.{element}
 use Rattle.awk_machine.specs.Forms.{value}
-use Rattle.awk_machine.specs.Operators.{limited}
 use Rattle.awk_machine.specs.Pieces as machine
 use Rattle.awk_machine.specs.Pieces.{Piece, Part, At, Do, Get, Set, Give, Goes, Value_of, Target_of, Texts_of, give}
 use Rattle.awk_machine.specs.State.{Given}
@@ -25,8 +21,7 @@ use Rattle.awk_store.specs.Kept as kept
 use Rattle.awk_store.specs.Kept.{Kept}
 use Rattle.awk_tasks.specs.Acts.{Passes}
 use Rattle.awk_tasks.specs.Wholes.{Whole, names_in}
-use Rattle.awk_tasks.proofs.Acting.{at_rest, moves, reworded, doing, done}
-use Rattle.awk_tasks.proofs.Lent.{lends_variable, lends_element, lends_whole}
+use Rattle.awk_tasks.proofs.Acting.{at_rest, moves, reworded, doing}
 use Rattle.awk_tasks.proofs.Reading.{nf-so}
 use Rattle.awk_tasks.proofs.VariableSteps.{sets_variable}
 use Rattle.awk_works.proofs.Replaced.{limited_ok}

@@ -1,3 +1,4 @@
+mod Storing
 pub mod AtHand
 pub mod Granted
 pub mod Grown

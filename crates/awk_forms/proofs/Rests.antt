@@ -1,6 +1,7 @@
 -- Lists, and what was made.
-use Rattle.std.proofs.Common.{◌≡◌, refl, ap, sym, ℕ, zero, suc, ◌≤◌, ◌<◌, drop, List, [], ◌∷◌, length, arith}
+use Rattle.std.proofs.Common.{◌≡◌, ◌==◌, false, refl, ap, sym, ℕ, zero, suc, ◌≤◌, ◌<◌, drop, List, [], ◌∷◌, length, arith}
 use Rattle.std.specs.Prelude.{Option, Some, None, IfSome, Result, Ok, Err, IfOk, IfErr, get_or}
+use Rattle.std.specs.Result.{result_ok}
 use Rattle.awk_program.specs.Program.{Expression, expressions_of}
 use Rattle.awk_machine.specs.Forms.{listed}
 
@@ -34,3 +35,16 @@ some_for (Some x) f h = f x h
 pub some_both : {X : Type 0} {P Q R : X → Type 0} (r : Option X) → ((x : X) → P x → Q x → R x) → IfSome r P → IfSome r Q → IfSome r R
 some_both None f p q = tt
 some_both (Some x) f p q = f x p q
+
+pub ok_told : {X E : Type 0} (r : Result X E) → IfSome (result_ok r) (λ x. r ≡ Ok x)
+ok_told (Ok x) = refl
+ok_told (Err e) = tt
+
+-- past the end of a list that is not empty something is done
+pub some_done : {X : Type 0} (xs : List X) (n : ℕ) → length xs ≤ n → false ≡ (length xs == 0) → 1 ≤ n
+some_done [] n past some = absurd (cc)
+some_done (x ∷ xs) n past some = omega (arith, past)
+
+pub ok_some : {X E : Type 0} {P Q : X → Type 0} (r : Result X E) → ((x : X) → P x → Q x) → IfOk r P → IfSome (result_ok r) Q
+ok_some (Ok x) f h = f x h
+ok_some (Err e) f h = tt

@@ -1,8 +1,9 @@
 // Assignments that are done at once: what they need is at hand, and their value is not wanted.
-ghost use Rattle.std.specs.Prelude.{◌≡◌, true, false, map, Ok, IfSome};
+ghost use Rattle.std.specs.Prelude.{◌≡◌, ℤ, true, false, map, Ok, IfSome};
 ghost use Rattle.awk_asks.specs.Tables.{Table};
 ghost use Rattle.awk_forms.specs.AtHand.{IsDone};
 ghost use Rattle.awk_machine.specs.Forms.{spot};
+ghost use Rattle.awk_machine.specs.Operators as machine;
 ghost use Rattle.awk_machine.specs.Pieces.{give};
 ghost use Rattle.awk_machine.specs.State.{Given};
 ghost use Rattle.awk_program.specs.Program as p;
@@ -12,6 +13,7 @@ ghost use Rattle.awk_store.specs.Kept as kept;
 ghost use Rattle.awk_program.specs.declared.operators.Taken.{Taken as Which};
 ghost use Rattle.awk_tasks.specs.Acts.{Passes};
 ghost use Rattle.awk_tasks.specs.Wholes.{names_in};
+ghost use Rattle.awk_text.specs.Arithmetic.{add};
 ghost use Rattle.awk_text.specs.Values as values;
 ghost use Rattle.awk_text.specs.declared.value.Value.TheVariants as v;
 
@@ -35,7 +37,9 @@ fn key_at_hand<'a>(store: &Store, line: &'a mut Line, keys: &[Expr]) -> Option<&
     let subscript = at_hand(store, one, MOST_LEVELS)?;
     let mut digits = Buffer::new();
     line.clear();
-    line.push(subscript.text(&mut digits)).ok()?;
+    let Ok(()) = line.push(subscript.text(&mut digits)) else {
+        return None;
+    };
     line.text().ok()
 }
 
@@ -86,7 +90,10 @@ fn assigned_element(
     let Some(key) = key_at_hand(store, line, keys) else {
         return false;
     };
-    store.put(array, key, value).is_ok()
+    match store.put(array, key, value) {
+        Ok(()) => true,
+        Err(_) => false,
+    }
 }
 
 /// `target = value`
@@ -147,6 +154,24 @@ fn added_to_element(
     store.add_to(array, key, operand)
 }
 
+/// `array [ key ] += number`; with the other operators nothing is done.
+fn added_by(
+    store: &mut Store,
+    line: &mut Line,
+    how: Operator,
+    array: Variable,
+    keys: &[Expr],
+    x: &Expr,
+) -> bool
+    ensures done { result ≡ true → (place at_name : Place) → IsDone (λ names. p.change place how (p.element at_name (variable_of names array) (expressions_of (map (view names) keys.now))) (view names x.now)) store.old store.new }
+    ensures not_done { result ≡ false → store.new ≡ store.old }
+{
+    match how {
+        Operator::Add => added_to_element(store, line, array, keys, x),
+        _ => false,
+    }
+}
+
 /// `target += number`, and of a variable with the other operators.
 fn changed(
     store: &mut Store,
@@ -161,10 +186,7 @@ fn changed(
     match target {
         Target::Variable(variable) => changed_variable(store, how, *variable, x),
         Target::Element(_, array, keys) => {
-            if !matches!(how, Operator::Add) {
-                return false;
-            }
-            added_to_element(store, line, *array, keys.as_slice(), x)
+            added_by(store, line, how, *array, keys.as_slice(), x)
         }
         Target::Field(_, _) => false,
     }
@@ -185,6 +207,16 @@ fn stepped_variable(store: &mut Store, how: Step, variable: Variable) -> bool
     true
 }
 
+/// What `++` and `--` add.
+fn step_by(how: Step) -> i64
+    ensures { (n : ℤ) → add n result ≡ machine.stepped how n }
+{
+    match how {
+        Step::Increment => 1,
+        Step::Decrement => -1,
+    }
+}
+
 /// `array [ key ] ++` and `array [ key ] --`
 fn stepped_element(
     store: &mut Store,
@@ -199,11 +231,7 @@ fn stepped_element(
     let Some(key) = key_at_hand(store, line, keys) else {
         return false;
     };
-    let by = match how {
-        Step::Increment => 1,
-        Step::Decrement => -1,
-    };
-    store.add_to(array, key, by)
+    store.add_to(array, key, step_by(how))
 }
 
 /// `target ++` and `target --`

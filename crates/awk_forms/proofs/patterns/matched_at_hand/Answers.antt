@@ -1,15 +1,12 @@
-use Rattle.std.proofs.Common.{sym, refl, [], ◌∷◌}
-use Rattle.awk_machine.specs.Forms.{value, source}
-use Rattle.awk_machine.specs.Operators.{of_truth}
-use Rattle.awk_machine.specs.Pieces.{At, Do, Match, Value_of, give}
-use Rattle.awk_program.specs.Program as p
-use Rattle.awk_program.specs.View.{view}
 use Rattle.awk_lent.specs.Lents.{lent_value}
-use Rattle.awk_tasks.specs.Wholes.{names_in}
-use Rattle.awk_tasks.proofs.Acting.{at_rest, moves, doing}
-use Rattle.awk_text.specs.Values.{text_of}
+use Rattle.awk_program.specs.View.{view}
+use Rattle.awk_tasks.specs.Wholes.{Whole, names_in}
 use Rattle.awk_forms.proofs.AtHand.{matches_there}
+use Rattle.awk_forms.proofs.Matching.{then_so}
 use Rattle.awk_forms.proofs.patterns.matched_at_hand.Goals as goal
 
 pub returns : goal.returns
-returns c = ?
+returns c = λ place g t.
+    let w : Whole = (c.args.store.now, t) in
+    rw c.in-Constant.is (matches_there g w place c.in-Constant.at (view (names_in g) c.args.x.now) c.in-Constant.source (lent_value c.in_ok-text.text) c.in-Ok-matches.found c.matches.result (c.in_ok-text.ensures g t)
+    (rw c.bytes.ensures at (then_so c.in-Ok.ere (c.check.ensures.constant g w) c.in-Ok.is)) (rw (c.text.ensures, c.deref.ensures, c.in-Ok.ensures.ere.0, c.bytes.ensures) at (c.matches.ensures g w)) c.in-Ok-matches.is)

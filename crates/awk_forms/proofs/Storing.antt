@@ -1,7 +1,7 @@
 -- Assignments whose parts are at hand: the target and the value are there, and the new value is stored.
-use Rattle.std.proofs.Common.{◌≡◌, refl, sym, ap, ◌∙◌, ℤ, false, List, [], ◌∷◌}
+use Rattle.std.proofs.Common.{◌≡◌, refl, ℤ, false, [], ◌∷◌}
 use Rattle.std.specs.Prelude.{Some, Ok}
-use Rattle.awk_text.specs.Values.{number_of, text_of}
+use Rattle.awk_text.specs.Values.{number_of}
 use Rattle.awk_text.specs.declared.place.Place.{Place}
 use Rattle.awk_text.specs.declared.value.Value.{Value}
 use Rattle.awk_text.specs.declared.value.Value.TheVariants as v
@@ -20,7 +20,7 @@ use Rattle.awk_machine.specs.Operators.{operation, stepped}
 use Rattle.awk_machine.specs.Pieces as machine
 use Rattle.awk_machine.specs.Pieces.{Piece, Part, At, Do, Get, Set, Give, Value_of, give}
 use Rattle.awk_machine.specs.State.{Array, Given}
-use Rattle.awk_machine.specs.Targets.{target, stored}
+use Rattle.awk_machine.specs.Targets.{target}
 use Rattle.awk_asks.specs.Tasks.{goes_on}
 use Rattle.awk_store.specs.Changes.{with_array, with_value}
 use Rattle.awk_store.specs.Kept as kept

@@ -1,0 +1,23 @@
+use Rattle.std.proofs.Common.{map, rules, w64}
+use Rattle.std.proofs.lemmas.Int.{to_z-of_z}
+use Rattle.awk_program.specs.Program as p
+use Rattle.awk_program.specs.Program.{terms_of}
+use Rattle.awk_program.specs.View.{view, view_target, view_term}
+use Rattle.awk_program.proofs.Views.{view-Chain, view-Number, view-Read}
+use Rattle.awk_text.specs.declared.value.Value.TheVariants as v
+use Rattle.awk_forms.specs.AtHand.{IsThere}
+use Rattle.awk_forms.proofs.AtHand.{number_there}
+use Rattle.awk_forms.proofs.Rests.{some_for}
+use Rattle.awk_forms.proofs.at_hand.plain_number.Goals as goal
+
+pub returns-in-Number : goal.returns-in-Number
+returns-in-Number c = λ g t. rw (c.in-Number.is, view-Number, to_z-of_z w64 c.in-Number.number (search rules)) (number_there g _ c.in-Number.number)
+
+pub returns-in-Read : goal.returns-in-Read
+returns-in-Read c =
+    some_for {P = λ n. IsThere (λ names. p.read (view_target names c.in-Read.target)) c.args.store.now (v.Num n)} c.number_read.result (λ n h g t. rw (c.in-Read.is, view-Read) (h g t)) c.number_read.ensures
+
+pub returns-in-Chain : goal.returns-in-Chain
+returns-in-Chain c =
+    some_for {P = λ n. IsThere (λ names. p.chain (view names c.get.result.now) (terms_of (map (view_term names) c.as_slice.result.now))) c.args.store.now (v.Num n)} c.chain_at_hand.result
+    (λ n h g t. rw (c.in-Chain.is, view-Chain) (rw (c.get.ensures, c.as_slice.ensures) at (h g t))) c.chain_at_hand.ensures
