@@ -1,3 +1,4 @@
+mod Printed
 mod Storing
 pub mod AtHand
 pub mod Granted

@@ -1,9 +1,11 @@
 -- Expressions whose value is there: to evaluate them changes nothing and meets no fault; and assignments that are done at once.
-use Rattle.std.specs.Prelude.{◌≡◌, ℤ, Bool, Ok}
+use Rattle.std.specs.Prelude.{◌≡◌, ℕ, ℤ, Bool, Ok, List, [], ◌∷◌, Option}
+use Rattle.awk_fields.specs.Rows.{joined}
 use Rattle.awk_text.specs.Values.{number_of, truth}
 use Rattle.awk_text.specs.declared.value.Value.{Value}
 use Rattle.awk_program.specs.Program.{Expression}
-use Rattle.awk_program.specs.View.{Names}
+use Rattle.awk_program.specs.View.{Names, view}
+use Rattle.awk_program.specs.declared.expressions.Expr.{Expr}
 use Rattle.awk_machine.specs.Forms.{value}
 use Rattle.awk_machine.specs.Pieces.{give}
 use Rattle.awk_machine.specs.State.{Given}
@@ -11,6 +13,7 @@ use Rattle.awk_store.specs.Kept.{Kept}
 use Rattle.awk_asks.specs.Tables.{Table}
 use Rattle.awk_tasks.specs.Acts.{Passes}
 use Rattle.awk_tasks.specs.Wholes.{names_in}
+use Rattle.awk_works.specs.Lines.{held}
 
 module _ (x : Names → Expression) where
   -- whatever else a run holds beside the store
@@ -37,3 +40,16 @@ module _ (x : Names → Expression) where
   pub record IsDone (old new : Kept) : Type 0 where
     pub val : Value
     pub gives : Gives val old new
+
+-- the values of a list of expressions are there
+abbrev pub AreThere : Kept → List Expr → List Value → Type 0
+AreThere kept [] [] = Unit {0}
+AreThere kept [] (val ∷ vals) = ⊥
+AreThere kept (x ∷ xs) [] = ⊥
+AreThere kept (x ∷ xs) (val ∷ vals) = IsThere (λ names. view names x) kept val × AreThere kept xs vals
+
+-- a line is the texts of a value and of those behind it, with a separator between
+pub record HoldsJoined (kept : Kept) (xs : List Expr) (separator : List ℕ) (first : Value) (line : Option (List ℕ)) : Type 0 where
+  pub vals : List Value
+  pub there : AreThere kept xs vals
+  pub line_is : line ≡ held (joined separator (first ∷ vals))

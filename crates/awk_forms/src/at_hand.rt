@@ -254,7 +254,7 @@ pub fn truth_at_hand(store: &Store, e: &Expr) -> Option<bool>
 }
 
 /// Whether an expression is a field other than `$0`.
-fn is_field(e: &Expr) -> bool {
+pub(crate) fn is_field(e: &Expr) -> bool {
     match e {
         Expr::Read(Target::Field(_, number)) => !matches!(number.get(), Expr::Number(0)),
         _ => false,

@@ -1,19 +1,31 @@
 // The texts that print, printf and sprintf make.
-ghost use Rattle.std.specs.Prelude.{◌≡◌, ◌∷◌, [], List, length, reverse, None, Some, Ok, Err, IfOk, IfErr, ◌⊎◌};
+ghost use Rattle.std.specs.Prelude.{◌≡◌, ◌∷◌, ◌++◌, [], List, length, map, reverse, true, None, Some, Ok, Err, IfOk, IfErr, IfSome, ◌⊎◌};
 ghost use Rattle.awk_asks.specs.Tables.{Table};
+ghost use Rattle.awk_fields.specs.Rows.{joined};
+ghost use Rattle.awk_forms.specs.AtHand.{AreThere, HoldsJoined, IsThere};
 ghost use Rattle.awk_forms.specs.Outputs.{to_standard, to_stream};
+ghost use Rattle.awk_lib.specs.Written.{written};
 ghost use Rattle.awk_machine.specs.Builtins as spec;
 ghost use Rattle.awk_machine.specs.Forms.{listed};
-ghost use Rattle.awk_machine.specs.Pieces.{At, Doing, Value_of, give};
+ghost use Rattle.awk_machine.specs.Pieces.{At, Doing, Piece, Value_of, give};
 ghost use Rattle.awk_machine.specs.State.{Given};
 ghost use Rattle.awk_program.specs.Program as p;
 ghost use Rattle.awk_program.specs.Program.{Expression, Expressions};
 ghost use Rattle.awk_program.specs.declared.statements.Redirection.{Redirection};
-ghost use Rattle.awk_tasks.specs.Acts.{Acts};
-ghost use Rattle.awk_tasks.specs.Wholes.{Whole};
+ghost use Rattle.awk_program.specs.View.{view};
+ghost use Rattle.awk_program.specs.declared.variables.Own.TheVariants as own;
+ghost use Rattle.awk_store.specs.Kept.{own_text};
+ghost use Rattle.awk_tasks.specs.Acts.{Acts, Passes};
+ghost use Rattle.awk_tasks.specs.Printed.{items};
+ghost use Rattle.awk_tasks.specs.Wholes.{Whole, names_in};
+ghost use Rattle.awk_text.specs.Values.{text_of};
+ghost use Rattle.awk_text.specs.declared.value.Value.{Value as Val};
+ghost use Rattle.awk_works.specs.Lines.{held};
 
+use crate::at_hand::{MOST_LEVELS, at_hand, is_field};
 use crate::made::text_at;
 use awk_asks::halt::Halt;
+use awk_program::{Expr, Own};
 use awk_store::Store;
 use awk_tasks::faults::at;
 use awk_tasks::printing::text_of_items;
@@ -23,6 +35,7 @@ use awk_text::place::Place;
 use awk_text::value::Value;
 use awk_works::builtins::formatted_by;
 use awk_works::line::Line;
+use itoa::Buffer;
 use std::alloc::Global;
 
 /// The text that a format and its values make.
@@ -89,4 +102,99 @@ pub fn formatted_for(
         → Acts g (At (Doing (p.printf place x xs (Some r))) (name.now ∷ reverse values.now)) (to_stream r name.now) w result w }
 {
     at(place, text_of_format(alloc, values))
+}
+
+/// Adds the text of an item that is at hand, and answers whether it did.
+fn add_item(line: &mut Line, store: &Store, x: &Expr) -> bool
+    ensures { result ≡ true → (val : Val) × (line.new ≡ written line.old (text_of val)) × IsThere (λ names. view names x.now) store.now val }
+{
+    let Some(value) = at_hand(store, x, MOST_LEVELS) else {
+        return false;
+    };
+    let mut buffer = Buffer::new();
+    match line.push(value.text(&mut buffer)) {
+        Ok(()) => true,
+        Err(_) => false,
+    }
+}
+
+/// Adds the separator, and behind it the text of an item that is at hand, and answers whether it did.
+fn add_next(line: &mut Line, store: &Store, x: &Expr, separator: &[u8]) -> bool
+    ensures { result ≡ true → (val : Val) × (line.new ≡ written (written line.old separator.now) (text_of val)) × IsThere (λ names. view names x.now) store.now val }
+{
+    let Ok(()) = line.push(separator) else {
+        return false;
+    };
+    add_item(line, store, x)
+}
+
+/// Adds the texts of items that are at hand, each behind the separator, and answers whether it did.
+fn add_others(line: &mut Line, store: &Store, xs: &[Expr], separator: &[u8]) -> bool
+    ensures { result ≡ true → (first : Val) → line.old ≡ held (joined separator.now (first ∷ [])) → HoldsJoined store.now xs.now separator.now first line.new }
+{
+    for x in xs {
+        if !add_next(line, store, x, separator) {
+            return false;
+        }
+    }
+    true
+}
+
+/// Makes the line the texts of items that are at hand with OFS between, and ORS, and answers whether it did.
+fn join_at_hand(line: &mut Line, store: &Store, xs: &[Expr]) -> bool
+    ensures { result ≡ true → (vals : List Val) × AreThere store.now xs.now vals × (line.new ≡ held (joined (own_text store.now own.Ofs) (items store.now vals) ++ own_text store.now own.Ors)) }
+{
+    let [first, others @ ..] = xs else {
+        return false;
+    };
+    let (mut one, mut two) = (Buffer::new(), Buffer::new());
+    let ofs = store.own_text(Own::Ofs, &mut one);
+    let ors = store.own_text(Own::Ors, &mut two);
+    line.clear();
+    if !add_item(line, store, first) {
+        return false;
+    }
+    if !add_others(line, store, others, ofs) {
+        return false;
+    }
+    match line.push(ors) {
+        Ok(()) => true,
+        Err(_) => false,
+    }
+}
+
+/// The text that print puts to the standard output, where each item is at hand: so none is copied but into that text. `None`
+/// stands for refused memory and for a text that is too long, too.
+pub fn printed_at_hand(alloc: Global, line: &mut Line, store: &Store, xs: &[Expr]) -> Option<Octets>
+    ensures { IfSome result (λ text. (g : Given) (t : Table) (place : Place)
+        → Passes g (At (Doing (p.print place (map (view (names_in g)) xs.now) None)) []) (store.now, t) (to_standard place text) (store.now, t)) }
+{
+    if !join_at_hand(line, store, xs) {
+        return None;
+    }
+    let Ok(text) = line.text() else {
+        return None;
+    };
+    let Ok(copy) = Vec::from_slice(alloc, text) else {
+        return None;
+    };
+    Some(Octets::new(copy))
+}
+
+/// Whether one of the expressions is a field other than `$0`.
+fn has_field(xs: &[Expr]) -> bool {
+    xs.iter().any(|x| is_field(x))
+}
+
+/// Splits the record where one of the expressions is a field, so that the field is at hand.
+pub fn split_for_items(store: &mut Store, xs: &[Expr]) -> Result<(), Halt>
+    ensures { (g : Given) (t : Table) (q : Piece) → Acts g q (λ u k. q ∷ k) (store.old, t) result (store.new, t) }
+{
+    if !has_field(xs) {
+        return Ok(());
+    }
+    let Ok(_) = store.field_count() else {
+        return Err(Halt::Memory);
+    };
+    Ok(())
 }
