@@ -15,7 +15,9 @@ use awk_asks::halt::Halt;
 use awk_asks::requests::put;
 use awk_calls::Flow;
 use awk_forms::made::append;
-use awk_forms::outputs::{formatted_for, formatted_line, printed_for, printed_line};
+use awk_forms::outputs::{
+    formatted_for, formatted_line, printed_at_hand, printed_for, printed_line, split_for_items,
+};
 use awk_program::{Expr, Redirection};
 use awk_records::outputs::put_to;
 use awk_tasks::values::into_text;
@@ -25,9 +27,36 @@ use box_world::world::World;
 /// The number of the standard output.
 const STANDARD_OUTPUT: u32 = 1;
 
-/// `print`
+/// `print`: where each item is at hand, none is copied but into the text.
 #[cycle(run)]
 pub fn print<W: World>(
+    cx: &Context<'_>,
+    place: Place,
+    xs: &[Expr],
+    to: &Option<Redirection<Expr>>,
+    level: u32,
+    run: &mut Run,
+    world: &mut W,
+) -> Result<Flow, Halt>
+    requires { Owns (W.open_numbers world.old) run.old.streams }
+    ensures { Does W.follows W.has_stopped W.stops W.open_numbers cx.now (λ g. At (Doing (p.print place (map (view (names_in g)) xs.now) (option_map (view_redirection (names_in g)) to.now))) []) (λ g. flows)
+        (run.old.store, run.old.streams) world.old result (run.new.store, run.new.streams) world.new }
+{
+    if let Some(_) = to {
+        return general_print(cx, place, xs, to, level, run, world);
+    }
+    split_for_items(&mut run.store, xs)?;
+    let known = printed_at_hand(cx.alloc, &mut run.line, &run.store, xs);
+    if let Some(text) = known {
+        put(place, STANDARD_OUTPUT, text, world)?;
+        return Ok(Flow::On);
+    }
+    general_print(cx, place, xs, to, level, run, world)
+}
+
+/// `print`, of whatever items.
+#[cycle(run)]
+fn general_print<W: World>(
     cx: &Context<'_>,
     place: Place,
     xs: &[Expr],

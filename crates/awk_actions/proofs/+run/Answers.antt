@@ -1,6 +1,5 @@
 use Rattle.awk_actions.proofs.Calling.{argue_name, argue_nothing, argue_stop, argue_turn, argue_value, arguments_so, body_so, called, counted, some_of}
 use Rattle.awk_actions.proofs.Going.{block_first, each_off, each_on, either_off, either_on, if_off, if_on, keys_first, keys_off, keys_on, starts_at_once, starts_stepped, test_first, test_none, test_then, turn_first, turn_none, turn_off, turn_on, turn_then}
-use Rattle.awk_program.specs.declared.operators.Taken.TheVariants as taken
 use Rattle.awk_actions.proofs.Leading.{hands, hands_on, as_truth, quietly, rests, rests_told, told_number, told_truth, unwanted}
 use Rattle.awk_actions.proofs.Opens.{binary_first, binary_second, unary_first}
 use Rattle.awk_actions.proofs.Printing.{close_first, count_formatted, count_items, halts, print_target, printf_target, streamed, waits_deleted, waits_formatted, waits_printed}
@@ -12,9 +11,10 @@ use Rattle.awk_calls.proofs.Leading.{jumped, takes}
 use Rattle.awk_calls.specs.Calls.{argument_of}
 use Rattle.awk_format.specs.Directives.{◌>>=◌}
 use Rattle.awk_forms.proofs.Rests.{drop_all, ok_for}
-use Rattle.awk_lib.specs.Arrays.{keys}
 use Rattle.awk_machine.specs.Builtins.{formatted_by}
+use Rattle.awk_forms.specs.Outputs.{to_standard}
 use Rattle.awk_machine.specs.Expressions.{either}
+use Rattle.awk_machine.specs.Operators.{of_truth}
 use Rattle.awk_machine.specs.Forms.{answer, deliver, keyed, value}
 use Rattle.awk_machine.specs.Pieces.{Ands_of, At, Call, Close, Do, Doing, Each, Get, Give, Goes, Keys, Members_of, Ors_of, Pipes_of, Set, Step, Target_of, Terms_of, Texts_of, Value_of, give}
 use Rattle.awk_machine.specs.Targets.{stored}
@@ -36,7 +36,7 @@ use Rattle.box_world.specs.Events.{Standard}
 use Rattle.std.proofs.Common.{[], ap, arith, drop, false, length, map, refl, rules, sym, true, w64, ◌++◌, ◌+◌, ◌∙◌, ◌∷◌}
 use Rattle.std.proofs.lemmas.Int.{to_z-of_z}
 use Rattle.std.proofs.lemmas.Result.{err_from_is_err_and}
-use Rattle.std.specs.Prelude.{ℤ, Result, None, Ok, Some, option_copied, option_map, slice_get}
+use Rattle.std.specs.Prelude.{Bool, ℤ, Result, None, Ok, Some, option_copied, option_map, slice_get}
 use Rattle.awk_actions.proofs.+run.Goals as goal
 use Rattle.awk_program.specs.Program as p
 use Rattle.awk_text.specs.declared.value.Value.TheVariants as v
@@ -562,10 +562,6 @@ pub expressions::evaluate-returns-in-Pattern : goal.expressions::evaluate-return
 expressions::evaluate-returns-in-Pattern g t c =
     record { plays = λ m is. rw (c.in-Pattern.is, view-Pattern) (acted (rw c.bytes-in-Pattern.ensures at (c.matched_record.ensures m c.args.run.now.streams))); owns = c.requires }
 
-pub expressions::evaluate-returns-in-Match : goal.expressions::evaluate-returns-in-Match
-expressions::evaluate-returns-in-Match g t c =
-    record { plays = λ m is. rw (c.in-Match.is, view-Match) (rw c.get-in-Match.ensures at (c.matches.ensures.plays m is)); owns = c.matches.ensures.owns }
-
 pub expressions::evaluate-returns-in-Locate : goal.expressions::evaluate-returns-in-Locate
 expressions::evaluate-returns-in-Locate g t c =
     record { plays = λ m is. rw (c.in-Locate.is, view-Locate) (rw c.get-in-Locate.ensures at (c.locate.ensures.plays m is)); owns = c.locate.ensures.owns }
@@ -606,30 +602,6 @@ patterns::source_of-returns-in_ok-computed-in-Computed g t c =
       };
       kind = λ names. tt;
     })
-
-pub patterns::matches-returns-in_err-text : goal.patterns::matches-returns-in_err-text
-patterns::matches-returns-in_err-text g t c =
-    let e = err_from_is_err_and c.from_residual.result c.from_residual.ensures.1 in rw (e.1, e.2) (record {
-      plays = λ m is.
-          (stop _ (λ k. refl) (quietly (at_once _ _ _) (λ k hid d a. refl)) (c.value.ensures.plays m is) c.in_err-text.was);
-      owns = c.value.ensures.owns;
-    })
-
-pub patterns::matches-returns-in_err-from : goal.patterns::matches-returns-in_err-from
-patterns::matches-returns-in_err-from g t c =
-    let e = err_from_is_err_and c.from_residual-in_err-from.result c.from_residual-in_err-from.ensures.1 in rw (e.1, e.2) (record {
-      plays = λ m is.
-          (stop _ (λ k. refl) (quietly (part _ (quietly (at_once _ _ _) (λ k hid d a. refl)) (c.value.ensures.plays m is) c.in_ok-text.was) (λ k hid d a. refl)) (c.source_of.ensures.plays.plays m is) c.in_err-from.was);
-      owns = c.source_of.ensures.plays.owns;
-    })
-
-pub patterns::matches-returns : goal.patterns::matches-returns
-patterns::matches-returns g t c =
-    record {
-      plays = λ m is.
-          hands (part _ (quietly (part _ (quietly (at_once _ _ _) (λ k hid d a. refl)) (c.value.ensures.plays m is) c.in_ok-text.was) (λ k hid d a. refl)) (c.source_of.ensures.plays.plays m is) c.in_ok-from.was) (acted (c.matched.ensures m (c.source_of.new.run.store, c.source_of.new.run.streams) (view (names_in m) c.args.x.now) (view_ere (names_in m) c.args.pattern.now) (c.in_ok-from.ensures.kind (names_in m))));
-      owns = c.source_of.ensures.plays.owns;
-    }
 
 pub patterns::locate-returns-in_err-text : goal.patterns::locate-returns-in_err-text
 patterns::locate-returns-in_err-text g t c =
@@ -1091,40 +1063,40 @@ pub inputs::system-returns : goal.inputs::system-returns
 inputs::system-returns g t c =
     record { plays = λ m is. hands (part _ (quietly (at_once _ _ _) (λ k hid d a. refl)) (c.value.ensures.plays m is) c.in_ok-operand.was) (lifted m c.value.new.run.store (λ s. c.system.ensures.task m s c.value.new.run.streams (view (names_in m) c.args.x.now) c.in_ok-operand.operand (sym c.in-Ok.ensures))); owns = rw c.system.ensures.numbers c.value.ensures.owns }
 
-pub output::print-returns-in_err-fill : goal.output::print-returns-in_err-fill
-output::print-returns-in_err-fill g t c =
+pub output::general_print-returns-in_err-fill : goal.output::general_print-returns-in_err-fill
+output::general_print-returns-in_err-fill g t c =
     let e = err_from_is_err_and c.from_residual.result c.from_residual.ensures.1 in rw (e.1, e.2) (record { plays = λ m is. stop _ (λ k. refl) (at_once _ _ _) (filled_from _ _ c.new-values.ensures.items c.fill.ensures.plays m is (Doing (p.print c.args.place (map (view (names_in m)) c.args.xs.now) (option_map (view_redirection (names_in m)) c.args.to.now))) (waits_printed m c.args.place (map (view (names_in m)) c.args.xs.now) (option_map (view_redirection (names_in m)) c.args.to.now))) c.in_err-fill.was; owns = c.fill.ensures.plays.owns })
 
-pub output::print-returns-in_err-text : goal.output::print-returns-in_err-text
-output::print-returns-in_err-text g t c =
+pub output::general_print-returns-in_err-text : goal.output::general_print-returns-in_err-text
+output::general_print-returns-in_err-text g t c =
     let e = err_from_is_err_and c.from_residual-in_err-text.result c.from_residual-in_err-text.ensures.1 in rw (e.1, e.2, c.in_default.is) (record { plays = λ m is. stop _ (λ k. refl) (part _ (at_once _ _ _) (filled_from _ _ c.new-values.ensures.items c.fill.ensures.plays m is (Doing (p.print c.args.place (map (view (names_in m)) c.args.xs.now) None)) (waits_printed m c.args.place (map (view (names_in m)) c.args.xs.now) None)) c.in_ok-fill.was) (acted (rw c.as_slice.ensures.value at (c.printed_line.ensures m c.fill.new.run.streams (map (view (names_in m)) c.args.xs.now) (rw c.as_slice.ensures.value (count_items (view (names_in m)) c.args.xs.now _ _ c.new-values.ensures.items c.in_ok-fill.ensures.count))))) c.in_err-text.was; owns = c.fill.ensures.plays.owns })
 
-pub output::print-returns-in_err-put : goal.output::print-returns-in_err-put
-output::print-returns-in_err-put g t c =
+pub output::general_print-returns-in_err-put : goal.output::general_print-returns-in_err-put
+output::general_print-returns-in_err-put g t c =
     let e = err_from_is_err_and c.from_residual-in_err-put.result c.from_residual-in_err-put.ensures.1 in rw (e.1, e.2, c.in_default.is) (record { plays = λ m is. stop _ (λ k. refl) (part _ (part _ (at_once _ _ _) (filled_from _ _ c.new-values.ensures.items c.fill.ensures.plays m is (Doing (p.print c.args.place (map (view (names_in m)) c.args.xs.now) None)) (waits_printed m c.args.place (map (view (names_in m)) c.args.xs.now) None)) c.in_ok-fill.was) (acted (rw c.as_slice.ensures.value at (c.printed_line.ensures m c.fill.new.run.streams (map (view (names_in m)) c.args.xs.now) (rw c.as_slice.ensures.value (count_items (view (names_in m)) c.args.xs.now _ _ c.new-values.ensures.items c.in_ok-fill.ensures.count))))) c.in_ok-text.was) (lifted m c.fill.new.run.store (λ s. c.put.ensures.task m s c.fill.new.run.streams (Standard 1) refl)) c.in_err-put.was; owns = rw c.put.ensures.numbers c.fill.ensures.plays.owns })
 
-pub output::print-returns-in_default : goal.output::print-returns-in_default
-output::print-returns-in_default g t c =
+pub output::general_print-returns-in_default : goal.output::general_print-returns-in_default
+output::general_print-returns-in_default g t c =
     rw c.in_default.is (record { plays = λ m is. done (part _ (part _ (part _ (at_once _ _ _) (filled_from _ _ c.new-values.ensures.items c.fill.ensures.plays m is (Doing (p.print c.args.place (map (view (names_in m)) c.args.xs.now) None)) (waits_printed m c.args.place (map (view (names_in m)) c.args.xs.now) None)) c.in_ok-fill.was) (acted (rw c.as_slice.ensures.value at (c.printed_line.ensures m c.fill.new.run.streams (map (view (names_in m)) c.args.xs.now) (rw c.as_slice.ensures.value (count_items (view (names_in m)) c.args.xs.now _ _ c.new-values.ensures.items c.in_ok-fill.ensures.count))))) c.in_ok-text.was) (lifted m c.fill.new.run.store (λ s. c.put.ensures.task m s c.fill.new.run.streams (Standard 1) refl)) c.in_ok-put.was); owns = rw c.put.ensures.numbers c.fill.ensures.plays.owns })
 
-pub output::print-returns-in_err-target : goal.output::print-returns-in_err-target
-output::print-returns-in_err-target g t c =
+pub output::general_print-returns-in_err-target : goal.output::general_print-returns-in_err-target
+output::general_print-returns-in_err-target g t c =
     let e = err_from_is_err_and c.from_residual-in_err-target.result c.from_residual-in_err-target.ensures.1 in rw (e.1, e.2, c.in-Some.is) (record { plays = λ m is. stop _ (λ k. refl) (quietly (part _ (at_once _ _ _) (filled_from _ _ c.new-values.ensures.items c.fill.ensures.plays m is (Doing (p.print c.args.place (map (view (names_in m)) c.args.xs.now) (Some (view_redirection (names_in m) c.in-Some.to)))) (waits_printed m c.args.place (map (view (names_in m)) c.args.xs.now) (Some (view_redirection (names_in m) c.in-Some.to)))) c.in_ok-fill.was) (λ k hid d a. print_target m c.args.place (map (view (names_in m)) c.args.xs.now) (view_redirection (names_in m) c.in-Some.to) _ (count_items (view (names_in m)) c.args.xs.now _ _ c.new-values.ensures.items c.in_ok-fill.ensures.count) k _)) (c.value.ensures.plays m is) c.in_err-target.was; owns = c.value.ensures.owns })
 
-pub output::print-returns-in_err-text-2 : goal.output::print-returns-in_err-text-2
-output::print-returns-in_err-text-2 g t c =
+pub output::general_print-returns-in_err-text-2 : goal.output::general_print-returns-in_err-text-2
+output::general_print-returns-in_err-text-2 g t c =
     let e = err_from_is_err_and c.from_residual-in_err-text-2.result c.from_residual-in_err-text-2.ensures.1 in rw (e.1, e.2, c.in-Some.is) (record { plays = λ m is. stop _ (λ k. refl) (part _ (quietly (part _ (at_once _ _ _) (filled_from _ _ c.new-values.ensures.items c.fill.ensures.plays m is (Doing (p.print c.args.place (map (view (names_in m)) c.args.xs.now) (Some (view_redirection (names_in m) c.in-Some.to)))) (waits_printed m c.args.place (map (view (names_in m)) c.args.xs.now) (Some (view_redirection (names_in m) c.in-Some.to)))) c.in_ok-fill.was) (λ k hid d a. print_target m c.args.place (map (view (names_in m)) c.args.xs.now) (view_redirection (names_in m) c.in-Some.to) _ (count_items (view (names_in m)) c.args.xs.now _ _ c.new-values.ensures.items c.in_ok-fill.ensures.count) k _)) (c.value.ensures.plays m is) c.in_ok-target.was) (acted (rw c.as_slice-2.ensures.value at (c.printed_for.ensures m c.value.new.run.streams (map (view (names_in m)) c.args.xs.now) (view_redirection (names_in m) c.in-Some.to) (rw c.as_slice-2.ensures.value (count_items (view (names_in m)) c.args.xs.now _ _ c.new-values.ensures.items c.in_ok-fill.ensures.count))))) c.in_err-text-2.was; owns = c.value.ensures.owns })
 
-pub output::print-returns-in_default-into_text : goal.output::print-returns-in_default-into_text
-output::print-returns-in_default-into_text g t c =
+pub output::general_print-returns-in_default-into_text : goal.output::general_print-returns-in_default-into_text
+output::general_print-returns-in_default-into_text g t c =
     rw c.in-Some.is (record { plays = λ m is. lacking (part _ (part _ (quietly (part _ (at_once _ _ _) (filled_from _ _ c.new-values.ensures.items c.fill.ensures.plays m is (Doing (p.print c.args.place (map (view (names_in m)) c.args.xs.now) (Some (view_redirection (names_in m) c.in-Some.to)))) (waits_printed m c.args.place (map (view (names_in m)) c.args.xs.now) (Some (view_redirection (names_in m) c.in-Some.to)))) c.in_ok-fill.was) (λ k hid d a. print_target m c.args.place (map (view (names_in m)) c.args.xs.now) (view_redirection (names_in m) c.in-Some.to) _ (count_items (view (names_in m)) c.args.xs.now _ _ c.new-values.ensures.items c.in_ok-fill.ensures.count) k _)) (c.value.ensures.plays m is) c.in_ok-target.was) (acted (rw c.as_slice-2.ensures.value at (c.printed_for.ensures m c.value.new.run.streams (map (view (names_in m)) c.args.xs.now) (view_redirection (names_in m) c.in-Some.to) (rw c.as_slice-2.ensures.value (count_items (view (names_in m)) c.args.xs.now _ _ c.new-values.ensures.items c.in_ok-fill.ensures.count))))) c.in_ok-text-2.was); owns = c.value.ensures.owns })
 
-pub output::print-returns-in_err-put_to : goal.output::print-returns-in_err-put_to
-output::print-returns-in_err-put_to g t c =
+pub output::general_print-returns-in_err-put_to : goal.output::general_print-returns-in_err-put_to
+output::general_print-returns-in_err-put_to g t c =
     let e = err_from_is_err_and c.from_residual-in_err-put_to.result c.from_residual-in_err-put_to.ensures.1 in rw (e.1, e.2, c.in-Some.is) (record { plays = λ m is. halts _ (rw c.in_err-put_to.was at (c.put_to.ensures.task m c.value.new.run.store (At (Doing (p.print c.args.place (map (view (names_in m)) c.args.xs.now) (Some (view_redirection (names_in m) c.in-Some.to)))) []) (c.args.run.now.store, c.args.run.now.streams) c.args.world.now (turned {then_ = streamed (view_redirection (names_in m) c.in-Some.to) c.in-Ok.name c.in_ok-text-2.text} (part _ (part _ (quietly (part _ (at_once _ _ _) (filled_from _ _ c.new-values.ensures.items c.fill.ensures.plays m is (Doing (p.print c.args.place (map (view (names_in m)) c.args.xs.now) (Some (view_redirection (names_in m) c.in-Some.to)))) (waits_printed m c.args.place (map (view (names_in m)) c.args.xs.now) (Some (view_redirection (names_in m) c.in-Some.to)))) c.in_ok-fill.was) (λ k hid d a. print_target m c.args.place (map (view (names_in m)) c.args.xs.now) (view_redirection (names_in m) c.in-Some.to) _ (count_items (view (names_in m)) c.args.xs.now _ _ c.new-values.ensures.items c.in_ok-fill.ensures.count) k _)) (c.value.ensures.plays m is) c.in_ok-target.was) (acted (rw c.as_slice-2.ensures.value at (c.printed_for.ensures m c.value.new.run.streams (map (view (names_in m)) c.args.xs.now) (view_redirection (names_in m) c.in-Some.to) (rw c.as_slice-2.ensures.value (count_items (view (names_in m)) c.args.xs.now _ _ c.new-values.ensures.items c.in_ok-fill.ensures.count))))) c.in_ok-text-2.was) (λ k. ap (λ n. streamed (view_redirection (names_in m) c.in-Some.to) n c.in_ok-text-2.text k) (sym c.in-Ok.ensures))))); owns = c.put_to.ensures.owns })
 
-pub output::print-returns : goal.output::print-returns
-output::print-returns g t c =
+pub output::general_print-returns : goal.output::general_print-returns
+output::general_print-returns g t c =
     rw c.in-Some.is (record { plays = λ m is. done (rw c.in_ok-put_to.was at (c.put_to.ensures.task m c.value.new.run.store (At (Doing (p.print c.args.place (map (view (names_in m)) c.args.xs.now) (Some (view_redirection (names_in m) c.in-Some.to)))) []) (c.args.run.now.store, c.args.run.now.streams) c.args.world.now (turned {then_ = streamed (view_redirection (names_in m) c.in-Some.to) c.in-Ok.name c.in_ok-text-2.text} (part _ (part _ (quietly (part _ (at_once _ _ _) (filled_from _ _ c.new-values.ensures.items c.fill.ensures.plays m is (Doing (p.print c.args.place (map (view (names_in m)) c.args.xs.now) (Some (view_redirection (names_in m) c.in-Some.to)))) (waits_printed m c.args.place (map (view (names_in m)) c.args.xs.now) (Some (view_redirection (names_in m) c.in-Some.to)))) c.in_ok-fill.was) (λ k hid d a. print_target m c.args.place (map (view (names_in m)) c.args.xs.now) (view_redirection (names_in m) c.in-Some.to) _ (count_items (view (names_in m)) c.args.xs.now _ _ c.new-values.ensures.items c.in_ok-fill.ensures.count) k _)) (c.value.ensures.plays m is) c.in_ok-target.was) (acted (rw c.as_slice-2.ensures.value at (c.printed_for.ensures m c.value.new.run.streams (map (view (names_in m)) c.args.xs.now) (view_redirection (names_in m) c.in-Some.to) (rw c.as_slice-2.ensures.value (count_items (view (names_in m)) c.args.xs.now _ _ c.new-values.ensures.items c.in_ok-fill.ensures.count))))) c.in_ok-text-2.was) (λ k. ap (λ n. streamed (view_redirection (names_in m) c.in-Some.to) n c.in_ok-text-2.text k) (sym c.in-Ok.ensures))))); owns = c.put_to.ensures.owns })
 
 pub output::printf-returns-in_err-format : goal.output::printf-returns-in_err-format
@@ -1311,13 +1283,13 @@ expressions::chain-returns g t c =
       owns = c.loop-next.invariant.owns;
     }
 
-pub expressions::truth_of-returns-in_err-found-in_default : goal.expressions::truth_of-returns-in_err-found-in_default
-expressions::truth_of-returns-in_err-found-in_default g t c =
-    let e = err_from_is_err_and c.from_residual.result c.from_residual.ensures.1 in rw (e.1, e.2) (record { val = v.Unset; is = tt; does = record { plays = λ m is. stop _ (λ k. refl) (at_once _ _ _) (c.value.ensures.plays m is) c.in_err-found-in_default.was; owns = c.value.ensures.owns } })
+pub expressions::truth_of-returns-in_err-found-in_default-e : goal.expressions::truth_of-returns-in_err-found-in_default-e
+expressions::truth_of-returns-in_err-found-in_default-e g t c =
+    let e = err_from_is_err_and c.from_residual.result c.from_residual.ensures.1 in rw (e.1, e.2) (record { val = v.Unset; is = tt; does = record { plays = λ m is. stop _ (λ k. refl) (at_once _ _ _) (c.value.ensures.plays m is) c.in_err-found-in_default-e.was; owns = c.value.ensures.owns } })
 
-pub expressions::truth_of-returns-in_ok-found-in_default : goal.expressions::truth_of-returns-in_ok-found-in_default
-expressions::truth_of-returns-in_ok-found-in_default g t c =
-    record { val = c.in_ok-found-in_default.found; is = c.truth.ensures; does = record { plays = λ m is. done (part _ (at_once _ _ _) (c.value.ensures.plays m is) c.in_ok-found-in_default.was); owns = c.value.ensures.owns } }
+pub expressions::truth_of-returns-in_ok-found-in_default-e : goal.expressions::truth_of-returns-in_ok-found-in_default-e
+expressions::truth_of-returns-in_ok-found-in_default-e g t c =
+    record { val = c.in_ok-found-in_default-e.found; is = c.truth.ensures; does = record { plays = λ m is. done (part _ (at_once _ _ _) (c.value.ensures.plays m is) c.in_ok-found-in_default-e.was); owns = c.value.ensures.owns } }
 
 pub expressions::truth_of-returns-in-Compare : goal.expressions::truth_of-returns-in-Compare
 expressions::truth_of-returns-in-Compare g t c =
@@ -1463,22 +1435,71 @@ pub expressions::value-returns-in-Some : goal.expressions::value-returns-in-Some
 expressions::value-returns-in-Some g t c =
     record { plays = λ m is. acted (there {on = give} {x = c.in-Some.there} (c.in-Some.ensures m c.args.run.now.streams)); owns = c.requires }
 
-pub expressions::number-returns-in-Some : goal.expressions::number-returns-in-Some
-expressions::number-returns-in-Some g t c =
-    let h = c.in-Some.ensures in
-    record { val = h.val; is = rw (to_z-of_z w64 c.in-Some.known (search rules)) at (sym h.is); does = record { plays = λ m is. acted (there {on = λ (x : Result ℤ Fault). give h.val} {x = Ok c.in-Some.known} (h.there m c.args.run.now.streams)); owns = c.requires } }
-
 pub expressions::truth_of-returns-in-Some : goal.expressions::truth_of-returns-in-Some
 expressions::truth_of-returns-in-Some g t c =
     let h = c.in-Some.ensures in
     record { val = h.val; is = sym h.is; does = record { plays = λ m is. acted (there {on = λ (x : Bool). give h.val} {x = c.in-Some.known} (h.there m c.args.run.now.streams)); owns = c.requires } }
 
+pub expressions::number-returns-in-Some : goal.expressions::number-returns-in-Some
+expressions::number-returns-in-Some g t c =
+    let h = c.in-Some.ensures in
+    rw (to_z-of_z w64 c.in-Some.known (search rules)) (record { val = h.val; is = sym h.is; does = record { plays = λ m is. acted (there {on = λ (x : Result ℤ Fault). give h.val} {x = Ok c.in-Some.known} (h.there m c.args.run.now.streams)); owns = c.requires } })
+
 pub expressions::effect-returns-then-is_done : goal.expressions::effect-returns-then-is_done
 expressions::effect-returns-then-is_done g t c =
-    let h = c.done_at_once.ensures.done c.if-is_done.true in
+    let h = c.done_at_once-is_done.ensures.done c.if-is_done.true in
     record { val = h.val; is = tt; does = record { plays = λ m is. acted (there {on = λ (u : Unit {0}). give h.val} {x = tt} (h.gives m c.args.run.now.streams)); owns = c.requires } }
 
 pub expressions::effect-returns : goal.expressions::effect-returns
 expressions::effect-returns g t c =
     let h = c.general_effect.ensures in
-    record { val = h.val; is = h.is; does = record { plays = λ m is. rw (c.done_at_once.ensures.not_done c.if-is_done.false) at (h.does.plays m is); owns = h.does.owns } }
+    record { val = h.val; is = h.is; does = record { plays = λ m is. rw (c.done_at_once-is_done.ensures.not_done c.if-is_done.false) at (h.does.plays m is); owns = h.does.owns } }
+
+pub expressions::evaluate-returns-in_err-found-in-Match : goal.expressions::evaluate-returns-in_err-found-in-Match
+expressions::evaluate-returns-in_err-found-in-Match g t c =
+    let e = err_from_is_err_and c.from_residual.result c.from_residual.ensures.1 in rw (e.1, e.2) (record { plays = λ m is. rw (c.in-Match.is, view-Match) (stop _ (λ k. refl) (at_once _ _ _) (rw c.get-in-Match.ensures at (c.matches.ensures.plays m is)) c.in_err-found-in-Match.was); owns = c.matches.ensures.owns })
+
+pub expressions::evaluate-returns-in_ok-found-in-Match : goal.expressions::evaluate-returns-in_ok-found-in-Match
+expressions::evaluate-returns-in_ok-found-in-Match g t c =
+    rw c.truth_value.ensures (record { plays = λ m is. rw (c.in-Match.is, view-Match) (done (part _ (at_once _ _ _) (rw c.get-in-Match.ensures at (c.matches.ensures.plays m is)) c.in_ok-found-in-Match.was)); owns = c.matches.ensures.owns })
+
+pub expressions::truth_of-returns-in-Match : goal.expressions::truth_of-returns-in-Match
+expressions::truth_of-returns-in-Match g t c =
+    let h = as_truth {F = g.W.World.follows} {H = g.W.World.has_stopped} {S = g.W.World.stops} {N = g.W.World.open_numbers} {cx = c.args.cx.now} {p = λ m. value (p.matched c.in-Match.place (view (names_in m) c.in-Match.x) (view_ere (names_in m) c.in-Match.pattern))} {r = c.matches.result} (record { plays = λ m is. rw c.get-in-Match.ensures at (c.matches.ensures.plays m is); owns = c.matches.ensures.owns }) in
+    record { val = h.val; is = h.is; does = record { plays = λ m is. rw (c.in-Match.is, view-Match) (h.does.plays m is); owns = h.does.owns } }
+
+pub patterns::matches-returns-in_err-split_for : goal.patterns::matches-returns-in_err-split_for
+patterns::matches-returns-in_err-split_for g t c =
+    let e = err_from_is_err_and c.from_residual.result c.from_residual.ensures.1 in rw (e.1, e.2) (record { plays = λ m is. stop _ (λ k. refl) (at_once _ _ _) (acted (c.split_for.ensures m c.args.run.now.streams (value (p.matched c.args.place (view (names_in m) c.args.x.now) (view_ere (names_in m) c.args.pattern.now))))) c.in_err-split_for.was; owns = c.requires })
+
+pub patterns::matches-returns-in-Some : goal.patterns::matches-returns-in-Some
+patterns::matches-returns-in-Some g t c =
+    record { plays = λ m is. done (part (tt {0}) (part _ (at_once _ _ _) (acted (c.split_for.ensures m c.args.run.now.streams (value (p.matched c.args.place (view (names_in m) c.args.x.now) (view_ere (names_in m) c.args.pattern.now))))) c.in_ok-split_for.was) (acted (there {on = λ (u : Unit {0}). give (of_truth c.in-Some.found)} {x = tt} (c.in-Some.ensures c.args.place m c.args.run.now.streams))) refl); owns = c.requires }
+
+pub patterns::matches-returns-in_err-text : goal.patterns::matches-returns-in_err-text
+patterns::matches-returns-in_err-text g t c =
+    let e = err_from_is_err_and c.from_residual-in_err-text.result c.from_residual-in_err-text.ensures.1 in rw (e.1, e.2) (record { plays = λ m is. stop _ (λ k. refl) (quietly (part _ (at_once _ _ _) (acted (c.split_for.ensures m c.args.run.now.streams (value (p.matched c.args.place (view (names_in m) c.args.x.now) (view_ere (names_in m) c.args.pattern.now))))) c.in_ok-split_for.was) (λ k hid d a. refl)) (c.value.ensures.plays m is) c.in_err-text.was; owns = c.value.ensures.owns })
+
+pub patterns::matches-returns-in_err-from : goal.patterns::matches-returns-in_err-from
+patterns::matches-returns-in_err-from g t c =
+    let e = err_from_is_err_and c.from_residual-in_err-from.result c.from_residual-in_err-from.ensures.1 in rw (e.1, e.2) (record { plays = λ m is. stop _ (λ k. refl) (quietly (part _ (quietly (part _ (at_once _ _ _) (acted (c.split_for.ensures m c.args.run.now.streams (value (p.matched c.args.place (view (names_in m) c.args.x.now) (view_ere (names_in m) c.args.pattern.now))))) c.in_ok-split_for.was) (λ k hid d a. refl)) (c.value.ensures.plays m is) c.in_ok-text.was) (λ k hid d a. refl)) (c.source_of.ensures.plays.plays m is) c.in_err-from.was; owns = c.source_of.ensures.plays.owns })
+
+pub patterns::matches-returns : goal.patterns::matches-returns
+patterns::matches-returns g t c =
+    record { plays = λ m is. hands (part _ (quietly (part _ (quietly (part _ (at_once _ _ _) (acted (c.split_for.ensures m c.args.run.now.streams (value (p.matched c.args.place (view (names_in m) c.args.x.now) (view_ere (names_in m) c.args.pattern.now))))) c.in_ok-split_for.was) (λ k hid d a. refl)) (c.value.ensures.plays m is) c.in_ok-text.was) (λ k hid d a. refl)) (c.source_of.ensures.plays.plays m is) c.in_ok-from.was) (acted (c.matched.ensures m (c.source_of.new.run.store, c.source_of.new.run.streams) (view (names_in m) c.args.x.now) (view_ere (names_in m) c.args.pattern.now) (c.in_ok-from.ensures.kind (names_in m)))); owns = c.source_of.ensures.plays.owns }
+
+pub output::print-returns-in_err-split_for_items : goal.output::print-returns-in_err-split_for_items
+output::print-returns-in_err-split_for_items g t c =
+    let e = err_from_is_err_and c.from_residual.result c.from_residual.ensures.1 in rw (e.1, e.2) (record { plays = λ m is. stop _ (λ k. refl) (at_once _ _ _) (acted (c.split_for_items.ensures m c.args.run.now.streams (At (Doing (p.print c.args.place (map (view (names_in m)) c.args.xs.now) (option_map (view_redirection (names_in m)) c.args.to.now))) []))) c.in_err-split_for_items.was; owns = c.requires })
+
+pub output::print-returns-in_err-put : goal.output::print-returns-in_err-put
+output::print-returns-in_err-put g t c =
+    let e = err_from_is_err_and c.from_residual-in_err-put.result c.from_residual-in_err-put.ensures.1 in rw (e.1, e.2, c.in_default.is) (record { plays = λ m is. stop _ (λ k. refl) (part c.in-Some-known.text (part _ (at_once _ _ _) (acted (c.split_for_items.ensures m c.args.run.now.streams (At (Doing (p.print c.args.place (map (view (names_in m)) c.args.xs.now) None)) []))) c.in_ok-split_for_items.was) (acted (there {on = to_standard c.args.place} {x = c.in-Some-known.text} (c.in-Some-known.ensures m c.args.run.now.streams c.args.place))) refl) (lifted m c.split_for_items.new.store (λ s. c.put.ensures.task m s c.args.run.now.streams (Standard 1) refl)) c.in_err-put.was; owns = rw c.put.ensures.numbers c.requires })
+
+pub output::print-returns-in-Some-known : goal.output::print-returns-in-Some-known
+output::print-returns-in-Some-known g t c =
+    rw c.in_default.is (record { plays = λ m is. done (part _ (part c.in-Some-known.text (part _ (at_once _ _ _) (acted (c.split_for_items.ensures m c.args.run.now.streams (At (Doing (p.print c.args.place (map (view (names_in m)) c.args.xs.now) None)) []))) c.in_ok-split_for_items.was) (acted (there {on = to_standard c.args.place} {x = c.in-Some-known.text} (c.in-Some-known.ensures m c.args.run.now.streams c.args.place))) refl) (lifted m c.split_for_items.new.store (λ s. c.put.ensures.task m s c.args.run.now.streams (Standard 1) refl)) c.in_ok-put.was); owns = rw c.put.ensures.numbers c.requires })
+
+pub output::print-returns : goal.output::print-returns
+output::print-returns g t c =
+    record { plays = λ m is. hands (part _ (at_once _ _ _) (acted (c.split_for_items.ensures m c.args.run.now.streams (At (Doing (p.print c.args.place (map (view (names_in m)) c.args.xs.now) (option_map (view_redirection (names_in m)) c.args.to.now))) []))) c.in_ok-split_for_items.was) (c.general_print-2.ensures.plays m is); owns = c.general_print-2.ensures.owns }

@@ -1,4 +1,4 @@
-use Rattle.std.proofs.Common.{◌+◌, ◌*◌, List, [], ◌∷◌, drop, map}
+use Rattle.std.proofs.Common.{◌+◌, ◌*◌, [], ◌∷◌, drop, map}
 use Rattle.std.specs.Prelude.{option_copied}
 use Rattle.awk_program.specs.Program as p
 use Rattle.awk_program.specs.Program.{expressions_of, terms_of, joins_of}
@@ -170,7 +170,10 @@ abbrev pub decreases-inputs::system : goal.decreases-inputs::system
 decreases-inputs::system g l = 1 + 16 * l.level
 
 abbrev pub decreases-output::print : goal.decreases-output::print
-decreases-output::print g l = 2 + 16 * l.level
+decreases-output::print g l = 3 + 16 * l.level
+
+abbrev pub decreases-output::general_print : goal.decreases-output::general_print
+decreases-output::general_print g l = 2 + 16 * l.level
 
 abbrev pub decreases-output::printf : goal.decreases-output::printf
 decreases-output::printf g l = 2 + 16 * l.level
