@@ -193,14 +193,13 @@ pub fn at_hand<'a>(store: &'a Store, e: &'a Expr, level: u32) -> Option<Lent<'a>
     }
 }
 
-/// The number of a constant, of a variable that holds one, or of arithmetic.
+/// The number of a constant, or of a variable that holds one: what loops read most.
 fn plain_number(store: &Store, e: &Expr) -> Option<i64>
     ensures { IfSome result (λ n. IsThere (λ names. view names e.now) store.now (v.Num n)) }
 {
     match e {
         Expr::Number(number) => Some(*number),
         Expr::Read(target) => number_read(store, target),
-        Expr::Chain(x, xs) => chain_at_hand(store, x.get(), xs.as_slice(), MOST_LEVELS),
         _ => None,
     }
 }
@@ -261,15 +260,22 @@ pub(crate) fn is_field(e: &Expr) -> bool {
     }
 }
 
-/// Splits the record where the expression is a field, so that the field is at hand.
-pub fn split_for(store: &mut Store, e: &Expr) -> Result<(), Halt>
+/// Splits the record where that is wanted: plain awk does not see it.
+pub(crate) fn split_where(store: &mut Store, wanted: bool) -> Result<(), Halt>
     ensures { (g : Given) (t : Table) (q : Piece) → Acts g q (λ u k. q ∷ k) (store.old, t) result (store.new, t) }
 {
-    if !is_field(e) {
+    if !wanted {
         return Ok(());
     }
     let Ok(_) = store.field_count() else {
         return Err(Halt::Memory);
     };
     Ok(())
+}
+
+/// Splits the record where the expression is a field, so that the field is at hand.
+pub fn split_for(store: &mut Store, e: &Expr) -> Result<(), Halt>
+    ensures { (g : Given) (t : Table) (q : Piece) → Acts g q (λ u k. q ∷ k) (store.old, t) result (store.new, t) }
+{
+    split_where(store, is_field(e))
 }

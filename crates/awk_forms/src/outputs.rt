@@ -22,7 +22,7 @@ ghost use Rattle.awk_text.specs.Values.{text_of};
 ghost use Rattle.awk_text.specs.declared.value.Value.{Value as Val};
 ghost use Rattle.awk_works.specs.Lines.{held};
 
-use crate::at_hand::{MOST_LEVELS, at_hand, is_field};
+use crate::at_hand::{MOST_LEVELS, at_hand, is_field, split_where};
 use crate::made::text_at;
 use awk_asks::halt::Halt;
 use awk_program::{Expr, Own};
@@ -181,20 +181,9 @@ pub fn printed_at_hand(alloc: Global, line: &mut Line, store: &Store, xs: &[Expr
     Some(Octets::new(copy))
 }
 
-/// Whether one of the expressions is a field other than `$0`.
-fn has_field(xs: &[Expr]) -> bool {
-    xs.iter().any(|x| is_field(x))
-}
-
 /// Splits the record where one of the expressions is a field, so that the field is at hand.
 pub fn split_for_items(store: &mut Store, xs: &[Expr]) -> Result<(), Halt>
     ensures { (g : Given) (t : Table) (q : Piece) → Acts g q (λ u k. q ∷ k) (store.old, t) result (store.new, t) }
 {
-    if !has_field(xs) {
-        return Ok(());
-    }
-    let Ok(_) = store.field_count() else {
-        return Err(Halt::Memory);
-    };
-    Ok(())
+    split_where(store, xs.iter().any(|x| is_field(x)))
 }

@@ -16,8 +16,3 @@ returns-in-Number c = λ g t. rw (c.in-Number.is, view-Number, to_z-of_z w64 c.i
 pub returns-in-Read : goal.returns-in-Read
 returns-in-Read c =
     some_for {P = λ n. IsThere (λ names. p.read (view_target names c.in-Read.target)) c.args.store.now (v.Num n)} c.number_read.result (λ n h g t. rw (c.in-Read.is, view-Read) (h g t)) c.number_read.ensures
-
-pub returns-in-Chain : goal.returns-in-Chain
-returns-in-Chain c =
-    some_for {P = λ n. IsThere (λ names. p.chain (view names c.get.result.now) (terms_of (map (view_term names) c.as_slice.result.now))) c.args.store.now (v.Num n)} c.chain_at_hand.result
-    (λ n h g t. rw (c.in-Chain.is, view-Chain) (rw (c.get.ensures, c.as_slice.ensures) at (h g t))) c.chain_at_hand.ensures
