@@ -230,20 +230,18 @@ recipe() {
     local readme=$clone/$1/README.md
     sed -n '/^```sh$/,/^```$/{/^```/!p}' "$readme" >"$work/commands"
     sed -n '/^```text$/,/^```$/{/^```/!p}' "$readme" >"$work/wanted"
-    (cd "$clone" && bash "$work/commands") >"$work/output" 2>&1 </dev/null
+    (cd "$clone" && TMPDIR=$work bash "$work/commands") >"$work/output" 2>&1 </dev/null
     status=$?
     : >"$work/errors"
     [ -s "$work/commands" ] && cmp -s "$work/wanted" "$work/output"
 }
 
-# a clone with the program built, whose examples have their folders under the work folder
+# a clone with the program built
 clone=$work/clone
 mkdir -p "$clone/crates/awkbox_program/out"
 cp -R "$top/README.md" "$top/examples" "$top/man" "$top/completions" "$top/install" "$clone"
 ln -s "$program" "$clone/awkbox"
 ln -s "$program" "$clone/crates/awkbox_program/out/awkbox_program"
-sed -i "s|/tmp/awkbox-examples|$work/recipes|g" "$clone"/examples/*/README.md \
-    "$clone"/examples/*/policy.toml
 for folder in . examples/hi examples/report-host examples/teaching-server examples/log-pipeline; do
     recipe "$folder"
     verdict "the commands of the README in $folder"
