@@ -1,4 +1,4 @@
-// A script made by hand and written. That a script is read again is tested where the parser stands.
+// A script made by hand and written. That a script is read again is told by rows (`parses.txt`).
 
 use awk_canon::canon;
 use awk_text::Memory;

@@ -46,6 +46,33 @@ fn push_times(text: &mut Vec<u8>, piece: &[u8], times: u64) -> Result<(), Proble
     Ok(())
 }
 
+/// The piece, with these digits in place of each `#`.
+fn push_with(text: &mut Vec<u8>, piece: &[u8], digits: &[u8]) -> Result<(), Problem> {
+    for byte in piece {
+        if *byte == b'#' {
+            text.extend_from_slice(digits)?;
+        } else {
+            text.push(*byte)?;
+        }
+    }
+    Ok(())
+}
+
+/// The piece with 1, with 2, and so on to the last number.
+fn push_numbered(
+    alloc: Global,
+    text: &mut Vec<u8>,
+    piece: &[u8],
+    last: u64,
+) -> Result<(), Problem> {
+    for before in 0..last {
+        let number = before.saturating_add(1);
+        let digits = format!(in alloc; "{number}")?;
+        push_with(text, piece, digits.as_bytes())?;
+    }
+    Ok(())
+}
+
 impl<'a> Cursor<'a> {
     pub fn new(table: &'a [u8]) -> Cursor<'a> {
         Cursor { rest: table }
@@ -107,18 +134,24 @@ impl<'a> Cursor<'a> {
         }
     }
 
-    // How often the piece before is meant: once, where no `x N` says otherwise.
-    fn times(&mut self) -> u64 {
+    // The number behind this word, where the word stands here.
+    fn number_after(&mut self, word: &[u8]) -> Option<u64> {
+        let Some(rest) = self.rest.strip_prefix(word) else {
+            return None;
+        };
+        let (digits, number) = leading_digits(rest);
+        self.rest = rest;
+        self.take(digits);
+        Some(number)
+    }
+
+    // The piece as often as it is meant: once, where no `x N` and no `to N` behind it says otherwise.
+    fn push(&mut self, alloc: Global, text: &mut Vec<u8>, piece: &[u8]) -> Result<(), Problem> {
         self.skip_blanks();
-        match self.rest {
-            [b'x', b' ', rest @ ..] => {
-                let (digits, times) = leading_digits(rest);
-                self.take(2);
-                self.take(digits);
-                times
-            }
-            _ => 1,
+        if let Some(last) = self.number_after(b"to ") {
+            return push_numbered(alloc, text, piece, last);
         }
+        push_times(text, piece, self.number_after(b"x ").unwrap_or(1))
     }
 
     fn text(&mut self, alloc: Global) -> Result<Vec<u8>, Problem> {
@@ -127,7 +160,7 @@ impl<'a> Cursor<'a> {
             let Some(piece) = self.piece(alloc)? else {
                 break;
             };
-            push_times(&mut text, &piece, self.times())?;
+            self.push(alloc, &mut text, &piece)?;
             self.skip_blanks();
         }
         Ok(text)

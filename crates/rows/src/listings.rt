@@ -1,21 +1,15 @@
 // What scripts may ask, as it is listed, and as it stands to a policy.
 
 use crate::args::{text, word};
+use crate::parses::script;
 use crate::problem::Problem;
 use crate::row::{Arg, Row};
 use crate::shown::{Answer, told};
 use crate::words::Word;
-use awk_parse::{Script, parse};
 use awk_text::octets::Octets;
-use awk_tokens::tokens;
 use box_listing::{check, lines_of, sites, verdict_lines};
 use box_policy::policy::Policy;
 use std::alloc::Global;
-
-fn script(alloc: Global, text: &[u8]) -> Result<Script, Problem> {
-    let tokens = tokens(alloc, text)?;
-    Ok(parse(alloc, &tokens)?)
-}
 
 fn listed(alloc: Global, text: &[u8]) -> Answer {
     let script = script(alloc, text)?;

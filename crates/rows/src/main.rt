@@ -11,6 +11,7 @@ mod formats;
 mod library;
 mod listings;
 mod monitors;
+mod parses;
 mod patterns;
 mod policies;
 mod problem;

@@ -1,20 +1,18 @@
 // Scripts in the form that runs, as they are printed.
 
 use crate::args::{text, word};
+use crate::parses::script;
 use crate::problem::Problem;
 use crate::row::Arg;
 use crate::shown::Answer;
 use crate::words::Word;
-use awk_parse::parse;
 use awk_printer::printed;
 use awk_text::Memory;
 use awk_text::numeral::leading_digits;
-use awk_tokens::tokens;
 use std::alloc::Global;
 
-fn program(alloc: Global, script: &[u8]) -> Answer {
-    let tokens = tokens(alloc, script)?;
-    let script = parse(alloc, &tokens)?;
+fn program(alloc: Global, text: &[u8]) -> Answer {
+    let script = script(alloc, text)?;
     Ok(printed(alloc, script.program())?)
 }
 

@@ -4,8 +4,8 @@ use crate::problem::Problem;
 use crate::row::{Arg, Row};
 use crate::shown::Answer;
 use crate::{
-    fields, formats, library, listings, monitors, patterns, policies, programs, records, runs,
-    tokens, values, worlds,
+    fields, formats, library, listings, monitors, parses, patterns, policies, programs, records,
+    runs, tokens, values, worlds,
 };
 use awk_text::octets::Octets;
 use std::alloc::Global;
@@ -20,6 +20,7 @@ pub enum Table {
     Formats,
     Library,
     Tokens,
+    Parses,
     Programs,
     Policies,
     Worlds,
@@ -32,7 +33,7 @@ pub enum Table {
     Operands,
 }
 
-pub const TABLES: [Table; 17] = [
+pub const TABLES: [Table; 18] = [
     Table::Values,
     Table::Patterns,
     Table::Searches,
@@ -40,6 +41,7 @@ pub const TABLES: [Table; 17] = [
     Table::Formats,
     Table::Library,
     Table::Tokens,
+    Table::Parses,
     Table::Programs,
     Table::Policies,
     Table::Worlds,
@@ -62,6 +64,7 @@ impl Table {
             Table::Formats => "formats.txt",
             Table::Library => "library.txt",
             Table::Tokens => "tokens.txt",
+            Table::Parses => "parses.txt",
             Table::Programs => "programs.txt",
             Table::Policies => "policies.txt",
             Table::Worlds => "worlds.txt",
@@ -84,6 +87,7 @@ impl Table {
             Table::Formats => formats::call(alloc, args),
             Table::Library => library::call(alloc, args),
             Table::Tokens => tokens::call(alloc, args),
+            Table::Parses => parses::call(alloc, args),
             Table::Programs => programs::call(alloc, args),
             Table::Policies => policies::call(alloc, args),
             Table::Listings => listings::call(alloc, args),

@@ -13,6 +13,8 @@ pub enum Word {
     Asks,
     Assign,
     Bound,
+    CanAssign,
+    Canon,
     Check,
     Chunk,
     Clear,
@@ -59,6 +61,7 @@ pub enum Word {
     Number,
     Operand,
     Output,
+    Parse,
     Pattern,
     Policy,
     Pow,
@@ -106,7 +109,7 @@ pub enum Word {
     WriteTo,
 }
 
-const WORDS: [(&[u8], Word); 99] = [
+const WORDS: [(&[u8], Word); 102] = [
     (b"add", Word::Add),
     (b"agree", Word::Agree),
     (b"append", Word::Append),
@@ -115,6 +118,8 @@ const WORDS: [(&[u8], Word); 99] = [
     (b"asks", Word::Asks),
     (b"assign", Word::Assign),
     (b"bound", Word::Bound),
+    (b"can_assign", Word::CanAssign),
+    (b"canon", Word::Canon),
     (b"check", Word::Check),
     (b"chunk", Word::Chunk),
     (b"clear", Word::Clear),
@@ -161,6 +166,7 @@ const WORDS: [(&[u8], Word); 99] = [
     (b"number", Word::Number),
     (b"operand", Word::Operand),
     (b"output", Word::Output),
+    (b"parse", Word::Parse),
     (b"pattern", Word::Pattern),
     (b"policy", Word::Policy),
     (b"pow", Word::Pow),
