@@ -82,7 +82,7 @@ pub fn call<W: World>(
 {
     let values = arguments(cx, xs, level, run, world)?;
     step(cx.host.bound(), &mut run.store)?;
-    let caller = begin(cx.alloc, cx.program, place, f, xs, values, &mut run.store)?;
+    let caller = begin(cx.program, place, f, xs, values, &mut run.store)?;
     let flow = body(cx, body_of(cx.program, f), level, run, world)?;
     leave(&mut run.store, caller);
     Ok(returned(flow))

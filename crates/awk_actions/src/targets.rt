@@ -104,7 +104,7 @@ pub fn put<W: World>(
     ensures { Tells W.follows W.has_stopped W.stops W.open_numbers cx.now (λ g. value (p.assign place (view_target (names_in g) target.now) (view (names_in g) x.now))) IsUnwanted
         (run.old.store, run.old.streams) world.old result (run.new.store, run.new.streams) world.new }
 {
-    let is_done = assigned(cx.alloc, &mut run.store, target, x)?;
+    let is_done = assigned(cx.alloc, &mut run.store, &mut run.texts, target, x)?;
     if is_done {
         return Ok(());
     }

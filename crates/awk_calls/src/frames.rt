@@ -20,7 +20,6 @@ use awk_tasks::calls::enter;
 use awk_text::Memory;
 use awk_text::place::Place;
 use awk_text::value::Value;
-use std::alloc::Global;
 
 /// What a parameter holds that is handed this.
 fn bound(store: &Store, x: &Argument<Expr>, value: Value) -> Bound
@@ -32,16 +31,17 @@ fn bound(store: &Store, x: &Argument<Expr>, value: Value) -> Bound
     }
 }
 
-/// What the first parameters hold.
+/// What the first parameters hold, in the list that is given for them.
 fn handed(
-    alloc: Global,
     store: &Store,
     xs: &[Argument<Expr>],
     values: Vec<Value>,
+    room: Vec<Bound>,
 ) -> Result<Vec<Bound>, Memory>
     ensures frame { IfOk result (λ bounds. (g : Given) (t : Table) (hid : Hidden) → machine.all_handed (base g (store.now, t) hid) (machine.arguments (view_arguments (names_in g) xs.now)) values.items ≡ map (bound_of (names_in g)) bounds.items) }
 {
-    let mut given = Vec::new(alloc);
+    let mut given = room;
+    given.clear();
     for value in values {
         let Some(x) = xs.get(given.len()) else {
             return Ok(given);
@@ -73,7 +73,6 @@ fn parameters_of(program: &Program, f: u32) -> &[bool]
 
 /// Begins a call with these values, one for each argument, and answers what the caller waits with.
 pub fn begin(
-    alloc: Global,
     program: &Program,
     place: Place,
     f: u32,
@@ -84,7 +83,8 @@ pub fn begin(
     ensures { (g : Given) (t : Table) → g.program ≡ view_program program.now → Acts g (Do (Call place f (view_arguments (names_in g) xs.now) values.items)) (begun g f) (store.old, t) result (store.new, t) }
 {
     let count = values.len();
-    let Ok(given) = handed(alloc, store, xs, values) else {
+    let room = store.spare_frame();
+    let Ok(given) = handed(store, xs, values, room) else {
         return Err(Halt::Memory);
     };
     enter(

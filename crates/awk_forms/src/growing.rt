@@ -47,22 +47,23 @@ fn add_text(store: &Store, e: &Expr, room: usize, texts: &mut Vec<u8>) -> Result
     Ok(true)
 }
 
-/// The texts of the operands, one after the other, where each is at hand and there is room for all.
+/// Makes it the texts of the operands, one after the other, and answers whether it did: each is at hand, and there is room for
+/// all.
 fn gathered(
-    alloc: Global,
     store: &Store,
     rest: &[Joined<Expr>],
     room: usize,
-) -> Result<Option<Vec<u8>>, Memory>
-    ensures { IfOk result (λ found. IfSome found (λ more. (g : Given) (t : Table) → Follows g (store.now, t) (joins_of (map (view_joined (names_in g)) rest.now)) room more.items)) }
+    texts: &mut Vec<u8>,
+) -> Result<bool, Memory>
+    ensures { IfOk result (λ is. is ≡ true → (g : Given) (t : Table) → Follows g (store.now, t) (joins_of (map (view_joined (names_in g)) rest.now)) room texts.new.items) }
 {
-    let mut more = Vec::new(alloc);
+    texts.clear();
     for next in rest {
-        if !add_text(store, &next.operand, room, &mut more)? {
-            return Ok(None);
+        if !add_text(store, &next.operand, room, texts)? {
+            return Ok(false);
         }
     }
-    Ok(Some(more))
+    Ok(true)
 }
 
 /// Whether this is that variable.
@@ -124,6 +125,7 @@ fn grow(alloc: Global, store: &mut Store, to: Variable, more: &[u8]) -> Result<(
 fn grown(
     alloc: Global,
     store: &mut Store,
+    texts: &mut Vec<u8>,
     to: Variable,
     first: &Expr,
     rest: &[Joined<Expr>],
@@ -141,24 +143,25 @@ fn grown(
     let Some(room) = room_behind(store, to) else {
         return Ok(false);
     };
-    let Ok(found) = gathered(alloc, store, rest, room) else {
+    let Ok(found) = gathered(store, rest, room, texts) else {
         return Err(Halt::Memory);
     };
-    let Some(more) = found else {
+    if !found {
         return Ok(false);
-    };
-    grow(alloc, store, to, more.as_slice())?;
+    }
+    grow(alloc, store, to, texts.as_slice())?;
     Ok(true)
 }
 
 /// Does the whole of `target = value` where the value is the text of the target with more behind it, all at hand: then that
 /// text grows in its place, so that many such assignments take time as what they add. Else it does nothing, and answers
-/// `false`.
+/// `false`. What is to come behind it is gathered in `texts`, a buffer that is kept.
 ///
 /// Fails with `Halt::Memory` alone, where memory is refused.
 pub fn assigned(
     alloc: Global,
     store: &mut Store,
+    texts: &mut Vec<u8>,
     target: &Target<Expr>,
     x: &Expr,
 ) -> Result<bool, Halt>
@@ -172,7 +175,7 @@ pub fn assigned(
         return Ok(false);
     };
     match x {
-        Expr::Concat(first, rest) => grown(alloc, store, *to, first.get(), rest.as_slice()),
+        Expr::Concat(first, rest) => grown(alloc, store, texts, *to, first.get(), rest.as_slice()),
         _ => Ok(false),
     }
 }

@@ -73,8 +73,9 @@ pub fn run_program<W: World>(cx: &Context<'_>, start: &Start<'_>, world: &mut W)
     let mut run = Run {
         store,
         streams: Streams::new(cx.alloc),
-        patterns: Patterns::new(),
+        patterns: Patterns::new(cx.alloc),
         line: Line::new(cx.alloc),
+        texts: Vec::new(cx.alloc),
     };
     let end = work(cx, start, &mut run, world);
     let outcome = close(end, &mut run.streams, world);

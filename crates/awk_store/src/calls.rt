@@ -55,6 +55,20 @@ fn add_all_missing(
 }
 
 impl Store {
+    /// An empty list for the parameters of a call, which an ended call left where there is one. Takes no memory.
+    pub fn spare_frame(&mut self) -> Vec<Bound>
+        ensures empty { result.items ≡ [] }
+        ensures same { self.new ≡ self.old }
+    {
+        match self.spare.pop() {
+            Some(mut frame) => {
+                frame.clear();
+                frame
+            }
+            None => Vec::new(self.alloc),
+        }
+    }
+
     /// Begins a call: these are what its first parameters hold, and the kinds of those behind them, that have no argument.
     /// Answers what the caller waits with.
     ///
@@ -81,11 +95,14 @@ impl Store {
         Ok(Caller { frame, made })
     }
 
-    /// Ends a call, with what its caller waited with. Takes no memory.
+    /// Ends a call, with what its caller waited with.
     pub fn leave(&mut self, caller: Caller)
         ensures { self.new ≡ left caller.frame.items caller.made self.old }
     {
-        self.frame = caller.frame;
+        let mut frame = mem::replace(&mut self.frame, caller.frame);
+        frame.clear();
+        // Where memory is refused, the next call makes a list anew.
+        let _ = self.spare.push(frame);
         self.made.truncate(caller.made);
         self.depth = self.depth.saturating_sub(1);
     }

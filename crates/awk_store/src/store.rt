@@ -29,6 +29,8 @@ pub struct Store {
     pub(crate) depth: u32,
     /// The arrays that calls have made
     pub(crate) made: Vec<Array<Value>>,
+    /// What calls that have ended kept their parameters in, for the next ones
+    pub(crate) spare: Vec<Vec<Bound>>,
     pub(crate) row: Record,
     pub(crate) separators: Separators,
     phase: Phase,
@@ -62,6 +64,7 @@ impl Store {
             frame: Vec::new(alloc),
             depth: 0,
             made: Vec::new(alloc),
+            spare: Vec::new(alloc),
             row: Record::new(alloc),
             separators: Separators::new(),
             phase: Phase::Beginning,

@@ -1,8 +1,8 @@
 // The patterns of a run, compiled once.
-ghost use Rattle.std.specs.Prelude.{◌≡◌, ◌⊎◌, IfOk, IfErr, IfSome};
+ghost use Rattle.std.specs.Prelude.{◌≡◌, ◌⊎◌, All, IfOk, IfErr, IfSome};
 ghost use Rattle.awk_fields.specs.Separators.{IsEre, IsNoEre};
 ghost use Rattle.awk_text.specs.Values.{text_of};
-ghost use Rattle.awk_works.specs.Cached.{AreEres};
+ghost use Rattle.awk_works.specs.Cached.{AreEres, IsNear};
 
 use awk_ere::Ere;
 use awk_text::Memory;
@@ -18,25 +18,37 @@ use std::rc::Rc;
 /// How many patterns are kept.
 const MOST_KEPT: usize = 64;
 
+/// How many patterns stand before the cache, which are found without a hash. Most scripts have no more.
+const MOST_NEAR: usize = 8;
+
+/// A pattern beside its text.
+#[derive(Drop)]
+struct Near {
+    source: Vec<u8>,
+    ere: Rc<Ere>,
+}
+
 /// The patterns that were used last, by their texts.
 type Cache = LruCache<Vec<u8>, Rc<Ere>>;
 
-/// The patterns of a run. Those that were used last are kept, as compiled; which ones never shows.
+/// The patterns of a run. The first few are kept, as compiled, and of the others those that were used last; which ones never
+/// shows.
 #[derive(Drop)]
 pub struct Patterns {
+    near: Vec<Near>,
     /// `None` until a pattern is first kept.
     cache: Option<Cache>,
 }
 
 impl Model for Patterns {
-    ghost use Rattle.std.specs.Prelude.{MatchOption};
-    ghost use Rattle.awk_works.specs.Cached.{AreEres};
+    ghost use Rattle.std.specs.Prelude.{MatchOption, All};
+    ghost use Rattle.awk_works.specs.Cached.{AreEres, IsNear};
 
     ghost Value = { Unit {0} };
 
     ghost view = { λ _. tt };
 
-    ghost invariant = { λ p. MatchOption p.cache (Unit {0}) (λ c. AreEres (λ k. k.items) (λ e. e.value) c.entries) };
+    ghost invariant = { λ p. All IsNear p.near.items × MatchOption p.cache (Unit {0}) (λ c. AreEres (λ k. k.items) (λ e. e.value) c.entries) };
 }
 
 /// The ERE that the text spells.
@@ -49,6 +61,32 @@ fn compiled(alloc: Global, source: &[u8]) -> Result<Rc<Ere>, Fault>
         Err(refusal) if refusal.code == 4 => Err(Fault::Memory),
         Err(_) => Err(Fault::Pattern),
     }
+}
+
+/// The pattern of this text among those before the cache.
+fn known(kept: &[Near], source: &[u8]) -> Option<Rc<Ere>>
+    requires { All IsNear kept.now }
+    ensures { IfSome result (λ e. (e.value ≡ source.now) × IsEre source.now) }
+{
+    for one in kept {
+        if one.source.as_slice() == source {
+            return one.ere.clone().ok();
+        }
+    }
+    None
+}
+
+/// Puts the pattern behind those before the cache.
+fn add_near(alloc: Global, kept: &mut Vec<Near>, source: &[u8], ere: &Rc<Ere>) -> Result<(), Memory>
+    requires near { All IsNear kept.old.items }
+    requires same { ere.now.value ≡ source.now }
+    requires ere { IsEre source.now }
+    ensures { All IsNear kept.new.items }
+{
+    let source = Vec::from_slice(alloc, source)?;
+    let ere = ere.clone()?;
+    kept.push(Near { source, ere })?;
+    Ok(())
 }
 
 /// Notes that the pattern of this text is the one used last, where the cache is full, so that the next one takes another's place.
@@ -90,8 +128,11 @@ fn store(alloc: Global, cache: &mut Cache, source: &[u8], ere: &Rc<Ere>) -> Resu
 
 impl Patterns {
     /// No patterns yet. Takes no memory.
-    pub fn new() -> Patterns {
-        Patterns { cache: None }
+    pub fn new(alloc: Global) -> Patterns {
+        Patterns {
+            near: Vec::new(alloc),
+            cache: None,
+        }
     }
 
     /// Keeps the pattern, or leaves all as it is where memory is refused.
@@ -99,6 +140,9 @@ impl Patterns {
         requires same { ere.now.value ≡ source.now }
         requires ere { IsEre source.now }
     {
+        if self.near.len() < MOST_NEAR {
+            return add_near(alloc, &mut self.near, source, ere);
+        }
         if let Some(cache) = &mut self.cache {
             return store(alloc, cache, source, ere);
         }
@@ -116,6 +160,9 @@ impl Patterns {
         ensures ok { IfOk result (λ e. (e.value ≡ source.now) × IsEre source.now) }
         ensures err { IfErr result (λ e. (e ≡ Fault.Memory) ⊎ ((e ≡ Fault.Pattern) × IsNoEre source.now)) }
     {
+        if let Some(ere) = known(self.near.as_slice(), source) {
+            return Ok(ere);
+        }
         if let Some(cache) = &mut self.cache
             && let Some(ere) = cached(cache, source)
         {
