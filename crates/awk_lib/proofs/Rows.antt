@@ -109,6 +109,9 @@ module _ {V : Type 0} where
   at_place Q (s ∷ ss) zero r at h = subst Q (ap (λ o. unwrap_row s o) at) h.0
   at_place Q (s ∷ ss) (suc i) r at h = at_place Q ss i r at h.1
 
+  pub texts_permuted : (rs ss : List (Row V)) → IsPermutation rs ss → IsDistinct bytes_eq (texts rs) → IsDistinct bytes_eq (texts ss)
+  texts_permuted rs ss p d = IsDistinct-IsPermutation bytes_eq nat_list_eq_equiv.symm (texts rs) (texts ss) (IsPermutation-map (λ r. r.1.0) rs ss p) d
+
   -- ---- a new key
 
   -- once the row of a new key is there
@@ -186,6 +189,31 @@ module _ {V : Type 0} where
       let rest = set_none key v rs h.1 in
       λ i. first i ∷ rest i
 
+  pairs_none : (key : List ℕ) (v : V) (rs : List (Row V)) → AllByRecursion (λ r. bytes_eq key r.1.0 ≡ false) rs → map (λ p. if bytes_eq key p.0 then (p.0, v) else p) (map (λ r. r.1) rs) ≡ map (λ r. r.1) rs
+  pairs_none key v rs h = sym (pairs_set key v rs) ∙ ap (map (λ r. r.1)) (set_none key v rs h)
+
+  pairs_same : (key : List ℕ) (v : V) (rs : List (Row V)) → IsDistinct bytes_eq (texts rs) → lookup (bytes_eq key) (map (λ r. r.1) rs) ≡ Some v
+      → map (λ p. if bytes_eq key p.0 then (p.0, v) else p) (map (λ r. r.1) rs) ≡ map (λ r. r.1) rs
+  pairs_same key v [] d at = refl
+  pairs_same key v (r ∷ rs) d at =
+      by (bytes_eq key r.1.0) at (λ e. pairs_none key v rs (alone key r rs d e)) (pairs_same key v rs (IsDistinct-tail bytes_eq r.1.0 (texts rs) d))
+    where
+      by : (b : Bool) → cond b (Some r.1.1) (lookup (bytes_eq key) (map (λ r. r.1) rs)) ≡ Some v
+          → (b ≡ true → map (λ p. if bytes_eq key p.0 then (p.0, v) else p) (map (λ r. r.1) rs) ≡ map (λ r. r.1) rs)
+          → (lookup (bytes_eq key) (map (λ r. r.1) rs) ≡ Some v → map (λ p. if bytes_eq key p.0 then (p.0, v) else p) (map (λ r. r.1) rs) ≡ map (λ r. r.1) rs)
+          → (if b then (r.1.0, v) else r.1) ∷ map (λ p. if bytes_eq key p.0 then (p.0, v) else p) (map (λ r. r.1) rs) ≡ r.1 ∷ map (λ r. r.1) rs
+      by true at none rest =
+          let value : v ≡ r.1.1 = sym (ap (λ o. unwrap_row v o) at) in
+          let others = none refl in
+          λ i. (r.1.0, value i) ∷ others i
+      by false at none rest = ap (λ l. r.1 ∷ l) (rest at)
+
+  -- writing the value that is there changes nothing
+  pub same_shown : (rs : List (Row V)) (key : List ℕ) (v : V) → IsDistinct bytes_eq (texts rs) → element (shown rs) key ≡ Some v → with_element (shown rs) key v ≡ shown rs
+  same_shown rs key v d at =
+      ap (λ b. if b then map (λ p. if bytes_eq key p.0 then (p.0, v) else p) (shown rs) else shown rs ++ (key, v) ∷ []) (ap is_some at)
+      ∙ pairs_same key v (in_order rs) (texts_permuted rs (in_order rs) (in_order_permutes rs) d) at
+
   -- the rows with another value at the place
   abbrev pub set_at : List (Row V) → ℕ → V → List (Row V)
   set_at [] i v = []
@@ -248,9 +276,6 @@ module _ {V : Type 0} where
       by : (b : Bool) → without (map (λ s. s.1) (into r ss)) key ≡ map (λ s. s.1) ss → without (map (λ s. s.1) (if b then s ∷ into r ss else r ∷ s ∷ ss)) key ≡ map (λ s. s.1) (s ∷ ss)
       by true rest = ap (λ b. cond (not b) (s.1 ∷ without (map (λ s. s.1) (into r ss)) key) (without (map (λ s. s.1) (into r ss)) key)) h.0 ∙ ap (λ l. s.1 ∷ l) rest
       by false rest = ap (λ b. cond (not b) (r.1 ∷ without (map (λ s. s.1) (s ∷ ss)) key) (without (map (λ s. s.1) (s ∷ ss)) key)) e ∙ all
-
-  pub texts_permuted : (rs ss : List (Row V)) → IsPermutation rs ss → IsDistinct bytes_eq (texts rs) → IsDistinct bytes_eq (texts ss)
-  texts_permuted rs ss p d = IsDistinct-IsPermutation bytes_eq nat_list_eq_equiv.symm (texts rs) (texts ss) (IsPermutation-map (λ r. r.1.0) rs ss p) d
 
   pub shown_gone : (settled : Bool) (n : ℕ) (rs : List (Row V)) (r : (Row V)) (ss : List (Row V)) (key : List ℕ) → AreNumbered settled n rs → IsPermutation rs (r ∷ ss) → bytes_eq key r.1.0 ≡ true → shown ss ≡ without (shown rs) key
   shown_gone settled n rs r ss key a p e =

@@ -184,10 +184,12 @@ impl<V> Array<V> {
         }
     }
 
-    /// The value of the key, to write. Takes no memory.
+    /// The value of the key, to write. Where the value that is there is written again, the array
+    /// stays as it is. Takes no memory.
     pub fn get_mut(&mut self, key: &[u8]) -> Option<&mut V>
         ensures* writes_back { sem 𝓛 (lends_element V.row self.entry key.now result) }
         ensures value { option_copied_mut result ≡ element self.old key.now }
+        ensures same { (v : V) → element self.old key.now ≡ Some v → with_element self.old key.now v ≡ self.old }
     {
         let place = self.elements.map.get_index_of(key)?;
         Some(self.elements.value_mut(place))

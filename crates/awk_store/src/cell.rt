@@ -1,6 +1,7 @@
 // Variables of the whole script.
-ghost use Rattle.std.specs.Prelude.{◌≡◌, Some, [], true, false, unwrap_or, IfOk, IfErr, OnOk, IsOkUnless};
+ghost use Rattle.std.specs.Prelude.{◌≡◌, ℤ, Some, Ok, [], true, false, unwrap_or, IfOk, IfErr, OnOk, IsOkUnless};
 ghost use Rattle.std.specs.Option.{option_copied};
+ghost use Rattle.awk_text.specs.Arithmetic.{add};
 ghost use Rattle.awk_machine.specs.Begins.{first_value};
 ghost use Rattle.awk_store.specs.Changes.{Adds};
 
@@ -118,13 +119,25 @@ pub(crate) fn add_in(elements: &mut Array<Value>, key: &[u8], by: i64) -> bool
     ensures done { result ≡ true → Adds (Some elements.old) key.now by (λ new. elements.new ≡ new) }
     ensures not_done { result ≡ false → elements.new ≡ elements.old }
 {
-    let Some(Value::Num(number)) = elements.get(key) else {
+    match elements.get_mut(key) {
+        Some(value) => add_value(value, by),
+        None => false,
+    }
+}
+
+/// Adds to the number that a value is, where it is one, and answers whether it did.
+fn add_value(value: &mut Value, by: i64) -> bool
+    ensures done { result ≡ true → (n : ℤ) × (m : ℤ) × (value.old ≡ Value.Num n) × (add n by ≡ Ok m) × (value.new ≡ Value.Num m) }
+    ensures not_done { result ≡ false → value.new ≡ value.old }
+{
+    let Value::Num(number) = value else {
         return false;
     };
     let Ok(sum) = add(*number, by) else {
         return false;
     };
-    elements.set(key, Value::Num(sum)).is_ok()
+    *number = sum;
+    true
 }
 
 /// A text as a value.

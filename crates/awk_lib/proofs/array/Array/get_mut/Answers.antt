@@ -1,6 +1,7 @@
 use Rattle.std.proofs.Common.{inl, refl, sym, ap, ◌∙◌}
 use Rattle.std.specs.Option.{option_map}
-use Rattle.awk_lib.proofs.Rows.{element_rows, element_at, place_numbered, place_shown, none_of}
+use Rattle.awk_lib.specs.Numbering.{rows}
+use Rattle.awk_lib.proofs.Rows.{element_rows, element_at, place_numbered, place_shown, none_of, same_shown}
 use Rattle.awk_lib.proofs.array.Array.get_mut.Goals as goal
 
 pub returns-in_err-place : goal.returns-in_err-place
@@ -11,6 +12,7 @@ returns-in_err-place g c =
       record {
         writes_back = tt;
         value = sym (element_rows (λ k. k.items) c.args.key.now es c.self.invariant.keys ∙ ap (option_map (λ x. x.value)) (none_of _ (sym c.in_err-place.ensures.found)));
+        same = λ v. same_shown (rows (λ k. k.items) es) c.args.key.now v c.self.invariant.keys;
       },
     )
 
@@ -27,5 +29,9 @@ returns g c =
     let found = sym c.in_ok-place.ensures.index in
     rw (← c.self.view_is) (
       (λ i. inl (c.value_mut.result.ghost_name, λ w. place_shown (λ k. k.items) key es place found w c.self.invariant.keys i)),
-      record { writes_back = tt; value = sym (element_at (λ k. k.items) key es place found c.self.invariant.keys ∙ c.value_mut.ensures.value) },
+      record {
+        writes_back = tt;
+        value = sym (element_at (λ k. k.items) key es place found c.self.invariant.keys ∙ c.value_mut.ensures.value);
+        same = λ v. same_shown (rows (λ k. k.items) es) key v c.self.invariant.keys;
+      },
     )
