@@ -5,6 +5,8 @@ pub mod Bests
 pub mod Seeks
 pub mod Places
 pub mod HeadLemmas
+pub mod EditLemmas
+pub mod PartLemmas
 pub mod RowLemmas
 pub mod StreamLemmas
 pub mod Alone

@@ -7,5 +7,6 @@ pub mod Heads
 pub mod Unread
 pub mod Takes
 pub mod Rows
+pub mod Edits
 pub mod Parts
 pub mod Laws

@@ -1,45 +1,55 @@
 -- What contracts see of a record.
-use Rattle.std.specs.Prelude.{ℕ, List, [], map, All}
+use Rattle.std.specs.Prelude.{ℕ, List, map, [], All}
 use Rattle.awk_text.specs.declared.value.Value.{Value}
 use Rattle.awk_text.specs.declared.value.Value.TheVariants.{Input}
+use Rattle.awk_fields.specs.Edits.{IsSoundEdited, edited_values, edited_whole}
 use Rattle.awk_fields.specs.Rows.{Held, unsplit, known, Row, IsKept}
 use Rattle.awk_fields.specs.Spans.{IsWithin, part}
+use Rattle.awk_fields.specs.declared.edits.Edited.{Edited}
 use Rattle.awk_fields.specs.declared.parts.Parts.{Parts}
 use Rattle.awk_fields.specs.declared.parts.State.{State}
-use Rattle.awk_fields.specs.declared.parts.State.TheVariants.{Unsplit, Spans, Values}
+use Rattle.awk_fields.specs.declared.parts.State.TheVariants.{Unsplit, Spans, Edits}
 use Rattle.awk_fields.specs.declared.spans.Span.{Span}
 
--- the values of a record that is split or was set
+-- the values of a record that is split or was edited
 abbrev pub values_by : State → List ℕ → List Span → List Value → List Value
-values_by (Unsplit splitter) whole spans values = []
-values_by Spans whole spans values = map (λ span. Input (part whole span)) spans
-values_by Values whole spans values = values
+values_by (Unsplit splitter) text spans edited = []
+values_by Spans text spans edited = map (λ span. Input (part text span)) spans
+values_by Edits text spans edited = edited
 
 abbrev pub values_of : List ℕ → Parts → List Value
-values_of whole parts = values_by parts.state whole parts.spans.items parts.values.items
+values_of text parts = values_by parts.state text parts.spans.items (edited_values text parts.edited)
+
+abbrev pub whole_by : State → List ℕ → List ℕ → List ℕ
+whole_by (Unsplit splitter) text edited = text
+whole_by Spans text edited = text
+whole_by Edits text edited = edited
+
+abbrev pub whole_of : List ℕ → Parts → List ℕ
+whole_of text parts = whole_by parts.state text (edited_whole text parts.edited)
 
 abbrev pub held_by : State → List Value → Held
 held_by (Unsplit splitter) values = unsplit splitter
 held_by Spans values = known values
-held_by Values values = known values
+held_by Edits values = known values
 
 abbrev pub row_of : List ℕ → Parts → Row
-row_of whole parts = record { whole = whole; fields = held_by parts.state (values_of whole parts) }
+row_of text parts = record { whole = whole_of text parts; fields = held_by parts.state (values_of text parts) }
 
-abbrev pub IsSoundBy : State → List ℕ → List Span → Type 0
-IsSoundBy (Unsplit splitter) whole spans = Unit {0}
-IsSoundBy Spans whole spans = All (IsWithin whole) spans
-IsSoundBy Values whole spans = Unit {0}
+abbrev pub IsSoundBy : State → List ℕ → List Span → Edited → Type 0
+IsSoundBy (Unsplit splitter) text spans edited = Unit {0}
+IsSoundBy Spans text spans edited = All (IsWithin text) spans
+IsSoundBy Edits text spans edited = IsSoundEdited text edited
 
--- spans that are in use are within the text
+-- what is in use is about the text
 abbrev pub IsSound : List ℕ → Parts → Type 0
-IsSound whole parts = IsSoundBy parts.state whole parts.spans.items
+IsSound text parts = IsSoundBy parts.state text parts.spans.items parts.edited
 
 abbrev pub IsSplitBy : State → Type 0
 IsSplitBy (Unsplit splitter) = ⊥
 IsSplitBy Spans = Unit {0}
-IsSplitBy Values = Unit {0}
+IsSplitBy Edits = Unit {0}
 
 -- the parts of one text, or the same once they are split
 abbrev pub ArePartsKept : List ℕ → Parts → Parts → Type 0
-ArePartsKept whole old new = IsKept (row_of whole old) (row_of whole new)
+ArePartsKept text old new = IsKept (row_of text old) (row_of text new)

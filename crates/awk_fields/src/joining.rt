@@ -1,119 +1,43 @@
-// Values joined to a record's text, and lists of values that change with it.
-ghost use Rattle.std.specs.Prelude.{◌≡◌, ◌++◌, ◌+◌, ◌<◌, ◌≤◌, ◌⊎◌, length, IfOk, OnOk, OnErr, IfErr};
-ghost use Rattle.awk_fields.specs.Rows.{joined, padded, with_count, with_field};
+// Fields joined to a record's whole text.
+ghost use Rattle.std.specs.Prelude.{◌≡◌, ◌+◌, ◌-◌, ◌*◌, ◌<◌, ◌≤◌, All, map, OnOk, IfErr};
+ghost use Rattle.awk_fields.specs.Edits.{IsPartOf, value_of};
+ghost use Rattle.awk_fields.specs.Rows.{joined};
 ghost use Rattle.awk_text.specs.Limits.{most_bytes};
 
+use crate::part::{Part, part_text};
 use awk_text::Memory;
 use awk_text::fault::Fault;
 use awk_text::texts::MOST_BYTES;
-use awk_text::value::{Value, text_in};
 use itoa::Buffer;
-use std::alloc::{AllocError, Global};
-use std::mem;
 
-/// Adds the piece to a text.
-fn add(text: &mut Vec<u8>, piece: &[u8]) -> Result<(), Fault>
-    requires { length text.old.items ≤ most_bytes }
-    ensures ok { OnOk result (text.new.items ≡ text.old.items ++ piece.now) }
-    ensures fits { OnOk result (length text.new.items ≤ most_bytes) }
-    ensures fault { IfErr result (λ e. (e ≡ Fault.Memory)
-        ⊎ ((e ≡ Fault.TextTooLong) × (most_bytes < length text.old.items + length piece.now))) }
+/// Puts the texts of the parts, with `ofs` between, in place of what `made` holds.
+pub fn join(made: &mut Vec<u8>, parts: &[Part], text: &[u8], ofs: &[u8]) -> Result<(), Memory>
+    requires { All (IsPartOf text.now) parts.now }
+    ensures { OnOk result (made.new.items ≡ joined ofs.now (map (value_of text.now) parts.now)) }
 {
-    if MOST_BYTES - text.len() < piece.len() {
-        return Err(Fault::TextTooLong);
-    }
-    text.extend_from_slice(piece)?;
-    Ok(())
-}
-
-/// The texts of the values, with `ofs` between.
-fn joined(alloc: Global, values: &[Value], ofs: &[u8]) -> Result<Vec<u8>, Fault>
-    ensures ok { IfOk result (λ text. text.items ≡ joined ofs.now values.now) }
-    ensures fits { IfOk result (λ text. length text.items ≤ most_bytes) }
-    ensures fault { IfErr result (λ e. (e ≡ Fault.Memory)
-        ⊎ ((e ≡ Fault.TextTooLong) × (most_bytes < length (joined ofs.now values.now)))) }
-{
-    let mut text = Vec::new(alloc);
-    let [first, others @ ..] = values else {
-        return Ok(text);
+    made.clear();
+    let [first, others @ ..] = parts else {
+        return Ok(());
     };
     let mut buffer = Buffer::new();
-    add(&mut text, text_in(first, &mut buffer))?;
-    for value in others {
-        add(&mut text, ofs)?;
-        add(&mut text, text_in(value, &mut buffer))?;
-    }
-    Ok(text)
-}
-
-/// Puts unset values behind the others, up to this count.
-fn pad(values: &mut Vec<Value>, count: usize) -> Result<(), Memory>
-    ensures ok { OnOk result (values.new.items ≡ padded values.old.items count) }
-    ensures err { OnErr result (values.new.items ≡ values.old.items) }
-{
-    let len = values.len();
-    for place in len..count {
-        if values.push(Value::Unset).is_err() {
-            values.truncate(len);
-            return Err(AllocError);
-        }
+    made.extend_from_slice(part_text(first, text, &mut buffer))?;
+    for part in others {
+        made.extend_from_slice(ofs)?;
+        made.extend_from_slice(part_text(part, text, &mut buffer))?;
     }
     Ok(())
 }
 
-/// Sets the value at a place, and answers the text of all with `ofs` between.
-pub fn put(
-    alloc: Global,
-    values: &mut Vec<Value>,
-    at: usize,
-    value: Value,
-    ofs: &[u8],
-) -> Result<Vec<u8>, Fault>
-    requires { at < 65535 }
-    ensures values { OnOk result (values.new.items ≡ with_field values.old.items at value) }
-    ensures text { IfOk result (λ text. text.items ≡ joined ofs.now (with_field values.old.items at value)) }
-    ensures fits { IfOk result (λ text. length text.items ≤ most_bytes) }
-    ensures err { OnErr result (values.new.items ≡ values.old.items) }
-    ensures fault { IfErr result (λ e. (e ≡ Fault.Memory)
-        ⊎ ((e ≡ Fault.TextTooLong) × (most_bytes < length (joined ofs.now (with_field values.old.items at value))))) }
+/// Whether a whole text fits: that of so many fields, whose texts have these bytes together, with
+/// `gap` bytes between each two.
+pub fn fit(bytes: u128, count: usize, gap: usize) -> Result<(), Fault>
+    ensures fits { OnOk result (bytes + (count - 1) * gap ≤ most_bytes) }
+    ensures fault { IfErr result (λ e. (e ≡ Fault.TextTooLong) × (most_bytes < bytes + (count - 1) * gap)) }
 {
-    let len = values.len();
-    pad(values, at + 1)?;
-    let before = mem::replace(&mut values[at], value);
-    match joined(alloc, values.as_slice(), ofs) {
-        Ok(text) => Ok(text),
-        Err(fault) => {
-            values[at] = before;
-            values.truncate(len);
-            Err(fault)
-        }
+    let most = MOST_BYTES as u128;
+    let gaps = count.saturating_sub(1) as u128 * gap as u128;
+    if most < bytes || most - bytes < gaps {
+        return Err(Fault::TextTooLong);
     }
-}
-
-/// Sets how many values there are, and answers the text of all with `ofs` between.
-pub fn set_len(
-    alloc: Global,
-    values: &mut Vec<Value>,
-    count: usize,
-    ofs: &[u8],
-) -> Result<Vec<u8>, Fault>
-    ensures values { OnOk result (values.new.items ≡ with_count values.old.items count) }
-    ensures text { IfOk result (λ text. text.items ≡ joined ofs.now (with_count values.old.items count)) }
-    ensures fits { IfOk result (λ text. length text.items ≤ most_bytes) }
-    ensures err { OnErr result (values.new.items ≡ values.old.items) }
-    ensures fault { IfErr result (λ e. (e ≡ Fault.Memory)
-        ⊎ ((e ≡ Fault.TextTooLong) × (most_bytes < length (joined ofs.now (with_count values.old.items count))))) }
-{
-    let len = values.len();
-    pad(values, count)?;
-    match joined(alloc, &values[..count], ofs) {
-        Ok(text) => {
-            values.truncate(count);
-            Ok(text)
-        }
-        Err(fault) => {
-            values.truncate(len);
-            Err(fault)
-        }
-    }
+    Ok(())
 }

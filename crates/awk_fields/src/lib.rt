@@ -2,9 +2,11 @@
 //! "Input Files" and "Variables and Special Variables").
 #![tactic(auto)]
 
+mod edits;
 mod front;
 mod joining;
 pub mod laws;
+mod part;
 mod parts;
 pub mod reader;
 pub mod row;

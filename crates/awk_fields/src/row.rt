@@ -4,12 +4,14 @@ ghost use Rattle.awk_text.specs.Limits.{most_bytes};
 ghost use Rattle.awk_lent.specs.Lents.{lent_value};
 ghost use Rattle.awk_fields.specs.Rows.{known, unsplit, place_of, field_place, HasFields, IsKept, IsValueAt, SetsField, SetsCount, SetsNoField, SetsNoCount};
 
-use crate::joining::{put, set_len};
+use crate::edits::{Edited, put, set_len};
 use crate::parts::{
-    Parts, State, field_at, field_count, known_count, lent_at, own_parts, split_parts,
+    Parts, State, edit_parts, field_at, field_count, known_count, known_whole, lent_at,
+    rebuild_parts, split_parts,
 };
 use crate::splitter::Splitter;
 use awk_lent::lent::Lent;
+use awk_text::Memory;
 use awk_text::fault::Fault;
 use awk_text::octets::Octets;
 use awk_text::texts::MOST_BYTES;
@@ -21,10 +23,11 @@ use std::marker::Model;
 pub const MOST_FIELDS: i64 = 65535;
 
 /// A record: `$0`, and the fields `$1` to `$NF`. A text is split when its fields are first asked
-/// for.
+/// for, and the whole text is rebuilt when it is first asked for after a field or NF was set.
 #[derive(Drop)]
 pub struct Record {
-    whole: Octets,
+    /// What was set as a whole. It stays when fields are set: the others are parts of it.
+    text: Octets,
     parts: Parts,
 }
 
@@ -35,9 +38,9 @@ impl Model for Record {
 
     ghost use Rattle.awk_fields.specs.Parts.{IsSound, row_of};
 
-    ghost view = { λ r. row_of r.whole r.parts };
+    ghost view = { λ r. row_of r.text r.parts };
 
-    ghost invariant = { λ r. IsSound r.whole r.parts };
+    ghost invariant = { λ r. IsSound r.text r.parts };
 }
 
 /// The number of a field, 0 being the whole text.
@@ -68,20 +71,30 @@ impl Record {
         ensures { result ≡ record { whole = []; fields = known [] } }
     {
         Record {
-            whole: Octets::new(Vec::new(alloc)),
+            text: Octets::new(Vec::new(alloc)),
             parts: Parts {
-                state: State::Values,
+                state: State::Spans,
                 spans: Vec::new(alloc),
-                values: Vec::new(alloc),
+                edited: Edited::new(alloc),
             },
         }
     }
 
-    /// The whole text. Takes no memory.
-    pub fn whole(&self) -> &[u8]
-        ensures { result.now ≡ self.now.whole }
+    /// Rebuilds the whole text where a field or NF was set since it was last there. The record stays
+    /// the same, and `known_whole` and `lent` have the whole text from then on until the next set.
+    ///
+    /// Fails where memory is refused.
+    pub fn rebuild(&mut self) -> Result<(), Memory>
+        ensures { self.new ≡ self.old }
     {
-        self.whole.bytes()
+        rebuild_parts(&mut self.parts, self.text.bytes())
+    }
+
+    /// The whole text, unless it is to be rebuilt. Takes no memory.
+    pub fn known_whole(&self) -> Option<&[u8]>
+        ensures { IfSome result (λ whole. whole.now ≡ self.now.whole) }
+    {
+        known_whole(&self.parts, self.text.bytes())
     }
 
     /// Sets the whole text. Its fields are those that the splitter gives. Takes no memory.
@@ -97,9 +110,9 @@ impl Record {
         if text.bytes().len() > MOST_BYTES {
             return Err(Fault::TextTooLong);
         }
-        self.whole = text;
+        self.text = text;
         self.parts.state = State::Unsplit(splitter);
-        self.parts.values.clear();
+        self.parts.edited.parts.clear();
         Ok(())
     }
 
@@ -115,11 +128,8 @@ impl Record {
         ensures fault { IfErr result (λ e. SetsNoField self.old n value ofs.now e) }
     {
         let at = field_place(n)?;
-        own_parts(&mut self.parts, self.whole.bytes())?;
-        let alloc = *self.parts.values.allocator();
-        let text = put(alloc, &mut self.parts.values, at, value, ofs)?;
-        self.whole = Octets::new(text);
-        Ok(())
+        edit_parts(&mut self.parts, self.text.bytes())?;
+        put(&mut self.parts.edited, self.text.bytes(), at, value, ofs)
     }
 
     /// Sets NF, the number of fields. Fields above it go, and unset ones are added below it. The
@@ -134,11 +144,22 @@ impl Record {
         ensures fault { IfErr result (λ e. SetsNoCount self.old n ofs.now e) }
     {
         let count = place(n)?;
-        own_parts(&mut self.parts, self.whole.bytes())?;
-        let alloc = *self.parts.values.allocator();
-        let text = set_len(alloc, &mut self.parts.values, count, ofs)?;
-        self.whole = Octets::new(text);
-        Ok(())
+        edit_parts(&mut self.parts, self.text.bytes())?;
+        set_len(&mut self.parts.edited, self.text.bytes(), count, ofs)
+    }
+
+    /// The whole text, as a value.
+    fn whole_value(&mut self) -> Result<Value, Fault>
+        ensures ok { IfOk result (λ v. v ≡ Value.Input self.new.whole) }
+        ensures same { self.new ≡ self.old }
+        ensures fault { IfErr result (λ e. e ≡ Fault.Memory) }
+    {
+        let alloc = *self.parts.spans.allocator();
+        self.rebuild()?;
+        match self.known_whole() {
+            Some(whole) => Ok(Value::Input(Octets::new(Vec::from_slice(alloc, whole)?))),
+            None => Err(Fault::Memory),
+        }
     }
 
     /// The value of a field by its number: 0 is the whole text, and a field above the last one is
@@ -154,11 +175,10 @@ impl Record {
     {
         let number = place(n)?;
         if number == 0 {
-            let alloc = *self.parts.values.allocator();
-            return Ok(Value::Input(self.whole.copy(alloc)?));
+            return self.whole_value();
         }
-        split_parts(&mut self.parts, self.whole.bytes())?;
-        field_at(&self.parts, self.whole.bytes(), number - 1)
+        split_parts(&mut self.parts, self.text.bytes())?;
+        field_at(&self.parts, self.text.bytes(), number - 1)
     }
 
     /// NF, the number of fields. The record stays the same.
@@ -169,19 +189,19 @@ impl Record {
         ensures kept { IsKept self.old self.new }
         ensures fault { IfErr result (λ e. e ≡ Fault.Memory) }
     {
-        split_parts(&mut self.parts, self.whole.bytes())?;
+        split_parts(&mut self.parts, self.text.bytes())?;
         Ok(field_count(&self.parts) as i64)
     }
 
-    /// The value of a field by its number, lent, where that is there without a change: 0 is the whole text, and the others are
-    /// there once the text is split. Takes no memory.
+    /// The value of a field by its number, lent, where that is there without a change: 0 is the whole text, which is there
+    /// unless it is to be rebuilt, and the others are there once the text is split. Takes no memory.
     pub fn lent(&self, n: u16) -> Option<Lent<'_>>
         ensures { IfSome result (λ v. IsValueAt self.now n (lent_value v)) }
     {
         if n == 0 {
-            return Some(Lent::Input(self.whole.bytes()));
+            return Some(Lent::Input(self.known_whole()?));
         }
-        lent_at(&self.parts, self.whole.bytes(), n as usize - 1)
+        lent_at(&self.parts, self.text.bytes(), n as usize - 1)
     }
 
     /// NF, where the text is split. Takes no memory.

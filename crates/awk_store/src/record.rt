@@ -18,6 +18,7 @@ use crate::variables::own_text;
 use awk_fields::Splitter;
 use awk_lent::lent::Lent;
 use awk_program::Own;
+use awk_text::Memory;
 use awk_text::fault::Fault;
 use awk_text::octets::Octets;
 use awk_text::value::Value;
@@ -46,11 +47,21 @@ fn splitter(alloc: Global, cells: &[Cell], separators: &mut Separators) -> Resul
 }
 
 impl Store {
-    /// The whole text of the record. Takes no memory.
-    pub fn whole(&self) -> &[u8]
-        ensures { result.now ≡ self.now.row.whole }
+    /// Rebuilds the whole text of the record where a field or NF was set since it was last there. What a run holds stays the
+    /// same, and `known_whole` and `lent_field` have the text from then on until the next set.
+    ///
+    /// Fails where memory is refused.
+    pub fn rebuild(&mut self) -> Result<(), Memory>
+        ensures { self.new ≡ self.old }
     {
-        self.row.whole()
+        self.row.rebuild()
+    }
+
+    /// The whole text of the record, unless it is to be rebuilt. Takes no memory.
+    pub fn known_whole(&self) -> Option<&[u8]>
+        ensures { IfSome result (λ whole. whole.now ≡ self.now.row.whole) }
+    {
+        self.row.known_whole()
     }
 
     /// Sets `$0`. Its fields go by FS and RS as they are now.
@@ -130,8 +141,8 @@ impl Store {
         self.row.set_count(n, ofs)
     }
 
-    /// The value of a field by its number, lent, where it is there without a change: 0 is the whole text, and the others are
-    /// there once the record is split. Takes no memory.
+    /// The value of a field by its number, lent, where it is there without a change: 0 is the whole text, which is there unless
+    /// it is to be rebuilt, and the others are there once the record is split. Takes no memory.
     pub fn lent_field(&self, n: u16) -> Option<Lent<'_>>
         ensures { IfSome result (λ v. IsValueAt self.now.row n (lent_value v)) }
     {
