@@ -1,5 +1,5 @@
 -- What is read of a target whose reading changes nothing.
-use Rattle.std.proofs.Common.{◌≡◌, refl, sym, ap, ◌∙◌, false, List}
+use Rattle.std.proofs.Common.{◌≡◌, refl, sym, ap, false}
 use Rattle.std.specs.Prelude.{Some}
 use Rattle.awk_text.specs.declared.place.Place.{Place}
 use Rattle.awk_text.specs.declared.value.Value.{Value}

@@ -48,12 +48,18 @@ pub fn matches(ere: &Ere, text: &[u8]) -> Result<bool, Halt>
 pub fn matches_record(
     alloc: Global,
     patterns: &mut Patterns,
-    store: &Store,
+    store: &mut Store,
     place: Place,
     source: &[u8],
 ) -> Result<bool, Halt>
-    ensures { (g : Given) (t : Table) → Acts g (At (Value_of (program.pattern place source.now)) []) (λ b. give (of_truth b)) (store.now, t) result (store.now, t) }
+    ensures { (g : Given) (t : Table) → Acts g (At (Value_of (program.pattern place source.now)) []) (λ b. give (of_truth b)) (store.old, t) result (store.new, t) }
 {
     let ere = check(alloc, patterns, place, source)?;
-    matches(&ere, store.whole())
+    let Ok(_) = store.rebuild() else {
+        return Err(Halt::Memory);
+    };
+    let Some(whole) = store.known_whole() else {
+        return Err(Halt::Memory);
+    };
+    matches(&ere, whole)
 }

@@ -1,7 +1,10 @@
 // The text that print puts.
 ghost use Rattle.std.specs.Prelude.{◌≡◌, ◌⊎◌, Ok, Err, IfOk, IfErr};
 ghost use Rattle.std.specs.Prelude.{◌++◌};
+ghost use Rattle.awk_fields.specs.Rows.{joined};
 ghost use Rattle.awk_machine.specs.Operators.{limited};
+ghost use Rattle.awk_program.specs.declared.variables.Own.TheVariants as own;
+ghost use Rattle.awk_store.specs.Kept.{own_text};
 ghost use Rattle.awk_tasks.specs.Printed as spec;
 
 use awk_program::Own;
@@ -19,24 +22,54 @@ use std::alloc::Global;
 pub fn text_of_items(
     alloc: Global,
     line: &mut Line,
+    store: &mut Store,
+    items: &[Value],
+) -> Result<Octets, Fault>
+    ensures ok { IfOk result (λ text. spec.printed store.old items.now ≡ Ok text) }
+    ensures err { IfErr result (λ e. (e ≡ Fault.Memory) ⊎ (spec.printed store.old items.now ≡ Err e)) }
+    ensures same { store.new ≡ store.old }
+{
+    if items.is_empty() {
+        text_of_record(alloc, line, store)
+    } else {
+        text_of_values(alloc, line, store, items)
+    }
+}
+
+/// The texts of some items with OFS between, and what ends them.
+fn text_of_values(
+    alloc: Global,
+    line: &mut Line,
     store: &Store,
     items: &[Value],
 ) -> Result<Octets, Fault>
-    ensures ok { IfOk result (λ text. spec.printed store.now items.now ≡ Ok text) }
-    ensures err { IfErr result (λ e. (e ≡ Fault.Memory) ⊎ (spec.printed store.now items.now ≡ Err e)) }
+    ensures ok { IfOk result (λ text. limited (joined (own_text store.now own.Ofs) items.now ++ own_text store.now own.Ors) ≡ Ok text) }
+    ensures err { IfErr result (λ e. (e ≡ Fault.Memory) ⊎ (limited (joined (own_text store.now own.Ofs) items.now ++ own_text store.now own.Ors) ≡ Err e)) }
 {
     let (mut first, mut second) = (Buffer::new(), Buffer::new());
     let ofs = store.own_text(Own::Ofs, &mut first);
     let ors = store.own_text(Own::Ors, &mut second);
-    if items.is_empty() {
-        return text_of_record(alloc, line, store.whole(), ors);
-    }
     let text = printed(line, items, ofs, ors)?;
     Ok(Octets::new(Vec::from_slice(alloc, text)?))
 }
 
-/// A record and what ends it.
-fn text_of_record(alloc: Global, line: &mut Line, whole: &[u8], ors: &[u8]) -> Result<Octets, Fault>
+/// The whole record and what ends it.
+fn text_of_record(alloc: Global, line: &mut Line, store: &mut Store) -> Result<Octets, Fault>
+    ensures ok { IfOk result (λ text. limited (store.old.row.whole ++ own_text store.old own.Ors) ≡ Ok text) }
+    ensures err { IfErr result (λ e. (e ≡ Fault.Memory) ⊎ (limited (store.old.row.whole ++ own_text store.old own.Ors) ≡ Err e)) }
+    ensures same { store.new ≡ store.old }
+{
+    store.rebuild()?;
+    let Some(whole) = store.known_whole() else {
+        return Err(Fault::Memory);
+    };
+    let mut buffer = Buffer::new();
+    let ors = store.own_text(Own::Ors, &mut buffer);
+    ended(alloc, line, whole, ors)
+}
+
+/// A text and what ends it.
+fn ended(alloc: Global, line: &mut Line, whole: &[u8], ors: &[u8]) -> Result<Octets, Fault>
     ensures ok { IfOk result (λ text. limited (whole.now ++ ors.now) ≡ Ok text) }
     ensures err { IfErr result (λ e. (e ≡ Fault.Memory) ⊎ (limited (whole.now ++ ors.now) ≡ Err e)) }
 {

@@ -38,8 +38,8 @@ pub fn read(alloc: Global, store: &mut Store, target: &Spot) -> Result<Value, Ha
     }
 }
 
-/// The text that it holds, lent, where that is there and reading it changes nothing: of `$0`, of an element, and of a variable
-/// that is not NF. Takes no memory.
+/// The text that it holds, lent, where that is there and reading it changes nothing: of `$0` unless it is to be rebuilt, of an
+/// element, and of a variable that is not NF. Takes no memory.
 pub fn lent<'a>(store: &'a Store, target: &Spot, buffer: &'a mut Buffer) -> Option<&'a [u8]>
     ensures { IfSome result (λ text. (g : Given) (t : Table) → (x : Value) × (values.text_of x ≡ text.now) × Passes g (Do (Get (meant (names_in g) target.now))) (store.now, t) (give x) (store.now, t)) }
 {
@@ -56,7 +56,7 @@ pub fn lent<'a>(store: &'a Store, target: &Spot, buffer: &'a mut Buffer) -> Opti
         }
         Spot::Field(number) => {
             if *number == 0 {
-                return Some(store.whole());
+                return store.known_whole();
             }
             None
         }

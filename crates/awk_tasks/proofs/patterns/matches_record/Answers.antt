@@ -1,4 +1,6 @@
+use Rattle.std.proofs.Common.{◌≡◌, ap, ◌∙◌}
 use Rattle.std.proofs.lemmas.Result.{err_from_is_err_and}
+use Rattle.awk_store.specs.Kept.{Kept}
 use Rattle.awk_tasks.proofs.Acting.{doing, passes, stop}
 use Rattle.awk_tasks.proofs.SearchSteps.{record_first}
 use Rattle.awk_tasks.proofs.patterns.matches_record.Goals as goal
@@ -10,5 +12,6 @@ returns-in_err-ere c = λ g t.
 
 pub returns : goal.returns
 returns c = λ g t.
-    passes (doing c.in_ok-ere.ere (record_first g (c.args.store.now, t) c.args.place c.args.source.now) (c.check.ensures.check g (c.args.store.now, t)) c.in_ok-ere.was)
-    (rw (c.whole.ensures, c.deref.ensures, c.in_ok-ere.ensures.ere.0) at (c.matches.ensures g (c.args.store.now, t)))
+    let whole : c.in-Some.whole.now ≡ c.args.store.now.row.whole = c.in-Some.ensures ∙ ap (λ (kept : Kept). kept.row.whole) c.rebuild.ensures in
+    rw c.rebuild.ensures (passes (doing c.in_ok-ere.ere (record_first g (c.args.store.now, t) c.args.place c.args.source.now) (c.check.ensures.check g (c.args.store.now, t)) c.in_ok-ere.was)
+    (rw (whole, c.deref.ensures, c.in_ok-ere.ensures.ere.0) at (c.matches.ensures g (c.args.store.now, t))))

@@ -1,4 +1,5 @@
 use Rattle.std.proofs.Common.{sym, ◌∙◌}
+use Rattle.std.proofs.lemmas.Option.{IfSome_then}
 use Rattle.awk_text.specs.declared.value.Value.TheVariants as v
 use Rattle.awk_tasks.proofs.Lent.{lends_variable, lends_element, lends_whole}
 use Rattle.awk_tasks.proofs.targets.lent.Goals as goal
@@ -15,4 +16,5 @@ returns-in_ok-element-in-Element c = λ g t. (
 )
 
 pub returns-then-number-eq0 : goal.returns-then-number-eq0
-returns-then-number-eq0 c = λ g t. (v.Input c.args.store.now.row.whole, sym c.whole.ensures, rw (c.in-Field.is, c.if-number-eq0.true) (lends_whole g (c.args.store.now, t)))
+returns-then-number-eq0 c = IfSome_then c.known_whole.result c.known_whole.ensures
+    (λ text is g t. (v.Input c.args.store.now.row.whole, sym is, rw (c.in-Field.is, c.if-number-eq0.true) (lends_whole g (c.args.store.now, t))))
