@@ -263,7 +263,7 @@ fn evaluate<W: World>(
             matched_record(
                 cx.alloc,
                 &mut run.patterns,
-                &run.store,
+                &mut run.store,
                 *place,
                 text.bytes(),
             )

@@ -75,7 +75,7 @@ fn general_print<W: World>(
         let text = printed_line(
             cx.alloc,
             &mut run.line,
-            &run.store,
+            &mut run.store,
             place,
             values.as_slice(),
         )?;
@@ -86,7 +86,7 @@ fn general_print<W: World>(
     let text = printed_for(
         cx.alloc,
         &mut run.line,
-        &run.store,
+        &mut run.store,
         place,
         values.as_slice(),
         &target,

@@ -58,12 +58,12 @@ pub fn sprintf(alloc: Global, place: Place, values: &[Value]) -> Result<Value, H
 pub fn printed_line(
     alloc: Global,
     line: &mut Line,
-    store: &Store,
+    store: &mut Store,
     place: Place,
     items: &[Value],
 ) -> Result<Octets, Halt>
     ensures { (g : Given) (t : Table) (xs : List Expression) → length xs ≡ length items.now
-        → Acts g (At (Doing (p.print place xs None)) (reverse items.now)) (to_standard place) (store.now, t) result (store.now, t) }
+        → Acts g (At (Doing (p.print place xs None)) (reverse items.now)) (to_standard place) (store.old, t) result (store.new, t) }
 {
     at(place, text_of_items(alloc, line, store, items))
 }
@@ -80,13 +80,13 @@ pub fn formatted_line(alloc: Global, place: Place, values: &[Value]) -> Result<O
 pub fn printed_for(
     alloc: Global,
     line: &mut Line,
-    store: &Store,
+    store: &mut Store,
     place: Place,
     items: &[Value],
     name: &Value,
 ) -> Result<Octets, Halt>
     ensures { (g : Given) (t : Table) (xs : List Expression) (r : Redirection Expression) → length xs ≡ length items.now
-        → Acts g (At (Doing (p.print place xs (Some r))) (name.now ∷ reverse items.now)) (to_stream r name.now) (store.now, t) result (store.now, t) }
+        → Acts g (At (Doing (p.print place xs (Some r))) (name.now ∷ reverse items.now)) (to_stream r name.now) (store.old, t) result (store.new, t) }
 {
     at(place, text_of_items(alloc, line, store, items))
 }

@@ -47,11 +47,11 @@ pub enum Source {
 pub fn matched_record(
     alloc: Global,
     patterns: &mut Patterns,
-    store: &Store,
+    store: &mut Store,
     place: Place,
     text: &[u8],
 ) -> Result<Value, Halt>
-    ensures { (g : Given) (t : Table) → Acts g (value (p.pattern place text.now)) give (store.now, t) result (store.now, t) }
+    ensures { (g : Given) (t : Table) → Acts g (value (p.pattern place text.now)) give (store.old, t) result (store.new, t) }
 {
     let found = matches_record(alloc, patterns, store, place, text)?;
     Ok(truth_value(found))

@@ -6,6 +6,7 @@ use crate::row::{Arg, Row};
 use crate::shown::{Answer, bytes, show, show_value, told};
 use crate::words::Word;
 use awk_fields::{Record, Splitter};
+use awk_text::fault::Fault;
 use awk_text::octets::Octets;
 use awk_text::value::text_of;
 use std::alloc::Global;
@@ -34,6 +35,14 @@ fn set_count(alloc: Global, record: &mut Record, count: i64, ofs: &[u8]) -> Answ
     bytes(alloc, b"done")
 }
 
+fn whole(alloc: Global, record: &mut Record) -> Answer {
+    record.rebuild()?;
+    match record.known_whole() {
+        Some(whole) => bytes(alloc, whole),
+        None => Err(Problem::Fault(Fault::Memory)),
+    }
+}
+
 fn step(alloc: Global, record: &mut Record, args: &[Arg<'_>]) -> Answer {
     match word(args, 0) {
         Word::Line => set_whole(alloc, record, text(args, 1), text(args, 2)),
@@ -42,7 +51,7 @@ fn step(alloc: Global, record: &mut Record, args: &[Arg<'_>]) -> Answer {
         Word::Nf => show(alloc, record.count()?),
         Word::Get => show_value(alloc, &record.get(number(args, 1)?)?),
         Word::Text => Ok(text_of(alloc, &record.get(number(args, 1)?)?)?),
-        Word::Whole => bytes(alloc, record.whole()),
+        Word::Whole => whole(alloc, record),
         _ => Err(Problem::NoCall),
     }
 }
