@@ -1,6 +1,8 @@
 pub mod Arrays
+pub mod Dense
 pub mod Lends
 pub mod Numbering
+pub mod Places
 pub mod Replacing
 pub mod Seeking
 pub mod Texts

@@ -3,8 +3,10 @@
 #![tactic(auto)]
 
 pub mod array;
+mod dense;
 mod new_text;
 pub mod replacing;
+mod slot;
 pub mod texts;
 
 pub use replacing::{replace as replace, replace_any as replace_any};
