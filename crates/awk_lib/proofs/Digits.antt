@@ -1,5 +1,5 @@
 -- Keys that are the digits of a small number, and keys that are not.
-use Rattle.std.proofs.Common.{◌≡◌, ℕ, zero, suc, ◌+◌, ◌-◌, ◌*◌, ◌^◌, ◌<◌, ◌≤◌, nat_eq, Bool, true, false, List, [], ◌∷◌, length, get_or, take, length-take, refl, sym, ap, ◌∙◌, subst, arith, lit<}
+use Rattle.std.proofs.Common.{◌≡◌, ℕ, zero, suc, ◌+◌, ◌-◌, ◌*◌, ◌^◌, ◌<◌, ◌≤◌, nat_eq, Bool, true, false, List, [], ◌∷◌, length, get_or, take, length-take, refl, sym, ap, ◌∙◌, subst, arith}
 use Rattle.std.proofs.lemmas.Bool.Decides.{nat_tests}
 use Rattle.std.proofs.lemmas.Fmt.{decimal_digit, decimal_nonempty, length-decimal-le, first_decimal, decimal_injective, digits_decimal, decimal-digits_value}
 use Rattle.std.proofs.lemmas.Int.Digits.{digits_more, digits_value_more}
@@ -60,12 +60,15 @@ key_zero ds one first = (alone ds one first ∙ sym (decimal_digit 0 (omega arit
 
 -- ---- a key that is not
 
-outside : (ds : List ℕ) (n : ℕ) → ((k : ℕ) → k < n → ds ≡ decimal k → ⊥) → IsOutside n ds
-outside ds n differs k l = by (bytes_eq ds (decimal k)) refl
+pub differs : (ds : List ℕ) (k : ℕ) → (ds ≡ decimal k → ⊥) → bytes_eq ds (decimal k) ≡ false
+differs ds k other = by (bytes_eq ds (decimal k)) refl
   where
     by : (b : Bool) → bytes_eq ds (decimal k) ≡ b → bytes_eq ds (decimal k) ≡ false
-    by true e = absurd (differs k l ((bytes_eq-Decides ds (decimal k)).0 e))
+    by true e = absurd (other ((bytes_eq-Decides ds (decimal k)).0 e))
     by false e = e
+
+outside : (ds : List ℕ) (n : ℕ) → ((k : ℕ) → k < n → ds ≡ decimal k → ⊥) → IsOutside n ds
+outside ds n other k l = differs ds k (other k l)
 
 pub outside_long : (ds : List ℕ) → 7 < length ds → IsOutside most_places ds
 outside_long ds long = outside ds most_places (λ k l e. omega (arith, long, ap length e, length-decimal-le 7 k (omega arith) (omega (arith, l)) (omega (arith, l))))

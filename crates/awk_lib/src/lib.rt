@@ -4,6 +4,7 @@
 
 pub mod array;
 mod dense;
+mod elements;
 mod new_text;
 pub mod replacing;
 mod slot;

@@ -1,4 +1,4 @@
-use Rattle.std.proofs.Common.{◌≡◌, ◌<◌, ◌≤◌, length, get_or, arith, ⊎_elim}
+use Rattle.std.proofs.Common.{◌<◌, length, arith}
 use Rattle.std.proofs.lemmas.Option.{IfSome_then}
 use Rattle.awk_lib.proofs.Digits.{is_zero, is_positive, key_of_digits, key_zero, outside_long, outside_empty, outside_zero, outside_other}
 use Rattle.awk_lib.proofs.slot.slot_of.Goals as goal
