@@ -28,7 +28,7 @@ use Rattle.awk_lib.specs.declared.elements.Place.TheVariants.{Dense, Mapped}
 use Rattle.awk_lib.proofs.Digits.{differs}
 use Rattle.awk_lib.proofs.Order.{all_weaker, all_both, all_push, all_permuted, numbers_permuted}
 use Rattle.awk_lib.proofs.Rows.{Row, row_of, none_numbered, set_at, set_row, set_at_row, lookup_at, lookup_shown, lookup_rows, rows_set_at, value_row, absent_rows, at_place, length_shown, set_numbered, shown_set, set_none, added, shown_added, moved, shown_moved, rising_rows, gone, put_allowed, put_refused}
-use Rattle.awk_lib.proofs.Seams.{all_append, all_right, all_set_at, none_lookup, rising_without, rising_front, inserted, at_seam, at_right, at_end, all_dense, split, dense_push}
+use Rattle.awk_lib.proofs.Seams.{all_append, all_right, all_set_at, none_lookup, rising_without, rising_front, inserted, at_seam, at_right, at_end, one_more, all_dense, split, dense_push}
 
 pub and_left : (a b : Bool) → (a && b) ≡ true → a ≡ true
 and_left true b e = refl
@@ -54,10 +54,6 @@ module _ {V : Type 0} where
   pub found_dense : (es : Elements V) (key : List ℕ) (k : ℕ) (x : Numbered V) → key ≡ decimal k → slice_get es.dense.places.items k ≡ Some (Some x)
       → (r : Row V) × Lies es (Dense k) r × (bytes_eq key r.1.0 ≡ true)
   found_dense es key k x is at = ((x.number, (decimal k, x.value)), (refl, at), ap (bytes_eq key) (sym is) ∙ nat_list_eq_equiv.refl key)
-
-  pub found_mapped : (es : Elements V) (key : List ℕ) (i : ℕ) (r : Row V) → slice_get (mapped_rows es) i ≡ Some r → bytes_eq key r.1.0 ≡ true
-      → (r : Row V) × Lies es (Mapped i) r × (bytes_eq key r.1.0 ≡ true)
-  found_mapped es key i r at hit = (r, at, hit)
 
   mapped_outside : (es : Elements V) (key : List ℕ) (k : ℕ) → AreApart es → key ≡ decimal k → k < length es.dense.places.items → AllByRecursion (λ r. bytes_eq key r.1.0 ≡ false) (mapped_rows es)
   mapped_outside es key k a is l =
@@ -174,10 +170,6 @@ module _ {V : Type 0} where
               (λ e. subst AreRising (sym (last (and_right settled is_last e))) (more.rising (and_left settled is_last e))));
           count = count ∙ ap (λ k. k + 1) a.count ∙ sym (length_permutation (rows_of es ++ (n, (key, v)) ∷ []) (rows_of fs) permuted ∙ one_more (rows_of es) (n, (key, v)));
         }
-      where
-        one_more : (l : List (Row V)) (x : Row V) → length (l ++ x ∷ []) ≡ length l + 1
-        one_more [] x = refl
-        one_more (y ∷ l) x = let rest = one_more l x in omega (arith, rest)
 
     pub added_shown : shown (rows_of fs) ≡ with_element (shown (rows_of es)) key v
     added_shown =
@@ -352,21 +344,10 @@ module _ {V : Type 0} where
       let y : Numbered V = record { number = number; value = value } in
       let after : dense_rows 0 ps ≡ D ++ x ∷ [] = ap (dense_rows 0) is ∙ dense_push 0 padded k y (omega (arith, len)) ∙ ap (λ t. t ++ x ∷ []) same in (
         subst (IsPermutation ((D ++ M) ++ x ∷ [])) (sym (ap (λ t. t ++ M) after ∙ append_assoc D (x ∷ []) M)) (inserted D M x),
-        ap (λ l. slice_get l k) is ∙ behind padded (Some y) k len,
+        ap (λ l. slice_get l k) is ∙ at_end padded (Some y) k (sym len),
         ap length is ∙ one_more padded (Some y) ∙ ap (λ n. n + 1) len,
         λ none. (λ i. after i ++ none i) ∙ append-nil (D ++ x ∷ []) ∙ ap (λ t. t ++ x ∷ []) (sym (append-nil D) ∙ ap (λ t. D ++ t) (sym none)),
       )
-    where
-      behind : (l : List (Option (Numbered V))) (o : Option (Numbered V)) (i : ℕ) → length l ≡ i → slice_get (l ++ o ∷ []) i ≡ Some o
-      behind l o i e = ap (slice_get (l ++ o ∷ [])) (sym e) ∙ last l
-        where
-          last : (m : List (Option (Numbered V))) → slice_get (m ++ o ∷ []) (length m) ≡ Some o
-          last [] = refl
-          last (z ∷ m) = last m
-
-      one_more : (l : List (Option (Numbered V))) (o : Option (Numbered V)) → length (l ++ o ∷ []) ≡ length l + 1
-      one_more [] o = refl
-      one_more (z ∷ l) o = let rest = one_more l o in omega (arith, rest)
 
   -- the keys of the map are no digits of the numbers of the places there are, once place k is the last
   pub outside_pushed : (es : Elements V) (k : ℕ) → AreApart es → lookup (bytes_eq (decimal k)) (map (λ r. r.1) (rows_of es)) ≡ None → ((length es.map.entries ≡ 0) ⊎ (k ≡ length es.dense.places.items))

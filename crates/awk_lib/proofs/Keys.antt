@@ -26,9 +26,6 @@ module _ {V : Type 0} where
   listed_push ks x before rs r so_far same =
       map-append listed_key ks (x ∷ []) ∙ (λ i. so_far i ++ same i ∷ []) ∙ append_assoc before (keyed rs) (key_of r ∷ []) ∙ ap (λ t. before ++ t) (sym (map-append key_of rs (r ∷ [])))
 
-  pub keyed_append : (before : List (ℕ × List ℕ)) (A B : List (Row V)) → (before ++ keyed A) ++ keyed B ≡ before ++ keyed (A ++ B)
-  keyed_append before A B = append_assoc before (keyed A) (keyed B) ∙ ap (λ t. before ++ t) (sym (map-append key_of A B))
-
   numbers_keyed : (rs : List (Row V)) → numbers (keyed rs) ≡ numbers rs
   numbers_keyed [] = refl
   numbers_keyed (r ∷ rs) = ap (λ l. r.0 ∷ l) (numbers_keyed rs)

@@ -31,14 +31,6 @@ pub some_of : {A : Type 0} (o : Option A) → is_some o ≡ true → (x : A) × 
 some_of None e = absurd (true≢false (sym e))
 some_of (Some x) e = (x, refl)
 
-pub not_true : (b : Bool) → not b ≡ true → b ≡ false
-not_true false e = refl
-not_true true e = absurd (true≢false (sym e))
-
-pub not_false : (b : Bool) → not b ≡ false → b ≡ true
-not_false false e = absurd (true≢false e)
-not_false true e = refl
-
 crossed : {A : Type 0} (a b : Bool) (x y z : A) → (a ≡ true → b ≡ false) → cond b y (cond a x z) ≡ cond a x (cond b y z)
 crossed false b x y z h = refl
 crossed true b x y z h = ap (λ c. cond c y x) (h refl)

@@ -11,6 +11,20 @@ use Rattle.awk_lib.specs.Numbering.{AreRising}
 use Rattle.awk_lib.specs.declared.dense.Numbered.{Numbered}
 use Rattle.awk_lib.proofs.Rows.{Row, set_at}
 
+-- ---- one more item
+
+module _ {X : Type 0} where
+  pub at_end : (xs : List X) (x : X) (m : ℕ) → m ≡ length xs → slice_get (xs ++ x ∷ []) m ≡ Some x
+  at_end xs x m is = ap (slice_get (xs ++ x ∷ [])) is ∙ last xs
+    where
+      last : (l : List X) → slice_get (l ++ x ∷ []) (length l) ≡ Some x
+      last [] = refl
+      last (y ∷ l) = last l
+
+  pub one_more : (xs : List X) (x : X) → length (xs ++ x ∷ []) ≡ length xs + 1
+  one_more [] x = refl
+  one_more (y ∷ xs) x = let rest = one_more xs x in omega (arith, rest)
+
 module _ {V : Type 0} where
   -- ---- what holds of each row
 
@@ -60,13 +74,6 @@ module _ {V : Type 0} where
   pub at_right : (A M : List (Row V)) (i : ℕ) (r : Row V) → slice_get M i ≡ Some r → (m : ℕ) × (slice_get (A ++ M) m ≡ Some r) × ((w : V) → set_at (A ++ M) m w ≡ A ++ set_at M i w)
   at_right [] M i r at = (i, at, λ w. refl)
   at_right (x ∷ A) M i r at = let m = at_right A M i r at in (suc m.0, m.1, λ w. ap (λ l. x ∷ l) (m.2 w))
-
-  pub at_end : (rs : List (Row V)) (x : Row V) (m : ℕ) → m ≡ length rs → slice_get (rs ++ x ∷ []) m ≡ Some x
-  at_end rs x m is = ap (slice_get (rs ++ x ∷ [])) is ∙ last rs
-    where
-      last : (l : List (Row V)) → slice_get (l ++ x ∷ []) (length l) ≡ Some x
-      last [] = refl
-      last (r ∷ l) = last l
 
   -- ---- the rows of the dense part
 

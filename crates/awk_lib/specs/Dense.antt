@@ -1,5 +1,5 @@
 -- The dense part of an array: the value of the key that is the digits of k lies at place k of a list.
-use Rattle.std.specs.Prelude.{◌≡◌, ℕ, suc, ◌<◌, false, List, [], ◌∷◌, ◌++◌, slice_get, slice_set, Option, Some, None}
+use Rattle.std.specs.Prelude.{◌≡◌, ℕ, suc, ◌<◌, false, List, [], ◌∷◌, ◌++◌, Option, Some, None}
 use Rattle.std.specs.Fmt.{decimal}
 use Rattle.std.specs.Option.{option_map_or}
 use Rattle.std.specs.Str.{bytes_eq}
@@ -27,7 +27,3 @@ module _ {V : Type 0} where
   abbrev pub number_in : Option (Option (Numbered V)) → ℕ
   number_in None = 0
   number_in (Some p) = option_map_or (λ x. x.number) p 0
-
-  -- the places with another value at place k
-  abbrev pub with_dense : List (Option (Numbered V)) → ℕ → V → List (Option (Numbered V))
-  with_dense places k w = slice_set places k (Some (record { number = number_in (slice_get places k); value = w }))
