@@ -170,7 +170,7 @@ module _ {P : Type 0} where
 
   -- ---- rows that change, but for their numbers
 
-  module _ (f : ℕ × P → ℕ × P) (keeps : (r : ℕ × P) → (f r).0 ≡ r.0) where
+  module _ {R : Type 0} (f : ℕ × P → ℕ × R) (keeps : (r : ℕ × P) → (f r).0 ≡ r.0) where
     pub numbers_map : (rs : List (ℕ × P)) → numbers (map f rs) ≡ numbers rs
     numbers_map [] = refl
     numbers_map (r ∷ rs) = let rest = numbers_map rs in λ i. keeps r i ∷ rest i

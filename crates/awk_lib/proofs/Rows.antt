@@ -13,17 +13,15 @@ use Rattle.std.specs.List.{AllByRecursion, IsDistinct, swap_remove}
 use Rattle.std.specs.List.Sorted.{IsSortedByKey}
 use Rattle.std.specs.Ordering.{nat_cmp}
 use Rattle.std.proofs.lemmas.List.Sorted.{IsNonDecreasingBy-from_sort}
-use Rattle.std.specs.Borrow.{Bor}
 use Rattle.std.specs.Map.{lookup, keys_of, values_of}
-use Rattle.std.specs.Map.Iter.{deref}
 use Rattle.std.specs.Option.{option_map, option_map_or, IfSome}
 use Rattle.std.specs.Str.{bytes_eq}
 use Rattle.indexmap.specs.IndexMap.{insert_entry, set_value_at}
-use Rattle.awk_lib.specs.Arrays.{Array, element, has, put, with_element, without, keys, most_elements}
+use Rattle.awk_lib.specs.Arrays.{Array, element, has, put, with_element, without, most_elements}
 use Rattle.awk_text.specs.declared.fault.Fault.TheVariants.{TooManyElements}
-use Rattle.awk_lib.specs.Numbering.{into, in_order, numbers, texts, shown, rows, number_at, put_in, AreNumbered, AreRising}
-use Rattle.awk_lib.specs.declared.array.Numbered.{Numbered}
-use Rattle.awk_lib.proofs.Order.{all_weaker, all_push, all_permuted, all_mapped, map_all, distinct_push, in_order_permutes, in_order_push, rising_push, in_order_same, numbers_permuted, numbers_map, in_order_map, below_map, rising_map, in_order_rising, rising_sorted}
+use Rattle.awk_lib.specs.Numbering.{into, in_order, numbers, texts, shown, rows, number_at, AreNumbered, AreRising}
+use Rattle.awk_lib.specs.declared.dense.Numbered.{Numbered}
+use Rattle.awk_lib.proofs.Order.{all_weaker, all_push, all_permuted, all_mapped, map_all, distinct_push, in_order_permutes, in_order_push, rising_push, in_order_same, numbers_permuted, numbers_map, in_order_map, below_map, rising_map, rising_sorted}
 
 pub none_of : {A : Type 0} (o : Option A) → is_some o ≡ false → o ≡ None
 none_of None e = refl
@@ -32,14 +30,6 @@ none_of (Some x) e = absurd (true≢false e)
 pub some_of : {A : Type 0} (o : Option A) → is_some o ≡ true → (x : A) × (o ≡ Some x)
 some_of None e = absurd (true≢false (sym e))
 some_of (Some x) e = (x, refl)
-
-pub not_true : (b : Bool) → not b ≡ true → b ≡ false
-not_true false e = refl
-not_true true e = absurd (true≢false (sym e))
-
-pub not_false : (b : Bool) → not b ≡ false → b ≡ true
-not_false false e = absurd (true≢false e)
-not_false true e = refl
 
 crossed : {A : Type 0} (a b : Bool) (x y z : A) → (a ≡ true → b ≡ false) → cond b y (cond a x z) ≡ cond a x (cond b y z)
 crossed false b x y z h = refl
@@ -104,7 +94,7 @@ module _ {V : Type 0} where
   absent_rows key rs none =
       all_mapped (λ (r : (Row V)). r.1) (λ p. bytes_eq key p.0 ≡ false) rs (none_passes_from_lookup (bytes_eq key) (map (λ r. r.1) rs) none)
 
-  at_place : (Q : (Row V) → Type 0) (rs : List (Row V)) (i : ℕ) (r : (Row V)) → slice_get rs i ≡ Some r → AllByRecursion Q rs → Q r
+  pub at_place : (Q : (Row V) → Type 0) (rs : List (Row V)) (i : ℕ) (r : (Row V)) → slice_get rs i ≡ Some r → AllByRecursion Q rs → Q r
   at_place Q [] i r at h = absurd (true≢false (sym (ap is_some at)))
   at_place Q (s ∷ ss) zero r at h = subst Q (ap (λ o. unwrap_row s o) at) h.0
   at_place Q (s ∷ ss) (suc i) r at h = at_place Q ss i r at h.1
@@ -182,7 +172,7 @@ module _ {V : Type 0} where
       ap (map (λ r. r.1)) (in_order_map (set_row key v) (keeps_number key v) rs) ∙ pairs_set key v (in_order rs)
       ∙ sym (ap (λ b. if b then map (λ p. if bytes_eq key p.0 then (p.0, v) else p) (shown rs) else shown rs ++ (key, v) ∷ []) there)
 
-  set_none : (key : List ℕ) (v : V) (rs : List (Row V)) → AllByRecursion (λ r. bytes_eq key r.1.0 ≡ false) rs → map (set_row key v) rs ≡ rs
+  pub set_none : (key : List ℕ) (v : V) (rs : List (Row V)) → AllByRecursion (λ r. bytes_eq key r.1.0 ≡ false) rs → map (set_row key v) rs ≡ rs
   set_none key v [] h = refl
   set_none key v (r ∷ rs) h =
       let first : set_row key v r ≡ r = ap (λ b. if b then (r.0, (r.1.0, v)) else r) h.0 in
@@ -236,14 +226,6 @@ module _ {V : Type 0} where
       let rest = set_at_row ss i r key v at e (IsDistinct-tail bytes_eq s.1.0 (texts ss) d) in
       λ i. first i ∷ rest i
 
-  pub set_at_last : (rs : List (Row V)) (n : ℕ) (key : List ℕ) (v w : V) → set_at (rs ++ (n, (key, v)) ∷ []) (length rs) w ≡ rs ++ (n, (key, w)) ∷ []
-  set_at_last [] n key v w = refl
-  set_at_last (r ∷ rs) n key v w = ap (λ l. r ∷ l) (set_at_last rs n key v w)
-
-  pub get_last : (rs : List (Row V)) (x : (Row V)) → slice_get (rs ++ x ∷ []) (length rs) ≡ Some x
-  get_last [] x = refl
-  get_last (r ∷ rs) x = get_last rs x
-
   pub lookup_at : (rs : List (Row V)) (i : ℕ) (r : (Row V)) (key : List ℕ) → slice_get rs i ≡ Some r → bytes_eq key r.1.0 ≡ true → IsDistinct bytes_eq (texts rs) → lookup (bytes_eq key) (map (λ r. r.1) rs) ≡ Some r.1.1
   lookup_at [] i r key at e d = absurd (true≢false (sym (ap is_some at)))
   lookup_at (s ∷ ss) zero r key at e d =
@@ -283,17 +265,13 @@ module _ {V : Type 0} where
       sym (ap (λ l. without (map (λ s. s.1) l) key) (in_order_same rs (r ∷ ss) p a.distinct)
       ∙ without_into key r (in_order ss) e (all_permuted (λ s. bytes_eq key s.1.0 ≡ false) ss (in_order ss) (in_order_permutes ss) others))
 
-  pub gone : (settled : Bool) (n : ℕ) (rs : List (Row V)) (r : (Row V)) (ss : List (Row V)) (now : Bool) → AreNumbered settled n rs → IsPermutation rs (r ∷ ss) → (now ≡ true → length ss ≡ 0) → AreNumbered now n ss
-  gone settled n rs r ss now a p empty = record {
+  pub gone : (settled : Bool) (n : ℕ) (rs : List (Row V)) (r : (Row V)) (ss : List (Row V)) (now : Bool) → AreNumbered settled n rs → IsPermutation rs (r ∷ ss) → (now ≡ true → AreRising ss) → AreNumbered now n ss
+  gone settled n rs r ss now a p rising = record {
     below = (all_permuted (λ r. r.0 < n) rs (r ∷ ss) p a.below).1;
     distinct = IsDistinct-tail nat_eq r.0 (numbers ss) (numbers_permuted rs (r ∷ ss) p a.distinct);
     keys = IsDistinct-tail bytes_eq r.1.0 (texts ss) (texts_permuted rs (r ∷ ss) p a.keys);
-    rising = λ e. no_rows ss (empty e);
+    rising = rising;
   }
-    where
-      no_rows : (l : List (Row V)) → length l ≡ 0 → AreRising l
-      no_rows [] z = tt
-      no_rows (x ∷ xs) z = let no : ⊥ = omega (arith, z) in absurd no
 
   -- ---- the order of the numbers
 
@@ -307,19 +285,6 @@ module _ {V : Type 0} where
 
   pub shown_moved : (settled : Bool) (n : ℕ) (rs ss : List (Row V)) → AreNumbered settled n rs → IsPermutation rs ss → shown ss ≡ shown rs
   shown_moved settled n rs ss a p = ap (map (λ r. r.1)) (sym (in_order_same rs ss p a.distinct))
-
--- ---- the keys that an iterator over the map gave
-
-pub keys_yielded : {K X : Type 0} (text : K → List ℕ) (ks : List (Bor K)) (es : List (K × X)) → map deref ks ≡ keys_of es → map (λ k. text k.now) ks ≡ map (λ e. text e.0) es
-keys_yielded {K} {X} text ks es e = behind ks ∙ ap (map text) e ∙ stored es
-  where
-    behind : (l : List (Bor K)) → map (λ k. text k.now) l ≡ map text (map deref l)
-    behind [] = refl
-    behind (k ∷ l) = ap (λ t. text k.now ∷ t) (behind l)
-
-    stored : (l : List (K × X)) → map text (keys_of l) ≡ map (λ e. text e.0) l
-    stored [] = refl
-    stored (e ∷ l) = ap (λ t. text e.0 ∷ t) (stored l)
 
 -- ---- the rows of the elements in the map
 
@@ -335,20 +300,6 @@ module _ {K V : Type 0} (text : K → List ℕ) where
           → cond b (Some e.1.value) (lookup (bytes_eq key) (map (λ r. r.1) (rows text es))) ≡ option_map (λ x. x.value) (cond b (Some e.1) (lookup (λ k. bytes_eq key (text k)) es))
       by true rest = refl
       by false rest = rest
-
-  -- what the map has under a key is what the list has
-  pub element_rows : (key : List ℕ) (es : List (K × Numbered V)) → IsDistinct bytes_eq (texts (rows text es)) → element (shown (rows text es)) key ≡ option_map (λ x. x.value) (lookup (λ k. bytes_eq key (text k)) es)
-  element_rows key es d = lookup_shown key (rows text es) d ∙ lookup_rows key es
-
-  pub has_rows : (key : List ℕ) (es : List (K × Numbered V)) → IsDistinct bytes_eq (texts (rows text es)) → has (shown (rows text es)) key ≡ is_some (lookup (λ k. bytes_eq key (text k)) es)
-  has_rows key es d = ap is_some (element_rows key es d) ∙ by (lookup (λ k. bytes_eq key (text k)) es)
-    where
-      by : (o : Option (Numbered V)) → is_some (option_map (λ x. x.value) o) ≡ is_some o
-      by None = refl
-      by (Some x) = refl
-
-  pub length_rows : (es : List (K × Numbered V)) → length (shown (rows text es)) ≡ length es
-  length_rows es = length_shown (rows text es) ∙ length-map es (λ e. (e.1.number, (text e.0, e.1.value)))
 
   -- the row of the element that a look-up found
   pub found_row : (key : List ℕ) (es : List (K × Numbered V)) (i : ℕ) → position (λ k. bytes_eq key (text k)) (keys_of es) ≡ Some i
@@ -388,98 +339,6 @@ module _ {K V : Type 0} (text : K → List ℕ) where
       by true none rest = absurd (true≢false (ap is_some none))
       by false none rest = ap (λ l. (e.1.number, (text e.0, e.1.value)) ∷ l) (rest none)
 
-  pub rows_insert_there : (k : K) (x : Numbered V) (v : V) (es : List (K × Numbered V)) → lookup (λ q. bytes_eq (text k) (text q)) es ≡ Some x → IsDistinct bytes_eq (texts (rows text es))
-      → rows text (insert_entry (λ a b. bytes_eq (text a) (text b)) es k (record { number = x.number; value = v })) ≡ map (set_row (text k) v) (rows text es)
-  rows_insert_there k x v [] there d = absurd (true≢false (sym (ap is_some there)))
-  rows_insert_there k x v (e ∷ es) there d =
-      by (bytes_eq (text k) (text e.0)) refl there (λ t. rows_insert_there k x v es t (IsDistinct-tail bytes_eq (text e.0) (texts (rows text es)) d))
-    where
-      y : Numbered V
-      y = record { number = x.number; value = v }
-
-      by : (b : Bool) → bytes_eq (text k) (text e.0) ≡ b → cond b (Some e.1) (lookup (λ q. bytes_eq (text k) (text q)) es) ≡ Some x
-          → (lookup (λ q. bytes_eq (text k) (text q)) es ≡ Some x → rows text (insert_entry (λ a b. bytes_eq (text a) (text b)) es k y) ≡ map (set_row (text k) v) (rows text es))
-          → rows text (if b then (e.0, y) ∷ es else e ∷ insert_entry (λ a b. bytes_eq (text a) (text b)) es k y)
-          ≡ (if b then (e.1.number, (text e.0, v)) else (e.1.number, (text e.0, e.1.value))) ∷ map (set_row (text k) v) (rows text es)
-      by true hit there rest =
-          let number : x.number ≡ e.1.number = sym (ap (λ (o : Option (Numbered V)). option_map_or (λ x. x.number) o 0) there) in
-          let later = sym (set_none (text k) v (rows text es) (alone (text k) (e.1.number, (text e.0, e.1.value)) (rows text es) d hit)) in
-          λ i. (number i, (text e.0, v)) ∷ later i
-      by false hit there rest = ap (λ l. (e.1.number, (text e.0, e.1.value)) ∷ l) (rest there)
-
-  -- ---- the place of a key
-
-  module _ (key : List ℕ) (es : List (K × Numbered V)) (i : ℕ) (found : position (λ k. bytes_eq key (text k)) (keys_of es) ≡ Some i) where
-    pub element_at : IsDistinct bytes_eq (texts (rows text es)) → element (shown (rows text es)) key ≡ option_map (λ r. r.1.1) (slice_get (rows text es) i)
-    element_at d =
-        let f = found_row key es i found in
-        lookup_shown key (rows text es) d ∙ lookup_at (rows text es) i f.0 key f.1 f.2 d ∙ sym (ap (option_map (λ (r : Row V). r.1.1)) f.1)
-
-    pub has_at : IsDistinct bytes_eq (texts (rows text es)) → has (shown (rows text es)) key ≡ true
-    has_at d =
-        let f = found_row key es i found in
-        ap is_some (lookup_shown key (rows text es) d ∙ lookup_at (rows text es) i f.0 key f.1 f.2 d)
-
-    set_place : (w : V) → IsDistinct bytes_eq (texts (rows text es)) → rows text (set_value_at es i (record { number = number_at es i; value = w })) ≡ map (set_row key w) (rows text es)
-    set_place w d =
-        let f = found_row key es i found in
-        rows_set_at es i w ∙ set_at_row (rows text es) i f.0 key w f.1 f.2 d
-
-    pub place_numbered : (settled : Bool) (n : ℕ) (w : V) → AreNumbered settled n (rows text es) → AreNumbered settled n (rows text (set_value_at es i (record { number = number_at es i; value = w })))
-    place_numbered settled n w a = subst (AreNumbered settled n) (sym (set_place w a.keys)) (set_numbered settled n (rows text es) key w a)
-
-    pub place_shown : (w : V) → IsDistinct bytes_eq (texts (rows text es)) → shown (rows text (set_value_at es i (record { number = number_at es i; value = w }))) ≡ with_element (shown (rows text es)) key w
-    place_shown w d = ap shown (set_place w d) ∙ shown_set (rows text es) key w (has_at d)
-
-  -- ---- room for one more
-
-  pub room_rows : (key : List ℕ) (es : List (K × Numbered V)) → IsDistinct bytes_eq (texts (rows text es))
-      → (has (shown (rows text es)) key || nat_lt (length (shown (rows text es))) most_elements) ≡ (is_some (lookup (λ k. bytes_eq key (text k)) es) || nat_lt (length es) most_elements)
-  room_rows key es d = λ i. has_rows key es d i || nat_lt (length_rows es i) most_elements
-
-  -- ---- a key that was added last
-
-  module _ (settled : Bool) (n : ℕ) (key : List ℕ) (es : List (K × Numbered V)) (a : AreNumbered settled n (rows text es)) (none : lookup (λ k. bytes_eq key (text k)) es ≡ None) where
-    absent : lookup (bytes_eq key) (map (λ r. r.1) (rows text es)) ≡ None
-    absent = lookup_rows key es ∙ ap (option_map (λ x. x.value)) none
-
-    pub new_numbered : (v : V) (fs : List (K × Numbered V)) → rows text fs ≡ rows text es ++ (n, (key, v)) ∷ [] → AreNumbered settled (n + 1) (rows text fs)
-    new_numbered v fs e = subst (AreNumbered settled (n + 1)) (sym e) (added settled n (rows text es) key v a absent)
-
-    pub new_shown : (v : V) (fs : List (K × Numbered V)) → rows text fs ≡ rows text es ++ (n, (key, v)) ∷ [] → shown (rows text fs) ≡ with_element (shown (rows text es)) key v
-    new_shown v fs e = ap shown e ∙ shown_added settled n (rows text es) key v a absent
-
-    module _ (v : V) (fs : List (K × Numbered V)) (is : rows text fs ≡ rows text es ++ (n, (key, v)) ∷ []) (place : ℕ) (last : place ≡ length es) where
-      last_row : place ≡ length (rows text es)
-      last_row = last ∙ sym (length-map es (row_of text))
-
-      set_last : (w : V) → rows text (set_value_at fs place (record { number = number_at fs place; value = w })) ≡ rows text es ++ (n, (key, w)) ∷ []
-      set_last w = rows_set_at fs place w ∙ (λ i. set_at (is i) (last_row i) w) ∙ set_at_last (rows text es) n key v w
-
-      pub last_numbered : (w : V) → AreNumbered settled (n + 1) (rows text (set_value_at fs place (record { number = number_at fs place; value = w })))
-      last_numbered w = subst (AreNumbered settled (n + 1)) (sym (set_last w)) (added settled n (rows text es) key w a absent)
-
-      pub last_shown : (w : V) → shown (rows text (set_value_at fs place (record { number = number_at fs place; value = w }))) ≡ with_element (shown (rows text es)) key w
-      last_shown w = ap shown (set_last w) ∙ shown_added settled n (rows text es) key w a absent
-
-      pub last_value : option_map (λ r. r.1.1) (slice_get (rows text fs) place) ≡ Some v
-      last_value = (λ i. option_map (λ (r : Row V). r.1.1) (slice_get (is i) (last_row i))) ∙ ap (option_map (λ (r : Row V). r.1.1)) (get_last (rows text es) (n, (key, v)))
-
-  -- ---- what `put` makes of the rows
-
-  pub rows_put_new : (k : K) (n : ℕ) (v : V) (es : List (K × Numbered V)) → lookup (λ q. bytes_eq (text k) (text q)) es ≡ None
-      → rows text (insert_entry (λ a b. bytes_eq (text a) (text b)) es k (put_in (lookup (λ q. bytes_eq (text k) (text q)) es) n v)) ≡ rows text es ++ (n, (text k, v)) ∷ []
-  rows_put_new k n v es none =
-      ap (λ (o : Option (Numbered V)). rows text (insert_entry (λ a b. bytes_eq (text a) (text b)) es k (put_in o n v))) none
-      ∙ rows_insert_new k (record { number = n; value = v }) es none
-
-  pub rows_put_there : (k : K) (n : ℕ) (v : V) (es : List (K × Numbered V)) → is_some (lookup (λ q. bytes_eq (text k) (text q)) es) ≡ true → IsDistinct bytes_eq (texts (rows text es))
-      → rows text (insert_entry (λ a b. bytes_eq (text a) (text b)) es k (put_in (lookup (λ q. bytes_eq (text k) (text q)) es) n v)) ≡ map (set_row (text k) v) (rows text es)
-  rows_put_there k n v es there d =
-      let x = some_of (lookup (λ q. bytes_eq (text k) (text q)) es) there in
-      ap (λ (o : Option (Numbered V)). rows text (insert_entry (λ a b. bytes_eq (text a) (text b)) es k (put_in o n v))) x.1
-      ∙ rows_insert_there k x.0 v es x.1 d
-
   -- ---- an element that goes
 
   there : (es : List (K × Numbered V)) (i : ℕ) → i < length es → (e : K × Numbered V) × (slice_get es i ≡ Some e)
@@ -487,22 +346,20 @@ module _ {K V : Type 0} (text : K → List ℕ) where
   there (e ∷ es) zero l = (e, refl)
   there (e ∷ es) (suc i) l = there es i (omega (arith, l))
 
-  row_at : (es : List (K × Numbered V)) (i : ℕ) → slice_get (rows text es) i ≡ option_map (row_of text) (slice_get es i)
-  row_at [] i = refl
-  row_at (e ∷ es) zero = refl
-  row_at (e ∷ es) (suc i) = row_at es i
+  row_of_place : (es : List (K × Numbered V)) (i : ℕ) → slice_get (rows text es) i ≡ option_map (row_of text) (slice_get es i)
+  row_of_place [] i = refl
+  row_of_place (e ∷ es) zero = refl
+  row_of_place (e ∷ es) (suc i) = row_of_place es i
 
-  pub gone_place : (key : List ℕ) (es fs : List (K × Numbered V)) (i : ℕ) (r : Option (K × Numbered V)) → position (λ k. bytes_eq key (text k)) (keys_of es) ≡ Some i → i < length es
-      → r ≡ slice_get es i → IfSome r (λ p. fs ≡ swap_remove es i p)
-      → (x : Row V) × IsPermutation (rows text es) (x ∷ rows text fs) × (bytes_eq key x.1.0 ≡ true)
-  gone_place key es fs i r found within is after =
+  pub gone_place : (es fs : List (K × Numbered V)) (i : ℕ) (r : Option (K × Numbered V)) (x : Row V) → slice_get (rows text es) i ≡ Some x → i < length es
+      → r ≡ slice_get es i → IfSome r (λ p. fs ≡ swap_remove es i p) → IsPermutation (rows text es) (x ∷ rows text fs)
+  gone_place es fs i r x at within is after =
       let e = there es i within in
       let left : fs ≡ swap_remove es i e.0 = subst (λ (o : Option (K × Numbered V)). IfSome o (λ p. fs ≡ swap_remove es i p)) (is ∙ e.1) after in
-      let f = found_row key es i found in
-      let same : f.0 ≡ row_of text e.0 = same_Some f.0 (row_of text e.0) (sym f.1 ∙ row_at es i ∙ ap (option_map (row_of text)) e.1) in
+      let same : row_of text e.0 ≡ x = same_Some (row_of text e.0) x (sym (ap (option_map (row_of text)) e.1) ∙ sym (row_of_place es i) ∙ at) in
       let moves = IsPermutation-swap_remove es i e.0 within (sym (get_or_from_slice_get es i e.0 e.0 e.1)) in
       let rows_move = IsPermutation-map (row_of text) es (e.0 ∷ swap_remove es i e.0) moves in
-      (row_of text e.0, subst (λ l. IsPermutation (rows text es) (row_of text e.0 ∷ rows text l)) (sym left) rows_move, subst (λ (x : Row V). bytes_eq key x.1.0 ≡ true) same f.2)
+      subst (λ y. IsPermutation (rows text es) (y ∷ rows text fs)) same (subst (λ l. IsPermutation (rows text es) (row_of text e.0 ∷ rows text l)) (sym left) rows_move)
 
   -- ---- the keys in order
 
@@ -514,10 +371,3 @@ module _ {K V : Type 0} (text : K → List ℕ) where
   rising_rows es sorted d =
       rising_sorted (λ (e : K × Numbered V). e.1.number) (λ (e : K × Numbered V). (text e.0, e.1.value)) es
       (IsNonDecreasingBy-from_sort (λ (e : K × Numbered V). e.1.number) es sorted) (subst (IsDistinct nat_eq) (numbers_rows es) d)
-
-  texts_rows : (es : List (K × Numbered V)) → map (λ e. text e.0) es ≡ keys (map (λ r. r.1) (rows text es))
-  texts_rows [] = refl
-  texts_rows (e ∷ es) = ap (λ l. text e.0 ∷ l) (texts_rows es)
-
-  pub keys_rising : (es : List (K × Numbered V)) → AreRising (rows text es) → map (λ e. text e.0) es ≡ keys (shown (rows text es))
-  keys_rising es h = texts_rows es ∙ sym (ap (λ l. keys (map (λ r. r.1) l)) (in_order_rising (rows text es) h))

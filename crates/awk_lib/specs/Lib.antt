@@ -1,6 +1,9 @@
 pub mod Arrays
+pub mod Dense
+pub mod Kept
 pub mod Lends
 pub mod Numbering
+pub mod Places
 pub mod Replacing
 pub mod Seeking
 pub mod Texts

@@ -1,12 +1,12 @@
 -- How an array is kept: each value with the number of its element, in any order. Elements are numbered as they are added,
 -- so that the list which contracts see is that of the elements in the order of their numbers.
-use Rattle.std.specs.Prelude.{◌≡◌, ℕ, ◌<◌, nat_lt, nat_eq, Bool, true, if◌then◌else◌, List, [], ◌∷◌, map, ⊤, slice_get, Option, Some, None}
+use Rattle.std.specs.Prelude.{◌≡◌, ℕ, ◌<◌, nat_lt, nat_eq, Bool, true, if◌then◌else◌, List, [], ◌∷◌, map, ⊤, slice_get}
 use Rattle.std.specs.Option.{option_map_or}
 use Rattle.std.specs.Map.{values_of}
 use Rattle.std.specs.Str.{bytes_eq}
 use Rattle.std.specs.List.{AllByRecursion, IsDistinct}
 use Rattle.awk_lib.specs.Arrays.{Array}
-use Rattle.awk_lib.specs.declared.array.Numbered.{Numbered}
+use Rattle.awk_lib.specs.declared.dense.Numbered.{Numbered}
 
 module _ {P : Type 0} where
   -- the row, put before the first one with a greater number
@@ -50,7 +50,16 @@ module _ {K V : Type 0} (text : K → List ℕ) where
 abbrev pub number_at : {K V : Type 0} → List (K × Numbered V) → ℕ → ℕ
 number_at elements place = option_map_or (λ x. x.number) (slice_get (values_of elements) place) 0
 
--- what is put where the key has the first element, or none
-abbrev pub put_in : {V : Type 0} → Option (Numbered V) → ℕ → V → Numbered V
-put_in (Some x) number value = record { number = x.number; value = value }
-put_in None number value = record { number = number; value = value }
+-- a key with the number of its element
+module _ {V : Type 0} where
+  abbrev pub key_of : ℕ × (List ℕ × V) → ℕ × List ℕ
+  key_of r = (r.0, r.1.0)
+
+  abbrev pub keyed : List (ℕ × (List ℕ × V)) → List (ℕ × List ℕ)
+  keyed rows = map key_of rows
+
+abbrev pub listed_key : Numbered (List ℕ) → ℕ × List ℕ
+listed_key k = (k.number, k.value)
+
+abbrev pub listed : List (Numbered (List ℕ)) → List (ℕ × List ℕ)
+listed keys = map listed_key keys

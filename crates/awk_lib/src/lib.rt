@@ -3,8 +3,11 @@
 #![tactic(auto)]
 
 pub mod array;
+mod dense;
+mod elements;
 mod new_text;
 pub mod replacing;
+mod slot;
 pub mod texts;
 
 pub use replacing::{replace as replace, replace_any as replace_any};

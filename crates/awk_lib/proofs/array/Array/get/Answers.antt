@@ -1,14 +1,12 @@
-use Rattle.std.proofs.Common.{sym, ap, ◌∙◌}
-use Rattle.std.specs.Option.{option_map, option_copied}
-use Rattle.awk_lib.proofs.Rows.{element_rows}
+use Rattle.std.proofs.Common.{Some, refl, sym, ap, ◌∙◌}
+use Rattle.awk_lib.proofs.Keeping.{missing_element, value_there}
 use Rattle.awk_lib.proofs.array.Array.get.Goals as goal
 
-pub returns-in-Some : goal.returns-in-Some
-returns-in-Some g c =
-    rw (← c.self.view_is) (sym (element_rows (λ k. k.items) c.args.key.now c.self.inside.elements.map.entries c.self.invariant.keys
-    ∙ ap (option_map (λ x. x.value)) (sym c.get.ensures.value ∙ ap option_copied c.in-Some.is)))
+pub returns-in_err-place : goal.returns-in_err-place
+returns-in_err-place g c =
+    rw (c.from_residual.ensures, ← c.self.view_is) (sym (missing_element c.self.inside.elements c.args.key.now c.self.invariant.numbered.keys (c.in_err-place.ensures.none refl)))
 
-pub returns-in-None : goal.returns-in-None
-returns-in-None g c =
-    rw (← c.self.view_is) (sym (element_rows (λ k. k.items) c.args.key.now c.self.inside.elements.map.entries c.self.invariant.keys
-    ∙ ap (option_map (λ x. x.value)) (sym c.get.ensures.value ∙ ap option_copied c.in-None.is)))
+pub returns : goal.returns
+returns g c =
+    let h = c.in_ok-place.ensures.some in
+    rw (← c.self.view_is) (ap Some (c.value.ensures h.0 h.1) ∙ sym (value_there c.self.inside.elements c.in_ok-place.place h.0 c.args.key.now h.1 h.2 c.self.invariant.numbered.keys))

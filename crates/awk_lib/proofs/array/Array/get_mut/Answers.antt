@@ -1,37 +1,38 @@
-use Rattle.std.proofs.Common.{inl, refl, sym, ap, ◌∙◌}
-use Rattle.std.specs.Option.{option_map}
-use Rattle.awk_lib.specs.Numbering.{rows}
-use Rattle.awk_lib.proofs.Rows.{element_rows, element_at, place_numbered, place_shown, none_of, same_shown}
+use Rattle.std.proofs.Common.{Some, inl, refl, sym, ap, ◌∙◌}
+use Rattle.awk_lib.specs.Kept.{rows_of}
+use Rattle.awk_lib.proofs.Keeping.{missing_element, value_there, value_kept, value_shown}
+use Rattle.awk_lib.proofs.Rows.{same_shown}
 use Rattle.awk_lib.proofs.array.Array.get_mut.Goals as goal
 
 pub returns-in_err-place : goal.returns-in_err-place
 returns-in_err-place g c =
-    let es = c.self.inside.elements.map.entries in
+    let es = c.self.inside.elements in
     rw (c.from_residual.ensures, ← c.self.view_is) (
       refl,
       record {
         writes_back = tt;
-        value = sym (element_rows (λ k. k.items) c.args.key.now es c.self.invariant.keys ∙ ap (option_map (λ x. x.value)) (none_of _ (sym c.in_err-place.ensures.found)));
-        same = λ v. same_shown (rows (λ k. k.items) es) c.args.key.now v c.self.invariant.keys;
+        value = sym (missing_element es c.args.key.now c.self.invariant.numbered.keys (c.in_err-place.ensures.none refl));
+        same = λ v. same_shown (rows_of es) c.args.key.now v c.self.invariant.numbered.keys;
       },
     )
 
 pub invariant_of-self-lent : goal.invariant_of-self-lent
-invariant_of-self-lent g c = λ w.
-    place_numbered (λ k. k.items) c.args.key.now c.self.inside.elements.map.entries c.in_ok-place.place (sym c.in_ok-place.ensures.index)
-    c.self.inside.settled c.self.inside.next w c.self.invariant
+invariant_of-self-lent g c =
+    let h = c.in_ok-place.ensures.some in
+    λ w. value_kept c.self.inside.elements c.in_ok-place.place h.0 c.args.key.now h.1 h.2 c.self.inside.settled c.self.inside.next w c.self.invariant
 
 pub returns : goal.returns
 returns g c =
-    let es = c.self.inside.elements.map.entries in
+    let es = c.self.inside.elements in
     let key = c.args.key.now in
     let place = c.in_ok-place.place in
-    let found = sym c.in_ok-place.ensures.index in
+    let h = c.in_ok-place.ensures.some in
+    let keys = c.self.invariant.numbered.keys in
     rw (← c.self.view_is) (
-      (λ i. inl (c.value_mut.result.ghost_name, λ w. place_shown (λ k. k.items) key es place found w c.self.invariant.keys i)),
+      (λ i. inl (c.value_mut.result.ghost_name, λ w. value_shown es place h.0 key h.1 h.2 w keys i)),
       record {
         writes_back = tt;
-        value = sym (element_at (λ k. k.items) key es place found c.self.invariant.keys ∙ c.value_mut.ensures.value);
-        same = λ v. same_shown (rows (λ k. k.items) es) key v c.self.invariant.keys;
+        value = ap Some (c.value_mut.ensures.value h.0 h.1) ∙ sym (value_there es place h.0 key h.1 h.2 keys);
+        same = λ v. same_shown (rows_of es) key v keys;
       },
     )

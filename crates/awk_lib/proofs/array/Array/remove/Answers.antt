@@ -1,31 +1,50 @@
-use Rattle.std.proofs.Common.{◌≡◌, None, is_some, sym, ap, ◌∙◌}
-use Rattle.std.proofs.lemmas.List.{length-map}
-use Rattle.std.specs.Map.{lookup}
-use Rattle.std.specs.Option.{option_map}
-use Rattle.std.specs.Str.{bytes_eq}
-use Rattle.awk_lib.specs.Numbering.{rows, shown}
-use Rattle.awk_lib.proofs.Rows.{none_of, row_of, element_rows, none_without, gone_place, gone, shown_gone}
+use Rattle.std.proofs.Common.{◌&&◌, ap, ◌∙◌, sym, subst, arith}
+use Rattle.awk_lib.specs.Kept.{rows_of}
+use Rattle.awk_lib.specs.Numbering.{shown, AreRising}
+use Rattle.awk_lib.proofs.Keeping.{and_left, and_right, some_count, missing_element, removed_kept, emptied}
+use Rattle.awk_lib.proofs.Rows.{none_without, shown_gone}
 use Rattle.awk_lib.proofs.array.Array.remove.Goals as goal
 
 pub returns-in_default : goal.returns-in_default
 returns-in_default g c =
-    let es = c.self.inside.elements.map.entries in
+    let es = c.self.inside.elements in
     let key = c.args.key.now in
-    let none : lookup (λ k. bytes_eq key k.items) es ≡ None = none_of _ (sym c.get_index_of.ensures.found ∙ ap is_some c.in_default.is) in
-    rw (← c.self.view_is) (sym (none_without key (shown (rows (λ k. k.items) es)) (element_rows (λ k. k.items) key es c.self.invariant.keys ∙ ap (option_map (λ x. x.value)) none)))
+    rw (← c.self.view_is) (sym (none_without key (shown (rows_of es)) (missing_element es key c.self.invariant.numbered.keys (c.find.ensures.none c.in_default.is))))
+
+pub remove-keeps_order-requires-clause-some : goal.remove-keeps_order-requires-clause-some
+remove-keeps_order-requires-clause-some g c =
+    let h = c.in-Some.ensures.some in some_count c.self.inside.elements c.in-Some.place h.0 h.1 c.self.invariant.count
 
 pub invariant_of-self : goal.invariant_of-self
 invariant_of-self g c =
-    let es = c.self.inside.elements.map.entries in
-    let fs = c.swap_remove_index.new.self.entries in
-    let out = gone_place (λ k. k.items) c.args.key.now es fs c.in-Some.place c.swap_remove_index.result (sym c.in-Some.ensures.index) c.in-Some.ensures.within c.swap_remove_index.ensures.entry c.swap_remove_index.ensures.entries in
-    gone c.self.inside.settled c.self.inside.next (rows (λ k. k.items) es) out.0 (rows (λ k. k.items) fs) c.is_empty-self-inside.result c.self.invariant out.1
-    (λ e. length-map fs (row_of (λ k. k.items)) ∙ c.is_empty-self-inside.ensures.0 e)
+    let h = c.in-Some.ensures.some in
+    let a = c.self.invariant in
+    let settled = c.self.inside.settled in
+    let keeps = c.remove-keeps_order.result in
+    removed_kept settled (settled && keeps) c.self.inside.next c.self.inside.elements c.remove-keeps_order.new.self h.0 a (c.remove-keeps_order.ensures.gone h.0 h.1) c.remove-keeps_order.ensures.apart c.remove-keeps_order.ensures.count
+    (λ e. c.remove-keeps_order.ensures.rising (and_right settled keeps e) (a.numbered.rising (and_left settled keeps e)))
+
+pub returns-then-self-gt0 : goal.returns-then-self-gt0
+returns-then-self-gt0 g c =
+    let h = c.in-Some.ensures.some in
+    rw (← c.self.view_is) (shown_gone c.self.inside.settled c.self.inside.next (rows_of c.self.inside.elements) h.0 (rows_of c.remove-keeps_order.new.self) c.args.key.now c.self.invariant.numbered (c.remove-keeps_order.ensures.gone h.0 h.1) h.2)
+
+pub invariant_of-self-else-self-gt0 : goal.invariant_of-self-else-self-gt0
+invariant_of-self-else-self-gt0 g c =
+    let h = c.in-Some.ensures.some in
+    let a = c.self.invariant in
+    let es = c.self.inside.elements in
+    let fs = c.remove-keeps_order.new.self in
+    let gone = c.remove-keeps_order.ensures.gone h.0 h.1 in
+    let empty = emptied c.self.inside.settled c.self.inside.next es fs h.0 a gone c.remove-keeps_order.ensures.count (omega (arith, c.if-self-gt0.false)) in
+    removed_kept c.self.inside.settled c.self.inside.settled c.self.inside.next es fs h.0 a gone c.remove-keeps_order.ensures.apart c.remove-keeps_order.ensures.count (λ e. subst AreRising (sym empty) tt)
 
 pub returns : goal.returns
 returns g c =
-    let es = c.self.inside.elements.map.entries in
-    let fs = c.swap_remove_index.new.self.entries in
-    let key = c.args.key.now in
-    let out = gone_place (λ k. k.items) key es fs c.in-Some.place c.swap_remove_index.result (sym c.in-Some.ensures.index) c.in-Some.ensures.within c.swap_remove_index.ensures.entry c.swap_remove_index.ensures.entries in
-    rw (← c.self.view_is) (shown_gone c.self.inside.settled c.self.inside.next (rows (λ k. k.items) es) out.0 (rows (λ k. k.items) fs) key c.self.invariant out.1 out.2)
+    let h = c.in-Some.ensures.some in
+    let a = c.self.invariant in
+    let es = c.self.inside.elements in
+    let fs = c.remove-keeps_order.new.self in
+    let gone = c.remove-keeps_order.ensures.gone h.0 h.1 in
+    let empty = emptied c.self.inside.settled c.self.inside.next es fs h.0 a gone c.remove-keeps_order.ensures.count (omega (arith, c.if-self-gt0.false)) in
+    rw (← c.self.view_is) (c.clear.ensures ∙ sym (ap shown empty) ∙ shown_gone c.self.inside.settled c.self.inside.next (rows_of es) h.0 (rows_of fs) c.args.key.now a.numbered gone h.2)

@@ -1,0 +1,333 @@
+// The elements of an array.
+ghost use Rattle.std.specs.Prelude.{◌≡◌, ℕ, ◌+◌, ◌<◌, ◌≤◌, ◌⊎◌, true, List, [], ◌∷◌, ◌++◌, map, length, vec_len, is_ok, if◌then◌else◌, Some, None, IfSome, IfOk, OnOk, OnErr, IsOkUnless, IsPermutation, nat_eq};
+ghost use Rattle.std.specs.Fmt.{decimal};
+ghost use Rattle.std.specs.List.{IsDistinct};
+ghost use Rattle.std.specs.List.Sorted.{IsSortedByKey};
+ghost use Rattle.std.specs.Map.{lookup};
+ghost use Rattle.std.specs.Ordering.{nat_cmp};
+ghost use Rattle.std.specs.Str.{bytes_eq};
+ghost use Rattle.awk_lib.specs.Arrays.{most_elements, keys};
+ghost use Rattle.awk_lib.specs.Dense.{most_places, IsOutside};
+ghost use Rattle.awk_lib.specs.Numbering.{keyed, listed, numbers, shown, AreRising};
+
+use crate::dense::{Dense, Numbered};
+use crate::slot::slot_of;
+use awk_text::Memory;
+use awk_text::fault::Fault;
+use awk_text::octets::Octets;
+use indexmap::IndexMap;
+use std::alloc::Global;
+
+/// How far behind the last place of the dense part a first key may lie.
+const MOST_APART: usize = 8;
+
+/// Where an element lies.
+#[derive(Clone, Copy)]
+pub(crate) enum Place {
+    Dense(usize),
+    Mapped(usize),
+}
+
+/// Where a new element lies, and whether it lies behind all others.
+#[derive(Drop)]
+pub(crate) struct Added {
+    pub(crate) place: Place,
+    pub(crate) is_last: bool,
+}
+
+/// The elements: those of small whole numbers in the dense part, and the others in the map, in any
+/// order: a removed one leaves its place there to the last.
+///
+/// No key of the map has a place in the dense part.
+#[derive(Drop)]
+pub(crate) struct Elements<V> {
+    pub(crate) dense: Dense<V>,
+    pub(crate) map: IndexMap<Vec<u8>, Numbered<V>>,
+    pub(crate) count: usize,
+}
+
+impl<V> Elements<V> {
+    ghost use Rattle.std.specs.Borrow.{sem};
+    ghost use Rattle.awk_lib.specs.Kept.{rows_of, mapped_rows, AreApart, Lies};
+    ghost use Rattle.awk_lib.specs.Lends.{lends_value};
+
+    /// No elements. Takes no memory.
+    pub(crate) fn new(alloc: Global) -> Elements<V>
+        ensures rows { rows_of result ≡ [] }
+        ensures count { result.count ≡ 0 }
+        ensures apart { AreApart result }
+    {
+        Elements {
+            dense: Dense::new(alloc),
+            map: IndexMap::new(alloc),
+            count: 0,
+        }
+    }
+
+    /// Where the key lies. Takes no memory.
+    pub(crate) fn find(&self, key: &[u8]) -> Option<Place>
+        requires { AreApart self.now }
+        ensures some { IfSome result (λ p. (r : ℕ × (List ℕ × V)) × Lies self.now p r × (bytes_eq key.now r.1.0 ≡ true)) }
+        ensures none { result ≡ None → lookup (bytes_eq key.now) (map (λ r. r.1) (rows_of self.now)) ≡ None }
+    {
+        match self.dense.slot(key) {
+            Some(k) => if self.dense.is_filled(k) {
+                Some(Place::Dense(k))
+            } else {
+                None
+            },
+            None => {
+                let i = self.map.get_index_of(key)?;
+                Some(Place::Mapped(i))
+            }
+        }
+    }
+
+    /// The value at a place.
+    pub(crate) fn value(&self, place: Place) -> &V
+        requires { (r : ℕ × (List ℕ × V)) × Lies self.now place r }
+        ensures { (r : ℕ × (List ℕ × V)) → Lies self.now place r → result.now ≡ r.1.1 }
+    {
+        match place {
+            Place::Dense(k) => self.dense.value(k),
+            Place::Mapped(i) => &self.map[i].value,
+        }
+    }
+
+    /// The value at a place, to write. Takes no memory.
+    pub(crate) fn value_mut(&mut self, place: Place) -> &mut V
+        requires { (r : ℕ × (List ℕ × V)) × Lies self.old place r }
+        ensures* writes_back { sem 𝓛 (lends_value V.row self.entry place result) }
+        ensures value { (r : ℕ × (List ℕ × V)) → Lies self.old place r → result.now ≡ r.1.1 }
+    {
+        match place {
+            Place::Dense(k) => self.dense.value_mut(k),
+            Place::Mapped(i) => {
+                let element = &mut self.map[i];
+                &mut element.value
+            }
+        }
+    }
+
+    /// The place in the dense part that a new key takes, if it takes one there.
+    fn spot(&self, key: &[u8]) -> Option<usize>
+        requires { AreApart self.now }
+        ensures some { IfSome result (λ k. (key.now ≡ decimal k) × (k < most_places) × (length self.now.dense.places.items ≤ k → (length self.now.map.entries ≡ 0) ⊎ (k ≡ length self.now.dense.places.items))) }
+        ensures none { result ≡ None → IsOutside (length self.now.dense.places.items) key.now }
+    {
+        let k = slot_of(key)?;
+        let len = self.dense.len();
+        if k < len {
+            return Some(k);
+        }
+        // Where most places are empty, no more are made.
+        if len / 8 > self.count {
+            return None;
+        }
+        if k == len {
+            return Some(k);
+        }
+        if !self.map.is_empty() {
+            return None;
+        }
+        if k - len > MOST_APART { None } else { Some(k) }
+    }
+
+    /// Adds the keys of the map, with the numbers of their elements, as they lie.
+    fn push_mapped_keys(&self, keys: &mut Vec<Numbered<Octets>>) -> Result<(), Fault>
+        ensures ok { OnOk result (listed keys.new.items ≡ listed keys.old.items ++ keyed (mapped_rows self.now)) }
+        ensures err { IsOkUnless result Fault.Memory }
+    {
+        let alloc = *self.map.allocator();
+        for (key, element) in self.map.iter() {
+            keys.push(Numbered {
+                number: element.number,
+                value: Octets::new(Vec::from_slice(alloc, key.as_slice())?),
+            })?;
+        }
+        Ok(())
+    }
+
+    /// The keys, with the numbers of their elements, as they lie.
+    fn numbered_keys(&self) -> Result<Vec<Numbered<Octets>>, Fault>
+        requires { AreApart self.now }
+        ensures ok { IfOk result (λ ks. listed ks.items ≡ keyed (rows_of self.now)) }
+        ensures err { IsOkUnless result Fault.Memory }
+    {
+        let alloc = *self.map.allocator();
+        let mut keys = Vec::with_capacity(alloc, self.count)?;
+        self.dense.push_keys(alloc, &mut keys)?;
+        self.push_mapped_keys(&mut keys)?;
+        Ok(keys)
+    }
+
+    /// The keys as they lie.
+    ///
+    /// Fails with `Fault::Memory` alone, where memory is refused.
+    pub(crate) fn keys(&self) -> Result<Vec<Octets>, Fault>
+        requires { AreApart self.now }
+        ensures ok { IfOk result (λ texts. texts.items ≡ map (λ r. r.1.0) (rows_of self.now)) }
+        ensures err { IsOkUnless result Fault.Memory }
+    {
+        texts_of(self.numbered_keys()?)
+    }
+
+    /// The keys in the order of the numbers of their elements.
+    ///
+    /// Fails with `Fault::Memory` alone, where memory is refused.
+    pub(crate) fn sorted_keys(&self) -> Result<Vec<Octets>, Fault>
+        requires apart { AreApart self.now }
+        requires distinct { IsDistinct nat_eq (numbers (rows_of self.now)) }
+        ensures ok { IfOk result (λ texts. texts.items ≡ keys (shown (rows_of self.now))) }
+        ensures err { IsOkUnless result Fault.Memory }
+    {
+        let mut found = self.numbered_keys()?;
+        found.sort_unstable_by_key(
+            |key: &Numbered<Octets>| -> u64
+                ensures { result ≡ key.now.number }
+            { key.number },
+        );
+        texts_of(found)
+    }
+
+    /// Brings the elements of the map into the order of their numbers, or answers `Memory`.
+    pub(crate) fn settle(&mut self) -> Result<(), Memory>
+        ensures same { IsPermutation self.old.map.entries self.new.map.entries }
+        ensures ok { OnOk result (IsSortedByKey (λ e. e.1.number) nat_cmp self.new.map.entries) }
+        ensures others { (self.new.dense ≡ self.old.dense) × (self.new.count ≡ self.old.count) }
+    {
+        self.map.sort_unstable_by_key(
+            |_key: &Vec<u8>, element: &Numbered<V>| -> u64
+                ensures { result ≡ element.now.number }
+            { element.number },
+        )
+    }
+}
+
+impl<V: Drop> Elements<V> {
+    ghost use Rattle.awk_lib.specs.Kept.{rows_of, AreApart, Lies};
+
+    /// Adds a key that is not there, and answers where its element lies. It lies behind all others,
+    /// or between them in the dense part.
+    ///
+    /// Fails with `Fault::Memory` alone, where memory is refused; then there are the same elements.
+    pub(crate) fn add(&mut self, key: &[u8], number: u64, value: V) -> Result<Added, Fault>
+        requires apart { AreApart self.old }
+        requires absent { lookup (bytes_eq key.now) (map (λ r. r.1) (rows_of self.old)) ≡ None }
+        requires room { self.old.count < most_elements }
+        ensures place { IfOk result (λ a. Lies self.new a.place (number, (key.now, value))) }
+        ensures added { OnOk result (IsPermutation (rows_of self.old ++ (number, (key.now, value)) ∷ []) (rows_of self.new)) }
+        ensures last { IfOk result (λ a. a.is_last ≡ true → rows_of self.new ≡ rows_of self.old ++ (number, (key.now, value)) ∷ []) }
+        ensures count { self.new.count ≡ (if is_ok result then self.old.count + 1 else self.old.count) }
+        ensures apart { AreApart self.new }
+        ensures err { OnErr result (rows_of self.new ≡ rows_of self.old) }
+        ensures memory { IsOkUnless result Fault.Memory }
+    {
+        match self.spot(key) {
+            Some(k) => self.add_dense(k, number, value),
+            None => self.add_mapped(key, number, value),
+        }
+    }
+
+    /// Adds an element to the dense part, at a place that is empty or behind all places.
+    fn add_dense(&mut self, k: usize, number: u64, value: V) -> Result<Added, Fault>
+        requires apart { AreApart self.old }
+        requires absent { lookup (bytes_eq (decimal k)) (map (λ r. r.1) (rows_of self.old)) ≡ None }
+        requires room { self.old.count < most_elements }
+        requires small { k < most_places }
+        requires near { length self.old.dense.places.items ≤ k → (length self.old.map.entries ≡ 0) ⊎ (k ≡ length self.old.dense.places.items) }
+        ensures place { IfOk result (λ a. Lies self.new a.place (number, (decimal k, value))) }
+        ensures added { OnOk result (IsPermutation (rows_of self.old ++ (number, (decimal k, value)) ∷ []) (rows_of self.new)) }
+        ensures last { IfOk result (λ a. a.is_last ≡ true → rows_of self.new ≡ rows_of self.old ++ (number, (decimal k, value)) ∷ []) }
+        ensures count { self.new.count ≡ (if is_ok result then self.old.count + 1 else self.old.count) }
+        ensures apart { AreApart self.new }
+        ensures err { OnErr result (rows_of self.new ≡ rows_of self.old) }
+        ensures memory { IsOkUnless result Fault.Memory }
+    {
+        if k < self.dense.len() {
+            self.dense.fill(k, number, value);
+            self.count += 1;
+            return Ok(Added {
+                place: Place::Dense(k),
+                is_last: false,
+            });
+        }
+        self.dense.pad(k)?;
+        self.dense.push(number, value)?;
+        self.count += 1;
+        Ok(Added {
+            place: Place::Dense(k),
+            is_last: self.map.is_empty(),
+        })
+    }
+
+    /// Adds an element to the map, last.
+    fn add_mapped(&mut self, key: &[u8], number: u64, value: V) -> Result<Added, Fault>
+        requires apart { AreApart self.old }
+        requires absent { lookup (bytes_eq key.now) (map (λ r. r.1) (rows_of self.old)) ≡ None }
+        requires room { self.old.count < most_elements }
+        requires outside { IsOutside (length self.old.dense.places.items) key.now }
+        ensures place { IfOk result (λ a. Lies self.new a.place (number, (key.now, value))) }
+        ensures last { IfOk result (λ a. rows_of self.new ≡ rows_of self.old ++ (number, (key.now, value)) ∷ []) }
+        ensures count { self.new.count ≡ (if is_ok result then self.old.count + 1 else self.old.count) }
+        ensures apart { AreApart self.new }
+        ensures err { OnErr result (rows_of self.new ≡ rows_of self.old) }
+        ensures memory { IsOkUnless result Fault.Memory }
+    {
+        let i = self.map.len();
+        let key = Vec::from_slice(*self.map.allocator(), key)?;
+        self.map.insert(key, Numbered { number, value })?;
+        self.count += 1;
+        Ok(Added {
+            place: Place::Mapped(i),
+            is_last: true,
+        })
+    }
+
+    /// Removes the element at a place, and answers whether the others surely keep their order. Takes
+    /// no memory.
+    pub(crate) fn remove(&mut self, place: Place) -> bool
+        requires apart { AreApart self.old }
+        requires there { (r : ℕ × (List ℕ × V)) × Lies self.old place r }
+        requires some { 0 < self.old.count }
+        ensures gone { (r : ℕ × (List ℕ × V)) → Lies self.old place r → IsPermutation (rows_of self.old) (r ∷ rows_of self.new) }
+        ensures rising { result ≡ true → AreRising (rows_of self.old) → AreRising (rows_of self.new) }
+        ensures count { self.new.count + 1 ≡ self.old.count }
+        ensures apart { AreApart self.new }
+    {
+        self.count -= 1;
+        match place {
+            Place::Dense(k) => {
+                self.dense.remove(k);
+                true
+            }
+            Place::Mapped(i) => {
+                self.map.swap_remove_index(i);
+                self.map.is_empty()
+            }
+        }
+    }
+
+    /// Removes all elements. Takes no memory.
+    pub(crate) fn clear(&mut self)
+        ensures rows { rows_of self.new ≡ [] }
+        ensures count { self.new.count ≡ 0 }
+        ensures apart { AreApart self.new }
+    {
+        self.dense.clear();
+        self.map.clear();
+        self.count = 0;
+    }
+}
+
+/// The keys without their numbers.
+fn texts_of(keys: Vec<Numbered<Octets>>) -> Result<Vec<Octets>, Fault>
+    ensures ok { IfOk result (λ texts. texts.items ≡ map (λ k. k.value) keys.items) }
+    ensures err { IsOkUnless result Fault.Memory }
+{
+    let mut texts = Vec::with_capacity(*keys.allocator(), keys.len())?;
+    for key in keys {
+        texts.push(key.value)?;
+    }
+    Ok(texts)
+}
