@@ -260,11 +260,34 @@ pub(crate) fn is_field(e: &Expr) -> bool {
     }
 }
 
-/// Splits the record where that is wanted: plain awk does not see it.
-pub(crate) fn split_where(store: &mut Store, wanted: bool) -> Result<(), Halt>
-    ensures { (g : Given) (t : Table) (q : Piece) → Acts g q (λ u k. q ∷ k) (store.old, t) result (store.new, t) }
+/// Whether an expression is `$0`.
+pub(crate) fn is_whole(e: &Expr) -> bool {
+    match e {
+        Expr::Read(Target::Field(_, number)) => matches!(number.get(), Expr::Number(0)),
+        _ => false,
+    }
+}
+
+/// Rebuilds the whole text of the record where that is wanted: plain awk does not see it.
+fn rebuild_where(store: &mut Store, wanted: bool) -> Result<(), Halt>
+    ensures plays { (g : Given) (t : Table) (q : Piece) → Acts g q (λ u k. q ∷ k) (store.old, t) result (store.new, t) }
+    ensures same { store.new ≡ store.old }
 {
     if !wanted {
+        return Ok(());
+    }
+    let Ok(_) = store.rebuild() else {
+        return Err(Halt::Memory);
+    };
+    Ok(())
+}
+
+/// Splits the record and rebuilds its whole text, where that is wanted: plain awk does not see it.
+pub(crate) fn split_where(store: &mut Store, split: bool, whole: bool) -> Result<(), Halt>
+    ensures { (g : Given) (t : Table) (q : Piece) → Acts g q (λ u k. q ∷ k) (store.old, t) result (store.new, t) }
+{
+    rebuild_where(store, whole)?;
+    if !split {
         return Ok(());
     }
     let Ok(_) = store.field_count() else {
@@ -273,9 +296,9 @@ pub(crate) fn split_where(store: &mut Store, wanted: bool) -> Result<(), Halt>
     Ok(())
 }
 
-/// Splits the record where the expression is a field, so that the field is at hand.
+/// Makes the record ready for an expression that is a field: split, or for `$0` rebuilt. Then the field is at hand.
 pub fn split_for(store: &mut Store, e: &Expr) -> Result<(), Halt>
     ensures { (g : Given) (t : Table) (q : Piece) → Acts g q (λ u k. q ∷ k) (store.old, t) result (store.new, t) }
 {
-    split_where(store, is_field(e))
+    split_where(store, is_field(e), is_whole(e))
 }

@@ -22,7 +22,7 @@ ghost use Rattle.awk_text.specs.Values.{text_of};
 ghost use Rattle.awk_text.specs.declared.value.Value.{Value as Val};
 ghost use Rattle.awk_works.specs.Lines.{held};
 
-use crate::at_hand::{MOST_LEVELS, at_hand, is_field, split_where};
+use crate::at_hand::{MOST_LEVELS, at_hand, is_field, is_whole, split_where};
 use crate::made::text_at;
 use awk_asks::halt::Halt;
 use awk_program::{Expr, Own};
@@ -181,9 +181,11 @@ pub fn printed_at_hand(alloc: Global, line: &mut Line, store: &Store, xs: &[Expr
     Some(Octets::new(copy))
 }
 
-/// Splits the record where one of the expressions is a field, so that the field is at hand.
+/// Splits the record where one of the expressions is a field, and rebuilds it where one is `$0`, so that they are at hand.
 pub fn split_for_items(store: &mut Store, xs: &[Expr]) -> Result<(), Halt>
     ensures { (g : Given) (t : Table) (q : Piece) → Acts g q (λ u k. q ∷ k) (store.old, t) result (store.new, t) }
 {
-    split_where(store, xs.iter().any(|x| is_field(x)))
+    let split = xs.iter().any(|x| is_field(x));
+    let whole = xs.iter().any(|x| is_whole(x));
+    split_where(store, split, whole)
 }
