@@ -29,23 +29,27 @@ pub fn term_of(
 ) -> Result<Term<Expr>, Memory>
     ensures { (t : Names) (a : Expression) → Is t operand a → IfOk result (λ made. view_term t made ≡ record { operator = spec.operator_of how; place = place; operand = a }) }
 {
-    let operand = operand?;
-    Ok(Term {
-        operator: operator(how),
-        place,
-        operand,
-    })
+    match operand {
+        Ok(operand) => Ok(Term {
+            operator: operator(how),
+            place,
+            operand,
+        }),
+        Err(refused) => Err(refused),
+    }
 }
 
 fn power(place: Place, operand: Result<Expr, Memory>) -> Result<Term<Expr>, Memory>
     ensures { (t : Names) (a : Expression) → Is t operand a → IfOk result (λ made. view_term t made ≡ record { operator = o.Power; place = place; operand = a }) }
 {
-    let operand = operand?;
-    Ok(Term {
-        operator: Operator::Power,
-        place,
-        operand,
-    })
+    match operand {
+        Ok(operand) => Ok(Term {
+            operator: Operator::Power,
+            place,
+            operand,
+        }),
+        Err(refused) => Err(refused),
+    }
 }
 
 /// `base ^ exponent`
@@ -67,24 +71,30 @@ pub fn join_of(
 ) -> Result<Joined<Expr>, Memory>
     ensures { (t : Names) (q : spot.Place) (a : Expression) → IfOk place (λ made. made ≡ q) → Is t operand a → IfOk result (λ made. view_joined t made ≡ record { place = q; operand = a }) }
 {
-    let (place, operand) = both(place, operand)?;
-    Ok(Joined { place, operand })
+    match both(place, operand) {
+        Ok((place, operand)) => Ok(Joined { place, operand }),
+        Err(refused) => Err(refused),
+    }
 }
 
 /// `| getline`
 pub fn piped_of(place: Place, target: Result<Target<Expr>, Memory>) -> Result<Piped<Expr>, Memory>
     ensures { (t : Names) (a : Reference) → IsTarget t target a → IsPiped t result place a }
 {
-    let target = target?;
-    Ok(Piped { place, target })
+    match target {
+        Ok(target) => Ok(Piped { place, target }),
+        Err(refused) => Err(refused),
+    }
 }
 
 /// A value
 fn value_of(x: Result<Expr, Memory>) -> Result<Argument<Expr>, Memory>
     ensures { (t : Names) (a : Expression) → Is t x a → IsArgument t result (λ rest. p.by_value a rest) }
 {
-    let x = x?;
-    Ok(Argument::Value(x))
+    match x {
+        Ok(x) => Ok(Argument::Value(x)),
+        Err(refused) => Err(refused),
+    }
 }
 
 /// What a name by itself is handed on as, unless it is by its value.
@@ -125,6 +135,8 @@ pub fn argument_of(
 pub fn given(x: Result<Expr, Memory>) -> Result<Option<Expr>, Memory>
     ensures { (t : Names) (a : Expression) → Is t x a → IsPerhaps t result (Some a) }
 {
-    let x = x?;
-    Ok(Some(x))
+    match x {
+        Ok(x) => Ok(Some(x)),
+        Err(refused) => Err(refused),
+    }
 }
