@@ -8,7 +8,7 @@ ghost use Rattle.awk_program.specs.Program.{Expression, statements_of};
 ghost use Rattle.awk_program.specs.View.{Names};
 ghost use Rattle.awk_program.specs.declared.statements.Redirection as redirection;
 
-use crate::kept::{both, four, three};
+use crate::kept::{both, four, three, unboxed};
 use crate::operators::redirect;
 use awk_program::{Expr, Redirection, Statement, Variable};
 use awk_text::Memory;
@@ -17,11 +17,11 @@ use sqlite_items::{Boxed, Items};
 use std::alloc::Global;
 
 /// An expression by itself
-pub fn plain_of(x: Result<Expr, Memory>) -> Result<Statement, Memory>
+pub fn plain_of(x: Result<Boxed<Expr>, Memory>) -> Result<Statement, Memory>
     ensures { (t : Names) (a : Expression) → Is t x a → IsStatement t result (p.plain a) }
 {
     match x {
-        Ok(x) => Ok(Statement::Expr(x)),
+        Ok(x) => Ok(Statement::Expr(x.into_inner())),
         Err(refused) => Err(refused),
     }
 }
@@ -43,14 +43,14 @@ pub fn print_of(
 /// `printf`
 pub fn printf_of(
     place: Place,
-    x: Result<Expr, Memory>,
+    x: Result<Boxed<Expr>, Memory>,
     xs: Result<Items<Expr>, Memory>,
     to: Result<Option<Redirection<Expr>>, Memory>,
 ) -> Result<Statement, Memory>
     ensures { (t : Names) (a : Expression) (b : List Expression) (d : Option (redirection.Redirection Expression)) → Is t x a → AreAll t xs b → AreRedirected t to d → IsStatement t result (p.printf place a b d) }
 {
     match three(x, xs, to) {
-        Ok((x, xs, to)) => Ok(Statement::Printf(place, x, xs, to)),
+        Ok((x, xs, to)) => Ok(Statement::Printf(place, x.into_inner(), xs, to)),
         Err(refused) => Err(refused),
     }
 }
@@ -70,21 +70,21 @@ pub fn delete_of(
 }
 
 /// `exit`
-pub fn exit_of(place: Place, x: Result<Option<Expr>, Memory>) -> Result<Statement, Memory>
+pub fn exit_of(place: Place, x: Result<Option<Boxed<Expr>>, Memory>) -> Result<Statement, Memory>
     ensures { (t : Names) (a : Option Expression) → IsPerhaps t x a → IsStatement t result (p.exit place a) }
 {
     match x {
-        Ok(x) => Ok(Statement::Exit(place, x)),
+        Ok(x) => Ok(Statement::Exit(place, unboxed(x))),
         Err(refused) => Err(refused),
     }
 }
 
 /// `return`
-pub fn return_of(x: Result<Option<Expr>, Memory>) -> Result<Statement, Memory>
+pub fn return_of(x: Result<Option<Boxed<Expr>>, Memory>) -> Result<Statement, Memory>
     ensures { (t : Names) (a : Option Expression) → IsPerhaps t x a → IsStatement t result (p.return a) }
 {
     match x {
-        Ok(x) => Ok(Statement::Return(x)),
+        Ok(x) => Ok(Statement::Return(unboxed(x))),
         Err(refused) => Err(refused),
     }
 }
@@ -101,40 +101,40 @@ pub fn block_of(body: Result<Items<Statement>, Memory>) -> Result<Statement, Mem
 
 /// `if`
 pub fn if_of(
-    x: Result<Expr, Memory>,
+    x: Result<Boxed<Expr>, Memory>,
     body: Result<Boxed<Statement>, Memory>,
 ) -> Result<Statement, Memory>
     ensures { (t : Names) (a : Expression) (b : p.Statement) → Is t x a → IsStatement t body b → IsStatement t result (p.if_then a b) }
 {
     match both(x, body) {
-        Ok((x, body)) => Ok(Statement::If(x, body)),
+        Ok((x, body)) => Ok(Statement::If(x.into_inner(), body)),
         Err(refused) => Err(refused),
     }
 }
 
 /// `if` with `else`
 pub fn if_else_of(
-    x: Result<Expr, Memory>,
+    x: Result<Boxed<Expr>, Memory>,
     body: Result<Boxed<Statement>, Memory>,
     other: Result<Boxed<Statement>, Memory>,
 ) -> Result<Statement, Memory>
     ensures { (t : Names) (a : Expression) (b : p.Statement) (d : p.Statement) → Is t x a → IsStatement t body b → IsStatement t other d → IsStatement t result (p.if_else a b d) }
 {
     match three(x, body, other) {
-        Ok((x, body, other)) => Ok(Statement::IfElse(x, body, other)),
+        Ok((x, body, other)) => Ok(Statement::IfElse(x.into_inner(), body, other)),
         Err(refused) => Err(refused),
     }
 }
 
 /// `while`
 pub fn while_of(
-    x: Result<Expr, Memory>,
+    x: Result<Boxed<Expr>, Memory>,
     body: Result<Boxed<Statement>, Memory>,
 ) -> Result<Statement, Memory>
     ensures { (t : Names) (a : Expression) (b : p.Statement) → Is t x a → IsStatement t body b → IsStatement t result (p.while_do a b) }
 {
     match both(x, body) {
-        Ok((x, body)) => Ok(Statement::While(x, body)),
+        Ok((x, body)) => Ok(Statement::While(x.into_inner(), body)),
         Err(refused) => Err(refused),
     }
 }
@@ -142,27 +142,27 @@ pub fn while_of(
 /// `do` body `while`
 pub fn do_of(
     body: Result<Boxed<Statement>, Memory>,
-    x: Result<Expr, Memory>,
+    x: Result<Boxed<Expr>, Memory>,
 ) -> Result<Statement, Memory>
     ensures { (t : Names) (a : p.Statement) (b : Expression) → IsStatement t body a → Is t x b → IsStatement t result (p.do_while a b) }
 {
     match both(body, x) {
-        Ok((body, x)) => Ok(Statement::Do(body, x)),
+        Ok((body, x)) => Ok(Statement::Do(body, x.into_inner())),
         Err(refused) => Err(refused),
     }
 }
 
 /// `for` with a test
 pub fn for_of(
-    x: Result<Option<Expr>, Memory>,
-    y: Result<Option<Expr>, Memory>,
-    z: Result<Option<Expr>, Memory>,
+    x: Result<Option<Boxed<Expr>>, Memory>,
+    y: Result<Option<Boxed<Expr>>, Memory>,
+    z: Result<Option<Boxed<Expr>>, Memory>,
     body: Result<Boxed<Statement>, Memory>,
 ) -> Result<Statement, Memory>
     ensures { (t : Names) (a : Option Expression) (b : Option Expression) (d : Option Expression) (e : p.Statement) → IsPerhaps t x a → IsPerhaps t y b → IsPerhaps t z d → IsStatement t body e → IsStatement t result (p.for_loop a b d e) }
 {
     match four(x, y, z, body) {
-        Ok((x, y, z, body)) => Ok(Statement::For(x, y, z, body)),
+        Ok((x, y, z, body)) => Ok(Statement::For(unboxed(x), unboxed(y), unboxed(z), body)),
         Err(refused) => Err(refused),
     }
 }
@@ -195,13 +195,16 @@ pub fn nothing(alloc: Global) -> Result<Statement, Memory>
 pub fn redirection_of(
     how: awk_tree::Redirect,
     place: Place,
-    target: Result<Expr, Memory>,
+    target: Result<Boxed<Expr>, Memory>,
 ) -> Result<Option<Redirection<Expr>>, Memory>
     ensures { (t : Names) (a : Expression) → Is t target a → AreRedirected t result (Some (record { how = forms.redirect_of how; place = place; target = a })) }
 {
     let how = redirect(how);
     match target {
-        Ok(target) => Ok(Some(Redirection { how, place, target })),
+        Ok(target) => {
+            let target = target.into_inner();
+            Ok(Some(Redirection { how, place, target }))
+        }
         Err(refused) => Err(refused),
     }
 }

@@ -25,7 +25,7 @@ use std::alloc::Global;
 pub fn term_of(
     how: Arithmetic,
     place: Place,
-    operand: Result<Expr, Memory>,
+    operand: Result<Boxed<Expr>, Memory>,
 ) -> Result<Term<Expr>, Memory>
     ensures { (t : Names) (a : Expression) → Is t operand a → IfOk result (λ made. view_term t made ≡ record { operator = spec.operator_of how; place = place; operand = a }) }
 {
@@ -33,20 +33,20 @@ pub fn term_of(
         Ok(operand) => Ok(Term {
             operator: operator(how),
             place,
-            operand,
+            operand: operand.into_inner(),
         }),
         Err(refused) => Err(refused),
     }
 }
 
-fn power(place: Place, operand: Result<Expr, Memory>) -> Result<Term<Expr>, Memory>
+fn power(place: Place, operand: Result<Boxed<Expr>, Memory>) -> Result<Term<Expr>, Memory>
     ensures { (t : Names) (a : Expression) → Is t operand a → IfOk result (λ made. view_term t made ≡ record { operator = o.Power; place = place; operand = a }) }
 {
     match operand {
         Ok(operand) => Ok(Term {
             operator: Operator::Power,
             place,
-            operand,
+            operand: operand.into_inner(),
         }),
         Err(refused) => Err(refused),
     }
@@ -57,7 +57,7 @@ pub fn power_of(
     alloc: Global,
     place: Place,
     x: Result<Boxed<Expr>, Memory>,
-    y: Result<Expr, Memory>,
+    y: Result<Boxed<Expr>, Memory>,
 ) -> Result<Expr, Memory>
     ensures { (t : Names) (a b : Expression) → Is t x a → Is t y b → Is t result (p.chain a (p.term o.Power place b p.no_terms)) }
 {
@@ -67,12 +67,15 @@ pub fn power_of(
 /// A later operand of a concatenation
 pub fn join_of(
     place: Result<Place, Memory>,
-    operand: Result<Expr, Memory>,
+    operand: Result<Boxed<Expr>, Memory>,
 ) -> Result<Joined<Expr>, Memory>
     ensures { (t : Names) (q : spot.Place) (a : Expression) → IfOk place (λ made. made ≡ q) → Is t operand a → IfOk result (λ made. view_joined t made ≡ record { place = q; operand = a }) }
 {
     match both(place, operand) {
-        Ok((place, operand)) => Ok(Joined { place, operand }),
+        Ok((place, operand)) => Ok(Joined {
+            place,
+            operand: operand.into_inner(),
+        }),
         Err(refused) => Err(refused),
     }
 }
@@ -88,11 +91,11 @@ pub fn piped_of(place: Place, target: Result<Target<Expr>, Memory>) -> Result<Pi
 }
 
 /// A value
-fn value_of(x: Result<Expr, Memory>) -> Result<Argument<Expr>, Memory>
+fn value_of(x: Result<Boxed<Expr>, Memory>) -> Result<Argument<Expr>, Memory>
     ensures { (t : Names) (a : Expression) → Is t x a → IsArgument t result (λ rest. p.by_value a rest) }
 {
     match x {
-        Ok(x) => Ok(Argument::Value(x)),
+        Ok(x) => Ok(Argument::Value(x.into_inner())),
         Err(refused) => Err(refused),
     }
 }
@@ -121,7 +124,7 @@ pub fn argument_of(
     context: &Context<'_>,
     takes_array: bool,
     name: Option<&Name>,
-    value: Result<Expr, Memory>,
+    value: Result<Boxed<Expr>, Memory>,
 ) -> Result<Argument<Expr>, Memory>
     ensures { (a : Expression) → Is (names_in context.now) value a → IsArgument (names_in context.now) result (low.argument (scope_in context.now) takes_array (option_copied name.entry) a) }
 {
@@ -132,7 +135,7 @@ pub fn argument_of(
 }
 
 /// An expression that is there
-pub fn given(x: Result<Expr, Memory>) -> Result<Option<Expr>, Memory>
+pub fn given(x: Result<Boxed<Expr>, Memory>) -> Result<Option<Boxed<Expr>>, Memory>
     ensures { (t : Names) (a : Expression) → Is t x a → IsPerhaps t result (Some a) }
 {
     match x {

@@ -13,24 +13,24 @@ use crate::kept::{both, three};
 use awk_program::{Expr, Function, Rule, Statement, When};
 use awk_text::Memory;
 use awk_text::octets::Octets;
-use sqlite_items::Items;
+use sqlite_items::{Boxed, Items};
 
 /// Records for which this holds
-pub fn holds(x: Result<Expr, Memory>) -> Result<When, Memory>
+pub fn holds(x: Result<Boxed<Expr>, Memory>) -> Result<When, Memory>
     ensures { (t : Names) (a : Expression) → Is t x a → IsWhen t result (p.holds a) }
 {
     match x {
-        Ok(x) => Ok(When::Holds(x)),
+        Ok(x) => Ok(When::Holds(x.into_inner())),
         Err(refused) => Err(refused),
     }
 }
 
 /// `first , last`
-pub fn range(x: Result<Expr, Memory>, y: Result<Expr, Memory>) -> Result<When, Memory>
+pub fn range(x: Result<Boxed<Expr>, Memory>, y: Result<Boxed<Expr>, Memory>) -> Result<When, Memory>
     ensures { (t : Names) (a b : Expression) → Is t x a → Is t y b → IsWhen t result (p.range a b) }
 {
     match both(x, y) {
-        Ok((x, y)) => Ok(When::Range(x, y)),
+        Ok((x, y)) => Ok(When::Range(x.into_inner(), y.into_inner())),
         Err(refused) => Err(refused),
     }
 }

@@ -3,4 +3,4 @@ use Rattle.awk_program.proofs.Views.{statement-Return}
 use Rattle.awk_lowering.proofs.blocks.return_of.Goals as goal
 
 pub returns-in-Ok : goal.returns-in-Ok
-returns-in-Ok c = λ t a h0. let p0 = rw c.in-Ok.is at h0 in rw (statement-Return, p0) refl
+returns-in-Ok c = λ t a h0. let p0 = rw c.in-Ok.is at h0 in rw (c.unboxed.ensures, statement-Return, p0) refl

@@ -2,4 +2,4 @@ use Rattle.std.proofs.Common.{refl}
 use Rattle.awk_lowering.proofs.rules.holds.Goals as goal
 
 pub returns-in-Ok : goal.returns-in-Ok
-returns-in-Ok c = λ t a h0. let p0 = rw c.in-Ok.is at h0 in rw p0 refl
+returns-in-Ok c = λ t a h0. let p0 = rw c.in-Ok.is at h0 in rw (c.into_inner.ensures, p0) refl
