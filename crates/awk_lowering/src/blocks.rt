@@ -8,7 +8,7 @@ ghost use Rattle.awk_program.specs.Program.{Expression, statements_of};
 ghost use Rattle.awk_program.specs.View.{Names};
 ghost use Rattle.awk_program.specs.declared.statements.Redirection as redirection;
 
-use crate::kept::both;
+use crate::kept::{both, four, three, unboxed};
 use crate::operators::redirect;
 use awk_program::{Expr, Redirection, Statement, Variable};
 use awk_text::Memory;
@@ -17,11 +17,13 @@ use sqlite_items::{Boxed, Items};
 use std::alloc::Global;
 
 /// An expression by itself
-pub fn plain_of(x: Result<Expr, Memory>) -> Result<Statement, Memory>
+pub fn plain_of(x: Result<Boxed<Expr>, Memory>) -> Result<Statement, Memory>
     ensures { (t : Names) (a : Expression) → Is t x a → IsStatement t result (p.plain a) }
 {
-    let x = x?;
-    Ok(Statement::Expr(x))
+    match x {
+        Ok(x) => Ok(Statement::Expr(x.into_inner())),
+        Err(refused) => Err(refused),
+    }
 }
 
 /// `print`
@@ -32,21 +34,25 @@ pub fn print_of(
 ) -> Result<Statement, Memory>
     ensures { (t : Names) (a : List Expression) (b : Option (redirection.Redirection Expression)) → AreAll t xs a → AreRedirected t to b → IsStatement t result (p.print place a b) }
 {
-    let (xs, to) = both(xs, to)?;
-    Ok(Statement::Print(place, xs, to))
+    match both(xs, to) {
+        Ok((xs, to)) => Ok(Statement::Print(place, xs, to)),
+        Err(refused) => Err(refused),
+    }
 }
 
 /// `printf`
 pub fn printf_of(
     place: Place,
-    x: Result<Expr, Memory>,
+    x: Result<Boxed<Expr>, Memory>,
     xs: Result<Items<Expr>, Memory>,
     to: Result<Option<Redirection<Expr>>, Memory>,
 ) -> Result<Statement, Memory>
     ensures { (t : Names) (a : Expression) (b : List Expression) (d : Option (redirection.Redirection Expression)) → Is t x a → AreAll t xs b → AreRedirected t to d → IsStatement t result (p.printf place a b d) }
 {
-    let (x, (xs, to)) = both(x, both(xs, to))?;
-    Ok(Statement::Printf(place, x, xs, to))
+    match three(x, xs, to) {
+        Ok((x, xs, to)) => Ok(Statement::Printf(place, x.into_inner(), xs, to)),
+        Err(refused) => Err(refused),
+    }
 }
 
 /// `delete NAME [ list ]`
@@ -57,90 +63,108 @@ pub fn delete_of(
 ) -> Result<Statement, Memory>
     ensures { (t : Names) (a : p.Variable) (b : List Expression) → IsVariable t v a → AreAll t xs b → IsStatement t result (p.delete place a b) }
 {
-    let (v, xs) = both(v, xs)?;
-    Ok(Statement::Delete(place, v, xs))
+    match both(v, xs) {
+        Ok((v, xs)) => Ok(Statement::Delete(place, v, xs)),
+        Err(refused) => Err(refused),
+    }
 }
 
 /// `exit`
-pub fn exit_of(place: Place, x: Result<Option<Expr>, Memory>) -> Result<Statement, Memory>
+pub fn exit_of(place: Place, x: Result<Option<Boxed<Expr>>, Memory>) -> Result<Statement, Memory>
     ensures { (t : Names) (a : Option Expression) → IsPerhaps t x a → IsStatement t result (p.exit place a) }
 {
-    let x = x?;
-    Ok(Statement::Exit(place, x))
+    match x {
+        Ok(x) => Ok(Statement::Exit(place, unboxed(x))),
+        Err(refused) => Err(refused),
+    }
 }
 
 /// `return`
-pub fn return_of(x: Result<Option<Expr>, Memory>) -> Result<Statement, Memory>
+pub fn return_of(x: Result<Option<Boxed<Expr>>, Memory>) -> Result<Statement, Memory>
     ensures { (t : Names) (a : Option Expression) → IsPerhaps t x a → IsStatement t result (p.return a) }
 {
-    let x = x?;
-    Ok(Statement::Return(x))
+    match x {
+        Ok(x) => Ok(Statement::Return(unboxed(x))),
+        Err(refused) => Err(refused),
+    }
 }
 
 /// `{ }`
 pub fn block_of(body: Result<Items<Statement>, Memory>) -> Result<Statement, Memory>
     ensures { (t : Names) (a : List p.Statement) → AreStatements t body a → IsStatement t result (p.block (statements_of a)) }
 {
-    let body = body?;
-    Ok(Statement::Block(body))
+    match body {
+        Ok(body) => Ok(Statement::Block(body)),
+        Err(refused) => Err(refused),
+    }
 }
 
 /// `if`
 pub fn if_of(
-    x: Result<Expr, Memory>,
+    x: Result<Boxed<Expr>, Memory>,
     body: Result<Boxed<Statement>, Memory>,
 ) -> Result<Statement, Memory>
     ensures { (t : Names) (a : Expression) (b : p.Statement) → Is t x a → IsStatement t body b → IsStatement t result (p.if_then a b) }
 {
-    let (x, body) = both(x, body)?;
-    Ok(Statement::If(x, body))
+    match both(x, body) {
+        Ok((x, body)) => Ok(Statement::If(x.into_inner(), body)),
+        Err(refused) => Err(refused),
+    }
 }
 
 /// `if` with `else`
 pub fn if_else_of(
-    x: Result<Expr, Memory>,
+    x: Result<Boxed<Expr>, Memory>,
     body: Result<Boxed<Statement>, Memory>,
     other: Result<Boxed<Statement>, Memory>,
 ) -> Result<Statement, Memory>
     ensures { (t : Names) (a : Expression) (b : p.Statement) (d : p.Statement) → Is t x a → IsStatement t body b → IsStatement t other d → IsStatement t result (p.if_else a b d) }
 {
-    let (x, (body, other)) = both(x, both(body, other))?;
-    Ok(Statement::IfElse(x, body, other))
+    match three(x, body, other) {
+        Ok((x, body, other)) => Ok(Statement::IfElse(x.into_inner(), body, other)),
+        Err(refused) => Err(refused),
+    }
 }
 
 /// `while`
 pub fn while_of(
-    x: Result<Expr, Memory>,
+    x: Result<Boxed<Expr>, Memory>,
     body: Result<Boxed<Statement>, Memory>,
 ) -> Result<Statement, Memory>
     ensures { (t : Names) (a : Expression) (b : p.Statement) → Is t x a → IsStatement t body b → IsStatement t result (p.while_do a b) }
 {
-    let (x, body) = both(x, body)?;
-    Ok(Statement::While(x, body))
+    match both(x, body) {
+        Ok((x, body)) => Ok(Statement::While(x.into_inner(), body)),
+        Err(refused) => Err(refused),
+    }
 }
 
 /// `do` body `while`
 pub fn do_of(
     body: Result<Boxed<Statement>, Memory>,
-    x: Result<Expr, Memory>,
+    x: Result<Boxed<Expr>, Memory>,
 ) -> Result<Statement, Memory>
     ensures { (t : Names) (a : p.Statement) (b : Expression) → IsStatement t body a → Is t x b → IsStatement t result (p.do_while a b) }
 {
-    let (body, x) = both(body, x)?;
-    Ok(Statement::Do(body, x))
+    match both(body, x) {
+        Ok((body, x)) => Ok(Statement::Do(body, x.into_inner())),
+        Err(refused) => Err(refused),
+    }
 }
 
 /// `for` with a test
 pub fn for_of(
-    x: Result<Option<Expr>, Memory>,
-    y: Result<Option<Expr>, Memory>,
-    z: Result<Option<Expr>, Memory>,
+    x: Result<Option<Boxed<Expr>>, Memory>,
+    y: Result<Option<Boxed<Expr>>, Memory>,
+    z: Result<Option<Boxed<Expr>>, Memory>,
     body: Result<Boxed<Statement>, Memory>,
 ) -> Result<Statement, Memory>
     ensures { (t : Names) (a : Option Expression) (b : Option Expression) (d : Option Expression) (e : p.Statement) → IsPerhaps t x a → IsPerhaps t y b → IsPerhaps t z d → IsStatement t body e → IsStatement t result (p.for_loop a b d e) }
 {
-    let ((x, y), (z, body)) = both(both(x, y), both(z, body))?;
-    Ok(Statement::For(x, y, z, body))
+    match four(x, y, z, body) {
+        Ok((x, y, z, body)) => Ok(Statement::For(unboxed(x), unboxed(y), unboxed(z), body)),
+        Err(refused) => Err(refused),
+    }
 }
 
 /// `for ( key in array )`
@@ -152,8 +176,10 @@ pub fn for_in_of(
 ) -> Result<Statement, Memory>
     ensures { (t : Names) (a : p.Variable) (b : p.Variable) (d : p.Statement) → IsVariable t key a → IsVariable t array b → IsStatement t body d → IsStatement t result (p.for_each place a b d) }
 {
-    let (key, (array, body)) = both(key, both(array, body))?;
-    Ok(Statement::ForIn(place, key, array, body))
+    match three(key, array, body) {
+        Ok((key, array, body)) => Ok(Statement::ForIn(place, key, array, body)),
+        Err(refused) => Err(refused),
+    }
 }
 
 /// The empty statement
@@ -169,11 +195,16 @@ pub fn nothing(alloc: Global) -> Result<Statement, Memory>
 pub fn redirection_of(
     how: awk_tree::Redirect,
     place: Place,
-    target: Result<Expr, Memory>,
+    target: Result<Boxed<Expr>, Memory>,
 ) -> Result<Option<Redirection<Expr>>, Memory>
     ensures { (t : Names) (a : Expression) → Is t target a → AreRedirected t result (Some (record { how = forms.redirect_of how; place = place; target = a })) }
 {
-    let target = target?;
     let how = redirect(how);
-    Ok(Some(Redirection { how, place, target }))
+    match target {
+        Ok(target) => {
+            let target = target.into_inner();
+            Ok(Some(Redirection { how, place, target }))
+        }
+        Err(refused) => Err(refused),
+    }
 }

@@ -79,12 +79,7 @@ pub fn expression(context: &Context<'_>, e: &awk_tree::Expr, level: u32) -> Resu
         }
         awk_tree::Expr::Power(x, place, y) => {
             let x = part(context, x.get(), below);
-            power_of(
-                context.alloc,
-                *place,
-                x,
-                expression(context, y.get(), below),
-            )
+            power_of(context.alloc, *place, x, part(context, y.get(), below))
         }
         awk_tree::Expr::Product(x, xs) => {
             let x = part(context, x.get(), below);
@@ -140,8 +135,9 @@ pub fn expression(context: &Context<'_>, e: &awk_tree::Expr, level: u32) -> Resu
     }
 }
 
+/// The same in a box.
 #[cycle(expression)]
-fn part(context: &Context<'_>, x: &awk_tree::Expr, level: u32) -> Result<Boxed<Expr>, Memory>
+pub fn part(context: &Context<'_>, x: &awk_tree::Expr, level: u32) -> Result<Boxed<Expr>, Memory>
     ensures { Is (names_in context.now) result (lowered (scope_in context.now) (view x.now)) }
 {
     boxed(context.alloc, expression(context, x, level))
@@ -408,7 +404,7 @@ fn fill_terms(
     ensures { OnOk result (map (code.view_term (names_in context.now)) out.new ≡ map (code.view_term (names_in context.now)) out.old ++ map (lowered_term (scope_in context.now)) (map view_term xs.now)) }
 {
     for x in xs {
-        let operand = expression(context, &x.operand, level);
+        let operand = part(context, &x.operand, level);
         push(out, term_of(x.operator, x.place, operand))?;
     }
     Ok(())
@@ -438,7 +434,7 @@ fn fill_joins(
     ensures { OnOk result (map (code.view_joined (names_in context.now)) out.new ≡ map (code.view_joined (names_in context.now)) out.old ++ map (lowered_join (scope_in context.now)) (map view xs.now)) }
 {
     for x in xs {
-        let operand = expression(context, x, level);
+        let operand = part(context, x, level);
         push(out, join_of(start(x, level), operand))?;
     }
     Ok(())
@@ -500,7 +496,7 @@ fn fill_arguments(
 {
     let mut rest = arrays;
     for x in xs {
-        let value = expression(context, x, level);
+        let value = part(context, x, level);
         push(out, argument_of(context, takes_array(rest), bare(x), value))?;
         rest = later(rest);
     }
@@ -527,11 +523,11 @@ pub fn optional(
     context: &Context<'_>,
     x: &Option<awk_tree::Expr>,
     level: u32,
-) -> Result<Option<Expr>, Memory>
+) -> Result<Option<Boxed<Expr>>, Memory>
     ensures { IsPerhaps (names_in context.now) result (option_map (lowered (scope_in context.now)) (option_map view x.now)) }
 {
     match x {
         None => Ok(None),
-        Some(x) => given(expression(context, x, level)),
+        Some(x) => given(part(context, x, level)),
     }
 }

@@ -10,7 +10,7 @@ ghost use Rattle.awk_program.specs.View as code;
 ghost use Rattle.awk_tree.specs.View.{view_item, view_pattern, view_statement};
 
 use crate::blocks::print_of;
-use crate::expressions::expression;
+use crate::expressions::part;
 use crate::kept::{finished, only, push};
 use crate::names::Context;
 use crate::roll::Roll;
@@ -80,10 +80,10 @@ fn when(context: &Context<'_>, pattern: &Pattern) -> Result<When, Memory>
     ensures { IsWhen (names_in context.now) result (spec.when_of (scope_in context.now) (view_pattern pattern.now)) }
 {
     match pattern {
-        Pattern::Expr(x) => holds(expression(context, x, DEEPEST)),
+        Pattern::Expr(x) => holds(part(context, x, DEEPEST)),
         Pattern::Range(x, y) => {
-            let x = expression(context, x, DEEPEST);
-            range(x, expression(context, y, DEEPEST))
+            let x = part(context, x, DEEPEST);
+            range(x, part(context, y, DEEPEST))
         }
     }
 }

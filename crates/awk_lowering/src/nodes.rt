@@ -8,7 +8,7 @@ ghost use Rattle.awk_program.specs.View.{Names};
 ghost use Rattle.awk_program.specs.declared.expressions.Term as term;
 ghost use Rattle.awk_program.specs.declared.expressions.Joined as joined;
 
-use crate::kept::both;
+use crate::kept::{both, three};
 use awk_program::{
     Argument, Comparison, Expr, Extent, Joined, Measure, Pattern, Piped, Step, Taken, Target, Term,
     Variable,
@@ -21,8 +21,10 @@ use sqlite_items::{Boxed, Items};
 pub fn read_of(target: Result<Target<Expr>, Memory>) -> Result<Expr, Memory>
     ensures { (t : Names) (a : Reference) → IsTarget t target a → Is t result (p.read a) }
 {
-    let target = target?;
-    Ok(Expr::Read(target))
+    match target {
+        Ok(target) => Ok(Expr::Read(target)),
+        Err(refused) => Err(refused),
+    }
 }
 
 /// `++` and `--`
@@ -34,16 +36,20 @@ pub fn step_of(
 ) -> Result<Expr, Memory>
     ensures { (t : Names) (a : Reference) → IsTarget t target a → Is t result (p.step place how taken a) }
 {
-    let target = target?;
-    Ok(Expr::Step(place, how, taken, target))
+    match target {
+        Ok(target) => Ok(Expr::Step(place, how, taken, target)),
+        Err(refused) => Err(refused),
+    }
 }
 
 /// `! operand`
 pub fn not_of(x: Result<Boxed<Expr>, Memory>) -> Result<Expr, Memory>
     ensures { (t : Names) (a : Expression) → Is t x a → Is t result (p.not a) }
 {
-    let x = x?;
-    Ok(Expr::Not(x))
+    match x {
+        Ok(x) => Ok(Expr::Not(x)),
+        Err(refused) => Err(refused),
+    }
 }
 
 /// A chain
@@ -53,8 +59,10 @@ pub fn chain_of(
 ) -> Result<Expr, Memory>
     ensures { (t : Names) (a : Expression) (b : List (term.Term Expression)) → Is t x a → AreTerms t xs b → Is t result (p.chain a (terms_of b)) }
 {
-    let (x, xs) = both(x, xs)?;
-    Ok(Expr::Chain(x, xs))
+    match both(x, xs) {
+        Ok((x, xs)) => Ok(Expr::Chain(x, xs)),
+        Err(refused) => Err(refused),
+    }
 }
 
 /// A concatenation
@@ -64,8 +72,10 @@ pub fn concat_of(
 ) -> Result<Expr, Memory>
     ensures { (t : Names) (a : Expression) (b : List (joined.Joined Expression)) → Is t x a → AreJoins t xs b → Is t result (p.concat a (joins_of b)) }
 {
-    let (x, xs) = both(x, xs)?;
-    Ok(Expr::Concat(x, xs))
+    match both(x, xs) {
+        Ok((x, xs)) => Ok(Expr::Concat(x, xs)),
+        Err(refused) => Err(refused),
+    }
 }
 
 /// A comparison
@@ -76,8 +86,10 @@ pub fn compare_of(
 ) -> Result<Expr, Memory>
     ensures { (t : Names) (a : Expression) (b : Expression) → Is t x a → Is t y b → Is t result (p.compare how a b) }
 {
-    let (x, y) = both(x, y)?;
-    Ok(Expr::Compare(how, x, y))
+    match both(x, y) {
+        Ok((x, y)) => Ok(Expr::Compare(how, x, y)),
+        Err(refused) => Err(refused),
+    }
 }
 
 /// `text ~ pattern`
@@ -88,8 +100,10 @@ pub fn match_of(
 ) -> Result<Expr, Memory>
     ensures { (t : Names) (a : Expression) (b : Ere) → Is t x a → IsEre t y b → Is t result (p.matched place a b) }
 {
-    let (x, y) = both(x, y)?;
-    Ok(Expr::Match(place, x, y))
+    match both(x, y) {
+        Ok((x, y)) => Ok(Expr::Match(place, x, y)),
+        Err(refused) => Err(refused),
+    }
 }
 
 /// `key in array`
@@ -99,8 +113,10 @@ pub fn member_of(
 ) -> Result<Expr, Memory>
     ensures { (t : Names) (a : Expression) (b : List p.Variable) → Is t x a → AreVariables t vs b → Is t result (p.member a b) }
 {
-    let (x, vs) = both(x, vs)?;
-    Ok(Expr::In(x, vs))
+    match both(x, vs) {
+        Ok((x, vs)) => Ok(Expr::In(x, vs)),
+        Err(refused) => Err(refused),
+    }
 }
 
 /// `( list ) in array`
@@ -111,8 +127,10 @@ pub fn group_of(
 ) -> Result<Expr, Memory>
     ensures { (t : Names) (a : List Expression) (b : List p.Variable) → AreAll t xs a → AreVariables t vs b → Is t result (p.group place (expressions_of a) b) }
 {
-    let (xs, vs) = both(xs, vs)?;
-    Ok(Expr::Group(place, xs, vs))
+    match both(xs, vs) {
+        Ok((xs, vs)) => Ok(Expr::Group(place, xs, vs)),
+        Err(refused) => Err(refused),
+    }
 }
 
 /// A chain of `&&`
@@ -122,8 +140,10 @@ pub fn and_of(
 ) -> Result<Expr, Memory>
     ensures { (t : Names) (a : Expression) (b : List Expression) → Is t x a → AreAll t xs b → Is t result (p.and a (expressions_of b)) }
 {
-    let (x, xs) = both(x, xs)?;
-    Ok(Expr::And(x, xs))
+    match both(x, xs) {
+        Ok((x, xs)) => Ok(Expr::And(x, xs)),
+        Err(refused) => Err(refused),
+    }
 }
 
 /// A chain of `||`
@@ -133,8 +153,10 @@ pub fn or_of(
 ) -> Result<Expr, Memory>
     ensures { (t : Names) (a : Expression) (b : List Expression) → Is t x a → AreAll t xs b → Is t result (p.or a (expressions_of b)) }
 {
-    let (x, xs) = both(x, xs)?;
-    Ok(Expr::Or(x, xs))
+    match both(x, xs) {
+        Ok((x, xs)) => Ok(Expr::Or(x, xs)),
+        Err(refused) => Err(refused),
+    }
 }
 
 /// `test ? then : else`
@@ -145,8 +167,10 @@ pub fn choose_of(
 ) -> Result<Expr, Memory>
     ensures { (t : Names) (a : Expression) (b : Expression) (d : Expression) → Is t x a → Is t y b → Is t z d → Is t result (p.choose a b d) }
 {
-    let (x, (y, z)) = both(x, both(y, z))?;
-    Ok(Expr::Choice(x, y, z))
+    match three(x, y, z) {
+        Ok((x, y, z)) => Ok(Expr::Choice(x, y, z)),
+        Err(refused) => Err(refused),
+    }
 }
 
 /// `NAME ( list )`
@@ -157,16 +181,20 @@ pub fn call_of(
 ) -> Result<Expr, Memory>
     ensures { (t : Names) (a : ℕ) (b : Arguments) → IfOk f (λ n. n ≡ a) → AreArguments t xs b → Is t result (p.call place a b) }
 {
-    let (f, xs) = both(f, xs)?;
-    Ok(Expr::Call(place, f, xs))
+    match both(f, xs) {
+        Ok((f, xs)) => Ok(Expr::Call(place, f, xs)),
+        Err(refused) => Err(refused),
+    }
 }
 
 /// `getline target`
 pub fn getline_of(place: Place, target: Result<Target<Expr>, Memory>) -> Result<Expr, Memory>
     ensures { (t : Names) (a : Reference) → IsTarget t target a → Is t result (p.getline place a) }
 {
-    let target = target?;
-    Ok(Expr::Getline(place, target))
+    match target {
+        Ok(target) => Ok(Expr::Getline(place, target)),
+        Err(refused) => Err(refused),
+    }
 }
 
 /// `getline target < file`
@@ -177,8 +205,10 @@ pub fn getline_file_of(
 ) -> Result<Expr, Memory>
     ensures { (t : Names) (a : Reference) (b : Expression) → IsTarget t target a → Is t x b → Is t result (p.getline_file place a b) }
 {
-    let (target, x) = both(target, x)?;
-    Ok(Expr::GetlineFile(place, target, x))
+    match both(target, x) {
+        Ok((target, x)) => Ok(Expr::GetlineFile(place, target, x)),
+        Err(refused) => Err(refused),
+    }
 }
 
 /// `command | getline target`
@@ -188,16 +218,20 @@ pub fn pipe_of(
 ) -> Result<Expr, Memory>
     ensures { (t : Names) (a : Expression) (b : p.Pipes) → Is t x a → ArePipes t xs b → Is t result (p.pipe a b) }
 {
-    let (x, xs) = both(x, xs)?;
-    Ok(Expr::Pipe(x, xs))
+    match both(x, xs) {
+        Ok((x, xs)) => Ok(Expr::Pipe(x, xs)),
+        Err(refused) => Err(refused),
+    }
 }
 
 /// A built-in function of one text
 pub fn measure_of(how: Measure, x: Result<Boxed<Expr>, Memory>) -> Result<Expr, Memory>
     ensures { (t : Names) (a : Expression) → Is t x a → Is t result (p.measure how a) }
 {
-    let x = x?;
-    Ok(Expr::Measure(how, x))
+    match x {
+        Ok(x) => Ok(Expr::Measure(how, x)),
+        Err(refused) => Err(refused),
+    }
 }
 
 /// `sprintf ( format , list )`
@@ -208,8 +242,10 @@ pub fn sprintf_of(
 ) -> Result<Expr, Memory>
     ensures { (t : Names) (a : Expression) (b : List Expression) → Is t x a → AreAll t xs b → Is t result (p.sprintf place a (expressions_of b)) }
 {
-    let (x, xs) = both(x, xs)?;
-    Ok(Expr::Sprintf(place, x, xs))
+    match both(x, xs) {
+        Ok((x, xs)) => Ok(Expr::Sprintf(place, x, xs)),
+        Err(refused) => Err(refused),
+    }
 }
 
 /// `match ( text , pattern )`
@@ -220,8 +256,10 @@ pub fn locate_of(
 ) -> Result<Expr, Memory>
     ensures { (t : Names) (a : Expression) (b : Ere) → Is t x a → IsEre t y b → Is t result (p.locate place a b) }
 {
-    let (x, y) = both(x, y)?;
-    Ok(Expr::Locate(place, x, y))
+    match both(x, y) {
+        Ok((x, y)) => Ok(Expr::Locate(place, x, y)),
+        Err(refused) => Err(refused),
+    }
 }
 
 /// `split ( text , array , separator )`
@@ -234,8 +272,10 @@ pub fn split_of(
 ) -> Result<Expr, Memory>
     ensures { (t : Names) (a : Expression) (b : p.Variable) (d : Ere) → Is t x a → IsVariable t v b → IsEre t y d → Is t result (p.split place a at b d) }
 {
-    let (x, (v, y)) = both(x, both(v, y))?;
-    Ok(Expr::Split(place, x, at, v, y))
+    match three(x, v, y) {
+        Ok((x, v, y)) => Ok(Expr::Split(place, x, at, v, y)),
+        Err(refused) => Err(refused),
+    }
 }
 
 /// `sub ( pattern , with , target )`, and `gsub`
@@ -248,6 +288,8 @@ pub fn substitute_of(
 ) -> Result<Expr, Memory>
     ensures { (t : Names) (a : Ere) (b : Expression) (d : Reference) → IsEre t x a → Is t y b → IsTarget t target d → Is t result (p.substitute place extent a b d) }
 {
-    let (x, (y, target)) = both(x, both(y, target))?;
-    Ok(Expr::Substitute(place, extent, x, y, target))
+    match three(x, y, target) {
+        Ok((x, y, target)) => Ok(Expr::Substitute(place, extent, x, y, target)),
+        Err(refused) => Err(refused),
+    }
 }

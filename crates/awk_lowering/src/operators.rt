@@ -8,7 +8,7 @@ ghost use Rattle.awk_program.specs.Program.{Expression, Reference};
 ghost use Rattle.awk_program.specs.View.{Names};
 ghost use Rattle.awk_program.specs.declared.operators.Measure.TheVariants as m;
 
-use crate::kept::{both, boxed};
+use crate::kept::{both, boxed, three};
 use crate::nodes::{measure_of, not_of, read_of};
 use crate::targets::record_of;
 use awk_program::{Comparison, Expr, Extent, Measure, Operator, Redirect, Sign, Step, Target};
@@ -174,7 +174,7 @@ pub fn of_three(
 ) -> Result<Expr, Memory>
     ensures { (t : Names) (a b d : Expression) → Is t x a → Is t y b → Is t z d → Is t result (spec.of_three place which a b d) }
 {
-    let (x, (y, z)) = both(x, both(y, z))?;
+    let (x, y, z) = three(x, y, z)?;
     match which {
         Builtin::Substr => Ok(Expr::Substr(place, x, y, z)),
         _ => Err(AllocError),

@@ -25,27 +25,31 @@ use std::alloc::Global;
 pub fn term_of(
     how: Arithmetic,
     place: Place,
-    operand: Result<Expr, Memory>,
+    operand: Result<Boxed<Expr>, Memory>,
 ) -> Result<Term<Expr>, Memory>
     ensures { (t : Names) (a : Expression) → Is t operand a → IfOk result (λ made. view_term t made ≡ record { operator = spec.operator_of how; place = place; operand = a }) }
 {
-    let operand = operand?;
-    Ok(Term {
-        operator: operator(how),
-        place,
-        operand,
-    })
+    match operand {
+        Ok(operand) => Ok(Term {
+            operator: operator(how),
+            place,
+            operand: operand.into_inner(),
+        }),
+        Err(refused) => Err(refused),
+    }
 }
 
-fn power(place: Place, operand: Result<Expr, Memory>) -> Result<Term<Expr>, Memory>
+fn power(place: Place, operand: Result<Boxed<Expr>, Memory>) -> Result<Term<Expr>, Memory>
     ensures { (t : Names) (a : Expression) → Is t operand a → IfOk result (λ made. view_term t made ≡ record { operator = o.Power; place = place; operand = a }) }
 {
-    let operand = operand?;
-    Ok(Term {
-        operator: Operator::Power,
-        place,
-        operand,
-    })
+    match operand {
+        Ok(operand) => Ok(Term {
+            operator: Operator::Power,
+            place,
+            operand: operand.into_inner(),
+        }),
+        Err(refused) => Err(refused),
+    }
 }
 
 /// `base ^ exponent`
@@ -53,7 +57,7 @@ pub fn power_of(
     alloc: Global,
     place: Place,
     x: Result<Boxed<Expr>, Memory>,
-    y: Result<Expr, Memory>,
+    y: Result<Boxed<Expr>, Memory>,
 ) -> Result<Expr, Memory>
     ensures { (t : Names) (a b : Expression) → Is t x a → Is t y b → Is t result (p.chain a (p.term o.Power place b p.no_terms)) }
 {
@@ -63,28 +67,37 @@ pub fn power_of(
 /// A later operand of a concatenation
 pub fn join_of(
     place: Result<Place, Memory>,
-    operand: Result<Expr, Memory>,
+    operand: Result<Boxed<Expr>, Memory>,
 ) -> Result<Joined<Expr>, Memory>
     ensures { (t : Names) (q : spot.Place) (a : Expression) → IfOk place (λ made. made ≡ q) → Is t operand a → IfOk result (λ made. view_joined t made ≡ record { place = q; operand = a }) }
 {
-    let (place, operand) = both(place, operand)?;
-    Ok(Joined { place, operand })
+    match both(place, operand) {
+        Ok((place, operand)) => Ok(Joined {
+            place,
+            operand: operand.into_inner(),
+        }),
+        Err(refused) => Err(refused),
+    }
 }
 
 /// `| getline`
 pub fn piped_of(place: Place, target: Result<Target<Expr>, Memory>) -> Result<Piped<Expr>, Memory>
     ensures { (t : Names) (a : Reference) → IsTarget t target a → IsPiped t result place a }
 {
-    let target = target?;
-    Ok(Piped { place, target })
+    match target {
+        Ok(target) => Ok(Piped { place, target }),
+        Err(refused) => Err(refused),
+    }
 }
 
 /// A value
-fn value_of(x: Result<Expr, Memory>) -> Result<Argument<Expr>, Memory>
+fn value_of(x: Result<Boxed<Expr>, Memory>) -> Result<Argument<Expr>, Memory>
     ensures { (t : Names) (a : Expression) → Is t x a → IsArgument t result (λ rest. p.by_value a rest) }
 {
-    let x = x?;
-    Ok(Argument::Value(x))
+    match x {
+        Ok(x) => Ok(Argument::Value(x.into_inner())),
+        Err(refused) => Err(refused),
+    }
 }
 
 /// What a name by itself is handed on as, unless it is by its value.
@@ -111,7 +124,7 @@ pub fn argument_of(
     context: &Context<'_>,
     takes_array: bool,
     name: Option<&Name>,
-    value: Result<Expr, Memory>,
+    value: Result<Boxed<Expr>, Memory>,
 ) -> Result<Argument<Expr>, Memory>
     ensures { (a : Expression) → Is (names_in context.now) value a → IsArgument (names_in context.now) result (low.argument (scope_in context.now) takes_array (option_copied name.entry) a) }
 {
@@ -122,9 +135,11 @@ pub fn argument_of(
 }
 
 /// An expression that is there
-pub fn given(x: Result<Expr, Memory>) -> Result<Option<Expr>, Memory>
+pub fn given(x: Result<Boxed<Expr>, Memory>) -> Result<Option<Boxed<Expr>>, Memory>
     ensures { (t : Names) (a : Expression) → Is t x a → IsPerhaps t result (Some a) }
 {
-    let x = x?;
-    Ok(Some(x))
+    match x {
+        Ok(x) => Ok(Some(x)),
+        Err(refused) => Err(refused),
+    }
 }

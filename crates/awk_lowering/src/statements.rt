@@ -12,7 +12,7 @@ use crate::blocks::{
     block_of, delete_of, do_of, exit_of, for_in_of, for_of, if_else_of, if_of, nothing, plain_of,
     print_of, printf_of, redirection_of, return_of, while_of,
 };
-use crate::expressions::{expression, list, optional};
+use crate::expressions::{list, optional, part};
 use crate::kept::{boxed, kept, push};
 use crate::names::{Context, variable};
 use awk_program::{Expr, Redirection, Statement};
@@ -31,7 +31,7 @@ fn redirected(
 {
     match to {
         None => Ok(None),
-        Some(to) => redirection_of(to.how, to.place, expression(context, &to.target, level)),
+        Some(to) => redirection_of(to.how, to.place, part(context, &to.target, level)),
     }
 }
 
@@ -47,7 +47,7 @@ fn printf(
     match xs {
         [] => Err(AllocError),
         [x, rest @ ..] => {
-            let x = expression(context, x, level);
+            let x = part(context, x, level);
             let xs = list(context, rest, level);
             printf_of(place, x, xs, redirected(context, to, level))
         }
@@ -82,7 +82,7 @@ fn statement(
     let below = level - 1;
     match s {
         awk_tree::Statement::Empty => nothing(context.alloc),
-        awk_tree::Statement::Expr(x) => plain_of(expression(context, x, below)),
+        awk_tree::Statement::Expr(x) => plain_of(part(context, x, below)),
         awk_tree::Statement::Print(place, xs, to) => {
             let xs = list(context, xs.items.as_slice(), below);
             print_of(*place, xs, redirected(context, to, below))
@@ -101,21 +101,21 @@ fn statement(
         awk_tree::Statement::Return(_, x) => return_of(optional(context, x, below)),
         awk_tree::Statement::Block(body) => block_of(statements(context, body.as_slice(), below)),
         awk_tree::Statement::If(x, body) => {
-            let x = expression(context, x, below);
+            let x = part(context, x, below);
             if_of(x, branch(context, body.get(), below))
         }
         awk_tree::Statement::IfElse(x, body, other) => {
-            let x = expression(context, x, below);
+            let x = part(context, x, below);
             let body = branch(context, body.get(), below);
             if_else_of(x, body, branch(context, other.get(), below))
         }
         awk_tree::Statement::While(x, body) => {
-            let x = expression(context, x, below);
+            let x = part(context, x, below);
             while_of(x, branch(context, body.get(), below))
         }
         awk_tree::Statement::Do(body, x) => {
             let body = branch(context, body.get(), below);
-            do_of(body, expression(context, x, below))
+            do_of(body, part(context, x, below))
         }
         awk_tree::Statement::For(x, y, z, body) => {
             let body = branch(context, body.get(), below);

@@ -21,8 +21,10 @@ use std::alloc::Global;
 pub fn variable_of(v: Result<Variable, Memory>) -> Result<Target<Expr>, Memory>
     ensures { (t : Names) (a : p.Variable) → IsVariable t v a → IsTarget t result (p.variable a) }
 {
-    let v = v?;
-    Ok(Target::Variable(v))
+    match v {
+        Ok(v) => Ok(Target::Variable(v)),
+        Err(refused) => Err(refused),
+    }
 }
 
 /// `NAME [ list ]`
@@ -33,24 +35,30 @@ pub fn element_of(
 ) -> Result<Target<Expr>, Memory>
     ensures { (t : Names) (a : p.Variable) (b : List Expression) → IsVariable t v a → AreAll t xs b → IsTarget t result (p.element place a (expressions_of b)) }
 {
-    let (v, xs) = both(v, xs)?;
-    Ok(Target::Element(place, v, xs))
+    match both(v, xs) {
+        Ok((v, xs)) => Ok(Target::Element(place, v, xs)),
+        Err(refused) => Err(refused),
+    }
 }
 
 /// `$ operand`
 pub fn field_of(place: Place, x: Result<Boxed<Expr>, Memory>) -> Result<Target<Expr>, Memory>
     ensures { (t : Names) (a : Expression) → Is t x a → IsTarget t result (p.field place a) }
 {
-    let x = x?;
-    Ok(Target::Field(place, x))
+    match x {
+        Ok(x) => Ok(Target::Field(place, x)),
+        Err(refused) => Err(refused),
+    }
 }
 
 /// The text of a pattern
 pub fn computed_of(x: Result<Boxed<Expr>, Memory>) -> Result<Pattern<Expr>, Memory>
     ensures { (t : Names) (a : Expression) → Is t x a → IsEre t result (p.computed a) }
 {
-    let x = x?;
-    Ok(Pattern::Computed(x))
+    match x {
+        Ok(x) => Ok(Pattern::Computed(x)),
+        Err(refused) => Err(refused),
+    }
 }
 
 #[tactic(auto, using(awk_program::proofs::Views::views))]

@@ -1,8 +1,5 @@
-use Rattle.std.proofs.Common.{rules, refl}
+use Rattle.std.proofs.Common.{refl}
 use Rattle.awk_lowering.proofs.blocks.redirection_of.Goals as goal
 
-pub returns-in_err-target : goal.returns-in_err-target
-returns-in_err-target c = λ t a h. search rules
-
-pub returns : goal.returns
-returns c = λ t a h. let p = rw c.in_ok-target.was at h in rw (p, c.redirect-how.ensures) refl
+pub returns-in-Ok : goal.returns-in-Ok
+returns-in-Ok c = λ t a h. let p = rw c.in-Ok.is at h in rw (c.into_inner-target.ensures, p, c.redirect-how.ensures) refl

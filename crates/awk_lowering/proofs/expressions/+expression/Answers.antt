@@ -76,7 +76,7 @@ expression-returns-in-Signed t c =
 
 pub expression-returns-in-Power : goal.expression-returns-in-Power
 expression-returns-in-Power t c =
-    let x = rw c.get-in-Power.ensures at c.part-x.ensures in let y = rw c.get-in-Power-2.ensures at c.expression-in-Power.ensures in rw (c.in-Power.is, view-Power) (c.power_of.ensures _ _ _ x y)
+    let x = rw c.get-in-Power.ensures at c.part-x.ensures in let y = rw c.get-in-Power-2.ensures at c.part-in-Power.ensures in rw (c.in-Power.is, view-Power) (c.power_of.ensures _ _ _ x y)
 
 pub expression-returns-in-Product : goal.expression-returns-in-Product
 expression-returns-in-Product t c =
@@ -269,7 +269,7 @@ list-returns t c =
 
 pub fill_terms-loop-x-preserved : goal.fill_terms-loop-x-preserved
 fill_terms-loop-x-preserved t c =
-    turned (code.view_term (names_in c.args.context.now)) (lowered_term (scope_in c.args.context.now)) view_term _ _ _ _ c.x-item.result c.args.xs.now c.loop-x.x-index (omega arith) c.x-item.is (c.term_of.ensures _ _ c.expression-operand.ensures) c.in_ok-push.ensures c.loop-x.invariant
+    turned (code.view_term (names_in c.args.context.now)) (lowered_term (scope_in c.args.context.now)) view_term _ _ _ _ c.x-item.result c.args.xs.now c.loop-x.x-index (omega arith) c.x-item.is (c.term_of.ensures _ _ c.part-operand.ensures) c.in_ok-push.ensures c.loop-x.invariant
 
 pub terms-returns : goal.terms-returns
 terms-returns t c =
@@ -277,7 +277,7 @@ terms-returns t c =
 
 pub fill_joins-loop-x-preserved : goal.fill_joins-loop-x-preserved
 fill_joins-loop-x-preserved t c =
-    turned (code.view_joined (names_in c.args.context.now)) (lowered_join (scope_in c.args.context.now)) view _ _ _ _ c.x-item.result c.args.xs.now c.loop-x.x-index (omega arith) c.x-item.is (c.join_of.ensures _ _ _ c.start.ensures c.expression-operand.ensures) c.in_ok-push.ensures c.loop-x.invariant
+    turned (code.view_joined (names_in c.args.context.now)) (lowered_join (scope_in c.args.context.now)) view _ _ _ _ c.x-item.result c.args.xs.now c.loop-x.x-index (omega arith) c.x-item.is (c.join_of.ensures _ _ _ c.start.ensures c.part-operand.ensures) c.in_ok-push.ensures c.loop-x.invariant
 
 pub joins-returns : goal.joins-returns
 joins-returns t c =
@@ -297,7 +297,7 @@ pipes-returns t c =
 
 pub fill_arguments-loop-x-preserved : goal.fill_arguments-loop-x-preserved
 fill_arguments-loop-x-preserved t c =
-    let made = rw (c.takes_array.ensures, c.bare.ensures) at (c.argument_of.ensures _ c.expression-value.ensures) in rw c.later-rest.ensures (arguments_turn (names_in c.args.context.now) (scope_in c.args.context.now) _ _ _ _ c.loop-x.rest.now c.x-item.result c.args.xs.now c.loop-x.x-index (omega arith) c.x-item.is made c.in_ok-push.ensures c.loop-x.invariant)
+    let made = rw (c.takes_array.ensures, c.bare.ensures) at (c.argument_of.ensures _ c.part-value.ensures) in rw c.later-rest.ensures (arguments_turn (names_in c.args.context.now) (scope_in c.args.context.now) _ _ _ _ c.loop-x.rest.now c.x-item.result c.args.xs.now c.loop-x.x-index (omega arith) c.x-item.is made c.in_ok-push.ensures c.loop-x.invariant)
 
 pub fill_arguments-returns : goal.fill_arguments-returns
 fill_arguments-returns t c =

@@ -20,16 +20,16 @@ abbrev pub decreases-list : goal.decreases-list
 decreases-list l = 2 + 16 * l.level
 
 abbrev pub decreases-fill_terms : goal.decreases-fill_terms
-decreases-fill_terms l = 1 + 16 * l.level
+decreases-fill_terms l = 2 + 16 * l.level
 
 abbrev pub decreases-terms : goal.decreases-terms
-decreases-terms l = 2 + 16 * l.level
+decreases-terms l = 3 + 16 * l.level
 
 abbrev pub decreases-fill_joins : goal.decreases-fill_joins
-decreases-fill_joins l = 1 + 16 * l.level
+decreases-fill_joins l = 2 + 16 * l.level
 
 abbrev pub decreases-joins : goal.decreases-joins
-decreases-joins l = 2 + 16 * l.level
+decreases-joins l = 3 + 16 * l.level
 
 abbrev pub decreases-element : goal.decreases-element
 decreases-element l = 3 + 16 * l.level
@@ -62,13 +62,13 @@ abbrev pub decreases-getline : goal.decreases-getline
 decreases-getline l = 6 + 16 * l.level
 
 abbrev pub decreases-fill_arguments : goal.decreases-fill_arguments
-decreases-fill_arguments l = 1 + 16 * l.level
+decreases-fill_arguments l = 2 + 16 * l.level
 
 abbrev pub decreases-arguments : goal.decreases-arguments
-decreases-arguments l = 2 + 16 * l.level
+decreases-arguments l = 3 + 16 * l.level
 
 abbrev pub decreases-call : goal.decreases-call
-decreases-call l = 3 + 16 * l.level
+decreases-call l = 4 + 16 * l.level
 
 abbrev pub decreases-called : goal.decreases-called
 decreases-called l = 2 + 16 * l.level

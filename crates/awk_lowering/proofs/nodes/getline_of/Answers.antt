@@ -1,9 +1,6 @@
-use Rattle.std.proofs.Common.{rules, refl}
+use Rattle.std.proofs.Common.{refl}
 use Rattle.awk_program.proofs.Views.{view-Getline}
 use Rattle.awk_lowering.proofs.nodes.getline_of.Goals as goal
 
-pub returns-in_err-target : goal.returns-in_err-target
-returns-in_err-target c = λ t a h0. search rules
-
-pub returns : goal.returns
-returns c = λ t a h0. let p0 = rw c.in_ok-target.was at h0 in rw (view-Getline, p0) refl
+pub returns-in-Ok : goal.returns-in-Ok
+returns-in-Ok c = λ t a h0. let p0 = rw c.in-Ok.is at h0 in rw (view-Getline, p0) refl

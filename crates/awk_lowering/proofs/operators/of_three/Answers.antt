@@ -6,4 +6,4 @@ pub returns-in_err-x : goal.returns-in_err-x
 returns-in_err-x c = λ t a b d h0 h1 h2. search rules
 
 pub returns-in-Substr : goal.returns-in-Substr
-returns-in-Substr c = λ t a b d h0 h1 h2. let w = rw c.in_ok-x.ensures.1 at c.both.ensures in let p0 = rw c.in_ok-x.ensures.0 at h0 in let p1 = rw w.0 at h1 in let p2 = rw w.1 at h2 in rw (c.in-Substr.is, view-Substr, p0, p1, p2) refl
+returns-in-Substr c = λ t a b d h0 h1 h2. let w = c.in_ok-x.ensures in let p0 = rw w.0 at h0 in let p1 = rw w.1 at h1 in let p2 = rw w.2 at h2 in rw (c.in-Substr.is, view-Substr, p0, p1, p2) refl

@@ -15,7 +15,7 @@ statement-returns-in-Empty t c =
 
 pub statement-returns-in-Expr : goal.statement-returns-in-Expr
 statement-returns-in-Expr t c =
-    rw (c.in-Expr.is, statement-Expr) (c.plain_of.ensures _ _ c.expression.ensures)
+    rw (c.in-Expr.is, statement-Expr) (c.plain_of.ensures _ _ c.part.ensures)
 
 pub statement-returns-in-Print : goal.statement-returns-in-Print
 statement-returns-in-Print t c =
@@ -55,19 +55,19 @@ statement-returns-in-Block t c =
 
 pub statement-returns-in-If : goal.statement-returns-in-If
 statement-returns-in-If t c =
-    let y = rw c.get.ensures at c.branch-context.ensures in rw (c.in-If.is, statement-If) (c.if_of.ensures _ _ _ c.expression-x.ensures y)
+    let y = rw c.get.ensures at c.branch-context.ensures in rw (c.in-If.is, statement-If) (c.if_of.ensures _ _ _ c.part-x.ensures y)
 
 pub statement-returns-in-IfElse : goal.statement-returns-in-IfElse
 statement-returns-in-IfElse t c =
-    let y = rw c.get-in-IfElse.ensures at c.branch-body.ensures in let z = rw c.get-in-IfElse-2.ensures at c.branch-context-in-IfElse.ensures in rw (c.in-IfElse.is, statement-IfElse) (c.if_else_of.ensures _ _ _ _ c.expression-x-in-IfElse.ensures y z)
+    let y = rw c.get-in-IfElse.ensures at c.branch-body.ensures in let z = rw c.get-in-IfElse-2.ensures at c.branch-context-in-IfElse.ensures in rw (c.in-IfElse.is, statement-IfElse) (c.if_else_of.ensures _ _ _ _ c.part-x-in-IfElse.ensures y z)
 
 pub statement-returns-in-While : goal.statement-returns-in-While
 statement-returns-in-While t c =
-    let y = rw c.get-in-While.ensures at c.branch-context-in-While.ensures in rw (c.in-While.is, statement-While) (c.while_of.ensures _ _ _ c.expression-x-in-While.ensures y)
+    let y = rw c.get-in-While.ensures at c.branch-context-in-While.ensures in rw (c.in-While.is, statement-While) (c.while_of.ensures _ _ _ c.part-x-in-While.ensures y)
 
 pub statement-returns-in-Do : goal.statement-returns-in-Do
 statement-returns-in-Do t c =
-    let y = rw c.get-in-Do.ensures at c.branch-body-in-Do.ensures in rw (c.in-Do.is, statement-Do) (c.do_of.ensures _ _ _ y c.expression-in-Do.ensures)
+    let y = rw c.get-in-Do.ensures at c.branch-body-in-Do.ensures in rw (c.in-Do.is, statement-Do) (c.do_of.ensures _ _ _ y c.part-in-Do.ensures)
 
 pub statement-returns-in-For : goal.statement-returns-in-For
 statement-returns-in-For t c =
