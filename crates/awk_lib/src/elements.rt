@@ -18,7 +18,7 @@ use awk_text::octets::Octets;
 use indexmap::IndexMap;
 use std::alloc::Global;
 
-/// How far behind the last place of the dense part a first key may lie.
+/// How far past the places of the dense part a new key may lie, so that places are made up to it.
 const MOST_APART: usize = 8;
 
 /// Where an element lies.
