@@ -2,11 +2,14 @@
 use Rattle.std.proofs.Common.{◌≡◌, ℕ, nat_eq, List, [], ◌∷◌, ◌++◌, map, refl, sym, ap, ◌∙◌, subst, append_assoc, IsPermutation}
 use Rattle.std.proofs.lemmas.List.{map-append}
 use Rattle.std.proofs.lemmas.List.Sorted.{IsPermutation-map, IsNonDecreasingBy-from_sort}
+use Rattle.std.specs.Borrow.{Bor}
 use Rattle.std.specs.List.{IsDistinct}
 use Rattle.std.specs.List.Sorted.{IsSortedByKey}
+use Rattle.std.specs.Map.{keys_of}
+use Rattle.std.specs.Map.Iter.{deref}
 use Rattle.std.specs.Ordering.{nat_cmp}
 use Rattle.awk_lib.specs.Arrays.{keys}
-use Rattle.awk_lib.specs.Numbering.{in_order, numbers, shown, key_of, keyed, listed_key, listed, AreRising}
+use Rattle.awk_lib.specs.Numbering.{in_order, numbers, rows, shown, texts, key_of, keyed, listed_key, listed, AreRising}
 use Rattle.awk_lib.specs.declared.dense.Numbered.{Numbered}
 use Rattle.awk_lib.proofs.Order.{numbers_permuted, in_order_map, in_order_same, in_order_rising, rising_sorted}
 use Rattle.awk_lib.proofs.Rows.{Row}
@@ -18,6 +21,18 @@ texts_listed (k ∷ ks) = ap (λ l. k.value ∷ l) (texts_listed ks)
 numbers_listed : (ks : List (Numbered (List ℕ))) → numbers (listed ks) ≡ map (λ k. k.number) ks
 numbers_listed [] = refl
 numbers_listed (k ∷ ks) = ap (λ l. k.number ∷ l) (numbers_listed ks)
+
+-- the keys that an iterator over the map gave
+pub texts_yielded : {K V : Type 0} (text : K → List ℕ) (ks : List (Bor K)) (es : List (K × Numbered V)) → map deref ks ≡ keys_of es → map (λ k. text k.now) ks ≡ texts (rows text es)
+texts_yielded {K} {V} text ks es e = behind ks ∙ ap (map text) e ∙ stored es
+  where
+    behind : (l : List (Bor K)) → map (λ k. text k.now) l ≡ map text (map deref l)
+    behind [] = refl
+    behind (k ∷ l) = ap (λ t. text k.now ∷ t) (behind l)
+
+    stored : (l : List (K × Numbered V)) → map text (keys_of l) ≡ texts (rows text l)
+    stored [] = refl
+    stored (e ∷ l) = ap (λ t. text e.0 ∷ t) (stored l)
 
 module _ {V : Type 0} where
   -- one more key
@@ -38,9 +53,10 @@ module _ {V : Type 0} where
   texts_rows [] = refl
   texts_rows (r ∷ rs) = ap (λ l. r.1.0 ∷ l) (texts_rows rs)
 
-  -- the keys as they lie, without their numbers
-  pub texts_as_they_lie : (ks : List (Numbered (List ℕ))) (rs : List (Row V)) → listed ks ≡ keyed rs → map (λ k. k.value) ks ≡ map (λ r. r.1.0) rs
-  texts_as_they_lie ks rs is = texts_listed ks ∙ ap (map (λ q. q.1)) is ∙ texts_keyed rs ∙ sym (texts_rows rs)
+  -- one more key without its number
+  pub texts_push : (ks : List (List ℕ)) (t : List ℕ) (before : List (List ℕ)) (rs : List (Row V)) (r : Row V) → ks ≡ before ++ texts rs → t ≡ r.1.0 → ks ++ t ∷ [] ≡ before ++ texts (rs ++ r ∷ [])
+  texts_push ks t before rs r so_far same =
+      (λ i. so_far i ++ same i ∷ []) ∙ append_assoc before (texts rs) (r.1.0 ∷ []) ∙ ap (λ l. before ++ l) (sym (map-append (λ (q : Row V). q.1.0) rs (r ∷ [])))
 
   pub keys_rising : (rs : List (Row V)) → AreRising rs → map (λ r. r.1.0) rs ≡ keys (shown rs)
   keys_rising rs h = texts_rows rs ∙ sym (ap (λ l. keys (map (λ r. r.1) l)) (in_order_rising rs h))

@@ -2,7 +2,7 @@
 ghost use Rattle.std.specs.Prelude.{◌≡◌, ℕ, ◌+◌, ◌<◌, ◌≤◌, List, [], ◌∷◌, ◌++◌, length, is_some, slice_get, slice_set, vec_len, Some, None, IfSome, IfOk, OnOk, OnErr, IsOkUnless};
 ghost use Rattle.std.specs.Fmt.{decimal};
 ghost use Rattle.awk_lib.specs.Dense.{most_places, dense_rows, IsOutside};
-ghost use Rattle.awk_lib.specs.Numbering.{keyed, listed};
+ghost use Rattle.awk_lib.specs.Numbering.{keyed, listed, texts};
 
 use crate::slot::slot_of;
 use awk_text::fault::Fault;
@@ -116,6 +116,24 @@ impl<V> Dense<V> {
         ensures memory { IsOkUnless result Fault.Memory }
     {
         self.places.push(Some(Numbered { number, value }))?;
+        Ok(())
+    }
+
+    /// Adds the keys as they lie.
+    ///
+    /// Fails with `Fault::Memory` alone, where memory is refused.
+    pub(crate) fn push_texts(&self, alloc: Global, keys: &mut Vec<Octets>) -> Result<(), Fault>
+        ensures ok { OnOk result (keys.new.items ≡ keys.old.items ++ texts (dense_rows 0 self.now.places.items)) }
+        ensures err { IsOkUnless result Fault.Memory }
+    {
+        let mut buffer = Buffer::new();
+        for (k, place) in self.places.iter().enumerate() {
+            let Some(_) = place else {
+                continue;
+            };
+            let digits = buffer.format(k).as_bytes();
+            keys.push(Octets::new(Vec::from_slice(alloc, digits)?))?;
+        }
         Ok(())
     }
 

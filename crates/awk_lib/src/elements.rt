@@ -8,7 +8,7 @@ ghost use Rattle.std.specs.Ordering.{nat_cmp};
 ghost use Rattle.std.specs.Str.{bytes_eq};
 ghost use Rattle.awk_lib.specs.Arrays.{most_elements, keys};
 ghost use Rattle.awk_lib.specs.Dense.{most_places, IsOutside};
-ghost use Rattle.awk_lib.specs.Numbering.{keyed, listed, numbers, shown, AreRising};
+ghost use Rattle.awk_lib.specs.Numbering.{keyed, listed, numbers, shown, texts, AreRising};
 
 use crate::dense::{Dense, Numbered};
 use crate::slot::slot_of;
@@ -18,7 +18,7 @@ use awk_text::octets::Octets;
 use indexmap::IndexMap;
 use std::alloc::Global;
 
-/// How far behind the last place of the dense part a first key may lie.
+/// How far past the places of the dense part a new key may lie, so that places are made up to it.
 const MOST_APART: usize = 8;
 
 /// Where an element lies.
@@ -133,6 +133,32 @@ impl<V> Elements<V> {
         if k - len > MOST_APART { None } else { Some(k) }
     }
 
+    /// Adds the keys of the map as they lie.
+    fn push_mapped_texts(&self, keys: &mut Vec<Octets>) -> Result<(), Fault>
+        ensures ok { OnOk result (keys.new.items ≡ keys.old.items ++ texts (mapped_rows self.now)) }
+        ensures err { IsOkUnless result Fault.Memory }
+    {
+        let alloc = *self.map.allocator();
+        for key in self.map.keys() {
+            keys.push(Octets::new(Vec::from_slice(alloc, key.as_slice())?))?;
+        }
+        Ok(())
+    }
+
+    /// The keys as they lie.
+    ///
+    /// Fails with `Fault::Memory` alone, where memory is refused.
+    pub(crate) fn keys(&self) -> Result<Vec<Octets>, Fault>
+        ensures ok { IfOk result (λ keys. keys.items ≡ texts (rows_of self.now)) }
+        ensures err { IsOkUnless result Fault.Memory }
+    {
+        let alloc = *self.map.allocator();
+        let mut keys = Vec::with_capacity(alloc, self.count)?;
+        self.dense.push_texts(alloc, &mut keys)?;
+        self.push_mapped_texts(&mut keys)?;
+        Ok(keys)
+    }
+
     /// Adds the keys of the map, with the numbers of their elements, as they lie.
     fn push_mapped_keys(&self, keys: &mut Vec<Numbered<Octets>>) -> Result<(), Fault>
         ensures ok { OnOk result (listed keys.new.items ≡ listed keys.old.items ++ keyed (mapped_rows self.now)) }
@@ -150,7 +176,6 @@ impl<V> Elements<V> {
 
     /// The keys, with the numbers of their elements, as they lie.
     fn numbered_keys(&self) -> Result<Vec<Numbered<Octets>>, Fault>
-        requires { AreApart self.now }
         ensures ok { IfOk result (λ ks. listed ks.items ≡ keyed (rows_of self.now)) }
         ensures err { IsOkUnless result Fault.Memory }
     {
@@ -161,24 +186,12 @@ impl<V> Elements<V> {
         Ok(keys)
     }
 
-    /// The keys as they lie.
-    ///
-    /// Fails with `Fault::Memory` alone, where memory is refused.
-    pub(crate) fn keys(&self) -> Result<Vec<Octets>, Fault>
-        requires { AreApart self.now }
-        ensures ok { IfOk result (λ texts. texts.items ≡ map (λ r. r.1.0) (rows_of self.now)) }
-        ensures err { IsOkUnless result Fault.Memory }
-    {
-        texts_of(self.numbered_keys()?)
-    }
-
     /// The keys in the order of the numbers of their elements.
     ///
     /// Fails with `Fault::Memory` alone, where memory is refused.
     pub(crate) fn sorted_keys(&self) -> Result<Vec<Octets>, Fault>
-        requires apart { AreApart self.now }
-        requires distinct { IsDistinct nat_eq (numbers (rows_of self.now)) }
-        ensures ok { IfOk result (λ texts. texts.items ≡ keys (shown (rows_of self.now))) }
+        requires { IsDistinct nat_eq (numbers (rows_of self.now)) }
+        ensures ok { IfOk result (λ found. found.items ≡ keys (shown (rows_of self.now))) }
         ensures err { IsOkUnless result Fault.Memory }
     {
         let mut found = self.numbered_keys()?;

@@ -20,11 +20,6 @@ pub returns-in_err-settle-clause-same : goal.returns-in_err-settle-clause-same
 returns-in_err-settle-clause-same g c =
     rw (← c.self.view_is) (moved_shown c.self.inside.elements c.settle.new.self c.settle.ensures.same c.settle.ensures.others.0 c.self.inside.settled c.self.inside.next c.self.invariant)
 
-pub keys-requires-2 : goal.keys-requires-2
-keys-requires-2 g c =
-    (moved_kept c.self.inside.elements c.settle.new.self c.settle.ensures.same c.settle.ensures.others.0 c.self.inside.settled c.self.inside.settled c.self.inside.next c.self.invariant c.settle.ensures.others.1
-    (λ e. absurd (true≢false (sym e ∙ c.if-self.false)))).apart
-
 pub invariant_of-self-2 : goal.invariant_of-self-2
 invariant_of-self-2 g c =
     let es = c.self.inside.elements in
