@@ -33,7 +33,7 @@ fn fill(
 {
     let reference = store.reference(array);
     let mut elements = store.replace(reference, Array::new(alloc));
-    let filled = splits::fill(alloc, &mut elements, parts);
+    let filled = splits::fill(&mut elements, parts);
     store.replace(reference, elements);
     at(at_name, filled)
 }

@@ -24,13 +24,11 @@ pub fn split_text(alloc: Global, splitter: &Splitter, value: &Value) -> Result<V
     split(alloc, text_in(value, &mut buffer), splitter)
 }
 
-/// The text of a number, as a key.
-fn number_key(alloc: Global, number: u64) -> Result<Vec<u8>, Fault>
-    ensures ok { IfOk result (λ key. key.items ≡ decimal number) }
-    ensures err { IfErr result (λ e. e ≡ Fault.Memory) }
+/// The digits of a number, as a key, in the buffer.
+fn number_key(number: u64, buffer: &mut Buffer) -> &[u8]
+    ensures { result.now ≡ decimal number }
 {
-    let mut buffer = Buffer::new();
-    Ok(Vec::from_slice(alloc, buffer.format(number).as_bytes())?)
+    buffer.format(number).as_bytes()
 }
 
 /// Fills the array with the parts, in place of what it holds, under the keys 1, 2 and so on; and answers how
@@ -38,7 +36,7 @@ fn number_key(alloc: Global, number: u64) -> Result<Vec<u8>, Fault>
 ///
 /// Fails with `Fault::TooManyElements` exactly where there are more than `MOST_ELEMENTS`, and then the array is
 /// as it was, and with `Fault::Memory` where memory is refused.
-pub fn fill(alloc: Global, array: &mut Array<Value>, parts: Vec<Octets>) -> Result<i64, Fault>
+pub fn fill(array: &mut Array<Value>, parts: Vec<Octets>) -> Result<i64, Fault>
     ensures ok { OnOk result (filled parts.items ≡ Ok array.new) }
     ensures count { IfOk result (λ n. n ≡ pos (length parts.items)) }
     ensures err { IfErr result (λ e. (e ≡ Fault.Memory) ⊎ ((filled parts.items ≡ Err e) × (array.new ≡ array.old))) }
@@ -51,9 +49,9 @@ pub fn fill(alloc: Global, array: &mut Array<Value>, parts: Vec<Octets>) -> Resu
     let mut rest = parts;
     rest.as_mut_slice().reverse();
     let mut number: u64 = 1;
+    let mut digits = Buffer::new();
     while let Some(part) = rest.pop() {
-        let key = number_key(alloc, number)?;
-        array.put(key, Value::Input(part))?;
+        array.set(number_key(number, &mut digits), Value::Input(part))?;
         number += 1;
     }
     Ok(count as i64)
