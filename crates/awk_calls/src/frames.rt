@@ -1,5 +1,5 @@
 // What a call begins with, and what it leaves.
-ghost use Rattle.std.specs.Prelude.{◌≡◌, ◌∷◌, List, map, drop, length, IfOk};
+ghost use Rattle.std.specs.Prelude.{◌≡◌, ◌∷◌, [], List, map, drop, length, IfOk};
 ghost use Rattle.awk_asks.specs.Tables.{Table};
 ghost use Rattle.awk_machine.specs.Calls as machine;
 ghost use Rattle.awk_machine.specs.Pieces.{At, Do, Call, Leave, give};
@@ -31,17 +31,17 @@ fn bound(store: &Store, x: &Argument<Expr>, value: Value) -> Bound
     }
 }
 
-/// What the first parameters hold, in the list that is given for them.
+/// What the first parameters hold, in the empty list that is given for them.
 fn handed(
     store: &Store,
     xs: &[Argument<Expr>],
     values: Vec<Value>,
     room: Vec<Bound>,
 ) -> Result<Vec<Bound>, Memory>
+    requires { room.items ≡ [] }
     ensures frame { IfOk result (λ bounds. (g : Given) (t : Table) (hid : Hidden) → machine.all_handed (base g (store.now, t) hid) (machine.arguments (view_arguments (names_in g) xs.now)) values.items ≡ map (bound_of (names_in g)) bounds.items) }
 {
     let mut given = room;
-    given.clear();
     for value in values {
         let Some(x) = xs.get(given.len()) else {
             return Ok(given);
