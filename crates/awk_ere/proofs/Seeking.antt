@@ -1,17 +1,18 @@
 -- What searches by a table say of the best match.
-use Rattle.std.proofs.Common.{◌≡◌, ◌↔◌, IsTrue, ℕ, zero, suc, ◌+◌, ◌-◌, ◌<◌, ◌≤◌, ◌==◌, inl, inr, Bool, true, false, cond, List, [], ◌∷◌, length, Option, Some, None, refl, sym, ◌∙◌, ap, subst, arith}
+use Rattle.std.proofs.Common.{◌≡◌, ◌↔◌, IsTrue, ℕ, zero, suc, ◌+◌, ◌-◌, ◌<◌, ◌≤◌, ◌==◌, inl, inr, Bool, true, false, cond, List, [], ◌∷◌, length, slice_index, slice_index_or, Option, Some, None, refl, sym, ◌∙◌, ap, subst, arith}
 use Rattle.std.specs.List.{slice_get}
 use Rattle.std.proofs.lemmas.Bool.{cases_lt, eqb-true}
+use Rattle.std.proofs.Math.Dec.{eqb-suc-zero}
 use Rattle.awk_ere.specs.Pattern.{Pattern, bytes, Chain, Matches}
 use Rattle.awk_ere.specs.Program.{Skips, left, right, at_start, at_end, Path}
 use Rattle.awk_ere.specs.Search.{Goes, Finds, IsMachine}
-use Rattle.awk_ere.specs.Table.{steps_of, IsLed, IsTable, IsBegin, IsAt, IsLongest, EndsSomewhere, NoneTo, anywhere}
+use Rattle.awk_ere.specs.Table.{steps_of, AllDead, IsLed, IsTable, IsBegin, IsAt, IsLongest, EndsSomewhere, NoneTo, anywhere}
 use Rattle.awk_ere.specs.declared.program.Step.{Step}
 use Rattle.awk_ere.specs.declared.program.Step.TheVariants.{AtStart, Done}
 use Rattle.awk_ere.specs.declared.states.Begin.{Begin}
 use Rattle.awk_ere.specs.declared.states.TheConstants.{UNKNOWN}
 use Rattle.awk_ere.proofs.Searching.{path_le, run_matches, matches_run}
-use Rattle.awk_ere.proofs.Tables.{at_first}
+use Rattle.awk_ere.proofs.Tables.{at_first, at_pass, at_dead, longest_begin}
 
 pub at_begin : (sets : List (List Bool)) (program : List Step) (s : List ℕ) (lists cells : List (List ℕ)) (accepts ends : List Bool) (e i n : ℕ) (r : Begin) → IsTable sets program lists cells accepts ends
     → IsBegin program e lists r → e < length program → n ≡ cond (i == 0) r.first r.later → n < length cells → IsAt sets program s cells accepts ends e i i n
@@ -42,6 +43,23 @@ module _ (sets : List (List Bool)) (program : List Step) (s : List ℕ) (e from 
     leftmost = λ i l start within run. elim (cases_lt i k) [ inl less ↦ absurd (none i l start less within run) | inr ge ↦ ge ];
     longest = λ l within run. h.2 l within run;
   }
+
+  -- no start up to k, and none from there up to r
+  pub none_on : (k r : ℕ) → NoneTo sets program s e from k → NoneTo sets program s e k r → NoneTo sets program s e from r
+  none_on k r none rest = λ i j after before within run. elim (cases_lt i k) [ inl less ↦ none i j after less within run | inr ge ↦ rest i j ge before within run ]
+
+  -- no start where the first byte leads to no step
+  pub none_dead : (lists cells : List (List ℕ)) (accepts ends : List Bool) (r : Begin) → IsTable sets program lists cells accepts ends → IsBegin program e lists r → e < length program → r.later < length cells
+      → slice_index_or accepts r.later false ≡ false → ((k : ℕ) → k < length s → slice_index s k < 256) → (to : ℕ) → 0 < from → to ≤ length s → AllDead (slice_index_or cells r.later []) s from to → NoneTo sets program s e from to
+  none_dead lists cells accepts ends r table begin inside known closed fit to later within dead = λ i j after before below run.
+      let at = at_begin sets program s lists cells accepts ends e i r.later r table begin inside (by_place i (omega arith)) known in
+      let lt : i < length s = omega arith in
+      let le : i ≤ i = omega arith in
+      at_dead sets program s cells accepts ends e i i r.later at le lt (fit i lt) (dead i after before) None (at_pass sets program s cells accepts ends e i i r.later at le lt closed (longest_begin sets program s e i)) j below run
+    where
+      by_place : (i : ℕ) → 0 < i → r.later ≡ cond (i == 0) r.first r.later
+      by_place zero lt = elim lt [ ]
+      by_place (suc i) lt = sym (ap (λ b. cond b r.first r.later) (eqb-suc-zero i))
 
   -- the rest by another search
   pub found_later : (k : ℕ) (found : Option (ℕ × ℕ)) → from ≤ k → NoneTo sets program s e from k → Finds sets program s e k found → Finds sets program s e from found

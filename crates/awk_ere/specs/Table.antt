@@ -97,6 +97,10 @@ pub record IsTable (sets : List (List Bool)) (program : List Step) (lists cells 
 abbrev pub IsFirst : List Step → Bool → ℕ → List (List ℕ) → ℕ → Type 0
 IsFirst program first entry lists n = n < UNKNOWN → (n < length lists) × IsLed program first false (entry ∷ []) (steps_of lists n)
 
+-- from `from` up to `to` each byte leads to the first state
+abbrev pub AllDead : List ℕ → List ℕ → ℕ → ℕ → Type 0
+AllDead row s from to = (k : ℕ) → from ≤ k → k < to → slice_index row (slice_index s k) ≡ 0
+
 -- the first state has no step
 abbrev pub IsDead : List (List ℕ) → Type 0
 IsDead lists = (0 < length lists) × (steps_of lists 0 ≡ [])

@@ -1,7 +1,7 @@
 // The search by a table.
 ghost use Rattle.std.specs.Prelude.{◌≡◌, ◌==◌, ◌↔◌, ◌+◌, ◌<◌, ◌≤◌, ℕ, length, Some, true, IfSome, IsTrue, slice_get, if◌then◌else◌};
 ghost use Rattle.awk_ere.specs.Pattern.{Pattern};
-ghost use Rattle.awk_ere.specs.Table.{IsAt, IsLongest, EndsSomewhere, NoneTo, IsBuilt, IsSought, IsEngine};
+ghost use Rattle.awk_ere.specs.Table.{AllDead, IsAt, IsLongest, EndsSomewhere, NoneTo, IsBuilt, IsSought, IsEngine};
 ghost use Rattle.awk_ere.specs.declared.program.Step.TheVariants.{AtStart, Done};
 
 use crate::bracket::Set;
@@ -80,7 +80,11 @@ fn ends_somewhere(
 /// How many bytes may be looked at for each byte of the text, by searches that find nothing.
 const BUDGET: usize = 4;
 
+/// How many bytes may be looked at so before it is asked whether there is any match.
+const FIRST_BUDGET: usize = 64;
+
 /// What a search by the table gives.
+#[derive(Drop)]
 pub enum Sought {
     /// The best match, or that there is none.
     Found(Option<(usize, usize)>),
@@ -179,6 +183,45 @@ fn is_anchored(program: &[Step], entry: usize) -> bool
     }
 }
 
+/// The first place, from this one on, whose byte leads somewhere by the row; the text's end where there is none.
+fn dead_to(row: &[u8; 256], text: &[u8], from: usize) -> usize
+    requires { from ≤ length text.now }
+    ensures inside { (from ≤ result) × (result ≤ length text.now) }
+    ensures dead { AllDead row.now text.now from result }
+{
+    for place in from..text.len() {
+        if row[text[place] as usize] != DEAD {
+            return place;
+        }
+    }
+    text.len()
+}
+
+/// The first place, from this one on, where a match may start. The text's start is none of these.
+fn next_start(
+    sets: &[Set],
+    program: &[Step],
+    table: &Table,
+    entry: usize,
+    scan: usize,
+    text: &[u8],
+    from: usize,
+) -> usize
+    requires entry { entry < length program.now }
+    requires built { IsBuilt sets.now program.now entry scan table.now }
+    requires later { 0 < from }
+    requires from { from ≤ length text.now }
+    ensures inside { (from ≤ result) × (result ≤ length text.now) }
+    ensures none { NoneTo sets.now program.now text.now entry from result }
+{
+    let (cells, accepts) = (table.cells.as_slice(), table.accepts.as_slice());
+    let first = table.entry.later as usize;
+    if first >= cells.len() || accepts[first] {
+        return from;
+    }
+    dead_to(&cells[first], text, from)
+}
+
 /// The best match from the place on: each start in turn, as long as the budget lasts.
 fn leftmost(
     sets: &[Set],
@@ -188,14 +231,15 @@ fn leftmost(
     scan: usize,
     text: &[u8],
     from: usize,
+    mut budget: usize,
 ) -> Sought
     requires entry { entry < length program.now }
     requires built { IsBuilt sets.now program.now entry scan table.now }
     requires from { from ≤ length text.now }
     ensures { IsSought sets.now program.now text.now entry from result }
 {
-    let mut budget = text.len().saturating_mul(BUDGET);
-    for start in from..text.len() {
+    let mut start = from;
+    while start < text.len() {
         if budget == 0 {
             return Sought::Left(start);
         }
@@ -204,6 +248,7 @@ fn leftmost(
             Some(Some(end)) => return Sought::Found(Some((start, end))),
             Some(None) => {}
         }
+        start = next_start(sets, program, table, entry, scan, text, start + 1);
     }
     Sought::Left(text.len())
 }
@@ -256,9 +301,24 @@ pub fn find(
     if is_anchored(program, entry) {
         return find_anchored(sets, program, table, entry, scan, text, from);
     }
+    if let Sought::Found(near) = leftmost(
+        sets,
+        program,
+        table,
+        entry,
+        scan,
+        text,
+        from,
+        FIRST_BUDGET,
+    ) {
+        return Sought::Found(near);
+    }
     match somewhere(sets, program, table, entry, scan, text, from) {
         Some(false) => Sought::Found(None),
-        Some(true) | None => leftmost(sets, program, table, entry, scan, text, from),
+        Some(true) | None => {
+            let budget = text.len().saturating_mul(BUDGET);
+            leftmost(sets, program, table, entry, scan, text, from, budget)
+        }
     }
 }
 
