@@ -2,12 +2,12 @@
 
 use crate::problem::Problem;
 use crate::row::Arg;
-use crate::words::{Word, word_of};
 use awk_text::Memory;
 use awk_text::numeral::looks_numeric;
 use awk_text::octets::Octets;
 use awk_text::value::Value;
 use std::alloc::Global;
+use std::str;
 
 /// The bare words of an argument; none where it is missing.
 pub fn bare<'a, 'b>(args: &'a [Arg<'b>], at: usize) -> &'a [u8] {
@@ -17,8 +17,9 @@ pub fn bare<'a, 'b>(args: &'a [Arg<'b>], at: usize) -> &'a [u8] {
     }
 }
 
-pub fn word(args: &[Arg<'_>], at: usize) -> Word {
-    word_of(bare(args, at))
+/// The bare words of an argument, as a name that has a meaning in the table; no name has bytes that are not UTF-8.
+pub fn name<'a, 'b>(args: &'a [Arg<'b>], at: usize) -> &'a str {
+    str::from_utf8(bare(args, at)).unwrap_or("")
 }
 
 /// The text of an argument; the empty one where it is missing.
@@ -43,9 +44,9 @@ fn value(alloc: Global, arg: &Arg<'_>) -> Result<Value, Problem> {
         return Ok(Value::Num(number));
     }
     let text = octets(alloc, arg.text.as_slice())?;
-    match word_of(arg.word) {
-        Word::Unset => Ok(Value::Unset),
-        Word::Field => Ok(Value::Input(text)),
+    match arg.word {
+        b"unset" => Ok(Value::Unset),
+        b"field" => Ok(Value::Input(text)),
         _ => Ok(Value::Text(text)),
     }
 }

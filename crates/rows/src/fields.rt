@@ -1,21 +1,20 @@
 // Fields of texts, and records of inputs.
 ghost use Rattle.std.specs.Prelude.{◌<◌};
 
-use crate::args::{octets, text, word};
+use crate::args::{name, octets, text};
 use crate::problem::Problem;
 use crate::row::Arg;
 use crate::shown::{Answer, bracketed, show};
-use crate::words::Word;
 use awk_fields::{Record, Splitter, records, split};
 use awk_text::fault::Fault;
 use awk_text::octets::Octets;
 use std::alloc::Global;
 
-fn splitter(alloc: Global, call: Word, separator: &[u8]) -> Result<Splitter, Problem> {
+fn splitter(alloc: Global, call: &str, separator: &[u8]) -> Result<Splitter, Problem> {
     match call {
-        Word::Split => Ok(Splitter::new(alloc, separator, false)?),
-        Word::SplitInParagraph => Ok(Splitter::new(alloc, separator, true)?),
-        Word::SplitByPattern => Ok(Splitter::ere(alloc, separator)?),
+        "split" => Ok(Splitter::new(alloc, separator, false)?),
+        "split_in_paragraph" => Ok(Splitter::new(alloc, separator, true)?),
+        "split_by_pattern" => Ok(Splitter::ere(alloc, separator)?),
         _ => Err(Problem::NoCall),
     }
 }
@@ -87,10 +86,10 @@ fn counts(alloc: Global, fs: &[u8], rs: &[u8], input: &[u8]) -> Answer {
 
 /// The answer of the call.
 pub fn call(alloc: Global, args: &[Arg<'_>]) -> Answer {
-    match word(args, 0) {
-        Word::Records => records_cut(alloc, text(args, 1), text(args, 2)),
-        Word::RecordsInOnePiece => records_of(alloc, text(args, 1), text(args, 2), usize::MAX),
-        Word::Counts => counts(alloc, text(args, 1), text(args, 2), text(args, 3)),
+    match name(args, 0) {
+        "records" => records_cut(alloc, text(args, 1), text(args, 2)),
+        "records_in_one_piece" => records_of(alloc, text(args, 1), text(args, 2), usize::MAX),
+        "counts" => counts(alloc, text(args, 1), text(args, 2), text(args, 3)),
         call => {
             let splitter = splitter(alloc, call, text(args, 1))?;
             fields_twice(alloc, &splitter, text(args, 2))

@@ -1,10 +1,9 @@
 // Arrays, and the built-in functions on texts.
 
-use crate::args::{number, octets, text, word};
+use crate::args::{name, number, octets, text};
 use crate::problem::Problem;
 use crate::row::{Arg, Row};
 use crate::shown::{Answer, bracketed, bytes, show, told};
-use crate::words::Word;
 use awk_ere::Ere;
 use awk_lib::array::Array;
 use awk_lib::{index, replace, substr, to_case};
@@ -32,13 +31,13 @@ fn replaced(alloc: Global, args: &[Arg<'_>], all: bool) -> Answer {
 
 /// The answer of the call.
 pub fn call(alloc: Global, args: &[Arg<'_>]) -> Answer {
-    match word(args, 0) {
-        Word::Index => show(alloc, index(text(args, 1), text(args, 2))),
-        Word::Substr => substr_of(alloc, args),
-        Word::Tolower => Ok(to_case(alloc, text(args, 1), false)?),
-        Word::Toupper => Ok(to_case(alloc, text(args, 1), true)?),
-        Word::Sub => replaced(alloc, args, false),
-        Word::Gsub => replaced(alloc, args, true),
+    match name(args, 0) {
+        "index" => show(alloc, index(text(args, 1), text(args, 2))),
+        "substr" => substr_of(alloc, args),
+        "tolower" => Ok(to_case(alloc, text(args, 1), false)?),
+        "toupper" => Ok(to_case(alloc, text(args, 1), true)?),
+        "sub" => replaced(alloc, args, false),
+        "gsub" => replaced(alloc, args, true),
         _ => Err(Problem::NoCall),
     }
 }
@@ -62,23 +61,23 @@ fn keys(alloc: Global, array: &mut Array<Octets>) -> Answer {
 }
 
 fn step(alloc: Global, array: &mut Array<Octets>, args: &[Arg<'_>]) -> Answer {
-    match word(args, 0) {
-        Word::Put => put(alloc, array, text(args, 1), text(args, 2)),
-        Word::Fill => fill(alloc, array, number(args, 1)?),
-        Word::Remove => {
+    match name(args, 0) {
+        "put" => put(alloc, array, text(args, 1), text(args, 2)),
+        "fill" => fill(alloc, array, number(args, 1)?),
+        "remove" => {
             array.remove(text(args, 1));
             bytes(alloc, b"done")
         }
-        Word::Clear => {
+        "clear" => {
             array.clear();
             bytes(alloc, b"done")
         }
-        Word::Get => match array.get(text(args, 1)) {
+        "get" => match array.get(text(args, 1)) {
             Some(value) => bytes(alloc, value.bytes()),
             None => bytes(alloc, b"none"),
         },
-        Word::Count => show(alloc, array.count()),
-        Word::Keys => keys(alloc, array),
+        "count" => show(alloc, array.count()),
+        "keys" => keys(alloc, array),
         _ => Err(Problem::NoCall),
     }
 }

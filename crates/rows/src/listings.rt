@@ -1,11 +1,10 @@
 // What scripts may ask, as it is listed, and as it stands to a policy.
 
-use crate::args::{text, word};
+use crate::args::{name, text};
 use crate::parses::script;
 use crate::problem::Problem;
 use crate::row::{Arg, Row};
 use crate::shown::{Answer, told};
-use crate::words::Word;
 use awk_text::octets::Octets;
 use box_listing::{check, lines_of, sites, verdict_lines};
 use box_policy::policy::Policy;
@@ -23,15 +22,15 @@ fn judged(alloc: Global, policy: &Policy, text: &[u8]) -> Answer {
 
 /// The answer of the call.
 pub fn call(alloc: Global, args: &[Arg<'_>]) -> Answer {
-    match word(args, 0) {
-        Word::List => listed(alloc, text(args, 1)),
+    match name(args, 0) {
+        "list" => listed(alloc, text(args, 1)),
         _ => Err(Problem::NoCall),
     }
 }
 
 fn step(alloc: Global, policy: &Policy, args: &[Arg<'_>]) -> Answer {
-    match word(args, 0) {
-        Word::Check => judged(alloc, policy, text(args, 1)),
+    match name(args, 0) {
+        "check" => judged(alloc, policy, text(args, 1)),
         _ => Err(Problem::NoCall),
     }
 }

@@ -26,7 +26,6 @@ mod start;
 mod table;
 mod tokens;
 mod values;
-mod words;
 mod worlds;
 
 use report::Report;

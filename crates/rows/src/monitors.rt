@@ -2,11 +2,10 @@
 ghost use Rattle.std.specs.Prelude.{◌≡◌, ℕ, List, IfOk};
 ghost use Rattle.box_world.specs.Calls.{IsDuty};
 
-use crate::args::{bare, octets, text, word};
+use crate::args::{bare, name, octets, text};
 use crate::problem::Problem;
 use crate::row::{Arg, Row};
 use crate::shown::{Answer, bytes, show, told};
-use crate::words::Word;
 use crate::worlds::{left, show_reply};
 use awk_text::numeral::leading_digits;
 use awk_text::octets::Octets;
@@ -42,16 +41,16 @@ fn request(alloc: Global, args: &[Arg<'_>]) -> Result<Request, Problem>
     ensures { IfOk result (λ request. (numbers : List ℕ) → IsDuty numbers request) }
 {
     let asked = octets(alloc, text(args, 2))?;
-    match word(args, 2) {
-        Word::Read => Ok(Request::Open(Mode::Read, asked)),
-        Word::Write => Ok(Request::Open(Mode::Write, asked)),
-        Word::Append => Ok(Request::Open(Mode::Append, asked)),
-        Word::ReadFrom => Ok(Request::Open(Mode::RunIn, asked)),
-        Word::WriteTo => Ok(Request::Open(Mode::RunOut, asked)),
-        Word::System => Ok(Request::System(asked)),
-        Word::Env => Ok(Request::Env(asked)),
-        Word::Assign => Ok(Request::Assign(asked, octets(alloc, text(args, 3))?)),
-        Word::Put => Ok(Request::Put(1, asked)),
+    match name(args, 2) {
+        "read" => Ok(Request::Open(Mode::Read, asked)),
+        "write" => Ok(Request::Open(Mode::Write, asked)),
+        "append" => Ok(Request::Open(Mode::Append, asked)),
+        "read from" => Ok(Request::Open(Mode::RunIn, asked)),
+        "write to" => Ok(Request::Open(Mode::RunOut, asked)),
+        "system" => Ok(Request::System(asked)),
+        "env" => Ok(Request::Env(asked)),
+        "assign" => Ok(Request::Assign(asked, octets(alloc, text(args, 3))?)),
+        "put" => Ok(Request::Put(1, asked)),
         _ => Err(Problem::NoArgument),
     }
 }
@@ -73,9 +72,9 @@ fn asks(
     answers: &mut Vec<Octets>,
 ) -> Result<(), Problem> {
     for row in steps {
-        let answer = match word(&row.args, 0) {
-            Word::Ask => ask(alloc, monitor, &row.args),
-            Word::Denials => show(alloc, monitor.denials()),
+        let answer = match name(&row.args, 0) {
+            "ask" => ask(alloc, monitor, &row.args),
+            "denials" => show(alloc, monitor.denials()),
             _ => return Ok(()),
         };
         answers.push(told(alloc, answer)?)?;
@@ -92,8 +91,8 @@ fn ends(
     answers: &mut Vec<Octets>,
 ) -> Result<(), Problem> {
     for row in steps.iter().skip(answers.len()) {
-        let answer = match word(&row.args, 0) {
-            Word::Log => bytes(alloc, log),
+        let answer = match name(&row.args, 0) {
+            "log" => bytes(alloc, log),
             _ => left(alloc, world, &row.args),
         };
         answers.push(told(alloc, answer)?)?;

@@ -1,10 +1,9 @@
 // Scripts as they are parsed: which are accepted, how they are spelled, and what they ask of a host.
 
-use crate::args::{text, word};
+use crate::args::{name, text};
 use crate::problem::Problem;
 use crate::row::Arg;
 use crate::shown::{Answer, bytes, yes_or_no};
-use crate::words::Word;
 use awk_parse::{Script, canon, parse};
 use awk_text::Memory;
 use awk_tokens::{Token, TokenKind, tokens};
@@ -85,11 +84,11 @@ fn asked(alloc: Global, script: &Script) -> Answer {
 /// The answer of the call.
 pub fn call(alloc: Global, args: &[Arg<'_>]) -> Answer {
     let script = script(alloc, text(args, 1))?;
-    match word(args, 0) {
-        Word::Parse => parsed_again(alloc, &script),
-        Word::Canon => spelled(alloc, &canon(alloc, &script)?),
-        Word::Asks => asked(alloc, &script),
-        Word::CanAssign => yes_or_no(alloc, script.can_assign(text(args, 2))),
+    match name(args, 0) {
+        "parse" => parsed_again(alloc, &script),
+        "canon" => spelled(alloc, &canon(alloc, &script)?),
+        "asks" => asked(alloc, &script),
+        "can_assign" => yes_or_no(alloc, script.can_assign(text(args, 2))),
         _ => Err(Problem::NoCall),
     }
 }

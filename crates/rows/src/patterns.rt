@@ -1,11 +1,10 @@
 // Patterns, and the search for their matches.
 ghost use Rattle.std.specs.Prelude.{◌≤◌, length};
 
-use crate::args::{number, text, word};
+use crate::args::{name, number, text};
 use crate::problem::Problem;
 use crate::row::Arg;
 use crate::shown::{Answer, bytes, yes_or_no};
-use crate::words::Word;
 use awk_ere::{Ere, Plain};
 use std::alloc::Global;
 
@@ -56,17 +55,17 @@ fn agree(alloc: Global, ere: &Ere, plain: &Plain, texts: &[Arg<'_>]) -> Answer {
 }
 
 fn of_ere(alloc: Global, ere: &Ere, args: &[Arg<'_>]) -> Answer {
-    match word(args, 0) {
-        Word::Pattern => bytes(alloc, b"accepted"),
-        Word::Find => find(alloc, ere, text(args, 2), 0),
-        Word::FindFrom => {
+    match name(args, 0) {
+        "pattern" => bytes(alloc, b"accepted"),
+        "find" => find(alloc, ere, text(args, 2), 0),
+        "find_from" => {
             let Ok(from) = usize::try_from(number(args, 3)?) else {
                 return Err(Problem::NoArgument);
             };
             find(alloc, ere, text(args, 2), from)
         }
-        Word::IsMatch => yes_or_no(alloc, ere.is_match(text(args, 2))?),
-        Word::Agree => {
+        "is_match" => yes_or_no(alloc, ere.is_match(text(args, 2))?),
+        "agree" => {
             let plain = Plain::parse(alloc, text(args, 1))?;
             agree(alloc, ere, &plain, args.get(2..).unwrap_or(&[]))
         }

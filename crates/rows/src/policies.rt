@@ -1,10 +1,9 @@
 // Policies: which texts are policies, and what they decide.
 
-use crate::args::{bare, text, word};
+use crate::args::{bare, name, text};
 use crate::problem::Problem;
 use crate::row::{Arg, Row};
 use crate::shown::{Answer, bracketed, bytes, show, told, yes_or_no};
-use crate::words::Word;
 use awk_text::Memory;
 use awk_text::octets::Octets;
 use box_policy::path::normal;
@@ -14,14 +13,14 @@ use std::alloc::Global;
 /// What stands before the lines of a policy's one rule.
 const ONE_RULE: &[u8] = b"version = 1\nbase = \"/w\"\n[[rule]]\n";
 
-fn kind(word: Word) -> Result<Kind, Problem> {
-    match word {
-        Word::Read => Ok(Kind::Read),
-        Word::Write => Ok(Kind::Write),
-        Word::Append => Ok(Kind::Append),
-        Word::Run => Ok(Kind::Run),
-        Word::Env => Ok(Kind::Env),
-        Word::Assign => Ok(Kind::Assign),
+fn kind(name: &str) -> Result<Kind, Problem> {
+    match name {
+        "read" => Ok(Kind::Read),
+        "write" => Ok(Kind::Write),
+        "append" => Ok(Kind::Append),
+        "run" => Ok(Kind::Run),
+        "env" => Ok(Kind::Env),
+        "assign" => Ok(Kind::Assign),
         _ => Err(Problem::NoArgument),
     }
 }
@@ -53,7 +52,7 @@ fn allowing(alloc: Global, kind: &[u8], pattern: &[u8]) -> Result<Vec<u8>, Memor
 }
 
 fn fits(alloc: Global, args: &[Arg<'_>]) -> Answer {
-    let (kind, subject) = (kind(word(args, 1))?, text(args, 2));
+    let (kind, subject) = (kind(name(args, 1))?, text(args, 2));
     let text = allowing(alloc, bare(args, 1), text(args, 1))?;
     let policy = Policy::read(alloc, &text)?;
     yes_or_no(
@@ -71,11 +70,11 @@ fn components(alloc: Global, base: &[u8], text: &[u8]) -> Answer {
 
 /// The answer of the call.
 pub fn call(alloc: Global, args: &[Arg<'_>]) -> Answer {
-    match word(args, 0) {
-        Word::Policy => policy(alloc, text(args, 1)),
-        Word::Rule => policy(alloc, &one_rule(alloc, args.get(1..).unwrap_or(&[]))?),
-        Word::Fits => fits(alloc, args),
-        Word::Normal => components(alloc, text(args, 1), text(args, 2)),
+    match name(args, 0) {
+        "policy" => policy(alloc, text(args, 1)),
+        "rule" => policy(alloc, &one_rule(alloc, args.get(1..).unwrap_or(&[]))?),
+        "fits" => fits(alloc, args),
+        "normal" => components(alloc, text(args, 1), text(args, 2)),
         _ => Err(Problem::NoCall),
     }
 }
@@ -89,13 +88,13 @@ fn show_decision(alloc: Global, decision: Decision) -> Answer {
 }
 
 fn step(alloc: Global, policy: &Policy, args: &[Arg<'_>]) -> Answer {
-    let is_given = match word(args, 0) {
-        Word::Count => return show(alloc, policy.count()),
-        Word::Decide => false,
-        Word::DecideGiven => true,
+    let is_given = match name(args, 0) {
+        "count" => return show(alloc, policy.count()),
+        "decide" => false,
+        "decide_given" => true,
         _ => return Err(Problem::NoCall),
     };
-    let (kind, subject) = (kind(word(args, 1))?, text(args, 1));
+    let (kind, subject) = (kind(name(args, 1))?, text(args, 1));
     show_decision(alloc, policy.decide(kind, subject, is_given))
 }
 

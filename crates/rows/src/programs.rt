@@ -1,11 +1,10 @@
 // Scripts in the form that runs, as they are printed.
 
-use crate::args::{text, word};
+use crate::args::{name, text};
 use crate::parses::script;
 use crate::problem::Problem;
 use crate::row::Arg;
 use crate::shown::Answer;
-use crate::words::Word;
 use awk_printer::printed;
 use awk_text::Memory;
 use awk_text::numeral::leading_digits;
@@ -53,9 +52,9 @@ fn without_places(alloc: Global, mut rest: &[u8]) -> Result<Vec<u8>, Memory> {
 /// The answer of the call.
 pub fn call(alloc: Global, args: &[Arg<'_>]) -> Answer {
     let program = program(alloc, text(args, 1))?;
-    match word(args, 0) {
-        Word::Program => Ok(program),
-        Word::Shape => Ok(without_places(alloc, &program)?),
+    match name(args, 0) {
+        "program" => Ok(program),
+        "shape" => Ok(without_places(alloc, &program)?),
         _ => Err(Problem::NoCall),
     }
 }

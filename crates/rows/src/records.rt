@@ -1,10 +1,9 @@
 // A record whose fields are set, a step after the other.
 
-use crate::args::{number, octets, text, values, word};
+use crate::args::{name, number, octets, text, values};
 use crate::problem::Problem;
 use crate::row::{Arg, Row};
 use crate::shown::{Answer, bytes, show, show_value, told};
-use crate::words::Word;
 use awk_fields::{Record, Splitter};
 use awk_text::fault::Fault;
 use awk_text::octets::Octets;
@@ -44,14 +43,14 @@ fn whole(alloc: Global, record: &mut Record) -> Answer {
 }
 
 fn step(alloc: Global, record: &mut Record, args: &[Arg<'_>]) -> Answer {
-    match word(args, 0) {
-        Word::Line => set_whole(alloc, record, text(args, 1), text(args, 2)),
-        Word::Set => set_field(alloc, record, args),
-        Word::SetNf => set_count(alloc, record, number(args, 1)?, text(args, 2)),
-        Word::Nf => show(alloc, record.count()?),
-        Word::Get => show_value(alloc, &record.get(number(args, 1)?)?),
-        Word::Text => Ok(text_of(alloc, &record.get(number(args, 1)?)?)?),
-        Word::Whole => whole(alloc, record),
+    match name(args, 0) {
+        "line" => set_whole(alloc, record, text(args, 1), text(args, 2)),
+        "set" => set_field(alloc, record, args),
+        "set_nf" => set_count(alloc, record, number(args, 1)?, text(args, 2)),
+        "nf" => show(alloc, record.count()?),
+        "get" => show_value(alloc, &record.get(number(args, 1)?)?),
+        "text" => Ok(text_of(alloc, &record.get(number(args, 1)?)?)?),
+        "whole" => whole(alloc, record),
         _ => Err(Problem::NoCall),
     }
 }

@@ -1,13 +1,12 @@
 // Whole runs: scripts under a policy, over the world in memory.
 
-use crate::args::{text, word};
+use crate::args::{name, text};
 use crate::asked::asked;
 use crate::problem::Problem;
 use crate::row::{Arg, Row};
 use crate::run_log::RunLog;
 use crate::shown::{Answer, bytes, show, told};
 use crate::start::{Start, is_start};
-use crate::words::Word;
 use crate::worlds::left;
 use awk_text::octets::Octets;
 use awkbox::{Driven, Ending, LogEnd, MemoryWorld, Refusal, Report};
@@ -51,20 +50,20 @@ fn refused(alloc: Global, answer: Result<Report, Refusal>) -> Answer {
 
 /// What is told after the run.
 fn end(alloc: Global, driven: &Driven<MemoryWorld, RunLog>, args: &[Arg<'_>]) -> Answer {
-    match word(args, 0) {
-        Word::Says => message(alloc, driven.answer),
-        Word::Status => show(alloc, Ending::of(driven.answer).status()),
-        Word::Refused => refused(alloc, driven.answer),
-        Word::Steps => used(alloc, driven.answer),
-        Word::Log => bytes(alloc, &driven.log.text),
-        Word::LogEnd => log_end(alloc, driven.log_end),
-        Word::Asked => asked(alloc, &driven.world, args),
+    match name(args, 0) {
+        "says" => message(alloc, driven.answer),
+        "status" => show(alloc, Ending::of(driven.answer).status()),
+        "refused" => refused(alloc, driven.answer),
+        "steps" => used(alloc, driven.answer),
+        "log" => bytes(alloc, &driven.log.text),
+        "log_end" => log_end(alloc, driven.log_end),
+        "asked" => asked(alloc, &driven.world, args),
         _ => left(alloc, &driven.world, args),
     }
 }
 
 fn is_run(row: &Row<'_>) -> bool {
-    matches!(word(&row.args, 0), Word::Run)
+    matches!(name(&row.args, 0), "run")
 }
 
 /// How many rows stand before the next run.
@@ -80,7 +79,7 @@ fn run_len(rows: &[Row<'_>]) -> usize {
 /// How many rows say what the run begins with.
 fn start_len(rows: &[Row<'_>]) -> usize {
     for at in 0..rows.len() {
-        if !is_start(word(&rows[at].args, 0)) {
+        if !is_start(name(&rows[at].args, 0)) {
             return at;
         }
     }

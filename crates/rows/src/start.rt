@@ -1,11 +1,10 @@
 // What a run begins with.
 
-use crate::args::{number, octets, text, word};
+use crate::args::{name, number, octets, text};
 use crate::problem::Problem;
 use crate::row::Arg;
 use crate::run_log::RunLog;
 use crate::shown::{Answer, bytes};
-use crate::words::Word;
 use crate::worlds::prepare;
 use awk_text::octets::Octets;
 use awkbox::{Driven, MemoryWorld, Setup, drive};
@@ -29,22 +28,22 @@ pub struct Start {
     log: RunLog,
 }
 
-/// Whether a step with this word says what a run begins with.
-pub fn is_start(word: Word) -> bool {
+/// Whether a step with this name says what a run begins with.
+pub fn is_start(name: &str) -> bool {
     matches!(
-        word,
-        Word::Command
-            | Word::PutFile
-            | Word::PutEnv
-            | Word::PutInput
-            | Word::Chunk
-            | Word::FailAt
-            | Word::Operand
-            | Word::Assign
-            | Word::Separator
-            | Word::Bound
-            | Word::FailWrite
-            | Word::FailFlush
+        name,
+        "command"
+            | "put_file"
+            | "put_env"
+            | "put_input"
+            | "chunk"
+            | "fail_at"
+            | "operand"
+            | "assign"
+            | "separator"
+            | "bound"
+            | "fail_write"
+            | "fail_flush"
     )
 }
 
@@ -83,14 +82,14 @@ impl Start {
 
     /// Adds what the step says.
     pub fn add(&mut self, alloc: Global, args: &[Arg<'_>]) -> Answer {
-        match word(args, 0) {
-            Word::Operand => self.operands.push(octets(alloc, text(args, 1))?)?,
-            Word::Assign => self.add_pair(alloc, args)?,
-            Word::Separator => self.separator = Some(octets(alloc, text(args, 1))?),
-            Word::Bound => self.bound = u64::from(count(args)?),
-            Word::FailWrite => self.log.bad_write = count(args)?,
-            Word::FailFlush => self.log.bad_flush = count(args)?,
-            Word::PutEnv => return self.add_env(alloc, args),
+        match name(args, 0) {
+            "operand" => self.operands.push(octets(alloc, text(args, 1))?)?,
+            "assign" => self.add_pair(alloc, args)?,
+            "separator" => self.separator = Some(octets(alloc, text(args, 1))?),
+            "bound" => self.bound = u64::from(count(args)?),
+            "fail_write" => self.log.bad_write = count(args)?,
+            "fail_flush" => self.log.bad_flush = count(args)?,
+            "put_env" => return self.add_env(alloc, args),
             _ => return prepare(alloc, &mut self.world, args),
         }
         bytes(alloc, b"done")

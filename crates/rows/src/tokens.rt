@@ -1,10 +1,9 @@
 // The tokens of scripts.
 
-use crate::args::{text, word};
+use crate::args::{name, text};
 use crate::problem::Problem;
 use crate::row::Arg;
 use crate::shown::Answer;
-use crate::words::Word;
 use awk_text::Memory;
 use awk_tokens::{Token, TokenKind, tokens};
 use std::alloc::Global;
@@ -58,9 +57,9 @@ pub fn listed(alloc: Global, tokens: &[Token], are_spans: bool) -> Answer {
 
 /// The answer of the call.
 pub fn call(alloc: Global, args: &[Arg<'_>]) -> Answer {
-    let are_spans = match word(args, 0) {
-        Word::Tokens => false,
-        Word::Spans => true,
+    let are_spans = match name(args, 0) {
+        "tokens" => false,
+        "spans" => true,
         _ => return Err(Problem::NoCall),
     };
     listed(alloc, &tokens(alloc, text(args, 1))?, are_spans)

@@ -1,10 +1,9 @@
 // Values, their arithmetic, and texts as scripts and logs write them.
 
-use crate::args::{number, text, values, word};
+use crate::args::{name, number, text, values};
 use crate::problem::Problem;
 use crate::row::Arg;
 use crate::shown::{Answer, bytes, show, show_value, yes_or_no};
-use crate::words::Word;
 use awk_text::arithmetic::{add, div, mul, neg, pow, rem, sub};
 use awk_text::escape::unescape;
 use awk_text::fault::Fault;
@@ -40,14 +39,14 @@ fn fault(alloc: Global, code: i64) -> Answer {
     Err(Problem::NoArgument)
 }
 
-fn of_two(call: Word, a: i64, b: i64) -> Result<i64, Problem> {
+fn of_two(call: &str, a: i64, b: i64) -> Result<i64, Problem> {
     let found = match call {
-        Word::Add => add(a, b),
-        Word::Sub => sub(a, b),
-        Word::Mul => mul(a, b),
-        Word::Div => div(a, b),
-        Word::Rem => rem(a, b),
-        Word::Pow => pow(a, b),
+        "add" => add(a, b),
+        "sub" => sub(a, b),
+        "mul" => mul(a, b),
+        "div" => div(a, b),
+        "rem" => rem(a, b),
+        "pow" => pow(a, b),
         _ => return Err(Problem::NoCall),
     };
     Ok(found?)
@@ -69,30 +68,30 @@ fn order(alloc: Global, a: &Value, b: &Value) -> Answer {
     bytes(alloc, order)
 }
 
-fn of_values(alloc: Global, call: Word, values: &[Value]) -> Answer {
+fn of_values(alloc: Global, call: &str, values: &[Value]) -> Answer {
     match (call, values) {
-        (Word::Number, [value]) => show(alloc, number_of(value)?),
-        (Word::Text, [value]) => Ok(text_of(alloc, value)?),
-        (Word::Truth, [value]) => yes_or_no(alloc, truth(value)),
-        (Word::Copy, [value]) => show_value(alloc, &value.copy(alloc)?),
-        (Word::Compare, [a, b]) => order(alloc, a, b),
+        ("number", [value]) => show(alloc, number_of(value)?),
+        ("text", [value]) => Ok(text_of(alloc, value)?),
+        ("truth", [value]) => yes_or_no(alloc, truth(value)),
+        ("copy", [value]) => show_value(alloc, &value.copy(alloc)?),
+        ("compare", [a, b]) => order(alloc, a, b),
         _ => Err(Problem::NoCall),
     }
 }
 
 /// The answer of the call.
 pub fn call(alloc: Global, args: &[Arg<'_>]) -> Answer {
-    match word(args, 0) {
-        Word::Fault => fault(alloc, number(args, 1)?),
-        Word::LooksNumeric => looks(alloc, text(args, 1)),
-        Word::Join => Ok(join(alloc, text(args, 1), text(args, 2))?),
-        Word::Unescape => Ok(unescape(alloc, text(args, 1))?),
-        Word::QuoteLog => Ok(quote_log(alloc, text(args, 1))?),
-        Word::Neg => show(alloc, neg(number(args, 1)?)?),
-        Word::Add | Word::Sub | Word::Mul | Word::Div | Word::Rem | Word::Pow => {
+    match name(args, 0) {
+        "fault" => fault(alloc, number(args, 1)?),
+        "looks_numeric" => looks(alloc, text(args, 1)),
+        "join" => Ok(join(alloc, text(args, 1), text(args, 2))?),
+        "unescape" => Ok(unescape(alloc, text(args, 1))?),
+        "quote_log" => Ok(quote_log(alloc, text(args, 1))?),
+        "neg" => show(alloc, neg(number(args, 1)?)?),
+        "add" | "sub" | "mul" | "div" | "rem" | "pow" => {
             show(
                 alloc,
-                of_two(word(args, 0), number(args, 1)?, number(args, 2)?)?,
+                of_two(name(args, 0), number(args, 1)?, number(args, 2)?)?,
             )
         }
         call => of_values(alloc, call, &values(alloc, args, 1)?),

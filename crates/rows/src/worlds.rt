@@ -2,11 +2,10 @@
 ghost use Rattle.std.specs.Prelude.{◌≡◌, ◌<◌, ◌++◌, ◌∷◌, [], IfOk, OnOk};
 ghost use Rattle.box_world.specs.Calls.{IsDuty, IsStream, numbers_after};
 
-use crate::args::{number, octets, text, word};
+use crate::args::{name, number, octets, text};
 use crate::problem::Problem;
 use crate::row::{Arg, Row};
 use crate::shown::{Answer, bytes, show, told};
-use crate::words::Word;
 use awk_text::octets::Octets;
 use awk_text::place::Place;
 use box_world::ask::{Ask, Mode, Reply, Request};
@@ -217,50 +216,50 @@ fn chunk(alloc: Global, world: &mut MemoryWorld, number: i64) -> Answer {
 
 /// What is left in the world.
 pub fn left(alloc: Global, world: &MemoryWorld, args: &[Arg<'_>]) -> Answer {
-    match word(args, 0) {
-        Word::Output => bytes(alloc, world.output()),
-        Word::Errors => bytes(alloc, world.errors()),
-        Word::Asks => show(alloc, world.asked().len()),
-        Word::File => bytes(alloc, world.file(text(args, 1)).unwrap_or(b"none")),
-        Word::Fed => bytes(alloc, world.fed(text(args, 1)).unwrap_or(b"none")),
+    match name(args, 0) {
+        "output" => bytes(alloc, world.output()),
+        "errors" => bytes(alloc, world.errors()),
+        "asks" => show(alloc, world.asked().len()),
+        "file" => bytes(alloc, world.file(text(args, 1)).unwrap_or(b"none")),
+        "fed" => bytes(alloc, world.fed(text(args, 1)).unwrap_or(b"none")),
         _ => Err(Problem::NoCall),
     }
 }
 
 /// Says what the world begins with, or what happens to it between the asks.
 pub fn prepare(alloc: Global, world: &mut MemoryWorld, args: &[Arg<'_>]) -> Answer {
-    match word(args, 0) {
-        Word::Command => put_command(alloc, world, text(args, 1), text(args, 2), number(args, 3)?),
-        Word::PutFile => put_file(alloc, world, text(args, 1), text(args, 2)),
-        Word::PutEnv => put_env(alloc, world, text(args, 1), text(args, 2)),
-        Word::PutInput => put_input(alloc, world, text(args, 1)),
-        Word::Chunk => chunk(alloc, world, number(args, 1)?),
-        Word::FailAt => fail_at(alloc, world, number(args, 1)?),
+    match name(args, 0) {
+        "command" => put_command(alloc, world, text(args, 1), text(args, 2), number(args, 3)?),
+        "put_file" => put_file(alloc, world, text(args, 1), text(args, 2)),
+        "put_env" => put_env(alloc, world, text(args, 1), text(args, 2)),
+        "put_input" => put_input(alloc, world, text(args, 1)),
+        "chunk" => chunk(alloc, world, number(args, 1)?),
+        "fail_at" => fail_at(alloc, world, number(args, 1)?),
         _ => left(alloc, world, args),
     }
 }
 
 /// A step on files and commands.
 fn stream_step(alloc: Global, world: &mut MemoryWorld, args: &[Arg<'_>]) -> Answer {
-    match word(args, 0) {
-        Word::Write => write(alloc, world, Mode::Write, text(args, 1), text(args, 2)),
-        Word::Append => write(alloc, world, Mode::Append, text(args, 1), text(args, 2)),
-        Word::WriteInTurn => write_in_turn(alloc, world, text(args, 1), text(args, 2)),
-        Word::Read => read(alloc, world, Mode::Read, text(args, 1)),
-        Word::ReadCommand => read(alloc, world, Mode::RunIn, text(args, 1)),
-        Word::Feed => feed(alloc, world, text(args, 1), text(args, 2)),
+    match name(args, 0) {
+        "write" => write(alloc, world, Mode::Write, text(args, 1), text(args, 2)),
+        "append" => write(alloc, world, Mode::Append, text(args, 1), text(args, 2)),
+        "write_in_turn" => write_in_turn(alloc, world, text(args, 1), text(args, 2)),
+        "read" => read(alloc, world, Mode::Read, text(args, 1)),
+        "read_command" => read(alloc, world, Mode::RunIn, text(args, 1)),
+        "feed" => feed(alloc, world, text(args, 1), text(args, 2)),
         _ => prepare(alloc, world, args),
     }
 }
 
 fn step(alloc: Global, world: &mut MemoryWorld, args: &[Arg<'_>]) -> Answer {
-    match word(args, 0) {
-        Word::Run => run(alloc, world, text(args, 1)),
-        Word::Put => put(alloc, world, standard(number(args, 1)?)?, text(args, 2)),
-        Word::Next => next(alloc, world, standard(number(args, 1)?)?),
-        Word::Shut => shut(alloc, world, standard(number(args, 1)?)?),
-        Word::Env => env(alloc, world, text(args, 1)),
-        Word::Assign => assign(alloc, world, text(args, 1), text(args, 2)),
+    match name(args, 0) {
+        "run" => run(alloc, world, text(args, 1)),
+        "put" => put(alloc, world, standard(number(args, 1)?)?, text(args, 2)),
+        "next" => next(alloc, world, standard(number(args, 1)?)?),
+        "shut" => shut(alloc, world, standard(number(args, 1)?)?),
+        "env" => env(alloc, world, text(args, 1)),
+        "assign" => assign(alloc, world, text(args, 1), text(args, 2)),
         _ => stream_step(alloc, world, args),
     }
 }
