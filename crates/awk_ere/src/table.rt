@@ -1,5 +1,5 @@
 // The search by a table.
-ghost use Rattle.std.specs.Prelude.{◌≡◌, ◌==◌, ◌↔◌, ◌+◌, ◌<◌, ◌≤◌, ℕ, length, Some, true, IfSome, IsTrue, slice_get, if◌then◌else◌};
+ghost use Rattle.std.specs.Prelude.{◌≡◌, ◌≢◌, ◌==◌, ◌↔◌, ◌+◌, ◌<◌, ◌≤◌, ℕ, length, Some, true, IfSome, IsTrue, slice_get, slice_index, if◌then◌else◌};
 ghost use Rattle.awk_ere.specs.Pattern.{Pattern};
 ghost use Rattle.awk_ere.specs.Table.{AllDead, IsAt, IsLongest, EndsSomewhere, NoneTo, IsBuilt, IsSought, IsEngine};
 ghost use Rattle.awk_ere.specs.declared.program.Step.TheVariants.{AtStart, Done};
@@ -188,6 +188,7 @@ fn dead_to(row: &[u8; 256], text: &[u8], from: usize) -> usize
     requires { from ≤ length text.now }
     ensures inside { (from ≤ result) × (result ≤ length text.now) }
     ensures dead { AllDead row.now text.now from result }
+    ensures next { result < length text.now → slice_index row.now (slice_index text.now result) ≢ 0 }
 {
     for place in from..text.len() {
         if row[text[place] as usize] != DEAD {

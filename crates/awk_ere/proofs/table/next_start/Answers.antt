@@ -1,4 +1,4 @@
-use Rattle.std.proofs.Common.{length, arith}
+use Rattle.std.proofs.Common.{arith}
 use Rattle.awk_ere.proofs.Seeking.{none_begin, none_dead}
 use Rattle.awk_ere.proofs.table.next_start.Goals as goal
 
