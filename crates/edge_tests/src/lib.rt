@@ -1,13 +1,8 @@
 //! What only a test in Rattle can show: a reader and a writer that give and take little or fail, memory that
-//! is refused, trees made by hand, whole runs and the calls of the system. These tests, and nothing else: they
-//! stand above all crates, since a crate with tests is proved once more for them. All other worked rows stand in
-//! the tables of `rows`.
+//! is refused, and the calls of the system. These tests, and nothing else: a crate with tests is proved once more
+//! for them, and they stand on no more than they try. All other worked rows stand in the tables of `rows`.
 #![tactic(auto)]
 
-#[cfg(test)]
-mod drive;
-#[cfg(test)]
-mod messages;
 #[cfg(test)]
 mod monitors;
 #[cfg(test)]
@@ -16,5 +11,3 @@ mod os_world;
 mod policies;
 #[cfg(test)]
 mod readers;
-#[cfg(test)]
-mod spellings;

@@ -1,6 +1,10 @@
 // The world of the system on real files and commands, which no contract speaks of.
-use awkbox::{Ask, Memory, Mode, Octets, OsWorld, Place, Reply, Request, Stop, World};
-use box_os::write_out;
+use awk_text::Memory;
+use awk_text::octets::Octets;
+use awk_text::place::Place;
+use box_os::{OsWorld, write_out};
+use box_world::ask::{Ask, Mode, Reply, Request, Stop};
+use box_world::world::World;
 use std::alloc::Global;
 use std::io::ErrorKind;
 use std::os::fd::AsRawFd;

@@ -3,30 +3,12 @@
 //! that does not hold and how many do. The tables begin with what a user needs to add one.
 #![tactic(auto)]
 
-mod args;
 mod asked;
-mod cursor;
-mod fields;
-mod formats;
-mod library;
-mod listings;
-mod monitors;
-mod parses;
-mod patterns;
-mod policies;
-mod problem;
-mod programs;
-mod records;
 mod report;
-mod row;
 mod run_log;
 mod runs;
-mod shown;
 mod start;
 mod table;
-mod tokens;
-mod values;
-mod worlds;
 
 use report::Report;
 use std::process::ExitCode;

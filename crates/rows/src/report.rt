@@ -1,12 +1,12 @@
 // Which rows hold.
 
-use crate::cursor::Cursor;
-use crate::problem::Problem;
-use crate::row::Row;
-use crate::shown::told;
 use crate::table::Table;
 use awk_text::octets::Octets;
 use awk_text::quote::quote_log;
+use row_tables::cursor::Cursor;
+use row_tables::problem::Problem;
+use row_tables::row::Row;
+use row_tables::shown::told;
 use std::alloc::Global;
 use std::rt::Files;
 use std::{fs, slice, str};

@@ -1,15 +1,15 @@
 // Whole runs: scripts under a policy, over the world in memory.
 
-use crate::args::{name, text};
 use crate::asked::asked;
-use crate::problem::Problem;
-use crate::row::{Arg, Row};
 use crate::run_log::RunLog;
-use crate::shown::{Answer, bytes, show, told};
 use crate::start::{Start, is_start};
-use crate::worlds::left;
 use awk_text::octets::Octets;
 use awkbox::{Driven, Ending, LogEnd, MemoryWorld, Refusal, Report};
+use library_rows::worlds::left;
+use row_tables::args::{name, text};
+use row_tables::problem::Problem;
+use row_tables::row::{Arg, Row};
+use row_tables::shown::{Answer, bytes, show, told};
 use std::alloc::Global;
 
 /// What the program says at its end: nothing, or a message.

@@ -1,13 +1,13 @@
 // What a run begins with.
 
-use crate::args::{name, number, octets, text};
-use crate::problem::Problem;
-use crate::row::Arg;
 use crate::run_log::RunLog;
-use crate::shown::{Answer, bytes};
-use crate::worlds::prepare;
 use awk_text::octets::Octets;
 use awkbox::{Driven, MemoryWorld, Setup, drive};
+use library_rows::worlds::prepare;
+use row_tables::args::{name, number, octets, text};
+use row_tables::problem::Problem;
+use row_tables::row::Arg;
+use row_tables::shown::{Answer, bytes};
 use std::alloc::Global;
 
 /// How many steps a run may take where its row does not say.

@@ -1,13 +1,14 @@
 // The tables, and which calls stand in which.
 
-use crate::problem::Problem;
-use crate::row::{Arg, Row};
-use crate::shown::Answer;
-use crate::{
-    fields, formats, library, listings, monitors, parses, patterns, policies, programs, records,
-    runs, tokens, values, worlds,
-};
+use crate::runs;
 use awk_text::octets::Octets;
+use library_rows::{
+    fields, formats, library, monitors, patterns, policies, records, tokens, values, worlds,
+};
+use row_tables::problem::Problem;
+use row_tables::row::{Arg, Row};
+use row_tables::shown::Answer;
+use script_rows::{listings, parses, programs};
 use std::alloc::Global;
 
 /// A table: a file of rows about one subject.

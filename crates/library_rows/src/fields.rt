@@ -1,13 +1,13 @@
 // Fields of texts, and records of inputs.
 ghost use Rattle.std.specs.Prelude.{◌<◌};
 
-use crate::args::{name, octets, text};
-use crate::problem::Problem;
-use crate::row::Arg;
-use crate::shown::{Answer, bracketed, show};
 use awk_fields::{Record, Splitter, records, split};
 use awk_text::fault::Fault;
 use awk_text::octets::Octets;
+use row_tables::args::{name, octets, text};
+use row_tables::problem::Problem;
+use row_tables::row::Arg;
+use row_tables::shown::{Answer, bracketed, show};
 use std::alloc::Global;
 
 fn splitter(alloc: Global, call: &str, separator: &[u8]) -> Result<Splitter, Problem> {

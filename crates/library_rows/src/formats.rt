@@ -1,10 +1,10 @@
 // `printf` and `sprintf`.
 
-use crate::args::{name, text, values};
-use crate::problem::Problem;
-use crate::row::Arg;
-use crate::shown::Answer;
 use awk_format::format;
+use row_tables::args::{name, text, values};
+use row_tables::problem::Problem;
+use row_tables::row::Arg;
+use row_tables::shown::Answer;
 use std::alloc::Global;
 
 /// The answer of the call.

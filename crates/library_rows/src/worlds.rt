@@ -2,15 +2,15 @@
 ghost use Rattle.std.specs.Prelude.{◌≡◌, ◌<◌, ◌++◌, ◌∷◌, [], IfOk, OnOk};
 ghost use Rattle.box_world.specs.Calls.{IsDuty, IsStream, numbers_after};
 
-use crate::args::{name, number, octets, text};
-use crate::problem::Problem;
-use crate::row::{Arg, Row};
-use crate::shown::{Answer, bytes, show, told};
 use awk_text::octets::Octets;
 use awk_text::place::Place;
 use box_world::ask::{Ask, Mode, Reply, Request};
 use box_world::memory_world::MemoryWorld;
 use box_world::world::World;
+use row_tables::args::{name, number, octets, text};
+use row_tables::problem::Problem;
+use row_tables::row::{Arg, Row};
+use row_tables::shown::{Answer, bytes, show, told};
 use std::alloc::Global;
 
 /// A reply, as rows write it.

@@ -1,9 +1,5 @@
 // Values, their arithmetic, and texts as scripts and logs write them.
 
-use crate::args::{name, number, text, values};
-use crate::problem::Problem;
-use crate::row::Arg;
-use crate::shown::{Answer, bytes, show, show_value, yes_or_no};
 use awk_text::arithmetic::{add, div, mul, neg, pow, rem, sub};
 use awk_text::escape::unescape;
 use awk_text::fault::Fault;
@@ -11,6 +7,10 @@ use awk_text::numeral::looks_numeric;
 use awk_text::quote::quote_log;
 use awk_text::texts::join;
 use awk_text::value::{Value, compare, number_of, text_of, truth};
+use row_tables::args::{name, number, text, values};
+use row_tables::problem::Problem;
+use row_tables::row::Arg;
+use row_tables::shown::{Answer, bytes, show, show_value, yes_or_no};
 use std::alloc::Global;
 use std::cmp::Ordering;
 

@@ -1,13 +1,13 @@
 // Scripts in the form that runs, as they are printed.
 
-use crate::args::{name, text};
 use crate::parses::script;
-use crate::problem::Problem;
-use crate::row::Arg;
-use crate::shown::Answer;
 use awk_printer::printed;
 use awk_text::Memory;
 use awk_text::numeral::leading_digits;
+use row_tables::args::{name, text};
+use row_tables::problem::Problem;
+use row_tables::row::Arg;
+use row_tables::shown::Answer;
 use std::alloc::Global;
 
 fn program(alloc: Global, text: &[u8]) -> Answer {

@@ -1,13 +1,13 @@
 // Arrays, and the built-in functions on texts.
 
-use crate::args::{name, number, octets, text};
-use crate::problem::Problem;
-use crate::row::{Arg, Row};
-use crate::shown::{Answer, bracketed, bytes, show, told};
 use awk_ere::Ere;
 use awk_lib::array::Array;
 use awk_lib::{index, replace, substr, to_case};
 use awk_text::octets::Octets;
+use row_tables::args::{name, number, octets, text};
+use row_tables::problem::Problem;
+use row_tables::row::{Arg, Row};
+use row_tables::shown::{Answer, bracketed, bytes, show, told};
 use std::alloc::Global;
 
 fn substr_of(alloc: Global, args: &[Arg<'_>]) -> Answer {

@@ -1,11 +1,11 @@
 // Patterns, and the search for their matches.
 ghost use Rattle.std.specs.Prelude.{◌≤◌, length};
 
-use crate::args::{name, number, text};
-use crate::problem::Problem;
-use crate::row::Arg;
-use crate::shown::{Answer, bytes, yes_or_no};
 use awk_ere::{Ere, Plain};
+use row_tables::args::{name, number, text};
+use row_tables::problem::Problem;
+use row_tables::row::Arg;
+use row_tables::shown::{Answer, bytes, yes_or_no};
 use std::alloc::Global;
 
 /// Where a match begins and ends, as the numbers of bytes before.

@@ -1,11 +1,11 @@
 // The tokens of scripts.
 
-use crate::args::{name, text};
-use crate::problem::Problem;
-use crate::row::Arg;
-use crate::shown::Answer;
 use awk_text::Memory;
 use awk_tokens::{Token, TokenKind, tokens};
+use row_tables::args::{name, text};
+use row_tables::problem::Problem;
+use row_tables::row::Arg;
+use row_tables::shown::Answer;
 use std::alloc::Global;
 
 fn kind_word(kind: TokenKind) -> &'static str {

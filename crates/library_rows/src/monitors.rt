@@ -2,10 +2,6 @@
 ghost use Rattle.std.specs.Prelude.{◌≡◌, ℕ, List, IfOk};
 ghost use Rattle.box_world.specs.Calls.{IsDuty};
 
-use crate::args::{bare, name, octets, text};
-use crate::problem::Problem;
-use crate::row::{Arg, Row};
-use crate::shown::{Answer, bytes, show, told};
 use crate::worlds::{left, show_reply};
 use awk_text::numeral::leading_digits;
 use awk_text::octets::Octets;
@@ -16,6 +12,10 @@ use box_world::ask::{Ask, Mode, Request};
 use box_world::memory_world::MemoryWorld;
 use box_world::world::World;
 use memchr::memchr;
+use row_tables::args::{bare, name, octets, text};
+use row_tables::problem::Problem;
+use row_tables::row::{Arg, Row};
+use row_tables::shown::{Answer, bytes, show, told};
 use std::alloc::Global;
 
 fn part(digits: &[u8]) -> Result<u32, Problem> {

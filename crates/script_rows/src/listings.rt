@@ -1,13 +1,13 @@
 // What scripts may ask, as it is listed, and as it stands to a policy.
 
-use crate::args::{name, text};
 use crate::parses::script;
-use crate::problem::Problem;
-use crate::row::{Arg, Row};
-use crate::shown::{Answer, told};
 use awk_text::octets::Octets;
 use box_listing::{check, lines_of, sites, verdict_lines};
 use box_policy::policy::Policy;
+use row_tables::args::{name, text};
+use row_tables::problem::Problem;
+use row_tables::row::{Arg, Row};
+use row_tables::shown::{Answer, told};
 use std::alloc::Global;
 
 fn listed(alloc: Global, text: &[u8]) -> Answer {
