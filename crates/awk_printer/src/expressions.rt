@@ -1,7 +1,8 @@
 // Expressions. Each call counts down a level, which is more than any program has: one of that many
 // boxes has no room in memory.
 
-ghost use Rattle.std.specs.Prelude.{◌≡◌, [], ◌∷◌, ◌++◌, OnOk, codes, map, option_map};
+ghost use Rattle.std.specs.Prelude.{[], ◌∷◌, ◌++◌, codes, map, option_map};
+ghost use Rattle.awk_printer.specs.Pages.{Adds};
 ghost use Rattle.awk_printer.specs.Printed.{variable_text, expression_text, reference_text, ere_text, expressions_text, list_text, perhaps_text, terms_text, joins_text, pipes_text, arguments_text};
 ghost use Rattle.awk_printer.specs.Words as spec;
 ghost use Rattle.awk_printer.specs.Words.{names_in};
@@ -9,22 +10,21 @@ ghost use Rattle.awk_program.specs.Program as p;
 ghost use Rattle.awk_program.specs.Program.{terms_of, joins_of, expressions_of};
 ghost use Rattle.awk_program.specs.View.{variable_of, view, view_target, view_ere, view_term, view_joined, view_pipes, view_arguments};
 
+use crate::page::{Page, cut};
 use crate::pieces::{close, number, open, ordinal, place, quoted, text, variable, variables, word};
 use crate::words::{
     change_text, comparison_text, extent_text, measure_text, operator_text, sign_text, step_text,
 };
 use awk_program::{Argument, Expr, Joined, Name, Pattern, Piped, Target, Term, Variable};
-use awk_text::Memory;
 use awk_text::place::Place;
-use std::alloc::AllocError;
 
 /// Prints an expression of at most this depth.
 #[cycle(expression)]
-pub fn expression(names: &[Name], e: &Expr, level: u32, out: &mut Vec<u8>) -> Result<(), Memory>
-    ensures { OnOk result (out.new.items ≡ out.old.items ++ expression_text (view (names_in names.now) e.now)) }
+pub fn expression(names: &[Name], e: &Expr, level: u32, out: &mut Page)
+    ensures { Adds out.old out.new (expression_text (view (names_in names.now) e.now)) }
 {
     if level == 0 {
-        return Err(AllocError);
+        return cut(out);
     }
     let below = level - 1;
     match e {
@@ -80,97 +80,68 @@ pub fn expression(names: &[Name], e: &Expr, level: u32, out: &mut Vec<u8>) -> Re
 }
 
 /// `$0 ~` an ERE
-fn record_pattern(q: Place, x: &[u8], out: &mut Vec<u8>) -> Result<(), Memory>
-    ensures { OnOk result (out.new.items ≡ out.old.items ++ expression_text (p.pattern q x.now)) }
+fn record_pattern(q: Place, x: &[u8], out: &mut Page)
+    ensures { Adds out.old out.new (expression_text (p.pattern q x.now)) }
 {
-    open("record~", out)?;
-    place(q, out)?;
-    quoted(b'/', x, out)?;
+    open("record~", out);
+    place(q, out);
+    quoted(b'/', x, out);
     close(out)
 }
 
 /// A form of one expression.
 #[cycle(expression)]
-fn one(names: &[Name], head: &str, x: &Expr, level: u32, out: &mut Vec<u8>) -> Result<(), Memory>
-    ensures { OnOk result (out.new.items ≡ out.old.items ++ spec.form head.now (expression_text (view (names_in names.now) x.now) ∷ [])) }
+fn one(names: &[Name], head: &str, x: &Expr, level: u32, out: &mut Page)
+    ensures { Adds out.old out.new (spec.form head.now (expression_text (view (names_in names.now) x.now) ∷ [])) }
 {
-    open(head, out)?;
-    expression(names, x, level, out)?;
+    open(head, out);
+    expression(names, x, level, out);
     close(out)
 }
 
 /// A form of two expressions.
 #[cycle(expression)]
-fn two(
-    names: &[Name],
-    head: &str,
-    x: &Expr,
-    y: &Expr,
-    level: u32,
-    out: &mut Vec<u8>,
-) -> Result<(), Memory>
-    ensures { OnOk result (out.new.items ≡ out.old.items ++ spec.form head.now (expression_text (view (names_in names.now) x.now) ∷ expression_text (view (names_in names.now) y.now) ∷ [])) }
+fn two(names: &[Name], head: &str, x: &Expr, y: &Expr, level: u32, out: &mut Page)
+    ensures { Adds out.old out.new (spec.form head.now (expression_text (view (names_in names.now) x.now) ∷ expression_text (view (names_in names.now) y.now) ∷ [])) }
 {
-    open(head, out)?;
-    expression(names, x, level, out)?;
-    expression(names, y, level, out)?;
+    open(head, out);
+    expression(names, x, level, out);
+    expression(names, y, level, out);
     close(out)
 }
 
 /// `test ? then : else`
 #[cycle(expression)]
-fn choice(
-    names: &[Name],
-    x: &Expr,
-    y: &Expr,
-    z: &Expr,
-    level: u32,
-    out: &mut Vec<u8>,
-) -> Result<(), Memory>
-    ensures { OnOk result (out.new.items ≡ out.old.items ++ spec.form (codes "?") (expression_text (view (names_in names.now) x.now) ∷ expression_text (view (names_in names.now) y.now) ∷ expression_text (view (names_in names.now) z.now) ∷ [])) }
+fn choice(names: &[Name], x: &Expr, y: &Expr, z: &Expr, level: u32, out: &mut Page)
+    ensures { Adds out.old out.new (spec.form (codes "?") (expression_text (view (names_in names.now) x.now) ∷ expression_text (view (names_in names.now) y.now) ∷ expression_text (view (names_in names.now) z.now) ∷ [])) }
 {
-    open("?", out)?;
-    expression(names, x, level, out)?;
-    expression(names, y, level, out)?;
-    expression(names, z, level, out)?;
+    open("?", out);
+    expression(names, x, level, out);
+    expression(names, y, level, out);
+    expression(names, z, level, out);
     close(out)
 }
 
 /// A form of a place and an expression.
 #[cycle(expression)]
-pub fn at_one(
-    names: &[Name],
-    head: &str,
-    q: Place,
-    x: &Expr,
-    level: u32,
-    out: &mut Vec<u8>,
-) -> Result<(), Memory>
-    ensures { OnOk result (out.new.items ≡ out.old.items ++ spec.form head.now (spec.placed q ∷ expression_text (view (names_in names.now) x.now) ∷ [])) }
+pub fn at_one(names: &[Name], head: &str, q: Place, x: &Expr, level: u32, out: &mut Page)
+    ensures { Adds out.old out.new (spec.form head.now (spec.placed q ∷ expression_text (view (names_in names.now) x.now) ∷ [])) }
 {
-    open(head, out)?;
-    place(q, out)?;
-    expression(names, x, level, out)?;
+    open(head, out);
+    place(q, out);
+    expression(names, x, level, out);
     close(out)
 }
 
 /// A form of a place and two expressions.
 #[cycle(expression)]
-fn at_two(
-    names: &[Name],
-    head: &str,
-    q: Place,
-    x: &Expr,
-    y: &Expr,
-    level: u32,
-    out: &mut Vec<u8>,
-) -> Result<(), Memory>
-    ensures { OnOk result (out.new.items ≡ out.old.items ++ spec.form head.now (spec.placed q ∷ expression_text (view (names_in names.now) x.now) ∷ expression_text (view (names_in names.now) y.now) ∷ [])) }
+fn at_two(names: &[Name], head: &str, q: Place, x: &Expr, y: &Expr, level: u32, out: &mut Page)
+    ensures { Adds out.old out.new (spec.form head.now (spec.placed q ∷ expression_text (view (names_in names.now) x.now) ∷ expression_text (view (names_in names.now) y.now) ∷ [])) }
 {
-    open(head, out)?;
-    place(q, out)?;
-    expression(names, x, level, out)?;
-    expression(names, y, level, out)?;
+    open(head, out);
+    place(q, out);
+    expression(names, x, level, out);
+    expression(names, y, level, out);
     close(out)
 }
 
@@ -184,33 +155,26 @@ fn at_three(
     y: &Expr,
     z: &Expr,
     level: u32,
-    out: &mut Vec<u8>,
-) -> Result<(), Memory>
-    ensures { OnOk result (out.new.items ≡ out.old.items ++ spec.form head.now (spec.placed q ∷ expression_text (view (names_in names.now) x.now) ∷ expression_text (view (names_in names.now) y.now) ∷ expression_text (view (names_in names.now) z.now) ∷ [])) }
+    out: &mut Page,
+)
+    ensures { Adds out.old out.new (spec.form head.now (spec.placed q ∷ expression_text (view (names_in names.now) x.now) ∷ expression_text (view (names_in names.now) y.now) ∷ expression_text (view (names_in names.now) z.now) ∷ [])) }
 {
-    open(head, out)?;
-    place(q, out)?;
-    expression(names, x, level, out)?;
-    expression(names, y, level, out)?;
-    expression(names, z, level, out)?;
+    open(head, out);
+    place(q, out);
+    expression(names, x, level, out);
+    expression(names, y, level, out);
+    expression(names, z, level, out);
     close(out)
 }
 
 /// A form of a place and what is set.
 #[cycle(expression)]
-fn at_target(
-    names: &[Name],
-    head: &str,
-    q: Place,
-    r: &Target<Expr>,
-    level: u32,
-    out: &mut Vec<u8>,
-) -> Result<(), Memory>
-    ensures { OnOk result (out.new.items ≡ out.old.items ++ spec.form head.now (spec.placed q ∷ reference_text (view_target (names_in names.now) r.now) ∷ [])) }
+fn at_target(names: &[Name], head: &str, q: Place, r: &Target<Expr>, level: u32, out: &mut Page)
+    ensures { Adds out.old out.new (spec.form head.now (spec.placed q ∷ reference_text (view_target (names_in names.now) r.now) ∷ [])) }
 {
-    open(head, out)?;
-    place(q, out)?;
-    target(names, r, level, out)?;
+    open(head, out);
+    place(q, out);
+    target(names, r, level, out);
     close(out)
 }
 
@@ -223,14 +187,14 @@ fn setting(
     r: &Target<Expr>,
     x: &Expr,
     level: u32,
-    out: &mut Vec<u8>,
-) -> Result<(), Memory>
-    ensures { OnOk result (out.new.items ≡ out.old.items ++ spec.form head.now (spec.placed q ∷ reference_text (view_target (names_in names.now) r.now) ∷ expression_text (view (names_in names.now) x.now) ∷ [])) }
+    out: &mut Page,
+)
+    ensures { Adds out.old out.new (spec.form head.now (spec.placed q ∷ reference_text (view_target (names_in names.now) r.now) ∷ expression_text (view (names_in names.now) x.now) ∷ [])) }
 {
-    open(head, out)?;
-    place(q, out)?;
-    target(names, r, level, out)?;
-    expression(names, x, level, out)?;
+    open(head, out);
+    place(q, out);
+    target(names, r, level, out);
+    expression(names, x, level, out);
     close(out)
 }
 
@@ -243,86 +207,59 @@ fn at_match(
     x: &Expr,
     y: &Pattern<Expr>,
     level: u32,
-    out: &mut Vec<u8>,
-) -> Result<(), Memory>
-    ensures { OnOk result (out.new.items ≡ out.old.items ++ spec.form head.now (spec.placed q ∷ expression_text (view (names_in names.now) x.now) ∷ ere_text (view_ere (names_in names.now) y.now) ∷ [])) }
+    out: &mut Page,
+)
+    ensures { Adds out.old out.new (spec.form head.now (spec.placed q ∷ expression_text (view (names_in names.now) x.now) ∷ ere_text (view_ere (names_in names.now) y.now) ∷ [])) }
 {
-    open(head, out)?;
-    place(q, out)?;
-    expression(names, x, level, out)?;
-    ere(names, y, level, out)?;
+    open(head, out);
+    place(q, out);
+    expression(names, x, level, out);
+    ere(names, y, level, out);
     close(out)
 }
 
 /// A form of an expression and a list.
 #[cycle(expression)]
-fn many(
-    names: &[Name],
-    head: &str,
-    x: &Expr,
-    xs: &[Expr],
-    level: u32,
-    out: &mut Vec<u8>,
-) -> Result<(), Memory>
-    ensures { OnOk result (out.new.items ≡ out.old.items ++ spec.form head.now (expression_text (view (names_in names.now) x.now) ∷ list_text (map (view (names_in names.now)) xs.now) ∷ [])) }
+fn many(names: &[Name], head: &str, x: &Expr, xs: &[Expr], level: u32, out: &mut Page)
+    ensures { Adds out.old out.new (spec.form head.now (expression_text (view (names_in names.now) x.now) ∷ list_text (map (view (names_in names.now)) xs.now) ∷ [])) }
 {
-    open(head, out)?;
-    expression(names, x, level, out)?;
-    list(names, xs, level, out)?;
+    open(head, out);
+    expression(names, x, level, out);
+    list(names, xs, level, out);
     close(out)
 }
 
 #[cycle(expression)]
-fn sprintf(
-    names: &[Name],
-    q: Place,
-    x: &Expr,
-    xs: &[Expr],
-    level: u32,
-    out: &mut Vec<u8>,
-) -> Result<(), Memory>
-    ensures { OnOk result (out.new.items ≡ out.old.items ++ spec.form (codes "sprintf") (spec.placed q ∷ expression_text (view (names_in names.now) x.now) ∷ list_text (map (view (names_in names.now)) xs.now) ∷ [])) }
+fn sprintf(names: &[Name], q: Place, x: &Expr, xs: &[Expr], level: u32, out: &mut Page)
+    ensures { Adds out.old out.new (spec.form (codes "sprintf") (spec.placed q ∷ expression_text (view (names_in names.now) x.now) ∷ list_text (map (view (names_in names.now)) xs.now) ∷ [])) }
 {
-    open("sprintf", out)?;
-    place(q, out)?;
-    expression(names, x, level, out)?;
-    list(names, xs, level, out)?;
+    open("sprintf", out);
+    place(q, out);
+    expression(names, x, level, out);
+    list(names, xs, level, out);
     close(out)
 }
 
 #[cycle(expression)]
-fn member(
-    names: &[Name],
-    x: &Expr,
-    vs: &[Variable],
-    level: u32,
-    out: &mut Vec<u8>,
-) -> Result<(), Memory>
-    ensures { OnOk result (out.new.items ≡ out.old.items ++ expression_text (p.member (view (names_in names.now) x.now) (map (variable_of (names_in names.now)) vs.now))) }
+fn member(names: &[Name], x: &Expr, vs: &[Variable], level: u32, out: &mut Page)
+    ensures { Adds out.old out.new (expression_text (p.member (view (names_in names.now) x.now) (map (variable_of (names_in names.now)) vs.now))) }
 {
-    open("in", out)?;
-    expression(names, x, level, out)?;
-    variables(names, vs, out)?;
+    open("in", out);
+    expression(names, x, level, out);
+    variables(names, vs, out);
     close(out)
 }
 
 #[cycle(expression)]
-fn group(
-    names: &[Name],
-    q: Place,
-    xs: &[Expr],
-    vs: &[Variable],
-    level: u32,
-    out: &mut Vec<u8>,
-) -> Result<(), Memory>
-    ensures { OnOk result (out.new.items ≡ out.old.items ++ expression_text (p.group q (expressions_of (map (view (names_in names.now)) xs.now)) (map (variable_of (names_in names.now)) vs.now))) }
+fn group(names: &[Name], q: Place, xs: &[Expr], vs: &[Variable], level: u32, out: &mut Page)
+    ensures { Adds out.old out.new (expression_text (p.group q (expressions_of (map (view (names_in names.now)) xs.now)) (map (variable_of (names_in names.now)) vs.now))) }
 {
-    open("in", out)?;
-    place(q, out)?;
-    open("list", out)?;
-    list(names, xs, level, out)?;
-    close(out)?;
-    variables(names, vs, out)?;
+    open("in", out);
+    place(q, out);
+    open("list", out);
+    list(names, xs, level, out);
+    close(out);
+    variables(names, vs, out);
     close(out)
 }
 
@@ -335,16 +272,16 @@ fn split(
     v: Variable,
     y: &Pattern<Expr>,
     level: u32,
-    out: &mut Vec<u8>,
-) -> Result<(), Memory>
-    ensures { OnOk result (out.new.items ≡ out.old.items ++ expression_text (p.split q (view (names_in names.now) x.now) at (variable_of (names_in names.now) v) (view_ere (names_in names.now) y.now))) }
+    out: &mut Page,
+)
+    ensures { Adds out.old out.new (expression_text (p.split q (view (names_in names.now) x.now) at (variable_of (names_in names.now) v) (view_ere (names_in names.now) y.now))) }
 {
-    open("split", out)?;
-    place(q, out)?;
-    expression(names, x, level, out)?;
-    place(at, out)?;
-    variable(names, v, out)?;
-    ere(names, y, level, out)?;
+    open("split", out);
+    place(q, out);
+    expression(names, x, level, out);
+    place(at, out);
+    variable(names, v, out);
+    ere(names, y, level, out);
     close(out)
 }
 
@@ -357,22 +294,22 @@ fn substitute(
     y: &Expr,
     r: &Target<Expr>,
     level: u32,
-    out: &mut Vec<u8>,
-) -> Result<(), Memory>
-    ensures { OnOk result (out.new.items ≡ out.old.items ++ spec.form head.now (spec.placed q ∷ ere_text (view_ere (names_in names.now) x.now) ∷ expression_text (view (names_in names.now) y.now) ∷ reference_text (view_target (names_in names.now) r.now) ∷ [])) }
+    out: &mut Page,
+)
+    ensures { Adds out.old out.new (spec.form head.now (spec.placed q ∷ ere_text (view_ere (names_in names.now) x.now) ∷ expression_text (view (names_in names.now) y.now) ∷ reference_text (view_target (names_in names.now) r.now) ∷ [])) }
 {
-    open(head, out)?;
-    place(q, out)?;
-    ere(names, x, level, out)?;
-    expression(names, y, level, out)?;
-    target(names, r, level, out)?;
+    open(head, out);
+    place(q, out);
+    ere(names, x, level, out);
+    expression(names, y, level, out);
+    target(names, r, level, out);
     close(out)
 }
 
 /// Whatever is read or set.
 #[cycle(expression)]
-fn target(names: &[Name], r: &Target<Expr>, level: u32, out: &mut Vec<u8>) -> Result<(), Memory>
-    ensures { OnOk result (out.new.items ≡ out.old.items ++ reference_text (view_target (names_in names.now) r.now)) }
+fn target(names: &[Name], r: &Target<Expr>, level: u32, out: &mut Page)
+    ensures { Adds out.old out.new (reference_text (view_target (names_in names.now) r.now)) }
 {
     match r {
         Target::Variable(v) => variable(names, *v, out),
@@ -390,25 +327,25 @@ pub fn element(
     v: Variable,
     xs: &[Expr],
     level: u32,
-    out: &mut Vec<u8>,
-) -> Result<(), Memory>
-    ensures { OnOk result (out.new.items ≡ out.old.items ++ spec.form head.now (spec.placed q ∷ variable_text (variable_of (names_in names.now) v) ∷ list_text (map (view (names_in names.now)) xs.now) ∷ [])) }
+    out: &mut Page,
+)
+    ensures { Adds out.old out.new (spec.form head.now (spec.placed q ∷ variable_text (variable_of (names_in names.now) v) ∷ list_text (map (view (names_in names.now)) xs.now) ∷ [])) }
 {
-    open(head, out)?;
-    place(q, out)?;
-    variable(names, v, out)?;
-    list(names, xs, level, out)?;
+    open(head, out);
+    place(q, out);
+    variable(names, v, out);
+    list(names, xs, level, out);
     close(out)
 }
 
 /// What stands where a pattern is wanted.
 #[cycle(expression)]
-fn ere(names: &[Name], x: &Pattern<Expr>, level: u32, out: &mut Vec<u8>) -> Result<(), Memory>
-    ensures { OnOk result (out.new.items ≡ out.old.items ++ ere_text (view_ere (names_in names.now) x.now)) }
+fn ere(names: &[Name], x: &Pattern<Expr>, level: u32, out: &mut Page)
+    ensures { Adds out.old out.new (ere_text (view_ere (names_in names.now) x.now)) }
 {
     match x {
         Pattern::Constant(q, x) => {
-            place(*q, out)?;
+            place(*q, out);
             quoted(b'/', x.bytes(), out)
         }
         Pattern::Computed(x) => expression(names, x.get(), level, out),
@@ -416,23 +353,17 @@ fn ere(names: &[Name], x: &Pattern<Expr>, level: u32, out: &mut Vec<u8>) -> Resu
 }
 
 #[cycle(expression)]
-pub fn list(names: &[Name], xs: &[Expr], level: u32, out: &mut Vec<u8>) -> Result<(), Memory>
-    ensures { OnOk result (out.new.items ≡ out.old.items ++ list_text (map (view (names_in names.now)) xs.now)) }
+pub fn list(names: &[Name], xs: &[Expr], level: u32, out: &mut Page)
+    ensures { Adds out.old out.new (list_text (map (view (names_in names.now)) xs.now)) }
 {
     for x in xs {
-        expression(names, x, level, out)?;
+        expression(names, x, level, out);
     }
-    Ok(())
 }
 
 /// An expression that may be absent.
-pub fn perhaps(
-    names: &[Name],
-    x: &Option<Expr>,
-    level: u32,
-    out: &mut Vec<u8>,
-) -> Result<(), Memory>
-    ensures { OnOk result (out.new.items ≡ out.old.items ++ perhaps_text (option_map (view (names_in names.now)) x.now)) }
+pub fn perhaps(names: &[Name], x: &Option<Expr>, level: u32, out: &mut Page)
+    ensures { Adds out.old out.new (perhaps_text (option_map (view (names_in names.now)) x.now)) }
 {
     match x {
         None => text(" -", out),
@@ -441,154 +372,120 @@ pub fn perhaps(
 }
 
 #[cycle(expression)]
-fn chain(
-    names: &[Name],
-    x: &Expr,
-    xs: &[Term<Expr>],
-    level: u32,
-    out: &mut Vec<u8>,
-) -> Result<(), Memory>
-    ensures { OnOk result (out.new.items ≡ out.old.items ++ expression_text (p.chain (view (names_in names.now) x.now) (terms_of (map (view_term (names_in names.now)) xs.now)))) }
+fn chain(names: &[Name], x: &Expr, xs: &[Term<Expr>], level: u32, out: &mut Page)
+    ensures { Adds out.old out.new (expression_text (p.chain (view (names_in names.now) x.now) (terms_of (map (view_term (names_in names.now)) xs.now)))) }
 {
-    open("chain", out)?;
-    expression(names, x, level, out)?;
-    terms(names, xs, level, out)?;
+    open("chain", out);
+    expression(names, x, level, out);
+    terms(names, xs, level, out);
     close(out)
 }
 
 #[cycle(expression)]
-fn terms(names: &[Name], xs: &[Term<Expr>], level: u32, out: &mut Vec<u8>) -> Result<(), Memory>
-    ensures { OnOk result (out.new.items ≡ out.old.items ++ terms_text (terms_of (map (view_term (names_in names.now)) xs.now))) }
+fn terms(names: &[Name], xs: &[Term<Expr>], level: u32, out: &mut Page)
+    ensures { Adds out.old out.new (terms_text (terms_of (map (view_term (names_in names.now)) xs.now))) }
 {
     for x in xs {
-        term(names, x, level, out)?;
+        term(names, x, level, out);
     }
-    Ok(())
 }
 
 #[cycle(expression)]
-fn term(names: &[Name], x: &Term<Expr>, level: u32, out: &mut Vec<u8>) -> Result<(), Memory>
-    ensures { OnOk result (out.new.items ≡ out.old.items ++ (spec.word (spec.operator_text x.now.operator) ++ (spec.placed x.now.place ++ expression_text (view (names_in names.now) x.now.operand)))) }
+fn term(names: &[Name], x: &Term<Expr>, level: u32, out: &mut Page)
+    ensures { Adds out.old out.new (spec.word (spec.operator_text x.now.operator) ++ (spec.placed x.now.place ++ expression_text (view (names_in names.now) x.now.operand))) }
 {
-    word(operator_text(x.operator).as_bytes(), out)?;
-    place(x.place, out)?;
+    word(operator_text(x.operator).as_bytes(), out);
+    place(x.place, out);
     expression(names, &x.operand, level, out)
 }
 
 #[cycle(expression)]
-fn concat(
-    names: &[Name],
-    x: &Expr,
-    xs: &[Joined<Expr>],
-    level: u32,
-    out: &mut Vec<u8>,
-) -> Result<(), Memory>
-    ensures { OnOk result (out.new.items ≡ out.old.items ++ expression_text (p.concat (view (names_in names.now) x.now) (joins_of (map (view_joined (names_in names.now)) xs.now)))) }
+fn concat(names: &[Name], x: &Expr, xs: &[Joined<Expr>], level: u32, out: &mut Page)
+    ensures { Adds out.old out.new (expression_text (p.concat (view (names_in names.now) x.now) (joins_of (map (view_joined (names_in names.now)) xs.now)))) }
 {
-    open("concat", out)?;
-    expression(names, x, level, out)?;
-    joins(names, xs, level, out)?;
+    open("concat", out);
+    expression(names, x, level, out);
+    joins(names, xs, level, out);
     close(out)
 }
 
 #[cycle(expression)]
-fn joins(names: &[Name], xs: &[Joined<Expr>], level: u32, out: &mut Vec<u8>) -> Result<(), Memory>
-    ensures { OnOk result (out.new.items ≡ out.old.items ++ joins_text (joins_of (map (view_joined (names_in names.now)) xs.now))) }
+fn joins(names: &[Name], xs: &[Joined<Expr>], level: u32, out: &mut Page)
+    ensures { Adds out.old out.new (joins_text (joins_of (map (view_joined (names_in names.now)) xs.now))) }
 {
     for x in xs {
-        join(names, x, level, out)?;
+        join(names, x, level, out);
     }
-    Ok(())
 }
 
 #[cycle(expression)]
-fn join(names: &[Name], x: &Joined<Expr>, level: u32, out: &mut Vec<u8>) -> Result<(), Memory>
-    ensures { OnOk result (out.new.items ≡ out.old.items ++ (spec.placed x.now.place ++ expression_text (view (names_in names.now) x.now.operand))) }
+fn join(names: &[Name], x: &Joined<Expr>, level: u32, out: &mut Page)
+    ensures { Adds out.old out.new (spec.placed x.now.place ++ expression_text (view (names_in names.now) x.now.operand)) }
 {
-    place(x.place, out)?;
+    place(x.place, out);
     expression(names, &x.operand, level, out)
 }
 
 #[cycle(expression)]
-fn pipe(
-    names: &[Name],
-    x: &Expr,
-    xs: &[Piped<Expr>],
-    level: u32,
-    out: &mut Vec<u8>,
-) -> Result<(), Memory>
-    ensures { OnOk result (out.new.items ≡ out.old.items ++ expression_text (p.pipe (view (names_in names.now) x.now) (view_pipes (names_in names.now) xs.now))) }
+fn pipe(names: &[Name], x: &Expr, xs: &[Piped<Expr>], level: u32, out: &mut Page)
+    ensures { Adds out.old out.new (expression_text (p.pipe (view (names_in names.now) x.now) (view_pipes (names_in names.now) xs.now))) }
 {
-    open("|getline", out)?;
-    expression(names, x, level, out)?;
-    pipes(names, xs, level, out)?;
+    open("|getline", out);
+    expression(names, x, level, out);
+    pipes(names, xs, level, out);
     close(out)
 }
 
 #[cycle(expression)]
-fn pipes(names: &[Name], xs: &[Piped<Expr>], level: u32, out: &mut Vec<u8>) -> Result<(), Memory>
-    ensures { OnOk result (out.new.items ≡ out.old.items ++ pipes_text (view_pipes (names_in names.now) xs.now)) }
+fn pipes(names: &[Name], xs: &[Piped<Expr>], level: u32, out: &mut Page)
+    ensures { Adds out.old out.new (pipes_text (view_pipes (names_in names.now) xs.now)) }
 {
     for x in xs {
-        piped(names, x, level, out)?;
+        piped(names, x, level, out);
     }
-    Ok(())
 }
 
 #[cycle(expression)]
-fn piped(names: &[Name], x: &Piped<Expr>, level: u32, out: &mut Vec<u8>) -> Result<(), Memory>
-    ensures { OnOk result (out.new.items ≡ out.old.items ++ (spec.placed x.now.place ++ reference_text (view_target (names_in names.now) x.now.target))) }
+fn piped(names: &[Name], x: &Piped<Expr>, level: u32, out: &mut Page)
+    ensures { Adds out.old out.new (spec.placed x.now.place ++ reference_text (view_target (names_in names.now) x.now.target)) }
 {
-    place(x.place, out)?;
+    place(x.place, out);
     target(names, &x.target, level, out)
 }
 
 #[cycle(expression)]
-fn call(
-    names: &[Name],
-    q: Place,
-    f: u32,
-    xs: &[Argument<Expr>],
-    level: u32,
-    out: &mut Vec<u8>,
-) -> Result<(), Memory>
-    ensures { OnOk result (out.new.items ≡ out.old.items ++ expression_text (p.call q f (view_arguments (names_in names.now) xs.now))) }
+fn call(names: &[Name], q: Place, f: u32, xs: &[Argument<Expr>], level: u32, out: &mut Page)
+    ensures { Adds out.old out.new (expression_text (p.call q f (view_arguments (names_in names.now) xs.now))) }
 {
-    open("call", out)?;
-    place(q, out)?;
-    ordinal(f as usize, out)?;
-    arguments(names, xs, level, out)?;
+    open("call", out);
+    place(q, out);
+    ordinal(f as usize, out);
+    arguments(names, xs, level, out);
     close(out)
 }
 
 #[cycle(expression)]
-fn arguments(
-    names: &[Name],
-    xs: &[Argument<Expr>],
-    level: u32,
-    out: &mut Vec<u8>,
-) -> Result<(), Memory>
-    ensures { OnOk result (out.new.items ≡ out.old.items ++ arguments_text (view_arguments (names_in names.now) xs.now)) }
+fn arguments(names: &[Name], xs: &[Argument<Expr>], level: u32, out: &mut Page)
+    ensures { Adds out.old out.new (arguments_text (view_arguments (names_in names.now) xs.now)) }
 {
     for x in xs {
-        argument(names, x, level, out)?;
+        argument(names, x, level, out);
     }
-    Ok(())
 }
 
 #[cycle(expression)]
-fn argument(names: &[Name], x: &Argument<Expr>, level: u32, out: &mut Vec<u8>) -> Result<(), Memory>
-    ensures { OnOk result (out.new.items ≡ out.old.items ++ arguments_text (view_arguments (names_in names.now) (x.now ∷ []))) }
+fn argument(names: &[Name], x: &Argument<Expr>, level: u32, out: &mut Page)
+    ensures { Adds out.old out.new (arguments_text (view_arguments (names_in names.now) (x.now ∷ []))) }
 {
     match x {
         Argument::Value(x) => expression(names, x, level, out),
         Argument::Array(v) => {
-            open("array", out)?;
-            variable(names, *v, out)?;
+            open("array", out);
+            variable(names, *v, out);
             close(out)
         }
         Argument::Nothing => {
-            open("nothing", out)?;
+            open("nothing", out);
             close(out)
         }
     }

@@ -35,6 +35,7 @@
 #![tactic(auto)]
 
 mod expressions;
+mod page;
 mod pieces;
 mod programs;
 mod statements;

@@ -1,103 +1,103 @@
 // Pieces of a printed program.
 
-ghost use Rattle.std.specs.Prelude.{◌≡◌, ◌++◌, OnOk, codes, decimal, map};
+ghost use Rattle.std.specs.Prelude.{codes, decimal, map};
 ghost use Rattle.std.specs.Fmt.{signed_decimal};
 ghost use Rattle.std.specs.List.{flat_map};
+ghost use Rattle.awk_printer.specs.Pages.{Adds};
 ghost use Rattle.awk_printer.specs.Printed.{variable_text, variables_text};
 ghost use Rattle.awk_printer.specs.Words as spec;
 ghost use Rattle.awk_program.specs.View.{variable_of};
 
+use crate::page::{Page, put};
 use awk_program::{Name, Variable};
-use awk_text::Memory;
 use awk_text::place::Place;
 use itoa::Buffer;
 
-pub fn text(text: &str, out: &mut Vec<u8>) -> Result<(), Memory>
-    ensures { OnOk result (out.new.items ≡ out.old.items ++ text.now) }
+pub fn text(text: &str, out: &mut Page)
+    ensures { Adds out.old out.new text.now }
 {
-    out.extend_from_slice(text.as_bytes())
+    put(text.as_bytes(), out)
 }
 
-pub fn word(text: &[u8], out: &mut Vec<u8>) -> Result<(), Memory>
-    ensures { OnOk result (out.new.items ≡ out.old.items ++ spec.word text.now) }
+pub fn word(text: &[u8], out: &mut Page)
+    ensures { Adds out.old out.new (spec.word text.now) }
 {
-    out.extend_from_slice(b" ")?;
-    out.extend_from_slice(text)
+    put(b" ", out);
+    put(text, out)
 }
 
 /// `(` and the name of a form.
-pub fn open(text: &str, out: &mut Vec<u8>) -> Result<(), Memory>
-    ensures { OnOk result (out.new.items ≡ out.old.items ++ spec.opening text.now) }
+pub fn open(text: &str, out: &mut Page)
+    ensures { Adds out.old out.new (spec.opening text.now) }
 {
-    out.extend_from_slice(b" (")?;
-    out.extend_from_slice(text.as_bytes())
+    put(b" (", out);
+    put(text.as_bytes(), out)
 }
 
 /// The end of a form.
-pub fn close(out: &mut Vec<u8>) -> Result<(), Memory>
-    ensures { OnOk result (out.new.items ≡ out.old.items ++ codes ")") }
+pub fn close(out: &mut Page)
+    ensures { Adds out.old out.new (codes ")") }
 {
-    out.extend_from_slice(b")")
+    put(b")", out)
 }
 
-pub fn number(n: i64, out: &mut Vec<u8>) -> Result<(), Memory>
-    ensures { OnOk result (out.new.items ≡ out.old.items ++ spec.word (signed_decimal n)) }
+pub fn number(n: i64, out: &mut Page)
+    ensures { Adds out.old out.new (spec.word (signed_decimal n)) }
 {
     let mut buffer = Buffer::new();
     word(buffer.format(n).as_bytes(), out)
 }
 
 /// The number of a function.
-pub fn ordinal(n: usize, out: &mut Vec<u8>) -> Result<(), Memory>
-    ensures { OnOk result (out.new.items ≡ out.old.items ++ spec.word (decimal n)) }
+pub fn ordinal(n: usize, out: &mut Page)
+    ensures { Adds out.old out.new (spec.word (decimal n)) }
 {
     let mut buffer = Buffer::new();
     word(buffer.format(n).as_bytes(), out)
 }
 
 /// `line:column`
-pub fn place(at: Place, out: &mut Vec<u8>) -> Result<(), Memory>
-    ensures { OnOk result (out.new.items ≡ out.old.items ++ spec.placed at) }
+pub fn place(at: Place, out: &mut Page)
+    ensures { Adds out.old out.new (spec.placed at) }
 {
     let mut buffer = Buffer::new();
-    word(buffer.format(at.line).as_bytes(), out)?;
-    out.extend_from_slice(b":")?;
-    out.extend_from_slice(buffer.format(at.column).as_bytes())
+    word(buffer.format(at.line).as_bytes(), out);
+    put(b":", out);
+    put(buffer.format(at.column).as_bytes(), out)
 }
 
-fn octet(mark: u8, b: u8, out: &mut Vec<u8>) -> Result<(), Memory>
-    ensures { OnOk result (out.new.items ≡ out.old.items ++ spec.escaped_octet mark b) }
+fn octet(mark: u8, b: u8, out: &mut Page)
+    ensures { Adds out.old out.new (spec.escaped_octet mark b) }
 {
     if b == mark || (b == b'\\' && mark == b'"') {
-        out.extend_from_slice(&[b'\\', b])
+        put(&[b'\\', b], out)
     } else if b == b'\n' {
-        out.extend_from_slice(b"\\n")
+        put(b"\\n", out)
     } else {
-        out.extend_from_slice(&[b])
+        put(&[b], out)
     }
 }
 
-fn escaped(mark: u8, text: &[u8], out: &mut Vec<u8>) -> Result<(), Memory>
-    ensures { OnOk result (out.new.items ≡ out.old.items ++ spec.escaped mark text.now) }
+fn escaped(mark: u8, text: &[u8], out: &mut Page)
+    ensures { Adds out.old out.new (spec.escaped mark text.now) }
 {
     for b in text {
-        octet(mark, *b, out)?;
+        octet(mark, *b, out);
     }
-    Ok(())
 }
 
 /// A text between two marks.
-pub fn quoted(mark: u8, text: &[u8], out: &mut Vec<u8>) -> Result<(), Memory>
-    ensures { OnOk result (out.new.items ≡ out.old.items ++ spec.quoted mark text.now) }
+pub fn quoted(mark: u8, text: &[u8], out: &mut Page)
+    ensures { Adds out.old out.new (spec.quoted mark text.now) }
 {
-    out.extend_from_slice(&[b' ', mark])?;
-    escaped(mark, text, out)?;
-    out.extend_from_slice(&[mark])
+    put(&[b' ', mark], out);
+    escaped(mark, text, out);
+    put(&[mark], out)
 }
 
 /// A variable by its name, a parameter by its place.
-pub fn variable(names: &[Name], v: Variable, out: &mut Vec<u8>) -> Result<(), Memory>
-    ensures { OnOk result (out.new.items ≡ out.old.items ++ variable_text (variable_of (spec.names_in names.now) v)) }
+pub fn variable(names: &[Name], v: Variable, out: &mut Page)
+    ensures { Adds out.old out.new (variable_text (variable_of (spec.names_in names.now) v)) }
 {
     match v {
         Variable::Global(n) => match names.get(n as usize) {
@@ -105,17 +105,16 @@ pub fn variable(names: &[Name], v: Variable, out: &mut Vec<u8>) -> Result<(), Me
             None => word(b"", out),
         },
         Variable::Parameter(n) => {
-            out.extend_from_slice(b" #")?;
-            out.extend_from_slice(Buffer::new().format(n).as_bytes())
+            put(b" #", out);
+            put(Buffer::new().format(n).as_bytes(), out)
         }
     }
 }
 
-pub fn variables(names: &[Name], vs: &[Variable], out: &mut Vec<u8>) -> Result<(), Memory>
-    ensures { OnOk result (out.new.items ≡ out.old.items ++ variables_text (map (variable_of (spec.names_in names.now)) vs.now)) }
+pub fn variables(names: &[Name], vs: &[Variable], out: &mut Page)
+    ensures { Adds out.old out.new (variables_text (map (variable_of (spec.names_in names.now)) vs.now)) }
 {
     for v in vs {
-        variable(names, *v, out)?;
+        variable(names, *v, out);
     }
-    Ok(())
 }

@@ -1,157 +1,155 @@
 // Programs, a line each for the variables, a function, an action and a rule.
 
-ghost use Rattle.std.specs.Prelude.{◌≡◌, [], ◌∷◌, ◌++◌, ◌+◌, OnOk, IfOk, codes, map};
+ghost use Rattle.std.specs.Prelude.{◌≡◌, [], ◌∷◌, ◌++◌, ◌+◌, IfOk, codes, map};
 ghost use Rattle.std.specs.List.{flat_map};
+ghost use Rattle.awk_printer.specs.Pages.{Adds};
 ghost use Rattle.awk_printer.specs.Printed as spec;
 ghost use Rattle.awk_printer.specs.Words.{names_in, flag, form, declared_name};
 ghost use Rattle.awk_program.specs.View.{view_statement, view_function, view_rule, view_when, view_program};
 
 use crate::expressions::expression;
+use crate::page::Page;
 use crate::pieces::{close, open, ordinal, text, word};
 use crate::statements::{DEEPEST, action};
 use awk_program::{Function, Name, Program, Rule, Statement, When};
 use awk_text::Memory;
 use sqlite_items::Items;
-use std::alloc::Global;
+use std::alloc::{AllocError, Global};
 
 /// How many variables awk itself has.
 const OWN: usize = 16;
 
-fn declared(name: &Name, out: &mut Vec<u8>) -> Result<(), Memory>
-    ensures { OnOk result (out.new.items ≡ out.old.items ++ declared_name name.now) }
+fn declared(name: &Name, out: &mut Page)
+    ensures { Adds out.old out.new (declared_name name.now) }
 {
-    word(name.text.bytes(), out)?;
+    word(name.text.bytes(), out);
     if name.is_array {
         text("[]", out)
-    } else {
-        Ok(())
     }
 }
 
-fn all_declared(names: &[Name], out: &mut Vec<u8>) -> Result<(), Memory>
-    ensures { OnOk result (out.new.items ≡ out.old.items ++ flat_map declared_name names.now) }
+fn all_declared(names: &[Name], out: &mut Page)
+    ensures { Adds out.old out.new (flat_map declared_name names.now) }
 {
     for name in names {
-        declared(name, out)?;
+        declared(name, out);
     }
-    Ok(())
 }
 
-fn variables(names: &[Name], out: &mut Vec<u8>) -> Result<(), Memory>
-    ensures { OnOk result (out.new.items ≡ out.old.items ++ spec.variables_line names.now) }
+fn variables(names: &[Name], out: &mut Page)
+    ensures { Adds out.old out.new (spec.variables_line names.now) }
 {
-    text("variables", out)?;
-    all_declared(names.get(OWN..).unwrap_or(&[]), out)?;
+    text("variables", out);
+    all_declared(names.get(OWN..).unwrap_or(&[]), out);
     text("\n", out)
 }
 
-fn flagged(is_array: bool, out: &mut Vec<u8>) -> Result<(), Memory>
-    ensures { OnOk result (out.new.items ≡ out.old.items ++ flag is_array) }
+fn flagged(is_array: bool, out: &mut Page)
+    ensures { Adds out.old out.new (flag is_array) }
 {
     text(if is_array { " array" } else { " value" }, out)
 }
 
-fn all_flagged(flags: &[bool], out: &mut Vec<u8>) -> Result<(), Memory>
-    ensures { OnOk result (out.new.items ≡ out.old.items ++ flat_map flag flags.now) }
+fn all_flagged(flags: &[bool], out: &mut Page)
+    ensures { Adds out.old out.new (flat_map flag flags.now) }
 {
     for is_array in flags {
-        flagged(*is_array, out)?;
+        flagged(*is_array, out);
     }
-    Ok(())
 }
 
-fn parameters(flags: &[bool], out: &mut Vec<u8>) -> Result<(), Memory>
-    ensures { OnOk result (out.new.items ≡ out.old.items ++ form (codes "parameters") (flat_map flag flags.now ∷ [])) }
+fn parameters(flags: &[bool], out: &mut Page)
+    ensures { Adds out.old out.new (form (codes "parameters") (flat_map flag flags.now ∷ [])) }
 {
-    open("parameters", out)?;
-    all_flagged(flags, out)?;
+    open("parameters", out);
+    all_flagged(flags, out);
     close(out)
 }
 
-fn function(names: &[Name], n: usize, f: &Function, out: &mut Vec<u8>) -> Result<(), Memory>
-    ensures { OnOk result (out.new.items ≡ out.old.items ++ spec.function_line n (view_function (names_in names.now) f.now)) }
+fn function(names: &[Name], n: usize, f: &Function, out: &mut Page)
+    ensures { Adds out.old out.new (spec.function_line n (view_function (names_in names.now) f.now)) }
 {
-    text("function", out)?;
-    ordinal(n, out)?;
-    word(f.name.bytes(), out)?;
-    parameters(f.parameters.as_slice(), out)?;
+    text("function", out);
+    ordinal(n, out);
+    word(f.name.bytes(), out);
+    parameters(f.parameters.as_slice(), out);
     action(names, f.body.as_slice(), out)
 }
 
-fn functions(names: &[Name], fs: &[Function], out: &mut Vec<u8>) -> Result<(), Memory>
-    ensures { OnOk result (out.new.items ≡ out.old.items ++ spec.functions_text 0 (map (view_function (names_in names.now)) fs.now)) }
+fn functions(names: &[Name], fs: &[Function], out: &mut Page)
+    ensures { Adds out.old out.new (spec.functions_text 0 (map (view_function (names_in names.now)) fs.now)) }
 {
     for (n, f) in fs.iter().enumerate() {
-        function(names, n, f, out)?;
+        function(names, n, f, out);
     }
-    Ok(())
 }
 
-fn begin(names: &[Name], xs: &[Statement], out: &mut Vec<u8>) -> Result<(), Memory>
-    ensures { OnOk result (out.new.items ≡ out.old.items ++ spec.begin_line (map (view_statement (names_in names.now)) xs.now)) }
+fn begin(names: &[Name], xs: &[Statement], out: &mut Page)
+    ensures { Adds out.old out.new (spec.begin_line (map (view_statement (names_in names.now)) xs.now)) }
 {
-    text("BEGIN", out)?;
+    text("BEGIN", out);
     action(names, xs, out)
 }
 
-fn begins(names: &[Name], bodies: &[Items<Statement>], out: &mut Vec<u8>) -> Result<(), Memory>
-    ensures { OnOk result (out.new.items ≡ out.old.items ++ flat_map spec.begin_line (map (map (view_statement (names_in names.now))) bodies.now)) }
+fn begins(names: &[Name], bodies: &[Items<Statement>], out: &mut Page)
+    ensures { Adds out.old out.new (flat_map spec.begin_line (map (map (view_statement (names_in names.now))) bodies.now)) }
 {
     for xs in bodies {
-        begin(names, xs.as_slice(), out)?;
+        begin(names, xs.as_slice(), out);
     }
-    Ok(())
 }
 
-fn end(names: &[Name], xs: &[Statement], out: &mut Vec<u8>) -> Result<(), Memory>
-    ensures { OnOk result (out.new.items ≡ out.old.items ++ spec.end_line (map (view_statement (names_in names.now)) xs.now)) }
+fn end(names: &[Name], xs: &[Statement], out: &mut Page)
+    ensures { Adds out.old out.new (spec.end_line (map (view_statement (names_in names.now)) xs.now)) }
 {
-    text("END", out)?;
+    text("END", out);
     action(names, xs, out)
 }
 
-fn ends(names: &[Name], bodies: &[Items<Statement>], out: &mut Vec<u8>) -> Result<(), Memory>
-    ensures { OnOk result (out.new.items ≡ out.old.items ++ flat_map spec.end_line (map (map (view_statement (names_in names.now))) bodies.now)) }
+fn ends(names: &[Name], bodies: &[Items<Statement>], out: &mut Page)
+    ensures { Adds out.old out.new (flat_map spec.end_line (map (map (view_statement (names_in names.now))) bodies.now)) }
 {
     for xs in bodies {
-        end(names, xs.as_slice(), out)?;
+        end(names, xs.as_slice(), out);
     }
-    Ok(())
 }
 
-fn when(names: &[Name], x: &When, out: &mut Vec<u8>) -> Result<(), Memory>
-    ensures { OnOk result (out.new.items ≡ out.old.items ++ spec.when_text (view_when (names_in names.now) x.now)) }
+fn when(names: &[Name], x: &When, out: &mut Page)
+    ensures { Adds out.old out.new (spec.when_text (view_when (names_in names.now) x.now)) }
 {
     match x {
-        When::Always => open("always", out)?,
+        When::Always => {
+            open("always", out);
+            close(out)
+        }
         When::Holds(x) => {
-            open("when", out)?;
-            expression(names, x, DEEPEST, out)?;
+            open("when", out);
+            expression(names, x, DEEPEST, out);
+            close(out)
         }
         When::Range(x, y) => {
-            open("from-to", out)?;
-            expression(names, x, DEEPEST, out)?;
-            expression(names, y, DEEPEST, out)?;
+            open("from-to", out);
+            expression(names, x, DEEPEST, out);
+            expression(names, y, DEEPEST, out);
+            close(out)
         }
     }
-    close(out)
 }
 
-fn rule(names: &[Name], r: &Rule, out: &mut Vec<u8>) -> Result<(), Memory>
-    ensures { OnOk result (out.new.items ≡ out.old.items ++ spec.rule_line (view_rule (names_in names.now) r.now)) }
+fn rule(names: &[Name], r: &Rule, out: &mut Page)
+    ensures { Adds out.old out.new (spec.rule_line (view_rule (names_in names.now) r.now)) }
 {
-    text("rule", out)?;
-    when(names, &r.when, out)?;
+    text("rule", out);
+    when(names, &r.when, out);
     action(names, r.action.as_slice(), out)
 }
 
-fn rules(names: &[Name], rs: &[Rule], out: &mut Vec<u8>) -> Result<(), Memory>
-    ensures { OnOk result (out.new.items ≡ out.old.items ++ flat_map spec.rule_line (map (view_rule (names_in names.now)) rs.now)) }
+fn rules(names: &[Name], rs: &[Rule], out: &mut Page)
+    ensures { Adds out.old out.new (flat_map spec.rule_line (map (view_rule (names_in names.now)) rs.now)) }
 {
     for r in rs {
-        rule(names, r, out)?;
+        rule(names, r, out);
     }
-    Ok(())
 }
 
 /// The text of a program, which specs/Printed.antt defines, or `Memory` where memory is refused. More
@@ -161,11 +159,15 @@ pub fn printed(alloc: Global, program: &Program) -> Result<Vec<u8>, Memory>
     ensures { IfOk result (λ text. text.items ≡ spec.program_text (view_program program.now)) }
 {
     let names = program.variables.as_slice();
-    let mut out = Vec::new(alloc);
-    variables(names, &mut out)?;
-    functions(names, program.functions.as_slice(), &mut out)?;
-    begins(names, program.begin.as_slice(), &mut out)?;
-    rules(names, program.rules.as_slice(), &mut out)?;
-    ends(names, program.end.as_slice(), &mut out)?;
-    Ok(out)
+    let mut out = Page {
+        text: Vec::new(alloc),
+        is_cut: false,
+    };
+    variables(names, &mut out);
+    functions(names, program.functions.as_slice(), &mut out);
+    begins(names, program.begin.as_slice(), &mut out);
+    rules(names, program.rules.as_slice(), &mut out);
+    ends(names, program.end.as_slice(), &mut out);
+    let Page { text, is_cut } = out;
+    if is_cut { Err(AllocError) } else { Ok(text) }
 }

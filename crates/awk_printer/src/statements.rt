@@ -1,6 +1,7 @@
 // Statements. Each call counts down a level, as in the expressions.
 
-ghost use Rattle.std.specs.Prelude.{◌≡◌, [], ◌∷◌, ◌++◌, OnOk, codes, map, option_map};
+ghost use Rattle.std.specs.Prelude.{[], ◌∷◌, ◌++◌, codes, map, option_map};
+ghost use Rattle.awk_printer.specs.Pages.{Adds};
 ghost use Rattle.awk_printer.specs.Printed.{variable_text, expression_text, list_text, perhaps_text, redirection_text, statement_text, statements_text, action_text};
 ghost use Rattle.awk_printer.specs.Words as spec;
 ghost use Rattle.awk_printer.specs.Words.{names_in};
@@ -9,44 +10,39 @@ ghost use Rattle.awk_program.specs.Program.{statements_of};
 ghost use Rattle.awk_program.specs.View.{variable_of, view, view_redirection, view_statement};
 
 use crate::expressions::{at_one, element, expression, list, perhaps};
+use crate::page::{Page, cut};
 use crate::pieces::{close, open, place, text, variable};
 use crate::words::redirect_text;
 use awk_program::{Expr, Name, Redirection, Statement, Variable};
-use awk_text::Memory;
 use awk_text::place::Place;
-use std::alloc::AllocError;
 
 /// More levels than any program has.
 pub const DEEPEST: u32 = u32::MAX;
 
 /// An expression of a statement.
-fn whole(names: &[Name], x: &Expr, out: &mut Vec<u8>) -> Result<(), Memory>
-    ensures { OnOk result (out.new.items ≡ out.old.items ++ expression_text (view (names_in names.now) x.now)) }
+fn whole(names: &[Name], x: &Expr, out: &mut Page)
+    ensures { Adds out.old out.new (expression_text (view (names_in names.now) x.now)) }
 {
     expression(names, x, DEEPEST, out)
 }
 
-fn all(names: &[Name], xs: &[Expr], out: &mut Vec<u8>) -> Result<(), Memory>
-    ensures { OnOk result (out.new.items ≡ out.old.items ++ list_text (map (view (names_in names.now)) xs.now)) }
+fn all(names: &[Name], xs: &[Expr], out: &mut Page)
+    ensures { Adds out.old out.new (list_text (map (view (names_in names.now)) xs.now)) }
 {
     list(names, xs, DEEPEST, out)
 }
 
-fn optional(names: &[Name], x: &Option<Expr>, out: &mut Vec<u8>) -> Result<(), Memory>
-    ensures { OnOk result (out.new.items ≡ out.old.items ++ perhaps_text (option_map (view (names_in names.now)) x.now)) }
+fn optional(names: &[Name], x: &Option<Expr>, out: &mut Page)
+    ensures { Adds out.old out.new (perhaps_text (option_map (view (names_in names.now)) x.now)) }
 {
     perhaps(names, x, DEEPEST, out)
 }
 
-fn redirection(
-    names: &[Name],
-    x: &Option<Redirection<Expr>>,
-    out: &mut Vec<u8>,
-) -> Result<(), Memory>
-    ensures { OnOk result (out.new.items ≡ out.old.items ++ redirection_text (option_map (view_redirection (names_in names.now)) x.now)) }
+fn redirection(names: &[Name], x: &Option<Redirection<Expr>>, out: &mut Page)
+    ensures { Adds out.old out.new (redirection_text (option_map (view_redirection (names_in names.now)) x.now)) }
 {
     match x {
-        None => Ok(()),
+        None => (),
         Some(x) => at_one(
             names,
             redirect_text(x.how),
@@ -58,19 +54,13 @@ fn redirection(
     }
 }
 
-fn print(
-    names: &[Name],
-    q: Place,
-    xs: &[Expr],
-    target: &Option<Redirection<Expr>>,
-    out: &mut Vec<u8>,
-) -> Result<(), Memory>
-    ensures { OnOk result (out.new.items ≡ out.old.items ++ statement_text (p.print q (map (view (names_in names.now)) xs.now) (option_map (view_redirection (names_in names.now)) target.now))) }
+fn print(names: &[Name], q: Place, xs: &[Expr], target: &Option<Redirection<Expr>>, out: &mut Page)
+    ensures { Adds out.old out.new (statement_text (p.print q (map (view (names_in names.now)) xs.now) (option_map (view_redirection (names_in names.now)) target.now))) }
 {
-    open("print", out)?;
-    place(q, out)?;
-    all(names, xs, out)?;
-    redirection(names, target, out)?;
+    open("print", out);
+    place(q, out);
+    all(names, xs, out);
+    redirection(names, target, out);
     close(out)
 }
 
@@ -80,90 +70,78 @@ fn printf(
     x: &Expr,
     xs: &[Expr],
     target: &Option<Redirection<Expr>>,
-    out: &mut Vec<u8>,
-) -> Result<(), Memory>
-    ensures { OnOk result (out.new.items ≡ out.old.items ++ statement_text (p.printf q (view (names_in names.now) x.now) (map (view (names_in names.now)) xs.now) (option_map (view_redirection (names_in names.now)) target.now))) }
+    out: &mut Page,
+)
+    ensures { Adds out.old out.new (statement_text (p.printf q (view (names_in names.now) x.now) (map (view (names_in names.now)) xs.now) (option_map (view_redirection (names_in names.now)) target.now))) }
 {
-    open("printf", out)?;
-    place(q, out)?;
-    whole(names, x, out)?;
-    all(names, xs, out)?;
-    redirection(names, target, out)?;
+    open("printf", out);
+    place(q, out);
+    whole(names, x, out);
+    all(names, xs, out);
+    redirection(names, target, out);
     close(out)
 }
 
 /// A word that is a statement by itself.
-fn bare(head: &str, out: &mut Vec<u8>) -> Result<(), Memory>
-    ensures { OnOk result (out.new.items ≡ out.old.items ++ spec.form head.now []) }
+fn bare(head: &str, out: &mut Page)
+    ensures { Adds out.old out.new (spec.form head.now []) }
 {
-    open(head, out)?;
+    open(head, out);
     close(out)
 }
 
-fn next(q: Place, out: &mut Vec<u8>) -> Result<(), Memory>
-    ensures { OnOk result (out.new.items ≡ out.old.items ++ statement_text (p.next q)) }
+fn next(q: Place, out: &mut Page)
+    ensures { Adds out.old out.new (statement_text (p.next q)) }
 {
-    open("next", out)?;
-    place(q, out)?;
+    open("next", out);
+    place(q, out);
     close(out)
 }
 
-fn exit(names: &[Name], q: Place, x: &Option<Expr>, out: &mut Vec<u8>) -> Result<(), Memory>
-    ensures { OnOk result (out.new.items ≡ out.old.items ++ statement_text (p.exit q (option_map (view (names_in names.now)) x.now))) }
+fn exit(names: &[Name], q: Place, x: &Option<Expr>, out: &mut Page)
+    ensures { Adds out.old out.new (statement_text (p.exit q (option_map (view (names_in names.now)) x.now))) }
 {
-    open("exit", out)?;
-    place(q, out)?;
-    optional(names, x, out)?;
+    open("exit", out);
+    place(q, out);
+    optional(names, x, out);
     close(out)
 }
 
-fn give(names: &[Name], x: &Option<Expr>, out: &mut Vec<u8>) -> Result<(), Memory>
-    ensures { OnOk result (out.new.items ≡ out.old.items ++ statement_text (p.return (option_map (view (names_in names.now)) x.now))) }
+fn give(names: &[Name], x: &Option<Expr>, out: &mut Page)
+    ensures { Adds out.old out.new (statement_text (p.return (option_map (view (names_in names.now)) x.now))) }
 {
-    open("return", out)?;
-    optional(names, x, out)?;
+    open("return", out);
+    optional(names, x, out);
     close(out)
 }
 
 /// `first ; test ; step`
-fn header(
-    names: &[Name],
-    x: &Option<Expr>,
-    y: &Option<Expr>,
-    z: &Option<Expr>,
-    out: &mut Vec<u8>,
-) -> Result<(), Memory>
-    ensures { OnOk result (out.new.items ≡ out.old.items ++ (spec.opening (codes "for") ++ (perhaps_text (option_map (view (names_in names.now)) x.now) ++ (perhaps_text (option_map (view (names_in names.now)) y.now) ++ perhaps_text (option_map (view (names_in names.now)) z.now))))) }
+fn header(names: &[Name], x: &Option<Expr>, y: &Option<Expr>, z: &Option<Expr>, out: &mut Page)
+    ensures { Adds out.old out.new (spec.opening (codes "for") ++ (perhaps_text (option_map (view (names_in names.now)) x.now) ++ (perhaps_text (option_map (view (names_in names.now)) y.now) ++ perhaps_text (option_map (view (names_in names.now)) z.now)))) }
 {
-    open("for", out)?;
-    optional(names, x, out)?;
-    optional(names, y, out)?;
+    open("for", out);
+    optional(names, x, out);
+    optional(names, y, out);
     optional(names, z, out)
 }
 
 /// `key in array`
-fn each_header(
-    names: &[Name],
-    q: Place,
-    key: Variable,
-    array: Variable,
-    out: &mut Vec<u8>,
-) -> Result<(), Memory>
-    ensures { OnOk result (out.new.items ≡ out.old.items ++ (spec.opening (codes "for-in") ++ (spec.placed q ++ (variable_text (variable_of (names_in names.now) key) ++ variable_text (variable_of (names_in names.now) array))))) }
+fn each_header(names: &[Name], q: Place, key: Variable, array: Variable, out: &mut Page)
+    ensures { Adds out.old out.new (spec.opening (codes "for-in") ++ (spec.placed q ++ (variable_text (variable_of (names_in names.now) key) ++ variable_text (variable_of (names_in names.now) array)))) }
 {
-    open("for-in", out)?;
-    place(q, out)?;
-    variable(names, key, out)?;
+    open("for-in", out);
+    place(q, out);
+    variable(names, key, out);
     variable(names, array, out)
 }
 
 /// Prints a statement of at most this depth.
 #[cycle(statement)]
-fn statement(names: &[Name], s: &Statement, level: u32, out: &mut Vec<u8>) -> Result<(), Memory>
-    ensures { OnOk result (out.new.items ≡ out.old.items ++ statement_text (view_statement (names_in names.now) s.now)) }
+fn statement(names: &[Name], s: &Statement, level: u32, out: &mut Page)
+    ensures { Adds out.old out.new (statement_text (view_statement (names_in names.now) s.now)) }
 {
     if level == 0 {
-        return Err(AllocError);
+        return cut(out);
     }
     let below = level - 1;
     match s {
@@ -193,29 +171,22 @@ fn statement(names: &[Name], s: &Statement, level: u32, out: &mut Vec<u8>) -> Re
 }
 
 #[cycle(statement)]
-fn block(names: &[Name], xs: &[Statement], level: u32, out: &mut Vec<u8>) -> Result<(), Memory>
-    ensures { OnOk result (out.new.items ≡ out.old.items ++ statement_text (p.block (statements_of (map (view_statement (names_in names.now)) xs.now)))) }
+fn block(names: &[Name], xs: &[Statement], level: u32, out: &mut Page)
+    ensures { Adds out.old out.new (statement_text (p.block (statements_of (map (view_statement (names_in names.now)) xs.now)))) }
 {
-    open("block", out)?;
-    statements(names, xs, level, out)?;
+    open("block", out);
+    statements(names, xs, level, out);
     close(out)
 }
 
 /// A test and a statement.
 #[cycle(statement)]
-fn test(
-    names: &[Name],
-    head: &str,
-    x: &Expr,
-    body: &Statement,
-    level: u32,
-    out: &mut Vec<u8>,
-) -> Result<(), Memory>
-    ensures { OnOk result (out.new.items ≡ out.old.items ++ spec.form head.now (expression_text (view (names_in names.now) x.now) ∷ statement_text (view_statement (names_in names.now) body.now) ∷ [])) }
+fn test(names: &[Name], head: &str, x: &Expr, body: &Statement, level: u32, out: &mut Page)
+    ensures { Adds out.old out.new (spec.form head.now (expression_text (view (names_in names.now) x.now) ∷ statement_text (view_statement (names_in names.now) body.now) ∷ [])) }
 {
-    open(head, out)?;
-    whole(names, x, out)?;
-    statement(names, body, level, out)?;
+    open(head, out);
+    whole(names, x, out);
+    statement(names, body, level, out);
     close(out)
 }
 
@@ -226,30 +197,24 @@ fn if_else(
     body: &Statement,
     other: &Statement,
     level: u32,
-    out: &mut Vec<u8>,
-) -> Result<(), Memory>
-    ensures { OnOk result (out.new.items ≡ out.old.items ++ statement_text (p.if_else (view (names_in names.now) x.now) (view_statement (names_in names.now) body.now) (view_statement (names_in names.now) other.now))) }
+    out: &mut Page,
+)
+    ensures { Adds out.old out.new (statement_text (p.if_else (view (names_in names.now) x.now) (view_statement (names_in names.now) body.now) (view_statement (names_in names.now) other.now))) }
 {
-    open("if", out)?;
-    whole(names, x, out)?;
-    statement(names, body, level, out)?;
-    statement(names, other, level, out)?;
+    open("if", out);
+    whole(names, x, out);
+    statement(names, body, level, out);
+    statement(names, other, level, out);
     close(out)
 }
 
 #[cycle(statement)]
-fn do_while(
-    names: &[Name],
-    body: &Statement,
-    x: &Expr,
-    level: u32,
-    out: &mut Vec<u8>,
-) -> Result<(), Memory>
-    ensures { OnOk result (out.new.items ≡ out.old.items ++ statement_text (p.do_while (view_statement (names_in names.now) body.now) (view (names_in names.now) x.now))) }
+fn do_while(names: &[Name], body: &Statement, x: &Expr, level: u32, out: &mut Page)
+    ensures { Adds out.old out.new (statement_text (p.do_while (view_statement (names_in names.now) body.now) (view (names_in names.now) x.now))) }
 {
-    open("do", out)?;
-    statement(names, body, level, out)?;
-    whole(names, x, out)?;
+    open("do", out);
+    statement(names, body, level, out);
+    whole(names, x, out);
     close(out)
 }
 
@@ -261,12 +226,12 @@ fn for_loop(
     z: &Option<Expr>,
     body: &Statement,
     level: u32,
-    out: &mut Vec<u8>,
-) -> Result<(), Memory>
-    ensures { OnOk result (out.new.items ≡ out.old.items ++ statement_text (p.for_loop (option_map (view (names_in names.now)) x.now) (option_map (view (names_in names.now)) y.now) (option_map (view (names_in names.now)) z.now) (view_statement (names_in names.now) body.now))) }
+    out: &mut Page,
+)
+    ensures { Adds out.old out.new (statement_text (p.for_loop (option_map (view (names_in names.now)) x.now) (option_map (view (names_in names.now)) y.now) (option_map (view (names_in names.now)) z.now) (view_statement (names_in names.now) body.now))) }
 {
-    header(names, x, y, z, out)?;
-    statement(names, body, level, out)?;
+    header(names, x, y, z, out);
+    statement(names, body, level, out);
     close(out)
 }
 
@@ -278,29 +243,28 @@ fn for_each(
     array: Variable,
     body: &Statement,
     level: u32,
-    out: &mut Vec<u8>,
-) -> Result<(), Memory>
-    ensures { OnOk result (out.new.items ≡ out.old.items ++ statement_text (p.for_each q (variable_of (names_in names.now) key) (variable_of (names_in names.now) array) (view_statement (names_in names.now) body.now))) }
+    out: &mut Page,
+)
+    ensures { Adds out.old out.new (statement_text (p.for_each q (variable_of (names_in names.now) key) (variable_of (names_in names.now) array) (view_statement (names_in names.now) body.now))) }
 {
-    each_header(names, q, key, array, out)?;
-    statement(names, body, level, out)?;
+    each_header(names, q, key, array, out);
+    statement(names, body, level, out);
     close(out)
 }
 
 #[cycle(statement)]
-fn statements(names: &[Name], xs: &[Statement], level: u32, out: &mut Vec<u8>) -> Result<(), Memory>
-    ensures { OnOk result (out.new.items ≡ out.old.items ++ statements_text (statements_of (map (view_statement (names_in names.now)) xs.now))) }
+fn statements(names: &[Name], xs: &[Statement], level: u32, out: &mut Page)
+    ensures { Adds out.old out.new (statements_text (statements_of (map (view_statement (names_in names.now)) xs.now))) }
 {
     for s in xs {
-        statement(names, s, level, out)?;
+        statement(names, s, level, out);
     }
-    Ok(())
 }
 
 /// Statements, to the end of their line.
-pub fn action(names: &[Name], xs: &[Statement], out: &mut Vec<u8>) -> Result<(), Memory>
-    ensures { OnOk result (out.new.items ≡ out.old.items ++ action_text (map (view_statement (names_in names.now)) xs.now)) }
+pub fn action(names: &[Name], xs: &[Statement], out: &mut Page)
+    ensures { Adds out.old out.new (action_text (map (view_statement (names_in names.now)) xs.now)) }
 {
-    statements(names, xs, DEEPEST, out)?;
+    statements(names, xs, DEEPEST, out);
     text("\n", out)
 }

@@ -1,6 +1,9 @@
-use Rattle.std.proofs.Common.{rules, append_assoc, w64}
+use Rattle.std.proofs.Common.{rules, arith, w64}
+use Rattle.std.proofs.lemmas.List.{append-nil, drop_all}
 use Rattle.std.proofs.lemmas.Int.{to_z-of_z}
 use Rattle.awk_program.proofs.Views.{view-Number, view-Text, view-Pattern, view-Read, view-Assign, view-Change, view-Step, view-Not, view-Signed, view-Chain, view-Concat, view-Compare, view-Match, view-In, view-Group, view-And, view-Or, view-Choice, view-Call, view-Getline, view-GetlineFile, view-Pipe, view-Measure, view-Int, view-Index, view-SubstrFrom, view-Substr, view-Sprintf, view-Locate, view-Split, view-Substitute, view-Close, view-System}
+use Rattle.awk_printer.proofs.Lists.{drop_here}
+use Rattle.awk_printer.proofs.Pages.{nothing, both, lost}
 use Rattle.awk_printer.proofs.expressions.+expression.Goals as goal
 
 pub expression-returns-in-Number : goal.expression-returns-in-Number
@@ -135,6 +138,122 @@ pub expression-returns-in-System : goal.expression-returns-in-System
 expression-returns-in-System t c =
     let h = rw (c.get-in-System.ensures) at c.at_one-in-System.ensures in rw (c.in-System.is, view-System) h
 
+pub expression-returns-then-level-eq0 : goal.expression-returns-then-level-eq0
+expression-returns-then-level-eq0 t c = lost c.cut.ensures
+
+pub ere-returns-in-Constant : goal.ere-returns-in-Constant
+ere-returns-in-Constant t c = rw c.in-Constant.is (both c.place.ensures (rw c.bytes.ensures at c.quoted.ensures))
+
+pub argument-returns-in-Array : goal.argument-returns-in-Array
+argument-returns-in-Array t c = rw (c.in-Array.is, append-nil) (both c.open.ensures (both c.variable.ensures c.close.ensures))
+
+pub argument-returns-in-Nothing : goal.argument-returns-in-Nothing
+argument-returns-in-Nothing t c = rw (c.in-Nothing.is, append-nil) (both c.open-in-Nothing.ensures c.close-in-Nothing.ensures)
+
+pub argument-returns-in-Value : goal.argument-returns-in-Value
+argument-returns-in-Value t c = rw (c.in-Value.is, append-nil) c.expression.ensures
+
+pub one-returns : goal.one-returns
+one-returns t c = both c.open.ensures (both c.expression.ensures c.close.ensures)
+
+pub two-returns : goal.two-returns
+two-returns t c = both c.open.ensures (both c.expression.ensures (both c.expression-2.ensures c.close.ensures))
+
+pub choice-returns : goal.choice-returns
+choice-returns t c = both c.open.ensures (both c.expression.ensures (both c.expression-2.ensures (both c.expression-3.ensures c.close.ensures)))
+
+pub at_one-returns : goal.at_one-returns
+at_one-returns t c = both c.open.ensures (both c.place.ensures (both c.expression.ensures c.close.ensures))
+
+pub at_two-returns : goal.at_two-returns
+at_two-returns t c = both c.open.ensures (both c.place.ensures (both c.expression.ensures (both c.expression-2.ensures c.close.ensures)))
+
+pub at_three-returns : goal.at_three-returns
+at_three-returns t c = both c.open.ensures (both c.place.ensures (both c.expression.ensures (both c.expression-2.ensures (both c.expression-3.ensures c.close.ensures))))
+
+pub at_target-returns : goal.at_target-returns
+at_target-returns t c = both c.open.ensures (both c.place.ensures (both c.target.ensures c.close.ensures))
+
+pub setting-returns : goal.setting-returns
+setting-returns t c = both c.open.ensures (both c.place.ensures (both c.target.ensures (both c.expression.ensures c.close.ensures)))
+
+pub at_match-returns : goal.at_match-returns
+at_match-returns t c = both c.open.ensures (both c.place.ensures (both c.expression.ensures (both c.ere.ensures c.close.ensures)))
+
+pub many-returns : goal.many-returns
+many-returns t c = both c.open.ensures (both c.expression.ensures (both c.list.ensures c.close.ensures))
+
+pub sprintf-returns : goal.sprintf-returns
+sprintf-returns t c = both c.open.ensures (both c.place.ensures (both c.expression.ensures (both c.list.ensures c.close.ensures)))
+
+pub member-returns : goal.member-returns
+member-returns t c = both c.open.ensures (both c.expression.ensures (both c.variables.ensures c.close.ensures))
+
+pub group-returns : goal.group-returns
+group-returns t c = both c.open.ensures (both c.place.ensures (both (both c.open-2.ensures (both c.list.ensures c.close.ensures)) (both c.variables.ensures c.close-2.ensures)))
+
 pub split-returns : goal.split-returns
-split-returns t c =
-    let h = rw (c.in_ok-ere.ensures, c.in_ok-variable.ensures, c.in_ok-place-2.ensures, c.in_ok-expression.ensures, c.in_ok-place.ensures, c.in_ok-open.ensures) at c.close.ensures in simp append_assoc (simp append_assoc at h)
+split-returns t c = both c.open.ensures (both c.place.ensures (both c.expression.ensures (both c.place-2.ensures (both c.variable.ensures (both c.ere.ensures c.close.ensures)))))
+
+pub substitute-returns : goal.substitute-returns
+substitute-returns t c = both c.open.ensures (both c.place.ensures (both c.ere.ensures (both c.expression.ensures (both c.target.ensures c.close.ensures))))
+
+pub element-returns : goal.element-returns
+element-returns t c = both c.open.ensures (both c.place.ensures (both c.variable.ensures (both c.list.ensures c.close.ensures)))
+
+pub chain-returns : goal.chain-returns
+chain-returns t c = both c.open.ensures (both c.expression.ensures (both c.terms.ensures c.close.ensures))
+
+pub concat-returns : goal.concat-returns
+concat-returns t c = both c.open.ensures (both c.expression.ensures (both c.joins.ensures c.close.ensures))
+
+pub pipe-returns : goal.pipe-returns
+pipe-returns t c = both c.open.ensures (both c.expression.ensures (both c.pipes.ensures c.close.ensures))
+
+pub call-returns : goal.call-returns
+call-returns t c = both c.open.ensures (both c.place.ensures (both c.ordinal.ensures (both c.arguments.ensures c.close.ensures)))
+
+pub join-returns : goal.join-returns
+join-returns t c = both c.place.ensures c.expression.ensures
+
+pub piped-returns : goal.piped-returns
+piped-returns t c = both c.place.ensures c.target.ensures
+
+pub term-returns : goal.term-returns
+term-returns t c = both (rw (c.as_bytes.ensures.value, c.operator_text.ensures) at c.word.ensures) (both c.place.ensures c.expression.ensures)
+
+pub list-loop-x-init : goal.list-loop-x-init
+list-loop-x-init t c = λ _ h. h
+
+pub list-loop-x-preserved : goal.list-loop-x-preserved
+list-loop-x-preserved t c = λ end h. c.loop-x.invariant end (rw (drop_here c.args.xs.now c.loop-x.x-index c.x-item.result (omega arith) c.x-item.is) (both c.expression.ensures h))
+
+pub list-returns : goal.list-returns
+list-returns t c = c.loop-x.invariant _ (rw (drop_all c.loop-x.x-index c.args.xs.now (omega arith)) (nothing _))
+
+pub terms-loop-x-init : goal.terms-loop-x-init
+terms-loop-x-init t c = λ _ h. h
+
+pub terms-loop-x-preserved : goal.terms-loop-x-preserved
+terms-loop-x-preserved t c = λ end h. c.loop-x.invariant end (rw (drop_here c.args.xs.now c.loop-x.x-index c.x-item.result (omega arith) c.x-item.is) (both c.term.ensures h))
+
+pub terms-returns : goal.terms-returns
+terms-returns t c = c.loop-x.invariant _ (rw (drop_all c.loop-x.x-index c.args.xs.now (omega arith)) (nothing _))
+
+pub joins-loop-x-init : goal.joins-loop-x-init
+joins-loop-x-init t c = λ _ h. h
+
+pub joins-loop-x-preserved : goal.joins-loop-x-preserved
+joins-loop-x-preserved t c = λ end h. c.loop-x.invariant end (rw (drop_here c.args.xs.now c.loop-x.x-index c.x-item.result (omega arith) c.x-item.is) (both c.join.ensures h))
+
+pub joins-returns : goal.joins-returns
+joins-returns t c = c.loop-x.invariant _ (rw (drop_all c.loop-x.x-index c.args.xs.now (omega arith)) (nothing _))
+
+pub pipes-loop-x-init : goal.pipes-loop-x-init
+pipes-loop-x-init t c = λ _ h. h
+
+pub pipes-loop-x-preserved : goal.pipes-loop-x-preserved
+pipes-loop-x-preserved t c = λ end h. c.loop-x.invariant end (rw (drop_here c.args.xs.now c.loop-x.x-index c.x-item.result (omega arith) c.x-item.is) (both c.piped.ensures h))
+
+pub pipes-returns : goal.pipes-returns
+pipes-returns t c = c.loop-x.invariant _ (rw (drop_all c.loop-x.x-index c.args.xs.now (omega arith)) (nothing _))

@@ -1,4 +1,8 @@
+use Rattle.std.proofs.Common.{arith, append_assoc}
+use Rattle.std.proofs.lemmas.List.{drop_all}
 use Rattle.awk_program.proofs.Views.{statement-Expr, statement-Print, statement-Printf, statement-Delete, statement-Break, statement-Continue, statement-Next, statement-Exit, statement-Return, statement-Block, statement-If, statement-IfElse, statement-While, statement-Do, statement-For, statement-ForIn}
+use Rattle.awk_printer.proofs.Lists.{drop_here}
+use Rattle.awk_printer.proofs.Pages.{nothing, both, lost}
 use Rattle.awk_printer.proofs.statements.+statement.Goals as goal
 
 pub statement-returns-in-Expr : goal.statement-returns-in-Expr
@@ -64,3 +68,35 @@ statement-returns-in-For t c =
 pub statement-returns-in-ForIn : goal.statement-returns-in-ForIn
 statement-returns-in-ForIn t c =
     let h = rw (c.get-in-ForIn.ensures) at c.for_each.ensures in rw (c.in-ForIn.is, statement-ForIn) h
+
+pub statement-returns-then-level-eq0 : goal.statement-returns-then-level-eq0
+statement-returns-then-level-eq0 t c = lost c.cut.ensures
+
+pub block-returns : goal.block-returns
+block-returns t c = both c.open.ensures (both c.statements.ensures c.close.ensures)
+
+pub test-returns : goal.test-returns
+test-returns t c = both c.open.ensures (both c.whole.ensures (both c.statement.ensures c.close.ensures))
+
+pub if_else-returns : goal.if_else-returns
+if_else-returns t c = both c.open.ensures (both c.whole.ensures (both c.statement.ensures (both c.statement-2.ensures c.close.ensures)))
+
+pub do_while-returns : goal.do_while-returns
+do_while-returns t c = both c.open.ensures (both c.statement.ensures (both c.whole.ensures c.close.ensures))
+
+pub for_loop-returns : goal.for_loop-returns
+for_loop-returns t c =
+    let h = both c.header.ensures (both c.statement.ensures c.close.ensures) in simp append_assoc (simp append_assoc at h)
+
+pub for_each-returns : goal.for_each-returns
+for_each-returns t c =
+    let h = both c.each_header.ensures (both c.statement.ensures c.close.ensures) in simp append_assoc (simp append_assoc at h)
+
+pub statements-loop-s-init : goal.statements-loop-s-init
+statements-loop-s-init t c = λ _ h. h
+
+pub statements-loop-s-preserved : goal.statements-loop-s-preserved
+statements-loop-s-preserved t c = λ end h. c.loop-s.invariant end (rw (drop_here c.args.xs.now c.loop-s.s-index c.s-item.result (omega arith) c.s-item.is) (both c.statement.ensures h))
+
+pub statements-returns : goal.statements-returns
+statements-returns t c = c.loop-s.invariant _ (rw (drop_all c.loop-s.s-index c.args.xs.now (omega arith)) (nothing _))

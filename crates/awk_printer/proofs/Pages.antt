@@ -1,0 +1,16 @@
+-- Texts that a page gets one behind the other.
+use Rattle.std.proofs.Common.{◌≡◌, ◌++◌, [], true, sym, append_assoc}
+use Rattle.std.proofs.lemmas.List.{append-nil}
+use Rattle.awk_printer.specs.declared.page.Page.{Page}
+use Rattle.awk_printer.specs.Pages.{Adds}
+use Rattle.awk_program.specs.Slots.{Text}
+
+pub nothing : (a : Page) → Adds a a []
+nothing a = record { whole = λ e. (e, sym (append-nil _)) }
+
+pub both : {a b c : Page} {x y : Text} → Adds a b x → Adds b c y → Adds a c (x ++ y)
+both f g = record { whole = λ e. let k = g.whole e in let h = f.whole k.0 in (h.0, rw (k.1, h.1, append_assoc)) }
+
+-- a page that is cut is told nothing of
+pub lost : {a b : Page} {x : Text} → b.is_cut ≡ true → Adds a b x
+lost e = record { whole = λ h. absurd (cc) }

@@ -1,0 +1,30 @@
+// What is printed so far.
+
+ghost use Rattle.std.specs.Prelude.{◌≡◌, true};
+ghost use Rattle.awk_printer.specs.Pages.{Adds};
+
+/// A text that grows until memory for it is refused once. What comes behind that is lost, so that
+/// a printer asks once at its end, and not behind each piece.
+#[derive(Drop)]
+pub struct Page {
+    pub text: Vec<u8>,
+    pub is_cut: bool,
+}
+
+pub fn put(text: &[u8], out: &mut Page)
+    ensures { Adds out.old out.new text.now }
+{
+    if out.is_cut {
+        return;
+    }
+    if out.text.extend_from_slice(text).is_err() {
+        out.is_cut = true;
+    }
+}
+
+/// Gives up: nothing that is printed from here on counts.
+pub fn cut(out: &mut Page)
+    ensures { out.new.is_cut ≡ true }
+{
+    out.is_cut = true;
+}
