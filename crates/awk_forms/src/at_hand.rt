@@ -29,6 +29,7 @@ use std::alloc::Global;
 pub const MOST_LEVELS: u32 = 3;
 
 /// The value of a variable. NF has one where the record is split.
+#[inline(always)]
 fn variable_at_hand<'a>(store: &'a Store, variable: Variable) -> Option<Lent<'a>>
     ensures { IfSome result (λ v. IsThere (λ names. p.read (p.variable (variable_of names variable))) store.now (lent_value v)) }
 {
@@ -43,6 +44,7 @@ fn variable_at_hand<'a>(store: &'a Store, variable: Variable) -> Option<Lent<'a>
 }
 
 /// The number that a variable holds, if it holds one. NF is none.
+#[inline(always)]
 fn number_held(store: &Store, variable: Variable) -> Option<i64>
     ensures nf { IfSome result (λ n. kept.is_nf variable ≡ false) }
     ensures number { IfSome result (λ n. kept.value store.now variable ≡ v.Num n) }
@@ -57,6 +59,7 @@ fn number_held(store: &Store, variable: Variable) -> Option<i64>
 }
 
 /// The number of what is read, where that is a variable that holds one.
+#[inline(always)]
 fn number_read(store: &Store, target: &Target<Expr>) -> Option<i64>
     ensures { IfSome result (λ n. IsThere (λ names. p.read (view_target names target.now)) store.now (v.Num n)) }
 {
@@ -151,6 +154,7 @@ fn chain_at_hand(store: &Store, x: &Expr, xs: &[Term<Expr>], level: u32) -> Opti
 
 /// The number of an expression's value, where the value is there.
 #[cycle(hand)]
+#[inline(always)]
 pub fn number_at_hand(store: &Store, e: &Expr, level: u32) -> Option<i64>
     ensures { IfSome result (λ n. HasNumber (λ names. view names e.now) store.now n) }
 {
@@ -175,6 +179,7 @@ pub fn number_at_hand(store: &Store, e: &Expr, level: u32) -> Option<i64>
 
 /// The value of an expression, where it is there: to evaluate it changes nothing and meets no fault.
 #[cycle(hand)]
+#[inline(always)]
 pub fn at_hand<'a>(store: &'a Store, e: &'a Expr, level: u32) -> Option<Lent<'a>>
     ensures { IfSome result (λ v. IsThere (λ names. view names e.now) store.now (lent_value v)) }
 {
@@ -194,6 +199,7 @@ pub fn at_hand<'a>(store: &'a Store, e: &'a Expr, level: u32) -> Option<Lent<'a>
 }
 
 /// The number of a constant, or of a variable that holds one: what loops read most.
+#[inline(always)]
 fn plain_number(store: &Store, e: &Expr) -> Option<i64>
     ensures { IfSome result (λ n. IsThere (λ names. view names e.now) store.now (v.Num n)) }
 {
@@ -205,6 +211,7 @@ fn plain_number(store: &Store, e: &Expr) -> Option<i64>
 }
 
 /// A value of its own for what is lent.
+#[inline(always)]
 fn owned<'a>(alloc: Global, value: Lent<'a>) -> Option<Value>
     ensures { IfSome result (λ v. v ≡ lent_value value.entry) }
 {
@@ -217,6 +224,7 @@ fn owned<'a>(alloc: Global, value: Lent<'a>) -> Option<Value>
 }
 
 /// The value of an expression, where it is there, as one of its own. `None` stands for refused memory too.
+#[inline(always)]
 pub fn value_at_hand(alloc: Global, store: &Store, e: &Expr) -> Option<Value>
     ensures { IfSome result (λ v. IsThere (λ names. view names e.now) store.now v) }
 {
@@ -228,6 +236,7 @@ pub fn value_at_hand(alloc: Global, store: &Store, e: &Expr) -> Option<Value>
 }
 
 /// Whether a comparison holds, where both sides are there.
+#[inline(always)]
 fn compared_at_hand(store: &Store, how: Comparison, x: &Expr, y: &Expr) -> Option<bool>
     ensures { IfSome result (λ b. HasTruth (λ names. p.compare how (view names x.now) (view names y.now)) store.now b) }
 {
@@ -240,6 +249,7 @@ fn compared_at_hand(store: &Store, how: Comparison, x: &Expr, y: &Expr) -> Optio
 }
 
 /// Whether an expression is true, where its value is there, or it is a comparison of two such.
+#[inline(always)]
 pub fn truth_at_hand(store: &Store, e: &Expr) -> Option<bool>
     ensures { IfSome result (λ b. HasTruth (λ names. view names e.now) store.now b) }
 {

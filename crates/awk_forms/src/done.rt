@@ -44,6 +44,7 @@ fn key_at_hand<'a>(store: &Store, line: &'a mut Line, keys: &[Expr]) -> Option<&
 }
 
 /// The number of a variable that is not NF.
+#[inline(always)]
 fn number_held(store: &Store, variable: Variable) -> Option<i64>
     ensures nf { IfSome result (λ n. kept.is_nf variable ≡ false) }
     ensures number { IfSome result (λ n. values.number_of (kept.value store.now variable) ≡ Ok n) }
@@ -58,6 +59,7 @@ fn number_held(store: &Store, variable: Variable) -> Option<i64>
 }
 
 /// `variable = value`
+#[inline(always)]
 fn assigned_variable(alloc: Global, store: &mut Store, variable: Variable, x: &Expr) -> bool
     ensures done { result ≡ true → (place : Place) → IsDone (λ names. p.assign place (p.variable (variable_of names variable)) (view names x.now)) store.old store.new }
     ensures not_done { result ≡ false → store.new ≡ store.old }
@@ -73,6 +75,7 @@ fn assigned_variable(alloc: Global, store: &mut Store, variable: Variable, x: &E
 }
 
 /// `array [ key ] = value`
+#[inline(always)]
 fn assigned_element(
     alloc: Global,
     store: &mut Store,
@@ -97,6 +100,7 @@ fn assigned_element(
 }
 
 /// `target = value`
+#[inline(always)]
 fn assigned(
     alloc: Global,
     store: &mut Store,
@@ -117,6 +121,7 @@ fn assigned(
 }
 
 /// `variable += number`, and with the other operators.
+#[inline(always)]
 fn changed_variable(store: &mut Store, how: Operator, variable: Variable, x: &Expr) -> bool
     ensures done { result ≡ true → (place : Place) → IsDone (λ names. p.change place how (p.variable (variable_of names variable)) (view names x.now)) store.old store.new }
     ensures not_done { result ≡ false → store.new ≡ store.old }
@@ -135,6 +140,7 @@ fn changed_variable(store: &mut Store, how: Operator, variable: Variable, x: &Ex
 }
 
 /// `array [ key ] += number`
+#[inline(always)]
 fn added_to_element(
     store: &mut Store,
     line: &mut Line,

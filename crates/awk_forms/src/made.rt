@@ -41,6 +41,7 @@ pub fn text_at(place: Place, made: Result<Octets, Fault>) -> Result<Value, Halt>
 }
 
 /// A text of its own, as a value.
+#[inline(always)]
 pub fn owned(alloc: Global, text: &[u8]) -> Result<Value, Halt>
     ensures ok { IfOk result (λ new. new ≡ Value.Text text.now) }
     ensures err { IfErr result (λ h. h ≡ Halt.Memory) }
@@ -75,6 +76,7 @@ pub fn computed_at(place: Place, how: Operator, old: &Value, operand: &Value) ->
 }
 
 /// Adds a value behind the others.
+#[inline(always)]
 pub fn append(values: &mut Vec<Value>, value: Value) -> Result<(), Halt>
     ensures ok { OnOk result (values.new.items ≡ values.old.items ++ value ∷ []) }
     ensures err { IfErr result (λ h. h ≡ Halt.Memory) }

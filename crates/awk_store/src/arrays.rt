@@ -159,6 +159,7 @@ impl Store {
     }
 
     /// The value of an element, where it is there. Takes no memory.
+    #[inline(always)]
     pub fn element(&self, name: Variable, key: &[u8]) -> Option<&Value>
         ensures { option_copied result ≡ element (array self.now name) key.now }
     {
@@ -180,6 +181,7 @@ impl Store {
     ///
     /// Fails with `Fault::TooManyElements` exactly where the key is one too many, and with `Fault::Memory` where memory
     /// is refused; then nothing has changed.
+    #[inline(always)]
     pub fn put(&mut self, name: Variable, key: &[u8], value: Value) -> Result<(), Fault>
         ensures ok { OnOk result ((new : state.Array) × (put (array self.old name) key.now value ≡ Ok new) × (self.new ≡ with_array (reference self.old name) new self.old)) }
         ensures err { IfErr result (λ e. (self.new ≡ self.old) × ((e ≡ Fault.Memory) ⊎ (put (array self.old name) key.now value ≡ Err e))) }

@@ -39,6 +39,7 @@ impl Cell {
     }
 
     /// The value, where it holds one.
+    #[inline(always)]
     pub(crate) fn value(&self) -> Option<&Value>
         ensures { option_copied result ≡ scalar (Some self.now) }
     {
@@ -49,6 +50,7 @@ impl Cell {
     }
 
     /// The array, where it holds one.
+    #[inline(always)]
     pub(crate) fn array(&self) -> Option<&Array<Value>>
         ensures { option_copied result ≡ listed (Some self.now) }
     {
@@ -59,6 +61,7 @@ impl Cell {
     }
 
     /// Sets the value. An array stays as it is.
+    #[inline(always)]
     pub(crate) fn set_value(&mut self, value: Value)
         ensures { self.new ≡ given_value value self.old }
     {
@@ -81,6 +84,7 @@ impl Cell {
     /// Gives an element of the array a value. A value stays as it is.
     ///
     /// Fails as `Array::set` does; then nothing has changed.
+    #[inline(always)]
     pub(crate) fn put(&mut self, key: &[u8], value: Value) -> Result<(), Fault>
         ensures ok { OnOk result (Puts (listed (Some self.old)) key.now value (λ new. self.new ≡ given_array new self.old)) }
         ensures err { IfErr result (λ e. (self.new ≡ self.old) × PutsNot (listed (Some self.old)) key.now value e) }
@@ -92,6 +96,7 @@ impl Cell {
     }
 
     /// Adds to the number that an element of the array holds, and answers whether it did.
+    #[inline(always)]
     pub(crate) fn add_to(&mut self, key: &[u8], by: i64) -> bool
         ensures done { result ≡ true → Adds (listed (Some self.old)) key.now by (λ new. self.new ≡ given_array new self.old) }
         ensures not_done { result ≡ false → self.new ≡ self.old }

@@ -17,6 +17,7 @@ use itoa::Buffer;
 use std::mem;
 
 /// The value at a slot. There is none in an array, nor where the slot is none.
+#[inline(always)]
 fn value_at(cells: &[Cell], slot: usize) -> Option<&Value>
     ensures { option_copied result ≡ scalar (slice_get cells.now slot) }
 {
@@ -24,6 +25,7 @@ fn value_at(cells: &[Cell], slot: usize) -> Option<&Value>
 }
 
 /// The value of a parameter. There is none in an array, nor where the place is none.
+#[inline(always)]
 fn bound_value(frame: &[Bound], place: usize) -> Option<&Value>
     ensures { option_copied result ≡ bound_scalar (slice_get frame.now place) }
 {
@@ -34,6 +36,7 @@ fn bound_value(frame: &[Bound], place: usize) -> Option<&Value>
 }
 
 /// The text of one of awk's own variables.
+#[inline(always)]
 pub(crate) fn own_text<'a>(cells: &'a [Cell], name: Own, buffer: &'a mut Buffer) -> &'a [u8]
     ensures { result.now ≡ text_of (value_at cells.now (slot_of name)) }
 {
@@ -44,6 +47,7 @@ pub(crate) fn own_text<'a>(cells: &'a [Cell], name: Own, buffer: &'a mut Buffer)
 }
 
 /// Sets the value at a slot. An array stays as it is.
+#[inline(always)]
 fn set_value(cells: &mut Vec<Cell>, slot: usize, value: Value)
     ensures { cells.new.items ≡ change_at (given_value value) cells.old.items slot }
 {
@@ -54,6 +58,7 @@ fn set_value(cells: &mut Vec<Cell>, slot: usize, value: Value)
 }
 
 /// Sets a parameter to a value.
+#[inline(always)]
 fn set_bound(frame: &mut Vec<Bound>, place: usize, value: Value)
     ensures { frame.new.items ≡ slice_set frame.old.items place (Bound.Scalar value) }
 {
@@ -63,6 +68,7 @@ fn set_bound(frame: &mut Vec<Bound>, place: usize, value: Value)
 }
 
 /// Takes the value at a slot out, and leaves it unset. An array stays as it is.
+#[inline(always)]
 fn take_value(cells: &mut Vec<Cell>, slot: usize) -> Value
     ensures value { result ≡ value_at cells.old.items slot }
     ensures after { cells.new.items ≡ change_at (given_value Value.Unset) cells.old.items slot }
@@ -74,6 +80,7 @@ fn take_value(cells: &mut Vec<Cell>, slot: usize) -> Value
 }
 
 /// Takes the value of a parameter out, and leaves it unset.
+#[inline(always)]
 fn take_bound(frame: &mut Vec<Bound>, place: usize) -> Value
     ensures value { result ≡ unwrap_or (bound_scalar (slice_get frame.old.items place)) Value.Unset }
     ensures after { frame.new.items ≡ slice_set frame.old.items place (Bound.Scalar Value.Unset) }
@@ -85,6 +92,7 @@ fn take_bound(frame: &mut Vec<Bound>, place: usize) -> Value
 }
 
 /// Whether a variable is NF, which is no variable but a property of the record.
+#[inline(always)]
 pub fn is_nf(variable: Variable) -> bool
     ensures { result ≡ is_nf variable }
 {
@@ -96,6 +104,7 @@ pub fn is_nf(variable: Variable) -> bool
 
 impl Store {
     /// The value of a variable: none stands for one that is unset. Takes no memory.
+    #[inline(always)]
     pub fn value(&self, variable: Variable) -> Option<&Value>
         ensures { unwrap_or (option_copied result) Value.Unset ≡ value self.now variable }
     {
@@ -107,6 +116,7 @@ impl Store {
 
     /// Sets a variable to a value. A variable that is an array, or none, stays as it is, but a parameter holds the value
     /// from now on. Takes no memory.
+    #[inline(always)]
     pub fn set(&mut self, variable: Variable, value: Value)
         ensures { self.new ≡ with_value variable value self.old }
     {
@@ -137,6 +147,7 @@ impl Store {
     }
 
     /// The text of one of awk's own variables: a number's is written into the buffer. Takes no memory.
+    #[inline(always)]
     pub fn own_text<'a>(&'a self, name: Own, buffer: &'a mut Buffer) -> &'a [u8]
         ensures { result.now ≡ own_text self.now name }
     {

@@ -17,6 +17,7 @@ use std::cmp::Ordering;
 /// What the operator gives at two numbers. Takes no memory.
 ///
 /// Fails with `Fault::ZeroDivisor` and `Fault::OutOfRange` as the functions of `arithmetic` do.
+#[inline(always)]
 pub fn operation(how: Operator, left: i64, right: i64) -> Result<i64, Fault>
     ensures { result ≡ spec.operation how left right }
 {
@@ -33,6 +34,7 @@ pub fn operation(how: Operator, left: i64, right: i64) -> Result<i64, Fault>
 /// What the operator gives at the numbers of two values. Takes no memory.
 ///
 /// Fails with `Fault::OutOfRange` where a number is out of range, the left one first, and as `operation` does.
+#[inline(always)]
 pub fn computed(how: Operator, left: &Value, right: &Value) -> Result<i64, Fault>
     ensures { as_value result ≡ spec.computed how left.now right.now }
 {
@@ -44,6 +46,7 @@ pub fn computed(how: Operator, left: &Value, right: &Value) -> Result<i64, Fault
 /// What the sign gives at the number of a value. Takes no memory.
 ///
 /// Fails with `Fault::OutOfRange` where the number, or the one with the other sign, is out of range.
+#[inline(always)]
 pub fn signed(how: Sign, value: &Value) -> Result<i64, Fault>
     ensures { as_value result ≡ spec.signed how value.now }
 {
@@ -57,6 +60,7 @@ pub fn signed(how: Sign, value: &Value) -> Result<i64, Fault>
 /// The next number, or the one before. Takes no memory.
 ///
 /// Fails with `Fault::OutOfRange` where that is out of range.
+#[inline(always)]
 pub fn stepped(how: Step, number: i64) -> Result<i64, Fault>
     ensures { result ≡ spec.stepped how number }
 {
@@ -67,6 +71,7 @@ pub fn stepped(how: Step, number: i64) -> Result<i64, Fault>
 }
 
 /// Whether the comparison holds of two values in this order. Takes no memory.
+#[inline(always)]
 fn holds(how: Comparison, order: Ordering) -> bool
     ensures { result ≡ spec.holds how order }
 {
@@ -83,6 +88,7 @@ fn holds(how: Comparison, order: Ordering) -> bool
 }
 
 /// Whether the comparison holds of two numbers. Takes no memory.
+#[inline(always)]
 pub fn compared_numbers(how: Comparison, left: i64, right: i64) -> bool
     ensures { of_truth result ≡ spec.compared how (Value.Num left) (Value.Num right) }
 {
@@ -90,6 +96,7 @@ pub fn compared_numbers(how: Comparison, left: i64, right: i64) -> bool
 }
 
 /// Whether the comparison holds of two values. Takes no memory.
+#[inline(always)]
 pub fn compared(how: Comparison, left: &Value, right: &Value) -> bool
     ensures { of_truth result ≡ spec.compared how left.now right.now }
 {
@@ -100,6 +107,7 @@ pub fn compared(how: Comparison, left: &Value, right: &Value) -> bool
 }
 
 /// Whether the comparison holds of two values that are lent. Takes no memory.
+#[inline(always)]
 pub fn compared_lent<'a>(how: Comparison, left: Lent<'a>, right: Lent<'a>) -> bool
     ensures { of_truth result ≡ spec.compared how (lent_value left.entry) (lent_value right.entry) }
 {
@@ -110,6 +118,7 @@ pub fn compared_lent<'a>(how: Comparison, left: Lent<'a>, right: Lent<'a>) -> bo
 }
 
 /// The value of a truth: 1 or 0. Takes no memory.
+#[inline(always)]
 pub fn truth_value(holds: bool) -> Value
     ensures { result ≡ of_truth holds }
 {
@@ -119,6 +128,7 @@ pub fn truth_value(holds: bool) -> Value
 /// The text, where it is within the limit. Takes no memory.
 ///
 /// Fails with `Fault::TextTooLong` exactly where it has more than `MOST_BYTES` bytes.
+#[inline(always)]
 pub fn limited(text: Vec<u8>) -> Result<Octets, Fault>
     ensures { result ≡ limited text.items }
 {

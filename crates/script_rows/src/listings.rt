@@ -1,6 +1,7 @@
 // What scripts may ask, as it is listed, and as it stands to a policy.
 
 use crate::parses::script;
+use awk_parse::Script;
 use awk_text::octets::Octets;
 use box_listing::{check, lines_of, sites, verdict_lines};
 use box_policy::policy::Policy;
@@ -10,14 +11,24 @@ use row_tables::row::{Arg, Row};
 use row_tables::shown::{Answer, told};
 use std::alloc::Global;
 
+fn sites_in(alloc: Global, script: &Script) -> Answer {
+    let sites = sites(alloc, script)?;
+    Ok(lines_of(alloc, &sites)?)
+}
+
 fn listed(alloc: Global, text: &[u8]) -> Answer {
     let script = script(alloc, text)?;
-    Ok(lines_of(alloc, &sites(alloc, &script)?)?)
+    sites_in(alloc, &script)
+}
+
+fn verdict_on(alloc: Global, policy: &Policy, script: &Script) -> Answer {
+    let verdict = check(alloc, script, policy)?;
+    Ok(verdict_lines(alloc, &verdict)?)
 }
 
 fn judged(alloc: Global, policy: &Policy, text: &[u8]) -> Answer {
     let script = script(alloc, text)?;
-    Ok(verdict_lines(alloc, &check(alloc, &script, policy)?)?)
+    verdict_on(alloc, policy, &script)
 }
 
 /// The answer of the call.

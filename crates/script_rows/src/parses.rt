@@ -27,11 +27,16 @@ fn are_same(first: &[Token], second: &[Token]) -> bool {
     true
 }
 
+/// The canonical spelling of the script that these tokens spell.
+fn spelling_of(alloc: Global, tokens: &[Token]) -> Result<Vec<Token>, Problem> {
+    let script = parse(alloc, tokens)?;
+    Ok(canon(alloc, &script)?)
+}
+
 /// Done where the canonical spelling of the script is parsed as a script with the same spelling.
 fn parsed_again(alloc: Global, script: &Script) -> Answer {
     let first = canon(alloc, script)?;
-    let again = parse(alloc, &first)?;
-    let second = canon(alloc, &again)?;
+    let second = spelling_of(alloc, &first)?;
     if !are_same(&first, &second) {
         return Err(Problem::TwoAnswers);
     }
@@ -81,14 +86,24 @@ fn asked(alloc: Global, script: &Script) -> Answer {
     bytes(alloc, asked)
 }
 
-/// The answer of the call.
-pub fn call(alloc: Global, args: &[Arg<'_>]) -> Answer {
-    let script = script(alloc, text(args, 1))?;
+fn spelled_script(alloc: Global, script: &Script) -> Answer {
+    let tokens = canon(alloc, script)?;
+    spelled(alloc, &tokens)
+}
+
+/// What the call says of the script.
+fn told_of(alloc: Global, script: &Script, args: &[Arg<'_>]) -> Answer {
     match name(args, 0) {
-        "parse" => parsed_again(alloc, &script),
-        "canon" => spelled(alloc, &canon(alloc, &script)?),
-        "asks" => asked(alloc, &script),
+        "parse" => parsed_again(alloc, script),
+        "canon" => spelled_script(alloc, script),
+        "asks" => asked(alloc, script),
         "can_assign" => yes_or_no(alloc, script.can_assign(text(args, 2))),
         _ => Err(Problem::NoCall),
     }
+}
+
+/// The answer of the call.
+pub fn call(alloc: Global, args: &[Arg<'_>]) -> Answer {
+    let script = script(alloc, text(args, 1))?;
+    told_of(alloc, &script, args)
 }
