@@ -50,7 +50,6 @@ impl Cell {
     }
 
     /// The array, where it holds one.
-    #[inline(always)]
     pub(crate) fn array(&self) -> Option<&Array<Value>>
         ensures { option_copied result ≡ listed (Some self.now) }
     {
@@ -84,7 +83,6 @@ impl Cell {
     /// Gives an element of the array a value. A value stays as it is.
     ///
     /// Fails as `Array::set` does; then nothing has changed.
-    #[inline(always)]
     pub(crate) fn put(&mut self, key: &[u8], value: Value) -> Result<(), Fault>
         ensures ok { OnOk result (Puts (listed (Some self.old)) key.now value (λ new. self.new ≡ given_array new self.old)) }
         ensures err { IfErr result (λ e. (self.new ≡ self.old) × PutsNot (listed (Some self.old)) key.now value e) }
@@ -96,7 +94,6 @@ impl Cell {
     }
 
     /// Adds to the number that an element of the array holds, and answers whether it did.
-    #[inline(always)]
     pub(crate) fn add_to(&mut self, key: &[u8], by: i64) -> bool
         ensures done { result ≡ true → Adds (listed (Some self.old)) key.now by (λ new. self.new ≡ given_array new self.old) }
         ensures not_done { result ≡ false → self.new ≡ self.old }

@@ -36,7 +36,6 @@ fn bound_value(frame: &[Bound], place: usize) -> Option<&Value>
 }
 
 /// The text of one of awk's own variables.
-#[inline(always)]
 pub(crate) fn own_text<'a>(cells: &'a [Cell], name: Own, buffer: &'a mut Buffer) -> &'a [u8]
     ensures { result.now ≡ text_of (value_at cells.now (slot_of name)) }
 {
@@ -68,7 +67,6 @@ fn set_bound(frame: &mut Vec<Bound>, place: usize, value: Value)
 }
 
 /// Takes the value at a slot out, and leaves it unset. An array stays as it is.
-#[inline(always)]
 fn take_value(cells: &mut Vec<Cell>, slot: usize) -> Value
     ensures value { result ≡ value_at cells.old.items slot }
     ensures after { cells.new.items ≡ change_at (given_value Value.Unset) cells.old.items slot }
@@ -80,7 +78,6 @@ fn take_value(cells: &mut Vec<Cell>, slot: usize) -> Value
 }
 
 /// Takes the value of a parameter out, and leaves it unset.
-#[inline(always)]
 fn take_bound(frame: &mut Vec<Bound>, place: usize) -> Value
     ensures value { result ≡ unwrap_or (bound_scalar (slice_get frame.old.items place)) Value.Unset }
     ensures after { frame.new.items ≡ slice_set frame.old.items place (Bound.Scalar Value.Unset) }
@@ -147,7 +144,6 @@ impl Store {
     }
 
     /// The text of one of awk's own variables: a number's is written into the buffer. Takes no memory.
-    #[inline(always)]
     pub fn own_text<'a>(&'a self, name: Own, buffer: &'a mut Buffer) -> &'a [u8]
         ensures { result.now ≡ own_text self.now name }
     {

@@ -46,7 +46,6 @@ impl Line {
     }
 
     /// Begins a new text, which is empty. Takes no memory.
-    #[inline(always)]
     pub fn clear(&mut self)
         ensures { self.new ≡ Some [] }
     {
@@ -55,7 +54,6 @@ impl Line {
     }
 
     /// Adds the bytes.
-    #[inline(always)]
     pub fn push(&mut self, piece: &[u8]) -> Result<(), Memory>
         ensures { OnOk result (self.new ≡ written self.old piece.now) }
     {
@@ -69,7 +67,6 @@ impl Line {
     }
 
     /// Adds the text of a value.
-    #[inline(always)]
     pub fn add(&mut self, value: &Value) -> Result<(), Memory>
         ensures { OnOk result (self.new ≡ written self.old (text_of value.now)) }
     {
@@ -106,7 +103,6 @@ impl Line {
     /// The text. Takes no memory.
     ///
     /// Fails with `Fault::TextTooLong` exactly where it has gone over `MOST_BYTES`.
-    #[inline(always)]
     pub fn text(&self) -> Result<&[u8], Fault>
         ensures ok { IfOk result (λ text. within self.now ≡ Ok text.now) }
         ensures err { IfErr result (λ e. within self.now ≡ Err e) }

@@ -34,7 +34,6 @@ pub fn operation(how: Operator, left: i64, right: i64) -> Result<i64, Fault>
 /// What the operator gives at the numbers of two values. Takes no memory.
 ///
 /// Fails with `Fault::OutOfRange` where a number is out of range, the left one first, and as `operation` does.
-#[inline(always)]
 pub fn computed(how: Operator, left: &Value, right: &Value) -> Result<i64, Fault>
     ensures { as_value result ≡ spec.computed how left.now right.now }
 {
@@ -46,7 +45,6 @@ pub fn computed(how: Operator, left: &Value, right: &Value) -> Result<i64, Fault
 /// What the sign gives at the number of a value. Takes no memory.
 ///
 /// Fails with `Fault::OutOfRange` where the number, or the one with the other sign, is out of range.
-#[inline(always)]
 pub fn signed(how: Sign, value: &Value) -> Result<i64, Fault>
     ensures { as_value result ≡ spec.signed how value.now }
 {
@@ -60,7 +58,6 @@ pub fn signed(how: Sign, value: &Value) -> Result<i64, Fault>
 /// The next number, or the one before. Takes no memory.
 ///
 /// Fails with `Fault::OutOfRange` where that is out of range.
-#[inline(always)]
 pub fn stepped(how: Step, number: i64) -> Result<i64, Fault>
     ensures { result ≡ spec.stepped how number }
 {
@@ -96,7 +93,6 @@ pub fn compared_numbers(how: Comparison, left: i64, right: i64) -> bool
 }
 
 /// Whether the comparison holds of two values. Takes no memory.
-#[inline(always)]
 pub fn compared(how: Comparison, left: &Value, right: &Value) -> bool
     ensures { of_truth result ≡ spec.compared how left.now right.now }
 {
@@ -118,7 +114,6 @@ pub fn compared_lent<'a>(how: Comparison, left: Lent<'a>, right: Lent<'a>) -> bo
 }
 
 /// The value of a truth: 1 or 0. Takes no memory.
-#[inline(always)]
 pub fn truth_value(holds: bool) -> Value
     ensures { result ≡ of_truth holds }
 {
@@ -128,7 +123,6 @@ pub fn truth_value(holds: bool) -> Value
 /// The text, where it is within the limit. Takes no memory.
 ///
 /// Fails with `Fault::TextTooLong` exactly where it has more than `MOST_BYTES` bytes.
-#[inline(always)]
 pub fn limited(text: Vec<u8>) -> Result<Octets, Fault>
     ensures { result ≡ limited text.items }
 {
