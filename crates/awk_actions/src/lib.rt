@@ -4,7 +4,6 @@
 
 mod calls;
 mod context;
-mod ends;
 mod expressions;
 mod inputs;
 mod lists;

@@ -10,11 +10,11 @@ ghost use Rattle.awk_actions.specs.Loops.{loop_of, tested, to_test};
 ghost use Rattle.awk_actions.specs.Runs.{Does};
 
 use crate::context::{Context, Run};
-use crate::ends::end_of;
 use crate::expressions::{effect, truth_of};
 use crate::statements::statement;
 use awk_asks::halt::Halt;
 use awk_calls::Flow;
+use awk_calls::ends::end_of;
 use awk_program::{Expr, Statement, Variable};
 use awk_tasks::variables::set_variable;
 use awk_text::octets::Octets;

@@ -9,13 +9,13 @@ ghost use Rattle.awk_calls.specs.Flows.{flows};
 ghost use Rattle.awk_actions.specs.Runs.{Does};
 
 use crate::context::{Context, Run};
-use crate::ends::is_on;
 use crate::expressions::{effect, truth_of, value};
 use crate::lists::fill;
 use crate::loops::{first_then, over_keys, turn_first, while_loop};
 use crate::output::{print, printf};
 use awk_asks::halt::Halt;
 use awk_calls::Flow;
+use awk_calls::ends::is_on;
 use awk_calls::jumps::{exit, exit_with, next};
 use awk_calls::steps::{is_one, step};
 use awk_forms::keys::remove;

@@ -1,3 +1,4 @@
+pub mod Ends
 pub mod Flows
 pub mod Calls
 pub mod Jumps

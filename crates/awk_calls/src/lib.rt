@@ -2,6 +2,7 @@
 //! does what the machine of plain awk does there; none evaluates an expression or does a statement.
 #![tactic(auto)]
 
+pub mod ends;
 mod flow;
 pub mod frames;
 pub mod jumps;

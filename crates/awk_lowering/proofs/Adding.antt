@@ -1,5 +1,5 @@
 -- A program that grows by what an item is.
-use Rattle.std.proofs.Common.{◌≡◌, ◌∙◌, Bool, List, [], ◌∷◌, ◌++◌, map, Result, Ok, Err, IfOk, OnOk, ap, sym, refl, subst, append-nil, append_assoc}
+use Rattle.std.proofs.Common.{◌≡◌, ◌∙◌, Bool, List, [], ◌∷◌, ◌++◌, map, Result, Ok, Err, IfOk, OnOk, ap, refl, subst, append-nil, append_assoc}
 use Rattle.awk_tree.specs.Tree.{Text, Entry}
 use Rattle.awk_program.specs.declared.program.Name.{Name}
 use Rattle.awk_program.specs.declared.program.Program as code

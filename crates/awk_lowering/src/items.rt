@@ -129,27 +129,39 @@ fn function(alloc: Global, tables: &Tables, f: &awk_tree::Function) -> Result<Fu
     )
 }
 
-/// Puts what an item is behind the others of its kind.
-fn add(alloc: Global, tables: &Tables, item: &Item, out: &mut Program) -> Result<(), Memory>
+/// Puts what an item is behind the others of its kind. What has no parameters is read in the context.
+fn add(
+    context: &Context<'_>,
+    tables: &Tables,
+    item: &Item,
+    out: &mut Program,
+) -> Result<(), Memory>
+    requires names { names_in context.now ≡ tables.now.variables }
+    requires scope { scope_in context.now ≡ spec.scope_with (tables_in tables.now) [] [] }
     ensures { OnOk result (code.view_by tables.now.variables out.new ≡ spec.with_entry (tables_in tables.now) (view_item item.now) (code.view_by tables.now.variables out.old)) }
 {
-    let none = Roll::new(alloc);
-    let context = within(alloc, tables, &none, &[]);
     match item {
-        Item::Begin(body) => push(&mut out.begin, action(&context, body.as_slice())),
-        Item::End(body) => push(&mut out.end, action(&context, body.as_slice())),
-        Item::Always(body) => push(&mut out.rules, always(&context, body.as_slice())),
-        Item::Shown(x) => push(&mut out.rules, shown(&context, x)),
-        Item::Rule(x, body) => push(&mut out.rules, rule(&context, x, body.as_slice())),
-        Item::Function(f) => push(&mut out.functions, function(alloc, tables, f)),
+        Item::Begin(body) => push(&mut out.begin, action(context, body.as_slice())),
+        Item::End(body) => push(&mut out.end, action(context, body.as_slice())),
+        Item::Always(body) => push(&mut out.rules, always(context, body.as_slice())),
+        Item::Shown(x) => push(&mut out.rules, shown(context, x)),
+        Item::Rule(x, body) => push(&mut out.rules, rule(context, x, body.as_slice())),
+        Item::Function(f) => push(&mut out.functions, function(context.alloc, tables, f)),
     }
 }
 
-fn add_all(alloc: Global, tables: &Tables, items: &[Item], out: &mut Program) -> Result<(), Memory>
+fn add_all(
+    context: &Context<'_>,
+    tables: &Tables,
+    items: &[Item],
+    out: &mut Program,
+) -> Result<(), Memory>
+    requires names { names_in context.now ≡ tables.now.variables }
+    requires scope { scope_in context.now ≡ spec.scope_with (tables_in tables.now) [] [] }
     ensures { OnOk result (code.view_by tables.now.variables out.new ≡ spec.with_entries (tables_in tables.now) (map view_item items.now) (code.view_by tables.now.variables out.old)) }
 {
     for item in items {
-        add(alloc, tables, item, out)?;
+        add(context, tables, item, out)?;
     }
     Ok(())
 }
@@ -186,6 +198,8 @@ pub fn program(alloc: Global, tables: &Tables, items: &[Item]) -> Result<Program
     let texts = tables.variables.texts();
     let variables = named(alloc, texts, tables.script_arrays.as_slice())?;
     let mut out = empty(alloc, variables);
-    let filled = add_all(alloc, tables, items, &mut out);
+    let none = Roll::new(alloc);
+    let context = within(alloc, tables, &none, &[]);
+    let filled = add_all(&context, tables, items, &mut out);
     finished(out, filled)
 }

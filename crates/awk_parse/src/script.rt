@@ -122,6 +122,9 @@ impl Script {
     {
         self.reads_main
     }
+
+    /// Lets the script go. That each part of it is dropped is proved here once: a crate that drops one itself proves it again.
+    pub fn release(self) {}
 }
 
 /// The canonical spelling of a script: its tokens, all at the place 0:0, or `Memory` where memory

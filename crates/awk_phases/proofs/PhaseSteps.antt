@@ -4,13 +4,10 @@ use Rattle.std.specs.Prelude.{Some, None, Ok}
 use Rattle.box_world.specs.Calls.{Call}
 use Rattle.box_world.specs.declared.ask.Ask.{Ask}
 use Rattle.awk_program.specs.Program.{Statement}
-use Rattle.awk_program.specs.View.{view_program, view_rule, view_statement}
-use Rattle.awk_program.specs.declared.program.Program as code
-use Rattle.awk_program.specs.declared.program.Rule as code_rule
-use Rattle.awk_program.specs.declared.statements.Statement as code_statement
+use Rattle.awk_program.specs.View.{view_statement}
 use Rattle.awk_machine.specs.Advances.{advance}
 use Rattle.awk_machine.specs.Pieces as machine
-use Rattle.awk_machine.specs.Pieces.{Piece, At, Do, Each, Enter, Finish, Records, Goes, Faulted, ends}
+use Rattle.awk_machine.specs.Pieces.{Piece, Do, Each, Enter, Finish, Goes, Faulted, ends}
 use Rattle.awk_machine.specs.Rules.{concatenated, records}
 use Rattle.awk_machine.specs.State.{State, Given, Ending}
 use Rattle.awk_machine.specs.Streams.{seen}
@@ -22,34 +19,22 @@ use Rattle.awk_store.specs.declared.phase.Phase.TheVariants as phase
 use Rattle.awk_asks.specs.Chains.{Led, Ended, Leads, Meets}
 use Rattle.awk_asks.specs.Tables.{Table}
 use Rattle.awk_asks.proofs.Chain.{at_once, changes, done}
+use Rattle.awk_calls.specs.Ends.{is_on}
 use Rattle.awk_calls.specs.Flows.{flows}
 use Rattle.awk_calls.specs.declared.flow.Flow.{Flow}
 use Rattle.awk_calls.specs.declared.flow.Flow.TheVariants as flow
 use Rattle.awk_tasks.specs.Wholes.{Whole, Agreeing, base, names_in, used}
 use Rattle.awk_actions.specs.Runs.{IsGiven}
+use Rattle.awk_actions.proofs.Going.{each_off}
 use Rattle.awk_actions.specs.declared.context.Context.{Context}
 use Rattle.awk_phases.specs.Outcomes.{own_status}
-use Rattle.awk_phases.specs.Rules.{is_on}
 use Rattle.awk_phases.specs.Runs.{Reached}
 use Rattle.awk_phases.proofs.Reaching.{then_move, then_part}
 
 -- ---- the actions of BEGIN and of END
 
-pub flows_each : (f : Flow) (xs : List Statement) (k : List Piece) → is_on f ≡ true → flows f (Do (Each xs) ∷ k) ≡ Do (Each xs) ∷ k
-flows_each flow.On xs k e = refl
-flows_each flow.Break xs k e = absurd (cc)
-flows_each flow.Continue xs k e = absurd (cc)
-flows_each (flow.Return x) xs k e = absurd (cc)
-
-pub flows_past : (f : Flow) (xs : List Statement) (k : List Piece) → is_on f ≡ false → flows f (Do (Each xs) ∷ k) ≡ flows f k
-flows_past flow.On xs k e = absurd (cc)
-flows_past flow.Break xs k e = refl
-flows_past flow.Continue xs k e = refl
-flows_past (flow.Return None) xs k e = refl
-flows_past (flow.Return (Some v)) xs k e = refl
-
 pub past_twice : (f : Flow) (xs ys : List Statement) (k : List Piece) → is_on f ≡ false → flows f (Do (Each xs) ∷ k) ≡ flows f (Do (Each ys) ∷ k)
-past_twice f xs ys k e = flows_past f xs k e ∙ sym (flows_past f ys k e)
+past_twice f xs ys k e = each_off f xs k e ∙ sym (each_off f ys k e)
 
 -- what stands behind BEGIN and END is done whatever ended them
 pub flows_task : (f : Flow) (phase : _) (k : List Piece) → flows f (Do (Enter phase) ∷ k) ≡ Do (Enter phase) ∷ k
@@ -75,31 +60,6 @@ module _ (g : Given) (cx : Context) (is : IsGiven cx g) where
 
   pub end_so : g.program.end ≡ map (map (view_statement (names_in g))) cx.program.now.end
   end_so = ap (λ q. q.end) is.program ∙ ap (λ names. map (map (view_statement names)) cx.program.now.end) (sym names_so)
-
--- ---- whether records are read
-
-pub reads_none : (x : code.Program) (k : List Piece) → x.rules ≡ [] → x.end ≡ [] → records (view_program x) ++ k ≡ k
-reads_none x k e f = reads_by x.rules x.end e f
-  where
-    reads_by : (rules : List code_rule.Rule) (end : List (List code_statement.Statement)) → rules ≡ [] → end ≡ [] → records (record (view_program x) { rules = map (view_rule (map (λ n. n.text) x.variables)) rules; end = map (map (view_statement (map (λ n. n.text) x.variables))) end }) ++ k ≡ k
-    reads_by [] [] e f = refl
-    reads_by [] (y ∷ ys) e f = absurd (cc)
-    reads_by (y ∷ ys) end e f = absurd (cc)
-
-pub reads_end : (x : code.Program) (k : List Piece) → (x.end ≡ [] → ⊥) → records (view_program x) ++ k ≡ At Records [] ∷ k
-reads_end x k f = reads_by x.rules x.end f
-  where
-    reads_by : (rules : List code_rule.Rule) (end : List (List code_statement.Statement)) → (end ≡ [] → ⊥) → records (record (view_program x) { rules = map (view_rule (map (λ n. n.text) x.variables)) rules; end = map (map (view_statement (map (λ n. n.text) x.variables))) end }) ++ k ≡ At Records [] ∷ k
-    reads_by [] [] f = absurd (f refl)
-    reads_by [] (y ∷ ys) f = refl
-    reads_by (y ∷ ys) end f = refl
-
-pub reads_rules : (x : code.Program) (k : List Piece) → (x.rules ≡ [] → ⊥) → records (view_program x) ++ k ≡ At Records [] ∷ k
-reads_rules x k f = reads_by x.rules x.end f
-  where
-    reads_by : (rules : List code_rule.Rule) (end : List (List code_statement.Statement)) → (rules ≡ [] → ⊥) → records (record (view_program x) { rules = map (view_rule (map (λ n. n.text) x.variables)) rules; end = map (map (view_statement (map (λ n. n.text) x.variables))) end }) ++ k ≡ At Records [] ∷ k
-    reads_by [] end f = absurd (f refl)
-    reads_by (y ∷ ys) end f = refl
 
 -- ---- a part begins
 

@@ -26,11 +26,11 @@ use Rattle.awk_calls.specs.declared.flow.Flow.{Flow}
 use Rattle.awk_calls.specs.declared.flow.Flow.TheVariants as flow
 use Rattle.awk_store.specs.States.{Hidden}
 use Rattle.awk_tasks.specs.Wholes.{Whole, Agreeing, base, names_in, used}
-use Rattle.awk_records.specs.Inputs.{at_records}
+use Rattle.awk_records.specs.Inputs.{at_records, more}
 use Rattle.awk_records.specs.Performs.{LeadsOn, Performs, PerformsIn}
 use Rattle.awk_machine.specs.Statements.{to_records}
 use Rattle.awk_asks.proofs.Chain.{halted-after}
-use Rattle.awk_phases.specs.Rules.{come_back, more, rule_of}
+use Rattle.awk_phases.specs.Rules.{come_back, rule_of}
 use Rattle.awk_phases.specs.Runs.{DoesIn}
 
 -- ---- the rule of an expression

@@ -1,12 +1,10 @@
 -- Rules for records (POSIX.1-2017 XCU awk, "Overall Program Structure", "Patterns").
 use Rattle.std.specs.Prelude.{ℕ, Bool, true, false, List, [], ◌∷◌, Option, Some, None, Result, Ok, Err}
-use Rattle.awk_machine.specs.Pieces.{Piece, At, Choosing, Records}
+use Rattle.awk_machine.specs.Pieces.{Piece, At, Choosing}
 use Rattle.awk_machine.specs.Rules.{action}
 use Rattle.awk_program.specs.Program.{Rule, Statement, When}
 use Rattle.awk_asks.specs.declared.halt.Halt.{Halt}
 use Rattle.awk_asks.specs.declared.halt.Halt.TheVariants as halt
-use Rattle.awk_calls.specs.declared.flow.Flow.{Flow}
-use Rattle.awk_calls.specs.declared.flow.Flow.TheVariants as flow
 
 abbrev pub rule_of : When → List Statement → Rule
 rule_of when statements = record { when = when; action = statements }
@@ -16,16 +14,6 @@ abbrev pub met : ℕ → Rule → Option Bool → List Piece → List Piece
 met n x None k = At (Choosing n x) [] ∷ k
 met n x (Some true) k = action x k
 met n x (Some false) k = k
-
--- the next statement follows
-abbrev pub is_on : Flow → Bool
-is_on flow.On = true
-is_on other = false
-
--- more records are read, or none is left
-abbrev pub more : Bool → List Piece → List Piece
-more true k = At Records [] ∷ k
-more false k = k
 
 -- `next` comes back to the records
 abbrev pub come_back : Result Bool Halt → Result Bool Halt

@@ -1,5 +1,5 @@
 // The actions of BEGIN and of END.
-ghost use Rattle.std.specs.Prelude.{◌≡◌, ◌∷◌, ◌++◌, List, map};
+ghost use Rattle.std.specs.Prelude.{◌∷◌, ◌++◌, List, map};
 ghost use Rattle.awk_asks.specs.Tasks.{Owns};
 ghost use Rattle.awk_calls.specs.Flows.{flows};
 ghost use Rattle.awk_machine.specs.Pieces.{Do, Each};
@@ -9,22 +9,15 @@ ghost use Rattle.awk_program.specs.Program as p;
 ghost use Rattle.awk_program.specs.View.{view_statement};
 ghost use Rattle.awk_tasks.specs.Wholes.{names_in};
 ghost use Rattle.awk_actions.specs.Runs.{Does};
-ghost use Rattle.awk_phases.specs.Rules as spec;
 
 use crate::rules::MOST_LEVELS;
 use awk_actions::{Context, Run, statement};
 use awk_asks::halt::Halt;
 use awk_calls::Flow;
+use awk_calls::ends::is_on;
 use awk_program::Statement;
 use box_world::world::World;
 use sqlite_items::Items;
-
-/// Whether the next statement follows. Takes no memory.
-fn is_on(flow: &Flow) -> bool
-    ensures { result ≡ spec.is_on flow.now }
-{
-    matches!(flow, Flow::On)
-}
 
 /// The statements of one action, with what stands behind them in other actions.
 fn action<W: World>(

@@ -1,13 +1,10 @@
 // BEGIN, the rules for records, and END, in their order.
-ghost use Rattle.std.specs.Prelude.{◌≡◌, ◌∷◌, ◌++◌, [], List};
+ghost use Rattle.std.specs.Prelude.{◌∷◌, []};
 ghost use Rattle.awk_asks.specs.Tasks.{Owns, goes_on};
 ghost use Rattle.awk_calls.specs.Flows.{flows};
-ghost use Rattle.awk_machine.specs.Pieces.{Do, Enter, Finish, Piece};
-ghost use Rattle.awk_machine.specs.Rules as machine;
+ghost use Rattle.awk_machine.specs.Pieces.{Do, Enter, Finish};
 ghost use Rattle.awk_machine.specs.State.{Beginning, Ending, Given, Ruling};
-ghost use Rattle.awk_program.specs.View.{view_program};
 ghost use Rattle.awk_actions.specs.Runs.{Does, IsGiven};
-ghost use Rattle.awk_phases.specs.Rules.{more};
 ghost use Rattle.awk_phases.specs.Runs.{Finished, Goes_on, Reached, Stopped};
 
 use crate::actions::actions;
@@ -16,7 +13,7 @@ use crate::records::records;
 use awk_actions::{Context, Run};
 use awk_asks::halt::Halt;
 use awk_calls::Flow;
-use awk_program::Program;
+use awk_records::reads::reads;
 use awk_store::Phase;
 use box_world::world::World;
 
@@ -28,19 +25,6 @@ fn begin<W: World>(cx: &Context<'_>, run: &mut Run, world: &mut W) -> Result<Flo
 {
     run.store.set_phase(Phase::Beginning);
     actions(cx, cx.program.begin.as_slice(), run, world)
-}
-
-/// Whether records are read: where there is a rule for them, or an END.
-fn reads(program: &Program) -> bool
-    ensures { (k : List Piece) → machine.records (view_program program.now) ++ k ≡ more result k }
-{
-    if !program.rules.is_empty() {
-        return true;
-    }
-    if !program.end.is_empty() {
-        return true;
-    }
-    false
 }
 
 /// The rules for records.

@@ -3,9 +3,8 @@ ghost use Rattle.std.specs.Prelude.{◌≡◌, [], List, Err};
 ghost use Rattle.awk_asks.specs.Tasks.{Owns, goes_on};
 ghost use Rattle.awk_machine.specs.Pieces.{At, Records};
 ghost use Rattle.awk_actions.specs.Runs.{Does};
-ghost use Rattle.awk_records.specs.Inputs.{at_records};
+ghost use Rattle.awk_records.specs.Inputs.{at_records, more};
 ghost use Rattle.awk_phases.specs.Rules as spec;
-ghost use Rattle.awk_phases.specs.Rules.{more};
 ghost use Rattle.awk_phases.specs.Runs.{DoesIn};
 
 use crate::rules::rules;

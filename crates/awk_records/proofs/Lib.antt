@@ -4,6 +4,7 @@ pub mod MainSteps
 pub mod RangeSteps
 pub mod OutputSteps
 pub mod Hosting
+mod Recording
 mod Restored
 mod AssignSteps
 mod OperandSteps

@@ -34,6 +34,11 @@ message what name = codes "awkbox: cannot " ++ what ++ codes " \"" ++ quoted nam
 
 -- ---- what is left to be done
 
+-- more records are read, or none is left
+abbrev pub more : Bool → List Piece → List Piece
+more true k = At Records [] ∷ k
+more false k = k
+
 -- by what was read: the record is given, the stream is passed, or it is given up with a message
 abbrev pub found_main : Key → Found → List Piece → List Piece
 found_main key (found.Record text) k = give (v.Input text) k

@@ -14,6 +14,7 @@ mod operands;
 pub mod outputs;
 mod progress;
 pub mod ranges;
+pub mod reads;
 mod reports;
 
 pub use host::{Host, Use};

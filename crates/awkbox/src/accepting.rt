@@ -75,7 +75,10 @@ pub(crate) fn accepted(
         Err(error) => return Err(Refusal::Script(error)),
     };
     match first_barred(&script, setup.assigns()) {
-        Some(pair) => Err(Refusal::Assign(pair)),
+        Some(pair) => {
+            script.release();
+            Err(Refusal::Assign(pair))
+        }
         None => Ok((policy, script)),
     }
 }
@@ -92,7 +95,10 @@ pub fn policy_of(
     ensures refused { IfErr result (IsRefused policy.now script.now setup.now.assigns) }
 {
     match accepted(alloc, policy, script, setup) {
-        Ok((policy, _)) => Ok(policy),
+        Ok((policy, script)) => {
+            script.release();
+            Ok(policy)
+        }
         Err(refusal) => Err(refusal),
     }
 }

@@ -57,6 +57,7 @@ pub fn drive<W: World, L: Write>(
     };
     let mut monitor = Monitor::new(alloc, policy, world, log);
     let report = run(alloc, &script, setup, steps, &mut monitor);
+    script.release();
     let log_end = monitor.log_end();
     let (_, world, log) = monitor.into_parts();
     Driven {

@@ -26,7 +26,9 @@ pub fn sites_of(alloc: Global, script: &[u8]) -> Result<Vec<Site>, Refusal>
     ensures refused { IfErr result (IsListRefused script.now) }
 {
     let script = script_of(alloc, script)?;
-    Ok(sites(alloc, &script)?)
+    let sites = sites(alloc, &script);
+    script.release();
+    Ok(sites?)
 }
 
 /// What the policy that the first text writes says of all runs of the script that the second one spells: see
@@ -37,5 +39,7 @@ pub fn verdict_of(alloc: Global, policy: &[u8], script: &[u8]) -> Result<Verdict
 {
     let policy = Policy::read(alloc, policy)?;
     let script = script_of(alloc, script)?;
-    Ok(check(alloc, &script, &policy)?)
+    let verdict = check(alloc, &script, &policy);
+    script.release();
+    Ok(verdict?)
 }

@@ -18,7 +18,9 @@ fn sites_in(alloc: Global, script: &Script) -> Answer {
 
 fn listed(alloc: Global, text: &[u8]) -> Answer {
     let script = script(alloc, text)?;
-    sites_in(alloc, &script)
+    let answer = sites_in(alloc, &script);
+    script.release();
+    answer
 }
 
 fn verdict_on(alloc: Global, policy: &Policy, script: &Script) -> Answer {
@@ -28,7 +30,9 @@ fn verdict_on(alloc: Global, policy: &Policy, script: &Script) -> Answer {
 
 fn judged(alloc: Global, policy: &Policy, text: &[u8]) -> Answer {
     let script = script(alloc, text)?;
-    verdict_on(alloc, policy, &script)
+    let answer = verdict_on(alloc, policy, &script);
+    script.release();
+    answer
 }
 
 /// The answer of the call.

@@ -30,7 +30,9 @@ fn are_same(first: &[Token], second: &[Token]) -> bool {
 /// The canonical spelling of the script that these tokens spell.
 fn spelling_of(alloc: Global, tokens: &[Token]) -> Result<Vec<Token>, Problem> {
     let script = parse(alloc, tokens)?;
-    Ok(canon(alloc, &script)?)
+    let spelling = canon(alloc, &script);
+    script.release();
+    Ok(spelling?)
 }
 
 /// Done where the canonical spelling of the script is parsed as a script with the same spelling.
@@ -105,5 +107,7 @@ fn told_of(alloc: Global, script: &Script, args: &[Arg<'_>]) -> Answer {
 /// The answer of the call.
 pub fn call(alloc: Global, args: &[Arg<'_>]) -> Answer {
     let script = script(alloc, text(args, 1))?;
-    told_of(alloc, &script, args)
+    let answer = told_of(alloc, &script, args);
+    script.release();
+    answer
 }

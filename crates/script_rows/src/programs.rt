@@ -12,7 +12,9 @@ use std::alloc::Global;
 
 fn program(alloc: Global, text: &[u8]) -> Answer {
     let script = script(alloc, text)?;
-    Ok(printed(alloc, script.program())?)
+    let printed = printed(alloc, script.program());
+    script.release();
+    Ok(printed?)
 }
 
 /// How many bytes a space and the place behind it have, or none where no place stands here.

@@ -1,4 +1,4 @@
-use Rattle.std.proofs.Common.{rules, refl, arith, ◌∙◌, ◌-◌, sym, map, length, take, drop}
+use Rattle.std.proofs.Common.{arith, ◌∙◌, ◌-◌, sym, map, length, take, drop}
 use Rattle.std.proofs.lemmas.List.{drop_all}
 use Rattle.awk_tree.specs.View.{view, view_term}
 use Rattle.awk_tree.proofs.Views.{view-Number, view-Quoted, view-Pattern, view-Name, view-Element, view-Field, view-Paren, view-Call, view-Builtin, view-Length, view-Split, view-Substitute, view-Getline, view-Before, view-After, view-Signed, view-Power, view-Product, view-Sum, view-Concat, view-Pipe, view-Compare, view-Match, view-Group, view-In, view-And, view-Or, view-Choice, view-Assign}

@@ -7,7 +7,8 @@ use Rattle.awk_asks.proofs.Chain.{at_once, done, part, stop, turned}
 use Rattle.awk_actions.proofs.Leading.{quietly}
 use Rattle.awk_actions.proofs.Turns.{next_of}
 use Rattle.awk_forms.proofs.Rests.{drop_all}
-use Rattle.awk_phases.proofs.PhaseSteps.{flows_each, past_twice}
+use Rattle.awk_actions.proofs.Going.{each_on}
+use Rattle.awk_phases.proofs.PhaseSteps.{past_twice}
 use Rattle.awk_phases.proofs.actions.action.Goals as goal
 
 pub loop-x-init : goal.loop-x-init
@@ -37,7 +38,7 @@ loop-x-preserved g c = λ rest. record {
   leads = λ m is. turned (part _
       (quietly (turned ((c.loop-x.invariant rest).leads m is) (λ k. ap (λ ys. Do (Each (map (view_statement (names_in m)) ys ++ rest m)) ∷ k) (next_of c.args.xs.now c.loop-x.x-index c.x-item.result c.x-item.is c.loop-x-test.true))) (λ k hid d a. refl))
       (c.statement.ensures.plays m is) c.in_ok-flow.was)
-      (λ k. flows_each c.in_ok-flow.flow (map (view_statement (names_in m)) (drop (c.loop-x.x-index + 1) c.args.xs.now) ++ rest m) k (sym c.is_on.ensures ∙ c.if-not-is_on.false));
+      (λ k. each_on c.in_ok-flow.flow (map (view_statement (names_in m)) (drop (c.loop-x.x-index + 1) c.args.xs.now) ++ rest m) k (sym c.is_on.ensures ∙ c.if-not-is_on.false));
   owns = c.statement.ensures.owns;
 }
 

@@ -8,7 +8,7 @@ use Rattle.awk_asks.proofs.Chain.{at_once, done, part, stop, turned}
 use Rattle.awk_actions.proofs.Leading.{quietly}
 use Rattle.awk_actions.proofs.Turns.{next_of}
 use Rattle.awk_forms.proofs.Rests.{drop_all}
-use Rattle.awk_phases.proofs.PhaseSteps.{flows_each, flows_past}
+use Rattle.awk_actions.proofs.Going.{each_on, each_off}
 use Rattle.awk_phases.proofs.actions.actions.Goals as goal
 
 pub loop-x-init : goal.loop-x-init
@@ -29,7 +29,7 @@ returns-then-not-is_on g c = record {
   plays = λ m is. done (turned (part _
       (turned (c.loop-x.invariant.leads m is) (λ k. ap (λ ys. Do (Each (concatenated (map (map (view_statement (names_in m))) ys))) ∷ k) (next_of c.args.xs.now c.loop-x.x-index c.x-item.result c.x-item.is c.loop-x-test.true)))
       (rw c.as_slice.ensures at ((c.action.ensures (λ m. concatenated (map (map (view_statement (names_in m))) (drop (c.loop-x.x-index + 1) c.args.xs.now)))).plays m is)) c.in_ok-flow.was)
-      (λ k. flows_past c.in_ok-flow.flow (concatenated (map (map (view_statement (names_in m))) (drop (c.loop-x.x-index + 1) c.args.xs.now))) k (sym c.is_on.ensures ∙ c.if-not-is_on.true)));
+      (λ k. each_off c.in_ok-flow.flow (concatenated (map (map (view_statement (names_in m))) (drop (c.loop-x.x-index + 1) c.args.xs.now))) k (sym c.is_on.ensures ∙ c.if-not-is_on.true)));
   owns = (c.action.ensures (λ m. concatenated (map (map (view_statement (names_in m))) (drop (c.loop-x.x-index + 1) c.args.xs.now)))).owns;
 }
 
@@ -38,7 +38,7 @@ loop-x-preserved g c = record {
   leads = λ m is. turned (part _
       (turned (c.loop-x.invariant.leads m is) (λ k. ap (λ ys. Do (Each (concatenated (map (map (view_statement (names_in m))) ys))) ∷ k) (next_of c.args.xs.now c.loop-x.x-index c.x-item.result c.x-item.is c.loop-x-test.true)))
       (rw c.as_slice.ensures at ((c.action.ensures (λ m. concatenated (map (map (view_statement (names_in m))) (drop (c.loop-x.x-index + 1) c.args.xs.now)))).plays m is)) c.in_ok-flow.was)
-      (λ k. flows_each c.in_ok-flow.flow (concatenated (map (map (view_statement (names_in m))) (drop (c.loop-x.x-index + 1) c.args.xs.now))) k (sym c.is_on.ensures ∙ c.if-not-is_on.false));
+      (λ k. each_on c.in_ok-flow.flow (concatenated (map (map (view_statement (names_in m))) (drop (c.loop-x.x-index + 1) c.args.xs.now))) k (sym c.is_on.ensures ∙ c.if-not-is_on.false));
   owns = (c.action.ensures (λ m. concatenated (map (map (view_statement (names_in m))) (drop (c.loop-x.x-index + 1) c.args.xs.now)))).owns;
 }
 

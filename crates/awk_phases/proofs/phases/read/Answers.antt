@@ -3,7 +3,7 @@ use Rattle.awk_machine.specs.Rules.{records}
 use Rattle.awk_store.specs.declared.phase.Phase.TheVariants as phase
 use Rattle.awk_asks.proofs.Chain.{done, turned}
 use Rattle.awk_actions.proofs.Leading.{hands}
-use Rattle.awk_phases.specs.Rules.{more}
+use Rattle.awk_records.specs.Inputs.{more}
 use Rattle.awk_phases.proofs.PhaseSteps.{enters}
 use Rattle.awk_phases.proofs.phases.read.Goals as goal
 

@@ -1,6 +1,6 @@
 use Rattle.std.proofs.Common.{sym, ◌∙◌, true≢false}
-use Rattle.awk_phases.proofs.PhaseSteps.{reads_end, reads_none, reads_rules}
-use Rattle.awk_phases.proofs.phases.reads.Goals as goal
+use Rattle.awk_records.proofs.Recording.{reads_end, reads_none, reads_rules}
+use Rattle.awk_records.proofs.reads.reads.Goals as goal
 
 pub returns-then-not-is_empty : goal.returns-then-not-is_empty
 returns-then-not-is_empty c = λ k. reads_rules c.args.program.now k (λ e. true≢false (sym (c.is_empty.ensures.1 e) ∙ c.if-not-is_empty.true))

@@ -1,8 +1,8 @@
 // How a statement's end ends a list of statements, or a loop.
 ghost use Rattle.std.specs.Prelude.{◌≡◌};
-ghost use Rattle.awk_actions.specs.Ends as spec;
+ghost use Rattle.awk_calls.specs.Ends as spec;
 
-use awk_calls::Flow;
+use crate::flow::Flow;
 
 /// Whether the next statement follows. Takes no memory.
 pub fn is_on(flow: &Flow) -> bool
