@@ -240,8 +240,12 @@ pub fn value_at_hand(alloc: Global, store: &Store, e: &Expr) -> Option<Value>
 fn compared_at_hand(store: &Store, how: Comparison, x: &Expr, y: &Expr) -> Option<bool>
     ensures { IfSome result (λ b. HasTruth (λ names. p.compare how (view names x.now) (view names y.now)) store.now b) }
 {
-    if let (Some(left), Some(right)) = (plain_number(store, x), plain_number(store, y)) {
-        return Some(compared_numbers(how, left, right));
+    if let Some(left) = plain_number(store, x) {
+        if let Some(right) = plain_number(store, y) {
+            return Some(compared_numbers(how, left, right));
+        }
+        let right = at_hand(store, y, MOST_LEVELS)?;
+        return Some(compared_lent(how, Lent::Num(left), right));
     }
     let left = at_hand(store, x, MOST_LEVELS)?;
     let right = at_hand(store, y, MOST_LEVELS)?;
