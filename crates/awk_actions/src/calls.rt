@@ -57,7 +57,7 @@ fn arguments<W: World>(
         (run.old.store, run.old.streams) world.old result (run.new.store, run.new.streams) world.new }
     ensures count { IfOk result (λ vs. length vs.items ≡ length xs.now) }
 {
-    let mut values = Vec::new(cx.alloc);
+    let mut values = run.store.spare_values();
     for x in xs {
         let next = argument(cx, x, level, run, world)?;
         append(&mut values, next)?;

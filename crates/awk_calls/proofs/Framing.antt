@@ -1,7 +1,7 @@
 -- What the parameters of a call hold, and the function that is called.
-use Rattle.std.proofs.Common.{◌≡◌, refl, sym, ap, ◌∙◌, ℕ, zero, suc, ◌+◌, ◌<◌, ◌≤◌, List, [], ◌∷◌, ◌++◌, length, drop, map, arith}
+use Rattle.std.proofs.Common.{◌≡◌, refl, sym, ap, ◌∙◌, ℕ, zero, suc, ◌+◌, ◌<◌, ◌≤◌, List, [], ◌∷◌, ◌++◌, length, drop, map, reverse, arith}
 use Rattle.std.specs.Prelude.{Option, Some, None, slice_get, get_or, option_map, unwrap_or}
-use Rattle.std.proofs.lemmas.List.{drop_more, length-append}
+use Rattle.std.proofs.lemmas.List.{drop_more, length-append, reverse-append}
 use Rattle.std.proofs.lemmas.Option.{slice_get-map, slice_get_within, slice_get_read, slice_get_past, get_or_from_slice_get, unwrap_or-slice_get}
 use Rattle.awk_text.specs.declared.value.Value.{Value}
 use Rattle.awk_program.specs.Program as p
@@ -33,6 +33,17 @@ drop_none [] zero e = refl
 drop_none [] (suc n) e = refl
 drop_none (x ∷ xs) zero e = absurd (cc)
 drop_none (x ∷ xs) (suc n) e = drop_none xs n e
+
+drop_none_of : {X : Type 0} (xs : List X) → drop 0 xs ≡ xs
+drop_none_of [] = refl
+drop_none_of (x ∷ xs) = refl
+
+-- a list without its last, from behind
+pub reverse_front : {X : Type 0} (ws us : List X) (x : X) → ws ≡ us ++ x ∷ [] → reverse ws ≡ x ∷ reverse us
+reverse_front ws us x e = ap reverse e ∙ reverse-append us (x ∷ [])
+
+pub one_longer : {X : Type 0} (xs ys : List X) (x : X) (n : ℕ) → ys ≡ xs ++ x ∷ [] → length xs ≡ n → length ys ≡ n + 1
+one_longer xs ys x n e is = let a = ap length e ∙ length-append xs (x ∷ []) in omega (arith, a, is)
 
 -- what stands at a place, where the place is said in other words
 pub is_past : {X : Type 0} (xs : List X) (i n : ℕ) → length xs ≤ i → i ≡ n → slice_get xs n ≡ None
@@ -72,6 +83,10 @@ module _ (names : Names) (s : State) (xs : List (code.Argument Expr)) (vs : List
   -- the first hold these, and these values are left
   abbrev pub HandedTo : List Bound → List Value → Type 0
   HandedTo given ws = map (bound_of names) given ++ rest (drop (length given) xs) ws ≡ rest xs vs
+
+  -- nothing is held yet, and all values are left
+  pub handed_first : (given : List Bound) (ws : List Value) → given ≡ [] → ws ≡ vs → HandedTo given ws
+  handed_first given ws e f = ap (λ bs. map (bound_of names) bs ++ rest (drop (length bs) xs) ws) e ∙ ap (λ ys. rest ys ws) (drop_none_of xs) ∙ ap (rest xs) f
 
   one_more : (given : List Bound) (b : Bound) (l : Frame) → map (bound_of names) (given ++ b ∷ []) ++ l ≡ map (bound_of names) given ++ (bound_of names b ∷ l)
   one_more [] b l = refl

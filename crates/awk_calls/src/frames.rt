@@ -31,19 +31,20 @@ fn bound(store: &Store, x: &Argument<Expr>, value: Value) -> Bound
     }
 }
 
-/// What the first parameters hold, in the empty list that is given for them.
+/// What the first parameters hold, in the empty list that is given for them. The values are taken out of their list.
 fn handed(
     store: &Store,
     xs: &[Argument<Expr>],
-    values: Vec<Value>,
+    values: &mut Vec<Value>,
     room: Vec<Bound>,
 ) -> Result<Vec<Bound>, Memory>
     requires { room.items ≡ [] }
-    ensures frame { IfOk result (λ bounds. (g : Given) (t : Table) (hid : Hidden) → machine.all_handed (base g (store.now, t) hid) (machine.arguments (view_arguments (names_in g) xs.now)) values.items ≡ map (bound_of (names_in g)) bounds.items) }
+    ensures frame { IfOk result (λ bounds. (g : Given) (t : Table) (hid : Hidden) → machine.all_handed (base g (store.now, t) hid) (machine.arguments (view_arguments (names_in g) xs.now)) values.old.items ≡ map (bound_of (names_in g)) bounds.items) }
 {
     let mut given = room;
-    for value in values {
-        let Some(x) = xs.get(given.len()) else {
+    values.reverse();
+    for x in xs {
+        let Some(value) = values.pop() else {
             return Ok(given);
         };
         given.push(bound(store, x, value))?;
@@ -77,16 +78,17 @@ pub fn begin(
     place: Place,
     f: u32,
     xs: &[Argument<Expr>],
-    values: Vec<Value>,
+    mut values: Vec<Value>,
     store: &mut Store,
 ) -> Result<Caller, Halt>
     ensures { (g : Given) (t : Table) → g.program ≡ view_program program.now → Acts g (Do (Call place f (view_arguments (names_in g) xs.now) values.items)) (begun g f) (store.old, t) result (store.new, t) }
 {
     let count = values.len();
     let room = store.spare_frame();
-    let Ok(given) = handed(store, xs, values, room) else {
+    let Ok(given) = handed(store, xs, &mut values, room) else {
         return Err(Halt::Memory);
     };
+    store.keep_values(values);
     enter(
         store,
         place,

@@ -69,6 +69,28 @@ impl Store {
         }
     }
 
+    /// An empty list for the values of a call's arguments, which a call that has begun left where there is one. Takes no memory.
+    pub fn spare_values(&mut self) -> Vec<Value>
+        ensures empty { result.items ≡ [] }
+        ensures same { self.new ≡ self.old }
+    {
+        match self.spare_values.pop() {
+            Some(mut values) => {
+                values.clear();
+                values
+            }
+            None => Vec::new(self.alloc),
+        }
+    }
+
+    /// Keeps a list for the values of a later call's arguments.
+    pub fn keep_values(&mut self, values: Vec<Value>)
+        ensures { self.new ≡ self.old }
+    {
+        // Where memory is refused, a later call makes a list anew.
+        let _ = self.spare_values.push(values);
+    }
+
     /// Begins a call: these are what its first parameters hold, and the kinds of those behind them, that have no argument.
     /// Answers what the caller waits with.
     ///

@@ -949,7 +949,7 @@ calls::argument-returns-in-Nothing g t c =
 
 pub calls::arguments-loop-x-init : goal.calls::arguments-loop-x-init
 calls::arguments-loop-x-init g t c =
-    record { leads = λ m is q n. rw c.new-values.ensures.items (at_once _ _ _); owns = c.requires; count = ap length c.new-values.ensures.items }
+    record { leads = λ m is q n. rw (c.spare_values-values.ensures.empty, c.spare_values-values.ensures.same) (at_once _ _ _); owns = c.requires; count = ap length c.spare_values-values.ensures.empty }
 
 pub calls::arguments-returns-in_err-next : goal.calls::arguments-returns-in_err-next
 calls::arguments-returns-in_err-next g t c =
