@@ -451,6 +451,12 @@ for body in 'if (1) {|}' 'while (1) {|}' 'for (k in a) {|}'; do
     is 2 "" "awkbox: 0:0 F13 out of memory$line" ""
     verdict "calls in too many levels of $body"
 done
+nested 'b[' 'f(n - 1)' '] += 1' 10
+is 0 "back$line" "" ""
+verdict "ten calls in 90 subscripts"
+nested 'b[' 'f(n - 1)' '] += 1' 198
+is 2 "" "awkbox: 0:0 F13 out of memory$line" ""
+verdict "calls in too many subscripts"
 
 mkdir -p in
 printf '1\n2\n' >in/a

@@ -100,13 +100,24 @@ fn ends(
     Ok(())
 }
 
+/// The answers of the steps that are left, of the log and the world that the monitor leaves.
+fn left_by(
+    alloc: Global,
+    monitor: Monitor<MemoryWorld, Vec<u8>>,
+    steps: &[Row<'_>],
+    answers: &mut Vec<Octets>,
+) -> Result<(), Problem> {
+    let (_, world, log) = monitor.into_parts();
+    ends(alloc, &world, &log, steps, answers)
+}
+
 /// The answers of the steps, under the policy of the line before them.
 pub fn block(alloc: Global, args: &[Arg<'_>], steps: &[Row<'_>]) -> Result<Vec<Octets>, Problem> {
     let policy = Policy::read(alloc, text(args, 1))?;
     let mut monitor = Monitor::new(alloc, policy, MemoryWorld::new(alloc), Vec::new(alloc));
     let mut answers = Vec::new(alloc);
-    asks(alloc, &mut monitor, steps, &mut answers)?;
-    let (_, world, log) = monitor.into_parts();
-    ends(alloc, &world, &log, steps, &mut answers)?;
+    let asked = asks(alloc, &mut monitor, steps, &mut answers);
+    let left = left_by(alloc, monitor, steps, &mut answers);
+    asked.and(left)?;
     Ok(answers)
 }

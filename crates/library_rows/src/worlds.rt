@@ -264,12 +264,21 @@ fn step(alloc: Global, world: &mut MemoryWorld, args: &[Arg<'_>]) -> Answer {
     }
 }
 
+/// The answers of the steps in the world.
+fn answers(
+    alloc: Global,
+    world: &mut MemoryWorld,
+    steps: &[Row<'_>],
+) -> Result<Vec<Octets>, Problem> {
+    let mut answers = Vec::new(alloc);
+    for row in steps {
+        answers.push(told(alloc, step(alloc, world, &row.args))?)?;
+    }
+    Ok(answers)
+}
+
 /// The answers of the steps, in a world that begins without files and commands.
 pub fn block(alloc: Global, steps: &[Row<'_>]) -> Result<Vec<Octets>, Problem> {
     let mut world = MemoryWorld::new(alloc);
-    let mut answers = Vec::new(alloc);
-    for row in steps {
-        answers.push(told(alloc, step(alloc, &mut world, &row.args))?)?;
-    }
-    Ok(answers)
+    answers(alloc, &mut world, steps)
 }

@@ -6,10 +6,10 @@ use Rattle.awk_calls.proofs.frames.handed.Goals as goal
 
 pub loop-x-init : goal.loop-x-init
 loop-x-init c = (
-      λ g t hid. handed_first (names_in g) (base g (c.args.store.now, t) hid) c.args.xs.now c.args.values.now.items c.args.room.items (reverse c.reverse.new.self.items) c.requires
-          (ap reverse c.reverse.ensures.items ∙ reverse-reverse c.args.values.now.items),
-      ap length c.requires,
-    )
+  λ g t hid. handed_first (names_in g) (base g (c.args.store.now, t) hid) c.args.xs.now c.args.values.now.items c.args.room.items (reverse c.reverse.new.self.items) c.requires
+      (ap reverse c.reverse.ensures.items ∙ reverse-reverse c.args.values.now.items),
+  ap length c.requires,
+)
 
 pub returns-in_default : goal.returns-in_default
 returns-in_default c =
