@@ -19,7 +19,7 @@ use awk_text::value::truth;
 use box_world::world::World;
 
 /// How deep the evaluation of expressions and statements may nest: where no level is left, memory for the next one is refused.
-pub const MOST_LEVELS: u32 = 3_000;
+pub const MOST_LEVELS: u32 = 2_500;
 
 /// The rule of an expression: its action is done where the expression holds.
 fn where_holds<W: World>(
