@@ -130,12 +130,7 @@ fn function(alloc: Global, tables: &Tables, f: &awk_tree::Function) -> Result<Fu
 }
 
 /// Puts what an item is behind the others of its kind. What has no parameters is read in the context.
-fn add(
-    context: &Context<'_>,
-    tables: &Tables,
-    item: &Item,
-    out: &mut Program,
-) -> Result<(), Memory>
+fn add(context: &Context<'_>, tables: &Tables, item: &Item, out: &mut Program) -> Result<(), Memory>
     requires names { names_in context.now ≡ tables.now.variables }
     requires scope { scope_in context.now ≡ spec.scope_with (tables_in tables.now) [] [] }
     ensures { OnOk result (code.view_by tables.now.variables out.new ≡ spec.with_entry (tables_in tables.now) (view_item item.now) (code.view_by tables.now.variables out.old)) }
