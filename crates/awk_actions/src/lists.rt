@@ -45,7 +45,7 @@ pub fn fill<W: World>(
     Ok(())
 }
 
-/// The levels that are left below a subscript, which takes one more than others do: of all forms those that it stands in take the most of the stack.
+/// The levels that are left below a subscript. It takes one more than others do, for what stands round it takes much of the stack.
 fn below_subscript(level: u32) -> u32
     ensures { result ≤ level }
 {
