@@ -44,7 +44,7 @@ few n l = grind (arith, nat_tests, l)
 module _ {V : Type 0} where
   pub mapped_value : (es : Elements V) (i : ℕ) (x : Numbered V) (r : Row V) → slice_get (mapped_rows es) i ≡ Some r → slice_get (values_of es.map.entries) i ≡ Some x → x.value ≡ r.1.1
   mapped_value es i x r at is =
-      same_Some x.value r.1.1 (sym (ap (option_map (λ (y : Numbered V). y.value)) is) ∙ sym (value_row (λ k. k.items) es.map.entries i) ∙ ap (option_map (λ (q : Row V). q.1.1)) at)
+      same_Some x.value r.1.1 (sym (ap (option_map (λ (y : Numbered V). y.value)) is) ∙ sym (value_row (λ k. k.text.items) es.map.entries i) ∙ ap (option_map (λ (q : Row V). q.1.1)) at)
 
   pub dense_read : (ps qs : List (Option (Numbered V))) (k : ℕ) (o : Option (Numbered V)) → qs ≡ ps → k < length qs → o ≡ get_or qs k o → slice_get ps k ≡ Some o
   dense_read ps qs k o same within is = ap (λ l. slice_get l k) (sym same) ∙ slice_get_read qs (length qs) k o refl within is
@@ -83,11 +83,11 @@ module _ {V : Type 0} where
   dense_outside es key o =
       all_dense (λ r. bytes_eq key r.1.0 ≡ false) 0 es.dense.places.items (λ i n x is at. o n (omega (arith, is, slice_get_within es.dense.places.items i (Some x) at)))
 
-  pub missing_mapped : (es : Elements V) (key : List ℕ) → IsOutside (length es.dense.places.items) key → lookup (λ k. bytes_eq key k.items) es.map.entries ≡ None
+  pub missing_mapped : (es : Elements V) (key : List ℕ) → IsOutside (length es.dense.places.items) key → lookup (λ k. bytes_eq key k.text.items) es.map.entries ≡ None
       → lookup (bytes_eq key) (map (λ r. r.1) (rows_of es)) ≡ None
   missing_mapped es key o none =
       none_lookup key (rows_of es) (all_append (λ r. bytes_eq key r.1.0 ≡ false) (dense_rows 0 es.dense.places.items) (mapped_rows es) (dense_outside es key o)
-      (absent_rows key (mapped_rows es) (lookup_rows (λ k. k.items) key es.map.entries ∙ ap (option_map (λ x. x.value)) none)))
+      (absent_rows key (mapped_rows es) (lookup_rows (λ k. k.text.items) key es.map.entries ∙ ap (option_map (λ x. x.value)) none)))
 
   -- ---- a value that is written
 
@@ -110,7 +110,7 @@ module _ {V : Type 0} where
       )
   placed es (Mapped i) r lies =
       let m = at_right (dense_rows 0 es.dense.places.items) (mapped_rows es) i r lies in
-      (m.0, m.1, λ w. ap (λ t. dense_rows 0 es.dense.places.items ++ t) (rows_set_at (λ k. k.items) es.map.entries i w) ∙ sym (m.2 w))
+      (m.0, m.1, λ w. ap (λ t. dense_rows 0 es.dense.places.items ++ t) (rows_set_at (λ k. k.text.items) es.map.entries i w) ∙ sym (m.2 w))
 
   apart_value : (es : Elements V) (p : Place) (w : V) → AreApart es → AreApart (with_value es p w)
   apart_value es (Dense k) w a =
@@ -119,7 +119,7 @@ module _ {V : Type 0} where
       record { few = subst (λ n. n ≤ most_places) same a.few; outside = subst (λ n. AllByRecursion (λ r. IsOutside n r.1.0) (mapped_rows es)) same a.outside }
   apart_value es (Mapped i) w a = record {
     few = a.few;
-    outside = subst (AllByRecursion (λ r. IsOutside (length es.dense.places.items) r.1.0)) (sym (rows_set_at (λ k. k.items) es.map.entries i w))
+    outside = subst (AllByRecursion (λ r. IsOutside (length es.dense.places.items) r.1.0)) (sym (rows_set_at (λ k. k.text.items) es.map.entries i w))
         (all_set_at (IsOutside (length es.dense.places.items)) (mapped_rows es) i w a.outside);
   }
 
@@ -276,12 +276,12 @@ module _ {V : Type 0} where
   mapped_rising D M N none rising = subst (λ l. AreRising (D ++ l)) (sym (no_rows N none)) (subst AreRising (sym (append-nil D)) (rising_front D M rising))
 
   pub mapped_within : (es : Elements V) (i : ℕ) (r : Row V) → slice_get (mapped_rows es) i ≡ Some r → i < length es.map.entries
-  mapped_within es i r at = let l = slice_get_within (mapped_rows es) i r at in omega (arith, l, length-map es.map.entries (row_of (λ k. k.items)))
+  mapped_within es i r at = let l = slice_get_within (mapped_rows es) i r at in omega (arith, l, length-map es.map.entries (row_of (λ k. k.text.items)))
 
-  pub mapped_none : (es : Elements V) (key : List ℕ) → lookup (bytes_eq key) (map (λ r. r.1) (rows_of es)) ≡ None → lookup (λ k. bytes_eq key k.items) es.map.entries ≡ None
+  pub mapped_none : (es : Elements V) (key : List ℕ) → lookup (bytes_eq key) (map (λ r. r.1) (rows_of es)) ≡ None → lookup (λ k. bytes_eq key k.text.items) es.map.entries ≡ None
   mapped_none es key none =
       let all = all_right (λ r. bytes_eq key r.1.0 ≡ false) (dense_rows 0 es.dense.places.items) (mapped_rows es) (absent_rows key (rows_of es) none) in
-      by (lookup (λ k. bytes_eq key k.items) es.map.entries) (sym (lookup_rows (λ k. k.items) key es.map.entries) ∙ none_lookup key (mapped_rows es) all)
+      by (lookup (λ k. bytes_eq key k.text.items) es.map.entries) (sym (lookup_rows (λ k. k.text.items) key es.map.entries) ∙ none_lookup key (mapped_rows es) all)
     where
       by : (o : Option (Numbered V)) → option_map (λ x. x.value) o ≡ None → o ≡ None
       by None e = refl
@@ -299,7 +299,7 @@ module _ {V : Type 0} where
         (subst (AllByRecursion (λ r. IsOutside (length es.dense.places.items) r.1.0)) (sym more) (all_push (λ r. IsOutside (length es.dense.places.items) r.1.0) (mapped_rows es) (number, (key, value)) a.outside o))
 
     pub mapped_last : (i : ℕ) → i ≡ length es.map.entries → slice_get (mapped_rows fs) i ≡ Some (number, (key, value))
-    mapped_last i is = ap (λ l. slice_get l i) more ∙ at_end (mapped_rows es) (number, (key, value)) i (is ∙ sym (length-map es.map.entries (row_of (λ k. k.items))))
+    mapped_last i is = ap (λ l. slice_get l i) more ∙ at_end (mapped_rows es) (number, (key, value)) i (is ∙ sym (length-map es.map.entries (row_of (λ k. k.text.items))))
 
   -- ---- a key that is put into the dense part
 
@@ -352,7 +352,7 @@ module _ {V : Type 0} where
   -- the keys of the map are no digits of the numbers of the places there are, once place k is the last
   pub outside_pushed : (es : Elements V) (k : ℕ) → AreApart es → lookup (bytes_eq (decimal k)) (map (λ r. r.1) (rows_of es)) ≡ None → ((length es.map.entries ≡ 0) ⊎ (k ≡ length es.dense.places.items))
       → AllByRecursion (λ r. IsOutside (k + 1) r.1.0) (mapped_rows es)
-  outside_pushed es k a none (inl empty) = subst (AllByRecursion (λ r. IsOutside (k + 1) r.1.0)) (sym (no_rows (mapped_rows es) (length-map es.map.entries (row_of (λ k. k.items)) ∙ empty))) tt
+  outside_pushed es k a none (inl empty) = subst (AllByRecursion (λ r. IsOutside (k + 1) r.1.0)) (sym (no_rows (mapped_rows es) (length-map es.map.entries (row_of (λ k. k.text.items)) ∙ empty))) tt
   outside_pushed es k a none (inr next) =
       let len = length es.dense.places.items in
       let M = mapped_rows es in
@@ -366,11 +366,11 @@ module _ {V : Type 0} where
   -- and where places were only made
   pub outside_padded : (es : Elements V) (k n : ℕ) → AreApart es → ((length es.map.entries ≡ 0) ⊎ (k ≡ length es.dense.places.items)) → length es.dense.places.items ≤ n → n ≤ k
       → AllByRecursion (λ r. IsOutside n r.1.0) (mapped_rows es)
-  outside_padded es k n a (inl empty) low high = subst (AllByRecursion (λ r. IsOutside n r.1.0)) (sym (no_rows (mapped_rows es) (length-map es.map.entries (row_of (λ k. k.items)) ∙ empty))) tt
+  outside_padded es k n a (inl empty) low high = subst (AllByRecursion (λ r. IsOutside n r.1.0)) (sym (no_rows (mapped_rows es) (length-map es.map.entries (row_of (λ k. k.text.items)) ∙ empty))) tt
   outside_padded es k n a (inr next) low high = let same : length es.dense.places.items ≡ n = omega (arith, next, low, high) in subst (λ m. AllByRecursion (λ r. IsOutside m r.1.0) (mapped_rows es)) same a.outside
 
   pub no_mapped : (es : Elements V) → length es.map.entries ≡ 0 → mapped_rows es ≡ []
-  no_mapped es none = no_rows (mapped_rows es) (length-map es.map.entries (row_of (λ k. k.items)) ∙ none)
+  no_mapped es none = no_rows (mapped_rows es) (length-map es.map.entries (row_of (λ k. k.text.items)) ∙ none)
 
   -- ---- the map in the order of its numbers
 
@@ -378,12 +378,12 @@ module _ {V : Type 0} where
     moves : IsPermutation (rows_of es) (rows_of fs)
     moves =
         subst (λ (d : d.Dense V). IsPermutation (rows_of es) (dense_rows 0 d.places.items ++ mapped_rows fs)) (sym same)
-        (IsPermutation-append_right (dense_rows 0 es.dense.places.items) (mapped_rows es) (mapped_rows fs) (IsPermutation-map (row_of (λ k. k.items)) es.map.entries fs.map.entries permuted))
+        (IsPermutation-append_right (dense_rows 0 es.dense.places.items) (mapped_rows es) (mapped_rows fs) (IsPermutation-map (row_of (λ k. k.text.items)) es.map.entries fs.map.entries permuted))
 
     pub moved_kept : (settled now : Bool) (n : ℕ) → AreKept settled n es → fs.count ≡ es.count → (now ≡ true → AreRising (rows_of fs)) → AreKept now n fs
     moved_kept settled now n a count rising = record {
       apart = apart_from fs (length es.dense.places.items) (ap (λ (d : d.Dense V). length d.places.items) same) a.apart.few
-          (all_permuted (λ r. IsOutside (length es.dense.places.items) r.1.0) (mapped_rows es) (mapped_rows fs) (IsPermutation-map (row_of (λ k. k.items)) es.map.entries fs.map.entries permuted) a.apart.outside);
+          (all_permuted (λ r. IsOutside (length es.dense.places.items) r.1.0) (mapped_rows es) (mapped_rows fs) (IsPermutation-map (row_of (λ k. k.text.items)) es.map.entries fs.map.entries permuted) a.apart.outside);
       numbered = moved settled now n (rows_of es) (rows_of fs) a.numbered moves rising;
       count = count ∙ a.count ∙ sym (length_permutation (rows_of es) (rows_of fs) moves);
     }
@@ -396,7 +396,7 @@ module _ {V : Type 0} where
         let empty : dense_rows 0 fs.dense.places.items ≡ [] = ap (λ (d : d.Dense V). dense_rows 0 d.places.items) same ∙ no_dense es.dense.places.items none in
         let whole : rows_of fs ≡ mapped_rows fs = ap (λ l. l ++ mapped_rows fs) empty in
         let apart = numbers_permuted (rows_of es) (rows_of fs) moves a.numbered.distinct in
-        subst AreRising (sym whole) (rising_rows (λ k. k.items) fs.map.entries sorted (subst (λ l. IsDistinct nat_eq (numbers l)) whole apart))
+        subst AreRising (sym whole) (rising_rows (λ k. k.text.items) fs.map.entries sorted (subst (λ l. IsDistinct nat_eq (numbers l)) whole apart))
       where
         no_dense : (ps : List (Option (Numbered V))) → length ps ≡ 0 → dense_rows 0 ps ≡ []
         no_dense [] z = refl

@@ -11,7 +11,7 @@ use Rattle.awk_lib.specs.declared.elements.Place.TheVariants.{Dense, Mapped}
 module _ {V : Type 0} where
   -- the elements in the map, and all elements, as they lie
   abbrev pub mapped_rows : Elements V → List (ℕ × (List ℕ × V))
-  mapped_rows es = rows (λ k. k.items) es.map.entries
+  mapped_rows es = rows (λ k. k.text.items) es.map.entries
 
   abbrev pub rows_of : Elements V → List (ℕ × (List ℕ × V))
   rows_of es = dense_rows 0 es.dense.places.items ++ mapped_rows es

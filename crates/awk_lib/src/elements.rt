@@ -11,6 +11,7 @@ ghost use Rattle.awk_lib.specs.Dense.{most_places, IsOutside};
 ghost use Rattle.awk_lib.specs.Numbering.{keyed, listed, numbers, shown, texts, AreRising};
 
 use crate::dense::{Dense, Numbered};
+use crate::key::{Key, Sought};
 use crate::slot::slot_of;
 use awk_text::Memory;
 use awk_text::fault::Fault;
@@ -42,7 +43,7 @@ pub(crate) struct Added {
 #[derive(Drop)]
 pub(crate) struct Elements<V> {
     pub(crate) dense: Dense<V>,
-    pub(crate) map: IndexMap<Vec<u8>, Numbered<V>>,
+    pub(crate) map: IndexMap<Key, Numbered<V>>,
     pub(crate) count: usize,
 }
 
@@ -77,7 +78,7 @@ impl<V> Elements<V> {
                 None
             },
             None => {
-                let i = self.map.get_index_of(key)?;
+                let i = self.map.get_index_of(Sought { text: key })?;
                 Some(Place::Mapped(i))
             }
         }
@@ -140,7 +141,7 @@ impl<V> Elements<V> {
     {
         let alloc = *self.map.allocator();
         for key in self.map.keys() {
-            keys.push(Octets::new(Vec::from_slice(alloc, key.as_slice())?))?;
+            keys.push(Octets::new(Vec::from_slice(alloc, key.text.as_slice())?))?;
         }
         Ok(())
     }
@@ -168,7 +169,7 @@ impl<V> Elements<V> {
         for (key, element) in self.map.iter() {
             keys.push(Numbered {
                 number: element.number,
-                value: Octets::new(Vec::from_slice(alloc, key.as_slice())?),
+                value: Octets::new(Vec::from_slice(alloc, key.text.as_slice())?),
             })?;
         }
         Ok(())
@@ -210,7 +211,7 @@ impl<V> Elements<V> {
         ensures others { (self.new.dense ≡ self.old.dense) × (self.new.count ≡ self.old.count) }
     {
         self.map.sort_unstable_by_key(
-            |_key: &Vec<u8>, element: &Numbered<V>| -> u64
+            |_key: &Key, element: &Numbered<V>| -> u64
                 ensures { result ≡ element.now.number }
             { element.number },
         )
@@ -288,8 +289,8 @@ impl<V: Drop> Elements<V> {
         ensures memory { IsOkUnless result Fault.Memory }
     {
         let i = self.map.len();
-        let key = Vec::from_slice(*self.map.allocator(), key)?;
-        self.map.insert(key, Numbered { number, value })?;
+        let text = Vec::from_slice(*self.map.allocator(), key)?;
+        self.map.insert(Key { text }, Numbered { number, value })?;
         self.count += 1;
         Ok(Added {
             place: Place::Mapped(i),

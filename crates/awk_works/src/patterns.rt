@@ -5,6 +5,7 @@ ghost use Rattle.awk_text.specs.Values.{text_of};
 ghost use Rattle.awk_works.specs.Cached.{AreEres, IsNear};
 
 use awk_ere::Ere;
+use awk_lib::is_same;
 use awk_text::Memory;
 use awk_text::fault::Fault;
 use awk_text::value::{Value, text_in};
@@ -69,7 +70,7 @@ fn known(kept: &[Near], source: &[u8]) -> Option<Rc<Ere>>
     ensures { IfSome result (λ e. (e.value ≡ source.now) × IsEre source.now) }
 {
     for one in kept {
-        if one.source.as_slice() == source {
+        if is_same(one.source.as_slice(), source) {
             return one.ere.clone().ok();
         }
     }

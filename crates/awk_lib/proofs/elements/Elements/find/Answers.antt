@@ -19,4 +19,4 @@ returns-in_err-i-in-None-clause-none g c =
     λ _. missing_mapped c.args.self.now c.args.key.now (c.in-None.ensures.none refl) (none_of _ (sym c.in_err-i-in-None.ensures.found))
 
 pub returns-in_ok-i-in-None-clause-some : goal.returns-in_ok-i-in-None-clause-some
-returns-in_ok-i-in-None-clause-some g c = found_row (λ k. k.items) c.args.key.now c.args.self.now.map.entries c.in_ok-i-in-None.i (sym c.in_ok-i-in-None.ensures.index)
+returns-in_ok-i-in-None-clause-some g c = found_row (λ k. k.text.items) c.args.key.now c.args.self.now.map.entries c.in_ok-i-in-None.i (sym c.in_ok-i-in-None.ensures.index)

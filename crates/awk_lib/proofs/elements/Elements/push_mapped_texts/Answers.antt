@@ -9,4 +9,4 @@ pub returns-clause-ok : goal.returns-clause-ok
 returns-clause-ok g c =
     let es = c.args.self.now.map.entries in
     let all : map deref c.loop-key.yielded ≡ keys_of es = search (rules, iter_end) in
-    c.loop-key.invariant ∙ ap (λ l. c.args.keys.now.items ++ l) (texts_yielded (λ k. k.items) c.loop-key.yielded es all)
+    c.loop-key.invariant ∙ ap (λ l. c.args.keys.now.items ++ l) (texts_yielded (λ k. k.text.items) c.loop-key.yielded es all)

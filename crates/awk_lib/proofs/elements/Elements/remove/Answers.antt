@@ -31,13 +31,13 @@ returns-in-Mapped-clause-gone g c =
     λ r lies.
     let at = subst (λ p. Lies es p r) c.in-Mapped.is lies in
     mapped_gone (dense_rows 0 es.dense.places.items) (mapped_rows es) _ r
-    (gone_place (λ k. k.items) es.map.entries fs i c.swap_remove_index.result r at (mapped_within es i r at) c.swap_remove_index.ensures.entry c.swap_remove_index.ensures.entries)
+    (gone_place (λ k. k.text.items) es.map.entries fs i c.swap_remove_index.result r at (mapped_within es i r at) c.swap_remove_index.ensures.entry c.swap_remove_index.ensures.entries)
 
 pub returns-in-Mapped-clause-rising : goal.returns-in-Mapped-clause-rising
 returns-in-Mapped-clause-rising g c =
     let es = c.args.self.now in
     let fs = c.swap_remove_index.new.self.entries in
-    λ empty. mapped_rising (dense_rows 0 es.dense.places.items) (mapped_rows es) _ (length-map fs (row_of (λ k. k.items)) ∙ c.is_empty.ensures.0 empty)
+    λ empty. mapped_rising (dense_rows 0 es.dense.places.items) (mapped_rows es) _ (length-map fs (row_of (λ k. k.text.items)) ∙ c.is_empty.ensures.0 empty)
 
 pub returns-in-Mapped-clause-apart : goal.returns-in-Mapped-clause-apart
 returns-in-Mapped-clause-apart g c =
@@ -46,6 +46,6 @@ returns-in-Mapped-clause-apart g c =
     let i = c.in-Mapped.i in
     let h = rw c.in-Mapped.is at c.requires.there in
     let r = h.0 in
-    let moves = gone_place (λ k. k.items) es.map.entries fs.entries i c.swap_remove_index.result r h.1 (mapped_within es i r h.1) c.swap_remove_index.ensures.entry c.swap_remove_index.ensures.entries in
+    let moves = gone_place (λ k. k.text.items) es.map.entries fs.entries i c.swap_remove_index.result r h.1 (mapped_within es i r h.1) c.swap_remove_index.ensures.entry c.swap_remove_index.ensures.entries in
     apart_from (record es { map = fs; count = es.count - 1 }) (length es.dense.places.items) refl c.requires.apart.few
     (all_permuted (λ q. IsOutside (length es.dense.places.items) q.1.0) (mapped_rows es) _ moves c.requires.apart.outside).1

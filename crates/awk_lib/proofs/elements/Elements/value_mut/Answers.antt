@@ -27,7 +27,7 @@ returns-in-Mapped g c =
     let es = c.args.self.now in
     let i = c.in-Mapped.i in
     let x = c.index_mut-element.result.now in
-    let number = sym (number_row (λ k. k.items) es.map.entries i x c.index_mut-element.ensures.value) in (
+    let number = sym (number_row (λ k. k.text.items) es.map.entries i x c.index_mut-element.ensures.value) in (
       (refl, λ w. (λ j. record es { map = with_value_at es.map i (record { number = number j; value = w }) }) ∙ ap (λ p. with_value es p w) (sym c.in-Mapped.is)),
       record {
         writes_back = tt;
