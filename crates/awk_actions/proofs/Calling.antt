@@ -24,6 +24,7 @@ use Rattle.awk_asks.specs.Chains.{Led, Ended, Leads, Meets}
 use Rattle.awk_asks.proofs.Chain as chain
 use Rattle.awk_tasks.specs.Wholes.{Whole, Agreeing, base, names_in, used}
 use Rattle.awk_calls.specs.Calls.{argument_of}
+use Rattle.awk_calls.proofs.Framing.{one_longer, reverse_last}
 use Rattle.awk_actions.specs.Along.{Arguing}
 use Rattle.awk_actions.specs.Calls.{Argued}
 use Rattle.awk_actions.specs.Runs.{IsGiven}
@@ -39,12 +40,6 @@ arguments_so names (argument.Nothing ∷ xs) = ap (λ ys. by_nothing ∷ ys) (ar
 
 abbrev pub some_of : {X : Type 0} → X → Option X
 some_of x = Some x
-
-reverse_last : {X : Type 0} (xs : List X) (x : X) → x ∷ reverse xs ≡ reverse (xs ++ x ∷ [])
-reverse_last xs x = sym (reverse-append xs (x ∷ []))
-
-one_more : {X : Type 0} (xs : List X) (x : X) (n : ℕ) → length xs ≡ n → length (xs ++ x ∷ []) ≡ n + 1
-one_more xs x n e = let a = length-append xs (x ∷ []) in omega (arith, a, e)
 
 -- ---- one argument after the other
 
@@ -76,7 +71,7 @@ module _ {W : Type 0} {follows : W → List world.Call → W → Type 0} {has_st
         subst (λ vs. Leads (Led follows has_stopped) (Ended follows stops) (base g) (Agreeing g) used g (value (p.call place f (xs g))) old w (λ k. At (Value_of (p.call place f (xs g))) vs ∷ k) new w'') (reverse_last has val)
         (chain.part val (h.leads g given place f) (does.plays g given place f (xs g) (reverse has) (placed (xs g) has n (x g) h.count (got g))) is);
     owns = does.owns;
-    count = one_more has val n h.count;
+    count = one_longer has (has ++ val ∷ []) val n refl h.count;
   }
 
   pub argue_stop : {A : Type 0} {to : A → List Piece → List Piece} (x : Given → Argument) (e : Halt) → Arguing follows has_stopped stops open_numbers cx xs has n old w mid w' → ((g : Given) → slice_get (arguments (xs g)) n ≡ Some (x g)) →

@@ -25,6 +25,7 @@ use Rattle.awk_tasks.specs.Acts.{Acts}
 use Rattle.awk_tasks.proofs.Acting as acting
 use Rattle.awk_forms.proofs.Rests.{listed-of}
 use Rattle.awk_tasks.specs.Wholes.{Whole, Agreeing, base, used}
+use Rattle.awk_calls.proofs.Framing.{reverse_last}
 use Rattle.awk_actions.specs.Along.{Filling}
 use Rattle.awk_actions.specs.Runs.{IsGiven, Does, Fills, Waits}
 use Rattle.awk_actions.specs.declared.context.Context.{Context}
@@ -32,9 +33,6 @@ use Rattle.awk_actions.proofs.Leading.{quietly}
 
 abbrev some_of : {X : Type 0} → X → Option X
 some_of x = Some x
-
-reverse_last : {X : Type 0} (xs : List X) (x : X) → x ∷ reverse xs ≡ reverse (xs ++ x ∷ [])
-reverse_last xs x = sym (reverse-append xs (x ∷ []))
 
 one_more : {X : Type 0} (xs ys : List X) (x : X) (n m : ℕ) → length xs ≡ n + m → length (xs ++ x ∷ []) ≡ n + (m + 1)
 one_more xs ys x n m e = let a = length-append xs (x ∷ []) in omega (arith, a, e)

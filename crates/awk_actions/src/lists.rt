@@ -1,5 +1,5 @@
 // Lists of expressions.
-ghost use Rattle.std.specs.Prelude.{◌≡◌, ◌+◌, ◌≤◌, ◌∷◌, [], List, ℕ, length, IfOk, OnOk, map};
+ghost use Rattle.std.specs.Prelude.{◌≡◌, ◌+◌, ◌∷◌, [], List, ℕ, length, IfOk, OnOk, map};
 ghost use Rattle.awk_asks.specs.Tasks.{Owns};
 ghost use Rattle.awk_machine.specs.Forms.{value, spot};
 ghost use Rattle.awk_machine.specs.Pieces.{give};
@@ -45,13 +45,6 @@ pub fn fill<W: World>(
     Ok(())
 }
 
-/// The levels that are left below a subscript. It takes one more than others do, for what stands round it takes much of the stack.
-fn below_subscript(level: u32) -> u32
-    ensures { result ≤ level }
-{
-    level.saturating_sub(1)
-}
-
 /// `array [ list ]`
 #[cycle(run)]
 pub fn element<W: World>(
@@ -68,14 +61,13 @@ pub fn element<W: World>(
         (run.old.store, run.old.streams) world.old result (run.new.store, run.new.streams) world.new }
     ensures spot { IfOk result (λ s. (names : List (List ℕ)) → IsSpotOf names (p.element place (variable_of names array) (expressions_of (map (view names) keys.now))) s) }
 {
-    let below = below_subscript(level);
     if let Some(one) = only(keys) {
-        let subscript = value(cx, one, below, run, world)?;
+        let subscript = value(cx, one, level, run, world)?;
         let found = one_key(place, subscript)?;
         return Ok(Spot::Element(place, array, found));
     }
     let mut values = Vec::new(cx.alloc);
-    fill(cx, keys, &mut values, below, run, world)?;
+    fill(cx, keys, &mut values, level, run, world)?;
     let key = element_key(
         cx.alloc,
         &mut run.line,

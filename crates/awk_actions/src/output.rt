@@ -46,9 +46,10 @@ pub fn print<W: World>(
         return general_print(cx, place, xs, to, level, run, world);
     }
     split_for_items(&mut run.store, xs)?;
-    let known = printed_at_hand(cx.alloc, &mut run.line, &run.store, xs);
+    let known = printed_at_hand(&mut run.line, &run.store, xs);
     if let Some(text) = known {
-        put(place, STANDARD_OUTPUT, text, world)?;
+        let room = put(place, STANDARD_OUTPUT, text, world)?;
+        run.line.reuse(room);
         return Ok(Flow::On);
     }
     general_print(cx, place, xs, to, level, run, world)
@@ -72,19 +73,13 @@ fn general_print<W: World>(
     let mut values = Vec::new(cx.alloc);
     fill(cx, xs, &mut values, level, run, world)?;
     let Some(to) = to else {
-        let text = printed_line(
-            cx.alloc,
-            &mut run.line,
-            &mut run.store,
-            place,
-            values.as_slice(),
-        )?;
-        put(place, STANDARD_OUTPUT, text, world)?;
+        let text = printed_line(&mut run.line, &mut run.store, place, values.as_slice())?;
+        let room = put(place, STANDARD_OUTPUT, text, world)?;
+        run.line.reuse(room);
         return Ok(Flow::On);
     };
     let target = value(cx, &to.target, level, run, world)?;
     let text = printed_for(
-        cx.alloc,
         &mut run.line,
         &mut run.store,
         place,
@@ -94,7 +89,7 @@ fn general_print<W: World>(
     let Ok(name) = into_text(cx.alloc, target) else {
         return Err(Halt::Memory);
     };
-    put_to(
+    let room = put_to(
         cx.alloc,
         to.place,
         to.how,
@@ -103,6 +98,7 @@ fn general_print<W: World>(
         &mut run.streams,
         world,
     )?;
+    run.line.reuse(room);
     Ok(Flow::On)
 }
 

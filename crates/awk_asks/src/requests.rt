@@ -1,5 +1,5 @@
 // Requests, and the tasks that are one request each.
-ghost use Rattle.std.specs.Prelude.{◌≡◌, List, [], ◌∷◌};
+ghost use Rattle.std.specs.Prelude.{◌≡◌, List, [], ◌∷◌, IfOk};
 ghost use Rattle.awk_text.specs.Values.{text_of};
 ghost use Rattle.box_world.specs.Calls.{IsDuty, IsStream};
 ghost use Rattle.box_world.specs.Events.{Key};
@@ -20,6 +20,18 @@ use awk_text::value::Value;
 use box_world::ask::{Ask, Reply, Request};
 use box_world::world::World;
 
+/// Makes a request that is lent. What it names is a stream that is open.
+fn answer<W: World>(ask: &Ask, world: &mut W) -> Result<Reply, Halt>
+    requires { IsDuty (W.open_numbers world.old) ask.now.request }
+    ensures answer { Answers W.follows W.has_stopped W.stops (W.open_numbers world.old) ask.now world.old result world.new }
+    ensures numbers { Numbers ask.now.request (W.open_numbers world.old) result (W.open_numbers world.new) }
+{
+    match world.ask(ask) {
+        Ok(reply) => Ok(reply),
+        Err(stop) => Err(Halt::by(ask.place, stop)),
+    }
+}
+
 /// Makes a request. What it names is a stream that is open.
 pub fn request<W: World>(
     place: Place,
@@ -36,24 +48,35 @@ pub fn request<W: World>(
         given,
         request,
     };
-    match world.ask(&ask) {
-        Ok(reply) => Ok(reply),
-        Err(stop) => Err(Halt::by(place, stop)),
-    }
+    answer(&ask, world)
 }
 
-/// Puts a text to a stream, by its number; a failure is a fault of the script.
-pub fn put<W: World>(place: Place, number: u32, text: Octets, world: &mut W) -> Result<(), Halt>
+/// Puts a text to a stream, by its number; a failure is a fault of the script. Answers the text, whose room can serve the next
+/// one.
+pub fn put<W: World>(
+    place: Place,
+    number: u32,
+    text: Octets,
+    world: &mut W,
+) -> Result<Octets, Halt>
     requires { IsStream (W.open_numbers world.old) number }
     ensures task { (g : Given) (s : State) (table : Table) (key : Key) → IsNumber key number table
         → Does W.follows W.has_stopped W.stops g s (Do (Put place key text)) goes_on table world.old result table world.new }
+    ensures text { IfOk result (λ same. same ≡ text) }
     ensures numbers { W.open_numbers world.new ≡ W.open_numbers world.old }
 {
-    let reply = request(place, false, Request::Put(number, text), world)?;
+    let ask = Ask {
+        place,
+        given: false,
+        request: Request::Put(number, text),
+    };
+    let reply = answer(&ask, world)?;
     if is_failed(&reply) {
-        Err(Halt::Fault(Fault::Output, place))
-    } else {
-        Ok(())
+        return Err(Halt::Fault(Fault::Output, place));
+    }
+    match ask.request {
+        Request::Put(_, text) => Ok(text),
+        _ => unreachable!(),
     }
 }
 

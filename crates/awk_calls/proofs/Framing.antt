@@ -34,13 +34,16 @@ drop_none [] (suc n) e = refl
 drop_none (x ∷ xs) zero e = absurd (cc)
 drop_none (x ∷ xs) (suc n) e = drop_none xs n e
 
-drop_none_of : {X : Type 0} (xs : List X) → drop 0 xs ≡ xs
-drop_none_of [] = refl
-drop_none_of (x ∷ xs) = refl
+drop_zero : {X : Type 0} (xs : List X) → drop 0 xs ≡ xs
+drop_zero [] = refl
+drop_zero (x ∷ xs) = refl
 
 -- a list without its last, from behind
+pub reverse_last : {X : Type 0} (xs : List X) (x : X) → x ∷ reverse xs ≡ reverse (xs ++ x ∷ [])
+reverse_last xs x = sym (reverse-append xs (x ∷ []))
+
 pub reverse_front : {X : Type 0} (ws us : List X) (x : X) → ws ≡ us ++ x ∷ [] → reverse ws ≡ x ∷ reverse us
-reverse_front ws us x e = ap reverse e ∙ reverse-append us (x ∷ [])
+reverse_front ws us x e = ap reverse e ∙ sym (reverse_last us x)
 
 pub one_longer : {X : Type 0} (xs ys : List X) (x : X) (n : ℕ) → ys ≡ xs ++ x ∷ [] → length xs ≡ n → length ys ≡ n + 1
 one_longer xs ys x n e is = let a = ap length e ∙ length-append xs (x ∷ []) in omega (arith, a, is)
@@ -86,7 +89,7 @@ module _ (names : Names) (s : State) (xs : List (code.Argument Expr)) (vs : List
 
   -- nothing is held yet, and all values are left
   pub handed_first : (given : List Bound) (ws : List Value) → given ≡ [] → ws ≡ vs → HandedTo given ws
-  handed_first given ws e f = ap (λ bs. map (bound_of names) bs ++ rest (drop (length bs) xs) ws) e ∙ ap (λ ys. rest ys ws) (drop_none_of xs) ∙ ap (rest xs) f
+  handed_first given ws e f = ap (λ bs. map (bound_of names) bs ++ rest (drop (length bs) xs) ws) e ∙ ap (λ ys. rest ys ws) (drop_zero xs) ∙ ap (rest xs) f
 
   one_more : (given : List Bound) (b : Bound) (l : Frame) → map (bound_of names) (given ++ b ∷ []) ++ l ≡ map (bound_of names) given ++ (bound_of names b ∷ l)
   one_more [] b l = refl

@@ -56,7 +56,6 @@ pub fn sprintf(alloc: Global, place: Place, values: &[Value]) -> Result<Value, H
 
 /// The text that print puts to the standard output.
 pub fn printed_line(
-    alloc: Global,
     line: &mut Line,
     store: &mut Store,
     place: Place,
@@ -65,7 +64,7 @@ pub fn printed_line(
     ensures { (g : Given) (t : Table) (xs : List Expression) → length xs ≡ length items.now
         → Acts g (At (Doing (p.print place xs None)) (reverse items.now)) (to_standard place) (store.old, t) result (store.new, t) }
 {
-    at(place, text_of_items(alloc, line, store, items))
+    at(place, text_of_items(line, store, items))
 }
 
 /// The text that printf puts to the standard output: the first value is the format.
@@ -78,7 +77,6 @@ pub fn formatted_line(alloc: Global, place: Place, values: &[Value]) -> Result<O
 
 /// The text that print puts to the stream of this name.
 pub fn printed_for(
-    alloc: Global,
     line: &mut Line,
     store: &mut Store,
     place: Place,
@@ -88,7 +86,7 @@ pub fn printed_for(
     ensures { (g : Given) (t : Table) (xs : List Expression) (r : Redirection Expression) → length xs ≡ length items.now
         → Acts g (At (Doing (p.print place xs (Some r))) (name.now ∷ reverse items.now)) (to_stream r name.now) (store.old, t) result (store.new, t) }
 {
-    at(place, text_of_items(alloc, line, store, items))
+    at(place, text_of_items(line, store, items))
 }
 
 /// The text that printf puts to the stream of this name: the first value is the format.
@@ -165,20 +163,14 @@ fn join_at_hand(line: &mut Line, store: &Store, xs: &[Expr]) -> bool
 
 /// The text that print puts to the standard output, where each item is at hand: so none is copied but into that text. `None`
 /// stands for refused memory and for a text that is too long, too.
-pub fn printed_at_hand(alloc: Global, line: &mut Line, store: &Store, xs: &[Expr]) -> Option<Octets>
+pub fn printed_at_hand(line: &mut Line, store: &Store, xs: &[Expr]) -> Option<Octets>
     ensures { IfSome result (λ text. (g : Given) (t : Table) (place : Place)
         → Passes g (At (Doing (p.print place (map (view (names_in g)) xs.now) None)) []) (store.now, t) (to_standard place text) (store.now, t)) }
 {
     if !join_at_hand(line, store, xs) {
         return None;
     }
-    let Ok(text) = line.text() else {
-        return None;
-    };
-    let Ok(copy) = Vec::from_slice(alloc, text) else {
-        return None;
-    };
-    Some(Octets::new(copy))
+    line.take().ok()
 }
 
 /// Splits the record where one of the expressions is a field, and rebuilds it where one is `$0`, so that they are at hand.

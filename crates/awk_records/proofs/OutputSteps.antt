@@ -24,7 +24,7 @@ open_duty numbers c t n table h owns =
     inr (among_all n numbers (omega (arith, one, all)))
 
 -- a last piece, behind whatever was done
-pub onward_last : {W : Type 0} {follows : W → List Call → W → Type 0} {has_stopped : W → Bool} {stops : W → List Call → Ask → W → Type 0} (g : Given) (p q : Piece) (old mid new : Whole) (w w' w'' : W) (r : Result (Unit {0}) Halt) →
+pub onward_last : {W A : Type 0} {follows : W → List Call → W → Type 0} {has_stopped : W → Bool} {stops : W → List Call → Ask → W → Type 0} (g : Given) (p q : Piece) (old mid new : Whole) (w w' w'' : W) (r : Result A Halt) →
     LeadsOn follows has_stopped stops g p old w (λ l. q ∷ l) mid w' → Performs follows has_stopped stops g q goes_on mid w' r new w'' → Onward follows has_stopped stops g p old w (λ l. l) r new w''
-onward_last g p q old mid new w w' w'' (Ok tt) lead task = part tt lead task refl
+onward_last g p q old mid new w w' w'' (Ok x) lead task = part x lead task refl
 onward_last g p q old mid new w w' w'' (Err h) lead task = stop h (λ k. refl) lead task refl

@@ -63,6 +63,6 @@ abbrev pub at_records : List Piece → List Piece
 at_records k = At Records [] ∷ k
 
 -- behind whatever was done the machine leads on, or the whole is halted
-abbrev pub Onward : {W : Type 0} → (W → List Call → W → Type 0) → (W → Bool) → (W → List Call → Ask → W → Type 0) → Given → Piece → Whole → W → (List Piece → List Piece) → Result (Unit {0}) Halt → Whole → W → Type 0
-Onward follows has_stopped stops g p old w to (Ok u) new w' = LeadsOn follows has_stopped stops g p old w to new w'
+abbrev pub Onward : {W A : Type 0} → (W → List Call → W → Type 0) → (W → Bool) → (W → List Call → Ask → W → Type 0) → Given → Piece → Whole → W → (List Piece → List Piece) → Result A Halt → Whole → W → Type 0
+Onward follows has_stopped stops g p old w to (Ok x) new w' = LeadsOn follows has_stopped stops g p old w to new w'
 Onward follows has_stopped stops g p old w to (Err h) new w' = Performs follows has_stopped stops g p (goes_on {A = Unit {0}}) old w (Err h) new w'

@@ -43,7 +43,8 @@ fn mode_of(how: Redirect) -> Mode
     }
 }
 
-/// Puts a text to the stream of this name, which is opened before where it is not open.
+/// Puts a text to the stream of this name, which is opened before where it is not open. Answers the text, whose room can serve
+/// the next one.
 pub fn put_to<W: World>(
     alloc: Global,
     place: Place,
@@ -52,7 +53,7 @@ pub fn put_to<W: World>(
     text: Octets,
     streams: &mut Streams,
     world: &mut W,
-) -> Result<(), Halt>
+) -> Result<Octets, Halt>
     requires { Owns (W.open_numbers world.old) streams.old }
     ensures task { (g : Given) (k : Kept) (p : Piece) (old : Whole) (w : W)
         → LeadsOn W.follows W.has_stopped W.stops g p old w (λ l. Do (machine.Open place (printing.mode_of how) (printing.class_of how) name) ∷ Do (machine.Put place (Named (printing.class_of how) name) text) ∷ l) (k, streams.old) world.old

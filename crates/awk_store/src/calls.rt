@@ -54,19 +54,26 @@ fn add_all_missing(
     Ok(())
 }
 
+/// An empty list: this one, where there is one. Takes no memory.
+fn emptied<T: Drop>(alloc: Global, list: Option<Vec<T>>) -> Vec<T>
+    ensures { result.items ≡ [] }
+{
+    match list {
+        Some(mut list) => {
+            list.clear();
+            list
+        }
+        None => Vec::new(alloc),
+    }
+}
+
 impl Store {
     /// An empty list for the parameters of a call, which an ended call left where there is one. Takes no memory.
     pub fn spare_frame(&mut self) -> Vec<Bound>
         ensures empty { result.items ≡ [] }
         ensures same { self.new ≡ self.old }
     {
-        match self.spare.pop() {
-            Some(mut frame) => {
-                frame.clear();
-                frame
-            }
-            None => Vec::new(self.alloc),
-        }
+        emptied(self.alloc, self.spare.pop())
     }
 
     /// An empty list for the values of a call's arguments, which a call that has begun left where there is one. Takes no memory.
@@ -74,13 +81,7 @@ impl Store {
         ensures empty { result.items ≡ [] }
         ensures same { self.new ≡ self.old }
     {
-        match self.spare_values.pop() {
-            Some(mut values) => {
-                values.clear();
-                values
-            }
-            None => Vec::new(self.alloc),
-        }
+        emptied(self.alloc, self.spare_values.pop())
     }
 
     /// Keeps a list for the values of a later call's arguments.

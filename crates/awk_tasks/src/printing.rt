@@ -15,12 +15,10 @@ use awk_text::value::Value;
 use awk_works::line::Line;
 use awk_works::texts::printed;
 use itoa::Buffer;
-use std::alloc::Global;
 
 /// The texts of the items with OFS between, or of the whole record where there are none, and then ORS. It is made in the line,
-/// whose room is kept for the next one.
+/// and taken out of it; its room serves the next one once `Line::reuse` gives it back.
 pub fn text_of_items(
-    alloc: Global,
     line: &mut Line,
     store: &mut Store,
     items: &[Value],
@@ -30,15 +28,14 @@ pub fn text_of_items(
     ensures same { store.new ≡ store.old }
 {
     if items.is_empty() {
-        text_of_record(alloc, line, store)
+        text_of_record(line, store)
     } else {
-        text_of_values(alloc, line, store, items)
+        text_of_values(line, store, items)
     }
 }
 
 /// The texts of some items with OFS between, and what ends them.
 fn text_of_values(
-    alloc: Global,
     line: &mut Line,
     store: &Store,
     items: &[Value],
@@ -49,12 +46,11 @@ fn text_of_values(
     let (mut first, mut second) = (Buffer::new(), Buffer::new());
     let ofs = store.own_text(Own::Ofs, &mut first);
     let ors = store.own_text(Own::Ors, &mut second);
-    let text = printed(line, items, ofs, ors)?;
-    Ok(Octets::new(Vec::from_slice(alloc, text)?))
+    printed(line, items, ofs, ors)
 }
 
 /// The whole record and what ends it.
-fn text_of_record(alloc: Global, line: &mut Line, store: &mut Store) -> Result<Octets, Fault>
+fn text_of_record(line: &mut Line, store: &mut Store) -> Result<Octets, Fault>
     ensures ok { IfOk result (λ text. limited (store.old.row.whole ++ own_text store.old own.Ors) ≡ Ok text) }
     ensures err { IfErr result (λ e. (e ≡ Fault.Memory) ⊎ (limited (store.old.row.whole ++ own_text store.old own.Ors) ≡ Err e)) }
     ensures same { store.new ≡ store.old }
@@ -65,17 +61,16 @@ fn text_of_record(alloc: Global, line: &mut Line, store: &mut Store) -> Result<O
     };
     let mut buffer = Buffer::new();
     let ors = store.own_text(Own::Ors, &mut buffer);
-    ended(alloc, line, whole, ors)
+    ended(line, whole, ors)
 }
 
 /// A text and what ends it.
-fn ended(alloc: Global, line: &mut Line, whole: &[u8], ors: &[u8]) -> Result<Octets, Fault>
+fn ended(line: &mut Line, whole: &[u8], ors: &[u8]) -> Result<Octets, Fault>
     ensures ok { IfOk result (λ text. limited (whole.now ++ ors.now) ≡ Ok text) }
     ensures err { IfErr result (λ e. (e ≡ Fault.Memory) ⊎ (limited (whole.now ++ ors.now) ≡ Err e)) }
 {
     line.clear();
     line.push(whole)?;
     line.push(ors)?;
-    let text = line.text()?;
-    Ok(Octets::new(Vec::from_slice(alloc, text)?))
+    line.take()
 }

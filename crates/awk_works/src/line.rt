@@ -9,11 +9,13 @@ ghost use Rattle.awk_works.specs.Lines.{held};
 
 use awk_text::Memory;
 use awk_text::fault::Fault;
+use awk_text::octets::Octets;
 use awk_text::texts::MOST_BYTES;
 use awk_text::value::{Value, text_in};
 use itoa::Buffer;
 use std::alloc::Global;
 use std::marker::Model;
+use std::mem;
 
 /// A text that is made piece by piece, or that it has gone over `MOST_BYTES`: then no more is kept of it. The
 /// room of one text serves the next one.
@@ -98,6 +100,30 @@ impl Line {
         self.add_behind(others, separator)?;
         self.push(end)?;
         Ok(())
+    }
+
+    /// Takes the text out, with its room, and leaves the empty text. Takes no memory.
+    ///
+    /// Fails with `Fault::TextTooLong` exactly where it has gone over `MOST_BYTES`.
+    pub fn take(&mut self) -> Result<Octets, Fault>
+        ensures ok { IfOk result (λ text. within self.old ≡ Ok text) }
+        ensures err { IfErr result (λ e. within self.old ≡ Err e) }
+    {
+        if self.is_too_long {
+            return Err(Fault::TextTooLong);
+        }
+        let none = Vec::new(*self.bytes.allocator());
+        Ok(Octets::new(mem::replace(&mut self.bytes, none)))
+    }
+
+    /// Begins a new text in the room of one that was taken out. Takes no memory.
+    pub fn reuse(&mut self, text: Octets)
+        ensures { self.new ≡ Some [] }
+    {
+        let mut room = text.into_bytes();
+        room.clear();
+        self.bytes = room;
+        self.is_too_long = false;
     }
 
     /// The text. Takes no memory.

@@ -12,25 +12,25 @@ use awk_text::value::{Value, text_in};
 use itoa::Buffer;
 use std::alloc::Global;
 
-/// The text that print makes of its items: their texts with OFS between, and ORS. It is lent from the line, and
-/// stands there until the next one is made.
+/// The text that print makes of its items: their texts with OFS between, and ORS. It is made in the line, and taken out of it.
 ///
 /// Fails with `Fault::TextTooLong` exactly where the text has more than `MOST_BYTES` bytes, and with
 /// `Fault::Memory` where memory is refused.
-pub fn printed<'a>(
-    line: &'a mut Line,
+pub fn printed(
+    line: &mut Line,
     items: &[Value],
     ofs: &[u8],
     ors: &[u8],
-) -> Result<&'a [u8], Fault>
-    ensures ok { IfOk result (λ text. limited (joined ofs.now items.now ++ ors.now) ≡ Ok text.now) }
+) -> Result<Octets, Fault>
+    ensures ok { IfOk result (λ text. limited (joined ofs.now items.now ++ ors.now) ≡ Ok text) }
     ensures err { IfErr result (λ e. (e ≡ Fault.Memory) ⊎ (limited (joined ofs.now items.now ++ ors.now) ≡ Err e)) }
 {
     line.join(items, ofs, ors)?;
-    line.text()
+    line.take()
 }
 
-/// The text of several subscripts: their texts with SUBSEP between. It is lent from the line, as by `printed`.
+/// The text of several subscripts: their texts with SUBSEP between. It is lent from the line, and stands there until the next
+/// one is made.
 ///
 /// Fails as `printed` does.
 pub fn key<'a>(line: &'a mut Line, subscripts: &[Value], subsep: &[u8]) -> Result<&'a [u8], Fault>

@@ -1071,13 +1071,13 @@ pub output::general_print-returns-in_err-text : goal.output::general_print-retur
 output::general_print-returns-in_err-text g t c =
     let e = err_from_is_err_and c.from_residual-in_err-text.result c.from_residual-in_err-text.ensures.1 in rw (e.1, e.2, c.in_default.is) (record { plays = λ m is. stop _ (λ k. refl) (part _ (at_once _ _ _) (filled_from _ _ c.new-values.ensures.items c.fill.ensures.plays m is (Doing (p.print c.args.place (map (view (names_in m)) c.args.xs.now) None)) (waits_printed m c.args.place (map (view (names_in m)) c.args.xs.now) None)) c.in_ok-fill.was) (acted (rw c.as_slice.ensures.value at (c.printed_line.ensures m c.fill.new.run.streams (map (view (names_in m)) c.args.xs.now) (rw c.as_slice.ensures.value (count_items (view (names_in m)) c.args.xs.now _ _ c.new-values.ensures.items c.in_ok-fill.ensures.count))))) c.in_err-text.was; owns = c.fill.ensures.plays.owns })
 
-pub output::general_print-returns-in_err-put : goal.output::general_print-returns-in_err-put
-output::general_print-returns-in_err-put g t c =
-    let e = err_from_is_err_and c.from_residual-in_err-put.result c.from_residual-in_err-put.ensures.1 in rw (e.1, e.2, c.in_default.is) (record { plays = λ m is. stop _ (λ k. refl) (part _ (part _ (at_once _ _ _) (filled_from _ _ c.new-values.ensures.items c.fill.ensures.plays m is (Doing (p.print c.args.place (map (view (names_in m)) c.args.xs.now) None)) (waits_printed m c.args.place (map (view (names_in m)) c.args.xs.now) None)) c.in_ok-fill.was) (acted (rw c.as_slice.ensures.value at (c.printed_line.ensures m c.fill.new.run.streams (map (view (names_in m)) c.args.xs.now) (rw c.as_slice.ensures.value (count_items (view (names_in m)) c.args.xs.now _ _ c.new-values.ensures.items c.in_ok-fill.ensures.count))))) c.in_ok-text.was) (lifted m c.printed_line.new.store (λ s. c.put.ensures.task m s c.fill.new.run.streams (Standard 1) refl)) c.in_err-put.was; owns = rw c.put.ensures.numbers c.fill.ensures.plays.owns })
+pub output::general_print-returns-in_err-room : goal.output::general_print-returns-in_err-room
+output::general_print-returns-in_err-room g t c =
+    let e = err_from_is_err_and c.from_residual-in_err-room.result c.from_residual-in_err-room.ensures.1 in rw (e.1, e.2, c.in_default.is) (record { plays = λ m is. stop _ (λ k. refl) (part _ (part _ (at_once _ _ _) (filled_from _ _ c.new-values.ensures.items c.fill.ensures.plays m is (Doing (p.print c.args.place (map (view (names_in m)) c.args.xs.now) None)) (waits_printed m c.args.place (map (view (names_in m)) c.args.xs.now) None)) c.in_ok-fill.was) (acted (rw c.as_slice.ensures.value at (c.printed_line.ensures m c.fill.new.run.streams (map (view (names_in m)) c.args.xs.now) (rw c.as_slice.ensures.value (count_items (view (names_in m)) c.args.xs.now _ _ c.new-values.ensures.items c.in_ok-fill.ensures.count))))) c.in_ok-text.was) (lifted m c.printed_line.new.store (λ s. c.put.ensures.task m s c.fill.new.run.streams (Standard 1) refl)) c.in_err-room.was; owns = rw c.put.ensures.numbers c.fill.ensures.plays.owns })
 
 pub output::general_print-returns-in_default : goal.output::general_print-returns-in_default
 output::general_print-returns-in_default g t c =
-    rw c.in_default.is (record { plays = λ m is. done (part _ (part _ (part _ (at_once _ _ _) (filled_from _ _ c.new-values.ensures.items c.fill.ensures.plays m is (Doing (p.print c.args.place (map (view (names_in m)) c.args.xs.now) None)) (waits_printed m c.args.place (map (view (names_in m)) c.args.xs.now) None)) c.in_ok-fill.was) (acted (rw c.as_slice.ensures.value at (c.printed_line.ensures m c.fill.new.run.streams (map (view (names_in m)) c.args.xs.now) (rw c.as_slice.ensures.value (count_items (view (names_in m)) c.args.xs.now _ _ c.new-values.ensures.items c.in_ok-fill.ensures.count))))) c.in_ok-text.was) (lifted m c.printed_line.new.store (λ s. c.put.ensures.task m s c.fill.new.run.streams (Standard 1) refl)) c.in_ok-put.was); owns = rw c.put.ensures.numbers c.fill.ensures.plays.owns })
+    rw c.in_default.is (record { plays = λ m is. done (part _ (part _ (part _ (at_once _ _ _) (filled_from _ _ c.new-values.ensures.items c.fill.ensures.plays m is (Doing (p.print c.args.place (map (view (names_in m)) c.args.xs.now) None)) (waits_printed m c.args.place (map (view (names_in m)) c.args.xs.now) None)) c.in_ok-fill.was) (acted (rw c.as_slice.ensures.value at (c.printed_line.ensures m c.fill.new.run.streams (map (view (names_in m)) c.args.xs.now) (rw c.as_slice.ensures.value (count_items (view (names_in m)) c.args.xs.now _ _ c.new-values.ensures.items c.in_ok-fill.ensures.count))))) c.in_ok-text.was) (lifted m c.printed_line.new.store (λ s. c.put.ensures.task m s c.fill.new.run.streams (Standard 1) refl)) c.in_ok-room.was); owns = rw c.put.ensures.numbers c.fill.ensures.plays.owns })
 
 pub output::general_print-returns-in_err-target : goal.output::general_print-returns-in_err-target
 output::general_print-returns-in_err-target g t c =
@@ -1091,13 +1091,13 @@ pub output::general_print-returns-in_default-into_text : goal.output::general_pr
 output::general_print-returns-in_default-into_text g t c =
     rw c.in-Some.is (record { plays = λ m is. lacking (part _ (part _ (quietly (part _ (at_once _ _ _) (filled_from _ _ c.new-values.ensures.items c.fill.ensures.plays m is (Doing (p.print c.args.place (map (view (names_in m)) c.args.xs.now) (Some (view_redirection (names_in m) c.in-Some.to)))) (waits_printed m c.args.place (map (view (names_in m)) c.args.xs.now) (Some (view_redirection (names_in m) c.in-Some.to)))) c.in_ok-fill.was) (λ k hid d a. print_target m c.args.place (map (view (names_in m)) c.args.xs.now) (view_redirection (names_in m) c.in-Some.to) _ (count_items (view (names_in m)) c.args.xs.now _ _ c.new-values.ensures.items c.in_ok-fill.ensures.count) k _)) (c.value.ensures.plays m is) c.in_ok-target.was) (acted (rw c.as_slice-2.ensures.value at (c.printed_for.ensures m c.value.new.run.streams (map (view (names_in m)) c.args.xs.now) (view_redirection (names_in m) c.in-Some.to) (rw c.as_slice-2.ensures.value (count_items (view (names_in m)) c.args.xs.now _ _ c.new-values.ensures.items c.in_ok-fill.ensures.count))))) c.in_ok-text-2.was); owns = c.value.ensures.owns })
 
-pub output::general_print-returns-in_err-put_to : goal.output::general_print-returns-in_err-put_to
-output::general_print-returns-in_err-put_to g t c =
-    let e = err_from_is_err_and c.from_residual-in_err-put_to.result c.from_residual-in_err-put_to.ensures.1 in rw (e.1, e.2, c.in-Some.is) (record { plays = λ m is. halts _ (rw c.in_err-put_to.was at (c.put_to.ensures.task m c.printed_for.new.store (At (Doing (p.print c.args.place (map (view (names_in m)) c.args.xs.now) (Some (view_redirection (names_in m) c.in-Some.to)))) []) (c.args.run.now.store, c.args.run.now.streams) c.args.world.now (turned {then_ = streamed (view_redirection (names_in m) c.in-Some.to) c.in-Ok.name c.in_ok-text-2.text} (part _ (part _ (quietly (part _ (at_once _ _ _) (filled_from _ _ c.new-values.ensures.items c.fill.ensures.plays m is (Doing (p.print c.args.place (map (view (names_in m)) c.args.xs.now) (Some (view_redirection (names_in m) c.in-Some.to)))) (waits_printed m c.args.place (map (view (names_in m)) c.args.xs.now) (Some (view_redirection (names_in m) c.in-Some.to)))) c.in_ok-fill.was) (λ k hid d a. print_target m c.args.place (map (view (names_in m)) c.args.xs.now) (view_redirection (names_in m) c.in-Some.to) _ (count_items (view (names_in m)) c.args.xs.now _ _ c.new-values.ensures.items c.in_ok-fill.ensures.count) k _)) (c.value.ensures.plays m is) c.in_ok-target.was) (acted (rw c.as_slice-2.ensures.value at (c.printed_for.ensures m c.value.new.run.streams (map (view (names_in m)) c.args.xs.now) (view_redirection (names_in m) c.in-Some.to) (rw c.as_slice-2.ensures.value (count_items (view (names_in m)) c.args.xs.now _ _ c.new-values.ensures.items c.in_ok-fill.ensures.count))))) c.in_ok-text-2.was) (λ k. ap (λ n. streamed (view_redirection (names_in m) c.in-Some.to) n c.in_ok-text-2.text k) (sym c.in-Ok.ensures))))); owns = c.put_to.ensures.owns })
+pub output::general_print-returns-in_err-room-2 : goal.output::general_print-returns-in_err-room-2
+output::general_print-returns-in_err-room-2 g t c =
+    let e = err_from_is_err_and c.from_residual-in_err-room-2.result c.from_residual-in_err-room-2.ensures.1 in rw (e.1, e.2, c.in-Some.is) (record { plays = λ m is. halts _ (rw c.in_err-room-2.was at (c.put_to.ensures.task m c.printed_for.new.store (At (Doing (p.print c.args.place (map (view (names_in m)) c.args.xs.now) (Some (view_redirection (names_in m) c.in-Some.to)))) []) (c.args.run.now.store, c.args.run.now.streams) c.args.world.now (turned {then_ = streamed (view_redirection (names_in m) c.in-Some.to) c.in-Ok.name c.in_ok-text-2.text} (part _ (part _ (quietly (part _ (at_once _ _ _) (filled_from _ _ c.new-values.ensures.items c.fill.ensures.plays m is (Doing (p.print c.args.place (map (view (names_in m)) c.args.xs.now) (Some (view_redirection (names_in m) c.in-Some.to)))) (waits_printed m c.args.place (map (view (names_in m)) c.args.xs.now) (Some (view_redirection (names_in m) c.in-Some.to)))) c.in_ok-fill.was) (λ k hid d a. print_target m c.args.place (map (view (names_in m)) c.args.xs.now) (view_redirection (names_in m) c.in-Some.to) _ (count_items (view (names_in m)) c.args.xs.now _ _ c.new-values.ensures.items c.in_ok-fill.ensures.count) k _)) (c.value.ensures.plays m is) c.in_ok-target.was) (acted (rw c.as_slice-2.ensures.value at (c.printed_for.ensures m c.value.new.run.streams (map (view (names_in m)) c.args.xs.now) (view_redirection (names_in m) c.in-Some.to) (rw c.as_slice-2.ensures.value (count_items (view (names_in m)) c.args.xs.now _ _ c.new-values.ensures.items c.in_ok-fill.ensures.count))))) c.in_ok-text-2.was) (λ k. ap (λ n. streamed (view_redirection (names_in m) c.in-Some.to) n c.in_ok-text-2.text k) (sym c.in-Ok.ensures))))); owns = c.put_to.ensures.owns })
 
 pub output::general_print-returns : goal.output::general_print-returns
 output::general_print-returns g t c =
-    rw c.in-Some.is (record { plays = λ m is. done (rw c.in_ok-put_to.was at (c.put_to.ensures.task m c.printed_for.new.store (At (Doing (p.print c.args.place (map (view (names_in m)) c.args.xs.now) (Some (view_redirection (names_in m) c.in-Some.to)))) []) (c.args.run.now.store, c.args.run.now.streams) c.args.world.now (turned {then_ = streamed (view_redirection (names_in m) c.in-Some.to) c.in-Ok.name c.in_ok-text-2.text} (part _ (part _ (quietly (part _ (at_once _ _ _) (filled_from _ _ c.new-values.ensures.items c.fill.ensures.plays m is (Doing (p.print c.args.place (map (view (names_in m)) c.args.xs.now) (Some (view_redirection (names_in m) c.in-Some.to)))) (waits_printed m c.args.place (map (view (names_in m)) c.args.xs.now) (Some (view_redirection (names_in m) c.in-Some.to)))) c.in_ok-fill.was) (λ k hid d a. print_target m c.args.place (map (view (names_in m)) c.args.xs.now) (view_redirection (names_in m) c.in-Some.to) _ (count_items (view (names_in m)) c.args.xs.now _ _ c.new-values.ensures.items c.in_ok-fill.ensures.count) k _)) (c.value.ensures.plays m is) c.in_ok-target.was) (acted (rw c.as_slice-2.ensures.value at (c.printed_for.ensures m c.value.new.run.streams (map (view (names_in m)) c.args.xs.now) (view_redirection (names_in m) c.in-Some.to) (rw c.as_slice-2.ensures.value (count_items (view (names_in m)) c.args.xs.now _ _ c.new-values.ensures.items c.in_ok-fill.ensures.count))))) c.in_ok-text-2.was) (λ k. ap (λ n. streamed (view_redirection (names_in m) c.in-Some.to) n c.in_ok-text-2.text k) (sym c.in-Ok.ensures))))); owns = c.put_to.ensures.owns })
+    rw c.in-Some.is (record { plays = λ m is. done (rw c.in_ok-room-2.was at (c.put_to.ensures.task m c.printed_for.new.store (At (Doing (p.print c.args.place (map (view (names_in m)) c.args.xs.now) (Some (view_redirection (names_in m) c.in-Some.to)))) []) (c.args.run.now.store, c.args.run.now.streams) c.args.world.now (turned {then_ = streamed (view_redirection (names_in m) c.in-Some.to) c.in-Ok.name c.in_ok-text-2.text} (part _ (part _ (quietly (part _ (at_once _ _ _) (filled_from _ _ c.new-values.ensures.items c.fill.ensures.plays m is (Doing (p.print c.args.place (map (view (names_in m)) c.args.xs.now) (Some (view_redirection (names_in m) c.in-Some.to)))) (waits_printed m c.args.place (map (view (names_in m)) c.args.xs.now) (Some (view_redirection (names_in m) c.in-Some.to)))) c.in_ok-fill.was) (λ k hid d a. print_target m c.args.place (map (view (names_in m)) c.args.xs.now) (view_redirection (names_in m) c.in-Some.to) _ (count_items (view (names_in m)) c.args.xs.now _ _ c.new-values.ensures.items c.in_ok-fill.ensures.count) k _)) (c.value.ensures.plays m is) c.in_ok-target.was) (acted (rw c.as_slice-2.ensures.value at (c.printed_for.ensures m c.value.new.run.streams (map (view (names_in m)) c.args.xs.now) (view_redirection (names_in m) c.in-Some.to) (rw c.as_slice-2.ensures.value (count_items (view (names_in m)) c.args.xs.now _ _ c.new-values.ensures.items c.in_ok-fill.ensures.count))))) c.in_ok-text-2.was) (λ k. ap (λ n. streamed (view_redirection (names_in m) c.in-Some.to) n c.in_ok-text-2.text k) (sym c.in-Ok.ensures))))); owns = c.put_to.ensures.owns })
 
 pub output::printf-returns-in_err-format : goal.output::printf-returns-in_err-format
 output::printf-returns-in_err-format g t c =
@@ -1492,13 +1492,13 @@ pub output::print-returns-in_err-split_for_items : goal.output::print-returns-in
 output::print-returns-in_err-split_for_items g t c =
     let e = err_from_is_err_and c.from_residual.result c.from_residual.ensures.1 in rw (e.1, e.2) (record { plays = λ m is. stop _ (λ k. refl) (at_once _ _ _) (acted (c.split_for_items.ensures m c.args.run.now.streams (At (Doing (p.print c.args.place (map (view (names_in m)) c.args.xs.now) (option_map (view_redirection (names_in m)) c.args.to.now))) []))) c.in_err-split_for_items.was; owns = c.requires })
 
-pub output::print-returns-in_err-put : goal.output::print-returns-in_err-put
-output::print-returns-in_err-put g t c =
-    let e = err_from_is_err_and c.from_residual-in_err-put.result c.from_residual-in_err-put.ensures.1 in rw (e.1, e.2, c.in_default.is) (record { plays = λ m is. stop _ (λ k. refl) (part c.in-Some-known.text (part _ (at_once _ _ _) (acted (c.split_for_items.ensures m c.args.run.now.streams (At (Doing (p.print c.args.place (map (view (names_in m)) c.args.xs.now) None)) []))) c.in_ok-split_for_items.was) (acted (there {on = to_standard c.args.place} {x = c.in-Some-known.text} (c.in-Some-known.ensures m c.args.run.now.streams c.args.place))) refl) (lifted m c.split_for_items.new.store (λ s. c.put.ensures.task m s c.args.run.now.streams (Standard 1) refl)) c.in_err-put.was; owns = rw c.put.ensures.numbers c.requires })
+pub output::print-returns-in_err-room : goal.output::print-returns-in_err-room
+output::print-returns-in_err-room g t c =
+    let e = err_from_is_err_and c.from_residual-in_err-room.result c.from_residual-in_err-room.ensures.1 in rw (e.1, e.2, c.in_default.is) (record { plays = λ m is. stop _ (λ k. refl) (part c.in-Some-known.text (part _ (at_once _ _ _) (acted (c.split_for_items.ensures m c.args.run.now.streams (At (Doing (p.print c.args.place (map (view (names_in m)) c.args.xs.now) None)) []))) c.in_ok-split_for_items.was) (acted (there {on = to_standard c.args.place} {x = c.in-Some-known.text} (c.in-Some-known.ensures m c.args.run.now.streams c.args.place))) refl) (lifted m c.split_for_items.new.store (λ s. c.put.ensures.task m s c.args.run.now.streams (Standard 1) refl)) c.in_err-room.was; owns = rw c.put.ensures.numbers c.requires })
 
 pub output::print-returns-in-Some-known : goal.output::print-returns-in-Some-known
 output::print-returns-in-Some-known g t c =
-    rw c.in_default.is (record { plays = λ m is. done (part _ (part c.in-Some-known.text (part _ (at_once _ _ _) (acted (c.split_for_items.ensures m c.args.run.now.streams (At (Doing (p.print c.args.place (map (view (names_in m)) c.args.xs.now) None)) []))) c.in_ok-split_for_items.was) (acted (there {on = to_standard c.args.place} {x = c.in-Some-known.text} (c.in-Some-known.ensures m c.args.run.now.streams c.args.place))) refl) (lifted m c.split_for_items.new.store (λ s. c.put.ensures.task m s c.args.run.now.streams (Standard 1) refl)) c.in_ok-put.was); owns = rw c.put.ensures.numbers c.requires })
+    rw c.in_default.is (record { plays = λ m is. done (part _ (part c.in-Some-known.text (part _ (at_once _ _ _) (acted (c.split_for_items.ensures m c.args.run.now.streams (At (Doing (p.print c.args.place (map (view (names_in m)) c.args.xs.now) None)) []))) c.in_ok-split_for_items.was) (acted (there {on = to_standard c.args.place} {x = c.in-Some-known.text} (c.in-Some-known.ensures m c.args.run.now.streams c.args.place))) refl) (lifted m c.split_for_items.new.store (λ s. c.put.ensures.task m s c.args.run.now.streams (Standard 1) refl)) c.in_ok-room.was); owns = rw c.put.ensures.numbers c.requires })
 
 pub output::print-returns : goal.output::print-returns
 output::print-returns g t c =
