@@ -9,6 +9,7 @@ use Rattle.box_world.specs.declared.ask.Ask.{Ask}
 use Rattle.box_world.specs.declared.ask.Reply.{Reply}
 use Rattle.box_world.specs.declared.ask.Reply.TheVariants.{Opened, Failed, Value as GivenValue}
 use Rattle.box_world.specs.declared.ask.Request.{Request}
+use Rattle.box_world.specs.declared.ask.Request.TheVariants.{Put}
 use Rattle.box_world.specs.declared.ask.Stop.{Stop}
 use Rattle.box_world.specs.declared.ask.Stop.TheVariants as stop
 use Rattle.box_world.specs.Events.{Class, Key, Standard, Named, Stream, find_stream, open_streams}
@@ -159,6 +160,13 @@ whole base x hid = record (base x.0 hid.row) { taken = hid.taken }
 -- the store is sound, and the table is what the events say
 abbrev pub Agrees : {R : Type 0} → (R → Row → Type 0) → R × Table → Hidden → Course → Type 0
 Agrees Sound x hid c = Tells x.1 hid.taken c × Sound x.0 hid.row
+
+-- ---- an output
+
+-- what a request puts
+abbrev pub text_put : Request → Option Text
+text_put (Put n text) = Some text
+text_put request = None
 
 -- ---- the environment
 

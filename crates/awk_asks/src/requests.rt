@@ -74,9 +74,18 @@ pub fn put<W: World>(
     if is_failed(&reply) {
         return Err(Halt::Fault(Fault::Output, place));
     }
-    match ask.request {
-        Request::Put(_, text) => Ok(text),
-        _ => unreachable!(),
+    match text_put(ask.request) {
+        Some(text) => Ok(text),
+        None => unreachable!(),
+    }
+}
+
+fn text_put(request: Request) -> Option<Octets>
+    ensures { result ≡ Rattle.awk_asks.specs.Tasks.text_put request }
+{
+    match request {
+        Request::Put(_, text) => Some(text),
+        _ => None,
     }
 }
 

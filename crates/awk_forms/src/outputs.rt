@@ -170,7 +170,10 @@ pub fn printed_at_hand(line: &mut Line, store: &Store, xs: &[Expr]) -> Option<Oc
     if !join_at_hand(line, store, xs) {
         return None;
     }
-    line.take().ok()
+    match line.take() {
+        Ok(text) => Some(text),
+        Err(_) => None,
+    }
 }
 
 /// Splits the record where one of the expressions is a field, and rebuilds it where one is `$0`, so that they are at hand.

@@ -8,9 +8,9 @@ use Rattle.awk_works.proofs.Lines.{within_held}
 use Rattle.awk_forms.proofs.Printed.{print_there}
 use Rattle.awk_forms.proofs.outputs.printed_at_hand.Goals as goal
 
-pub returns : goal.returns
-returns c = λ g t place.
+pub returns-in-Ok : goal.returns-in-Ok
+returns-in-Ok c = λ g t place.
     let store = c.args.store.now in
     let j = c.join_at_hand.ensures c.if-not-join_at_hand.false in
     let made = sym (within_held (joined (own_text store own.Ofs) (items store j.0) ++ own_text store own.Ors)) ∙ ap within (sym j.2) ∙ c.in-Ok.ensures.ok in
-    rw (c.new.ensures, c.in-Ok-from_slice.ensures.items) (print_there g store t place c.args.xs.now j.0 c.in-Ok.text.now j.1 made)
+    print_there g store t place c.args.xs.now j.0 c.in-Ok.text j.1 made
