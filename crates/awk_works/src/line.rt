@@ -104,10 +104,11 @@ impl Line {
 
     /// Takes the text out, with its room, and leaves the empty text. Takes no memory.
     ///
-    /// Fails with `Fault::TextTooLong` exactly where it has gone over `MOST_BYTES`.
+    /// Fails with `Fault::TextTooLong` exactly where it has gone over `MOST_BYTES`; then nothing has changed.
     pub fn take(&mut self) -> Result<Octets, Fault>
         ensures ok { IfOk result (λ text. within self.old ≡ Ok text) }
-        ensures err { IfErr result (λ e. within self.old ≡ Err e) }
+        ensures left { OnOk result (self.new ≡ Some []) }
+        ensures err { IfErr result (λ e. (within self.old ≡ Err e) × (self.new ≡ self.old)) }
     {
         if self.is_too_long {
             return Err(Fault::TextTooLong);

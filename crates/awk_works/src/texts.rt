@@ -16,12 +16,7 @@ use std::alloc::Global;
 ///
 /// Fails with `Fault::TextTooLong` exactly where the text has more than `MOST_BYTES` bytes, and with
 /// `Fault::Memory` where memory is refused.
-pub fn printed(
-    line: &mut Line,
-    items: &[Value],
-    ofs: &[u8],
-    ors: &[u8],
-) -> Result<Octets, Fault>
+pub fn printed(line: &mut Line, items: &[Value], ofs: &[u8], ors: &[u8]) -> Result<Octets, Fault>
     ensures ok { IfOk result (λ text. limited (joined ofs.now items.now ++ ors.now) ≡ Ok text) }
     ensures err { IfErr result (λ e. (e ≡ Fault.Memory) ⊎ (limited (joined ofs.now items.now ++ ors.now) ≡ Err e)) }
 {
