@@ -1,4 +1,4 @@
-use Rattle.std.specs.Prelude.{◌≡◌, ℕ, length}
+use Rattle.std.specs.Prelude.{◌≡◌, length}
 use Rattle.std.specs.Str.{bytes_eq}
 use Rattle.awk_lib.proofs.same.is_same.Given as goal
 
