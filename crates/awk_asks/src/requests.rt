@@ -53,12 +53,7 @@ pub fn request<W: World>(
 
 /// Puts a text to a stream, by its number; a failure is a fault of the script. Answers the text, whose room can serve the next
 /// one.
-pub fn put<W: World>(
-    place: Place,
-    number: u32,
-    text: Octets,
-    world: &mut W,
-) -> Result<Octets, Halt>
+pub fn put<W: World>(place: Place, number: u32, text: Octets, world: &mut W) -> Result<Octets, Halt>
     requires { IsStream (W.open_numbers world.old) number }
     ensures task { (g : Given) (s : State) (table : Table) (key : Key) → IsNumber key number table
         → Does W.follows W.has_stopped W.stops g s (Do (Put place key text)) goes_on table world.old result table world.new }

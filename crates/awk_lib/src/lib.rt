@@ -12,6 +12,6 @@ mod same;
 mod slot;
 pub mod texts;
 
-pub use same::is_same as is_same;
 pub use replacing::{replace as replace, replace_any as replace_any};
+pub use same::is_same as is_same;
 pub use texts::{index as index, substr as substr, to_case as to_case};

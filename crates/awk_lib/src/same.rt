@@ -34,9 +34,10 @@ pub fn is_same(x: &[u8], y: &[u8]) -> bool
         return false;
     }
     let (mut left, mut right) = (x, y);
-    while let (Some((p, xs)), Some((q, ys))) =
-        (left.split_first_chunk::<8>(), right.split_first_chunk::<8>())
-    {
+    while let (Some((p, xs)), Some((q, ys))) = (
+        left.split_first_chunk::<8>(),
+        right.split_first_chunk::<8>(),
+    ) {
         if !are_eight(p, q) {
             return false;
         }

@@ -18,11 +18,7 @@ use itoa::Buffer;
 
 /// The texts of the items with OFS between, or of the whole record where there are none, and then ORS. It is made in the line,
 /// and taken out of it; its room serves the next one once `Line::reuse` gives it back.
-pub fn text_of_items(
-    line: &mut Line,
-    store: &mut Store,
-    items: &[Value],
-) -> Result<Octets, Fault>
+pub fn text_of_items(line: &mut Line, store: &mut Store, items: &[Value]) -> Result<Octets, Fault>
     ensures ok { IfOk result (λ text. spec.printed store.old items.now ≡ Ok text) }
     ensures err { IfErr result (λ e. (e ≡ Fault.Memory) ⊎ (spec.printed store.old items.now ≡ Err e)) }
     ensures same { store.new ≡ store.old }
@@ -35,11 +31,7 @@ pub fn text_of_items(
 }
 
 /// The texts of some items with OFS between, and what ends them.
-fn text_of_values(
-    line: &mut Line,
-    store: &Store,
-    items: &[Value],
-) -> Result<Octets, Fault>
+fn text_of_values(line: &mut Line, store: &Store, items: &[Value]) -> Result<Octets, Fault>
     ensures ok { IfOk result (λ text. limited (joined (own_text store.now own.Ofs) items.now ++ own_text store.now own.Ors) ≡ Ok text) }
     ensures err { IfErr result (λ e. (e ≡ Fault.Memory) ⊎ (limited (joined (own_text store.now own.Ofs) items.now ++ own_text store.now own.Ors) ≡ Err e)) }
 {
