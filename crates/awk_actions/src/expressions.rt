@@ -19,7 +19,9 @@ use crate::lists::{element_group, formatted};
 use crate::patterns::{locate, matches, split, substitute};
 use crate::targets::{alter, assign, change, increment, put, read_target, step_target};
 use awk_asks::halt::Halt;
-use awk_forms::at_hand::{MOST_LEVELS, number_at_hand, truth_at_hand, value_at_hand};
+use awk_forms::at_hand::{
+    MOST_LEVELS, number_at_hand, split_for_parts, truth_at_hand, value_at_hand,
+};
 use awk_forms::chains::{join, members, operated};
 use awk_forms::done::done_at_once;
 use awk_forms::made::owned;
@@ -90,6 +92,45 @@ pub fn truth_of<W: World>(
     if let Some(known) = truth_at_hand(&run.store, e) {
         return Ok(known);
     }
+    let is_split = split_for_parts(&mut run.store, e)?;
+    if is_split {
+        return truth_of_split(cx, e, level, run, world);
+    }
+    general_truth(cx, e, level, run, world)
+}
+
+/// The same, once the record was split.
+#[cycle(run)]
+fn truth_of_split<W: World>(
+    cx: &Context<'_>,
+    e: &Expr,
+    level: u32,
+    run: &mut Run,
+    world: &mut W,
+) -> Result<bool, Halt>
+    requires { Owns (W.open_numbers world.old) run.old.streams }
+    ensures { Tells W.follows W.has_stopped W.stops W.open_numbers cx.now (λ g. value (view (names_in g) e.now)) IsTruthOf
+        (run.old.store, run.old.streams) world.old result (run.new.store, run.new.streams) world.new }
+{
+    if let Some(known) = truth_at_hand(&run.store, e) {
+        return Ok(known);
+    }
+    general_truth(cx, e, level, run, world)
+}
+
+/// The same, of what is not at hand.
+#[cycle(run)]
+fn general_truth<W: World>(
+    cx: &Context<'_>,
+    e: &Expr,
+    level: u32,
+    run: &mut Run,
+    world: &mut W,
+) -> Result<bool, Halt>
+    requires { Owns (W.open_numbers world.old) run.old.streams }
+    ensures { Tells W.follows W.has_stopped W.stops W.open_numbers cx.now (λ g. value (view (names_in g) e.now)) IsTruthOf
+        (run.old.store, run.old.streams) world.old result (run.new.store, run.new.streams) world.new }
+{
     if level == 0 {
         return Err(Halt::Memory);
     }
@@ -128,6 +169,30 @@ fn compare<W: World>(
 /// Does what an expression does, whose value nothing wants.
 #[cycle(run)]
 pub fn effect<W: World>(
+    cx: &Context<'_>,
+    e: &Expr,
+    level: u32,
+    run: &mut Run,
+    world: &mut W,
+) -> Result<(), Halt>
+    requires { Owns (W.open_numbers world.old) run.old.streams }
+    ensures { Tells W.follows W.has_stopped W.stops W.open_numbers cx.now (λ g. value (view (names_in g) e.now)) IsUnwanted
+        (run.old.store, run.old.streams) world.old result (run.new.store, run.new.streams) world.new }
+{
+    let is_done = done_at_once(cx.alloc, &mut run.store, &mut run.line, e);
+    if is_done {
+        return Ok(());
+    }
+    let is_split = split_for_parts(&mut run.store, e)?;
+    if is_split {
+        return effect_of_split(cx, e, level, run, world);
+    }
+    general_effect(cx, e, level, run, world)
+}
+
+/// The same, once the record was split.
+#[cycle(run)]
+fn effect_of_split<W: World>(
     cx: &Context<'_>,
     e: &Expr,
     level: u32,

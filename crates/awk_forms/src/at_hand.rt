@@ -316,3 +316,46 @@ pub fn split_for(store: &mut Store, e: &Expr) -> Result<(), Halt>
 {
     split_where(store, is_field(e), is_whole(e))
 }
+
+/// Whether an expression is a field or NF, or a chain that begins with a field: such are at hand once the record is split.
+fn wants_split(e: &Expr) -> bool {
+    match e {
+        Expr::Read(Target::Variable(variable)) => is_nf(*variable),
+        Expr::Chain(x, _) => is_field(x.get()),
+        _ => is_field(e),
+    }
+}
+
+/// Whether the only subscript of an element is a field.
+fn is_keyed_by_field(target: &Target<Expr>) -> bool {
+    match target {
+        Target::Element(_, _, keys) => match keys.as_slice() {
+            [one] => is_field(one),
+            _ => false,
+        },
+        Target::Variable(_) | Target::Field(_, _) => false,
+    }
+}
+
+/// Whether an expression, or a part of an assignment or of a comparison, is at hand only once the record is split.
+fn has_parts_to_split(e: &Expr) -> bool {
+    match e {
+        Expr::Assign(_, target, x) | Expr::Change(_, _, target, x) => {
+            is_keyed_by_field(target) || wants_split(x.get())
+        }
+        Expr::Step(_, _, _, target) => is_keyed_by_field(target),
+        Expr::Compare(_, x, y) => wants_split(x.get()) || wants_split(y.get()),
+        _ => wants_split(e),
+    }
+}
+
+/// Splits the record where that brings more of an expression to hand, and answers whether it did: plain awk does not see it.
+pub fn split_for_parts(store: &mut Store, e: &Expr) -> Result<bool, Halt>
+    ensures { (g : Given) (t : Table) (q : Piece) → Acts g q (λ u k. q ∷ k) (store.old, t) result (store.new, t) }
+{
+    if store.known_field_count().is_some() || !has_parts_to_split(e) {
+        return Ok(false);
+    }
+    split_where(store, true, false)?;
+    Ok(true)
+}

@@ -1143,8 +1143,8 @@ pub output::printf-returns : goal.output::printf-returns
 output::printf-returns g t c =
     rw c.in-Some.is (record { plays = λ m is. done (rw c.in_ok-put_to.was at (c.put_to.ensures.task m c.value-2.new.run.store (At (Doing (p.printf c.args.place (view (names_in m) c.args.x.now) (map (view (names_in m)) c.args.xs.now) (Some (view_redirection (names_in m) c.in-Some.to)))) []) (c.args.run.now.store, c.args.run.now.streams) c.args.world.now (turned {then_ = streamed (view_redirection (names_in m) c.in-Some.to) c.in-Ok.name c.in_ok-text-2.text} (part _ (part _ (quietly (part _ (part _ (quietly (at_once _ _ _) (λ k hid d a. refl)) (c.value.ensures.plays m is) c.in_ok-format.was) (filled_from _ (c.in_ok-format.format ∷ []) (c.in_ok-append.ensures.ok ∙ ap (λ vs. vs ++ c.in_ok-format.format ∷ []) c.new-values.ensures.items) c.fill.ensures.plays m is (Doing (p.printf c.args.place (view (names_in m) c.args.x.now) (map (view (names_in m)) c.args.xs.now) (Some (view_redirection (names_in m) c.in-Some.to)))) (waits_formatted m c.args.place (view (names_in m) c.args.x.now) (map (view (names_in m)) c.args.xs.now) (Some (view_redirection (names_in m) c.in-Some.to)))) c.in_ok-fill.was) (λ k hid d a. printf_target m c.args.place (view (names_in m) c.args.x.now) (map (view (names_in m)) c.args.xs.now) (view_redirection (names_in m) c.in-Some.to) _ (count_formatted (view (names_in m)) (view (names_in m) c.args.x.now) c.args.xs.now _ _ _ (c.in_ok-append.ensures.ok ∙ ap (λ vs. vs ++ c.in_ok-format.format ∷ []) c.new-values.ensures.items) c.in_ok-fill.ensures.count) k _)) (c.value-2.ensures.plays m is) c.in_ok-target.was) (acted (rw c.as_slice-2.ensures.value at (c.formatted_for.ensures m (c.value-2.new.run.store, c.value-2.new.run.streams) (view (names_in m) c.args.x.now) (map (view (names_in m)) c.args.xs.now) (view_redirection (names_in m) c.in-Some.to) (rw c.as_slice-2.ensures.value (count_formatted (view (names_in m)) (view (names_in m) c.args.x.now) c.args.xs.now _ _ _ (c.in_ok-append.ensures.ok ∙ ap (λ vs. vs ++ c.in_ok-format.format ∷ []) c.new-values.ensures.items) c.in_ok-fill.ensures.count))))) c.in_ok-text-2.was) (λ k. ap (λ n. streamed (view_redirection (names_in m) c.in-Some.to) n c.in_ok-text-2.text k) (sym c.in-Ok.ensures))))); owns = c.put_to.ensures.owns })
 
-pub expressions::truth_of-returns-then-level-eq0 : goal.expressions::truth_of-returns-then-level-eq0
-expressions::truth_of-returns-then-level-eq0 g t c =
+pub expressions::general_truth-returns-then-level-eq0 : goal.expressions::general_truth-returns-then-level-eq0
+expressions::general_truth-returns-then-level-eq0 g t c =
     record { val = v.Unset; is = tt; does = record { plays = λ m is. lacking (at_once _ _ _); owns = c.requires } }
 
 pub expressions::general_effect-returns-then-level-eq0 : goal.expressions::general_effect-returns-then-level-eq0
@@ -1283,16 +1283,16 @@ expressions::chain-returns g t c =
       owns = c.loop-next.invariant.owns;
     }
 
-pub expressions::truth_of-returns-in_err-found-in_default-e : goal.expressions::truth_of-returns-in_err-found-in_default-e
-expressions::truth_of-returns-in_err-found-in_default-e g t c =
+pub expressions::general_truth-returns-in_err-found-in_default-e : goal.expressions::general_truth-returns-in_err-found-in_default-e
+expressions::general_truth-returns-in_err-found-in_default-e g t c =
     let e = err_from_is_err_and c.from_residual.result c.from_residual.ensures.1 in rw (e.1, e.2) (record { val = v.Unset; is = tt; does = record { plays = λ m is. stop _ (λ k. refl) (at_once _ _ _) (c.value.ensures.plays m is) c.in_err-found-in_default-e.was; owns = c.value.ensures.owns } })
 
-pub expressions::truth_of-returns-in_ok-found-in_default-e : goal.expressions::truth_of-returns-in_ok-found-in_default-e
-expressions::truth_of-returns-in_ok-found-in_default-e g t c =
+pub expressions::general_truth-returns-in_ok-found-in_default-e : goal.expressions::general_truth-returns-in_ok-found-in_default-e
+expressions::general_truth-returns-in_ok-found-in_default-e g t c =
     record { val = c.in_ok-found-in_default-e.found; is = c.truth.ensures; does = record { plays = λ m is. done (part _ (at_once _ _ _) (c.value.ensures.plays m is) c.in_ok-found-in_default-e.was); owns = c.value.ensures.owns } }
 
-pub expressions::truth_of-returns-in-Compare : goal.expressions::truth_of-returns-in-Compare
-expressions::truth_of-returns-in-Compare g t c =
+pub expressions::general_truth-returns-in-Compare : goal.expressions::general_truth-returns-in-Compare
+expressions::general_truth-returns-in-Compare g t c =
     let h = as_truth {F = g.W.World.follows} {H = g.W.World.has_stopped} {S = g.W.World.stops} {N = g.W.World.open_numbers} {cx = c.args.cx.now} {p = λ m. value (p.compare c.in-Compare.how (view (names_in m) c.in-Compare.x) (view (names_in m) c.in-Compare.y))} {r = c.compare.result} (record { plays = λ m is. rw (c.get.ensures, c.get-in-Compare.ensures) at (c.compare.ensures.plays m is); owns = c.compare.ensures.owns }) in
     record { val = h.val; is = h.is; does = record { plays = λ m is. rw (c.in-Compare.is, view-Compare) (h.does.plays m is); owns = h.does.owns } }
 
@@ -1450,10 +1450,50 @@ expressions::effect-returns-then-is_done g t c =
     let h = c.done_at_once-is_done.ensures.done c.if-is_done.true in
     record { val = h.val; is = tt; does = record { plays = λ m is. acted (there {on = λ (u : Unit {0}). give h.val} {x = tt} (h.gives m c.args.run.now.streams)); owns = c.requires } }
 
+pub expressions::effect-returns-in_err-is_split : goal.expressions::effect-returns-in_err-is_split
+expressions::effect-returns-in_err-is_split g t c =
+    let e = err_from_is_err_and c.from_residual.result c.from_residual.ensures.1 in
+    rw (e.1, e.2) (record { val = v.Unset; is = tt; does = record { plays = λ m is. stop _ (λ k. refl) (at_once _ _ _) (acted (rw (c.done_at_once-is_done.ensures.not_done c.if-is_done.false) at (c.split_for_parts-is_split.ensures m c.args.run.now.streams (value (view (names_in m) c.args.e.now))))) c.in_err-is_split.was; owns = c.requires } })
+
+pub expressions::effect-returns-then-is_split : goal.expressions::effect-returns-then-is_split
+expressions::effect-returns-then-is_split g t c =
+    let h = c.effect_of_split.ensures in
+    record { val = h.val; is = h.is; does = record { plays = λ m is. hands (part _ (at_once _ _ _) (acted (rw (c.done_at_once-is_done.ensures.not_done c.if-is_done.false) at (c.split_for_parts-is_split.ensures m c.args.run.now.streams (value (view (names_in m) c.args.e.now))))) c.in_ok-is_split.was) (h.does.plays m is); owns = h.does.owns } }
+
 pub expressions::effect-returns : goal.expressions::effect-returns
 expressions::effect-returns g t c =
     let h = c.general_effect.ensures in
+    record { val = h.val; is = h.is; does = record { plays = λ m is. hands (part _ (at_once _ _ _) (acted (rw (c.done_at_once-is_done.ensures.not_done c.if-is_done.false) at (c.split_for_parts-is_split.ensures m c.args.run.now.streams (value (view (names_in m) c.args.e.now))))) c.in_ok-is_split.was) (h.does.plays m is); owns = h.does.owns } }
+
+pub expressions::effect_of_split-returns-then-is_done : goal.expressions::effect_of_split-returns-then-is_done
+expressions::effect_of_split-returns-then-is_done g t c =
+    let h = c.done_at_once-is_done.ensures.done c.if-is_done.true in
+    record { val = h.val; is = tt; does = record { plays = λ m is. acted (there {on = λ (u : Unit {0}). give h.val} {x = tt} (h.gives m c.args.run.now.streams)); owns = c.requires } }
+
+pub expressions::effect_of_split-returns : goal.expressions::effect_of_split-returns
+expressions::effect_of_split-returns g t c =
+    let h = c.general_effect.ensures in
     record { val = h.val; is = h.is; does = record { plays = λ m is. rw (c.done_at_once-is_done.ensures.not_done c.if-is_done.false) at (h.does.plays m is); owns = h.does.owns } }
+
+pub expressions::truth_of-returns-in_err-is_split : goal.expressions::truth_of-returns-in_err-is_split
+expressions::truth_of-returns-in_err-is_split g t c =
+    let e = err_from_is_err_and c.from_residual.result c.from_residual.ensures.1 in
+    rw (e.1, e.2) (record { val = v.Unset; is = tt; does = record { plays = λ m is. stop _ (λ k. refl) (at_once _ _ _) (acted (c.split_for_parts-is_split.ensures m c.args.run.now.streams (value (view (names_in m) c.args.e.now)))) c.in_err-is_split.was; owns = c.requires } })
+
+pub expressions::truth_of-returns-then-is_split : goal.expressions::truth_of-returns-then-is_split
+expressions::truth_of-returns-then-is_split g t c =
+    let h = c.truth_of_split.ensures in
+    record { val = h.val; is = h.is; does = record { plays = λ m is. hands (part _ (at_once _ _ _) (acted (c.split_for_parts-is_split.ensures m c.args.run.now.streams (value (view (names_in m) c.args.e.now)))) c.in_ok-is_split.was) (h.does.plays m is); owns = h.does.owns } }
+
+pub expressions::truth_of-returns : goal.expressions::truth_of-returns
+expressions::truth_of-returns g t c =
+    let h = c.general_truth.ensures in
+    record { val = h.val; is = h.is; does = record { plays = λ m is. hands (part _ (at_once _ _ _) (acted (c.split_for_parts-is_split.ensures m c.args.run.now.streams (value (view (names_in m) c.args.e.now)))) c.in_ok-is_split.was) (h.does.plays m is); owns = h.does.owns } }
+
+pub expressions::truth_of_split-returns-in-Some : goal.expressions::truth_of_split-returns-in-Some
+expressions::truth_of_split-returns-in-Some g t c =
+    let h = c.in-Some.ensures in
+    record { val = h.val; is = sym h.is; does = record { plays = λ m is. acted (there {on = λ (x : Bool). give h.val} {x = c.in-Some.known} (h.there m c.args.run.now.streams)); owns = c.requires } }
 
 pub expressions::evaluate-returns-in_err-found-in-Match : goal.expressions::evaluate-returns-in_err-found-in-Match
 expressions::evaluate-returns-in_err-found-in-Match g t c =
@@ -1463,8 +1503,8 @@ pub expressions::evaluate-returns-in_ok-found-in-Match : goal.expressions::evalu
 expressions::evaluate-returns-in_ok-found-in-Match g t c =
     rw c.truth_value.ensures (record { plays = λ m is. rw (c.in-Match.is, view-Match) (done (part _ (at_once _ _ _) (rw c.get-in-Match.ensures at (c.matches.ensures.plays m is)) c.in_ok-found-in-Match.was)); owns = c.matches.ensures.owns })
 
-pub expressions::truth_of-returns-in-Match : goal.expressions::truth_of-returns-in-Match
-expressions::truth_of-returns-in-Match g t c =
+pub expressions::general_truth-returns-in-Match : goal.expressions::general_truth-returns-in-Match
+expressions::general_truth-returns-in-Match g t c =
     let h = as_truth {F = g.W.World.follows} {H = g.W.World.has_stopped} {S = g.W.World.stops} {N = g.W.World.open_numbers} {cx = c.args.cx.now} {p = λ m. value (p.matched c.in-Match.place (view (names_in m) c.in-Match.x) (view_ere (names_in m) c.in-Match.pattern))} {r = c.matches.result} (record { plays = λ m is. rw c.get-in-Match.ensures at (c.matches.ensures.plays m is); owns = c.matches.ensures.owns }) in
     record { val = h.val; is = h.is; does = record { plays = λ m is. rw (c.in-Match.is, view-Match) (h.does.plays m is); owns = h.does.owns } }
 

@@ -20,13 +20,22 @@ abbrev pub decreases-expressions::number : goal.decreases-expressions::number
 decreases-expressions::number g l = 1 + 16 * l.level
 
 abbrev pub decreases-expressions::truth_of : goal.decreases-expressions::truth_of
-decreases-expressions::truth_of g l = 1 + 16 * l.level
+decreases-expressions::truth_of g l = 3 + 16 * l.level
 
 abbrev pub decreases-expressions::compare : goal.decreases-expressions::compare
 decreases-expressions::compare g l = 1 + 16 * l.level
 
 abbrev pub decreases-expressions::effect : goal.decreases-expressions::effect
-decreases-expressions::effect g l = 2 + 16 * l.level
+decreases-expressions::effect g l = 3 + 16 * l.level
+
+abbrev pub decreases-expressions::truth_of_split : goal.decreases-expressions::truth_of_split
+decreases-expressions::truth_of_split g l = 2 + 16 * l.level
+
+abbrev pub decreases-expressions::general_truth : goal.decreases-expressions::general_truth
+decreases-expressions::general_truth g l = 1 + 16 * l.level
+
+abbrev pub decreases-expressions::effect_of_split : goal.decreases-expressions::effect_of_split
+decreases-expressions::effect_of_split g l = 2 + 16 * l.level
 
 abbrev pub decreases-expressions::general_effect : goal.decreases-expressions::general_effect
 decreases-expressions::general_effect g l = 1 + 16 * l.level
@@ -65,7 +74,7 @@ abbrev pub decreases-expressions::any : goal.decreases-expressions::any
 decreases-expressions::any g l = 1 + 16 * l.level
 
 abbrev pub decreases-expressions::choose : goal.decreases-expressions::choose
-decreases-expressions::choose g l = 2 + 16 * l.level
+decreases-expressions::choose g l = 4 + 16 * l.level
 
 abbrev pub decreases-targets::field : goal.decreases-targets::field
 decreases-targets::field g l = 1 + 16 * l.level
@@ -113,10 +122,10 @@ abbrev pub decreases-statements::statement : goal.decreases-statements::statemen
 decreases-statements::statement g l = 0 + 16 * l.level
 
 abbrev pub decreases-statements::perform : goal.decreases-statements::perform
-decreases-statements::perform g l = 6 + 16 * l.level
+decreases-statements::perform g l = 7 + 16 * l.level
 
 abbrev pub decreases-statements::plain : goal.decreases-statements::plain
-decreases-statements::plain g l = 3 + 16 * l.level
+decreases-statements::plain g l = 4 + 16 * l.level
 
 abbrev pub decreases-statements::delete : goal.decreases-statements::delete
 decreases-statements::delete g l = 2 + 16 * l.level
@@ -128,25 +137,25 @@ abbrev pub decreases-statements::give_back : goal.decreases-statements::give_bac
 decreases-statements::give_back g l = 1 + 16 * l.level
 
 abbrev pub decreases-statements::when : goal.decreases-statements::when
-decreases-statements::when g l = 2 + 16 * l.level
+decreases-statements::when g l = 4 + 16 * l.level
 
 abbrev pub decreases-statements::either : goal.decreases-statements::either
-decreases-statements::either g l = 2 + 16 * l.level
+decreases-statements::either g l = 4 + 16 * l.level
 
 abbrev pub decreases-loops::holds : goal.decreases-loops::holds
-decreases-loops::holds g l = 2 + 16 * l.level
+decreases-loops::holds g l = 4 + 16 * l.level
 
 abbrev pub decreases-loops::behind : goal.decreases-loops::behind
-decreases-loops::behind g l = 3 + 16 * l.level
+decreases-loops::behind g l = 4 + 16 * l.level
 
 abbrev pub decreases-loops::turns : goal.decreases-loops::turns
-decreases-loops::turns g l = 4 + 16 * l.level
+decreases-loops::turns g l = 5 + 16 * l.level
 
 abbrev pub decreases-loops::turn_first : goal.decreases-loops::turn_first
-decreases-loops::turn_first g l = 5 + 16 * l.level
+decreases-loops::turn_first g l = 6 + 16 * l.level
 
 abbrev pub decreases-loops::first_then : goal.decreases-loops::first_then
-decreases-loops::first_then g l = 5 + 16 * l.level
+decreases-loops::first_then g l = 6 + 16 * l.level
 
 abbrev pub decreases-loops::over : goal.decreases-loops::over
 decreases-loops::over g l = 1 + 16 * l.level
@@ -206,7 +215,7 @@ abbrev pub invariant-loops::over-loop-key : goal.invariant-loops::over-loop-key
 invariant-loops::over-loop-key g l = Along g.W.World.follows g.W.World.has_stopped g.W.World.stops g.W.World.open_numbers l.cx (λ m. Do (Keys l.place (variable_of (names_in m) l.variable) (view_statement (names_in m) l.inner) l.keys)) (λ m k. Do (Keys l.place (variable_of (names_in m) l.variable) (view_statement (names_in m) l.inner) (drop l.key-index l.keys)) ∷ k) (l.fn.run.store, l.fn.run.streams) l.fn.world (l.run.store, l.run.streams) l.world
 
 abbrev pub decreases-loops::while_loop : goal.decreases-loops::while_loop
-decreases-loops::while_loop g l = 5 + 16 * l.level
+decreases-loops::while_loop g l = 6 + 16 * l.level
 
 abbrev pub invariant-inputs::from_commands-loop-next : goal.invariant-inputs::from_commands-loop-next
 invariant-inputs::from_commands-loop-next g l = Along g.W.World.follows g.W.World.has_stopped g.W.World.stops g.W.World.open_numbers l.cx (λ m. value (p.pipe (view (names_in m) l.x) (view_pipes (names_in m) l.xs))) (λ m k. At (Pipes_of (view_pipes (names_in m) (drop l.next-index l.xs))) (l.so_far ∷ []) ∷ k) (l.fn.run.store, l.fn.run.streams) l.fn.world (l.run.store, l.run.streams) l.world
