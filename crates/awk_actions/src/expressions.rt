@@ -101,6 +101,7 @@ pub fn truth_of<W: World>(
 
 /// The same, once the record was split.
 #[cycle(run)]
+#[inline(never)]
 fn truth_of_split<W: World>(
     cx: &Context<'_>,
     e: &Expr,
@@ -192,6 +193,7 @@ pub fn effect<W: World>(
 
 /// The same, once the record was split.
 #[cycle(run)]
+#[inline(never)]
 fn effect_of_split<W: World>(
     cx: &Context<'_>,
     e: &Expr,

@@ -349,13 +349,25 @@ fn has_parts_to_split(e: &Expr) -> bool {
     }
 }
 
-/// Splits the record where that brings more of an expression to hand, and answers whether it did: plain awk does not see it.
-pub fn split_for_parts(store: &mut Store, e: &Expr) -> Result<bool, Halt>
+/// Splits the record where it is not split, and answers whether it did.
+#[inline(never)]
+fn split_now(store: &mut Store) -> Result<bool, Halt>
     ensures { (g : Given) (t : Table) (q : Piece) → Acts g q (λ u k. q ∷ k) (store.old, t) result (store.new, t) }
 {
-    if store.known_field_count().is_some() || !has_parts_to_split(e) {
+    if store.known_field_count().is_some() {
         return Ok(false);
     }
     split_where(store, true, false)?;
     Ok(true)
+}
+
+/// Splits the record where that brings more of an expression to hand, and answers whether it did: plain awk does not see it.
+#[inline(always)]
+pub fn split_for_parts(store: &mut Store, e: &Expr) -> Result<bool, Halt>
+    ensures { (g : Given) (t : Table) (q : Piece) → Acts g q (λ u k. q ∷ k) (store.old, t) result (store.new, t) }
+{
+    if !has_parts_to_split(e) {
+        return Ok(false);
+    }
+    split_now(store)
 }

@@ -256,6 +256,7 @@ fn stepped_target(store: &mut Store, line: &mut Line, how: Step, target: &Target
 
 /// Does the whole of an assignment whose parts are at hand. Else it does nothing, and answers `false`;
 /// so also where there is a fault, which has its place in the general way.
+#[inline(always)]
 pub fn done_at_once(alloc: Global, store: &mut Store, line: &mut Line, e: &Expr) -> bool
     ensures done { result ≡ true → IsDone (λ names. view names e.now) store.old store.new }
     ensures not_done { result ≡ false → store.new ≡ store.old }

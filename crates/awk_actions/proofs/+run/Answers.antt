@@ -1283,13 +1283,13 @@ expressions::chain-returns g t c =
       owns = c.loop-next.invariant.owns;
     }
 
-pub expressions::general_truth-returns-in_err-found-in_default-e : goal.expressions::general_truth-returns-in_err-found-in_default-e
-expressions::general_truth-returns-in_err-found-in_default-e g t c =
-    let e = err_from_is_err_and c.from_residual.result c.from_residual.ensures.1 in rw (e.1, e.2) (record { val = v.Unset; is = tt; does = record { plays = λ m is. stop _ (λ k. refl) (at_once _ _ _) (c.value.ensures.plays m is) c.in_err-found-in_default-e.was; owns = c.value.ensures.owns } })
+pub expressions::general_truth-returns-in_err-found-in_default : goal.expressions::general_truth-returns-in_err-found-in_default
+expressions::general_truth-returns-in_err-found-in_default g t c =
+    let e = err_from_is_err_and c.from_residual.result c.from_residual.ensures.1 in rw (e.1, e.2) (record { val = v.Unset; is = tt; does = record { plays = λ m is. stop _ (λ k. refl) (at_once _ _ _) (c.value.ensures.plays m is) c.in_err-found-in_default.was; owns = c.value.ensures.owns } })
 
-pub expressions::general_truth-returns-in_ok-found-in_default-e : goal.expressions::general_truth-returns-in_ok-found-in_default-e
-expressions::general_truth-returns-in_ok-found-in_default-e g t c =
-    record { val = c.in_ok-found-in_default-e.found; is = c.truth.ensures; does = record { plays = λ m is. done (part _ (at_once _ _ _) (c.value.ensures.plays m is) c.in_ok-found-in_default-e.was); owns = c.value.ensures.owns } }
+pub expressions::general_truth-returns-in_ok-found-in_default : goal.expressions::general_truth-returns-in_ok-found-in_default
+expressions::general_truth-returns-in_ok-found-in_default g t c =
+    record { val = c.in_ok-found-in_default.found; is = c.truth.ensures; does = record { plays = λ m is. done (part _ (at_once _ _ _) (c.value.ensures.plays m is) c.in_ok-found-in_default.was); owns = c.value.ensures.owns } }
 
 pub expressions::general_truth-returns-in-Compare : goal.expressions::general_truth-returns-in-Compare
 expressions::general_truth-returns-in-Compare g t c =
@@ -1453,17 +1453,17 @@ expressions::effect-returns-then-is_done g t c =
 pub expressions::effect-returns-in_err-is_split : goal.expressions::effect-returns-in_err-is_split
 expressions::effect-returns-in_err-is_split g t c =
     let e = err_from_is_err_and c.from_residual.result c.from_residual.ensures.1 in
-    rw (e.1, e.2) (record { val = v.Unset; is = tt; does = record { plays = λ m is. stop _ (λ k. refl) (at_once _ _ _) (acted (rw (c.done_at_once-is_done.ensures.not_done c.if-is_done.false) at (c.split_for_parts-is_split.ensures m c.args.run.now.streams (value (view (names_in m) c.args.e.now))))) c.in_err-is_split.was; owns = c.requires } })
+    rw (e.1, e.2) (record { val = v.Unset; is = tt; does = record { plays = λ m is. stop _ (λ k. refl) (at_once _ _ _) (acted (rw (c.done_at_once-is_done.ensures.not_done c.if-is_done.false) at (c.split_for_parts.ensures m c.args.run.now.streams (value (view (names_in m) c.args.e.now))))) c.in_err-is_split.was; owns = c.requires } })
 
 pub expressions::effect-returns-then-is_split : goal.expressions::effect-returns-then-is_split
 expressions::effect-returns-then-is_split g t c =
     let h = c.effect_of_split.ensures in
-    record { val = h.val; is = h.is; does = record { plays = λ m is. hands (part _ (at_once _ _ _) (acted (rw (c.done_at_once-is_done.ensures.not_done c.if-is_done.false) at (c.split_for_parts-is_split.ensures m c.args.run.now.streams (value (view (names_in m) c.args.e.now))))) c.in_ok-is_split.was) (h.does.plays m is); owns = h.does.owns } }
+    record { val = h.val; is = h.is; does = record { plays = λ m is. hands (part _ (at_once _ _ _) (acted (rw (c.done_at_once-is_done.ensures.not_done c.if-is_done.false) at (c.split_for_parts.ensures m c.args.run.now.streams (value (view (names_in m) c.args.e.now))))) c.in_ok-is_split.was) (h.does.plays m is); owns = h.does.owns } }
 
 pub expressions::effect-returns : goal.expressions::effect-returns
 expressions::effect-returns g t c =
     let h = c.general_effect.ensures in
-    record { val = h.val; is = h.is; does = record { plays = λ m is. hands (part _ (at_once _ _ _) (acted (rw (c.done_at_once-is_done.ensures.not_done c.if-is_done.false) at (c.split_for_parts-is_split.ensures m c.args.run.now.streams (value (view (names_in m) c.args.e.now))))) c.in_ok-is_split.was) (h.does.plays m is); owns = h.does.owns } }
+    record { val = h.val; is = h.is; does = record { plays = λ m is. hands (part _ (at_once _ _ _) (acted (rw (c.done_at_once-is_done.ensures.not_done c.if-is_done.false) at (c.split_for_parts.ensures m c.args.run.now.streams (value (view (names_in m) c.args.e.now))))) c.in_ok-is_split.was) (h.does.plays m is); owns = h.does.owns } }
 
 pub expressions::effect_of_split-returns-then-is_done : goal.expressions::effect_of_split-returns-then-is_done
 expressions::effect_of_split-returns-then-is_done g t c =
@@ -1478,17 +1478,17 @@ expressions::effect_of_split-returns g t c =
 pub expressions::truth_of-returns-in_err-is_split : goal.expressions::truth_of-returns-in_err-is_split
 expressions::truth_of-returns-in_err-is_split g t c =
     let e = err_from_is_err_and c.from_residual.result c.from_residual.ensures.1 in
-    rw (e.1, e.2) (record { val = v.Unset; is = tt; does = record { plays = λ m is. stop _ (λ k. refl) (at_once _ _ _) (acted (c.split_for_parts-is_split.ensures m c.args.run.now.streams (value (view (names_in m) c.args.e.now)))) c.in_err-is_split.was; owns = c.requires } })
+    rw (e.1, e.2) (record { val = v.Unset; is = tt; does = record { plays = λ m is. stop _ (λ k. refl) (at_once _ _ _) (acted (c.split_for_parts.ensures m c.args.run.now.streams (value (view (names_in m) c.args.e.now)))) c.in_err-is_split.was; owns = c.requires } })
 
 pub expressions::truth_of-returns-then-is_split : goal.expressions::truth_of-returns-then-is_split
 expressions::truth_of-returns-then-is_split g t c =
     let h = c.truth_of_split.ensures in
-    record { val = h.val; is = h.is; does = record { plays = λ m is. hands (part _ (at_once _ _ _) (acted (c.split_for_parts-is_split.ensures m c.args.run.now.streams (value (view (names_in m) c.args.e.now)))) c.in_ok-is_split.was) (h.does.plays m is); owns = h.does.owns } }
+    record { val = h.val; is = h.is; does = record { plays = λ m is. hands (part _ (at_once _ _ _) (acted (c.split_for_parts.ensures m c.args.run.now.streams (value (view (names_in m) c.args.e.now)))) c.in_ok-is_split.was) (h.does.plays m is); owns = h.does.owns } }
 
 pub expressions::truth_of-returns : goal.expressions::truth_of-returns
 expressions::truth_of-returns g t c =
     let h = c.general_truth.ensures in
-    record { val = h.val; is = h.is; does = record { plays = λ m is. hands (part _ (at_once _ _ _) (acted (c.split_for_parts-is_split.ensures m c.args.run.now.streams (value (view (names_in m) c.args.e.now)))) c.in_ok-is_split.was) (h.does.plays m is); owns = h.does.owns } }
+    record { val = h.val; is = h.is; does = record { plays = λ m is. hands (part _ (at_once _ _ _) (acted (c.split_for_parts.ensures m c.args.run.now.streams (value (view (names_in m) c.args.e.now)))) c.in_ok-is_split.was) (h.does.plays m is); owns = h.does.owns } }
 
 pub expressions::truth_of_split-returns-in-Some : goal.expressions::truth_of_split-returns-in-Some
 expressions::truth_of_split-returns-in-Some g t c =
