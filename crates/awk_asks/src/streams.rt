@@ -1,17 +1,24 @@
 // The streams that a run has open.
-ghost use Rattle.std.specs.Prelude.{◌≡◌, ◌<◌, [], ◌∷◌, ◌++◌, true, false, None, Some, OnOk, OnErr, IfOk, IfErr, IsOkUnless, ◌⊎◌, drop, slice_get, option_map};
+ghost use Rattle.std.specs.Prelude.{◌≡◌, ◌<◌, [], ◌∷◌, ◌++◌, ◌&&◌, nat_eq, true, false, None, Some, OnOk, OnErr, IfOk, IfErr, IsOkUnless, ◌⊎◌, drop, slice_get, option_map};
 ghost use Rattle.awk_fields.specs.Heads.{head, too_long};
 ghost use Rattle.awk_fields.specs.Takes.{Input, Takes};
 ghost use Rattle.awk_machine.specs.Closing as spec;
-ghost use Rattle.box_world.specs.Events.{find_stream};
+ghost use Rattle.box_world.specs.Events.{class_number, find_stream};
+ghost use Rattle.std.proofs.Common.{ap};
+ghost use Rattle.std.specs.Cmp as Cmp;
+ghost use Rattle.std.specs.Cmp.{on_equiv, on_per};
+ghost use Rattle.std.specs.Cmp.Lexicographic.{bytes_decides, nat_list_eq_equiv};
+ghost use Rattle.std.specs.Str.{bytes_eq};
 ghost use Rattle.awk_asks.specs.Closings.{first_of};
 ghost use Rattle.awk_asks.specs.Tables.{kind, open_of, entries_without, find_input, with_input, TakesOf};
 
 use awk_fields::reader::{Reader, Taken};
+use awk_lib::is_same;
 use awk_text::Memory;
 use awk_text::fault::Fault;
 use indexmap::IndexMap;
 use std::alloc::Global;
+use std::hash::{Hash, Hasher};
 use std::marker::Model;
 
 /// What sort of stream a text names. Streams of two classes are two, whatever their texts.
@@ -24,11 +31,36 @@ pub enum Class {
     OutputCommand,
 }
 
-/// The name of a stream that the script opens.
-#[derive(PartialEq, Eq, Hash, Drop)]
+/// The name of a stream that the script opens. It is looked up for each record that is read and each text that is put, so it is
+/// hashed at once and compared by words, as a derived `Hash` and `PartialEq` would not do.
+#[derive(Drop)]
 pub struct Name {
     pub class: Class,
     pub text: Vec<u8>,
+}
+
+impl PartialEq for Name {
+    ghost eq = { λ x y. nat_eq (class_number (kind x.class)) (class_number (kind y.class)) && bytes_eq x.text.items y.text.items };
+
+    ghost laws = { on_per (λ n. class_number (kind n.class) ∷ n.text.items) (Cmp.partial_equiv_from_equiv nat_list_eq_equiv) };
+
+    fn eq(&self, other: &Self) -> bool {
+        self.class == other.class && is_same(self.text.as_slice(), other.text.as_slice())
+    }
+}
+
+impl Eq for Name {
+    ghost laws = { on_equiv (λ n. class_number (kind n.class) ∷ n.text.items) nat_list_eq_equiv };
+}
+
+impl Hash for Name {
+    ghost hash_input = { λ n. n.text.items ∷ [] };
+
+    ghost respects_eq = { λ x y h. ap (λ l. drop 1 l ∷ []) ((bytes_decides (class_number (kind x.class) ∷ x.text.items) (class_number (kind y.class) ∷ y.text.items)).0 h) };
+
+    fn hash<H: Hasher>(&self, state: &mut H) {
+        state.write(self.text.as_slice());
+    }
 }
 
 /// An open stream: its number in the world, and what was read of it.
