@@ -68,7 +68,7 @@ fn short_word_len(text: &[u8]) -> usize
     text.len()
 }
 
-/// How many bytes stand before the first blank. Four are looked at in each turn, which halves the time of a word.
+/// How many bytes stand before the first blank. Four are looked at in each turn, so that the loop itself costs less.
 fn word_len(text: &[u8]) -> usize
     ensures word { result ≡ position_or_len is_blank text.now }
     ensures inside { result ≤ length text.now }
