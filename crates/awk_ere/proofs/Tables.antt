@@ -156,6 +156,13 @@ module _ (sets : List (List Bool)) (program : List Step) (s : List ℕ) (cells :
         let r = h.1.right state (slice_index s k) h.2 byte known in
         (h.0, h.1, known, front_step sets program s e i k (steps_of h.0 state) (steps_of h.0 (cell cells state (slice_index s k))) le lt h.3 r)
 
+    -- the same, where the cell was read in the row of the state
+    pub at_row : slice_index s k < 256 → (row : List ℕ) → row ≡ slice_index_or cells state [] → (next : ℕ) → next ≡ slice_index row (slice_index s k) → next < length cells
+        → IsAt sets program s cells accepts ends e i (k + 1) next
+    at_row byte row is next leads known =
+        let same : next ≡ cell cells state (slice_index s k) = leads ∙ ap (λ r. slice_index r (slice_index s k)) is in
+        subst (λ n. IsAt sets program s cells accepts ends e i (k + 1) n) (sym same) (at_next byte (omega (arith, same, known)))
+
     pub at_turn : (best : Option ℕ) → IsLongest sets program s e i k best → IsLongest sets program s e i (k + 1) (cond (slice_index_or accepts state false) (Some k) best)
     at_turn best had =
         longest_turn sets program s e i k (slice_index_or accepts state false)

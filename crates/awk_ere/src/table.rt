@@ -48,7 +48,8 @@ fn longest(
     Some(noted(ends[state], text.len(), best))
 }
 
-/// Whether a match from `from` ends anywhere; `None` where the table does not say.
+/// Whether a match from `from` ends anywhere; `None` where the table does not say. Most bytes leave a search where it is, and
+/// then the next look at the table need not wait for this one.
 fn ends_somewhere(
     sets: &[Set],
     program: &[Step],
@@ -64,14 +65,20 @@ fn ends_somewhere(
     requires at { IsAt sets.now program.now text.now cells.now accepts.now ends.now entry from from first }
     ensures { IfSome result (λ b. IsTrue b ↔ EndsSomewhere sets.now program.now text.now entry from) }
 {
-    let mut state = first;
+    if accepts[first] {
+        return Some(true);
+    }
+    let (mut state, mut row) = (first, &cells[first]);
     for place in from..text.len() {
-        if accepts[state] {
-            return Some(true);
-        }
-        state = cells[state][text[place] as usize] as usize;
-        if state >= cells.len() {
-            return None;
+        let next = row[text[place] as usize] as usize;
+        if next != state {
+            if next >= cells.len() {
+                return None;
+            }
+            if accepts[next] && place + 1 < text.len() {
+                return Some(true);
+            }
+            (state, row) = (next, &cells[next]);
         }
     }
     Some(ends[state])

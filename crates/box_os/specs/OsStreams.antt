@@ -12,7 +12,7 @@ is_input stream = false
 
 abbrev pub is_command : Stream → Bool
 is_command (InputCommand child) = true
-is_command (OutputCommand child) = true
+is_command (OutputCommand child pipe) = true
 is_command stream = false
 
 -- whether the mode opens an input

@@ -7,6 +7,7 @@ use crate::refusals::refused;
 use box_world::ask::{Reply, Stop};
 use std::alloc::{AllocError, Global};
 use std::io;
+use std::io::PipeWriter;
 use std::process::{Child, Command, ExitStatus, Stdio};
 
 /// The status that a command ended with, or 256 where a signal ended it.
@@ -47,17 +48,19 @@ pub fn listen_to(rt: &HostRuntime, alloc: Global, text: &str) -> io::Result<Chil
     shell(alloc, text)?.stdout(Stdio::piped()).spawn(rt)
 }
 
-/// Starts `sh -c TEXT`, which is written to.
-pub fn speak_to(rt: &HostRuntime, alloc: Global, text: &str) -> io::Result<Child> {
-    shell(alloc, text)?.stdin(Stdio::piped()).spawn(rt)
+/// Starts `sh -c TEXT`, which is written to by the pipe that comes with it. A pipe of the child's own would hold signals back
+/// round each write, with three calls more of the system; a program ignores SIGPIPE from its start, so that is not needed.
+pub fn speak_to(rt: &HostRuntime, alloc: Global, text: &str) -> io::Result<(Child, PipeWriter)> {
+    let (end, pipe) = io::pipe(rt)?;
+    let child = shell(alloc, text)?.stdin(end).spawn(rt)?;
+    Ok((child, pipe))
 }
 
-/// Closes this process's end of the command's pipe, and waits for its end.
+/// Closes this process's end of the pipe from a command, and waits for its end.
 pub fn wait_for(mut child: Child) -> Reply
     ensures { IsRunning result }
 {
     drop(child.stdout.take());
-    // the pipe to its input is closed by this call
     match child.wait() {
         Ok(status) => Reply::Status(number_of(status)),
         Err(_) => Reply::Failed,

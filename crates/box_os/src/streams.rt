@@ -12,6 +12,7 @@ use box_world::ask::{Mode, Reply, Stop};
 use std::alloc::Global;
 use std::fs::{File, OpenOptions};
 use std::io;
+use std::io::PipeWriter;
 use std::process::Child;
 
 /// What a number stands for. The system closes each for the programs that are started, so that no
@@ -24,8 +25,8 @@ pub enum Stream {
     OutputFile(File),
     /// A command whose output is read.
     InputCommand(Child),
-    /// A command that is written to.
-    OutputCommand(Child),
+    /// A command that is written to, and the pipe to it.
+    OutputCommand(Child, PipeWriter),
 }
 
 /// Opens the file of the name, or starts the command.
@@ -41,7 +42,10 @@ pub fn open_stream(rt: &HostRuntime, alloc: Global, mode: Mode, text: &str) -> i
             Ok(Stream::OutputFile(file))
         }
         Mode::RunIn => Ok(Stream::InputCommand(listen_to(rt, alloc, text)?)),
-        Mode::RunOut => Ok(Stream::OutputCommand(speak_to(rt, alloc, text)?)),
+        Mode::RunOut => {
+            let (child, pipe) = speak_to(rt, alloc, text)?;
+            Ok(Stream::OutputCommand(child, pipe))
+        }
     }
 }
 
@@ -59,7 +63,7 @@ impl Stream {
                 Some(pipe) => read_from(alloc, pipe),
                 None => Ok(Reply::Failed),
             },
-            Stream::OutputFile(_) | Stream::OutputCommand(_) => Ok(Reply::Failed),
+            Stream::OutputFile(_) | Stream::OutputCommand(_, _) => Ok(Reply::Failed),
         }
     }
 
@@ -70,10 +74,7 @@ impl Stream {
     {
         match self {
             Stream::OutputFile(file) => write_out(file, bytes),
-            Stream::OutputCommand(child) => match &mut child.stdin {
-                Some(pipe) => write_out(pipe, bytes),
-                None => Reply::Failed,
-            },
+            Stream::OutputCommand(_, pipe) => write_out(pipe, bytes),
             Stream::InputFile(_) | Stream::InputCommand(_) => Reply::Failed,
         }
     }
@@ -86,7 +87,11 @@ impl Stream {
     {
         match self {
             Stream::InputFile(_) | Stream::OutputFile(_) => Reply::Done,
-            Stream::InputCommand(child) | Stream::OutputCommand(child) => wait_for(child),
+            Stream::InputCommand(child) => wait_for(child),
+            Stream::OutputCommand(child, pipe) => {
+                drop(pipe);
+                wait_for(child)
+            }
         }
     }
 }
