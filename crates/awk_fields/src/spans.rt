@@ -1,6 +1,7 @@
 // Fields as parts of a text.
 ghost use Rattle.std.specs.Prelude.{◌≡◌, ◌≢◌, ◌+◌, ◌≤◌, ◌<◌, List, ℕ, [], true, length, map, All, IfOk, IfSome};
 ghost use Rattle.std.specs.List.{position_or_len, prefix_len, slice_split};
+ghost use Rattle.std.specs.Simd.Lanes.{mask_l};
 ghost use Rattle.awk_ere.specs.Best.{Best};
 ghost use Rattle.awk_ere.specs.Pattern.{Pattern};
 ghost use Rattle.awk_ere.specs.Spelled.{Finds};
@@ -15,6 +16,7 @@ use awk_text::Memory;
 use awk_text::octets::Octets;
 use memchr::{memchr, memchr2};
 use std::alloc::Global;
+use std::simd::prelude::*;
 
 /// A part of a text, from its start to before its end.
 #[derive(Clone, Copy, Drop)]
@@ -68,28 +70,30 @@ fn short_word_len(text: &[u8]) -> usize
     text.len()
 }
 
-/// How many bytes stand before the first blank. Four are looked at in each turn, so that the loop itself costs less.
+/// A bit for each byte that is a blank.
+#[inline(always)]
+fn blanks(bytes: u8x16) -> u64
+    ensures { result ≡ mask_l (map is_blank bytes) }
+{
+    (bytes.simd_eq(u8x16::splat(b' '))
+        | bytes.simd_eq(u8x16::splat(b'\t'))
+        | bytes.simd_eq(u8x16::splat(b'\n'))).to_bitmask()
+}
+
+/// How many bytes stand before the first blank. Sixteen are looked at in each turn.
 fn word_len(text: &[u8]) -> usize
     ensures word { result ≡ position_or_len is_blank text.now }
     ensures inside { result ≤ length text.now }
 {
-    let (mut passed, mut rest) = (0, text);
-    while let [a, b, c, d, more @ ..] = rest {
-        if is_blank(*a) {
-            return passed;
+    let mut passed = 0;
+    while text.len() - passed >= 16 {
+        let found = blanks(u8x16::from_slice(&text[passed..]));
+        if found != 0 {
+            return passed + found.trailing_zeros() as usize;
         }
-        if is_blank(*b) {
-            return passed + 1;
-        }
-        if is_blank(*c) {
-            return passed + 2;
-        }
-        if is_blank(*d) {
-            return passed + 3;
-        }
-        (passed, rest) = (passed + 4, more);
+        passed += 16;
     }
-    passed + short_word_len(rest)
+    passed + short_word_len(&text[passed..])
 }
 
 /// The words of the text.

@@ -1,10 +1,10 @@
-use Rattle.std.proofs.Common.{◌≡◌, ◌+◌, length}
+use Rattle.std.proofs.Common.{◌≡◌, ◌+◌, ◌-◌, ◌≤◌, length, drop}
 use Rattle.std.specs.List.{position_or_len}
 use Rattle.awk_fields.specs.Fields.{is_blank}
 use Rattle.awk_fields.proofs.spans.word_len.Given as goal
 
-abbrev pub invariant-loop-rest : goal.invariant-loop-rest
-invariant-loop-rest l = (l.passed + position_or_len is_blank l.rest ≡ position_or_len is_blank l.text) × (l.passed + length l.rest ≡ length l.text)
+abbrev pub invariant-loop-passed : goal.invariant-loop-passed
+invariant-loop-passed l = (l.passed + position_or_len is_blank (drop l.passed l.text) ≡ position_or_len is_blank l.text) × (l.passed ≤ length l.text)
 
-abbrev pub decreases-loop-rest : goal.decreases-loop-rest
-decreases-loop-rest l = length l.rest
+abbrev pub decreases-loop-passed : goal.decreases-loop-passed
+decreases-loop-passed l = length l.text - l.passed
