@@ -1,5 +1,7 @@
 // Values whose texts are lent. Nothing here takes memory.
-ghost use Rattle.std.specs.Prelude.{◌≡◌};
+ghost use Rattle.std.specs.Prelude.{◌≡◌, Ok, Some, IfSome};
+ghost use Rattle.awk_text.specs.Arithmetic.{ranged};
+ghost use Rattle.awk_text.specs.Numerals.{looks_numeric, number};
 ghost use Rattle.awk_text.specs.Values.{number_of, numeric, order, text_of, truth};
 ghost use Rattle.awk_lent.specs.Lents.{lent_value};
 
@@ -8,6 +10,27 @@ use awk_text::numeral;
 use awk_text::value::Value;
 use itoa::Buffer;
 use std::cmp::Ordering;
+
+/// The most digits of a number that is read without a look at its range.
+const FEW_DIGITS: usize = 18;
+
+/// The number that the text is where it is a few digits and nothing else; `None` where it is not.
+fn few_digits(text: &[u8]) -> Option<i64>
+    ensures number { IfSome result (λ n. ranged (number text.now) ≡ Ok n) }
+    ensures looks { IfSome result (λ n. looks_numeric text.now ≡ Some n) }
+{
+    if text.is_empty() || text.len() > FEW_DIGITS {
+        return None;
+    }
+    let mut value: u64 = 0;
+    for b in text {
+        if !b.is_ascii_digit() {
+            return None;
+        }
+        value = value * 10 + u64::from(*b - b'0');
+    }
+    Some(value as i64)
+}
 
 /// A value of a script whose text, if it has one, stands elsewhere.
 #[derive(Clone, Copy, Drop)]
@@ -41,7 +64,10 @@ impl<'a> Lent<'a> {
         match self {
             Lent::Unset => Ok(0),
             Lent::Num(number) => Ok(number),
-            Lent::Text(text) | Lent::Input(text) => numeral::number(text),
+            Lent::Text(text) | Lent::Input(text) => match few_digits(text) {
+                Some(number) => Ok(number),
+                None => numeral::number(text),
+            },
         }
     }
 
@@ -53,7 +79,10 @@ impl<'a> Lent<'a> {
             Lent::Unset => Some(0),
             Lent::Num(number) => Some(number),
             Lent::Text(_) => None,
-            Lent::Input(text) => numeral::looks_numeric(text),
+            Lent::Input(text) => match few_digits(text) {
+                Some(number) => Some(number),
+                None => numeral::looks_numeric(text),
+            },
         }
     }
 
