@@ -7,6 +7,8 @@ use Rattle.indexmap.specs.IndexMap.{insert_entry}
 use Rattle.box_world.specs.Events.{Class, Stream, is_named, find_stream}
 use Rattle.std.specs.Prelude.{Result, Ok, Err, OnOk, IfOk, IfErr, IsOk}
 use Rattle.awk_asks.specs.contracts.streams.NamePartialEq.TheImpl.{eq-value}
+use Rattle.awk_asks.specs.contracts.streams.SoughtEquivalentName.TheImpl.{equivalent-value}
+use Rattle.awk_asks.specs.declared.streams.Sought.{Sought}
 use Rattle.awk_asks.specs.declared.streams.Name.{Name}
 use Rattle.awk_asks.specs.declared.streams.Open.{Open}
 use Rattle.awk_fields.specs.Takes.{Input}
@@ -92,6 +94,9 @@ insert-entries eq name o (x ∷ xs) e = by (eq name x.0) e (insert-entries eq na
 
 pub name_test : (n : Name) → IsTest (eq-value.it n) (kind n.class) n.text.items
 name_test n e = refl
+
+pub sought_test : (q : Sought) → IsTest (equivalent-value.it q) (kind q.class) q.text.now
+sought_test q e = refl
 
 -- ---- results
 

@@ -68,19 +68,24 @@ pub fn open_output<W: World>(
     alloc: Global,
     place: Place,
     mode: Mode,
-    name: Name,
+    class: Class,
+    text: &[u8],
     streams: &mut Streams,
     world: &mut W,
 ) -> Result<u32, Halt>
     requires { Owns (W.open_numbers world.old) streams.old }
     ensures task { (g : Given) (s : State) → Does W.follows W.has_stopped W.stops g s
-        (Do (machine.Open place mode (kind name.class) name.text.items)) goes_on streams.old world.old result streams.new world.new }
-    ensures found { IfOk result (λ n. find_stream (kind name.class) name.text.items (open_of streams.new) ≡ Some n) }
+        (Do (machine.Open place mode (kind class) text.now)) goes_on streams.old world.old result streams.new world.new }
+    ensures found { IfOk result (λ n. find_stream (kind class) text.now (open_of streams.new) ≡ Some n) }
     ensures owns { Owns (W.open_numbers world.new) streams.new }
 {
-    if let Some(number) = streams.number(&name) {
+    if let Some(number) = streams.number_of(class, text) {
         return Ok(number);
     }
+    let Ok(text) = Vec::from_slice(alloc, text) else {
+        return Err(Halt::Memory);
+    };
+    let name = Name { class, text };
     let Some(number) = open(alloc, place, false, mode, name, streams, world)? else {
         return Err(Halt::Fault(Fault::Output, place));
     };

@@ -16,13 +16,13 @@ use awk_fields::reader::{Reader, Taken};
 use awk_lib::is_same;
 use awk_text::Memory;
 use awk_text::fault::Fault;
-use indexmap::IndexMap;
+use indexmap::{Equivalent, IndexMap};
 use std::alloc::Global;
 use std::hash::{Hash, Hasher};
 use std::marker::Model;
 
 /// What sort of stream a text names. Streams of two classes are two, whatever their texts.
-#[derive(Clone, Copy, Debug, PartialEq, Eq, Hash, Drop)]
+#[derive(Clone, Copy, Debug, PartialEq, Eq, Drop)]
 pub enum Class {
     OperandFile,
     InputFile,
@@ -60,6 +60,49 @@ impl Hash for Name {
 
     fn hash<H: Hasher>(&self, state: &mut H) {
         state.write(self.text.as_slice());
+    }
+}
+
+/// The name of a stream that is looked for, lent.
+#[derive(Clone, Copy, Drop)]
+struct Sought<'a> {
+    class: Class,
+    text: &'a [u8],
+}
+
+impl PartialEq for Sought<'_> {
+    ghost eq = { λ x y. nat_eq (class_number (kind x.class)) (class_number (kind y.class)) && bytes_eq x.text.now y.text.now };
+
+    ghost laws = { on_per (λ n. class_number (kind n.class) ∷ n.text.now) (Cmp.partial_equiv_from_equiv nat_list_eq_equiv) };
+
+    fn eq(&self, other: &Self) -> bool {
+        self.class == other.class && is_same(self.text, other.text)
+    }
+}
+
+impl Eq for Sought<'_> {
+    ghost laws = { on_equiv (λ n. class_number (kind n.class) ∷ n.text.now) nat_list_eq_equiv };
+}
+
+impl Hash for Sought<'_> {
+    ghost hash_input = { λ n. n.text.now ∷ [] };
+
+    ghost respects_eq = { λ x y h. ap (λ l. drop 1 l ∷ []) ((bytes_decides (class_number (kind x.class) ∷ x.text.now) (class_number (kind y.class) ∷ y.text.now)).0 h) };
+
+    fn hash<H: Hasher>(&self, state: &mut H) {
+        state.write(self.text);
+    }
+}
+
+impl Equivalent<Name> for Sought<'_> {
+    ghost equivalent = { λ q n. nat_eq (class_number (kind q.class)) (class_number (kind n.class)) && bytes_eq q.text.now n.text.items };
+
+    ghost respects_hash = { λ q n h. ap (λ l. drop 1 l ∷ []) ((bytes_decides (class_number (kind q.class) ∷ q.text.now) (class_number (kind n.class) ∷ n.text.items)).0 h) };
+
+    ghost respects_eq = { λ q x y. nat_list_eq_equiv.congr (class_number (kind q.class) ∷ q.text.now) (class_number (kind x.class) ∷ x.text.items) (class_number (kind y.class) ∷ y.text.items) };
+
+    fn equivalent(&self, name: &Name) -> bool {
+        self.class == name.class && is_same(self.text, name.text.as_slice())
     }
 }
 
@@ -110,7 +153,14 @@ impl Streams {
     pub fn number(&self, name: &Name) -> Option<u32>
         ensures { result ≡ find_stream (kind name.now.class) name.now.text.items (open_of self.now) }
     {
-        match self.table.get(name) {
+        self.number_of(name.class, name.text.as_slice())
+    }
+
+    /// The number of the stream of this class and text, if it is open. Takes no memory.
+    pub fn number_of(&self, class: Class, text: &[u8]) -> Option<u32>
+        ensures { result ≡ find_stream (kind class) text.now (open_of self.now) }
+    {
+        match self.table.get(Sought { class, text }) {
             Some(open) => Some(open.number),
             None => None,
         }
