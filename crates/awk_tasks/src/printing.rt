@@ -56,8 +56,8 @@ fn text_of_record(line: &mut Line, store: &mut Store) -> Result<Octets, Fault>
     ended(line, whole, ors)
 }
 
-/// A text and what ends it.
-fn ended(line: &mut Line, whole: &[u8], ors: &[u8]) -> Result<Octets, Fault>
+/// A text and what ends it, made in the line and taken out of it.
+pub fn ended(line: &mut Line, whole: &[u8], ors: &[u8]) -> Result<Octets, Fault>
     ensures ok { IfOk result (λ text. limited (whole.now ++ ors.now) ≡ Ok text) }
     ensures err { IfErr result (λ e. (e ≡ Fault.Memory) ⊎ (limited (whole.now ++ ors.now) ≡ Err e)) }
 {
