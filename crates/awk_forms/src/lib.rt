@@ -13,3 +13,4 @@ pub mod operands;
 pub mod outputs;
 pub mod patterns;
 pub mod replacements;
+pub mod splitting;

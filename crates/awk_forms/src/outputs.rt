@@ -4,6 +4,7 @@ ghost use Rattle.awk_asks.specs.Tables.{Table};
 ghost use Rattle.awk_fields.specs.Rows.{joined};
 ghost use Rattle.awk_forms.specs.AtHand.{AreThere, HoldsJoined, IsThere};
 ghost use Rattle.awk_forms.specs.Outputs.{to_standard, to_stream};
+ghost use Rattle.awk_lent.specs.Lents.{lent_value};
 ghost use Rattle.awk_lib.specs.Written.{written};
 ghost use Rattle.awk_machine.specs.Builtins as spec;
 ghost use Rattle.awk_machine.specs.Forms.{listed};
@@ -12,23 +13,25 @@ ghost use Rattle.awk_machine.specs.State.{Given};
 ghost use Rattle.awk_program.specs.Program as p;
 ghost use Rattle.awk_program.specs.Program.{Expression, Expressions};
 ghost use Rattle.awk_program.specs.declared.statements.Redirection.{Redirection};
-ghost use Rattle.awk_program.specs.View.{view};
+ghost use Rattle.awk_program.specs.View.{view, view_redirection};
 ghost use Rattle.awk_program.specs.declared.variables.Own.TheVariants as own;
 ghost use Rattle.awk_store.specs.Kept.{own_text};
 ghost use Rattle.awk_tasks.specs.Acts.{Acts, Passes};
-ghost use Rattle.awk_tasks.specs.Printed.{items};
+ghost use Rattle.awk_tasks.specs.Printed.{items, printed};
 ghost use Rattle.awk_tasks.specs.Wholes.{Whole, names_in};
 ghost use Rattle.awk_text.specs.Values.{text_of};
 ghost use Rattle.awk_text.specs.declared.value.Value.{Value as Val};
 ghost use Rattle.awk_works.specs.Lines.{held};
 
-use crate::at_hand::{MOST_LEVELS, at_hand, is_field, is_whole, split_where};
+use crate::at_hand::{MOST_LEVELS, at_hand};
 use crate::made::text_at;
+use crate::splitting::{is_field, is_whole, split_where};
 use awk_asks::halt::Halt;
-use awk_program::{Expr, Own};
+use awk_lent::lent::Lent;
+use awk_program::{Expr, Own, Redirection};
 use awk_store::Store;
 use awk_tasks::faults::at;
-use awk_tasks::printing::text_of_items;
+use awk_tasks::printing::{ended, text_of_items};
 use awk_text::fault::Fault;
 use awk_text::octets::Octets;
 use awk_text::place::Place;
@@ -161,26 +164,59 @@ fn join_at_hand(line: &mut Line, store: &Store, xs: &[Expr]) -> bool
     }
 }
 
+/// The text of `print` alone, where the whole record is there.
+fn record_at_hand(line: &mut Line, store: &Store) -> Option<Octets>
+    ensures { IfSome result (λ text. printed store.now [] ≡ Ok text) }
+{
+    let whole = store.known_whole()?;
+    let mut buffer = Buffer::new();
+    let ors = store.own_text(Own::Ors, &mut buffer);
+    ended(line, whole, ors).ok()
+}
+
+/// The text of items that are at hand, or of the whole record where there are none.
+fn text_at_hand(line: &mut Line, store: &Store, xs: &[Expr]) -> Option<Octets>
+    ensures { IfSome result (λ text. (vals : List Val) × AreThere store.now xs.now vals × (printed store.now vals ≡ Ok text)) }
+{
+    if xs.is_empty() {
+        return record_at_hand(line, store);
+    }
+    if !join_at_hand(line, store, xs) {
+        return None;
+    }
+    line.take().ok()
+}
+
 /// The text that print puts to the standard output, where each item is at hand: so none is copied but into that text. `None`
 /// stands for refused memory and for a text that is too long, too.
 pub fn printed_at_hand(line: &mut Line, store: &Store, xs: &[Expr]) -> Option<Octets>
     ensures { IfSome result (λ text. (g : Given) (t : Table) (place : Place)
         → Passes g (At (Doing (p.print place (map (view (names_in g)) xs.now) None)) []) (store.now, t) (to_standard place text) (store.now, t)) }
 {
-    if !join_at_hand(line, store, xs) {
-        return None;
-    }
-    match line.take() {
-        Ok(text) => Some(text),
-        Err(_) => None,
-    }
+    text_at_hand(line, store, xs)
 }
 
-/// Splits the record where one of the expressions is a field, and rebuilds it where one is `$0`, so that they are at hand.
+/// The name of the stream that print puts to, and the text, where the name and each item are at hand; see `printed_at_hand`.
+pub fn redirected_at_hand<'a>(
+    line: &mut Line,
+    store: &'a Store,
+    xs: &[Expr],
+    to: &'a Redirection<Expr>,
+) -> Option<(Lent<'a>, Octets)>
+    ensures { IfSome result (λ made. (g : Given) (t : Table) (place : Place)
+        → Passes g (At (Doing (p.print place (map (view (names_in g)) xs.now) (Some (view_redirection (names_in g) to.now)))) []) (store.now, t) (to_stream (view_redirection (names_in g) to.now) (lent_value made.0) made.1) (store.now, t)) }
+{
+    let name = at_hand(store, &to.target, MOST_LEVELS)?;
+    let text = text_at_hand(line, store, xs)?;
+    Some((name, text))
+}
+
+/// Splits the record where one of the expressions is a field, and rebuilds it where one is `$0`, or where there is none, so
+/// that they are at hand.
 pub fn split_for_items(store: &mut Store, xs: &[Expr]) -> Result<(), Halt>
     ensures { (g : Given) (t : Table) (q : Piece) → Acts g q (λ u k. q ∷ k) (store.old, t) result (store.new, t) }
 {
     let split = xs.iter().any(|x| is_field(x));
-    let whole = xs.iter().any(|x| is_whole(x));
+    let whole = xs.is_empty() || xs.iter().any(|x| is_whole(x));
     split_where(store, split, whole)
 }

@@ -1,9 +1,9 @@
-use Rattle.std.proofs.Common.{map, rules, w64}
+use Rattle.std.proofs.Common.{rules, w64}
 use Rattle.std.proofs.lemmas.Int.{to_z-of_z}
 use Rattle.awk_program.specs.Program as p
 use Rattle.awk_program.specs.Program.{terms_of}
-use Rattle.awk_program.specs.View.{view, view_target, view_term}
-use Rattle.awk_program.proofs.Views.{view-Chain, view-Number, view-Read}
+use Rattle.awk_program.specs.View.{view_target}
+use Rattle.awk_program.proofs.Views.{view-Number, view-Read}
 use Rattle.awk_text.specs.declared.value.Value.TheVariants as v
 use Rattle.awk_forms.specs.AtHand.{IsThere}
 use Rattle.awk_forms.proofs.AtHand.{number_there}

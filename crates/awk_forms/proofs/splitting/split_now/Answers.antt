@@ -1,7 +1,7 @@
 use Rattle.std.proofs.lemmas.Result.{err_from_is_err_and}
 use Rattle.awk_tasks.proofs.Acting.{at_rest, done}
 use Rattle.awk_forms.proofs.Matching.{else_so, then_so}
-use Rattle.awk_forms.proofs.at_hand.split_now.Goals as goal
+use Rattle.awk_forms.proofs.splitting.split_now.Goals as goal
 
 pub returns-then-is_some : goal.returns-then-is_some
 returns-then-is_some c = λ g t q. done (at_rest q _)

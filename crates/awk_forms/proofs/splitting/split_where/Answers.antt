@@ -2,7 +2,7 @@ use Rattle.std.proofs.lemmas.Result.{err_from_is_err_and}
 use Rattle.awk_tasks.proofs.Acting.{at_rest, done}
 use Rattle.awk_forms.proofs.AtHand.{splits}
 use Rattle.awk_forms.proofs.Matching.{else_so}
-use Rattle.awk_forms.proofs.at_hand.split_where.Goals as goal
+use Rattle.awk_forms.proofs.splitting.split_where.Goals as goal
 
 pub returns-in_err-rebuild_where : goal.returns-in_err-rebuild_where
 returns-in_err-rebuild_where c = λ g t q.
