@@ -1,11 +1,13 @@
 // Output to a stream that the script names.
-ghost use Rattle.std.specs.Prelude.{◌≡◌, ◌∷◌};
+ghost use Rattle.std.specs.Prelude.{◌≡◌, ◌∷◌, IfOk};
 ghost use Rattle.box_world.specs.Events.{Named};
 ghost use Rattle.awk_machine.specs.Pieces as machine;
 ghost use Rattle.awk_machine.specs.Pieces.{Do, Piece};
 ghost use Rattle.awk_machine.specs.Printing as printing;
 ghost use Rattle.awk_machine.specs.State.{Given};
+ghost use Rattle.awk_lent.specs.Lents.{lent_value};
 ghost use Rattle.awk_store.specs.Kept.{Kept};
+ghost use Rattle.awk_text.specs.Values.{text_of};
 ghost use Rattle.awk_asks.specs.Tables.{kind};
 ghost use Rattle.awk_asks.specs.Tasks.{Owns};
 ghost use Rattle.awk_tasks.specs.Wholes.{Whole};
@@ -15,12 +17,14 @@ ghost use Rattle.awk_records.specs.Performs.{LeadsOn};
 use awk_asks::halt::Halt;
 use awk_asks::opening::open_output;
 use awk_asks::requests::put;
-use awk_asks::streams::{Class, Name, Streams};
+use awk_asks::streams::{Class, Streams};
+use awk_lent::lent::Lent;
 use awk_program::Redirect;
 use awk_text::octets::Octets;
 use awk_text::place::Place;
 use box_world::ask::Mode;
 use box_world::world::World;
+use itoa::Buffer;
 use std::alloc::Global;
 
 fn class_of(how: Redirect) -> Class
@@ -43,26 +47,34 @@ fn mode_of(how: Redirect) -> Mode
     }
 }
 
-/// Puts a text to the stream of this name, which is opened before where it is not open. Answers room for the next text.
+/// Puts a text to the stream of this name, which is opened before where it is not open. Answers the text, whose room can serve the next
+/// one.
 pub fn put_to<W: World>(
     alloc: Global,
     place: Place,
     how: Redirect,
-    name: Octets,
+    name: Lent<'_>,
     text: Octets,
     streams: &mut Streams,
     world: &mut W,
 ) -> Result<Octets, Halt>
     requires { Owns (W.open_numbers world.old) streams.old }
     ensures task { (g : Given) (k : Kept) (p : Piece) (old : Whole) (w : W)
-        → LeadsOn W.follows W.has_stopped W.stops g p old w (λ l. Do (machine.Open place (printing.mode_of how) (printing.class_of how) name) ∷ Do (machine.Put place (Named (printing.class_of how) name) text) ∷ l) (k, streams.old) world.old
+        → LeadsOn W.follows W.has_stopped W.stops g p old w (λ l. Do (machine.Open place (printing.mode_of how) (printing.class_of how) (text_of (lent_value name.entry))) ∷ Do (machine.Put place (Named (printing.class_of how) (text_of (lent_value name.entry))) text) ∷ l) (k, streams.old) world.old
         → Onward W.follows W.has_stopped W.stops g p old w (λ l. l) result (k, streams.new) world.new }
+    ensures text { IfOk result (λ same. same ≡ text) }
     ensures owns { Owns (W.open_numbers world.new) streams.new }
 {
-    let stream = Name {
-        class: class_of(how),
-        text: name.into_bytes(),
-    };
-    let number = open_output(alloc, place, mode_of(how), stream, streams, world)?;
+    let mut buffer = Buffer::new();
+    let name = name.text(&mut buffer);
+    let number = open_output(
+        alloc,
+        place,
+        mode_of(how),
+        class_of(how),
+        name,
+        streams,
+        world,
+    )?;
     put(place, number, text, world)
 }
