@@ -210,6 +210,17 @@ fn plain_number(store: &Store, e: &Expr) -> Option<i64>
     }
 }
 
+/// The number that an expression's value is, where the value is there, and a number.
+#[inline(always)]
+pub fn number_there(store: &Store, e: &Expr) -> Option<i64>
+    ensures { IfSome result (λ n. IsThere (λ names. view names e.now) store.now (v.Num n)) }
+{
+    match at_hand(store, e, MOST_LEVELS)? {
+        Lent::Num(number) => Some(number),
+        Lent::Unset | Lent::Text(_) | Lent::Input(_) => None,
+    }
+}
+
 /// A value of its own for what is lent.
 #[inline(always)]
 fn owned<'a>(alloc: Global, value: Lent<'a>) -> Option<Value>
