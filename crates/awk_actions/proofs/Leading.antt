@@ -108,3 +108,11 @@ module _ {W : Type 0} {F : W → List Call → W → Type 0} {H : W → Bool} {S
 
   pub as_truth : {r : Result Bool Halt} → Does F H S N cx p (λ g b. give (of_truth b)) old w r new w' → Tells F H S N cx p IsTruthOf old w r new w'
   as_truth {r = r} h = as_truth-at r h
+
+-- ---- what was done once the record was split
+
+pub failed_not : {r : Result Bool Halt} {h : Halt} → r ≡ Err h → ¬ (r ≡ Ok true)
+failed_not {r} {h} was held = absurd (let e : ◌≡◌ {A = Result Bool Halt} (Err h) (Ok true) = sym was ∙ held in cc)
+
+pub false_not : {r : Result Bool Halt} (b : Bool) → r ≡ Ok b → b ≡ false → ¬ (r ≡ Ok true)
+false_not {r} b was is held = absurd (let e : ◌≡◌ {A = Result Bool Halt} (Ok b) (Ok true) = sym was ∙ held in cc)

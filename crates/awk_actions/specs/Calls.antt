@@ -7,6 +7,12 @@ use Rattle.box_world.specs.Calls.{Call}
 use Rattle.box_world.specs.declared.ask.Ask.{Ask}
 use Rattle.awk_program.specs.Program as p
 use Rattle.awk_program.specs.Program.{Arguments}
+use Rattle.awk_program.specs.View.{view}
+use Rattle.awk_program.specs.declared.expressions.Argument as code
+use Rattle.awk_program.specs.declared.expressions.Argument.TheVariants as argument
+use Rattle.awk_program.specs.declared.expressions.Expr.{Expr}
+use Rattle.awk_store.specs.Kept.{Kept}
+use Rattle.awk_forms.specs.AtHand.{IsThere}
 use Rattle.awk_machine.specs.Calls.{Argument, arguments}
 use Rattle.awk_machine.specs.Forms.{value}
 use Rattle.awk_machine.specs.Pieces.{At, Value_of}
@@ -31,3 +37,9 @@ pub record Argued {W : Type 0} (follows : W → List Call → W → Type 0) (has
   pub plays : (g : Given) → IsGiven cx g → (place : Place) (f : ℕ) (xs : Arguments) (vs : List Value) → slice_get (arguments xs) (length vs) ≡ Some (x g) →
       Meets (Led follows has_stopped) (Ended follows stops) (base g) (Agreeing g) used g (At (Value_of (p.call place f xs)) vs) (λ v k. At (Value_of (p.call place f xs)) (v ∷ vs) ∷ k) old w result new w'
   pub owns : Owns (open_numbers w') new.1
+
+-- an argument is an expression whose value is there, and is this one
+abbrev pub IsPassed : code.Argument Expr → Kept → Value → Type 0
+IsPassed (argument.Value x) kept val = IsThere (λ names. view names x) kept val
+IsPassed (argument.Array a) kept val = ⊥
+IsPassed argument.Nothing kept val = ⊥

@@ -1,5 +1,5 @@
 // Calls of the script's functions.
-ghost use Rattle.std.specs.Prelude.{◌≡◌, ◌∷◌, [], List, length, IfOk, map, reverse};
+ghost use Rattle.std.specs.Prelude.{◌≡◌, ◌∷◌, [], List, length, IfOk, IfSome, map, reverse};
 ghost use Rattle.awk_asks.specs.Tasks.{Owns};
 ghost use Rattle.awk_machine.specs.Forms.{value};
 ghost use Rattle.awk_machine.specs.Pieces.{At, Value_of, give};
@@ -7,7 +7,8 @@ ghost use Rattle.awk_program.specs.Program as p;
 ghost use Rattle.awk_program.specs.View.{view, view_arguments};
 ghost use Rattle.awk_tasks.specs.Wholes.{names_in};
 ghost use Rattle.awk_calls.specs.Calls.{argument_of};
-ghost use Rattle.awk_actions.specs.Calls.{Argued, Argues};
+ghost use Rattle.awk_actions.specs.Calls.{Argued, Argues, IsPassed};
+ghost use Rattle.awk_text.specs.declared.value.Value.TheVariants as v;
 ghost use Rattle.awk_actions.specs.Runs.{Does};
 
 use crate::context::{Context, Run};
@@ -16,12 +17,25 @@ use crate::statements::body;
 use awk_asks::halt::Halt;
 use awk_calls::frames::{begin, body_of, returned};
 use awk_calls::steps::step;
+use awk_forms::at_hand::number_there;
 use awk_forms::made::append;
 use awk_program::{Argument, Expr};
+use awk_store::Store;
 use awk_tasks::calls::leave;
 use awk_text::place::Place;
 use awk_text::value::Value;
 use box_world::world::World;
+
+/// The number that an argument is, where it is at hand: so a number is not copied on its way.
+#[inline(always)]
+fn number_passed(store: &Store, x: &Argument<Expr>) -> Option<i64>
+    ensures { IfSome result (λ n. IsPassed x.now store.now (v.Num n)) }
+{
+    match x {
+        Argument::Value(x) => number_there(store, x),
+        Argument::Array(_) | Argument::Nothing => None,
+    }
+}
 
 /// The value of an argument; what is handed otherwise is unset.
 #[cycle(run)]
@@ -59,8 +73,13 @@ fn arguments<W: World>(
 {
     let mut values = run.store.spare_values();
     for x in xs {
-        let next = argument(cx, x, level, run, world)?;
-        append(&mut values, next)?;
+        let known = number_passed(&run.store, x);
+        if let Some(number) = known {
+            append(&mut values, Value::Num(number))?;
+        } else {
+            let next = argument(cx, x, level, run, world)?;
+            append(&mut values, next)?;
+        }
     }
     Ok(values)
 }

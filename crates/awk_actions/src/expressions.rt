@@ -19,14 +19,13 @@ use crate::lists::{element_group, formatted};
 use crate::patterns::{locate, matches, split, substitute};
 use crate::targets::{alter, assign, change, increment, put, read_target, step_target};
 use awk_asks::halt::Halt;
-use awk_forms::at_hand::{
-    MOST_LEVELS, number_at_hand, split_for_parts, truth_at_hand, value_at_hand,
-};
+use awk_forms::at_hand::{MOST_LEVELS, number_at_hand, truth_at_hand, value_at_hand};
 use awk_forms::chains::{join, members, operated};
 use awk_forms::done::done_at_once;
 use awk_forms::made::owned;
 use awk_forms::operands::{Binary, Unary, part_of};
 use awk_forms::patterns::matched_record;
+use awk_forms::splitting::{done_once_split, truth_once_split};
 use awk_program::{Comparison, Expr, Joined, Term, Variable};
 use awk_text::fault::Fault;
 use awk_text::place::Place;
@@ -92,28 +91,8 @@ pub fn truth_of<W: World>(
     if let Some(known) = truth_at_hand(&run.store, e) {
         return Ok(known);
     }
-    let is_split = split_for_parts(&mut run.store, e)?;
-    if is_split {
-        return truth_of_split(cx, e, level, run, world);
-    }
-    general_truth(cx, e, level, run, world)
-}
-
-/// The same, once the record was split.
-#[cycle(run)]
-#[inline(never)]
-fn truth_of_split<W: World>(
-    cx: &Context<'_>,
-    e: &Expr,
-    level: u32,
-    run: &mut Run,
-    world: &mut W,
-) -> Result<bool, Halt>
-    requires { Owns (W.open_numbers world.old) run.old.streams }
-    ensures { Tells W.follows W.has_stopped W.stops W.open_numbers cx.now (λ g. value (view (names_in g) e.now)) IsTruthOf
-        (run.old.store, run.old.streams) world.old result (run.new.store, run.new.streams) world.new }
-{
-    if let Some(known) = truth_at_hand(&run.store, e) {
+    let found = truth_once_split(&mut run.store, e)?;
+    if let Some(known) = found {
         return Ok(known);
     }
     general_truth(cx, e, level, run, world)
@@ -184,28 +163,7 @@ pub fn effect<W: World>(
     if is_done {
         return Ok(());
     }
-    let is_split = split_for_parts(&mut run.store, e)?;
-    if is_split {
-        return effect_of_split(cx, e, level, run, world);
-    }
-    general_effect(cx, e, level, run, world)
-}
-
-/// The same, once the record was split.
-#[cycle(run)]
-#[inline(never)]
-fn effect_of_split<W: World>(
-    cx: &Context<'_>,
-    e: &Expr,
-    level: u32,
-    run: &mut Run,
-    world: &mut W,
-) -> Result<(), Halt>
-    requires { Owns (W.open_numbers world.old) run.old.streams }
-    ensures { Tells W.follows W.has_stopped W.stops W.open_numbers cx.now (λ g. value (view (names_in g) e.now)) IsUnwanted
-        (run.old.store, run.old.streams) world.old result (run.new.store, run.new.streams) world.new }
-{
-    let is_done = done_at_once(cx.alloc, &mut run.store, &mut run.line, e);
+    let is_done = done_once_split(cx.alloc, &mut run.store, &mut run.line, e)?;
     if is_done {
         return Ok(());
     }

@@ -14,5 +14,5 @@ mod statements;
 mod targets;
 
 pub use context::{Context, Run};
-pub use expressions::value;
+pub use expressions::{truth_of, value};
 pub use statements::{body, statement};

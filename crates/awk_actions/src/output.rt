@@ -1,5 +1,5 @@
 // Output.
-ghost use Rattle.std.specs.Prelude.{◌≡◌, ◌∷◌, [], List, map, option_map};
+ghost use Rattle.std.specs.Prelude.{◌≡◌, ◌∷◌, [], List, Some, None, map, option_map};
 ghost use Rattle.awk_asks.specs.Tasks.{Owns};
 ghost use Rattle.awk_machine.specs.Pieces.{At, Doing};
 ghost use Rattle.awk_program.specs.Program as p;
@@ -16,11 +16,13 @@ use awk_asks::requests::put;
 use awk_calls::Flow;
 use awk_forms::made::append;
 use awk_forms::outputs::{
-    formatted_for, formatted_line, printed_at_hand, printed_for, printed_line, split_for_items,
+    formatted_for, formatted_line, printed_at_hand, printed_for, printed_line, redirected_at_hand,
+    split_for_items,
 };
+use awk_forms::splitting::split_for;
+use awk_lent::lent::Lent;
 use awk_program::{Expr, Redirection};
 use awk_records::outputs::put_to;
-use awk_tasks::values::into_text;
 use awk_text::place::Place;
 use box_world::world::World;
 
@@ -42,17 +44,50 @@ pub fn print<W: World>(
     ensures { Does W.follows W.has_stopped W.stops W.open_numbers cx.now (λ g. At (Doing (p.print place (map (view (names_in g)) xs.now) (option_map (view_redirection (names_in g)) to.now))) []) (λ g. flows)
         (run.old.store, run.old.streams) world.old result (run.new.store, run.new.streams) world.new }
 {
-    if let Some(_) = to {
-        return general_print(cx, place, xs, to, level, run, world);
-    }
     split_for_items(&mut run.store, xs)?;
+    if let Some(to) = to {
+        return redirect(cx, place, xs, to, level, run, world);
+    }
     let known = printed_at_hand(&mut run.line, &run.store, xs);
     if let Some(text) = known {
         let room = put(place, STANDARD_OUTPUT, text, world)?;
         run.line.reuse(room);
         return Ok(Flow::On);
     }
-    general_print(cx, place, xs, to, level, run, world)
+    general_print(cx, place, xs, level, run, world)
+}
+
+/// `print` to a stream.
+#[cycle(run)]
+fn redirect<W: World>(
+    cx: &Context<'_>,
+    place: Place,
+    xs: &[Expr],
+    to: &Redirection<Expr>,
+    level: u32,
+    run: &mut Run,
+    world: &mut W,
+) -> Result<Flow, Halt>
+    requires { Owns (W.open_numbers world.old) run.old.streams }
+    ensures { Does W.follows W.has_stopped W.stops W.open_numbers cx.now (λ g. At (Doing (p.print place (map (view (names_in g)) xs.now) (Some (view_redirection (names_in g) to.now)))) []) (λ g. flows)
+        (run.old.store, run.old.streams) world.old result (run.new.store, run.new.streams) world.new }
+{
+    split_for(&mut run.store, &to.target)?;
+    let known = redirected_at_hand(&mut run.line, &run.store, xs, to);
+    if let Some((name, text)) = known {
+        let room = put_to(
+            cx.alloc,
+            to.place,
+            to.how,
+            name,
+            text,
+            &mut run.streams,
+            world,
+        )?;
+        run.line.reuse(room);
+        return Ok(Flow::On);
+    }
+    general_redirect(cx, place, xs, to, level, run, world)
 }
 
 /// `print`, of whatever items.
@@ -61,23 +96,39 @@ fn general_print<W: World>(
     cx: &Context<'_>,
     place: Place,
     xs: &[Expr],
-    to: &Option<Redirection<Expr>>,
     level: u32,
     run: &mut Run,
     world: &mut W,
 ) -> Result<Flow, Halt>
     requires { Owns (W.open_numbers world.old) run.old.streams }
-    ensures { Does W.follows W.has_stopped W.stops W.open_numbers cx.now (λ g. At (Doing (p.print place (map (view (names_in g)) xs.now) (option_map (view_redirection (names_in g)) to.now))) []) (λ g. flows)
+    ensures { Does W.follows W.has_stopped W.stops W.open_numbers cx.now (λ g. At (Doing (p.print place (map (view (names_in g)) xs.now) None)) []) (λ g. flows)
         (run.old.store, run.old.streams) world.old result (run.new.store, run.new.streams) world.new }
 {
     let mut values = Vec::new(cx.alloc);
     fill(cx, xs, &mut values, level, run, world)?;
-    let Some(to) = to else {
-        let text = printed_line(&mut run.line, &mut run.store, place, values.as_slice())?;
-        let room = put(place, STANDARD_OUTPUT, text, world)?;
-        run.line.reuse(room);
-        return Ok(Flow::On);
-    };
+    let text = printed_line(&mut run.line, &mut run.store, place, values.as_slice())?;
+    let room = put(place, STANDARD_OUTPUT, text, world)?;
+    run.line.reuse(room);
+    Ok(Flow::On)
+}
+
+/// `print` of whatever items to a stream.
+#[cycle(run)]
+fn general_redirect<W: World>(
+    cx: &Context<'_>,
+    place: Place,
+    xs: &[Expr],
+    to: &Redirection<Expr>,
+    level: u32,
+    run: &mut Run,
+    world: &mut W,
+) -> Result<Flow, Halt>
+    requires { Owns (W.open_numbers world.old) run.old.streams }
+    ensures { Does W.follows W.has_stopped W.stops W.open_numbers cx.now (λ g. At (Doing (p.print place (map (view (names_in g)) xs.now) (Some (view_redirection (names_in g) to.now)))) []) (λ g. flows)
+        (run.old.store, run.old.streams) world.old result (run.new.store, run.new.streams) world.new }
+{
+    let mut values = Vec::new(cx.alloc);
+    fill(cx, xs, &mut values, level, run, world)?;
     let target = value(cx, &to.target, level, run, world)?;
     let text = printed_for(
         &mut run.line,
@@ -86,14 +137,11 @@ fn general_print<W: World>(
         values.as_slice(),
         &target,
     )?;
-    let Ok(name) = into_text(cx.alloc, target) else {
-        return Err(Halt::Memory);
-    };
     let room = put_to(
         cx.alloc,
         to.place,
         to.how,
-        name,
+        Lent::of(&target),
         text,
         &mut run.streams,
         world,
@@ -129,14 +177,11 @@ pub fn printf<W: World>(
     };
     let target = value(cx, &to.target, level, run, world)?;
     let text = formatted_for(cx.alloc, place, values.as_slice(), &target)?;
-    let Ok(name) = into_text(cx.alloc, target) else {
-        return Err(Halt::Memory);
-    };
     put_to(
         cx.alloc,
         to.place,
         to.how,
-        name,
+        Lent::of(&target),
         text,
         &mut run.streams,
         world,

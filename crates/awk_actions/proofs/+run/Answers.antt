@@ -1,6 +1,6 @@
-use Rattle.awk_actions.proofs.Calling.{argue_name, argue_nothing, argue_stop, argue_turn, argue_value, arguments_so, body_so, called, counted, some_of}
+use Rattle.awk_actions.proofs.Calling.{argued_there, argue_name, argue_nothing, argue_stop, argue_turn, argue_value, arguments_so, body_so, called, counted, some_of}
 use Rattle.awk_actions.proofs.Going.{block_first, each_off, each_on, either_off, either_on, if_off, if_on, keys_first, keys_off, keys_on, starts_at_once, starts_stepped, test_first, test_none, test_then, turn_first, turn_none, turn_off, turn_on, turn_then}
-use Rattle.awk_actions.proofs.Leading.{hands, hands_on, as_truth, quietly, rests, rests_told, told_number, told_truth, unwanted}
+use Rattle.awk_actions.proofs.Leading.{failed_not, false_not, hands, hands_on, as_truth, quietly, rests, rests_told, told_number, told_truth, unwanted}
 use Rattle.awk_actions.proofs.Opens.{binary_first, binary_second, unary_first}
 use Rattle.awk_actions.proofs.Printing.{close_first, count_formatted, count_items, halts, print_target, printf_target, streamed, waits_deleted, waits_formatted, waits_printed}
 use Rattle.awk_actions.proofs.Turns.{and_off, and_on, choose_so, count_behind, count_listed, fill_stop, fill_turn, filled_from, got_of, next_of, or_off, or_on, text_given, waits_behind, waits_listed}
@@ -12,7 +12,9 @@ use Rattle.awk_calls.specs.Calls.{argument_of}
 use Rattle.awk_format.specs.Directives.{◌>>=◌}
 use Rattle.awk_forms.proofs.Rests.{drop_all, ok_for}
 use Rattle.awk_machine.specs.Builtins.{formatted_by}
-use Rattle.awk_forms.specs.Outputs.{to_standard}
+use Rattle.awk_forms.specs.Outputs.{to_standard, to_stream}
+use Rattle.awk_lent.specs.Lents.{lent_value}
+use Rattle.awk_text.specs.Values.{text_of}
 use Rattle.awk_machine.specs.Expressions.{either}
 use Rattle.awk_machine.specs.Operators.{of_truth}
 use Rattle.awk_machine.specs.Forms.{answer, deliver, keyed, value}
@@ -38,6 +40,7 @@ use Rattle.std.proofs.lemmas.Int.{to_z-of_z}
 use Rattle.std.proofs.lemmas.Result.{err_from_is_err_and}
 use Rattle.std.specs.Prelude.{Bool, ℤ, Result, None, Ok, Some, option_copied, option_map, slice_get}
 use Rattle.awk_actions.proofs.+run.Goals as goal
+use Rattle.awk_actions.proofs.+run.Goals.{calls::arguments-in-Some+in_ok-append, calls::arguments-in_default+in_ok-next+in_ok-append-2}
 use Rattle.awk_program.specs.Program as p
 use Rattle.awk_text.specs.declared.value.Value.TheVariants as v
 
@@ -953,15 +956,22 @@ calls::arguments-loop-x-init g t c =
 
 pub calls::arguments-returns-in_err-next : goal.calls::arguments-returns-in_err-next
 calls::arguments-returns-in_err-next g t c =
-    let e = err_from_is_err_and c.from_residual.result c.from_residual.ensures.1 in rw (e.1, e.2) (record { plays = record { plays = λ m is q n. argue_stop (λ m. argument_of (names_in m) c.x-item.result) c.in_err-next.field-0.0 c.loop-x.invariant (λ m. ap (λ ys. slice_get ys c.loop-x.x-index) (arguments_so (names_in m) c.args.xs.now) ∙ got_of (argument_of (names_in m)) c.args.xs.now c.loop-x.x-index c.x-item.result c.x-item.is c.loop-x-test.true) c.argument.ensures c.in_err-next.was m is q n; owns = c.argument.ensures.owns }; count = tt })
+    let e = err_from_is_err_and c.from_residual-in_err-next.result c.from_residual-in_err-next.ensures.1 in rw (e.1, e.2) (record { plays = record { plays = λ m is q n. argue_stop (λ m. argument_of (names_in m) c.x-item.result) c.in_err-next.field-0.0 c.loop-x.invariant (λ m. ap (λ ys. slice_get ys c.loop-x.x-index) (arguments_so (names_in m) c.args.xs.now) ∙ got_of (argument_of (names_in m)) c.args.xs.now c.loop-x.x-index c.x-item.result c.x-item.is c.loop-x-test.true) c.argument.ensures c.in_err-next.was m is q n; owns = c.argument.ensures.owns }; count = tt })
 
 pub calls::arguments-returns-in_err-append : goal.calls::arguments-returns-in_err-append
 calls::arguments-returns-in_err-append g t c =
-    let e = err_from_is_err_and c.from_residual-in_err-append.result c.from_residual-in_err-append.ensures.1 in rw (e.1, e.2, c.in_err-append.ensures.err) (record { plays = record { plays = λ m is q n. lacking ((argue_turn (λ m. argument_of (names_in m) c.x-item.result) c.in_ok-next.next c.loop-x.invariant (λ m. ap (λ ys. slice_get ys c.loop-x.x-index) (arguments_so (names_in m) c.args.xs.now) ∙ got_of (argument_of (names_in m)) c.args.xs.now c.loop-x.x-index c.x-item.result c.x-item.is c.loop-x-test.true) c.argument.ensures c.in_ok-next.was).leads m is q n); owns = c.argument.ensures.owns }; count = tt })
+    let e = err_from_is_err_and c.from_residual.result c.from_residual.ensures.1 in rw (e.1, e.2, c.in_err-append.ensures.err) (record { plays = record { plays = λ m is q n. lacking ((argue_turn (λ m. argument_of (names_in m) c.x-item.result) (v.Num c.in-Some.number) c.loop-x.invariant (λ m. ap (λ ys. slice_get ys c.loop-x.x-index) (arguments_so (names_in m) c.args.xs.now) ∙ got_of (argument_of (names_in m)) c.args.xs.now c.loop-x.x-index c.x-item.result c.x-item.is c.loop-x-test.true) (argued_there c.x-item.result (v.Num c.in-Some.number) c.loop-x.run.store c.loop-x.run.streams c.loop-x.world c.loop-x.invariant.owns c.in-Some.ensures) refl).leads m is q n); owns = c.loop-x.invariant.owns }; count = tt })
+
+pub calls::arguments-returns-in_err-append-2 : goal.calls::arguments-returns-in_err-append-2
+calls::arguments-returns-in_err-append-2 g t c =
+    let e = err_from_is_err_and c.from_residual-in_err-append-2.result c.from_residual-in_err-append-2.ensures.1 in rw (e.1, e.2, c.in_err-append-2.ensures.err) (record { plays = record { plays = λ m is q n. lacking ((argue_turn (λ m. argument_of (names_in m) c.x-item.result) c.in_ok-next.next c.loop-x.invariant (λ m. ap (λ ys. slice_get ys c.loop-x.x-index) (arguments_so (names_in m) c.args.xs.now) ∙ got_of (argument_of (names_in m)) c.args.xs.now c.loop-x.x-index c.x-item.result c.x-item.is c.loop-x-test.true) c.argument.ensures c.in_ok-next.was).leads m is q n); owns = c.argument.ensures.owns }; count = tt })
 
 pub calls::arguments-loop-x-preserved : goal.calls::arguments-loop-x-preserved
 calls::arguments-loop-x-preserved g t c =
-    rw c.in_ok-append.ensures.ok (argue_turn (λ m. argument_of (names_in m) c.x-item.result) c.in_ok-next.next c.loop-x.invariant (λ m. ap (λ ys. slice_get ys c.loop-x.x-index) (arguments_so (names_in m) c.args.xs.now) ∙ got_of (argument_of (names_in m)) c.args.xs.now c.loop-x.x-index c.x-item.result c.x-item.is c.loop-x-test.true) c.argument.ensures c.in_ok-next.was)
+    elim c.match-known.branch [
+      | calls::arguments-in-Some+in_ok-append w ↦ rw (w.run-is, w.world-is, w.values-is, w.in_ok-append.ensures.ok, to_z-of_z w64 w.in-Some.number (search rules)) (argue_turn (λ m. argument_of (names_in m) c.x-item.result) (v.Num w.in-Some.number) c.loop-x.invariant (λ m. ap (λ ys. slice_get ys c.loop-x.x-index) (arguments_so (names_in m) c.args.xs.now) ∙ got_of (argument_of (names_in m)) c.args.xs.now c.loop-x.x-index c.x-item.result c.x-item.is c.loop-x-test.true) (argued_there c.x-item.result (v.Num w.in-Some.number) c.loop-x.run.store c.loop-x.run.streams c.loop-x.world c.loop-x.invariant.owns w.in-Some.ensures) refl)
+      | calls::arguments-in_default+in_ok-next+in_ok-append-2 w ↦ rw (w.run-is, w.world-is, w.values-is, w.in_ok-append-2.ensures.ok) (argue_turn (λ m. argument_of (names_in m) c.x-item.result) w.in_ok-next.next c.loop-x.invariant (λ m. ap (λ ys. slice_get ys c.loop-x.x-index) (arguments_so (names_in m) c.args.xs.now) ∙ got_of (argument_of (names_in m)) c.args.xs.now c.loop-x.x-index c.x-item.result c.x-item.is c.loop-x-test.true) w.argument.ensures w.in_ok-next.was)
+    ]
 
 pub calls::arguments-returns : goal.calls::arguments-returns
 calls::arguments-returns g t c =
@@ -1065,39 +1075,39 @@ inputs::system-returns g t c =
 
 pub output::general_print-returns-in_err-fill : goal.output::general_print-returns-in_err-fill
 output::general_print-returns-in_err-fill g t c =
-    let e = err_from_is_err_and c.from_residual.result c.from_residual.ensures.1 in rw (e.1, e.2) (record { plays = λ m is. stop _ (λ k. refl) (at_once _ _ _) (filled_from _ _ c.new-values.ensures.items c.fill.ensures.plays m is (Doing (p.print c.args.place (map (view (names_in m)) c.args.xs.now) (option_map (view_redirection (names_in m)) c.args.to.now))) (waits_printed m c.args.place (map (view (names_in m)) c.args.xs.now) (option_map (view_redirection (names_in m)) c.args.to.now))) c.in_err-fill.was; owns = c.fill.ensures.plays.owns })
+    let e = err_from_is_err_and c.from_residual.result c.from_residual.ensures.1 in rw (e.1, e.2) (record { plays = λ m is. stop _ (λ k. refl) (at_once _ _ _) (filled_from _ _ c.new-values.ensures.items c.fill.ensures.plays m is (Doing (p.print c.args.place (map (view (names_in m)) c.args.xs.now) None)) (waits_printed m c.args.place (map (view (names_in m)) c.args.xs.now) None)) c.in_err-fill.was; owns = c.fill.ensures.plays.owns })
 
 pub output::general_print-returns-in_err-text : goal.output::general_print-returns-in_err-text
 output::general_print-returns-in_err-text g t c =
-    let e = err_from_is_err_and c.from_residual-in_err-text.result c.from_residual-in_err-text.ensures.1 in rw (e.1, e.2, c.in_default.is) (record { plays = λ m is. stop _ (λ k. refl) (part _ (at_once _ _ _) (filled_from _ _ c.new-values.ensures.items c.fill.ensures.plays m is (Doing (p.print c.args.place (map (view (names_in m)) c.args.xs.now) None)) (waits_printed m c.args.place (map (view (names_in m)) c.args.xs.now) None)) c.in_ok-fill.was) (acted (rw c.as_slice.ensures.value at (c.printed_line.ensures m c.fill.new.run.streams (map (view (names_in m)) c.args.xs.now) (rw c.as_slice.ensures.value (count_items (view (names_in m)) c.args.xs.now _ _ c.new-values.ensures.items c.in_ok-fill.ensures.count))))) c.in_err-text.was; owns = c.fill.ensures.plays.owns })
+    let e = err_from_is_err_and c.from_residual-in_err-text.result c.from_residual-in_err-text.ensures.1 in rw (e.1, e.2) (record { plays = λ m is. stop _ (λ k. refl) (part _ (at_once _ _ _) (filled_from _ _ c.new-values.ensures.items c.fill.ensures.plays m is (Doing (p.print c.args.place (map (view (names_in m)) c.args.xs.now) None)) (waits_printed m c.args.place (map (view (names_in m)) c.args.xs.now) None)) c.in_ok-fill.was) (acted (rw c.as_slice.ensures.value at (c.printed_line.ensures m c.fill.new.run.streams (map (view (names_in m)) c.args.xs.now) (rw c.as_slice.ensures.value (count_items (view (names_in m)) c.args.xs.now _ _ c.new-values.ensures.items c.in_ok-fill.ensures.count))))) c.in_err-text.was; owns = c.fill.ensures.plays.owns })
 
 pub output::general_print-returns-in_err-room : goal.output::general_print-returns-in_err-room
 output::general_print-returns-in_err-room g t c =
-    let e = err_from_is_err_and c.from_residual-in_err-room.result c.from_residual-in_err-room.ensures.1 in rw (e.1, e.2, c.in_default.is) (record { plays = λ m is. stop _ (λ k. refl) (part _ (part _ (at_once _ _ _) (filled_from _ _ c.new-values.ensures.items c.fill.ensures.plays m is (Doing (p.print c.args.place (map (view (names_in m)) c.args.xs.now) None)) (waits_printed m c.args.place (map (view (names_in m)) c.args.xs.now) None)) c.in_ok-fill.was) (acted (rw c.as_slice.ensures.value at (c.printed_line.ensures m c.fill.new.run.streams (map (view (names_in m)) c.args.xs.now) (rw c.as_slice.ensures.value (count_items (view (names_in m)) c.args.xs.now _ _ c.new-values.ensures.items c.in_ok-fill.ensures.count))))) c.in_ok-text.was) (lifted m c.printed_line.new.store (λ s. c.put.ensures.task m s c.fill.new.run.streams (Standard 1) refl)) c.in_err-room.was; owns = rw c.put.ensures.numbers c.fill.ensures.plays.owns })
-
-pub output::general_print-returns-in_default : goal.output::general_print-returns-in_default
-output::general_print-returns-in_default g t c =
-    rw c.in_default.is (record { plays = λ m is. done (part _ (part _ (part _ (at_once _ _ _) (filled_from _ _ c.new-values.ensures.items c.fill.ensures.plays m is (Doing (p.print c.args.place (map (view (names_in m)) c.args.xs.now) None)) (waits_printed m c.args.place (map (view (names_in m)) c.args.xs.now) None)) c.in_ok-fill.was) (acted (rw c.as_slice.ensures.value at (c.printed_line.ensures m c.fill.new.run.streams (map (view (names_in m)) c.args.xs.now) (rw c.as_slice.ensures.value (count_items (view (names_in m)) c.args.xs.now _ _ c.new-values.ensures.items c.in_ok-fill.ensures.count))))) c.in_ok-text.was) (lifted m c.printed_line.new.store (λ s. c.put.ensures.task m s c.fill.new.run.streams (Standard 1) refl)) c.in_ok-room.was); owns = rw c.put.ensures.numbers c.fill.ensures.plays.owns })
-
-pub output::general_print-returns-in_err-target : goal.output::general_print-returns-in_err-target
-output::general_print-returns-in_err-target g t c =
-    let e = err_from_is_err_and c.from_residual-in_err-target.result c.from_residual-in_err-target.ensures.1 in rw (e.1, e.2, c.in-Some.is) (record { plays = λ m is. stop _ (λ k. refl) (quietly (part _ (at_once _ _ _) (filled_from _ _ c.new-values.ensures.items c.fill.ensures.plays m is (Doing (p.print c.args.place (map (view (names_in m)) c.args.xs.now) (Some (view_redirection (names_in m) c.in-Some.to)))) (waits_printed m c.args.place (map (view (names_in m)) c.args.xs.now) (Some (view_redirection (names_in m) c.in-Some.to)))) c.in_ok-fill.was) (λ k hid d a. print_target m c.args.place (map (view (names_in m)) c.args.xs.now) (view_redirection (names_in m) c.in-Some.to) _ (count_items (view (names_in m)) c.args.xs.now _ _ c.new-values.ensures.items c.in_ok-fill.ensures.count) k _)) (c.value.ensures.plays m is) c.in_err-target.was; owns = c.value.ensures.owns })
-
-pub output::general_print-returns-in_err-text-2 : goal.output::general_print-returns-in_err-text-2
-output::general_print-returns-in_err-text-2 g t c =
-    let e = err_from_is_err_and c.from_residual-in_err-text-2.result c.from_residual-in_err-text-2.ensures.1 in rw (e.1, e.2, c.in-Some.is) (record { plays = λ m is. stop _ (λ k. refl) (part _ (quietly (part _ (at_once _ _ _) (filled_from _ _ c.new-values.ensures.items c.fill.ensures.plays m is (Doing (p.print c.args.place (map (view (names_in m)) c.args.xs.now) (Some (view_redirection (names_in m) c.in-Some.to)))) (waits_printed m c.args.place (map (view (names_in m)) c.args.xs.now) (Some (view_redirection (names_in m) c.in-Some.to)))) c.in_ok-fill.was) (λ k hid d a. print_target m c.args.place (map (view (names_in m)) c.args.xs.now) (view_redirection (names_in m) c.in-Some.to) _ (count_items (view (names_in m)) c.args.xs.now _ _ c.new-values.ensures.items c.in_ok-fill.ensures.count) k _)) (c.value.ensures.plays m is) c.in_ok-target.was) (acted (rw c.as_slice-2.ensures.value at (c.printed_for.ensures m c.value.new.run.streams (map (view (names_in m)) c.args.xs.now) (view_redirection (names_in m) c.in-Some.to) (rw c.as_slice-2.ensures.value (count_items (view (names_in m)) c.args.xs.now _ _ c.new-values.ensures.items c.in_ok-fill.ensures.count))))) c.in_err-text-2.was; owns = c.value.ensures.owns })
-
-pub output::general_print-returns-in_default-into_text : goal.output::general_print-returns-in_default-into_text
-output::general_print-returns-in_default-into_text g t c =
-    rw c.in-Some.is (record { plays = λ m is. lacking (part _ (part _ (quietly (part _ (at_once _ _ _) (filled_from _ _ c.new-values.ensures.items c.fill.ensures.plays m is (Doing (p.print c.args.place (map (view (names_in m)) c.args.xs.now) (Some (view_redirection (names_in m) c.in-Some.to)))) (waits_printed m c.args.place (map (view (names_in m)) c.args.xs.now) (Some (view_redirection (names_in m) c.in-Some.to)))) c.in_ok-fill.was) (λ k hid d a. print_target m c.args.place (map (view (names_in m)) c.args.xs.now) (view_redirection (names_in m) c.in-Some.to) _ (count_items (view (names_in m)) c.args.xs.now _ _ c.new-values.ensures.items c.in_ok-fill.ensures.count) k _)) (c.value.ensures.plays m is) c.in_ok-target.was) (acted (rw c.as_slice-2.ensures.value at (c.printed_for.ensures m c.value.new.run.streams (map (view (names_in m)) c.args.xs.now) (view_redirection (names_in m) c.in-Some.to) (rw c.as_slice-2.ensures.value (count_items (view (names_in m)) c.args.xs.now _ _ c.new-values.ensures.items c.in_ok-fill.ensures.count))))) c.in_ok-text-2.was); owns = c.value.ensures.owns })
-
-pub output::general_print-returns-in_err-room-2 : goal.output::general_print-returns-in_err-room-2
-output::general_print-returns-in_err-room-2 g t c =
-    let e = err_from_is_err_and c.from_residual-in_err-room-2.result c.from_residual-in_err-room-2.ensures.1 in rw (e.1, e.2, c.in-Some.is) (record { plays = λ m is. halts _ (rw c.in_err-room-2.was at (c.put_to.ensures.task m c.printed_for.new.store (At (Doing (p.print c.args.place (map (view (names_in m)) c.args.xs.now) (Some (view_redirection (names_in m) c.in-Some.to)))) []) (c.args.run.now.store, c.args.run.now.streams) c.args.world.now (turned {then_ = streamed (view_redirection (names_in m) c.in-Some.to) c.in-Ok.name c.in_ok-text-2.text} (part _ (part _ (quietly (part _ (at_once _ _ _) (filled_from _ _ c.new-values.ensures.items c.fill.ensures.plays m is (Doing (p.print c.args.place (map (view (names_in m)) c.args.xs.now) (Some (view_redirection (names_in m) c.in-Some.to)))) (waits_printed m c.args.place (map (view (names_in m)) c.args.xs.now) (Some (view_redirection (names_in m) c.in-Some.to)))) c.in_ok-fill.was) (λ k hid d a. print_target m c.args.place (map (view (names_in m)) c.args.xs.now) (view_redirection (names_in m) c.in-Some.to) _ (count_items (view (names_in m)) c.args.xs.now _ _ c.new-values.ensures.items c.in_ok-fill.ensures.count) k _)) (c.value.ensures.plays m is) c.in_ok-target.was) (acted (rw c.as_slice-2.ensures.value at (c.printed_for.ensures m c.value.new.run.streams (map (view (names_in m)) c.args.xs.now) (view_redirection (names_in m) c.in-Some.to) (rw c.as_slice-2.ensures.value (count_items (view (names_in m)) c.args.xs.now _ _ c.new-values.ensures.items c.in_ok-fill.ensures.count))))) c.in_ok-text-2.was) (λ k. ap (λ n. streamed (view_redirection (names_in m) c.in-Some.to) n c.in_ok-text-2.text k) (sym c.in-Ok.ensures))))); owns = c.put_to.ensures.owns })
+    let e = err_from_is_err_and c.from_residual-in_err-room.result c.from_residual-in_err-room.ensures.1 in rw (e.1, e.2) (record { plays = λ m is. stop _ (λ k. refl) (part _ (part _ (at_once _ _ _) (filled_from _ _ c.new-values.ensures.items c.fill.ensures.plays m is (Doing (p.print c.args.place (map (view (names_in m)) c.args.xs.now) None)) (waits_printed m c.args.place (map (view (names_in m)) c.args.xs.now) None)) c.in_ok-fill.was) (acted (rw c.as_slice.ensures.value at (c.printed_line.ensures m c.fill.new.run.streams (map (view (names_in m)) c.args.xs.now) (rw c.as_slice.ensures.value (count_items (view (names_in m)) c.args.xs.now _ _ c.new-values.ensures.items c.in_ok-fill.ensures.count))))) c.in_ok-text.was) (lifted m c.printed_line.new.store (λ s. c.put.ensures.task m s c.fill.new.run.streams (Standard 1) refl)) c.in_err-room.was; owns = rw c.put.ensures.numbers c.fill.ensures.plays.owns })
 
 pub output::general_print-returns : goal.output::general_print-returns
 output::general_print-returns g t c =
-    rw c.in-Some.is (record { plays = λ m is. done (rw c.in_ok-room-2.was at (c.put_to.ensures.task m c.printed_for.new.store (At (Doing (p.print c.args.place (map (view (names_in m)) c.args.xs.now) (Some (view_redirection (names_in m) c.in-Some.to)))) []) (c.args.run.now.store, c.args.run.now.streams) c.args.world.now (turned {then_ = streamed (view_redirection (names_in m) c.in-Some.to) c.in-Ok.name c.in_ok-text-2.text} (part _ (part _ (quietly (part _ (at_once _ _ _) (filled_from _ _ c.new-values.ensures.items c.fill.ensures.plays m is (Doing (p.print c.args.place (map (view (names_in m)) c.args.xs.now) (Some (view_redirection (names_in m) c.in-Some.to)))) (waits_printed m c.args.place (map (view (names_in m)) c.args.xs.now) (Some (view_redirection (names_in m) c.in-Some.to)))) c.in_ok-fill.was) (λ k hid d a. print_target m c.args.place (map (view (names_in m)) c.args.xs.now) (view_redirection (names_in m) c.in-Some.to) _ (count_items (view (names_in m)) c.args.xs.now _ _ c.new-values.ensures.items c.in_ok-fill.ensures.count) k _)) (c.value.ensures.plays m is) c.in_ok-target.was) (acted (rw c.as_slice-2.ensures.value at (c.printed_for.ensures m c.value.new.run.streams (map (view (names_in m)) c.args.xs.now) (view_redirection (names_in m) c.in-Some.to) (rw c.as_slice-2.ensures.value (count_items (view (names_in m)) c.args.xs.now _ _ c.new-values.ensures.items c.in_ok-fill.ensures.count))))) c.in_ok-text-2.was) (λ k. ap (λ n. streamed (view_redirection (names_in m) c.in-Some.to) n c.in_ok-text-2.text k) (sym c.in-Ok.ensures))))); owns = c.put_to.ensures.owns })
+    record { plays = λ m is. done (part _ (part _ (part _ (at_once _ _ _) (filled_from _ _ c.new-values.ensures.items c.fill.ensures.plays m is (Doing (p.print c.args.place (map (view (names_in m)) c.args.xs.now) None)) (waits_printed m c.args.place (map (view (names_in m)) c.args.xs.now) None)) c.in_ok-fill.was) (acted (rw c.as_slice.ensures.value at (c.printed_line.ensures m c.fill.new.run.streams (map (view (names_in m)) c.args.xs.now) (rw c.as_slice.ensures.value (count_items (view (names_in m)) c.args.xs.now _ _ c.new-values.ensures.items c.in_ok-fill.ensures.count))))) c.in_ok-text.was) (lifted m c.printed_line.new.store (λ s. c.put.ensures.task m s c.fill.new.run.streams (Standard 1) refl)) c.in_ok-room.was); owns = rw c.put.ensures.numbers c.fill.ensures.plays.owns }
+
+pub output::general_redirect-returns-in_err-fill : goal.output::general_redirect-returns-in_err-fill
+output::general_redirect-returns-in_err-fill g t c =
+    let e = err_from_is_err_and c.from_residual.result c.from_residual.ensures.1 in rw (e.1, e.2) (record { plays = λ m is. stop _ (λ k. refl) (at_once _ _ _) (filled_from _ _ c.new-values.ensures.items c.fill.ensures.plays m is (Doing (p.print c.args.place (map (view (names_in m)) c.args.xs.now) (Some (view_redirection (names_in m) c.args.to.now)))) (waits_printed m c.args.place (map (view (names_in m)) c.args.xs.now) (Some (view_redirection (names_in m) c.args.to.now)))) c.in_err-fill.was; owns = c.fill.ensures.plays.owns })
+
+pub output::general_redirect-returns-in_err-target : goal.output::general_redirect-returns-in_err-target
+output::general_redirect-returns-in_err-target g t c =
+    let e = err_from_is_err_and c.from_residual-in_err-target.result c.from_residual-in_err-target.ensures.1 in rw (e.1, e.2) (record { plays = λ m is. stop _ (λ k. refl) (quietly (part _ (at_once _ _ _) (filled_from _ _ c.new-values.ensures.items c.fill.ensures.plays m is (Doing (p.print c.args.place (map (view (names_in m)) c.args.xs.now) (Some (view_redirection (names_in m) c.args.to.now)))) (waits_printed m c.args.place (map (view (names_in m)) c.args.xs.now) (Some (view_redirection (names_in m) c.args.to.now)))) c.in_ok-fill.was) (λ k hid d a. print_target m c.args.place (map (view (names_in m)) c.args.xs.now) (view_redirection (names_in m) c.args.to.now) _ (count_items (view (names_in m)) c.args.xs.now _ _ c.new-values.ensures.items c.in_ok-fill.ensures.count) k _)) (c.value.ensures.plays m is) c.in_err-target.was; owns = c.value.ensures.owns })
+
+pub output::general_redirect-returns-in_err-text : goal.output::general_redirect-returns-in_err-text
+output::general_redirect-returns-in_err-text g t c =
+    let e = err_from_is_err_and c.from_residual-in_err-text.result c.from_residual-in_err-text.ensures.1 in rw (e.1, e.2) (record { plays = λ m is. stop _ (λ k. refl) (part _ (quietly (part _ (at_once _ _ _) (filled_from _ _ c.new-values.ensures.items c.fill.ensures.plays m is (Doing (p.print c.args.place (map (view (names_in m)) c.args.xs.now) (Some (view_redirection (names_in m) c.args.to.now)))) (waits_printed m c.args.place (map (view (names_in m)) c.args.xs.now) (Some (view_redirection (names_in m) c.args.to.now)))) c.in_ok-fill.was) (λ k hid d a. print_target m c.args.place (map (view (names_in m)) c.args.xs.now) (view_redirection (names_in m) c.args.to.now) _ (count_items (view (names_in m)) c.args.xs.now _ _ c.new-values.ensures.items c.in_ok-fill.ensures.count) k _)) (c.value.ensures.plays m is) c.in_ok-target.was) (acted (rw c.as_slice.ensures.value at (c.printed_for.ensures m c.value.new.run.streams (map (view (names_in m)) c.args.xs.now) (view_redirection (names_in m) c.args.to.now) (rw c.as_slice.ensures.value (count_items (view (names_in m)) c.args.xs.now _ _ c.new-values.ensures.items c.in_ok-fill.ensures.count))))) c.in_err-text.was; owns = c.value.ensures.owns })
+
+pub output::general_redirect-returns-in_err-room : goal.output::general_redirect-returns-in_err-room
+output::general_redirect-returns-in_err-room g t c =
+    let e = err_from_is_err_and c.from_residual-in_err-room.result c.from_residual-in_err-room.ensures.1 in rw (e.1, e.2) (record { plays = λ m is. halts _ (rw c.in_err-room.was at (c.put_to.ensures.task m c.printed_for.new.store (At (Doing (p.print c.args.place (map (view (names_in m)) c.args.xs.now) (Some (view_redirection (names_in m) c.args.to.now)))) []) (c.args.run.now.store, c.args.run.now.streams) c.args.world.now (turned {then_ = streamed (view_redirection (names_in m) c.args.to.now) (text_of (lent_value c.of.result)) c.in_ok-text.text} (part _ (part _ (quietly (part _ (at_once _ _ _) (filled_from _ _ c.new-values.ensures.items c.fill.ensures.plays m is (Doing (p.print c.args.place (map (view (names_in m)) c.args.xs.now) (Some (view_redirection (names_in m) c.args.to.now)))) (waits_printed m c.args.place (map (view (names_in m)) c.args.xs.now) (Some (view_redirection (names_in m) c.args.to.now)))) c.in_ok-fill.was) (λ k hid d a. print_target m c.args.place (map (view (names_in m)) c.args.xs.now) (view_redirection (names_in m) c.args.to.now) _ (count_items (view (names_in m)) c.args.xs.now _ _ c.new-values.ensures.items c.in_ok-fill.ensures.count) k _)) (c.value.ensures.plays m is) c.in_ok-target.was) (acted (rw c.as_slice.ensures.value at (c.printed_for.ensures m c.value.new.run.streams (map (view (names_in m)) c.args.xs.now) (view_redirection (names_in m) c.args.to.now) (rw c.as_slice.ensures.value (count_items (view (names_in m)) c.args.xs.now _ _ c.new-values.ensures.items c.in_ok-fill.ensures.count))))) c.in_ok-text.was) (λ k. ap (λ n. streamed (view_redirection (names_in m) c.args.to.now) n c.in_ok-text.text k) (ap text_of (sym c.of.ensures)))))); owns = c.put_to.ensures.owns })
+
+pub output::general_redirect-returns : goal.output::general_redirect-returns
+output::general_redirect-returns g t c =
+    record { plays = λ m is. done (rw c.in_ok-room.was at (c.put_to.ensures.task m c.printed_for.new.store (At (Doing (p.print c.args.place (map (view (names_in m)) c.args.xs.now) (Some (view_redirection (names_in m) c.args.to.now)))) []) (c.args.run.now.store, c.args.run.now.streams) c.args.world.now (turned {then_ = streamed (view_redirection (names_in m) c.args.to.now) (text_of (lent_value c.of.result)) c.in_ok-text.text} (part _ (part _ (quietly (part _ (at_once _ _ _) (filled_from _ _ c.new-values.ensures.items c.fill.ensures.plays m is (Doing (p.print c.args.place (map (view (names_in m)) c.args.xs.now) (Some (view_redirection (names_in m) c.args.to.now)))) (waits_printed m c.args.place (map (view (names_in m)) c.args.xs.now) (Some (view_redirection (names_in m) c.args.to.now)))) c.in_ok-fill.was) (λ k hid d a. print_target m c.args.place (map (view (names_in m)) c.args.xs.now) (view_redirection (names_in m) c.args.to.now) _ (count_items (view (names_in m)) c.args.xs.now _ _ c.new-values.ensures.items c.in_ok-fill.ensures.count) k _)) (c.value.ensures.plays m is) c.in_ok-target.was) (acted (rw c.as_slice.ensures.value at (c.printed_for.ensures m c.value.new.run.streams (map (view (names_in m)) c.args.xs.now) (view_redirection (names_in m) c.args.to.now) (rw c.as_slice.ensures.value (count_items (view (names_in m)) c.args.xs.now _ _ c.new-values.ensures.items c.in_ok-fill.ensures.count))))) c.in_ok-text.was) (λ k. ap (λ n. streamed (view_redirection (names_in m) c.args.to.now) n c.in_ok-text.text k) (ap text_of (sym c.of.ensures)))))); owns = c.put_to.ensures.owns }
 
 pub output::printf-returns-in_err-format : goal.output::printf-returns-in_err-format
 output::printf-returns-in_err-format g t c =
@@ -1131,17 +1141,13 @@ pub output::printf-returns-in_err-text-2 : goal.output::printf-returns-in_err-te
 output::printf-returns-in_err-text-2 g t c =
     let e = err_from_is_err_and c.from_residual-in_err-text-2.result c.from_residual-in_err-text-2.ensures.1 in rw (e.1, e.2, c.in-Some.is) (record { plays = λ m is. stop _ (λ k. refl) (part _ (quietly (part _ (part _ (quietly (at_once _ _ _) (λ k hid d a. refl)) (c.value.ensures.plays m is) c.in_ok-format.was) (filled_from _ (c.in_ok-format.format ∷ []) (c.in_ok-append.ensures.ok ∙ ap (λ vs. vs ++ c.in_ok-format.format ∷ []) c.new-values.ensures.items) c.fill.ensures.plays m is (Doing (p.printf c.args.place (view (names_in m) c.args.x.now) (map (view (names_in m)) c.args.xs.now) (Some (view_redirection (names_in m) c.in-Some.to)))) (waits_formatted m c.args.place (view (names_in m) c.args.x.now) (map (view (names_in m)) c.args.xs.now) (Some (view_redirection (names_in m) c.in-Some.to)))) c.in_ok-fill.was) (λ k hid d a. printf_target m c.args.place (view (names_in m) c.args.x.now) (map (view (names_in m)) c.args.xs.now) (view_redirection (names_in m) c.in-Some.to) _ (count_formatted (view (names_in m)) (view (names_in m) c.args.x.now) c.args.xs.now _ _ _ (c.in_ok-append.ensures.ok ∙ ap (λ vs. vs ++ c.in_ok-format.format ∷ []) c.new-values.ensures.items) c.in_ok-fill.ensures.count) k _)) (c.value-2.ensures.plays m is) c.in_ok-target.was) (acted (rw c.as_slice-2.ensures.value at (c.formatted_for.ensures m (c.value-2.new.run.store, c.value-2.new.run.streams) (view (names_in m) c.args.x.now) (map (view (names_in m)) c.args.xs.now) (view_redirection (names_in m) c.in-Some.to) (rw c.as_slice-2.ensures.value (count_formatted (view (names_in m)) (view (names_in m) c.args.x.now) c.args.xs.now _ _ _ (c.in_ok-append.ensures.ok ∙ ap (λ vs. vs ++ c.in_ok-format.format ∷ []) c.new-values.ensures.items) c.in_ok-fill.ensures.count))))) c.in_err-text-2.was; owns = c.value-2.ensures.owns })
 
-pub output::printf-returns-in_default-into_text : goal.output::printf-returns-in_default-into_text
-output::printf-returns-in_default-into_text g t c =
-    rw c.in-Some.is (record { plays = λ m is. lacking (part _ (part _ (quietly (part _ (part _ (quietly (at_once _ _ _) (λ k hid d a. refl)) (c.value.ensures.plays m is) c.in_ok-format.was) (filled_from _ (c.in_ok-format.format ∷ []) (c.in_ok-append.ensures.ok ∙ ap (λ vs. vs ++ c.in_ok-format.format ∷ []) c.new-values.ensures.items) c.fill.ensures.plays m is (Doing (p.printf c.args.place (view (names_in m) c.args.x.now) (map (view (names_in m)) c.args.xs.now) (Some (view_redirection (names_in m) c.in-Some.to)))) (waits_formatted m c.args.place (view (names_in m) c.args.x.now) (map (view (names_in m)) c.args.xs.now) (Some (view_redirection (names_in m) c.in-Some.to)))) c.in_ok-fill.was) (λ k hid d a. printf_target m c.args.place (view (names_in m) c.args.x.now) (map (view (names_in m)) c.args.xs.now) (view_redirection (names_in m) c.in-Some.to) _ (count_formatted (view (names_in m)) (view (names_in m) c.args.x.now) c.args.xs.now _ _ _ (c.in_ok-append.ensures.ok ∙ ap (λ vs. vs ++ c.in_ok-format.format ∷ []) c.new-values.ensures.items) c.in_ok-fill.ensures.count) k _)) (c.value-2.ensures.plays m is) c.in_ok-target.was) (acted (rw c.as_slice-2.ensures.value at (c.formatted_for.ensures m (c.value-2.new.run.store, c.value-2.new.run.streams) (view (names_in m) c.args.x.now) (map (view (names_in m)) c.args.xs.now) (view_redirection (names_in m) c.in-Some.to) (rw c.as_slice-2.ensures.value (count_formatted (view (names_in m)) (view (names_in m) c.args.x.now) c.args.xs.now _ _ _ (c.in_ok-append.ensures.ok ∙ ap (λ vs. vs ++ c.in_ok-format.format ∷ []) c.new-values.ensures.items) c.in_ok-fill.ensures.count))))) c.in_ok-text-2.was); owns = c.value-2.ensures.owns })
-
 pub output::printf-returns-in_err-put_to : goal.output::printf-returns-in_err-put_to
 output::printf-returns-in_err-put_to g t c =
-    let e = err_from_is_err_and c.from_residual-in_err-put_to.result c.from_residual-in_err-put_to.ensures.1 in rw (e.1, e.2, c.in-Some.is) (record { plays = λ m is. halts _ (rw c.in_err-put_to.was at (c.put_to.ensures.task m c.value-2.new.run.store (At (Doing (p.printf c.args.place (view (names_in m) c.args.x.now) (map (view (names_in m)) c.args.xs.now) (Some (view_redirection (names_in m) c.in-Some.to)))) []) (c.args.run.now.store, c.args.run.now.streams) c.args.world.now (turned {then_ = streamed (view_redirection (names_in m) c.in-Some.to) c.in-Ok.name c.in_ok-text-2.text} (part _ (part _ (quietly (part _ (part _ (quietly (at_once _ _ _) (λ k hid d a. refl)) (c.value.ensures.plays m is) c.in_ok-format.was) (filled_from _ (c.in_ok-format.format ∷ []) (c.in_ok-append.ensures.ok ∙ ap (λ vs. vs ++ c.in_ok-format.format ∷ []) c.new-values.ensures.items) c.fill.ensures.plays m is (Doing (p.printf c.args.place (view (names_in m) c.args.x.now) (map (view (names_in m)) c.args.xs.now) (Some (view_redirection (names_in m) c.in-Some.to)))) (waits_formatted m c.args.place (view (names_in m) c.args.x.now) (map (view (names_in m)) c.args.xs.now) (Some (view_redirection (names_in m) c.in-Some.to)))) c.in_ok-fill.was) (λ k hid d a. printf_target m c.args.place (view (names_in m) c.args.x.now) (map (view (names_in m)) c.args.xs.now) (view_redirection (names_in m) c.in-Some.to) _ (count_formatted (view (names_in m)) (view (names_in m) c.args.x.now) c.args.xs.now _ _ _ (c.in_ok-append.ensures.ok ∙ ap (λ vs. vs ++ c.in_ok-format.format ∷ []) c.new-values.ensures.items) c.in_ok-fill.ensures.count) k _)) (c.value-2.ensures.plays m is) c.in_ok-target.was) (acted (rw c.as_slice-2.ensures.value at (c.formatted_for.ensures m (c.value-2.new.run.store, c.value-2.new.run.streams) (view (names_in m) c.args.x.now) (map (view (names_in m)) c.args.xs.now) (view_redirection (names_in m) c.in-Some.to) (rw c.as_slice-2.ensures.value (count_formatted (view (names_in m)) (view (names_in m) c.args.x.now) c.args.xs.now _ _ _ (c.in_ok-append.ensures.ok ∙ ap (λ vs. vs ++ c.in_ok-format.format ∷ []) c.new-values.ensures.items) c.in_ok-fill.ensures.count))))) c.in_ok-text-2.was) (λ k. ap (λ n. streamed (view_redirection (names_in m) c.in-Some.to) n c.in_ok-text-2.text k) (sym c.in-Ok.ensures))))); owns = c.put_to.ensures.owns })
+    let e = err_from_is_err_and c.from_residual-in_err-put_to.result c.from_residual-in_err-put_to.ensures.1 in rw (e.1, e.2, c.in-Some.is) (record { plays = λ m is. halts _ (rw c.in_err-put_to.was at (c.put_to.ensures.task m c.value-2.new.run.store (At (Doing (p.printf c.args.place (view (names_in m) c.args.x.now) (map (view (names_in m)) c.args.xs.now) (Some (view_redirection (names_in m) c.in-Some.to)))) []) (c.args.run.now.store, c.args.run.now.streams) c.args.world.now (turned {then_ = streamed (view_redirection (names_in m) c.in-Some.to) (text_of (lent_value c.of.result)) c.in_ok-text-2.text} (part _ (part _ (quietly (part _ (part _ (quietly (at_once _ _ _) (λ k hid d a. refl)) (c.value.ensures.plays m is) c.in_ok-format.was) (filled_from _ (c.in_ok-format.format ∷ []) (c.in_ok-append.ensures.ok ∙ ap (λ vs. vs ++ c.in_ok-format.format ∷ []) c.new-values.ensures.items) c.fill.ensures.plays m is (Doing (p.printf c.args.place (view (names_in m) c.args.x.now) (map (view (names_in m)) c.args.xs.now) (Some (view_redirection (names_in m) c.in-Some.to)))) (waits_formatted m c.args.place (view (names_in m) c.args.x.now) (map (view (names_in m)) c.args.xs.now) (Some (view_redirection (names_in m) c.in-Some.to)))) c.in_ok-fill.was) (λ k hid d a. printf_target m c.args.place (view (names_in m) c.args.x.now) (map (view (names_in m)) c.args.xs.now) (view_redirection (names_in m) c.in-Some.to) _ (count_formatted (view (names_in m)) (view (names_in m) c.args.x.now) c.args.xs.now _ _ _ (c.in_ok-append.ensures.ok ∙ ap (λ vs. vs ++ c.in_ok-format.format ∷ []) c.new-values.ensures.items) c.in_ok-fill.ensures.count) k _)) (c.value-2.ensures.plays m is) c.in_ok-target.was) (acted (rw c.as_slice-2.ensures.value at (c.formatted_for.ensures m (c.value-2.new.run.store, c.value-2.new.run.streams) (view (names_in m) c.args.x.now) (map (view (names_in m)) c.args.xs.now) (view_redirection (names_in m) c.in-Some.to) (rw c.as_slice-2.ensures.value (count_formatted (view (names_in m)) (view (names_in m) c.args.x.now) c.args.xs.now _ _ _ (c.in_ok-append.ensures.ok ∙ ap (λ vs. vs ++ c.in_ok-format.format ∷ []) c.new-values.ensures.items) c.in_ok-fill.ensures.count))))) c.in_ok-text-2.was) (λ k. ap (λ n. streamed (view_redirection (names_in m) c.in-Some.to) n c.in_ok-text-2.text k) (ap text_of (sym c.of.ensures)))))); owns = c.put_to.ensures.owns })
 
 pub output::printf-returns : goal.output::printf-returns
 output::printf-returns g t c =
-    rw c.in-Some.is (record { plays = λ m is. done (rw c.in_ok-put_to.was at (c.put_to.ensures.task m c.value-2.new.run.store (At (Doing (p.printf c.args.place (view (names_in m) c.args.x.now) (map (view (names_in m)) c.args.xs.now) (Some (view_redirection (names_in m) c.in-Some.to)))) []) (c.args.run.now.store, c.args.run.now.streams) c.args.world.now (turned {then_ = streamed (view_redirection (names_in m) c.in-Some.to) c.in-Ok.name c.in_ok-text-2.text} (part _ (part _ (quietly (part _ (part _ (quietly (at_once _ _ _) (λ k hid d a. refl)) (c.value.ensures.plays m is) c.in_ok-format.was) (filled_from _ (c.in_ok-format.format ∷ []) (c.in_ok-append.ensures.ok ∙ ap (λ vs. vs ++ c.in_ok-format.format ∷ []) c.new-values.ensures.items) c.fill.ensures.plays m is (Doing (p.printf c.args.place (view (names_in m) c.args.x.now) (map (view (names_in m)) c.args.xs.now) (Some (view_redirection (names_in m) c.in-Some.to)))) (waits_formatted m c.args.place (view (names_in m) c.args.x.now) (map (view (names_in m)) c.args.xs.now) (Some (view_redirection (names_in m) c.in-Some.to)))) c.in_ok-fill.was) (λ k hid d a. printf_target m c.args.place (view (names_in m) c.args.x.now) (map (view (names_in m)) c.args.xs.now) (view_redirection (names_in m) c.in-Some.to) _ (count_formatted (view (names_in m)) (view (names_in m) c.args.x.now) c.args.xs.now _ _ _ (c.in_ok-append.ensures.ok ∙ ap (λ vs. vs ++ c.in_ok-format.format ∷ []) c.new-values.ensures.items) c.in_ok-fill.ensures.count) k _)) (c.value-2.ensures.plays m is) c.in_ok-target.was) (acted (rw c.as_slice-2.ensures.value at (c.formatted_for.ensures m (c.value-2.new.run.store, c.value-2.new.run.streams) (view (names_in m) c.args.x.now) (map (view (names_in m)) c.args.xs.now) (view_redirection (names_in m) c.in-Some.to) (rw c.as_slice-2.ensures.value (count_formatted (view (names_in m)) (view (names_in m) c.args.x.now) c.args.xs.now _ _ _ (c.in_ok-append.ensures.ok ∙ ap (λ vs. vs ++ c.in_ok-format.format ∷ []) c.new-values.ensures.items) c.in_ok-fill.ensures.count))))) c.in_ok-text-2.was) (λ k. ap (λ n. streamed (view_redirection (names_in m) c.in-Some.to) n c.in_ok-text-2.text k) (sym c.in-Ok.ensures))))); owns = c.put_to.ensures.owns })
+    rw c.in-Some.is (record { plays = λ m is. done (rw c.in_ok-put_to.was at (c.put_to.ensures.task m c.value-2.new.run.store (At (Doing (p.printf c.args.place (view (names_in m) c.args.x.now) (map (view (names_in m)) c.args.xs.now) (Some (view_redirection (names_in m) c.in-Some.to)))) []) (c.args.run.now.store, c.args.run.now.streams) c.args.world.now (turned {then_ = streamed (view_redirection (names_in m) c.in-Some.to) (text_of (lent_value c.of.result)) c.in_ok-text-2.text} (part _ (part _ (quietly (part _ (part _ (quietly (at_once _ _ _) (λ k hid d a. refl)) (c.value.ensures.plays m is) c.in_ok-format.was) (filled_from _ (c.in_ok-format.format ∷ []) (c.in_ok-append.ensures.ok ∙ ap (λ vs. vs ++ c.in_ok-format.format ∷ []) c.new-values.ensures.items) c.fill.ensures.plays m is (Doing (p.printf c.args.place (view (names_in m) c.args.x.now) (map (view (names_in m)) c.args.xs.now) (Some (view_redirection (names_in m) c.in-Some.to)))) (waits_formatted m c.args.place (view (names_in m) c.args.x.now) (map (view (names_in m)) c.args.xs.now) (Some (view_redirection (names_in m) c.in-Some.to)))) c.in_ok-fill.was) (λ k hid d a. printf_target m c.args.place (view (names_in m) c.args.x.now) (map (view (names_in m)) c.args.xs.now) (view_redirection (names_in m) c.in-Some.to) _ (count_formatted (view (names_in m)) (view (names_in m) c.args.x.now) c.args.xs.now _ _ _ (c.in_ok-append.ensures.ok ∙ ap (λ vs. vs ++ c.in_ok-format.format ∷ []) c.new-values.ensures.items) c.in_ok-fill.ensures.count) k _)) (c.value-2.ensures.plays m is) c.in_ok-target.was) (acted (rw c.as_slice-2.ensures.value at (c.formatted_for.ensures m (c.value-2.new.run.store, c.value-2.new.run.streams) (view (names_in m) c.args.x.now) (map (view (names_in m)) c.args.xs.now) (view_redirection (names_in m) c.in-Some.to) (rw c.as_slice-2.ensures.value (count_formatted (view (names_in m)) (view (names_in m) c.args.x.now) c.args.xs.now _ _ _ (c.in_ok-append.ensures.ok ∙ ap (λ vs. vs ++ c.in_ok-format.format ∷ []) c.new-values.ensures.items) c.in_ok-fill.ensures.count))))) c.in_ok-text-2.was) (λ k. ap (λ n. streamed (view_redirection (names_in m) c.in-Some.to) n c.in_ok-text-2.text k) (ap text_of (sym c.of.ensures)))))); owns = c.put_to.ensures.owns })
 
 pub expressions::general_truth-returns-then-level-eq0 : goal.expressions::general_truth-returns-then-level-eq0
 expressions::general_truth-returns-then-level-eq0 g t c =
@@ -1450,50 +1456,35 @@ expressions::effect-returns-then-is_done g t c =
     let h = c.done_at_once-is_done.ensures.done c.if-is_done.true in
     record { val = h.val; is = tt; does = record { plays = λ m is. acted (there {on = λ (u : Unit {0}). give h.val} {x = tt} (h.gives m c.args.run.now.streams)); owns = c.requires } }
 
-pub expressions::effect-returns-in_err-is_split : goal.expressions::effect-returns-in_err-is_split
-expressions::effect-returns-in_err-is_split g t c =
+pub expressions::effect-returns-in_err-is_done : goal.expressions::effect-returns-in_err-is_done
+expressions::effect-returns-in_err-is_done g t c =
     let e = err_from_is_err_and c.from_residual.result c.from_residual.ensures.1 in
-    rw (e.1, e.2) (record { val = v.Unset; is = tt; does = record { plays = λ m is. stop _ (λ k. refl) (at_once _ _ _) (acted (rw (c.done_at_once-is_done.ensures.not_done c.if-is_done.false) at (c.split_for_parts.ensures m c.args.run.now.streams (value (view (names_in m) c.args.e.now))))) c.in_err-is_split.was; owns = c.requires } })
+    rw (e.1, e.2) (record { val = v.Unset; is = tt; does = record { plays = λ m is. stop _ (λ k. refl) (at_once _ _ _) (acted (rw (c.done_at_once-is_done.ensures.not_done c.if-is_done.false) at (c.done_once_split.ensures.not_done (failed_not c.in_err-is_done.was) m c.args.run.now.streams (value (view (names_in m) c.args.e.now))))) c.in_err-is_done.was; owns = c.requires } })
 
-pub expressions::effect-returns-then-is_split : goal.expressions::effect-returns-then-is_split
-expressions::effect-returns-then-is_split g t c =
-    let h = c.effect_of_split.ensures in
-    record { val = h.val; is = h.is; does = record { plays = λ m is. hands (part _ (at_once _ _ _) (acted (rw (c.done_at_once-is_done.ensures.not_done c.if-is_done.false) at (c.split_for_parts.ensures m c.args.run.now.streams (value (view (names_in m) c.args.e.now))))) c.in_ok-is_split.was) (h.does.plays m is); owns = h.does.owns } }
+pub expressions::effect-returns-then-is_done-2 : goal.expressions::effect-returns-then-is_done-2
+expressions::effect-returns-then-is_done-2 g t c =
+    let h = rw (c.done_at_once-is_done.ensures.not_done c.if-is_done.false) at (c.done_once_split.ensures.done (c.in_ok-is_done.was ∙ ap Ok c.if-is_done-2.true)) in
+    record { val = h.val; is = tt; does = record { plays = λ m is. acted (there {on = λ (u : Unit {0}). give h.val} {x = tt} (h.gives m c.args.run.now.streams)); owns = c.requires } }
 
 pub expressions::effect-returns : goal.expressions::effect-returns
 expressions::effect-returns g t c =
     let h = c.general_effect.ensures in
-    record { val = h.val; is = h.is; does = record { plays = λ m is. hands (part _ (at_once _ _ _) (acted (rw (c.done_at_once-is_done.ensures.not_done c.if-is_done.false) at (c.split_for_parts.ensures m c.args.run.now.streams (value (view (names_in m) c.args.e.now))))) c.in_ok-is_split.was) (h.does.plays m is); owns = h.does.owns } }
+    record { val = h.val; is = h.is; does = record { plays = λ m is. hands (part _ (at_once _ _ _) (acted (rw (c.done_at_once-is_done.ensures.not_done c.if-is_done.false) at (c.done_once_split.ensures.not_done (false_not c.in_ok-is_done.is_done c.in_ok-is_done.was c.if-is_done-2.false) m c.args.run.now.streams (value (view (names_in m) c.args.e.now))))) c.in_ok-is_done.was) (h.does.plays m is); owns = h.does.owns } }
 
-pub expressions::effect_of_split-returns-then-is_done : goal.expressions::effect_of_split-returns-then-is_done
-expressions::effect_of_split-returns-then-is_done g t c =
-    let h = c.done_at_once-is_done.ensures.done c.if-is_done.true in
-    record { val = h.val; is = tt; does = record { plays = λ m is. acted (there {on = λ (u : Unit {0}). give h.val} {x = tt} (h.gives m c.args.run.now.streams)); owns = c.requires } }
-
-pub expressions::effect_of_split-returns : goal.expressions::effect_of_split-returns
-expressions::effect_of_split-returns g t c =
-    let h = c.general_effect.ensures in
-    record { val = h.val; is = h.is; does = record { plays = λ m is. rw (c.done_at_once-is_done.ensures.not_done c.if-is_done.false) at (h.does.plays m is); owns = h.does.owns } }
-
-pub expressions::truth_of-returns-in_err-is_split : goal.expressions::truth_of-returns-in_err-is_split
-expressions::truth_of-returns-in_err-is_split g t c =
+pub expressions::truth_of-returns-in_err-found : goal.expressions::truth_of-returns-in_err-found
+expressions::truth_of-returns-in_err-found g t c =
     let e = err_from_is_err_and c.from_residual.result c.from_residual.ensures.1 in
-    rw (e.1, e.2) (record { val = v.Unset; is = tt; does = record { plays = λ m is. stop _ (λ k. refl) (at_once _ _ _) (acted (c.split_for_parts.ensures m c.args.run.now.streams (value (view (names_in m) c.args.e.now)))) c.in_err-is_split.was; owns = c.requires } })
+    rw (e.1, e.2) (record { val = v.Unset; is = tt; does = record { plays = λ m is. stop _ (λ k. refl) (at_once _ _ _) (acted (c.truth_once_split.ensures.plays m c.args.run.now.streams (value (view (names_in m) c.args.e.now)))) c.in_err-found.was; owns = c.requires } })
 
-pub expressions::truth_of-returns-then-is_split : goal.expressions::truth_of-returns-then-is_split
-expressions::truth_of-returns-then-is_split g t c =
-    let h = c.truth_of_split.ensures in
-    record { val = h.val; is = h.is; does = record { plays = λ m is. hands (part _ (at_once _ _ _) (acted (c.split_for_parts.ensures m c.args.run.now.streams (value (view (names_in m) c.args.e.now)))) c.in_ok-is_split.was) (h.does.plays m is); owns = h.does.owns } }
+pub expressions::truth_of-returns-in-Some-found : goal.expressions::truth_of-returns-in-Some-found
+expressions::truth_of-returns-in-Some-found g t c =
+    let h = rw c.in-Some-found.is at c.in_ok-found.ensures.there in
+    record { val = h.val; is = sym h.is; does = record { plays = λ m is. done (part c.in-Some-found.known (part _ (at_once _ _ _) (acted (c.truth_once_split.ensures.plays m c.args.run.now.streams (value (view (names_in m) c.args.e.now)))) c.in_ok-found.was) (acted (there {on = λ (x : Bool). give h.val} {x = c.in-Some-found.known} (h.there m c.args.run.now.streams))) refl); owns = c.requires } }
 
 pub expressions::truth_of-returns : goal.expressions::truth_of-returns
 expressions::truth_of-returns g t c =
     let h = c.general_truth.ensures in
-    record { val = h.val; is = h.is; does = record { plays = λ m is. hands (part _ (at_once _ _ _) (acted (c.split_for_parts.ensures m c.args.run.now.streams (value (view (names_in m) c.args.e.now)))) c.in_ok-is_split.was) (h.does.plays m is); owns = h.does.owns } }
-
-pub expressions::truth_of_split-returns-in-Some : goal.expressions::truth_of_split-returns-in-Some
-expressions::truth_of_split-returns-in-Some g t c =
-    let h = c.in-Some.ensures in
-    record { val = h.val; is = sym h.is; does = record { plays = λ m is. acted (there {on = λ (x : Bool). give h.val} {x = c.in-Some.known} (h.there m c.args.run.now.streams)); owns = c.requires } }
+    record { val = h.val; is = h.is; does = record { plays = λ m is. hands (part _ (at_once _ _ _) (acted (c.truth_once_split.ensures.plays m c.args.run.now.streams (value (view (names_in m) c.args.e.now)))) c.in_ok-found.was) (h.does.plays m is); owns = h.does.owns } }
 
 pub expressions::evaluate-returns-in_err-found-in-Match : goal.expressions::evaluate-returns-in_err-found-in-Match
 expressions::evaluate-returns-in_err-found-in-Match g t c =
@@ -1540,6 +1531,26 @@ pub output::print-returns-in-Some-known : goal.output::print-returns-in-Some-kno
 output::print-returns-in-Some-known g t c =
     rw c.in_default.is (record { plays = λ m is. done (part _ (part c.in-Some-known.text (part _ (at_once _ _ _) (acted (c.split_for_items.ensures m c.args.run.now.streams (At (Doing (p.print c.args.place (map (view (names_in m)) c.args.xs.now) None)) []))) c.in_ok-split_for_items.was) (acted (there {on = to_standard c.args.place} {x = c.in-Some-known.text} (c.in-Some-known.ensures m c.args.run.now.streams c.args.place))) refl) (lifted m c.split_for_items.new.store (λ s. c.put.ensures.task m s c.args.run.now.streams (Standard 1) refl)) c.in_ok-room.was); owns = rw c.put.ensures.numbers c.requires })
 
+pub output::print-returns-in-Some : goal.output::print-returns-in-Some
+output::print-returns-in-Some g t c =
+    rw c.in-Some.is (record { plays = λ m is. hands (part _ (at_once _ _ _) (acted (c.split_for_items.ensures m c.args.run.now.streams (At (Doing (p.print c.args.place (map (view (names_in m)) c.args.xs.now) (Some (view_redirection (names_in m) c.in-Some.to)))) []))) c.in_ok-split_for_items.was) (c.redirect.ensures.plays m is); owns = c.redirect.ensures.owns })
+
 pub output::print-returns : goal.output::print-returns
 output::print-returns g t c =
-    record { plays = λ m is. hands (part _ (at_once _ _ _) (acted (c.split_for_items.ensures m c.args.run.now.streams (At (Doing (p.print c.args.place (map (view (names_in m)) c.args.xs.now) (option_map (view_redirection (names_in m)) c.args.to.now))) []))) c.in_ok-split_for_items.was) (c.general_print-2.ensures.plays m is); owns = c.general_print-2.ensures.owns }
+    rw c.in_default.is (record { plays = λ m is. hands (part _ (at_once _ _ _) (acted (c.split_for_items.ensures m c.args.run.now.streams (At (Doing (p.print c.args.place (map (view (names_in m)) c.args.xs.now) None)) []))) c.in_ok-split_for_items.was) (c.general_print.ensures.plays m is); owns = c.general_print.ensures.owns })
+
+pub output::redirect-returns-in_err-split_for : goal.output::redirect-returns-in_err-split_for
+output::redirect-returns-in_err-split_for g t c =
+    let e = err_from_is_err_and c.from_residual.result c.from_residual.ensures.1 in rw (e.1, e.2) (record { plays = λ m is. stop _ (λ k. refl) (at_once _ _ _) (acted (c.split_for.ensures m c.args.run.now.streams (At (Doing (p.print c.args.place (map (view (names_in m)) c.args.xs.now) (Some (view_redirection (names_in m) c.args.to.now)))) []))) c.in_err-split_for.was; owns = c.requires })
+
+pub output::redirect-returns-in_err-room : goal.output::redirect-returns-in_err-room
+output::redirect-returns-in_err-room g t c =
+    let e = err_from_is_err_and c.from_residual-in_err-room.result c.from_residual-in_err-room.ensures.1 in rw (e.1, e.2) (record { plays = λ m is. halts _ (rw c.in_err-room.was at (c.put_to.ensures.task m c.split_for.new.store (At (Doing (p.print c.args.place (map (view (names_in m)) c.args.xs.now) (Some (view_redirection (names_in m) c.args.to.now)))) []) (c.args.run.now.store, c.args.run.now.streams) c.args.world.now (turned {then_ = streamed (view_redirection (names_in m) c.args.to.now) (text_of (lent_value c.in-Some.name)) c.in-Some.text} (part c.in-Some.text (part _ (at_once _ _ _) (acted (c.split_for.ensures m c.args.run.now.streams (At (Doing (p.print c.args.place (map (view (names_in m)) c.args.xs.now) (Some (view_redirection (names_in m) c.args.to.now)))) []))) c.in_ok-split_for.was) (acted (there {on = to_stream (view_redirection (names_in m) c.args.to.now) (lent_value c.in-Some.name)} {x = c.in-Some.text} (c.in-Some.ensures m c.args.run.now.streams c.args.place))) refl) (λ k. refl)))); owns = c.put_to.ensures.owns })
+
+pub output::redirect-returns-in-Some : goal.output::redirect-returns-in-Some
+output::redirect-returns-in-Some g t c =
+    record { plays = λ m is. done (rw c.in_ok-room.was at (c.put_to.ensures.task m c.split_for.new.store (At (Doing (p.print c.args.place (map (view (names_in m)) c.args.xs.now) (Some (view_redirection (names_in m) c.args.to.now)))) []) (c.args.run.now.store, c.args.run.now.streams) c.args.world.now (turned {then_ = streamed (view_redirection (names_in m) c.args.to.now) (text_of (lent_value c.in-Some.name)) c.in-Some.text} (part c.in-Some.text (part _ (at_once _ _ _) (acted (c.split_for.ensures m c.args.run.now.streams (At (Doing (p.print c.args.place (map (view (names_in m)) c.args.xs.now) (Some (view_redirection (names_in m) c.args.to.now)))) []))) c.in_ok-split_for.was) (acted (there {on = to_stream (view_redirection (names_in m) c.args.to.now) (lent_value c.in-Some.name)} {x = c.in-Some.text} (c.in-Some.ensures m c.args.run.now.streams c.args.place))) refl) (λ k. refl)))); owns = c.put_to.ensures.owns }
+
+pub output::redirect-returns : goal.output::redirect-returns
+output::redirect-returns g t c =
+    record { plays = λ m is. hands (part _ (at_once _ _ _) (acted (c.split_for.ensures m c.args.run.now.streams (At (Doing (p.print c.args.place (map (view (names_in m)) c.args.xs.now) (Some (view_redirection (names_in m) c.args.to.now)))) []))) c.in_ok-split_for.was) (c.general_redirect.ensures.plays m is); owns = c.general_redirect.ensures.owns }

@@ -28,14 +28,8 @@ decreases-expressions::compare g l = 1 + 16 * l.level
 abbrev pub decreases-expressions::effect : goal.decreases-expressions::effect
 decreases-expressions::effect g l = 3 + 16 * l.level
 
-abbrev pub decreases-expressions::truth_of_split : goal.decreases-expressions::truth_of_split
-decreases-expressions::truth_of_split g l = 2 + 16 * l.level
-
 abbrev pub decreases-expressions::general_truth : goal.decreases-expressions::general_truth
 decreases-expressions::general_truth g l = 1 + 16 * l.level
-
-abbrev pub decreases-expressions::effect_of_split : goal.decreases-expressions::effect_of_split
-decreases-expressions::effect_of_split g l = 2 + 16 * l.level
 
 abbrev pub decreases-expressions::general_effect : goal.decreases-expressions::general_effect
 decreases-expressions::general_effect g l = 1 + 16 * l.level
@@ -179,10 +173,16 @@ abbrev pub decreases-inputs::system : goal.decreases-inputs::system
 decreases-inputs::system g l = 1 + 16 * l.level
 
 abbrev pub decreases-output::print : goal.decreases-output::print
-decreases-output::print g l = 3 + 16 * l.level
+decreases-output::print g l = 4 + 16 * l.level
+
+abbrev pub decreases-output::redirect : goal.decreases-output::redirect
+decreases-output::redirect g l = 3 + 16 * l.level
 
 abbrev pub decreases-output::general_print : goal.decreases-output::general_print
 decreases-output::general_print g l = 2 + 16 * l.level
+
+abbrev pub decreases-output::general_redirect : goal.decreases-output::general_redirect
+decreases-output::general_redirect g l = 2 + 16 * l.level
 
 abbrev pub decreases-output::printf : goal.decreases-output::printf
 decreases-output::printf g l = 2 + 16 * l.level
