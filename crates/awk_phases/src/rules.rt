@@ -10,12 +10,11 @@ ghost use Rattle.awk_tasks.specs.Wholes.{names_in};
 ghost use Rattle.awk_actions.specs.Runs.{Does};
 ghost use Rattle.awk_phases.specs.Rules.{met, rule_of};
 
-use awk_actions::{Context, Run, body, value};
+use awk_actions::{Context, Run, body, truth_of, value};
 use awk_asks::halt::Halt;
 use awk_calls::Flow;
 use awk_program::{Expr, Rule, Statement, When};
 use awk_records::ranges::{begin_range, end_range};
-use awk_text::value::truth;
 use box_world::world::World;
 
 /// How deep the evaluation of expressions and statements may nest: where no level is left, memory for the next one is refused.
@@ -35,8 +34,8 @@ fn where_holds<W: World>(
         (λ g. At (Choosing n (rule_of (p.holds (view (names_in g) pattern.now)) (map (view_statement (names_in g)) action.now))) []) (λ g. flows)
         (run.old.store, run.old.streams) world.old result (run.new.store, run.new.streams) world.new }
 {
-    let found = value(cx, pattern, MOST_LEVELS, run, world)?;
-    if !truth(&found) {
+    let holds = truth_of(cx, pattern, MOST_LEVELS, run, world)?;
+    if !holds {
         return Ok(Flow::On);
     }
     body(cx, action, MOST_LEVELS, run, world)
