@@ -1,18 +1,13 @@
 // Values that are there without a move: constants, variables, elements, fields, and what arithmetic makes of them.
-ghost use Rattle.std.specs.Prelude.{◌≡◌, ◌∷◌, false, map, IfSome};
-ghost use Rattle.awk_asks.specs.Tables.{Table};
+ghost use Rattle.std.specs.Prelude.{◌≡◌, false, map, IfSome};
 ghost use Rattle.awk_forms.specs.AtHand.{HasNumber, HasTruth, IsThere};
 ghost use Rattle.awk_lent.specs.Lents.{lent_value};
-ghost use Rattle.awk_machine.specs.Pieces.{Piece};
-ghost use Rattle.awk_machine.specs.State.{Given};
 ghost use Rattle.awk_program.specs.Program as p;
 ghost use Rattle.awk_program.specs.Program.{expressions_of, terms_of};
 ghost use Rattle.awk_program.specs.View.{view, view_target, view_term, variable_of};
 ghost use Rattle.awk_store.specs.Kept as kept;
-ghost use Rattle.awk_tasks.specs.Acts.{Acts};
 ghost use Rattle.awk_text.specs.declared.value.Value.TheVariants as v;
 
-use awk_asks::halt::Halt;
 use awk_lent::lent::Lent;
 use awk_program::{Comparison, Expr, Target, Term, Variable};
 use awk_store::{Store, is_nf};
