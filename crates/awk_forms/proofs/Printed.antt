@@ -102,10 +102,6 @@ module _ (g : Given) (kept : Kept) (t : Table) (place : Place) where
       ap (held g (seen (base g (kept, t) hid) d)) (printed_some machine.printed place (map (view (names_in g)) xs) part r name vals k (seen (base g (kept, t) hid) d) count)
       ∙ ap (λ m. held g (seen (base g (kept, t) hid) d) (granted place m (λ y k s. Goes (to_stream r name y k) s) k (seen (base g (kept, t) hid) d))) (printed-so g (kept, t) hid d a vals ∙ is))
 
-pub no_items : {X : Type 0} (xs : List X) → length xs ≡ 0 → xs ≡ []
-no_items [] e = refl
-no_items (x ∷ xs) e = absurd (omega (arith, e))
-
 pub if_some : {X : Type 0} {P Q : X → Type 0} (o : Option X) → ((x : X) → P x → Q x) → IfSome o P → IfSome o Q
 if_some None f h = tt
 if_some (Some x) f h = f x h

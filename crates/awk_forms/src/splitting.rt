@@ -109,6 +109,7 @@ fn split_now(store: &mut Store) -> Result<bool, Halt>
     Ok(true)
 }
 
+/// `truth_once_split`, where there is something to split for: out of line, since that is once a record.
 #[inline(never)]
 fn truth_of_split(store: &mut Store, e: &Expr) -> Result<Option<bool>, Halt>
     ensures plays { (g : Given) (t : Table) (q : Piece) → Acts g q (λ u k. q ∷ k) (store.old, t) result (store.new, t) }
@@ -133,6 +134,7 @@ pub fn truth_once_split(store: &mut Store, e: &Expr) -> Result<Option<bool>, Hal
     truth_of_split(store, e)
 }
 
+/// `done_once_split`, where there is something to split for: out of line, since that is once a record.
 #[inline(never)]
 fn done_of_split(alloc: Global, store: &mut Store, line: &mut Line, e: &Expr) -> Result<bool, Halt>
     ensures done { result ≡ Ok true → IsDone (λ names. view names e.now) store.old store.new }

@@ -47,8 +47,8 @@ fn mode_of(how: Redirect) -> Mode
     }
 }
 
-/// Puts a text to the stream of this name, which is opened before where it is not open. Answers the text, whose room can serve the next
-/// one.
+/// Puts a text to the stream of this name, which is opened before where it is not open. Answers the text, whose room can serve
+/// the next one.
 pub fn put_to<W: World>(
     alloc: Global,
     place: Place,
