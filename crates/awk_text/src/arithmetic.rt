@@ -7,6 +7,7 @@ use crate::fault::Fault;
 /// The sum. Takes no memory.
 ///
 /// Fails with `Fault::OutOfRange` where it is out of range.
+#[inline(always)]
 pub fn add(a: i64, b: i64) -> Result<i64, Fault>
     ensures { result ≡ add a b }
 {
@@ -16,6 +17,7 @@ pub fn add(a: i64, b: i64) -> Result<i64, Fault>
 /// The difference. Takes no memory.
 ///
 /// Fails with `Fault::OutOfRange` where it is out of range.
+#[inline(always)]
 pub fn sub(a: i64, b: i64) -> Result<i64, Fault>
     ensures { result ≡ sub a b }
 {
@@ -25,6 +27,7 @@ pub fn sub(a: i64, b: i64) -> Result<i64, Fault>
 /// The product. Takes no memory.
 ///
 /// Fails with `Fault::OutOfRange` where it is out of range.
+#[inline(always)]
 pub fn mul(a: i64, b: i64) -> Result<i64, Fault>
     ensures { result ≡ mul a b }
 {
