@@ -100,6 +100,7 @@ pub fn truth_of<W: World>(
 
 /// The same, of what is not at hand.
 #[cycle(run)]
+#[inline(never)]
 fn general_truth<W: World>(
     cx: &Context<'_>,
     e: &Expr,
@@ -172,6 +173,7 @@ pub fn effect<W: World>(
 
 /// The same, of what is not done at once.
 #[cycle(run)]
+#[inline(never)]
 fn general_effect<W: World>(
     cx: &Context<'_>,
     e: &Expr,

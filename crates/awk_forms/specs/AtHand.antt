@@ -1,15 +1,20 @@
 -- Expressions whose value is there: to evaluate them changes nothing and meets no fault; and assignments that are done at once.
-use Rattle.std.specs.Prelude.{◌≡◌, ℕ, ℤ, Bool, Ok, List, [], ◌∷◌, Option}
+use Rattle.std.specs.Prelude.{◌≡◌, ℕ, ℤ, Bool, Ok, Some, List, [], ◌∷◌, Option, map}
 use Rattle.awk_fields.specs.Rows.{joined}
 use Rattle.awk_text.specs.Values.{number_of, truth}
 use Rattle.awk_text.specs.declared.value.Value.{Value}
-use Rattle.awk_program.specs.Program.{Expression}
+use Rattle.awk_text.specs.declared.place.Place.{Place}
+use Rattle.awk_text.specs.declared.value.Value.TheVariants as v
+use Rattle.awk_program.specs.Program as p
+use Rattle.awk_program.specs.Program.{Expression, expressions_of}
+use Rattle.awk_program.specs.declared.variables.Variable.{Variable}
 use Rattle.awk_program.specs.View.{Names, view}
 use Rattle.awk_program.specs.declared.expressions.Expr.{Expr}
-use Rattle.awk_machine.specs.Forms.{value}
+use Rattle.awk_machine.specs.Forms.{spot, value}
 use Rattle.awk_machine.specs.Pieces.{give}
 use Rattle.awk_machine.specs.State.{Given}
-use Rattle.awk_store.specs.Kept.{Kept}
+use Rattle.awk_store.specs.Changes.{Adds, with_array}
+use Rattle.awk_store.specs.Kept.{Kept, array, reference}
 use Rattle.awk_asks.specs.Tables.{Table}
 use Rattle.awk_tasks.specs.Acts.{Passes}
 use Rattle.awk_tasks.specs.Wholes.{names_in}
@@ -53,3 +58,13 @@ pub record HoldsJoined (kept : Kept) (xs : List Expr) (separator : List ℕ) (fi
   pub vals : List Value
   pub there : AreThere kept xs vals
   pub line_is : line ≡ held (joined separator (first ∷ vals))
+
+-- subscripts are this key, of whichever array
+abbrev pub IsKey : List Expr → Kept → List ℕ → Type 0
+IsKey keys kept key = (g : Given) (t : Table) (place : Place) (of_ : p.Variable) → Passes g (spot (p.element place of_ (expressions_of (map (view (names_in g)) keys)))) (kept, t) (give (v.Text key)) (kept, t)
+
+-- the element with these subscripts holds a number, and is given the sum of that and another one
+pub record AddsAt (of_ : Variable) (keys : List Expr) (by_ : ℤ) (old new : Kept) : Type 0 where
+  pub key : List ℕ
+  pub is : IsKey keys old key
+  pub adds : Adds (Some (array old of_)) key by_ (λ elements. new ≡ with_array (reference old of_) elements old)

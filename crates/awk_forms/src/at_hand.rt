@@ -1,11 +1,10 @@
 // Values that are there without a move: constants, variables, elements, fields, and what arithmetic makes of them.
-ghost use Rattle.std.specs.Prelude.{◌≡◌, false, map, IfSome};
+ghost use Rattle.std.specs.Prelude.{◌≡◌, map, IfSome};
 ghost use Rattle.awk_forms.specs.AtHand.{HasNumber, HasTruth, IsThere};
 ghost use Rattle.awk_lent.specs.Lents.{lent_value};
 ghost use Rattle.awk_program.specs.Program as p;
 ghost use Rattle.awk_program.specs.Program.{expressions_of, terms_of};
-ghost use Rattle.awk_program.specs.View.{view, view_target, view_term, variable_of};
-ghost use Rattle.awk_store.specs.Kept as kept;
+ghost use Rattle.awk_program.specs.View.{Names, view, view_target, view_term, variable_of};
 ghost use Rattle.awk_text.specs.declared.value.Value.TheVariants as v;
 
 use awk_lent::lent::Lent;
@@ -38,16 +37,17 @@ fn variable_at_hand<'a>(store: &'a Store, variable: Variable) -> Option<Lent<'a>
     }
 }
 
-/// The number that a variable holds, if it holds one. NF is none.
+/// The number that a variable holds, if it holds one. NF does where the record is split.
 #[inline(always)]
 fn number_held(store: &Store, variable: Variable) -> Option<i64>
-    ensures nf { IfSome result (λ n. kept.is_nf variable ≡ false) }
-    ensures number { IfSome result (λ n. kept.value store.now variable ≡ v.Num n) }
+    ensures { IfSome result (λ n. IsThere (λ names. p.read (p.variable (variable_of names variable))) store.now (v.Num n)) }
 {
     if is_nf(variable) {
-        return None;
+        let count = store.known_field_count()?;
+        return Some(count);
     }
-    match store.value(variable)? {
+    let held = store.value(variable)?;
+    match held {
         Value::Num(number) => Some(*number),
         Value::Unset | Value::Text(_) | Value::Input(_) => None,
     }
@@ -66,6 +66,7 @@ fn number_read(store: &Store, target: &Target<Expr>) -> Option<i64>
 
 /// The value of an element that is there, by one subscript.
 #[cycle(hand)]
+#[inline(never)]
 fn element_at_hand<'a>(
     store: &'a Store,
     place: Place,
@@ -90,6 +91,7 @@ fn element_at_hand<'a>(
 
 /// The value of a field: of the record as it is, or of one of its parts where it is split.
 #[cycle(hand)]
+#[inline(never)]
 fn field_at_hand<'a>(
     store: &'a Store,
     place: Place,
@@ -107,6 +109,7 @@ fn field_at_hand<'a>(
 
 /// The value of what is read, where to read it changes nothing.
 #[cycle(hand)]
+#[inline(always)]
 fn target_at_hand<'a>(store: &'a Store, target: &'a Target<Expr>, level: u32) -> Option<Lent<'a>>
     ensures { IfSome result (λ v. IsThere (λ names. p.read (view_target names target.now)) store.now (lent_value v)) }
 {
@@ -130,6 +133,7 @@ fn target_at_hand<'a>(store: &'a Store, target: &'a Target<Expr>, level: u32) ->
 /// The number of a chain of `+` and `-`, or of `*`, `/` and `%`, or of one `^`, whose operands are there and which meets no
 /// fault.
 #[cycle(hand)]
+#[inline(never)]
 fn chain_at_hand(store: &Store, x: &Expr, xs: &[Term<Expr>], level: u32) -> Option<i64>
     ensures { IfSome result (λ n. IsThere (λ names. p.chain (view names x.now) (terms_of (map (view_term names) xs.now))) store.now (v.Num n)) }
 {
@@ -217,7 +221,7 @@ pub fn number_there(store: &Store, e: &Expr) -> Option<i64>
 }
 
 /// A value of its own for what is lent.
-#[inline(always)]
+#[inline(never)]
 fn owned<'a>(alloc: Global, value: Lent<'a>) -> Option<Value>
     ensures { IfSome result (λ v. v ≡ lent_value value.entry) }
 {
@@ -241,21 +245,37 @@ pub fn value_at_hand(alloc: Global, store: &Store, e: &Expr) -> Option<Value>
     owned(alloc, value)
 }
 
+/// Whether a comparison with a number holds, where the other side is there.
+#[inline(never)]
+fn compared_with(store: &Store, how: Comparison, left: i64, y: &Expr) -> Option<bool>
+    ensures { IfSome result (λ b. (x : Names → p.Expression) → IsThere x store.now (v.Num left) → HasTruth (λ names. p.compare how (x names) (view names y.now)) store.now b) }
+{
+    let right = at_hand(store, y, MOST_LEVELS)?;
+    Some(compared_lent(how, Lent::Num(left), right))
+}
+
 /// Whether a comparison holds, where both sides are there.
+#[inline(never)]
+fn compared_values(store: &Store, how: Comparison, x: &Expr, y: &Expr) -> Option<bool>
+    ensures { IfSome result (λ b. HasTruth (λ names. p.compare how (view names x.now) (view names y.now)) store.now b) }
+{
+    let left = at_hand(store, x, MOST_LEVELS)?;
+    let right = at_hand(store, y, MOST_LEVELS)?;
+    Some(compared_lent(how, left, right))
+}
+
+/// The same. Two numbers that stand ready are compared in line.
 #[inline(always)]
 fn compared_at_hand(store: &Store, how: Comparison, x: &Expr, y: &Expr) -> Option<bool>
     ensures { IfSome result (λ b. HasTruth (λ names. p.compare how (view names x.now) (view names y.now)) store.now b) }
 {
-    if let Some(left) = plain_number(store, x) {
-        if let Some(right) = plain_number(store, y) {
-            return Some(compared_numbers(how, left, right));
-        }
-        let right = at_hand(store, y, MOST_LEVELS)?;
-        return Some(compared_lent(how, Lent::Num(left), right));
+    let Some(left) = plain_number(store, x) else {
+        return compared_values(store, how, x, y);
+    };
+    match plain_number(store, y) {
+        Some(right) => Some(compared_numbers(how, left, right)),
+        None => compared_with(store, how, left, y),
     }
-    let left = at_hand(store, x, MOST_LEVELS)?;
-    let right = at_hand(store, y, MOST_LEVELS)?;
-    Some(compared_lent(how, left, right))
 }
 
 /// Whether an expression is true, where its value is there, or it is a comparison of two such.

@@ -1,7 +1,8 @@
 // Assignments that are done at once: what they need is at hand, and their value is not wanted.
-ghost use Rattle.std.specs.Prelude.{◌≡◌, ℤ, true, false, map, Ok, IfSome};
+ghost use Rattle.std.specs.Prelude.{◌≡◌, ◌≤◌, ℤ, true, false, length, map, Ok, IfSome};
 ghost use Rattle.awk_asks.specs.Tables.{Table};
-ghost use Rattle.awk_forms.specs.AtHand.{IsDone};
+ghost use Rattle.awk_fields.specs.Rows.{IsValueAt};
+ghost use Rattle.awk_forms.specs.AtHand.{AddsAt, IsDone, IsKey};
 ghost use Rattle.awk_machine.specs.Forms.{spot};
 ghost use Rattle.awk_machine.specs.Operators as machine;
 ghost use Rattle.awk_machine.specs.Pieces.{give};
@@ -14,7 +15,10 @@ ghost use Rattle.awk_program.specs.declared.operators.Taken.{Taken as Which};
 ghost use Rattle.awk_tasks.specs.Acts.{Passes};
 ghost use Rattle.awk_tasks.specs.Wholes.{names_in};
 ghost use Rattle.awk_text.specs.Arithmetic.{add};
+ghost use Rattle.awk_text.specs.Limits.{most_bytes};
 ghost use Rattle.awk_text.specs.Values as values;
+ghost use Rattle.awk_text.specs.Values.{text_of};
+ghost use Rattle.awk_text.specs.declared.value.Value.{Value as Val};
 ghost use Rattle.awk_text.specs.declared.value.Value.TheVariants as v;
 
 use crate::at_hand::{MOST_LEVELS, at_hand, number_at_hand, value_at_hand};
@@ -29,7 +33,7 @@ use std::alloc::Global;
 
 /// The key of one subscript that is at hand, in the line.
 fn key_at_hand<'a>(store: &Store, line: &'a mut Line, keys: &[Expr]) -> Option<&'a [u8]>
-    ensures { IfSome result (λ key. (g : Given) (t : Table) (place : Place) (array : p.Variable) → Passes g (spot (p.element place array (expressions_of (map (view (names_in g)) keys.now)))) (store.now, t) (give (v.Text key.now)) (store.now, t)) }
+    ensures { IfSome result (λ key. IsKey keys.now store.now key.now) }
 {
     let [one] = keys else {
         return None;
@@ -41,6 +45,41 @@ fn key_at_hand<'a>(store: &Store, line: &'a mut Line, keys: &[Expr]) -> Option<&
         return None;
     };
     line.text().ok()
+}
+
+/// The number of the field that is the only subscript, where that number is at hand.
+fn field_of_key(store: &Store, keys: &[Expr]) -> Option<u16>
+    ensures { IfSome result (λ n. (val : Val) → IsValueAt store.now.row n val → length (text_of val) ≤ most_bytes → IsKey keys.now store.now (text_of val)) }
+{
+    let [one] = keys else {
+        return None;
+    };
+    let Expr::Read(target) = one else {
+        return None;
+    };
+    let Target::Field(_, number) = target else {
+        return None;
+    };
+    let number = number_at_hand(store, number.get(), MOST_LEVELS)?;
+    let Ok(number) = u16::try_from(number) else {
+        return None;
+    };
+    Some(number)
+}
+
+/// Adds to the number that the element with one subscript holds, and answers whether it did: the subscript is at hand, and
+/// there is such a number. A field as the subscript is not copied.
+fn added_at(store: &mut Store, line: &mut Line, array: Variable, keys: &[Expr], by: i64) -> bool
+    ensures done { result ≡ true → AddsAt array keys.now by store.old store.new }
+    ensures not_done { result ≡ false → store.new ≡ store.old }
+{
+    if let Some(number) = field_of_key(store, keys) {
+        return store.add_at_field(array, number, by);
+    }
+    let Some(key) = key_at_hand(store, line, keys) else {
+        return false;
+    };
+    store.add_to(array, key, by)
 }
 
 /// The number of a variable that is not NF.
@@ -154,10 +193,7 @@ fn added_to_element(
     let Some(operand) = number_at_hand(store, x, MOST_LEVELS) else {
         return false;
     };
-    let Some(key) = key_at_hand(store, line, keys) else {
-        return false;
-    };
-    store.add_to(array, key, operand)
+    added_at(store, line, array, keys, operand)
 }
 
 /// `array [ key ] += number`; with the other operators nothing is done.
@@ -234,10 +270,7 @@ fn stepped_element(
     ensures done { result ≡ true → (place at_name : Place) (taken : Which) → IsDone (λ names. p.step place how taken (p.element at_name (variable_of names array) (expressions_of (map (view names) keys.now)))) store.old store.new }
     ensures not_done { result ≡ false → store.new ≡ store.old }
 {
-    let Some(key) = key_at_hand(store, line, keys) else {
-        return false;
-    };
-    store.add_to(array, key, step_by(how))
+    added_at(store, line, array, keys, step_by(how))
 }
 
 /// `target ++` and `target --`

@@ -3,6 +3,8 @@ ghost use Rattle.std.specs.Prelude.{◌≡◌, Ok, Some, IfSome};
 ghost use Rattle.awk_text.specs.Arithmetic.{ranged};
 ghost use Rattle.awk_text.specs.Numerals.{looks_numeric, number};
 ghost use Rattle.awk_text.specs.Values.{number_of, numeric, order, text_of, truth};
+ghost use Rattle.std.specs.Cmp.Lexicographic.{slice_cmp};
+ghost use Rattle.std.specs.Ordering.{nat_cmp};
 ghost use Rattle.awk_lent.specs.Lents.{lent_value};
 
 use awk_text::fault::Fault;
@@ -72,6 +74,7 @@ impl<'a> Lent<'a> {
     }
 
     /// The number of a value that is compared and tested as a number.
+    #[inline(always)]
     fn numeric(self) -> Option<i64>
         ensures { result ≡ numeric (lent_value self.entry) }
     {
@@ -111,15 +114,24 @@ impl<'a> Lent<'a> {
         }
     }
 
+    /// The order of the texts of two values, byte by byte: out of line, for the buffers that numbers are written into.
+    #[inline(never)]
+    fn compare_texts(self, other: Lent<'a>) -> Ordering
+        ensures { result ≡ slice_cmp nat_cmp (text_of (lent_value self.entry)) (text_of (lent_value other.entry)) }
+    {
+        let (mut first, mut second) = (Buffer::new(), Buffer::new());
+        self.text(&mut first).cmp(other.text(&mut second))
+    }
+
     /// The order of two values: of their numbers where each is a number, unset, or a text from outside that looks numeric,
     /// and else of their texts, byte by byte.
+    #[inline(always)]
     pub fn compare(self, other: Lent<'a>) -> Ordering
         ensures { result ≡ order (lent_value self.entry) (lent_value other.entry) }
     {
         if let (Some(a), Some(b)) = (self.numeric(), other.numeric()) {
             return a.cmp(&b);
         }
-        let (mut first, mut second) = (Buffer::new(), Buffer::new());
-        self.text(&mut first).cmp(other.text(&mut second))
+        self.compare_texts(other)
     }
 }

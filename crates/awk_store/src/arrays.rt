@@ -1,6 +1,9 @@
 // Arrays.
-ghost use Rattle.std.specs.Prelude.{◌≡◌, ◌⊎◌, [], true, false, Ok, Some, slice_get, slice_set, unwrap_or, length, IfOk, IfErr, OnOk, IsOkUnless};
+ghost use Rattle.std.specs.Prelude.{◌≡◌, ◌⊎◌, ◌≤◌, [], true, false, Ok, Some, slice_get, slice_set, unwrap_or, length, IfOk, IfErr, OnOk, IsOkUnless};
 ghost use Rattle.std.specs.Option.{option_copied};
+ghost use Rattle.awk_fields.specs.Rows.{IsValueAt};
+ghost use Rattle.awk_text.specs.Limits.{most_bytes};
+ghost use Rattle.awk_text.specs.Values.{text_of};
 ghost use Rattle.awk_lib.specs.Arrays.{element, has, keys, put, without};
 ghost use Rattle.awk_machine.specs.State as state;
 ghost use Rattle.awk_store.specs.Kept.{array, array_at, array_found, bound_reference, listed, reference};
@@ -13,7 +16,9 @@ use awk_lib::array::Array;
 use awk_program::Variable;
 use awk_text::fault::Fault;
 use awk_text::octets::Octets;
+use awk_text::texts::MOST_BYTES;
 use awk_text::value::Value;
+use itoa::Buffer;
 use std::mem;
 
 fn handed(frame: &[Bound], place: usize) -> Reference
@@ -200,6 +205,27 @@ impl Store {
         ensures not_done { result ≡ false → self.new ≡ self.old }
     {
         match self.reference(name) {
+            Reference::Shared(slot) => add_in_cells(&mut self.cells, slot as usize, key, by),
+            Reference::Made(place) => add_in_made(&mut self.made, place as usize, key, by),
+            Reference::Nothing => false,
+        }
+    }
+
+    /// The same, where the key is the text of a field by its number, and the field is there without a change; see `lent_field`.
+    pub fn add_at_field(&mut self, name: Variable, n: u16, by: i64) -> bool
+        ensures done { result ≡ true → (key : Value) × IsValueAt self.old.row n key × (length (text_of key) ≤ most_bytes) × Adds (Some (array self.old name)) (text_of key) by (λ new. self.new ≡ with_array (reference self.old name) new self.old) }
+        ensures not_done { result ≡ false → self.new ≡ self.old }
+    {
+        let at = self.reference(name);
+        let Some(field) = self.row.lent(n) else {
+            return false;
+        };
+        let mut digits = Buffer::new();
+        let key = field.text(&mut digits);
+        if MOST_BYTES < key.len() {
+            return false;
+        }
+        match at {
             Reference::Shared(slot) => add_in_cells(&mut self.cells, slot as usize, key, by),
             Reference::Made(place) => add_in_made(&mut self.made, place as usize, key, by),
             Reference::Nothing => false,

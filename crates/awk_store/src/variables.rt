@@ -137,6 +137,7 @@ impl Store {
     }
 
     /// The value of one of awk's own variables: none stands for one that is unset. Takes no memory.
+    #[inline(always)]
     pub fn own(&self, name: Own) -> Option<&Value>
         ensures { unwrap_or (option_copied result) Value.Unset ≡ own_value self.now name }
     {
@@ -151,6 +152,7 @@ impl Store {
     }
 
     /// Sets one of awk's own variables. Takes no memory.
+    #[inline(always)]
     pub fn set_own(&mut self, name: Own, value: Value)
         ensures { self.new ≡ with_own name value self.old }
     {

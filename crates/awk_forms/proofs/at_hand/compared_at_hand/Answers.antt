@@ -1,12 +1,13 @@
-use Rattle.std.proofs.Common.{rules, subst, sym, w64}
+use Rattle.std.proofs.Common.{rules, w64}
 use Rattle.std.proofs.lemmas.Int.{to_z-of_z}
-use Rattle.awk_lent.specs.Lents.{lent_value}
 use Rattle.awk_machine.specs.Operators.{of_truth}
-use Rattle.awk_program.specs.View.{view}
+use Rattle.awk_program.specs.Program as p
+use Rattle.awk_program.specs.View.{Names, view}
 use Rattle.awk_tasks.specs.Wholes.{names_in}
 use Rattle.awk_text.specs.declared.value.Value.TheVariants as v
-use Rattle.awk_forms.specs.AtHand.{IsThere}
+use Rattle.awk_forms.specs.AtHand.{HasTruth, IsThere}
 use Rattle.awk_forms.proofs.AtHand.{comparison_there, truth_back}
+use Rattle.awk_forms.proofs.Rests.{some_for}
 use Rattle.awk_forms.proofs.at_hand.compared_at_hand.Goals as goal
 
 pub returns-in-Some-plain_number : goal.returns-in-Some-plain_number
@@ -17,18 +18,7 @@ returns-in-Some-plain_number c = record {
       (comparison_there g (c.args.store.now, t) c.args.how (view (names_in g) c.args.x.now) (view (names_in g) c.args.y.now) (v.Num c.in-Some.left) (v.Num c.in-Some-plain_number.right) (c.in-Some.ensures g t) (c.in-Some-plain_number.ensures g t));
 }
 
-pub returns-in-Some : goal.returns-in-Some
-returns-in-Some c =
-    let left = subst (λ n. IsThere (λ names. view names c.args.x.now) c.args.store.now (v.Num n)) (sym (to_z-of_z w64 c.in-Some.left (search rules))) c.in-Some.ensures in
-    record {
-      val = of_truth c.compared_lent.result;
-      is = truth_back c.compared_lent.result;
-      there = λ g t. rw c.compared_lent.ensures (comparison_there g (c.args.store.now, t) c.args.how (view (names_in g) c.args.x.now) (view (names_in g) c.args.y.now) _ (lent_value c.in_ok-right.right) (left g t) (c.in_ok-right.ensures g t));
-    }
-
-pub returns : goal.returns
-returns c = record {
-  val = of_truth c.compared_lent-2.result;
-  is = truth_back c.compared_lent-2.result;
-  there = λ g t. rw c.compared_lent-2.ensures (comparison_there g (c.args.store.now, t) c.args.how (view (names_in g) c.args.x.now) (view (names_in g) c.args.y.now) (lent_value c.in_ok-left.left) (lent_value c.in_ok-right-2.right) (c.in_ok-left.ensures g t) (c.in_ok-right-2.ensures g t));
-}
+pub returns-in-None : goal.returns-in-None
+returns-in-None c =
+    some_for {P = λ b. (x : Names → p.Expression) → IsThere x c.args.store.now (v.Num c.in-Some.left) → HasTruth (λ names. p.compare c.args.how (x names) (view names c.args.y.now)) c.args.store.now b} c.compared_with.result
+    (λ b h. h (λ names. view names c.args.x.now) c.in-Some.ensures) (rw (to_z-of_z w64 c.in-Some.left (search rules)) at c.compared_with.ensures)
