@@ -17,6 +17,7 @@ use awk_text::Memory;
 use awk_text::fault::Fault;
 use awk_text::octets::Octets;
 use indexmap::IndexMap;
+use smallvec::SmallVec;
 use std::alloc::Global;
 
 /// How far past the places of the dense part a new key may lie, so that places are made up to it.
@@ -289,7 +290,7 @@ impl<V: Drop> Elements<V> {
         ensures memory { IsOkUnless result Fault.Memory }
     {
         let i = self.map.len();
-        let text = Vec::from_slice(*self.map.allocator(), key)?;
+        let text = SmallVec::from_slice(*self.map.allocator(), key)?;
         self.map.insert(Key { text }, Numbered { number, value })?;
         self.count += 1;
         Ok(Added {

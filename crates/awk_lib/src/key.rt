@@ -8,12 +8,14 @@ ghost use Rattle.std.proofs.Common.{ap};
 
 use crate::same::is_same;
 use indexmap::Equivalent;
+use smallvec::SmallVec;
 use std::hash::{Hash, Hasher};
 
-/// A key of the map.
+/// A key of the map. A short text lies in the entry itself, so that a new key takes no memory of its
+/// own, and a look-up reads the entry alone.
 #[derive(Drop)]
 pub(crate) struct Key {
-    pub(crate) text: Vec<u8>,
+    pub(crate) text: SmallVec<u8, 16>,
 }
 
 impl PartialEq for Key {

@@ -13,7 +13,7 @@ pub returns-clause-place : goal.returns-clause-place
 returns-clause-place g c =
     let es = c.args.self.now in
     let key : Key = record { text = c.in_ok-text.text } in
-    let same = c.in_ok-text.ensures.items in
+    let same = c.in_ok-text.ensures.ok in
     let x : Numbered g.row.V.Denot = record { number = c.args.number; value = c.args.value } in
     let none = subst (λ t. lookup (λ k. bytes_eq t k.text.items) es.map.entries ≡ None) (sym same) (mapped_none es c.args.key.now c.requires.absent) in
     let more = ap (rows (λ k. k.text.items)) c.in_ok-insert.ensures.entries ∙ rows_insert_new (λ k. k.text.items) key x es.map.entries none ∙ ap (λ t. mapped_rows es ++ (c.args.number, (t, c.args.value)) ∷ []) same in
@@ -23,7 +23,7 @@ pub returns-clause-last : goal.returns-clause-last
 returns-clause-last g c =
     let es = c.args.self.now in
     let key : Key = record { text = c.in_ok-text.text } in
-    let same = c.in_ok-text.ensures.items in
+    let same = c.in_ok-text.ensures.ok in
     let x : Numbered g.row.V.Denot = record { number = c.args.number; value = c.args.value } in
     let none = subst (λ t. lookup (λ k. bytes_eq t k.text.items) es.map.entries ≡ None) (sym same) (mapped_none es c.args.key.now c.requires.absent) in
     let more = ap (rows (λ k. k.text.items)) c.in_ok-insert.ensures.entries ∙ rows_insert_new (λ k. k.text.items) key x es.map.entries none ∙ ap (λ t. mapped_rows es ++ (c.args.number, (t, c.args.value)) ∷ []) same in
@@ -33,7 +33,7 @@ pub returns-clause-apart : goal.returns-clause-apart
 returns-clause-apart g c =
     let es = c.args.self.now in
     let key : Key = record { text = c.in_ok-text.text } in
-    let same = c.in_ok-text.ensures.items in
+    let same = c.in_ok-text.ensures.ok in
     let x : Numbered g.row.V.Denot = record { number = c.args.number; value = c.args.value } in
     let none = subst (λ t. lookup (λ k. bytes_eq t k.text.items) es.map.entries ≡ None) (sym same) (mapped_none es c.args.key.now c.requires.absent) in
     let more = ap (rows (λ k. k.text.items)) c.in_ok-insert.ensures.entries ∙ rows_insert_new (λ k. k.text.items) key x es.map.entries none ∙ ap (λ t. mapped_rows es ++ (c.args.number, (t, c.args.value)) ∷ []) same in
