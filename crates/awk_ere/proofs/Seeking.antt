@@ -6,7 +6,7 @@ use Rattle.std.proofs.Math.Dec.{eqb-suc-zero}
 use Rattle.awk_ere.specs.Pattern.{Pattern, bytes, Chain, Matches}
 use Rattle.awk_ere.specs.Program.{Skips, left, right, at_start, at_end, Path}
 use Rattle.awk_ere.specs.Search.{Goes, Finds, IsMachine}
-use Rattle.awk_ere.specs.Table.{steps_of, AllDead, IsLed, IsTable, IsBegin, IsAt, IsLongest, EndsSomewhere, NoneTo, anywhere}
+use Rattle.awk_ere.specs.Table.{steps_of, AllLead, IsLed, IsTable, IsBegin, IsAt, IsLongest, EndsSomewhere, NoneTo, anywhere}
 use Rattle.awk_ere.specs.declared.program.Step.{Step}
 use Rattle.awk_ere.specs.declared.program.Step.TheVariants.{AtStart, Done}
 use Rattle.awk_ere.specs.declared.states.Begin.{Begin}
@@ -50,7 +50,7 @@ module _ (sets : List (List Bool)) (program : List Step) (s : List ℕ) (e from 
 
   -- no start where the first byte leads to no step
   pub none_dead : (lists cells : List (List ℕ)) (accepts ends : List Bool) (r : Begin) → IsTable sets program lists cells accepts ends → IsBegin program e lists r → e < length program → r.later < length cells
-      → slice_index_or accepts r.later false ≡ false → ((k : ℕ) → k < length s → slice_index s k < 256) → (to : ℕ) → 0 < from → to ≤ length s → AllDead (slice_index_or cells r.later []) s from to → NoneTo sets program s e from to
+      → slice_index_or accepts r.later false ≡ false → ((k : ℕ) → k < length s → slice_index s k < 256) → (to : ℕ) → 0 < from → to ≤ length s → AllLead (slice_index_or cells r.later []) s 0 from to → NoneTo sets program s e from to
   none_dead lists cells accepts ends r table begin inside known closed fit to later within dead = λ i j after before below run.
       let at = at_begin sets program s lists cells accepts ends e i r.later r table begin inside (by_place i (omega arith)) known in
       let lt : i < length s = omega arith in

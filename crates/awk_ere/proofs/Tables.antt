@@ -5,7 +5,7 @@ use Rattle.std.proofs.lemmas.Bool.{cases_lt, eqb-true, eq-eqb}
 use Rattle.std.proofs.Math.Dec.{eqb-suc-zero}
 use Rattle.awk_ere.specs.Program.{Skips, left, right, at_start, at_end, SkipPath, Eats}
 use Rattle.awk_ere.specs.Search.{LeadsTo, Goes}
-use Rattle.awk_ere.specs.Table.{steps_of, cell, IsLed, IsCell, Arrives, IsFront, IsLongest, EndsSomewhere, IsAt}
+use Rattle.awk_ere.specs.Table.{steps_of, cell, IsLed, IsCell, Arrives, IsFront, IsLongest, EndsSomewhere, IsAt, AllLead}
 use Rattle.awk_ere.specs.declared.program.Step.{Step}
 use Rattle.awk_ere.proofs.Searching.{path_le, flat, stays, one_more, joined, crossing, through, best_start}
 
@@ -202,6 +202,20 @@ module _ (sets : List (List Bool)) (program : List Step) (s : List ℕ) (cells :
         | inr ge ↦ last_has (let same : run.0 ≡ k = omega (arith, run.1) in subst (λ x. Goes sets program s e i 0 x) same run.2)
       ],
     )
+
+-- bytes that leave a search in its state
+module _ (sets : List (List Bool)) (program : List Step) (s : List ℕ) (cells : List (List ℕ)) (accepts ends : List Bool) (e i state : ℕ) (small : (k : ℕ) → slice_index s k < 256) (row : List ℕ) (is : row ≡ slice_index_or cells state []) (quiet : slice_index_or accepts state false ≡ false) where
+  pub at_stays : (n k to : ℕ) → to ≡ k + n → i ≤ k → to ≤ length s → AllLead row s state k to → IsAt sets program s cells accepts ends e i k state → IsLongest sets program s e i k None
+      → IsAt sets program s cells accepts ends e i to state × IsLongest sets program s e i to None
+  at_stays zero k to sum le within all at none =
+      let same : k ≡ to = omega (arith, sum) in
+      (subst (λ x. IsAt sets program s cells accepts ends e i x state) same at, subst (λ x. IsLongest sets program s e i x None) same none)
+  at_stays (suc n) k to sum le within all at none =
+      let lt : k < length s = omega (arith, sum, within) in
+      let before : k < to = omega (arith, sum) in
+      at_stays n (k + 1) to (omega (arith, sum)) (omega (arith, le)) within (λ j after. all j (omega (arith, after)))
+      (at_row sets program s cells accepts ends e i k state at le lt (small k) row is state (sym (all k (omega arith) before)) at.2)
+      (at_pass sets program s cells accepts ends e i k state at le lt quiet none)
 
 -- where a search begins
 pub at_first : (sets : List (List Bool)) (program : List Step) (s : List ℕ) (e i : ℕ) (T : List ℕ) → e < length program → IsLed program (i == 0) false (e ∷ []) T → IsFront sets program s e i i T

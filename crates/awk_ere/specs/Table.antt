@@ -97,9 +97,9 @@ pub record IsTable (sets : List (List Bool)) (program : List Step) (lists cells 
 abbrev pub IsFirst : List Step → Bool → ℕ → List (List ℕ) → ℕ → Type 0
 IsFirst program first entry lists n = n < UNKNOWN → (n < length lists) × IsLed program first false (entry ∷ []) (steps_of lists n)
 
--- from `from` up to `to` each byte leads to the first state
-abbrev pub AllDead : List ℕ → List ℕ → ℕ → ℕ → Type 0
-AllDead row s from to = (k : ℕ) → from ≤ k → k < to → slice_index row (slice_index s k) ≡ 0
+-- from `from` up to `to` each byte leads to the state q
+abbrev pub AllLead : List ℕ → List ℕ → ℕ → ℕ → ℕ → Type 0
+AllLead row s q from to = (k : ℕ) → from ≤ k → k < to → slice_index row (slice_index s k) ≡ q
 
 -- the first state has no step
 abbrev pub IsDead : List (List ℕ) → Type 0

@@ -1,7 +1,7 @@
 // The search by a table.
 ghost use Rattle.std.specs.Prelude.{◌≡◌, ◌≢◌, ◌==◌, ◌↔◌, ◌+◌, ◌<◌, ◌≤◌, ℕ, length, Some, true, IfSome, IsTrue, slice_get, slice_index, if◌then◌else◌};
 ghost use Rattle.awk_ere.specs.Pattern.{Pattern};
-ghost use Rattle.awk_ere.specs.Table.{AllDead, IsAt, IsLongest, EndsSomewhere, NoneTo, IsBuilt, IsSought, IsEngine};
+ghost use Rattle.awk_ere.specs.Table.{AllLead, IsAt, IsLongest, EndsSomewhere, NoneTo, IsBuilt, IsSought, IsEngine};
 ghost use Rattle.awk_ere.specs.declared.program.Step.TheVariants.{AtStart, Done};
 
 use crate::bracket::Set;
@@ -48,6 +48,48 @@ fn longest(
     Some(noted(ends[state], text.len(), best))
 }
 
+/// The first place, from this one on, whose byte leads to another state than this; the text's end where there is none.
+fn stays_one_by_one(row: &[u8; 256], state: u8, text: &[u8], from: usize) -> usize
+    requires { from ≤ length text.now }
+    ensures inside { (from ≤ result) × (result ≤ length text.now) }
+    ensures all { AllLead row.now text.now state from result }
+    ensures next { result < length text.now → slice_index row.now (slice_index text.now result) ≢ state }
+{
+    for place in from..text.len() {
+        if row[text[place] as usize] != state {
+            return place;
+        }
+    }
+    text.len()
+}
+
+/// The same, with four bytes in each turn: most searches read nearly all of a text so, and the turns would cost as much as
+/// the looks at the row.
+fn stays_to(row: &[u8; 256], state: u8, text: &[u8], from: usize) -> usize
+    requires { from ≤ length text.now }
+    ensures inside { (from ≤ result) × (result ≤ length text.now) }
+    ensures all { AllLead row.now text.now state from result }
+    ensures next { result < length text.now → slice_index row.now (slice_index text.now result) ≢ state }
+{
+    let mut place = from;
+    while text.len() - place >= 4 {
+        if row[text[place] as usize] != state {
+            return place;
+        }
+        if row[text[place + 1] as usize] != state {
+            return place + 1;
+        }
+        if row[text[place + 2] as usize] != state {
+            return place + 2;
+        }
+        if row[text[place + 3] as usize] != state {
+            return place + 3;
+        }
+        place += 4;
+    }
+    stays_one_by_one(row, state, text, place)
+}
+
 /// Whether a match from `from` ends anywhere; `None` where the table does not say. Most bytes leave a search where it is, and
 /// then the next look at the table need not wait for this one.
 fn ends_somewhere(
@@ -68,17 +110,21 @@ fn ends_somewhere(
     if accepts[first] {
         return Some(true);
     }
-    let (mut state, mut row) = (first, &cells[first]);
-    for place in from..text.len() {
-        let next = row[text[place] as usize] as usize;
-        if next != state {
+    let (mut state, mut place) = (first, from);
+    while place < text.len() {
+        let row = &cells[state];
+        let cell = row[text[place] as usize];
+        let next = cell as usize;
+        if next == state {
+            place = stays_to(row, cell, text, place + 1);
+        } else {
             if next >= cells.len() {
                 return None;
             }
             if accepts[next] && place + 1 < text.len() {
                 return Some(true);
             }
-            (state, row) = (next, &cells[next]);
+            (state, place) = (next, place + 1);
         }
     }
     Some(ends[state])
@@ -190,21 +236,6 @@ fn is_anchored(program: &[Step], entry: usize) -> bool
     }
 }
 
-/// The first place, from this one on, whose byte leads somewhere by the row; the text's end where there is none.
-fn dead_to(row: &[u8; 256], text: &[u8], from: usize) -> usize
-    requires { from ≤ length text.now }
-    ensures inside { (from ≤ result) × (result ≤ length text.now) }
-    ensures dead { AllDead row.now text.now from result }
-    ensures next { result < length text.now → slice_index row.now (slice_index text.now result) ≢ 0 }
-{
-    for place in from..text.len() {
-        if row[text[place] as usize] != DEAD {
-            return place;
-        }
-    }
-    text.len()
-}
-
 /// The first place, from this one on, where a match may start. The text's start is none of these.
 fn next_start(
     sets: &[Set],
@@ -227,7 +258,7 @@ fn next_start(
     if first >= cells.len() || accepts[first] {
         return from;
     }
-    dead_to(&cells[first], text, from)
+    stays_to(&cells[first], DEAD, text, from)
 }
 
 /// The best match from the place on: each start in turn, as long as the budget lasts.

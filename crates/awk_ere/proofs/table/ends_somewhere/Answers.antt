@@ -1,49 +1,48 @@
-use Rattle.std.proofs.Common.{◌<◌, ◌≤◌, [], false, length, slice_index, ap, refl, sym, ◌∙◌, arith}
+use Rattle.std.proofs.Common.{◌+◌, ◌-◌, ◌<◌, [], length, slice_index, refl, ◌∙◌, subst, arith}
 use Rattle.std.specs.List.{slice_index_or}
-use Rattle.awk_ere.proofs.Tables.{longest_begin, at_row, at_pass, at_accept, at_finish}
+use Rattle.awk_ere.proofs.Tables.{longest_begin, at_next, at_pass, at_accept, at_finish, at_stays}
+use Rattle.awk_ere.specs.Table.{IsAt}
 use Rattle.awk_ere.proofs.table.ends_somewhere.Goals as goal
-use Rattle.awk_ere.proofs.table.ends_somewhere.Goals.{then-next-state+else-next-cells+else-accepts-next, else-accepts-next-via-then-accepts-next+else-place-text, else-accepts-next-via-else-accepts-next, else-next-state}
+use Rattle.awk_ere.proofs.table.ends_somewhere.Goals.{else-accepts-next-via-then-accepts-next+else-place-text, else-accepts-next-via-else-accepts-next}
 
 pub loop-place-init : goal.loop-place-init
-loop-place-init c = record { at' = c.requires.at; none = longest_begin _ _ _ _ _; row' = refl; quiet = λ _. c.if-accepts-first.false }
+loop-place-init c = record { after = omega arith; within = omega arith; at' = c.requires.at; none = longest_begin _ _ _ _ _; quiet = λ _. c.if-accepts-first.false }
 
 pub returns : goal.returns
 returns c = at_finish _ _ _ _ _ _ _ _ _ _ c.loop-place.invariant.at' (omega arith) (omega arith) c.loop-place.invariant.none
 
 pub loop-place-preserved : goal.loop-place-preserved
 loop-place-preserved c =
-    let le : c.args.from ≤ c.loop-place.place = omega arith in
-    let lt : c.loop-place.place < length c.args.text.now = omega arith in
-    let byte : slice_index c.args.text.now c.loop-place.place < 256 = omega (arith, c.type_inv.text c.loop-place.place) in
     let had = c.loop-place.invariant in
-    let none = at_pass _ _ _ _ _ _ _ _ _ _ had.at' le lt (had.quiet lt) had.none in
-    elim c.if-next-state.branch [
-      | then-next-state+else-next-cells+else-accepts-next w ↦ record {
-        at' = at_row _ _ _ _ _ _ _ _ _ _ had.at' le lt byte c.loop-place.row.now had.row' c.if-next-state.state w.state-is (omega (arith, w.if-next-cells.false, w.state-is));
-        none = none;
-        row' = ap (λ r. r.now) w.row-is ∙ ap (λ n. slice_index_or c.args.cells.now n []) (sym w.state-is);
-        quiet = λ more. elim w.else-accepts-next.branch [
-          | else-accepts-next-via-then-accepts-next+else-place-text w' ↦ absurd (omega (arith, more, w'.if-place-text.false))
-          | else-accepts-next-via-else-accepts-next w' ↦ ap (λ n. slice_index_or c.args.accepts.now n false) w.state-is ∙ w'.if-accepts-next.false
-        ];
-      }
-      | else-next-state w ↦ record {
-        at' = at_row _ _ _ _ _ _ _ _ _ _ had.at' le lt byte c.loop-place.row.now had.row' c.if-next-state.state (omega (arith, w.if-next-state.false, w.state-is)) (omega (arith, w.state-is, had.at'.2));
-        none = none;
-        row' = ap (λ r. r.now) w.row-is ∙ had.row' ∙ ap (λ n. slice_index_or c.args.cells.now n []) (sym w.state-is);
-        quiet = λ more. ap (λ n. slice_index_or c.args.accepts.now n false) w.state-is ∙ had.quiet lt;
-      }
-    ]
+    let lt = c.loop-place-test.true in
+    record {
+      after = omega (arith, had.after);
+      within = omega (arith, lt);
+      at' = at_next _ _ _ _ _ _ _ _ _ _ had.at' had.after lt (omega (arith, c.type_inv.text c.loop-place.place)) c.if-next-cells.false;
+      none = at_pass _ _ _ _ _ _ _ _ _ _ had.at' had.after lt (had.quiet lt) had.none;
+      quiet = λ more. elim c.else-accepts-next.branch [
+        | else-accepts-next-via-then-accepts-next+else-place-text w ↦ absurd (omega (arith, more, w.if-place-text.false))
+        | else-accepts-next-via-else-accepts-next w ↦ w.if-accepts-next.false
+      ];
+    }
+
+pub loop-place-preserved-then-next-state : goal.loop-place-preserved-then-next-state
+loop-place-preserved-then-next-state c =
+    let had = c.loop-place.invariant in
+    let lt = c.loop-place-test.true in
+    let to = c.stays_to-place.result in
+    let known : slice_index (slice_index_or c.args.cells.now c.loop-place.state []) (slice_index c.args.text.now c.loop-place.place) < length c.args.cells.now = omega (arith, c.if-next-state.true, had.at'.2) in
+    let next = at_next _ _ _ _ _ _ _ _ _ _ had.at' had.after lt (omega (arith, c.type_inv.text c.loop-place.place)) known in
+    let at' = subst (λ q. IsAt c.args.sets.now c.args.program.now c.args.text.now c.args.cells.now c.args.accepts.now c.args.ends.now c.args.entry c.args.from (c.loop-place.place + 1) q) c.if-next-state.true next in
+    let later = at_stays _ _ _ _ _ _ _ _ c.loop-place.state (λ k. omega (arith, c.type_inv.text k)) _ refl (had.quiet lt) (to - (c.loop-place.place + 1)) (c.loop-place.place + 1) to (omega (arith, c.stays_to-place.ensures.inside.0)) (omega (arith, had.after)) c.stays_to-place.ensures.inside.1
+    (λ k from before. c.stays_to-place.ensures.all k from before ∙ c.if-next-state.true) at' (at_pass _ _ _ _ _ _ _ _ _ _ had.at' had.after lt (had.quiet lt) had.none) in
+    record { after = omega (arith, had.after, c.stays_to-place.ensures.inside.0); within = c.stays_to-place.ensures.inside.1; at' = later.0; none = later.1; quiet = λ more. had.quiet lt }
 
 pub returns-then-accepts-first : goal.returns-then-accepts-first
 returns-then-accepts-first c = ((λ t. at_accept _ _ _ _ _ _ _ _ _ _ c.requires.at (omega arith) c.requires.from c.if-accepts-first.true), (λ run. refl))
 
 pub returns-then-place-text : goal.returns-then-place-text
 returns-then-place-text c =
-    let le : c.args.from ≤ c.loop-place.place = omega arith in
-    let lt : c.loop-place.place < length c.args.text.now = omega arith in
-    let byte : slice_index c.args.text.now c.loop-place.place < 256 = omega (arith, c.type_inv.text c.loop-place.place) in
     let had = c.loop-place.invariant in
-    let next = slice_index c.loop-place.row.now (slice_index c.args.text.now c.loop-place.place) in
-    let at' = at_row _ _ _ _ _ _ _ _ _ _ had.at' le lt byte c.loop-place.row.now had.row' next refl (omega (arith, c.if-next-cells.false)) in
-    ((λ t. at_accept _ _ _ _ _ _ _ _ _ _ at' (omega arith) c.if-place-text.true c.if-accepts-next.true), (λ run. refl))
+    let at' = at_next _ _ _ _ _ _ _ _ _ _ had.at' had.after c.loop-place-test.true (omega (arith, c.type_inv.text c.loop-place.place)) c.if-next-cells.false in
+    ((λ t. at_accept _ _ _ _ _ _ _ _ _ _ at' (omega (arith, had.after)) c.if-place-text.true c.if-accepts-next.true), (λ run. refl))
