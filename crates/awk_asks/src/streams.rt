@@ -118,6 +118,8 @@ struct Open {
 pub struct Streams {
     table: IndexMap<Name, Open>,
     input: Reader,
+    /// What the next record that is read is written into
+    text_room: Vec<u8>,
 }
 
 impl Model for Streams {
@@ -146,6 +148,7 @@ impl Streams {
         Streams {
             table: IndexMap::new(alloc),
             input: Reader::new(alloc),
+            text_room: Vec::new(alloc),
         }
     }
 
@@ -173,6 +176,13 @@ impl Streams {
         ensures ok { OnOk result (0 < self.new.room) }
     {
         self.table.reserve(1)
+    }
+
+    /// The next record that is read is written into this room, so that it needs no memory where it fits in. No stream changes.
+    pub fn keep_room(&mut self, room: Vec<u8>)
+        ensures { self.new ≡ self.old }
+    {
+        self.text_room = room;
     }
 
     /// Adds a stream of which nothing is read yet, last. There is room for it.
@@ -254,7 +264,7 @@ impl Streams {
         ensures input { self.new.input ≡ self.old.input }
     {
         match self.table.get_mut(name) {
-            Some(open) => open.reader.take(rs),
+            Some(open) => open.reader.take(rs, &mut self.text_room),
             None => Ok(Taken::Done),
         }
     }
@@ -289,7 +299,7 @@ impl Streams {
             ⊎ ((e ≡ Fault.TextTooLong) × (head rs.now self.old.input.unread self.old.input.ended ≡ too_long))) }
         ensures entries { self.new.entries ≡ self.old.entries }
     {
-        self.input.take(rs)
+        self.input.take(rs, &mut self.text_room)
     }
 
     /// Says that the standard input has ended. Takes no memory.

@@ -8,6 +8,7 @@ use awk_text::fault::Fault;
 use awk_text::octets::Octets;
 use std::alloc::Global;
 use std::marker::Model;
+use std::mem;
 
 /// What `Reader::take` answers.
 #[derive(Drop)]
@@ -92,12 +93,13 @@ impl Reader {
     }
 
     /// The first record of what is unread, which is taken. RS is its first byte, or, where it is
-    /// empty, two newlines in a row. `NeedMore` and `Done` take nothing.
+    /// empty, two newlines in a row. `NeedMore` and `Done` take nothing. The text is written into the
+    /// room that is given, whatever lies there.
     ///
     /// Fails with `Fault::TextTooLong` exactly where more than `MOST_BYTES` bytes of the record lie
     /// before its end, or are held and no end was seen, and with `Fault::Memory` where memory is
     /// refused; then nothing was taken.
-    pub fn take(&mut self, rs: &[u8]) -> Result<Taken, Fault>
+    pub fn take(&mut self, rs: &[u8], room: &mut Vec<u8>) -> Result<Taken, Fault>
         ensures ok { IfOk result (λ taken. Takes (head rs.now self.old.unread self.old.ended) taken self.old self.new) }
         ensures err { OnErr result (self.new ≡ self.old) }
         ensures fault { IfErr result (λ e. (e ≡ Fault.Memory)
@@ -113,7 +115,9 @@ impl Reader {
                 Ok(Taken::NeedMore)
             }
             Front::Record(start, end, next) => {
-                let text = Vec::from_slice(alloc, &unread[start..end])?;
+                let mut text = mem::replace(room, Vec::new(alloc));
+                text.clear();
+                text.extend_from_slice(&unread[start..end])?;
                 self.start += next;
                 self.searched = Searched::Byte(0, 0);
                 Ok(Taken::Record(Octets::new(text)))

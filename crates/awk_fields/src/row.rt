@@ -18,6 +18,7 @@ use awk_text::texts::MOST_BYTES;
 use awk_text::value::Value;
 use std::alloc::Global;
 use std::marker::Model;
+use std::mem;
 
 /// The greatest number of a field that can be named or set, and the greatest count that can be set.
 pub const MOST_FIELDS: i64 = 65535;
@@ -29,6 +30,8 @@ pub struct Record {
     /// What was set as a whole. It stays when fields are set: the others are parts of it.
     text: Octets,
     parts: Parts,
+    /// What the text before lay in, for the next one.
+    room: Vec<u8>,
 }
 
 impl Model for Record {
@@ -77,6 +80,7 @@ impl Record {
                 spans: Vec::new(alloc),
                 edited: Edited::new(alloc),
             },
+            room: Vec::new(alloc),
         }
     }
 
@@ -110,10 +114,19 @@ impl Record {
         if text.bytes().len() > MOST_BYTES {
             return Err(Fault::TextTooLong);
         }
-        self.text = text;
+        self.room = mem::replace(&mut self.text, text).into_bytes();
         self.parts.state = State::Unsplit(splitter);
         self.parts.edited.parts.clear();
         Ok(())
+    }
+
+    /// What the text before lay in, for the next one to be written there. The record stays the same.
+    /// Takes no memory.
+    pub fn take_room(&mut self) -> Vec<u8>
+        ensures { self.new ≡ self.old }
+    {
+        let alloc = *self.room.allocator();
+        mem::replace(&mut self.room, Vec::new(alloc))
     }
 
     /// Sets a field by its number. Unset fields come in front of it where it is above the last one.

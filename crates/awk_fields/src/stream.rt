@@ -16,7 +16,8 @@ fn take_all(reader: &mut Reader, rs: &[u8], found: &mut Vec<Octets>) -> Result<(
     ensures fault { IfErr result (λ e. (e ≡ Fault.Memory)
         ⊎ ((e ≡ Fault.TextTooLong) × IsTooLong rs.now reader.old.ended reader.old.unread)) }
 {
-    while let Taken::Record(text) = reader.take(rs)? {
+    let mut room = Vec::new(*found.allocator());
+    while let Taken::Record(text) = reader.take(rs, &mut room)? {
         found.push(text)?;
     }
     Ok(())

@@ -126,7 +126,8 @@ fn turn<W: World>(
     take_file(alloc, store, streams, world)
 }
 
-/// Takes the next record of the main input: the record as input, or 0 where it has ended for good.
+/// Takes the next record of the main input: the record as input, or 0 where it has ended for good. It is
+/// written where the text of the record before the present one lay, so that few records need memory.
 pub fn take<W: World>(
     alloc: Global,
     host: &Host,
@@ -139,6 +140,7 @@ pub fn take<W: World>(
         → Performs W.follows W.has_stopped W.stops g (Do Take) give (store.old, streams.old) world.old result (store.new, streams.new) world.new }
     ensures owns { Owns (W.open_numbers world.new) streams.new }
 {
+    streams.keep_room(store.take_room());
     for _ in 0..u64::MAX {
         if let Some(value) = turn(alloc, host, store, streams, world)? {
             return Ok(value);

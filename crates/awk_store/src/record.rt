@@ -82,6 +82,13 @@ impl Store {
         self.row.set_whole(text, splitter)
     }
 
+    /// What the text of the record before lay in, for the next one to be written there. What a run holds stays the same.
+    pub fn take_room(&mut self) -> Vec<u8>
+        ensures { self.new ≡ self.old }
+    {
+        self.row.take_room()
+    }
+
     /// The value of a field by its number: 0 is the whole text, and a field above the last one is unset. The record stays
     /// the same.
     ///

@@ -5,7 +5,10 @@ use Rattle.awk_asks.proofs.Chain.{at_once, done, lacking, part, stop}
 use Rattle.awk_records.proofs.main_input.take.Goals as goal
 
 pub loop-init : goal.loop-init
-loop-init g c = (λ m is. at_once _ (c.args.store.now, c.args.streams.now) c.args.world.now, c.requires)
+loop-init g c = (
+  λ m is. rw (c.take_room.ensures, c.keep_room.ensures) (at_once _ (c.args.store.now, c.args.streams.now) c.args.world.now),
+  rw c.keep_room.ensures c.requires,
+)
 
 pub returns-in_err-value-clause-task : goal.returns-in_err-value-clause-task
 returns-in_err-value-clause-task g c =
