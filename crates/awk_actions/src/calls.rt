@@ -15,12 +15,11 @@ use crate::context::{Context, Run};
 use crate::expressions::value;
 use crate::statements::body;
 use awk_asks::halt::Halt;
-use awk_calls::frames::{begin, body_of, returned};
+use awk_calls::frames::{begin, body_of, pass, returned};
 use awk_calls::steps::step;
 use awk_forms::at_hand::number_there;
-use awk_forms::made::append;
 use awk_program::{Argument, Expr};
-use awk_store::Store;
+use awk_store::{Passed, Store};
 use awk_tasks::calls::leave;
 use awk_text::place::Place;
 use awk_text::value::Value;
@@ -65,20 +64,20 @@ fn arguments<W: World>(
     level: u32,
     run: &mut Run,
     world: &mut W,
-) -> Result<Vec<Value>, Halt>
+) -> Result<Passed, Halt>
     requires { Owns (W.open_numbers world.old) run.old.streams }
     ensures plays { Argues W.follows W.has_stopped W.stops W.open_numbers cx.now (λ g. view_arguments (names_in g) xs.now)
         (run.old.store, run.old.streams) world.old result (run.new.store, run.new.streams) world.new }
-    ensures count { IfOk result (λ vs. length vs.items ≡ length xs.now) }
+    ensures count { IfOk result (λ vs. length vs ≡ length xs.now) }
 {
     let mut values = run.store.spare_values();
     for x in xs {
         let known = number_passed(&run.store, x);
         if let Some(number) = known {
-            append(&mut values, Value::Num(number))?;
+            pass(&mut values, Value::Num(number))?;
         } else {
             let next = argument(cx, x, level, run, world)?;
-            append(&mut values, next)?;
+            pass(&mut values, next)?;
         }
     }
     Ok(values)

@@ -1,9 +1,10 @@
 -- What the parameters of a call hold, and the function that is called.
 use Rattle.std.proofs.Common.{◌≡◌, refl, sym, ap, ◌∙◌, ℕ, zero, suc, ◌+◌, ◌<◌, ◌≤◌, List, [], ◌∷◌, ◌++◌, length, drop, map, reverse, arith}
-use Rattle.std.specs.Prelude.{Option, Some, None, slice_get, get_or, option_map, unwrap_or}
+use Rattle.std.specs.Prelude.{Option, Some, None, slice_get, slice_set, get_or, option_map, take, unwrap_or}
 use Rattle.std.proofs.lemmas.List.{drop_more, length-append, reverse-append}
 use Rattle.std.proofs.lemmas.Option.{slice_get-map, slice_get_within, slice_get_read, slice_get_past, get_or_from_slice_get, unwrap_or-slice_get}
 use Rattle.awk_text.specs.declared.value.Value.{Value}
+use Rattle.awk_text.specs.declared.value.Value.TheVariants as v
 use Rattle.awk_program.specs.Program as p
 use Rattle.awk_program.specs.View.{Names, view_arguments, view_function, view_program, names_of, variable_of}
 use Rattle.awk_program.specs.declared.expressions.Argument as code
@@ -17,11 +18,11 @@ use Rattle.awk_machine.specs.Calls.{all_handed, arguments, function, handed}
 use Rattle.awk_machine.specs.State.{State, Frame}
 use Rattle.awk_machine.specs.Variables as variables
 use Rattle.awk_store.specs.Kept as kept
-use Rattle.awk_store.specs.Kept.{Kept}
+use Rattle.awk_store.specs.Kept.{Kept, as_scalar}
 use Rattle.awk_store.specs.States.{Hidden, bound_of, reference_of, state}
 use Rattle.awk_store.specs.declared.frame.Bound.{Bound}
 use Rattle.awk_store.proofs.Reading.{handed_read}
-use Rattle.awk_calls.specs.Calls.{argument_of}
+use Rattle.awk_calls.specs.Calls.{argument_of, array_of, half, scalars}
 
 -- ---- lists
 
@@ -55,9 +56,18 @@ is_past xs i n past e = slice_get_past xs n (omega (arith, past, e))
 pub is_there : {X : Type 0} (xs : List X) (i n : ℕ) (x : X) → i < length xs → x ≡ get_or xs i x → i ≡ n → slice_get xs n ≡ Some x
 is_there xs i n x within is e = ap (slice_get xs) (sym e) ∙ slice_get_read xs (length xs) i x refl within is
 
+abbrev pub some_of : {X : Type 0} → X → Option X
+some_of x = Some x
+
 nil_right : {X : Type 0} (xs : List X) → xs ++ [] ≡ xs
 nil_right [] = refl
 nil_right (x ∷ xs) = ap (λ ys. x ∷ ys) (nil_right xs)
+
+pub few_taken : {X : Type 0} (n : ℕ) (xs : List X) → length (take n xs) ≤ n
+few_taken zero [] = omega arith
+few_taken zero (x ∷ xs) = omega arith
+few_taken (suc n) [] = omega arith
+few_taken (suc n) (x ∷ xs) = let h = few_taken n xs in omega (arith, h)
 
 -- ---- arguments
 
@@ -67,6 +77,11 @@ arguments-so names (argument.Value x ∷ xs) = ap (λ ys. argument_of names (arg
 arguments-so names (argument.Array a ∷ xs) = ap (λ ys. argument_of names (argument.Array a) ∷ ys) (arguments-so names xs)
 arguments-so names (argument.Nothing ∷ xs) = ap (λ ys. argument_of names argument.Nothing ∷ ys) (arguments-so names xs)
 
+pub is_array : (x : code.Argument Expr) (a : Variable) → array_of x ≡ Some a → x ≡ argument.Array a
+is_array (argument.Value x) a e = absurd (cc)
+is_array (argument.Array b) a e = ap (λ o. argument.Array (unwrap_or o b)) e
+is_array argument.Nothing a e = absurd (cc)
+
 -- which array a variable stands for
 pub reference_so : (names : Names) (k : Kept) (hid : Hidden) (a : Variable) → variables.reference (state names k hid) (variable_of names a) ≡ reference_of names (kept.reference k a)
 reference_so names k hid (Global n) = refl
@@ -74,49 +89,57 @@ reference_so names k hid (Parameter n) = ap variables.bound_reference (slice_get
 
 -- ---- what parameters hold, one after the other
 
-module _ (names : Names) (s : State) (xs : List (code.Argument Expr)) (vs : List Value) where
-  -- what those hold that are left
-  abbrev rest : List (code.Argument Expr) → List Value → Frame
-  rest ys ws = all_handed s (map (argument_of names) ys) ws
+module _ (names : Names) (s : State) where
+  pub half_none : (xs : List (code.Argument Expr)) (vs : List Value) → half names s 0 xs vs ≡ scalars names vs
+  half_none [] vs = refl
+  half_none (x ∷ xs) [] = refl
+  half_none (x ∷ xs) (v ∷ vs) = refl
 
-  no_value : (ys : List (code.Argument Expr)) → rest ys [] ≡ []
-  no_value [] = refl
-  no_value (y ∷ ys) = refl
+  pub half_all : (xs : List (code.Argument Expr)) (vs : List Value) → length vs ≤ length xs → half names s (length xs) xs vs ≡ all_handed s (map (argument_of names) xs) vs
+  half_all [] [] few = refl
+  half_all [] (v ∷ vs) few = absurd (omega (arith, few))
+  half_all (x ∷ xs) [] few = refl
+  half_all (x ∷ xs) (v ∷ vs) few = ap (λ bs. handed s (argument_of names x) v ∷ bs) (half_all xs vs (omega (arith, few)))
 
-  -- the first hold these, and these values are left
-  abbrev pub HandedTo : List Bound → List Value → Type 0
-  HandedTo given ws = map (bound_of names) given ++ rest (drop (length given) xs) ws ≡ rest xs vs
+  -- what is no array stays as it lies
+  pub half_same : (n : ℕ) (xs : List (code.Argument Expr)) (vs : List Value) (x : code.Argument Expr) → slice_get xs n ≡ Some x → ((v : Value) → handed s (argument_of names x) v ≡ bound_of names (as_scalar v)) →
+      half names s n xs vs ≡ half names s (suc n) xs vs
+  half_same n [] vs x e same = refl
+  half_same zero (y ∷ ys) [] x e same = refl
+  half_same (suc n) (y ∷ ys) [] x e same = refl
+  half_same zero (y ∷ ys) (v ∷ vs) x e same =
+      ap (λ bs. bound_of names (as_scalar v) ∷ bs) (sym (half_none ys vs)) ∙ ap (λ b. b ∷ half names s 0 ys vs) (sym (ap (λ z. handed s (argument_of names z) v) (ap (λ o. unwrap_or o y) e) ∙ same v))
+  half_same (suc n) (y ∷ ys) (v ∷ vs) x e same = ap (λ bs. handed s (argument_of names y) v ∷ bs) (half_same n ys vs x e same)
 
-  -- nothing is held yet, and all values are left
-  pub handed_first : (given : List Bound) (ws : List Value) → given ≡ [] → ws ≡ vs → HandedTo given ws
-  handed_first given ws e f = ap (λ bs. map (bound_of names) bs ++ rest (drop (length bs) xs) ws) e ∙ ap (λ ys. rest ys ws) (drop_zero xs) ∙ ap (rest xs) f
+  pub stays : (x : code.Argument Expr) → array_of x ≡ None → (v : Value) → handed s (argument_of names x) v ≡ bound_of names (as_scalar v)
+  stays (argument.Value x) e v = refl
+  stays (argument.Array a) e v = absurd (cc)
+  stays argument.Nothing e v = refl
 
-  one_more : (given : List Bound) (b : Bound) (l : Frame) → map (bound_of names) (given ++ b ∷ []) ++ l ≡ map (bound_of names) given ++ (bound_of names b ∷ l)
-  one_more [] b l = refl
-  one_more (y ∷ ys) b l = ap (λ zs. bound_of names y ∷ zs) (one_more ys b l)
+  map_set : (bs : List Bound) (n : ℕ) (b : Bound) → map (bound_of names) (slice_set bs n b) ≡ slice_set (map (bound_of names) bs) n (bound_of names b)
+  map_set [] n b = refl
+  map_set (x ∷ xs) zero b = refl
+  map_set (x ∷ xs) (suc n) b = ap (λ bs. bound_of names x ∷ bs) (map_set xs n b)
 
-  pub handed_more : (given : List Bound) (x : code.Argument Expr) (v : Value) (ws : List Value) (b : Bound) → HandedTo given (v ∷ ws) → slice_get xs (length given) ≡ Some x →
-      bound_of names b ≡ handed s (argument_of names x) v → HandedTo (given ++ b ∷ []) ws
-  handed_more given x v ws b h ex eb =
-      ap (λ n. map (bound_of names) (given ++ b ∷ []) ++ rest (drop n xs) ws) (length-append given (b ∷ []))
-      ∙ one_more given b (rest (drop (length given + 1) xs) ws)
-      ∙ ap (λ y. map (bound_of names) given ++ (y ∷ rest (drop (length given + 1) xs) ws)) eb
-      ∙ ap (λ ys. map (bound_of names) given ++ rest ys (v ∷ ws)) (sym (drop_some xs (length given) x ex))
-      ∙ h
+  half_put : (n : ℕ) (xs : List (code.Argument Expr)) (vs : List Value) (a : Variable) → slice_get xs n ≡ Some (argument.Array a) → slice_set (half names s n xs vs) n (handed s (argument_of names (argument.Array a)) v.Unset) ≡ half names s (suc n) xs vs
+  half_put zero [] vs a e = absurd (cc)
+  half_put (suc n) [] vs a e = absurd (cc)
+  half_put zero (y ∷ ys) [] a e = refl
+  half_put (suc n) (y ∷ ys) [] a e = refl
+  half_put zero (y ∷ ys) (v ∷ vs) a e =
+      ap (λ bs. handed s (argument_of names (argument.Array a)) v ∷ bs) (sym (half_none ys vs)) ∙ ap (λ z. handed s (argument_of names z) v ∷ half names s 0 ys vs) (sym (ap (λ o. unwrap_or o y) e))
+  half_put (suc n) (y ∷ ys) (v ∷ vs) a e = ap (λ bs. handed s (argument_of names y) v ∷ bs) (half_put n ys vs a e)
 
-  ends_so : (given : List Bound) (l : Frame) → l ≡ [] → map (bound_of names) given ++ l ≡ rest xs vs → all_handed s (arguments (view_arguments names xs)) vs ≡ map (bound_of names) given
-  ends_so given l e h = ap (λ ys. all_handed s ys vs) (arguments-so names xs) ∙ sym h ∙ ap (λ l. map (bound_of names) given ++ l) e ∙ nil_right (map (bound_of names) given)
+  -- an array is put in the place of what lies there
+  pub half_set : (n : ℕ) (xs : List (code.Argument Expr)) (vs : List Value) (a : Variable) (b : Bound) → slice_get xs n ≡ Some (argument.Array a) → bound_of names b ≡ handed s (argument_of names (argument.Array a)) v.Unset →
+      (bs : List Bound) → map (bound_of names) bs ≡ half names s n xs vs → map (bound_of names) (slice_set bs n b) ≡ half names s (suc n) xs vs
+  half_set n xs vs a b e is bs h = map_set bs n b ∙ (λ i. slice_set (h i) n (is i)) ∙ half_put n xs vs a e
 
-  -- no value is left, or no argument
-  pub handed_all : (given : List Bound) (ws : List Value) → HandedTo given ws → ws ≡ [] → all_handed s (arguments (view_arguments names xs)) vs ≡ map (bound_of names) given
-  handed_all given ws h e = ends_so given (rest (drop (length given) xs) ws) (ap (rest (drop (length given) xs)) e ∙ no_value (drop (length given) xs)) h
-
-  pub handed_past : (given : List Bound) (ws : List Value) → HandedTo given ws → slice_get xs (length given) ≡ None → all_handed s (arguments (view_arguments names xs)) vs ≡ map (bound_of names) given
-  handed_past given ws h e = ends_so given (rest (drop (length given) xs) ws) (ap (λ ys. rest ys ws) (drop_none xs (length given) e)) h
-
-pub nothing_left : {X : Type 0} (l : List X) (n : ℕ) → n ≡ length l → n ≡ 0 → l ≡ []
-nothing_left [] n e h = refl
-nothing_left (x ∷ xs) n e h = absurd (omega (arith, e, h))
+  -- the values behind the last argument go
+  pub handed_taken : (xs : List (code.Argument Expr)) (vs : List Value) → all_handed s (map (argument_of names) xs) (take (length xs) vs) ≡ all_handed s (map (argument_of names) xs) vs
+  handed_taken [] vs = refl
+  handed_taken (x ∷ xs) [] = refl
+  handed_taken (x ∷ xs) (v ∷ vs) = ap (λ bs. handed s (argument_of names x) v ∷ bs) (handed_taken xs vs)
 
 -- ---- the function that is called
 

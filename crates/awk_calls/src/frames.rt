@@ -1,55 +1,90 @@
 // What a call begins with, and what it leaves.
-ghost use Rattle.std.specs.Prelude.{◌≡◌, ◌∷◌, [], List, map, drop, length, IfOk};
+ghost use Rattle.std.specs.Prelude.{◌≡◌, ◌∷◌, ◌++◌, [], suc, List, map, drop, slice_get, slice_set, Some, IfErr, OnOk};
 ghost use Rattle.awk_asks.specs.Tables.{Table};
 ghost use Rattle.awk_machine.specs.Calls as machine;
 ghost use Rattle.awk_machine.specs.Pieces.{At, Do, Call, Leave, give};
 ghost use Rattle.awk_machine.specs.State.{Given};
+ghost use Rattle.awk_program.specs.declared.expressions.Argument as code;
+ghost use Rattle.awk_program.specs.declared.expressions.Argument.TheVariants as argument;
 ghost use Rattle.awk_program.specs.View.{view_arguments, view_program, view_statement, names_of};
+ghost use Rattle.awk_store.specs.Kept.{as_scalar};
 ghost use Rattle.awk_store.specs.States.{Hidden, bound_of};
+ghost use Rattle.awk_text.specs.declared.value.Value.{Value as Val};
+ghost use Rattle.awk_text.specs.declared.value.Value.TheVariants as v;
 ghost use Rattle.awk_tasks.specs.Acts.{Acts};
 ghost use Rattle.awk_tasks.specs.Calling.{begun};
 ghost use Rattle.awk_tasks.specs.Wholes.{base, names_in};
 ghost use Rattle.awk_calls.specs.Calls as calls;
-ghost use Rattle.awk_calls.specs.Calls.{argument_of};
+ghost use Rattle.awk_calls.specs.Calls.{argument_of, half};
 
 use crate::flow::Flow;
 use awk_asks::halt::Halt;
-use awk_program::{Argument, Expr, Program, Statement};
-use awk_store::{Bound, Caller, Store};
+use awk_program::{Argument, Expr, Program, Statement, Variable};
+use awk_store::{Bound, Caller, Passed, Store};
 use awk_tasks::calls::enter;
-use awk_text::Memory;
 use awk_text::place::Place;
 use awk_text::value::Value;
 
-/// What a parameter holds that is handed this.
-fn bound(store: &Store, x: &Argument<Expr>, value: Value) -> Bound
-    ensures { (g : Given) (t : Table) (hid : Hidden) → bound_of (names_in g) result ≡ machine.handed (base g (store.now, t) hid) (argument_of (names_in g) x.now) value }
+/// The array that an argument is, if it is one.
+fn array_of(x: &Argument<Expr>) -> Option<Variable>
+    ensures { result ≡ calls.array_of x.now }
 {
     match x {
-        Argument::Array(array) => Bound::Handed(store.reference(*array)),
-        Argument::Value(_) | Argument::Nothing => Bound::Scalar(value),
+        Argument::Array(array) => Some(*array),
+        Argument::Value(_) | Argument::Nothing => None,
     }
 }
 
-/// What the first parameters hold, in the empty list that is given for them. The values are taken out of their list.
-fn handed(
-    store: &Store,
-    xs: &[Argument<Expr>],
-    values: &mut Vec<Value>,
-    room: Vec<Bound>,
-) -> Result<Vec<Bound>, Memory>
-    requires { room.items ≡ [] }
-    ensures frame { IfOk result (λ bounds. (g : Given) (t : Table) (hid : Hidden) → machine.all_handed (base g (store.now, t) hid) (machine.arguments (view_arguments (names_in g) xs.now)) values.old.items ≡ map (bound_of (names_in g)) bounds.items) }
+/// What a parameter holds that is handed this array.
+fn bound(store: &Store, array: Variable) -> Bound
+    ensures { (g : Given) (t : Table) (hid : Hidden) → bound_of (names_in g) result ≡ machine.handed (base g (store.now, t) hid) (argument_of (names_in g) (argument.Array array)) v.Unset }
 {
-    let mut given = room;
-    values.reverse();
-    for x in xs {
-        let Some(value) = values.pop() else {
-            return Ok(given);
-        };
-        given.push(bound(store, x, value))?;
+    Bound::Handed(store.reference(array))
+}
+
+/// Puts it in place of what the parameter at this place holds.
+fn hand(bounds: &mut Vec<Bound>, at: usize, bound: Bound)
+    ensures { bounds.new.items ≡ slice_set bounds.old.items at bound }
+{
+    if at < bounds.len() {
+        bounds[at] = bound;
     }
-    Ok(given)
+}
+
+/// Hands the argument at this place, if it is an array, in place of what lies there.
+fn hand_one(store: &Store, x: &Argument<Expr>, bounds: &mut Vec<Bound>, at: usize)
+    ensures { (g : Given) (t : Table) (hid : Hidden) (xs : List (code.Argument Expr)) (vs : List Val) → slice_get xs at ≡ Some x.now
+        → map (bound_of (names_in g)) bounds.old.items ≡ half (names_in g) (base g (store.now, t) hid) at xs vs
+        → map (bound_of (names_in g)) bounds.new.items ≡ half (names_in g) (base g (store.now, t) hid) (suc at) xs vs }
+{
+    let Some(array) = array_of(x) else {
+        return;
+    };
+    hand(bounds, at, bound(store, array));
+}
+
+/// Hands the arrays among the arguments, in place of what lies there; what lies behind the last argument goes.
+fn hand_arrays(store: &Store, xs: &[Argument<Expr>], bounds: &mut Vec<Bound>)
+    ensures { (g : Given) (t : Table) (hid : Hidden) (vs : List Val) → bounds.old.items ≡ map as_scalar vs
+        → machine.all_handed (base g (store.now, t) hid) (machine.arguments (view_arguments (names_in g) xs.now)) vs ≡ map (bound_of (names_in g)) bounds.new.items }
+{
+    bounds.truncate(xs.len());
+    let mut at = 0;
+    for x in xs {
+        hand_one(store, x, bounds, at);
+        at += 1;
+    }
+}
+
+/// Adds the value of an argument behind the others.
+pub fn pass(values: &mut Passed, value: Value) -> Result<(), Halt>
+    ensures ok { OnOk result (values.new ≡ values.old ++ value ∷ []) }
+    ensures err { IfErr result (λ h. h ≡ Halt.Memory) }
+{
+    let Ok(()) = values.push(value) else {
+        return Err(Halt::Memory);
+    };
+    Ok(())
 }
 
 /// The statements of the function with this number.
@@ -78,17 +113,14 @@ pub fn begin(
     place: Place,
     f: u32,
     xs: &[Argument<Expr>],
-    mut values: Vec<Value>,
+    values: Passed,
     store: &mut Store,
 ) -> Result<Caller, Halt>
-    ensures { (g : Given) (t : Table) → g.program ≡ view_program program.now → Acts g (Do (Call place f (view_arguments (names_in g) xs.now) values.items)) (begun g f) (store.old, t) result (store.new, t) }
+    ensures { (g : Given) (t : Table) → g.program ≡ view_program program.now → Acts g (Do (Call place f (view_arguments (names_in g) xs.now) values)) (begun g f) (store.old, t) result (store.new, t) }
 {
     let count = values.len();
-    let room = store.spare_frame();
-    let Ok(given) = handed(store, xs, &mut values, room) else {
-        return Err(Halt::Memory);
-    };
-    store.keep_values(values);
+    let mut given = values.into_bounds();
+    hand_arrays(store, xs, &mut given);
     enter(
         store,
         place,

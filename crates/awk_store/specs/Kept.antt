@@ -49,6 +49,14 @@ scalar (Some (cell.Array a)) = None
 abbrev pub value_at : List Cell → ℕ → Value
 value_at cells k = unwrap_or (scalar (slice_get cells k)) v.Unset
 
+-- a parameter that holds a value, and the value that one holds
+abbrev pub as_scalar : Value → Bound
+as_scalar x = Scalar x
+
+abbrev pub held_by : Bound → Value
+held_by (Scalar x) = x
+held_by (Handed reference) = v.Unset
+
 abbrev pub bound_scalar : Option Bound → Option Value
 bound_scalar None = None
 bound_scalar (Some (Scalar x)) = Some x

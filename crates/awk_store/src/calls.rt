@@ -3,7 +3,7 @@ ghost use Rattle.std.specs.Prelude.{◌≡◌, ◌⊎◌, ◌<◌, ◌≤◌, �
 ghost use Rattle.awk_machine.specs.Calls.{most_depth};
 ghost use Rattle.awk_store.specs.Changes.{entered, left, missing, new_arrays, unwound};
 
-use crate::frame::{Bound, Caller, Reference};
+use crate::frame::{Bound, Caller, Passed, Reference};
 use crate::store::Store;
 use awk_lib::array::Array;
 use awk_text::Memory;
@@ -55,7 +55,7 @@ fn add_all_missing(
 }
 
 /// An empty list: this one, where there is one. Takes no memory.
-fn emptied<T: Drop>(alloc: Global, list: Option<Vec<T>>) -> Vec<T>
+fn emptied(alloc: Global, list: Option<Vec<Bound>>) -> Vec<Bound>
     ensures { result.items ≡ [] }
 {
     match list {
@@ -68,28 +68,12 @@ fn emptied<T: Drop>(alloc: Global, list: Option<Vec<T>>) -> Vec<T>
 }
 
 impl Store {
-    /// An empty list for the parameters of a call, which an ended call left where there is one. Takes no memory.
-    pub fn spare_frame(&mut self) -> Vec<Bound>
-        ensures empty { result.items ≡ [] }
+    /// No values yet of a call's arguments, in what an ended call kept its parameters in where there is some. Takes no memory.
+    pub fn spare_values(&mut self) -> Passed
+        ensures empty { result ≡ [] }
         ensures same { self.new ≡ self.old }
     {
-        emptied(self.alloc, self.spare.pop())
-    }
-
-    /// An empty list for the values of a call's arguments, which a call that has begun left where there is one. Takes no memory.
-    pub fn spare_values(&mut self) -> Vec<Value>
-        ensures empty { result.items ≡ [] }
-        ensures same { self.new ≡ self.old }
-    {
-        emptied(self.alloc, self.spare_values.pop())
-    }
-
-    /// Keeps a list for the values of a later call's arguments.
-    pub fn keep_values(&mut self, values: Vec<Value>)
-        ensures { self.new ≡ self.old }
-    {
-        // Where memory is refused, a later call makes a list anew.
-        let _ = self.spare_values.push(values);
+        Passed::of(emptied(self.alloc, self.spare.pop()))
     }
 
     /// Begins a call: these are what its first parameters hold, and the kinds of those behind them, that have no argument.

@@ -21,7 +21,7 @@ mod variables;
 
 pub use calls::MOST_DEPTH as MOST_DEPTH;
 pub use cell::Cell;
-pub use frame::{Bound, Caller, Reference};
+pub use frame::{Bound, Caller, Passed, Reference};
 pub use main_input::{MainInput, Source};
 pub use phase::Phase;
 pub use store::Store;

@@ -31,8 +31,6 @@ pub struct Store {
     pub(crate) made: Vec<Array<Value>>,
     /// What calls that have ended kept their parameters in, for the next ones
     pub(crate) spare: Vec<Vec<Bound>>,
-    /// What calls that have begun kept the values of their arguments in, for the next ones
-    pub(crate) spare_values: Vec<Vec<Value>>,
     pub(crate) row: Record,
     pub(crate) separators: Separators,
     phase: Phase,
@@ -67,7 +65,6 @@ impl Store {
             depth: 0,
             made: Vec::new(alloc),
             spare: Vec::new(alloc),
-            spare_values: Vec::new(alloc),
             row: Record::new(alloc),
             separators: Separators::new(),
             phase: Phase::Beginning,

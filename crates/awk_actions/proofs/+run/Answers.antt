@@ -40,7 +40,7 @@ use Rattle.std.proofs.lemmas.Int.{to_z-of_z}
 use Rattle.std.proofs.lemmas.Result.{err_from_is_err_and}
 use Rattle.std.specs.Prelude.{Bool, ℤ, Result, None, Ok, Some, option_copied, option_map, slice_get}
 use Rattle.awk_actions.proofs.+run.Goals as goal
-use Rattle.awk_actions.proofs.+run.Goals.{calls::arguments-in-Some+in_ok-append, calls::arguments-in_default+in_ok-next+in_ok-append-2}
+use Rattle.awk_actions.proofs.+run.Goals.{calls::arguments-in-Some+in_ok-pass, calls::arguments-in_default+in_ok-next+in_ok-pass-2}
 use Rattle.awk_program.specs.Program as p
 use Rattle.awk_text.specs.declared.value.Value.TheVariants as v
 
@@ -958,19 +958,19 @@ pub calls::arguments-returns-in_err-next : goal.calls::arguments-returns-in_err-
 calls::arguments-returns-in_err-next g t c =
     let e = err_from_is_err_and c.from_residual-in_err-next.result c.from_residual-in_err-next.ensures.1 in rw (e.1, e.2) (record { plays = record { plays = λ m is q n. argue_stop (λ m. argument_of (names_in m) c.x-item.result) c.in_err-next.field-0.0 c.loop-x.invariant (λ m. ap (λ ys. slice_get ys c.loop-x.x-index) (arguments_so (names_in m) c.args.xs.now) ∙ got_of (argument_of (names_in m)) c.args.xs.now c.loop-x.x-index c.x-item.result c.x-item.is c.loop-x-test.true) c.argument.ensures c.in_err-next.was m is q n; owns = c.argument.ensures.owns }; count = tt })
 
-pub calls::arguments-returns-in_err-append : goal.calls::arguments-returns-in_err-append
-calls::arguments-returns-in_err-append g t c =
-    let e = err_from_is_err_and c.from_residual.result c.from_residual.ensures.1 in rw (e.1, e.2, c.in_err-append.ensures.err) (record { plays = record { plays = λ m is q n. lacking ((argue_turn (λ m. argument_of (names_in m) c.x-item.result) (v.Num c.in-Some.number) c.loop-x.invariant (λ m. ap (λ ys. slice_get ys c.loop-x.x-index) (arguments_so (names_in m) c.args.xs.now) ∙ got_of (argument_of (names_in m)) c.args.xs.now c.loop-x.x-index c.x-item.result c.x-item.is c.loop-x-test.true) (argued_there c.x-item.result (v.Num c.in-Some.number) c.loop-x.run.store c.loop-x.run.streams c.loop-x.world c.loop-x.invariant.owns c.in-Some.ensures) refl).leads m is q n); owns = c.loop-x.invariant.owns }; count = tt })
+pub calls::arguments-returns-in_err-pass : goal.calls::arguments-returns-in_err-pass
+calls::arguments-returns-in_err-pass g t c =
+    let e = err_from_is_err_and c.from_residual.result c.from_residual.ensures.1 in rw (e.1, e.2, c.in_err-pass.ensures.err) (record { plays = record { plays = λ m is q n. lacking ((argue_turn (λ m. argument_of (names_in m) c.x-item.result) (v.Num c.in-Some.number) c.loop-x.invariant (λ m. ap (λ ys. slice_get ys c.loop-x.x-index) (arguments_so (names_in m) c.args.xs.now) ∙ got_of (argument_of (names_in m)) c.args.xs.now c.loop-x.x-index c.x-item.result c.x-item.is c.loop-x-test.true) (argued_there c.x-item.result (v.Num c.in-Some.number) c.loop-x.run.store c.loop-x.run.streams c.loop-x.world c.loop-x.invariant.owns c.in-Some.ensures) refl).leads m is q n); owns = c.loop-x.invariant.owns }; count = tt })
 
-pub calls::arguments-returns-in_err-append-2 : goal.calls::arguments-returns-in_err-append-2
-calls::arguments-returns-in_err-append-2 g t c =
-    let e = err_from_is_err_and c.from_residual-in_err-append-2.result c.from_residual-in_err-append-2.ensures.1 in rw (e.1, e.2, c.in_err-append-2.ensures.err) (record { plays = record { plays = λ m is q n. lacking ((argue_turn (λ m. argument_of (names_in m) c.x-item.result) c.in_ok-next.next c.loop-x.invariant (λ m. ap (λ ys. slice_get ys c.loop-x.x-index) (arguments_so (names_in m) c.args.xs.now) ∙ got_of (argument_of (names_in m)) c.args.xs.now c.loop-x.x-index c.x-item.result c.x-item.is c.loop-x-test.true) c.argument.ensures c.in_ok-next.was).leads m is q n); owns = c.argument.ensures.owns }; count = tt })
+pub calls::arguments-returns-in_err-pass-2 : goal.calls::arguments-returns-in_err-pass-2
+calls::arguments-returns-in_err-pass-2 g t c =
+    let e = err_from_is_err_and c.from_residual-in_err-pass-2.result c.from_residual-in_err-pass-2.ensures.1 in rw (e.1, e.2, c.in_err-pass-2.ensures.err) (record { plays = record { plays = λ m is q n. lacking ((argue_turn (λ m. argument_of (names_in m) c.x-item.result) c.in_ok-next.next c.loop-x.invariant (λ m. ap (λ ys. slice_get ys c.loop-x.x-index) (arguments_so (names_in m) c.args.xs.now) ∙ got_of (argument_of (names_in m)) c.args.xs.now c.loop-x.x-index c.x-item.result c.x-item.is c.loop-x-test.true) c.argument.ensures c.in_ok-next.was).leads m is q n); owns = c.argument.ensures.owns }; count = tt })
 
 pub calls::arguments-loop-x-preserved : goal.calls::arguments-loop-x-preserved
 calls::arguments-loop-x-preserved g t c =
     elim c.match-known.branch [
-      | calls::arguments-in-Some+in_ok-append w ↦ rw (w.run-is, w.world-is, w.values-is, w.in_ok-append.ensures.ok, to_z-of_z w64 w.in-Some.number (search rules)) (argue_turn (λ m. argument_of (names_in m) c.x-item.result) (v.Num w.in-Some.number) c.loop-x.invariant (λ m. ap (λ ys. slice_get ys c.loop-x.x-index) (arguments_so (names_in m) c.args.xs.now) ∙ got_of (argument_of (names_in m)) c.args.xs.now c.loop-x.x-index c.x-item.result c.x-item.is c.loop-x-test.true) (argued_there c.x-item.result (v.Num w.in-Some.number) c.loop-x.run.store c.loop-x.run.streams c.loop-x.world c.loop-x.invariant.owns w.in-Some.ensures) refl)
-      | calls::arguments-in_default+in_ok-next+in_ok-append-2 w ↦ rw (w.run-is, w.world-is, w.values-is, w.in_ok-append-2.ensures.ok) (argue_turn (λ m. argument_of (names_in m) c.x-item.result) w.in_ok-next.next c.loop-x.invariant (λ m. ap (λ ys. slice_get ys c.loop-x.x-index) (arguments_so (names_in m) c.args.xs.now) ∙ got_of (argument_of (names_in m)) c.args.xs.now c.loop-x.x-index c.x-item.result c.x-item.is c.loop-x-test.true) w.argument.ensures w.in_ok-next.was)
+      | calls::arguments-in-Some+in_ok-pass w ↦ rw (w.run-is, w.world-is, w.values-is, w.in_ok-pass.ensures.ok, to_z-of_z w64 w.in-Some.number (search rules)) (argue_turn (λ m. argument_of (names_in m) c.x-item.result) (v.Num w.in-Some.number) c.loop-x.invariant (λ m. ap (λ ys. slice_get ys c.loop-x.x-index) (arguments_so (names_in m) c.args.xs.now) ∙ got_of (argument_of (names_in m)) c.args.xs.now c.loop-x.x-index c.x-item.result c.x-item.is c.loop-x-test.true) (argued_there c.x-item.result (v.Num w.in-Some.number) c.loop-x.run.store c.loop-x.run.streams c.loop-x.world c.loop-x.invariant.owns w.in-Some.ensures) refl)
+      | calls::arguments-in_default+in_ok-next+in_ok-pass-2 w ↦ rw (w.run-is, w.world-is, w.values-is, w.in_ok-pass-2.ensures.ok) (argue_turn (λ m. argument_of (names_in m) c.x-item.result) w.in_ok-next.next c.loop-x.invariant (λ m. ap (λ ys. slice_get ys c.loop-x.x-index) (arguments_so (names_in m) c.args.xs.now) ∙ got_of (argument_of (names_in m)) c.args.xs.now c.loop-x.x-index c.x-item.result c.x-item.is c.loop-x-test.true) w.argument.ensures w.in_ok-next.was)
     ]
 
 pub calls::arguments-returns : goal.calls::arguments-returns
@@ -983,19 +983,19 @@ calls::call-returns-in_err-values g t c =
 
 pub calls::call-returns-in_err-step : goal.calls::call-returns-in_err-step
 calls::call-returns-in_err-step g t c =
-    let e = err_from_is_err_and c.from_residual-in_err-step.result c.from_residual-in_err-step.ensures.1 in rw (e.1, e.2) (record { plays = λ m is. stop _ (λ k. refl) (quietly {then_ = λ k. Do Step ∷ Do (Call c.args.place c.args.f (view_arguments (names_in m) c.args.xs.now) c.in_ok-values.values.items) ∷ k} (part _ (at_once _ _ _) (c.arguments.ensures.plays.plays m is c.args.place c.args.f) c.in_ok-values.was) (λ k hid d a. called m c.args.place c.args.f (view_arguments (names_in m) c.args.xs.now) c.in_ok-values.values.items (counted (names_in m) c.args.xs.now c.in_ok-values.values.items c.in_ok-values.ensures.count) k _)) (takes (is.host.bound ∙ sym c.bound.ensures) (c.step.ensures c.arguments.new.run.streams)) c.in_err-step.was; owns = c.arguments.ensures.plays.owns })
+    let e = err_from_is_err_and c.from_residual-in_err-step.result c.from_residual-in_err-step.ensures.1 in rw (e.1, e.2) (record { plays = λ m is. stop _ (λ k. refl) (quietly {then_ = λ k. Do Step ∷ Do (Call c.args.place c.args.f (view_arguments (names_in m) c.args.xs.now) c.in_ok-values.values) ∷ k} (part _ (at_once _ _ _) (c.arguments.ensures.plays.plays m is c.args.place c.args.f) c.in_ok-values.was) (λ k hid d a. called m c.args.place c.args.f (view_arguments (names_in m) c.args.xs.now) c.in_ok-values.values (counted (names_in m) c.args.xs.now c.in_ok-values.values c.in_ok-values.ensures.count) k _)) (takes (is.host.bound ∙ sym c.bound.ensures) (c.step.ensures c.arguments.new.run.streams)) c.in_err-step.was; owns = c.arguments.ensures.plays.owns })
 
 pub calls::call-returns-in_err-caller : goal.calls::call-returns-in_err-caller
 calls::call-returns-in_err-caller g t c =
-    let e = err_from_is_err_and c.from_residual-in_err-caller.result c.from_residual-in_err-caller.ensures.1 in rw (e.1, e.2) (record { plays = λ m is. stop _ (λ k. refl) (part _ (quietly {then_ = λ k. Do Step ∷ Do (Call c.args.place c.args.f (view_arguments (names_in m) c.args.xs.now) c.in_ok-values.values.items) ∷ k} (part _ (at_once _ _ _) (c.arguments.ensures.plays.plays m is c.args.place c.args.f) c.in_ok-values.was) (λ k hid d a. called m c.args.place c.args.f (view_arguments (names_in m) c.args.xs.now) c.in_ok-values.values.items (counted (names_in m) c.args.xs.now c.in_ok-values.values.items c.in_ok-values.ensures.count) k _)) (takes (is.host.bound ∙ sym c.bound.ensures) (c.step.ensures c.arguments.new.run.streams)) c.in_ok-step.was) (acted (c.begin.ensures m c.arguments.new.run.streams is.program)) c.in_err-caller.was; owns = c.arguments.ensures.plays.owns })
+    let e = err_from_is_err_and c.from_residual-in_err-caller.result c.from_residual-in_err-caller.ensures.1 in rw (e.1, e.2) (record { plays = λ m is. stop _ (λ k. refl) (part _ (quietly {then_ = λ k. Do Step ∷ Do (Call c.args.place c.args.f (view_arguments (names_in m) c.args.xs.now) c.in_ok-values.values) ∷ k} (part _ (at_once _ _ _) (c.arguments.ensures.plays.plays m is c.args.place c.args.f) c.in_ok-values.was) (λ k hid d a. called m c.args.place c.args.f (view_arguments (names_in m) c.args.xs.now) c.in_ok-values.values (counted (names_in m) c.args.xs.now c.in_ok-values.values c.in_ok-values.ensures.count) k _)) (takes (is.host.bound ∙ sym c.bound.ensures) (c.step.ensures c.arguments.new.run.streams)) c.in_ok-step.was) (acted (c.begin.ensures m c.arguments.new.run.streams is.program)) c.in_err-caller.was; owns = c.arguments.ensures.plays.owns })
 
 pub calls::call-returns-in_err-flow : goal.calls::call-returns-in_err-flow
 calls::call-returns-in_err-flow g t c =
-    let e = err_from_is_err_and c.from_residual-in_err-flow.result c.from_residual-in_err-flow.ensures.1 in rw (e.1, e.2) (record { plays = λ m is. stop _ (λ k. refl) (turned {then_ = λ k. Do (Each (map (view_statement (names_in m)) c.body_of.result.now)) ∷ ending m c.in_ok-caller.caller k} (part _ (part _ (quietly {then_ = λ k. Do Step ∷ Do (Call c.args.place c.args.f (view_arguments (names_in m) c.args.xs.now) c.in_ok-values.values.items) ∷ k} (part _ (at_once _ _ _) (c.arguments.ensures.plays.plays m is c.args.place c.args.f) c.in_ok-values.was) (λ k hid d a. called m c.args.place c.args.f (view_arguments (names_in m) c.args.xs.now) c.in_ok-values.values.items (counted (names_in m) c.args.xs.now c.in_ok-values.values.items c.in_ok-values.ensures.count) k _)) (takes (is.host.bound ∙ sym c.bound.ensures) (c.step.ensures c.arguments.new.run.streams)) c.in_ok-step.was) (acted (c.begin.ensures m c.arguments.new.run.streams is.program)) c.in_ok-caller.was) (λ k. ap (λ ys. Do (Each ys) ∷ ending m c.in_ok-caller.caller k) (body_so m c.args.cx.now is c.args.f c.body_of.result.now c.body_of.ensures))) (c.body.ensures.plays m is) c.in_err-flow.was; owns = c.body.ensures.owns })
+    let e = err_from_is_err_and c.from_residual-in_err-flow.result c.from_residual-in_err-flow.ensures.1 in rw (e.1, e.2) (record { plays = λ m is. stop _ (λ k. refl) (turned {then_ = λ k. Do (Each (map (view_statement (names_in m)) c.body_of.result.now)) ∷ ending m c.in_ok-caller.caller k} (part _ (part _ (quietly {then_ = λ k. Do Step ∷ Do (Call c.args.place c.args.f (view_arguments (names_in m) c.args.xs.now) c.in_ok-values.values) ∷ k} (part _ (at_once _ _ _) (c.arguments.ensures.plays.plays m is c.args.place c.args.f) c.in_ok-values.was) (λ k hid d a. called m c.args.place c.args.f (view_arguments (names_in m) c.args.xs.now) c.in_ok-values.values (counted (names_in m) c.args.xs.now c.in_ok-values.values c.in_ok-values.ensures.count) k _)) (takes (is.host.bound ∙ sym c.bound.ensures) (c.step.ensures c.arguments.new.run.streams)) c.in_ok-step.was) (acted (c.begin.ensures m c.arguments.new.run.streams is.program)) c.in_ok-caller.was) (λ k. ap (λ ys. Do (Each ys) ∷ ending m c.in_ok-caller.caller k) (body_so m c.args.cx.now is c.args.f c.body_of.result.now c.body_of.ensures))) (c.body.ensures.plays m is) c.in_err-flow.was; owns = c.body.ensures.owns })
 
 pub calls::call-returns : goal.calls::call-returns
 calls::call-returns g t c =
-    record { plays = λ m is. rw c.returned.ensures (done (turned (part (tt {0}) (turned (part _ (turned {then_ = λ k. Do (Each (map (view_statement (names_in m)) c.body_of.result.now)) ∷ ending m c.in_ok-caller.caller k} (part _ (part _ (quietly {then_ = λ k. Do Step ∷ Do (Call c.args.place c.args.f (view_arguments (names_in m) c.args.xs.now) c.in_ok-values.values.items) ∷ k} (part _ (at_once _ _ _) (c.arguments.ensures.plays.plays m is c.args.place c.args.f) c.in_ok-values.was) (λ k hid d a. called m c.args.place c.args.f (view_arguments (names_in m) c.args.xs.now) c.in_ok-values.values.items (counted (names_in m) c.args.xs.now c.in_ok-values.values.items c.in_ok-values.ensures.count) k _)) (takes (is.host.bound ∙ sym c.bound.ensures) (c.step.ensures c.arguments.new.run.streams)) c.in_ok-step.was) (acted (c.begin.ensures m c.arguments.new.run.streams is.program)) c.in_ok-caller.was) (λ k. ap (λ ys. Do (Each ys) ∷ ending m c.in_ok-caller.caller k) (body_so m c.args.cx.now is c.args.f c.body_of.result.now c.body_of.ensures))) (c.body.ensures.plays m is) c.in_ok-flow.was) (λ k. returns_to m c.in_ok-caller.caller c.in_ok-flow.flow k)) (acted (c.leave.ensures m c.body.new.run.streams (answers c.in_ok-flow.flow))) refl) (λ k. ap (λ x. give x k) (answers_so c.in_ok-flow.flow)))); owns = c.body.ensures.owns }
+    record { plays = λ m is. rw c.returned.ensures (done (turned (part (tt {0}) (turned (part _ (turned {then_ = λ k. Do (Each (map (view_statement (names_in m)) c.body_of.result.now)) ∷ ending m c.in_ok-caller.caller k} (part _ (part _ (quietly {then_ = λ k. Do Step ∷ Do (Call c.args.place c.args.f (view_arguments (names_in m) c.args.xs.now) c.in_ok-values.values) ∷ k} (part _ (at_once _ _ _) (c.arguments.ensures.plays.plays m is c.args.place c.args.f) c.in_ok-values.was) (λ k hid d a. called m c.args.place c.args.f (view_arguments (names_in m) c.args.xs.now) c.in_ok-values.values (counted (names_in m) c.args.xs.now c.in_ok-values.values c.in_ok-values.ensures.count) k _)) (takes (is.host.bound ∙ sym c.bound.ensures) (c.step.ensures c.arguments.new.run.streams)) c.in_ok-step.was) (acted (c.begin.ensures m c.arguments.new.run.streams is.program)) c.in_ok-caller.was) (λ k. ap (λ ys. Do (Each ys) ∷ ending m c.in_ok-caller.caller k) (body_so m c.args.cx.now is c.args.f c.body_of.result.now c.body_of.ensures))) (c.body.ensures.plays m is) c.in_ok-flow.was) (λ k. returns_to m c.in_ok-caller.caller c.in_ok-flow.flow k)) (acted (c.leave.ensures m c.body.new.run.streams (answers c.in_ok-flow.flow))) refl) (λ k. ap (λ x. give x k) (answers_so c.in_ok-flow.flow)))); owns = c.body.ensures.owns }
 
 pub inputs::getline-returns-in_err-to : goal.inputs::getline-returns-in_err-to
 inputs::getline-returns-in_err-to g t c =

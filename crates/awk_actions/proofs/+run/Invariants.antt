@@ -191,7 +191,7 @@ abbrev pub invariant-lists::fill-loop-x : goal.invariant-lists::fill-loop-x
 invariant-lists::fill-loop-x g l = Filling g.W.World.follows g.W.World.has_stopped g.W.World.stops g.W.World.open_numbers l.cx (λ m. map (view (names_in m)) l.xs) l.fn.values.items l.values.items l.x-index (l.fn.run.store, l.fn.run.streams) l.fn.world (l.run.store, l.run.streams) l.world
 
 abbrev pub invariant-calls::arguments-loop-x : goal.invariant-calls::arguments-loop-x
-invariant-calls::arguments-loop-x g l = Arguing g.W.World.follows g.W.World.has_stopped g.W.World.stops g.W.World.open_numbers l.cx (λ m. view_arguments (names_in m) l.xs) l.values.items l.x-index (l.fn.run.store, l.fn.run.streams) l.fn.world (l.run.store, l.run.streams) l.world
+invariant-calls::arguments-loop-x g l = Arguing g.W.World.follows g.W.World.has_stopped g.W.World.stops g.W.World.open_numbers l.cx (λ m. view_arguments (names_in m) l.xs) l.values l.x-index (l.fn.run.store, l.fn.run.streams) l.fn.world (l.run.store, l.run.streams) l.world
 
 abbrev pub invariant-expressions::chain-loop-next : goal.invariant-expressions::chain-loop-next
 invariant-expressions::chain-loop-next g l = Along g.W.World.follows g.W.World.has_stopped g.W.World.stops g.W.World.open_numbers l.cx (λ m. value (p.chain (view (names_in m) l.x) (terms_of (map (view_term (names_in m)) l.xs)))) (λ m k. At (Terms_of (terms_of (map (view_term (names_in m)) (drop l.next-index l.xs)))) (l.so_far ∷ []) ∷ k) (l.fn.run.store, l.fn.run.streams) l.fn.world (l.run.store, l.run.streams) l.world

@@ -6,7 +6,7 @@ use Rattle.awk_calls.proofs.frames.begin.Goals as goal
 
 pub returns : goal.returns
 returns c = λ g t e.
-    rw (c.keep_values.ensures, c.spare_frame-room.ensures.same) at (c.enter.ensures g t c.args.f (view_arguments (names_in g) c.args.xs.now) c.args.values.items
-    (c.others.ensures ∙ ap (λ n. drop n c.parameters_of.result.now) (c.len-count.ensures ∙ c.args.values.ok.0)
-    ∙ ap (drop (length c.args.values.items)) (c.parameters_of.ensures ∙ ap (λ p. (function p c.args.f).parameters) (sym e)))
-    (rw (sym c.keep_values.ensures) at (c.in-Ok.ensures.frame g t)))
+    c.enter.ensures g t c.args.f (view_arguments (names_in g) c.args.xs.now) c.args.values
+    (c.others.ensures ∙ ap (λ n. drop n c.parameters_of.result.now) c.len-count.ensures
+    ∙ ap (drop (length c.args.values)) (c.parameters_of.ensures ∙ ap (λ p. (function p c.args.f).parameters) (sym e)))
+    (λ hid. c.hand_arrays.ensures g t hid c.args.values c.into_bounds-given.ensures)
