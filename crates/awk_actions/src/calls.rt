@@ -1,10 +1,10 @@
 // Calls of the script's functions.
-ghost use Rattle.std.specs.Prelude.{◌≡◌, ◌∷◌, [], List, length, IfOk, IfSome, map, reverse};
+ghost use Rattle.std.specs.Prelude.{◌≡◌, length, IfOk, IfSome};
 ghost use Rattle.awk_asks.specs.Tasks.{Owns};
 ghost use Rattle.awk_machine.specs.Forms.{value};
-ghost use Rattle.awk_machine.specs.Pieces.{At, Value_of, give};
+ghost use Rattle.awk_machine.specs.Pieces.{give};
 ghost use Rattle.awk_program.specs.Program as p;
-ghost use Rattle.awk_program.specs.View.{view, view_arguments};
+ghost use Rattle.awk_program.specs.View.{view_arguments};
 ghost use Rattle.awk_tasks.specs.Wholes.{names_in};
 ghost use Rattle.awk_calls.specs.Calls.{argument_of};
 ghost use Rattle.awk_actions.specs.Calls.{Argued, Argues, IsPassed};

@@ -1,16 +1,15 @@
 // Expressions.
-ghost use Rattle.std.specs.Prelude.{◌≡◌, ◌∷◌, [], List, map};
+ghost use Rattle.std.specs.Prelude.{map};
 ghost use Rattle.awk_asks.specs.Tasks.{Owns};
 ghost use Rattle.awk_forms.specs.Operands.{unary_of, binary_of};
 ghost use Rattle.awk_machine.specs.Forms.{value};
 ghost use Rattle.awk_machine.specs.Pieces.{give};
 ghost use Rattle.awk_program.specs.Program as p;
 ghost use Rattle.awk_program.specs.Program.{expressions_of, terms_of, joins_of};
-ghost use Rattle.awk_program.specs.View.{view, view_target, view_term, view_joined, variable_of, view_arguments};
+ghost use Rattle.awk_program.specs.View.{view, view_term, view_joined, variable_of};
 ghost use Rattle.awk_tasks.specs.Wholes.{names_in};
 ghost use Rattle.awk_actions.specs.Runs.{Does, Tells, IsNumberOf, IsTruthOf, IsUnwanted};
 ghost use Rattle.awk_machine.specs.Operators.{of_truth};
-ghost use Rattle.awk_text.specs.declared.value.Value.TheVariants as v;
 
 use crate::calls::call;
 use crate::context::{Context, Run};

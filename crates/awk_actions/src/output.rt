@@ -1,5 +1,5 @@
 // Output.
-ghost use Rattle.std.specs.Prelude.{◌≡◌, ◌∷◌, [], List, Some, None, map, option_map};
+ghost use Rattle.std.specs.Prelude.{[], Some, None, map, option_map};
 ghost use Rattle.awk_asks.specs.Tasks.{Owns};
 ghost use Rattle.awk_machine.specs.Pieces.{At, Doing};
 ghost use Rattle.awk_program.specs.Program as p;

@@ -1,5 +1,5 @@
 // Expressions that search for a pattern.
-ghost use Rattle.std.specs.Prelude.{◌≡◌, List, ℕ, IfOk};
+ghost use Rattle.std.specs.Prelude.{List, ℕ, IfOk};
 ghost use Rattle.awk_asks.specs.Tasks.{Owns};
 ghost use Rattle.awk_forms.specs.Patterns.{source_value, IsSourceOf};
 ghost use Rattle.awk_machine.specs.Forms.{source, value};

@@ -1,5 +1,5 @@
 // Statements.
-ghost use Rattle.std.specs.Prelude.{◌≡◌, ◌∷◌, [], List, map, option_map};
+ghost use Rattle.std.specs.Prelude.{[], map, option_map};
 ghost use Rattle.awk_asks.specs.Tasks.{Owns};
 ghost use Rattle.awk_machine.specs.Pieces.{At, Do, Doing, Each, Start};
 ghost use Rattle.awk_program.specs.Program as p;

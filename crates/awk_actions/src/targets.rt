@@ -1,11 +1,10 @@
 // What is read or set.
-ghost use Rattle.std.specs.Prelude.{◌≡◌, ◌∷◌, [], List, ℕ, IfOk, map};
+ghost use Rattle.std.specs.Prelude.{List, ℕ, IfOk};
 ghost use Rattle.awk_asks.specs.Tasks.{Owns};
 ghost use Rattle.awk_machine.specs.Forms.{value, spot};
 ghost use Rattle.awk_machine.specs.Pieces.{give};
 ghost use Rattle.awk_program.specs.Program as p;
-ghost use Rattle.awk_program.specs.Program.{expressions_of};
-ghost use Rattle.awk_program.specs.View.{view, view_target, variable_of};
+ghost use Rattle.awk_program.specs.View.{view, view_target};
 ghost use Rattle.awk_tasks.specs.Spots.{IsSpotOf, value_of};
 ghost use Rattle.awk_tasks.specs.Wholes.{names_in};
 ghost use Rattle.awk_actions.specs.Runs.{Does, Tells, IsUnwanted};

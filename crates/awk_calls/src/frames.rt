@@ -2,7 +2,7 @@
 ghost use Rattle.std.specs.Prelude.{◌≡◌, ◌∷◌, ◌++◌, [], suc, List, map, drop, slice_get, slice_set, Some, IfErr, OnOk};
 ghost use Rattle.awk_asks.specs.Tables.{Table};
 ghost use Rattle.awk_machine.specs.Calls as machine;
-ghost use Rattle.awk_machine.specs.Pieces.{At, Do, Call, Leave, give};
+ghost use Rattle.awk_machine.specs.Pieces.{Do, Call};
 ghost use Rattle.awk_machine.specs.State.{Given};
 ghost use Rattle.awk_program.specs.declared.expressions.Argument as code;
 ghost use Rattle.awk_program.specs.declared.expressions.Argument.TheVariants as argument;

@@ -1,25 +1,18 @@
 // Assignments that are done at once: what they need is at hand, and their value is not wanted.
 ghost use Rattle.std.specs.Prelude.{◌≡◌, ◌≤◌, ℤ, true, false, length, map, Ok, IfSome};
-ghost use Rattle.awk_asks.specs.Tables.{Table};
 ghost use Rattle.awk_fields.specs.Rows.{IsValueAt};
 ghost use Rattle.awk_forms.specs.AtHand.{AddsAt, IsDone, IsKey};
-ghost use Rattle.awk_machine.specs.Forms.{spot};
 ghost use Rattle.awk_machine.specs.Operators as machine;
-ghost use Rattle.awk_machine.specs.Pieces.{give};
-ghost use Rattle.awk_machine.specs.State.{Given};
 ghost use Rattle.awk_program.specs.Program as p;
 ghost use Rattle.awk_program.specs.Program.{expressions_of};
 ghost use Rattle.awk_program.specs.View.{view, view_target, variable_of};
 ghost use Rattle.awk_store.specs.Kept as kept;
 ghost use Rattle.awk_program.specs.declared.operators.Taken.{Taken as Which};
-ghost use Rattle.awk_tasks.specs.Acts.{Passes};
-ghost use Rattle.awk_tasks.specs.Wholes.{names_in};
 ghost use Rattle.awk_text.specs.Arithmetic.{add};
 ghost use Rattle.awk_text.specs.Limits.{most_bytes};
 ghost use Rattle.awk_text.specs.Values as values;
 ghost use Rattle.awk_text.specs.Values.{text_of};
 ghost use Rattle.awk_text.specs.declared.value.Value.{Value as Val};
-ghost use Rattle.awk_text.specs.declared.value.Value.TheVariants as v;
 
 use crate::at_hand::{MOST_LEVELS, at_hand, number_at_hand, value_at_hand};
 use awk_program::{Expr, Operator, Step, Target, Variable};

@@ -1,5 +1,5 @@
 // ENVIRON.
-ghost use Rattle.std.specs.Prelude.{◌≡◌, ◌∷◌, List, codes};
+ghost use Rattle.std.specs.Prelude.{◌∷◌, List, codes};
 ghost use Rattle.awk_asks.specs.Tables.{Table};
 ghost use Rattle.awk_asks.specs.Tasks.{Owns, goes_on};
 ghost use Rattle.awk_machine.specs.Pieces as machine;

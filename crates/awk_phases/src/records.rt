@@ -1,5 +1,5 @@
 // The records of the main input, and the rules for each.
-ghost use Rattle.std.specs.Prelude.{◌≡◌, [], List, Err};
+ghost use Rattle.std.specs.Prelude.{◌≡◌, [], Err};
 ghost use Rattle.awk_asks.specs.Tasks.{Owns, goes_on};
 ghost use Rattle.awk_machine.specs.Pieces.{At, Records};
 ghost use Rattle.awk_actions.specs.Runs.{Does};

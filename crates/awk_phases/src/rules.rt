@@ -1,5 +1,5 @@
 // The rules for a record.
-ghost use Rattle.std.specs.Prelude.{◌≡◌, [], List, map, if◌then◌else◌};
+ghost use Rattle.std.specs.Prelude.{◌≡◌, [], map, if◌then◌else◌};
 ghost use Rattle.awk_asks.specs.Tasks.{Owns, goes_on};
 ghost use Rattle.awk_calls.specs.Flows.{flows};
 ghost use Rattle.awk_machine.specs.Pieces.{At, Choosing, Do};

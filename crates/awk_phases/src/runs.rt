@@ -1,5 +1,5 @@
 // Whole runs.
-ghost use Rattle.std.specs.Prelude.{◌≡◌, ◌∷◌, []};
+ghost use Rattle.std.specs.Prelude.{◌∷◌, []};
 ghost use Rattle.awk_asks.specs.Tasks.{Owns};
 ghost use Rattle.awk_machine.specs.Begins.{first_pieces};
 ghost use Rattle.awk_machine.specs.Pieces.{Do, Enter};

@@ -1,5 +1,5 @@
 // What is done before BEGIN: the operands, the separator of fields, and the host's own assignments.
-ghost use Rattle.std.specs.Prelude.{◌≡◌, ◌+◌, ◌∷◌, ◌++◌, [], pos, true, List, codes, length, option_copied, if◌then◌else◌, IfOk};
+ghost use Rattle.std.specs.Prelude.{◌≡◌, ◌+◌, ◌∷◌, ◌++◌, [], pos, true, List, codes, length, option_copied, if◌then◌else◌};
 ghost use Rattle.std.specs.Fmt.{decimal};
 ghost use Rattle.awk_asks.specs.Tables.{Table};
 ghost use Rattle.awk_asks.specs.Tasks.{goes_on};
