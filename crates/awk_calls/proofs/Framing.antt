@@ -1,8 +1,8 @@
 -- What the parameters of a call hold, and the function that is called.
-use Rattle.std.proofs.Common.{◌≡◌, refl, sym, ap, ◌∙◌, ℕ, zero, suc, ◌+◌, ◌<◌, ◌≤◌, List, [], ◌∷◌, ◌++◌, length, drop, map, reverse, arith}
-use Rattle.std.specs.Prelude.{Option, Some, None, slice_get, slice_set, get_or, option_map, take, unwrap_or}
-use Rattle.std.proofs.lemmas.List.{drop_more, length-append, reverse-append}
-use Rattle.std.proofs.lemmas.Option.{slice_get-map, slice_get_within, slice_get_read, slice_get_past, get_or_from_slice_get, unwrap_or-slice_get}
+use Rattle.std.proofs.Common.{◌≡◌, refl, sym, ap, ◌∙◌, ℕ, zero, suc, ◌+◌, ◌<◌, ◌≤◌, List, [], ◌∷◌, ◌++◌, length, map, reverse, arith}
+use Rattle.std.specs.Prelude.{Option, Some, None, IfSome, slice_get, slice_set, get_or, option_map, take, unwrap_or}
+use Rattle.std.proofs.lemmas.List.{length-append, map-set, reverse-append}
+use Rattle.std.proofs.lemmas.Option.{slice_get-map, slice_get_read, unwrap_or-slice_get}
 use Rattle.awk_text.specs.declared.value.Value.{Value}
 use Rattle.awk_text.specs.declared.value.Value.TheVariants as v
 use Rattle.awk_program.specs.Program as p
@@ -15,59 +15,29 @@ use Rattle.awk_program.specs.declared.program.Program as code_program
 use Rattle.awk_program.specs.declared.variables.Variable.{Variable}
 use Rattle.awk_program.specs.declared.variables.Variable.TheVariants.{Global, Parameter}
 use Rattle.awk_machine.specs.Calls.{all_handed, arguments, function, handed}
+use Rattle.awk_machine.specs.State as machine
 use Rattle.awk_machine.specs.State.{State, Frame}
 use Rattle.awk_machine.specs.Variables as variables
 use Rattle.awk_store.specs.Kept as kept
 use Rattle.awk_store.specs.Kept.{Kept, as_scalar}
 use Rattle.awk_store.specs.States.{Hidden, bound_of, reference_of, state}
 use Rattle.awk_store.specs.declared.frame.Bound.{Bound}
+use Rattle.awk_store.specs.declared.frame.Bound.TheVariants as bound
 use Rattle.awk_store.proofs.Reading.{handed_read}
-use Rattle.awk_calls.specs.Calls.{argument_of, array_of, half, scalars}
+use Rattle.awk_calls.specs.Calls.{argument_of, array_of}
 
 -- ---- lists
-
-pub drop_some : {X : Type 0} (xs : List X) (n : ℕ) (x : X) → slice_get xs n ≡ Some x → drop n xs ≡ x ∷ drop (n + 1) xs
-drop_some xs n x e = drop_more xs n x (slice_get_within xs n x e) ∙ ap (λ z. z ∷ drop (n + 1) xs) (get_or_from_slice_get xs n x x e)
-
-pub drop_none : {X : Type 0} (xs : List X) (n : ℕ) → slice_get xs n ≡ None → drop n xs ≡ []
-drop_none [] zero e = refl
-drop_none [] (suc n) e = refl
-drop_none (x ∷ xs) zero e = absurd (cc)
-drop_none (x ∷ xs) (suc n) e = drop_none xs n e
-
-drop_zero : {X : Type 0} (xs : List X) → drop 0 xs ≡ xs
-drop_zero [] = refl
-drop_zero (x ∷ xs) = refl
 
 -- a list without its last, from behind
 pub reverse_last : {X : Type 0} (xs : List X) (x : X) → x ∷ reverse xs ≡ reverse (xs ++ x ∷ [])
 reverse_last xs x = sym (reverse-append xs (x ∷ []))
 
-pub reverse_front : {X : Type 0} (ws us : List X) (x : X) → ws ≡ us ++ x ∷ [] → reverse ws ≡ x ∷ reverse us
-reverse_front ws us x e = ap reverse e ∙ sym (reverse_last us x)
-
 pub one_longer : {X : Type 0} (xs ys : List X) (x : X) (n : ℕ) → ys ≡ xs ++ x ∷ [] → length xs ≡ n → length ys ≡ n + 1
 one_longer xs ys x n e is = let a = ap length e ∙ length-append xs (x ∷ []) in omega (arith, a, is)
 
 -- what stands at a place, where the place is said in other words
-pub is_past : {X : Type 0} (xs : List X) (i n : ℕ) → length xs ≤ i → i ≡ n → slice_get xs n ≡ None
-is_past xs i n past e = slice_get_past xs n (omega (arith, past, e))
-
 pub is_there : {X : Type 0} (xs : List X) (i n : ℕ) (x : X) → i < length xs → x ≡ get_or xs i x → i ≡ n → slice_get xs n ≡ Some x
 is_there xs i n x within is e = ap (slice_get xs) (sym e) ∙ slice_get_read xs (length xs) i x refl within is
-
-abbrev pub some_of : {X : Type 0} → X → Option X
-some_of x = Some x
-
-nil_right : {X : Type 0} (xs : List X) → xs ++ [] ≡ xs
-nil_right [] = refl
-nil_right (x ∷ xs) = ap (λ ys. x ∷ ys) (nil_right xs)
-
-pub few_taken : {X : Type 0} (n : ℕ) (xs : List X) → length (take n xs) ≤ n
-few_taken zero [] = omega arith
-few_taken zero (x ∷ xs) = omega arith
-few_taken (suc n) [] = omega arith
-few_taken (suc n) (x ∷ xs) = let h = few_taken n xs in omega (arith, h)
 
 -- ---- arguments
 
@@ -77,11 +47,6 @@ arguments-so names (argument.Value x ∷ xs) = ap (λ ys. argument_of names (arg
 arguments-so names (argument.Array a ∷ xs) = ap (λ ys. argument_of names (argument.Array a) ∷ ys) (arguments-so names xs)
 arguments-so names (argument.Nothing ∷ xs) = ap (λ ys. argument_of names argument.Nothing ∷ ys) (arguments-so names xs)
 
-pub is_array : (x : code.Argument Expr) (a : Variable) → array_of x ≡ Some a → x ≡ argument.Array a
-is_array (argument.Value x) a e = absurd (cc)
-is_array (argument.Array b) a e = ap (λ o. argument.Array (unwrap_or o b)) e
-is_array argument.Nothing a e = absurd (cc)
-
 -- which array a variable stands for
 pub reference_so : (names : Names) (k : Kept) (hid : Hidden) (a : Variable) → variables.reference (state names k hid) (variable_of names a) ≡ reference_of names (kept.reference k a)
 reference_so names k hid (Global n) = refl
@@ -89,57 +54,64 @@ reference_so names k hid (Parameter n) = ap variables.bound_reference (slice_get
 
 -- ---- what parameters hold, one after the other
 
+-- values that parameters hold
+abbrev pub scalars : Names → List Value → Frame
+scalars names vs = map (bound_of names) (map as_scalar vs)
+
 module _ (names : Names) (s : State) where
-  pub half_none : (xs : List (code.Argument Expr)) (vs : List Value) → half names s 0 xs vs ≡ scalars names vs
+  -- the first so many arguments are handed, and the others are values still
+  abbrev pub half : ℕ → List (code.Argument Expr) → List Value → Frame
+  half n [] vs = scalars names vs
+  half n (x ∷ xs) [] = []
+  half zero (x ∷ xs) (v ∷ vs) = scalars names (v ∷ vs)
+  half (suc n) (x ∷ xs) (v ∷ vs) = handed s (argument_of names x) v ∷ half n xs vs
+
+  pub half_none : (xs : List (code.Argument Expr)) (vs : List Value) → half 0 xs vs ≡ scalars names vs
   half_none [] vs = refl
   half_none (x ∷ xs) [] = refl
   half_none (x ∷ xs) (v ∷ vs) = refl
 
-  pub half_all : (xs : List (code.Argument Expr)) (vs : List Value) → length vs ≤ length xs → half names s (length xs) xs vs ≡ all_handed s (map (argument_of names) xs) vs
+  pub half_all : (xs : List (code.Argument Expr)) (vs : List Value) → length vs ≤ length xs → half (length xs) xs vs ≡ all_handed s (map (argument_of names) xs) vs
   half_all [] [] few = refl
   half_all [] (v ∷ vs) few = absurd (omega (arith, few))
   half_all (x ∷ xs) [] few = refl
   half_all (x ∷ xs) (v ∷ vs) few = ap (λ bs. handed s (argument_of names x) v ∷ bs) (half_all xs vs (omega (arith, few)))
 
   -- what is no array stays as it lies
-  pub half_same : (n : ℕ) (xs : List (code.Argument Expr)) (vs : List Value) (x : code.Argument Expr) → slice_get xs n ≡ Some x → ((v : Value) → handed s (argument_of names x) v ≡ bound_of names (as_scalar v)) →
-      half names s n xs vs ≡ half names s (suc n) xs vs
+  half_same : (n : ℕ) (xs : List (code.Argument Expr)) (vs : List Value) (x : code.Argument Expr) → slice_get xs n ≡ Some x → ((v : Value) → handed s (argument_of names x) v ≡ bound_of names (as_scalar v)) →
+      half n xs vs ≡ half (suc n) xs vs
   half_same n [] vs x e same = refl
   half_same zero (y ∷ ys) [] x e same = refl
   half_same (suc n) (y ∷ ys) [] x e same = refl
   half_same zero (y ∷ ys) (v ∷ vs) x e same =
-      ap (λ bs. bound_of names (as_scalar v) ∷ bs) (sym (half_none ys vs)) ∙ ap (λ b. b ∷ half names s 0 ys vs) (sym (ap (λ z. handed s (argument_of names z) v) (ap (λ o. unwrap_or o y) e) ∙ same v))
+      ap (λ bs. bound_of names (as_scalar v) ∷ bs) (sym (half_none ys vs)) ∙ ap (λ b. b ∷ half 0 ys vs) (sym (ap (λ z. handed s (argument_of names z) v) (ap (λ o. unwrap_or o y) e) ∙ same v))
   half_same (suc n) (y ∷ ys) (v ∷ vs) x e same = ap (λ bs. handed s (argument_of names y) v ∷ bs) (half_same n ys vs x e same)
 
-  pub stays : (x : code.Argument Expr) → array_of x ≡ None → (v : Value) → handed s (argument_of names x) v ≡ bound_of names (as_scalar v)
-  stays (argument.Value x) e v = refl
-  stays (argument.Array a) e v = absurd (cc)
-  stays argument.Nothing e v = refl
-
-  map_set : (bs : List Bound) (n : ℕ) (b : Bound) → map (bound_of names) (slice_set bs n b) ≡ slice_set (map (bound_of names) bs) n (bound_of names b)
-  map_set [] n b = refl
-  map_set (x ∷ xs) zero b = refl
-  map_set (x ∷ xs) (suc n) b = ap (λ bs. bound_of names x ∷ bs) (map_set xs n b)
-
-  half_put : (n : ℕ) (xs : List (code.Argument Expr)) (vs : List Value) (a : Variable) → slice_get xs n ≡ Some (argument.Array a) → slice_set (half names s n xs vs) n (handed s (argument_of names (argument.Array a)) v.Unset) ≡ half names s (suc n) xs vs
+  -- an array is put in the place of what lies there
+  half_put : (n : ℕ) (xs : List (code.Argument Expr)) (vs : List Value) (a : Variable) → slice_get xs n ≡ Some (argument.Array a) → slice_set (half n xs vs) n (handed s (argument_of names (argument.Array a)) v.Unset) ≡ half (suc n) xs vs
   half_put zero [] vs a e = absurd (cc)
   half_put (suc n) [] vs a e = absurd (cc)
   half_put zero (y ∷ ys) [] a e = refl
   half_put (suc n) (y ∷ ys) [] a e = refl
   half_put zero (y ∷ ys) (v ∷ vs) a e =
-      ap (λ bs. handed s (argument_of names (argument.Array a)) v ∷ bs) (sym (half_none ys vs)) ∙ ap (λ z. handed s (argument_of names z) v ∷ half names s 0 ys vs) (sym (ap (λ o. unwrap_or o y) e))
+      ap (λ bs. handed s (argument_of names (argument.Array a)) v ∷ bs) (sym (half_none ys vs)) ∙ ap (λ z. handed s (argument_of names z) v ∷ half 0 ys vs) (sym (ap (λ o. unwrap_or o y) e))
   half_put (suc n) (y ∷ ys) (v ∷ vs) a e = ap (λ bs. handed s (argument_of names y) v ∷ bs) (half_put n ys vs a e)
-
-  -- an array is put in the place of what lies there
-  pub half_set : (n : ℕ) (xs : List (code.Argument Expr)) (vs : List Value) (a : Variable) (b : Bound) → slice_get xs n ≡ Some (argument.Array a) → bound_of names b ≡ handed s (argument_of names (argument.Array a)) v.Unset →
-      (bs : List Bound) → map (bound_of names) bs ≡ half names s n xs vs → map (bound_of names) (slice_set bs n b) ≡ half names s (suc n) xs vs
-  half_set n xs vs a b e is bs h = map_set bs n b ∙ (λ i. slice_set (h i) n (is i)) ∙ half_put n xs vs a e
 
   -- the values behind the last argument go
   pub handed_taken : (xs : List (code.Argument Expr)) (vs : List Value) → all_handed s (map (argument_of names) xs) (take (length xs) vs) ≡ all_handed s (map (argument_of names) xs) vs
   handed_taken [] vs = refl
   handed_taken (x ∷ xs) [] = refl
   handed_taken (x ∷ xs) (v ∷ vs) = ap (λ bs. handed s (argument_of names x) v ∷ bs) (handed_taken xs vs)
+
+-- one argument more is handed
+pub half_more : (names : Names) (k : Kept) (hid : Hidden) (n : ℕ) (xs : List (code.Argument Expr)) (vs : List Value) (x : code.Argument Expr) (bs new : List Bound) → slice_get xs n ≡ Some x →
+    IfSome (array_of x) (λ a. new ≡ slice_set bs n (bound.Handed (kept.reference k a))) → (array_of x ≡ None → new ≡ bs) →
+    map (bound_of names) bs ≡ half names (state names k hid) n xs vs → map (bound_of names) new ≡ half names (state names k hid) (suc n) xs vs
+half_more names k hid n xs vs (argument.Value x) bs new e at others h = ap (map (bound_of names)) (others refl) ∙ h ∙ half_same names (state names k hid) n xs vs (argument.Value x) e (λ v. refl)
+half_more names k hid n xs vs argument.Nothing bs new e at others h = ap (map (bound_of names)) (others refl) ∙ h ∙ half_same names (state names k hid) n xs vs argument.Nothing e (λ v. refl)
+half_more names k hid n xs vs (argument.Array a) bs new e at others h =
+    ap (map (bound_of names)) at ∙ map-set (bound_of names) bs n (bound.Handed (kept.reference k a)) ∙ ap (λ r. slice_set (map (bound_of names) bs) n (machine.Handed r)) (sym (reference_so names k hid a))
+    ∙ ap (λ l. slice_set l n (machine.Handed (variables.reference (state names k hid) (variable_of names a)))) h ∙ half_put names (state names k hid) n xs vs a e
 
 -- ---- the function that is called
 

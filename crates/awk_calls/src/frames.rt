@@ -1,66 +1,45 @@
 // What a call begins with, and what it leaves.
-ghost use Rattle.std.specs.Prelude.{◌≡◌, ◌∷◌, ◌++◌, [], suc, List, map, drop, slice_get, slice_set, Some, IfErr, OnOk};
+ghost use Rattle.std.specs.Prelude.{◌≡◌, ◌∷◌, ◌++◌, [], List, map, drop, slice_set, None, IfErr, IfSome, OnOk};
 ghost use Rattle.awk_asks.specs.Tables.{Table};
 ghost use Rattle.awk_machine.specs.Calls as machine;
 ghost use Rattle.awk_machine.specs.Pieces.{Do, Call};
 ghost use Rattle.awk_machine.specs.State.{Given};
-ghost use Rattle.awk_program.specs.declared.expressions.Argument as code;
-ghost use Rattle.awk_program.specs.declared.expressions.Argument.TheVariants as argument;
 ghost use Rattle.awk_program.specs.View.{view_arguments, view_program, view_statement, names_of};
-ghost use Rattle.awk_store.specs.Kept.{as_scalar};
+ghost use Rattle.awk_store.specs.Kept.{as_scalar, reference};
+ghost use Rattle.awk_store.specs.declared.frame.Bound.TheVariants as bound;
 ghost use Rattle.awk_store.specs.States.{Hidden, bound_of};
 ghost use Rattle.awk_text.specs.declared.value.Value.{Value as Val};
-ghost use Rattle.awk_text.specs.declared.value.Value.TheVariants as v;
 ghost use Rattle.awk_tasks.specs.Acts.{Acts};
 ghost use Rattle.awk_tasks.specs.Calling.{begun};
 ghost use Rattle.awk_tasks.specs.Wholes.{base, names_in};
 ghost use Rattle.awk_calls.specs.Calls as calls;
-ghost use Rattle.awk_calls.specs.Calls.{argument_of, half};
 
 use crate::flow::Flow;
 use awk_asks::halt::Halt;
-use awk_program::{Argument, Expr, Program, Statement, Variable};
-use awk_store::{Bound, Caller, Passed, Store};
+use awk_program::{Argument, Expr, Program, Statement};
+use awk_store::{Bound, Caller, Passed, Reference, Store};
 use awk_tasks::calls::enter;
 use awk_text::place::Place;
 use awk_text::value::Value;
 
-/// The array that an argument is, if it is one.
-fn array_of(x: &Argument<Expr>) -> Option<Variable>
-    ensures { result ≡ calls.array_of x.now }
-{
-    match x {
-        Argument::Array(array) => Some(*array),
-        Argument::Value(_) | Argument::Nothing => None,
-    }
-}
-
-/// What a parameter holds that is handed this array.
-fn bound(store: &Store, array: Variable) -> Bound
-    ensures { (g : Given) (t : Table) (hid : Hidden) → bound_of (names_in g) result ≡ machine.handed (base g (store.now, t) hid) (argument_of (names_in g) (argument.Array array)) v.Unset }
-{
-    Bound::Handed(store.reference(array))
-}
-
-/// Puts it in place of what the parameter at this place holds.
-fn hand(bounds: &mut Vec<Bound>, at: usize, bound: Bound)
-    ensures { bounds.new.items ≡ slice_set bounds.old.items at bound }
+/// Puts an array in place of what the parameter at this place holds.
+fn hand(bounds: &mut Vec<Bound>, at: usize, array: Reference)
+    ensures { bounds.new.items ≡ slice_set bounds.old.items at (bound.Handed array) }
 {
     if at < bounds.len() {
-        bounds[at] = bound;
+        bounds[at] = Bound::Handed(array);
     }
 }
 
 /// Hands the argument at this place, if it is an array, in place of what lies there.
 fn hand_one(store: &Store, x: &Argument<Expr>, bounds: &mut Vec<Bound>, at: usize)
-    ensures { (g : Given) (t : Table) (hid : Hidden) (xs : List (code.Argument Expr)) (vs : List Val) → slice_get xs at ≡ Some x.now
-        → map (bound_of (names_in g)) bounds.old.items ≡ half (names_in g) (base g (store.now, t) hid) at xs vs
-        → map (bound_of (names_in g)) bounds.new.items ≡ half (names_in g) (base g (store.now, t) hid) (suc at) xs vs }
+    ensures array { IfSome (calls.array_of x.now) (λ a. bounds.new.items ≡ slice_set bounds.old.items at (bound.Handed (reference store.now a))) }
+    ensures others { calls.array_of x.now ≡ None → bounds.new.items ≡ bounds.old.items }
 {
-    let Some(array) = array_of(x) else {
-        return;
-    };
-    hand(bounds, at, bound(store, array));
+    match x {
+        Argument::Array(array) => hand(bounds, at, store.reference(*array)),
+        Argument::Value(_) | Argument::Nothing => (),
+    }
 }
 
 /// Hands the arrays among the arguments, in place of what lies there; what lies behind the last argument goes.

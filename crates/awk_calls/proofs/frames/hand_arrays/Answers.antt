@@ -1,11 +1,10 @@
 use Rattle.std.proofs.Common.{◌≡◌, ◌+◌, suc, length, map, take, refl, sym, ap, ◌∙◌, arith}
-use Rattle.std.proofs.lemmas.List.{take-map}
+use Rattle.std.proofs.lemmas.List.{length-take, take-map}
 use Rattle.awk_store.specs.Kept.{as_scalar}
 use Rattle.awk_store.specs.States.{bound_of}
 use Rattle.awk_tasks.specs.Wholes.{base, names_in}
 use Rattle.awk_machine.specs.Calls.{all_handed}
-use Rattle.awk_calls.specs.Calls.{half}
-use Rattle.awk_calls.proofs.Framing.{arguments-so, few_taken, half_all, half_none, handed_taken, is_there}
+use Rattle.awk_calls.proofs.Framing.{arguments-so, half, half_all, half_more, half_none, handed_taken, is_there}
 use Rattle.awk_calls.proofs.frames.hand_arrays.Goals as goal
 
 pub loop-x-init : goal.loop-x-init
@@ -24,7 +23,7 @@ loop-x-preserved c =
     let found = is_there c.args.xs.now at.x-index at.at c.x-item.result c.loop-x-test.true c.x-item.is (sym at.invariant.1) in (
       λ g t hid vs e.
           let s = base g (c.args.store.now, t) hid in
-          c.hand_one.ensures g t hid c.args.xs.now (take n vs) found (at.invariant.0 g t hid vs e ∙ ap (λ k. half (names_in g) s k c.args.xs.now (take n vs)) (sym at.invariant.1)) ∙ ap (λ k. half (names_in g) s k c.args.xs.now (take n vs)) next,
+          half_more (names_in g) c.args.store.now hid at.at c.args.xs.now (take n vs) c.x-item.result at.bounds.items c.hand_one.new.bounds.items found c.hand_one.ensures.array c.hand_one.ensures.others (at.invariant.0 g t hid vs e ∙ ap (λ k. half (names_in g) s k c.args.xs.now (take n vs)) (sym at.invariant.1)) ∙ ap (λ k. half (names_in g) s k c.args.xs.now (take n vs)) next,
       ap (λ k. k + 1) at.invariant.1,
     )
 
@@ -35,5 +34,5 @@ returns c =
     let over : n ≡ at.x-index = let a = c.loop-x-test.false in let b = at.auto.x-index-end in omega (arith, a, b) in
     λ g t hid vs e.
     let s = base g (c.args.store.now, t) hid in
-    ap (λ ys. all_handed s ys vs) (arguments-so (names_in g) c.args.xs.now) ∙ sym (handed_taken (names_in g) s c.args.xs.now vs) ∙ sym (half_all (names_in g) s c.args.xs.now (take n vs) (few_taken n vs))
+    ap (λ ys. all_handed s ys vs) (arguments-so (names_in g) c.args.xs.now) ∙ sym (handed_taken (names_in g) s c.args.xs.now vs) ∙ sym (half_all (names_in g) s c.args.xs.now (take n vs) (omega (arith, length-take n vs)))
     ∙ ap (λ k. half (names_in g) s k c.args.xs.now (take n vs)) over ∙ sym (at.invariant.0 g t hid vs e)

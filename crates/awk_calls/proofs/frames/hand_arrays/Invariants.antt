@@ -5,7 +5,7 @@ use Rattle.awk_store.specs.Kept.{as_scalar}
 use Rattle.awk_store.specs.States.{Hidden, bound_of}
 use Rattle.awk_tasks.specs.Wholes.{base, names_in}
 use Rattle.awk_text.specs.declared.value.Value.{Value}
-use Rattle.awk_calls.specs.Calls.{half}
+use Rattle.awk_calls.proofs.Framing.{half}
 use Rattle.awk_calls.proofs.frames.hand_arrays.Given as goal
 
 abbrev pub invariant-loop-x : goal.invariant-loop-x
