@@ -45,6 +45,11 @@ module _ (g : Given) (w : Whole) where
   pub joins_end : {from : Piece} {old : Whole} (text : Text) → Passes g from old (λ k. At (Texts_of p.no_joins) (v.Text text ∷ []) ∷ k) w → Passes g from old (give (v.Text text)) w
   joins_end text h = moves h (λ k hid d a. refl)
 
+  -- the only operand
+  pub joins_only : (place : Place) (e : Expression) (room : ℕ) (more : Text) → Lends g w e more → length more ≤ room → Follows g w (p.join place e p.no_joins) room more
+  joins_only place e room more l within text fits =
+      joins_end (text ++ more) (joins_next place e p.no_joins text more l (rw (length-append text more) (omega (arith, within, fits))) (at_rest _ w))
+
   pub joins_first : (xs : Joins) (text more : Text) → more ≡ [] → Passes g (At (Texts_of xs) (v.Text text ∷ [])) w (λ k. At (Texts_of xs) (v.Text (text ++ more) ∷ []) ∷ k) w
   joins_first xs text more none = reworded (at_rest _ w) (λ k. ap (λ t. At (Texts_of xs) (v.Text t ∷ []) ∷ k) (sym (ap (λ m. text ++ m) none ∙ nil_right text)))
 

@@ -151,6 +151,16 @@ fn chain_at_hand(store: &Store, x: &Expr, xs: &[Term<Expr>], level: u32) -> Opti
     Some(so_far)
 }
 
+/// The number of what is read, where to read it changes nothing.
+#[cycle(hand)]
+#[inline(never)]
+fn number_of_target(store: &Store, target: &Target<Expr>, level: u32) -> Option<i64>
+    ensures { IfSome result (λ n. HasNumber (λ names. p.read (view_target names target.now)) store.now n) }
+{
+    let value = target_at_hand(store, target, level)?;
+    value.number().ok()
+}
+
 /// The number of an expression's value, where the value is there.
 #[cycle(hand)]
 #[inline(always)]
@@ -163,8 +173,7 @@ pub fn number_at_hand(store: &Store, e: &Expr, level: u32) -> Option<i64>
             if let Some(number) = number_read(store, target) {
                 return Some(number);
             }
-            let value = target_at_hand(store, target, level)?;
-            value.number().ok()
+            number_of_target(store, target, level)
         }
         Expr::Chain(x, xs) => {
             if level == 0 {
@@ -209,19 +218,19 @@ fn plain_number(store: &Store, e: &Expr) -> Option<i64>
     }
 }
 
-/// The number that an expression's value is, where the value is there, and a number.
+/// The number that an expression's value is, where that stands ready, or a chain makes it of what is there.
 #[inline(always)]
 pub fn number_there(store: &Store, e: &Expr) -> Option<i64>
     ensures { IfSome result (λ n. IsThere (λ names. view names e.now) store.now (v.Num n)) }
 {
-    match at_hand(store, e, MOST_LEVELS)? {
-        Lent::Num(number) => Some(number),
-        Lent::Unset | Lent::Text(_) | Lent::Input(_) => None,
+    match e {
+        Expr::Chain(x, xs) => chain_at_hand(store, x.get(), xs.as_slice(), MOST_LEVELS),
+        _ => plain_number(store, e),
     }
 }
 
 /// A value of its own for what is lent.
-#[inline(never)]
+#[inline(always)]
 fn owned<'a>(alloc: Global, value: Lent<'a>) -> Option<Value>
     ensures { IfSome result (λ v. v ≡ lent_value value.entry) }
 {
@@ -234,15 +243,26 @@ fn owned<'a>(alloc: Global, value: Lent<'a>) -> Option<Value>
 }
 
 /// The value of an expression, where it is there, as one of its own. `None` stands for refused memory too.
+#[inline(never)]
+fn value_there(alloc: Global, store: &Store, e: &Expr) -> Option<Value>
+    ensures { IfSome result (λ v. IsThere (λ names. view names e.now) store.now v) }
+{
+    let value = at_hand(store, e, MOST_LEVELS)?;
+    owned(alloc, value)
+}
+
+/// The same. What numbers make is a number, and is not copied on its way.
 #[inline(always)]
 pub fn value_at_hand(alloc: Global, store: &Store, e: &Expr) -> Option<Value>
     ensures { IfSome result (λ v. IsThere (λ names. view names e.now) store.now v) }
 {
-    if let Some(number) = plain_number(store, e) {
+    if let Some(number) = number_there(store, e) {
         return Some(Value::Num(number));
     }
-    let value = at_hand(store, e, MOST_LEVELS)?;
-    owned(alloc, value)
+    match e {
+        Expr::Text(_) | Expr::Read(_) => value_there(alloc, store, e),
+        _ => None,
+    }
 }
 
 /// Whether a comparison with a number holds, where the other side is there.
@@ -278,6 +298,15 @@ fn compared_at_hand(store: &Store, how: Comparison, x: &Expr, y: &Expr) -> Optio
     }
 }
 
+/// Whether an expression is true whose value is there.
+#[inline(never)]
+fn truth_there(store: &Store, e: &Expr) -> Option<bool>
+    ensures { IfSome result (λ b. HasTruth (λ names. view names e.now) store.now b) }
+{
+    let value = at_hand(store, e, MOST_LEVELS)?;
+    Some(value.truth())
+}
+
 /// Whether an expression is true, where its value is there, or it is a comparison of two such.
 #[inline(always)]
 pub fn truth_at_hand(store: &Store, e: &Expr) -> Option<bool>
@@ -285,9 +314,7 @@ pub fn truth_at_hand(store: &Store, e: &Expr) -> Option<bool>
 {
     match e {
         Expr::Compare(how, x, y) => compared_at_hand(store, *how, x.get(), y.get()),
-        _ => {
-            let value = at_hand(store, e, MOST_LEVELS)?;
-            Some(value.truth())
-        }
+        Expr::Number(_) | Expr::Text(_) | Expr::Read(_) | Expr::Chain(_, _) => truth_there(store, e),
+        _ => None,
     }
 }

@@ -1,11 +1,12 @@
 // Assignments that are done at once: what they need is at hand, and their value is not wanted.
-ghost use Rattle.std.specs.Prelude.{◌≡◌, ◌≤◌, ℤ, true, false, length, map, Ok, IfSome};
+ghost use Rattle.std.specs.Prelude.{◌≡◌, ◌≤◌, ℤ, true, false, length, map, Ok, Some, IfSome};
 ghost use Rattle.awk_fields.specs.Rows.{IsValueAt};
 ghost use Rattle.awk_forms.specs.AtHand.{AddsAt, IsDone, IsKey};
 ghost use Rattle.awk_machine.specs.Operators as machine;
 ghost use Rattle.awk_program.specs.Program as p;
 ghost use Rattle.awk_program.specs.Program.{expressions_of};
 ghost use Rattle.awk_program.specs.View.{view, view_target, variable_of};
+ghost use Rattle.awk_store.specs.Changes.{Adds, Puts, with_array};
 ghost use Rattle.awk_store.specs.Kept as kept;
 ghost use Rattle.awk_program.specs.declared.operators.Taken.{Taken as Which};
 ghost use Rattle.awk_text.specs.Arithmetic.{add};
@@ -13,12 +14,14 @@ ghost use Rattle.awk_text.specs.Limits.{most_bytes};
 ghost use Rattle.awk_text.specs.Values as values;
 ghost use Rattle.awk_text.specs.Values.{text_of};
 ghost use Rattle.awk_text.specs.declared.value.Value.{Value as Val};
+ghost use Rattle.awk_text.specs.declared.value.Value.TheVariants as v;
 
-use crate::at_hand::{MOST_LEVELS, at_hand, number_at_hand, value_at_hand};
+use crate::at_hand::{MOST_LEVELS, at_hand, number_at_hand, number_there, value_at_hand};
 use awk_program::{Expr, Operator, Step, Target, Variable};
 use awk_store::{Store, is_nf};
 use awk_text::place::Place;
-use awk_text::value::{Value, number_of};
+use awk_text::texts::MOST_BYTES;
+use awk_text::value::Value;
 use awk_works::line::Line;
 use awk_works::operators::{operation, stepped};
 use itoa::Buffer;
@@ -38,6 +41,17 @@ fn key_at_hand<'a>(store: &Store, line: &'a mut Line, keys: &[Expr]) -> Option<&
         return None;
     };
     line.text().ok()
+}
+
+/// The number that is the only subscript, where it is at hand: its digits are the key.
+#[inline(always)]
+fn number_of_key(store: &Store, keys: &[Expr]) -> Option<i64>
+    ensures { IfSome result (λ n. length (text_of (v.Num n)) ≤ most_bytes → IsKey keys.now store.now (text_of (v.Num n))) }
+{
+    let [one] = keys else {
+        return None;
+    };
+    number_there(store, one)
 }
 
 /// The number of the field that is the only subscript, where that number is at hand.
@@ -60,12 +74,44 @@ fn field_of_key(store: &Store, keys: &[Expr]) -> Option<u16>
     Some(number)
 }
 
+/// Gives the element whose key is a number's digits a value, and answers whether it did. The digits are not copied.
+fn put_at_number(store: &mut Store, array: Variable, number: i64, value: Value) -> bool
+    ensures done { result ≡ true → (length (text_of (v.Num number)) ≤ most_bytes) × Puts (Some (kept.array store.old array)) (text_of (v.Num number)) value (λ new. store.new ≡ with_array (kept.reference store.old array) new store.old) }
+    ensures not_done { result ≡ false → store.new ≡ store.old }
+{
+    let mut digits = Buffer::new();
+    let key = digits.format(number).as_bytes();
+    if MOST_BYTES < key.len() {
+        return false;
+    }
+    match store.put(array, key, value) {
+        Ok(()) => true,
+        Err(_) => false,
+    }
+}
+
+/// Adds to the number that the element holds whose key is a number's digits, and answers whether it did.
+fn add_at_number(store: &mut Store, array: Variable, number: i64, by: i64) -> bool
+    ensures done { result ≡ true → (length (text_of (v.Num number)) ≤ most_bytes) × Adds (Some (kept.array store.old array)) (text_of (v.Num number)) by (λ new. store.new ≡ with_array (kept.reference store.old array) new store.old) }
+    ensures not_done { result ≡ false → store.new ≡ store.old }
+{
+    let mut digits = Buffer::new();
+    let key = digits.format(number).as_bytes();
+    if MOST_BYTES < key.len() {
+        return false;
+    }
+    store.add_to(array, key, by)
+}
+
 /// Adds to the number that the element with one subscript holds, and answers whether it did: the subscript is at hand, and
-/// there is such a number. A field as the subscript is not copied.
+/// there is such a number. A number or a field as the subscript is not copied.
 fn added_at(store: &mut Store, line: &mut Line, array: Variable, keys: &[Expr], by: i64) -> bool
     ensures done { result ≡ true → AddsAt array keys.now by store.old store.new }
     ensures not_done { result ≡ false → store.new ≡ store.old }
 {
+    if let Some(number) = number_of_key(store, keys) {
+        return add_at_number(store, array, number, by);
+    }
     if let Some(number) = field_of_key(store, keys) {
         return store.add_at_field(array, number, by);
     }
@@ -75,7 +121,7 @@ fn added_at(store: &mut Store, line: &mut Line, array: Variable, keys: &[Expr], 
     store.add_to(array, key, by)
 }
 
-/// The number of a variable that is not NF.
+/// The number that a variable holds that is not NF, if it holds one.
 #[inline(always)]
 fn number_held(store: &Store, variable: Variable) -> Option<i64>
     ensures nf { IfSome result (λ n. kept.is_nf variable ≡ false) }
@@ -84,9 +130,10 @@ fn number_held(store: &Store, variable: Variable) -> Option<i64>
     if is_nf(variable) {
         return None;
     }
-    match store.value(variable) {
-        Some(value) => number_of(value).ok(),
-        None => Some(0),
+    let held = store.value(variable)?;
+    match held {
+        Value::Num(number) => Some(*number),
+        Value::Unset | Value::Text(_) | Value::Input(_) => None,
     }
 }
 
@@ -107,7 +154,7 @@ fn assigned_variable(alloc: Global, store: &mut Store, variable: Variable, x: &E
 }
 
 /// `array [ key ] = value`
-#[inline(always)]
+#[inline(never)]
 fn assigned_element(
     alloc: Global,
     store: &mut Store,
@@ -122,6 +169,9 @@ fn assigned_element(
     let Some(value) = value_at_hand(alloc, store, x) else {
         return false;
     };
+    if let Some(number) = number_of_key(store, keys) {
+        return put_at_number(store, array, number, value);
+    }
     let Some(key) = key_at_hand(store, line, keys) else {
         return false;
     };
@@ -228,6 +278,7 @@ fn changed(
 }
 
 /// `variable ++` and `variable --`
+#[inline(always)]
 fn stepped_variable(store: &mut Store, how: Step, variable: Variable) -> bool
     ensures done { result ≡ true → (place : Place) (taken : Which) → IsDone (λ names. p.step place how taken (p.variable (variable_of names variable))) store.old store.new }
     ensures not_done { result ≡ false → store.new ≡ store.old }
@@ -253,6 +304,7 @@ fn step_by(how: Step) -> i64
 }
 
 /// `array [ key ] ++` and `array [ key ] --`
+#[inline(never)]
 fn stepped_element(
     store: &mut Store,
     line: &mut Line,
@@ -267,6 +319,7 @@ fn stepped_element(
 }
 
 /// `target ++` and `target --`
+#[inline(always)]
 fn stepped_target(store: &mut Store, line: &mut Line, how: Step, target: &Target<Expr>) -> bool
     ensures done { result ≡ true → (place : Place) (taken : Which) → IsDone (λ names. p.step place how taken (view_target names target.now)) store.old store.new }
     ensures not_done { result ≡ false → store.new ≡ store.old }

@@ -9,6 +9,7 @@ ghost use Rattle.awk_program.specs.Program.{joins_of};
 ghost use Rattle.awk_program.specs.View.{Names, variable_of, view, view_joined, view_target};
 ghost use Rattle.awk_store.specs.Changes.{with_value};
 ghost use Rattle.awk_store.specs.Kept as kept;
+ghost use Rattle.awk_store.specs.Kept.{Kept};
 ghost use Rattle.awk_tasks.specs.Acts.{Passes};
 ghost use Rattle.awk_tasks.specs.Wholes.{names_in};
 ghost use Rattle.awk_text.specs.Limits.{most_bytes};
@@ -64,6 +65,19 @@ fn gathered(
         }
     }
     Ok(true)
+}
+
+/// The text of the only operand, where it is a constant.
+fn constant(rest: &[Joined<Expr>]) -> Option<&[u8]>
+    ensures { IfSome result (λ text. (g : Given) (t : Table) (k : Kept) (room : ℕ) → length text.now ≤ room → Follows g (k, t) (joins_of (map (view_joined (names_in g)) rest.now)) room text.now) }
+{
+    let [one] = rest else {
+        return None;
+    };
+    match &one.operand {
+        Expr::Text(text) => Some(text.bytes()),
+        _ => None,
+    }
 }
 
 /// Whether this is that variable.
@@ -143,6 +157,13 @@ fn grown(
     let Some(room) = room_behind(store, to) else {
         return Ok(false);
     };
+    if let Some(text) = constant(rest) {
+        if room < text.len() {
+            return Ok(false);
+        }
+        grow(alloc, store, to, text)?;
+        return Ok(true);
+    }
     let Ok(found) = gathered(store, rest, room, texts) else {
         return Err(Halt::Memory);
     };

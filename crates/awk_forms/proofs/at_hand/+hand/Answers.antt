@@ -11,7 +11,7 @@ use Rattle.awk_fields.specs.Rows.{IsValueAt}
 use Rattle.awk_tasks.specs.Wholes.{names_in}
 use Rattle.awk_text.specs.Values.{number_of}
 use Rattle.awk_text.specs.declared.value.Value.TheVariants as v
-use Rattle.awk_forms.specs.AtHand.{IsThere}
+use Rattle.awk_forms.specs.AtHand.{HasNumber, IsThere}
 use Rattle.awk_forms.proofs.AtHand.{chain_first, element_there, field_number_is, field_there, number_there, terms_at, terms_done, text_there}
 use Rattle.awk_forms.proofs.Rests.{just_one, ok_told, some_done, some_for}
 use Rattle.awk_forms.proofs.at_hand.+hand.Goals as goal
@@ -52,11 +52,16 @@ pub number_at_hand-returns-in-Number : goal.number_at_hand-returns-in-Number
 number_at_hand-returns-in-Number t c =
     rw (to_z-of_z w64 c.in-Number.number (search rules)) (record { val = v.Num c.in-Number.number; is = refl; there = λ g u. rw (c.in-Number.is, view-Number) (number_there g _ c.in-Number.number) })
 
-pub number_at_hand-returns-in_ok-value-in-Read : goal.number_at_hand-returns-in_ok-value-in-Read
-number_at_hand-returns-in_ok-value-in-Read t c =
-    let number = number_of (lent_value c.in_ok-value-in-Read.value) in
+pub number_of_target-returns : goal.number_of_target-returns
+number_of_target-returns t c =
+    let number = number_of (lent_value c.in_ok-value.value) in
     rw (c.ok.ensures.value, c.number.ensures) (some_for {P = λ n. number ≡ Ok n} (result_ok number)
-    (λ n is. record { val = lent_value c.in_ok-value-in-Read.value; is = is; there = λ g u. rw (c.in-Read.is, view-Read) (c.in_ok-value-in-Read.ensures g u) }) (ok_told number))
+    (λ n is. record { val = lent_value c.in_ok-value.value; is = is; there = c.in_ok-value.ensures }) (ok_told number))
+
+pub number_at_hand-returns-in_default-number_read : goal.number_at_hand-returns-in_default-number_read
+number_at_hand-returns-in_default-number_read t c =
+    some_for {P = λ n. HasNumber (λ names. p.read (view_target names c.in-Read.target)) c.args.store.now n} c.number_of_target.result
+    (λ n h. record { val = h.val; is = h.is; there = λ g u. rw (c.in-Read.is, view-Read) (h.there g u) }) c.number_of_target.ensures
 
 pub number_at_hand-returns-else-level-eq0 : goal.number_at_hand-returns-else-level-eq0
 number_at_hand-returns-else-level-eq0 t c =

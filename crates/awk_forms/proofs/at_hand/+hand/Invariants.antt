@@ -23,19 +23,22 @@ invariant-chain_at_hand-loop-next l = record {
 }
 
 abbrev pub decreases-target_at_hand : goal.decreases-target_at_hand
-decreases-target_at_hand l = 0 + 4 * l.level
+decreases-target_at_hand l = 0 + 5 * l.level
 
 abbrev pub decreases-at_hand : goal.decreases-at_hand
-decreases-at_hand l = 1 + 4 * l.level
+decreases-at_hand l = 1 + 5 * l.level
+
+abbrev pub decreases-number_of_target : goal.decreases-number_of_target
+decreases-number_of_target l = 1 + 5 * l.level
 
 abbrev pub decreases-number_at_hand : goal.decreases-number_at_hand
-decreases-number_at_hand l = 1 + 4 * l.level
+decreases-number_at_hand l = 2 + 5 * l.level
 
 abbrev pub decreases-element_at_hand : goal.decreases-element_at_hand
-decreases-element_at_hand l = 2 + 4 * l.level
+decreases-element_at_hand l = 3 + 5 * l.level
 
 abbrev pub decreases-field_at_hand : goal.decreases-field_at_hand
-decreases-field_at_hand l = 2 + 4 * l.level
+decreases-field_at_hand l = 3 + 5 * l.level
 
 abbrev pub decreases-chain_at_hand : goal.decreases-chain_at_hand
-decreases-chain_at_hand l = 2 + 4 * l.level
+decreases-chain_at_hand l = 3 + 5 * l.level

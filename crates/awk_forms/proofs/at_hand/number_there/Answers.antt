@@ -1,6 +1,14 @@
-use Rattle.std.proofs.Common.{rules, w64}
-use Rattle.std.proofs.lemmas.Int.{to_z-of_z}
+use Rattle.std.proofs.Common.{map}
+use Rattle.awk_program.specs.Program as p
+use Rattle.awk_program.specs.Program.{terms_of}
+use Rattle.awk_program.specs.View.{view, view_term}
+use Rattle.awk_program.proofs.Views.{view-Chain}
+use Rattle.awk_text.specs.declared.value.Value.TheVariants as v
+use Rattle.awk_forms.specs.AtHand.{IsThere}
+use Rattle.awk_forms.proofs.Rests.{some_for}
 use Rattle.awk_forms.proofs.at_hand.number_there.Goals as goal
 
-pub returns-in-Num : goal.returns-in-Num
-returns-in-Num c = rw (to_z-of_z w64 c.in-Num.number (search rules)) (rw c.in-Num.is at c.in_ok-number.ensures)
+pub returns-in-Chain : goal.returns-in-Chain
+returns-in-Chain c =
+    some_for {P = λ n. IsThere (λ names. p.chain (view names c.get.result.now) (terms_of (map (view_term names) c.as_slice.result.now))) c.args.store.now (v.Num n)} c.chain_at_hand.result
+    (λ n h g t. rw (c.in-Chain.is, view-Chain) (rw (c.get.ensures, c.as_slice.ensures) at (h g t))) c.chain_at_hand.ensures
