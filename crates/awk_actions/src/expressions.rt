@@ -51,7 +51,12 @@ pub fn value<W: World>(
     if level == 0 {
         return Err(Halt::Memory);
     }
-    evaluate(cx, e, level - 1, run, world)
+    match e {
+        Expr::Chain(x, xs) => chain(cx, x.get(), xs.as_slice(), level - 1, run, world),
+        Expr::Choice(x, y, z) => choose(cx, x.get(), y.get(), z.get(), level - 1, run, world),
+        Expr::Call(place, f, xs) => call(cx, *place, *f, xs.as_slice(), level - 1, run, world),
+        _ => evaluate(cx, e, level - 1, run, world),
+    }
 }
 
 /// The number of an expression's value, or that it is out of range, which is a fault only where the number is used.
@@ -206,6 +211,7 @@ fn general_effect<W: World>(
 
 /// The value of an expression, once a level was taken for its parts.
 #[cycle(run)]
+#[inline(never)]
 fn evaluate<W: World>(
     cx: &Context<'_>,
     e: &Expr,
@@ -495,6 +501,7 @@ fn any<W: World>(
 
 /// `test ? then : else`
 #[cycle(run)]
+#[inline(always)]
 fn choose<W: World>(
     cx: &Context<'_>,
     x: &Expr,

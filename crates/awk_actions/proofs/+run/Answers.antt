@@ -48,6 +48,18 @@ pub expressions::value-returns-then-level-eq0 : goal.expressions::value-returns-
 expressions::value-returns-then-level-eq0 g t c =
     record { plays = λ m is. lacking (at_once _ _ _); owns = c.requires }
 
+pub expressions::value-returns-in-Chain : goal.expressions::value-returns-in-Chain
+expressions::value-returns-in-Chain g t c =
+    record { plays = λ m is. rw (c.in-Chain.is, view-Chain) (rw (c.get.ensures, c.as_slice.ensures) at (c.chain.ensures.plays m is)); owns = c.chain.ensures.owns }
+
+pub expressions::value-returns-in-Choice : goal.expressions::value-returns-in-Choice
+expressions::value-returns-in-Choice g t c =
+    record { plays = λ m is. rw (c.in-Choice.is, view-Choice) (rw (c.get-in-Choice.ensures, c.get-in-Choice-2.ensures, c.get-in-Choice-3.ensures) at (c.choose.ensures.plays m is)); owns = c.choose.ensures.owns }
+
+pub expressions::value-returns-in-Call : goal.expressions::value-returns-in-Call
+expressions::value-returns-in-Call g t c =
+    record { plays = λ m is. rw (c.in-Call.is, view-Call) (rw c.as_slice-in-Call.ensures at (c.call.ensures.plays m is)); owns = c.call.ensures.owns }
+
 pub expressions::evaluate-returns-in-Text : goal.expressions::evaluate-returns-in-Text
 expressions::evaluate-returns-in-Text g t c =
     record { plays = λ m is. rw (c.in-Text.is, view-Text) (acted {g = m} (text_given m (c.args.run.now.store, c.args.run.now.streams) c.in-Text.text c.owned.result (rw c.bytes.ensures at c.owned.ensures.ok) c.owned.ensures.err)); owns = c.requires }
