@@ -2,7 +2,7 @@
 use Rattle.std.specs.Prelude.{◌≡◌, ◌≤◌, ℕ, ℤ, Bool, Ok, Some, List, [], ◌∷◌, Option, length, map}
 use Rattle.awk_fields.specs.Rows.{joined}
 use Rattle.awk_text.specs.Limits.{most_bytes}
-use Rattle.awk_text.specs.Values.{number_of, text_of, truth}
+use Rattle.awk_text.specs.Values.{number_of, numeric, text_of, truth}
 use Rattle.awk_text.specs.declared.value.Value.{Value}
 use Rattle.awk_text.specs.declared.place.Place.{Place}
 use Rattle.awk_text.specs.declared.value.Value.TheVariants as v
@@ -35,6 +35,13 @@ module _ (x : Names → Expression) where
     pub record HasNumber (n : ℤ) : Type 0 where
       pub val : Value
       pub is : number_of val ≡ Ok n
+      pub there : IsThere val
+
+    -- a value is there that is this number, and is compared and tested as it
+    pub record CountsAs (n : ℤ) : Type 0 where
+      pub val : Value
+      pub is : number_of val ≡ Ok n
+      pub looks : numeric val ≡ Some n
       pub there : IsThere val
 
     -- a value with this truth is there
