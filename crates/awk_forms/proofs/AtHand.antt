@@ -4,7 +4,7 @@ use Rattle.std.proofs.lemmas.List.{drop_more}
 use Rattle.std.specs.Int.{FitsUnsignedBits}
 use Rattle.std.specs.Prelude.{Bool, ℤ, pos, negsuc, nat_abs, Option, Some, Result, Ok}
 use Rattle.awk_text.specs.Limits.{most_bytes}
-use Rattle.awk_text.specs.Values.{number_of, text_of, truth}
+use Rattle.awk_text.specs.Values.{number_of, numeric, text_of, truth}
 use Rattle.awk_text.specs.declared.place.Place.{Place}
 use Rattle.awk_text.specs.declared.value.Value.{Value}
 use Rattle.awk_text.specs.declared.value.Value.TheVariants as v
@@ -18,6 +18,7 @@ use Rattle.awk_program.specs.Slots.{Text}
 use Rattle.awk_program.specs.View.{variable_of, view, view_term}
 use Rattle.awk_program.specs.declared.expressions.Expr.{Expr}
 use Rattle.awk_program.specs.declared.expressions.Term.{Term}
+use Rattle.awk_program.specs.declared.operators.Comparison.{Comparison}
 use Rattle.awk_program.specs.declared.operators.Operator.{Operator}
 use Rattle.awk_program.specs.declared.variables.Variable.{Variable}
 use Rattle.awk_machine.specs.Forms.{value, spot}
@@ -48,6 +49,10 @@ nil_right (x ∷ xs) = ap (λ ys. x ∷ ys) (nil_right xs)
 -- a piece passes to another one, and that on
 pub on : {g : Given} {p q : Piece} {old mid new : Whole} {to then_ : List Piece → List Piece} → Passes g p old (λ k. q ∷ to k) mid → Passes g q mid then_ new → Passes g p old (λ k. then_ (to k)) new
 on {then_ = then_} h m = doing (tt {0}) h (done {on = λ (u : Unit {0}). then_} m) refl
+
+-- what counts as a number is compared as one
+alike : (how : Comparison) (a b : ℤ) (val : Value) → numeric val ≡ Some b → compared how (v.Num a) val ≡ compared how (v.Num a) (v.Num b)
+alike how a b val e = rw e refl
 
 module _ (g : Given) (w : Whole) where
   -- ---- what is read or set
@@ -99,6 +104,10 @@ module _ (g : Given) (w : Whole) where
   comparison_there how x y a b h m =
       let part : Part = Value_of (p.compare how x y) in
       moves (on (moves {then_ = λ k. value y ∷ At part (a ∷ []) ∷ k} (on (moves {then_ = λ k. value x ∷ At part [] ∷ k} (at_rest _ w) (λ k hid d a. refl)) h) (λ k hid d a. refl)) m) (λ k hid d a. refl)
+
+  pub numbers_compared : (how : Comparison) (x y : Expression) (a b : ℤ) (val : Value) → Passes g (value x) w (give (v.Num a)) w → Passes g (value y) w (give val) w → numeric val ≡ Some b →
+      Passes g (value (p.compare how x y)) w (give (compared how (v.Num a) (v.Num b))) w
+  numbers_compared how x y a b val h m is = rw (alike how a b val is) at (comparison_there how x y (v.Num a) val h m)
 
   -- ---- chains
 

@@ -1,9 +1,12 @@
 -- A text that grows in its place: what is read is there, each operand is joined to the text, and the whole is stored.
 use Rattle.std.proofs.Common.{◌≡◌, refl, sym, ap, ◌∙◌, ◌+◌, ◌≤◌, ◌<◌, ℕ, false, List, [], ◌∷◌, ◌++◌, length, map, drop, get_or, arith, append_assoc}
+use Rattle.std.proofs.lemmas.Bool.Decides.{nat_tests}
 use Rattle.std.proofs.lemmas.List.{length-append, drop_more}
-use Rattle.std.specs.Prelude.{Option, Some, None, IfSome}
+use Rattle.std.specs.Prelude.{Bool, true, nat_le, Option, Some, None, Ok, IfSome}
 use Rattle.awk_text.specs.Limits.{most_bytes}
+use Rattle.awk_text.specs.Values.{text_of}
 use Rattle.awk_text.specs.declared.place.Place.{Place}
+use Rattle.awk_text.specs.declared.value.Value.{Value}
 use Rattle.awk_text.specs.declared.value.Value.TheVariants as v
 use Rattle.awk_program.specs.Program as p
 use Rattle.awk_program.specs.Program.{Expression, Joins, joins_of}
@@ -13,6 +16,7 @@ use Rattle.awk_program.specs.declared.expressions.Expr.{Expr}
 use Rattle.awk_program.specs.declared.expressions.Joined.{Joined}
 use Rattle.awk_program.specs.declared.variables.Variable.{Variable}
 use Rattle.awk_machine.specs.Forms.{value}
+use Rattle.awk_machine.specs.Operators.{limited}
 use Rattle.awk_machine.specs.Pieces as machine
 use Rattle.awk_machine.specs.Pieces.{Piece, Part, At, Do, Get, Set, Give, Goes, Value_of, Target_of, Texts_of, give}
 use Rattle.awk_machine.specs.State.{Given}
@@ -33,14 +37,32 @@ use Rattle.awk_forms.specs.Growing.{Follows, Lends}
 abbrev pub so_far : Given → List (Joined Expr) → Text → ℕ → Text → List Piece → List Piece
 so_far g rest text n more k = At (Texts_of (joins_of (map (view_joined (names_in g)) (drop n rest)))) (v.Text (text ++ more) ∷ []) ∷ k
 
+-- the operands from a place on wait behind a value
+abbrev pub behind : Given → List (Joined Expr) → ℕ → Value → List Piece → List Piece
+behind g rest n val k = At (Texts_of (joins_of (map (view_joined (names_in g)) (drop n rest)))) (val ∷ []) ∷ k
+
+-- a text that was granted is within the limit
+fits_by : (b : Bool) (text key : Text) → nat_le (length text) most_bytes ≡ b → limited text ≡ Ok key → length text ≤ most_bytes
+fits_by true text key e h = grind (arith, nat_tests)
+fits_by false text key e h = absurd (grind (arith, nat_tests))
+
+pub limited_fits : (text key : Text) → limited text ≡ Ok key → length text ≤ most_bytes
+limited_fits text key h = fits_by (nat_le (length text) most_bytes) text key refl h
+
 module _ (g : Given) (w : Whole) where
   -- ---- operands are joined
+
+  -- one more operand behind a value's text
+  pub joins_value : {from : Piece} {old : Whole} (place : Place) (e : Expression) (xs : Joins) (val z : Value) → Passes g (value e) w (give z) w → length (text_of val ++ text_of z) ≤ most_bytes →
+      Passes g from old (λ k. At (Texts_of (p.join place e xs)) (val ∷ []) ∷ k) w → Passes g from old (λ k. At (Texts_of xs) (v.Text (text_of val ++ text_of z) ∷ []) ∷ k) w
+  joins_value place e xs val z there fits h =
+      moves (on (moves {then_ = λ k. value e ∷ At (Texts_of (p.join place e xs)) (val ∷ []) ∷ k} h (λ k hid d a. refl)) there)
+      (λ k hid d a. rw (limited_ok (text_of val ++ text_of z) fits) refl)
 
   pub joins_next : {from : Piece} {old : Whole} (place : Place) (e : Expression) (xs : Joins) (text more : Text) → Lends g w e more → length (text ++ more) ≤ most_bytes →
       Passes g from old (λ k. At (Texts_of (p.join place e xs)) (v.Text text ∷ []) ∷ k) w → Passes g from old (λ k. At (Texts_of xs) (v.Text (text ++ more) ∷ []) ∷ k) w
   joins_next place e xs text more l fits h =
-      moves (on (moves {then_ = λ k. value e ∷ At (Texts_of (p.join place e xs)) (v.Text text ∷ []) ∷ k} h (λ k hid d a. refl)) l.passes)
-      (λ k hid d a. rw (l.is, limited_ok (text ++ more) fits) refl)
+      rw l.is at (joins_value place e xs (v.Text text) l.val l.passes (rw l.is fits) h)
 
   pub joins_end : {from : Piece} {old : Whole} (text : Text) → Passes g from old (λ k. At (Texts_of p.no_joins) (v.Text text ∷ []) ∷ k) w → Passes g from old (give (v.Text text)) w
   joins_end text h = moves h (λ k hid d a. refl)
@@ -66,6 +88,22 @@ module _ (g : Given) (w : Whole) where
 
     pub joins_done : (more : Text) → length rest ≤ i → Passes g from old (so_far g rest text i more) w → Passes g from old (give (v.Text (text ++ more))) w
     joins_done more past h = joins_end (text ++ more) (reworded h (λ k. ap (λ xs. At (Texts_of (joins_of (map (view_joined (names_in g)) xs))) (v.Text (text ++ more) ∷ []) ∷ k) (drop_all rest i past)))
+
+  -- the same, whatever value comes first
+  module _ {from : Piece} {old : Whole} (rest : List (Joined Expr)) (i : ℕ) (val : Value) where
+    pub operands_at : (x : Joined Expr) (z : Value) → i < length rest → x ≡ get_or rest i x → length (text_of val ++ text_of z) ≤ most_bytes → Passes g (value (view (names_in g) x.operand)) w (give z) w →
+        Passes g from old (behind g rest i val) w → Passes g from old (behind g rest (i + 1) (v.Text (text_of val ++ text_of z))) w
+    operands_at x z inside is fits there h =
+        let rest_is : drop i rest ≡ x ∷ drop (i + 1) rest = drop_more rest i x inside ∙ ap (λ y. y ∷ drop (i + 1) rest) (sym is) in
+        joins_value x.place (view (names_in g) x.operand) (joins_of (map (view_joined (names_in g)) (drop (i + 1) rest))) val z there fits
+        (reworded h (λ k. ap (λ xs. At (Texts_of (joins_of (map (view_joined (names_in g)) xs))) (val ∷ []) ∷ k) rest_is))
+
+    pub operands_done : length rest ≤ i → Passes g from old (behind g rest i val) w → Passes g from old (give val) w
+    operands_done past h =
+        moves (reworded {then_ = λ k. At (Texts_of p.no_joins) (val ∷ []) ∷ k} h (λ k. ap (λ xs. At (Texts_of (joins_of (map (view_joined (names_in g)) xs))) (val ∷ []) ∷ k) (drop_all rest i past))) (λ k hid d a. refl)
+
+  pub operands_first : (x : Expression) (xs : Joins) (val : Value) → Passes g (value x) w (give val) w → Passes g (value (p.concat x xs)) w (λ k. At (Texts_of xs) (val ∷ []) ∷ k) w
+  operands_first x xs val h = on (moves {then_ = λ k. value x ∷ At (Texts_of xs) [] ∷ k} (at_rest _ w) (λ k hid d a. refl)) h
 
 -- ---- the whole assignment
 

@@ -1,15 +1,17 @@
 -- Expressions whose value is there: to evaluate them changes nothing and meets no fault; and assignments that are done at once.
-use Rattle.std.specs.Prelude.{◌≡◌, ℕ, ℤ, Bool, Ok, Some, List, [], ◌∷◌, Option, map}
+use Rattle.std.specs.Prelude.{◌≡◌, ◌≤◌, ℕ, ℤ, Bool, Ok, Some, List, [], ◌∷◌, Option, length, map}
 use Rattle.awk_fields.specs.Rows.{joined}
-use Rattle.awk_text.specs.Values.{number_of, truth}
+use Rattle.awk_text.specs.Limits.{most_bytes}
+use Rattle.awk_text.specs.Values.{number_of, numeric, text_of, truth}
 use Rattle.awk_text.specs.declared.value.Value.{Value}
 use Rattle.awk_text.specs.declared.place.Place.{Place}
 use Rattle.awk_text.specs.declared.value.Value.TheVariants as v
 use Rattle.awk_program.specs.Program as p
-use Rattle.awk_program.specs.Program.{Expression, expressions_of}
+use Rattle.awk_program.specs.Program.{Expression, expressions_of, joins_of}
 use Rattle.awk_program.specs.declared.variables.Variable.{Variable}
-use Rattle.awk_program.specs.View.{Names, view}
+use Rattle.awk_program.specs.View.{Names, view, view_joined}
 use Rattle.awk_program.specs.declared.expressions.Expr.{Expr}
+use Rattle.awk_program.specs.declared.expressions.Joined.{Joined}
 use Rattle.awk_machine.specs.Forms.{spot, value}
 use Rattle.awk_machine.specs.Pieces.{give}
 use Rattle.awk_machine.specs.State.{Given}
@@ -35,6 +37,13 @@ module _ (x : Names → Expression) where
       pub is : number_of val ≡ Ok n
       pub there : IsThere val
 
+    -- a value is there that is this number, and is compared and tested as it
+    pub record CountsAs (n : ℤ) : Type 0 where
+      pub val : Value
+      pub is : number_of val ≡ Ok n
+      pub looks : numeric val ≡ Some n
+      pub there : IsThere val
+
     -- a value with this truth is there
     pub record HasTruth (b : Bool) : Type 0 where
       pub val : Value
@@ -58,6 +67,12 @@ pub record HoldsJoined (kept : Kept) (xs : List Expr) (separator : List ℕ) (fi
   pub vals : List Value
   pub there : AreThere kept xs vals
   pub line_is : line ≡ held (joined separator (first ∷ vals))
+
+-- a line is the text of a value, which is that of operands one after the other, and is there where that text is within the limit
+pub record HoldsOperands (kept : Kept) (first : Expr) (rest : List (Joined Expr)) (line : Option (List ℕ)) : Type 0 where
+  pub val : Value
+  pub line_is : line ≡ held (text_of val)
+  pub there : length (text_of val) ≤ most_bytes → IsThere (λ names. p.concat (view names first) (joins_of (map (view_joined names) rest))) kept val
 
 -- subscripts are this key, of whichever array
 abbrev pub IsKey : List Expr → Kept → List ℕ → Type 0

@@ -1,13 +1,13 @@
 // Values that are there without a move: constants, variables, elements, fields, and what arithmetic makes of them.
 ghost use Rattle.std.specs.Prelude.{◌≡◌, map, IfSome};
-ghost use Rattle.awk_forms.specs.AtHand.{HasNumber, HasTruth, IsThere};
+ghost use Rattle.awk_forms.specs.AtHand.{CountsAs, HasNumber, HasTruth, IsThere};
 ghost use Rattle.awk_lent.specs.Lents.{lent_value};
 ghost use Rattle.awk_program.specs.Program as p;
 ghost use Rattle.awk_program.specs.Program.{expressions_of, terms_of};
 ghost use Rattle.awk_program.specs.View.{Names, view, view_target, view_term, variable_of};
 ghost use Rattle.awk_text.specs.declared.value.Value.TheVariants as v;
 
-use awk_lent::lent::Lent;
+use awk_lent::lent::{Lent, few_digits};
 use awk_program::{Comparison, Expr, Target, Term, Variable};
 use awk_store::{Store, is_nf};
 use awk_text::octets::Octets;
@@ -61,6 +61,24 @@ fn number_read(store: &Store, target: &Target<Expr>) -> Option<i64>
     match target {
         Target::Variable(variable) => number_held(store, *variable),
         Target::Element(_, _, _) | Target::Field(_, _) => None,
+    }
+}
+
+/// The number of what is read, where that is a variable that holds a text from outside of a few digits.
+#[inline(always)]
+fn digits_held(store: &Store, target: &Target<Expr>) -> Option<i64>
+    ensures { IfSome result (λ n. CountsAs (λ names. p.read (view_target names target.now)) store.now n) }
+{
+    let Target::Variable(variable) = target else {
+        return None;
+    };
+    if is_nf(*variable) {
+        return None;
+    }
+    let held = store.value(*variable)?;
+    match held {
+        Value::Input(text) => few_digits(text.bytes()),
+        Value::Unset | Value::Num(_) | Value::Text(_) => None,
     }
 }
 
@@ -157,6 +175,9 @@ fn chain_at_hand(store: &Store, x: &Expr, xs: &[Term<Expr>], level: u32) -> Opti
 fn number_of_target(store: &Store, target: &Target<Expr>, level: u32) -> Option<i64>
     ensures { IfSome result (λ n. HasNumber (λ names. p.read (view_target names target.now)) store.now n) }
 {
+    if let Some(number) = digits_held(store, target) {
+        return Some(number);
+    }
     let value = target_at_hand(store, target, level)?;
     value.number().ok()
 }
@@ -265,13 +286,36 @@ pub fn value_at_hand(alloc: Global, store: &Store, e: &Expr) -> Option<Value>
     }
 }
 
+/// The number that an expression is compared as, where a chain makes it, or a variable holds the digits.
+#[inline(always)]
+fn counted_there(store: &Store, e: &Expr) -> Option<i64>
+    ensures { IfSome result (λ n. CountsAs (λ names. view names e.now) store.now n) }
+{
+    match e {
+        Expr::Chain(x, xs) => chain_at_hand(store, x.get(), xs.as_slice(), MOST_LEVELS),
+        Expr::Read(target) => digits_held(store, target),
+        _ => None,
+    }
+}
+
 /// Whether a comparison with a number holds, where the other side is there.
 #[inline(never)]
-fn compared_with(store: &Store, how: Comparison, left: i64, y: &Expr) -> Option<bool>
+fn compared_beside(store: &Store, how: Comparison, left: i64, y: &Expr) -> Option<bool>
     ensures { IfSome result (λ b. (x : Names → p.Expression) → IsThere x store.now (v.Num left) → HasTruth (λ names. p.compare how (x names) (view names y.now)) store.now b) }
 {
     let right = at_hand(store, y, MOST_LEVELS)?;
     Some(compared_lent(how, Lent::Num(left), right))
+}
+
+/// The same. Two numbers are compared without a value between.
+#[inline(never)]
+fn compared_with(store: &Store, how: Comparison, left: i64, y: &Expr) -> Option<bool>
+    ensures { IfSome result (λ b. (x : Names → p.Expression) → IsThere x store.now (v.Num left) → HasTruth (λ names. p.compare how (x names) (view names y.now)) store.now b) }
+{
+    if let Some(right) = counted_there(store, y) {
+        return Some(compared_numbers(how, left, right));
+    }
+    compared_beside(store, how, left, y)
 }
 
 /// Whether a comparison holds, where both sides are there.

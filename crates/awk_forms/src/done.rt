@@ -1,7 +1,7 @@
 // Assignments that are done at once: what they need is at hand, and their value is not wanted.
 ghost use Rattle.std.specs.Prelude.{◌≡◌, ◌≤◌, ℤ, true, false, length, map, Ok, Some, IfSome};
 ghost use Rattle.awk_fields.specs.Rows.{IsValueAt};
-ghost use Rattle.awk_forms.specs.AtHand.{AddsAt, IsDone, IsKey};
+ghost use Rattle.awk_forms.specs.AtHand.{AddsAt, HoldsOperands, IsDone, IsKey};
 ghost use Rattle.awk_machine.specs.Operators as machine;
 ghost use Rattle.awk_program.specs.Program as p;
 ghost use Rattle.awk_program.specs.Program.{expressions_of};
@@ -17,7 +17,8 @@ ghost use Rattle.awk_text.specs.declared.value.Value.{Value as Val};
 ghost use Rattle.awk_text.specs.declared.value.Value.TheVariants as v;
 
 use crate::at_hand::{MOST_LEVELS, at_hand, number_at_hand, number_there, value_at_hand};
-use awk_program::{Expr, Operator, Step, Target, Variable};
+use crate::outputs::add_item;
+use awk_program::{Expr, Joined, Operator, Step, Target, Variable};
 use awk_store::{Store, is_nf};
 use awk_text::place::Place;
 use awk_text::texts::MOST_BYTES;
@@ -27,13 +28,35 @@ use awk_works::operators::{operation, stepped};
 use itoa::Buffer;
 use std::alloc::Global;
 
-/// The key of one subscript that is at hand, in the line.
+/// Makes the line the texts of operands that are at hand, one after the other, and answers whether it did.
+fn join_at_hand(line: &mut Line, store: &Store, first: &Expr, rest: &[Joined<Expr>]) -> bool
+    ensures { result ≡ true → HoldsOperands store.now first.now rest.now line.new }
+{
+    line.clear();
+    if !add_item(line, store, first) {
+        return false;
+    }
+    for next in rest {
+        if !add_item(line, store, &next.operand) {
+            return false;
+        }
+    }
+    true
+}
+
+/// The key of one subscript that is at hand, or whose operands are, in the line.
 fn key_at_hand<'a>(store: &Store, line: &'a mut Line, keys: &[Expr]) -> Option<&'a [u8]>
     ensures { IfSome result (λ key. IsKey keys.now store.now key.now) }
 {
     let [one] = keys else {
         return None;
     };
+    if let Expr::Concat(first, rest) = one {
+        if !join_at_hand(line, store, first.get(), rest.as_slice()) {
+            return None;
+        }
+        return line.text().ok();
+    }
     let subscript = at_hand(store, one, MOST_LEVELS)?;
     let mut digits = Buffer::new();
     line.clear();

@@ -106,7 +106,7 @@ pub fn formatted_for(
 }
 
 /// Adds the text of an item that is at hand, and answers whether it did.
-fn add_item(line: &mut Line, store: &Store, x: &Expr) -> bool
+pub(crate) fn add_item(line: &mut Line, store: &Store, x: &Expr) -> bool
     ensures { result ≡ true → (val : Val) × (line.new ≡ written line.old (text_of val)) × IsThere (λ names. view names x.now) store.now val }
 {
     let Some(value) = at_hand(store, x, MOST_LEVELS) else {

@@ -17,7 +17,7 @@ use std::cmp::Ordering;
 const FEW_DIGITS: usize = 18;
 
 /// The number that the text is where it is a few digits and nothing else; `None` where it is not.
-fn few_digits(text: &[u8]) -> Option<i64>
+pub fn few_digits(text: &[u8]) -> Option<i64>
     ensures number { IfSome result (λ n. ranged (number text.now) ≡ Ok n) }
     ensures looks { IfSome result (λ n. looks_numeric text.now ≡ Some n) }
 {

@@ -52,6 +52,10 @@ pub number_at_hand-returns-in-Number : goal.number_at_hand-returns-in-Number
 number_at_hand-returns-in-Number t c =
     rw (to_z-of_z w64 c.in-Number.number (search rules)) (record { val = v.Num c.in-Number.number; is = refl; there = λ g u. rw (c.in-Number.is, view-Number) (number_there g _ c.in-Number.number) })
 
+pub number_of_target-returns-in-Some : goal.number_of_target-returns-in-Some
+number_of_target-returns-in-Some t c =
+    let h = c.in-Some.ensures in rw (to_z-of_z w64 c.in-Some.number (search rules)) (record { val = h.val; is = h.is; there = h.there })
+
 pub number_of_target-returns : goal.number_of_target-returns
 number_of_target-returns t c =
     let number = number_of (lent_value c.in_ok-value.value) in
