@@ -11,8 +11,11 @@ use Rattle.awk_fields.specs.Unread.{IsInside, IsPassed, IsSearched, last_of}
 use Rattle.awk_fields.specs.declared.front.Front.TheVariants.{Record, Done}
 use Rattle.awk_fields.specs.declared.front.Searched.{Searched}
 use Rattle.awk_fields.specs.declared.front.Searched.TheVariants.{Byte, Paragraph}
-use Rattle.awk_fields.proofs.ByteLemmas.{fails}
 use Rattle.awk_fields.proofs.Places.{none_between, first_between}
+
+fails : (b : Bool) → (b ≡ true → ⊥) → b ≡ false
+fails true h = absurd (h refl)
+fails false h = refl
 
 -- a search from a place on, before which there is none, finds the first place
 pub first_from : (p : ℕ → Bool) (s : List ℕ) (from k : ℕ) → from ≤ position_or_len p s → from ≤ length s → IsFirstByte p (take (length s - from) (drop from s)) (Some k) → from + k ≡ position_or_len p s
