@@ -36,6 +36,24 @@ impl Marks {
 
     /// A bit for each lane that is a mark.
     #[inline(always)]
+    fn in4(self, bytes: u8x4) -> u64
+        ensures { result ≡ mask_l (map (is_mark self) bytes) }
+    {
+        (bytes.simd_eq(u8x4::splat(self.first))
+            | bytes.simd_eq(u8x4::splat(self.second))
+            | bytes.simd_eq(u8x4::splat(self.third))).to_bitmask()
+    }
+
+    #[inline(always)]
+    fn in8(self, bytes: u8x8) -> u64
+        ensures { result ≡ mask_l (map (is_mark self) bytes) }
+    {
+        (bytes.simd_eq(u8x8::splat(self.first))
+            | bytes.simd_eq(u8x8::splat(self.second))
+            | bytes.simd_eq(u8x8::splat(self.third))).to_bitmask()
+    }
+
+    #[inline(always)]
     fn in16(self, bytes: u8x16) -> u64
         ensures { result ≡ mask_l (map (is_mark self) bytes) }
     {
@@ -76,22 +94,37 @@ impl Marks {
         found
     }
 
-    /// The same for a text of fewer bytes than a block. Where two vectors overlap, both set the same bits.
+    /// The same for fewer bytes than sixteen. Where two vectors overlap, both set the same bits.
+    #[inline(always)]
+    fn in_tail(self, bytes: &[u8]) -> u64
+        requires { length bytes.now < 16 }
+        ensures { result ≡ mask_l (map (is_mark self) bytes.now) }
+    {
+        if bytes.len() >= 8 {
+            let behind = bytes.len() - 8;
+            self.in8(u8x8::from_slice(bytes)) | self.in8(u8x8::from_slice(&bytes[behind..])) << behind
+        } else if bytes.len() >= 4 {
+            let behind = bytes.len() - 4;
+            self.in4(u8x4::from_slice(bytes)) | self.in4(u8x4::from_slice(&bytes[behind..])) << behind
+        } else {
+            self.in_few(bytes)
+        }
+    }
+
+    /// The same for fewer bytes than a block has.
     #[inline(always)]
     fn in_short(self, bytes: &[u8]) -> u64
-        requires { length bytes.now ≤ 64 }
+        requires { length bytes.now < 64 }
         ensures { result ≡ mask_l (map (is_mark self) bytes.now) }
     {
         if bytes.len() >= 32 {
             let behind = bytes.len() - 32;
-            self.in32(u8x32::from_slice(bytes))
-                | self.in32(u8x32::from_slice(&bytes[behind..])) << behind
+            self.in32(u8x32::from_slice(bytes)) | self.in32(u8x32::from_slice(&bytes[behind..])) << behind
         } else if bytes.len() >= 16 {
             let behind = bytes.len() - 16;
-            self.in16(u8x16::from_slice(bytes))
-                | self.in16(u8x16::from_slice(&bytes[behind..])) << behind
+            self.in16(u8x16::from_slice(bytes)) | self.in16(u8x16::from_slice(&bytes[behind..])) << behind
         } else {
-            self.in_few(bytes)
+            self.in_tail(bytes)
         }
     }
 

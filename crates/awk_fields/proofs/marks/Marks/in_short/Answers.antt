@@ -8,10 +8,10 @@ pub returns-then-bytes-ge32 : goal.returns-then-bytes-ge32
 returns-then-bytes-ge32 c =
     let s = c.args.bytes.now in
     let k = length s - 32 in
-    ap₂ (λ a b. bit_or a (b * 2 ^ k % 2 ^ 64)) c.in32.ensures c.in32-then-bytes-ge32.ensures ∙ overlapped (is_mark c.args.self) 32 k s (omega arith) (omega arith) c.requires
+    ap₂ (λ a b. bit_or a (b * 2 ^ k % 2 ^ 64)) c.in32.ensures c.in32-then-bytes-ge32.ensures ∙ overlapped (is_mark c.args.self) 32 k s (omega arith) (omega arith) (omega arith)
 
 pub returns-then-bytes-ge16 : goal.returns-then-bytes-ge16
 returns-then-bytes-ge16 c =
     let s = c.args.bytes.now in
     let k = length s - 16 in
-    ap₂ (λ a b. bit_or a (b * 2 ^ k % 2 ^ 64)) c.in16.ensures c.in16-then-bytes-ge16.ensures ∙ overlapped (is_mark c.args.self) 16 k s (omega arith) (omega arith) c.requires
+    ap₂ (λ a b. bit_or a (b * 2 ^ k % 2 ^ 64)) c.in16.ensures c.in16-then-bytes-ge16.ensures ∙ overlapped (is_mark c.args.self) 16 k s (omega arith) (omega arith) (omega arith)
