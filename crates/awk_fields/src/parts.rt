@@ -31,8 +31,9 @@ pub struct Parts {
     pub edited: Edited,
 }
 
-/// Splits the text, unless that is done.
-pub fn split_parts(parts: &mut Parts, text: &[u8]) -> Result<(), Memory>
+/// Splits the text, unless that is done. It stands apart, so that what finds it done stays small.
+#[inline(never)]
+fn split_unsplit(parts: &mut Parts, text: &[u8]) -> Result<(), Memory>
     requires { IsSound text.now parts.old }
     ensures kept { ArePartsKept text.now parts.old parts.new }
     ensures sound { IsSound text.now parts.new }
@@ -46,6 +47,21 @@ pub fn split_parts(parts: &mut Parts, text: &[u8]) -> Result<(), Memory>
     parts.spans = splitter.spans(text, room)?;
     parts.state = State::Spans;
     Ok(())
+}
+
+/// Splits the text, unless that is done.
+#[inline(always)]
+pub fn split_parts(parts: &mut Parts, text: &[u8]) -> Result<(), Memory>
+    requires { IsSound text.now parts.old }
+    ensures kept { ArePartsKept text.now parts.old parts.new }
+    ensures sound { IsSound text.now parts.new }
+    ensures split { OnOk result (IsSplitBy parts.new.state) }
+{
+    match &parts.state {
+        State::Unsplit(_) => split_unsplit(parts, text),
+        State::Spans => Ok(()),
+        State::Edits => Ok(()),
+    }
 }
 
 /// Makes parts of the spans, unless that is done: then fields can be set.
