@@ -4,6 +4,7 @@ mod Edges
 mod FoundLemmas
 mod WordSteps
 mod PartSteps
+mod MarkSteps
 pub mod Cuts
 pub mod WordLemmas
 pub mod Bests

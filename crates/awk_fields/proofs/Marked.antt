@@ -47,9 +47,13 @@ pub last_block : (from : ℕ) (s : List ℕ) → length s - from < 64 → take (
 last_block from s few = take_rest s from ∙ sym (take_all 64 (drop from s) (omega (arith, length-drop from s)))
 
 -- the first bytes set no other bits than all do
-or_same : (b : Bool) → (b || b) ≡ b
+pub or_same : (b : Bool) → (b || b) ≡ b
 or_same true = refl
 or_same false = refl
+
+pub or_thrice : (b : Bool) → (b || (b || b)) ≡ b
+or_thrice true = refl
+or_thrice false = refl
 
 or_false : (b : Bool) → (b || false) ≡ b
 or_false true = refl

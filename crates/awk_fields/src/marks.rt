@@ -1,5 +1,6 @@
 // Which bytes of a block are marks, as bits of one number.
-ghost use Rattle.std.specs.Prelude.{◌≡◌, ◌-◌, ◌≤◌, ◌<◌, length, map, take, drop};
+ghost use Rattle.std.specs.Prelude.{◌≡◌, ◌==◌, ◌-◌, ◌≤◌, ◌<◌, ℕ, length, map, take, drop};
+ghost use Rattle.std.specs.List.{position_or_len};
 ghost use Rattle.std.specs.Int.Bits.{bit_and};
 ghost use Rattle.std.specs.Simd.Lanes.{mask_l};
 ghost use Rattle.awk_fields.specs.Marks.{is_mark};
@@ -27,6 +28,18 @@ pub fn without_lowest(bits: u64) -> u64
 }
 
 impl Marks {
+    /// This byte alone.
+    #[inline(always)]
+    pub fn one(byte: u8) -> Marks
+        ensures { (b : ℕ) → is_mark result b ≡ (b == byte) }
+    {
+        Marks {
+            first: byte,
+            second: byte,
+            third: byte,
+        }
+    }
+
     #[inline(always)]
     fn has(self, b: u8) -> bool
         ensures { result ≡ is_mark self b }
@@ -102,10 +115,12 @@ impl Marks {
     {
         if bytes.len() >= 8 {
             let behind = bytes.len() - 8;
-            self.in8(u8x8::from_slice(bytes)) | self.in8(u8x8::from_slice(&bytes[behind..])) << behind
+            self.in8(u8x8::from_slice(bytes))
+                | self.in8(u8x8::from_slice(&bytes[behind..])) << behind
         } else if bytes.len() >= 4 {
             let behind = bytes.len() - 4;
-            self.in4(u8x4::from_slice(bytes)) | self.in4(u8x4::from_slice(&bytes[behind..])) << behind
+            self.in4(u8x4::from_slice(bytes))
+                | self.in4(u8x4::from_slice(&bytes[behind..])) << behind
         } else {
             self.in_few(bytes)
         }
@@ -119,10 +134,12 @@ impl Marks {
     {
         if bytes.len() >= 32 {
             let behind = bytes.len() - 32;
-            self.in32(u8x32::from_slice(bytes)) | self.in32(u8x32::from_slice(&bytes[behind..])) << behind
+            self.in32(u8x32::from_slice(bytes))
+                | self.in32(u8x32::from_slice(&bytes[behind..])) << behind
         } else if bytes.len() >= 16 {
             let behind = bytes.len() - 16;
-            self.in16(u8x16::from_slice(bytes)) | self.in16(u8x16::from_slice(&bytes[behind..])) << behind
+            self.in16(u8x16::from_slice(bytes))
+                | self.in16(u8x16::from_slice(&bytes[behind..])) << behind
         } else {
             self.in_tail(bytes)
         }
@@ -140,5 +157,20 @@ impl Marks {
         } else {
             self.in_short(rest)
         }
+    }
+    /// How many bytes stand before the first mark.
+    pub fn len_before(self, text: &[u8]) -> usize
+        ensures place { result ≡ position_or_len (is_mark self) text.now }
+        ensures inside { result ≤ length text.now }
+    {
+        let mut passed = 0;
+        while passed < text.len() {
+            let found = self.in_block(text, passed);
+            if found != 0 {
+                return passed + found.trailing_zeros() as usize;
+            }
+            passed += (text.len() - passed).min(BLOCK);
+        }
+        text.len()
     }
 }
