@@ -31,9 +31,8 @@ pub struct Parts {
     pub edited: Edited,
 }
 
-/// Splits the text, unless that is done. It stands apart, so that what finds it done stays small.
-#[inline(never)]
-fn split_unsplit(parts: &mut Parts, text: &[u8]) -> Result<(), Memory>
+/// Splits the text, unless that is done.
+pub fn split_parts(parts: &mut Parts, text: &[u8]) -> Result<(), Memory>
     requires { IsSound text.now parts.old }
     ensures kept { ArePartsKept text.now parts.old parts.new }
     ensures sound { IsSound text.now parts.new }
@@ -49,16 +48,16 @@ fn split_unsplit(parts: &mut Parts, text: &[u8]) -> Result<(), Memory>
     Ok(())
 }
 
-/// Splits the text, unless that is done.
+/// The same, without a call where it is done.
 #[inline(always)]
-pub fn split_parts(parts: &mut Parts, text: &[u8]) -> Result<(), Memory>
+fn split_unsplit(parts: &mut Parts, text: &[u8]) -> Result<(), Memory>
     requires { IsSound text.now parts.old }
     ensures kept { ArePartsKept text.now parts.old parts.new }
     ensures sound { IsSound text.now parts.new }
     ensures split { OnOk result (IsSplitBy parts.new.state) }
 {
     match &parts.state {
-        State::Unsplit(_) => split_unsplit(parts, text),
+        State::Unsplit(_) => split_parts(parts, text),
         State::Spans => Ok(()),
         State::Edits => Ok(()),
     }
@@ -71,7 +70,7 @@ pub fn edit_parts(parts: &mut Parts, text: &[u8]) -> Result<(), Memory>
     ensures sound { IsSound text.now parts.new }
     ensures edits { OnOk result (parts.new.state ≡ State.Edits) }
 {
-    split_parts(parts, text)?;
+    split_unsplit(parts, text)?;
     let State::Spans = &parts.state else {
         return Ok(());
     };

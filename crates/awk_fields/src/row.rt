@@ -197,7 +197,6 @@ impl Record {
     /// NF, the number of fields. The record stays the same.
     ///
     /// Fails with `Fault::Memory` alone, where memory is refused.
-    #[inline(never)]
     pub fn count(&mut self) -> Result<i64, Fault>
         ensures ok { IfOk result (λ n. (values : List Value) × HasFields self.new values × (n ≡ pos (length values))) }
         ensures kept { IsKept self.old self.new }

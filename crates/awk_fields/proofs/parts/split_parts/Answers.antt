@@ -1,5 +1,5 @@
 use Rattle.awk_fields.proofs.RowLemmas.{kept_by_split}
-use Rattle.awk_fields.proofs.parts.split_unsplit.Goals as goal
+use Rattle.awk_fields.proofs.parts.split_parts.Goals as goal
 
 pub returns-clause-kept : goal.returns-clause-kept
 returns-clause-kept c =
