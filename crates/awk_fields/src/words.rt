@@ -26,7 +26,8 @@ fn block_edges(text: &[u8], from: usize, after_blank: bool) -> u64
     blanks ^ (blanks << 1 | after_blank as u64)
 }
 
-/// Ends the word that is open where the block begins, if one is, and returns the edges behind it. The text is for the contract alone.
+/// Ends the word that is open where the block begins, if one is, and returns the edges behind it. The
+/// text is for the contract alone.
 #[inline(always)]
 fn end_open_word(text: &[u8], from: usize, start: usize, edges: u64, spans: &mut Vec<Span>) -> u64
     requires words { WordsTo text.now from start spans.old.items }
@@ -43,8 +44,8 @@ fn end_open_word(text: &[u8], from: usize, start: usize, edges: u64, spans: &mut
     without_lowest(edges)
 }
 
-/// The words that begin in the block, by the edges that are left in it. Returns where the one begins that
-/// is still open at the block's end, or that end. The text is for the contract alone.
+/// The words that begin in the block, by the edges that are left in it. Returns where the one begins
+/// that is still open at the block's end, or that end. The text is for the contract alone.
 #[inline(always)]
 fn words_between(
     text: &[u8],
