@@ -1,32 +1,20 @@
 -- The first place of a byte, and of two newlines in a row.
-use Rattle.std.proofs.Common.{◌≡◌, ℕ, zero, suc, ◌+◌, ◌-◌, ◌≤◌, ◌<◌, Bool, true, false, not, cond, ◌&&◌, ◌==◌, eqb, List, [], ◌∷◌, ◌++◌, length, take, drop, get_or, Option, Some, None, option_map, sym, ap, ap₂, subst, refl, ◌∙◌, arith, inl, inr, eqb-true, get_or-take, length-append}
-use Rattle.std.specs.List.{position_or_len, prefix_len}
-use Rattle.std.proofs.lemmas.Bool.{cases_lt, false≢true}
+use Rattle.std.proofs.Common.{◌≡◌, ℕ, zero, suc, ◌+◌, ◌-◌, ◌≤◌, ◌<◌, Bool, true, false, not, cond, ◌&&◌, ◌==◌, eqb, List, [], ◌∷◌, ◌++◌, length, take, drop, get_or, Option, Some, None, option_map, sym, ap, ap₂, subst, refl, ◌∙◌, arith, eqb-true, get_or-take, length-append}
+use Rattle.std.specs.List.{prefix_len}
+use Rattle.std.proofs.lemmas.Bool.{false≢true}
 use Rattle.std.proofs.lemmas.List.{take-append-le, drop-append-le, length-take-le, take_rest}
 use Rattle.std.proofs.lemmas.List.Folds.{prefix_len-append}
-use Rattle.std.proofs.lemmas.List.Sums.{position_or_len_is, fails_before_first, prefix_len-le-length}
-use Rattle.memchr.specs.Find.{IsFirstByte, FindsNeedle, OccursAt}
+use Rattle.std.proofs.lemmas.List.Sums.{prefix_len-le-length}
+use Rattle.memchr.specs.Find.{FindsNeedle, OccursAt}
 use Rattle.awk_fields.specs.Heads.{is_newline, pair_place}
 use Rattle.awk_fields.specs.Unread.{IsInside, IsPassed, IsSearched, last_of}
 use Rattle.awk_fields.specs.declared.front.Front.TheVariants.{Record, Done}
 use Rattle.awk_fields.specs.declared.front.Searched.{Searched}
 use Rattle.awk_fields.specs.declared.front.Searched.TheVariants.{Byte, Paragraph}
-use Rattle.awk_fields.proofs.ByteLemmas.{fails}
-use Rattle.awk_fields.proofs.Places.{none_between, first_between}
 
--- a search from a place on, before which there is none, finds the first place
-pub first_from : (p : ℕ → Bool) (s : List ℕ) (from k : ℕ) → from ≤ position_or_len p s → from ≤ length s → IsFirstByte p (take (length s - from) (drop from s)) (Some k) → from + k ≡ position_or_len p s
-first_from p s from k known inside found =
-    let first = first_between p s from (length s) k inside (omega arith) found in
-    sym (position_or_len_is p s (from + k) 0 (omega (arith, first.0.high)) (λ i lt. before i lt first.0.before) (λ _. first.1))
-  where
-    before : (i : ℕ) → i < from + k → ((j : ℕ) → from ≤ j → j < from + k → p (get_or s j 0) ≡ true → ⊥) → p (get_or s i 0) ≡ false
-    before i lt none = elim (cases_lt i from) [ inl low ↦ fails_before_first p s i 0 (omega arith) | inr high ↦ fails (p (get_or s i 0)) (none i high lt) ]
-
-pub none_from : (p : ℕ → Bool) (s : List ℕ) (from : ℕ) → from ≤ position_or_len p s → from ≤ length s → IsFirstByte p (take (length s - from) (drop from s)) None → length s ≡ position_or_len p s
-none_from p s from known inside found =
-    let none = none_between p s from (length s) inside (omega arith) found in
-    sym (position_or_len_is p s (length s) 0 (omega arith) (λ i lt. elim (cases_lt i from) [ inl low ↦ fails_before_first p s i 0 (omega arith) | inr high ↦ fails (p (get_or s i 0)) (none i high lt) ]) (λ lt. absurd (omega arith)))
+fails : (b : Bool) → (b ≡ true → ⊥) → b ≡ false
+fails true h = absurd (h refl)
+fails false h = refl
 
 -- what is known of the bytes in front stays where more are added
 pub prefix_more : (p : ℕ → Bool) (s t : List ℕ) (n : ℕ) → n ≤ prefix_len p s → n ≤ prefix_len p (s ++ t)

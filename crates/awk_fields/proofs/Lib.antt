@@ -1,7 +1,12 @@
-pub mod Blanks
+mod Bits
+mod Marked
+mod Edges
+mod FoundLemmas
+mod WordSteps
+mod PartSteps
+mod MarkSteps
 pub mod Cuts
 pub mod WordLemmas
-pub mod ByteLemmas
 pub mod Bests
 pub mod Seeks
 pub mod Places

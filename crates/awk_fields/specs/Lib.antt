@@ -1,6 +1,8 @@
 pub mod Separators
 pub mod Fields
 pub mod Spans
+pub mod Marks
+pub mod Edges
 pub mod Seeking
 pub mod Views
 pub mod Heads

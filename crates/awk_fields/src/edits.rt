@@ -57,10 +57,12 @@ pub fn cut(parts: &mut Vec<Part>, spans: &[Span], text: &[u8]) -> Result<u128, M
     ensures small { IfOk result (λ bytes. bytes + 2 ^ 64 ≤ 2 ^ 128) }
 {
     parts.clear();
+    parts.reserve(spans.len())?;
     let mut bytes = 0u128;
     for span in spans {
-        bytes += (span.end - span.start) as u128;
-        parts.push(Part::Cut(*span))?;
+        let Span { start, end } = *span;
+        bytes += (end - start) as u128;
+        parts.push_reserved(Part::Cut(Span { start, end }));
     }
     Ok(bytes)
 }

@@ -4,8 +4,9 @@ ghost use Rattle.std.specs.List.{prefix_len, position_or_len};
 ghost use Rattle.awk_fields.specs.Heads.{head, is_newline, last, line, pair_place, paragraph, trimmed};
 ghost use Rattle.awk_fields.specs.Unread.{IsInside, IsPassed, IsSearched, head_of, last_of};
 
+use crate::marks::Marks;
 use awk_text::texts::MOST_BYTES;
-use memchr::{memchr, memmem};
+use memchr::memmem;
 
 /// What is known of the bytes that are held. The search goes on from there once more are held, so
 /// that each byte is looked at once, however many pieces a record comes in.
@@ -45,10 +46,7 @@ fn mark_place(unread: &[u8], mark: u8, searched: Searched) -> usize
     ensures inside { result ≤ length unread.now }
 {
     let from = known_len(unread, mark, searched);
-    match memchr(mark, &unread[from..]) {
-        Some(place) => from + place,
-        None => unread.len(),
-    }
+    from + Marks::one(mark).len_before(&unread[from..])
 }
 
 /// The record of what is held with no end seen.

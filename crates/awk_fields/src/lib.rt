@@ -6,6 +6,7 @@ mod edits;
 mod front;
 mod joining;
 pub mod laws;
+mod marks;
 mod part;
 mod parts;
 pub mod reader;
@@ -13,6 +14,7 @@ pub mod row;
 mod spans;
 pub mod splitter;
 pub mod stream;
+mod words;
 
 pub use reader::Reader as Reader;
 pub use row::Record as Record;

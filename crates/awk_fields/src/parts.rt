@@ -48,6 +48,21 @@ pub fn split_parts(parts: &mut Parts, text: &[u8]) -> Result<(), Memory>
     Ok(())
 }
 
+/// The same, without a call where it is done.
+#[inline(always)]
+fn split_unsplit(parts: &mut Parts, text: &[u8]) -> Result<(), Memory>
+    requires { IsSound text.now parts.old }
+    ensures kept { ArePartsKept text.now parts.old parts.new }
+    ensures sound { IsSound text.now parts.new }
+    ensures split { OnOk result (IsSplitBy parts.new.state) }
+{
+    match &parts.state {
+        State::Unsplit(_) => split_parts(parts, text),
+        State::Spans => Ok(()),
+        State::Edits => Ok(()),
+    }
+}
+
 /// Makes parts of the spans, unless that is done: then fields can be set.
 pub fn edit_parts(parts: &mut Parts, text: &[u8]) -> Result<(), Memory>
     requires { IsSound text.now parts.old }
@@ -55,7 +70,7 @@ pub fn edit_parts(parts: &mut Parts, text: &[u8]) -> Result<(), Memory>
     ensures sound { IsSound text.now parts.new }
     ensures edits { OnOk result (parts.new.state ≡ State.Edits) }
 {
-    split_parts(parts, text)?;
+    split_unsplit(parts, text)?;
     let State::Spans = &parts.state else {
         return Ok(());
     };

@@ -1,22 +1,22 @@
 // Fields as parts of a text.
-ghost use Rattle.std.specs.Prelude.{◌≡◌, ◌≢◌, ◌+◌, ◌≤◌, ◌<◌, List, ℕ, [], true, length, map, All, IfOk, IfSome};
-ghost use Rattle.std.specs.List.{position_or_len, prefix_len, slice_split};
-ghost use Rattle.std.specs.Simd.Lanes.{mask_l};
+ghost use Rattle.std.specs.Prelude.{◌≡◌, ◌≢◌, ◌+◌, ◌≤◌, ◌<◌, List, ℕ, [], true, length, map, min, All, IfOk, IfSome, vec_len, vec_capacity};
 ghost use Rattle.awk_ere.specs.Best.{Best};
 ghost use Rattle.awk_ere.specs.Pattern.{Pattern};
 ghost use Rattle.awk_ere.specs.Spelled.{Finds};
-ghost use Rattle.awk_fields.specs.Fields.{is_blank, separates, separating, words, FindsSeparator, Parts};
-ghost use Rattle.awk_fields.specs.Separators.{blanks, nothing, byte, ere};
+ghost use Rattle.awk_fields.specs.Edges.{PartsTo};
+ghost use Rattle.awk_fields.specs.Fields.{separates, separating, FindsSeparator, Parts};
+ghost use Rattle.awk_fields.specs.Marks.{is_mark};
+ghost use Rattle.awk_fields.specs.Separators.{nothing, byte, ere};
 ghost use Rattle.awk_fields.specs.Spans.{AreSpans, IsWithin, part};
 ghost use Rattle.awk_fields.specs.Seeking.{IsAhead, IsNextSeparator};
-ghost use Rattle.memchr.specs.Find.{IsFirst, IsFirstByte, Passes, is_byte};
+ghost use Rattle.memchr.specs.Find.{IsFirst, Passes, is_byte};
 
+use crate::marks::{BLOCK, Marks, without_lowest};
 use awk_ere::Ere;
 use awk_text::Memory;
 use awk_text::octets::Octets;
-use memchr::{memchr, memchr2};
+use memchr::memchr;
 use std::alloc::Global;
-use std::simd::prelude::*;
 
 /// A part of a text, from its start to before its end.
 #[derive(Clone, Copy, Drop)]
@@ -38,80 +38,6 @@ pub fn texts(alloc: Global, text: &[u8], spans: &[Span]) -> Result<Vec<Octets>, 
     Ok(found)
 }
 
-fn is_blank(b: u8) -> bool
-    ensures { result ≡ is_blank b }
-{
-    b == b' ' || b == b'\t' || b == b'\n'
-}
-
-/// How many blanks the text begins with.
-fn gap_len(text: &[u8]) -> usize
-    ensures gap { result ≡ prefix_len is_blank text.now }
-    ensures inside { result ≤ length text.now }
-{
-    for (i, b) in text.iter().enumerate() {
-        if !is_blank(*b) {
-            return i;
-        }
-    }
-    text.len()
-}
-
-/// How many bytes stand before the first blank, one by one.
-fn short_word_len(text: &[u8]) -> usize
-    ensures word { result ≡ position_or_len is_blank text.now }
-    ensures inside { result ≤ length text.now }
-{
-    for (i, b) in text.iter().enumerate() {
-        if is_blank(*b) {
-            return i;
-        }
-    }
-    text.len()
-}
-
-/// A bit for each byte that is a blank.
-#[inline(always)]
-fn blanks(bytes: u8x16) -> u64
-    ensures { result ≡ mask_l (map is_blank bytes) }
-{
-    (bytes.simd_eq(u8x16::splat(b' '))
-        | bytes.simd_eq(u8x16::splat(b'\t'))
-        | bytes.simd_eq(u8x16::splat(b'\n'))).to_bitmask()
-}
-
-/// How many bytes stand before the first blank. Sixteen are looked at in each turn.
-fn word_len(text: &[u8]) -> usize
-    ensures word { result ≡ position_or_len is_blank text.now }
-    ensures inside { result ≤ length text.now }
-{
-    let mut passed = 0;
-    while text.len() - passed >= 16 {
-        let found = blanks(u8x16::from_slice(&text[passed..]));
-        if found != 0 {
-            return passed + found.trailing_zeros() as usize;
-        }
-        passed += 16;
-    }
-    passed + short_word_len(&text[passed..])
-}
-
-/// The words of the text.
-pub fn blank_spans(text: &[u8], mut spans: Vec<Span>) -> Result<Vec<Span>, Memory>
-    requires { spans.items ≡ [] }
-    ensures { IfOk result (λ found. (fields : List (List ℕ)) × Parts blanks text.now fields × AreSpans text.now found.items fields) }
-{
-    let mut start = gap_len(text);
-    while start < text.len() {
-        let word = word_len(&text[start..]);
-        let end = start + word;
-        spans.push(Span { start, end })?;
-        let gap = gap_len(&text[end..]);
-        start = end + gap;
-    }
-    Ok(spans)
-}
-
 /// Each byte of the text.
 pub fn single_spans(text: &[u8], mut spans: Vec<Span>) -> Result<Vec<Span>, Memory>
     requires { spans.items ≡ [] }
@@ -126,15 +52,40 @@ pub fn single_spans(text: &[u8], mut spans: Vec<Span>) -> Result<Vec<Span>, Memo
     Ok(spans)
 }
 
-/// The place of the first byte that separates.
-fn separator_place(text: &[u8], mark: u8, newline: bool) -> Option<usize>
-    ensures { IsFirstByte (separates mark newline) text.now result }
+/// The byte that separates, and where the flag is set the newline.
+#[inline(always)]
+fn separators(mark: u8, newline: bool) -> Marks
+    ensures { (b : ℕ) → is_mark result b ≡ separates mark newline b }
 {
-    if newline {
-        memchr2(b'\n', mark, text)
-    } else {
-        memchr(mark, text)
+    let first = if newline { b'\n' } else { mark };
+    Marks {
+        first,
+        second: mark,
+        third: mark,
     }
+}
+
+/// The parts that a mark in the block from a place on ends. Returns where the next part begins.
+#[inline(always)]
+fn block_parts(
+    text: &[u8],
+    from: usize,
+    marks: Marks,
+    mut start: usize,
+    spans: &mut Vec<Span>,
+) -> usize
+    requires parts { PartsTo marks text.now from start spans.old.items }
+    requires room { vec_len spans.old + 64 ≤ vec_capacity spans.old }
+    ensures { PartsTo marks text.now (min (from + 64) (length text.now)) result spans.new.items }
+{
+    let mut found = marks.in_block(text, from);
+    while found != 0 {
+        let end = from + found.trailing_zeros() as usize;
+        spans.push_reserved(Span { start, end });
+        start = end + 1;
+        found = without_lowest(found);
+    }
+    start
 }
 
 /// What stands round each byte that separates.
@@ -147,11 +98,13 @@ pub fn byte_spans(
     requires { spans.items ≡ [] }
     ensures { IfOk result (λ found. (fields : List (List ℕ)) × Parts (byte mark newline) text.now fields × AreSpans text.now found.items fields) }
 {
+    let marks = separators(mark, newline);
     let mut start = 0;
-    while let Some(len) = separator_place(&text[start..], mark, newline) {
-        let end = start + len;
-        spans.push(Span { start, end })?;
-        start = end + 1;
+    let mut at = 0;
+    while at < text.len() {
+        spans.reserve(BLOCK)?;
+        start = block_parts(text, at, marks, start, &mut spans);
+        at += (text.len() - at).min(BLOCK);
     }
     let end = text.len();
     spans.push(Span { start, end })?;

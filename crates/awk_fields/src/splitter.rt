@@ -4,7 +4,8 @@ ghost use Rattle.awk_fields.specs.Fields.{Fields};
 ghost use Rattle.awk_fields.specs.Separators.{IsByEre, IsEre, IsNoEre, separator, ere};
 ghost use Rattle.awk_fields.specs.Spans.{AreSpans};
 
-use crate::spans::{Span, blank_spans, byte_spans, ere_spans, single_spans, texts};
+use crate::spans::{Span, byte_spans, ere_spans, single_spans, texts};
+use crate::words::blank_spans;
 use awk_ere::Ere;
 use awk_text::Memory;
 use awk_text::fault::Fault;

@@ -1,11 +1,9 @@
-use Rattle.std.proofs.Common.{◌-◌, ℕ, List, length}
-use Rattle.awk_fields.specs.Fields.{separates}
-use Rattle.awk_fields.specs.Spans.{AreSpans}
-use Rattle.awk_fields.proofs.ByteLemmas.{CutTo}
+use Rattle.std.proofs.Common.{◌-◌, length}
+use Rattle.awk_fields.specs.Edges.{PartsTo}
 use Rattle.awk_fields.proofs.spans.byte_spans.Given as goal
 
-abbrev pub invariant-loop-len : goal.invariant-loop-len
-invariant-loop-len l = (found : List (List ℕ)) × CutTo (separates l.mark l.newline) l.text l.start found × AreSpans l.text l.spans.items found
+abbrev pub invariant-loop-at : goal.invariant-loop-at
+invariant-loop-at l = PartsTo l.marks l.text l.at l.start l.spans.items
 
-abbrev pub decreases-loop-len : goal.decreases-loop-len
-decreases-loop-len l = length l.text - l.start
+abbrev pub decreases-loop-at : goal.decreases-loop-at
+decreases-loop-at l = length l.text - l.at
