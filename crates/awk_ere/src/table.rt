@@ -1,10 +1,11 @@
 // The search by a table.
-ghost use Rattle.std.specs.Prelude.{◌≡◌, ◌≢◌, ◌==◌, ◌↔◌, ◌+◌, ◌<◌, ◌≤◌, ℕ, length, Some, true, IfSome, IsTrue, slice_get, slice_index, if◌then◌else◌};
+ghost use Rattle.std.specs.Prelude.{◌≡◌, ◌≢◌, ◌==◌, ◌↔◌, ◌+◌, ◌<◌, ◌≤◌, ◌⊎◌, ℕ, length, Some, true, IfSome, IsTrue, slice_get, slice_index, if◌then◌else◌};
 ghost use Rattle.awk_ere.specs.Pattern.{Pattern};
 ghost use Rattle.awk_ere.specs.Table.{AllLead, IsAt, IsLongest, EndsSomewhere, NoneTo, IsBuilt, IsSought, IsEngine};
 ghost use Rattle.awk_ere.specs.declared.program.Step.TheVariants.{AtStart, Done};
 
 use crate::bracket::Set;
+use crate::heads::{is_open, next_head};
 use crate::program::Step;
 use crate::states::{Begin, DEAD, Table};
 
@@ -236,7 +237,14 @@ fn is_anchored(program: &[Step], entry: usize) -> bool
     }
 }
 
-/// The first place, from this one on, where a match may start. The text's start is none of these.
+/// Whether what the table says of later starts holds at the place.
+fn is_later(table: &Table, place: usize) -> bool
+    ensures { IsTrue result → 0 < place ⊎ table.now.entry.first ≡ table.now.entry.later }
+{
+    place > 0 || table.entry.first == table.entry.later
+}
+
+/// The first place, from this one on, where a match may start.
 fn next_start(
     sets: &[Set],
     program: &[Step],
@@ -248,17 +256,69 @@ fn next_start(
 ) -> usize
     requires entry { entry < length program.now }
     requires built { IsBuilt sets.now program.now entry scan table.now }
-    requires later { 0 < from }
+    requires later { 0 < from ⊎ table.now.entry.first ≡ table.now.entry.later }
     requires from { from ≤ length text.now }
     ensures inside { (from ≤ result) × (result ≤ length text.now) }
     ensures none { NoneTo sets.now program.now text.now entry from result }
 {
     let (cells, accepts) = (table.cells.as_slice(), table.accepts.as_slice());
     let first = table.entry.later as usize;
-    if first >= cells.len() || accepts[first] {
+    if !is_open(cells, accepts, first) {
         return from;
     }
-    stays_to(&cells[first], DEAD, text, from)
+    let place = next_head(&table.heads, text, from);
+    stays_to(&cells[first], DEAD, text, place)
+}
+
+/// The first place, from this one on, that is to be tried as a start.
+fn first_start(
+    sets: &[Set],
+    program: &[Step],
+    table: &Table,
+    entry: usize,
+    scan: usize,
+    text: &[u8],
+    from: usize,
+) -> usize
+    requires entry { entry < length program.now }
+    requires built { IsBuilt sets.now program.now entry scan table.now }
+    requires from { from ≤ length text.now }
+    ensures inside { (from ≤ result) × (result ≤ length text.now) }
+    ensures none { NoneTo sets.now program.now text.now entry from result }
+{
+    if is_later(table, from) {
+        next_start(sets, program, table, entry, scan, text, from)
+    } else {
+        from
+    }
+}
+
+/// The best match from the text's end on.
+fn find_at_end(
+    sets: &[Set],
+    program: &[Step],
+    table: &Table,
+    entry: usize,
+    scan: usize,
+    text: &[u8],
+) -> Sought
+    requires entry { entry < length program.now }
+    requires built { IsBuilt sets.now program.now entry scan table.now }
+    ensures { IsSought sets.now program.now text.now entry (length text.now) result }
+{
+    let (end, state) = (text.len(), table.entry.later as usize);
+    if end == 0 {
+        return Sought::Left(0);
+    }
+    let ends = table.ends.as_slice();
+    if state >= ends.len() {
+        return Sought::Left(end);
+    }
+    if ends[state] {
+        Sought::Found(Some((end, end)))
+    } else {
+        Sought::Found(None)
+    }
 }
 
 /// The best match from the place on: each start in turn, as long as the budget lasts.
@@ -277,7 +337,7 @@ fn leftmost(
     requires from { from ≤ length text.now }
     ensures { IsSought sets.now program.now text.now entry from result }
 {
-    let mut start = from;
+    let mut start = first_start(sets, program, table, entry, scan, text, from);
     while start < text.len() {
         if budget == 0 {
             return Sought::Left(start);
@@ -289,7 +349,7 @@ fn leftmost(
         }
         start = next_start(sets, program, table, entry, scan, text, start + 1);
     }
-    Sought::Left(text.len())
+    find_at_end(sets, program, table, entry, scan, text)
 }
 
 /// The best match where each one starts at the text's start.
@@ -323,6 +383,30 @@ fn find_anchored(
     }
 }
 
+/// The best match from the place on, where it is asked first whether there is any.
+#[inline(never)]
+fn find_on(
+    sets: &[Set],
+    program: &[Step],
+    table: &Table,
+    entry: usize,
+    scan: usize,
+    text: &[u8],
+    from: usize,
+) -> Sought
+    requires engine { (p : Pattern) × IsEngine sets.now program.now entry scan table.now p }
+    requires from { from ≤ length text.now }
+    ensures { IsSought sets.now program.now text.now entry from result }
+{
+    match somewhere(sets, program, table, entry, scan, text, from) {
+        Some(false) => Sought::Found(None),
+        Some(true) | None => {
+            let budget = text.len().saturating_mul(BUDGET);
+            leftmost(sets, program, table, entry, scan, text, from, budget)
+        }
+    }
+}
+
 /// The best match from the place on.
 pub fn find(
     sets: &[Set],
@@ -340,24 +424,9 @@ pub fn find(
     if is_anchored(program, entry) {
         return find_anchored(sets, program, table, entry, scan, text, from);
     }
-    if let Sought::Found(near) = leftmost(
-        sets,
-        program,
-        table,
-        entry,
-        scan,
-        text,
-        from,
-        FIRST_BUDGET,
-    ) {
-        return Sought::Found(near);
-    }
-    match somewhere(sets, program, table, entry, scan, text, from) {
-        Some(false) => Sought::Found(None),
-        Some(true) | None => {
-            let budget = text.len().saturating_mul(BUDGET);
-            leftmost(sets, program, table, entry, scan, text, from, budget)
-        }
+    match leftmost(sets, program, table, entry, scan, text, from, FIRST_BUDGET) {
+        Sought::Found(near) => Sought::Found(near),
+        Sought::Left(start) => find_on(sets, program, table, entry, scan, text, start),
     }
 }
 
@@ -376,5 +445,11 @@ pub fn has_match(
     if is_anchored(program, entry) {
         return None;
     }
-    somewhere(sets, program, table, entry, scan, text, 0)
+    if !table.heads.is_exact {
+        return somewhere(sets, program, table, entry, scan, text, 0);
+    }
+    match leftmost(sets, program, table, entry, scan, text, 0, FIRST_BUDGET) {
+        Sought::Found(found) => Some(found.is_some()),
+        Sought::Left(start) => somewhere(sets, program, table, entry, scan, text, start),
+    }
 }

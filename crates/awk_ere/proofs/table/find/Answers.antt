@@ -1,5 +1,7 @@
-use Rattle.awk_ere.proofs.Seeking.{nowhere}
+use Rattle.awk_ere.proofs.Seeking.{sought_later}
 use Rattle.awk_ere.proofs.table.find.Goals as goal
 
-pub returns-in-Some-false : goal.returns-in-Some-false
-returns-in-Some-false c = nowhere _ _ _ _ _ c.requires.engine.1.machine c.requires.engine.1.scanner _ _ _ c.in-Some-false.field-0-test c.in-Some-false.ensures
+pub returns-in-Left : goal.returns-in-Left
+returns-in-Left c =
+    let left = c.in-Left.ensures in
+    sought_later _ _ _ _ _ _ _ left.0 left.2 c.find_on.ensures

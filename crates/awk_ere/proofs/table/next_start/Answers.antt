@@ -1,14 +1,17 @@
-use Rattle.std.proofs.Common.{arith}
-use Rattle.awk_ere.proofs.Seeking.{none_begin, none_dead}
+use Rattle.std.proofs.Common.{refl, arith}
+use Rattle.awk_ere.proofs.Seeking.{none_begin, none_dead, none_heads, none_on, still_later}
 use Rattle.awk_ere.proofs.table.next_start.Goals as goal
 
 pub returns-clause-none : goal.returns-clause-none
 returns-clause-none c =
-    let known = rw c.as_slice-cells.ensures.value at c.if-first-cells.false in
-    let closed = rw c.as_slice-accepts.ensures.value at c.if-accepts-first.false in
+    let built = c.requires.built in
+    let open' = rw (c.as_slice-cells.ensures.value, c.as_slice-accepts.ensures.value) at c.is_open.ensures in
+    let known = open' (rw c.if-not-is_open.false refl) in
     let dead = rw c.as_slice-cells.ensures.value at c.stays_to.ensures.all in
-    none_dead _ _ _ _ _ c.requires.built.lists _ _ _ _ c.requires.built.table c.requires.built.entries c.requires.entry known closed
-    (λ k lt. omega (arith, c.type_inv.text k)) c.stays_to.result c.requires.later c.stays_to.ensures.inside.1 dead
+    let place = c.next_head-place.ensures in
+    none_on _ _ _ _ _ c.next_head-place.result _
+    (none_heads _ _ _ _ _ built.lists _ _ _ _ built.table built.entries c.requires.entry (λ k lt. omega (arith, c.type_inv.text k)) _ c.requires.later place.inside.1 c.args.table.now.heads built.heads place.none)
+    (none_dead _ _ _ _ _ built.lists _ _ _ _ built.table built.entries c.requires.entry (λ k lt. omega (arith, c.type_inv.text k)) _ (still_later _ _ _ c.requires.later place.inside.0) c.stays_to.ensures.inside.1 known.0 known.1 dead)
 
-pub returns-then-first-cells-clause-none : goal.returns-then-first-cells-clause-none
-returns-then-first-cells-clause-none c = none_begin _ _ _ _ _
+pub returns-then-not-is_open-clause-none : goal.returns-then-not-is_open-clause-none
+returns-then-not-is_open-clause-none c = none_begin _ _ _ _ _
