@@ -1,14 +1,17 @@
 -- The bytes that a match begins with, and the places where they stand.
-use Rattle.std.proofs.Common.{◌≡◌, ◌≢◌, ℕ, ◌+◌, ◌%◌, ◌^◌, ◌-◌, ◌<◌, ◌≤◌, ◌⊎◌, inl, inr, Bool, true, false, not, ◌&&◌, cond, nat_le, List, [], ◌∷◌, map, length, replicate, get_or, slice_index, slice_index_or, bit_and, refl, sym, ap, ap₂, ◌∙◌, subst, arith}
+use Rattle.std.proofs.Common.{◌≡◌, ◌≢◌, ℕ, zero, suc, ◌+◌, ◌*◌, ◌/◌, ◌%◌, ◌^◌, ◌-◌, ◌<◌, ◌≤◌, ◌⊎◌, inl, inr, Bool, true, false, not, ◌&&◌, cond, nat_le, List, [], ◌∷◌, map, length, drop, replicate, get_or, slice_index, slice_index_or, bit_and, refl, sym, ap, ap₂, ◌∙◌, subst, arith}
 use Rattle.std.proofs.lemmas.Bool.{cases_lt, eq-eqb, ne_eqb, le-leb, not-true}
+use Rattle.std.proofs.lemmas.List.{get_or-drop, length-drop}
 use Rattle.std.proofs.lemmas.List.Sums.{prefix_len_passes, prefix_len-le-length}
 use Rattle.std.proofs.lemmas.Simd.{zip2_splat, zip2_splat_left, zip2-map, length-zip2, get_or-zip2, mask_l-mod, get_or-chunk, length-chunk, first_set_mask_l}
+use Rattle.std.proofs.lemmas.Nat.{div-mul-add}
+use Rattle.std.proofs.Math.Nat.{div-div-eq-div-mul, pow-succ', zero-div}
 use Rattle.std.specs.List.{prefix_len}
 use lib.Count.{count_trailing_zeros}
 use lib.Dec.{eqb}
 use lib.Lanes.{zip2, chunk, mask_l, top}
 use Rattle.awk_ere.specs.Bracket.{Range, in_range}
-use Rattle.awk_ere.specs.Table.{cell, IsIn, AreSpread, begins, Stops, AreHeads, NoneBegin}
+use Rattle.awk_ere.specs.Table.{cell, IsIn, AreSpread, begins, marks_of, Stops, AreHeads, NoneBegin}
 use Rattle.awk_ere.specs.declared.heads.Heads.{Heads}
 
 abbrev hit : ℕ → ℕ → ℕ
@@ -55,46 +58,94 @@ unmapped : (l : List Bool) → map (λ b. b) l ≡ l
 unmapped [] = refl
 unmapped (x ∷ l) = ap (λ r. x ∷ r) (unmapped l)
 
--- the places before the first bit
-first_mark : (h : Heads) (v w : List ℕ) → length v ≡ 16 → length w ≡ 16
-    → cond (eqb (mask_l (zip2 (begins h) v w)) 0) 16 (count_trailing_zeros 64 (mask_l (zip2 (begins h) v w))) ≡ prefix_len (λ b. not b) (zip2 (begins h) v w)
-first_mark h v w long longer =
-    let l = zip2 (begins h) v w in
-    subst (λ x. cond (eqb (mask_l x) 0) 16 (count_trailing_zeros 64 (mask_l x)) ≡ prefix_len (λ b. not b) l) (unmapped l)
-    (first_set_mask_l (λ b. b) l 16 (length-zip2 (begins h) v w (long ∙ sym longer) ∙ long) (omega arith))
+-- the bits of a mask
+module _ (l : List Bool) (few : length l ≤ 64) where
+  first_mark : cond (eqb (mask_l l) 0) (length l) (count_trailing_zeros 64 (mask_l l)) ≡ prefix_len (λ b. not b) l
+  first_mark = subst (λ x. cond (eqb (mask_l x) 0) (length l) (count_trailing_zeros 64 (mask_l x)) ≡ prefix_len (λ b. not b) l) (unmapped l) (first_set_mask_l (λ b. b) l (length l) refl few)
 
-pub no_mark : (h : Heads) (v w : List ℕ) → length v ≡ 16 → length w ≡ 16 → mask_l (zip2 (begins h) v w) ≡ 0 → 16 ≡ prefix_len (λ b. not b) (zip2 (begins h) v w)
-no_mark h v w long longer none =
-    let m = mask_l (zip2 (begins h) v w) in
-    ap (λ b. cond b 16 (count_trailing_zeros 64 m)) (sym (eq-eqb m 0 none)) ∙ first_mark h v w long longer
+  off : (k : ℕ) → k < prefix_len (λ b. not b) l → get_or l k false ≡ false
+  off k lt = not-true (get_or l k false) (prefix_len_passes (λ b. not b) l k false lt)
 
-pub some_mark : (h : Heads) (v w : List ℕ) → length v ≡ 16 → length w ≡ 16 → (found : ℕ) → found ≡ mask_l (zip2 (begins h) v w) → found ≢ 0
-    → (count_trailing_zeros 64 found ≡ prefix_len (λ b. not b) (zip2 (begins h) v w)) × (count_trailing_zeros 64 found ≤ 16)
-some_mark h v w long longer found is some =
-    let m = mask_l (zip2 (begins h) v w) in
-    let first = ap (λ b. cond b 16 (count_trailing_zeros 64 m)) (sym (ne_eqb m 0 (λ e. some (is ∙ e)))) ∙ first_mark h v w long longer in
-    let same = ap (count_trailing_zeros 64) is ∙ first in
-    (same, omega (arith, same, prefix_len-le-length (λ b. not b) (zip2 (begins h) v w), length-zip2 (begins h) v w (long ∙ sym longer), long))
+  pub all_off : mask_l l ≡ 0 → (k : ℕ) → k < length l → get_or l k false ≡ false
+  all_off none k lt =
+      let first = ap (λ b. cond b (length l) (count_trailing_zeros 64 (mask_l l))) (sym (eq-eqb (mask_l l) 0 none)) ∙ first_mark in
+      off k (omega (arith, first))
 
--- the places that a turn passes over
+  module _ (found : ℕ) (is : found ≡ mask_l l) (some : found ≢ 0) where
+    first : count_trailing_zeros 64 found ≡ prefix_len (λ b. not b) l
+    first = ap (count_trailing_zeros 64) is ∙ ap (λ b. cond b (length l) (count_trailing_zeros 64 (mask_l l))) (sym (ne_eqb (mask_l l) 0 (λ e. some (is ∙ e)))) ∙ first_mark
+
+    pub off_before : (k : ℕ) → k < count_trailing_zeros 64 found → get_or l k false ≡ false
+    off_before k lt = off k (omega (arith, first))
+
+    pub first_inside : count_trailing_zeros 64 found ≤ length l
+    first_inside = omega (arith, first, prefix_len-le-length (λ b. not b) l)
+
+half : (b : Bool) (m : ℕ) → (cond b 1 0 + 2 * m) / 2 ≡ m
+half true m = ap (λ x. x / 2) (omega arith) ∙ div-mul-add m 2 1 (omega arith)
+half false m = ap (λ x. x / 2) (omega arith) ∙ div-mul-add m 2 0 (omega arith)
+
+pub mask_drop : (s : ℕ) (l : List Bool) → mask_l l / 2 ^ s ≡ mask_l (drop s l)
+mask_drop zero l = omega arith
+mask_drop (suc s) [] = zero-div (2 ^ suc s)
+mask_drop (suc s) (b ∷ l) = ap (λ x. (cond b 1 0 + 2 * mask_l l) / x) (pow-succ' 2 s) ∙ sym (div-div-eq-div-mul (cond b 1 0 + 2 * mask_l l) 2 (2 ^ s)) ∙ ap (λ x. x / 2 ^ s) (half b (mask_l l)) ∙ mask_drop s l
+
+-- the sixteen places from i on
 module _ (h : Heads) (s : List ℕ) (i : ℕ) (room : i + 17 ≤ length s) where
-  abbrev found : List Bool
-  found = zip2 (begins h) (chunk i 16 s) (chunk (i + 1) 16 s)
+  pub marks_long : length (marks_of h s i) ≡ 16
+  marks_long =
+      let here = length-chunk i 16 s (omega (arith, room)) in
+      let behind = length-chunk (i + 1) 16 s (omega (arith, room)) in
+      length-zip2 (begins h) (chunk i 16 s) (chunk (i + 1) 16 s) (here ∙ sym behind) ∙ here
 
-  passed : (k : ℕ) → k < 16 → k < prefix_len (λ b. not b) found → begins h (slice_index s (i + k)) (slice_index s (i + 1 + k)) ≡ false
-  passed k few lt =
-      let here = get_or-zip2 (begins h) (chunk i 16 s) (chunk (i + 1) 16 s) k 0 0 false (omega (arith, length-chunk i 16 s (omega (arith, room)))) (omega (arith, length-chunk (i + 1) 16 s (omega (arith, room)))) in
-      let bytes = ap₂ (begins h) (get_or-chunk i 16 s k 0 few) (get_or-chunk (i + 1) 16 s k 0 few) in
-      sym (here ∙ bytes) ∙ not-true (get_or found k false) (prefix_len_passes (λ b. not b) found k false lt)
+  mark_at : (k : ℕ) → k < 16 → get_or (marks_of h s i) k false ≡ begins h (slice_index s (i + k)) (slice_index s (i + 1 + k))
+  mark_at k few =
+      get_or-zip2 (begins h) (chunk i 16 s) (chunk (i + 1) 16 s) k 0 0 false (omega (arith, length-chunk i 16 s (omega (arith, room)))) (omega (arith, length-chunk (i + 1) 16 s (omega (arith, room))))
+      ∙ ap₂ (begins h) (get_or-chunk i 16 s k 0 few) (get_or-chunk (i + 1) 16 s k 0 few)
 
-  pub none_passed : (from to : ℕ) → to ≤ i + 16 → to ≤ i + prefix_len (λ b. not b) found → NoneBegin h s from i → NoneBegin h s from to
-  none_passed from to few before none = λ k after lt. elim (cases_lt k i) [
-    | inl less ↦ none k after less
+  -- more of them where none may
+  pub none_marked : (from at to : ℕ) → i ≤ at → to ≤ i + 16 → NoneBegin h s from at → ((j : ℕ) → at ≤ j → j < to → get_or (marks_of h s i) (j - i) false ≡ false) → NoneBegin h s from to
+  none_marked from at to le few before none = λ k after lt. elim (cases_lt k at) [
+    | inl less ↦ before k after less
     | inr ge ↦
-        let at : i + (k - i) ≡ k = omega arith in
+        let here : i + (k - i) ≡ k = omega arith in
         let behind : i + 1 + (k - i) ≡ k + 1 = omega arith in
-        (omega (arith, room), subst (λ x. begins h (slice_index s x) (slice_index s (k + 1)) ≡ false) at (subst (λ x. begins h (slice_index s (i + (k - i))) (slice_index s x) ≡ false) behind (passed (k - i) (omega arith) (omega arith))))
+        (omega (arith, room), ap₂ (begins h) (ap (slice_index s) (sym here)) (ap (slice_index s) (sym behind)) ∙ sym (mark_at (k - i) (omega arith)) ∙ none k ge lt)
   ]
+
+  -- those from `at` on
+  module _ (at : ℕ) (le : i ≤ at) (below : at < i + 16) (found : ℕ) (is : found ≡ mask_l (marks_of h s i)) where
+    abbrev rest : List Bool
+    rest = drop (at - i) (marks_of h s i)
+
+    rest_long : length rest ≡ 16 - (at - i)
+    rest_long = omega (arith, length-drop (at - i) (marks_of h s i), marks_long)
+
+    rest_is : found / 2 ^ (at - i) ≡ mask_l rest
+    rest_is = ap (λ x. x / 2 ^ (at - i)) is ∙ mask_drop (at - i) (marks_of h s i)
+
+    rest_at : (j : ℕ) → at ≤ j → get_or rest (j - at) false ≡ false → get_or (marks_of h s i) (j - i) false ≡ false
+    rest_at j after off =
+        let same : at - i + (j - at) ≡ j - i = omega arith in
+        subst (λ x. get_or (marks_of h s i) x false ≡ false) same (sym (get_or-drop (at - i) (marks_of h s i) (j - at) false) ∙ off)
+
+    pub rest_none : found / 2 ^ (at - i) ≡ 0 → NoneBegin h s at (i + 16)
+    rest_none none = none_marked at at (i + 16) le (omega arith) (λ k after lt. absurd (omega arith)) (λ j after lt. rest_at j after (all_off rest (omega (arith, rest_long)) (omega (arith, rest_is, none)) (j - at) (omega (arith, rest_long))))
+
+    module _ (some : found / 2 ^ (at - i) ≢ 0) where
+      abbrev before : ℕ
+      before = count_trailing_zeros 64 (found / 2 ^ (at - i))
+
+      pub rest_inside : at + before ≤ i + 16
+      rest_inside = omega (arith, first_inside rest (omega (arith, rest_long)) (found / 2 ^ (at - i)) rest_is some, rest_long)
+
+      pub rest_first : NoneBegin h s at (at + before)
+      rest_first =
+          none_marked at at (at + before) le rest_inside (λ k after lt. absurd (omega arith))
+          (λ j after lt. rest_at j after (off_before rest (omega (arith, rest_long)) (found / 2 ^ (at - i)) rest_is some (j - at) (omega (arith, lt))))
+
+pub none_joined : (h : Heads) (s : List ℕ) (from at to : ℕ) → NoneBegin h s from at → NoneBegin h s at to → NoneBegin h s from to
+none_joined h s from at to before rest = λ k after lt. elim (cases_lt k at) [ inl less ↦ before k after less | inr ge ↦ rest k ge lt ]
 
 -- from ranges to tests
 tested : (r : Range) (b : ℕ) → IsIn r b → in_range b r ≡ true

@@ -221,3 +221,23 @@ somewhere_on sets program entry scan p machine scans s from k le none (Some b) h
         | inl less ↦ absurd (none y.0 y.1 y.2 less (omega (arith, y.3)) (matches_run sets program entry p machine s y.0 y.1 y.4))
         | inr ge ↦ from_somewhere sets program entry scan p machine scans s k y.0 y.1 ge y.3 y.4
       ]
+
+-- what a start that was tried says
+module _ (sets : List (List Bool)) (program : List Step) (s : List ℕ) (entry : ℕ) where
+  pub none_start : (from k : ℕ) → NoneTo sets program s entry from k → (b : Bool) → b ≡ false → IsTrue b ↔ EndsSomewhere sets program s entry k → NoneTo sets program s entry from (k + 1)
+  none_start from k none b off is = none_more sets program s entry from k (λ j below run. both_ways b off (is.1 (j, omega arith, run))) none
+
+pub start_somewhere : (sets : List (List Bool)) (program : List Step) (entry scan : ℕ) (p : Pattern) → IsMachine sets program entry p → IsMachine sets program scan (anywhere p) → (s : List ℕ) (from k : ℕ) → from ≤ k
+    → EndsSomewhere sets program s entry k → EndsSomewhere sets program s scan from
+start_somewhere sets program entry scan p machine scans s from k le (j, within, run) = from_somewhere sets program entry scan p machine scans s from k j le within (run_matches sets program entry p machine s k j run)
+
+pub anchored_somewhere : (sets : List (List Bool)) (program : List Step) (entry scan : ℕ) (p : Pattern) → IsMachine sets program entry p → IsMachine sets program scan (anywhere p) → (s : List ℕ) (r : ℕ) → slice_get program entry ≡ Some (AtStart r)
+    → (found : Option Bool) → IfSome found (λ b. IsTrue b ↔ EndsSomewhere sets program s entry 0) → IfSome found (λ b. IsTrue b ↔ EndsSomewhere sets program s scan 0)
+anchored_somewhere sets program entry scan p machine scans s r first None h = tt
+anchored_somewhere sets program entry scan p machine scans s r first (Some b) h = (
+  (λ t. start_somewhere sets program entry scan p machine scans s 0 0 (omega arith) (h.0 t)),
+  λ run.
+      let y = somewhere_from sets program entry scan p machine scans s 0 run in
+      let goes = matches_run sets program entry p machine s y.0 y.1 y.4 in
+      h.1 (y.1, y.3, subst (λ x. Goes sets program s entry x 0 y.1) (only_start sets program s entry r first machine.done goes.0 y.0 y.1 goes.1) goes),
+)

@@ -1,5 +1,6 @@
 -- A table over sets of steps: a state is the steps that a place is reached at, and a cell the state after a byte.
 use Rattle.std.specs.Prelude.{◌≡◌, ◌==◌, ◌↔◌, ℕ, ◌+◌, ◌<◌, ◌≤◌, ◌⊎◌, Bool, true, false, List, [], ◌∷◌, ◌++◌, ◌&&◌, length, replicate, Option, Some, None, slice_index, slice_index_or, Contains}
+use Rattle.std.specs.Simd.Lanes.{zip2, chunk}
 use Rattle.awk_ere.specs.Program.{Eats}
 use Rattle.awk_ere.specs.Search.{mark, IsClosed, Takes, LeadsTo, Goes, Finds, IsMachine}
 use Rattle.awk_ere.specs.Pattern.{Pattern, bytes, cat, repeat}
@@ -133,6 +134,10 @@ Stops cells accepts q c = (q ≡ 0) ⊎ ((q < length cells) × (slice_index_or a
 -- a match that begins in the state q, with two bytes or more, begins with two of the ranges
 abbrev pub AreHeads : List (List ℕ) → List Bool → ℕ → Heads → Type 0
 AreHeads cells accepts q h = (b c : ℕ) → b < 256 → c < 256 → (begins h b c ≡ true) ⊎ ((q < length cells) × (slice_index_or accepts q false ≡ false) × Stops cells accepts (cell cells q b) c)
+
+-- at which of the sixteen places from k on a match may begin
+abbrev pub marks_of : Heads → List ℕ → ℕ → List Bool
+marks_of h s k = zip2 (begins h) (chunk k 16 s) (chunk (k + 1) 16 s)
 
 -- up to `to` a match may begin with no byte and the one behind it
 abbrev pub NoneBegin : Heads → List ℕ → ℕ → ℕ → Type 0

@@ -1,8 +1,7 @@
 // The bytes that a match may begin with. They are looked for in sixteen places at a time.
-ghost use Rattle.std.specs.Prelude.{◌≡◌, ◌≢◌, ◌⊎◌, ◌<◌, ◌≤◌, ℕ, true, false, not, length, IsTrue, slice_index, slice_index_or};
-ghost use Rattle.std.specs.List.{prefix_len};
+ghost use Rattle.std.specs.Prelude.{◌≡◌, ◌≢◌, ◌⊎◌, ◌+◌, ◌<◌, ◌≤◌, ℕ, true, false, length, IsTrue, slice_index, slice_index_or};
 ghost use Rattle.std.specs.Simd.Lanes.{mask_l, zip2};
-ghost use Rattle.awk_ere.specs.Table.{IsIn, IsSpread, AreSpread, begins, Stops, AreHeads, NoneBegin};
+ghost use Rattle.awk_ere.specs.Table.{IsIn, IsSpread, AreSpread, begins, marks_of, Stops, AreHeads, NoneBegin};
 
 use crate::bracket::Range;
 use crate::states::DEAD;
@@ -31,7 +30,7 @@ const NOTHING: Range = (255, 0);
 const EVERYTHING: Range = (0, 255);
 
 /// How many places are looked at in one turn.
-const LANES: usize = 16;
+pub const LANES: usize = 16;
 
 fn spread_over(range: Range) -> Spread
     ensures { IsSpread range result }
@@ -175,18 +174,37 @@ fn marks(bytes: u8x16, behind: u8x16, heads: &Heads) -> u64
             & behind.simd_le(u8x16::from_array(heads.second_spread.high)))).to_bitmask()
 }
 
-/// How many places come before the first where a match may begin.
+/// A bit for each of the sixteen places from this one on where a match may begin.
 #[inline(always)]
-fn places_before(bytes: u8x16, behind: u8x16, heads: &Heads) -> usize
-    requires { AreSpread heads.now }
-    ensures before { result ≡ prefix_len (λ b. not b) (zip2 (begins heads.now) bytes behind) }
-    ensures inside { result ≤ 16 }
+fn marks_at(heads: &Heads, text: &[u8], place: usize) -> u64
+    requires spread { AreSpread heads.now }
+    requires inside { place + 16 < length text.now }
+    ensures { result ≡ mask_l (marks_of heads.now text.now place) }
 {
-    let found = marks(bytes, behind, heads);
+    let bytes = u8x16::from_slice(&text[place..]);
+    let behind = u8x16::from_slice(&text[place + 1..]);
+    marks(bytes, behind, heads)
+}
+
+/// The first place, from this one on, where a match may begin, or the text's last. From `last` on sixteen bytes and one
+/// behind them end the text, so that those places are looked at once more of which `place` is one.
+#[inline(always)]
+fn last_head(heads: &Heads, text: &[u8], last: usize, place: usize) -> usize
+    requires spread { AreSpread heads.now }
+    requires last { last + 17 ≡ length text.now }
+    requires place { (last ≤ place) × (place ≤ length text.now) }
+    ensures inside { (place ≤ result) × (result ≤ length text.now) }
+    ensures none { NoneBegin heads.now text.now place result }
+{
+    let passed = place - last;
+    if passed >= LANES {
+        return place;
+    }
+    let found = marks_at(heads, text, last) >> passed;
     if found == 0 {
-        LANES
+        last + LANES
     } else {
-        found.trailing_zeros() as usize
+        place + found.trailing_zeros() as usize
     }
 }
 
@@ -198,18 +216,17 @@ pub fn next_head(heads: &Heads, text: &[u8], from: usize) -> usize
     ensures inside { (from ≤ result) × (result ≤ length text.now) }
     ensures none { NoneBegin heads.now text.now from result }
 {
-    if !heads.is_exact {
+    if text.len() <= LANES {
         return from;
     }
+    let last = text.len() - LANES - 1;
     let mut place = from;
-    while text.len() - place > LANES {
-        let bytes = u8x16::from_slice(&text[place..]);
-        let behind = u8x16::from_slice(&text[place + 1..]);
-        let before = places_before(bytes, behind, heads);
-        if before < LANES {
-            return place + before;
+    while place <= last {
+        let found = marks_at(heads, text, place);
+        if found != 0 {
+            return place + found.trailing_zeros() as usize;
         }
         place += LANES;
     }
-    place
+    last_head(heads, text, last, place)
 }

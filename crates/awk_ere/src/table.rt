@@ -5,7 +5,7 @@ ghost use Rattle.awk_ere.specs.Table.{AllLead, IsAt, IsLongest, EndsSomewhere, N
 ghost use Rattle.awk_ere.specs.declared.program.Step.TheVariants.{AtStart, Done};
 
 use crate::bracket::Set;
-use crate::heads::{is_open, next_head};
+use crate::heads::{Heads, LANES, is_open, next_head};
 use crate::program::Step;
 use crate::states::{Begin, DEAD, Table};
 
@@ -119,6 +119,9 @@ fn ends_somewhere(
         if next == state {
             place = stays_to(row, cell, text, place + 1);
         } else {
+            if cell == DEAD {
+                return Some(false);
+            }
             if next >= cells.len() {
                 return None;
             }
@@ -136,6 +139,9 @@ const BUDGET: usize = 4;
 
 /// How many bytes may be looked at so before it is asked whether there is any match.
 const FIRST_BUDGET: usize = 64;
+
+/// How many starts are tried before it is asked whether there is any match, where they are told by their bytes.
+const TRIES: usize = 4;
 
 /// What a search by the table gives.
 #[derive(Drop)]
@@ -244,8 +250,8 @@ fn is_later(table: &Table, place: usize) -> bool
     place > 0 || table.entry.first == table.entry.later
 }
 
-/// The first place, from this one on, where a match may start.
-fn next_start(
+/// The first place, from this one on, where a match may start, by the byte there.
+fn next_by_row(
     sets: &[Set],
     program: &[Step],
     table: &Table,
@@ -266,8 +272,56 @@ fn next_start(
     if !is_open(cells, accepts, first) {
         return from;
     }
+    stays_to(&cells[first], DEAD, text, from)
+}
+
+/// The first place, from this one on, where a match may start, by the byte there and the one behind it.
+fn next_by_heads(
+    sets: &[Set],
+    program: &[Step],
+    table: &Table,
+    entry: usize,
+    scan: usize,
+    text: &[u8],
+    from: usize,
+) -> usize
+    requires entry { entry < length program.now }
+    requires built { IsBuilt sets.now program.now entry scan table.now }
+    requires later { 0 < from ⊎ table.now.entry.first ≡ table.now.entry.later }
+    requires from { from ≤ length text.now }
+    ensures inside { (from ≤ result) × (result ≤ length text.now) }
+    ensures none { NoneTo sets.now program.now text.now entry from result }
+{
     let place = next_head(&table.heads, text, from);
-    stays_to(&cells[first], DEAD, text, place)
+    if place + LANES < text.len() {
+        place
+    } else {
+        next_by_row(sets, program, table, entry, scan, text, place)
+    }
+}
+
+/// The first place, from this one on, where a match may start.
+fn next_start(
+    sets: &[Set],
+    program: &[Step],
+    table: &Table,
+    entry: usize,
+    scan: usize,
+    text: &[u8],
+    from: usize,
+) -> usize
+    requires entry { entry < length program.now }
+    requires built { IsBuilt sets.now program.now entry scan table.now }
+    requires later { 0 < from ⊎ table.now.entry.first ≡ table.now.entry.later }
+    requires from { from ≤ length text.now }
+    ensures inside { (from ≤ result) × (result ≤ length text.now) }
+    ensures none { NoneTo sets.now program.now text.now entry from result }
+{
+    if table.heads.is_exact {
+        next_by_heads(sets, program, table, entry, scan, text, from)
+    } else {
+        next_by_row(sets, program, table, entry, scan, text, from)
+    }
 }
 
 /// The first place, from this one on, that is to be tried as a start.
@@ -294,6 +348,7 @@ fn first_start(
 }
 
 /// The best match from the text's end on.
+#[inline(never)]
 fn find_at_end(
     sets: &[Set],
     program: &[Step],
@@ -322,6 +377,7 @@ fn find_at_end(
 }
 
 /// The best match from the place on: each start in turn, as long as the budget lasts.
+#[inline(always)]
 fn leftmost(
     sets: &[Set],
     program: &[Step],
@@ -337,8 +393,12 @@ fn leftmost(
     requires from { from ≤ length text.now }
     ensures { IsSought sets.now program.now text.now entry from result }
 {
-    let mut start = first_start(sets, program, table, entry, scan, text, from);
-    while start < text.len() {
+    let mut at = from;
+    while at < text.len() {
+        let start = first_start(sets, program, table, entry, scan, text, at);
+        if start == text.len() {
+            return find_at_end(sets, program, table, entry, scan, text);
+        }
         if budget == 0 {
             return Sought::Left(start);
         }
@@ -347,7 +407,7 @@ fn leftmost(
             Some(Some(end)) => return Sought::Found(Some((start, end))),
             Some(None) => {}
         }
-        start = next_start(sets, program, table, entry, scan, text, start + 1);
+        at = start + 1;
     }
     find_at_end(sets, program, table, entry, scan, text)
 }
@@ -430,6 +490,80 @@ pub fn find(
     }
 }
 
+/// Whether a match starts at the place; `None` where the table does not say.
+fn is_start(
+    sets: &[Set],
+    program: &[Step],
+    table: &Table,
+    entry: usize,
+    scan: usize,
+    text: &[u8],
+    from: usize,
+) -> Option<bool>
+    requires entry { entry < length program.now }
+    requires built { IsBuilt sets.now program.now entry scan table.now }
+    requires from { from < length text.now }
+    ensures { IfSome result (λ b. IsTrue b ↔ EndsSomewhere sets.now program.now text.now entry from) }
+{
+    let first = state_at(table.entry, from);
+    if first >= table.cells.len() {
+        return None;
+    }
+    ends_somewhere(
+        sets,
+        program,
+        &table.cells,
+        &table.accepts,
+        &table.ends,
+        entry,
+        first,
+        text,
+        from,
+    )
+}
+
+/// Whether there is a match where each one starts at the text's start; `None` where the table does not say.
+fn has_anchored(
+    sets: &[Set],
+    program: &[Step],
+    table: &Table,
+    entry: usize,
+    scan: usize,
+    text: &[u8],
+) -> Option<bool>
+    requires anchored { (r : ℕ) × (slice_get program.now entry ≡ Some (AtStart r)) }
+    requires engine { (p : Pattern) × IsEngine sets.now program.now entry scan table.now p }
+    ensures { IfSome result (λ b. IsTrue b ↔ EndsSomewhere sets.now program.now text.now scan 0) }
+{
+    if text.is_empty() {
+        return None;
+    }
+    is_start(sets, program, table, entry, scan, text, 0)
+}
+
+/// Whether a match starts at the text's end; `None` where the table does not say.
+fn has_at_end(
+    sets: &[Set],
+    program: &[Step],
+    table: &Table,
+    entry: usize,
+    scan: usize,
+    text: &[u8],
+) -> Option<bool>
+    requires engine { (p : Pattern) × IsEngine sets.now program.now entry scan table.now p }
+    ensures { IfSome result (λ b. IsTrue b ↔ EndsSomewhere sets.now program.now text.now scan (length text.now)) }
+{
+    match find_at_end(sets, program, table, entry, scan, text) {
+        Sought::Found(found) => Some(found.is_some()),
+        Sought::Left(_) => None,
+    }
+}
+
+/// How many starts are tried first.
+fn tries(heads: &Heads) -> usize {
+    if heads.is_exact { TRIES } else { 0 }
+}
+
 /// Whether there is a match anywhere; `None` where the table does not say.
 pub fn has_match(
     sets: &[Set],
@@ -443,13 +577,20 @@ pub fn has_match(
     ensures { IfSome result (λ b. IsTrue b ↔ EndsSomewhere sets.now program.now text.now scan 0) }
 {
     if is_anchored(program, entry) {
-        return None;
+        return has_anchored(sets, program, table, entry, scan, text);
     }
-    if !table.heads.is_exact {
-        return somewhere(sets, program, table, entry, scan, text, 0);
+    let mut at = 0;
+    for tried in 0..tries(&table.heads) {
+        let start = first_start(sets, program, table, entry, scan, text, at);
+        if start == text.len() {
+            return has_at_end(sets, program, table, entry, scan, text);
+        }
+        match is_start(sets, program, table, entry, scan, text, start) {
+            None => return None,
+            Some(true) => return Some(true),
+            Some(false) => {}
+        }
+        at = start + 1;
     }
-    match leftmost(sets, program, table, entry, scan, text, 0, FIRST_BUDGET) {
-        Sought::Found(found) => Some(found.is_some()),
-        Sought::Left(start) => somewhere(sets, program, table, entry, scan, text, start),
-    }
+    somewhere(sets, program, table, entry, scan, text, at)
 }
