@@ -12,7 +12,7 @@ use Rattle.awk_ere.specs.declared.program.Step.TheVariants.{AtStart, Done}
 use Rattle.awk_ere.specs.declared.heads.Heads.{Heads}
 use Rattle.awk_ere.specs.declared.states.Begin.{Begin}
 use Rattle.awk_ere.specs.declared.table.Sought.{Sought}
-use Rattle.awk_ere.specs.declared.table.Sought.TheVariants.{Found, Left}
+use Rattle.awk_ere.specs.declared.table.Sought.TheVariants.{Match, NoMatch, Left}
 use Rattle.awk_ere.specs.declared.states.TheConstants.{UNKNOWN}
 use Rattle.awk_ere.proofs.Searching.{path_le, flat, stays, run_matches, matches_run}
 use Rattle.awk_ere.proofs.Tables.{only_one, leads_on, at_first, at_next, at_pass, at_dead, longest_begin}
@@ -103,7 +103,8 @@ module _ (sets : List (List Bool)) (program : List Step) (s : List ℕ) (e from 
   }
 
   pub sought_later : (k : ℕ) (r : Sought) → from ≤ k → NoneTo sets program s e from k → IsSought sets program s e k r → IsSought sets program s e from r
-  sought_later k (Found found) after none h = found_later k found after none h
+  sought_later k (Match i j) after none h = found_later k (Some (i, j)) after none h
+  sought_later k NoMatch after none h = found_later k None after none h
   sought_later k (Left at) after none h = (omega (arith, after, h.0), h.1, none_on k at none h.2)
 
 -- an empty match at the end of a text that is not empty

@@ -12,7 +12,7 @@ use Rattle.awk_ere.specs.declared.heads.Heads.{Heads}
 use Rattle.awk_ere.specs.declared.heads.Spread.{Spread}
 use Rattle.awk_ere.specs.declared.states.Begin.{Begin}
 use Rattle.awk_ere.specs.declared.table.Sought.{Sought}
-use Rattle.awk_ere.specs.declared.table.Sought.TheVariants.{Found, Left}
+use Rattle.awk_ere.specs.declared.table.Sought.TheVariants.{Match, NoMatch, Left}
 use Rattle.awk_ere.specs.declared.states.Table.{Table}
 
 -- the steps of a state
@@ -184,7 +184,8 @@ module _ (sets : List (List Bool)) (program : List Step) (s : List ℕ) where
 
   -- what is found is the best match, and before the start that is left none starts
   abbrev pub IsSought : ℕ → ℕ → Sought → Type 0
-  IsSought e from (Found found) = Finds sets program s e from found
+  IsSought e from (Match i j) = Finds sets program s e from (Some (i, j))
+  IsSought e from NoMatch = Finds sets program s e from None
   IsSought e from (Left k) = (from ≤ k) × (k ≤ length s) × NoneTo e from k
 
 -- p after any bytes

@@ -146,8 +146,9 @@ const TRIES: usize = 4;
 /// What a search by the table gives.
 #[derive(Drop)]
 pub enum Sought {
-    /// The best match, or that there is none.
-    Found(Option<(usize, usize)>),
+    /// The best match, from its start to its end.
+    Match(usize, usize),
+    NoMatch,
     /// No match starts before this place; the table says no more.
     Left(usize),
 }
@@ -370,9 +371,9 @@ fn find_at_end(
         return Sought::Left(end);
     }
     if ends[state] {
-        Sought::Found(Some((end, end)))
+        Sought::Match(end, end)
     } else {
-        Sought::Found(None)
+        Sought::NoMatch
     }
 }
 
@@ -404,7 +405,7 @@ fn leftmost(
         }
         match longest_at(sets, program, table, entry, scan, text, start, &mut budget) {
             None => return Sought::Left(start),
-            Some(Some(end)) => return Sought::Found(Some((start, end))),
+            Some(Some(end)) => return Sought::Match(start, end),
             Some(None) => {}
         }
         at = start + 1;
@@ -430,7 +431,7 @@ fn find_anchored(
     ensures { IsSought sets.now program.now text.now entry from result }
 {
     if from > 0 {
-        return Sought::Found(None);
+        return Sought::NoMatch;
     }
     if text.is_empty() {
         return Sought::Left(0);
@@ -438,8 +439,8 @@ fn find_anchored(
     let mut budget = 0;
     match longest_at(sets, program, table, entry, scan, text, 0, &mut budget) {
         None => Sought::Left(0),
-        Some(Some(end)) => Sought::Found(Some((0, end))),
-        Some(None) => Sought::Found(None),
+        Some(Some(end)) => Sought::Match(0, end),
+        Some(None) => Sought::NoMatch,
     }
 }
 
@@ -459,7 +460,7 @@ fn find_on(
     ensures { IsSought sets.now program.now text.now entry from result }
 {
     match somewhere(sets, program, table, entry, scan, text, from) {
-        Some(false) => Sought::Found(None),
+        Some(false) => Sought::NoMatch,
         Some(true) | None => {
             let budget = text.len().saturating_mul(BUDGET);
             leftmost(sets, program, table, entry, scan, text, from, budget)
@@ -485,7 +486,8 @@ pub fn find(
         return find_anchored(sets, program, table, entry, scan, text, from);
     }
     match leftmost(sets, program, table, entry, scan, text, from, FIRST_BUDGET) {
-        Sought::Found(near) => Sought::Found(near),
+        Sought::Match(start, end) => Sought::Match(start, end),
+        Sought::NoMatch => Sought::NoMatch,
         Sought::Left(start) => find_on(sets, program, table, entry, scan, text, start),
     }
 }
@@ -554,7 +556,8 @@ fn has_at_end(
     ensures { IfSome result (λ b. IsTrue b ↔ EndsSomewhere sets.now program.now text.now scan (length text.now)) }
 {
     match find_at_end(sets, program, table, entry, scan, text) {
-        Sought::Found(found) => Some(found.is_some()),
+        Sought::Match(_, _) => Some(true),
+        Sought::NoMatch => Some(false),
         Sought::Left(_) => None,
     }
 }
