@@ -72,8 +72,12 @@ fn stays_to(row: &[u8; 256], state: u8, text: &[u8], from: usize) -> usize
     ensures all { AllLead row.now text.now state from result }
     ensures next { result < length text.now → slice_index row.now (slice_index text.now result) ≢ state }
 {
+    if text.len() < 4 {
+        return stays_one_by_one(row, state, text, from);
+    }
+    let last = text.len() - 4;
     let mut place = from;
-    while text.len() - place >= 4 {
+    while place <= last {
         if row[text[place] as usize] != state {
             return place;
         }
@@ -378,7 +382,6 @@ fn find_at_end(
 }
 
 /// The best match from the place on: each start in turn, as long as the budget lasts.
-#[inline(always)]
 fn leftmost(
     sets: &[Set],
     program: &[Step],
@@ -414,6 +417,7 @@ fn leftmost(
 }
 
 /// The best match where each one starts at the text's start.
+#[inline(never)]
 fn find_anchored(
     sets: &[Set],
     program: &[Step],
@@ -468,7 +472,29 @@ fn find_on(
     }
 }
 
-/// The best match from the place on.
+/// The best match from the place on, where a start before it has failed.
+#[inline(never)]
+fn find_later(
+    sets: &[Set],
+    program: &[Step],
+    table: &Table,
+    entry: usize,
+    scan: usize,
+    text: &[u8],
+    from: usize,
+) -> Sought
+    requires engine { (p : Pattern) × IsEngine sets.now program.now entry scan table.now p }
+    requires from { from ≤ length text.now }
+    ensures { IsSought sets.now program.now text.now entry from result }
+{
+    match leftmost(sets, program, table, entry, scan, text, from, FIRST_BUDGET) {
+        Sought::Match(start, end) => Sought::Match(start, end),
+        Sought::NoMatch => Sought::NoMatch,
+        Sought::Left(start) => find_on(sets, program, table, entry, scan, text, start),
+    }
+}
+
+/// The best match from the place on. The first start mostly is one, and then nothing else is needed.
 pub fn find(
     sets: &[Set],
     program: &[Step],
@@ -485,10 +511,15 @@ pub fn find(
     if is_anchored(program, entry) {
         return find_anchored(sets, program, table, entry, scan, text, from);
     }
-    match leftmost(sets, program, table, entry, scan, text, from, FIRST_BUDGET) {
-        Sought::Match(start, end) => Sought::Match(start, end),
-        Sought::NoMatch => Sought::NoMatch,
-        Sought::Left(start) => find_on(sets, program, table, entry, scan, text, start),
+    let start = first_start(sets, program, table, entry, scan, text, from);
+    if start == text.len() {
+        return find_at_end(sets, program, table, entry, scan, text);
+    }
+    let mut budget = 0;
+    match longest_at(sets, program, table, entry, scan, text, start, &mut budget) {
+        None => Sought::Left(start),
+        Some(Some(end)) => Sought::Match(start, end),
+        Some(None) => find_later(sets, program, table, entry, scan, text, start + 1),
     }
 }
 
