@@ -16,6 +16,7 @@ pub mod Machines
 pub mod Unique
 pub mod Alone
 pub mod Tables
+pub mod Beginnings
 pub mod Gathering
 pub mod Seeking
 pub mod Literals

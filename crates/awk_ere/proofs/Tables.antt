@@ -77,7 +77,7 @@ module _ (sets : List (List Bool)) (program : List Step) (s : List ℕ) (e i : �
   skips_more first last q r (at_start h f) = at_start h f
   skips_more first last q r (at_end h f) = absurd (cc)
 
-  leads_on : (last : Bool) (n q p r : ℕ) → SkipPath program false false n q p → LeadsTo program false last p r → LeadsTo program false last q r
+  pub leads_on : (last : Bool) (n q p r : ℕ) → SkipPath program false false n q p → LeadsTo program false last p r → LeadsTo program false last q r
   leads_on last zero q p r is leads = subst (λ x. LeadsTo program false last x r) (sym is) leads
   leads_on last (suc n) q p r (x, skip, path) leads = let y = leads_on last n x p r path leads in (suc y.0, (x, skips_more false last q x skip, y.1))
 
@@ -217,6 +217,10 @@ module _ (sets : List (List Bool)) (program : List Step) (s : List ℕ) (cells :
       (at_row sets program s cells accepts ends e i k state at le lt (small k) row is state (sym (all k (omega arith) before)) at.2)
       (at_pass sets program s cells accepts ends e i k state at le lt quiet none)
 
+pub only_one : (a r : ℕ) → Contains (a ∷ []) r → a ≡ r
+only_one a r (zero, lt, is) = is
+only_one a r (suc k, lt, is) = absurd (omega arith)
+
 -- where a search begins
 pub at_first : (sets : List (List Bool)) (program : List Step) (s : List ℕ) (e i : ℕ) (T : List ℕ) → e < length program → IsLed program (i == 0) false (e ∷ []) T → IsFront sets program s e i i T
 at_first sets program s e i T inside led = record {
@@ -225,7 +229,4 @@ at_first sets program s e i T inside led = record {
     | inl here ↦ led.complete e p inside (0, omega arith, refl) here.1
     | inr there ↦ absurd (omega (arith, there.3, path_le sets program s there.4.0 e i there.0 there.2 there.4.1))
   ];
-} where
-  only_one : (a r : ℕ) → Contains (a ∷ []) r → a ≡ r
-  only_one a r (zero, lt, is) = is
-  only_one a r (suc k, lt, is) = absurd (omega arith)
+}

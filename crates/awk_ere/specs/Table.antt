@@ -1,14 +1,18 @@
 -- A table over sets of steps: a state is the steps that a place is reached at, and a cell the state after a byte.
-use Rattle.std.specs.Prelude.{◌≡◌, ◌==◌, ◌↔◌, ℕ, ◌+◌, ◌<◌, ◌≤◌, ◌⊎◌, Bool, true, false, List, [], ◌∷◌, ◌++◌, length, Option, Some, None, slice_index, slice_index_or, Contains}
+use Rattle.std.specs.Prelude.{◌≡◌, ◌==◌, ◌↔◌, ℕ, ◌+◌, ◌<◌, ◌≤◌, ◌⊎◌, Bool, true, false, List, [], ◌∷◌, ◌++◌, ◌&&◌, length, replicate, Option, Some, None, slice_index, slice_index_or, Contains}
+use Rattle.std.specs.Simd.Lanes.{zip2, chunk}
 use Rattle.awk_ere.specs.Program.{Eats}
 use Rattle.awk_ere.specs.Search.{mark, IsClosed, Takes, LeadsTo, Goes, Finds, IsMachine}
 use Rattle.awk_ere.specs.Pattern.{Pattern, bytes, cat, repeat}
 use Rattle.awk_ere.specs.declared.program.Step.{Step}
 use Rattle.awk_ere.specs.declared.states.TheConstants.{UNKNOWN}
 use Rattle.awk_ere.specs.declared.search.TheConstants.{NONE}
+use Rattle.awk_ere.specs.Bracket.{Range, in_range}
+use Rattle.awk_ere.specs.declared.heads.Heads.{Heads}
+use Rattle.awk_ere.specs.declared.heads.Spread.{Spread}
 use Rattle.awk_ere.specs.declared.states.Begin.{Begin}
 use Rattle.awk_ere.specs.declared.table.Sought.{Sought}
-use Rattle.awk_ere.specs.declared.table.Sought.TheVariants.{Found, Left}
+use Rattle.awk_ere.specs.declared.table.Sought.TheVariants.{Match, NoMatch, Left}
 use Rattle.awk_ere.specs.declared.states.Table.{Table}
 
 -- the steps of a state
@@ -108,12 +112,45 @@ IsDead lists = (0 < length lists) × (steps_of lists 0 ≡ [])
 abbrev pub IsBegin : List Step → ℕ → List (List ℕ) → Begin → Type 0
 IsBegin program entry lists r = IsFirst program true entry lists r.first × IsFirst program false entry lists r.later
 
+-- the range has the byte
+abbrev pub IsIn : Range → ℕ → Type 0
+IsIn r b = (r.0 ≤ b) × (b ≤ r.1)
+
+-- a match may begin with these two bytes
+abbrev pub begins : Heads → ℕ → ℕ → Bool
+begins h b c = in_range b h.first && in_range c h.second
+
+-- the ends of the range, sixteen times
+abbrev pub IsSpread : Range → Spread → Type 0
+IsSpread r s = (s.low ≡ replicate 16 r.0) × (s.high ≡ replicate 16 r.1)
+
+abbrev pub AreSpread : Heads → Type 0
+AreSpread h = IsSpread h.first h.first_spread × IsSpread h.second h.second_spread
+
+-- from the state q the byte leads to no match, and none ends there
+abbrev pub Stops : List (List ℕ) → List Bool → ℕ → ℕ → Type 0
+Stops cells accepts q c = (q ≡ 0) ⊎ ((q < length cells) × (slice_index_or accepts q false ≡ false) × (cell cells q c ≡ 0))
+
+-- a match that begins in the state q, with two bytes or more, begins with two of the ranges
+abbrev pub AreHeads : List (List ℕ) → List Bool → ℕ → Heads → Type 0
+AreHeads cells accepts q h = (b c : ℕ) → b < 256 → c < 256 → (begins h b c ≡ true) ⊎ ((q < length cells) × (slice_index_or accepts q false ≡ false) × Stops cells accepts (cell cells q b) c)
+
+-- at which of the sixteen places from k on a match may begin
+abbrev pub marks_of : Heads → List ℕ → ℕ → List Bool
+marks_of h s k = zip2 (begins h) (chunk k 16 s) (chunk (k + 1) 16 s)
+
+-- up to `to` a match may begin with no byte and the one behind it
+abbrev pub NoneBegin : Heads → List ℕ → ℕ → ℕ → Type 0
+NoneBegin h s from to = (k : ℕ) → from ≤ k → k < to → (k + 1 < length s) × (begins h (slice_index s k) (slice_index s (k + 1)) ≡ false)
+
 -- the table of a program, for searches from two of its steps
 pub record IsBuilt (sets : List (List Bool)) (program : List Step) (entry scan : ℕ) (t : Table) : Type 0 where
   pub lists : List (List ℕ)
   pub table : IsTable sets program lists t.cells.items t.accepts.items t.ends.items
   pub entries : IsBegin program entry lists t.entry
   pub scans : IsBegin program scan lists t.scan
+  pub heads : AreHeads t.cells.items t.accepts.items t.entry.later t.heads
+  pub spread : AreSpread t.heads
 
 module _ (sets : List (List Bool)) (program : List Step) (s : List ℕ) where
   -- p is reached at the place k from e at i, where the end of the text is not looked at
@@ -147,7 +184,8 @@ module _ (sets : List (List Bool)) (program : List Step) (s : List ℕ) where
 
   -- what is found is the best match, and before the start that is left none starts
   abbrev pub IsSought : ℕ → ℕ → Sought → Type 0
-  IsSought e from (Found found) = Finds sets program s e from found
+  IsSought e from (Match i j) = Finds sets program s e from (Some (i, j))
+  IsSought e from NoMatch = Finds sets program s e from None
   IsSought e from (Left k) = (from ≤ k) × (k ≤ length s) × NoneTo e from k
 
 -- p after any bytes

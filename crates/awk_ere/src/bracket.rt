@@ -11,7 +11,7 @@ use crate::escape::escape;
 pub type Set = [bool; 256];
 
 /// The first and the last byte of a range.
-type Range = (u8, u8);
+pub type Range = (u8, u8);
 
 /// The ranges of a class of ASCII characters; `None` where the name is none.
 #[tactic(auto, unfolding(crate::specs::Bracket::class_ranges))]

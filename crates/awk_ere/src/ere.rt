@@ -105,7 +105,8 @@ impl Ere {
             text,
             from,
         ) {
-            Sought::Found(found) => Ok(found),
+            Sought::Match(start, end) => Ok(Some((start, end))),
+            Sought::NoMatch => Ok(None),
             Sought::Left(start) => {
                 let alloc = *self.program.allocator();
                 let found = search(alloc, &self.sets, &self.program, text, self.entry, start)?;

@@ -7,6 +7,7 @@ pub mod ere;
 pub mod error;
 mod escape;
 mod front;
+mod heads;
 mod interval;
 pub mod laws;
 mod literal;

@@ -271,7 +271,8 @@ fn turn(
     Ok(found)
 }
 
-/// The best run of the program that starts at `from` or later.
+/// The best run of the program that starts at `from` or later. Seldom needed, so it stands out of line.
+#[inline(never)]
 pub fn search(
     alloc: Global,
     sets: &[Set],

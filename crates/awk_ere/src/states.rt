@@ -6,6 +6,7 @@ ghost use Rattle.awk_ere.specs.Search.{mark, target_of, IsListed, IsBlank, IsClo
 ghost use Rattle.awk_ere.specs.Table.{steps_of, Gains, LeadsMore, IsLed, AreLed, AreMarked, AreTargets, Later, IsNumber, IsKnown, AreEdges, AreRows, AreFlags, EndsAtLast, IsFirst, IsBegin, IsDead, IsBuilt};
 
 use crate::bracket::Set;
+use crate::heads::{Heads, any_heads, make_heads};
 use crate::program::Step;
 use crate::search::{NONE, reach, target};
 use std::alloc::{AllocError, Global};
@@ -478,6 +479,8 @@ pub struct Table {
     pub ends: Vec<bool>,
     pub entry: Begin,
     pub scan: Begin,
+    /// What a match that starts later begins with.
+    pub heads: Heads,
 }
 
 /// A table that says nothing.
@@ -494,6 +497,7 @@ fn blank(alloc: Global, sets: &[Set], program: &[Step], entry: usize, scan: usiz
         ends: Vec::new(alloc),
         entry: begin,
         scan: begin,
+        heads: any_heads(),
     }
 }
 
@@ -533,12 +537,14 @@ fn with_rows(
     let cells = rows(alloc, sets, program, &edges, room, &mut lists)?;
     let accepts = accepting(alloc, &lists, cells.len())?;
     let ends = ending(alloc, program, &lists, cells.len())?;
+    let heads = make_heads(&cells, &accepts, begins.0.later);
     Ok(Table {
         cells,
         accepts,
         ends,
         entry: begins.0,
         scan: begins.1,
+        heads,
     })
 }
 

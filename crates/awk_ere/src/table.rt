@@ -1,10 +1,11 @@
 // The search by a table.
-ghost use Rattle.std.specs.Prelude.{◌≡◌, ◌≢◌, ◌==◌, ◌↔◌, ◌+◌, ◌<◌, ◌≤◌, ℕ, length, Some, true, IfSome, IsTrue, slice_get, slice_index, if◌then◌else◌};
+ghost use Rattle.std.specs.Prelude.{◌≡◌, ◌≢◌, ◌==◌, ◌↔◌, ◌+◌, ◌<◌, ◌≤◌, ◌⊎◌, ℕ, length, Some, true, IfSome, IsTrue, slice_get, slice_index, if◌then◌else◌};
 ghost use Rattle.awk_ere.specs.Pattern.{Pattern};
 ghost use Rattle.awk_ere.specs.Table.{AllLead, IsAt, IsLongest, EndsSomewhere, NoneTo, IsBuilt, IsSought, IsEngine};
 ghost use Rattle.awk_ere.specs.declared.program.Step.TheVariants.{AtStart, Done};
 
 use crate::bracket::Set;
+use crate::heads::{Heads, LANES, is_open, next_head};
 use crate::program::Step;
 use crate::states::{Begin, DEAD, Table};
 
@@ -71,8 +72,12 @@ fn stays_to(row: &[u8; 256], state: u8, text: &[u8], from: usize) -> usize
     ensures all { AllLead row.now text.now state from result }
     ensures next { result < length text.now → slice_index row.now (slice_index text.now result) ≢ state }
 {
+    if text.len() < 4 {
+        return stays_one_by_one(row, state, text, from);
+    }
+    let last = text.len() - 4;
     let mut place = from;
-    while text.len() - place >= 4 {
+    while place <= last {
         if row[text[place] as usize] != state {
             return place;
         }
@@ -118,6 +123,9 @@ fn ends_somewhere(
         if next == state {
             place = stays_to(row, cell, text, place + 1);
         } else {
+            if cell == DEAD {
+                return Some(false);
+            }
             if next >= cells.len() {
                 return None;
             }
@@ -136,11 +144,15 @@ const BUDGET: usize = 4;
 /// How many bytes may be looked at so before it is asked whether there is any match.
 const FIRST_BUDGET: usize = 64;
 
+/// How many starts are tried before it is asked whether there is any match, where they are told by their bytes.
+const TRIES: usize = 4;
+
 /// What a search by the table gives.
 #[derive(Drop)]
 pub enum Sought {
-    /// The best match, or that there is none.
-    Found(Option<(usize, usize)>),
+    /// The best match, from its start to its end.
+    Match(usize, usize),
+    NoMatch,
     /// No match starts before this place; the table says no more.
     Left(usize),
 }
@@ -236,7 +248,64 @@ fn is_anchored(program: &[Step], entry: usize) -> bool
     }
 }
 
-/// The first place, from this one on, where a match may start. The text's start is none of these.
+/// Whether what the table says of later starts holds at the place.
+fn is_later(table: &Table, place: usize) -> bool
+    ensures { IsTrue result → 0 < place ⊎ table.now.entry.first ≡ table.now.entry.later }
+{
+    place > 0 || table.entry.first == table.entry.later
+}
+
+/// The first place, from this one on, where a match may start, by the byte there.
+fn next_by_row(
+    sets: &[Set],
+    program: &[Step],
+    table: &Table,
+    entry: usize,
+    scan: usize,
+    text: &[u8],
+    from: usize,
+) -> usize
+    requires entry { entry < length program.now }
+    requires built { IsBuilt sets.now program.now entry scan table.now }
+    requires later { 0 < from ⊎ table.now.entry.first ≡ table.now.entry.later }
+    requires from { from ≤ length text.now }
+    ensures inside { (from ≤ result) × (result ≤ length text.now) }
+    ensures none { NoneTo sets.now program.now text.now entry from result }
+{
+    let (cells, accepts) = (table.cells.as_slice(), table.accepts.as_slice());
+    let first = table.entry.later as usize;
+    if !is_open(cells, accepts, first) {
+        return from;
+    }
+    stays_to(&cells[first], DEAD, text, from)
+}
+
+/// The first place, from this one on, where a match may start, by the byte there and the one behind it.
+fn next_by_heads(
+    sets: &[Set],
+    program: &[Step],
+    table: &Table,
+    entry: usize,
+    scan: usize,
+    text: &[u8],
+    from: usize,
+) -> usize
+    requires entry { entry < length program.now }
+    requires built { IsBuilt sets.now program.now entry scan table.now }
+    requires later { 0 < from ⊎ table.now.entry.first ≡ table.now.entry.later }
+    requires from { from ≤ length text.now }
+    ensures inside { (from ≤ result) × (result ≤ length text.now) }
+    ensures none { NoneTo sets.now program.now text.now entry from result }
+{
+    let place = next_head(&table.heads, text, from);
+    if place + LANES < text.len() {
+        place
+    } else {
+        next_by_row(sets, program, table, entry, scan, text, place)
+    }
+}
+
+/// The first place, from this one on, where a match may start.
 fn next_start(
     sets: &[Set],
     program: &[Step],
@@ -248,17 +317,68 @@ fn next_start(
 ) -> usize
     requires entry { entry < length program.now }
     requires built { IsBuilt sets.now program.now entry scan table.now }
-    requires later { 0 < from }
+    requires later { 0 < from ⊎ table.now.entry.first ≡ table.now.entry.later }
     requires from { from ≤ length text.now }
     ensures inside { (from ≤ result) × (result ≤ length text.now) }
     ensures none { NoneTo sets.now program.now text.now entry from result }
 {
-    let (cells, accepts) = (table.cells.as_slice(), table.accepts.as_slice());
-    let first = table.entry.later as usize;
-    if first >= cells.len() || accepts[first] {
-        return from;
+    if table.heads.is_exact {
+        next_by_heads(sets, program, table, entry, scan, text, from)
+    } else {
+        next_by_row(sets, program, table, entry, scan, text, from)
     }
-    stays_to(&cells[first], DEAD, text, from)
+}
+
+/// The first place, from this one on, that is to be tried as a start.
+fn first_start(
+    sets: &[Set],
+    program: &[Step],
+    table: &Table,
+    entry: usize,
+    scan: usize,
+    text: &[u8],
+    from: usize,
+) -> usize
+    requires entry { entry < length program.now }
+    requires built { IsBuilt sets.now program.now entry scan table.now }
+    requires from { from ≤ length text.now }
+    ensures inside { (from ≤ result) × (result ≤ length text.now) }
+    ensures none { NoneTo sets.now program.now text.now entry from result }
+{
+    if is_later(table, from) {
+        next_start(sets, program, table, entry, scan, text, from)
+    } else {
+        from
+    }
+}
+
+/// The best match from the text's end on.
+#[inline(never)]
+fn find_at_end(
+    sets: &[Set],
+    program: &[Step],
+    table: &Table,
+    entry: usize,
+    scan: usize,
+    text: &[u8],
+) -> Sought
+    requires entry { entry < length program.now }
+    requires built { IsBuilt sets.now program.now entry scan table.now }
+    ensures { IsSought sets.now program.now text.now entry (length text.now) result }
+{
+    let (end, state) = (text.len(), table.entry.later as usize);
+    if end == 0 {
+        return Sought::Left(0);
+    }
+    let ends = table.ends.as_slice();
+    if state >= ends.len() {
+        return Sought::Left(end);
+    }
+    if ends[state] {
+        Sought::Match(end, end)
+    } else {
+        Sought::NoMatch
+    }
 }
 
 /// The best match from the place on: each start in turn, as long as the budget lasts.
@@ -277,22 +397,27 @@ fn leftmost(
     requires from { from ≤ length text.now }
     ensures { IsSought sets.now program.now text.now entry from result }
 {
-    let mut start = from;
-    while start < text.len() {
+    let mut at = from;
+    while at < text.len() {
+        let start = first_start(sets, program, table, entry, scan, text, at);
+        if start == text.len() {
+            return find_at_end(sets, program, table, entry, scan, text);
+        }
         if budget == 0 {
             return Sought::Left(start);
         }
         match longest_at(sets, program, table, entry, scan, text, start, &mut budget) {
             None => return Sought::Left(start),
-            Some(Some(end)) => return Sought::Found(Some((start, end))),
+            Some(Some(end)) => return Sought::Match(start, end),
             Some(None) => {}
         }
-        start = next_start(sets, program, table, entry, scan, text, start + 1);
+        at = start + 1;
     }
-    Sought::Left(text.len())
+    find_at_end(sets, program, table, entry, scan, text)
 }
 
 /// The best match where each one starts at the text's start.
+#[inline(never)]
 fn find_anchored(
     sets: &[Set],
     program: &[Step],
@@ -310,7 +435,7 @@ fn find_anchored(
     ensures { IsSought sets.now program.now text.now entry from result }
 {
     if from > 0 {
-        return Sought::Found(None);
+        return Sought::NoMatch;
     }
     if text.is_empty() {
         return Sought::Left(0);
@@ -318,12 +443,58 @@ fn find_anchored(
     let mut budget = 0;
     match longest_at(sets, program, table, entry, scan, text, 0, &mut budget) {
         None => Sought::Left(0),
-        Some(Some(end)) => Sought::Found(Some((0, end))),
-        Some(None) => Sought::Found(None),
+        Some(Some(end)) => Sought::Match(0, end),
+        Some(None) => Sought::NoMatch,
     }
 }
 
-/// The best match from the place on.
+/// The best match from the place on, where it is asked first whether there is any.
+#[inline(never)]
+fn find_on(
+    sets: &[Set],
+    program: &[Step],
+    table: &Table,
+    entry: usize,
+    scan: usize,
+    text: &[u8],
+    from: usize,
+) -> Sought
+    requires engine { (p : Pattern) × IsEngine sets.now program.now entry scan table.now p }
+    requires from { from ≤ length text.now }
+    ensures { IsSought sets.now program.now text.now entry from result }
+{
+    match somewhere(sets, program, table, entry, scan, text, from) {
+        Some(false) => Sought::NoMatch,
+        Some(true) | None => {
+            let budget = text.len().saturating_mul(BUDGET);
+            leftmost(sets, program, table, entry, scan, text, from, budget)
+        }
+    }
+}
+
+/// The best match from the place on, where a start before it has failed.
+#[inline(never)]
+fn find_later(
+    sets: &[Set],
+    program: &[Step],
+    table: &Table,
+    entry: usize,
+    scan: usize,
+    text: &[u8],
+    from: usize,
+) -> Sought
+    requires engine { (p : Pattern) × IsEngine sets.now program.now entry scan table.now p }
+    requires from { from ≤ length text.now }
+    ensures { IsSought sets.now program.now text.now entry from result }
+{
+    match leftmost(sets, program, table, entry, scan, text, from, FIRST_BUDGET) {
+        Sought::Match(start, end) => Sought::Match(start, end),
+        Sought::NoMatch => Sought::NoMatch,
+        Sought::Left(start) => find_on(sets, program, table, entry, scan, text, start),
+    }
+}
+
+/// The best match from the place on. The first start mostly is one, and then nothing else is needed.
 pub fn find(
     sets: &[Set],
     program: &[Step],
@@ -340,25 +511,91 @@ pub fn find(
     if is_anchored(program, entry) {
         return find_anchored(sets, program, table, entry, scan, text, from);
     }
-    if let Sought::Found(near) = leftmost(
+    let start = first_start(sets, program, table, entry, scan, text, from);
+    if start == text.len() {
+        return find_at_end(sets, program, table, entry, scan, text);
+    }
+    let mut budget = 0;
+    match longest_at(sets, program, table, entry, scan, text, start, &mut budget) {
+        None => Sought::Left(start),
+        Some(Some(end)) => Sought::Match(start, end),
+        Some(None) => find_later(sets, program, table, entry, scan, text, start + 1),
+    }
+}
+
+/// Whether a match starts at the place; `None` where the table does not say.
+fn is_start(
+    sets: &[Set],
+    program: &[Step],
+    table: &Table,
+    entry: usize,
+    scan: usize,
+    text: &[u8],
+    from: usize,
+) -> Option<bool>
+    requires entry { entry < length program.now }
+    requires built { IsBuilt sets.now program.now entry scan table.now }
+    requires from { from < length text.now }
+    ensures { IfSome result (λ b. IsTrue b ↔ EndsSomewhere sets.now program.now text.now entry from) }
+{
+    let first = state_at(table.entry, from);
+    if first >= table.cells.len() {
+        return None;
+    }
+    ends_somewhere(
         sets,
         program,
-        table,
+        &table.cells,
+        &table.accepts,
+        &table.ends,
         entry,
-        scan,
+        first,
         text,
         from,
-        FIRST_BUDGET,
-    ) {
-        return Sought::Found(near);
+    )
+}
+
+/// Whether there is a match where each one starts at the text's start; `None` where the table does not say.
+fn has_anchored(
+    sets: &[Set],
+    program: &[Step],
+    table: &Table,
+    entry: usize,
+    scan: usize,
+    text: &[u8],
+) -> Option<bool>
+    requires anchored { (r : ℕ) × (slice_get program.now entry ≡ Some (AtStart r)) }
+    requires engine { (p : Pattern) × IsEngine sets.now program.now entry scan table.now p }
+    ensures { IfSome result (λ b. IsTrue b ↔ EndsSomewhere sets.now program.now text.now scan 0) }
+{
+    if text.is_empty() {
+        return None;
     }
-    match somewhere(sets, program, table, entry, scan, text, from) {
-        Some(false) => Sought::Found(None),
-        Some(true) | None => {
-            let budget = text.len().saturating_mul(BUDGET);
-            leftmost(sets, program, table, entry, scan, text, from, budget)
-        }
+    is_start(sets, program, table, entry, scan, text, 0)
+}
+
+/// Whether a match starts at the text's end; `None` where the table does not say.
+fn has_at_end(
+    sets: &[Set],
+    program: &[Step],
+    table: &Table,
+    entry: usize,
+    scan: usize,
+    text: &[u8],
+) -> Option<bool>
+    requires engine { (p : Pattern) × IsEngine sets.now program.now entry scan table.now p }
+    ensures { IfSome result (λ b. IsTrue b ↔ EndsSomewhere sets.now program.now text.now scan (length text.now)) }
+{
+    match find_at_end(sets, program, table, entry, scan, text) {
+        Sought::Match(_, _) => Some(true),
+        Sought::NoMatch => Some(false),
+        Sought::Left(_) => None,
     }
+}
+
+/// How many starts are tried first.
+fn tries(heads: &Heads) -> usize {
+    if heads.is_exact { TRIES } else { 0 }
 }
 
 /// Whether there is a match anywhere; `None` where the table does not say.
@@ -374,7 +611,20 @@ pub fn has_match(
     ensures { IfSome result (λ b. IsTrue b ↔ EndsSomewhere sets.now program.now text.now scan 0) }
 {
     if is_anchored(program, entry) {
-        return None;
+        return has_anchored(sets, program, table, entry, scan, text);
     }
-    somewhere(sets, program, table, entry, scan, text, 0)
+    let mut at = 0;
+    for tried in 0..tries(&table.heads) {
+        let start = first_start(sets, program, table, entry, scan, text, at);
+        if start == text.len() {
+            return has_at_end(sets, program, table, entry, scan, text);
+        }
+        match is_start(sets, program, table, entry, scan, text, start) {
+            None => return None,
+            Some(true) => return Some(true),
+            Some(false) => {}
+        }
+        at = start + 1;
+    }
+    somewhere(sets, program, table, entry, scan, text, at)
 }

@@ -12,4 +12,6 @@ returns c =
           (rw c.deref.ensures.value at c.in_ok-accepts.ensures) (rw (m, c.deref-2.ensures.value) at c.in_ok-ends.ensures);
       entries = begin_later _ _ _ _ _ c.in_ok-cells.ensures.later c.requires.entry;
       scans = begin_later _ _ _ _ _ c.in_ok-cells.ensures.later c.requires.scan;
+      heads = rw (c.deref-3.ensures.value, c.deref-4.ensures.value) at c.make_heads-heads.ensures.heads;
+      spread = c.make_heads-heads.ensures.spread;
     }

@@ -1,6 +1,6 @@
-use Rattle.std.proofs.Common.{◌+◌, ◌-◌, ◌<◌, [], length, slice_index, refl, ◌∙◌, subst, arith}
+use Rattle.std.proofs.Common.{◌+◌, ◌-◌, ◌<◌, [], length, slice_index, None, refl, ◌∙◌, subst, arith}
 use Rattle.std.specs.List.{slice_index_or}
-use Rattle.awk_ere.proofs.Tables.{longest_begin, at_next, at_pass, at_accept, at_finish, at_stays}
+use Rattle.awk_ere.proofs.Tables.{longest_begin, at_next, at_pass, at_accept, at_dead, at_finish, at_stays}
 use Rattle.awk_ere.specs.Table.{IsAt}
 use Rattle.awk_ere.proofs.table.ends_somewhere.Goals as goal
 use Rattle.awk_ere.proofs.table.ends_somewhere.Goals.{else-accepts-next-via-then-accepts-next+else-place-text, else-accepts-next-via-else-accepts-next}
@@ -46,3 +46,10 @@ returns-then-place-text c =
     let had = c.loop-place.invariant in
     let at' = at_next _ _ _ _ _ _ _ _ _ _ had.at' had.after c.loop-place-test.true (omega (arith, c.type_inv.text c.loop-place.place)) c.if-next-cells.false in
     ((λ t. at_accept _ _ _ _ _ _ _ _ _ _ at' (omega (arith, had.after)) c.if-place-text.true c.if-accepts-next.true), (λ run. refl))
+
+pub returns-then-cell-eq-DEAD : goal.returns-then-cell-eq-DEAD
+returns-then-cell-eq-DEAD c =
+    let had = c.loop-place.invariant in
+    let lt = c.loop-place-test.true in
+    let none = at_dead _ _ _ _ _ _ _ _ _ _ had.at' had.after lt (omega (arith, c.type_inv.text c.loop-place.place)) c.if-cell-eq-DEAD.true None (at_pass _ _ _ _ _ _ _ _ _ _ had.at' had.after lt (had.quiet lt) had.none) in
+    ((λ t. absurd (cc)), λ run. absurd (none run.0 (omega (arith, run.1)) run.2))

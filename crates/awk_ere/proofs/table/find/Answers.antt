@@ -1,5 +1,19 @@
-use Rattle.awk_ere.proofs.Seeking.{nowhere}
+use Rattle.std.proofs.Common.{length, subst, arith}
+use Rattle.awk_ere.specs.Table.{NoneTo}
+use Rattle.awk_ere.proofs.Seeking.{none_more, found_at, sought_later}
 use Rattle.awk_ere.proofs.table.find.Goals as goal
 
-pub returns-in-Some-false : goal.returns-in-Some-false
-returns-in-Some-false c = nowhere _ _ _ _ _ c.requires.engine.1.machine c.requires.engine.1.scanner _ _ _ c.in-Some-false.field-0-test c.in-Some-false.ensures
+pub returns-then-start-text : goal.returns-then-start-text
+returns-then-start-text c =
+    let first = c.first_start-start.ensures in
+    sought_later _ _ _ _ _ (length c.args.text.now) _ c.requires.from (subst (λ k. NoneTo c.args.sets.now c.args.program.now c.args.text.now c.args.entry c.args.from k) c.if-start-text.true first.none) c.find_at_end.ensures
+
+pub returns-in-Some-Some : goal.returns-in-Some-Some
+returns-in-Some-Some c =
+    let first = c.first_start-start.ensures in
+    found_at _ _ _ _ _ _ _ first.inside.0 (rw c.in-Some-Some.field-0-is at c.in-Some-Some.ensures) first.none
+
+pub returns-in-Some-None : goal.returns-in-Some-None
+returns-in-Some-None c =
+    let first = c.first_start-start.ensures in
+    sought_later _ _ _ _ _ _ _ (omega (arith, first.inside.0)) (none_more _ _ _ _ _ _ (rw c.in-Some-None.field-0-is at c.in-Some-None.ensures) first.none) c.find_later.ensures

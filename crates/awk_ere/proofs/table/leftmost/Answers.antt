@@ -1,20 +1,40 @@
 use Rattle.std.proofs.Common.{◌≡◌, length, subst, arith}
 use Rattle.awk_ere.specs.Table.{NoneTo}
-use Rattle.awk_ere.proofs.Seeking.{none_begin, none_more, none_on, found_at}
+use Rattle.awk_ere.proofs.Seeking.{none_begin, none_more, none_on, found_at, sought_later}
 use Rattle.awk_ere.proofs.table.leftmost.Goals as goal
 
-pub loop-start-init : goal.loop-start-init
-loop-start-init c = (omega (arith, c.requires.from), c.requires.from, none_begin _ _ _ _ _)
+pub loop-at-init : goal.loop-at-init
+loop-at-init c = (omega (arith, c.requires.from), c.requires.from, none_begin _ _ _ _ _)
 
-pub loop-start-preserved : goal.loop-start-preserved
-loop-start-preserved c =
-    let here = none_more _ _ _ _ _ _ (rw c.in-Some-None.field-0-is at c.in-Some-None.ensures) c.loop-start.invariant.2 in
-    (omega (arith, c.loop-start.invariant.0, c.next_start-start.ensures.inside.0), c.next_start-start.ensures.inside.1, none_on _ _ _ _ _ _ _ here c.next_start-start.ensures.none)
+pub loop-at-preserved : goal.loop-at-preserved
+loop-at-preserved c =
+    let first = c.first_start-start.ensures in
+    let here = none_on _ _ _ _ _ _ _ c.loop-at.invariant.2 first.none in
+    (omega (arith, c.loop-at.invariant.0, first.inside.0), omega (arith, first.inside.1), none_more _ _ _ _ _ _ (rw c.in-Some-None.field-0-is at c.in-Some-None.ensures) here)
 
 pub returns-in-Some-Some : goal.returns-in-Some-Some
-returns-in-Some-Some c = found_at _ _ _ _ _ _ _ c.loop-start.invariant.0 (rw c.in-Some-Some.field-0-is at c.in-Some-Some.ensures) c.loop-start.invariant.2
+returns-in-Some-Some c =
+    let first = c.first_start-start.ensures in
+    let here = none_on _ _ _ _ _ _ _ c.loop-at.invariant.2 first.none in
+    found_at _ _ _ _ _ _ _ (omega (arith, c.loop-at.invariant.0, first.inside.0)) (rw c.in-Some-Some.field-0-is at c.in-Some-Some.ensures) here
+
+pub returns-in-None : goal.returns-in-None
+returns-in-None c =
+    let first = c.first_start-start.ensures in
+    (omega (arith, c.loop-at.invariant.0, first.inside.0), first.inside.1, none_on _ _ _ _ _ _ _ c.loop-at.invariant.2 first.none)
+
+pub returns-then-budget-eq0 : goal.returns-then-budget-eq0
+returns-then-budget-eq0 c =
+    let first = c.first_start-start.ensures in
+    (omega (arith, c.loop-at.invariant.0, first.inside.0), first.inside.1, none_on _ _ _ _ _ _ _ c.loop-at.invariant.2 first.none)
+
+pub returns-then-start-text : goal.returns-then-start-text
+returns-then-start-text c =
+    let first = c.first_start-start.ensures in
+    let here = none_on _ _ _ _ _ _ _ c.loop-at.invariant.2 first.none in
+    sought_later _ _ _ _ _ (length c.args.text.now) _ c.requires.from (subst (λ k. NoneTo c.args.sets.now c.args.program.now c.args.text.now c.args.entry c.args.from k) c.if-start-text.true here) c.find_at_end.ensures
 
 pub returns : goal.returns
 returns c =
-    let e : c.loop-start.start ≡ length c.args.text.now = omega (arith, c.loop-start.invariant.1) in
-    (c.requires.from, omega arith, subst (λ k. NoneTo c.args.sets.now c.args.program.now c.args.text.now c.args.entry c.args.from k) e c.loop-start.invariant.2)
+    let e : c.loop-at.at ≡ length c.args.text.now = omega (arith, c.loop-at.invariant.1) in
+    sought_later _ _ _ _ _ _ _ c.requires.from (subst (λ k. NoneTo c.args.sets.now c.args.program.now c.args.text.now c.args.entry c.args.from k) e c.loop-at.invariant.2) c.find_at_end-2.ensures

@@ -1,3 +1,4 @@
+use Rattle.std.proofs.Common.{Some, None}
 use Rattle.awk_ere.proofs.Searching.{finds_best}
 use Rattle.awk_ere.proofs.Seeking.{found_later}
 use Rattle.awk_ere.proofs.Literals.{literal_finds}
@@ -6,10 +7,15 @@ use Rattle.awk_ere.proofs.ere.Ere.find.Goals as goal
 pub find-requires-clause-engine : goal.find-requires-clause-engine
 find-requires-clause-engine c = rw (c.deref-2.ensures.value, c.deref-3.ensures.value) (c.self.invariant.0, c.self.invariant.2)
 
-pub returns-in-Found : goal.returns-in-Found
-returns-in-Found c =
-    let found = rw (c.deref-2.ensures.value, c.deref-3.ensures.value) at c.in-Found.ensures in
-    rw (← c.self.view_is) (c.self.invariant.0, c.self.invariant.1, finds_best _ _ _ _ c.self.invariant.2.machine _ _ _ found)
+pub returns-in-Match : goal.returns-in-Match
+returns-in-Match c =
+    let found = rw (c.deref-2.ensures.value, c.deref-3.ensures.value) at c.in-Match.ensures in
+    rw (← c.self.view_is) (c.self.invariant.0, c.self.invariant.1, finds_best _ _ _ _ c.self.invariant.2.machine c.args.text.now c.args.from (Some (c.in-Match.start, c.in-Match.end)) found)
+
+pub returns-in-NoMatch : goal.returns-in-NoMatch
+returns-in-NoMatch c =
+    let found = rw (c.deref-2.ensures.value, c.deref-3.ensures.value) at c.in-NoMatch.ensures in
+    rw (← c.self.view_is) (c.self.invariant.0, c.self.invariant.1, finds_best _ _ _ _ c.self.invariant.2.machine c.args.text.now c.args.from None found)
 
 pub returns-in_ok-found-in-Left : goal.returns-in_ok-found-in-Left
 returns-in_ok-found-in-Left c =
