@@ -2,6 +2,7 @@
 ghost use Rattle.std.specs.Prelude.{◌≡◌, ◌<◌, [], ◌∷◌, ◌++◌, ◌&&◌, nat_eq, true, false, None, Some, OnOk, OnErr, IfOk, IfErr, IsOkUnless, ◌⊎◌, drop, slice_get, option_map};
 ghost use Rattle.awk_fields.specs.Heads.{head, too_long};
 ghost use Rattle.awk_fields.specs.Takes.{Input, Takes};
+ghost use Rattle.awk_fields.specs.declared.reader.Taken.TheVariants as taken;
 ghost use Rattle.awk_machine.specs.Closing as spec;
 ghost use Rattle.box_world.specs.Events.{class_number, find_stream};
 ghost use Rattle.std.proofs.Common.{ap};
@@ -179,6 +180,7 @@ impl Streams {
     }
 
     /// The next record that is read is written into this room, so that it needs no memory where it fits in. No stream changes.
+    #[inline(always)]
     pub fn keep_room(&mut self, room: Vec<u8>)
         ensures { self.new ≡ self.old }
     {
@@ -288,6 +290,16 @@ impl Streams {
         ensures entries { self.new.entries ≡ self.old.entries }
     {
         self.input.push(bytes)
+    }
+
+    /// Takes the first record of what is held unread of the standard input, and writes it into the room; see `Reader::take_line`.
+    #[inline(always)]
+    pub fn take_standard_line(&mut self, rs: &[u8], room: &mut Vec<u8>) -> bool
+        ensures taken { result ≡ true → Takes (head rs.now self.old.input.unread self.old.input.ended) (taken.Record room.new.items) self.old.input self.new.input }
+        ensures not_taken { result ≡ false → self.new ≡ self.old }
+        ensures entries { self.new.entries ≡ self.old.entries }
+    {
+        self.input.take_line(rs, room)
     }
 
     /// The first record of what is held unread of the standard input, which is taken; see
