@@ -8,7 +8,6 @@ ghost use Rattle.awk_fields.specs.declared.front.Front.TheVariants as front;
 
 use crate::front::Searched;
 use awk_text::texts::MOST_BYTES;
-use memchr::memchr;
 use std::simd::prelude::*;
 
 /// A bit for each byte that is the mark.
@@ -19,17 +18,19 @@ fn marks(bytes: u8x32, mark: u8) -> u64
     bytes.simd_eq(u8x32::splat(mark)).to_bitmask()
 }
 
-/// How many bytes stand before the first mark, where few are left. It stands out of line, since it is wanted once in what is
-/// held and not once a record.
+/// How many bytes stand before the first mark, one by one, where few are left. It stands out of line, since it is wanted once
+/// in what is held and not once a record.
 #[inline(never)]
 fn rest_len(text: &[u8], mark: u8) -> usize
     ensures place { result ≡ position_or_len (λ b. b == mark) text.now }
     ensures inside { result ≤ length text.now }
 {
-    match memchr(mark, &text[0..]) {
-        Some(place) => place,
-        None => text.len(),
+    for (i, b) in text.iter().enumerate() {
+        if *b == mark {
+            return i;
+        }
     }
+    text.len()
 }
 
 /// How many bytes stand before the first mark. Thirty-two are looked at in each turn.

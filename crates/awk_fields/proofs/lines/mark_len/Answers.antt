@@ -2,7 +2,7 @@ use Rattle.std.proofs.Common.{◌==◌, not, drop, sym, ap, ◌∙◌, arith}
 use Rattle.std.proofs.lemmas.List.{length-drop}
 use Rattle.std.proofs.lemmas.List.Sums.{prefix_len-le-length}
 use lib.Count.{count_trailing_zeros}
-use Rattle.awk_fields.proofs.Marks.{no_mark, first_mark}
+use Rattle.awk_fields.proofs.LineLemmas.{no_mark, first_mark}
 use Rattle.awk_fields.proofs.lines.mark_len.Goals as goal
 
 pub returns-then-found-ne0-clause-place : goal.returns-then-found-ne0-clause-place

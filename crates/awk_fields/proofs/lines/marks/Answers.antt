@@ -1,4 +1,4 @@
-use Rattle.awk_fields.proofs.Marks.{marks_mask}
+use Rattle.awk_fields.proofs.LineLemmas.{marks_mask}
 use Rattle.awk_fields.proofs.lines.marks.Goals as goal
 
 pub returns : goal.returns
