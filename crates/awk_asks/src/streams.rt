@@ -11,7 +11,7 @@ ghost use Rattle.std.specs.Cmp.{on_equiv, on_per};
 ghost use Rattle.std.specs.Cmp.Lexicographic.{bytes_decides, nat_list_eq_equiv};
 ghost use Rattle.std.specs.Str.{bytes_eq};
 ghost use Rattle.awk_asks.specs.Closings.{first_of};
-ghost use Rattle.awk_asks.specs.Tables.{kind, open_of, entries_without, find_input, with_input, TakesOf};
+ghost use Rattle.awk_asks.specs.Tables.{kind, open_of, entries_without, find_input, with_input, TakesLine, TakesOf};
 
 use awk_fields::reader::{Reader, Taken};
 use awk_lib::is_same;
@@ -268,6 +268,19 @@ impl Streams {
         match self.table.get_mut(name) {
             Some(open) => open.reader.take(rs, &mut self.text_room),
             None => Ok(Taken::Done),
+        }
+    }
+
+    /// Takes the first record of what is held unread of the input of this class and text, if it is open, and writes it into the
+    /// room; see `Reader::take_line`.
+    pub fn take_line(&mut self, class: Class, text: &[u8], rs: &[u8], room: &mut Vec<u8>) -> bool
+        ensures taken { result ≡ true → TakesLine (kind class) text.now rs.now self.old.entries room.new.items self.new.entries }
+        ensures not_taken { result ≡ false → self.new.entries ≡ self.old.entries }
+        ensures input { self.new.input ≡ self.old.input }
+    {
+        match self.table.get_mut(Sought { class, text }) {
+            Some(open) => open.reader.take_line(rs, room),
+            None => false,
         }
     }
 

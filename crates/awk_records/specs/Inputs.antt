@@ -6,7 +6,6 @@ use Rattle.awk_text.specs.declared.value.Value.TheVariants as v
 use Rattle.box_world.specs.Calls.{Call}
 use Rattle.box_world.specs.declared.ask.Ask.{Ask}
 use Rattle.box_world.specs.Events.{Key, Standard}
-use Rattle.awk_fields.specs.Heads.{head}
 use Rattle.awk_program.specs.Slots.{Text}
 use Rattle.awk_program.specs.declared.variables.Own.TheVariants as own
 use Rattle.awk_machine.specs.MainInput.{own_name}
@@ -15,7 +14,7 @@ use Rattle.awk_machine.specs.State.{Given, Main}
 use Rattle.awk_asks.specs.declared.getline.Found.{Found}
 use Rattle.awk_asks.specs.declared.getline.Found.TheVariants as found
 use Rattle.awk_asks.specs.declared.halt.Halt.{Halt}
-use Rattle.awk_asks.specs.Readings.{FirstIs}
+use Rattle.awk_asks.specs.Readings.{IsLine}
 use Rattle.awk_asks.specs.Tables.{Table}
 use Rattle.awk_asks.specs.Tasks.{goes_on}
 use Rattle.awk_store.specs.Kept.{Kept, own_text}
@@ -32,11 +31,12 @@ after_operands main = if main.named then record main { ended = true } else recor
 abbrev pub past_standard : Main → Main
 past_standard main = record main { current = None; ended = if main.named then false else true }
 
--- the main input is the standard input, and its first record, which is taken, has this text
-pub record IsLine (k : Kept) (old : Table) (text : Text) (new : Table) : Type 0 where
-  pub goes_on : k.main.ended ≡ false
-  pub current : k.main.current ≡ Some (Standard 0)
-  pub first : FirstIs (Standard 0) old new old.input (head (own_text k own.Rs) old.input.unread old.input.ended) (Some (found.Record text))
+-- the first record of the stream that the main input comes from, which is taken, has this text
+pub record IsMainLine (k : Kept) (old : Table) (text : Text) (new : Table) : Type 0 where
+  pub key : Key
+  pub going : k.main.ended ≡ false
+  pub current : k.main.current ≡ Some key
+  pub line : IsLine key (own_text k own.Rs) old text new
 
 -- ---- a message
 

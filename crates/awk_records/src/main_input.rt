@@ -7,12 +7,12 @@ ghost use Rattle.awk_machine.specs.Pieces.{At, Do, Piece, Records, Take, Value_o
 ghost use Rattle.awk_machine.specs.State.{Given};
 ghost use Rattle.awk_asks.specs.Readings.{FailsOpen, GoesOn};
 ghost use Rattle.awk_asks.specs.Tables.{Table};
-ghost use Rattle.awk_asks.specs.Tasks.{Owns, goes_on};
+ghost use Rattle.awk_asks.specs.Tasks.{IsSame, Owns, goes_on};
 ghost use Rattle.awk_tasks.specs.Acts.{Acts};
 ghost use Rattle.awk_tasks.specs.Spots.{IsSpotOf, value_of};
 ghost use Rattle.awk_tasks.specs.Wholes.{Whole, names_in};
 ghost use Rattle.awk_records.specs.Hosts.{IsHost};
-ghost use Rattle.awk_records.specs.Inputs.{IsLine, Onward, at_records, counted_on, found_main, meeting, taken};
+ghost use Rattle.awk_records.specs.Inputs.{IsMainLine, Onward, at_records, counted_on, found_main, meeting, taken};
 ghost use Rattle.awk_records.specs.Performs.{LeadsOn, Performs, PerformsIn};
 
 use crate::counted::{Counted, count_both, set_record};
@@ -21,12 +21,12 @@ use crate::host::Host;
 use crate::operands::operand;
 use crate::progress::{is_nothing, is_standard, pass_standard};
 use crate::reports::report;
-use awk_asks::getline::{Found, record, take_line};
+use awk_asks::getline::{Found, record, take_line, take_standard_line};
 use awk_asks::halt::Halt;
 use awk_asks::inputs;
-use awk_asks::streams::Streams;
+use awk_asks::streams::{Class, Streams};
 use awk_program::Own;
-use awk_store::Store;
+use awk_store::{Source, Store};
 use awk_tasks::{Spot, fields};
 use awk_text::octets::Octets;
 use awk_text::place::Place;
@@ -193,25 +193,29 @@ pub fn begin_record(store: &mut Store, text: Octets) -> Result<(), Halt>
     count_both(store, place)
 }
 
-/// Takes the first record of the main input, where that is the standard input and the record needs no other look, and writes it
-/// into the room; answers whether it did. Takes no memory where it does not.
+/// Takes the first record of what is held unread of the main input, where it needs no other look, and writes it into the room;
+/// answers whether it did.
 #[inline(always)]
-fn take_standard_line(store: &Store, streams: &mut Streams, room: &mut Vec<u8>) -> bool
-    ensures taken { result ≡ true → IsLine store.now streams.old room.new.items streams.new }
-    ensures not_taken { result ≡ false → streams.new ≡ streams.old }
+fn takes_line(store: &Store, streams: &mut Streams, room: &mut Vec<u8>) -> bool
+    ensures taken { result ≡ true → IsMainLine store.now streams.old room.new.items streams.new }
+    ensures not_taken { result ≡ false → IsSame streams.old streams.new }
 {
     let main = store.main();
-    if main.ended || !is_standard(main) {
+    if main.ended {
         return false;
     }
-    match store.own_bytes(Own::Rs) {
-        Some(rs) => take_line(rs, streams, room),
-        None => false,
+    let Some(rs) = store.own_bytes(Own::Rs) else {
+        return false;
+    };
+    match &main.current {
+        Source::Nothing => false,
+        Source::Standard => take_standard_line(rs, streams, room),
+        Source::Operand(text) => take_line(Class::OperandFile, text.bytes(), rs, streams, room),
     }
 }
 
 /// The next record of the main input is set and counted, wherever it comes from; answers whether there was one. It stands out
-/// of line, since most records are there as lines of the standard input.
+/// of line, since most records are there as lines.
 #[inline(never)]
 fn next_any<W: World>(
     alloc: Global,
@@ -250,7 +254,7 @@ pub fn next_record<W: World>(
     ensures owns { Owns (W.open_numbers world.new) streams.new }
 {
     let mut room = store.take_room();
-    if take_standard_line(store, streams, &mut room) {
+    if takes_line(store, streams, &mut room) {
         begin_record(store, Octets::new(room))?;
         return Ok(true);
     }
