@@ -2,7 +2,7 @@ pub mod Chain
 pub mod Numbers
 mod Entries
 pub mod Asking
-mod Opened
+pub mod Opened
 pub mod Leading
 mod Shut
 pub mod Lifting

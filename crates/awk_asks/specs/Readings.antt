@@ -62,6 +62,12 @@ FirstIs key old new i done (Some x) = (x ≡ found.End) × IsReadAt key i old ne
 FirstIs key old new i need_more None = IsReadAt key i old new
 FirstIs key old new i first answer = ⊥
 
+-- the stream is open, and its first record, which is taken, has this text
+pub record IsLine (key : Key) (rs : Text) (old : Table) (text : Text) (new : Table) : Type 0 where
+  pub before : Input
+  pub live : input_at key old ≡ Some before
+  pub first : FirstIs key old new before (head rs before.unread before.ended) (Some (found.Record text))
+
 -- it can't be taken: it is too long, or memory is refused
 abbrev pub FailsFirst : Place → Head → Halt → Type 0
 FailsFirst place first h = (h ≡ halt.Memory) ⊎ ((h ≡ halt.Fault TextTooLong place) × (first ≡ too_long))

@@ -1,6 +1,7 @@
 -- The streams that a run has open, as a list.
 use Rattle.std.specs.Prelude.{◌≡◌, ℕ, List, [], ◌∷◌, map, if◌then◌else◌, Option, Some, None}
 use Rattle.awk_fields.specs.declared.reader.Taken.{Taken}
+use Rattle.awk_fields.specs.declared.reader.Taken.TheVariants.{Record}
 use Rattle.awk_fields.specs.Heads.{head}
 use Rattle.awk_fields.specs.Takes.{Input, Takes}
 use Rattle.box_world.specs.Events.{Class, OperandFile, InputFile, InputCommand, OutputFile, OutputCommand, Stream, is_named}
@@ -52,3 +53,7 @@ with_input c text change (e ∷ es) = if is_named c text e.stream then record e 
 -- what was answered is the first record of what an open input held unread, and the rest is left there
 abbrev pub TakesOf : Class → List ℕ → List ℕ → List Entry → Taken → List Entry → Type 0
 TakesOf c text rs old answer new = (i : Input) → find_input c text old ≡ Some i → (j : Input) × Takes (head rs i.unread i.ended) answer i j × (new ≡ with_input c text (λ x. j) old)
+
+-- this is the first record of what an input held unread that is open, and the rest is left there
+abbrev pub TakesLine : Class → List ℕ → List ℕ → List Entry → List ℕ → List Entry → Type 0
+TakesLine c text rs old line new = (i : Input) × (find_input c text old ≡ Some i) × (j : Input) × Takes (head rs i.unread i.ended) (Record line) i j × (new ≡ with_input c text (λ x. j) old)

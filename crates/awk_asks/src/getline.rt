@@ -5,9 +5,9 @@ ghost use Rattle.awk_machine.specs.Pieces as machine;
 ghost use Rattle.awk_machine.specs.Pieces.{Do, Piece, give};
 ghost use Rattle.awk_machine.specs.State.{Given, State};
 ghost use Rattle.awk_machine.specs.Variables.{own_text};
-ghost use Rattle.box_world.specs.Events.{Named};
+ghost use Rattle.box_world.specs.Events.{Named, Standard};
 ghost use Rattle.awk_asks.specs.Readings as spec;
-ghost use Rattle.awk_asks.specs.Readings.{FailsFirst, FailsOpen, FirstIs, GoesOn, HasCome, Holds, IsLive, IsReading, Received, Waits, fetching, further, key_of, read_further};
+ghost use Rattle.awk_asks.specs.Readings.{FailsFirst, FailsOpen, FirstIs, GoesOn, HasCome, Holds, IsLine, IsLive, IsReading, Received, Waits, fetching, further, key_of, read_further};
 ghost use Rattle.awk_asks.specs.Tables.{kind};
 ghost use Rattle.awk_asks.specs.Tasks.{Does, IsSame, Owns};
 
@@ -15,7 +15,7 @@ use crate::halt::Halt;
 use crate::inputs::{Source, finish, number, push, take};
 use crate::opening::open_input;
 use crate::requests::request;
-use crate::streams::{Name, Streams};
+use crate::streams::{Class, Name, Streams};
 use awk_fields::reader::Taken;
 use awk_text::Memory;
 use awk_text::fault::Fault;
@@ -71,6 +71,30 @@ fn first(
         Ok(taken) => Ok(read_taken(taken)),
         Err(fault) => Err(halted(place, fault)),
     }
+}
+
+/// Takes the first record of what is held unread of the standard input, where it needs no other look, and writes it into the
+/// room; answers whether it did. Where it did not, `record` says what there is.
+#[inline(always)]
+pub fn take_standard_line(rs: &[u8], streams: &mut Streams, room: &mut Vec<u8>) -> bool
+    ensures taken { result ≡ true → IsLine (Standard 0) rs.now streams.old room.new.items streams.new }
+    ensures not_taken { result ≡ false → IsSame streams.old streams.new }
+{
+    streams.take_standard_line(rs, room)
+}
+
+/// The same of a stream that is opened.
+pub fn take_line(
+    class: Class,
+    name: &[u8],
+    rs: &[u8],
+    streams: &mut Streams,
+    room: &mut Vec<u8>,
+) -> bool
+    ensures taken { result ≡ true → IsLine (Named (kind class) name.now) rs.now streams.old room.new.items streams.new }
+    ensures not_taken { result ≡ false → IsSame streams.old streams.new }
+{
+    streams.take_line(class, name, rs, room)
 }
 
 /// Keeps what came, and answers whether the reading goes on: it does not where it has failed.

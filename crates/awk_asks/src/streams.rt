@@ -2,6 +2,7 @@
 ghost use Rattle.std.specs.Prelude.{◌≡◌, ◌<◌, [], ◌∷◌, ◌++◌, ◌&&◌, nat_eq, true, false, None, Some, OnOk, OnErr, IfOk, IfErr, IsOkUnless, ◌⊎◌, drop, slice_get, option_map};
 ghost use Rattle.awk_fields.specs.Heads.{head, too_long};
 ghost use Rattle.awk_fields.specs.Takes.{Input, Takes};
+ghost use Rattle.awk_fields.specs.declared.reader.Taken.TheVariants as taken;
 ghost use Rattle.awk_machine.specs.Closing as spec;
 ghost use Rattle.box_world.specs.Events.{class_number, find_stream};
 ghost use Rattle.std.proofs.Common.{ap};
@@ -10,7 +11,7 @@ ghost use Rattle.std.specs.Cmp.{on_equiv, on_per};
 ghost use Rattle.std.specs.Cmp.Lexicographic.{bytes_decides, nat_list_eq_equiv};
 ghost use Rattle.std.specs.Str.{bytes_eq};
 ghost use Rattle.awk_asks.specs.Closings.{first_of};
-ghost use Rattle.awk_asks.specs.Tables.{kind, open_of, entries_without, find_input, with_input, TakesOf};
+ghost use Rattle.awk_asks.specs.Tables.{kind, open_of, entries_without, find_input, with_input, TakesLine, TakesOf};
 
 use awk_fields::reader::{Reader, Taken};
 use awk_lib::is_same;
@@ -179,6 +180,7 @@ impl Streams {
     }
 
     /// The next record that is read is written into this room, so that it needs no memory where it fits in. No stream changes.
+    #[inline(always)]
     pub fn keep_room(&mut self, room: Vec<u8>)
         ensures { self.new ≡ self.old }
     {
@@ -269,6 +271,19 @@ impl Streams {
         }
     }
 
+    /// Takes the first record of what is held unread of the input of this class and text, if it is open, and writes it into the
+    /// room; see `Reader::take_line`.
+    pub fn take_line(&mut self, class: Class, text: &[u8], rs: &[u8], room: &mut Vec<u8>) -> bool
+        ensures taken { result ≡ true → TakesLine (kind class) text.now rs.now self.old.entries room.new.items self.new.entries }
+        ensures not_taken { result ≡ false → self.new.entries ≡ self.old.entries }
+        ensures input { self.new.input ≡ self.old.input }
+    {
+        match self.table.get_mut(Sought { class, text }) {
+            Some(open) => open.reader.take_line(rs, room),
+            None => false,
+        }
+    }
+
     /// Says that an input has ended, if it is open. Takes no memory.
     pub fn finish(&mut self, name: &Name)
         ensures entries { self.new.entries ≡ with_input (kind name.now.class) name.now.text.items (λ i. record { unread = i.unread; ended = true }) self.old.entries }
@@ -288,6 +303,16 @@ impl Streams {
         ensures entries { self.new.entries ≡ self.old.entries }
     {
         self.input.push(bytes)
+    }
+
+    /// Takes the first record of what is held unread of the standard input, and writes it into the room; see `Reader::take_line`.
+    #[inline(always)]
+    pub fn take_standard_line(&mut self, rs: &[u8], room: &mut Vec<u8>) -> bool
+        ensures taken { result ≡ true → Takes (head rs.now self.old.input.unread self.old.input.ended) (taken.Record room.new.items) self.old.input self.new.input }
+        ensures not_taken { result ≡ false → self.new ≡ self.old }
+        ensures entries { self.new.entries ≡ self.old.entries }
+    {
+        self.input.take_line(rs, room)
     }
 
     /// The first record of what is held unread of the standard input, which is taken; see

@@ -11,6 +11,7 @@ pub mod Bests
 pub mod Seeks
 pub mod Places
 pub mod HeadLemmas
+pub mod LineLemmas
 pub mod EditLemmas
 pub mod PartLemmas
 pub mod RowLemmas

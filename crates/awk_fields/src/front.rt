@@ -40,7 +40,8 @@ fn known_len(unread: &[u8], mark: u8, searched: Searched) -> usize
 }
 
 /// How many bytes stand before the first mark.
-fn mark_place(unread: &[u8], mark: u8, searched: Searched) -> usize
+#[inline(always)]
+pub fn mark_place(unread: &[u8], mark: u8, searched: Searched) -> usize
     requires { IsSearched unread.now searched }
     ensures place { result ≡ position_or_len (λ b. b == mark) unread.now }
     ensures inside { result ≤ length unread.now }

@@ -6,6 +6,7 @@ mod edits;
 mod front;
 mod joining;
 pub mod laws;
+mod lines;
 mod marks;
 mod part;
 mod parts;

@@ -158,7 +158,9 @@ impl Marks {
             self.in_short(rest)
         }
     }
+
     /// How many bytes stand before the first mark.
+    #[inline(always)]
     pub fn len_before(self, text: &[u8]) -> usize
         ensures place { result ≡ position_or_len (is_mark self) text.now }
         ensures inside { result ≤ length text.now }

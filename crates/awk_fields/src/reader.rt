@@ -2,8 +2,10 @@
 ghost use Rattle.std.specs.Prelude.{◌≡◌, ◌++◌, ◌≤◌, ◌⊎◌, length, [], true, false, drop, IfOk, OnOk, OnErr, IfErr, IsOkUnless};
 ghost use Rattle.awk_fields.specs.Heads.{head, too_long};
 ghost use Rattle.awk_fields.specs.Takes.{Takes};
+ghost use Rattle.awk_fields.specs.declared.reader.Taken.TheVariants as taken;
 
 use crate::front::{Front, Searched, first_record};
+use crate::lines::line_len;
 use awk_text::fault::Fault;
 use awk_text::octets::Octets;
 use std::alloc::Global;
@@ -92,6 +94,26 @@ impl Reader {
         self.ended = true;
     }
 
+    /// Takes the first record, where RS is one byte that is held and the record needs no other look. Its text is written in place of
+    /// what lies in the room. Answers whether it did; where it did not, which may be for want of memory, nothing was taken, and
+    /// `take` says what there is.
+    #[inline(always)]
+    pub fn take_line(&mut self, rs: &[u8], room: &mut Vec<u8>) -> bool
+        ensures taken { result ≡ true → Takes (head rs.now self.old.unread self.old.ended) (taken.Record room.new.items) self.old self.new }
+        ensures not_taken { result ≡ false → self.new ≡ self.old }
+    {
+        let unread = &self.bytes[self.start..];
+        let Some(len) = line_len(unread, rs, self.searched) else {
+            return false;
+        };
+        room.clear();
+        if room.extend_from_slice(&unread[..len]).is_err() {
+            return false;
+        }
+        self.start += len + 1;
+        true
+    }
+
     /// The first record of what is unread, which is taken. RS is its first byte, or, where it is
     /// empty, two newlines in a row. `NeedMore` and `Done` take nothing. The text is written into the
     /// room that is given, whatever lies there.
@@ -99,7 +121,23 @@ impl Reader {
     /// Fails with `Fault::TextTooLong` exactly where more than `MOST_BYTES` bytes of the record lie
     /// before its end, or are held and no end was seen, and with `Fault::Memory` where memory is
     /// refused; then nothing was taken.
+    #[inline(always)]
     pub fn take(&mut self, rs: &[u8], room: &mut Vec<u8>) -> Result<Taken, Fault>
+        ensures ok { IfOk result (λ taken. Takes (head rs.now self.old.unread self.old.ended) taken self.old self.new) }
+        ensures err { OnErr result (self.new ≡ self.old) }
+        ensures fault { IfErr result (λ e. (e ≡ Fault.Memory)
+            ⊎ ((e ≡ Fault.TextTooLong) × (head rs.now self.old.unread self.old.ended ≡ too_long))) }
+    {
+        if self.take_line(rs, room) {
+            let alloc = *room.allocator();
+            return Ok(Taken::Record(Octets::new(mem::replace(room, Vec::new(alloc)))));
+        }
+        self.take_any(rs, room)
+    }
+
+    /// As `take`. It stands out of line, since few records need it.
+    #[inline(never)]
+    fn take_any(&mut self, rs: &[u8], room: &mut Vec<u8>) -> Result<Taken, Fault>
         ensures ok { IfOk result (λ taken. Takes (head rs.now self.old.unread self.old.ended) taken self.old self.new) }
         ensures err { OnErr result (self.new ≡ self.old) }
         ensures fault { IfErr result (λ e. (e ≡ Fault.Memory)

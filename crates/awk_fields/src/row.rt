@@ -105,6 +105,7 @@ impl Record {
     ///
     /// Fails with `Fault::TextTooLong` exactly where the text has more than `MOST_BYTES` bytes;
     /// then the record is as it was.
+    #[inline(always)]
     pub fn set_whole(&mut self, text: Octets, splitter: Splitter) -> Result<(), Fault>
         ensures ok { OnOk result (self.new ≡ record { whole = text; fields = unsplit splitter }) }
         ensures fits { OnOk result (length text ≤ most_bytes) }
@@ -116,12 +117,15 @@ impl Record {
         }
         self.room = mem::replace(&mut self.text, text).into_bytes();
         self.parts.state = State::Unsplit(splitter);
-        self.parts.edited.parts.clear();
+        if !self.parts.edited.parts.is_empty() {
+            self.parts.edited.parts.clear();
+        }
         Ok(())
     }
 
     /// What the text before lay in, for the next one to be written there. The record stays the same.
     /// Takes no memory.
+    #[inline(always)]
     pub fn take_room(&mut self) -> Vec<u8>
         ensures { self.new ≡ self.old }
     {

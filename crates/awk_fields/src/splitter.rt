@@ -1,5 +1,5 @@
 // What separates fields, and texts cut into fields.
-ghost use Rattle.std.specs.Prelude.{◌≡◌, ◌<◌, ◌⊎◌, List, ℕ, false, length, IfOk, OnOk, IfErr, OnErr};
+ghost use Rattle.std.specs.Prelude.{◌≡◌, ◌<◌, ◌≤◌, ◌⊎◌, List, ℕ, false, length, IfOk, OnOk, IfErr, OnErr, MatchOption};
 ghost use Rattle.awk_fields.specs.Fields.{Fields};
 ghost use Rattle.awk_fields.specs.Separators.{IsByEre, IsEre, IsNoEre, separator, ere};
 ghost use Rattle.awk_fields.specs.Spans.{AreSpans};
@@ -51,6 +51,20 @@ fn shared_ere(alloc: Global, pattern: &[u8]) -> Result<Rc<Ere>, Fault>
 }
 
 impl Splitter {
+    /// What a value of FS separates by, as `new` says, where it has at most one byte. Takes no memory.
+    #[inline(always)]
+    pub fn short(fs: &[u8], rs_empty: bool) -> Option<Splitter>
+        ensures { MatchOption result (1 < length fs.now) (λ s. (s ≡ separator fs.now rs_empty) × (length fs.now ≤ 1)) }
+    {
+        let by = match fs {
+            [] => By::Nothing,
+            [b' '] => By::Blanks,
+            [byte] => By::Byte(*byte, rs_empty),
+            [_, _, ..] => return None,
+        };
+        Some(Splitter { by })
+    }
+
     /// What a value of FS separates by: a space by runs of spaces, tabs and newlines, ignored at
     /// the ends; any other byte by each of it; the empty text by nothing, so that each byte is a
     /// field; a longer text by the matches of this ERE. Where RS is empty a newline separates too,
@@ -64,13 +78,13 @@ impl Splitter {
         ensures err { IfErr result (λ e. (e ≡ Fault.Memory)
             ⊎ ((e ≡ Fault.Pattern) × (1 < length fs.now) × IsNoEre fs.now)) }
     {
-        let by = match fs {
-            [] => By::Nothing,
-            [b' '] => By::Blanks,
-            [byte] => By::Byte(*byte, rs_empty),
-            [_, _, ..] => By::Ere(shared_ere(alloc, fs)?, rs_empty),
-        };
-        Ok(Splitter { by })
+        if let Some(splitter) = Splitter::short(fs, rs_empty) {
+            return Ok(splitter);
+        }
+        let shared = shared_ere(alloc, fs)?;
+        Ok(Splitter {
+            by: By::Ere(shared, rs_empty),
+        })
     }
 
     /// The matches of the ERE that the text spells, whatever its length, as what separates. RS

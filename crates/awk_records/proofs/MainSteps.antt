@@ -26,22 +26,26 @@ use Rattle.awk_store.specs.Kept as kept
 use Rattle.awk_store.specs.Kept.{Kept}
 use Rattle.awk_store.specs.States.{Hidden}
 use Rattle.awk_store.proofs.Reading as law
+use Rattle.awk_asks.specs.declared.getline.Found.TheVariants as found
 use Rattle.awk_asks.specs.declared.halt.Halt.{Halt}
 use Rattle.awk_asks.specs.declared.halt.Halt.TheVariants as halt
 use Rattle.awk_asks.specs.Chains.{Led, Ended, Halted, Leads, Meets}
 use Rattle.awk_asks.specs.Readings.{IsReading}
 use Rattle.awk_asks.specs.Tables.{Table}
-use Rattle.awk_asks.specs.Tasks.{Answered, Refused, goes_on}
+use Rattle.awk_asks.specs.Tasks.{Answered, IsSame, Refused, goes_on}
+use Rattle.awk_asks.proofs.Opened.{tells_same}
 use Rattle.awk_asks.proofs.Asking.{fits_here, tells_written}
-use Rattle.awk_asks.proofs.Chain.{Laws, asked, at_once, done as finished, halted-after, quiet, unanswered}
+use Rattle.awk_asks.proofs.Chain.{Laws, asked, at_once, done as finished, halted-after, part, quiet, unanswered}
+use Rattle.awk_asks.proofs.MoreSteps.{gives}
 use Rattle.awk_tasks.specs.Acts.{Acts, HaltsSo, Passes, halt_at, result_at}
 use Rattle.awk_tasks.specs.Spots.{IsSpotOf, meant, value_of}
 use Rattle.awk_tasks.specs.Wholes.{Whole, Agreeing, base, names_in, used}
 use Rattle.awk_tasks.specs.declared.spot.Spot.{Spot}
+use Rattle.awk_tasks.proofs.Lifting.{apart, apart-text, lifted_at}
 use Rattle.awk_tasks.proofs.Acting.{acted, at_rest, moves, alters, done, faulted}
 use Rattle.awk_records.specs.Gots.{IsGot}
 use Rattle.awk_records.specs.Performs.{LeadsOn, Performs, PerformsIn}
-use Rattle.awk_records.specs.Inputs.{after_operands, found_main, meeting, message, past_standard, taken}
+use Rattle.awk_records.specs.Inputs.{IsMainLine, after_operands, found_main, meeting, message, past_standard, taken}
 
 -- ---- how far the main input is read
 
@@ -130,6 +134,16 @@ takes_so g s key e f = record {
   ended = λ k. refl;
   failed = λ k. refl;
 }
+
+-- a line of the main input is taken
+pub line_taken : {W : Type 0} {follows : W → List Call → W → Type 0} {has_stopped : W → Bool} {stops : W → List Call → Ask → W → Type 0} (g : Given) (k : Kept) (old new : Table) (text : Text) (w : W) → IsMainLine k old text new →
+    Performs follows has_stopped stops g (Do Take) give (k, old) w (Ok (v.Input text)) (k, new) w
+line_taken {follows = follows} {has_stopped = has_stopped} {stops = stops} g k old new text w x =
+    let read : Performs follows has_stopped stops g (Do Take) (found_main x.key) (k, old) w (Ok (found.Record text)) (k, new) w =
+    lifted_at g k (λ row cells sound.
+    let s = apart g k row in
+    gives (Led follows has_stopped) (Ended follows stops) g s nowhere x.key (kept.own_text k own.Rs) (apart-text g k row cells sound own.Rs) old new x.line.before x.line.live (takes_so g s x.key x.going x.current) (at_once _ old w) (found.Record text) x.line.first) in
+    finished (part (found.Record text) (at_once _ (k, old) w) read refl)
 
 -- ---- a message
 
@@ -229,3 +243,15 @@ module _ {W : Type 0} {follows : W → List Call → W → Type 0} {has_stopped 
           let v = anywhere (Led follows has_stopped) (Ended follows stops) g mid new w' x first (q ∷ k) k (rest k) (seen (base g mid y.hidden) y.course) y.course y.course y.hidden u z in
           halted-after (Led follows has_stopped) (Ended follows stops) (base g) (Agreeing g) used g x first (p ∷ k) (q ∷ k) (rest k) (rest k) (seen (base g old hid) c) (seen (base g mid y.hidden) y.course) c y.course new w' y.chain refl v;
     }
+
+-- tables that differ in nothing but the room that there is
+pub same_in : {W A : Type 0} {follows : W → List Call → W → Type 0} {has_stopped : W → Bool} {stops : W → List Call → Ask → W → Type 0} {g : Given} {p : Piece} {to : A → List Piece → List Piece} {rest : List Piece → List Piece}
+    (k : Kept) (old mid : Table) {new : Whole} {w w' : W} (r : Result A Halt) → IsSame old mid → PerformsIn follows has_stopped stops g p to rest (k, mid) w r new w' → PerformsIn follows has_stopped stops g p to rest (k, old) w r new w'
+same_in k old mid r same h = record {
+  plays = λ first l hid c a.
+      h.plays first l hid c (record {
+        leads = a.leads;
+        agrees = record { tells = tells_same old mid hid.taken c same a.agrees.tells; row = a.agrees.row; cells = a.agrees.cells; sound = a.agrees.sound };
+        spent = a.spent;
+      });
+}

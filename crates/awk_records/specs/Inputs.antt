@@ -1,5 +1,5 @@
 -- The main input (POSIX.1-2017 XCU awk, "STDIN" and "Input Files").
-use Rattle.std.specs.Prelude.{Bool, true, false, if◌then◌else◌, List, [], ◌∷◌, ◌++◌, codes, Option, Some, None, Result, Ok, Err}
+use Rattle.std.specs.Prelude.{◌≡◌, Bool, true, false, if◌then◌else◌, List, [], ◌∷◌, ◌++◌, codes, Option, Some, None, Result, Ok, Err}
 use Rattle.awk_text.specs.Quoted.{quoted}
 use Rattle.awk_text.specs.declared.value.Value.{Value}
 use Rattle.awk_text.specs.declared.value.Value.TheVariants as v
@@ -7,13 +7,17 @@ use Rattle.box_world.specs.Calls.{Call}
 use Rattle.box_world.specs.declared.ask.Ask.{Ask}
 use Rattle.box_world.specs.Events.{Key, Standard}
 use Rattle.awk_program.specs.Slots.{Text}
+use Rattle.awk_program.specs.declared.variables.Own.TheVariants as own
 use Rattle.awk_machine.specs.MainInput.{own_name}
 use Rattle.awk_machine.specs.Pieces.{Piece, At, Do, Forget, Past, Records, Report, Rules, Step, Take, give}
 use Rattle.awk_machine.specs.State.{Given, Main}
 use Rattle.awk_asks.specs.declared.getline.Found.{Found}
 use Rattle.awk_asks.specs.declared.getline.Found.TheVariants as found
 use Rattle.awk_asks.specs.declared.halt.Halt.{Halt}
+use Rattle.awk_asks.specs.Readings.{IsLine}
+use Rattle.awk_asks.specs.Tables.{Table}
 use Rattle.awk_asks.specs.Tasks.{goes_on}
+use Rattle.awk_store.specs.Kept.{Kept, own_text}
 use Rattle.awk_tasks.specs.Wholes.{Whole}
 use Rattle.awk_records.specs.Performs.{LeadsOn, Performs}
 
@@ -26,6 +30,13 @@ after_operands main = if main.named then record main { ended = true } else recor
 -- the standard input is done with
 abbrev pub past_standard : Main → Main
 past_standard main = record main { current = None; ended = if main.named then false else true }
+
+-- the first record of the stream that the main input comes from, which is taken, has this text
+pub record IsMainLine (k : Kept) (old : Table) (text : Text) (new : Table) : Type 0 where
+  pub key : Key
+  pub going : k.main.ended ≡ false
+  pub current : k.main.current ≡ Some key
+  pub line : IsLine key (own_text k own.Rs) old text new
 
 -- ---- a message
 

@@ -29,6 +29,7 @@ pub enum Counted {
 }
 
 /// Adds 1 to NR and to FNR.
+#[inline(always)]
 pub fn count_both(store: &mut Store, place: Place) -> Result<(), Halt>
     ensures { (g : Given) (t : Table) (p : Piece) (old : Whole) (to : List Piece → List Piece) → Passes g p old (λ k. counting place (names_of spec.both) (to k)) (store.old, t)
         → Counts g p old to result (store.new, t) }

@@ -1,5 +1,5 @@
 // The main input: what the operands name, or standard input where they name none.
-ghost use Rattle.std.specs.Prelude.{◌≡◌, [], ◌∷◌, false, List, Some, IfOk};
+ghost use Rattle.std.specs.Prelude.{◌≡◌, [], ◌∷◌, true, false, List, Some, IfOk};
 ghost use Rattle.box_world.specs.Events.{Standard};
 ghost use Rattle.awk_text.specs.declared.value.Value.{Value};
 ghost use Rattle.awk_program.specs.Program as p;
@@ -7,12 +7,12 @@ ghost use Rattle.awk_machine.specs.Pieces.{At, Do, Piece, Records, Take, Value_o
 ghost use Rattle.awk_machine.specs.State.{Given};
 ghost use Rattle.awk_asks.specs.Readings.{FailsOpen, GoesOn};
 ghost use Rattle.awk_asks.specs.Tables.{Table};
-ghost use Rattle.awk_asks.specs.Tasks.{Owns, goes_on};
+ghost use Rattle.awk_asks.specs.Tasks.{IsSame, Owns, goes_on};
 ghost use Rattle.awk_tasks.specs.Acts.{Acts};
 ghost use Rattle.awk_tasks.specs.Spots.{IsSpotOf, value_of};
 ghost use Rattle.awk_tasks.specs.Wholes.{Whole, names_in};
 ghost use Rattle.awk_records.specs.Hosts.{IsHost};
-ghost use Rattle.awk_records.specs.Inputs.{Onward, at_records, counted_on, found_main, meeting, taken};
+ghost use Rattle.awk_records.specs.Inputs.{IsMainLine, Onward, at_records, counted_on, found_main, meeting, taken};
 ghost use Rattle.awk_records.specs.Performs.{LeadsOn, Performs, PerformsIn};
 
 use crate::counted::{Counted, count_both, set_record};
@@ -21,14 +21,13 @@ use crate::host::Host;
 use crate::operands::operand;
 use crate::progress::{is_nothing, is_standard, pass_standard};
 use crate::reports::report;
-use awk_asks::getline::{Found, record};
+use awk_asks::getline::{Found, record, take_line, take_standard_line};
 use awk_asks::halt::Halt;
 use awk_asks::inputs;
-use awk_asks::streams::Streams;
+use awk_asks::streams::{Class, Streams};
 use awk_program::Own;
-use awk_store::Store;
-use awk_tasks::Spot;
-use awk_tasks::fields::set_field;
+use awk_store::{Source, Store};
+use awk_tasks::{Spot, fields};
 use awk_text::octets::Octets;
 use awk_text::place::Place;
 use awk_text::value::Value;
@@ -126,6 +125,27 @@ fn turn<W: World>(
     take_file(alloc, store, streams, world)
 }
 
+/// Takes the next record of the main input: the record as input, or 0 where it has ended for good.
+fn take_on<W: World>(
+    alloc: Global,
+    host: &Host,
+    store: &mut Store,
+    streams: &mut Streams,
+    world: &mut W,
+) -> Result<Value, Halt>
+    requires { Owns (W.open_numbers world.old) streams.old }
+    ensures task { (g : Given) → IsHost host.now g
+        → Performs W.follows W.has_stopped W.stops g (Do Take) give (store.old, streams.old) world.old result (store.new, streams.new) world.new }
+    ensures owns { Owns (W.open_numbers world.new) streams.new }
+{
+    for _ in 0..u64::MAX {
+        if let Some(value) = turn(alloc, host, store, streams, world)? {
+            return Ok(value);
+        }
+    }
+    Err(Halt::Memory)
+}
+
 /// Takes the next record of the main input: the record as input, or 0 where it has ended for good. It is
 /// written where the text of the record before the present one lay, so that few records need memory.
 pub fn take<W: World>(
@@ -141,12 +161,7 @@ pub fn take<W: World>(
     ensures owns { Owns (W.open_numbers world.new) streams.new }
 {
     streams.keep_room(store.take_room());
-    for _ in 0..u64::MAX {
-        if let Some(value) = turn(alloc, host, store, streams, world)? {
-            return Ok(value);
-        }
-    }
-    Err(Halt::Memory)
+    take_on(alloc, host, store, streams, world)
 }
 
 /// `getline target`, once it is known what is set.
@@ -169,16 +184,63 @@ pub fn getline_main<W: World>(
 }
 
 /// Sets `$0` to a record of the main input and counts it, before the rules meet it.
-pub fn begin_record(alloc: Global, store: &mut Store, text: Octets) -> Result<(), Halt>
+#[inline(always)]
+pub fn begin_record(store: &mut Store, text: Octets) -> Result<(), Halt>
     ensures { (g : Given) (t : Table) (vs : List Value) → Acts g (At Records (Value.Input text ∷ vs)) (counted_on g) (store.old, t) result (store.new, t) }
 {
     let place = Place { line: 0, column: 0 };
-    set_field(alloc, store, 0, place, Value::Input(text))?;
+    fields::set_record(store, place, text)?;
     count_both(store, place)
 }
 
+/// Takes the first record of what is held unread of the main input, where it needs no other look, and writes it into the room;
+/// answers whether it did.
+#[inline(always)]
+fn takes_line(store: &Store, streams: &mut Streams, room: &mut Vec<u8>) -> bool
+    ensures taken { result ≡ true → IsMainLine store.now streams.old room.new.items streams.new }
+    ensures not_taken { result ≡ false → IsSame streams.old streams.new }
+{
+    let main = store.main();
+    if main.ended {
+        return false;
+    }
+    let Some(rs) = store.own_bytes(Own::Rs) else {
+        return false;
+    };
+    match &main.current {
+        Source::Nothing => false,
+        Source::Standard => take_standard_line(rs, streams, room),
+        Source::Operand(text) => take_line(Class::OperandFile, text.bytes(), rs, streams, room),
+    }
+}
+
+/// The next record of the main input is set and counted, wherever it comes from; answers whether there was one. It stands out
+/// of line, since most records are there as lines.
+#[inline(never)]
+fn next_any<W: World>(
+    alloc: Global,
+    host: &Host,
+    store: &mut Store,
+    streams: &mut Streams,
+    world: &mut W,
+) -> Result<bool, Halt>
+    requires { Owns (W.open_numbers world.old) streams.old }
+    ensures task { (g : Given) → IsHost host.now g
+        → PerformsIn W.follows W.has_stopped W.stops g (At Records []) (meeting g) at_records (store.old, streams.old) world.old result (store.new, streams.new) world.new }
+    ensures owns { Owns (W.open_numbers world.new) streams.new }
+{
+    match take_on(alloc, host, store, streams, world)? {
+        Value::Input(text) => {
+            begin_record(store, text)?;
+            Ok(true)
+        }
+        _ => Ok(false),
+    }
+}
+
 /// The next record of the main input is set and counted, for the rules to meet it; answers whether
-/// there was one.
+/// there was one. It is written where the text of the record before the present one lay, so that few records need memory.
+#[inline(never)]
 pub fn next_record<W: World>(
     alloc: Global,
     host: &Host,
@@ -191,11 +253,11 @@ pub fn next_record<W: World>(
         → PerformsIn W.follows W.has_stopped W.stops g (At Records []) (meeting g) at_records (store.old, streams.old) world.old result (store.new, streams.new) world.new }
     ensures owns { Owns (W.open_numbers world.new) streams.new }
 {
-    match take(alloc, host, store, streams, world)? {
-        Value::Input(text) => {
-            begin_record(alloc, store, text)?;
-            Ok(true)
-        }
-        _ => Ok(false),
+    let mut room = store.take_room();
+    if takes_line(store, streams, &mut room) {
+        begin_record(store, Octets::new(room))?;
+        return Ok(true);
     }
+    streams.keep_room(room);
+    next_any(alloc, host, store, streams, world)
 }

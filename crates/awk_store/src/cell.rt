@@ -1,5 +1,5 @@
 // Variables of the whole script.
-ghost use Rattle.std.specs.Prelude.{◌≡◌, ℤ, Some, Ok, [], true, false, unwrap_or, IfOk, IfErr, OnOk, IsOkUnless};
+ghost use Rattle.std.specs.Prelude.{◌≡◌, ℤ, pos, Some, Ok, [], true, false, unwrap_or, IfOk, IfErr, OnOk, IsOkUnless};
 ghost use Rattle.std.specs.Option.{option_copied};
 ghost use Rattle.awk_text.specs.Arithmetic.{add};
 ghost use Rattle.awk_machine.specs.Begins.{first_value};
@@ -69,6 +69,18 @@ impl Cell {
         }
     }
 
+    /// Adds 1 to the number that it holds, where it holds one and the sum is in range, and answers whether it did.
+    #[inline(always)]
+    pub(crate) fn add_one(&mut self) -> bool
+        ensures done { result ≡ true → (n : ℤ) × (m : ℤ) × (scalar (Some self.old) ≡ Some (Value.Num n)) × (add n (pos 1) ≡ Ok m) × (self.new ≡ given_value (Value.Num m) self.old) }
+        ensures not_done { result ≡ false → self.new ≡ self.old }
+    {
+        match self {
+            Cell::Value(value) => add_value(value, 1),
+            Cell::Array(_) => false,
+        }
+    }
+
     /// Takes the value out, and leaves it unset. An array stays as it is.
     pub(crate) fn take_value(&mut self) -> Value
         ensures value { result ≡ unwrap_or (scalar (Some self.old)) Value.Unset }
@@ -128,6 +140,7 @@ pub(crate) fn add_in(elements: &mut Array<Value>, key: &[u8], by: i64) -> bool
 }
 
 /// Adds to the number that a value is, where it is one, and answers whether it did.
+#[inline(always)]
 fn add_value(value: &mut Value, by: i64) -> bool
     ensures done { result ≡ true → (n : ℤ) × (m : ℤ) × (value.old ≡ Value.Num n) × (add n by ≡ Ok m) × (value.new ≡ Value.Num m) }
     ensures not_done { result ≡ false → value.new ≡ value.old }

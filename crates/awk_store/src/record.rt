@@ -14,7 +14,7 @@ ghost use Rattle.awk_store.specs.Changes.{row_of, with_row};
 use crate::cell::Cell;
 use crate::separators::Separators;
 use crate::store::Store;
-use crate::variables::own_text;
+use crate::variables::{own_bytes, own_text};
 use awk_fields::Splitter;
 use awk_lent::lent::Lent;
 use awk_program::Own;
@@ -46,6 +46,18 @@ fn splitter(alloc: Global, cells: &[Cell], separators: &mut Separators) -> Resul
     separators.splitter(alloc, fs, rs_empty)
 }
 
+/// What separates the fields of a record, by FS and RS as they are, where both hold texts and that of FS has at most one byte.
+/// Takes no memory.
+#[inline(always)]
+fn short_splitter(cells: &[Cell]) -> Option<Splitter>
+    ensures splitter { IfSome result (λ s. s ≡ separator (text_of (value_at cells.now (slot_of own.Fs))) (is_empty (text_of (value_at cells.now (slot_of own.Rs))))) }
+    ensures short { IfSome result (λ s. length (text_of (value_at cells.now (slot_of own.Fs))) ≤ 1) }
+{
+    let rs = own_bytes(cells, Own::Rs)?;
+    let fs = own_bytes(cells, Own::Fs)?;
+    Splitter::short(fs, rs.is_empty())
+}
+
 impl Store {
     /// Rebuilds the whole text of the record where a field or NF was set since it was last there. What a run holds stays the
     /// same, and `known_whole` and `lent_field` have the text from then on until the next set.
@@ -69,7 +81,25 @@ impl Store {
     /// Fails with `Fault::Pattern` exactly where FS is longer than one byte and no ERE within the limits, then with
     /// `Fault::TextTooLong` exactly where the text has too many bytes, and with `Fault::Memory` where memory is refused;
     /// then nothing has changed.
+    #[inline(always)]
     pub fn set_whole(&mut self, text: Octets) -> Result<(), Fault>
+        ensures ok { OnOk result (self.new ≡ with_row (row_of self.old text) self.old) }
+        ensures fits { OnOk result (length text ≤ most_bytes) }
+        ensures pattern { OnOk result (1 < length (own_text self.old own.Fs) → IsEre (own_text self.old own.Fs)) }
+        ensures err { OnErr result (self.new ≡ self.old) }
+        ensures fault { IfErr result (λ e. (e ≡ Fault.Memory)
+            ⊎ ((e ≡ Fault.Pattern) × (1 < length (own_text self.old own.Fs)) × IsNoEre (own_text self.old own.Fs))
+            ⊎ ((e ≡ Fault.TextTooLong) × (1 < length (own_text self.old own.Fs) → IsEre (own_text self.old own.Fs)) × (most_bytes < length text))) }
+    {
+        if let Some(splitter) = short_splitter(self.cells.as_slice()) {
+            return self.row.set_whole(text, splitter);
+        }
+        self.set_whole_any(text)
+    }
+
+    /// As `set_whole`. It stands out of line, since few scripts need it.
+    #[inline(never)]
+    fn set_whole_any(&mut self, text: Octets) -> Result<(), Fault>
         ensures ok { OnOk result (self.new ≡ with_row (row_of self.old text) self.old) }
         ensures fits { OnOk result (length text ≤ most_bytes) }
         ensures pattern { OnOk result (1 < length (own_text self.old own.Fs) → IsEre (own_text self.old own.Fs)) }
@@ -83,6 +113,7 @@ impl Store {
     }
 
     /// What the text of the record before lay in, for the next one to be written there. What a run holds stays the same.
+    #[inline(always)]
     pub fn take_room(&mut self) -> Vec<u8>
         ensures { self.new ≡ self.old }
     {

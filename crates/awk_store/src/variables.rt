@@ -1,6 +1,7 @@
 // Variables.
-ghost use Rattle.std.specs.Prelude.{◌≡◌, Ok, Err, ℤ, length, slice_get, slice_set, unwrap_or, IfOk, IfErr, OnOk, OnErr};
+ghost use Rattle.std.specs.Prelude.{◌≡◌, Ok, Err, ℤ, pos, true, false, length, slice_get, slice_set, unwrap_or, IfOk, IfErr, IfSome, OnOk, OnErr};
 ghost use Rattle.std.specs.Option.{option_copied};
+ghost use Rattle.awk_text.specs.Arithmetic.{add as sum};
 ghost use Rattle.awk_text.specs.Values.{text_of};
 ghost use Rattle.awk_program.specs.Slots.{slot_of};
 ghost use Rattle.awk_store.specs.Kept.{bound_scalar, is_nf, own_text, own_value, scalar, value, value_at};
@@ -42,6 +43,29 @@ pub(crate) fn own_text<'a>(cells: &'a [Cell], name: Own, buffer: &'a mut Buffer)
     match value_at(cells, name.slot() as usize) {
         Some(value) => text_in(value, buffer),
         None => &[],
+    }
+}
+
+/// The text of one of awk's own variables, where it holds a text.
+#[inline(always)]
+pub(crate) fn own_bytes(cells: &[Cell], name: Own) -> Option<&[u8]>
+    ensures { IfSome result (λ text. text.now ≡ text_of (value_at cells.now (slot_of name))) }
+{
+    match value_at(cells, name.slot() as usize)? {
+        Value::Text(text) | Value::Input(text) => Some(text.bytes()),
+        Value::Unset | Value::Num(_) => None,
+    }
+}
+
+/// Adds 1 to the number at a slot, where one is there and the sum is in range, and answers whether it did.
+#[inline(always)]
+fn add_one(cells: &mut Vec<Cell>, slot: usize) -> bool
+    ensures done { result ≡ true → (n : ℤ) × (m : ℤ) × (value_at cells.old.items slot ≡ Value.Num n) × (sum n (pos 1) ≡ Ok m) × (cells.new.items ≡ change_at (given_value (Value.Num m)) cells.old.items slot) }
+    ensures not_done { result ≡ false → cells.new.items ≡ cells.old.items }
+{
+    match cells.get_mut(slot) {
+        Some(cell) => cell.add_one(),
+        None => false,
     }
 }
 
@@ -144,6 +168,14 @@ impl Store {
         value_at(self.cells.as_slice(), name.slot() as usize)
     }
 
+    /// The text of one of awk's own variables, where it holds a text. Takes no memory.
+    #[inline(always)]
+    pub fn own_bytes(&self, name: Own) -> Option<&[u8]>
+        ensures { IfSome result (λ text. text.now ≡ own_text self.now name) }
+    {
+        own_bytes(self.cells.as_slice(), name)
+    }
+
     /// The text of one of awk's own variables: a number's is written into the buffer. Takes no memory.
     pub fn own_text<'a>(&'a self, name: Own, buffer: &'a mut Buffer) -> &'a [u8]
         ensures { result.now ≡ own_text self.now name }
@@ -162,7 +194,20 @@ impl Store {
     /// Adds 1 to the number of a counter, as NR. Takes no memory.
     ///
     /// Fails with `Fault::OutOfRange` exactly where the number or the sum is out of range; then nothing has changed.
+    #[inline(always)]
     pub fn count(&mut self, name: Own) -> Result<(), Fault>
+        ensures ok { OnOk result ((n : ℤ) × (counted (own_value self.old name) ≡ Ok n) × (self.new ≡ with_own name (Value.Num n) self.old)) }
+        ensures err { IfErr result (λ e. (counted (own_value self.old name) ≡ Err e) × (self.new ≡ self.old)) }
+    {
+        if add_one(&mut self.cells, name.slot() as usize) {
+            return Ok(());
+        }
+        self.count_any(name)
+    }
+
+    /// As `count`. It stands out of line, since a counter mostly holds a number.
+    #[inline(never)]
+    fn count_any(&mut self, name: Own) -> Result<(), Fault>
         ensures ok { OnOk result ((n : ℤ) × (counted (own_value self.old name) ≡ Ok n) × (self.new ≡ with_own name (Value.Num n) self.old)) }
         ensures err { IfErr result (λ e. (counted (own_value self.old name) ≡ Err e) × (self.new ≡ self.old)) }
     {

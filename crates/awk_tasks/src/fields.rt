@@ -6,11 +6,13 @@ ghost use Rattle.awk_machine.specs.State.{Given};
 ghost use Rattle.awk_asks.specs.Tables.{Table};
 ghost use Rattle.awk_asks.specs.Tasks.{goes_on};
 ghost use Rattle.awk_tasks.specs.Acts.{Acts};
+ghost use Rattle.awk_text.specs.Values.{text_of};
 
 use crate::faults::at;
 use crate::values::into_text;
 use awk_asks::halt::Halt;
 use awk_store::Store;
+use awk_text::octets::Octets;
 use awk_text::place::Place;
 use awk_text::value::Value;
 use std::alloc::Global;
@@ -25,14 +27,22 @@ pub fn read_field(store: &mut Store, number: u16) -> Result<Value, Halt>
     Ok(value)
 }
 
-/// Sets the whole record, whose fields go by FS and RS as they are now.
+/// Sets the whole record to the text of a value; its fields go by FS and RS as they are now.
+#[inline(always)]
+pub fn set_record(store: &mut Store, place: Place, text: Octets) -> Result<(), Halt>
+    ensures { (g : Given) (t : Table) (x : Value) → text_of x ≡ text → Acts g (Do (Set (machine.Field 0) place x)) goes_on (store.old, t) result (store.new, t) }
+{
+    at(place, store.set_whole(text))
+}
+
+/// Sets the whole record to a value.
 fn set_whole(alloc: Global, store: &mut Store, place: Place, value: Value) -> Result<(), Halt>
     ensures { (g : Given) (t : Table) → Acts g (Do (Set (machine.Field 0) place value)) goes_on (store.old, t) result (store.new, t) }
 {
     let Ok(text) = into_text(alloc, value) else {
         return Err(Halt::Memory);
     };
-    at(place, store.set_whole(text))
+    set_record(store, place, text)
 }
 
 /// Sets a field by its number: 0 is the whole record.

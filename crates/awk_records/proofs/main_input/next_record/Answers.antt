@@ -1,31 +1,48 @@
-use Rattle.std.proofs.Common.{refl, ap, ◌∙◌, false, []}
-use Rattle.std.specs.Prelude.{Ok}
+use Rattle.std.proofs.Common.{refl, [], Some}
+use Rattle.awk_fields.specs.Heads.{head}
+use Rattle.awk_program.specs.declared.variables.Own.TheVariants as own
+use Rattle.awk_store.specs.Kept.{own_text}
+use Rattle.awk_asks.specs.declared.getline.Found.TheVariants as found
+use Rattle.awk_asks.proofs.Leading.{owns_same}
+use Rattle.awk_asks.proofs.MoreSteps.{first_owns}
 use Rattle.std.proofs.lemmas.Result.{err_from_is_err_and}
 use Rattle.awk_text.specs.declared.value.Value.TheVariants as v
 use Rattle.awk_asks.proofs.Chain.{part}
 use Rattle.awk_tasks.proofs.Acting.{acted}
-use Rattle.awk_records.proofs.MainSteps.{done_in, no_record_meets, records_first, stop_acts, stop_in}
+use Rattle.awk_records.proofs.MainSteps.{done_in, line_taken, records_first, same_in, stop_acts}
 use Rattle.awk_records.proofs.main_input.next_record.Goals as goal
 
-pub returns-in_err-text-clause-task : goal.returns-in_err-text-clause-task
-returns-in_err-text-clause-task g c =
+pub returns-in_err-begin_record-clause-task : goal.returns-in_err-begin_record-clause-task
+returns-in_err-begin_record-clause-task g c =
+    let text = c.takes_line.new.room.items in
+    let streams = c.takes_line.new.streams in
+    let line = rw c.take_room-room.ensures at (c.takes_line.ensures.taken c.if-takes_line.true) in
     let e = err_from_is_err_and c.from_residual.result c.from_residual.ensures.1 in
-    rw (e.1, e.2) (λ m h. stop_in _ (records_first m (c.args.store.now, c.args.streams.now) c.args.world.now) (c.in_err-text.ensures.task m h) refl)
+    rw (e.1, e.2) (λ m h. stop_acts _ (part (v.Input text) (records_first m (c.args.store.now, c.args.streams.now) c.args.world.now) (line_taken m c.args.store.now c.args.streams.now streams text c.args.world.now line) refl)
+    (rw (c.take_room-room.ensures, c.new.ensures) at (c.begin_record.ensures m streams [])) c.in_err-begin_record.was)
 
-pub returns-in_err-begin_record-in-Input-clause-task : goal.returns-in_err-begin_record-in-Input-clause-task
-returns-in_err-begin_record-in-Input-clause-task g c =
-    let e = err_from_is_err_and c.from_residual-in_err-begin_record-in-Input.result c.from_residual-in_err-begin_record-in-Input.ensures.1 in
-    rw (e.1, e.2) (λ m h. stop_acts _ (part (v.Input c.in-Input.text) (records_first m (c.args.store.now, c.args.streams.now) c.args.world.now) (c.take.ensures.task m h) (c.in_ok-text.was ∙ ap (λ x. Ok x) c.in-Input.is))
-    (c.begin_record.ensures m c.take.new.streams []) c.in_err-begin_record-in-Input.was)
+pub returns-then-takes_line-clause-task : goal.returns-then-takes_line-clause-task
+returns-then-takes_line-clause-task g c =
+    let text = c.takes_line.new.room.items in
+    let streams = c.takes_line.new.streams in
+    let line = rw c.take_room-room.ensures at (c.takes_line.ensures.taken c.if-takes_line.true) in
+    λ m h. done_in (part tt (part (v.Input text) (records_first m (c.args.store.now, c.args.streams.now) c.args.world.now) (line_taken m c.args.store.now c.args.streams.now streams text c.args.world.now line) refl)
+    (acted (rw (c.take_room-room.ensures, c.new.ensures) at (c.begin_record.ensures m streams []))) c.in_ok-begin_record.was)
 
-pub returns-in-Input-clause-task : goal.returns-in-Input-clause-task
-returns-in-Input-clause-task g c = λ m h.
-    done_in (part tt (part (v.Input c.in-Input.text) (records_first m (c.args.store.now, c.args.streams.now) c.args.world.now) (c.take.ensures.task m h) (c.in_ok-text.was ∙ ap (λ x. Ok x) c.in-Input.is))
-    (acted (c.begin_record.ensures m c.take.new.streams [])) c.in_ok-begin_record-in-Input.was)
+pub returns-clause-task : goal.returns-clause-task
+returns-clause-task g c =
+    let same = c.takes_line.ensures.not_taken c.if-takes_line.false in
+    λ m h. same_in c.args.store.now c.args.streams.now c.takes_line.new.streams c.next_any.result same (rw (c.take_room-room.ensures, c.keep_room.ensures) at (c.next_any.ensures.task m h))
 
-pub returns : goal.returns
-returns g c = record {
-  task = λ m h. done_in (part false (part c.in_ok-text.field-0 (records_first m (c.args.store.now, c.args.streams.now) c.args.world.now) (c.take.ensures.task m h) c.in_ok-text.was)
-      (no_record_meets m c.in_ok-text.field-0 (c.take.new.store, c.take.new.streams) c.take.new.world c.in_default.not-Input) refl);
-  owns = c.take.ensures.owns;
-}
+pub next_any-requires : goal.next_any-requires
+next_any-requires g c = rw c.keep_room.ensures (owns_same _ c.args.streams.now c.takes_line.new.streams (c.takes_line.ensures.not_taken c.if-takes_line.false) c.requires)
+
+pub returns-then-takes_line-clause-owns : goal.returns-then-takes_line-clause-owns
+returns-then-takes_line-clause-owns g c =
+    let x = c.takes_line.ensures.taken c.if-takes_line.true in
+    first_owns _ x.key c.args.streams.now c.takes_line.new.streams x.line.before (head (own_text c.take_room-room.new.self own.Rs) x.line.before.unread x.line.before.ended) (Some (found.Record c.takes_line.new.room.items)) x.line.first c.requires
+
+pub returns-in_err-begin_record-clause-owns : goal.returns-in_err-begin_record-clause-owns
+returns-in_err-begin_record-clause-owns g c =
+    let x = c.takes_line.ensures.taken c.if-takes_line.true in
+    first_owns _ x.key c.args.streams.now c.takes_line.new.streams x.line.before (head (own_text c.take_room-room.new.self own.Rs) x.line.before.unread x.line.before.ended) (Some (found.Record c.takes_line.new.room.items)) x.line.first c.requires

@@ -9,7 +9,7 @@ use Rattle.awk_program.specs.Slots.{slot_of}
 use Rattle.awk_program.specs.declared.variables.Own.TheVariants as own
 use Rattle.awk_store.specs.Kept.{own_text, value_at}
 use Rattle.awk_store.proofs.Cells.{err_so, ok_always}
-use Rattle.awk_store.proofs.store.Store.set_whole.Goals as goal
+use Rattle.awk_store.proofs.store.Store.set_whole_any.Goals as goal
 
 -- a fault of the separator, among those of the record
 faulted : (e : Fault) (fs gs : List ℕ) (Else : Type 0) → fs ≡ gs → (e ≡ fault.Memory) ⊎ ((e ≡ fault.Pattern) × (1 < length fs) × IsNoEre fs)

@@ -4,7 +4,7 @@ use Rattle.awk_machine.specs.State.{Given}
 use Rattle.awk_asks.specs.Tasks.{Owns}
 use Rattle.awk_records.specs.Hosts.{IsHost}
 use Rattle.awk_records.specs.Performs.{LeadsOn}
-use Rattle.awk_records.proofs.main_input.take.Given as goal
+use Rattle.awk_records.proofs.main_input.take_on.Given as goal
 
 abbrev pub invariant-loop : goal.invariant-loop
 invariant-loop g l =

@@ -1,0 +1,21 @@
+use Rattle.std.proofs.Common.{refl}
+use Rattle.awk_fields.specs.Heads.{head}
+use Rattle.awk_fields.specs.declared.reader.Taken.TheVariants as taken
+use Rattle.box_world.specs.Events.{Standard}
+use Rattle.awk_asks.proofs.Firsts.{first_is}
+use Rattle.awk_asks.proofs.Lives.{read_standard}
+use Rattle.awk_asks.proofs.getline.take_standard_line.Goals as goal
+
+pub returns-clause-taken : goal.returns-clause-taken
+returns-clause-taken c = λ is.
+    let old = c.args.streams.now in
+    let new = c.take_standard_line.new.self in
+    record {
+      before = old.input;
+      live = refl;
+      first = first_is (Standard 0) old new old.input new.input (head c.args.rs.now old.input.unread old.input.ended) (taken.Record c.take_standard_line.new.room.items) (c.take_standard_line.ensures.taken is)
+          (read_standard new.input old new c.take_standard_line.ensures.entries refl);
+    }
+
+pub returns-clause-not_taken : goal.returns-clause-not_taken
+returns-clause-not_taken c = λ is. rw (c.take_standard_line.ensures.not_taken is) (record { entries = refl; input = refl })
