@@ -158,6 +158,7 @@ impl Marks {
             self.in_short(rest)
         }
     }
+
     /// How many bytes stand before the first mark.
     pub fn len_before(self, text: &[u8]) -> usize
         ensures place { result ≡ position_or_len (is_mark self) text.now }
