@@ -8,8 +8,8 @@ use Rattle.awk_fields.specs.Spans.{AreSpans}
 use Rattle.awk_fields.specs.declared.marks.Marks.{Marks}
 use Rattle.awk_fields.specs.declared.spans.Span.{Span}
 
--- `cut` says which parts a text has. The parts that end before a place are found, and none of the
--- bytes from `start` up to the place, which are of no kind that separates, belongs to them.
+-- `cut` says which parts a text has. Those that end before a place are found: the bytes from `start`
+-- up to the place belong to none of them, and none of these bytes separates.
 pub record FoundTo (p : ℕ → Bool) (cut : List ℕ → List (List ℕ)) (s : List ℕ) (at start : ℕ) (spans : List Span) : Type 0 where
   pub ordered : start ≤ at
   pub inside : at ≤ length s
