@@ -24,6 +24,16 @@ fn sign_place(with: &[u8]) -> Option<usize>
     memchr2(b'&', b'\\', with)
 }
 
+/// Whether all of it stands for itself, whatever was matched.
+fn is_plain(with: &[u8]) -> bool
+    ensures { result ≡ true → (matched : List ℕ) → filled matched false with.now ≡ with.now }
+{
+    match sign_place(with) {
+        Some(_) => false,
+        None => true,
+    }
+}
+
 /// What stands for a match by the first sign of `with`, and the rest of `with`.
 fn sign<'a>(with: &'a [u8], matched: &'a [u8]) -> (&'a [u8], &'a [u8])
     ensures filled { filled matched.now false with.now ≡ result.0.now ++ filled matched.now false result.1.now }
@@ -53,10 +63,11 @@ fn push_filled(out: &mut NewText, with: &[u8], matched: &[u8]) -> Result<(), Mem
     out.push(rest)
 }
 
-/// Adds the text from one place up to a match, and what stands for the match.
+/// Adds the text from one place up to a match, and what stands for the match; `plain` tells that all of `with` stands for itself.
 fn push_match(
     out: &mut NewText,
     with: &[u8],
+    plain: bool,
     text: &[u8],
     from: usize,
     start: usize,
@@ -65,10 +76,14 @@ fn push_match(
     requires after { from ≤ start }
     requires ordered { start ≤ end }
     requires inside { end ≤ length text.now }
+    requires plain { plain ≡ true → (matched : List ℕ) → filled matched false with.now ≡ with.now }
     ensures { OnOk result (out.new ≡ written out.old
         (slice_range text.now from start ++ filled (slice_range text.now start end) false with.now)) }
 {
     out.push(&text[from..start])?;
+    if plain {
+        return out.push(with);
+    }
     push_filled(out, with, &text[start..end])
 }
 
@@ -130,7 +145,7 @@ fn replace_first(
         return Ok(None);
     };
     let mut out = NewText::with_room(alloc, text.len())?;
-    push_match(&mut out, with, text, 0, start, end)?;
+    push_match(&mut out, with, is_plain(with), text, 0, start, end)?;
     let new = out.finish(&text[end..])?;
     Ok(Some((new, 1)))
 }
@@ -153,10 +168,11 @@ fn replace_all(
         return Ok(None);
     }
     let mut out = NewText::with_room(alloc, text.len())?;
+    let plain = is_plain(with);
     let mut done = 0;
     let mut count: usize = 0;
     while let Some((start, end)) = next {
-        push_match(&mut out, with, text, done, start, end)?;
+        push_match(&mut out, with, plain, text, done, start, end)?;
         done = end;
         count += 1;
         next = next_match(ere, text, next_from(start, end), Some(end))?;
