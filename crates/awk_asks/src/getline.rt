@@ -83,7 +83,8 @@ pub fn take_standard_line(rs: &[u8], streams: &mut Streams, room: &mut Vec<u8>) 
     streams.take_standard_line(rs, room)
 }
 
-/// The same of a stream that is opened.
+/// The same of a stream that is opened. It stands out of line, so that reading the standard input stays short.
+#[inline(never)]
 pub fn take_line(
     class: Class,
     name: &[u8],
