@@ -58,10 +58,10 @@ fn number_held(store: &Store, variable: Variable) -> Option<i64>
 fn number_read(store: &Store, target: &Target<Expr>) -> Option<i64>
     ensures { IfSome result (λ n. IsThere (λ names. p.read (view_target names target.now)) store.now (v.Num n)) }
 {
-    match target {
-        Target::Variable(variable) => number_held(store, *variable),
-        Target::Element(_, _, _) | Target::Field(_, _) => None,
-    }
+    let Target::Variable(variable) = target else {
+        return None;
+    };
+    number_held(store, *variable)
 }
 
 /// The number of what is read, where that is a variable that holds a text from outside of a few digits.
@@ -188,22 +188,22 @@ fn number_of_target(store: &Store, target: &Target<Expr>, level: u32) -> Option<
 pub fn number_at_hand(store: &Store, e: &Expr, level: u32) -> Option<i64>
     ensures { IfSome result (λ n. HasNumber (λ names. view names e.now) store.now n) }
 {
-    match e {
-        Expr::Number(number) => Some(*number),
-        Expr::Read(target) => {
-            if let Some(number) = number_read(store, target) {
-                return Some(number);
-            }
-            number_of_target(store, target, level)
+    if let Expr::Read(target) = e {
+        if let Some(number) = number_read(store, target) {
+            return Some(number);
         }
-        Expr::Chain(x, xs) => {
-            if level == 0 {
-                return None;
-            }
-            chain_at_hand(store, x.get(), xs.as_slice(), level - 1)
-        }
-        _ => None,
+        return number_of_target(store, target, level);
     }
+    if let Expr::Number(number) = e {
+        return Some(*number);
+    }
+    let Expr::Chain(x, xs) = e else {
+        return None;
+    };
+    if level == 0 {
+        return None;
+    }
+    chain_at_hand(store, x.get(), xs.as_slice(), level - 1)
 }
 
 /// The value of an expression, where it is there: to evaluate it changes nothing and meets no fault.
@@ -212,19 +212,23 @@ pub fn number_at_hand(store: &Store, e: &Expr, level: u32) -> Option<i64>
 pub fn at_hand<'a>(store: &'a Store, e: &'a Expr, level: u32) -> Option<Lent<'a>>
     ensures { IfSome result (λ v. IsThere (λ names. view names e.now) store.now (lent_value v)) }
 {
-    match e {
-        Expr::Number(number) => Some(Lent::Num(*number)),
-        Expr::Text(text) => Some(Lent::Text(text.bytes())),
-        Expr::Read(target) => target_at_hand(store, target, level),
-        Expr::Chain(x, xs) => {
-            if level == 0 {
-                return None;
-            }
-            let number = chain_at_hand(store, x.get(), xs.as_slice(), level - 1)?;
-            Some(Lent::Num(number))
-        }
-        _ => None,
+    if let Expr::Read(target) = e {
+        return target_at_hand(store, target, level);
     }
+    if let Expr::Text(text) = e {
+        return Some(Lent::Text(text.bytes()));
+    }
+    if let Expr::Number(number) = e {
+        return Some(Lent::Num(*number));
+    }
+    let Expr::Chain(x, xs) = e else {
+        return None;
+    };
+    if level == 0 {
+        return None;
+    }
+    let number = chain_at_hand(store, x.get(), xs.as_slice(), level - 1)?;
+    Some(Lent::Num(number))
 }
 
 /// The number of a constant, or of a variable that holds one: what loops read most.
@@ -232,11 +236,13 @@ pub fn at_hand<'a>(store: &'a Store, e: &'a Expr, level: u32) -> Option<Lent<'a>
 fn plain_number(store: &Store, e: &Expr) -> Option<i64>
     ensures { IfSome result (λ n. IsThere (λ names. view names e.now) store.now (v.Num n)) }
 {
-    match e {
-        Expr::Number(number) => Some(*number),
-        Expr::Read(target) => number_read(store, target),
-        _ => None,
+    if let Expr::Read(target) = e {
+        return number_read(store, target);
     }
+    if let Expr::Number(number) = e {
+        return Some(*number);
+    }
+    None
 }
 
 /// The number that an expression's value is, where that stands ready, or a chain makes it of what is there.
@@ -244,10 +250,10 @@ fn plain_number(store: &Store, e: &Expr) -> Option<i64>
 pub fn number_there(store: &Store, e: &Expr) -> Option<i64>
     ensures { IfSome result (λ n. IsThere (λ names. view names e.now) store.now (v.Num n)) }
 {
-    match e {
-        Expr::Chain(x, xs) => chain_at_hand(store, x.get(), xs.as_slice(), MOST_LEVELS),
-        _ => plain_number(store, e),
+    if let Expr::Chain(x, xs) = e {
+        return chain_at_hand(store, x.get(), xs.as_slice(), MOST_LEVELS);
     }
+    plain_number(store, e)
 }
 
 /// A value of its own for what is lent.
@@ -281,7 +287,7 @@ pub fn value_at_hand(alloc: Global, store: &Store, e: &Expr) -> Option<Value>
         return Some(Value::Num(number));
     }
     match e {
-        Expr::Text(_) | Expr::Read(_) => value_there(alloc, store, e),
+        Expr::Read(_) | Expr::Text(_) => value_there(alloc, store, e),
         _ => None,
     }
 }
@@ -291,11 +297,13 @@ pub fn value_at_hand(alloc: Global, store: &Store, e: &Expr) -> Option<Value>
 fn counted_there(store: &Store, e: &Expr) -> Option<i64>
     ensures { IfSome result (λ n. CountsAs (λ names. view names e.now) store.now n) }
 {
-    match e {
-        Expr::Chain(x, xs) => chain_at_hand(store, x.get(), xs.as_slice(), MOST_LEVELS),
-        Expr::Read(target) => digits_held(store, target),
-        _ => None,
+    if let Expr::Chain(x, xs) = e {
+        return chain_at_hand(store, x.get(), xs.as_slice(), MOST_LEVELS);
     }
+    let Expr::Read(target) = e else {
+        return None;
+    };
+    digits_held(store, target)
 }
 
 /// Whether a comparison with a number holds, where the other side is there.
@@ -356,9 +364,8 @@ fn truth_there(store: &Store, e: &Expr) -> Option<bool>
 pub fn truth_at_hand(store: &Store, e: &Expr) -> Option<bool>
     ensures { IfSome result (λ b. HasTruth (λ names. view names e.now) store.now b) }
 {
-    match e {
-        Expr::Compare(how, x, y) => compared_at_hand(store, *how, x.get(), y.get()),
-        Expr::Number(_) | Expr::Text(_) | Expr::Read(_) | Expr::Chain(_, _) => truth_there(store, e),
-        _ => None,
+    if let Expr::Compare(how, x, y) = e {
+        return compared_at_hand(store, *how, x.get(), y.get());
     }
+    truth_there(store, e)
 }

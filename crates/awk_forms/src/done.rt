@@ -216,13 +216,13 @@ fn assigned(
     ensures done { result ≡ true → (place : Place) → IsDone (λ names. p.assign place (view_target names target.now) (view names x.now)) store.old store.new }
     ensures not_done { result ≡ false → store.new ≡ store.old }
 {
-    match target {
-        Target::Variable(variable) => assigned_variable(alloc, store, *variable, x),
-        Target::Element(_, array, keys) => {
-            assigned_element(alloc, store, line, *array, keys.as_slice(), x)
-        }
-        Target::Field(_, _) => false,
+    if let Target::Variable(variable) = target {
+        return assigned_variable(alloc, store, *variable, x);
     }
+    let Target::Element(_, array, keys) = target else {
+        return false;
+    };
+    assigned_element(alloc, store, line, *array, keys.as_slice(), x)
 }
 
 /// `variable += number`, and with the other operators.
@@ -291,13 +291,13 @@ fn changed(
     ensures done { result ≡ true → (place : Place) → IsDone (λ names. p.change place how (view_target names target.now) (view names x.now)) store.old store.new }
     ensures not_done { result ≡ false → store.new ≡ store.old }
 {
-    match target {
-        Target::Variable(variable) => changed_variable(store, how, *variable, x),
-        Target::Element(_, array, keys) => {
-            added_by(store, line, how, *array, keys.as_slice(), x)
-        }
-        Target::Field(_, _) => false,
+    if let Target::Variable(variable) = target {
+        return changed_variable(store, how, *variable, x);
     }
+    let Target::Element(_, array, keys) = target else {
+        return false;
+    };
+    added_by(store, line, how, *array, keys.as_slice(), x)
 }
 
 /// `variable ++` and `variable --`
@@ -347,13 +347,13 @@ fn stepped_target(store: &mut Store, line: &mut Line, how: Step, target: &Target
     ensures done { result ≡ true → (place : Place) (taken : Which) → IsDone (λ names. p.step place how taken (view_target names target.now)) store.old store.new }
     ensures not_done { result ≡ false → store.new ≡ store.old }
 {
-    match target {
-        Target::Variable(variable) => stepped_variable(store, how, *variable),
-        Target::Element(_, array, keys) => {
-            stepped_element(store, line, how, *array, keys.as_slice())
-        }
-        Target::Field(_, _) => false,
+    if let Target::Variable(variable) = target {
+        return stepped_variable(store, how, *variable);
     }
+    let Target::Element(_, array, keys) = target else {
+        return false;
+    };
+    stepped_element(store, line, how, *array, keys.as_slice())
 }
 
 /// Does the whole of an assignment whose parts are at hand. Else it does nothing, and answers `false`;
@@ -363,10 +363,14 @@ pub fn done_at_once(alloc: Global, store: &mut Store, line: &mut Line, e: &Expr)
     ensures done { result ≡ true → IsDone (λ names. view names e.now) store.old store.new }
     ensures not_done { result ≡ false → store.new ≡ store.old }
 {
-    match e {
-        Expr::Assign(_, target, x) => assigned(alloc, store, line, target, x.get()),
-        Expr::Change(_, how, target, x) => changed(store, line, *how, target, x.get()),
-        Expr::Step(_, how, _, target) => stepped_target(store, line, *how, target),
-        _ => false,
+    if let Expr::Assign(_, target, x) = e {
+        return assigned(alloc, store, line, target, x.get());
     }
+    if let Expr::Step(_, how, _, target) = e {
+        return stepped_target(store, line, *how, target);
+    }
+    let Expr::Change(_, how, target, x) = e else {
+        return false;
+    };
+    changed(store, line, *how, target, x.get())
 }

@@ -26,9 +26,9 @@ pub at_hand-returns-in-Read : goal.at_hand-returns-in-Read
 at_hand-returns-in-Read t c =
     some_for {P = λ x. IsThere (λ names. p.read (view_target names c.in-Read.target)) c.args.store.now (lent_value x)} c.target_at_hand.result (λ x h g u. rw (c.in-Read.is, view-Read) (h g u)) c.target_at_hand.ensures
 
-pub at_hand-returns-in_ok-number-in-Chain : goal.at_hand-returns-in_ok-number-in-Chain
-at_hand-returns-in_ok-number-in-Chain t c = λ g u.
-    rw (c.in-Chain.is, view-Chain, to_z-of_z w64 c.in_ok-number-in-Chain.number (search rules)) (rw (c.get.ensures, c.as_slice.ensures) at (c.in_ok-number-in-Chain.ensures g u))
+pub at_hand-returns : goal.at_hand-returns
+at_hand-returns t c = λ g u.
+    rw (c.in-Chain.is, view-Chain, to_z-of_z w64 c.in_ok-number.number (search rules)) (rw (c.get.ensures, c.as_slice.ensures) at (c.in_ok-number.ensures g u))
 
 pub element_at_hand-returns : goal.element_at_hand-returns
 element_at_hand-returns t c = λ g u.
@@ -62,13 +62,13 @@ number_of_target-returns t c =
     rw (c.ok.ensures.value, c.number.ensures) (some_for {P = λ n. number ≡ Ok n} (result_ok number)
     (λ n is. record { val = lent_value c.in_ok-value.value; is = is; there = c.in_ok-value.ensures }) (ok_told number))
 
-pub number_at_hand-returns-in_default-number_read : goal.number_at_hand-returns-in_default-number_read
-number_at_hand-returns-in_default-number_read t c =
+pub number_at_hand-returns-in-Read : goal.number_at_hand-returns-in-Read
+number_at_hand-returns-in-Read t c =
     some_for {P = λ n. HasNumber (λ names. p.read (view_target names c.in-Read.target)) c.args.store.now n} c.number_of_target.result
     (λ n h. record { val = h.val; is = h.is; there = λ g u. rw (c.in-Read.is, view-Read) (h.there g u) }) c.number_of_target.ensures
 
-pub number_at_hand-returns-else-level-eq0 : goal.number_at_hand-returns-else-level-eq0
-number_at_hand-returns-else-level-eq0 t c =
+pub number_at_hand-returns : goal.number_at_hand-returns
+number_at_hand-returns t c =
     some_for {P = λ n. IsThere (λ names. p.chain (view names c.get.result.now) (terms_of (map (view_term names) c.as_slice.result.now))) c.args.store.now (v.Num n)} c.chain_at_hand.result
     (λ n h. record { val = v.Num n; is = refl; there = λ g u. rw (c.in-Chain.is, view-Chain) (rw (c.get.ensures, c.as_slice.ensures) at (h g u)) }) c.chain_at_hand.ensures
 
