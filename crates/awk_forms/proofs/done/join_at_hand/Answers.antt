@@ -1,4 +1,4 @@
-use Rattle.std.proofs.Common.{◌≤◌, ◌∙◌, ap, [], ◌++◌, ℕ, length, map, arith}
+use Rattle.std.proofs.Common.{◌∙◌, ap, [], ◌++◌, ℕ, map, arith}
 use Rattle.std.proofs.lemmas.List.{length-append}
 use Rattle.awk_lib.specs.Written.{written}
 use Rattle.awk_program.specs.Program.{joins_of}
