@@ -32,7 +32,8 @@ use awk_text::value::{Value, number_of, truth};
 use awk_works::operators::{compared, truth_value};
 use box_world::world::World;
 
-/// The value of an expression. Each part is evaluated one level lower; where there is none left, memory for the parts is refused.
+/// The value of an expression. Each part is evaluated one level lower; where there is none left, memory for the parts is refused. Those of
+/// which functions that call themselves are made do not go through `evaluate`, whose frame is larger.
 #[cycle(run)]
 pub fn value<W: World>(
     cx: &Context<'_>,

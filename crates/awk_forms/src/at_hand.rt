@@ -1,10 +1,11 @@
 // Values that are there without a move: constants, variables, elements, fields, and what arithmetic makes of them.
-ghost use Rattle.std.specs.Prelude.{◌≡◌, map, IfSome};
+ghost use Rattle.std.specs.Prelude.{◌≡◌, false, map, IfSome};
 ghost use Rattle.awk_forms.specs.AtHand.{CountsAs, HasNumber, HasTruth, IsThere};
 ghost use Rattle.awk_lent.specs.Lents.{lent_value};
 ghost use Rattle.awk_program.specs.Program as p;
 ghost use Rattle.awk_program.specs.Program.{expressions_of, terms_of};
 ghost use Rattle.awk_program.specs.View.{Names, view, view_target, view_term, variable_of};
+ghost use Rattle.awk_store.specs.Kept as kept;
 ghost use Rattle.awk_text.specs.declared.value.Value.TheVariants as v;
 
 use awk_lent::lent::{Lent, few_digits};
@@ -37,6 +38,22 @@ fn variable_at_hand<'a>(store: &'a Store, variable: Variable) -> Option<Lent<'a>
     }
 }
 
+/// The number that a variable holds that is not NF, if it holds one.
+#[inline(always)]
+pub fn number_kept(store: &Store, variable: Variable) -> Option<i64>
+    ensures nf { IfSome result (λ n. kept.is_nf variable ≡ false) }
+    ensures number { IfSome result (λ n. kept.value store.now variable ≡ v.Num n) }
+{
+    if is_nf(variable) {
+        return None;
+    }
+    let held = store.value(variable)?;
+    match held {
+        Value::Num(number) => Some(*number),
+        Value::Unset | Value::Text(_) | Value::Input(_) => None,
+    }
+}
+
 /// The number that a variable holds, if it holds one. NF does where the record is split.
 #[inline(always)]
 fn number_held(store: &Store, variable: Variable) -> Option<i64>
@@ -46,11 +63,7 @@ fn number_held(store: &Store, variable: Variable) -> Option<i64>
         let count = store.known_field_count()?;
         return Some(count);
     }
-    let held = store.value(variable)?;
-    match held {
-        Value::Num(number) => Some(*number),
-        Value::Unset | Value::Text(_) | Value::Input(_) => None,
-    }
+    number_kept(store, variable)
 }
 
 /// The number of what is read, where that is a variable that holds one.

@@ -11,12 +11,13 @@ ghost use Rattle.awk_store.specs.Kept as kept;
 ghost use Rattle.awk_program.specs.declared.operators.Taken.{Taken as Which};
 ghost use Rattle.awk_text.specs.Arithmetic.{add};
 ghost use Rattle.awk_text.specs.Limits.{most_bytes};
-ghost use Rattle.awk_text.specs.Values as values;
 ghost use Rattle.awk_text.specs.Values.{text_of};
 ghost use Rattle.awk_text.specs.declared.value.Value.{Value as Val};
 ghost use Rattle.awk_text.specs.declared.value.Value.TheVariants as v;
 
-use crate::at_hand::{MOST_LEVELS, at_hand, number_at_hand, number_there, value_at_hand};
+use crate::at_hand::{
+    MOST_LEVELS, at_hand, number_at_hand, number_kept, number_there, value_at_hand,
+};
 use crate::outputs::add_item;
 use awk_program::{Expr, Joined, Operator, Step, Target, Variable};
 use awk_store::{Store, is_nf};
@@ -144,22 +145,6 @@ fn added_at(store: &mut Store, line: &mut Line, array: Variable, keys: &[Expr], 
     store.add_to(array, key, by)
 }
 
-/// The number that a variable holds that is not NF, if it holds one.
-#[inline(always)]
-fn number_held(store: &Store, variable: Variable) -> Option<i64>
-    ensures nf { IfSome result (λ n. kept.is_nf variable ≡ false) }
-    ensures number { IfSome result (λ n. values.number_of (kept.value store.now variable) ≡ Ok n) }
-{
-    if is_nf(variable) {
-        return None;
-    }
-    let held = store.value(variable)?;
-    match held {
-        Value::Num(number) => Some(*number),
-        Value::Unset | Value::Text(_) | Value::Input(_) => None,
-    }
-}
-
 /// `variable = value`
 #[inline(always)]
 fn assigned_variable(alloc: Global, store: &mut Store, variable: Variable, x: &Expr) -> bool
@@ -234,7 +219,7 @@ fn changed_variable(store: &mut Store, how: Operator, variable: Variable, x: &Ex
     let Some(operand) = number_at_hand(store, x, MOST_LEVELS) else {
         return false;
     };
-    let Some(old) = number_held(store, variable) else {
+    let Some(old) = number_kept(store, variable) else {
         return false;
     };
     let Ok(new) = operation(how, old, operand) else {
@@ -306,7 +291,7 @@ fn stepped_variable(store: &mut Store, how: Step, variable: Variable) -> bool
     ensures done { result ≡ true → (place : Place) (taken : Which) → IsDone (λ names. p.step place how taken (p.variable (variable_of names variable))) store.old store.new }
     ensures not_done { result ≡ false → store.new ≡ store.old }
 {
-    let Some(old) = number_held(store, variable) else {
+    let Some(old) = number_kept(store, variable) else {
         return false;
     };
     let Ok(new) = stepped(how, old) else {
