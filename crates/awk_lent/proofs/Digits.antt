@@ -7,7 +7,7 @@ use Rattle.std.proofs.Math.Nat.{pow-le-pow_right}
 use lib.Pow.{pow-add}
 use Rattle.std.proofs.Math.Seq.{take-length, drop-length}
 use Rattle.std.specs.Char.{digit_value, is_ascii_digit}
-use Rattle.std.specs.List.{prefix_len, take_while}
+use Rattle.std.specs.List.{list_all, prefix_len, take_while}
 use Rattle.std.specs.Str.Parse.{digits_value}
 use Rattle.awk_text.specs.Arithmetic.{is_in_range, ranged}
 use Rattle.awk_text.specs.Numerals.{after_sign, drop_while, has_minus, is_blank, is_numeral, looks_numeric, number}
@@ -36,6 +36,16 @@ no_minus b h = grind (arith, nat_tests)
 first_is : (t : Bool) (n m : ℕ) → cond t (1 + n) 0 ≡ 1 + m → t ≡ true
 first_is true n m e = refl
 first_is false n m e = absurd (omega (arith, e))
+
+rest_is : (t : Bool) (n m : ℕ) → cond t (1 + n) 0 ≡ 1 + m → n ≡ m
+rest_is true n m e = omega (arith, e)
+rest_is false n m e = absurd (omega (arith, e))
+
+-- as many digits as there are bytes are all of them
+pub all_of : (text : List ℕ) → prefix_len is_ascii_digit text ≡ length text → list_all is_ascii_digit text ≡ true
+all_of [] all = refl
+all_of (b ∷ bs) all =
+    rw (first_is (is_ascii_digit b) (prefix_len is_ascii_digit bs) (length bs) (omega (arith, all))) (all_of bs (rest_is (is_ascii_digit b) (prefix_len is_ascii_digit bs) (length bs) (omega (arith, all))))
 
 body_of : (b : ℕ) (bs : List ℕ) → is_ascii_digit b ≡ true → drop_while is_blank (b ∷ bs) ≡ b ∷ bs
 body_of b bs digit = rw (no_blank b digit) refl

@@ -1,5 +1,7 @@
 // Values whose texts are lent. Nothing here takes memory.
-ghost use Rattle.std.specs.Prelude.{◌≡◌, Ok, Some, IfSome};
+ghost use Rattle.std.specs.Prelude.{◌≡◌, ◌<◌, ◌≤◌, ◌⊎◌, true, false, length, Ok, Some, IfNone, IfSome};
+ghost use Rattle.std.specs.Char.{is_ascii_digit};
+ghost use Rattle.std.specs.List.{list_all};
 ghost use Rattle.awk_text.specs.Arithmetic.{ranged};
 ghost use Rattle.awk_text.specs.Numerals.{looks_numeric, number};
 ghost use Rattle.awk_text.specs.Values.{number_of, numeric, order, text_of, truth};
@@ -16,10 +18,12 @@ use std::cmp::Ordering;
 /// The most digits of a number that is read without a look at its range.
 const FEW_DIGITS: usize = 18;
 
-/// The number that the text is where it is a few digits and nothing else; `None` where it is not.
+/// The number that the text is where it is 1 to 18 digits and nothing else; `None` exactly where it is not. Takes no memory.
 pub fn few_digits(text: &[u8]) -> Option<i64>
     ensures number { IfSome result (λ n. ranged (number text.now) ≡ Ok n) }
     ensures looks { IfSome result (λ n. looks_numeric text.now ≡ Some n) }
+    ensures few { IfSome result (λ n. (0 < length text.now) × (length text.now ≤ 18) × (list_all is_ascii_digit text.now ≡ true)) }
+    ensures only { IfNone result ((length text.now ≡ 0) ⊎ (18 < length text.now) ⊎ (list_all is_ascii_digit text.now ≡ false)) }
 {
     if text.is_empty() || text.len() > FEW_DIGITS {
         return None;

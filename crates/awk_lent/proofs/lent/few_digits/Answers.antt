@@ -7,7 +7,7 @@ use Rattle.std.proofs.Math.Seq.{take-length}
 use Rattle.std.specs.List.{prefix_len}
 use Rattle.std.specs.Char.{is_ascii_digit}
 use Rattle.std.specs.Str.Parse.{digits_value}
-use Rattle.awk_lent.proofs.Digits.{few, fewer, looks_so, next_power, one_more, ranged_so}
+use Rattle.awk_lent.proofs.Digits.{all_of, few, fewer, looks_so, next_power, one_more, ranged_so}
 use Rattle.awk_lent.proofs.lent.few_digits.Goals as goal
 
 pub overflow_mul-value : goal.overflow_mul-value
@@ -51,3 +51,10 @@ returns-clause-looks c =
     let small = few i c.loop-b.value (omega arith) (omega (arith, c.loop-b.invariant.1, c.loop-b.invariant.2)) in
     let all : prefix_len is_ascii_digit text ≡ length text = omega (arith, c.loop-b.invariant.0, end, prefix_len-le-length is_ascii_digit (drop i text), length-drop i text) in
     looks_so text some all (omega (arith, is, small)) ∙ ap (λ n. Some (pos n)) (sym is) ∙ ap Some (sym (to_z_pos w64 c.loop-b.value (omega (arith, small))))
+
+pub returns-clause-few : goal.returns-clause-few
+returns-clause-few c =
+    let text = c.args.text.now in
+    let i = c.loop-b.b-index in
+    let all : prefix_len is_ascii_digit text ≡ length text = omega (arith, c.loop-b.invariant.0, prefix_len-le-length is_ascii_digit (drop i text), length-drop i text) in
+    (grind (arith, nat_tests), omega arith, all_of text all)
