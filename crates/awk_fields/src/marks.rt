@@ -1,5 +1,5 @@
 // Which bytes of a block are marks, as bits of one number.
-ghost use Rattle.std.specs.Prelude.{◌≡◌, ◌==◌, ◌-◌, ◌≤◌, ◌<◌, ℕ, length, map, take, drop};
+ghost use Rattle.std.specs.Prelude.{◌≡◌, ◌==◌, ◌+◌, ◌-◌, ◌≤◌, ◌<◌, ℕ, length, map, take, drop};
 ghost use Rattle.std.specs.List.{position_or_len};
 ghost use Rattle.std.specs.Int.Bits.{bit_and};
 ghost use Rattle.std.specs.Simd.Lanes.{mask_l};
@@ -49,48 +49,13 @@ impl Marks {
 
     /// A bit for each lane that is a mark.
     #[inline(always)]
-    fn in4(self, bytes: u8x4) -> u64
-        ensures { result ≡ mask_l (map (is_mark self) bytes) }
+    fn in_lanes<const N: usize>(self, bytes: Simd<u8, N>) -> u64
+        requires { N ≤ 64 }
+        ensures { result ≡ mask_l (map (is_mark self) bytes.entry) }
     {
-        (bytes.simd_eq(u8x4::splat(self.first))
-            | bytes.simd_eq(u8x4::splat(self.second))
-            | bytes.simd_eq(u8x4::splat(self.third))).to_bitmask()
-    }
-
-    #[inline(always)]
-    fn in8(self, bytes: u8x8) -> u64
-        ensures { result ≡ mask_l (map (is_mark self) bytes) }
-    {
-        (bytes.simd_eq(u8x8::splat(self.first))
-            | bytes.simd_eq(u8x8::splat(self.second))
-            | bytes.simd_eq(u8x8::splat(self.third))).to_bitmask()
-    }
-
-    #[inline(always)]
-    fn in16(self, bytes: u8x16) -> u64
-        ensures { result ≡ mask_l (map (is_mark self) bytes) }
-    {
-        (bytes.simd_eq(u8x16::splat(self.first))
-            | bytes.simd_eq(u8x16::splat(self.second))
-            | bytes.simd_eq(u8x16::splat(self.third))).to_bitmask()
-    }
-
-    #[inline(always)]
-    fn in32(self, bytes: u8x32) -> u64
-        ensures { result ≡ mask_l (map (is_mark self) bytes) }
-    {
-        (bytes.simd_eq(u8x32::splat(self.first))
-            | bytes.simd_eq(u8x32::splat(self.second))
-            | bytes.simd_eq(u8x32::splat(self.third))).to_bitmask()
-    }
-
-    #[inline(always)]
-    fn in64(self, bytes: u8x64) -> u64
-        ensures { result ≡ mask_l (map (is_mark self) bytes) }
-    {
-        (bytes.simd_eq(u8x64::splat(self.first))
-            | bytes.simd_eq(u8x64::splat(self.second))
-            | bytes.simd_eq(u8x64::splat(self.third))).to_bitmask()
+        (bytes.simd_eq(Simd::splat(self.first))
+            | bytes.simd_eq(Simd::splat(self.second))
+            | bytes.simd_eq(Simd::splat(self.third))).to_bitmask()
     }
 
     /// The same for a few bytes, one by one.
@@ -107,23 +72,18 @@ impl Marks {
         found
     }
 
-    /// The same for fewer bytes than sixteen. Where two vectors overlap, both set the same bits.
+    /// The same for at least so many bytes and at most twice as many: two vectors have them, and where
+    /// they overlap both set the same bits.
     #[inline(always)]
-    fn in_tail(self, bytes: &[u8]) -> u64
-        requires { length bytes.now < 16 }
+    fn in_both_ends<const N: usize>(self, bytes: &[u8]) -> u64
+        requires lanes { N ≤ 32 }
+        requires enough { N ≤ length bytes.now }
+        requires few { length bytes.now ≤ N + N }
         ensures { result ≡ mask_l (map (is_mark self) bytes.now) }
     {
-        if bytes.len() >= 8 {
-            let behind = bytes.len() - 8;
-            self.in8(u8x8::from_slice(bytes))
-                | self.in8(u8x8::from_slice(&bytes[behind..])) << behind
-        } else if bytes.len() >= 4 {
-            let behind = bytes.len() - 4;
-            self.in4(u8x4::from_slice(bytes))
-                | self.in4(u8x4::from_slice(&bytes[behind..])) << behind
-        } else {
-            self.in_few(bytes)
-        }
+        let behind = bytes.len() - N;
+        self.in_lanes(Simd::<u8, N>::from_slice(bytes))
+            | self.in_lanes(Simd::<u8, N>::from_slice(&bytes[behind..])) << behind
     }
 
     /// The same for fewer bytes than a block has.
@@ -132,16 +92,12 @@ impl Marks {
         requires { length bytes.now < 64 }
         ensures { result ≡ mask_l (map (is_mark self) bytes.now) }
     {
-        if bytes.len() >= 32 {
-            let behind = bytes.len() - 32;
-            self.in32(u8x32::from_slice(bytes))
-                | self.in32(u8x32::from_slice(&bytes[behind..])) << behind
-        } else if bytes.len() >= 16 {
-            let behind = bytes.len() - 16;
-            self.in16(u8x16::from_slice(bytes))
-                | self.in16(u8x16::from_slice(&bytes[behind..])) << behind
-        } else {
-            self.in_tail(bytes)
+        match bytes.len() {
+            32.. => self.in_both_ends::<32>(bytes),
+            16.. => self.in_both_ends::<16>(bytes),
+            8.. => self.in_both_ends::<8>(bytes),
+            4.. => self.in_both_ends::<4>(bytes),
+            _ => self.in_few(bytes),
         }
     }
 
@@ -153,7 +109,7 @@ impl Marks {
     {
         let rest = &text[from..];
         if rest.len() >= BLOCK {
-            self.in64(u8x64::from_slice(rest))
+            self.in_lanes(u8x64::from_slice(rest))
         } else {
             self.in_short(rest)
         }

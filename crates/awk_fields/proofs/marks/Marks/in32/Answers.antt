@@ -1,6 +1,0 @@
-use Rattle.std.proofs.Common.{arith}
-use Rattle.awk_fields.proofs.Marked.{marks_mask}
-use Rattle.awk_fields.proofs.marks.Marks.in32.Goals as goal
-
-pub returns : goal.returns
-returns c = marks_mask c.args.self 32 c.args.bytes c.fits-bytes.0 (omega arith)
