@@ -1,6 +1,6 @@
 // Loops. A turn takes at least one step, and so does the loop before its first one: no loop has more tests than the run has steps.
 ghost use Rattle.std.specs.Prelude.{[], option_map, option_copied};
-ghost use Rattle.awk_asks.specs.Tasks.{Owns, goes_on};
+ghost use Rattle.awk_asks.specs.Tasks.{Owns};
 ghost use Rattle.awk_machine.specs.Pieces.{At, Do, Doing, Keys, Test, Turn};
 ghost use Rattle.awk_program.specs.Program as p;
 ghost use Rattle.awk_program.specs.View.{view, view_statement, variable_of};

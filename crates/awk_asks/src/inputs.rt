@@ -3,7 +3,6 @@ ghost use Rattle.std.specs.Prelude.{◌≡◌, ◌++◌, ◌⊎◌, false, true,
 ghost use Rattle.awk_fields.specs.Heads.{head, too_long};
 ghost use Rattle.awk_fields.specs.Takes.{Input, Takes};
 ghost use Rattle.awk_asks.specs.Readings.{GoesOn, Holds, IsLive, key_of};
-ghost use Rattle.awk_asks.specs.Tables.{Table};
 ghost use Rattle.awk_asks.specs.Tasks.{IsNumber, IsReadAt, IsSame};
 
 use crate::streams::{Name, Streams};

@@ -1,5 +1,5 @@
 // `next` and `exit`.
-ghost use Rattle.std.specs.Prelude.{◌≡◌, ◌∷◌, [], None, Some, Err};
+ghost use Rattle.std.specs.Prelude.{◌∷◌, [], None, Some};
 ghost use Rattle.awk_asks.specs.Tables.{Table};
 ghost use Rattle.awk_machine.specs.Pieces.{At, Doing};
 ghost use Rattle.awk_machine.specs.State.{Given};

@@ -1,7 +1,7 @@
 // The first record of what is unread, as places in it.
-ghost use Rattle.std.specs.Prelude.{◌≡◌, ◌==◌, ◌+◌, ◌-◌, ◌≤◌, ◌<◌, ℕ, length, take, drop, IfSome, MatchOption};
+ghost use Rattle.std.specs.Prelude.{◌≡◌, ◌==◌, ◌+◌, ◌≤◌, length, take, IfSome};
 ghost use Rattle.std.specs.List.{prefix_len, position_or_len};
-ghost use Rattle.awk_fields.specs.Heads.{head, is_newline, last, line, pair_place, paragraph, trimmed};
+ghost use Rattle.awk_fields.specs.Heads.{head, is_newline, line, pair_place, paragraph, trimmed};
 ghost use Rattle.awk_fields.specs.Unread.{IsInside, IsPassed, IsSearched, head_of, last_of};
 
 use crate::marks::Marks;

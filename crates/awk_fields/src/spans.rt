@@ -1,10 +1,10 @@
 // Fields as parts of a text.
-ghost use Rattle.std.specs.Prelude.{◌≡◌, ◌≢◌, ◌+◌, ◌≤◌, ◌<◌, List, ℕ, [], true, length, map, min, All, IfOk, IfSome, vec_len, vec_capacity};
+ghost use Rattle.std.specs.Prelude.{◌≡◌, ◌+◌, ◌≤◌, List, ℕ, [], true, length, map, min, All, IfOk, IfSome, vec_len, vec_capacity};
 ghost use Rattle.awk_ere.specs.Best.{Best};
 ghost use Rattle.awk_ere.specs.Pattern.{Pattern};
 ghost use Rattle.awk_ere.specs.Spelled.{Finds};
 ghost use Rattle.awk_fields.specs.Edges.{PartsTo};
-ghost use Rattle.awk_fields.specs.Fields.{separates, separating, FindsSeparator, Parts};
+ghost use Rattle.awk_fields.specs.Fields.{separates, separating, Parts};
 ghost use Rattle.awk_fields.specs.Marks.{is_mark};
 ghost use Rattle.awk_fields.specs.Separators.{nothing, byte, ere};
 ghost use Rattle.awk_fields.specs.Spans.{AreSpans, IsWithin, part};

@@ -1,5 +1,5 @@
 // The words of a text, which blanks separate.
-ghost use Rattle.std.specs.Prelude.{◌≡◌, ◌==◌, ◌+◌, ◌-◌, ◌≤◌, ◌<◌, List, ℕ, [], length, drop, min, IfOk, vec_len, vec_capacity};
+ghost use Rattle.std.specs.Prelude.{◌≡◌, ◌==◌, ◌+◌, ◌≤◌, ◌<◌, List, ℕ, [], length, drop, min, IfOk, vec_len, vec_capacity};
 ghost use Rattle.std.specs.Simd.Lanes.{mask_l};
 ghost use Rattle.awk_fields.specs.Edges.{IsBetween, WordsTo, changes};
 ghost use Rattle.awk_fields.specs.Fields.{Parts, is_blank};

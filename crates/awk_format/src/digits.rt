@@ -1,5 +1,5 @@
 // Digits in a base other than ten.
-ghost use Rattle.std.specs.Prelude.{◌≡◌, ◌<◌, ◌≤◌, Bool};
+ghost use Rattle.std.specs.Prelude.{◌≡◌, ◌<◌, ◌≤◌};
 ghost use Rattle.std.specs.Fmt.{digit_glyph, digits};
 
 /// The digits of the greatest number in base eight.

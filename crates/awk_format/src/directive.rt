@@ -1,7 +1,7 @@
 // The conversion specifications of a format.
-ghost use Rattle.std.specs.Prelude.{◌≡◌, ◌<◌, ◌≤◌, drop, length, IfOk, IfErr, OnErr};
+ghost use Rattle.std.specs.Prelude.{◌≡◌, ◌≤◌, drop, length, IfOk, IfErr};
 ghost use Rattle.std.specs.Char.{is_ascii_digit};
-ghost use Rattle.std.specs.List.{prefix_len, take_while};
+ghost use Rattle.std.specs.List.{prefix_len};
 ghost use Rattle.awk_text.specs.Numerals.{drop_while};
 ghost use Rattle.awk_format.specs.Directives.{columns_of, conversion_of, directive_of, flags_of, is_flag, precision_of, tail_of, after_precision};
 

@@ -1,5 +1,5 @@
 // Assignments that are done at once: what they need is at hand, and their value is not wanted.
-ghost use Rattle.std.specs.Prelude.{◌≡◌, ◌≤◌, ℤ, true, false, length, map, Ok, Some, IfSome};
+ghost use Rattle.std.specs.Prelude.{◌≡◌, ◌≤◌, ℤ, true, false, length, map, Some, IfSome};
 ghost use Rattle.awk_fields.specs.Rows.{IsValueAt};
 ghost use Rattle.awk_forms.specs.AtHand.{AddsAt, HoldsOperands, IsDone, IsKey};
 ghost use Rattle.awk_machine.specs.Operators as machine;

@@ -1,5 +1,5 @@
 // The elements of an array.
-ghost use Rattle.std.specs.Prelude.{◌≡◌, ℕ, ◌+◌, ◌<◌, ◌≤◌, ◌⊎◌, true, List, [], ◌∷◌, ◌++◌, map, length, vec_len, is_ok, if◌then◌else◌, Some, None, IfSome, IfOk, OnOk, OnErr, IsOkUnless, IsPermutation, nat_eq};
+ghost use Rattle.std.specs.Prelude.{◌≡◌, ℕ, ◌+◌, ◌<◌, ◌≤◌, ◌⊎◌, true, List, [], ◌∷◌, ◌++◌, map, length, is_ok, if◌then◌else◌, None, IfSome, IfOk, OnOk, OnErr, IsOkUnless, IsPermutation, nat_eq};
 ghost use Rattle.std.specs.Fmt.{decimal};
 ghost use Rattle.std.specs.List.{IsDistinct};
 ghost use Rattle.std.specs.List.Sorted.{IsSortedByKey};

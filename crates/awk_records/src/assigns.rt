@@ -1,5 +1,5 @@
 // Variables that the host of a run sets.
-ghost use Rattle.std.specs.Prelude.{◌≡◌, ◌∷◌, true, IfOk};
+ghost use Rattle.std.specs.Prelude.{◌≡◌, true, IfOk};
 ghost use Rattle.awk_text.specs.Escapes.{unescaped};
 ghost use Rattle.awk_program.specs.Program.{global};
 ghost use Rattle.awk_machine.specs.MainInput.{assignment};

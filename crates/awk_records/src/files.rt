@@ -1,5 +1,5 @@
 // The files of operands.
-ghost use Rattle.std.specs.Prelude.{◌≡◌, ◌∷◌, false, true, List, None, Some, IfOk, OnOk, Ok};
+ghost use Rattle.std.specs.Prelude.{◌≡◌, ◌∷◌, false, true, Some, IfOk, OnOk, Ok};
 ghost use Rattle.awk_machine.specs.MainInput.{file};
 ghost use Rattle.awk_machine.specs.Pieces.{Begun, Do, Past, Piece, Take};
 ghost use Rattle.awk_machine.specs.State.{Given};

@@ -7,7 +7,7 @@ ghost use Rattle.awk_machine.specs.Pieces.{At, Do, Piece, Records, Take, Value_o
 ghost use Rattle.awk_machine.specs.State.{Given};
 ghost use Rattle.awk_asks.specs.Readings.{FailsOpen, GoesOn};
 ghost use Rattle.awk_asks.specs.Tables.{Table};
-ghost use Rattle.awk_asks.specs.Tasks.{IsSame, Owns, goes_on};
+ghost use Rattle.awk_asks.specs.Tasks.{IsSame, Owns};
 ghost use Rattle.awk_tasks.specs.Acts.{Acts};
 ghost use Rattle.awk_tasks.specs.Spots.{IsSpotOf, value_of};
 ghost use Rattle.awk_tasks.specs.Wholes.{Whole, names_in};

@@ -1,5 +1,5 @@
 // How far the main input is read, as it changes.
-ghost use Rattle.std.specs.Prelude.{◌≡◌, false, true, None, Some, if◌then◌else◌, MatchOption};
+ghost use Rattle.std.specs.Prelude.{◌≡◌, true, None, Some, MatchOption};
 ghost use Rattle.box_world.specs.Events as event;
 ghost use Rattle.box_world.specs.Events.{Named, Standard};
 ghost use Rattle.awk_program.specs.Slots.{Text};

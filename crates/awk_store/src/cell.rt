@@ -1,5 +1,5 @@
 // Variables of the whole script.
-ghost use Rattle.std.specs.Prelude.{◌≡◌, ℤ, pos, Some, Ok, [], true, false, unwrap_or, IfOk, IfErr, OnOk, IsOkUnless};
+ghost use Rattle.std.specs.Prelude.{◌≡◌, ℤ, pos, Some, Ok, true, false, unwrap_or, IfOk, IfErr, OnOk, IsOkUnless};
 ghost use Rattle.std.specs.Option.{option_copied};
 ghost use Rattle.awk_text.specs.Arithmetic.{add};
 ghost use Rattle.awk_machine.specs.Begins.{first_value};

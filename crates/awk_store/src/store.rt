@@ -1,5 +1,5 @@
 // What a run holds.
-ghost use Rattle.std.specs.Prelude.{◌≡◌, ℕ, ◌+◌, nat_lt, get_or, false, map, if◌then◌else◌, IfOk, OnOk, OnErr, IsOkUnless};
+ghost use Rattle.std.specs.Prelude.{◌≡◌, nat_lt, get_or, false, map, if◌then◌else◌, IfOk, OnOk, OnErr, IsOkUnless};
 ghost use Rattle.awk_store.specs.Changes.{first_cell, first_kept, stepped, turned, with_main, with_on, with_phase, with_status};
 ghost use Rattle.awk_store.specs.Inputs.{main_of};
 

@@ -1,5 +1,5 @@
 // Variables.
-ghost use Rattle.std.specs.Prelude.{◌≡◌, Ok, Err, ℤ, pos, true, false, length, slice_get, slice_set, unwrap_or, IfOk, IfErr, IfSome, OnOk, OnErr};
+ghost use Rattle.std.specs.Prelude.{◌≡◌, Ok, Err, ℤ, pos, true, false, slice_get, slice_set, unwrap_or, IfErr, IfSome, OnOk};
 ghost use Rattle.std.specs.Option.{option_copied};
 ghost use Rattle.awk_text.specs.Arithmetic.{add as sum};
 ghost use Rattle.awk_text.specs.Values.{text_of};

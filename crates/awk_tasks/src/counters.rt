@@ -1,5 +1,4 @@
 // Counters, as NR.
-ghost use Rattle.std.specs.Prelude.{◌≡◌};
 ghost use Rattle.awk_machine.specs.Pieces.{Count, Do};
 ghost use Rattle.awk_machine.specs.State.{Given};
 ghost use Rattle.awk_asks.specs.Tables.{Table};

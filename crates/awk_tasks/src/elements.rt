@@ -1,5 +1,4 @@
 // Elements of arrays.
-ghost use Rattle.std.specs.Prelude.{◌≡◌, IfOk};
 ghost use Rattle.awk_machine.specs.Pieces as machine;
 ghost use Rattle.awk_machine.specs.Pieces.{Do, Get, Set, give};
 ghost use Rattle.awk_machine.specs.State.{Given};

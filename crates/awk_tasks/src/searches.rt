@@ -1,5 +1,4 @@
 // What is searched for an ERE: match, sub and gsub.
-ghost use Rattle.std.specs.Prelude.{◌≡◌, true};
 ghost use Rattle.awk_machine.specs.Pieces.{Do, Locate, Substitute, Target, give};
 ghost use Rattle.awk_machine.specs.State.{Given};
 ghost use Rattle.awk_asks.specs.Tables.{Table};

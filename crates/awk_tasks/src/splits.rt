@@ -1,5 +1,4 @@
 // What split fills.
-ghost use Rattle.std.specs.Prelude.{◌≡◌};
 ghost use Rattle.awk_machine.specs.Pieces.{Do, Fill, Split, give};
 ghost use Rattle.awk_machine.specs.State.{Given};
 ghost use Rattle.awk_asks.specs.Tables.{Table};

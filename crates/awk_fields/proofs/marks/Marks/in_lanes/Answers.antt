@@ -1,4 +1,3 @@
-use Rattle.std.proofs.Common.{arith}
 use Rattle.awk_fields.proofs.Marked.{marks_mask}
 use Rattle.awk_fields.proofs.marks.Marks.in_lanes.Goals as goal
 
