@@ -7,7 +7,7 @@ ghost use Rattle.awk_machine.specs.State.{Given, State};
 ghost use Rattle.awk_machine.specs.Variables.{own_text};
 ghost use Rattle.box_world.specs.Events.{Named, Standard};
 ghost use Rattle.awk_asks.specs.Readings as spec;
-ghost use Rattle.awk_asks.specs.Readings.{FailsFirst, FailsOpen, FirstIs, GoesOn, HasCome, Holds, IsLine, IsLive, IsReading, Received, Waits, fetching, further, key_of};
+ghost use Rattle.awk_asks.specs.Readings.{FailsFirst, FailsOpen, FirstIs, GoesOn, HasCome, Holds, IsLine, IsLive, IsReading, Received, Waits, fetching, further, key_of, read_further};
 ghost use Rattle.awk_asks.specs.Tables.{kind};
 ghost use Rattle.awk_asks.specs.Tasks.{Does, IsSame, Owns};
 

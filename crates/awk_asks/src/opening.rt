@@ -1,10 +1,13 @@
 // Streams are opened.
 ghost use Rattle.std.specs.Prelude.{◌≡◌, Some, None, IfOk, IfSome};
-ghost use Rattle.box_world.specs.Events.{find_stream};
+ghost use Rattle.box_world.specs.Events.{Named, find_stream};
+ghost use Rattle.box_world.specs.declared.ask.Request.TheVariants.{Open};
 ghost use Rattle.awk_machine.specs.Getline as getline;
+ghost use Rattle.awk_machine.specs.Pieces as machine;
+ghost use Rattle.awk_machine.specs.Pieces.{Do};
 ghost use Rattle.awk_machine.specs.State.{Given, State};
 ghost use Rattle.awk_asks.specs.Tables.{kind, open_of};
-ghost use Rattle.awk_asks.specs.Tasks.{Does, Opens, Owns};
+ghost use Rattle.awk_asks.specs.Tasks.{Does, Opens, Owns, fetched, goes_on};
 
 use crate::halt::Halt;
 use crate::requests::request;

@@ -1,6 +1,8 @@
 // A text that grows in its place.
 ghost use Rattle.std.specs.Prelude.{◌≡◌, ◌+◌, ◌≤◌, ◌++◌, List, ℕ, true, false, length, map, IfSome, IfOk, IfErr, OnOk};
 ghost use Rattle.awk_asks.specs.Tables.{Table};
+ghost use Rattle.awk_machine.specs.Forms.{value};
+ghost use Rattle.awk_machine.specs.Pieces.{give};
 ghost use Rattle.awk_machine.specs.State.{Given};
 ghost use Rattle.awk_program.specs.Program as p;
 ghost use Rattle.awk_program.specs.Program.{joins_of};

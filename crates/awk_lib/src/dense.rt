@@ -1,5 +1,5 @@
 // The part of an array whose keys are small whole numbers.
-ghost use Rattle.std.specs.Prelude.{◌≡◌, ℕ, ◌<◌, ◌≤◌, [], ◌∷◌, ◌++◌, length, is_some, slice_get, slice_set, vec_len, Some, None, IfSome, OnOk, OnErr, IsOkUnless};
+ghost use Rattle.std.specs.Prelude.{◌≡◌, ℕ, ◌+◌, ◌<◌, ◌≤◌, [], ◌∷◌, ◌++◌, length, is_some, slice_get, slice_set, vec_len, Some, None, IfSome, OnOk, OnErr, IsOkUnless};
 ghost use Rattle.std.specs.Fmt.{decimal};
 ghost use Rattle.awk_lib.specs.Dense.{most_places, dense_rows, IsOutside};
 ghost use Rattle.awk_lib.specs.Numbering.{keyed, listed, texts};

@@ -1,5 +1,6 @@
 // Matches replaced in a text, as sub and gsub do it.
-ghost use Rattle.std.specs.Prelude.{◌≡◌, ◌-◌, ◌≤◌, ◌<◌, ◌++◌, ◌∷◌, ◌⊎◌, ◌^◌, ℕ, List, [], true, false, length, take, drop, MatchOption, IfSome, OnOk, IfOk, IfErr};
+ghost use Rattle.std.specs.Prelude.{◌≡◌, ◌+◌, ◌-◌, ◌≤◌, ◌<◌, ◌++◌, ◌∷◌, ◌⊎◌, ◌^◌, ℕ, List, [], true, false, length, take, drop, MatchOption, IfSome, OnOk, IfOk, IfErr};
+ghost use Rattle.std.specs.List.{slice_range};
 ghost use Rattle.awk_lib.specs.Replacing as spec;
 ghost use Rattle.awk_lib.specs.Replacing.{filled, Found, IsReplaced, IsTooLong};
 ghost use Rattle.awk_lib.specs.Seeking.{IsNextMatch};
