@@ -11,11 +11,16 @@ use crate::context::{Context, Run};
 use crate::expressions::value;
 use crate::targets::target_of;
 use awk_asks::halt::Halt;
+use awk_asks::streams::Streams;
 use awk_asks::{closing, requests};
+use awk_forms::at_hand::{MOST_LEVELS, at_hand};
 use awk_program::{Expr, Piped, Target};
-use awk_records::getline::{getline_file, getline_pipe};
+use awk_records::counted::{Counted, set_record};
+use awk_records::getline::{file_line, getline_file, getline_pipe};
 use awk_records::main_input::getline_main;
+use awk_store::Store;
 use awk_tasks::values::into_text;
+use awk_text::octets::Octets;
 use awk_text::place::Place;
 use awk_text::value::Value;
 use box_world::world::World;
@@ -46,6 +51,15 @@ pub fn getline<W: World>(
     )
 }
 
+/// The next record of the file that the expression names, where its name is at hand, and the record is held whole.
+fn held_line(store: &Store, streams: &mut Streams, x: &Expr) -> Option<Octets>
+    ensures some { IfSome result (λ text. IsHeldLine (λ names. view names x.now) store.now streams.old text streams.new) }
+    ensures none { result ≡ None → streams.new ≡ streams.old }
+{
+    let name = at_hand(store, x, MOST_LEVELS)?;
+    file_line(name, store, streams)
+}
+
 /// `getline target < file`
 #[cycle(run)]
 pub fn from_file<W: World>(
@@ -62,6 +76,16 @@ pub fn from_file<W: World>(
         (run.old.store, run.old.streams) world.old result (run.new.store, run.new.streams) world.new }
 {
     let to = target_of(cx, target, level, run, world)?;
+    if let Some(line) = held_line(&run.store, &mut run.streams, x) {
+        return set_record(
+            cx.alloc,
+            &mut run.store,
+            place,
+            to,
+            Counted::Nothing,
+            Value::Input(line),
+        );
+    }
     let name = value(cx, x, level, run, world)?;
     let Ok(file) = into_text(cx.alloc, name) else {
         return Err(Halt::Memory);

@@ -1,5 +1,5 @@
 -- The table of streams, as contracts see it, after the calls of the map that holds it.
-use Rattle.std.proofs.Common.{◌≡◌, ℕ, Bool, true, false, cond, List, [], ◌∷◌, ◌++◌, map, Option, Some, None, refl, ap, sym}
+use Rattle.std.proofs.Common.{◌≡◌, ℕ, Bool, true, false, cond, List, [], ◌∷◌, ◌++◌, map, Option, Some, None, refl, ap, sym, ◌∙◌}
 use Rattle.std.specs.Prelude.{if◌then◌else◌}
 use Rattle.std.specs.Option.{option_map}
 use Rattle.std.specs.Map.{lookup, remove_entry, set_value}
@@ -12,7 +12,14 @@ use Rattle.awk_asks.specs.declared.streams.Sought.{Sought}
 use Rattle.awk_asks.specs.declared.streams.Name.{Name}
 use Rattle.awk_asks.specs.declared.streams.Open.{Open}
 use Rattle.awk_fields.specs.Takes.{Input}
-use Rattle.awk_asks.specs.Tables.{kind, entry_of, entries_without, find_input, with_input}
+use Rattle.awk_asks.specs.Tables.{Table, kind, entry_of, entries_without, find_input, with_input}
+
+-- the table of these entries
+abbrev table_of : List (Name × Open) → Input → ℕ → Table
+table_of es input room = record { entries = map entry_of es; input = input; room = room }
+
+pub table_same : (input : Input) (xs ys : List (Name × Open)) (m n : ℕ) → xs ≡ ys → m ≡ n → table_of xs input m ≡ table_of ys input n
+table_same input xs ys m n e f = ap (λ l. table_of l input m) e ∙ ap (table_of ys input) f
 
 -- a test of names by class and text
 abbrev pub IsTest : (Name → Bool) → Class → List ℕ → Type 0

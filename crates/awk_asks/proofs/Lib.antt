@@ -11,6 +11,7 @@ pub mod Records
 pub mod Firsts
 pub mod Lives
 pub mod MoreSteps
+pub mod Lines
 mod Closes
 mod Held
 mod Scans

@@ -1,11 +1,12 @@
 // A record of a stream is read.
-ghost use Rattle.std.specs.Prelude.{◌≡◌, codes, List, false, true, IfOk, IfErr, OnOk, OnErr};
+ghost use Rattle.std.specs.Prelude.{◌≡◌, codes, List, None, false, true, IfOk, IfErr, IfSome, OnOk, OnErr};
 ghost use Rattle.awk_fields.specs.Heads.{head};
 ghost use Rattle.awk_machine.specs.Pieces as machine;
 ghost use Rattle.awk_machine.specs.Pieces.{Do, Piece, give};
 ghost use Rattle.awk_machine.specs.State.{Given, State};
 ghost use Rattle.awk_machine.specs.Variables.{own_text};
-ghost use Rattle.box_world.specs.Events.{Named, Standard};
+ghost use Rattle.box_world.specs.Events.{Class as Sort, Named, Standard};
+ghost use Rattle.awk_program.specs.Slots.{Text};
 ghost use Rattle.awk_asks.specs.Readings as spec;
 ghost use Rattle.awk_asks.specs.Readings.{FailsFirst, FailsOpen, FirstIs, GoesOn, HasCome, Holds, IsLine, IsLive, IsReading, Received, Waits, fetching, further, key_of, read_further};
 ghost use Rattle.awk_asks.specs.Tables.{kind};
@@ -93,9 +94,34 @@ pub fn take_line(
     room: &mut Vec<u8>,
 ) -> bool
     ensures taken { result ≡ true → IsLine (Named (kind class) name.now) rs.now streams.old room.new.items streams.new }
-    ensures not_taken { result ≡ false → IsSame streams.old streams.new }
+    ensures not_taken { result ≡ false → streams.new ≡ streams.old }
 {
     streams.take_line(class, name, rs, room)
+}
+
+/// The first record of what is held unread of a stream that is opened, where it needs no other look; `None` where it does, or
+/// where the stream is not open.
+pub fn next_line(class: Class, name: &[u8], rs: &[u8], streams: &mut Streams) -> Option<Octets>
+    ensures some { IfSome result (λ text. IsLine (Named (kind class) name.now) rs.now streams.old text streams.new) }
+    ensures none { result ≡ None → streams.new ≡ streams.old }
+{
+    let mut room = streams.take_room();
+    if take_line(class, name, rs, streams, &mut room) {
+        return Some(Octets::new(room));
+    }
+    streams.keep_room(room);
+    None
+}
+
+/// The same of whichever stream; the standard input has none here.
+fn held_line(source: &Source, rs: &[u8], streams: &mut Streams) -> Option<Octets>
+    ensures some { IfSome result (λ text. (class : Sort) × (name : Text) × (key_of source.now ≡ Named class name) × IsLine (Named class name) rs.now streams.old text streams.new) }
+    ensures none { result ≡ None → streams.new ≡ streams.old }
+{
+    match source {
+        Source::Standard => None,
+        Source::Stream(name) => next_line(name.class, name.text.as_slice(), rs, streams),
+    }
 }
 
 /// Keeps what came, and answers whether the reading goes on: it does not where it has failed.
@@ -265,6 +291,9 @@ pub fn fetch<W: World>(
         → Does W.follows W.has_stopped W.stops g s (Do (fetching place (key_of source.now))) give streams.old world.old result streams.new world.new }
     ensures owns { Owns (W.open_numbers world.new) streams.new }
 {
+    if let Some(text) = held_line(source, rs, streams) {
+        return Ok(Value::Input(text));
+    }
     if !open_source(alloc, place, source, streams, world)? {
         return Ok(Value::Num(-1));
     }

@@ -21,6 +21,7 @@ use indexmap::{Equivalent, IndexMap};
 use std::alloc::Global;
 use std::hash::{Hash, Hasher};
 use std::marker::Model;
+use std::mem::replace;
 
 /// What sort of stream a text names. Streams of two classes are two, whatever their texts.
 #[derive(Clone, Copy, Debug, PartialEq, Eq, Drop)]
@@ -187,6 +188,15 @@ impl Streams {
         self.text_room = room;
     }
 
+    /// The room that was kept. No stream changes.
+    #[inline(always)]
+    pub fn take_room(&mut self) -> Vec<u8>
+        ensures { self.new ≡ self.old }
+    {
+        let alloc = *self.table.allocator();
+        replace(&mut self.text_room, Vec::new(alloc))
+    }
+
     /// Adds a stream of which nothing is read yet, last. There is room for it.
     pub fn add(&mut self, name: Name, number: u32)
         requires room { 0 < self.old.room }
@@ -275,7 +285,7 @@ impl Streams {
     /// room; see `Reader::take_line`.
     pub fn take_line(&mut self, class: Class, text: &[u8], rs: &[u8], room: &mut Vec<u8>) -> bool
         ensures taken { result ≡ true → TakesLine (kind class) text.now rs.now self.old.entries room.new.items self.new.entries }
-        ensures not_taken { result ≡ false → self.new.entries ≡ self.old.entries }
+        ensures not_taken { result ≡ false → self.new ≡ self.old }
         ensures input { self.new.input ≡ self.old.input }
     {
         match self.table.get_mut(Sought { class, text }) {

@@ -13,10 +13,11 @@ ghost use Rattle.awk_tasks.specs.Wholes.{names_in};
 ghost use Rattle.awk_records.specs.Performs.{Performs};
 
 use crate::counted::{Counted, set_record};
-use awk_asks::getline::fetch;
+use awk_asks::getline::{fetch, next_line};
 use awk_asks::halt::Halt;
 use awk_asks::inputs::Source;
 use awk_asks::streams::{Class, Name, Streams};
+use awk_lent::lent::Lent;
 use awk_program::Own;
 use awk_store::Store;
 use awk_tasks::Spot;
@@ -56,6 +57,20 @@ fn fetch_record<W: World>(
     let mut buffer = Buffer::new();
     let rs = store.own_text(Own::Rs, &mut buffer);
     fetch(alloc, place, source, rs, streams, world)
+}
+
+/// The next record of the file of this name, where it is open and the record is held whole.
+pub fn file_line(name: Lent<'_>, store: &Store, streams: &mut Streams) -> Option<Octets>
+    ensures some { IfSome result (λ text. IsFileLine (lent_value name) store.now streams.old text streams.new) }
+    ensures none { result ≡ None → streams.new ≡ streams.old }
+{
+    let mut buffer = Buffer::new();
+    let file = name.text(&mut buffer);
+    if file == b"-".as_slice() {
+        return None;
+    }
+    let rs = store.own_bytes(Own::Rs)?;
+    next_line(Class::InputFile, file, rs, streams)
 }
 
 /// `getline target < file`, once it is known what is set, and the file's name.

@@ -34,6 +34,7 @@ fn is_empty(cells: &[Cell], name: Own) -> bool
 }
 
 /// What separates the fields of a record, by FS and RS as they are.
+#[inline(never)]
 fn splitter(alloc: Global, cells: &[Cell], separators: &mut Separators) -> Result<Splitter, Fault>
     ensures ok { IfOk result (λ s. s ≡ separator (text_of (value_at cells.now (slot_of own.Fs))) (is_empty (text_of (value_at cells.now (slot_of own.Rs))))) }
     ensures pattern { OnOk result (1 < length (text_of (value_at cells.now (slot_of own.Fs))) → IsEre (text_of (value_at cells.now (slot_of own.Fs)))) }
@@ -91,24 +92,10 @@ impl Store {
             ⊎ ((e ≡ Fault.Pattern) × (1 < length (own_text self.old own.Fs)) × IsNoEre (own_text self.old own.Fs))
             ⊎ ((e ≡ Fault.TextTooLong) × (1 < length (own_text self.old own.Fs) → IsEre (own_text self.old own.Fs)) × (most_bytes < length text))) }
     {
-        if let Some(splitter) = short_splitter(self.cells.as_slice()) {
-            return self.row.set_whole(text, splitter);
-        }
-        self.set_whole_any(text)
-    }
-
-    /// As `set_whole`. It stands out of line, since few scripts need it.
-    #[inline(never)]
-    fn set_whole_any(&mut self, text: Octets) -> Result<(), Fault>
-        ensures ok { OnOk result (self.new ≡ with_row (row_of self.old text) self.old) }
-        ensures fits { OnOk result (length text ≤ most_bytes) }
-        ensures pattern { OnOk result (1 < length (own_text self.old own.Fs) → IsEre (own_text self.old own.Fs)) }
-        ensures err { OnErr result (self.new ≡ self.old) }
-        ensures fault { IfErr result (λ e. (e ≡ Fault.Memory)
-            ⊎ ((e ≡ Fault.Pattern) × (1 < length (own_text self.old own.Fs)) × IsNoEre (own_text self.old own.Fs))
-            ⊎ ((e ≡ Fault.TextTooLong) × (1 < length (own_text self.old own.Fs) → IsEre (own_text self.old own.Fs)) × (most_bytes < length text))) }
-    {
-        let splitter = splitter(self.alloc, self.cells.as_slice(), &mut self.separators)?;
+        let splitter = match short_splitter(self.cells.as_slice()) {
+            Some(splitter) => splitter,
+            None => splitter(self.alloc, self.cells.as_slice(), &mut self.separators)?,
+        };
         self.row.set_whole(text, splitter)
     }
 

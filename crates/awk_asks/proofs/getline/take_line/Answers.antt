@@ -19,6 +19,3 @@ returns-clause-taken c = λ is.
       first = first_is (Named class name) old new x.0 x.2 (head c.args.rs.now x.0.unread x.0.ended) (taken.Record c.take_line.new.room.items) x.3
           (read_at class name (λ z. x.2) x.0 old new x.1 x.4 c.take_line.ensures.input);
     }
-
-pub returns-clause-not_taken : goal.returns-clause-not_taken
-returns-clause-not_taken c = λ is. record { entries = c.take_line.ensures.not_taken is; input = c.take_line.ensures.input }
