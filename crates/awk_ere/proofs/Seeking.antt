@@ -73,29 +73,29 @@ module _ (m : Matcher) (s : List ℕ) (from : ℕ) where
   sought_later k (Left at) after none h = (omega (arith, after, h.0), h.1, none_on k at none h.2)
 
 -- where a search begins, by the parts of a table as they were read
-pub begins_by : (m n : Matcher) → n ≡ m → (s : List ℕ) (e i state : ℕ) → BeginsIn m s e i state → (cells : List (List ℕ)) (accepts ends : List Bool) → cells ≡ n.table.cells.items → accepts ≡ n.table.accepts.items → ends ≡ n.table.ends.items
+pub begins_by : (m n : Matcher) → n ≡ m → (s : List ℕ) (e i state : ℕ) → BeginsIn m e i state → (cells : List (List ℕ)) (accepts ends : List Bool) → cells ≡ n.table.cells.items → accepts ≡ n.table.accepts.items → ends ≡ n.table.ends.items
     → IsAt m.sets m.program s cells accepts ends e i i state
 begins_by m n same s e i state begin cells accepts ends cells_are accepts_are ends_are =
-    rw (cells_are, accepts_are, ends_are) (subst (λ x. IsAt m.sets m.program s x.table.cells.items x.table.accepts.items x.table.ends.items e i i state) (sym same) begin)
+    rw (cells_are, accepts_are, ends_are) (subst (λ x. IsAt m.sets m.program s x.table.cells.items x.table.accepts.items x.table.ends.items e i i state) (sym same) (begin s))
 
 -- where a search begins
-module _ (m : Matcher) (p : Pattern) (is : IsMatcher m p) (s : List ℕ) where
-  pub begins_entry : (i state : ℕ) → state ≡ cond (i == 0) m.table.entry.first m.table.entry.later → state < length m.table.cells.items → BeginsIn m s m.entry i state
-  begins_entry i state at known = at_begin m.sets m.program s is.built.lists _ _ _ m.entry i state m.table.entry is.built.table is.built.entries is.machine.inside at known
+module _ (m : Matcher) (p : Pattern) (is : IsMatcher m p) where
+  pub begins_entry : (i state : ℕ) → state ≡ cond (i == 0) m.table.entry.first m.table.entry.later → state < length m.table.cells.items → BeginsIn m m.entry i state
+  begins_entry i state at known = λ s. at_begin m.sets m.program s is.built.lists _ _ _ m.entry i state m.table.entry is.built.table is.built.entries is.machine.inside at known
 
-  pub begins_scan : (i state : ℕ) → state ≡ cond (i == 0) m.table.scan.first m.table.scan.later → state < length m.table.cells.items → BeginsIn m s m.scan i state
-  begins_scan i state at known = at_begin m.sets m.program s is.built.lists _ _ _ m.scan i state m.table.scan is.built.table is.built.scans is.scanner.inside at known
+  pub begins_scan : (i state : ℕ) → state ≡ cond (i == 0) m.table.scan.first m.table.scan.later → state < length m.table.cells.items → BeginsIn m m.scan i state
+  begins_scan i state at known = λ s. at_begin m.sets m.program s is.built.lists _ _ _ m.scan i state m.table.scan is.built.table is.built.scans is.scanner.inside at known
 
   by_place : (i : ℕ) → IsLater m i → m.table.entry.later ≡ cond (i == 0) m.table.entry.first m.table.entry.later
   by_place zero (inl lt) = absurd (omega arith)
   by_place zero (inr same) = sym same
   by_place (suc i) h = sym (ap (λ b. cond b m.table.entry.first m.table.entry.later) (eqb-suc-zero i))
 
-  module _ (fit : (k : ℕ) → slice_index s k < 256) (from to : ℕ) (later : IsLater m from) (within : to ≤ length s) where
+  module _ (s : List ℕ) (fit : (k : ℕ) → slice_index s k < 256) (from to : ℕ) (later : IsLater m from) (within : to ≤ length s) where
     abbrev q : ℕ
     q = m.table.entry.later
 
-    begins_at : (i : ℕ) → from ≤ i → q < length m.table.cells.items → BeginsIn m s m.entry i q
+    begins_at : (i : ℕ) → from ≤ i → q < length m.table.cells.items → BeginsIn m m.entry i q
     begins_at i after known = begins_entry i q (by_place i (still_later m from i later after)) known
 
     none_yet : (i : ℕ) → IsLongest m.sets m.program s m.entry i i None
@@ -104,7 +104,7 @@ module _ (m : Matcher) (p : Pattern) (is : IsMatcher m p) (s : List ℕ) where
     -- no start where the first byte leads to no step
     pub none_dead : q < length m.table.cells.items → slice_index_or m.table.accepts.items q false ≡ false → AllLead (slice_index_or m.table.cells.items q []) s 0 from to → NoneTo m s from to
     none_dead known closed dead = λ i j after before below run.
-        let at = begins_at i after known in
+        let at = begins_at i after known s in
         let lt : i < length s = omega arith in
         let le : i ≤ i = omega arith in
         at_dead _ _ _ _ _ _ _ i i q at le lt (fit i) (dead i after before) None (at_pass _ _ _ _ _ _ _ i i q at le lt closed (none_yet i)) j below run
@@ -117,7 +117,7 @@ module _ (m : Matcher) (p : Pattern) (is : IsMatcher m p) (s : List ℕ) where
         elim (is.built.heads (slice_index s i) (slice_index s (i + 1)) (fit i) (fit (i + 1))) [
           | inl may ↦ absurd (both_ways _ behind.1 may)
           | inr fails ↦
-              let at = begins_at i after fails.0 in
+              let at = begins_at i after fails.0 s in
               let le : i ≤ i = omega arith in
               let here = at_pass _ _ _ _ _ _ _ i i q at le lt fails.1 (none_yet i) in
               elim fails.2 [

@@ -24,11 +24,11 @@ IsAnchored m = (s : List ℕ) (i j : ℕ) → runs.Goes m.sets m.program s m.ent
 abbrev pub IsLater : Matcher → ℕ → Type 0
 IsLater m from = 0 < from ⊎ m.table.entry.first ≡ m.table.entry.later
 
-module _ (m : Matcher) (s : List ℕ) where
-  -- a search from the step e at the place i begins in this state
-  abbrev pub BeginsIn : ℕ → ℕ → ℕ → Type 0
-  BeginsIn e i state = table.IsAt m.sets m.program s m.table.cells.items m.table.accepts.items m.table.ends.items e i i state
+-- a search from the step e at the place i begins in this state, whatever the text is
+abbrev pub BeginsIn : Matcher → ℕ → ℕ → ℕ → Type 0
+BeginsIn m e i state = (s : List ℕ) → table.IsAt m.sets m.program s m.table.cells.items m.table.accepts.items m.table.ends.items e i i state
 
+module _ (m : Matcher) (s : List ℕ) where
   -- a match that begins at the step e and the place i ends somewhere
   abbrev pub EndsFrom : ℕ → ℕ → Type 0
   EndsFrom e i = table.EndsSomewhere m.sets m.program s e i

@@ -1,5 +1,5 @@
 // The search by a table.
-ghost use Rattle.std.specs.Prelude.{◌≡◌, ◌≢◌, ◌==◌, ◌↔◌, ◌<◌, ◌≤◌, ℕ, List, length, IfOk, IfSome, IsTrue, slice_index, if◌then◌else◌};
+ghost use Rattle.std.specs.Prelude.{◌≡◌, ◌≢◌, ◌==◌, ◌↔◌, ◌<◌, ◌≤◌, length, IfOk, IfSome, IsTrue, slice_index, if◌then◌else◌};
 ghost use Rattle.awk_ere.specs.Matcher.{BeginsIn, EndsFrom, Finds, IsAnchored, IsLater, IsLongest, IsSought, NoneTo, StandsFor, StartsAt, StartsFrom};
 ghost use Rattle.awk_ere.specs.Table.{AllLead};
 ghost use Rattle.awk_ere.specs.View.{pattern};
@@ -144,7 +144,7 @@ impl Matcher {
 
     /// The state in which a search begins at the place, where the table has it.
     fn entry_state(&self, place: usize) -> Option<usize>
-        ensures { IfSome result (λ state. (s : List ℕ) → BeginsIn self.now s self.now.entry place state) }
+        ensures { IfSome result (BeginsIn self.now self.now.entry place) }
     {
         let state = state_at(self.table.entry, place);
         if state < self.table.cells.len() {
@@ -156,7 +156,7 @@ impl Matcher {
 
     /// The state in which a search from the place on begins, where the table has it.
     fn scan_state(&self, place: usize) -> Option<usize>
-        ensures { IfSome result (λ state. (s : List ℕ) → BeginsIn self.now s self.now.scan place state) }
+        ensures { IfSome result (BeginsIn self.now self.now.scan place) }
     {
         let state = state_at(self.table.scan, place);
         if state < self.table.cells.len() {
@@ -194,7 +194,7 @@ impl Matcher {
     /// does not say. Most bytes leave a search where it is, and then the next look at the table need not wait for this one.
     fn ends_somewhere(&self, step: usize, first: usize, text: &[u8], from: usize) -> Option<bool>
         requires from { from < length text.now }
-        requires begin { BeginsIn self.now text.now step from first }
+        requires begin { BeginsIn self.now step from first }
         ensures { IfSome result (λ b. IsTrue b ↔ EndsFrom self.now text.now step from) }
     {
         let (cells, accepts) = (self.table.cells.as_slice(), self.table.accepts.as_slice());
@@ -226,7 +226,7 @@ impl Matcher {
     }
 
     /// Whether a match starts at the place or later; `None` where the table does not say.
-    fn is_ahead(&self, text: &[u8], from: usize) -> Option<bool>
+    fn has_start(&self, text: &[u8], from: usize) -> Option<bool>
         requires { from ≤ length text.now }
         ensures { IfSome result (λ b. IsTrue b ↔ StartsFrom self.now text.now from) }
     {
@@ -391,7 +391,7 @@ impl Matcher {
         requires { from ≤ length text.now }
         ensures { IsSought self.now text.now from result }
     {
-        match self.is_ahead(text, from) {
+        match self.has_start(text, from) {
             Some(false) => Sought::NoMatch,
             Some(true) | None => {
                 let budget = text.len().saturating_mul(BUDGET);
@@ -491,6 +491,6 @@ impl Matcher {
             }
             at = start + 1;
         }
-        self.is_ahead(text, at)
+        self.has_start(text, at)
     }
 }

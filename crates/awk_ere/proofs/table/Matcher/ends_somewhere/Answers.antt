@@ -6,6 +6,11 @@ use Rattle.awk_ere.specs.Table.{IsAt}
 use Rattle.awk_ere.proofs.table.Matcher.ends_somewhere.Goals as goal
 use Rattle.awk_ere.proofs.table.Matcher.ends_somewhere.Goals.{else-accepts-next-via-then-accepts-next+else-place-text, else-accepts-next-via-else-accepts-next}
 
+pub bounds-accepts-first : goal.bounds-accepts-first
+bounds-accepts-first c =
+    let begin = begins_by c.args.self.now _ c.self.view_is c.args.text.now _ _ _ c.requires.begin _ _ _ c.as_slice-cells.ensures.value c.as_slice-accepts.ensures.value c.as_slice-ends.ensures.value in
+    omega (arith, begin.1.accept.len, begin.2)
+
 pub loop-place-init : goal.loop-place-init
 loop-place-init c = record {
   after = omega arith;

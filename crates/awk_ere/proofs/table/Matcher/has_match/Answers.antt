@@ -22,4 +22,4 @@ returns-then-start-text c =
     starts_on c.args.self.now _ _ (length c.args.text.now) (omega arith) whole _ c.has_at_end.ensures
 
 pub returns : goal.returns
-returns c = starts_on c.args.self.now _ _ _ (omega arith) c.loop-tried.invariant.1 _ c.is_ahead.ensures
+returns c = starts_on c.args.self.now _ _ _ (omega arith) c.loop-tried.invariant.1 _ c.has_start.ensures

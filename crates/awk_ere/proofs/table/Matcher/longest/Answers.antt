@@ -5,7 +5,7 @@ use Rattle.awk_ere.proofs.table.Matcher.longest.Goals as goal
 
 pub loop-place-init : goal.loop-place-init
 loop-place-init c = record {
-  at' = begins_by c.args.self.now _ c.self.view_is _ _ _ _ (c.in_ok-state.ensures c.args.text.now) _ _ _ c.as_slice-cells.ensures.value c.as_slice-accepts.ensures.value c.as_slice-ends.ensures.value;
+  at' = begins_by c.args.self.now _ c.self.view_is _ _ _ _ c.in_ok-state.ensures _ _ _ c.as_slice-cells.ensures.value c.as_slice-accepts.ensures.value c.as_slice-ends.ensures.value;
   best = longest_begin _ _ _ _ _;
 }
 
