@@ -34,43 +34,52 @@ still_later m from i (inl lt) le = inl (omega arith)
 still_later m from i (inr same) le = inr same
 
 module _ (m : Matcher) (s : List ℕ) (from : ℕ) where
-  pub none_begin : NoneTo m s from from
-  none_begin = λ i j after before within run. omega arith
+  pub none_begin : from ≤ length s → NoneTo m s from from
+  none_begin inside = record { after = omega arith; within = inside; none = λ i j after before within run. omega arith }
 
-  pub none_more : (k : ℕ) → matcher.IsLongest m s k None → NoneTo m s from k → NoneTo m s from (k + 1)
-  none_more k none h = λ i j after before within run. elim (cases_lt i k) [
-    | inl less ↦ h i j after less within run
-    | inr ge ↦ (let same : i ≡ k = omega arith in none j within (subst (λ x. Goes m.sets m.program s m.entry x 0 j) same run))
-  ]
+  -- none at k, and none before
+  pub none_more : (k : ℕ) → k < length s → matcher.IsLongest m s k None → NoneTo m s from k → NoneTo m s from (k + 1)
+  none_more k inside none h = record {
+    after = omega (arith, h.after);
+    within = omega arith;
+    none = λ i j after before within run. elim (cases_lt i k) [
+      | inl less ↦ h.none i j after less within run
+      | inr ge ↦ (let same : i ≡ k = omega arith in none j within (subst (λ x. Goes m.sets m.program s m.entry x 0 j) same run))
+    ];
+  }
 
-  pub found_at : (k j : ℕ) → from ≤ k → matcher.IsLongest m s k (Some j) → NoneTo m s from k → matcher.Finds m s from (Some (k, j))
-  found_at k j after h none = record {
-    after = after;
+  pub found_at : (k j : ℕ) → matcher.IsLongest m s k (Some j) → NoneTo m s from k → matcher.Finds m s from (Some (k, j))
+  found_at k j h none = record {
+    after = none.after;
     within = h.0;
     related = h.1;
-    leftmost = λ i l start within run. elim (cases_lt i k) [ inl less ↦ absurd (none i l start less within run) | inr ge ↦ ge ];
+    leftmost = λ i l start within run. elim (cases_lt i k) [ inl less ↦ absurd (none.none i l start less within run) | inr ge ↦ ge ];
     longest = λ l within run. h.2 l within run;
   }
 
-  -- no start up to k, and none from there up to r
+  -- none up to k, and none from there up to r
   pub none_on : (k r : ℕ) → NoneTo m s from k → NoneTo m s k r → NoneTo m s from r
-  none_on k r none rest = λ i j after before within run. elim (cases_lt i k) [ inl less ↦ none i j after less within run | inr ge ↦ rest i j ge before within run ]
+  none_on k r none rest = record {
+    after = omega (arith, none.after, rest.after);
+    within = rest.within;
+    none = λ i j after before within run. elim (cases_lt i k) [ inl less ↦ none.none i j after less within run | inr ge ↦ rest.none i j ge before within run ];
+  }
 
   -- the rest by another search
-  pub found_later : (k : ℕ) (found : Option (ℕ × ℕ)) → from ≤ k → NoneTo m s from k → matcher.Finds m s k found → matcher.Finds m s from found
-  found_later k None after none h = λ i j start within run. elim (cases_lt i k) [ inl less ↦ none i j start less within run | inr ge ↦ h i j ge within run ]
-  found_later k (Some x) after none h = record {
-    after = omega (arith, h.after);
+  pub found_later : (k : ℕ) (found : Option (ℕ × ℕ)) → NoneTo m s from k → matcher.Finds m s k found → matcher.Finds m s from found
+  found_later k None none h = λ i j start within run. elim (cases_lt i k) [ inl less ↦ none.none i j start less within run | inr ge ↦ h i j ge within run ]
+  found_later k (Some x) none h = record {
+    after = omega (arith, none.after, h.after);
     within = h.within;
     related = h.related;
-    leftmost = λ i l start within run. elim (cases_lt i k) [ inl less ↦ absurd (none i l start less within run) | inr ge ↦ h.leftmost i l ge within run ];
+    leftmost = λ i l start within run. elim (cases_lt i k) [ inl less ↦ absurd (none.none i l start less within run) | inr ge ↦ h.leftmost i l ge within run ];
     longest = h.longest;
   }
 
-  pub sought_later : (k : ℕ) (r : Sought) → from ≤ k → NoneTo m s from k → IsSought m s k r → IsSought m s from r
-  sought_later k (Match i j) after none h = found_later k (Some (i, j)) after none h
-  sought_later k NoMatch after none h = found_later k None after none h
-  sought_later k (Left at) after none h = (omega (arith, after, h.0), h.1, none_on k at none h.2)
+  pub sought_later : (k : ℕ) (r : Sought) → NoneTo m s from k → IsSought m s k r → IsSought m s from r
+  sought_later k (Match i j) none h = found_later k (Some (i, j)) none h
+  sought_later k NoMatch none h = found_later k None none h
+  sought_later k (Left at) none h = none_on k at none h
 
 -- where a search begins, by the parts of a table as they were read
 pub begins_by : (m n : Matcher) → n ≡ m → (s : List ℕ) (e i state : ℕ) → BeginsIn m e i state → (cells : List (List ℕ)) (accepts ends : List Bool) → cells ≡ n.table.cells.items → accepts ≡ n.table.accepts.items → ends ≡ n.table.ends.items
@@ -91,7 +100,7 @@ module _ (m : Matcher) (p : Pattern) (is : IsMatcher m p) where
   by_place zero (inr same) = sym same
   by_place (suc i) h = sym (ap (λ b. cond b m.table.entry.first m.table.entry.later) (eqb-suc-zero i))
 
-  module _ (s : List ℕ) (fit : (k : ℕ) → slice_index s k < 256) (from to : ℕ) (later : IsLater m from) (within : to ≤ length s) where
+  module _ (s : List ℕ) (fit : (k : ℕ) → slice_index s k < 256) (from to : ℕ) (later : IsLater m from) (after : from ≤ to) (within : to ≤ length s) where
     abbrev q : ℕ
     q = m.table.entry.later
 
@@ -103,31 +112,37 @@ module _ (m : Matcher) (p : Pattern) (is : IsMatcher m p) where
 
     -- no start where the first byte leads to no step
     pub none_dead : q < length m.table.cells.items → slice_index_or m.table.accepts.items q false ≡ false → AllLead (slice_index_or m.table.cells.items q []) s 0 from to → NoneTo m s from to
-    none_dead known closed dead = λ i j after before below run.
-        let at = begins_at i after known s in
-        let lt : i < length s = omega arith in
-        let le : i ≤ i = omega arith in
-        at_dead _ _ _ _ _ _ _ i i q at le lt (fit i) (dead i after before) None (at_pass _ _ _ _ _ _ _ i i q at le lt closed (none_yet i)) j below run
+    none_dead known closed dead = record {
+      after = after;
+      within = within;
+      none = λ i j start before below run.
+          let at = begins_at i start known s in
+          let lt : i < length s = omega arith in
+          let le : i ≤ i = omega arith in
+          at_dead _ _ _ _ _ _ _ i i q at le lt (fit i) (dead i start before) None (at_pass _ _ _ _ _ _ _ i i q at le lt closed (none_yet i)) j below run;
+    }
 
     -- no start where the first byte and the one behind it lead to no match
     pub none_heads : NoneBegin m.table.heads s from to → NoneTo m s from to
-    none_heads none = λ i j after before below run.
-        let behind = none i after before in
-        let lt : i < length s = omega arith in
-        elim (is.built.heads (slice_index s i) (slice_index s (i + 1)) (fit i) (fit (i + 1))) [
-          | inl may ↦ absurd (both_ways _ behind.1 may)
-          | inr fails ↦
-              let at = begins_at i after fails.0 s in
-              let le : i ≤ i = omega arith in
-              let here = at_pass _ _ _ _ _ _ _ i i q at le lt fails.1 (none_yet i) in
-              elim fails.2 [
-                | inl dead ↦ at_dead _ _ _ _ _ _ _ i i q at le lt (fit i) dead None here j below run
-                | inr more ↦
-                    let next = at_next _ _ _ _ _ _ _ i i q at le lt (fit i) more.0 in
-                    let up : i ≤ i + 1 = omega arith in
-                    at_dead _ _ _ _ _ _ _ i (i + 1) _ next up behind.0 (fit (i + 1)) more.2 None (at_pass _ _ _ _ _ _ _ i (i + 1) _ next up behind.0 more.1 here) j below run
-              ]
-        ]
+    none_heads heads = record { after = after; within = within; none = none } where
+      none : (i j : ℕ) → from ≤ i → i < to → j < length s + 1 → Goes m.sets m.program s m.entry i 0 j → ⊥
+      none i j start before below run =
+          let behind = heads i start before in
+          let lt : i < length s = omega arith in
+          elim (is.built.heads (slice_index s i) (slice_index s (i + 1)) (fit i) (fit (i + 1))) [
+            | inl may ↦ absurd (both_ways _ behind.1 may)
+            | inr fails ↦
+                let at = begins_at i start fails.0 s in
+                let le : i ≤ i = omega arith in
+                let here = at_pass _ _ _ _ _ _ _ i i q at le lt fails.1 (none_yet i) in
+                elim fails.2 [
+                  | inl dead ↦ at_dead _ _ _ _ _ _ _ i i q at le lt (fit i) dead None here j below run
+                  | inr more ↦
+                      let next = at_next _ _ _ _ _ _ _ i i q at le lt (fit i) more.0 in
+                      let up : i ≤ i + 1 = omega arith in
+                      at_dead _ _ _ _ _ _ _ i (i + 1) _ next up behind.0 (fit (i + 1)) more.2 None (at_pass _ _ _ _ _ _ _ i (i + 1) _ next up behind.0 more.1 here) j below run
+                ]
+          ]
 
 -- an empty match at the end of a text that is not empty
 module _ (sets : List (List Bool)) (program : List Step) (s : List ℕ) (lists cells : List (List ℕ)) (accepts ends : List Bool) (e : ℕ) (r : Begin) (table : IsTable sets program lists cells accepts ends)
@@ -237,12 +252,12 @@ module _ (m : Matcher) (s : List ℕ) (from : ℕ) where
   has_found (Some x) best = ((λ t. (x.0, best.after, (x.1, omega (arith, best.within), best.related))), λ y. refl)
 
   -- the same from a later place, before which no match starts
-  pub starts_on : (k : ℕ) → from ≤ k → NoneTo m s from k → (r : Option Bool) → IfSome r (λ b. IsTrue b ↔ StartsFrom m s k) → IfSome r (λ b. IsTrue b ↔ StartsFrom m s from)
-  starts_on k le none None h = tt
-  starts_on k le none (Some b) h = ((λ t. let y = h.0 t in (y.0, omega (arith, y.1), y.2)), λ y. h.1 (on y)) where
+  pub starts_on : (k : ℕ) → NoneTo m s from k → (r : Option Bool) → IfSome r (λ b. IsTrue b ↔ StartsFrom m s k) → IfSome r (λ b. IsTrue b ↔ StartsFrom m s from)
+  starts_on k none None h = tt
+  starts_on k none (Some b) h = ((λ t. let y = h.0 t in (y.0, omega (arith, none.after, y.1), y.2)), λ y. h.1 (on y)) where
     on : StartsFrom m s from → StartsFrom m s k
-    on (i, after, (j, within, run)) = elim (cases_lt i k) [ inl less ↦ absurd (none i j after less (omega arith) run) | inr ge ↦ (i, ge, (j, within, run)) ]
+    on (i, after, (j, within, run)) = elim (cases_lt i k) [ inl less ↦ absurd (none.none i j after less (omega arith) run) | inr ge ↦ (i, ge, (j, within, run)) ]
 
   -- what a start that was tried says
-  pub none_start : (k : ℕ) → NoneTo m s from k → (b : Bool) → b ≡ false → IsTrue b ↔ StartsAt m s k → NoneTo m s from (k + 1)
-  none_start k none b off is = none_more m s from k (λ j below run. both_ways b off (is.1 (j, omega arith, run))) none
+  pub none_start : (k : ℕ) → k < length s → NoneTo m s from k → (b : Bool) → b ≡ false → IsTrue b ↔ StartsAt m s k → NoneTo m s from (k + 1)
+  none_start k inside none b off is = none_more m s from k inside (λ j below run. both_ways b off (is.1 (j, omega arith, run))) none

@@ -45,9 +45,11 @@ module _ (m : Matcher) (s : List ℕ) where
   abbrev pub IsLongest : ℕ → Option ℕ → Type 0
   IsLongest i found = table.IsLongest m.sets m.program s m.entry i (length s + 1) found
 
-  -- no match starts from `from` on and before k
-  abbrev pub NoneTo : ℕ → ℕ → Type 0
-  NoneTo from k = (i j : ℕ) → from ≤ i → i < k → j < length s + 1 → runs.Goes m.sets m.program s m.entry i 0 j → ⊥
+  -- k is a place from `from` on, and no match starts between
+  pub record NoneTo (from k : ℕ) : Type 0 where
+    pub after : from ≤ k
+    pub within : k ≤ length s
+    pub none : (i j : ℕ) → from ≤ i → i < k → j < length s + 1 → runs.Goes m.sets m.program s m.entry i 0 j → ⊥
 
   -- the best match from `from` on, or that there is none
   abbrev pub Finds : ℕ → Option (ℕ × ℕ) → Type 0
@@ -57,4 +59,4 @@ module _ (m : Matcher) (s : List ℕ) where
   abbrev pub IsSought : ℕ → Sought → Type 0
   IsSought from (Match i j) = Finds from (Some (i, j))
   IsSought from NoMatch = Finds from None
-  IsSought from (Left k) = (from ≤ k) × (k ≤ length s) × NoneTo from k
+  IsSought from (Left k) = NoneTo from k

@@ -97,7 +97,8 @@ fn state_at(begin: Begin, place: usize) -> usize
     }
 }
 
-/// What finds the matches of a pattern: its program, and the table of states that is made of it.
+/// What finds the matches of a pattern: its program, and the table of states that is made of it. That they belong together
+/// is its invariant, so that no search has to ask for it.
 #[derive(Drop)]
 pub struct Matcher {
     sets: Vec<Set>,
@@ -267,8 +268,7 @@ impl Matcher {
     fn next_by_row(&self, text: &[u8], from: usize) -> usize
         requires later { IsLater self.now from }
         requires from { from ≤ length text.now }
-        ensures inside { (from ≤ result) × (result ≤ length text.now) }
-        ensures none { NoneTo self.now text.now from result }
+        ensures { NoneTo self.now text.now from result }
     {
         let (cells, accepts) = (self.table.cells.as_slice(), self.table.accepts.as_slice());
         let first = self.table.entry.later as usize;
@@ -282,8 +282,7 @@ impl Matcher {
     fn next_by_heads(&self, text: &[u8], from: usize) -> usize
         requires later { IsLater self.now from }
         requires from { from ≤ length text.now }
-        ensures inside { (from ≤ result) × (result ≤ length text.now) }
-        ensures none { NoneTo self.now text.now from result }
+        ensures { NoneTo self.now text.now from result }
     {
         let place = next_head(&self.table.heads, text, from);
         if place + LANES < text.len() {
@@ -297,8 +296,7 @@ impl Matcher {
     fn next_start(&self, text: &[u8], from: usize) -> usize
         requires later { IsLater self.now from }
         requires from { from ≤ length text.now }
-        ensures inside { (from ≤ result) × (result ≤ length text.now) }
-        ensures none { NoneTo self.now text.now from result }
+        ensures { NoneTo self.now text.now from result }
     {
         if self.table.heads.is_exact {
             self.next_by_heads(text, from)
@@ -310,8 +308,7 @@ impl Matcher {
     /// The first place, from this one on, that is to be tried as a start.
     fn first_start(&self, text: &[u8], from: usize) -> usize
         requires { from ≤ length text.now }
-        ensures inside { (from ≤ result) × (result ≤ length text.now) }
-        ensures none { NoneTo self.now text.now from result }
+        ensures { NoneTo self.now text.now from result }
     {
         if self.is_later(from) {
             self.next_start(text, from)

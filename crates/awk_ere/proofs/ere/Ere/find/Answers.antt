@@ -13,8 +13,7 @@ returns-in-NoMatch c = rw (← c.self.view_is) (c.self.invariant.0, c.self.invar
 
 pub returns-in_ok-found-in-Left : goal.returns-in_ok-found-in-Left
 returns-in_ok-found-in-Left c =
-    let left = c.in-Left.ensures in
-    let found = found_later c.self.inside.matcher _ _ _ _ left.0 left.2 c.in_ok-found-in-Left.ensures in
+    let found = found_later _ _ _ _ _ c.in-Left.ensures c.in_ok-found-in-Left.ensures in
     rw (← c.self.view_is) (c.self.invariant.0, c.self.invariant.1, finds_best _ _ _ _ c.self.invariant.2 _ _ _ found)
 
 pub returns-then-self : goal.returns-then-self

@@ -1,6 +1,5 @@
-use Rattle.std.proofs.Common.{◌≤◌, length}
 use Rattle.awk_ere.specs.Matcher.{NoneTo}
 use Rattle.awk_ere.proofs.table.Matcher.has_match.Given as goal
 
 abbrev pub invariant-loop-tried : goal.invariant-loop-tried
-invariant-loop-tried l = (l.at ≤ length l.text) × NoneTo l.self l.text 0 l.at
+invariant-loop-tried l = NoneTo l.self l.text 0 l.at
