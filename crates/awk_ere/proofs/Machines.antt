@@ -26,6 +26,7 @@ means_same sets a e p q next same m = record {
   back = λ full s k n i j ext x path. m.back full s k n i j ext (same.from s i k x) path;
 }
 
+-- a machine is that of each pattern that matches the same
 pub machine_same : (sets : List (List Bool)) (program : List Step) (e : ℕ) (p q : Pattern) → IsSame p q → IsMachine sets program e p → IsMachine sets program e q
 machine_same sets program e p q same m = record {
   sound = m.sound;
