@@ -1,12 +1,13 @@
 -- From a compiled tree to a machine, and what its search says.
 use Rattle.std.proofs.Common.{◌≡◌, ◌↔◌, IsTrue, ℕ, ◌≤◌, min, Bool, List, [], ◌∷◌, length, Option, Some, None, is_some, true, refl, sym, subst, arith}
-use Rattle.awk_ere.specs.Pattern.{Pattern, bytes, cat, repeat, Matches}
+use Rattle.awk_ere.specs.Pattern.{Pattern, bytes, repeat, Matches}
 use Rattle.awk_ere.specs.Best.{Best}
 use Rattle.awk_ere.specs.Same.{IsSame}
 use Rattle.awk_ere.specs.Spelled.{IsPattern, Finds, HasMatch}
 use Rattle.awk_ere.specs.Program.{Means, IsSound, Grows, Compiles}
 use Rattle.awk_ere.specs.Search.{IsMachine}
-use Rattle.awk_ere.specs.Table.{anywhere, EndsSomewhere}
+use Rattle.awk_ere.specs.Matcher.{StandsFor, StartsFrom}
+use Rattle.awk_ere.specs.Table.{Matcher, anywhere}
 use Rattle.awk_ere.specs.View.{pattern}
 use Rattle.awk_ere.specs.Tree.{IsWhole, IsTree}
 use Rattle.awk_ere.specs.declared.tree.Part.{Part}
@@ -17,7 +18,7 @@ use Rattle.awk_ere.proofs.Tokens.{later_same}
 use Rattle.awk_ere.proofs.Programs.{Grows-trans}
 use Rattle.awk_ere.proofs.Meaning.{Means-grows}
 use Rattle.awk_ere.proofs.Parts.{compiles_cat}
-use Rattle.awk_ere.proofs.Seeking.{somewhere_from, from_somewhere}
+use Rattle.awk_ere.proofs.Searching.{machine_of, run_matches, matches_run}
 
 means_same : (sets : List (List Bool)) (a : List Step) (e : ℕ) (p q : Pattern) (next : ℕ) → IsSame p q → Means sets a e p next → Means sets a e q next
 means_same sets a e p q next same m = record {
@@ -25,16 +26,14 @@ means_same sets a e p q next same m = record {
   back = λ full s k n i j ext x path. m.back full s k n i j ext (same.from s i k x) path;
 }
 
-machine_of : (sets : List (List Bool)) (program : List Step) (entry : ℕ) (q : List (List Bool) → Pattern) (p : Pattern) → Compiles (Done ∷ []) program entry q 0 → IsSame (q sets) p → IsMachine sets program entry p
-machine_of sets program entry q p h same = record {
-  sound = h.sound;
-  inside = h.below;
-  done = h.grows.kept 0 (omega arith);
-  means = means_same sets program entry (q sets) p 0 same (h.means sets);
+-- a machine is that of each pattern that matches the same
+pub machine_same : (sets : List (List Bool)) (program : List Step) (e : ℕ) (p q : Pattern) → IsSame p q → IsMachine sets program e p → IsMachine sets program e q
+machine_same sets program e p q same m = record {
+  sound = m.sound;
+  inside = m.inside;
+  done = m.done;
+  means = means_same sets program e p q 0 same m.means;
 }
-
-pub machine : (sets : List (List Bool)) (program : List Step) (entry : ℕ) (node : Node) (p : Pattern) → Compiles (Done ∷ []) program entry (λ sets. pattern sets node) 0 → IsSame (pattern sets node) p → IsMachine sets program entry p
-machine sets program entry node p h same = machine_of sets program entry (λ sets. pattern sets node) p h same
 
 -- a size that is within the limit is the pattern's own
 no_larger : (size n : ℕ) → size ≡ min 20001 n → size ≤ 20000 → n ≤ 20000
@@ -49,19 +48,6 @@ compiled_later old a b e next p h sound grows = record {
   means = λ sets. Means-grows sets a b e (p sets) next grows (h.means sets);
 }
 
-same_after : (a p q : Pattern) → IsSame p q → IsSame (cat a p) (cat a q)
-same_after a p q same = record {
-  to = λ s i j m. (m.0, m.1, same.to s m.0 j m.2);
-  from = λ s i j m. (m.0, m.1, same.from s m.0 j m.2);
-}
-
--- the text's pattern, its machine, and the one that may begin anywhere
-pub record IsMade (text : List ℕ) (sets : List (List Bool)) (program : List Step) (entry scan : ℕ) : Type 0 where
-  pub pattern : Pattern
-  pub is : IsPattern text pattern
-  pub machine : IsMachine sets program entry pattern
-  pub scanner : IsMachine sets program scan (anywhere pattern)
-
 -- a tree that was read, where its text is within the limits
 pub within : (text : List ℕ) (sets : List (List Bool)) (part : Part) → length text ≤ 4096 → part.size ≤ 20000 → IsWhole text sets part → IsTree text sets part.node
 within text sets part short small (ts, p, n, read, spells, stands) = (
@@ -70,26 +56,22 @@ within text sets part short small (ts, p, n, read, spells, stands) = (
   stands.same sets (later_same sets),
 )
 
-pub accepted : (text : List ℕ) (sets : List (List Bool)) (node : Node) (a program : List Step) (entry scan : ℕ) → IsTree text sets node
-    → Compiles (Done ∷ []) a entry (λ sets. pattern sets node) 0 → Compiles a program scan (λ _. repeat (bytes (λ b. true)) 0 None) entry → IsMade text sets program entry scan
-accepted text sets node a program entry scan (p, is, same) h g = record {
-  pattern = p;
-  is = is;
-  machine = machine sets program entry node p (compiled_later (Done ∷ []) a program entry 0 (λ sets. pattern sets node) h g.sound g.grows) same;
-  scanner = machine_of sets program scan (λ sets. anywhere (pattern sets node)) (anywhere p)
-      (compiles_cat (Done ∷ []) a program scan entry 0 (λ _. repeat (bytes (λ b. true)) 0 None) (λ sets. pattern sets node) h g)
-      (same_after (repeat (bytes (λ b. true)) 0 None) (pattern sets node) p same);
-}
+-- the machine of a tree, and the one that may begin anywhere
+pub machines : (sets : List (List Bool)) (node : Node) (a program : List Step) (entry scan : ℕ) → Compiles (Done ∷ []) a entry (λ sets. pattern sets node) 0
+    → Compiles a program scan (λ _. repeat (bytes (λ b. true)) 0 None) entry → IsMachine sets program entry (pattern sets node) × IsMachine sets program scan (anywhere (pattern sets node))
+machines sets node a program entry scan h g = (
+  machine_of sets program entry (λ sets. pattern sets node) (compiled_later (Done ∷ []) a program entry 0 (λ sets. pattern sets node) h g.sound g.grows),
+  machine_of sets program scan (λ sets. anywhere (pattern sets node)) (compiles_cat (Done ∷ []) a program scan entry 0 (λ _. repeat (bytes (λ b. true)) 0 None) (λ sets. pattern sets node) h g),
+)
 
--- what a table's search that may begin anywhere says
-pub has_scanned : (source s : List ℕ) (sets : List (List Bool)) (program : List Step) (entry scan : ℕ) (p : Pattern) (b : Bool) → IsPattern source p → IsMachine sets program entry p → IsMachine sets program scan (anywhere p)
-    → IsTrue b ↔ EndsSomewhere sets program s scan 0 → HasMatch source s b
-has_scanned source s sets program entry scan p b is machine scanner h = (
+-- what the search of a matcher says
+pub has_started : (source s : List ℕ) (m : Matcher) (p : Pattern) (b : Bool) → IsPattern source p → StandsFor m p → IsTrue b ↔ StartsFrom m s 0 → HasMatch source s b
+has_started source s m p b is machine h = (
   p,
   is,
   (
-    (λ t. let y = somewhere_from sets program entry scan p machine scanner s 0 (h.0 t) in (y.0, y.1, y.3, y.4)),
-    (λ m. h.1 (from_somewhere sets program entry scan p machine scanner s 0 m.0 m.1 (omega arith) m.2 m.3)),
+    (λ t. let y = h.0 t in (y.0, y.2.0, y.2.1, run_matches m.sets m.program m.entry p machine s y.0 y.2.0 y.2.2)),
+    (λ x. h.1 (x.0, omega arith, (x.1, x.2, matches_run m.sets m.program m.entry p machine s x.0 x.1 x.3))),
   ),
 )
 

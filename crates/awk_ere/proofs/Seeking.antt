@@ -1,15 +1,16 @@
 -- What searches by a table say of the best match.
-use Rattle.std.proofs.Common.{◌≡◌, ◌↔◌, IsTrue, ℕ, zero, suc, ◌+◌, ◌-◌, ◌<◌, ◌≤◌, ◌==◌, ◌⊎◌, inl, inr, Bool, true, false, cond, List, [], ◌∷◌, length, slice_index, slice_index_or, Option, Some, None, is_some, IfSome, refl, sym, ◌∙◌, ap, subst, arith}
+use Rattle.std.proofs.Common.{◌≡◌, ◌↔◌, IsTrue, ℕ, zero, suc, ◌+◌, ◌-◌, ◌<◌, ◌≤◌, ◌==◌, inl, inr, Bool, true, false, cond, List, [], ◌∷◌, length, slice_index, slice_index_or, Option, Some, None, is_some, IfSome, refl, sym, ap, subst, arith}
 use Rattle.std.specs.List.{slice_get}
 use Rattle.std.proofs.lemmas.Bool.{cases_lt, eqb-true, eq-eqb, ne_eqb, both_ways}
 use Rattle.std.proofs.Math.Dec.{eqb-suc-zero}
 use Rattle.awk_ere.specs.Pattern.{Pattern, bytes, Chain, Matches}
 use Rattle.awk_ere.specs.Program.{Skips, left, right, at_start, at_end, SkipPath, Path}
-use Rattle.awk_ere.specs.Search.{LeadsTo, Goes, Finds, IsMachine}
-use Rattle.awk_ere.specs.Table.{steps_of, cell, AllLead, IsLed, IsTable, IsBegin, IsAt, IsLongest, EndsSomewhere, EndsAtLast, NoneTo, AreHeads, NoneBegin, IsSought, anywhere}
+use Rattle.awk_ere.specs.Search.{LeadsTo, Goes, Finds}
+use Rattle.awk_ere.specs.Matcher.{BeginsIn, EndsFrom, IsAnchored, IsLater, StartsAt, StartsFrom, NoneTo, IsSought}
+use Rattle.awk_ere.specs.Matcher as matcher
+use Rattle.awk_ere.specs.Table.{steps_of, AllLead, IsLed, IsTable, IsBegin, IsAt, IsLongest, EndsAtLast, NoneBegin, Matcher, IsMatcher, anywhere}
 use Rattle.awk_ere.specs.declared.program.Step.{Step}
 use Rattle.awk_ere.specs.declared.program.Step.TheVariants.{AtStart, Done}
-use Rattle.awk_ere.specs.declared.heads.Heads.{Heads}
 use Rattle.awk_ere.specs.declared.states.Begin.{Begin}
 use Rattle.awk_ere.specs.declared.table.Sought.{Sought}
 use Rattle.awk_ere.specs.declared.table.Sought.TheVariants.{Match, NoMatch, Left}
@@ -28,84 +29,120 @@ at_begin sets program s lists cells accepts ends e i n r table begin inside is l
       let small : r.later < UNKNOWN = omega (arith, same, table.few) in
       subst (λ x. IsLed program false false (e ∷ []) (steps_of lists x)) (sym same) (begin.1 small).1
 
-pub still_later : (r : Begin) (from i : ℕ) → 0 < from ⊎ r.first ≡ r.later → from ≤ i → 0 < i ⊎ r.first ≡ r.later
-still_later r from i (inl lt) le = inl (omega arith)
-still_later r from i (inr same) le = inr same
+pub still_later : (m : Matcher) (from i : ℕ) → IsLater m from → from ≤ i → IsLater m i
+still_later m from i (inl lt) le = inl (omega arith)
+still_later m from i (inr same) le = inr same
 
-module _ (sets : List (List Bool)) (program : List Step) (s : List ℕ) (e from : ℕ) where
-  pub none_begin : NoneTo sets program s e from from
-  none_begin = λ i j after before within run. omega arith
+module _ (m : Matcher) (s : List ℕ) (from : ℕ) where
+  pub none_begin : from ≤ length s → NoneTo m s from from
+  none_begin inside = record { after = omega arith; within = inside; none = λ i j after before within run. omega arith }
 
-  pub none_more : (k : ℕ) → IsLongest sets program s e k (length s + 1) None → NoneTo sets program s e from k → NoneTo sets program s e from (k + 1)
-  none_more k none h = λ i j after before within run. elim (cases_lt i k) [
-    | inl less ↦ h i j after less within run
-    | inr ge ↦ (let same : i ≡ k = omega arith in none j within (subst (λ x. Goes sets program s e x 0 j) same run))
-  ]
+  -- none at k, and none before
+  pub none_more : (k : ℕ) → k < length s → matcher.IsLongest m s k None → NoneTo m s from k → NoneTo m s from (k + 1)
+  none_more k inside none h = record {
+    after = omega (arith, h.after);
+    within = omega arith;
+    none = λ i j after before within run. elim (cases_lt i k) [
+      | inl less ↦ h.none i j after less within run
+      | inr ge ↦ (let same : i ≡ k = omega arith in none j within (subst (λ x. Goes m.sets m.program s m.entry x 0 j) same run))
+    ];
+  }
 
-  pub found_at : (k j : ℕ) → from ≤ k → IsLongest sets program s e k (length s + 1) (Some j) → NoneTo sets program s e from k → Finds sets program s e from (Some (k, j))
-  found_at k j after h none = record {
-    after = after;
+  pub found_at : (k j : ℕ) → matcher.IsLongest m s k (Some j) → NoneTo m s from k → matcher.Finds m s from (Some (k, j))
+  found_at k j h none = record {
+    after = none.after;
     within = h.0;
     related = h.1;
-    leftmost = λ i l start within run. elim (cases_lt i k) [ inl less ↦ absurd (none i l start less within run) | inr ge ↦ ge ];
+    leftmost = λ i l start within run. elim (cases_lt i k) [ inl less ↦ absurd (none.none i l start less within run) | inr ge ↦ ge ];
     longest = λ l within run. h.2 l within run;
   }
 
-  -- no start up to k, and none from there up to r
-  pub none_on : (k r : ℕ) → NoneTo sets program s e from k → NoneTo sets program s e k r → NoneTo sets program s e from r
-  none_on k r none rest = λ i j after before within run. elim (cases_lt i k) [ inl less ↦ none i j after less within run | inr ge ↦ rest i j ge before within run ]
-
-  by_place : (r : Begin) (i : ℕ) → 0 < i ⊎ r.first ≡ r.later → r.later ≡ cond (i == 0) r.first r.later
-  by_place r zero (inl lt) = absurd (omega arith)
-  by_place r zero (inr same) = sym same
-  by_place r (suc i) h = sym (ap (λ b. cond b r.first r.later) (eqb-suc-zero i))
-
-  module _ (lists cells : List (List ℕ)) (accepts ends : List Bool) (r : Begin) (table : IsTable sets program lists cells accepts ends) (begin : IsBegin program e lists r) (inside : e < length program)
-      (fit : (k : ℕ) → k < length s → slice_index s k < 256) (to : ℕ) (later : 0 < from ⊎ r.first ≡ r.later) (within : to ≤ length s) where
-    -- no start where the first byte leads to no step
-    pub none_dead : r.later < length cells → slice_index_or accepts r.later false ≡ false → AllLead (slice_index_or cells r.later []) s 0 from to → NoneTo sets program s e from to
-    none_dead known closed dead = λ i j after before below run.
-        let at = at_begin sets program s lists cells accepts ends e i r.later r table begin inside (by_place r i (still_later r from i later after)) known in
-        let lt : i < length s = omega arith in
-        let le : i ≤ i = omega arith in
-        at_dead sets program s cells accepts ends e i i r.later at le lt (fit i lt) (dead i after before) None (at_pass sets program s cells accepts ends e i i r.later at le lt closed (longest_begin sets program s e i)) j below run
-
-    -- no start where the first byte and the one behind it lead to no match
-    pub none_heads : (h : Heads) → AreHeads cells accepts r.later h → NoneBegin h s from to → NoneTo sets program s e from to
-    none_heads h heads none = λ i j after before below run.
-        let behind = none i after before in
-        let lt : i < length s = omega arith in
-        elim (heads (slice_index s i) (slice_index s (i + 1)) (fit i lt) (fit (i + 1) behind.0)) [
-          | inl may ↦ absurd (both_ways _ behind.1 may)
-          | inr fails ↦
-              let at = at_begin sets program s lists cells accepts ends e i r.later r table begin inside (by_place r i (still_later r from i later after)) fails.0 in
-              let le : i ≤ i = omega arith in
-              let here = at_pass sets program s cells accepts ends e i i r.later at le lt fails.1 (longest_begin sets program s e i) in
-              elim fails.2 [
-                | inl dead ↦ at_dead sets program s cells accepts ends e i i r.later at le lt (fit i lt) dead None here j below run
-                | inr more ↦
-                    let q = cell cells r.later (slice_index s i) in
-                    let next = at_next sets program s cells accepts ends e i i r.later at le lt (fit i lt) more.0 in
-                    let up : i ≤ i + 1 = omega arith in
-                    at_dead sets program s cells accepts ends e i (i + 1) q next up behind.0 (fit (i + 1) behind.0) more.2 None (at_pass sets program s cells accepts ends e i (i + 1) q next up behind.0 more.1 here) j below run
-              ]
-        ]
+  -- none up to k, and none from there up to r
+  pub none_on : (k r : ℕ) → NoneTo m s from k → NoneTo m s k r → NoneTo m s from r
+  none_on k r none rest = record {
+    after = omega (arith, none.after, rest.after);
+    within = rest.within;
+    none = λ i j after before within run. elim (cases_lt i k) [ inl less ↦ none.none i j after less within run | inr ge ↦ rest.none i j ge before within run ];
+  }
 
   -- the rest by another search
-  pub found_later : (k : ℕ) (found : Option (ℕ × ℕ)) → from ≤ k → NoneTo sets program s e from k → Finds sets program s e k found → Finds sets program s e from found
-  found_later k None after none h = λ i j start within run. elim (cases_lt i k) [ inl less ↦ none i j start less within run | inr ge ↦ h i j ge within run ]
-  found_later k (Some m) after none h = record {
-    after = omega (arith, h.after);
+  pub found_later : (k : ℕ) (found : Option (ℕ × ℕ)) → NoneTo m s from k → matcher.Finds m s k found → matcher.Finds m s from found
+  found_later k None none h = λ i j start within run. elim (cases_lt i k) [ inl less ↦ none.none i j start less within run | inr ge ↦ h i j ge within run ]
+  found_later k (Some x) none h = record {
+    after = omega (arith, none.after, h.after);
     within = h.within;
     related = h.related;
-    leftmost = λ i l start within run. elim (cases_lt i k) [ inl less ↦ absurd (none i l start less within run) | inr ge ↦ h.leftmost i l ge within run ];
+    leftmost = λ i l start within run. elim (cases_lt i k) [ inl less ↦ absurd (none.none i l start less within run) | inr ge ↦ h.leftmost i l ge within run ];
     longest = h.longest;
   }
 
-  pub sought_later : (k : ℕ) (r : Sought) → from ≤ k → NoneTo sets program s e from k → IsSought sets program s e k r → IsSought sets program s e from r
-  sought_later k (Match i j) after none h = found_later k (Some (i, j)) after none h
-  sought_later k NoMatch after none h = found_later k None after none h
-  sought_later k (Left at) after none h = (omega (arith, after, h.0), h.1, none_on k at none h.2)
+  pub sought_later : (k : ℕ) (r : Sought) → NoneTo m s from k → IsSought m s k r → IsSought m s from r
+  sought_later k (Match i j) none h = found_later k (Some (i, j)) none h
+  sought_later k NoMatch none h = found_later k None none h
+  sought_later k (Left at) none h = none_on k at none h
+
+-- where a search begins, by the parts of a table as they were read
+pub begins_by : (m n : Matcher) → n ≡ m → (s : List ℕ) (e i state : ℕ) → BeginsIn m e i state → (cells : List (List ℕ)) (accepts ends : List Bool) → cells ≡ n.table.cells.items → accepts ≡ n.table.accepts.items → ends ≡ n.table.ends.items
+    → IsAt m.sets m.program s cells accepts ends e i i state
+begins_by m n same s e i state begin cells accepts ends cells_are accepts_are ends_are =
+    rw (cells_are, accepts_are, ends_are) (subst (λ x. IsAt m.sets m.program s x.table.cells.items x.table.accepts.items x.table.ends.items e i i state) (sym same) (begin s))
+
+-- where a search begins
+module _ (m : Matcher) (p : Pattern) (is : IsMatcher m p) where
+  pub begins_entry : (i state : ℕ) → state ≡ cond (i == 0) m.table.entry.first m.table.entry.later → state < length m.table.cells.items → BeginsIn m m.entry i state
+  begins_entry i state at known = λ s. at_begin m.sets m.program s is.built.lists _ _ _ m.entry i state m.table.entry is.built.table is.built.entries is.machine.inside at known
+
+  pub begins_scan : (i state : ℕ) → state ≡ cond (i == 0) m.table.scan.first m.table.scan.later → state < length m.table.cells.items → BeginsIn m m.scan i state
+  begins_scan i state at known = λ s. at_begin m.sets m.program s is.built.lists _ _ _ m.scan i state m.table.scan is.built.table is.built.scans is.scanner.inside at known
+
+  by_place : (i : ℕ) → IsLater m i → m.table.entry.later ≡ cond (i == 0) m.table.entry.first m.table.entry.later
+  by_place zero (inl lt) = absurd (omega arith)
+  by_place zero (inr same) = sym same
+  by_place (suc i) h = sym (ap (λ b. cond b m.table.entry.first m.table.entry.later) (eqb-suc-zero i))
+
+  module _ (s : List ℕ) (fit : (k : ℕ) → slice_index s k < 256) (from to : ℕ) (later : IsLater m from) (after : from ≤ to) (within : to ≤ length s) where
+    abbrev q : ℕ
+    q = m.table.entry.later
+
+    begins_at : (i : ℕ) → from ≤ i → q < length m.table.cells.items → BeginsIn m m.entry i q
+    begins_at i after known = begins_entry i q (by_place i (still_later m from i later after)) known
+
+    none_yet : (i : ℕ) → IsLongest m.sets m.program s m.entry i i None
+    none_yet i = longest_begin m.sets m.program s m.entry i
+
+    -- no start where the first byte leads to no step
+    pub none_dead : q < length m.table.cells.items → slice_index_or m.table.accepts.items q false ≡ false → AllLead (slice_index_or m.table.cells.items q []) s 0 from to → NoneTo m s from to
+    none_dead known closed dead = record {
+      after = after;
+      within = within;
+      none = λ i j start before below run.
+          let at = begins_at i start known s in
+          let lt : i < length s = omega arith in
+          let le : i ≤ i = omega arith in
+          at_dead _ _ _ _ _ _ _ i i q at le lt (fit i) (dead i start before) None (at_pass _ _ _ _ _ _ _ i i q at le lt closed (none_yet i)) j below run;
+    }
+
+    -- no start where the first byte and the one behind it lead to no match
+    pub none_heads : NoneBegin m.table.heads s from to → NoneTo m s from to
+    none_heads heads = record { after = after; within = within; none = none } where
+      none : (i j : ℕ) → from ≤ i → i < to → j < length s + 1 → Goes m.sets m.program s m.entry i 0 j → ⊥
+      none i j start before below run =
+          let behind = heads i start before in
+          let lt : i < length s = omega arith in
+          elim (is.built.heads (slice_index s i) (slice_index s (i + 1)) (fit i) (fit (i + 1))) [
+            | inl may ↦ absurd (both_ways _ behind.1 may)
+            | inr fails ↦
+                let at = begins_at i start fails.0 s in
+                let le : i ≤ i = omega arith in
+                let here = at_pass _ _ _ _ _ _ _ i i q at le lt fails.1 (none_yet i) in
+                elim fails.2 [
+                  | inl dead ↦ at_dead _ _ _ _ _ _ _ i i q at le lt (fit i) dead None here j below run
+                  | inr more ↦
+                      let next = at_next _ _ _ _ _ _ _ i i q at le lt (fit i) more.0 in
+                      let up : i ≤ i + 1 = omega arith in
+                      at_dead _ _ _ _ _ _ _ i (i + 1) _ next up behind.0 (fit (i + 1)) more.2 None (at_pass _ _ _ _ _ _ _ i (i + 1) _ next up behind.0 more.1 here) j below run
+                ]
+          ]
 
 -- an empty match at the end of a text that is not empty
 module _ (sets : List (List Bool)) (program : List Step) (s : List ℕ) (lists cells : List (List ℕ)) (accepts ends : List Bool) (e : ℕ) (r : Begin) (table : IsTable sets program lists cells accepts ends)
@@ -163,11 +200,22 @@ module _ (sets : List (List Bool)) (program : List Step) (s : List ℕ) (e r : �
     by_skip (at_start h f) = eqb-true i 0 f
     by_skip (at_end h f) = absurd (cc)
 
-  pub none_later : (from : ℕ) → 0 < from → Finds sets program s e from None
-  none_later from lt = λ i j after within run. omega (arith, only_start run.0 i j run.1)
+pub anchored : (m : Matcher) (p : Pattern) → IsMatcher m p → (r : ℕ) → slice_get m.program m.entry ≡ Some (AtStart r) → IsAnchored m
+anchored m p is r first = λ s i j run. only_start m.sets m.program s m.entry r first is.machine.done run.0 i j run.1
 
-  pub none_at_start : (from : ℕ) → IsLongest sets program s e 0 (length s + 1) None → Finds sets program s e from None
-  none_at_start from none = λ i j after within run. none j within (subst (λ x. Goes sets program s e x 0 j) (only_start run.0 i j run.1) run)
+module _ (m : Matcher) (only : IsAnchored m) (s : List ℕ) where
+  pub none_later : (from : ℕ) → 0 < from → matcher.Finds m s from None
+  none_later from lt = λ i j after within run. omega (arith, only s i j run)
+
+  pub none_at_start : (from : ℕ) → matcher.IsLongest m s 0 None → matcher.Finds m s from None
+  none_at_start from none = λ i j after within run. none j within (subst (λ x. Goes m.sets m.program s m.entry x 0 j) (only s i j run) run)
+
+  pub starts_first : (r : Option Bool) → IfSome r (λ b. IsTrue b ↔ StartsAt m s 0) → IfSome r (λ b. IsTrue b ↔ StartsFrom m s 0)
+  starts_first None h = tt
+  starts_first (Some b) h = (
+    (λ t. (0, omega arith, h.0 t)),
+    λ y. h.1 (y.2.0, y.2.1, subst (λ x. Goes m.sets m.program s m.entry x 0 y.2.0) (only s y.0 y.2.0 y.2.2) y.2.2),
+  )
 
 -- a search that may begin anywhere
 module _ (s : List ℕ) where
@@ -179,66 +227,37 @@ module _ (s : List ℕ) where
   over_le zero i j is = omega arith
   over_le (suc n) i j (k, one, rest) = omega (arith, one.2, over_le n k j rest)
 
-module _ (sets : List (List Bool)) (program : List Step) (entry scan : ℕ) (p : Pattern) (machine : IsMachine sets program entry p) (scans : IsMachine sets program scan (anywhere p)) (s : List ℕ) (from : ℕ) where
-  pub somewhere_from : EndsSomewhere sets program s scan from → (i : ℕ) × (j : ℕ) × (from ≤ i) × (j ≤ length s) × Matches s p i j
-  somewhere_from (j, within, run) =
-      let m = run_matches sets program scan (anywhere p) scans s from j run in
-      (m.0, j, over_le s m.1.0 from m.0 m.1.3, within, m.2)
+module _ (m : Matcher) (p : Pattern) (is : IsMatcher m p) (s : List ℕ) (from : ℕ) where
+  starts : EndsFrom m s m.scan from → StartsFrom m s from
+  starts (j, within, run) =
+      let y = run_matches m.sets m.program m.scan (anywhere p) is.scanner s from j run in
+      (y.0, over_le s y.1.0 from y.0 y.1.3, (j, within, matches_run m.sets m.program m.entry p is.machine s y.0 j y.2))
 
-  pub from_somewhere : (i j : ℕ) → from ≤ i → j ≤ length s → Matches s p i j → EndsSomewhere sets program s scan from
-  from_somewhere i j after within m =
-      let run = matches_run sets program entry p machine s i j m in
-      let le : i ≤ j = path_le sets program s run.0 entry i 0 j run.1 in
-      (j, within, matches_run sets program scan (anywhere p) scans s from j (i, (i - from, omega arith, tt, over s (i - from) from i (omega arith) (omega arith)), m))
+  ends : StartsFrom m s from → EndsFrom m s m.scan from
+  ends (i, after, (j, within, run)) =
+      let le : i ≤ j = path_le m.sets m.program s run.0 m.entry i 0 j run.1 in
+      (j, within, matches_run m.sets m.program m.scan (anywhere p) is.scanner s from j (i, (i - from, omega arith, tt, over s (i - from) from i (omega arith) (omega arith)), run_matches m.sets m.program m.entry p is.machine s i j run))
 
-  pub nowhere : (b : Bool) → b ≡ false → IsTrue b ↔ EndsSomewhere sets program s scan from → Finds sets program s entry from None
-  nowhere b off is = λ i j after within run.
-      let t = is.1 (from_somewhere i j after (omega arith) (run_matches sets program entry p machine s i j run)) in
-      false_true (sym off ∙ t) where
-        false_true : false ≡ true → ⊥
-        false_true x = cc
+  pub starts_ahead : (r : Option Bool) → IfSome r (λ b. IsTrue b ↔ EndsFrom m s m.scan from) → IfSome r (λ b. IsTrue b ↔ StartsFrom m s from)
+  starts_ahead None h = tt
+  starts_ahead (Some b) h = ((λ t. starts (h.0 t)), λ y. h.1 (ends y))
 
-  pub has_found : (found : Option (ℕ × ℕ)) → Finds sets program s entry from found → IsTrue (is_some found) ↔ EndsSomewhere sets program s scan from
-  has_found None none = (
-    (λ t. absurd (cc)),
-    λ run. let y = somewhere_from run in absurd (none y.0 y.1 y.2 (omega (arith, y.3)) (matches_run sets program entry p machine s y.0 y.1 y.4)),
-  )
-  has_found (Some m) best = ((λ t. from_somewhere m.0 m.1 best.after (omega (arith, best.within)) (run_matches sets program entry p machine s m.0 m.1 best.related)), λ run. refl)
+-- from whether a match starts to what is found, and back
+module _ (m : Matcher) (s : List ℕ) (from : ℕ) where
+  pub nowhere : (b : Bool) → b ≡ false → IsTrue b ↔ StartsFrom m s from → matcher.Finds m s from None
+  nowhere b off is = λ i j after within run. both_ways b off (is.1 (i, after, (j, omega arith, run)))
 
--- the same from a later place, before which no match starts
-pub somewhere_on : (sets : List (List Bool)) (program : List Step) (entry scan : ℕ) (p : Pattern) → IsMachine sets program entry p → IsMachine sets program scan (anywhere p) → (s : List ℕ) (from k : ℕ) → from ≤ k
-    → NoneTo sets program s entry from k → (r : Option Bool) → IfSome r (λ b. IsTrue b ↔ EndsSomewhere sets program s scan k) → IfSome r (λ b. IsTrue b ↔ EndsSomewhere sets program s scan from)
-somewhere_on sets program entry scan p machine scans s from k le none None h = tt
-somewhere_on sets program entry scan p machine scans s from k le none (Some b) h = (λ t. earlier (h.0 t), λ run. h.1 (on run)) where
-  earlier : EndsSomewhere sets program s scan k → EndsSomewhere sets program s scan from
-  earlier run =
-      let y = somewhere_from sets program entry scan p machine scans s k run in
-      from_somewhere sets program entry scan p machine scans s from y.0 y.1 (omega (arith, y.2)) y.3 y.4
+  pub has_found : (found : Option (ℕ × ℕ)) → matcher.Finds m s from found → IsTrue (is_some found) ↔ StartsFrom m s from
+  has_found None none = ((λ t. absurd (cc)), λ y. absurd (none y.0 y.2.0 y.1 (omega (arith, y.2.1)) y.2.2))
+  has_found (Some x) best = ((λ t. (x.0, best.after, (x.1, omega (arith, best.within), best.related))), λ y. refl)
 
-  on : EndsSomewhere sets program s scan from → EndsSomewhere sets program s scan k
-  on run =
-      let y = somewhere_from sets program entry scan p machine scans s from run in
-      elim (cases_lt y.0 k) [
-        | inl less ↦ absurd (none y.0 y.1 y.2 less (omega (arith, y.3)) (matches_run sets program entry p machine s y.0 y.1 y.4))
-        | inr ge ↦ from_somewhere sets program entry scan p machine scans s k y.0 y.1 ge y.3 y.4
-      ]
+  -- the same from a later place, before which no match starts
+  pub starts_on : (k : ℕ) → NoneTo m s from k → (r : Option Bool) → IfSome r (λ b. IsTrue b ↔ StartsFrom m s k) → IfSome r (λ b. IsTrue b ↔ StartsFrom m s from)
+  starts_on k none None h = tt
+  starts_on k none (Some b) h = ((λ t. let y = h.0 t in (y.0, omega (arith, none.after, y.1), y.2)), λ y. h.1 (on y)) where
+    on : StartsFrom m s from → StartsFrom m s k
+    on (i, after, (j, within, run)) = elim (cases_lt i k) [ inl less ↦ absurd (none.none i j after less (omega arith) run) | inr ge ↦ (i, ge, (j, within, run)) ]
 
--- what a start that was tried says
-module _ (sets : List (List Bool)) (program : List Step) (s : List ℕ) (entry : ℕ) where
-  pub none_start : (from k : ℕ) → NoneTo sets program s entry from k → (b : Bool) → b ≡ false → IsTrue b ↔ EndsSomewhere sets program s entry k → NoneTo sets program s entry from (k + 1)
-  none_start from k none b off is = none_more sets program s entry from k (λ j below run. both_ways b off (is.1 (j, omega arith, run))) none
-
-pub start_somewhere : (sets : List (List Bool)) (program : List Step) (entry scan : ℕ) (p : Pattern) → IsMachine sets program entry p → IsMachine sets program scan (anywhere p) → (s : List ℕ) (from k : ℕ) → from ≤ k
-    → EndsSomewhere sets program s entry k → EndsSomewhere sets program s scan from
-start_somewhere sets program entry scan p machine scans s from k le (j, within, run) = from_somewhere sets program entry scan p machine scans s from k j le within (run_matches sets program entry p machine s k j run)
-
-pub anchored_somewhere : (sets : List (List Bool)) (program : List Step) (entry scan : ℕ) (p : Pattern) → IsMachine sets program entry p → IsMachine sets program scan (anywhere p) → (s : List ℕ) (r : ℕ) → slice_get program entry ≡ Some (AtStart r)
-    → (found : Option Bool) → IfSome found (λ b. IsTrue b ↔ EndsSomewhere sets program s entry 0) → IfSome found (λ b. IsTrue b ↔ EndsSomewhere sets program s scan 0)
-anchored_somewhere sets program entry scan p machine scans s r first None h = tt
-anchored_somewhere sets program entry scan p machine scans s r first (Some b) h = (
-  (λ t. start_somewhere sets program entry scan p machine scans s 0 0 (omega arith) (h.0 t)),
-  λ run.
-      let y = somewhere_from sets program entry scan p machine scans s 0 run in
-      let goes = matches_run sets program entry p machine s y.0 y.1 y.4 in
-      h.1 (y.1, y.3, subst (λ x. Goes sets program s entry x 0 y.1) (only_start sets program s entry r first machine.done goes.0 y.0 y.1 goes.1) goes),
-)
+  -- what a start that was tried says
+  pub none_start : (k : ℕ) → k < length s → NoneTo m s from k → (b : Bool) → b ≡ false → IsTrue b ↔ StartsAt m s k → NoneTo m s from (k + 1)
+  none_start k inside none b off is = none_more m s from k inside (λ j below run. both_ways b off (is.1 (j, omega arith, run))) none

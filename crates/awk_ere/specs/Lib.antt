@@ -12,6 +12,7 @@ pub mod Laws
 pub mod Program
 pub mod Search
 pub mod Table
+pub mod Matcher
 pub mod Literal
 pub mod View
 pub mod Same

@@ -2,7 +2,7 @@
 use Rattle.std.specs.Prelude.{◌≡◌, ◌==◌, ◌↔◌, ℕ, ◌+◌, ◌<◌, ◌≤◌, ◌⊎◌, Bool, true, false, List, [], ◌∷◌, ◌++◌, ◌&&◌, length, replicate, Option, Some, None, slice_index, slice_index_or, Contains}
 use Rattle.std.specs.Simd.Lanes.{zip2, chunk}
 use Rattle.awk_ere.specs.Program.{Eats}
-use Rattle.awk_ere.specs.Search.{mark, IsClosed, Takes, LeadsTo, Goes, Finds, IsMachine}
+use Rattle.awk_ere.specs.Search.{mark, IsClosed, Takes, LeadsTo, Goes, IsMachine}
 use Rattle.awk_ere.specs.Pattern.{Pattern, bytes, cat, repeat}
 use Rattle.awk_ere.specs.declared.program.Step.{Step}
 use Rattle.awk_ere.specs.declared.states.TheConstants.{UNKNOWN}
@@ -11,8 +11,6 @@ use Rattle.awk_ere.specs.Bracket.{Range, in_range}
 use Rattle.awk_ere.specs.declared.heads.Heads.{Heads}
 use Rattle.awk_ere.specs.declared.heads.Spread.{Spread}
 use Rattle.awk_ere.specs.declared.states.Begin.{Begin}
-use Rattle.awk_ere.specs.declared.table.Sought.{Sought}
-use Rattle.awk_ere.specs.declared.table.Sought.TheVariants.{Match, NoMatch, Left}
 use Rattle.awk_ere.specs.declared.states.Table.{Table}
 
 -- the steps of a state
@@ -178,22 +176,20 @@ module _ (sets : List (List Bool)) (program : List Step) (s : List ℕ) where
   IsAt cells accepts ends e i k state =
       (lists : List (List ℕ)) × IsTable sets program lists cells accepts ends × (state < length cells) × IsFront e i k (steps_of lists state)
 
-  -- no match starts from `from` on and before k
-  abbrev pub NoneTo : ℕ → ℕ → ℕ → Type 0
-  NoneTo e from k = (i j : ℕ) → from ≤ i → i < k → j < length s + 1 → Goes sets program s e i 0 j → ⊥
-
-  -- what is found is the best match, and before the start that is left none starts
-  abbrev pub IsSought : ℕ → ℕ → Sought → Type 0
-  IsSought e from (Match i j) = Finds sets program s e from (Some (i, j))
-  IsSought e from NoMatch = Finds sets program s e from None
-  IsSought e from (Left k) = (from ≤ k) × (k ≤ length s) × NoneTo e from k
-
 -- p after any bytes
 abbrev pub anywhere : Pattern → Pattern
 anywhere p = cat (repeat (bytes (λ b. true)) 0 None) p
 
--- the program and its table stand for the pattern; from the step `scan` it may begin anywhere
-pub record IsEngine (sets : List (List Bool)) (program : List Step) (entry scan : ℕ) (t : Table) (p : Pattern) : Type 0 where
-  pub machine : IsMachine sets program entry p
-  pub scanner : IsMachine sets program scan (anywhere p)
-  pub built : IsBuilt sets program entry scan t
+-- what finds the matches of a pattern: a match begins at the step `entry`, or after any bytes at the step `scan`
+pub record Matcher : Type 0 where
+  pub sets : List (List Bool)
+  pub program : List Step
+  pub table : Table
+  pub entry : ℕ
+  pub scan : ℕ
+
+-- the matcher is that of the pattern
+pub record IsMatcher (m : Matcher) (p : Pattern) : Type 0 where
+  pub machine : IsMachine m.sets m.program m.entry p
+  pub scanner : IsMachine m.sets m.program m.scan (anywhere p)
+  pub built : IsBuilt m.sets m.program m.entry m.scan m.table

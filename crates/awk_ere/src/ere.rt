@@ -3,15 +3,10 @@ ghost use Rattle.std.specs.Prelude.{◌≡◌, ◌≤◌, length, IfOk, IfErr};
 ghost use Rattle.awk_ere.specs.Pattern.{Pattern};
 ghost use Rattle.awk_ere.specs.Spelled.{IsPattern, IsAccepted, IsRefused, Finds, HasMatch, code_of};
 
-use crate::bracket::Set;
-use crate::compile::{compile, compile_scan};
 use crate::error::{EreError, Fault};
 use crate::literal::{find_text, is_literal};
-use crate::program::Step;
 use crate::read::read_within;
-use crate::search::search;
-use crate::states::{Table, make_table};
-use crate::table::{self, Sought};
+use crate::table::{Matcher, Sought};
 use awk_text::Memory;
 use std::alloc::Global;
 use std::marker::Model;
@@ -22,26 +17,21 @@ pub struct Ere {
     source: Vec<u8>,
     /// Each byte of the source stands for itself.
     is_literal: bool,
-    sets: Vec<Set>,
-    program: Vec<Step>,
-    /// Where the pattern begins in the program, and where it begins after any bytes.
-    entry: usize,
-    scan: usize,
-    table: Table,
+    matcher: Matcher,
 }
 
 impl Model for Ere {
     ghost use Rattle.std.specs.Prelude.{◌≡◌, true, List, ℕ};
     ghost use Rattle.awk_ere.specs.Literal.{IsLiteral};
     ghost use Rattle.awk_ere.specs.Pattern.{Pattern};
-    ghost use Rattle.awk_ere.specs.Table.{IsEngine};
+    ghost use Rattle.awk_ere.specs.Matcher.{StandsFor};
     ghost use Rattle.awk_ere.specs.Spelled.{IsPattern};
 
     ghost Value = { List ℕ };
 
     ghost view = { λ e. e.source.items };
 
-    ghost invariant = { λ e. (p : Pattern) × IsPattern e.source.items p × IsEngine e.sets.items e.program.items e.entry e.scan e.table p × (e.is_literal ≡ true → IsLiteral e.source.items) };
+    ghost invariant = { λ e. (p : Pattern) × IsPattern e.source.items p × StandsFor e.matcher p × (e.is_literal ≡ true → IsLiteral e.source.items) };
 }
 
 impl Ere {
@@ -51,20 +41,12 @@ impl Ere {
     {
         let mut sets = Vec::new(alloc);
         let node = read_within(alloc, text, &mut sets)?;
-        let mut program = Vec::new(alloc);
-        program.push(Step::Done)?;
-        let entry = compile(&node, 0, &mut program)?;
-        let scan = compile_scan(entry, &mut program)?;
-        let table = make_table(alloc, &sets, &program, entry, scan)?;
+        let matcher = Matcher::new(alloc, &node, sets)?;
         let source = Vec::from_slice(alloc, text)?;
         Ok(Ere {
             source,
             is_literal: is_literal(text),
-            sets,
-            program,
-            entry,
-            scan,
-            table,
+            matcher,
         })
     }
 
@@ -96,20 +78,11 @@ impl Ere {
         if self.is_literal {
             return Ok(find_text(text, &self.source, from));
         }
-        match table::find(
-            &self.sets,
-            &self.program,
-            &self.table,
-            self.entry,
-            self.scan,
-            text,
-            from,
-        ) {
+        match self.matcher.find(text, from) {
             Sought::Match(start, end) => Ok(Some((start, end))),
             Sought::NoMatch => Ok(None),
             Sought::Left(start) => {
-                let alloc = *self.program.allocator();
-                let found = search(alloc, &self.sets, &self.program, text, self.entry, start)?;
+                let found = self.matcher.search(text, start)?;
                 Ok(found)
             }
         }
@@ -124,14 +97,7 @@ impl Ere {
         if self.is_literal {
             return Ok(find_text(text, &self.source, 0).is_some());
         }
-        match table::has_match(
-            &self.sets,
-            &self.program,
-            &self.table,
-            self.entry,
-            self.scan,
-            text,
-        ) {
+        match self.matcher.has_match(text) {
             Some(has_match) => Ok(has_match),
             None => {
                 let found = self.find(text, 0)?;

@@ -1,0 +1,7 @@
+use Rattle.awk_ere.proofs.table.Matcher.is_start.Goals as goal
+
+pub ends_somewhere-requires-clause-begin : goal.ends_somewhere-requires-clause-begin
+ends_somewhere-requires-clause-begin c = rw (← c.self.view_is) (rw (← c.self.view_is) at c.in_ok-first.ensures)
+
+pub returns : goal.returns
+returns c = rw (← c.self.view_is) (rw (← c.self.view_is) at c.ends_somewhere.ensures)

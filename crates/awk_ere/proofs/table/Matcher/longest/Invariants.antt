@@ -1,0 +1,8 @@
+use Rattle.awk_ere.specs.Table.{IsAt, IsLongest}
+use Rattle.awk_ere.proofs.table.Matcher.longest.Given as goal
+
+abbrev pub invariant-loop-place : goal.invariant-loop-place
+invariant-loop-place l = record {
+  at' : IsAt l.self.sets l.self.program l.text l.cells l.accepts l.ends l.self.entry l.from l.place l.state;
+  best : IsLongest l.self.sets l.self.program l.text l.self.entry l.from l.place l.best;
+}

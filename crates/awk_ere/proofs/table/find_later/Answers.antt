@@ -1,7 +1,0 @@
-use Rattle.awk_ere.proofs.Seeking.{sought_later}
-use Rattle.awk_ere.proofs.table.find_later.Goals as goal
-
-pub returns-in-Left : goal.returns-in-Left
-returns-in-Left c =
-    let left = c.in-Left.ensures in
-    sought_later _ _ _ _ _ _ _ left.0 left.2 c.find_on.ensures

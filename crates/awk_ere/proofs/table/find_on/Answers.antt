@@ -1,5 +1,0 @@
-use Rattle.awk_ere.proofs.Seeking.{nowhere}
-use Rattle.awk_ere.proofs.table.find_on.Goals as goal
-
-pub returns-in-Some-false : goal.returns-in-Some-false
-returns-in-Some-false c = nowhere _ _ _ _ _ c.requires.engine.1.machine c.requires.engine.1.scanner _ _ _ c.in-Some-false.field-0-test c.in-Some-false.ensures

@@ -1,8 +1,0 @@
-use Rattle.awk_ere.specs.Table.{IsAt, IsLongest}
-use Rattle.awk_ere.proofs.table.longest.Given as goal
-
-abbrev pub invariant-loop-place : goal.invariant-loop-place
-invariant-loop-place l = record {
-  at' : IsAt l.sets l.program l.text l.cells l.accepts l.ends l.entry l.from l.place l.state;
-  best : IsLongest l.sets l.program l.text l.entry l.from l.place l.best;
-}
