@@ -1,10 +1,15 @@
 // getline in its forms, `close` and `system`.
+ghost use Rattle.std.specs.Prelude.{◌≡◌, None, IfSome};
 ghost use Rattle.awk_asks.specs.Tasks.{Owns};
 ghost use Rattle.awk_machine.specs.Forms.{value};
 ghost use Rattle.awk_machine.specs.Pieces.{give};
 ghost use Rattle.awk_program.specs.Program as p;
 ghost use Rattle.awk_program.specs.View.{view, view_pipes, view_target};
 ghost use Rattle.awk_tasks.specs.Wholes.{names_in};
+ghost use Rattle.awk_text.specs.Values.{text_of};
+ghost use Rattle.awk_text.specs.declared.value.Value.{Value};
+ghost use Rattle.awk_forms.specs.AtHand.{IsThere};
+ghost use Rattle.awk_records.specs.Inputs.{IsFileLine};
 ghost use Rattle.awk_actions.specs.Runs.{Does};
 
 use crate::context::{Context, Run};
@@ -53,7 +58,7 @@ pub fn getline<W: World>(
 
 /// The next record of the file that the expression names, where its name is at hand, and the record is held whole.
 fn held_line(store: &Store, streams: &mut Streams, x: &Expr) -> Option<Octets>
-    ensures some { IfSome result (λ text. IsHeldLine (λ names. view names x.now) store.now streams.old text streams.new) }
+    ensures some { IfSome result (λ text. (name : Value) × IsThere (λ names. view names x.now) store.now name × IsFileLine (text_of name) store.now streams.old text streams.new) }
     ensures none { result ≡ None → streams.new ≡ streams.old }
 {
     let name = at_hand(store, x, MOST_LEVELS)?;

@@ -79,7 +79,7 @@ fn first(
 #[inline(always)]
 pub fn take_standard_line(rs: &[u8], streams: &mut Streams, room: &mut Vec<u8>) -> bool
     ensures taken { result ≡ true → IsLine (Standard 0) rs.now streams.old room.new.items streams.new }
-    ensures not_taken { result ≡ false → IsSame streams.old streams.new }
+    ensures not_taken { result ≡ false → streams.new ≡ streams.old }
 {
     streams.take_standard_line(rs, room)
 }

@@ -243,15 +243,3 @@ module _ {W : Type 0} {follows : W → List Call → W → Type 0} {has_stopped 
           let v = anywhere (Led follows has_stopped) (Ended follows stops) g mid new w' x first (q ∷ k) k (rest k) (seen (base g mid y.hidden) y.course) y.course y.course y.hidden u z in
           halted-after (Led follows has_stopped) (Ended follows stops) (base g) (Agreeing g) used g x first (p ∷ k) (q ∷ k) (rest k) (rest k) (seen (base g old hid) c) (seen (base g mid y.hidden) y.course) c y.course new w' y.chain refl v;
     }
-
--- tables that differ in nothing but the room that there is
-pub same_in : {W A : Type 0} {follows : W → List Call → W → Type 0} {has_stopped : W → Bool} {stops : W → List Call → Ask → W → Type 0} {g : Given} {p : Piece} {to : A → List Piece → List Piece} {rest : List Piece → List Piece}
-    (k : Kept) (old mid : Table) {new : Whole} {w w' : W} (r : Result A Halt) → IsSame old mid → PerformsIn follows has_stopped stops g p to rest (k, mid) w r new w' → PerformsIn follows has_stopped stops g p to rest (k, old) w r new w'
-same_in k old mid r same h = record {
-  plays = λ first l hid c a.
-      h.plays first l hid c (record {
-        leads = a.leads;
-        agrees = record { tells = tells_same old mid hid.taken c same a.agrees.tells; row = a.agrees.row; cells = a.agrees.cells; sound = a.agrees.sound };
-        spent = a.spent;
-      });
-}

@@ -1,5 +1,6 @@
 // getline from a file and from a command.
-ghost use Rattle.std.specs.Prelude.{◌≡◌, [], ◌∷◌, List};
+ghost use Rattle.std.specs.Prelude.{◌≡◌, [], ◌∷◌, List, None, IfSome};
+ghost use Rattle.awk_lent.specs.Lents.{lent_value};
 ghost use Rattle.awk_text.specs.Values.{text_of};
 ghost use Rattle.awk_program.specs.Program as p;
 ghost use Rattle.awk_program.specs.Program.{Expression, Pipes};
@@ -10,6 +11,7 @@ ghost use Rattle.awk_asks.specs.Readings.{fetching, key_of};
 ghost use Rattle.awk_asks.specs.Tasks.{Owns};
 ghost use Rattle.awk_tasks.specs.Spots.{IsSpotOf, value_of};
 ghost use Rattle.awk_tasks.specs.Wholes.{names_in};
+ghost use Rattle.awk_records.specs.Inputs.{IsFileLine};
 ghost use Rattle.awk_records.specs.Performs.{Performs};
 
 use crate::counted::{Counted, set_record};
@@ -61,7 +63,7 @@ fn fetch_record<W: World>(
 
 /// The next record of the file of this name, where it is open and the record is held whole.
 pub fn file_line(name: Lent<'_>, store: &Store, streams: &mut Streams) -> Option<Octets>
-    ensures some { IfSome result (λ text. IsFileLine (lent_value name) store.now streams.old text streams.new) }
+    ensures some { IfSome result (λ text. IsFileLine (text_of (lent_value name)) store.now streams.old text streams.new) }
     ensures none { result ≡ None → streams.new ≡ streams.old }
 {
     let mut buffer = Buffer::new();

@@ -7,7 +7,7 @@ ghost use Rattle.awk_machine.specs.Pieces.{At, Do, Piece, Records, Take, Value_o
 ghost use Rattle.awk_machine.specs.State.{Given};
 ghost use Rattle.awk_asks.specs.Readings.{FailsOpen, GoesOn};
 ghost use Rattle.awk_asks.specs.Tables.{Table};
-ghost use Rattle.awk_asks.specs.Tasks.{IsSame, Owns};
+ghost use Rattle.awk_asks.specs.Tasks.{Owns};
 ghost use Rattle.awk_tasks.specs.Acts.{Acts};
 ghost use Rattle.awk_tasks.specs.Spots.{IsSpotOf, value_of};
 ghost use Rattle.awk_tasks.specs.Wholes.{Whole, names_in};
@@ -198,7 +198,7 @@ pub fn begin_record(store: &mut Store, text: Octets) -> Result<(), Halt>
 #[inline(always)]
 fn takes_line(store: &Store, streams: &mut Streams, room: &mut Vec<u8>) -> bool
     ensures taken { result ≡ true → IsMainLine store.now streams.old room.new.items streams.new }
-    ensures not_taken { result ≡ false → IsSame streams.old streams.new }
+    ensures not_taken { result ≡ false → streams.new ≡ streams.old }
 {
     let main = store.main();
     if main.ended {

@@ -16,6 +16,3 @@ returns-clause-taken c = λ is.
       first = first_is (Standard 0) old new old.input new.input (head c.args.rs.now old.input.unread old.input.ended) (taken.Record c.take_standard_line.new.room.items) (c.take_standard_line.ensures.taken is)
           (read_standard new.input old new c.take_standard_line.ensures.entries refl);
     }
-
-pub returns-clause-not_taken : goal.returns-clause-not_taken
-returns-clause-not_taken c = λ is. rw (c.take_standard_line.ensures.not_taken is) (record { entries = refl; input = refl })

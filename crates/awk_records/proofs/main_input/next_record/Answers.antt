@@ -3,13 +3,12 @@ use Rattle.awk_fields.specs.Heads.{head}
 use Rattle.awk_program.specs.declared.variables.Own.TheVariants as own
 use Rattle.awk_store.specs.Kept.{own_text}
 use Rattle.awk_asks.specs.declared.getline.Found.TheVariants as found
-use Rattle.awk_asks.proofs.Leading.{owns_same}
 use Rattle.awk_asks.proofs.MoreSteps.{first_owns}
 use Rattle.std.proofs.lemmas.Result.{err_from_is_err_and}
 use Rattle.awk_text.specs.declared.value.Value.TheVariants as v
 use Rattle.awk_asks.proofs.Chain.{part}
 use Rattle.awk_tasks.proofs.Acting.{acted}
-use Rattle.awk_records.proofs.MainSteps.{done_in, line_taken, records_first, same_in, stop_acts}
+use Rattle.awk_records.proofs.MainSteps.{done_in, line_taken, records_first, stop_acts}
 use Rattle.awk_records.proofs.main_input.next_record.Goals as goal
 
 pub returns-in_err-begin_record-clause-task : goal.returns-in_err-begin_record-clause-task
@@ -30,12 +29,10 @@ returns-then-takes_line-clause-task g c =
     (acted (rw (c.take_room-room.ensures, c.new.ensures) at (c.begin_record.ensures m streams []))) c.in_ok-begin_record.was)
 
 pub returns-clause-task : goal.returns-clause-task
-returns-clause-task g c =
-    let same = c.takes_line.ensures.not_taken c.if-takes_line.false in
-    λ m h. same_in c.args.store.now c.args.streams.now c.takes_line.new.streams c.next_any.result same (rw (c.take_room-room.ensures, c.keep_room.ensures) at (c.next_any.ensures.task m h))
+returns-clause-task g c = λ m h. rw (c.take_room-room.ensures, c.keep_room.ensures, c.takes_line.ensures.not_taken c.if-takes_line.false) at (c.next_any.ensures.task m h)
 
 pub next_any-requires : goal.next_any-requires
-next_any-requires g c = rw c.keep_room.ensures (owns_same _ c.args.streams.now c.takes_line.new.streams (c.takes_line.ensures.not_taken c.if-takes_line.false) c.requires)
+next_any-requires g c = rw (c.keep_room.ensures, c.takes_line.ensures.not_taken c.if-takes_line.false) c.requires
 
 pub returns-then-takes_line-clause-owns : goal.returns-then-takes_line-clause-owns
 returns-then-takes_line-clause-owns g c =
