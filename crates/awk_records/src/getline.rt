@@ -63,7 +63,7 @@ fn fetch_record<W: World>(
 
 /// The next record of the file of this name, where it is open and the record is held whole.
 pub fn file_line(name: Lent<'_>, store: &Store, streams: &mut Streams) -> Option<Octets>
-    ensures some { IfSome result (λ text. IsFileLine (text_of (lent_value name)) store.now streams.old text streams.new) }
+    ensures some { IfSome result (λ text. IsFileLine (text_of (lent_value name.entry)) store.now streams.old text streams.new) }
     ensures none { result ≡ None → streams.new ≡ streams.old }
 {
     let mut buffer = Buffer::new();
