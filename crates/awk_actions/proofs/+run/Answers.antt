@@ -1047,8 +1047,8 @@ pub inputs::from_file-returns-in_err-name : goal.inputs::from_file-returns-in_er
 inputs::from_file-returns-in_err-name g t c =
     let e = err_from_is_err_and c.from_residual-in_err-name.result c.from_residual-in_err-name.ensures.1 in rw (e.1, e.2) (record { plays = λ m is. stop _ (λ k. refl) (quietly (part _ (quietly (at_once _ _ _) (λ k hid d a. refl)) (c.target_of.ensures.plays.plays m is) c.in_ok-to.was) (λ k hid d a. refl)) (rw (c.held_line.ensures.none c.in_default.is) at (c.value.ensures.plays m is)) c.in_err-name.was; owns = c.value.ensures.owns })
 
-pub inputs::from_file-returns-in_default : goal.inputs::from_file-returns-in_default
-inputs::from_file-returns-in_default g t c =
+pub inputs::from_file-returns-in_default-into_text : goal.inputs::from_file-returns-in_default-into_text
+inputs::from_file-returns-in_default-into_text g t c =
     record { plays = λ m is. lacking (part _ (quietly (part _ (quietly (at_once _ _ _) (λ k hid d a. refl)) (c.target_of.ensures.plays.plays m is) c.in_ok-to.was) (λ k hid d a. refl)) (rw (c.held_line.ensures.none c.in_default.is) at (c.value.ensures.plays m is)) c.in_ok-name.was); owns = c.value.ensures.owns }
 
 pub inputs::from_file-returns : goal.inputs::from_file-returns
