@@ -5,8 +5,7 @@ ghost use Rattle.awk_machine.specs.Pieces as machine;
 ghost use Rattle.awk_machine.specs.Pieces.{Do, Piece, give};
 ghost use Rattle.awk_machine.specs.State.{Given, State};
 ghost use Rattle.awk_machine.specs.Variables.{own_text};
-ghost use Rattle.box_world.specs.Events.{Class as Sort, Named, Standard};
-ghost use Rattle.awk_program.specs.Slots.{Text};
+ghost use Rattle.box_world.specs.Events.{Named, Standard};
 ghost use Rattle.awk_asks.specs.Readings as spec;
 ghost use Rattle.awk_asks.specs.Readings.{FailsFirst, FailsOpen, FirstIs, GoesOn, HasCome, Holds, IsLine, IsLive, IsReading, Received, Waits, fetching, further, key_of, read_further};
 ghost use Rattle.awk_asks.specs.Tables.{kind};
@@ -113,9 +112,9 @@ pub fn next_line(class: Class, name: &[u8], rs: &[u8], streams: &mut Streams) ->
     None
 }
 
-/// The same of whichever stream; the standard input has none here.
+/// The same of whichever stream; of the standard input `record` says what there is.
 fn held_line(source: &Source, rs: &[u8], streams: &mut Streams) -> Option<Octets>
-    ensures some { IfSome result (λ text. (class : Sort) × (name : Text) × (key_of source.now ≡ Named class name) × IsLine (Named class name) rs.now streams.old text streams.new) }
+    ensures some { IfSome result (λ text. IsLine (key_of source.now) rs.now streams.old text streams.new) }
     ensures none { result ≡ None → streams.new ≡ streams.old }
 {
     match source {

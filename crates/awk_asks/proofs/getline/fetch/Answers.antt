@@ -2,23 +2,21 @@ use Rattle.std.proofs.Common.{refl, ap, ◌∙◌, true, false}
 use Rattle.std.specs.Prelude.{Ok}
 use Rattle.std.proofs.lemmas.Result.{err_from_is_err_and}
 use Rattle.awk_fields.specs.Heads.{head}
-use Rattle.box_world.specs.Events.{Named}
+use Rattle.awk_asks.specs.Readings.{key_of}
 use Rattle.awk_asks.proofs.Asking.{laws_of}
 use Rattle.awk_asks.proofs.Chain.{at_once, done, part, passes, stop}
-use Rattle.awk_asks.proofs.Lines.{line_fetched}
+use Rattle.awk_asks.proofs.Lines.{line_at_once}
 use Rattle.awk_asks.proofs.MoreSteps.{first_owns}
 use Rattle.awk_asks.proofs.getline.fetch.Goals as goal
 
 pub returns-in-Some-clause-task : goal.returns-in-Some-clause-task
 returns-in-Some-clause-task g c = λ m s rs.
-    let x = rw c.in-Some.is at (c.held_line.ensures.some) in
-    rw x.2 (line_fetched g.W.World.open_numbers (laws_of g.met.W.World.follows_append g.met.W.World.stops_later) g.met.W.World.follows_open m s c.args.place x.0 x.1 c.in-Some.text c.args.rs.now rs c.args.streams.now c.held_line.new.streams c.args.world.now x.3)
+    line_at_once g.W.World.open_numbers (laws_of g.met.W.World.follows_append g.met.W.World.stops_later) g.met.W.World.follows_open m s c.args.place c.args.source.now c.in-Some.text c.args.rs.now rs c.args.streams.now c.held_line.new.streams c.args.world.now (rw c.in-Some.is at c.held_line.ensures.some)
 
 pub returns-in-Some-clause-owns : goal.returns-in-Some-clause-owns
 returns-in-Some-clause-owns g c =
-    let y = rw c.in-Some.is at (c.held_line.ensures.some) in
-    let x = y.3 in
-    first_owns _ (Named y.0 y.1) c.args.streams.now c.held_line.new.streams x.before (head c.args.rs.now x.before.unread x.before.ended) _ x.first c.requires
+    let x = rw c.in-Some.is at c.held_line.ensures.some in
+    first_owns _ (key_of c.args.source.now) c.args.streams.now c.held_line.new.streams x.before (head c.args.rs.now x.before.unread x.before.ended) _ x.first c.requires
 
 pub returns-in_err-open_source-clause-task : goal.returns-in_err-open_source-clause-task
 returns-in_err-open_source-clause-task g c =
