@@ -313,6 +313,13 @@ module _ {K V : Type 0} (text : K → List ℕ) where
       let hit : bytes_eq key (text x.0) ≡ true = ap (λ q. bytes_eq key (text q)) (sym (get_or-map (λ (x : K × Numbered V). x.0) (e ∷ es) i e e.0 here)) ∙ k.1 in
       (row_of text x, slice_get-get_or (rows text (e ∷ es)) i (row_of text e) within ∙ ap Some (get_or-map (row_of text) (e ∷ es) i e (row_of text e) here), hit)
 
+  -- the row of the element that stands at a place
+  pub row_at : (key : List ℕ) (es : List (K × Numbered V)) (i : ℕ) (e : K × Numbered V) → slice_get es i ≡ Some e → bytes_eq key (text e.0) ≡ true
+      → (r : ℕ × (List ℕ × V)) × (slice_get (rows text es) i ≡ Some r) × (bytes_eq key r.1.0 ≡ true)
+  row_at key [] i e h hit = absurd (true≢false (sym (ap is_some h)))
+  row_at key (x ∷ xs) zero e h hit = (row_of text x, refl, ap (λ y. bytes_eq key (text y.0)) (same_Some x e h) ∙ hit)
+  row_at key (x ∷ xs) (suc i) e h hit = row_at key xs i e h hit
+
   pub rows_set_at : (es : List (K × Numbered V)) (i : ℕ) (w : V) → rows text (set_value_at es i (record { number = number_at es i; value = w })) ≡ set_at (rows text es) i w
   rows_set_at [] i w = refl
   rows_set_at (e ∷ es) zero w = refl

@@ -1,5 +1,5 @@
 // The elements of an array.
-ghost use Rattle.std.specs.Prelude.{◌≡◌, ℕ, ◌+◌, ◌<◌, ◌≤◌, ◌⊎◌, true, List, [], ◌∷◌, ◌++◌, map, length, is_ok, if◌then◌else◌, None, IfSome, IfOk, OnOk, OnErr, IsOkUnless, IsPermutation, nat_eq};
+ghost use Rattle.std.specs.Prelude.{◌≡◌, ℕ, ◌+◌, ◌<◌, ◌≤◌, ◌⊎◌, true, List, [], ◌∷◌, ◌++◌, map, length, is_ok, if◌then◌else◌, None, IfSome, IfOk, OnOk, OnErr, IsOkUnless, IsPermutation, nat_eq, slice_get};
 ghost use Rattle.std.specs.Fmt.{decimal};
 ghost use Rattle.std.specs.List.{IsDistinct};
 ghost use Rattle.std.specs.List.Sorted.{IsSortedByKey};
@@ -12,6 +12,7 @@ ghost use Rattle.awk_lib.specs.Numbering.{keyed, listed, numbers, shown, texts, 
 
 use crate::dense::{Dense, Numbered};
 use crate::key::{Key, Sought};
+use crate::same::is_same;
 use crate::slot::slot_of;
 use awk_text::Memory;
 use awk_text::fault::Fault;
@@ -19,6 +20,7 @@ use awk_text::octets::Octets;
 use indexmap::IndexMap;
 use smallvec::SmallVec;
 use std::alloc::Global;
+use std::cell::Cell;
 
 /// How far past the places of the dense part a new key may lie, so that places are made up to it.
 const MOST_APART: usize = 8;
@@ -46,6 +48,9 @@ pub(crate) struct Elements<V> {
     pub(crate) dense: Dense<V>,
     pub(crate) map: IndexMap<Key, Numbered<V>>,
     pub(crate) count: usize,
+    /// The place in the map behind the one that was found last. A loop over the keys looks them up in
+    /// their order, so this one is tried before the map is asked.
+    next: Cell<usize>,
 }
 
 impl<V> Elements<V> {
@@ -63,7 +68,25 @@ impl<V> Elements<V> {
             dense: Dense::new(alloc),
             map: IndexMap::new(alloc),
             count: 0,
+            next: Cell::new(0),
         }
+    }
+
+    /// Where the key lies in the map. Takes no memory.
+    fn find_mapped(&self, key: &[u8]) -> Option<usize>
+        ensures some { IfSome result (λ i. (r : ℕ × (List ℕ × V)) × (slice_get (mapped_rows self.now) i ≡ Some r) × (bytes_eq key.now r.1.0 ≡ true)) }
+        ensures none { result ≡ None → lookup (λ k. bytes_eq key.now k.text.items) self.now.map.entries ≡ None }
+    {
+        let next = self.next.get();
+        if let Some((there, _)) = self.map.get_index(next) {
+            if is_same(key, there.text.as_slice()) {
+                self.next.set(next.wrapping_add(1));
+                return Some(next);
+            }
+        }
+        let i = self.map.get_index_of(Sought { text: key })?;
+        self.next.set(i.wrapping_add(1));
+        Some(i)
     }
 
     /// Where the key lies. Takes no memory.
@@ -79,7 +102,7 @@ impl<V> Elements<V> {
                 None
             },
             None => {
-                let i = self.map.get_index_of(Sought { text: key })?;
+                let i = self.find_mapped(key)?;
                 Some(Place::Mapped(i))
             }
         }

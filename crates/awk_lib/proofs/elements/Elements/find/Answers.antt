@@ -1,6 +1,6 @@
 use Rattle.std.proofs.Common.{Some, refl, sym, ap, ◌∙◌}
 use Rattle.awk_lib.proofs.Keeping.{found_dense, missing_dense, missing_mapped}
-use Rattle.awk_lib.proofs.Rows.{none_of, some_of, found_row}
+use Rattle.awk_lib.proofs.Rows.{none_of, some_of}
 use Rattle.awk_lib.proofs.elements.Elements.find.Goals as goal
 
 pub returns-then-is_filled-clause-some : goal.returns-then-is_filled-clause-some
@@ -16,7 +16,4 @@ returns-else-is_filled-clause-none g c =
 
 pub returns-in_err-i-in-None-clause-none : goal.returns-in_err-i-in-None-clause-none
 returns-in_err-i-in-None-clause-none g c =
-    λ _. missing_mapped c.args.self.now c.args.key.now (c.in-None.ensures.none refl) (none_of _ (sym c.in_err-i-in-None.ensures.found))
-
-pub returns-in_ok-i-in-None-clause-some : goal.returns-in_ok-i-in-None-clause-some
-returns-in_ok-i-in-None-clause-some g c = found_row (λ k. k.text.items) c.args.key.now c.args.self.now.map.entries c.in_ok-i-in-None.i (sym c.in_ok-i-in-None.ensures.index)
+    λ _. missing_mapped c.args.self.now c.args.key.now (c.in-None.ensures.none refl) (c.in_err-i-in-None.ensures.none refl)
