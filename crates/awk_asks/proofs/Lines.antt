@@ -31,7 +31,7 @@ line_fetched {follows = follows} {has_stopped = has_stopped} {stops = stops} ope
     let key = Named class name in
     let number = some_at (find_stream class name (open_of old)) (number_live class name old (x.before, x.live)) in
     let to_read : Leads (Led follows has_stopped) (Ended follows stops) (beside s) Tells (λ t. s.course.used) g (Do (Fetch place class name)) old w (λ k. Do (Read place key) ∷ k) old w =
-        open_known g (Do (Fetch place class name)) place false (input_mode class) class name (opened place key) (λ k t. refl) s open_numbers laws opens number.0 old w number.1 in
+    open_known g (Do (Fetch place class name)) place false (input_mode class) class name (opened place key) (λ k t. refl) s open_numbers laws opens number.0 old w number.1 in
     let read = gives (Led follows has_stopped) (Ended follows stops) g s place key rs is old new x.before x.live (reads_so g s place key) to_read (found.Record text) x.first in
     record { plays = λ first k hid c a. read.plays first k hid c a }
 

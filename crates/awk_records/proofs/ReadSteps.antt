@@ -67,5 +67,5 @@ pub line_got : {W : Type 0} {follows : W → List Call → W → Type 0} {has_st
 line_got {follows = follows} {has_stopped = has_stopped} {stops = stops} open_numbers laws opens g place r x spot name k old text new w is =
     let file = text_of name in
     let fetched : Performs follows has_stopped stops g (Do (Fetch place InputFile file)) give (k, old) w (Ok (v.Input text)) (k, new) w =
-        lifted_at g k (λ row cells sound. line_fetched open_numbers laws opens g (apart g k row) place InputFile file text (own_text k own.Rs) (apart-text g k row cells sound own.Rs) old new w is.line) in
+    lifted_at g k (λ row cells sound. line_fetched open_numbers laws opens g (apart g k row) place InputFile file text (own_text k own.Rs) (apart-text g k row cells sound own.Rs) old new w is.line) in
     done (part (v.Input text) (file_first g place r spot name file (k, old) w refl x (Named InputFile file) (λ place l. named_file place file l is.is_file)) fetched refl)

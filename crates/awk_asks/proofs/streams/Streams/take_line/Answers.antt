@@ -38,8 +38,8 @@ returns-clause-not_taken c =
       | in-Some w ↦ rw (w.result-is, w.self-inside-is, ← c.self.view_is) (λ f.
           let written = c.get_mut.follows.holds (record w.in-Some.open.now { reader = w.take_line.new.self }) in
           let entries = written.0
-              ∙ ap (λ z. set_value test old (record w.in-Some.open.now { reader = z })) (w.take_line.ensures.not_taken f)
-              ∙ set_same test old w.in-Some.open.now (sym c.get_mut.ensures.value ∙ ap option_copied_mut w.in-Some.is) in
+          ∙ ap (λ z. set_value test old (record w.in-Some.open.now { reader = z })) (w.take_line.ensures.not_taken f)
+          ∙ set_same test old w.in-Some.open.now (sym c.get_mut.ensures.value ∙ ap option_copied_mut w.in-Some.is) in
           table_same _ _ _ _ _ entries written.6)
       | in-None w ↦ rw (w.result-is, w.self-inside-is, ← c.self.view_is) (λ f. ap (λ t. record { entries = map entry_of t.entries; input = c.self.inside.input; room = spare t }) c.get_mut.follows.holds-at-none)
     ]
