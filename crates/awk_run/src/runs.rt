@@ -1,5 +1,5 @@
 // Runs of scripts.
-ghost use Rattle.std.specs.Prelude.{ℕ};
+ghost use Rattle.std.specs.Prelude.{◌≡◌, ℕ};
 ghost use Rattle.awk_parse.specs.Scripts.{IsScript};
 ghost use Rattle.awk_phases.specs.Outcomes.{view_outcome};
 ghost use Rattle.awk_phases.specs.Reports.{Reported};
