@@ -32,8 +32,7 @@ use Rattle.awk_asks.specs.declared.halt.Halt.TheVariants as halt
 use Rattle.awk_asks.specs.Chains.{Led, Ended, Halted, Leads, Meets}
 use Rattle.awk_asks.specs.Readings.{IsReading}
 use Rattle.awk_asks.specs.Tables.{Table}
-use Rattle.awk_asks.specs.Tasks.{Answered, IsSame, Refused, goes_on}
-use Rattle.awk_asks.proofs.Opened.{tells_same}
+use Rattle.awk_asks.specs.Tasks.{Answered, Refused, goes_on}
 use Rattle.awk_asks.proofs.Asking.{fits_here, tells_written}
 use Rattle.awk_asks.proofs.Chain.{Laws, asked, at_once, done as finished, halted-after, part, quiet, unanswered}
 use Rattle.awk_asks.proofs.MoreSteps.{gives}
