@@ -4,31 +4,32 @@ use Rattle.std.proofs.lemmas.Bool.{cases_lt}
 use Rattle.std.proofs.lemmas.Bool.Decides.{nat_tests}
 use Rattle.std.proofs.lemmas.Fmt.{decimal_injective}
 use Rattle.std.proofs.lemmas.List.{map-append, length-map}
-use Rattle.std.proofs.lemmas.List.Sorted.{IsPermutation-trans, IsPermutation-map, IsPermutation-middle, IsPermutation-append_right, length_permutation}
+use Rattle.std.proofs.lemmas.List.Sorted.{IsPermutation-map, IsPermutation-middle, IsPermutation-append_right, length_permutation}
 use Rattle.std.proofs.lemmas.Option.{same_Some, slice_get_within, slice_get_read, slice_get-get_or}
 use Rattle.std.specs.Cmp.Lexicographic.{nat_list_eq_equiv}
 use Rattle.std.specs.Fmt.{decimal}
-use Rattle.std.specs.List.{AllByRecursion, IsDistinct}
-use Rattle.std.specs.List.Sorted.{IsSortedByKey}
-use Rattle.std.specs.Map.{lookup, values_of}
-use Rattle.std.specs.Ordering.{nat_cmp}
-use Rattle.std.specs.Option.{option_map, IfSome}
+use Rattle.std.specs.List.{AllByRecursion, IsDistinct, position_or_len}
+use Rattle.std.specs.Map.{lookup, keys_of, values_of}
+use Rattle.indexmap.specs.IndexMap.{insert_entry, set_value_at}
+use Rattle.std.specs.Option.{IfSome}
 use Rattle.std.specs.Str.{bytes_eq}
 use Rattle.awk_text.specs.declared.fault.Fault.TheVariants.{TooManyElements}
 use Rattle.awk_lib.specs.Arrays.{Array, element, has, put, with_element, most_elements}
 use Rattle.awk_lib.specs.Dense.{most_places, dense_rows, number_in, IsOutside}
 use Rattle.awk_lib.specs.Kept.{mapped_rows, rows_of, AreApart, Lies, AreKept}
 use Rattle.awk_lib.specs.Lends.{with_value}
-use Rattle.awk_lib.specs.Numbering.{numbers, texts, shown, AreNumbered, AreRising}
+use Rattle.awk_lib.specs.Numbering.{numbers, number_at, rows, texts, shown, AreNumbered, AreRising}
 use Rattle.awk_lib.specs.declared.dense.Numbered.{Numbered}
 use Rattle.awk_lib.specs.declared.dense.Dense as d
 use Rattle.awk_lib.specs.declared.elements.Elements.{Elements}
+use Rattle.awk_lib.specs.declared.key.Key.{Key}
 use Rattle.awk_lib.specs.declared.elements.Place.{Place}
 use Rattle.awk_lib.specs.declared.elements.Place.TheVariants.{Dense, Mapped}
 use Rattle.awk_lib.proofs.Digits.{differs}
-use Rattle.awk_lib.proofs.Order.{all_weaker, all_both, all_push, all_permuted, numbers_permuted}
-use Rattle.awk_lib.proofs.Rows.{Row, row_of, none_numbered, set_at, set_row, set_at_row, lookup_at, lookup_shown, lookup_rows, rows_set_at, value_row, absent_rows, at_place, length_shown, set_numbered, shown_set, set_none, added, shown_added, moved, shown_moved, rising_rows, gone, put_allowed, put_refused}
-use Rattle.awk_lib.proofs.Seams.{all_append, all_right, all_set_at, none_lookup, rising_without, rising_front, inserted, at_seam, at_right, at_end, one_more, all_dense, split, dense_push}
+use Rattle.awk_lib.proofs.Order.{all_weaker, all_both, all_push, all_permuted}
+use Rattle.awk_lib.proofs.Mapped.{value_there as value_at, split_rows, number_there, inserted_rows, inserted_last, inserted_there}
+use Rattle.awk_lib.proofs.Rows.{Row, none_numbered, set_at, set_row, set_at_row, lookup_at, lookup_shown, absent_rows, at_place, length_shown, set_numbered, shown_set, set_none, added, shown_added, moved, shown_moved, gone, put_allowed, put_refused}
+use Rattle.awk_lib.proofs.Seams.{no_items, all_append, all_right, all_without, all_valued, none_lookup, rising_without, inserted, at_seam, at_end, one_more, all_dense, split, dense_push}
 
 pub and_left : (a b : Bool) → (a && b) ≡ true → a ≡ true
 and_left true b e = refl
@@ -42,9 +43,29 @@ pub few : (n : ℕ) → n < most_elements → nat_lt n most_elements ≡ true
 few n l = grind (arith, nat_tests, l)
 
 module _ {V : Type 0} where
-  pub mapped_value : (es : Elements V) (i : ℕ) (x : Numbered V) (r : Row V) → slice_get (mapped_rows es) i ≡ Some r → slice_get (values_of es.map.entries) i ≡ Some x → x.value ≡ r.1.1
-  mapped_value es i x r at is =
-      same_Some x.value r.1.1 (sym (ap (option_map (λ (y : Numbered V). y.value)) is) ∙ sym (value_row (λ k. k.text.items) es.map.entries i) ∙ ap (option_map (λ (q : Row V). q.1.1)) at)
+  pub mapped_value : (es : Elements V) (i : ℕ) (p : Option (Numbered V)) (r : Row V) → Lies es (Mapped i) r → slice_get (values_of es.map.entries) i ≡ Some p → p ≡ Some (record { number = r.0; value = r.1.1 })
+  mapped_value es i p r lies is =
+      let x : Numbered V = record { number = r.0; value = r.1.1 } in
+      same_Some p (Some x) (sym is ∙ value_at (λ k. k.text.items) es.map.entries i lies.0 (Some x) lies.1)
+
+  pub mapped_within : (es : Elements V) (i : ℕ) (r : Row V) → Lies es (Mapped i) r → i < length es.map.entries
+  mapped_within es i r lies = slice_get_within es.map.entries i (lies.0, Some (record { number = r.0; value = r.1.1 })) lies.1
+
+  -- the rows before that of a place of the map and behind it, and those with another value there, or none
+  pub mapped_parts : (es : Elements V) (i : ℕ) (r : Row V) → Lies es (Mapped i) r
+      → (A : List (Row V)) × (B : List (Row V)) × (mapped_rows es ≡ A ++ r ∷ B) × ((w : V) → mapped_rows (with_value es (Mapped i) w) ≡ A ++ (r.0, (r.1.0, w)) ∷ B)
+      × (rows (λ k. k.text.items) (set_value_at es.map.entries i None) ≡ A ++ B)
+  mapped_parts es i r lies =
+      let x : Numbered V = record { number = r.0; value = r.1.1 } in
+      let s = split_rows (λ k. k.text.items) es.map.entries i lies.0 (Some x) lies.1 in
+      let text = lies.2 in
+      let number = number_there (λ k. k.text.items) es.map.entries i lies.0 x lies.1 in (
+        s.0,
+        s.1,
+        s.2 ∙ (λ j. s.0 ++ (r.0, (text j, r.1.1)) ∷ s.1),
+        λ w. s.3 (Some (record { number = number_at es.map.entries i; value = w })) ∙ (λ j. s.0 ++ (number j, (text j, w)) ∷ s.1),
+        s.3 None,
+      )
 
   pub dense_read : (ps qs : List (Option (Numbered V))) (k : ℕ) (o : Option (Numbered V)) → qs ≡ ps → k < length qs → o ≡ get_or qs k o → slice_get ps k ≡ Some o
   dense_read ps qs k o same within is = ap (λ l. slice_get l k) (sym same) ∙ slice_get_read qs (length qs) k o refl within is
@@ -54,6 +75,10 @@ module _ {V : Type 0} where
   pub found_dense : (es : Elements V) (key : List ℕ) (k : ℕ) (x : Numbered V) → key ≡ decimal k → slice_get es.dense.places.items k ≡ Some (Some x)
       → (r : Row V) × Lies es (Dense k) r × (bytes_eq key r.1.0 ≡ true)
   found_dense es key k x is at = ((x.number, (decimal k, x.value)), (refl, at), ap (bytes_eq key) (sym is) ∙ nat_list_eq_equiv.refl key)
+
+  pub found_mapped : (es : Elements V) (key : List ℕ) (i : ℕ) (k : Key) (x : Numbered V) → slice_get es.map.entries i ≡ Some (k, Some x) → bytes_eq key k.text.items ≡ true
+      → (r : Row V) × Lies es (Mapped i) r × (bytes_eq key r.1.0 ≡ true)
+  found_mapped es key i k x at hit = ((x.number, (k.text.items, x.value)), (k, at, refl), hit)
 
   mapped_outside : (es : Elements V) (key : List ℕ) (k : ℕ) → AreApart es → key ≡ decimal k → k < length es.dense.places.items → AllByRecursion (λ r. bytes_eq key r.1.0 ≡ false) (mapped_rows es)
   mapped_outside es key k a is l =
@@ -83,11 +108,10 @@ module _ {V : Type 0} where
   dense_outside es key o =
       all_dense (λ r. bytes_eq key r.1.0 ≡ false) 0 es.dense.places.items (λ i n x is at. o n (omega (arith, is, slice_get_within es.dense.places.items i (Some x) at)))
 
-  pub missing_mapped : (es : Elements V) (key : List ℕ) → IsOutside (length es.dense.places.items) key → lookup (λ k. bytes_eq key k.text.items) es.map.entries ≡ None
+  pub missing_mapped : (es : Elements V) (key : List ℕ) → IsOutside (length es.dense.places.items) key → AllByRecursion (λ r. bytes_eq key r.1.0 ≡ false) (mapped_rows es)
       → lookup (bytes_eq key) (map (λ r. r.1) (rows_of es)) ≡ None
   missing_mapped es key o none =
-      none_lookup key (rows_of es) (all_append (λ r. bytes_eq key r.1.0 ≡ false) (dense_rows 0 es.dense.places.items) (mapped_rows es) (dense_outside es key o)
-      (absent_rows key (mapped_rows es) (lookup_rows (λ k. k.text.items) key es.map.entries ∙ ap (option_map (λ x. x.value)) none)))
+      none_lookup key (rows_of es) (all_append (λ r. bytes_eq key r.1.0 ≡ false) (dense_rows 0 es.dense.places.items) (mapped_rows es) (dense_outside es key o) none)
 
   -- ---- a value that is written
 
@@ -109,19 +133,24 @@ module _ {V : Type 0} where
             ∙ sym (seam.2 w) ∙ ap (λ t. set_at t seam.0 w) (sym old),
       )
   placed es (Mapped i) r lies =
-      let m = at_right (dense_rows 0 es.dense.places.items) (mapped_rows es) i r lies in
-      (m.0, m.1, λ w. ap (λ t. dense_rows 0 es.dense.places.items ++ t) (rows_set_at (λ k. k.text.items) es.map.entries i w) ∙ sym (m.2 w))
+      let D = dense_rows 0 es.dense.places.items in
+      let m = mapped_parts es i r lies in
+      let seam = at_seam (D ++ m.0) m.1 r in
+      let old : rows_of es ≡ (D ++ m.0) ++ r ∷ m.1 = ap (λ t. D ++ t) m.2 ∙ sym (append_assoc D m.0 (r ∷ m.1)) in (
+        seam.0,
+        ap (λ t. slice_get t seam.0) old ∙ seam.1,
+        λ w. ap (λ t. D ++ t) (m.3 w) ∙ sym (append_assoc D m.0 ((r.0, (r.1.0, w)) ∷ m.1)) ∙ sym (seam.2 w) ∙ ap (λ t. set_at t seam.0 w) (sym old),
+      )
 
-  apart_value : (es : Elements V) (p : Place) (w : V) → AreApart es → AreApart (with_value es p w)
-  apart_value es (Dense k) w a =
+  apart_value : (es : Elements V) (p : Place) (r : Row V) (w : V) → Lies es p r → AreApart es → AreApart (with_value es p w)
+  apart_value es (Dense k) r w lies a =
       let ps = es.dense.places.items in
       let same = sym (length-set ps k (Some (record { number = number_in (slice_get ps k); value = w }))) in
       record { few = subst (λ n. n ≤ most_places) same a.few; outside = subst (λ n. AllByRecursion (λ r. IsOutside n r.1.0) (mapped_rows es)) same a.outside }
-  apart_value es (Mapped i) w a = record {
-    few = a.few;
-    outside = subst (AllByRecursion (λ r. IsOutside (length es.dense.places.items) r.1.0)) (sym (rows_set_at (λ k. k.text.items) es.map.entries i w))
-        (all_set_at (IsOutside (length es.dense.places.items)) (mapped_rows es) i w a.outside);
-  }
+  apart_value es (Mapped i) r w lies a =
+      let Q = λ (q : Row V). IsOutside (length es.dense.places.items) q.1.0 in
+      let m = mapped_parts es i r lies in
+      record { few = a.few; outside = subst (AllByRecursion Q) (sym (m.3 w)) (all_valued (IsOutside (length es.dense.places.items)) m.0 m.1 r w (subst (AllByRecursion Q) m.2 a.outside)) }
 
   count_value : (es : Elements V) (p : Place) (w : V) → (with_value es p w).count ≡ es.count
   count_value es (Dense k) w = refl
@@ -139,7 +168,7 @@ module _ {V : Type 0} where
 
     pub value_kept : (settled : Bool) (n : ℕ) (w : V) → AreKept settled n es → AreKept settled n (with_value es p w)
     value_kept settled n w a = record {
-      apart = apart_value es p w a.apart;
+      apart = apart_value es p r w lies a.apart;
       numbered = subst (AreNumbered settled n) (sym (value_rows w a.numbered.keys)) (set_numbered settled n (rows_of es) key w a.numbered);
       count = count_value es p w ∙ a.count ∙ sym (ap length (value_rows w a.numbered.keys) ∙ length-map (rows_of es) (set_row key w));
     }
@@ -226,13 +255,15 @@ module _ {V : Type 0} where
     count = let fewer = length_permutation (rows_of es) (r ∷ rows_of fs) permuted in let whole = a.count in omega (arith, fewer, whole, count);
   }
 
-  pub no_rows : (rs : List (Row V)) → length rs ≡ 0 → rs ≡ []
-  no_rows [] z = refl
-  no_rows (x ∷ xs) z = let impossible : ⊥ = omega (arith, z) in absurd impossible
-
   -- ---- an element of the dense part, or of the map, that goes
 
-  pub gone_dense : (es : Elements V) (k : ℕ) (r : Row V) → Lies es (Dense k) r
+  without_row : (X Y A B : List (Row V)) (r : Row V) → X ≡ A ++ r ∷ B → Y ≡ A ++ B → IsPermutation X (r ∷ Y) × (AreRising X → AreRising Y)
+  without_row X Y A B r before after = (
+    subst (λ l. IsPermutation l (r ∷ Y)) (sym before) (subst (λ l. IsPermutation (A ++ r ∷ B) (r ∷ l)) (sym after) (IsPermutation-middle A r B)),
+    λ rising. subst AreRising (sym after) (rising_without A B r (subst AreRising before rising)),
+  )
+
+  gone_dense : (es : Elements V) (k : ℕ) (r : Row V) → Lies es (Dense k) r
       → (A : List (Row V)) × (R : List (Row V)) × (rows_of es ≡ A ++ r ∷ R) × (dense_rows 0 (slice_set es.dense.places.items k None) ++ mapped_rows es ≡ A ++ R)
   gone_dense es k r lies =
       let ps = es.dense.places.items in
@@ -263,43 +294,68 @@ module _ {V : Type 0} where
       → IsPermutation (rows_of es) (r ∷ (dense_rows 0 ps ++ mapped_rows es)) × (AreRising (rows_of es) → AreRising (dense_rows 0 ps ++ mapped_rows es))
   dense_gone es k r ps lies is =
       let g = gone_dense es k r lies in
-      let now : dense_rows 0 ps ++ mapped_rows es ≡ g.0 ++ g.1 = ap (λ t. dense_rows 0 t ++ mapped_rows es) is ∙ g.3 in (
-        subst (λ l. IsPermutation l (r ∷ (dense_rows 0 ps ++ mapped_rows es))) (sym g.2)
-            (subst (λ l. IsPermutation (g.0 ++ r ∷ g.1) (r ∷ l)) (sym now) (IsPermutation-middle g.0 r g.1)),
-        λ rising. subst AreRising (sym now) (rising_without g.0 g.1 r (subst AreRising g.2 rising)),
-      )
+      without_row (rows_of es) (dense_rows 0 ps ++ mapped_rows es) g.0 g.1 r g.2 (ap (λ t. dense_rows 0 t ++ mapped_rows es) is ∙ g.3)
 
-  pub mapped_gone : (D M N : List (Row V)) (r : Row V) → IsPermutation M (r ∷ N) → IsPermutation (D ++ M) (r ∷ (D ++ N))
-  mapped_gone D M N r p = IsPermutation-trans (D ++ M) (D ++ r ∷ N) (r ∷ (D ++ N)) (IsPermutation-append_right D M (r ∷ N) p) (IsPermutation-middle D r N)
+  pub mapped_gone : (es fs : Elements V) (i : ℕ) (r : Row V) → Lies es (Mapped i) r → fs.dense ≡ es.dense → mapped_rows fs ≡ rows (λ k. k.text.items) (set_value_at es.map.entries i None)
+      → IsPermutation (rows_of es) (r ∷ rows_of fs) × (AreRising (rows_of es) → AreRising (rows_of fs))
+  mapped_gone es fs i r lies same is =
+      let D = dense_rows 0 es.dense.places.items in
+      let m = mapped_parts es i r lies in
+      let now : rows_of fs ≡ (D ++ m.0) ++ m.1 = (λ j. dense_rows 0 (same j).places.items ++ (is ∙ m.4) j) ∙ sym (append_assoc D m.0 m.1) in
+      without_row (rows_of es) (rows_of fs) (D ++ m.0) m.1 r (ap (λ t. D ++ t) m.2 ∙ sym (append_assoc D m.0 (r ∷ m.1))) now
 
-  pub mapped_rising : (D M N : List (Row V)) → length N ≡ 0 → AreRising (D ++ M) → AreRising (D ++ N)
-  mapped_rising D M N none rising = subst (λ l. AreRising (D ++ l)) (sym (no_rows N none)) (subst AreRising (sym (append-nil D)) (rising_front D M rising))
+  pub mapped_gone_apart : (es fs : Elements V) (i : ℕ) (r : Row V) → Lies es (Mapped i) r → fs.dense ≡ es.dense → mapped_rows fs ≡ rows (λ k. k.text.items) (set_value_at es.map.entries i None) → AreApart es → AreApart fs
+  mapped_gone_apart es fs i r lies same is a =
+      let n = length es.dense.places.items in
+      let m = mapped_parts es i r lies in
+      apart_from fs n (ap (λ (d : d.Dense V). length d.places.items) same) a.few
+      (subst (AllByRecursion (λ q. IsOutside n q.1.0)) (sym (is ∙ m.4)) (all_without (λ q. IsOutside n q.1.0) m.0 m.1 r (subst (AllByRecursion (λ q. IsOutside n q.1.0)) m.2 a.outside)))
 
-  pub mapped_within : (es : Elements V) (i : ℕ) (r : Row V) → slice_get (mapped_rows es) i ≡ Some r → i < length es.map.entries
-  mapped_within es i r at = let l = slice_get_within (mapped_rows es) i r at in omega (arith, l, length-map es.map.entries (row_of (λ k. k.text.items)))
+  pub mapped_absent : (es : Elements V) (key : List ℕ) → lookup (bytes_eq key) (map (λ r. r.1) (rows_of es)) ≡ None → AllByRecursion (λ r. bytes_eq key r.1.0 ≡ false) (mapped_rows es)
+  mapped_absent es key none = all_right (λ r. bytes_eq key r.1.0 ≡ false) (dense_rows 0 es.dense.places.items) (mapped_rows es) (absent_rows key (rows_of es) none)
 
-  pub mapped_none : (es : Elements V) (key : List ℕ) → lookup (bytes_eq key) (map (λ r. r.1) (rows_of es)) ≡ None → lookup (λ k. bytes_eq key k.text.items) es.map.entries ≡ None
-  mapped_none es key none =
-      let all = all_right (λ r. bytes_eq key r.1.0 ≡ false) (dense_rows 0 es.dense.places.items) (mapped_rows es) (absent_rows key (rows_of es) none) in
-      by (lookup (λ k. bytes_eq key k.text.items) es.map.entries) (sym (lookup_rows (λ k. k.text.items) key es.map.entries) ∙ none_lookup key (mapped_rows es) all)
-    where
-      by : (o : Option (Numbered V)) → option_map (λ x. x.value) o ≡ None → o ≡ None
-      by None e = refl
-      by (Some x) e = absurd (true≢false (ap is_some e))
+  -- ---- a key that is put into the map
 
-  -- ---- a key that is put last into the map
+  module _ (es fs : Elements V) (x : Row V) (same : fs.dense ≡ es.dense) where
+    pub mapped_added : IsPermutation (mapped_rows es ++ x ∷ []) (mapped_rows fs) → IsPermutation (rows_of es ++ x ∷ []) (rows_of fs)
+    mapped_added more =
+        let D = dense_rows 0 es.dense.places.items in
+        let M = mapped_rows es in
+        subst (λ l. IsPermutation l (rows_of fs)) (sym (append_assoc D M (x ∷ [])))
+        (subst (λ (d : d.Dense V). IsPermutation (D ++ (M ++ x ∷ [])) (dense_rows 0 d.places.items ++ mapped_rows fs)) (sym same) (IsPermutation-append_right D (M ++ x ∷ []) (mapped_rows fs) more))
 
-  module _ (es : Elements V) (key : List ℕ) (number : ℕ) (value : V) (fs : Elements V) (same : fs.dense.places.items ≡ es.dense.places.items) (more : mapped_rows fs ≡ mapped_rows es ++ (number, (key, value)) ∷ []) where
-    pub mapped_added : rows_of fs ≡ rows_of es ++ (number, (key, value)) ∷ []
-    mapped_added = (λ i. dense_rows 0 (same i) ++ more i) ∙ sym (append_assoc (dense_rows 0 es.dense.places.items) (mapped_rows es) ((number, (key, value)) ∷ []))
+    pub mapped_last : mapped_rows fs ≡ mapped_rows es ++ x ∷ [] → rows_of fs ≡ rows_of es ++ x ∷ []
+    mapped_last more = (λ i. dense_rows 0 (same i).places.items ++ more i) ∙ sym (append_assoc (dense_rows 0 es.dense.places.items) (mapped_rows es) (x ∷ []))
 
-    pub mapped_apart : AreApart es → IsOutside (length es.dense.places.items) key → AreApart fs
-    mapped_apart a o =
-        apart_from fs (length es.dense.places.items) (ap length same) a.few
-        (subst (AllByRecursion (λ r. IsOutside (length es.dense.places.items) r.1.0)) (sym more) (all_push (λ r. IsOutside (length es.dense.places.items) r.1.0) (mapped_rows es) (number, (key, value)) a.outside o))
+    pub mapped_apart : IsPermutation (mapped_rows es ++ x ∷ []) (mapped_rows fs) → AreApart es → IsOutside (length es.dense.places.items) x.1.0 → AreApart fs
+    mapped_apart more a o =
+        let Q = λ (r : Row V). IsOutside (length es.dense.places.items) r.1.0 in
+        apart_from fs (length es.dense.places.items) (ap (λ (d : d.Dense V). length d.places.items) same) a.few (all_permuted Q (mapped_rows es ++ x ∷ []) (mapped_rows fs) more (all_push Q (mapped_rows es) x a.outside o))
 
-    pub mapped_last : (i : ℕ) → i ≡ length es.map.entries → slice_get (mapped_rows fs) i ≡ Some (number, (key, value))
-    mapped_last i is = ap (λ l. slice_get l i) more ∙ at_end (mapped_rows es) (number, (key, value)) i (is ∙ sym (length-map es.map.entries (row_of (λ k. k.text.items))))
+  module _ (es fs : Elements V) (key : List ℕ) (k : Key) (x : Numbered V) (text : k.text.items ≡ key) (none : lookup (bytes_eq key) (map (λ r. r.1) (rows_of es)) ≡ None) (same : fs.dense ≡ es.dense) (now : fs.map.entries ≡ insert_entry (λ a b. bytes_eq a.text.items b.text.items) es.map.entries k (Some x)) where
+    absent_mapped : AllByRecursion (λ r. bytes_eq k.text.items r.1.0 ≡ false) (mapped_rows es)
+    absent_mapped = subst (λ t. AllByRecursion (λ r. bytes_eq t r.1.0 ≡ false) (mapped_rows es)) (sym text) (mapped_absent es key none)
+
+    more_mapped : IsPermutation (mapped_rows es ++ (x.number, (key, x.value)) ∷ []) (mapped_rows fs)
+    more_mapped =
+        subst (λ t. IsPermutation (mapped_rows es ++ (x.number, (t, x.value)) ∷ []) (mapped_rows fs)) text
+        (subst (λ l. IsPermutation (mapped_rows es ++ (x.number, (k.text.items, x.value)) ∷ []) (rows (λ k. k.text.items) l)) (sym now) (inserted_rows (λ k. k.text.items) k x es.map.entries absent_mapped))
+
+    pub put_mapped : IsPermutation (rows_of es ++ (x.number, (key, x.value)) ∷ []) (rows_of fs)
+    put_mapped = mapped_added es fs (x.number, (key, x.value)) same more_mapped
+
+    pub put_apart : AreApart es → IsOutside (length es.dense.places.items) key → AreApart fs
+    put_apart = mapped_apart es fs (x.number, (key, x.value)) same more_mapped
+
+    module _ (i : ℕ) (at : i ≡ position_or_len (λ q. bytes_eq k.text.items q.text.items) (keys_of es.map.entries)) where
+      pub put_there : Lies fs (Mapped i) (x.number, (key, x.value))
+      put_there = let t = inserted_there (λ k. k.text.items) k x es.map.entries i at in (t.0, ap (λ l. slice_get l i) now ∙ t.1, t.2 ∙ text)
+
+      pub put_last : i + 1 ≡ length fs.map.entries → rows_of fs ≡ rows_of es ++ (x.number, (key, x.value)) ∷ []
+      put_last last =
+          mapped_last es fs (x.number, (key, x.value)) same
+          (ap (rows (λ k. k.text.items)) now ∙ inserted_last (λ k. k.text.items) k x es.map.entries i absent_mapped at (last ∙ ap length now)
+          ∙ ap (λ t. mapped_rows es ++ (x.number, (t, x.value)) ∷ []) text)
 
   -- ---- a key that is put into the dense part
 
@@ -349,10 +405,13 @@ module _ {V : Type 0} where
         λ none. (λ i. after i ++ none i) ∙ append-nil (D ++ x ∷ []) ∙ ap (λ t. t ++ x ∷ []) (sym (append-nil D) ∙ ap (λ t. D ++ t) (sym none)),
       )
 
+  pub no_mapped : (es : Elements V) → length es.map.entries ≡ 0 → mapped_rows es ≡ []
+  no_mapped es none = ap (rows (λ k. k.text.items)) (no_items es.map.entries none)
+
   -- the keys of the map are no digits of the numbers of the places there are, once place k is the last
   pub outside_pushed : (es : Elements V) (k : ℕ) → AreApart es → lookup (bytes_eq (decimal k)) (map (λ r. r.1) (rows_of es)) ≡ None → ((length es.map.entries ≡ 0) ⊎ (k ≡ length es.dense.places.items))
       → AllByRecursion (λ r. IsOutside (k + 1) r.1.0) (mapped_rows es)
-  outside_pushed es k a none (inl empty) = subst (AllByRecursion (λ r. IsOutside (k + 1) r.1.0)) (sym (no_rows (mapped_rows es) (length-map es.map.entries (row_of (λ k. k.text.items)) ∙ empty))) tt
+  outside_pushed es k a none (inl empty) = subst (AllByRecursion (λ r. IsOutside (k + 1) r.1.0)) (sym (no_mapped es empty)) tt
   outside_pushed es k a none (inr next) =
       let len = length es.dense.places.items in
       let M = mapped_rows es in
@@ -366,24 +425,21 @@ module _ {V : Type 0} where
   -- and where places were only made
   pub outside_padded : (es : Elements V) (k n : ℕ) → AreApart es → ((length es.map.entries ≡ 0) ⊎ (k ≡ length es.dense.places.items)) → length es.dense.places.items ≤ n → n ≤ k
       → AllByRecursion (λ r. IsOutside n r.1.0) (mapped_rows es)
-  outside_padded es k n a (inl empty) low high = subst (AllByRecursion (λ r. IsOutside n r.1.0)) (sym (no_rows (mapped_rows es) (length-map es.map.entries (row_of (λ k. k.text.items)) ∙ empty))) tt
+  outside_padded es k n a (inl empty) low high = subst (AllByRecursion (λ r. IsOutside n r.1.0)) (sym (no_mapped es empty)) tt
   outside_padded es k n a (inr next) low high = let same : length es.dense.places.items ≡ n = omega (arith, next, low, high) in subst (λ m. AllByRecursion (λ r. IsOutside m r.1.0) (mapped_rows es)) same a.outside
-
-  pub no_mapped : (es : Elements V) → length es.map.entries ≡ 0 → mapped_rows es ≡ []
-  no_mapped es none = no_rows (mapped_rows es) (length-map es.map.entries (row_of (λ k. k.text.items)) ∙ none)
 
   -- ---- the map in the order of its numbers
 
-  module _ (es fs : Elements V) (permuted : IsPermutation es.map.entries fs.map.entries) (same : fs.dense ≡ es.dense) where
+  module _ (es fs : Elements V) (permuted : IsPermutation (mapped_rows es) (mapped_rows fs)) (same : fs.dense ≡ es.dense) where
     moves : IsPermutation (rows_of es) (rows_of fs)
     moves =
         subst (λ (d : d.Dense V). IsPermutation (rows_of es) (dense_rows 0 d.places.items ++ mapped_rows fs)) (sym same)
-        (IsPermutation-append_right (dense_rows 0 es.dense.places.items) (mapped_rows es) (mapped_rows fs) (IsPermutation-map (row_of (λ k. k.text.items)) es.map.entries fs.map.entries permuted))
+        (IsPermutation-append_right (dense_rows 0 es.dense.places.items) (mapped_rows es) (mapped_rows fs) permuted)
 
     pub moved_kept : (settled now : Bool) (n : ℕ) → AreKept settled n es → fs.count ≡ es.count → (now ≡ true → AreRising (rows_of fs)) → AreKept now n fs
     moved_kept settled now n a count rising = record {
       apart = apart_from fs (length es.dense.places.items) (ap (λ (d : d.Dense V). length d.places.items) same) a.apart.few
-          (all_permuted (λ r. IsOutside (length es.dense.places.items) r.1.0) (mapped_rows es) (mapped_rows fs) (IsPermutation-map (row_of (λ k. k.text.items)) es.map.entries fs.map.entries permuted) a.apart.outside);
+          (all_permuted (λ r. IsOutside (length es.dense.places.items) r.1.0) (mapped_rows es) (mapped_rows fs) permuted a.apart.outside);
       numbered = moved settled now n (rows_of es) (rows_of fs) a.numbered moves rising;
       count = count ∙ a.count ∙ sym (length_permutation (rows_of es) (rows_of fs) moves);
     }
@@ -391,12 +447,12 @@ module _ {V : Type 0} where
     pub moved_shown : (settled : Bool) (n : ℕ) → AreKept settled n es → shown (rows_of fs) ≡ shown (rows_of es)
     moved_shown settled n a = shown_moved settled n (rows_of es) (rows_of fs) a.numbered moves
 
-    pub moved_rising : (settled : Bool) (n : ℕ) → AreKept settled n es → length es.dense.places.items ≡ 0 → IsSortedByKey (λ e. e.1.number) nat_cmp fs.map.entries → AreRising (rows_of fs)
-    moved_rising settled n a none sorted =
-        let empty : dense_rows 0 fs.dense.places.items ≡ [] = ap (λ (d : d.Dense V). dense_rows 0 d.places.items) same ∙ no_dense es.dense.places.items none in
-        let whole : rows_of fs ≡ mapped_rows fs = ap (λ l. l ++ mapped_rows fs) empty in
-        let apart = numbers_permuted (rows_of es) (rows_of fs) moves a.numbered.distinct in
-        subst AreRising (sym whole) (rising_rows (λ k. k.text.items) fs.map.entries sorted (subst (λ l. IsDistinct nat_eq (numbers l)) whole apart))
+    pub moved_rising : (settled : Bool) (n : ℕ) → AreKept settled n es → length es.dense.places.items ≡ 0 → (IsDistinct nat_eq (numbers (mapped_rows es)) → AreRising (mapped_rows fs)) → AreRising (rows_of fs)
+    moved_rising settled n a none rising =
+        let empty = no_dense es.dense.places.items none in
+        let whole : rows_of fs ≡ mapped_rows fs = (λ i. dense_rows 0 (same i).places.items ++ mapped_rows fs) ∙ ap (λ l. l ++ mapped_rows fs) empty in
+        let before : rows_of es ≡ mapped_rows es = ap (λ l. l ++ mapped_rows es) empty in
+        subst AreRising (sym whole) (rising (subst (λ l. IsDistinct nat_eq (numbers l)) before a.numbered.distinct))
       where
         no_dense : (ps : List (Option (Numbered V))) → length ps ≡ 0 → dense_rows 0 ps ≡ []
         no_dense [] z = refl
@@ -408,4 +464,4 @@ module _ {V : Type 0} where
   emptied settled n es fs r a permuted count zero_now =
       let fewer = length_permutation (rows_of es) (r ∷ rows_of fs) permuted in
       let whole = a.count in
-      no_rows (rows_of fs) (omega (arith, fewer, whole, count, zero_now))
+      no_items (rows_of fs) (omega (arith, fewer, whole, count, zero_now))

@@ -2,14 +2,11 @@
 use Rattle.std.proofs.Common.{◌≡◌, ℕ, nat_eq, List, [], ◌∷◌, ◌++◌, map, refl, sym, ap, ◌∙◌, subst, append_assoc, IsPermutation}
 use Rattle.std.proofs.lemmas.List.{map-append}
 use Rattle.std.proofs.lemmas.List.Sorted.{IsPermutation-map, IsNonDecreasingBy-from_sort}
-use Rattle.std.specs.Borrow.{Bor}
 use Rattle.std.specs.List.{IsDistinct}
 use Rattle.std.specs.List.Sorted.{IsSortedByKey}
-use Rattle.std.specs.Map.{keys_of}
-use Rattle.std.specs.Map.Iter.{deref}
 use Rattle.std.specs.Ordering.{nat_cmp}
 use Rattle.awk_lib.specs.Arrays.{keys}
-use Rattle.awk_lib.specs.Numbering.{in_order, numbers, rows, shown, texts, key_of, keyed, listed_key, listed, AreRising}
+use Rattle.awk_lib.specs.Numbering.{in_order, numbers, shown, texts, key_of, keyed, listed_key, listed, AreRising}
 use Rattle.awk_lib.specs.declared.dense.Numbered.{Numbered}
 use Rattle.awk_lib.proofs.Order.{numbers_permuted, in_order_map, in_order_same, in_order_rising, rising_sorted}
 use Rattle.awk_lib.proofs.Rows.{Row}
@@ -21,18 +18,6 @@ texts_listed (k ∷ ks) = ap (λ l. k.value ∷ l) (texts_listed ks)
 numbers_listed : (ks : List (Numbered (List ℕ))) → numbers (listed ks) ≡ map (λ k. k.number) ks
 numbers_listed [] = refl
 numbers_listed (k ∷ ks) = ap (λ l. k.number ∷ l) (numbers_listed ks)
-
--- the keys that an iterator over the map gave
-pub texts_yielded : {K V : Type 0} (text : K → List ℕ) (ks : List (Bor K)) (es : List (K × Numbered V)) → map deref ks ≡ keys_of es → map (λ k. text k.now) ks ≡ texts (rows text es)
-texts_yielded {K} {V} text ks es e = behind ks ∙ ap (map text) e ∙ stored es
-  where
-    behind : (l : List (Bor K)) → map (λ k. text k.now) l ≡ map text (map deref l)
-    behind [] = refl
-    behind (k ∷ l) = ap (λ t. text k.now ∷ t) (behind l)
-
-    stored : (l : List (K × Numbered V)) → map text (keys_of l) ≡ texts (rows text l)
-    stored [] = refl
-    stored (e ∷ l) = ap (λ t. text e.0 ∷ t) (stored l)
 
 module _ {V : Type 0} where
   -- one more key

@@ -1,27 +1,19 @@
 -- What each call does to the rows of an array, and so to its list.
-use Rattle.std.proofs.Common.{◌≡◌, ℕ, zero, suc, ◌+◌, ◌<◌, nat_lt, nat_eq, Bool, true, false, not, cond, if◌then◌else◌, ◌||◌, List, [], ◌∷◌, ◌++◌, map, length, get_or, slice_get, position, Option, None, Some, is_some, Ok, Err, refl, sym, ap, ◌∙◌, subst, true≢false, arith, IsPermutation}
+use Rattle.std.proofs.Common.{◌≡◌, ℕ, zero, suc, ◌+◌, ◌<◌, nat_lt, nat_eq, Bool, true, false, not, cond, if◌then◌else◌, ◌||◌, List, [], ◌∷◌, ◌++◌, map, length, slice_get, Option, None, Some, is_some, Ok, Err, refl, sym, ap, ◌∙◌, subst, true≢false, arith, IsPermutation}
 use Rattle.std.proofs.lemmas.Bool.Decides.{nat_tests}
-use Rattle.std.proofs.lemmas.List.{map-append, length-map, get_or-map}
-use Rattle.std.proofs.lemmas.List.Quantifiers.{position-Some}
-use Rattle.std.proofs.lemmas.List.Sorted.{length_permutation, IsPermutation-map, IsPermutation-swap_remove}
+use Rattle.std.proofs.lemmas.List.{map-append, length-map}
+use Rattle.std.proofs.lemmas.List.Sorted.{length_permutation, IsPermutation-map}
 use Rattle.std.proofs.lemmas.Map.{none_passes_from_lookup}
 use Rattle.std.proofs.lemmas.Map.Keys.{IsDistinct-head, IsDistinct-tail, IsDistinct-IsPermutation}
-use Rattle.std.proofs.lemmas.Option.{slice_get-get_or, get_or_from_slice_get, same_Some}
 use Rattle.std.proofs.lemmas.Slice.Eq.{bytes_eq-Decides}
 use Rattle.std.specs.Cmp.Lexicographic.{nat_list_eq_equiv}
-use Rattle.std.specs.List.{AllByRecursion, IsDistinct, swap_remove}
-use Rattle.std.specs.List.Sorted.{IsSortedByKey}
-use Rattle.std.specs.Ordering.{nat_cmp}
-use Rattle.std.proofs.lemmas.List.Sorted.{IsNonDecreasingBy-from_sort}
-use Rattle.std.specs.Map.{lookup, keys_of, values_of}
-use Rattle.std.specs.Option.{option_map, option_map_or, IfSome}
+use Rattle.std.specs.List.{AllByRecursion, IsDistinct}
+use Rattle.std.specs.Map.{lookup}
 use Rattle.std.specs.Str.{bytes_eq}
-use Rattle.indexmap.specs.IndexMap.{insert_entry, set_value_at}
 use Rattle.awk_lib.specs.Arrays.{Array, element, has, put, with_element, without, most_elements}
 use Rattle.awk_text.specs.declared.fault.Fault.TheVariants.{TooManyElements}
-use Rattle.awk_lib.specs.Numbering.{into, in_order, numbers, texts, shown, rows, number_at, AreNumbered, AreRising}
-use Rattle.awk_lib.specs.declared.dense.Numbered.{Numbered}
-use Rattle.awk_lib.proofs.Order.{all_weaker, all_push, all_permuted, all_mapped, map_all, distinct_push, in_order_permutes, in_order_push, rising_push, in_order_same, numbers_permuted, numbers_map, in_order_map, below_map, rising_map, rising_sorted}
+use Rattle.awk_lib.specs.Numbering.{into, in_order, numbers, texts, shown, AreNumbered, AreRising}
+use Rattle.awk_lib.proofs.Order.{all_weaker, all_push, all_permuted, all_mapped, map_all, distinct_push, in_order_permutes, in_order_push, rising_push, in_order_same, numbers_permuted, numbers_map, in_order_map, below_map, rising_map}
 
 pub none_of : {A : Type 0} (o : Option A) → is_some o ≡ false → o ≡ None
 none_of None e = refl
@@ -285,96 +277,3 @@ module _ {V : Type 0} where
 
   pub shown_moved : (settled : Bool) (n : ℕ) (rs ss : List (Row V)) → AreNumbered settled n rs → IsPermutation rs ss → shown ss ≡ shown rs
   shown_moved settled n rs ss a p = ap (map (λ r. r.1)) (sym (in_order_same rs ss p a.distinct))
-
--- ---- the rows of the elements in the map
-
-abbrev pub row_of : {K V : Type 0} → (K → List ℕ) → K × Numbered V → Row V
-row_of text e = (e.1.number, (text e.0, e.1.value))
-
-module _ {K V : Type 0} (text : K → List ℕ) where
-  pub lookup_rows : (key : List ℕ) (es : List (K × Numbered V)) → lookup (bytes_eq key) (map (λ r. r.1) (rows text es)) ≡ option_map (λ x. x.value) (lookup (λ k. bytes_eq key (text k)) es)
-  lookup_rows key [] = refl
-  lookup_rows key (e ∷ es) = by (bytes_eq key (text e.0)) (lookup_rows key es)
-    where
-      by : (b : Bool) → lookup (bytes_eq key) (map (λ r. r.1) (rows text es)) ≡ option_map (λ x. x.value) (lookup (λ k. bytes_eq key (text k)) es)
-          → cond b (Some e.1.value) (lookup (bytes_eq key) (map (λ r. r.1) (rows text es))) ≡ option_map (λ x. x.value) (cond b (Some e.1) (lookup (λ k. bytes_eq key (text k)) es))
-      by true rest = refl
-      by false rest = rest
-
-  -- the row of the element that a look-up found
-  pub found_row : (key : List ℕ) (es : List (K × Numbered V)) (i : ℕ) → position (λ k. bytes_eq key (text k)) (keys_of es) ≡ Some i
-      → (r : ℕ × (List ℕ × V)) × (slice_get (rows text es) i ≡ Some r) × (bytes_eq key r.1.0 ≡ true)
-  found_row key [] i h = absurd (true≢false (sym (ap is_some h)))
-  found_row key (e ∷ es) i h =
-      let k = position-Some (λ k. bytes_eq key (text k)) (keys_of (e ∷ es)) i e.0 h in
-      let here : i < length (e ∷ es) = omega (arith, k.0, length-map (e ∷ es) (λ x. x.0)) in
-      let within : i < length (rows text (e ∷ es)) = omega (arith, k.0, length-map (e ∷ es) (row_of text), length-map (e ∷ es) (λ x. x.0)) in
-      let x = get_or (e ∷ es) i e in
-      let hit : bytes_eq key (text x.0) ≡ true = ap (λ q. bytes_eq key (text q)) (sym (get_or-map (λ (x : K × Numbered V). x.0) (e ∷ es) i e e.0 here)) ∙ k.1 in
-      (row_of text x, slice_get-get_or (rows text (e ∷ es)) i (row_of text e) within ∙ ap Some (get_or-map (row_of text) (e ∷ es) i e (row_of text e) here), hit)
-
-  -- the row of the element that stands at a place
-  pub row_at : (key : List ℕ) (es : List (K × Numbered V)) (i : ℕ) (e : K × Numbered V) → slice_get es i ≡ Some e → bytes_eq key (text e.0) ≡ true
-      → (r : ℕ × (List ℕ × V)) × (slice_get (rows text es) i ≡ Some r) × (bytes_eq key r.1.0 ≡ true)
-  row_at key [] i e h hit = absurd (true≢false (sym (ap is_some h)))
-  row_at key (x ∷ xs) zero e h hit = (row_of text x, refl, ap (λ y. bytes_eq key (text y.0)) (same_Some x e h) ∙ hit)
-  row_at key (x ∷ xs) (suc i) e h hit = row_at key xs i e h hit
-
-  pub rows_set_at : (es : List (K × Numbered V)) (i : ℕ) (w : V) → rows text (set_value_at es i (record { number = number_at es i; value = w })) ≡ set_at (rows text es) i w
-  rows_set_at [] i w = refl
-  rows_set_at (e ∷ es) zero w = refl
-  rows_set_at (e ∷ es) (suc i) w = ap (λ l. (e.1.number, (text e.0, e.1.value)) ∷ l) (rows_set_at es i w)
-
-  pub value_row : (es : List (K × Numbered V)) (i : ℕ) → option_map (λ r. r.1.1) (slice_get (rows text es) i) ≡ option_map (λ x. x.value) (slice_get (values_of es) i)
-  value_row [] i = refl
-  value_row (e ∷ es) zero = refl
-  value_row (e ∷ es) (suc i) = value_row es i
-
-  pub number_row : (es : List (K × Numbered V)) (i : ℕ) (x : Numbered V) → slice_get (values_of es) i ≡ Some x → number_at es i ≡ x.number
-  number_row es i x at = ap (λ (o : Option (Numbered V)). option_map_or (λ x. x.number) o 0) at
-
-  -- ---- what `insert_entry` makes of the rows
-
-  pub rows_insert_new : (k : K) (x : Numbered V) (es : List (K × Numbered V)) → lookup (λ q. bytes_eq (text k) (text q)) es ≡ None
-      → rows text (insert_entry (λ a b. bytes_eq (text a) (text b)) es k x) ≡ rows text es ++ (x.number, (text k, x.value)) ∷ []
-  rows_insert_new k x [] none = refl
-  rows_insert_new k x (e ∷ es) none = by (bytes_eq (text k) (text e.0)) none (rows_insert_new k x es)
-    where
-      by : (b : Bool) → cond b (Some e.1) (lookup (λ q. bytes_eq (text k) (text q)) es) ≡ None
-          → (lookup (λ q. bytes_eq (text k) (text q)) es ≡ None → rows text (insert_entry (λ a b. bytes_eq (text a) (text b)) es k x) ≡ rows text es ++ (x.number, (text k, x.value)) ∷ [])
-          → rows text (if b then (e.0, x) ∷ es else e ∷ insert_entry (λ a b. bytes_eq (text a) (text b)) es k x) ≡ rows text (e ∷ es) ++ (x.number, (text k, x.value)) ∷ []
-      by true none rest = absurd (true≢false (ap is_some none))
-      by false none rest = ap (λ l. (e.1.number, (text e.0, e.1.value)) ∷ l) (rest none)
-
-  -- ---- an element that goes
-
-  there : (es : List (K × Numbered V)) (i : ℕ) → i < length es → (e : K × Numbered V) × (slice_get es i ≡ Some e)
-  there [] i l = let no : ⊥ = omega (arith, l) in absurd no
-  there (e ∷ es) zero l = (e, refl)
-  there (e ∷ es) (suc i) l = there es i (omega (arith, l))
-
-  row_of_place : (es : List (K × Numbered V)) (i : ℕ) → slice_get (rows text es) i ≡ option_map (row_of text) (slice_get es i)
-  row_of_place [] i = refl
-  row_of_place (e ∷ es) zero = refl
-  row_of_place (e ∷ es) (suc i) = row_of_place es i
-
-  pub gone_place : (es fs : List (K × Numbered V)) (i : ℕ) (r : Option (K × Numbered V)) (x : Row V) → slice_get (rows text es) i ≡ Some x → i < length es
-      → r ≡ slice_get es i → IfSome r (λ p. fs ≡ swap_remove es i p) → IsPermutation (rows text es) (x ∷ rows text fs)
-  gone_place es fs i r x at within is after =
-      let e = there es i within in
-      let left : fs ≡ swap_remove es i e.0 = subst (λ (o : Option (K × Numbered V)). IfSome o (λ p. fs ≡ swap_remove es i p)) (is ∙ e.1) after in
-      let same : row_of text e.0 ≡ x = same_Some (row_of text e.0) x (sym (ap (option_map (row_of text)) e.1) ∙ sym (row_of_place es i) ∙ at) in
-      let moves = IsPermutation-swap_remove es i e.0 within (sym (get_or_from_slice_get es i e.0 e.0 e.1)) in
-      let rows_move = IsPermutation-map (row_of text) es (e.0 ∷ swap_remove es i e.0) moves in
-      subst (λ y. IsPermutation (rows text es) (y ∷ rows text fs)) same (subst (λ l. IsPermutation (rows text es) (row_of text e.0 ∷ rows text l)) (sym left) rows_move)
-
-  -- ---- the keys in order
-
-  numbers_rows : (es : List (K × Numbered V)) → numbers (rows text es) ≡ map (λ e. e.1.number) es
-  numbers_rows [] = refl
-  numbers_rows (e ∷ es) = ap (λ l. e.1.number ∷ l) (numbers_rows es)
-
-  pub rising_rows : (es : List (K × Numbered V)) → IsSortedByKey (λ e. e.1.number) nat_cmp es → IsDistinct nat_eq (numbers (rows text es)) → AreRising (rows text es)
-  rising_rows es sorted d =
-      rising_sorted (λ (e : K × Numbered V). e.1.number) (λ (e : K × Numbered V). (text e.0, e.1.value)) es
-      (IsNonDecreasingBy-from_sort (λ (e : K × Numbered V). e.1.number) es sorted) (subst (IsDistinct nat_eq) (numbers_rows es) d)

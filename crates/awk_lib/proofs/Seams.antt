@@ -25,6 +25,10 @@ module _ {X : Type 0} where
   one_more [] x = refl
   one_more (y ∷ xs) x = let rest = one_more xs x in omega (arith, rest)
 
+  pub no_items : (xs : List X) → length xs ≡ 0 → xs ≡ []
+  no_items [] z = refl
+  no_items (x ∷ xs) z = let impossible : ⊥ = omega (arith, z) in absurd impossible
+
 module _ {V : Type 0} where
   -- ---- what holds of each row
 
@@ -32,22 +36,17 @@ module _ {V : Type 0} where
   all_append Q [] B a b = b
   all_append Q (x ∷ A) B a b = (a.0, all_append Q A B a.1 b)
 
-  pub all_left : (Q : Row V → Type 0) (A B : List (Row V)) → AllByRecursion Q (A ++ B) → AllByRecursion Q A
-  all_left Q [] B h = tt
-  all_left Q (x ∷ A) B h = (h.0, all_left Q A B h.1)
-
   pub all_right : (Q : Row V → Type 0) (A B : List (Row V)) → AllByRecursion Q (A ++ B) → AllByRecursion Q B
   all_right Q [] B h = h
   all_right Q (x ∷ A) B h = all_right Q A B h.1
 
-  all_without : (Q : Row V → Type 0) (A R : List (Row V)) (r : Row V) → AllByRecursion Q (A ++ r ∷ R) → AllByRecursion Q (A ++ R)
+  pub all_without : (Q : Row V → Type 0) (A R : List (Row V)) (r : Row V) → AllByRecursion Q (A ++ r ∷ R) → AllByRecursion Q (A ++ R)
   all_without Q [] R r h = h.1
   all_without Q (x ∷ A) R r h = (h.0, all_without Q A R r h.1)
 
-  pub all_set_at : (Q : List ℕ → Type 0) (rs : List (Row V)) (i : ℕ) (w : V) → AllByRecursion (λ r. Q r.1.0) rs → AllByRecursion (λ r. Q r.1.0) (set_at rs i w)
-  all_set_at Q [] i w h = tt
-  all_set_at Q (r ∷ rs) zero w h = h
-  all_set_at Q (r ∷ rs) (suc i) w h = (h.0, all_set_at Q rs i w h.1)
+  pub all_valued : (Q : List ℕ → Type 0) (A R : List (Row V)) (r : Row V) (w : V) → AllByRecursion (λ q. Q q.1.0) (A ++ r ∷ R) → AllByRecursion (λ q. Q q.1.0) (A ++ (r.0, (r.1.0, w)) ∷ R)
+  all_valued Q [] R r w h = h
+  all_valued Q (x ∷ A) R r w h = (h.0, all_valued Q A R r w h.1)
 
   pub none_lookup : (key : List ℕ) (rs : List (Row V)) → AllByRecursion (λ r. bytes_eq key r.1.0 ≡ false) rs → lookup (bytes_eq key) (map (λ r. r.1) rs) ≡ None
   none_lookup key [] h = refl
@@ -56,10 +55,6 @@ module _ {V : Type 0} where
   pub rising_without : (A R : List (Row V)) (r : Row V) → AreRising (A ++ r ∷ R) → AreRising (A ++ R)
   rising_without [] R r h = h.1
   rising_without (x ∷ A) R r h = (all_without (λ s. x.0 < s.0) A R r h.0, rising_without A R r h.1)
-
-  pub rising_front : (A M : List (Row V)) → AreRising (A ++ M) → AreRising A
-  rising_front [] M h = tt
-  rising_front (x ∷ A) M h = (all_left (λ s. x.0 < s.0) A M h.0, rising_front A M h.1)
 
   -- ---- one row among others
 
@@ -70,10 +65,6 @@ module _ {V : Type 0} where
   pub at_seam : (A R : List (Row V)) (r : Row V) → (m : ℕ) × (slice_get (A ++ r ∷ R) m ≡ Some r) × ((w : V) → set_at (A ++ r ∷ R) m w ≡ A ++ (r.0, (r.1.0, w)) ∷ R)
   at_seam [] R r = (0, refl, λ w. refl)
   at_seam (x ∷ A) R r = let m = at_seam A R r in (suc m.0, m.1, λ w. ap (λ l. x ∷ l) (m.2 w))
-
-  pub at_right : (A M : List (Row V)) (i : ℕ) (r : Row V) → slice_get M i ≡ Some r → (m : ℕ) × (slice_get (A ++ M) m ≡ Some r) × ((w : V) → set_at (A ++ M) m w ≡ A ++ set_at M i w)
-  at_right [] M i r at = (i, at, λ w. refl)
-  at_right (x ∷ A) M i r at = let m = at_right A M i r at in (suc m.0, m.1, λ w. ap (λ l. x ∷ l) (m.2 w))
 
   -- ---- the rows of the dense part
 

@@ -14,10 +14,14 @@ abbrev pub IsOutside : ℕ → List ℕ → Type 0
 IsOutside n key = (k : ℕ) → k < n → bytes_eq key (decimal k) ≡ false
 
 module _ {V : Type 0} where
-  -- the row of place k, where something lies there
+  -- the row of a place that the key has, where something lies there
+  abbrev pub row_under : List ℕ → Option (Numbered V) → List (ℕ × (List ℕ × V))
+  row_under key None = []
+  row_under key (Some x) = (x.number, (key, x.value)) ∷ []
+
+  -- the same of place k
   abbrev pub row_at : ℕ → Option (Numbered V) → List (ℕ × (List ℕ × V))
-  row_at k None = []
-  row_at k (Some x) = (x.number, (decimal k, x.value)) ∷ []
+  row_at k p = row_under (decimal k) p
 
   -- the rows of the places, the first of which is place k
   abbrev pub dense_rows : ℕ → List (Option (Numbered V)) → List (ℕ × (List ℕ × V))

@@ -5,6 +5,7 @@ use Rattle.std.specs.List.{AllByRecursion}
 use Rattle.awk_lib.specs.Dense.{most_places, dense_rows, IsOutside}
 use Rattle.awk_lib.specs.Numbering.{rows, AreNumbered}
 use Rattle.awk_lib.specs.declared.elements.Elements.{Elements}
+use Rattle.awk_lib.specs.declared.key.Key.{Key}
 use Rattle.awk_lib.specs.declared.elements.Place.{Place}
 use Rattle.awk_lib.specs.declared.elements.Place.TheVariants.{Dense, Mapped}
 
@@ -16,7 +17,7 @@ module _ {V : Type 0} where
   abbrev pub rows_of : Elements V → List (ℕ × (List ℕ × V))
   rows_of es = dense_rows 0 es.dense.places.items ++ mapped_rows es
 
-  -- no key of the map has a place in the dense part
+  -- no element of the map has a place in the dense part
   pub record AreApart (es : Elements V) : Type 0 where
     pub few : length es.dense.places.items ≤ most_places
     pub outside : AllByRecursion (λ r. IsOutside (length es.dense.places.items) r.1.0) (mapped_rows es)
@@ -24,7 +25,7 @@ module _ {V : Type 0} where
   -- the row lies at the place
   abbrev pub Lies : Elements V → Place → ℕ × (List ℕ × V) → Type 0
   Lies es (Dense k) r = (r.1.0 ≡ decimal k) × (slice_get es.dense.places.items k ≡ Some (Some (record { number = r.0; value = r.1.1 })))
-  Lies es (Mapped i) r = slice_get (mapped_rows es) i ≡ Some r
+  Lies es (Mapped i) r = (k : Key) × (slice_get es.map.entries i ≡ Some (k, Some (record { number = r.0; value = r.1.1 }))) × (k.text.items ≡ r.1.0)
 
   -- what holds of an array's elements
   pub record AreKept (settled : Bool) (next : ℕ) (es : Elements V) : Type 0 where

@@ -1,11 +1,11 @@
 -- How an array is kept: each value with the number of its element, in any order. Elements are numbered as they are added,
 -- so that the list which contracts see is that of the elements in the order of their numbers.
-use Rattle.std.specs.Prelude.{◌≡◌, ℕ, ◌<◌, nat_lt, nat_eq, Bool, true, if◌then◌else◌, List, [], ◌∷◌, map, ⊤, slice_get}
-use Rattle.std.specs.Option.{option_map_or}
+use Rattle.std.specs.Prelude.{◌≡◌, ℕ, ◌<◌, nat_lt, nat_eq, Bool, true, if◌then◌else◌, List, [], ◌∷◌, ◌++◌, Option, map, ⊤, slice_get}
 use Rattle.std.specs.Map.{values_of}
 use Rattle.std.specs.Str.{bytes_eq}
 use Rattle.std.specs.List.{AllByRecursion, IsDistinct}
 use Rattle.awk_lib.specs.Arrays.{Array}
+use Rattle.awk_lib.specs.Dense.{row_under, number_in}
 use Rattle.awk_lib.specs.declared.dense.Numbered.{Numbered}
 
 module _ {P : Type 0} where
@@ -42,13 +42,14 @@ module _ {V : Type 0} where
     pub rising : settled ≡ true → AreRising rows
 
 module _ {K V : Type 0} (text : K → List ℕ) where
-  -- the elements as they lie in the map
-  abbrev pub rows : List (K × Numbered V) → List (ℕ × (List ℕ × V))
-  rows elements = map (λ e. (e.1.number, (text e.0, e.1.value))) elements
+  -- the elements as they lie in the map, some of whose places are empty
+  abbrev pub rows : List (K × Option (Numbered V)) → List (ℕ × (List ℕ × V))
+  rows [] = []
+  rows (e ∷ es) = row_under (text e.0) e.1 ++ rows es
 
 -- the number of the element that lies at the place
-abbrev pub number_at : {K V : Type 0} → List (K × Numbered V) → ℕ → ℕ
-number_at elements place = option_map_or (λ x. x.number) (slice_get (values_of elements) place) 0
+abbrev pub number_at : {K V : Type 0} → List (K × Option (Numbered V)) → ℕ → ℕ
+number_at entries place = number_in (slice_get (values_of entries) place)
 
 -- a key with the number of its element
 module _ {V : Type 0} where

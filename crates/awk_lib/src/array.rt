@@ -165,12 +165,10 @@ impl<V: Drop> Array<V> {
         let Some(place) = self.elements.find(key) else {
             return;
         };
-        let keeps_order = self.elements.remove(place);
-        if self.elements.count > 0 {
-            self.settled &= keeps_order;
-            return;
+        self.elements.remove(place);
+        if self.elements.count == 0 {
+            self.clear();
         }
-        self.clear();
     }
 
     /// Removes all elements. Takes no memory.

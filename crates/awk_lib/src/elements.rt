@@ -1,14 +1,14 @@
 // The elements of an array.
-ghost use Rattle.std.specs.Prelude.{◌≡◌, ℕ, ◌+◌, ◌<◌, ◌≤◌, ◌⊎◌, true, List, [], ◌∷◌, ◌++◌, map, length, is_ok, if◌then◌else◌, None, IfSome, IfOk, OnOk, OnErr, IsOkUnless, IsPermutation, nat_eq, slice_get};
+ghost use Rattle.std.specs.Prelude.{◌≡◌, ℕ, ◌+◌, ◌<◌, ◌≤◌, ◌⊎◌, true, List, [], ◌∷◌, ◌++◌, map, length, is_ok, is_some, if◌then◌else◌, None, Some, IfSome, IfOk, OnOk, OnErr, IsOkUnless, IsPermutation, nat_eq, slice_get};
 ghost use Rattle.std.specs.Fmt.{decimal};
-ghost use Rattle.std.specs.List.{IsDistinct};
-ghost use Rattle.std.specs.List.Sorted.{IsSortedByKey};
-ghost use Rattle.std.specs.Map.{lookup};
-ghost use Rattle.std.specs.Ordering.{nat_cmp};
+ghost use Rattle.std.specs.List.{AllByRecursion, IsDistinct};
+ghost use Rattle.std.specs.Map.{keys_of, lookup};
+ghost use Rattle.std.specs.Option.{option_map_or};
 ghost use Rattle.std.specs.Str.{bytes_eq};
+ghost use Rattle.indexmap.specs.IndexMap.{set_value_at};
 ghost use Rattle.awk_lib.specs.Arrays.{most_elements, keys};
 ghost use Rattle.awk_lib.specs.Dense.{most_places, IsOutside};
-ghost use Rattle.awk_lib.specs.Numbering.{keyed, listed, numbers, shown, texts, AreRising};
+ghost use Rattle.awk_lib.specs.Numbering.{keyed, listed, numbers, rows, shown, texts, AreRising};
 
 use crate::dense::{Dense, Numbered};
 use crate::key::{Key, Sought};
@@ -39,14 +39,14 @@ pub(crate) struct Added {
     pub(crate) is_last: bool,
 }
 
-/// The elements: those of small whole numbers in the dense part, and the others in the map, in any
-/// order: a removed one leaves its place there to the last.
+/// The elements: those of small whole numbers in the dense part, and the others in the map. A removed
+/// one leaves its place empty: in the map its key stays, until most of the map's places are empty.
 ///
-/// No key of the map has a place in the dense part.
+/// No element of the map has a place in the dense part.
 #[derive(Drop)]
 pub(crate) struct Elements<V> {
     pub(crate) dense: Dense<V>,
-    pub(crate) map: IndexMap<Key, Numbered<V>>,
+    pub(crate) map: IndexMap<Key, Option<Numbered<V>>>,
     pub(crate) count: usize,
     /// The place in the map behind the one that was found last. A loop over the keys looks them up in
     /// their order, so this one is tried before the map is asked.
@@ -72,13 +72,14 @@ impl<V> Elements<V> {
         }
     }
 
-    /// Where the key lies in the map. Takes no memory.
+    /// The place of the key in the map, which may be empty. Takes no memory.
     fn find_mapped(&self, key: &[u8]) -> Option<usize>
-        ensures some { IfSome result (λ i. (r : ℕ × (List ℕ × V)) × (slice_get (mapped_rows self.now) i ≡ Some r) × (bytes_eq key.now r.1.0 ≡ true)) }
+        ensures some { IfSome result (λ i. (k : _) × (p : _) × (slice_get self.now.map.entries i ≡ Some (k, p)) × (bytes_eq key.now k.text.items ≡ true)) }
         ensures none { result ≡ None → lookup (λ k. bytes_eq key.now k.text.items) self.now.map.entries ≡ None }
+        ensures unique { IsDistinct (λ x y. bytes_eq x.text.items y.text.items) (keys_of self.now.map.entries) }
     {
         let next = self.next.get();
-        if let Some((there, _)) = self.map.get_index(next) {
+        if let Some((there, _)) = self.map.as_slice().get_index(next) {
             if is_same(key, there.text.as_slice()) {
                 self.next.set(next.wrapping_add(1));
                 return Some(next);
@@ -103,7 +104,11 @@ impl<V> Elements<V> {
             },
             None => {
                 let i = self.find_mapped(key)?;
-                Some(Place::Mapped(i))
+                if self.map[i].is_some() {
+                    Some(Place::Mapped(i))
+                } else {
+                    None
+                }
             }
         }
     }
@@ -115,7 +120,10 @@ impl<V> Elements<V> {
     {
         match place {
             Place::Dense(k) => self.dense.value(k),
-            Place::Mapped(i) => &self.map[i].value,
+            Place::Mapped(i) => match &self.map[i] {
+                Some(element) => &element.value,
+                None => unreachable!(),
+            },
         }
     }
 
@@ -128,8 +136,11 @@ impl<V> Elements<V> {
         match place {
             Place::Dense(k) => self.dense.value_mut(k),
             Place::Mapped(i) => {
-                let element = &mut self.map[i];
-                &mut element.value
+                let place = &mut self.map[i];
+                match place.as_mut() {
+                    Some(element) => &mut element.value,
+                    None => unreachable!(),
+                }
             }
         }
     }
@@ -164,7 +175,10 @@ impl<V> Elements<V> {
         ensures err { IsOkUnless result Fault.Memory }
     {
         let alloc = *self.map.allocator();
-        for key in self.map.keys() {
+        for (key, place) in self.map.iter() {
+            let Some(_) = place else {
+                continue;
+            };
             keys.push(Octets::new(Vec::from_slice(alloc, key.text.as_slice())?))?;
         }
         Ok(())
@@ -190,7 +204,10 @@ impl<V> Elements<V> {
         ensures err { IsOkUnless result Fault.Memory }
     {
         let alloc = *self.map.allocator();
-        for (key, element) in self.map.iter() {
+        for (key, place) in self.map.iter() {
+            let Some(element) = place else {
+                continue;
+            };
             keys.push(Numbered {
                 number: element.number,
                 value: Octets::new(Vec::from_slice(alloc, key.text.as_slice())?),
@@ -227,23 +244,42 @@ impl<V> Elements<V> {
         );
         texts_of(found)
     }
-
-    /// Brings the elements of the map into the order of their numbers, or answers `Memory`.
-    pub(crate) fn settle(&mut self) -> Result<(), Memory>
-        ensures same { IsPermutation self.old.map.entries self.new.map.entries }
-        ensures ok { OnOk result (IsSortedByKey (λ e. e.1.number) nat_cmp self.new.map.entries) }
-        ensures others { (self.new.dense ≡ self.old.dense) × (self.new.count ≡ self.old.count) }
-    {
-        self.map.sort_unstable_by_key(
-            |_key: &Key, element: &Numbered<V>| -> u64
-                ensures { result ≡ element.now.number }
-            { element.number },
-        )
-    }
 }
 
 impl<V: Drop> Elements<V> {
-    ghost use Rattle.awk_lib.specs.Kept.{rows_of, AreApart, Lies};
+    ghost use Rattle.awk_lib.specs.Kept.{rows_of, mapped_rows, AreApart, Lies};
+
+    /// Removes the keys of the map that have no element. Takes no memory.
+    fn compact(&mut self)
+        ensures rows { mapped_rows self.new ≡ mapped_rows self.old }
+        ensures filled { AllByRecursion (λ e. is_some e.1 ≡ true) self.new.map.entries }
+        ensures others { (self.new.dense ≡ self.old.dense) × (self.new.count ≡ self.old.count) }
+    {
+        self.map.retain(
+            |_key: &Key, place: &mut Option<Numbered<V>>| -> bool
+                ensures { (result ≡ is_some place.old) × (place.new ≡ place.old) }
+            { place.is_some() },
+        );
+    }
+
+    /// Brings the elements of the map into the order of their numbers, or answers `Memory`.
+    pub(crate) fn settle(&mut self) -> Result<(), Memory>
+        ensures same { IsPermutation (mapped_rows self.old) (mapped_rows self.new) }
+        ensures ok { OnOk result (IsDistinct nat_eq (numbers (mapped_rows self.old)) → AreRising (mapped_rows self.new)) }
+        ensures others { (self.new.dense ≡ self.old.dense) × (self.new.count ≡ self.old.count) }
+    {
+        self.compact();
+        self.map.sort_unstable_by_key(
+            |_key: &Key, place: &Option<Numbered<V>>| -> u64
+                ensures { result ≡ option_map_or (λ x. x.number) place.now 0 }
+            {
+                match place {
+                    Some(element) => element.number,
+                    None => 0,
+                }
+            },
+        )
+    }
 
     /// Adds a key that is not there, and answers where its element lies. It lies behind all others,
     /// or between them in the dense part.
@@ -299,50 +335,59 @@ impl<V: Drop> Elements<V> {
         })
     }
 
-    /// Adds an element to the map, last.
+    /// Adds an element to the map: at the place that its key has there, which is empty, or behind all
+    /// places.
     fn add_mapped(&mut self, key: &[u8], number: u64, value: V) -> Result<Added, Fault>
         requires apart { AreApart self.old }
         requires absent { lookup (bytes_eq key.now) (map (λ r. r.1) (rows_of self.old)) ≡ None }
         requires room { self.old.count < most_elements }
         requires outside { IsOutside (length self.old.dense.places.items) key.now }
         ensures place { IfOk result (λ a. Lies self.new a.place (number, (key.now, value))) }
-        ensures last { IfOk result (λ a. rows_of self.new ≡ rows_of self.old ++ (number, (key.now, value)) ∷ []) }
+        ensures added { OnOk result (IsPermutation (rows_of self.old ++ (number, (key.now, value)) ∷ []) (rows_of self.new)) }
+        ensures last { IfOk result (λ a. a.is_last ≡ true → rows_of self.new ≡ rows_of self.old ++ (number, (key.now, value)) ∷ []) }
         ensures count { self.new.count ≡ (if is_ok result then self.old.count + 1 else self.old.count) }
         ensures apart { AreApart self.new }
         ensures err { OnErr result (rows_of self.new ≡ rows_of self.old) }
         ensures memory { IsOkUnless result Fault.Memory }
     {
-        let i = self.map.len();
         let text = SmallVec::from_slice(*self.map.allocator(), key)?;
-        self.map.insert(Key { text }, Numbered { number, value })?;
+        let (i, _) = self
+            .map
+            .insert_full(Key { text }, Some(Numbered { number, value }))?;
+        let len = self.map.len();
         self.count += 1;
         Ok(Added {
             place: Place::Mapped(i),
-            is_last: true,
+            is_last: i + 1 == len,
         })
     }
 
-    /// Removes the element at a place, and answers whether the others surely keep their order. Takes
-    /// no memory.
-    pub(crate) fn remove(&mut self, place: Place) -> bool
+    /// Removes the element at a place of the map, and closes up the places where most are empty.
+    fn remove_mapped(&mut self, i: usize)
+        requires { (k : _) × (p : _) × (slice_get self.old.map.entries i ≡ Some (k, p)) }
+        ensures rows { mapped_rows self.new ≡ rows (λ k. k.text.items) (set_value_at self.old.map.entries i None) }
+        ensures others { (self.new.dense ≡ self.old.dense) × (self.new.count ≡ self.old.count) }
+    {
+        self.map[i] = None;
+        if self.count < self.map.len() / 2 {
+            self.compact();
+        }
+    }
+
+    /// Removes the element at a place. The others keep their order. Takes no memory.
+    pub(crate) fn remove(&mut self, place: Place)
         requires apart { AreApart self.old }
         requires there { (r : ℕ × (List ℕ × V)) × Lies self.old place r }
         requires some { 0 < self.old.count }
         ensures gone { (r : ℕ × (List ℕ × V)) → Lies self.old place r → IsPermutation (rows_of self.old) (r ∷ rows_of self.new) }
-        ensures rising { result ≡ true → AreRising (rows_of self.old) → AreRising (rows_of self.new) }
+        ensures rising { AreRising (rows_of self.old) → AreRising (rows_of self.new) }
         ensures count { self.new.count + 1 ≡ self.old.count }
         ensures apart { AreApart self.new }
     {
         self.count -= 1;
         match place {
-            Place::Dense(k) => {
-                self.dense.remove(k);
-                true
-            }
-            Place::Mapped(i) => {
-                self.map.swap_remove_index(i);
-                self.map.is_empty()
-            }
+            Place::Dense(k) => self.dense.remove(k),
+            Place::Mapped(i) => self.remove_mapped(i),
         }
     }
 

@@ -1,7 +1,7 @@
-use Rattle.std.proofs.Common.{◌&&◌, ap, ◌∙◌, sym, subst, arith}
+use Rattle.std.proofs.Common.{ap, ◌∙◌, sym, arith}
 use Rattle.awk_lib.specs.Kept.{rows_of}
-use Rattle.awk_lib.specs.Numbering.{shown, AreRising}
-use Rattle.awk_lib.proofs.Keeping.{and_left, and_right, some_count, missing_element, removed_kept, emptied}
+use Rattle.awk_lib.specs.Numbering.{shown}
+use Rattle.awk_lib.proofs.Keeping.{some_count, missing_element, removed_kept, emptied}
 use Rattle.awk_lib.proofs.Rows.{none_without, shown_gone}
 use Rattle.awk_lib.proofs.array.Array.remove.Goals as goal
 
@@ -11,8 +11,8 @@ returns-in_default g c =
     let key = c.args.key.now in
     rw (← c.self.view_is) (sym (none_without key (shown (rows_of es)) (missing_element es key c.self.invariant.numbered.keys (c.find.ensures.none c.in_default.is))))
 
-pub remove-keeps_order-requires-clause-some : goal.remove-keeps_order-requires-clause-some
-remove-keeps_order-requires-clause-some g c =
+pub remove-requires-clause-some : goal.remove-requires-clause-some
+remove-requires-clause-some g c =
     let h = c.in-Some.ensures.some in some_count c.self.inside.elements c.in-Some.place h.0 h.1 c.self.invariant.count
 
 pub invariant_of-self : goal.invariant_of-self
@@ -20,31 +20,26 @@ invariant_of-self g c =
     let h = c.in-Some.ensures.some in
     let a = c.self.invariant in
     let settled = c.self.inside.settled in
-    let keeps = c.remove-keeps_order.result in
-    removed_kept settled (settled && keeps) c.self.inside.next c.self.inside.elements c.remove-keeps_order.new.self h.0 a (c.remove-keeps_order.ensures.gone h.0 h.1) c.remove-keeps_order.ensures.apart c.remove-keeps_order.ensures.count
-    (λ e. c.remove-keeps_order.ensures.rising (and_right settled keeps e) (a.numbered.rising (and_left settled keeps e)))
+    removed_kept settled settled c.self.inside.next c.self.inside.elements c.remove.new.self h.0 a (c.remove.ensures.gone h.0 h.1) c.remove.ensures.apart c.remove.ensures.count (λ e. c.remove.ensures.rising (a.numbered.rising e))
 
-pub returns-then-self-gt0 : goal.returns-then-self-gt0
-returns-then-self-gt0 g c =
+pub invariant_of-self-else-self-eq0 : goal.invariant_of-self-else-self-eq0
+invariant_of-self-else-self-eq0 g c =
     let h = c.in-Some.ensures.some in
-    rw (← c.self.view_is) (shown_gone c.self.inside.settled c.self.inside.next (rows_of c.self.inside.elements) h.0 (rows_of c.remove-keeps_order.new.self) c.args.key.now c.self.invariant.numbered (c.remove-keeps_order.ensures.gone h.0 h.1) h.2)
+    let a = c.self.invariant in
+    let settled = c.self.inside.settled in
+    removed_kept settled settled c.self.inside.next c.self.inside.elements c.remove.new.self h.0 a (c.remove.ensures.gone h.0 h.1) c.remove.ensures.apart c.remove.ensures.count (λ e. c.remove.ensures.rising (a.numbered.rising e))
 
-pub invariant_of-self-else-self-gt0 : goal.invariant_of-self-else-self-gt0
-invariant_of-self-else-self-gt0 g c =
+pub returns-then-self-eq0 : goal.returns-then-self-eq0
+returns-then-self-eq0 g c =
     let h = c.in-Some.ensures.some in
     let a = c.self.invariant in
     let es = c.self.inside.elements in
-    let fs = c.remove-keeps_order.new.self in
-    let gone = c.remove-keeps_order.ensures.gone h.0 h.1 in
-    let empty = emptied c.self.inside.settled c.self.inside.next es fs h.0 a gone c.remove-keeps_order.ensures.count (omega (arith, c.if-self-gt0.false)) in
-    removed_kept c.self.inside.settled c.self.inside.settled c.self.inside.next es fs h.0 a gone c.remove-keeps_order.ensures.apart c.remove-keeps_order.ensures.count (λ e. subst AreRising (sym empty) tt)
-
-pub returns : goal.returns
-returns g c =
-    let h = c.in-Some.ensures.some in
-    let a = c.self.invariant in
-    let es = c.self.inside.elements in
-    let fs = c.remove-keeps_order.new.self in
-    let gone = c.remove-keeps_order.ensures.gone h.0 h.1 in
-    let empty = emptied c.self.inside.settled c.self.inside.next es fs h.0 a gone c.remove-keeps_order.ensures.count (omega (arith, c.if-self-gt0.false)) in
+    let fs = c.remove.new.self in
+    let gone = c.remove.ensures.gone h.0 h.1 in
+    let empty = emptied c.self.inside.settled c.self.inside.next es fs h.0 a gone c.remove.ensures.count (omega (arith, c.if-self-eq0.true)) in
     rw (← c.self.view_is) (c.clear.ensures ∙ sym (ap shown empty) ∙ shown_gone c.self.inside.settled c.self.inside.next (rows_of es) h.0 (rows_of fs) c.args.key.now a.numbered gone h.2)
+
+pub returns-else-self-eq0 : goal.returns-else-self-eq0
+returns-else-self-eq0 g c =
+    let h = c.in-Some.ensures.some in
+    rw (← c.self.view_is) (shown_gone c.self.inside.settled c.self.inside.next (rows_of c.self.inside.elements) h.0 (rows_of c.remove.new.self) c.args.key.now c.self.invariant.numbered (c.remove.ensures.gone h.0 h.1) h.2)

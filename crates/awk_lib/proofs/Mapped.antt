@@ -1,0 +1,231 @@
+-- The rows of the map, some of whose places are empty.
+use Rattle.std.proofs.Common.{◌≡◌, ℕ, zero, suc, ◌+◌, ◌<◌, nat_eq, Bool, true, false, not, cond, if◌then◌else◌, List, [], ◌∷◌, ◌++◌, map, filter, length, get_or, slice_get, position, Option, None, Some, is_some, refl, sym, ap, ◌∙◌, subst, true≢false, arith, append_assoc, append-nil, IsPermutation}
+use Rattle.std.proofs.lemmas.List.{map-append, length-map, get_or-map}
+use Rattle.std.proofs.lemmas.List.Quantifiers.{position-Some}
+use Rattle.std.proofs.lemmas.List.Sorted.{IsPermutation-refl, IsPermutation-cons, IsPermutation-map, IsPermutation-to_front, IsNonDecreasingBy-from_sort, length_permutation}
+use Rattle.std.proofs.lemmas.Map.{none_passes_from_lookup}
+use Rattle.std.proofs.lemmas.Map.Keys.{IsDistinct-head, IsDistinct-tail}
+use Rattle.std.proofs.lemmas.Option.{same_Some, slice_get-get_or}
+use Rattle.std.proofs.lemmas.Slice.Eq.{bytes_eq-Decides}
+use Rattle.std.specs.Borrow.{Bor}
+use Rattle.std.specs.Cmp.Lexicographic.{nat_list_eq_equiv}
+use Rattle.std.specs.List.{AllByRecursion, IsDistinct, position_or_len}
+use Rattle.std.specs.List.Sorted.{IsSortedByKey}
+use Rattle.std.specs.Map.{lookup, keys_of, values_of}
+use Rattle.std.specs.Map.Iter.{deref_pair}
+use Rattle.std.specs.Option.{option_map_or}
+use Rattle.std.specs.Ordering.{nat_cmp}
+use Rattle.std.specs.Str.{bytes_eq}
+use Rattle.indexmap.specs.IndexMap.{insert_entry, set_value_at}
+use Rattle.awk_lib.specs.Dense.{row_under}
+use Rattle.awk_lib.specs.Numbering.{numbers, rows, number_at, AreRising}
+use Rattle.awk_lib.specs.declared.dense.Numbered.{Numbered}
+use Rattle.awk_lib.proofs.Order.{all_mapped, all_permuted, rising_sorted}
+use Rattle.awk_lib.proofs.Rows.{Row}
+use Rattle.awk_lib.proofs.Seams.{no_items, all_append}
+
+all_at : {X : Type 0} (Q : X → Type 0) (xs : List X) (i : ℕ) (x : X) → slice_get xs i ≡ Some x → AllByRecursion Q xs → Q x
+all_at Q [] i x at h = absurd (true≢false (sym (ap is_some at)))
+all_at Q (y ∷ ys) zero x at h = subst Q (same_Some y x at) h.0
+all_at Q (y ∷ ys) (suc i) x at h = all_at Q ys i x at h.1
+
+pub all_filtered : {X : Type 0} (test : X → Bool) (xs : List X) → AllByRecursion (λ x. test x ≡ true) (filter test xs)
+all_filtered test [] = tt
+all_filtered test (x ∷ xs) = by (test x) refl (all_filtered test xs)
+  where
+    by : (b : Bool) → test x ≡ b → AllByRecursion (λ x. test x ≡ true) (filter test xs) → AllByRecursion (λ x. test x ≡ true) (cond b (x ∷ filter test xs) (filter test xs))
+    by true e rest = (e, rest)
+    by false e rest = rest
+
+module _ {K V : Type 0} (text : K → List ℕ) where
+  -- ---- a key that has no row
+
+  all_under : (Q : Row V → Type 0) (t : List ℕ) (p : Option (Numbered V)) → ((x : Numbered V) → Q (x.number, (t, x.value))) → AllByRecursion Q (row_under t p)
+  all_under Q t None f = tt
+  all_under Q t (Some x) f = (f x, tt)
+
+  other_rows : (key : List ℕ) (es : List (K × Option (Numbered V))) → AllByRecursion (λ e. bytes_eq key (text e.0) ≡ false) es → AllByRecursion (λ r. bytes_eq key r.1.0 ≡ false) (rows text es)
+  other_rows key [] h = tt
+  other_rows key (e ∷ es) h =
+      all_append (λ r. bytes_eq key r.1.0 ≡ false) (row_under (text e.0) e.1) (rows text es)
+      (all_under (λ r. bytes_eq key r.1.0 ≡ false) (text e.0) e.1 (λ x. h.0)) (other_rows key es h.1)
+
+  -- it is not in the map
+  pub no_entry : (key : List ℕ) (es : List (K × Option (Numbered V))) → lookup (λ k. bytes_eq key (text k)) es ≡ None → AllByRecursion (λ r. bytes_eq key r.1.0 ≡ false) (rows text es)
+  no_entry key es none = other_rows key es (none_passes_from_lookup (λ k. bytes_eq key (text k)) es none)
+
+  -- or its place is empty
+  pub empty_entry : (key : List ℕ) (es : List (K × Option (Numbered V))) (i : ℕ) (k : K) → IsDistinct (λ x y. bytes_eq (text x) (text y)) (keys_of es) → slice_get es i ≡ Some (k, None)
+      → bytes_eq key (text k) ≡ true → AllByRecursion (λ r. bytes_eq key r.1.0 ≡ false) (rows text es)
+  empty_entry key [] i k d at hit = tt
+  empty_entry key (e ∷ es) zero k d at hit =
+      let same : e ≡ (k, None) = same_Some e (k, None) at in
+      let here : key ≡ text e.0 = (bytes_eq-Decides key (text e.0)).0 (ap (λ (x : K × Option (Numbered V)). bytes_eq key (text x.0)) same ∙ hit) in
+      let others = all_mapped (λ (x : K × Option (Numbered V)). x.0) (λ q. bytes_eq (text e.0) (text q) ≡ false) es (IsDistinct-head (λ x y. bytes_eq (text x) (text y)) e.0 (keys_of es) d) in
+      subst (λ p. AllByRecursion (λ r. bytes_eq key r.1.0 ≡ false) (row_under (text e.0) p ++ rows text es)) (sym (ap (λ (x : K × Option (Numbered V)). x.1) same))
+      (other_rows key es (subst (λ t. AllByRecursion (λ x. bytes_eq t (text x.0) ≡ false) es) (sym here) others))
+  empty_entry key (e ∷ es) (suc i) k d at hit =
+      let others = all_mapped (λ (x : K × Option (Numbered V)). x.0) (λ q. bytes_eq (text e.0) (text q) ≡ false) es (IsDistinct-head (λ x y. bytes_eq (text x) (text y)) e.0 (keys_of es) d) in
+      let other = all_at (λ x. bytes_eq (text e.0) (text x.0) ≡ false) es i (k, None) at others in
+      let there : key ≡ text k = (bytes_eq-Decides key (text k)).0 hit in
+      let miss : bytes_eq key (text e.0) ≡ false = ap (λ t. bytes_eq t (text e.0)) there ∙ nat_list_eq_equiv.symm (text k) (text e.0) ∙ other in
+      all_append (λ r. bytes_eq key r.1.0 ≡ false) (row_under (text e.0) e.1) (rows text es)
+      (all_under (λ r. bytes_eq key r.1.0 ≡ false) (text e.0) e.1 (λ x. miss))
+      (empty_entry key es i k (IsDistinct-tail (λ x y. bytes_eq (text x) (text y)) e.0 (keys_of es) d) at hit)
+
+  -- ---- one place
+
+  -- the one that a look-up found
+  pub found_entry : (key : List ℕ) (es : List (K × Option (Numbered V))) (i : ℕ) → position (λ k. bytes_eq key (text k)) (keys_of es) ≡ Some i
+      → (k : K) × (p : Option (Numbered V)) × (slice_get es i ≡ Some (k, p)) × (bytes_eq key (text k) ≡ true)
+  found_entry key [] i h = absurd (true≢false (sym (ap is_some h)))
+  found_entry key (e ∷ es) i h =
+      let k = position-Some (λ k. bytes_eq key (text k)) (keys_of (e ∷ es)) i e.0 h in
+      let here : i < length (e ∷ es) = omega (arith, k.0, length-map (e ∷ es) (λ x. x.0)) in
+      let x = get_or (e ∷ es) i e in
+      let hit : bytes_eq key (text x.0) ≡ true = ap (λ q. bytes_eq key (text q)) (sym (get_or-map (λ (x : K × Option (Numbered V)). x.0) (e ∷ es) i e e.0 here)) ∙ k.1 in
+      (x.0, x.1, slice_get-get_or (e ∷ es) i e here, hit)
+
+  -- the rows before that of a place and behind it, whatever lies there
+  pub split_rows : (es : List (K × Option (Numbered V))) (i : ℕ) (k : K) (p : Option (Numbered V)) → slice_get es i ≡ Some (k, p)
+      → (A : List (Row V)) × (B : List (Row V)) × (rows text es ≡ A ++ (row_under (text k) p ++ B)) × ((q : Option (Numbered V)) → rows text (set_value_at es i q) ≡ A ++ (row_under (text k) q ++ B))
+  split_rows [] i k p at = absurd (true≢false (sym (ap is_some at)))
+  split_rows (e ∷ es) zero k p at =
+      let same : e ≡ (k, p) = same_Some e (k, p) at in (
+        [],
+        rows text es,
+        ap (λ (x : K × Option (Numbered V)). row_under (text x.0) x.1 ++ rows text es) same,
+        λ q. ap (λ (x : K × Option (Numbered V)). row_under (text x.0) q ++ rows text es) same,
+      )
+  split_rows (e ∷ es) (suc i) k p at =
+      let rest = split_rows es i k p at in
+      let here = row_under (text e.0) e.1 in (
+        here ++ rest.0,
+        rest.1,
+        ap (λ t. here ++ t) rest.2 ∙ sym (append_assoc here rest.0 (row_under (text k) p ++ rest.1)),
+        λ q. ap (λ t. here ++ t) (rest.3 q) ∙ sym (append_assoc here rest.0 (row_under (text k) q ++ rest.1)),
+      )
+
+  pub number_there : (es : List (K × Option (Numbered V))) (i : ℕ) (k : K) (x : Numbered V) → slice_get es i ≡ Some (k, Some x) → number_at es i ≡ x.number
+  number_there [] i k x at = absurd (true≢false (sym (ap is_some at)))
+  number_there (e ∷ es) zero k x at = ap (λ (y : K × Option (Numbered V)). option_map_or (λ z. z.number) y.1 0) (same_Some e (k, Some x) at)
+  number_there (e ∷ es) (suc i) k x at = number_there es i k x at
+
+  pub value_there : (es : List (K × Option (Numbered V))) (i : ℕ) (k : K) (p : Option (Numbered V)) → slice_get es i ≡ Some (k, p) → slice_get (values_of es) i ≡ Some p
+  value_there [] i k p at = absurd (true≢false (sym (ap is_some at)))
+  value_there (e ∷ es) zero k p at = ap (λ (y : K × Option (Numbered V)). Some y.1) (same_Some e (k, p) at)
+  value_there (e ∷ es) (suc i) k p at = value_there es i k p at
+
+  -- ---- an element that is added, under a key that has no row
+
+  module _ (k : K) (x : Numbered V) where
+    abbrev new_row : Row V
+    new_row = (x.number, (text k, x.value))
+
+    abbrev with_new : List (K × Option (Numbered V)) → List (K × Option (Numbered V))
+    with_new es = insert_entry (λ a b. bytes_eq (text a) (text b)) es k (Some x)
+
+    pub inserted_rows : (es : List (K × Option (Numbered V))) → AllByRecursion (λ r. bytes_eq (text k) r.1.0 ≡ false) (rows text es) → IsPermutation (rows text es ++ new_row ∷ []) (rows text (with_new es))
+    inserted_rows [] h = IsPermutation-refl (new_row ∷ [])
+    inserted_rows (e ∷ es) h = by (bytes_eq (text k) (text e.0)) refl e.1 h (inserted_rows es)
+      where
+        by : (b : Bool) → bytes_eq (text k) (text e.0) ≡ b → (p : Option (Numbered V)) → AllByRecursion (λ r. bytes_eq (text k) r.1.0 ≡ false) (row_under (text e.0) p ++ rows text es)
+            → (AllByRecursion (λ r. bytes_eq (text k) r.1.0 ≡ false) (rows text es) → IsPermutation (rows text es ++ new_row ∷ []) (rows text (with_new es)))
+            → IsPermutation ((row_under (text e.0) p ++ rows text es) ++ new_row ∷ []) (rows text (if b then (e.0, Some x) ∷ es else (e.0, p) ∷ with_new es))
+        by true hit None h rest =
+            subst (λ t. IsPermutation (rows text es ++ new_row ∷ []) ((x.number, (t, x.value)) ∷ rows text es)) ((bytes_eq-Decides (text k) (text e.0)).0 hit) (IsPermutation-to_front (rows text es) new_row)
+        by true hit (Some y) h rest = absurd (true≢false (sym hit ∙ h.0))
+        by false miss None h rest = rest h
+        by false miss (Some y) h rest = IsPermutation-cons (y.number, (text e.0, y.value)) (rows text es ++ new_row ∷ []) (rows text (with_new es)) (rest h.1)
+
+    pub inserted_last : (es : List (K × Option (Numbered V))) (i : ℕ) → AllByRecursion (λ r. bytes_eq (text k) r.1.0 ≡ false) (rows text es) → i ≡ position_or_len (λ q. bytes_eq (text k) (text q)) (keys_of es)
+        → i + 1 ≡ length (with_new es) → rows text (with_new es) ≡ rows text es ++ new_row ∷ []
+    inserted_last [] i h is last = refl
+    inserted_last (e ∷ es) i h is last = by (bytes_eq (text k) (text e.0)) refl e.1 h i is last (inserted_last es)
+      where
+        by : (b : Bool) → bytes_eq (text k) (text e.0) ≡ b → (p : Option (Numbered V)) → AllByRecursion (λ r. bytes_eq (text k) r.1.0 ≡ false) (row_under (text e.0) p ++ rows text es) → (i : ℕ)
+            → i ≡ cond (not b) (1 + position_or_len (λ q. bytes_eq (text k) (text q)) (keys_of es)) 0 → i + 1 ≡ length (if b then (e.0, Some x) ∷ es else (e.0, p) ∷ with_new es)
+            → ((j : ℕ) → AllByRecursion (λ r. bytes_eq (text k) r.1.0 ≡ false) (rows text es) → j ≡ position_or_len (λ q. bytes_eq (text k) (text q)) (keys_of es) → j + 1 ≡ length (with_new es) → rows text (with_new es) ≡ rows text es ++ new_row ∷ [])
+            → rows text (if b then (e.0, Some x) ∷ es else (e.0, p) ∷ with_new es) ≡ (row_under (text e.0) p ++ rows text es) ++ new_row ∷ []
+        by true hit None h i is last rest =
+            let empty : es ≡ [] = no_items es (omega (arith, is, last)) in
+            let same = sym ((bytes_eq-Decides (text k) (text e.0)).0 hit) in
+            subst (λ l. (x.number, (text e.0, x.value)) ∷ rows text l ≡ rows text l ++ new_row ∷ []) (sym empty) (λ j. (x.number, (same j, x.value)) ∷ [])
+        by true hit (Some y) h i is last rest = absurd (true≢false (sym hit ∙ h.0))
+        by false miss None h zero is last rest = let impossible : ⊥ = omega (arith, is) in absurd impossible
+        by false miss None h (suc i) is last rest = rest i h (omega (arith, is)) (omega (arith, last))
+        by false miss (Some y) h zero is last rest = let impossible : ⊥ = omega (arith, is) in absurd impossible
+        by false miss (Some y) h (suc i) is last rest = ap (λ l. (y.number, (text e.0, y.value)) ∷ l) (rest i h.1 (omega (arith, is)) (omega (arith, last)))
+
+    pub inserted_there : (es : List (K × Option (Numbered V))) (i : ℕ) → i ≡ position_or_len (λ q. bytes_eq (text k) (text q)) (keys_of es) → (q : K) × (slice_get (with_new es) i ≡ Some (q, Some x)) × (text q ≡ text k)
+    inserted_there [] zero is = (k, refl, refl)
+    inserted_there [] (suc i) is = let impossible : ⊥ = omega (arith, is) in absurd impossible
+    inserted_there (e ∷ es) i is = by (bytes_eq (text k) (text e.0)) refl i is (inserted_there es)
+      where
+        by : (b : Bool) → bytes_eq (text k) (text e.0) ≡ b → (i : ℕ) → i ≡ cond (not b) (1 + position_or_len (λ q. bytes_eq (text k) (text q)) (keys_of es)) 0
+            → ((j : ℕ) → j ≡ position_or_len (λ q. bytes_eq (text k) (text q)) (keys_of es) → (q : K) × (slice_get (with_new es) j ≡ Some (q, Some x)) × (text q ≡ text k))
+            → (q : K) × (slice_get (if b then (e.0, Some x) ∷ es else e ∷ with_new es) i ≡ Some (q, Some x)) × (text q ≡ text k)
+        by true hit zero is rest = (e.0, refl, sym ((bytes_eq-Decides (text k) (text e.0)).0 hit))
+        by true hit (suc i) is rest = let impossible : ⊥ = omega (arith, is) in absurd impossible
+        by false miss zero is rest = let impossible : ⊥ = omega (arith, is) in absurd impossible
+        by false miss (suc i) is rest = rest i (omega (arith, is))
+
+  -- ---- one place after the other
+
+  rows_append : (es fs : List (K × Option (Numbered V))) → rows text (es ++ fs) ≡ rows text es ++ rows text fs
+  rows_append [] fs = refl
+  rows_append (e ∷ es) fs = ap (λ l. row_under (text e.0) e.1 ++ l) (rows_append es fs) ∙ sym (append_assoc (row_under (text e.0) e.1) (rows text es) (rows text fs))
+
+  pub next_rows : (es : List (Bor K × Bor (Option (Numbered V)))) (e : Bor K × Bor (Option (Numbered V))) (p : Option (Numbered V)) → e.1.now ≡ p
+      → rows text (map deref_pair (es ++ e ∷ [])) ≡ rows text (map deref_pair es) ++ row_under (text e.0.now) p
+  next_rows es e p is =
+      ap (rows text) (map-append deref_pair es (e ∷ [])) ∙ rows_append (map deref_pair es) (deref_pair e ∷ [])
+      ∙ ap (λ l. rows text (map deref_pair es) ++ l) (append-nil (row_under (text e.0.now) e.1.now) ∙ ap (row_under (text e.0.now)) is)
+
+  -- ---- without the empty places
+
+  pub filtered_rows : (es : List (K × Option (Numbered V))) → rows text (filter (λ e. is_some e.1) es) ≡ rows text es
+  filtered_rows [] = refl
+  filtered_rows (e ∷ es) = by e.1 (filtered_rows es)
+    where
+      by : (p : Option (Numbered V)) → rows text (filter (λ e. is_some e.1) es) ≡ rows text es
+          → rows text (cond (is_some p) ((e.0, p) ∷ filter (λ e. is_some e.1) es) (filter (λ e. is_some e.1) es)) ≡ row_under (text e.0) p ++ rows text es
+      by None rest = rest
+      by (Some x) rest = ap (λ l. (x.number, (text e.0, x.value)) ∷ l) rest
+
+  abbrev number_of : K × Option (Numbered V) → ℕ
+  number_of e = option_map_or (λ x. x.number) e.1 0
+
+  abbrev pair_of : V → K × Option (Numbered V) → List ℕ × V
+  pair_of d e = (text e.0, option_map_or (λ x. x.value) e.1 d)
+
+  filled_rows : (d : V) (es : List (K × Option (Numbered V))) → AllByRecursion (λ e. is_some e.1 ≡ true) es → rows text es ≡ map (λ e. (number_of e, pair_of d e)) es
+  filled_rows d [] h = refl
+  filled_rows d (e ∷ es) h = by e.1 h.0 (filled_rows d es h.1)
+    where
+      by : (p : Option (Numbered V)) → is_some p ≡ true → rows text es ≡ map (λ e. (number_of e, pair_of d e)) es
+          → row_under (text e.0) p ++ rows text es ≡ (number_of (e.0, p), pair_of d (e.0, p)) ∷ map (λ e. (number_of e, pair_of d e)) es
+      by None h rest = absurd (true≢false (sym h))
+      by (Some x) h rest = ap (λ l. (x.number, (text e.0, x.value)) ∷ l) rest
+
+  numbers_filled : (d : V) (es : List (K × Option (Numbered V))) → numbers (map (λ e. (number_of e, pair_of d e)) es) ≡ map number_of es
+  numbers_filled d [] = refl
+  numbers_filled d (e ∷ es) = ap (λ l. number_of e ∷ l) (numbers_filled d es)
+
+  -- where none is empty, any order of the places is one of the rows; and it rises where they were sorted by their numbers
+  pub sorted_rows : (es fs : List (K × Option (Numbered V))) → AllByRecursion (λ e. is_some e.1 ≡ true) es → IsPermutation es fs
+      → IsPermutation (rows text es) (rows text fs) × (IsSortedByKey (λ e. option_map_or (λ x. x.number) e.1 0) nat_cmp fs → IsDistinct nat_eq (numbers (rows text fs)) → AreRising (rows text fs))
+  sorted_rows [] fs h p = subst (λ l. IsPermutation [] (rows text l) × (IsSortedByKey number_of nat_cmp l → IsDistinct nat_eq (numbers (rows text l)) → AreRising (rows text l))) (sym (no_items fs (length_permutation [] fs p))) (IsPermutation-refl [], λ s d. tt)
+  sorted_rows (e ∷ es) fs h p = by e.1 h.0
+    where
+      by : (q : Option (Numbered V)) → is_some q ≡ true
+          → IsPermutation (rows text (e ∷ es)) (rows text fs) × (IsSortedByKey number_of nat_cmp fs → IsDistinct nat_eq (numbers (rows text fs)) → AreRising (rows text fs))
+      by None z = absurd (true≢false (sym z))
+      by (Some x) z =
+          let d = x.value in
+          let before = sym (filled_rows d (e ∷ es) h) in
+          let after = sym (filled_rows d fs (all_permuted (λ e. is_some e.1 ≡ true) (e ∷ es) fs p h)) in (
+            subst (λ l. IsPermutation l (rows text fs)) before (subst (IsPermutation (map (λ e. (number_of e, pair_of d e)) (e ∷ es))) after (IsPermutation-map (λ e. (number_of e, pair_of d e)) (e ∷ es) fs p)),
+            λ sorted apart. subst AreRising after (rising_sorted number_of (pair_of d) fs (IsNonDecreasingBy-from_sort number_of fs sorted)
+                (subst (IsDistinct nat_eq) (ap numbers (sym after) ∙ numbers_filled d fs) apart)),
+          )
