@@ -48,9 +48,11 @@ pub(crate) struct Elements<V> {
     pub(crate) dense: Dense<V>,
     pub(crate) map: IndexMap<Key, Option<Numbered<V>>>,
     pub(crate) count: usize,
-    /// The place in the map behind the one that was found last. A loop over the keys looks them up in
-    /// their order, so this one is tried before the map is asked.
+    /// The place in the map behind the one that was found last.
     next: Cell<usize>,
+    /// Whether the one that was found last stood behind the one before it. A loop over the keys looks
+    /// them up so, and then the next place is tried before the map is asked.
+    in_turn: Cell<bool>,
 }
 
 impl<V> Elements<V> {
@@ -69,6 +71,18 @@ impl<V> Elements<V> {
             map: IndexMap::new(alloc),
             count: 0,
             next: Cell::new(0),
+            in_turn: Cell::new(false),
+        }
+    }
+
+    /// Whether the key has the place in the map, which may be empty. Takes no memory.
+    fn is_at(&self, i: usize, key: &[u8]) -> bool
+        ensures there { result ≡ true → (k : _) × (p : _) × (slice_get self.now.map.entries i ≡ Some (k, p)) × (bytes_eq key.now k.text.items ≡ true) }
+        ensures unique { IsDistinct (λ x y. bytes_eq x.text.items y.text.items) (keys_of self.now.map.entries) }
+    {
+        match self.map.as_slice().get_index(i) {
+            Some((there, _)) => is_same(key, there.text.as_slice()),
+            None => false,
         }
     }
 
@@ -79,13 +93,12 @@ impl<V> Elements<V> {
         ensures unique { IsDistinct (λ x y. bytes_eq x.text.items y.text.items) (keys_of self.now.map.entries) }
     {
         let next = self.next.get();
-        if let Some((there, _)) = self.map.as_slice().get_index(next) {
-            if is_same(key, there.text.as_slice()) {
-                self.next.set(next.wrapping_add(1));
-                return Some(next);
-            }
+        if self.in_turn.get() && self.is_at(next, key) {
+            self.next.set(next.wrapping_add(1));
+            return Some(next);
         }
         let i = self.map.get_index_of(Sought { text: key })?;
+        self.in_turn.set(i == next);
         self.next.set(i.wrapping_add(1));
         Some(i)
     }
