@@ -14,6 +14,7 @@ use crate::dense::{Dense, Numbered};
 use crate::key::{Key, Sought};
 use crate::same::is_same;
 use crate::slot::slot_of;
+use crate::steps::Steps;
 use awk_text::Memory;
 use awk_text::fault::Fault;
 use awk_text::octets::Octets;
@@ -48,11 +49,8 @@ pub(crate) struct Elements<V> {
     pub(crate) dense: Dense<V>,
     pub(crate) map: IndexMap<Key, Option<Numbered<V>>>,
     pub(crate) count: usize,
-    /// The place in the map behind the one that was found last.
-    next: Cell<usize>,
-    /// Whether the one that was found last stood behind the one before it. A loop over the keys looks
-    /// them up so, and then the next place is tried before the map is asked.
-    in_turn: Cell<bool>,
+    /// The look-ups in the map so far.
+    steps: Cell<Steps>,
 }
 
 impl<V> Elements<V> {
@@ -70,8 +68,7 @@ impl<V> Elements<V> {
             dense: Dense::new(alloc),
             map: IndexMap::new(alloc),
             count: 0,
-            next: Cell::new(0),
-            in_turn: Cell::new(false),
+            steps: Cell::new(Steps::new()),
         }
     }
 
@@ -92,14 +89,16 @@ impl<V> Elements<V> {
         ensures none { result ≡ None → lookup (λ k. bytes_eq key.now k.text.items) self.now.map.entries ≡ None }
         ensures unique { IsDistinct (λ x y. bytes_eq x.text.items y.text.items) (keys_of self.now.map.entries) }
     {
-        let next = self.next.get();
-        if self.in_turn.get() && self.is_at(next, key) {
-            self.next.set(next.wrapping_add(1));
-            return Some(next);
+        let len = self.map.len();
+        let steps = self.steps.get();
+        if let Some(guess) = steps.guess(len) {
+            if self.is_at(guess, key) {
+                self.steps.set(steps.to(guess, len));
+                return Some(guess);
+            }
         }
         let i = self.map.get_index_of(Sought { text: key })?;
-        self.in_turn.set(i == next);
-        self.next.set(i.wrapping_add(1));
+        self.steps.set(steps.to(i, len));
         Some(i)
     }
 

@@ -10,6 +10,7 @@ mod new_text;
 pub mod replacing;
 mod same;
 mod slot;
+mod steps;
 pub mod texts;
 
 pub use replacing::{replace as replace, replace_any as replace_any};
