@@ -1,5 +1,5 @@
 -- The rows of the map, some of whose places are empty.
-use Rattle.std.proofs.Common.{◌≡◌, ℕ, zero, suc, ◌+◌, ◌<◌, nat_eq, Bool, true, false, not, cond, if◌then◌else◌, List, [], ◌∷◌, ◌++◌, map, filter, length, get_or, slice_get, position, Option, None, Some, is_some, refl, sym, ap, ◌∙◌, subst, true≢false, arith, append_assoc, append-nil, IsPermutation}
+use Rattle.std.proofs.Common.{◌≡◌, ℕ, zero, suc, ◌+◌, ◌-◌, ◌<◌, nat_eq, Bool, true, false, not, cond, if◌then◌else◌, List, [], ◌∷◌, ◌++◌, map, filter, length, get_or, slice_get, position, Option, None, Some, is_some, refl, sym, ap, ◌∙◌, subst, true≢false, arith, append_assoc, append-nil, IsPermutation}
 use Rattle.std.proofs.lemmas.List.{map-append, length-map, get_or-map}
 use Rattle.std.proofs.lemmas.List.Quantifiers.{position-Some}
 use Rattle.std.proofs.lemmas.List.Sorted.{IsPermutation-refl, IsPermutation-cons, IsPermutation-map, IsPermutation-to_front, IsNonDecreasingBy-from_sort, length_permutation}
@@ -13,7 +13,7 @@ use Rattle.std.specs.List.{AllByRecursion, IsDistinct, position_or_len}
 use Rattle.std.specs.List.Sorted.{IsSortedByKey}
 use Rattle.std.specs.Map.{lookup, keys_of, values_of}
 use Rattle.std.specs.Map.Iter.{deref_pair}
-use Rattle.std.specs.Option.{option_map_or}
+use Rattle.std.specs.Option.{option_map_or, option_to_list}
 use Rattle.std.specs.Ordering.{nat_cmp}
 use Rattle.std.specs.Str.{bytes_eq}
 use Rattle.indexmap.specs.IndexMap.{insert_entry, set_value_at}
@@ -22,7 +22,7 @@ use Rattle.awk_lib.specs.Numbering.{numbers, rows, number_at, AreRising}
 use Rattle.awk_lib.specs.declared.dense.Numbered.{Numbered}
 use Rattle.awk_lib.proofs.Order.{all_mapped, all_permuted, rising_sorted}
 use Rattle.awk_lib.proofs.Rows.{Row}
-use Rattle.awk_lib.proofs.Seams.{no_items, all_append}
+use Rattle.awk_lib.proofs.Seams.{no_items, all_append, at_end, one_more}
 
 all_at : {X : Type 0} (Q : X → Type 0) (xs : List X) (i : ℕ) (x : X) → slice_get xs i ≡ Some x → AllByRecursion Q xs → Q x
 all_at Q [] i x at h = absurd (true≢false (sym (ap is_some at)))
@@ -181,6 +181,15 @@ module _ {K V : Type 0} (text : K → List ℕ) where
   next_rows es e p is =
       ap (rows text) (map-append deref_pair es (e ∷ [])) ∙ rows_append (map deref_pair es) (deref_pair e ∷ [])
       ∙ ap (λ l. rows text (map deref_pair es) ++ l) (append-nil (row_under (text e.0.now) e.1.now) ∙ ap (row_under (text e.0.now)) is)
+
+  -- the last place goes, and it is empty
+  pub popped_rows : (es fs : List (K × Option (Numbered V))) (o : Option (K × Option (Numbered V))) (k : K) → es ≡ fs ++ option_to_list o → slice_get es (length es - 1) ≡ Some (k, None) → rows text fs ≡ rows text es
+  popped_rows es fs None k is at = ap (rows text) (sym (is ∙ append-nil fs))
+  popped_rows es fs (Some p) k is at =
+      let last : length es - 1 ≡ length fs = omega (arith, ap length is, one_more fs p) in
+      let there : slice_get es (length es - 1) ≡ Some p = (λ i. slice_get (is i) (last i)) ∙ at_end fs p (length fs) refl in
+      let empty : p.1 ≡ None = ap (λ (e : K × Option (Numbered V)). e.1) (same_Some p (k, None) (sym there ∙ at)) in
+      sym (ap (rows text) is ∙ rows_append fs (p ∷ []) ∙ ap (λ l. rows text fs ++ l) (append-nil (row_under (text p.0) p.1) ∙ ap (row_under (text p.0)) empty) ∙ append-nil (rows text fs))
 
   -- ---- without the empty places
 

@@ -274,6 +274,16 @@ impl<V: Drop> Elements<V> {
         );
     }
 
+    /// Removes the keys of the map behind its last element. Takes no memory.
+    fn trim(&mut self)
+        ensures rows { mapped_rows self.new ≡ mapped_rows self.old }
+        ensures others { (self.new.dense ≡ self.old.dense) × (self.new.count ≡ self.old.count) }
+    {
+        while let Some((_, None)) = self.map.last() {
+            self.map.pop();
+        }
+    }
+
     /// Brings the elements of the map into the order of their numbers, or answers `Memory`.
     pub(crate) fn settle(&mut self) -> Result<(), Memory>
         ensures same { IsPermutation (mapped_rows self.old) (mapped_rows self.new) }
@@ -374,13 +384,15 @@ impl<V: Drop> Elements<V> {
         })
     }
 
-    /// Removes the element at a place of the map, and closes up the places where most are empty.
+    /// Removes the element at a place of the map, and closes up the places where the last ones or most
+    /// of them are empty.
     fn remove_mapped(&mut self, i: usize)
         requires { (k : _) × (p : _) × (slice_get self.old.map.entries i ≡ Some (k, p)) }
         ensures rows { mapped_rows self.new ≡ rows (λ k. k.text.items) (set_value_at self.old.map.entries i None) }
         ensures others { (self.new.dense ≡ self.old.dense) × (self.new.count ≡ self.old.count) }
     {
         self.map[i] = None;
+        self.trim();
         if self.count < self.map.len() / 2 {
             self.compact();
         }
