@@ -15,9 +15,9 @@ use crate::statements::statement;
 use awk_asks::halt::Halt;
 use awk_calls::Flow;
 use awk_calls::ends::end_of;
+use awk_lib::key::Key;
 use awk_program::{Expr, Statement, Variable};
 use awk_tasks::variables::set_variable;
-use awk_text::octets::Octets;
 use awk_text::place::Place;
 use awk_text::value::Value;
 use box_world::world::World;
@@ -163,7 +163,7 @@ fn over<W: World>(
     cx: &Context<'_>,
     place: Place,
     variable: Variable,
-    keys: &[Octets],
+    keys: &[Key],
     inner: &Statement,
     level: u32,
     run: &mut Run,

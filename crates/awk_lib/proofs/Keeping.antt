@@ -22,7 +22,6 @@ use Rattle.awk_lib.specs.Numbering.{numbers, number_at, rows, texts, shown, AreN
 use Rattle.awk_lib.specs.declared.dense.Numbered.{Numbered}
 use Rattle.awk_lib.specs.declared.dense.Dense as d
 use Rattle.awk_lib.specs.declared.elements.Elements.{Elements}
-use Rattle.awk_lib.specs.declared.key.Key.{Key}
 use Rattle.awk_lib.specs.declared.elements.Place.{Place}
 use Rattle.awk_lib.specs.declared.elements.Place.TheVariants.{Dense, Mapped}
 use Rattle.awk_lib.proofs.Digits.{differs}
@@ -46,26 +45,20 @@ module _ {V : Type 0} where
   pub mapped_value : (es : Elements V) (i : ℕ) (p : Option (Numbered V)) (r : Row V) → Lies es (Mapped i) r → slice_get (values_of es.map.entries) i ≡ Some p → p ≡ Some (record { number = r.0; value = r.1.1 })
   mapped_value es i p r lies is =
       let x : Numbered V = record { number = r.0; value = r.1.1 } in
-      same_Some p (Some x) (sym is ∙ value_at (λ k. k.text.items) es.map.entries i lies.0 (Some x) lies.1)
+      same_Some p (Some x) (sym is ∙ value_at es.map.entries i r.1.0 (Some x) lies)
 
   pub mapped_within : (es : Elements V) (i : ℕ) (r : Row V) → Lies es (Mapped i) r → i < length es.map.entries
-  mapped_within es i r lies = slice_get_within es.map.entries i (lies.0, Some (record { number = r.0; value = r.1.1 })) lies.1
+  mapped_within es i r lies = slice_get_within es.map.entries i (r.1.0, Some (record { number = r.0; value = r.1.1 })) lies
 
   -- the rows before that of a place of the map and behind it, and those with another value there, or none
   pub mapped_parts : (es : Elements V) (i : ℕ) (r : Row V) → Lies es (Mapped i) r
       → (A : List (Row V)) × (B : List (Row V)) × (mapped_rows es ≡ A ++ r ∷ B) × ((w : V) → mapped_rows (with_value es (Mapped i) w) ≡ A ++ (r.0, (r.1.0, w)) ∷ B)
-      × (rows (λ k. k.text.items) (set_value_at es.map.entries i None) ≡ A ++ B)
+      × (rows (set_value_at es.map.entries i None) ≡ A ++ B)
   mapped_parts es i r lies =
       let x : Numbered V = record { number = r.0; value = r.1.1 } in
-      let s = split_rows (λ k. k.text.items) es.map.entries i lies.0 (Some x) lies.1 in
-      let text = lies.2 in
-      let number = number_there (λ k. k.text.items) es.map.entries i lies.0 x lies.1 in (
-        s.0,
-        s.1,
-        s.2 ∙ (λ j. s.0 ++ (r.0, (text j, r.1.1)) ∷ s.1),
-        λ w. s.3 (Some (record { number = number_at es.map.entries i; value = w })) ∙ (λ j. s.0 ++ (number j, (text j, w)) ∷ s.1),
-        s.3 None,
-      )
+      let s = split_rows es.map.entries i r.1.0 (Some x) lies in
+      let number = number_there es.map.entries i r.1.0 x lies in
+      (s.0, s.1, s.2, λ w. s.3 (Some (record { number = number_at es.map.entries i; value = w })) ∙ (λ j. s.0 ++ (number j, (r.1.0, w)) ∷ s.1), s.3 None)
 
   pub dense_read : (ps qs : List (Option (Numbered V))) (k : ℕ) (o : Option (Numbered V)) → qs ≡ ps → k < length qs → o ≡ get_or qs k o → slice_get ps k ≡ Some o
   dense_read ps qs k o same within is = ap (λ l. slice_get l k) (sym same) ∙ slice_get_read qs (length qs) k o refl within is
@@ -76,9 +69,9 @@ module _ {V : Type 0} where
       → (r : Row V) × Lies es (Dense k) r × (bytes_eq key r.1.0 ≡ true)
   found_dense es key k x is at = ((x.number, (decimal k, x.value)), (refl, at), ap (bytes_eq key) (sym is) ∙ nat_list_eq_equiv.refl key)
 
-  pub found_mapped : (es : Elements V) (key : List ℕ) (i : ℕ) (k : Key) (x : Numbered V) → slice_get es.map.entries i ≡ Some (k, Some x) → bytes_eq key k.text.items ≡ true
+  pub found_mapped : (es : Elements V) (key : List ℕ) (i : ℕ) (k : List ℕ) (x : Numbered V) → slice_get es.map.entries i ≡ Some (k, Some x) → bytes_eq key k ≡ true
       → (r : Row V) × Lies es (Mapped i) r × (bytes_eq key r.1.0 ≡ true)
-  found_mapped es key i k x at hit = ((x.number, (k.text.items, x.value)), (k, at, refl), hit)
+  found_mapped es key i k x at hit = ((x.number, (k, x.value)), at, hit)
 
   mapped_outside : (es : Elements V) (key : List ℕ) (k : ℕ) → AreApart es → key ≡ decimal k → k < length es.dense.places.items → AllByRecursion (λ r. bytes_eq key r.1.0 ≡ false) (mapped_rows es)
   mapped_outside es key k a is l =
@@ -296,7 +289,7 @@ module _ {V : Type 0} where
       let g = gone_dense es k r lies in
       without_row (rows_of es) (dense_rows 0 ps ++ mapped_rows es) g.0 g.1 r g.2 (ap (λ t. dense_rows 0 t ++ mapped_rows es) is ∙ g.3)
 
-  pub mapped_gone : (es fs : Elements V) (i : ℕ) (r : Row V) → Lies es (Mapped i) r → fs.dense ≡ es.dense → mapped_rows fs ≡ rows (λ k. k.text.items) (set_value_at es.map.entries i None)
+  pub mapped_gone : (es fs : Elements V) (i : ℕ) (r : Row V) → Lies es (Mapped i) r → fs.dense ≡ es.dense → mapped_rows fs ≡ rows (set_value_at es.map.entries i None)
       → IsPermutation (rows_of es) (r ∷ rows_of fs) × (AreRising (rows_of es) → AreRising (rows_of fs))
   mapped_gone es fs i r lies same is =
       let D = dense_rows 0 es.dense.places.items in
@@ -304,7 +297,7 @@ module _ {V : Type 0} where
       let now : rows_of fs ≡ (D ++ m.0) ++ m.1 = (λ j. dense_rows 0 (same j).places.items ++ (is ∙ m.4) j) ∙ sym (append_assoc D m.0 m.1) in
       without_row (rows_of es) (rows_of fs) (D ++ m.0) m.1 r (ap (λ t. D ++ t) m.2 ∙ sym (append_assoc D m.0 (r ∷ m.1))) now
 
-  pub mapped_gone_apart : (es fs : Elements V) (i : ℕ) (r : Row V) → Lies es (Mapped i) r → fs.dense ≡ es.dense → mapped_rows fs ≡ rows (λ k. k.text.items) (set_value_at es.map.entries i None) → AreApart es → AreApart fs
+  pub mapped_gone_apart : (es fs : Elements V) (i : ℕ) (r : Row V) → Lies es (Mapped i) r → fs.dense ≡ es.dense → mapped_rows fs ≡ rows (set_value_at es.map.entries i None) → AreApart es → AreApart fs
   mapped_gone_apart es fs i r lies same is a =
       let n = length es.dense.places.items in
       let m = mapped_parts es i r lies in
@@ -332,14 +325,9 @@ module _ {V : Type 0} where
         let Q = λ (r : Row V). IsOutside (length es.dense.places.items) r.1.0 in
         apart_from fs (length es.dense.places.items) (ap (λ (d : d.Dense V). length d.places.items) same) a.few (all_permuted Q (mapped_rows es ++ x ∷ []) (mapped_rows fs) more (all_push Q (mapped_rows es) x a.outside o))
 
-  module _ (es fs : Elements V) (key : List ℕ) (k : Key) (x : Numbered V) (text : k.text.items ≡ key) (none : lookup (bytes_eq key) (map (λ r. r.1) (rows_of es)) ≡ None) (same : fs.dense ≡ es.dense) (now : fs.map.entries ≡ insert_entry (λ a b. bytes_eq a.text.items b.text.items) es.map.entries k (Some x)) where
-    absent_mapped : AllByRecursion (λ r. bytes_eq k.text.items r.1.0 ≡ false) (mapped_rows es)
-    absent_mapped = subst (λ t. AllByRecursion (λ r. bytes_eq t r.1.0 ≡ false) (mapped_rows es)) (sym text) (mapped_absent es key none)
-
+  module _ (es fs : Elements V) (key : List ℕ) (x : Numbered V) (none : lookup (bytes_eq key) (map (λ r. r.1) (rows_of es)) ≡ None) (same : fs.dense ≡ es.dense) (now : fs.map.entries ≡ insert_entry bytes_eq es.map.entries key (Some x)) where
     more_mapped : IsPermutation (mapped_rows es ++ (x.number, (key, x.value)) ∷ []) (mapped_rows fs)
-    more_mapped =
-        subst (λ t. IsPermutation (mapped_rows es ++ (x.number, (t, x.value)) ∷ []) (mapped_rows fs)) text
-        (subst (λ l. IsPermutation (mapped_rows es ++ (x.number, (k.text.items, x.value)) ∷ []) (rows (λ k. k.text.items) l)) (sym now) (inserted_rows (λ k. k.text.items) k x es.map.entries absent_mapped))
+    more_mapped = subst (λ l. IsPermutation (mapped_rows es ++ (x.number, (key, x.value)) ∷ []) (rows l)) (sym now) (inserted_rows key x es.map.entries (mapped_absent es key none))
 
     pub put_mapped : IsPermutation (rows_of es ++ (x.number, (key, x.value)) ∷ []) (rows_of fs)
     put_mapped = mapped_added es fs (x.number, (key, x.value)) same more_mapped
@@ -347,15 +335,12 @@ module _ {V : Type 0} where
     pub put_apart : AreApart es → IsOutside (length es.dense.places.items) key → AreApart fs
     put_apart = mapped_apart es fs (x.number, (key, x.value)) same more_mapped
 
-    module _ (i : ℕ) (at : i ≡ position_or_len (λ q. bytes_eq k.text.items q.text.items) (keys_of es.map.entries)) where
+    module _ (i : ℕ) (at : i ≡ position_or_len (bytes_eq key) (keys_of es.map.entries)) where
       pub put_there : Lies fs (Mapped i) (x.number, (key, x.value))
-      put_there = let t = inserted_there (λ k. k.text.items) k x es.map.entries i at in (t.0, ap (λ l. slice_get l i) now ∙ t.1, t.2 ∙ text)
+      put_there = ap (λ l. slice_get l i) now ∙ inserted_there key x es.map.entries i at
 
       pub put_last : i + 1 ≡ length fs.map.entries → rows_of fs ≡ rows_of es ++ (x.number, (key, x.value)) ∷ []
-      put_last last =
-          mapped_last es fs (x.number, (key, x.value)) same
-          (ap (rows (λ k. k.text.items)) now ∙ inserted_last (λ k. k.text.items) k x es.map.entries i absent_mapped at (last ∙ ap length now)
-          ∙ ap (λ t. mapped_rows es ++ (x.number, (t, x.value)) ∷ []) text)
+      put_last last = mapped_last es fs (x.number, (key, x.value)) same (ap rows now ∙ inserted_last key x es.map.entries i (mapped_absent es key none) at (last ∙ ap length now))
 
   -- ---- a key that is put into the dense part
 
@@ -406,7 +391,7 @@ module _ {V : Type 0} where
       )
 
   pub no_mapped : (es : Elements V) → length es.map.entries ≡ 0 → mapped_rows es ≡ []
-  no_mapped es none = ap (rows (λ k. k.text.items)) (no_items es.map.entries none)
+  no_mapped es none = ap rows (no_items es.map.entries none)
 
   -- the keys of the map are no digits of the numbers of the places there are, once place k is the last
   pub outside_pushed : (es : Elements V) (k : ℕ) → AreApart es → lookup (bytes_eq (decimal k)) (map (λ r. r.1) (rows_of es)) ≡ None → ((length es.map.entries ≡ 0) ⊎ (k ≡ length es.dense.places.items))

@@ -5,14 +5,13 @@ use Rattle.std.specs.List.{AllByRecursion}
 use Rattle.awk_lib.specs.Dense.{most_places, dense_rows, IsOutside}
 use Rattle.awk_lib.specs.Numbering.{rows, AreNumbered}
 use Rattle.awk_lib.specs.declared.elements.Elements.{Elements}
-use Rattle.awk_lib.specs.declared.key.Key.{Key}
 use Rattle.awk_lib.specs.declared.elements.Place.{Place}
 use Rattle.awk_lib.specs.declared.elements.Place.TheVariants.{Dense, Mapped}
 
 module _ {V : Type 0} where
   -- the elements in the map, and all elements, as they lie
   abbrev pub mapped_rows : Elements V → List (ℕ × (List ℕ × V))
-  mapped_rows es = rows (λ k. k.text.items) es.map.entries
+  mapped_rows es = rows es.map.entries
 
   abbrev pub rows_of : Elements V → List (ℕ × (List ℕ × V))
   rows_of es = dense_rows 0 es.dense.places.items ++ mapped_rows es
@@ -25,7 +24,7 @@ module _ {V : Type 0} where
   -- the row lies at the place
   abbrev pub Lies : Elements V → Place → ℕ × (List ℕ × V) → Type 0
   Lies es (Dense k) r = (r.1.0 ≡ decimal k) × (slice_get es.dense.places.items k ≡ Some (Some (record { number = r.0; value = r.1.1 })))
-  Lies es (Mapped i) r = (k : Key) × (slice_get es.map.entries i ≡ Some (k, Some (record { number = r.0; value = r.1.1 }))) × (k.text.items ≡ r.1.0)
+  Lies es (Mapped i) r = slice_get es.map.entries i ≡ Some (r.1.0, Some (record { number = r.0; value = r.1.1 }))
 
   -- what holds of an array's elements
   pub record AreKept (settled : Bool) (next : ℕ) (es : Elements V) : Type 0 where

@@ -41,14 +41,14 @@ module _ {V : Type 0} where
     pub keys : IsDistinct bytes_eq (texts rows)
     pub rising : settled ≡ true → AreRising rows
 
-module _ {K V : Type 0} (text : K → List ℕ) where
+module _ {V : Type 0} where
   -- the elements as they lie in the map, some of whose places are empty
-  abbrev pub rows : List (K × Option (Numbered V)) → List (ℕ × (List ℕ × V))
+  abbrev pub rows : List (List ℕ × Option (Numbered V)) → List (ℕ × (List ℕ × V))
   rows [] = []
-  rows (e ∷ es) = row_under (text e.0) e.1 ++ rows es
+  rows (e ∷ es) = row_under e.0 e.1 ++ rows es
 
 -- the number of the element that lies at the place
-abbrev pub number_at : {K V : Type 0} → List (K × Option (Numbered V)) → ℕ → ℕ
+abbrev pub number_at : {V : Type 0} → List (List ℕ × Option (Numbered V)) → ℕ → ℕ
 number_at entries place = number_in (slice_get (values_of entries) place)
 
 -- a key with the number of its element

@@ -4,8 +4,8 @@ ghost use Rattle.std.specs.Option.{option_copied, option_copied_mut};
 ghost use Rattle.awk_lib.specs.Arrays.{element, has, put, with_element, without, keys};
 
 use crate::elements::Elements;
+use crate::key::Key;
 use awk_text::fault::Fault;
-use awk_text::octets::Octets;
 use std::alloc::Global;
 use std::marker::Model;
 
@@ -183,7 +183,7 @@ impl<V: Drop> Array<V> {
     /// The keys, in the order in which they were added.
     ///
     /// Fails with `Fault::Memory` alone, where memory is refused.
-    pub fn keys(&mut self) -> Result<Vec<Octets>, Fault>
+    pub fn keys(&mut self) -> Result<Vec<Key>, Fault>
         ensures ok { IfOk result (λ texts. texts.items ≡ keys self.old) }
         ensures err { IsOkUnless result Fault.Memory }
         ensures same { self.new ≡ self.old }

@@ -4,9 +4,9 @@ ghost use Rattle.std.specs.Fmt.{decimal};
 ghost use Rattle.awk_lib.specs.Dense.{most_places, dense_rows, IsOutside};
 ghost use Rattle.awk_lib.specs.Numbering.{keyed, listed, texts};
 
+use crate::key::Key;
 use crate::slot::slot_of;
 use awk_text::fault::Fault;
-use awk_text::octets::Octets;
 use itoa::Buffer;
 use std::alloc::Global;
 
@@ -122,7 +122,7 @@ impl<V> Dense<V> {
     /// Adds the keys as they lie.
     ///
     /// Fails with `Fault::Memory` alone, where memory is refused.
-    pub(crate) fn push_texts(&self, alloc: Global, keys: &mut Vec<Octets>) -> Result<(), Fault>
+    pub(crate) fn push_texts(&self, alloc: Global, keys: &mut Vec<Key>) -> Result<(), Fault>
         ensures ok { OnOk result (keys.new.items ≡ keys.old.items ++ texts (dense_rows 0 self.now.places.items)) }
         ensures err { IsOkUnless result Fault.Memory }
     {
@@ -132,7 +132,7 @@ impl<V> Dense<V> {
                 continue;
             };
             let digits = buffer.format(k).as_bytes();
-            keys.push(Octets::new(Vec::from_slice(alloc, digits)?))?;
+            keys.push(Key::of(alloc, digits)?)?;
         }
         Ok(())
     }
@@ -143,7 +143,7 @@ impl<V> Dense<V> {
     pub(crate) fn push_keys(
         &self,
         alloc: Global,
-        keys: &mut Vec<Numbered<Octets>>,
+        keys: &mut Vec<Numbered<Key>>,
     ) -> Result<(), Fault>
         ensures ok { OnOk result (listed keys.new.items ≡ listed keys.old.items ++ keyed (dense_rows 0 self.now.places.items)) }
         ensures err { IsOkUnless result Fault.Memory }
@@ -156,7 +156,7 @@ impl<V> Dense<V> {
             let digits = buffer.format(k).as_bytes();
             keys.push(Numbered {
                 number: element.number,
-                value: Octets::new(Vec::from_slice(alloc, digits)?),
+                value: Key::of(alloc, digits)?,
             })?;
         }
         Ok(())

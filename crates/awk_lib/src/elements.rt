@@ -17,9 +17,7 @@ use crate::slot::slot_of;
 use crate::steps::Steps;
 use awk_text::Memory;
 use awk_text::fault::Fault;
-use awk_text::octets::Octets;
 use indexmap::IndexMap;
-use smallvec::SmallVec;
 use std::alloc::Global;
 use std::cell::Cell;
 
@@ -74,20 +72,20 @@ impl<V> Elements<V> {
 
     /// Whether the key has the place in the map, which may be empty. Takes no memory.
     fn is_at(&self, i: usize, key: &[u8]) -> bool
-        ensures there { result ≡ true → (k : _) × (p : _) × (slice_get self.now.map.entries i ≡ Some (k, p)) × (bytes_eq key.now k.text.items ≡ true) }
-        ensures unique { IsDistinct (λ x y. bytes_eq x.text.items y.text.items) (keys_of self.now.map.entries) }
+        ensures there { result ≡ true → (k : _) × (p : _) × (slice_get self.now.map.entries i ≡ Some (k, p)) × (bytes_eq key.now k ≡ true) }
+        ensures unique { IsDistinct bytes_eq (keys_of self.now.map.entries) }
     {
         match self.map.as_slice().get_index(i) {
-            Some((there, _)) => is_same(key, there.text.as_slice()),
+            Some((there, _)) => is_same(key, there.bytes()),
             None => false,
         }
     }
 
     /// The place of the key in the map, which may be empty. Takes no memory.
     fn find_mapped(&self, key: &[u8]) -> Option<usize>
-        ensures some { IfSome result (λ i. (k : _) × (p : _) × (slice_get self.now.map.entries i ≡ Some (k, p)) × (bytes_eq key.now k.text.items ≡ true)) }
-        ensures none { result ≡ None → lookup (λ k. bytes_eq key.now k.text.items) self.now.map.entries ≡ None }
-        ensures unique { IsDistinct (λ x y. bytes_eq x.text.items y.text.items) (keys_of self.now.map.entries) }
+        ensures some { IfSome result (λ i. (k : _) × (p : _) × (slice_get self.now.map.entries i ≡ Some (k, p)) × (bytes_eq key.now k ≡ true)) }
+        ensures none { result ≡ None → lookup (bytes_eq key.now) self.now.map.entries ≡ None }
+        ensures unique { IsDistinct bytes_eq (keys_of self.now.map.entries) }
     {
         let len = self.map.len();
         let steps = self.steps.get();
@@ -182,7 +180,7 @@ impl<V> Elements<V> {
     }
 
     /// Adds the keys of the map as they lie.
-    fn push_mapped_texts(&self, keys: &mut Vec<Octets>) -> Result<(), Fault>
+    fn push_mapped_texts(&self, keys: &mut Vec<Key>) -> Result<(), Fault>
         ensures ok { OnOk result (keys.new.items ≡ keys.old.items ++ texts (mapped_rows self.now)) }
         ensures err { IsOkUnless result Fault.Memory }
     {
@@ -191,7 +189,7 @@ impl<V> Elements<V> {
             let Some(_) = place else {
                 continue;
             };
-            keys.push(Octets::new(Vec::from_slice(alloc, key.text.as_slice())?))?;
+            keys.push(Key::of(alloc, key.bytes())?)?;
         }
         Ok(())
     }
@@ -199,7 +197,7 @@ impl<V> Elements<V> {
     /// The keys as they lie.
     ///
     /// Fails with `Fault::Memory` alone, where memory is refused.
-    pub(crate) fn keys(&self) -> Result<Vec<Octets>, Fault>
+    pub(crate) fn keys(&self) -> Result<Vec<Key>, Fault>
         ensures ok { IfOk result (λ keys. keys.items ≡ texts (rows_of self.now)) }
         ensures err { IsOkUnless result Fault.Memory }
     {
@@ -211,7 +209,7 @@ impl<V> Elements<V> {
     }
 
     /// Adds the keys of the map, with the numbers of their elements, as they lie.
-    fn push_mapped_keys(&self, keys: &mut Vec<Numbered<Octets>>) -> Result<(), Fault>
+    fn push_mapped_keys(&self, keys: &mut Vec<Numbered<Key>>) -> Result<(), Fault>
         ensures ok { OnOk result (listed keys.new.items ≡ listed keys.old.items ++ keyed (mapped_rows self.now)) }
         ensures err { IsOkUnless result Fault.Memory }
     {
@@ -222,14 +220,14 @@ impl<V> Elements<V> {
             };
             keys.push(Numbered {
                 number: element.number,
-                value: Octets::new(Vec::from_slice(alloc, key.text.as_slice())?),
+                value: Key::of(alloc, key.bytes())?,
             })?;
         }
         Ok(())
     }
 
     /// The keys, with the numbers of their elements, as they lie.
-    fn numbered_keys(&self) -> Result<Vec<Numbered<Octets>>, Fault>
+    fn numbered_keys(&self) -> Result<Vec<Numbered<Key>>, Fault>
         ensures ok { IfOk result (λ ks. listed ks.items ≡ keyed (rows_of self.now)) }
         ensures err { IsOkUnless result Fault.Memory }
     {
@@ -243,14 +241,14 @@ impl<V> Elements<V> {
     /// The keys in the order of the numbers of their elements.
     ///
     /// Fails with `Fault::Memory` alone, where memory is refused.
-    pub(crate) fn sorted_keys(&self) -> Result<Vec<Octets>, Fault>
+    pub(crate) fn sorted_keys(&self) -> Result<Vec<Key>, Fault>
         requires { IsDistinct nat_eq (numbers (rows_of self.now)) }
         ensures ok { IfOk result (λ found. found.items ≡ keys (shown (rows_of self.now))) }
         ensures err { IsOkUnless result Fault.Memory }
     {
         let mut found = self.numbered_keys()?;
         found.sort_unstable_by_key(
-            |key: &Numbered<Octets>| -> u64
+            |key: &Numbered<Key>| -> u64
                 ensures { result ≡ key.now.number }
             { key.number },
         );
@@ -372,10 +370,8 @@ impl<V: Drop> Elements<V> {
         ensures err { OnErr result (rows_of self.new ≡ rows_of self.old) }
         ensures memory { IsOkUnless result Fault.Memory }
     {
-        let text = SmallVec::from_slice(*self.map.allocator(), key)?;
-        let (i, _) = self
-            .map
-            .insert_full(Key { text }, Some(Numbered { number, value }))?;
+        let key = Key::of(*self.map.allocator(), key)?;
+        let (i, _) = self.map.insert_full(key, Some(Numbered { number, value }))?;
         let len = self.map.len();
         self.count += 1;
         Ok(Added {
@@ -388,7 +384,7 @@ impl<V: Drop> Elements<V> {
     /// of them are empty.
     fn remove_mapped(&mut self, i: usize)
         requires { (k : _) × (p : _) × (slice_get self.old.map.entries i ≡ Some (k, p)) }
-        ensures rows { mapped_rows self.new ≡ rows (λ k. k.text.items) (set_value_at self.old.map.entries i None) }
+        ensures rows { mapped_rows self.new ≡ rows (set_value_at self.old.map.entries i None) }
         ensures others { (self.new.dense ≡ self.old.dense) × (self.new.count ≡ self.old.count) }
     {
         self.map[i] = None;
@@ -428,7 +424,7 @@ impl<V: Drop> Elements<V> {
 }
 
 /// The keys without their numbers.
-fn texts_of(keys: Vec<Numbered<Octets>>) -> Result<Vec<Octets>, Fault>
+fn texts_of(keys: Vec<Numbered<Key>>) -> Result<Vec<Key>, Fault>
     ensures ok { IfOk result (λ texts. texts.items ≡ map (λ k. k.value) keys.items) }
     ensures err { IsOkUnless result Fault.Memory }
 {

@@ -1,5 +1,5 @@
 // The keys of a map. A list of bytes would be hashed and compared byte by byte.
-ghost use Rattle.std.specs.Prelude.{[], ◌∷◌};
+ghost use Rattle.std.specs.Prelude.{◌≡◌, [], ◌∷◌, IfOk};
 ghost use Rattle.std.specs.Cmp as Cmp;
 ghost use Rattle.std.specs.Cmp.{on_equiv, on_per};
 ghost use Rattle.std.specs.Cmp.Lexicographic.{bytes_decides, nat_list_eq_equiv};
@@ -7,38 +7,75 @@ ghost use Rattle.std.specs.Str.{bytes_eq};
 ghost use Rattle.std.proofs.Common.{ap};
 
 use crate::same::is_same;
+use awk_text::Memory;
+use awk_text::octets::Octets;
 use indexmap::Equivalent;
 use smallvec::SmallVec;
+use std::alloc::Global;
 use std::hash::{Hash, Hasher};
+use std::marker::Model;
 
-/// A key of the map. A short text lies in the entry itself, so that a new key takes no memory of its
-/// own, and a look-up reads the entry alone.
+/// A key of the map. A short text lies in the key itself, so that it takes no memory of its own, and a
+/// look-up follows no pointer to it. Contracts see the list of its bytes.
 #[derive(Drop)]
-pub(crate) struct Key {
-    pub(crate) text: SmallVec<u8, 16>,
+pub struct Key {
+    text: SmallVec<u8, 16>,
+}
+
+impl Model for Key {
+    ghost use Rattle.std.specs.Prelude.{List, ℕ};
+
+    ghost Value = { List ℕ };
+
+    ghost view = { λ k. k.text.items };
+}
+
+impl Key {
+    /// The key with these bytes, which are copied, or `Memory` where memory is refused.
+    pub(crate) fn of(alloc: Global, bytes: &[u8]) -> Result<Key, Memory>
+        ensures { IfOk result (λ key. key ≡ bytes.now) }
+    {
+        Ok(Key {
+            text: SmallVec::from_slice(alloc, bytes)?,
+        })
+    }
+
+    /// The bytes of the key. Takes no memory.
+    pub fn bytes(&self) -> &[u8]
+        ensures { result.now ≡ self.now }
+    {
+        self.text.as_slice()
+    }
+
+    /// The key as a text, or `Memory` where memory is refused.
+    pub fn copy(&self, alloc: Global) -> Result<Octets, Memory>
+        ensures { IfOk result (λ o. o ≡ self.now) }
+    {
+        Ok(Octets::new(Vec::from_slice(alloc, self.bytes())?))
+    }
 }
 
 impl PartialEq for Key {
-    ghost eq = { λ x y. bytes_eq x.text.items y.text.items };
+    ghost eq = { λ x y. bytes_eq x y };
 
-    ghost laws = { on_per (λ k. k.text.items) (Cmp.partial_equiv_from_equiv nat_list_eq_equiv) };
+    ghost laws = { Cmp.partial_equiv_from_equiv nat_list_eq_equiv };
 
     fn eq(&self, other: &Self) -> bool {
-        is_same(self.text.as_slice(), other.text.as_slice())
+        is_same(self.bytes(), other.bytes())
     }
 }
 
 impl Eq for Key {
-    ghost laws = { on_equiv (λ k. k.text.items) nat_list_eq_equiv };
+    ghost laws = { nat_list_eq_equiv };
 }
 
 impl Hash for Key {
-    ghost hash_input = { λ k. k.text.items ∷ [] };
+    ghost hash_input = { λ k. k ∷ [] };
 
-    ghost respects_eq = { λ x y h. ap (λ t. t ∷ []) ((bytes_decides x.text.items y.text.items).0 h) };
+    ghost respects_eq = { λ x y h. ap (λ t. t ∷ []) ((bytes_decides x y).0 h) };
 
     fn hash<H: Hasher>(&self, state: &mut H) {
-        state.write(self.text.as_slice());
+        state.write(self.bytes());
     }
 }
 
@@ -73,13 +110,13 @@ impl Hash for Sought<'_> {
 }
 
 impl Equivalent<Key> for Sought<'_> {
-    ghost equivalent = { λ q k. bytes_eq q.text.now k.text.items };
+    ghost equivalent = { λ q k. bytes_eq q.text.now k };
 
-    ghost respects_hash = { λ q k h. ap (λ t. t ∷ []) ((bytes_decides q.text.now k.text.items).0 h) };
+    ghost respects_hash = { λ q k h. ap (λ t. t ∷ []) ((bytes_decides q.text.now k).0 h) };
 
-    ghost respects_eq = { λ q x y. nat_list_eq_equiv.congr q.text.now x.text.items y.text.items };
+    ghost respects_eq = { λ q x y. nat_list_eq_equiv.congr q.text.now x y };
 
     fn equivalent(&self, key: &Key) -> bool {
-        is_same(self.text, key.text.as_slice())
+        is_same(self.text, key.bytes())
     }
 }

@@ -5,7 +5,7 @@
 pub mod array;
 mod dense;
 mod elements;
-mod key;
+pub mod key;
 mod new_text;
 pub mod replacing;
 mod same;

@@ -13,9 +13,9 @@ use crate::cell::{Cell, add_in};
 use crate::frame::{Bound, Reference};
 use crate::store::Store;
 use awk_lib::array::Array;
+use awk_lib::key::Key;
 use awk_program::Variable;
 use awk_text::fault::Fault;
-use awk_text::octets::Octets;
 use awk_text::texts::MOST_BYTES;
 use awk_text::value::Value;
 use itoa::Buffer;
@@ -245,7 +245,7 @@ impl Store {
     /// The keys, in the order in which they were added.
     ///
     /// Fails with `Fault::Memory` alone, where memory is refused.
-    pub fn keys(&mut self, name: Variable) -> Result<Vec<Octets>, Fault>
+    pub fn keys(&mut self, name: Variable) -> Result<Vec<Key>, Fault>
         ensures ok { IfOk result (λ texts. texts.items ≡ keys (array self.old name)) }
         ensures err { IsOkUnless result Fault.Memory }
         ensures same { self.new ≡ self.old }

@@ -57,7 +57,11 @@ fn fill(alloc: Global, array: &mut Array<Octets>, most: i64) -> Answer {
 }
 
 fn keys(alloc: Global, array: &mut Array<Octets>) -> Answer {
-    bracketed(alloc, array.keys()?.as_slice())
+    let mut texts = Vec::new(alloc);
+    for key in array.keys()? {
+        texts.push(key.copy(alloc)?)?;
+    }
+    bracketed(alloc, texts.as_slice())
 }
 
 fn step(alloc: Global, array: &mut Array<Octets>, args: &[Arg<'_>]) -> Answer {

@@ -9,7 +9,7 @@ pub returns-clause-rows : goal.returns-clause-rows
 returns-clause-rows g c =
     let es = c.args.self.now.map.entries in
     let kept : c.retain.new.self.entries ≡ filter (λ e. is_some e.1) es = filter-RetainsPairs _ _ _ (λ k v b w f call. search rules) _ _ c.retain.ensures.filtered in
-    ap (rows (λ k. k.text.items)) kept ∙ filtered_rows (λ k. k.text.items) es
+    ap rows kept ∙ filtered_rows es
 
 pub returns-clause-filled : goal.returns-clause-filled
 returns-clause-filled g c =

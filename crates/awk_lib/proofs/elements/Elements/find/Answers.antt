@@ -20,14 +20,14 @@ pub returns-in_err-i-in-None-clause-none : goal.returns-in_err-i-in-None-clause-
 returns-in_err-i-in-None-clause-none g c =
     let es = c.args.self.now in
     let key = c.args.key.now in
-    λ _. missing_mapped es key (c.in-None.ensures.none refl) (no_entry (λ k. k.text.items) key es.map.entries (c.in_err-i-in-None.ensures.none refl))
+    λ _. missing_mapped es key (c.in-None.ensures.none refl) (no_entry key es.map.entries (c.in_err-i-in-None.ensures.none refl))
 
 pub returns-then-is_some-clause-some : goal.returns-then-is_some-clause-some
 returns-then-is_some-clause-some g c =
     let es = c.args.self.now in
     let i = c.in_ok-i-in-None.i in
     let h = c.in_ok-i-in-None.ensures.some in
-    let same = same_Some h.1 c.index.result.now (sym (value_there (λ k. k.text.items) es.map.entries i h.0 h.1 h.2) ∙ c.index.ensures) in
+    let same = same_Some h.1 c.index.result.now (sym (value_there es.map.entries i h.0 h.1 h.2) ∙ c.index.ensures) in
     let x = some_of h.1 (ap is_some same ∙ sym c.is_some.ensures ∙ c.if-is_some.true) in
     found_mapped es c.args.key.now i h.0 x.0 (h.2 ∙ ap (λ p. Some (h.0, p)) x.1) h.3
 
@@ -37,7 +37,7 @@ returns-else-is_some-clause-none g c =
     let key = c.args.key.now in
     let i = c.in_ok-i-in-None.i in
     let h = c.in_ok-i-in-None.ensures.some in
-    let same = same_Some h.1 c.index.result.now (sym (value_there (λ k. k.text.items) es.map.entries i h.0 h.1 h.2) ∙ c.index.ensures) in
+    let same = same_Some h.1 c.index.result.now (sym (value_there es.map.entries i h.0 h.1 h.2) ∙ c.index.ensures) in
     let empty = none_of h.1 (ap is_some same ∙ sym c.is_some.ensures ∙ c.if-is_some.false) in
     λ _. missing_mapped es key (c.in-None.ensures.none refl)
-    (empty_entry (λ k. k.text.items) key es.map.entries i h.0 c.in_ok-i-in-None.ensures.unique (h.2 ∙ ap (λ p. Some (h.0, p)) empty) h.3)
+    (empty_entry key es.map.entries i h.0 c.in_ok-i-in-None.ensures.unique (h.2 ∙ ap (λ p. Some (h.0, p)) empty) h.3)

@@ -7,5 +7,5 @@ returns-in-Some-clause-there g c = λ e. (
   c.in-Some.there.now,
   c.in-Some.field-0-1.now,
   ap (λ l. slice_get l c.args.i) (sym c.as_slice.ensures.entries) ∙ sym c.in-Some.ensures.entry,
-  ap (bytes_eq c.args.key.now) (sym c.as_slice-in-Some.ensures) ∙ sym c.is_same.ensures ∙ e,
+  ap (bytes_eq c.args.key.now) (sym c.bytes.ensures) ∙ sym c.is_same.ensures ∙ e,
 )

@@ -18,7 +18,7 @@ returns-in-Dense-clause-apart g c =
     apart_from (record es { dense = c.remove.new.self; count = es.count - 1 }) (length ps) (ap length c.remove.ensures ∙ length-set ps c.in-Dense.k None) c.requires.apart.few c.requires.apart.outside
 
 pub remove_mapped-requires : goal.remove_mapped-requires
-remove_mapped-requires g c = let h = rw c.in-Mapped.is at c.requires.there in (h.1.0, _, h.1.1)
+remove_mapped-requires g c = let h = rw c.in-Mapped.is at c.requires.there in (h.0.1.0, _, h.1)
 
 pub returns-in-Mapped-clause-gone : goal.returns-in-Mapped-clause-gone
 returns-in-Mapped-clause-gone g c =
