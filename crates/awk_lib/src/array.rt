@@ -4,8 +4,9 @@ ghost use Rattle.std.specs.Option.{option_copied, option_copied_mut};
 ghost use Rattle.awk_lib.specs.Arrays.{element, has, put, with_element, without, keys};
 
 use crate::elements::Elements;
-use crate::key::Key;
+use crate::key::{Key, texts_of};
 use awk_text::fault::Fault;
+use awk_text::octets::Octets;
 use std::alloc::Global;
 use std::marker::Model;
 
@@ -180,10 +181,22 @@ impl<V: Drop> Array<V> {
         self.settled = true;
     }
 
-    /// The keys, in the order in which they were added.
+    /// The texts of the keys, in the order in which they were added.
     ///
     /// Fails with `Fault::Memory` alone, where memory is refused.
-    pub fn keys(&mut self) -> Result<Vec<Key>, Fault>
+    pub fn keys(&mut self) -> Result<Vec<Octets>, Fault>
+        ensures ok { IfOk result (λ texts. texts.items ≡ keys self.old) }
+        ensures err { IsOkUnless result Fault.Memory }
+        ensures same { self.new ≡ self.old }
+    {
+        texts_of(self.key_list()?)
+    }
+
+    /// The keys, in the order in which they were added. Short ones lie in the list itself, so it takes
+    /// memory once for all of them.
+    ///
+    /// Fails with `Fault::Memory` alone, where memory is refused.
+    pub fn key_list(&mut self) -> Result<Vec<Key>, Fault>
         ensures ok { IfOk result (λ texts. texts.items ≡ keys self.old) }
         ensures err { IsOkUnless result Fault.Memory }
         ensures same { self.new ≡ self.old }

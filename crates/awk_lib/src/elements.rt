@@ -252,7 +252,7 @@ impl<V> Elements<V> {
                 ensures { result ≡ key.now.number }
             { key.number },
         );
-        texts_of(found)
+        without_numbers(found)
     }
 }
 
@@ -424,7 +424,7 @@ impl<V: Drop> Elements<V> {
 }
 
 /// The keys without their numbers.
-fn texts_of(keys: Vec<Numbered<Key>>) -> Result<Vec<Key>, Fault>
+fn without_numbers(keys: Vec<Numbered<Key>>) -> Result<Vec<Key>, Fault>
     ensures ok { IfOk result (λ texts. texts.items ≡ map (λ k. k.value) keys.items) }
     ensures err { IsOkUnless result Fault.Memory }
 {

@@ -1,5 +1,5 @@
 // The keys of a map. A list of bytes would be hashed and compared byte by byte.
-ghost use Rattle.std.specs.Prelude.{◌≡◌, [], ◌∷◌, IfOk};
+ghost use Rattle.std.specs.Prelude.{◌≡◌, [], ◌∷◌, IfOk, IsOkUnless};
 ghost use Rattle.std.specs.Cmp as Cmp;
 ghost use Rattle.std.specs.Cmp.{on_equiv, on_per};
 ghost use Rattle.std.specs.Cmp.Lexicographic.{bytes_decides, nat_list_eq_equiv};
@@ -8,6 +8,7 @@ ghost use Rattle.std.proofs.Common.{ap};
 
 use crate::same::is_same;
 use awk_text::Memory;
+use awk_text::fault::Fault;
 use awk_text::octets::Octets;
 use indexmap::Equivalent;
 use smallvec::SmallVec;
@@ -53,6 +54,21 @@ impl Key {
     {
         Ok(Octets::new(Vec::from_slice(alloc, self.bytes())?))
     }
+}
+
+/// The texts of the keys.
+///
+/// Fails with `Fault::Memory` alone, where memory is refused.
+pub(crate) fn texts_of(keys: Vec<Key>) -> Result<Vec<Octets>, Fault>
+    ensures ok { IfOk result (λ texts. texts.items ≡ keys.items) }
+    ensures err { IsOkUnless result Fault.Memory }
+{
+    let alloc = *keys.allocator();
+    let mut texts = Vec::with_capacity(alloc, keys.len())?;
+    for key in keys {
+        texts.push(key.copy(alloc)?)?;
+    }
+    Ok(texts)
 }
 
 impl PartialEq for Key {

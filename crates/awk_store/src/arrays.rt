@@ -252,7 +252,7 @@ impl Store {
     {
         let at = self.reference(name);
         let mut elements = self.replace(at, Array::new(self.alloc));
-        let result = elements.keys();
+        let result = elements.key_list();
         self.replace(at, elements);
         result
     }

@@ -57,11 +57,7 @@ fn fill(alloc: Global, array: &mut Array<Octets>, most: i64) -> Answer {
 }
 
 fn keys(alloc: Global, array: &mut Array<Octets>) -> Answer {
-    let mut texts = Vec::new(alloc);
-    for key in array.keys()? {
-        texts.push(key.copy(alloc)?)?;
-    }
-    bracketed(alloc, texts.as_slice())
+    bracketed(alloc, array.keys()?.as_slice())
 }
 
 fn step(alloc: Global, array: &mut Array<Octets>, args: &[Arg<'_>]) -> Answer {

@@ -4,7 +4,7 @@ use Rattle.awk_lib.specs.Arrays.{keys}
 use Rattle.awk_lib.specs.Kept.{rows_of}
 use Rattle.awk_lib.proofs.Keeping.{moved_kept, moved_shown, moved_rising}
 use Rattle.awk_lib.proofs.Keys.{keys_rising}
-use Rattle.awk_lib.proofs.array.Array.keys.Goals as goal
+use Rattle.awk_lib.proofs.array.Array.key_list.Goals as goal
 
 pub returns-then-self-clause-ok : goal.returns-then-self-clause-ok
 returns-then-self-clause-ok g c =
