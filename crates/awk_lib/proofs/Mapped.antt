@@ -24,6 +24,9 @@ use Rattle.awk_lib.proofs.Order.{all_mapped, all_permuted, rising_sorted}
 use Rattle.awk_lib.proofs.Rows.{Row}
 use Rattle.awk_lib.proofs.Seams.{no_items, all_append, at_end, one_more}
 
+abbrev Entry : Type 0 → Type 0
+Entry V = List ℕ × Option (Numbered V)
+
 all_at : {X : Type 0} (Q : X → Type 0) (xs : List X) (i : ℕ) (x : X) → slice_get xs i ≡ Some x → AllByRecursion Q xs → Q x
 all_at Q [] i x at h = absurd (true≢false (sym (ap is_some at)))
 all_at Q (y ∷ ys) zero x at h = subst Q (same_Some y x at) h.0
@@ -44,28 +47,28 @@ module _ {V : Type 0} where
   all_under Q t None f = tt
   all_under Q t (Some x) f = (f x, tt)
 
-  other_rows : (key : List ℕ) (es : List (List ℕ × Option (Numbered V))) → AllByRecursion (λ e. bytes_eq key e.0 ≡ false) es → AllByRecursion (λ r. bytes_eq key r.1.0 ≡ false) (rows es)
+  other_rows : (key : List ℕ) (es : List (Entry V)) → AllByRecursion (λ e. bytes_eq key e.0 ≡ false) es → AllByRecursion (λ r. bytes_eq key r.1.0 ≡ false) (rows es)
   other_rows key [] h = tt
   other_rows key (e ∷ es) h =
       all_append (λ r. bytes_eq key r.1.0 ≡ false) (row_under e.0 e.1) (rows es)
       (all_under (λ r. bytes_eq key r.1.0 ≡ false) e.0 e.1 (λ x. h.0)) (other_rows key es h.1)
 
   -- it is not in the map
-  pub no_entry : (key : List ℕ) (es : List (List ℕ × Option (Numbered V))) → lookup (bytes_eq key) es ≡ None → AllByRecursion (λ r. bytes_eq key r.1.0 ≡ false) (rows es)
+  pub no_entry : (key : List ℕ) (es : List (Entry V)) → lookup (bytes_eq key) es ≡ None → AllByRecursion (λ r. bytes_eq key r.1.0 ≡ false) (rows es)
   no_entry key es none = other_rows key es (none_passes_from_lookup (bytes_eq key) es none)
 
   -- or its place is empty
-  pub empty_entry : (key : List ℕ) (es : List (List ℕ × Option (Numbered V))) (i : ℕ) (k : List ℕ) → IsDistinct bytes_eq (keys_of es) → slice_get es i ≡ Some (k, None)
+  pub empty_entry : (key : List ℕ) (es : List (Entry V)) (i : ℕ) (k : List ℕ) → IsDistinct bytes_eq (keys_of es) → slice_get es i ≡ Some (k, None)
       → bytes_eq key k ≡ true → AllByRecursion (λ r. bytes_eq key r.1.0 ≡ false) (rows es)
   empty_entry key [] i k d at hit = tt
   empty_entry key (e ∷ es) zero k d at hit =
       let same : e ≡ (k, None) = same_Some e (k, None) at in
-      let here : key ≡ e.0 = (bytes_eq-Decides key e.0).0 (ap (λ (x : List ℕ × Option (Numbered V)). bytes_eq key x.0) same ∙ hit) in
-      let others = all_mapped (λ (x : List ℕ × Option (Numbered V)). x.0) (λ q. bytes_eq e.0 q ≡ false) es (IsDistinct-head bytes_eq e.0 (keys_of es) d) in
-      subst (λ p. AllByRecursion (λ r. bytes_eq key r.1.0 ≡ false) (row_under e.0 p ++ rows es)) (sym (ap (λ (x : List ℕ × Option (Numbered V)). x.1) same))
+      let here : key ≡ e.0 = (bytes_eq-Decides key e.0).0 (ap (λ (x : Entry V). bytes_eq key x.0) same ∙ hit) in
+      let others = all_mapped (λ (x : Entry V). x.0) (λ q. bytes_eq e.0 q ≡ false) es (IsDistinct-head bytes_eq e.0 (keys_of es) d) in
+      subst (λ p. AllByRecursion (λ r. bytes_eq key r.1.0 ≡ false) (row_under e.0 p ++ rows es)) (sym (ap (λ (x : Entry V). x.1) same))
       (other_rows key es (subst (λ t. AllByRecursion (λ x. bytes_eq t x.0 ≡ false) es) (sym here) others))
   empty_entry key (e ∷ es) (suc i) k d at hit =
-      let others = all_mapped (λ (x : List ℕ × Option (Numbered V)). x.0) (λ q. bytes_eq e.0 q ≡ false) es (IsDistinct-head bytes_eq e.0 (keys_of es) d) in
+      let others = all_mapped (λ (x : Entry V). x.0) (λ q. bytes_eq e.0 q ≡ false) es (IsDistinct-head bytes_eq e.0 (keys_of es) d) in
       let other = all_at (λ x. bytes_eq e.0 x.0 ≡ false) es i (k, None) at others in
       let there : key ≡ k = (bytes_eq-Decides key k).0 hit in
       let miss : bytes_eq key e.0 ≡ false = ap (λ t. bytes_eq t e.0) there ∙ nat_list_eq_equiv.symm k e.0 ∙ other in
@@ -76,26 +79,26 @@ module _ {V : Type 0} where
   -- ---- one place
 
   -- the one that a look-up found
-  pub found_entry : (key : List ℕ) (es : List (List ℕ × Option (Numbered V))) (i : ℕ) → position (bytes_eq key) (keys_of es) ≡ Some i
+  pub found_entry : (key : List ℕ) (es : List (Entry V)) (i : ℕ) → position (bytes_eq key) (keys_of es) ≡ Some i
       → (k : List ℕ) × (p : Option (Numbered V)) × (slice_get es i ≡ Some (k, p)) × (bytes_eq key k ≡ true)
   found_entry key [] i h = absurd (true≢false (sym (ap is_some h)))
   found_entry key (e ∷ es) i h =
       let k = position-Some (bytes_eq key) (keys_of (e ∷ es)) i e.0 h in
       let here : i < length (e ∷ es) = omega (arith, k.0, length-map (e ∷ es) (λ x. x.0)) in
       let x = get_or (e ∷ es) i e in
-      let hit : bytes_eq key x.0 ≡ true = ap (λ q. bytes_eq key q) (sym (get_or-map (λ (x : List ℕ × Option (Numbered V)). x.0) (e ∷ es) i e e.0 here)) ∙ k.1 in
+      let hit : bytes_eq key x.0 ≡ true = ap (λ q. bytes_eq key q) (sym (get_or-map (λ (x : Entry V). x.0) (e ∷ es) i e e.0 here)) ∙ k.1 in
       (x.0, x.1, slice_get-get_or (e ∷ es) i e here, hit)
 
   -- the rows before that of a place and behind it, whatever lies there
-  pub split_rows : (es : List (List ℕ × Option (Numbered V))) (i : ℕ) (k : List ℕ) (p : Option (Numbered V)) → slice_get es i ≡ Some (k, p)
+  pub split_rows : (es : List (Entry V)) (i : ℕ) (k : List ℕ) (p : Option (Numbered V)) → slice_get es i ≡ Some (k, p)
       → (A : List (Row V)) × (B : List (Row V)) × (rows es ≡ A ++ (row_under k p ++ B)) × ((q : Option (Numbered V)) → rows (set_value_at es i q) ≡ A ++ (row_under k q ++ B))
   split_rows [] i k p at = absurd (true≢false (sym (ap is_some at)))
   split_rows (e ∷ es) zero k p at =
       let same : e ≡ (k, p) = same_Some e (k, p) at in (
         [],
         rows es,
-        ap (λ (x : List ℕ × Option (Numbered V)). row_under x.0 x.1 ++ rows es) same,
-        λ q. ap (λ (x : List ℕ × Option (Numbered V)). row_under x.0 q ++ rows es) same,
+        ap (λ (x : Entry V). row_under x.0 x.1 ++ rows es) same,
+        λ q. ap (λ (x : Entry V). row_under x.0 q ++ rows es) same,
       )
   split_rows (e ∷ es) (suc i) k p at =
       let rest = split_rows es i k p at in
@@ -106,14 +109,14 @@ module _ {V : Type 0} where
         λ q. ap (λ t. here ++ t) (rest.3 q) ∙ sym (append_assoc here rest.0 (row_under k q ++ rest.1)),
       )
 
-  pub number_there : (es : List (List ℕ × Option (Numbered V))) (i : ℕ) (k : List ℕ) (x : Numbered V) → slice_get es i ≡ Some (k, Some x) → number_at es i ≡ x.number
+  pub number_there : (es : List (Entry V)) (i : ℕ) (k : List ℕ) (x : Numbered V) → slice_get es i ≡ Some (k, Some x) → number_at es i ≡ x.number
   number_there [] i k x at = absurd (true≢false (sym (ap is_some at)))
-  number_there (e ∷ es) zero k x at = ap (λ (y : List ℕ × Option (Numbered V)). option_map_or (λ z. z.number) y.1 0) (same_Some e (k, Some x) at)
+  number_there (e ∷ es) zero k x at = ap (λ (y : Entry V). option_map_or (λ z. z.number) y.1 0) (same_Some e (k, Some x) at)
   number_there (e ∷ es) (suc i) k x at = number_there es i k x at
 
-  pub value_there : (es : List (List ℕ × Option (Numbered V))) (i : ℕ) (k : List ℕ) (p : Option (Numbered V)) → slice_get es i ≡ Some (k, p) → slice_get (values_of es) i ≡ Some p
+  pub value_there : (es : List (Entry V)) (i : ℕ) (k : List ℕ) (p : Option (Numbered V)) → slice_get es i ≡ Some (k, p) → slice_get (values_of es) i ≡ Some p
   value_there [] i k p at = absurd (true≢false (sym (ap is_some at)))
-  value_there (e ∷ es) zero k p at = ap (λ (y : List ℕ × Option (Numbered V)). Some y.1) (same_Some e (k, p) at)
+  value_there (e ∷ es) zero k p at = ap (λ (y : Entry V). Some y.1) (same_Some e (k, p) at)
   value_there (e ∷ es) (suc i) k p at = value_there es i k p at
 
   -- ---- an element that is added, under a key that has no row
@@ -122,10 +125,10 @@ module _ {V : Type 0} where
     abbrev new_row : Row V
     new_row = (x.number, (k, x.value))
 
-    abbrev with_new : List (List ℕ × Option (Numbered V)) → List (List ℕ × Option (Numbered V))
+    abbrev with_new : List (Entry V) → List (Entry V)
     with_new es = insert_entry bytes_eq es k (Some x)
 
-    pub inserted_rows : (es : List (List ℕ × Option (Numbered V))) → AllByRecursion (λ r. bytes_eq k r.1.0 ≡ false) (rows es) → IsPermutation (rows es ++ new_row ∷ []) (rows (with_new es))
+    pub inserted_rows : (es : List (Entry V)) → AllByRecursion (λ r. bytes_eq k r.1.0 ≡ false) (rows es) → IsPermutation (rows es ++ new_row ∷ []) (rows (with_new es))
     inserted_rows [] h = IsPermutation-refl (new_row ∷ [])
     inserted_rows (e ∷ es) h = by (bytes_eq k e.0) refl e.1 h (inserted_rows es)
       where
@@ -138,7 +141,7 @@ module _ {V : Type 0} where
         by false miss None h rest = rest h
         by false miss (Some y) h rest = IsPermutation-cons (y.number, (e.0, y.value)) (rows es ++ new_row ∷ []) (rows (with_new es)) (rest h.1)
 
-    pub inserted_last : (es : List (List ℕ × Option (Numbered V))) (i : ℕ) → AllByRecursion (λ r. bytes_eq k r.1.0 ≡ false) (rows es) → i ≡ position_or_len (bytes_eq k) (keys_of es)
+    pub inserted_last : (es : List (Entry V)) (i : ℕ) → AllByRecursion (λ r. bytes_eq k r.1.0 ≡ false) (rows es) → i ≡ position_or_len (bytes_eq k) (keys_of es)
         → i + 1 ≡ length (with_new es) → rows (with_new es) ≡ rows es ++ new_row ∷ []
     inserted_last [] i h is last = refl
     inserted_last (e ∷ es) i h is last = by (bytes_eq k e.0) refl e.1 h i is last (inserted_last es)
@@ -157,7 +160,7 @@ module _ {V : Type 0} where
         by false miss (Some y) h zero is last rest = let impossible : ⊥ = omega (arith, is) in absurd impossible
         by false miss (Some y) h (suc i) is last rest = ap (λ l. (y.number, (e.0, y.value)) ∷ l) (rest i h.1 (omega (arith, is)) (omega (arith, last)))
 
-    pub inserted_there : (es : List (List ℕ × Option (Numbered V))) (i : ℕ) → i ≡ position_or_len (bytes_eq k) (keys_of es) → slice_get (with_new es) i ≡ Some (k, Some x)
+    pub inserted_there : (es : List (Entry V)) (i : ℕ) → i ≡ position_or_len (bytes_eq k) (keys_of es) → slice_get (with_new es) i ≡ Some (k, Some x)
     inserted_there [] zero is = refl
     inserted_there [] (suc i) is = let impossible : ⊥ = omega (arith, is) in absurd impossible
     inserted_there (e ∷ es) i is = by (bytes_eq k e.0) refl i is (inserted_there es)
@@ -172,7 +175,7 @@ module _ {V : Type 0} where
 
   -- ---- one place after the other
 
-  rows_append : (es fs : List (List ℕ × Option (Numbered V))) → rows (es ++ fs) ≡ rows es ++ rows fs
+  rows_append : (es fs : List (Entry V)) → rows (es ++ fs) ≡ rows es ++ rows fs
   rows_append [] fs = refl
   rows_append (e ∷ es) fs = ap (λ l. row_under e.0 e.1 ++ l) (rows_append es fs) ∙ sym (append_assoc (row_under e.0 e.1) (rows es) (rows fs))
 
@@ -183,17 +186,17 @@ module _ {V : Type 0} where
       ∙ ap (λ l. rows (map deref_pair es) ++ l) (append-nil (row_under e.0.now e.1.now) ∙ ap (row_under e.0.now) is)
 
   -- the last place goes, and it is empty
-  pub popped_rows : (es fs : List (List ℕ × Option (Numbered V))) (o : Option (List ℕ × Option (Numbered V))) (k : List ℕ) → es ≡ fs ++ option_to_list o → slice_get es (length es - 1) ≡ Some (k, None) → rows fs ≡ rows es
+  pub popped_rows : (es fs : List (Entry V)) (o : Option (Entry V)) (k : List ℕ) → es ≡ fs ++ option_to_list o → slice_get es (length es - 1) ≡ Some (k, None) → rows fs ≡ rows es
   popped_rows es fs None k is at = ap rows (sym (is ∙ append-nil fs))
   popped_rows es fs (Some p) k is at =
       let last : length es - 1 ≡ length fs = omega (arith, ap length is, one_more fs p) in
       let there : slice_get es (length es - 1) ≡ Some p = (λ i. slice_get (is i) (last i)) ∙ at_end fs p (length fs) refl in
-      let empty : p.1 ≡ None = ap (λ (e : List ℕ × Option (Numbered V)). e.1) (same_Some p (k, None) (sym there ∙ at)) in
+      let empty : p.1 ≡ None = ap (λ (e : Entry V). e.1) (same_Some p (k, None) (sym there ∙ at)) in
       sym (ap rows is ∙ rows_append fs (p ∷ []) ∙ ap (λ l. rows fs ++ l) (append-nil (row_under p.0 p.1) ∙ ap (row_under p.0) empty) ∙ append-nil (rows fs))
 
   -- ---- without the empty places
 
-  pub filtered_rows : (es : List (List ℕ × Option (Numbered V))) → rows (filter (λ e. is_some e.1) es) ≡ rows es
+  pub filtered_rows : (es : List (Entry V)) → rows (filter (λ e. is_some e.1) es) ≡ rows es
   filtered_rows [] = refl
   filtered_rows (e ∷ es) = by e.1 (filtered_rows es)
     where
@@ -208,7 +211,7 @@ module _ {V : Type 0} where
   abbrev pair_of : V → List ℕ × Option (Numbered V) → List ℕ × V
   pair_of d e = (e.0, option_map_or (λ x. x.value) e.1 d)
 
-  filled_rows : (d : V) (es : List (List ℕ × Option (Numbered V))) → AllByRecursion (λ e. is_some e.1 ≡ true) es → rows es ≡ map (λ e. (number_of e, pair_of d e)) es
+  filled_rows : (d : V) (es : List (Entry V)) → AllByRecursion (λ e. is_some e.1 ≡ true) es → rows es ≡ map (λ e. (number_of e, pair_of d e)) es
   filled_rows d [] h = refl
   filled_rows d (e ∷ es) h = by e.1 h.0 (filled_rows d es h.1)
     where
@@ -217,12 +220,12 @@ module _ {V : Type 0} where
       by None h rest = absurd (true≢false (sym h))
       by (Some x) h rest = ap (λ l. (x.number, (e.0, x.value)) ∷ l) rest
 
-  numbers_filled : (d : V) (es : List (List ℕ × Option (Numbered V))) → numbers (map (λ e. (number_of e, pair_of d e)) es) ≡ map number_of es
+  numbers_filled : (d : V) (es : List (Entry V)) → numbers (map (λ e. (number_of e, pair_of d e)) es) ≡ map number_of es
   numbers_filled d [] = refl
   numbers_filled d (e ∷ es) = ap (λ l. number_of e ∷ l) (numbers_filled d es)
 
   -- where none is empty, any order of the places is one of the rows; and it rises where they were sorted by their numbers
-  pub sorted_rows : (es fs : List (List ℕ × Option (Numbered V))) → AllByRecursion (λ e. is_some e.1 ≡ true) es → IsPermutation es fs
+  pub sorted_rows : (es fs : List (Entry V)) → AllByRecursion (λ e. is_some e.1 ≡ true) es → IsPermutation es fs
       → IsPermutation (rows es) (rows fs) × (IsSortedByKey (λ e. option_map_or (λ x. x.number) e.1 0) nat_cmp fs → IsDistinct nat_eq (numbers (rows fs)) → AreRising (rows fs))
   sorted_rows [] fs h p = subst (λ l. IsPermutation [] (rows l) × (IsSortedByKey number_of nat_cmp l → IsDistinct nat_eq (numbers (rows l)) → AreRising (rows l))) (sym (no_items fs (length_permutation [] fs p))) (IsPermutation-refl [], λ s d. tt)
   sorted_rows (e ∷ es) fs h p = by e.1 h.0
