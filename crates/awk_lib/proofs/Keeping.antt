@@ -26,7 +26,7 @@ use Rattle.awk_lib.specs.declared.elements.Place.{Place}
 use Rattle.awk_lib.specs.declared.elements.Place.TheVariants.{Dense, Mapped}
 use Rattle.awk_lib.proofs.Digits.{differs}
 use Rattle.awk_lib.proofs.Order.{all_weaker, all_both, all_push, all_permuted}
-use Rattle.awk_lib.proofs.Mapped.{value_there as value_at, split_rows, number_there, inserted_rows, inserted_last, inserted_there}
+use Rattle.awk_lib.proofs.Mapped.{value_at, split_rows, number_there, inserted_rows, inserted_last, inserted_there}
 use Rattle.awk_lib.proofs.Rows.{Row, none_numbered, set_at, set_row, set_at_row, lookup_at, lookup_shown, absent_rows, at_place, length_shown, set_numbered, shown_set, set_none, added, shown_added, moved, shown_moved, gone, put_allowed, put_refused}
 use Rattle.awk_lib.proofs.Seams.{no_items, all_append, all_right, all_without, all_valued, none_lookup, rising_without, inserted, at_seam, at_end, one_more, all_dense, split, dense_push}
 
@@ -240,11 +240,11 @@ module _ {V : Type 0} where
   pub some_count : (es : Elements V) (p : Place) (r : Row V) → Lies es p r → es.count ≡ length (rows_of es) → 0 < es.count
   some_count es p r lies count = let m = placed es p r lies in let l = slice_get_within (rows_of es) m.0 r m.1 in omega (arith, count, l)
 
-  pub removed_kept : (settled now : Bool) (n : ℕ) (es fs : Elements V) (r : Row V) → AreKept settled n es → IsPermutation (rows_of es) (r ∷ rows_of fs) → AreApart fs → fs.count + 1 ≡ es.count
-      → (now ≡ true → AreRising (rows_of fs)) → AreKept now n fs
-  removed_kept settled now n es fs r a permuted apart count rising = record {
+  pub removed_kept : (settled : Bool) (n : ℕ) (es fs : Elements V) (r : Row V) → AreKept settled n es → IsPermutation (rows_of es) (r ∷ rows_of fs) → AreApart fs → fs.count + 1 ≡ es.count
+      → (AreRising (rows_of es) → AreRising (rows_of fs)) → AreKept settled n fs
+  removed_kept settled n es fs r a permuted apart count rising = record {
     apart = apart;
-    numbered = gone settled n (rows_of es) r (rows_of fs) now a.numbered permuted rising;
+    numbered = gone settled n (rows_of es) r (rows_of fs) a.numbered permuted rising;
     count = let fewer = length_permutation (rows_of es) (r ∷ rows_of fs) permuted in let whole = a.count in omega (arith, fewer, whole, count);
   }
 
@@ -310,17 +310,17 @@ module _ {V : Type 0} where
   -- ---- a key that is put into the map
 
   module _ (es fs : Elements V) (x : Row V) (same : fs.dense ≡ es.dense) where
-    pub mapped_added : IsPermutation (mapped_rows es ++ x ∷ []) (mapped_rows fs) → IsPermutation (rows_of es ++ x ∷ []) (rows_of fs)
+    mapped_added : IsPermutation (mapped_rows es ++ x ∷ []) (mapped_rows fs) → IsPermutation (rows_of es ++ x ∷ []) (rows_of fs)
     mapped_added more =
         let D = dense_rows 0 es.dense.places.items in
         let M = mapped_rows es in
         subst (λ l. IsPermutation l (rows_of fs)) (sym (append_assoc D M (x ∷ [])))
         (subst (λ (d : d.Dense V). IsPermutation (D ++ (M ++ x ∷ [])) (dense_rows 0 d.places.items ++ mapped_rows fs)) (sym same) (IsPermutation-append_right D (M ++ x ∷ []) (mapped_rows fs) more))
 
-    pub mapped_last : mapped_rows fs ≡ mapped_rows es ++ x ∷ [] → rows_of fs ≡ rows_of es ++ x ∷ []
+    mapped_last : mapped_rows fs ≡ mapped_rows es ++ x ∷ [] → rows_of fs ≡ rows_of es ++ x ∷ []
     mapped_last more = (λ i. dense_rows 0 (same i).places.items ++ more i) ∙ sym (append_assoc (dense_rows 0 es.dense.places.items) (mapped_rows es) (x ∷ []))
 
-    pub mapped_apart : IsPermutation (mapped_rows es ++ x ∷ []) (mapped_rows fs) → AreApart es → IsOutside (length es.dense.places.items) x.1.0 → AreApart fs
+    mapped_apart : IsPermutation (mapped_rows es ++ x ∷ []) (mapped_rows fs) → AreApart es → IsOutside (length es.dense.places.items) x.1.0 → AreApart fs
     mapped_apart more a o =
         let Q = λ (r : Row V). IsOutside (length es.dense.places.items) r.1.0 in
         apart_from fs (length es.dense.places.items) (ap (λ (d : d.Dense V). length d.places.items) same) a.few (all_permuted Q (mapped_rows es ++ x ∷ []) (mapped_rows fs) more (all_push Q (mapped_rows es) x a.outside o))

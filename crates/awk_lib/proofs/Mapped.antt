@@ -21,16 +21,12 @@ use Rattle.awk_lib.specs.Dense.{row_under}
 use Rattle.awk_lib.specs.Numbering.{numbers, rows, number_at, AreRising}
 use Rattle.awk_lib.specs.declared.dense.Numbered.{Numbered}
 use Rattle.awk_lib.proofs.Order.{all_mapped, all_permuted, rising_sorted}
-use Rattle.awk_lib.proofs.Rows.{Row}
+use Rattle.awk_lib.proofs.Rows.{Row, at_place}
 use Rattle.awk_lib.proofs.Seams.{no_items, all_append, at_end, one_more}
 
+-- a place of the map: its key, and what lies there
 abbrev Entry : Type 0 → Type 0
 Entry V = List ℕ × Option (Numbered V)
-
-all_at : {X : Type 0} (Q : X → Type 0) (xs : List X) (i : ℕ) (x : X) → slice_get xs i ≡ Some x → AllByRecursion Q xs → Q x
-all_at Q [] i x at h = absurd (true≢false (sym (ap is_some at)))
-all_at Q (y ∷ ys) zero x at h = subst Q (same_Some y x at) h.0
-all_at Q (y ∷ ys) (suc i) x at h = all_at Q ys i x at h.1
 
 pub all_filtered : {X : Type 0} (test : X → Bool) (xs : List X) → AllByRecursion (λ x. test x ≡ true) (filter test xs)
 all_filtered test [] = tt
@@ -69,7 +65,7 @@ module _ {V : Type 0} where
       (other_rows key es (subst (λ t. AllByRecursion (λ x. bytes_eq t x.0 ≡ false) es) (sym here) others))
   empty_entry key (e ∷ es) (suc i) k d at hit =
       let others = all_mapped (λ (x : Entry V). x.0) (λ q. bytes_eq e.0 q ≡ false) es (IsDistinct-head bytes_eq e.0 (keys_of es) d) in
-      let other = all_at (λ x. bytes_eq e.0 x.0 ≡ false) es i (k, None) at others in
+      let other = at_place (λ x. bytes_eq e.0 x.0 ≡ false) es i (k, None) at others in
       let there : key ≡ k = (bytes_eq-Decides key k).0 hit in
       let miss : bytes_eq key e.0 ≡ false = ap (λ t. bytes_eq t e.0) there ∙ nat_list_eq_equiv.symm k e.0 ∙ other in
       all_append (λ r. bytes_eq key r.1.0 ≡ false) (row_under e.0 e.1) (rows es)
@@ -114,10 +110,10 @@ module _ {V : Type 0} where
   number_there (e ∷ es) zero k x at = ap (λ (y : Entry V). option_map_or (λ z. z.number) y.1 0) (same_Some e (k, Some x) at)
   number_there (e ∷ es) (suc i) k x at = number_there es i k x at
 
-  pub value_there : (es : List (Entry V)) (i : ℕ) (k : List ℕ) (p : Option (Numbered V)) → slice_get es i ≡ Some (k, p) → slice_get (values_of es) i ≡ Some p
-  value_there [] i k p at = absurd (true≢false (sym (ap is_some at)))
-  value_there (e ∷ es) zero k p at = ap (λ (y : Entry V). Some y.1) (same_Some e (k, p) at)
-  value_there (e ∷ es) (suc i) k p at = value_there es i k p at
+  pub value_at : (es : List (Entry V)) (i : ℕ) (k : List ℕ) (p : Option (Numbered V)) → slice_get es i ≡ Some (k, p) → slice_get (values_of es) i ≡ Some p
+  value_at [] i k p at = absurd (true≢false (sym (ap is_some at)))
+  value_at (e ∷ es) zero k p at = ap (λ (y : Entry V). Some y.1) (same_Some e (k, p) at)
+  value_at (e ∷ es) (suc i) k p at = value_at es i k p at
 
   -- ---- an element that is added, under a key that has no row
 
@@ -205,10 +201,10 @@ module _ {V : Type 0} where
       by None rest = rest
       by (Some x) rest = ap (λ l. (x.number, (e.0, x.value)) ∷ l) rest
 
-  abbrev number_of : List ℕ × Option (Numbered V) → ℕ
+  abbrev number_of : Entry V → ℕ
   number_of e = option_map_or (λ x. x.number) e.1 0
 
-  abbrev pair_of : V → List ℕ × Option (Numbered V) → List ℕ × V
+  abbrev pair_of : V → Entry V → List ℕ × V
   pair_of d e = (e.0, option_map_or (λ x. x.value) e.1 d)
 
   filled_rows : (d : V) (es : List (Entry V)) → AllByRecursion (λ e. is_some e.1 ≡ true) es → rows es ≡ map (λ e. (number_of e, pair_of d e)) es

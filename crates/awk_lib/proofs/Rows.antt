@@ -39,6 +39,11 @@ abbrev unwrap_row : {X : Type 0} → X → Option X → X
 unwrap_row d None = d
 unwrap_row d (Some x) = x
 
+pub at_place : {X : Type 0} (Q : X → Type 0) (xs : List X) (i : ℕ) (x : X) → slice_get xs i ≡ Some x → AllByRecursion Q xs → Q x
+at_place Q [] i x at h = absurd (true≢false (sym (ap is_some at)))
+at_place Q (y ∷ ys) zero x at h = subst Q (ap (λ o. unwrap_row y o) at) h.0
+at_place Q (y ∷ ys) (suc i) x at h = at_place Q ys i x at h.1
+
 -- ---- what `put` answers
 
 pub put_allowed : {V : Type 0} (array : Array V) (key : List ℕ) (v : V) → (has array key || nat_lt (length array) most_elements) ≡ true → put array key v ≡ Ok (with_element array key v)
@@ -85,11 +90,6 @@ module _ {V : Type 0} where
   pub absent_rows : (key : List ℕ) (rs : List (Row V)) → lookup (bytes_eq key) (map (λ r. r.1) rs) ≡ None → AllByRecursion (λ r. bytes_eq key r.1.0 ≡ false) rs
   absent_rows key rs none =
       all_mapped (λ (r : (Row V)). r.1) (λ p. bytes_eq key p.0 ≡ false) rs (none_passes_from_lookup (bytes_eq key) (map (λ r. r.1) rs) none)
-
-  pub at_place : (Q : (Row V) → Type 0) (rs : List (Row V)) (i : ℕ) (r : (Row V)) → slice_get rs i ≡ Some r → AllByRecursion Q rs → Q r
-  at_place Q [] i r at h = absurd (true≢false (sym (ap is_some at)))
-  at_place Q (s ∷ ss) zero r at h = subst Q (ap (λ o. unwrap_row s o) at) h.0
-  at_place Q (s ∷ ss) (suc i) r at h = at_place Q ss i r at h.1
 
   pub texts_permuted : (rs ss : List (Row V)) → IsPermutation rs ss → IsDistinct bytes_eq (texts rs) → IsDistinct bytes_eq (texts ss)
   texts_permuted rs ss p d = IsDistinct-IsPermutation bytes_eq nat_list_eq_equiv.symm (texts rs) (texts ss) (IsPermutation-map (λ r. r.1.0) rs ss p) d
@@ -257,12 +257,12 @@ module _ {V : Type 0} where
       sym (ap (λ l. without (map (λ s. s.1) l) key) (in_order_same rs (r ∷ ss) p a.distinct)
       ∙ without_into key r (in_order ss) e (all_permuted (λ s. bytes_eq key s.1.0 ≡ false) ss (in_order ss) (in_order_permutes ss) others))
 
-  pub gone : (settled : Bool) (n : ℕ) (rs : List (Row V)) (r : (Row V)) (ss : List (Row V)) (now : Bool) → AreNumbered settled n rs → IsPermutation rs (r ∷ ss) → (now ≡ true → AreRising ss) → AreNumbered now n ss
-  gone settled n rs r ss now a p rising = record {
+  pub gone : (settled : Bool) (n : ℕ) (rs : List (Row V)) (r : (Row V)) (ss : List (Row V)) → AreNumbered settled n rs → IsPermutation rs (r ∷ ss) → (AreRising rs → AreRising ss) → AreNumbered settled n ss
+  gone settled n rs r ss a p rising = record {
     below = (all_permuted (λ r. r.0 < n) rs (r ∷ ss) p a.below).1;
     distinct = IsDistinct-tail nat_eq r.0 (numbers ss) (numbers_permuted rs (r ∷ ss) p a.distinct);
     keys = IsDistinct-tail bytes_eq r.1.0 (texts ss) (texts_permuted rs (r ∷ ss) p a.keys);
-    rising = rising;
+    rising = λ e. rising (a.rising e);
   }
 
   -- ---- the order of the numbers

@@ -39,7 +39,7 @@ pub(crate) struct Added {
 }
 
 /// The elements: those of small whole numbers in the dense part, and the others in the map. A removed
-/// one leaves its place empty: in the map its key stays, until most of the map's places are empty.
+/// one leaves its place empty: in the map its key stays, until the map is compacted.
 ///
 /// No element of the map has a place in the dense part.
 #[derive(Drop)]
@@ -72,10 +72,9 @@ impl<V> Elements<V> {
 
     /// Whether the key has the place in the map, which may be empty. Takes no memory.
     fn is_at(&self, i: usize, key: &[u8]) -> bool
-        ensures there { result ≡ true → (k : _) × (p : _) × (slice_get self.now.map.entries i ≡ Some (k, p)) × (bytes_eq key.now k ≡ true) }
-        ensures unique { IsDistinct bytes_eq (keys_of self.now.map.entries) }
+        ensures { result ≡ true → (k : _) × (p : _) × (slice_get self.now.map.entries i ≡ Some (k, p)) × (bytes_eq key.now k ≡ true) }
     {
-        match self.map.as_slice().get_index(i) {
+        match self.map.get_index(i) {
             Some((there, _)) => is_same(key, there.bytes()),
             None => false,
         }
@@ -380,8 +379,8 @@ impl<V: Drop> Elements<V> {
         })
     }
 
-    /// Removes the element at a place of the map, and closes up the places where the last ones or most
-    /// of them are empty.
+    /// Removes the element at a place of the map. Where the last places are empty they go, and where
+    /// there are fewer elements than half of the places the map is compacted.
     fn remove_mapped(&mut self, i: usize)
         requires { (k : _) × (p : _) × (slice_get self.old.map.entries i ≡ Some (k, p)) }
         ensures rows { mapped_rows self.new ≡ rows (set_value_at self.old.map.entries i None) }

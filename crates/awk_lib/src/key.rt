@@ -72,7 +72,7 @@ pub(crate) fn texts_of(keys: Vec<Key>) -> Result<Vec<Octets>, Fault>
 }
 
 impl PartialEq for Key {
-    ghost eq = { λ x y. bytes_eq x y };
+    ghost eq = { bytes_eq };
 
     ghost laws = { Cmp.partial_equiv_from_equiv nat_list_eq_equiv };
 

@@ -18,16 +18,14 @@ remove-requires-clause-some g c =
 pub invariant_of-self : goal.invariant_of-self
 invariant_of-self g c =
     let h = c.in-Some.ensures.some in
-    let a = c.self.invariant in
-    let settled = c.self.inside.settled in
-    removed_kept settled settled c.self.inside.next c.self.inside.elements c.remove.new.self h.0 a (c.remove.ensures.gone h.0 h.1) c.remove.ensures.apart c.remove.ensures.count (λ e. c.remove.ensures.rising (a.numbered.rising e))
+    let now = c.remove in
+    removed_kept c.self.inside.settled c.self.inside.next c.self.inside.elements now.new.self h.0 c.self.invariant (now.ensures.gone h.0 h.1) now.ensures.apart now.ensures.count now.ensures.rising
 
 pub invariant_of-self-else-self-eq0 : goal.invariant_of-self-else-self-eq0
 invariant_of-self-else-self-eq0 g c =
     let h = c.in-Some.ensures.some in
-    let a = c.self.invariant in
-    let settled = c.self.inside.settled in
-    removed_kept settled settled c.self.inside.next c.self.inside.elements c.remove.new.self h.0 a (c.remove.ensures.gone h.0 h.1) c.remove.ensures.apart c.remove.ensures.count (λ e. c.remove.ensures.rising (a.numbered.rising e))
+    let now = c.remove in
+    removed_kept c.self.inside.settled c.self.inside.next c.self.inside.elements now.new.self h.0 c.self.invariant (now.ensures.gone h.0 h.1) now.ensures.apart now.ensures.count now.ensures.rising
 
 pub returns-then-self-eq0 : goal.returns-then-self-eq0
 returns-then-self-eq0 g c =
