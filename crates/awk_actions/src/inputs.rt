@@ -1,31 +1,24 @@
 // getline in its forms, `close` and `system`.
-ghost use Rattle.std.specs.Prelude.{◌≡◌, None, IfSome};
 ghost use Rattle.awk_asks.specs.Tasks.{Owns};
 ghost use Rattle.awk_machine.specs.Forms.{value};
 ghost use Rattle.awk_machine.specs.Pieces.{give};
 ghost use Rattle.awk_program.specs.Program as p;
 ghost use Rattle.awk_program.specs.View.{view, view_pipes, view_target};
 ghost use Rattle.awk_tasks.specs.Wholes.{names_in};
-ghost use Rattle.awk_text.specs.Values.{text_of};
-ghost use Rattle.awk_text.specs.declared.value.Value.{Value};
-ghost use Rattle.awk_forms.specs.AtHand.{IsThere};
-ghost use Rattle.awk_records.specs.Inputs.{IsFileLine};
 ghost use Rattle.awk_actions.specs.Runs.{Does};
 
 use crate::context::{Context, Run};
 use crate::expressions::value;
 use crate::targets::target_of;
 use awk_asks::halt::Halt;
-use awk_asks::streams::Streams;
 use awk_asks::{closing, requests};
 use awk_forms::at_hand::{MOST_LEVELS, at_hand};
+use awk_lent::lent::Lent;
 use awk_program::{Expr, Piped, Target};
 use awk_records::counted::{Counted, set_record};
-use awk_records::getline::{file_line, getline_file, getline_pipe};
+use awk_records::getline::{file_record, getline_pipe};
 use awk_records::main_input::getline_main;
-use awk_store::Store;
 use awk_tasks::values::into_text;
-use awk_text::octets::Octets;
 use awk_text::place::Place;
 use awk_text::value::Value;
 use box_world::world::World;
@@ -56,15 +49,6 @@ pub fn getline<W: World>(
     )
 }
 
-/// The next record of the file that the expression names, where its name is at hand, and the record is held whole.
-fn held_line(store: &Store, streams: &mut Streams, x: &Expr) -> Option<Octets>
-    ensures some { IfSome result (λ text. (name : Value) × IsThere (λ names. view names x.now) store.now name × IsFileLine (text_of name) store.now streams.old text streams.new) }
-    ensures none { result ≡ None → streams.new ≡ streams.old }
-{
-    let name = at_hand(store, x, MOST_LEVELS)?;
-    file_line(name, store, streams)
-}
-
 /// `getline target < file`
 #[cycle(run)]
 pub fn from_file<W: World>(
@@ -81,28 +65,33 @@ pub fn from_file<W: World>(
         (run.old.store, run.old.streams) world.old result (run.new.store, run.new.streams) world.new }
 {
     let to = target_of(cx, target, level, run, world)?;
-    if let Some(line) = held_line(&run.store, &mut run.streams, x) {
+    if let Some(name) = at_hand(&run.store, x, MOST_LEVELS) {
+        let answer = file_record(cx.alloc, place, name, &run.store, &mut run.streams, world)?;
         return set_record(
             cx.alloc,
             &mut run.store,
             place,
             to,
             Counted::Nothing,
-            Value::Input(line),
+            answer,
         );
     }
     let name = value(cx, x, level, run, world)?;
-    let Ok(file) = into_text(cx.alloc, name) else {
-        return Err(Halt::Memory);
-    };
-    getline_file(
+    let answer = file_record(
         cx.alloc,
         place,
-        to,
-        file,
-        &mut run.store,
+        Lent::of(&name),
+        &run.store,
         &mut run.streams,
         world,
+    )?;
+    set_record(
+        cx.alloc,
+        &mut run.store,
+        place,
+        to,
+        Counted::Nothing,
+        answer,
     )
 }
 
@@ -123,14 +112,11 @@ pub fn from_commands<W: World>(
     let mut so_far = value(cx, x, level, run, world)?;
     for next in xs {
         let to = target_of(cx, &next.target, level, run, world)?;
-        let Ok(command) = into_text(cx.alloc, so_far) else {
-            return Err(Halt::Memory);
-        };
         so_far = getline_pipe(
             cx.alloc,
             next.place,
             to,
-            command,
+            Lent::of(&so_far),
             &mut run.store,
             &mut run.streams,
             world,
@@ -157,7 +143,7 @@ pub fn close<W: World>(
     let Ok(name) = into_text(cx.alloc, operand) else {
         return Err(Halt::Memory);
     };
-    closing::close(place, name.into_bytes(), &mut run.streams, world)
+    closing::close(place, name.bytes(), &mut run.streams, world)
 }
 
 /// `system ( command )`

@@ -6,30 +6,30 @@ use Rattle.std.specs.Map.{lookup, remove_entry, set_value}
 use Rattle.indexmap.specs.IndexMap.{insert_entry}
 use Rattle.box_world.specs.Events.{Class, Stream, is_named, find_stream}
 use Rattle.std.specs.Prelude.{Result, Ok, Err, OnOk, IfOk, IfErr, IsOk}
-use Rattle.awk_asks.specs.contracts.streams.NamePartialEq.TheImpl.{eq-value}
-use Rattle.awk_asks.specs.contracts.streams.SoughtEquivalentName.TheImpl.{equivalent-value}
-use Rattle.awk_asks.specs.declared.streams.Sought.{Sought}
+use Rattle.awk_asks.specs.contracts.streams.KeptNamePartialEq.TheImpl.{eq-value}
+use Rattle.awk_asks.specs.contracts.streams.NameEquivalentKeptName.TheImpl.{equivalent-value}
 use Rattle.awk_asks.specs.declared.streams.Name.{Name}
+use Rattle.awk_asks.specs.declared.streams.KeptName.{KeptName}
 use Rattle.awk_asks.specs.declared.streams.Open.{Open}
 use Rattle.awk_fields.specs.Takes.{Input}
 use Rattle.awk_asks.specs.Tables.{Table, kind, entry_of, entries_without, find_input, with_input}
 
 -- the table of these entries
-abbrev table_of : List (Name × Open) → Input → ℕ → Table
+abbrev table_of : List (KeptName × Open) → Input → ℕ → Table
 table_of es input room = record { entries = map entry_of es; input = input; room = room }
 
-pub table_same : (input : Input) (xs ys : List (Name × Open)) (m n : ℕ) → xs ≡ ys → m ≡ n → table_of xs input m ≡ table_of ys input n
+pub table_same : (input : Input) (xs ys : List (KeptName × Open)) (m n : ℕ) → xs ≡ ys → m ≡ n → table_of xs input m ≡ table_of ys input n
 table_same input xs ys m n e f = ap (λ l. table_of l input m) e ∙ ap (table_of ys input) f
 
 -- a test of names by class and text
-abbrev pub IsTest : (Name → Bool) → Class → List ℕ → Type 0
-IsTest test c text = (e : Name × Open) → test e.0 ≡ is_named c text (entry_of e).stream
+abbrev pub IsTest : (KeptName → Bool) → Class → List ℕ → Type 0
+IsTest test c text = (e : KeptName × Open) → test e.0 ≡ is_named c text (entry_of e).stream
 
-abbrev pub streams_of : List (Name × Open) → List Stream
+abbrev pub streams_of : List (KeptName × Open) → List Stream
 streams_of es = map (λ e. e.stream) (map entry_of es)
 
-module _ (test : Name → Bool) (c : Class) (text : List ℕ) (is : IsTest test c text) where
-  pub find-entries : (es : List (Name × Open)) → find_stream c text (streams_of es) ≡ option_map (λ o. o.number) (lookup test es)
+module _ (test : KeptName → Bool) (c : Class) (text : List ℕ) (is : IsTest test c text) where
+  pub find-entries : (es : List (KeptName × Open)) → find_stream c text (streams_of es) ≡ option_map (λ o. o.number) (lookup test es)
   find-entries [] = refl
   find-entries (e ∷ es) = rw (sym (is e)) (by (test e.0) (find-entries es))
     where
@@ -38,7 +38,7 @@ module _ (test : Name → Bool) (c : Class) (text : List ℕ) (is : IsTest test 
       by true rest = refl
       by false rest = rest
 
-  pub input-entries : (es : List (Name × Open)) → find_input c text (map entry_of es) ≡ option_map (λ o. o.reader) (lookup test es)
+  pub input-entries : (es : List (KeptName × Open)) → find_input c text (map entry_of es) ≡ option_map (λ o. o.reader) (lookup test es)
   input-entries [] = refl
   input-entries (e ∷ es) = rw (sym (is e)) (by (test e.0) (input-entries es))
     where
@@ -47,7 +47,7 @@ module _ (test : Name → Bool) (c : Class) (text : List ℕ) (is : IsTest test 
       by true rest = refl
       by false rest = rest
 
-  pub without-entries : (es : List (Name × Open)) → entries_without c text (map entry_of es) ≡ map entry_of (remove_entry test es)
+  pub without-entries : (es : List (KeptName × Open)) → entries_without c text (map entry_of es) ≡ map entry_of (remove_entry test es)
   without-entries [] = refl
   without-entries (e ∷ es) = rw (sym (is e)) (by (test e.0) (without-entries es))
     where
@@ -57,8 +57,8 @@ module _ (test : Name → Bool) (c : Class) (text : List ℕ) (is : IsTest test 
       by false rest = ap (λ l. entry_of e ∷ l) rest
 
 -- an entry whose reader is changed
-module _ (test : Name → Bool) (c : Class) (text : List ℕ) (is : IsTest test c text) (change : Input → Input) where
-  pub with_input-entries : (es : List (Name × Open)) (o : Open) → lookup test es ≡ Some o → with_input c text change (map entry_of es) ≡ map entry_of (set_value test es (record o { reader = change o.reader }))
+module _ (test : KeptName → Bool) (c : Class) (text : List ℕ) (is : IsTest test c text) (change : Input → Input) where
+  pub with_input-entries : (es : List (KeptName × Open)) (o : Open) → lookup test es ≡ Some o → with_input c text change (map entry_of es) ≡ map entry_of (set_value test es (record o { reader = change o.reader }))
   with_input-entries [] o h = refl
   with_input-entries (e ∷ es) o h = rw (sym (is e)) (by (test e.0) h (with_input-entries es o))
     where
@@ -68,7 +68,7 @@ module _ (test : Name → Bool) (c : Class) (text : List ℕ) (is : IsTest test 
       by true p rest = let q : o ≡ e.1 = cc in rw q refl
       by false p rest = ap (λ l. entry_of e ∷ l) (rest p)
 
-  pub with_input-absent : (es : List (Name × Open)) → lookup test es ≡ None → with_input c text change (map entry_of es) ≡ map entry_of es
+  pub with_input-absent : (es : List (KeptName × Open)) → lookup test es ≡ None → with_input c text change (map entry_of es) ≡ map entry_of es
   with_input-absent [] h = refl
   with_input-absent (e ∷ es) h = rw (sym (is e)) (by (test e.0) h (with_input-absent es))
     where
@@ -78,7 +78,7 @@ module _ (test : Name → Bool) (c : Class) (text : List ℕ) (is : IsTest test 
       by false p rest = ap (λ l. entry_of e ∷ l) (rest p)
 
 -- an entry that is put where it is stays
-pub set_same : (test : Name → Bool) (es : List (Name × Open)) (o : Open) → lookup test es ≡ Some o → set_value test es o ≡ es
+pub set_same : (test : KeptName → Bool) (es : List (KeptName × Open)) (o : Open) → lookup test es ≡ Some o → set_value test es o ≡ es
 set_same test [] o h = refl
 set_same test (e ∷ es) o h = by (test e.0) h (set_same test es o)
   where
@@ -87,7 +87,7 @@ set_same test (e ∷ es) o h = by (test e.0) h (set_same test es o)
     by false p rest = ap (λ l. e ∷ l) (rest p)
 
 -- a name that is not there goes last
-pub insert-entries : (eq : Name → Name → Bool) (name : Name) (o : Open) (es : List (Name × Open)) → lookup (eq name) es ≡ None →
+pub insert-entries : (eq : KeptName → KeptName → Bool) (name : KeptName) (o : Open) (es : List (KeptName × Open)) → lookup (eq name) es ≡ None →
     map entry_of (insert_entry eq es name o) ≡ map entry_of es ++ entry_of (name, o) ∷ []
 insert-entries eq name o [] e = refl
 insert-entries eq name o (x ∷ xs) e = by (eq name x.0) e (insert-entries eq name o xs)
@@ -99,11 +99,11 @@ insert-entries eq name o (x ∷ xs) e = by (eq name x.0) e (insert-entries eq na
 
 -- ---- names
 
-pub name_test : (n : Name) → IsTest (eq-value.it n) (kind n.class) n.text.items
-name_test n e = refl
+pub kept_test : (n : KeptName) → IsTest (eq-value.it n) (kind n.class) n.text.items
+kept_test n e = refl
 
-pub sought_test : (q : Sought) → IsTest (equivalent-value.it q) (kind q.class) q.text.now
-sought_test q e = refl
+pub name_test : (q : Name) → IsTest (equivalent-value.it q) (kind q.class) q.text.now
+name_test q e = refl
 
 -- ---- results
 

@@ -24,7 +24,7 @@ use Rattle.awk_asks.proofs.Lives.{number_live, some_at}
 use Rattle.awk_asks.proofs.MoreSteps.{gives, reads_so}
 
 -- the stream is open, and its record is taken
-pub line_fetched : {W : Type 0} {follows : W → List Call → W → Type 0} {has_stopped : W → Bool} {stops : W → List Call → Ask → W → Type 0} (open_numbers : W → List ℕ) (laws : Laws (Led follows has_stopped) (Ended follows stops))
+line_fetched : {W : Type 0} {follows : W → List Call → W → Type 0} {has_stopped : W → Bool} {stops : W → List Call → Ask → W → Type 0} (open_numbers : W → List ℕ) (laws : Laws (Led follows has_stopped) (Ended follows stops))
     (opens : (v w : W) (cs : List Call) → follows v cs w → open_numbers w ≡ open_after cs (open_numbers v)) (g : Given) (s : State) (place : Place) (class : Class) (name text rs : Text) → own_text s (codes "RS") ≡ rs → (old new : Table) (w : W) →
     IsLine (Named class name) rs old text new → Does follows has_stopped stops g s (Do (Fetch place class name)) give old w (Ok (v.Input text)) new w
 line_fetched {follows = follows} {has_stopped = has_stopped} {stops = stops} open_numbers laws opens g s place class name text rs is old new w x =
@@ -43,4 +43,4 @@ line_at_once {follows = follows} {has_stopped = has_stopped} {stops = stops} ope
     let read = gives (Led follows has_stopped) (Ended follows stops) g s place (Standard 0) rs is old new x.before x.live (reads_so g s place (Standard 0)) (at_once _ old w) (found.Record text) x.first in
     record { plays = λ first k hid c a. read.plays first k hid c a }
 line_at_once open_numbers laws opens g s place (source.Stream name) text rs is old new w x =
-    line_fetched open_numbers laws opens g s place (kind name.class) name.text.items text rs is old new w x
+    line_fetched open_numbers laws opens g s place (kind name.class) name.text.now text rs is old new w x

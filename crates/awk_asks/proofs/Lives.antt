@@ -61,7 +61,7 @@ live_in (Named d t) table taken c live a = ap (λ ss. is_some (find_stream d t s
 pub next_duty : (numbers : List ℕ) (s : Source) (number : ℕ) (table : Table) → IsNumber (key_of s) number table → Owns numbers table → IsStream numbers number
 next_duty numbers source.Standard number table is owns = inl (omega (arith, is))
 next_duty numbers (source.Stream name) number table is owns =
-    let one = found_once (kind name.class) name.text.items (open_of table) number is in
+    let one = found_once (kind name.class) name.text.now (open_of table) number is in
     let all = owns number in
     inr (among_all number numbers (omega (arith, one, all)))
 
@@ -103,12 +103,12 @@ standard_is i table h = some_is table.input i h
 -- the table with this held unread of a stream
 abbrev pub table_with : Source → Input → Table → Table
 table_with source.Standard i table = record table { input = i }
-table_with (source.Stream name) i table = record table { entries = with_input (kind name.class) name.text.items (λ old. i) table.entries }
+table_with (source.Stream name) i table = record table { entries = with_input (kind name.class) name.text.now (λ old. i) table.entries }
 
 pub read_with : (s : Source) (i before : Input) (table : Table) → input_at (key_of s) table ≡ Some before → IsReadAt (key_of s) i table (table_with s i table)
 read_with source.Standard i before table h = read_standard i table (record table { input = i }) refl refl
 read_with (source.Stream name) i before table h =
-    read_at (kind name.class) name.text.items (λ old. i) before table (record table { entries = with_input (kind name.class) name.text.items (λ old. i) table.entries }) h refl refl
+    read_at (kind name.class) name.text.now (λ old. i) before table (record table { entries = with_input (kind name.class) name.text.now (λ old. i) table.entries }) h refl refl
 
 -- ---- the same is held as before
 

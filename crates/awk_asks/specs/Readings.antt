@@ -30,7 +30,7 @@ use Rattle.awk_asks.specs.Tasks.{IsReadAt, IsSame, beside, input_at}
 -- the key of a stream that is read
 abbrev pub key_of : Source → Key
 key_of source.Standard = Standard 0
-key_of (source.Stream name) = Named (kind name.class) name.text.items
+key_of (source.Stream name) = Named (kind name.class) name.text.now
 
 -- it stands open
 abbrev pub IsLive : Key → Table → Type 0

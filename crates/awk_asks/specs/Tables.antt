@@ -7,7 +7,7 @@ use Rattle.awk_fields.specs.Takes.{Input, Takes}
 use Rattle.box_world.specs.Events.{Class, OperandFile, InputFile, InputCommand, OutputFile, OutputCommand, Stream, is_named}
 use Rattle.awk_asks.specs.declared.streams.Class as code
 use Rattle.awk_asks.specs.declared.streams.Class.TheVariants as class
-use Rattle.awk_asks.specs.declared.streams.Name.{Name}
+use Rattle.awk_asks.specs.declared.streams.KeptName.{KeptName}
 use Rattle.awk_asks.specs.declared.streams.Open.{Open}
 
 -- a class, as requests have it
@@ -29,7 +29,7 @@ pub record Table : Type 0 where
   pub input : Input
   pub room : ℕ
 
-abbrev pub entry_of : Name × Open → Entry
+abbrev pub entry_of : KeptName × Open → Entry
 entry_of e = record { stream = record { class = kind e.0.class; text = e.0.text.items; number = e.1.number }; input = e.1.reader }
 
 abbrev pub open_of : Table → List Stream

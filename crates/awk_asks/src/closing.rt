@@ -11,7 +11,7 @@ ghost use Rattle.awk_asks.specs.Tasks.{Does, Owns, closing};
 
 use crate::halt::Halt;
 use crate::requests::request;
-use crate::streams::{Class, Name, Streams};
+use crate::streams::{Name, Streams};
 use awk_text::place::Place;
 use awk_text::value::Value;
 use box_world::ask::{Reply, Request};
@@ -79,24 +79,19 @@ fn shut<W: World>(place: Place, number: u32, world: &mut W) -> Result<i64, Halt>
 /// status that is not 0; -1 where none was open.
 pub fn close<W: World>(
     place: Place,
-    text: Vec<u8>,
+    text: &[u8],
     streams: &mut Streams,
     world: &mut W,
 ) -> Result<Value, Halt>
     requires { Owns (W.open_numbers world.old) streams.old }
     ensures task { (g : Given) (s : State)
-        → Does W.follows W.has_stopped W.stops g s (Do (Close place text.items None)) give streams.old world.old result streams.new world.new }
+        → Does W.follows W.has_stopped W.stops g s (Do (Close place text.now None)) give streams.old world.old result streams.new world.new }
     ensures owns { Owns (W.open_numbers world.new) streams.new }
 {
-    let mut name = Name {
-        class: Class::InputFile,
-        text,
-    };
     let mut answer = None;
-    while let Some((class, number)) = streams.first_of(name.text.as_slice()) {
+    while let Some((class, number)) = streams.first_of(text) {
         let status = shut(place, number, world)?;
-        name.class = class;
-        streams.remove(&name);
+        streams.remove(&Name { class, text });
         answer = Some(first_status(answer, status));
     }
     Ok(answer_or(answer))

@@ -15,7 +15,7 @@ use crate::halt::Halt;
 use crate::inputs::{Source, finish, number, push, take};
 use crate::opening::open_input;
 use crate::requests::request;
-use crate::streams::{Class, Name, Streams};
+use crate::streams::{Name, Streams};
 use awk_fields::reader::Taken;
 use awk_text::Memory;
 use awk_text::fault::Fault;
@@ -58,7 +58,7 @@ fn halted(place: Place, fault: Fault) -> Halt
 /// The first record of what is held unread, or the end; `None` where more is to come.
 fn first(
     place: Place,
-    source: &Source,
+    source: &Source<'_>,
     rs: &[u8],
     streams: &mut Streams,
 ) -> Result<Option<Found>, Halt>
@@ -86,45 +86,36 @@ pub fn take_standard_line(rs: &[u8], streams: &mut Streams, room: &mut Vec<u8>) 
 /// The same of a stream that is opened. It stands out of line, so that reading the standard input stays short.
 #[inline(never)]
 pub fn take_line(
-    class: Class,
-    name: &[u8],
+    name: &Name<'_>,
     rs: &[u8],
     streams: &mut Streams,
     room: &mut Vec<u8>,
 ) -> bool
-    ensures taken { result ≡ true → IsLine (Named (kind class) name.now) rs.now streams.old room.new.items streams.new }
+    ensures taken { result ≡ true → IsLine (Named (kind name.now.class) name.now.text.now) rs.now streams.old room.new.items streams.new }
     ensures not_taken { result ≡ false → streams.new ≡ streams.old }
 {
-    streams.take_line(class, name, rs, room)
+    streams.take_line(name, rs, room)
 }
 
-/// The first record of what is held unread of a stream that is opened, where it needs no other look; `None` where it does, or
-/// where the stream is not open.
-pub fn next_line(class: Class, name: &[u8], rs: &[u8], streams: &mut Streams) -> Option<Octets>
-    ensures some { IfSome result (λ text. IsLine (Named (kind class) name.now) rs.now streams.old text streams.new) }
+/// The first record of what is held unread, where it needs no other look; `None` where it does, or where the stream is not open.
+/// Of the standard input `record` says what there is.
+fn held_line(source: &Source<'_>, rs: &[u8], streams: &mut Streams) -> Option<Octets>
+    ensures some { IfSome result (λ text. IsLine (key_of source.now) rs.now streams.old text streams.new) }
     ensures none { result ≡ None → streams.new ≡ streams.old }
 {
+    let Source::Stream(name) = source else {
+        return None;
+    };
     let mut room = streams.take_room();
-    if take_line(class, name, rs, streams, &mut room) {
+    if take_line(name, rs, streams, &mut room) {
         return Some(Octets::new(room));
     }
     streams.keep_room(room);
     None
 }
 
-/// The same of whichever stream; of the standard input `record` says what there is.
-fn held_line(source: &Source, rs: &[u8], streams: &mut Streams) -> Option<Octets>
-    ensures some { IfSome result (λ text. IsLine (key_of source.now) rs.now streams.old text streams.new) }
-    ensures none { result ≡ None → streams.new ≡ streams.old }
-{
-    match source {
-        Source::Standard => None,
-        Source::Stream(name) => next_line(name.class, name.text.as_slice(), rs, streams),
-    }
-}
-
 /// Keeps what came, and answers whether the reading goes on: it does not where it has failed.
-fn receive(streams: &mut Streams, source: &Source, reply: &Reply) -> Result<bool, Memory>
+fn receive(streams: &mut Streams, source: &Source<'_>, reply: &Reply) -> Result<bool, Memory>
     requires { GoesOn (key_of source.now) streams.old }
     ensures ok { IfOk result (λ on. Holds (key_of source.now) streams.old (λ i. Received (key_of source.now) streams.old streams.new i reply.now on)) }
     ensures same { OnErr result (IsSame streams.old streams.new) }
@@ -146,7 +137,7 @@ fn receive(streams: &mut Streams, source: &Source, reply: &Reply) -> Result<bool
 /// Asks for more of a stream of which no record is whole, and answers whether the reading goes on.
 fn more<W: World>(
     place: Place,
-    source: &Source,
+    source: &Source<'_>,
     streams: &mut Streams,
     world: &mut W,
 ) -> Result<bool, Halt>
@@ -171,7 +162,7 @@ fn more<W: World>(
 /// as it is now. What is unread stays for the next one.
 pub fn record<W: World>(
     place: Place,
-    source: &Source,
+    source: &Source<'_>,
     rs: &[u8],
     streams: &mut Streams,
     world: &mut W,
@@ -208,7 +199,7 @@ fn read_value(found: Found) -> Value
 /// can't be read.
 pub fn read<W: World>(
     place: Place,
-    source: &Source,
+    source: &Source<'_>,
     rs: &[u8],
     streams: &mut Streams,
     world: &mut W,
@@ -223,44 +214,28 @@ pub fn read<W: World>(
     Ok(read_value(found))
 }
 
-fn copied(alloc: Global, name: &Name) -> Result<Name, Memory>
-    ensures class { IfOk result (λ x. x.class ≡ name.now.class) }
-    ensures text { IfOk result (λ x. x.text.items ≡ name.now.text.items) }
-{
-    Ok(Name {
-        class: name.class,
-        text: Vec::from_slice(alloc, name.text.as_slice())?,
-    })
-}
-
 /// Opens a stream that is to be read, unless it is open, and answers whether it is open now.
 fn open_named<W: World>(
     alloc: Global,
     place: Place,
-    name: &Name,
+    name: &Name<'_>,
     streams: &mut Streams,
     world: &mut W,
 ) -> Result<bool, Halt>
     requires { Owns (W.open_numbers world.old) streams.old }
     ensures task { (g : Given) (s : State) → Does W.follows W.has_stopped W.stops g s
-        (Do (machine.Fetch place (kind name.now.class) name.now.text.items)) (read_further place (Named (kind name.now.class) name.now.text.items)) streams.old world.old result streams.new world.new }
-    ensures live { IfOk result (λ on. on ≡ true → IsLive (Named (kind name.now.class) name.now.text.items) streams.new) }
+        (Do (machine.Fetch place (kind name.now.class) name.now.text.now)) (read_further place (Named (kind name.now.class) name.now.text.now)) streams.old world.old result streams.new world.new }
+    ensures live { IfOk result (λ on. on ≡ true → IsLive (Named (kind name.now.class) name.now.text.now) streams.new) }
     ensures owns { Owns (W.open_numbers world.new) streams.new }
 {
-    if streams.number(name).is_some() {
-        return Ok(true);
-    }
-    let Ok(copy) = copied(alloc, name) else {
-        return Err(Halt::Memory);
-    };
-    let found = open_input(alloc, place, copy, streams, world)?;
+    let found = open_input(alloc, place, name, streams, world)?;
     Ok(found.is_some())
 }
 
 fn open_source<W: World>(
     alloc: Global,
     place: Place,
-    source: &Source,
+    source: &Source<'_>,
     streams: &mut Streams,
     world: &mut W,
 ) -> Result<bool, Halt>
@@ -280,7 +255,7 @@ fn open_source<W: World>(
 pub fn fetch<W: World>(
     alloc: Global,
     place: Place,
-    source: &Source,
+    source: &Source<'_>,
     rs: &[u8],
     streams: &mut Streams,
     world: &mut W,

@@ -9,15 +9,15 @@ use crate::streams::{Name, Streams};
 use awk_fields::reader::Taken;
 use awk_text::fault::Fault;
 
-/// A stream that is read: the standard input, or one that is opened.
-#[derive(Drop)]
-pub enum Source {
+/// A stream that is read: the standard input, or one that is opened, whose name is lent.
+#[derive(Clone, Copy, Drop)]
+pub enum Source<'a> {
     Standard,
-    Stream(Name),
+    Stream(Name<'a>),
 }
 
 /// The number of a stream that stands open. Takes no memory.
-pub fn number(streams: &Streams, source: &Source) -> u32
+pub fn number(streams: &Streams, source: &Source<'_>) -> u32
     requires { IsLive (key_of source.now) streams.now }
     ensures { IsNumber (key_of source.now) result streams.now }
 {
@@ -28,7 +28,7 @@ pub fn number(streams: &Streams, source: &Source) -> u32
 }
 
 /// Adds the next bytes of a stream that has not ended. `Memory` changes nothing.
-pub fn push(streams: &mut Streams, source: &Source, bytes: &[u8]) -> Result<(), Fault>
+pub fn push(streams: &mut Streams, source: &Source<'_>, bytes: &[u8]) -> Result<(), Fault>
     requires { GoesOn (key_of source.now) streams.old }
     ensures ok { OnOk result (Holds (key_of source.now) streams.old
         (λ i. IsReadAt (key_of source.now) (record { unread = i.unread ++ bytes.now; ended = false }) streams.old streams.new)) }
@@ -43,7 +43,7 @@ pub fn push(streams: &mut Streams, source: &Source, bytes: &[u8]) -> Result<(), 
 
 /// The first record of what is held unread, which is taken; see `Reader::take`. Where it fails,
 /// nothing was taken.
-pub fn take(streams: &mut Streams, source: &Source, rs: &[u8]) -> Result<Taken, Fault>
+pub fn take(streams: &mut Streams, source: &Source<'_>, rs: &[u8]) -> Result<Taken, Fault>
     ensures ok { IfOk result (λ taken. Holds (key_of source.now) streams.old
         (λ i. (j : Input) × Takes (head rs.now i.unread i.ended) taken i j × IsReadAt (key_of source.now) j streams.old streams.new)) }
     ensures err { OnErr result (IsSame streams.old streams.new) }
@@ -57,7 +57,7 @@ pub fn take(streams: &mut Streams, source: &Source, rs: &[u8]) -> Result<Taken, 
 }
 
 /// Says that a stream has ended. Takes no memory.
-pub fn finish(streams: &mut Streams, source: &Source)
+pub fn finish(streams: &mut Streams, source: &Source<'_>)
     ensures { Holds (key_of source.now) streams.old
         (λ i. IsReadAt (key_of source.now) (record { unread = i.unread; ended = true }) streams.old streams.new) }
 {

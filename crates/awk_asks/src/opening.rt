@@ -35,17 +35,17 @@ pub fn open<W: World>(
     place: Place,
     given: bool,
     mode: Mode,
-    name: Name,
+    name: &Name<'_>,
     streams: &mut Streams,
     world: &mut W,
 ) -> Result<Option<u32>, Halt>
     requires owns { Owns (W.open_numbers world.old) streams.old }
-    requires new { find_stream (kind name.class) name.text.items (open_of streams.old) ≡ None }
+    requires new { find_stream (kind name.now.class) name.now.text.now (open_of streams.old) ≡ None }
     ensures opens { Opens W.follows W.has_stopped W.stops (W.open_numbers world.old)
-        (record { place = place; given = given; request = Open mode name.text.items }) (kind name.class) name.text.items streams.old world.old result streams.new world.new }
+        (record { place = place; given = given; request = Open mode name.now.text.now }) (kind name.now.class) name.now.text.now streams.old world.old result streams.new world.new }
     ensures owns { Owns (W.open_numbers world.new) streams.new }
 {
-    let Ok(text) = Vec::from_slice(alloc, name.text.as_slice()) else {
+    let (Ok(kept), Ok(text)) = (name.kept(alloc), Vec::from_slice(alloc, name.text)) else {
         return Err(Halt::Memory);
     };
     if streams.make_room().is_err() {
@@ -55,7 +55,7 @@ pub fn open<W: World>(
     let reply = request(place, given, Request::Open(mode, sent), world)?;
     match number_opened(&reply) {
         Some(number) => {
-            streams.add(name, number);
+            streams.add(kept, number);
             Ok(Some(number))
         }
         None => Ok(None),
@@ -68,24 +68,19 @@ pub fn open_output<W: World>(
     alloc: Global,
     place: Place,
     mode: Mode,
-    class: Class,
-    text: &[u8],
+    name: &Name<'_>,
     streams: &mut Streams,
     world: &mut W,
 ) -> Result<u32, Halt>
     requires { Owns (W.open_numbers world.old) streams.old }
     ensures task { (g : Given) (s : State) → Does W.follows W.has_stopped W.stops g s
-        (Do (machine.Open place mode (kind class) text.now)) goes_on streams.old world.old result streams.new world.new }
-    ensures found { IfOk result (λ n. find_stream (kind class) text.now (open_of streams.new) ≡ Some n) }
+        (Do (machine.Open place mode (kind name.now.class) name.now.text.now)) goes_on streams.old world.old result streams.new world.new }
+    ensures found { IfOk result (λ n. find_stream (kind name.now.class) name.now.text.now (open_of streams.new) ≡ Some n) }
     ensures owns { Owns (W.open_numbers world.new) streams.new }
 {
-    if let Some(number) = streams.number_of(class, text) {
+    if let Some(number) = streams.number(name) {
         return Ok(number);
     }
-    let Ok(text) = Vec::from_slice(alloc, text) else {
-        return Err(Halt::Memory);
-    };
-    let name = Name { class, text };
     let Some(number) = open(alloc, place, false, mode, name, streams, world)? else {
         return Err(Halt::Fault(Fault::Output, place));
     };
@@ -97,17 +92,17 @@ pub fn open_output<W: World>(
 pub fn open_input<W: World>(
     alloc: Global,
     place: Place,
-    name: Name,
+    name: &Name<'_>,
     streams: &mut Streams,
     world: &mut W,
 ) -> Result<Option<u32>, Halt>
     requires { Owns (W.open_numbers world.old) streams.old }
     ensures task { (g : Given) (s : State) → Does W.follows W.has_stopped W.stops g s
-        (Do (machine.Fetch place (kind name.class) name.text.items)) (fetched place (Named (kind name.class) name.text.items)) streams.old world.old result streams.new world.new }
-    ensures found { IfOk result (λ o. IfSome o (λ n. find_stream (kind name.class) name.text.items (open_of streams.new) ≡ Some n)) }
+        (Do (machine.Fetch place (kind name.now.class) name.now.text.now)) (fetched place (Named (kind name.now.class) name.now.text.now)) streams.old world.old result streams.new world.new }
+    ensures found { IfOk result (λ o. IfSome o (λ n. find_stream (kind name.now.class) name.now.text.now (open_of streams.new) ≡ Some n)) }
     ensures owns { Owns (W.open_numbers world.new) streams.new }
 {
-    if let Some(number) = streams.number(&name) {
+    if let Some(number) = streams.number(name) {
         return Ok(Some(number));
     }
     let mode = input_mode(name.class);

@@ -33,15 +33,35 @@ pub enum Class {
     OutputCommand,
 }
 
-/// The name of a stream that the script opens. It is looked up for each record that is read and each text that is put, so it is
-/// hashed at once and compared by words, as a derived `Hash` and `PartialEq` would not do.
-#[derive(Drop)]
-pub struct Name {
+/// The name of a stream that the script opens, lent.
+#[derive(Clone, Copy, Drop)]
+pub struct Name<'a> {
     pub class: Class,
-    pub text: Vec<u8>,
+    pub text: &'a [u8],
 }
 
-impl PartialEq for Name {
+/// The name of an open stream. It is looked up for each record that is read and each text that is put, so it is hashed at once and
+/// compared by words, as a derived `Hash` and `PartialEq` would not do.
+#[derive(Drop)]
+pub(crate) struct KeptName {
+    class: Class,
+    text: Vec<u8>,
+}
+
+impl Name<'_> {
+    /// The name with a text of its own, or `Memory` where memory is refused.
+    pub(crate) fn kept(&self, alloc: Global) -> Result<KeptName, Memory>
+        ensures class { IfOk result (λ x. x.class ≡ self.now.class) }
+        ensures text { IfOk result (λ x. x.text.items ≡ self.now.text.now) }
+    {
+        Ok(KeptName {
+            class: self.class,
+            text: Vec::from_slice(alloc, self.text)?,
+        })
+    }
+}
+
+impl PartialEq for KeptName {
     ghost eq = { λ x y. nat_eq (class_number (kind x.class)) (class_number (kind y.class)) && bytes_eq x.text.items y.text.items };
 
     ghost laws = { on_per (λ n. class_number (kind n.class) ∷ n.text.items) (Cmp.partial_equiv_from_equiv nat_list_eq_equiv) };
@@ -51,11 +71,11 @@ impl PartialEq for Name {
     }
 }
 
-impl Eq for Name {
+impl Eq for KeptName {
     ghost laws = { on_equiv (λ n. class_number (kind n.class) ∷ n.text.items) nat_list_eq_equiv };
 }
 
-impl Hash for Name {
+impl Hash for KeptName {
     ghost hash_input = { λ n. n.text.items ∷ [] };
 
     ghost respects_eq = { λ x y h. ap (λ l. drop 1 l ∷ []) ((bytes_decides (class_number (kind x.class) ∷ x.text.items) (class_number (kind y.class) ∷ y.text.items)).0 h) };
@@ -65,14 +85,7 @@ impl Hash for Name {
     }
 }
 
-/// The name of a stream that is looked for, lent.
-#[derive(Clone, Copy, Drop)]
-struct Sought<'a> {
-    class: Class,
-    text: &'a [u8],
-}
-
-impl PartialEq for Sought<'_> {
+impl PartialEq for Name<'_> {
     ghost eq = { λ x y. nat_eq (class_number (kind x.class)) (class_number (kind y.class)) && bytes_eq x.text.now y.text.now };
 
     ghost laws = { on_per (λ n. class_number (kind n.class) ∷ n.text.now) (Cmp.partial_equiv_from_equiv nat_list_eq_equiv) };
@@ -82,11 +95,11 @@ impl PartialEq for Sought<'_> {
     }
 }
 
-impl Eq for Sought<'_> {
+impl Eq for Name<'_> {
     ghost laws = { on_equiv (λ n. class_number (kind n.class) ∷ n.text.now) nat_list_eq_equiv };
 }
 
-impl Hash for Sought<'_> {
+impl Hash for Name<'_> {
     ghost hash_input = { λ n. n.text.now ∷ [] };
 
     ghost respects_eq = { λ x y h. ap (λ l. drop 1 l ∷ []) ((bytes_decides (class_number (kind x.class) ∷ x.text.now) (class_number (kind y.class) ∷ y.text.now)).0 h) };
@@ -96,14 +109,14 @@ impl Hash for Sought<'_> {
     }
 }
 
-impl Equivalent<Name> for Sought<'_> {
+impl Equivalent<KeptName> for Name<'_> {
     ghost equivalent = { λ q n. nat_eq (class_number (kind q.class)) (class_number (kind n.class)) && bytes_eq q.text.now n.text.items };
 
     ghost respects_hash = { λ q n h. ap (λ l. drop 1 l ∷ []) ((bytes_decides (class_number (kind q.class) ∷ q.text.now) (class_number (kind n.class) ∷ n.text.items)).0 h) };
 
     ghost respects_eq = { λ q x y. nat_list_eq_equiv.congr (class_number (kind q.class) ∷ q.text.now) (class_number (kind x.class) ∷ x.text.items) (class_number (kind y.class) ∷ y.text.items) };
 
-    fn equivalent(&self, name: &Name) -> bool {
+    fn equivalent(&self, name: &KeptName) -> bool {
         self.class == name.class && is_same(self.text, name.text.as_slice())
     }
 }
@@ -118,7 +131,7 @@ struct Open {
 /// The open streams by their names, in order of opening, and what was read of the standard input.
 #[derive(Drop)]
 pub struct Streams {
-    table: IndexMap<Name, Open>,
+    table: IndexMap<KeptName, Open>,
     input: Reader,
     /// What the next record that is read is written into
     text_room: Vec<u8>,
@@ -155,17 +168,10 @@ impl Streams {
     }
 
     /// The number of the stream of this name, if it is open. Takes no memory.
-    pub fn number(&self, name: &Name) -> Option<u32>
-        ensures { result ≡ find_stream (kind name.now.class) name.now.text.items (open_of self.now) }
+    pub fn number(&self, name: &Name<'_>) -> Option<u32>
+        ensures { result ≡ find_stream (kind name.now.class) name.now.text.now (open_of self.now) }
     {
-        self.number_of(name.class, name.text.as_slice())
-    }
-
-    /// The number of the stream of this class and text, if it is open. Takes no memory.
-    pub fn number_of(&self, class: Class, text: &[u8]) -> Option<u32>
-        ensures { result ≡ find_stream (kind class) text.now (open_of self.now) }
-    {
-        match self.table.get(Sought { class, text }) {
+        match self.table.get(*name) {
             Some(open) => Some(open.number),
             None => None,
         }
@@ -198,7 +204,7 @@ impl Streams {
     }
 
     /// Adds a stream of which nothing is read yet, last. There is room for it.
-    pub fn add(&mut self, name: Name, number: u32)
+    pub(crate) fn add(&mut self, name: KeptName, number: u32)
         requires room { 0 < self.old.room }
         requires new { find_stream (kind name.class) name.text.items (open_of self.old) ≡ None }
         ensures entries { self.new.entries ≡ self.old.entries ++ record {
@@ -212,11 +218,11 @@ impl Streams {
     }
 
     /// Takes a stream away, if it is open. Takes no memory.
-    pub fn remove(&mut self, name: &Name)
-        ensures entries { self.new.entries ≡ entries_without (kind name.now.class) name.now.text.items self.old.entries }
+    pub fn remove(&mut self, name: &Name<'_>)
+        ensures entries { self.new.entries ≡ entries_without (kind name.now.class) name.now.text.now self.old.entries }
         ensures input { self.new.input ≡ self.old.input }
     {
-        let _removed = self.table.shift_remove(name);
+        let _removed = self.table.shift_remove(*name);
     }
 
     /// The number of the stream that was opened first. Takes no memory.
@@ -253,14 +259,14 @@ impl Streams {
     }
 
     /// Adds the next bytes of an input that has not ended, if it is open. `Memory` changes nothing.
-    pub fn push(&mut self, name: &Name, bytes: &[u8]) -> Result<(), Fault>
-        requires { (i : Input) → find_input (kind name.now.class) name.now.text.items self.old.entries ≡ Some i → i.ended ≡ false }
-        ensures ok { OnOk result (self.new.entries ≡ with_input (kind name.now.class) name.now.text.items (λ i. record { unread = i.unread ++ bytes.now; ended = false }) self.old.entries) }
+    pub fn push(&mut self, name: &Name<'_>, bytes: &[u8]) -> Result<(), Fault>
+        requires { (i : Input) → find_input (kind name.now.class) name.now.text.now self.old.entries ≡ Some i → i.ended ≡ false }
+        ensures ok { OnOk result (self.new.entries ≡ with_input (kind name.now.class) name.now.text.now (λ i. record { unread = i.unread ++ bytes.now; ended = false }) self.old.entries) }
         ensures err { OnErr result (self.new.entries ≡ self.old.entries) }
         ensures memory { IsOkUnless result Fault.Memory }
         ensures input { self.new.input ≡ self.old.input }
     {
-        match self.table.get_mut(name) {
+        match self.table.get_mut(*name) {
             Some(open) => open.reader.push(bytes),
             None => Ok(()),
         }
@@ -268,38 +274,38 @@ impl Streams {
 
     /// The first record of what is held unread of an input, which is taken; see `Reader::take`. A
     /// stream that is not open has none. Where it fails, nothing was taken.
-    pub fn take(&mut self, name: &Name, rs: &[u8]) -> Result<Taken, Fault>
-        ensures ok { IfOk result (λ taken. TakesOf (kind name.now.class) name.now.text.items rs.now self.old.entries taken self.new.entries) }
+    pub fn take(&mut self, name: &Name<'_>, rs: &[u8]) -> Result<Taken, Fault>
+        ensures ok { IfOk result (λ taken. TakesOf (kind name.now.class) name.now.text.now rs.now self.old.entries taken self.new.entries) }
         ensures err { OnErr result (self.new.entries ≡ self.old.entries) }
-        ensures fault { IfErr result (λ e. (i : Input) → find_input (kind name.now.class) name.now.text.items self.old.entries ≡ Some i
+        ensures fault { IfErr result (λ e. (i : Input) → find_input (kind name.now.class) name.now.text.now self.old.entries ≡ Some i
             → (e ≡ Fault.Memory) ⊎ ((e ≡ Fault.TextTooLong) × (head rs.now i.unread i.ended ≡ too_long))) }
         ensures input { self.new.input ≡ self.old.input }
     {
-        match self.table.get_mut(name) {
+        match self.table.get_mut(*name) {
             Some(open) => open.reader.take(rs, &mut self.text_room),
             None => Ok(Taken::Done),
         }
     }
 
-    /// Takes the first record of what is held unread of the input of this class and text, if it is open, and writes it into the
-    /// room; see `Reader::take_line`.
-    pub fn take_line(&mut self, class: Class, text: &[u8], rs: &[u8], room: &mut Vec<u8>) -> bool
-        ensures taken { result ≡ true → TakesLine (kind class) text.now rs.now self.old.entries room.new.items self.new.entries }
+    /// Takes the first record of what is held unread of an input, if it is open, and writes it into the room; see
+    /// `Reader::take_line`.
+    pub fn take_line(&mut self, name: &Name<'_>, rs: &[u8], room: &mut Vec<u8>) -> bool
+        ensures taken { result ≡ true → TakesLine (kind name.now.class) name.now.text.now rs.now self.old.entries room.new.items self.new.entries }
         ensures not_taken { result ≡ false → self.new ≡ self.old }
         ensures input { self.new.input ≡ self.old.input }
     {
-        match self.table.get_mut(Sought { class, text }) {
+        match self.table.get_mut(*name) {
             Some(open) => open.reader.take_line(rs, room),
             None => false,
         }
     }
 
     /// Says that an input has ended, if it is open. Takes no memory.
-    pub fn finish(&mut self, name: &Name)
-        ensures entries { self.new.entries ≡ with_input (kind name.now.class) name.now.text.items (λ i. record { unread = i.unread; ended = true }) self.old.entries }
+    pub fn finish(&mut self, name: &Name<'_>)
+        ensures entries { self.new.entries ≡ with_input (kind name.now.class) name.now.text.now (λ i. record { unread = i.unread; ended = true }) self.old.entries }
         ensures input { self.new.input ≡ self.old.input }
     {
-        if let Some(open) = self.table.get_mut(name) {
+        if let Some(open) = self.table.get_mut(*name) {
             open.reader.finish();
         }
     }

@@ -1,6 +1,6 @@
 -- The files of operands: they are opened, read and shut.
 use Rattle.std.proofs.Common.{◌≡◌, inr, refl, sym, ap, subst, ◌∙◌, ◌-◌, arith, ℕ, Bool, true, false, true≢false, List, [], ◌∷◌, map, length}
-use Rattle.std.specs.Prelude.{Result, Ok, Err, Option, Some, None, option_map, is_some, pos, codes, if◌then◌else◌, unwrap_or, OnOk}
+use Rattle.std.specs.Prelude.{Result, Ok, Err, Option, Some, None, option_map, is_none, is_some, pos, codes, if◌then◌else◌, unwrap_or, OnOk}
 use Rattle.std.specs.Str.{bytes_eq}
 use Rattle.awk_text.specs.declared.value.Value.TheVariants as v
 use Rattle.awk_fields.specs.Takes.{Input}
@@ -274,12 +274,7 @@ module _ {W : Type 0} {follows : W → List Call → W → Type 0} {has_stopped 
       ))
       x.memory x.log))
 
--- ---- the store meanwhile
-
--- a file that was taken out of the store and put back
-pub put_again : (old mid new : Kept) (key : Key) → old.main.current ≡ Some key → mid ≡ with_main (record old.main { current = None }) old → new ≡ with_main (record mid.main { current = Some key }) mid → new ≡ old
-put_again old mid new key is out back =
-    back ∙ ap (λ z. with_main (record z.main { current = Some key }) z) out ∙ ap (λ o. with_main (record old.main { current = o }) old) (sym is)
+-- ---- the stream that is read
 
 pub current_is : (k : Kept) (key : Key) → k.main.current ≡ Some key → current_key k ≡ key
 current_is k key e = ap (λ o. unwrap_or o (Standard 0)) e
@@ -298,17 +293,16 @@ pub none_at : {A : Type 0} (o : Option A) → is_some o ≡ false → o ≡ None
 none_at None e = refl
 none_at (Some x) e = absurd (true≢false e)
 
+pub some_unless : {A : Type 0} (o : Option A) → is_none o ≡ false → (x : A) × (o ≡ Some x)
+some_unless (Some x) e = (x, refl)
+some_unless None e = absurd (true≢false e)
+
 pub ok_any : {A E P : Type 0} (r : Result A E) → P → OnOk r P
 ok_any (Ok x) p = p
 ok_any (Err e) p = tt
 
 pub same_text : (a b : Text) → Some (Named OperandFile a) ≡ Some (Named OperandFile b) → a ≡ b
 same_text a b e = cc
-
--- the store is the same in other words
-pub now_in : {W : Type 0} {follows : W → List Call → W → Type 0} {has_stopped : W → Bool} {stops : W → List Call → Ask → W → Type 0} {g : Given} {p : Piece} {old : Whole} {w w' : W} {to : List Piece → List Piece} {k l : Kept} {t : Table} →
-    k ≡ l → LeadsOn follows has_stopped stops g p old w to (k, t) w' → LeadsOn follows has_stopped stops g p old w to (l, t) w'
-now_in {follows = follows} {has_stopped = has_stopped} {stops = stops} {g = g} {p = p} {old = old} {w = w} {w' = w'} {to = to} {t = t} e h = subst (λ (z : Kept). LeadsOn follows has_stopped stops g p old w to (z, t) w') e h
 
 -- the stream that was read, in other words
 pub read_as : {W : Type 0} {follows : W → List Call → W → Type 0} {has_stopped : W → Bool} {stops : W → List Call → Ask → W → Type 0} {g : Given} {p : Piece} {old new : Whole} {w w' : W} {r : Result Found Halt} {key other : Key} →

@@ -1,12 +1,11 @@
 -- The main input (POSIX.1-2017 XCU awk, "STDIN" and "Input Files").
 use Rattle.std.specs.Prelude.{◌≡◌, Bool, true, false, if◌then◌else◌, List, [], ◌∷◌, ◌++◌, codes, Option, Some, None, Result, Ok, Err}
-use Rattle.std.specs.Str.{bytes_eq}
 use Rattle.awk_text.specs.Quoted.{quoted}
 use Rattle.awk_text.specs.declared.value.Value.{Value}
 use Rattle.awk_text.specs.declared.value.Value.TheVariants as v
 use Rattle.box_world.specs.Calls.{Call}
 use Rattle.box_world.specs.declared.ask.Ask.{Ask}
-use Rattle.box_world.specs.Events.{InputFile, Key, Named, Standard}
+use Rattle.box_world.specs.Events.{Key, Standard}
 use Rattle.awk_program.specs.Slots.{Text}
 use Rattle.awk_program.specs.declared.variables.Own.TheVariants as own
 use Rattle.awk_machine.specs.MainInput.{own_name}
@@ -38,11 +37,6 @@ pub record IsMainLine (k : Kept) (old : Table) (text : Text) (new : Table) : Typ
   pub going : k.main.ended ≡ false
   pub current : k.main.current ≡ Some key
   pub line : IsLine key (own_text k own.Rs) old text new
-
--- the file of this name is open, and its first record, which is taken, has this text
-pub record IsFileLine (name : Text) (k : Kept) (old : Table) (text : Text) (new : Table) : Type 0 where
-  pub is_file : bytes_eq name (codes "-") ≡ false
-  pub line : IsLine (Named InputFile name) (own_text k own.Rs) old text new
 
 -- ---- a message
 

@@ -6,10 +6,8 @@ ghost use Rattle.awk_machine.specs.State.{Given};
 ghost use Rattle.box_world.specs.Events as event;
 ghost use Rattle.box_world.specs.Events.{Key, Named};
 ghost use Rattle.awk_program.specs.Slots.{Text};
-ghost use Rattle.awk_program.specs.declared.variables.Own.TheVariants as own;
 ghost use Rattle.awk_store.specs.Inputs as store_inputs;
-ghost use Rattle.awk_store.specs.Kept.{Kept, own_text};
-ghost use Rattle.awk_asks.specs.Readings.{IsLive, key_of};
+ghost use Rattle.awk_store.specs.Kept.{Kept};
 ghost use Rattle.awk_asks.specs.Tables.{Table};
 ghost use Rattle.awk_asks.specs.Tasks.{Owns, goes_on};
 ghost use Rattle.awk_tasks.specs.Acts.{Acts};
@@ -20,7 +18,7 @@ ghost use Rattle.awk_records.specs.Operands.{IsBut, Moves, begun_or, current_key
 ghost use Rattle.awk_records.specs.Performs.{LeadsOn, Performs};
 
 use crate::host::Host;
-use crate::progress::{put_back, take_out};
+use crate::progress::take_out;
 use crate::reports::report;
 use awk_asks::getline::{Found, record};
 use awk_asks::halt::Halt;
@@ -52,16 +50,6 @@ fn begin(store: &mut Store, source: Source, text: Octets)
     store.set_own(Own::Fnr, Value::Num(0));
 }
 
-fn name_of(alloc: Global, text: &[u8]) -> Result<Name, Memory>
-    ensures class { IfOk result (λ x. x.class ≡ Class.OperandFile) }
-    ensures text { IfOk result (λ x. x.text.items ≡ text.now) }
-{
-    Ok(Name {
-        class: Class::OperandFile,
-        text: Vec::from_slice(alloc, text)?,
-    })
-}
-
 /// Opens the file of an operand, and answers whether it is open now.
 fn open_file<W: World>(
     alloc: Global,
@@ -75,15 +63,16 @@ fn open_file<W: World>(
         → Performs W.follows W.has_stopped W.stops g p (begun_or text.now) old world.old result (k, streams.new) world.new }
     ensures owns { Owns (W.open_numbers world.new) streams.new }
 {
-    let Ok(name) = name_of(alloc, text) else {
-        return Err(Halt::Memory);
+    let name = Name {
+        class: Class::OperandFile,
+        text,
     };
     if streams.number(&name).is_some() {
         return Ok(true);
     }
     let place = Place { line: 0, column: 0 };
     let given = host.is_given(text);
-    let found = open(alloc, place, given, Mode::Read, name, streams, world)?;
+    let found = open(alloc, place, given, Mode::Read, &name, streams, world)?;
     Ok(found.is_some())
 }
 
@@ -135,57 +124,33 @@ pub fn begin_input<W: World>(
 
 // ---- its records
 
-fn is_open(streams: &Streams, source: &inputs::Source) -> bool
-    ensures { result ≡ true → IsLive (key_of source.now) streams.now }
-{
-    match source {
-        inputs::Source::Standard => true,
-        inputs::Source::Stream(name) => streams.number(name).is_some(),
-    }
-}
-
-/// Reads a record of the stream that the main input comes from. That stream stands open; the test of
-/// it is there since no contract carries this from one record to the next.
-fn read_source<W: World>(
+/// Reads a record of the operand's file. That file stands open; the test of it is there since no contract carries this from one
+/// record to the next.
+fn read_file<W: World>(
     store: &Store,
-    source: &inputs::Source,
     streams: &mut Streams,
     world: &mut W,
 ) -> Result<Found, Halt>
     requires { Owns (W.open_numbers world.old) streams.old }
-    ensures task { (g : Given) (k : Kept) → own_text k own.Rs ≡ own_text store.now own.Rs → k.main.ended ≡ false → k.main.current ≡ Some (key_of source.now)
-        → Performs W.follows W.has_stopped W.stops g (Do Take) (found_main (key_of source.now)) (k, streams.old) world.old result (k, streams.new) world.new }
+    ensures task { (g : Given) → store.now.main.ended ≡ false
+        → Performs W.follows W.has_stopped W.stops g (Do Take) (found_main (current_key store.now)) (store.now, streams.old) world.old result (store.now, streams.new) world.new }
+    ensures current { OnOk result ((text : Text) × (store.now.main.current ≡ Some (Named event.OperandFile text))) }
     ensures owns { Owns (W.open_numbers world.new) streams.new }
 {
-    if !is_open(streams, source) {
+    let Source::Operand(text) = &store.main().current else {
+        return Err(Halt::Memory);
+    };
+    let name = Name {
+        class: Class::OperandFile,
+        text: text.bytes(),
+    };
+    if streams.number(&name).is_none() {
         return Err(Halt::Memory);
     }
     let place = Place { line: 0, column: 0 };
     let mut buffer = Buffer::new();
     let rs = store.own_text(Own::Rs, &mut buffer);
-    record(place, source, rs, streams, world)
-}
-
-/// Reads a record of the operand's file. The store lends the name for it, so that no record costs a copy.
-fn read_file<W: World>(
-    store: &mut Store,
-    streams: &mut Streams,
-    world: &mut W,
-) -> Result<Found, Halt>
-    requires { Owns (W.open_numbers world.old) streams.old }
-    ensures same { store.new ≡ store.old }
-    ensures task { (g : Given) → store.old.main.ended ≡ false
-        → Performs W.follows W.has_stopped W.stops g (Do Take) (found_main (current_key store.old)) (store.old, streams.old) world.old result (store.old, streams.new) world.new }
-    ensures current { OnOk result ((text : Text) × (store.old.main.current ≡ Some (Named event.OperandFile text))) }
-    ensures owns { Owns (W.open_numbers world.new) streams.new }
-{
-    let Some(name) = take_out(store) else {
-        return Err(Halt::Memory);
-    };
-    let source = inputs::Source::Stream(name);
-    let found = read_source(store, &source, streams, world);
-    put_back(store, source);
-    found
+    record(place, &inputs::Source::Stream(name), rs, streams, world)
 }
 
 // ---- it is done with
@@ -198,8 +163,12 @@ fn pass_file<W: World>(store: &mut Store, streams: &mut Streams, world: &mut W) 
         → Onward W.follows W.has_stopped W.stops g p old w (λ k. Do Take ∷ k) result (store.new, streams.new) world.new }
     ensures owns { Owns (W.open_numbers world.new) streams.new }
 {
-    let Some(name) = take_out(store) else {
+    let Some(text) = take_out(store) else {
         return Err(Halt::Memory);
+    };
+    let name = Name {
+        class: Class::OperandFile,
+        text: text.bytes(),
     };
     let Some(number) = streams.number(&name) else {
         return Ok(());

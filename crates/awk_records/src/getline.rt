@@ -1,7 +1,6 @@
 // getline from a file and from a command.
-ghost use Rattle.std.specs.Prelude.{◌≡◌, [], ◌∷◌, List, None, IfSome};
+ghost use Rattle.std.specs.Prelude.{◌≡◌, [], ◌∷◌, List};
 ghost use Rattle.awk_lent.specs.Lents.{lent_value};
-ghost use Rattle.awk_text.specs.Values.{text_of};
 ghost use Rattle.awk_program.specs.Program as p;
 ghost use Rattle.awk_program.specs.Program.{Expression, Pipes};
 ghost use Rattle.awk_machine.specs.Getline as machine;
@@ -11,11 +10,11 @@ ghost use Rattle.awk_asks.specs.Readings.{fetching, key_of};
 ghost use Rattle.awk_asks.specs.Tasks.{Owns};
 ghost use Rattle.awk_tasks.specs.Spots.{IsSpotOf, value_of};
 ghost use Rattle.awk_tasks.specs.Wholes.{names_in};
-ghost use Rattle.awk_records.specs.Inputs.{IsFileLine};
+ghost use Rattle.awk_records.specs.Gots.{read_of};
 ghost use Rattle.awk_records.specs.Performs.{Performs};
 
 use crate::counted::{Counted, set_record};
-use awk_asks::getline::{fetch, next_line};
+use awk_asks::getline::fetch;
 use awk_asks::halt::Halt;
 use awk_asks::inputs::Source;
 use awk_asks::streams::{Class, Name, Streams};
@@ -23,7 +22,6 @@ use awk_lent::lent::Lent;
 use awk_program::Own;
 use awk_store::Store;
 use awk_tasks::Spot;
-use awk_text::octets::Octets;
 use awk_text::place::Place;
 use awk_text::value::Value;
 use box_world::world::World;
@@ -31,15 +29,15 @@ use itoa::Buffer;
 use std::alloc::Global;
 
 /// The stream of a file of this name: `-` is the standard input.
-fn file_source(text: Octets) -> Source
-    ensures { (place : Place) (k : List Piece) → machine.fetch_file place text k ≡ Do (fetching place (key_of result)) ∷ k }
+fn file_source(name: &[u8]) -> Source<'_>
+    ensures { (place : Place) (k : List Piece) → machine.fetch_file place name.now k ≡ Do (fetching place (key_of result)) ∷ k }
 {
-    if text.bytes() == b"-".as_slice() {
+    if name == b"-".as_slice() {
         return Source::Standard;
     }
     Source::Stream(Name {
         class: Class::InputFile,
-        text: text.into_bytes(),
+        text: name,
     })
 }
 
@@ -47,7 +45,7 @@ fn file_source(text: Octets) -> Source
 fn fetch_record<W: World>(
     alloc: Global,
     place: Place,
-    source: &Source,
+    source: &Source<'_>,
     store: &Store,
     streams: &mut Streams,
     world: &mut W,
@@ -61,38 +59,23 @@ fn fetch_record<W: World>(
     fetch(alloc, place, source, rs, streams, world)
 }
 
-/// The next record of the file of this name, where it is open and the record is held whole.
-pub fn file_line(name: Lent<'_>, store: &Store, streams: &mut Streams) -> Option<Octets>
-    ensures some { IfSome result (λ text. IsFileLine (text_of (lent_value name.entry)) store.now streams.old text streams.new) }
-    ensures none { result ≡ None → streams.new ≡ streams.old }
-{
-    let mut buffer = Buffer::new();
-    let file = name.text(&mut buffer);
-    if file == b"-".as_slice() {
-        return None;
-    }
-    let rs = store.own_bytes(Own::Rs)?;
-    next_line(Class::InputFile, file, rs, streams)
-}
-
-/// `getline target < file`, once it is known what is set, and the file's name.
-pub fn getline_file<W: World>(
+/// Reads a record for `getline target < file`, once it is known what is set, and the file's name: `set_record` is to set it.
+pub fn file_record<W: World>(
     alloc: Global,
     place: Place,
-    target: Spot,
-    file: Octets,
-    store: &mut Store,
+    name: Lent<'_>,
+    store: &Store,
     streams: &mut Streams,
     world: &mut W,
 ) -> Result<Value, Halt>
     requires { Owns (W.open_numbers world.old) streams.old }
-    ensures task { (g : Given) (r : p.Reference) (x : Expression) (name : Value) → IsSpotOf (names_in g) r target → text_of name ≡ file
-        → Performs W.follows W.has_stopped W.stops g (At (Value_of (p.getline_file place r x)) (name ∷ value_of target ∷ [])) give (store.old, streams.old) world.old result (store.new, streams.new) world.new }
+    ensures task { (g : Given) (r : p.Reference) (x : Expression) (target : Spot)
+        → Performs W.follows W.has_stopped W.stops g (At (Value_of (p.getline_file place r x)) (lent_value name.entry ∷ value_of target ∷ [])) (read_of place r x (lent_value name.entry) target) (store.now, streams.old) world.old result (store.now, streams.new) world.new }
     ensures owns { Owns (W.open_numbers world.new) streams.new }
 {
-    let source = file_source(file);
-    let answer = fetch_record(alloc, place, &source, store, streams, world)?;
-    set_record(alloc, store, place, target, Counted::Nothing, answer)
+    let mut buffer = Buffer::new();
+    let source = file_source(name.text(&mut buffer));
+    fetch_record(alloc, place, &source, store, streams, world)
 }
 
 /// `command | getline target`, once the command and what is set are known.
@@ -100,19 +83,20 @@ pub fn getline_pipe<W: World>(
     alloc: Global,
     place: Place,
     target: Spot,
-    command: Octets,
+    command: Lent<'_>,
     store: &mut Store,
     streams: &mut Streams,
     world: &mut W,
 ) -> Result<Value, Halt>
     requires { Owns (W.open_numbers world.old) streams.old }
-    ensures task { (g : Given) (r : p.Reference) (xs : Pipes) (name : Value) → IsSpotOf (names_in g) r target → text_of name ≡ command
-        → Performs W.follows W.has_stopped W.stops g (At (Pipes_of (p.piped place r xs)) (value_of target ∷ name ∷ [])) (λ v k. give v (At (Pipes_of xs) [] ∷ k)) (store.old, streams.old) world.old result (store.new, streams.new) world.new }
+    ensures task { (g : Given) (r : p.Reference) (xs : Pipes) → IsSpotOf (names_in g) r target
+        → Performs W.follows W.has_stopped W.stops g (At (Pipes_of (p.piped place r xs)) (value_of target ∷ lent_value command.entry ∷ [])) (λ v k. give v (At (Pipes_of xs) [] ∷ k)) (store.old, streams.old) world.old result (store.new, streams.new) world.new }
     ensures owns { Owns (W.open_numbers world.new) streams.new }
 {
+    let mut buffer = Buffer::new();
     let source = Source::Stream(Name {
         class: Class::InputCommand,
-        text: command.into_bytes(),
+        text: command.text(&mut buffer),
     });
     let answer = fetch_record(alloc, place, &source, store, streams, world)?;
     set_record(alloc, store, place, target, Counted::Nr, answer)

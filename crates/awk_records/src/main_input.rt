@@ -24,7 +24,7 @@ use crate::reports::report;
 use awk_asks::getline::{Found, record, take_line, take_standard_line};
 use awk_asks::halt::Halt;
 use awk_asks::inputs;
-use awk_asks::streams::{Class, Streams};
+use awk_asks::streams::{Class, Name, Streams};
 use awk_program::Own;
 use awk_store::{Source, Store};
 use awk_tasks::{Spot, fields};
@@ -210,7 +210,13 @@ fn takes_line(store: &Store, streams: &mut Streams, room: &mut Vec<u8>) -> bool
     match &main.current {
         Source::Nothing => false,
         Source::Standard => take_standard_line(rs, streams, room),
-        Source::Operand(text) => take_line(Class::OperandFile, text.bytes(), rs, streams, room),
+        Source::Operand(text) => {
+            let name = Name {
+                class: Class::OperandFile,
+                text: text.bytes(),
+            };
+            take_line(&name, rs, streams, room)
+        }
     }
 }
 

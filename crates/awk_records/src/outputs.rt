@@ -17,7 +17,7 @@ ghost use Rattle.awk_records.specs.Performs.{LeadsOn};
 use awk_asks::halt::Halt;
 use awk_asks::opening::open_output;
 use awk_asks::requests::put;
-use awk_asks::streams::{Class, Streams};
+use awk_asks::streams::{Class, Name, Streams};
 use awk_lent::lent::Lent;
 use awk_program::Redirect;
 use awk_text::octets::Octets;
@@ -66,15 +66,10 @@ pub fn put_to<W: World>(
     ensures owns { Owns (W.open_numbers world.new) streams.new }
 {
     let mut buffer = Buffer::new();
-    let name = name.text(&mut buffer);
-    let number = open_output(
-        alloc,
-        place,
-        mode_of(how),
-        class_of(how),
-        name,
-        streams,
-        world,
-    )?;
+    let name = Name {
+        class: class_of(how),
+        text: name.text(&mut buffer),
+    };
+    let number = open_output(alloc, place, mode_of(how), &name, streams, world)?;
     put(place, number, text, world)
 }

@@ -2,15 +2,10 @@
 ghost use Rattle.std.specs.Prelude.{◌≡◌, true, None, Some, MatchOption};
 ghost use Rattle.box_world.specs.Events as event;
 ghost use Rattle.box_world.specs.Events.{Named, Standard};
-ghost use Rattle.awk_program.specs.Slots.{Text};
 ghost use Rattle.awk_store.specs.Changes.{with_main};
 ghost use Rattle.awk_store.specs.Inputs.{main_of};
-ghost use Rattle.awk_asks.specs.Readings.{key_of};
-ghost use Rattle.awk_asks.specs.Tables.{kind};
 ghost use Rattle.awk_records.specs.Inputs.{after_operands, past_standard};
 
-use awk_asks::inputs;
-use awk_asks::streams::{Class, Name};
 use awk_store::{MainInput, Source, Store};
 use awk_text::octets::Octets;
 use std::mem;
@@ -95,39 +90,21 @@ pub fn name_input(store: &mut Store)
     store.replace_main(main);
 }
 
-/// Takes the name of the operand's file that is read out of the store, if one is; nothing is read
-/// then.
-pub fn take_out(store: &mut Store) -> Option<Name>
+/// Takes the text of the operand whose file is read out of the store, if one is; nothing is read then.
+pub fn take_out(store: &mut Store) -> Option<Octets>
     ensures { MatchOption result (store.new ≡ store.old)
-        (λ name. (kind name.class ≡ event.OperandFile) × (store.old.main.current ≡ Some (Named event.OperandFile name.text.items)) × (store.new ≡ with_main (record store.old.main { current = None }) store.old)) }
+        (λ text. (store.old.main.current ≡ Some (Named event.OperandFile text)) × (store.new ≡ with_main (record store.old.main { current = None }) store.old)) }
 {
     let mut main = store.replace_main(MainInput::new());
     match mem::replace(&mut main.current, Source::Nothing) {
         Source::Operand(text) => {
             store.replace_main(main);
-            Some(Name {
-                class: Class::OperandFile,
-                text: text.into_bytes(),
-            })
+            Some(text)
         }
         other => {
             main.current = other;
             store.replace_main(main);
             None
         }
-    }
-}
-
-/// Puts the operand's file back that is read.
-pub fn put_back(store: &mut Store, source: inputs::Source)
-    ensures { (text : Text) → key_of source ≡ Named event.OperandFile text → store.new ≡ with_main (record store.old.main { current = Some (Named event.OperandFile text) }) store.old }
-{
-    match source {
-        inputs::Source::Stream(name) => {
-            let mut main = store.replace_main(MainInput::new());
-            main.current = Source::Operand(Octets::new(name.text));
-            store.replace_main(main);
-        }
-        inputs::Source::Standard => (),
     }
 }

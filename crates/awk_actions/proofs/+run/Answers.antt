@@ -7,11 +7,7 @@ use Rattle.awk_actions.proofs.Turns.{and_off, and_on, choose_so, count_behind, c
 use Rattle.awk_actions.specs.Loops.{loop_of, tested}
 use Rattle.awk_asks.proofs.Asking.{laws_of}
 use Rattle.awk_asks.proofs.Chain.{at_once, done, lacking, part, stop, turned}
-use Rattle.awk_asks.proofs.MoreSteps.{first_owns}
-use Rattle.awk_fields.specs.Heads.{head}
-use Rattle.awk_records.proofs.ReadSteps.{file_got, line_got}
-use Rattle.awk_store.specs.Kept.{own_text}
-use Rattle.awk_program.specs.declared.variables.Own.TheVariants as own
+use Rattle.awk_records.proofs.ReadSteps.{file_got}
 use Rattle.awk_calls.proofs.Ending.{answers, answers_so, returns_to}
 use Rattle.awk_calls.proofs.Leading.{jumped, takes}
 use Rattle.awk_calls.specs.Calls.{argument_of}
@@ -40,7 +36,7 @@ use Rattle.awk_tasks.specs.Spots.{meant, value_of}
 use Rattle.awk_tasks.specs.declared.spot.Spot.TheVariants as spot
 use Rattle.awk_tasks.specs.Wholes.{base, names_in}
 use Rattle.awk_machine.specs.Streams.{seen}
-use Rattle.box_world.specs.Events.{InputFile, Named, Standard}
+use Rattle.box_world.specs.Events.{Named, Standard}
 use Rattle.std.proofs.Common.{[], ap, arith, drop, false, length, map, refl, rules, sym, true, w64, ◌++◌, ◌+◌, ◌∙◌, ◌∷◌}
 use Rattle.std.proofs.lemmas.Int.{to_z-of_z}
 use Rattle.std.proofs.lemmas.Result.{err_from_is_err_and}
@@ -1027,33 +1023,41 @@ pub inputs::from_file-returns-in_err-to : goal.inputs::from_file-returns-in_err-
 inputs::from_file-returns-in_err-to g t c =
     let e = err_from_is_err_and c.from_residual.result c.from_residual.ensures.1 in rw (e.1, e.2) (record { plays = λ m is. stop _ (λ k. refl) (quietly (at_once _ _ _) (λ k hid d a. refl)) (c.target_of.ensures.plays.plays m is) c.in_err-to.was; owns = c.target_of.ensures.plays.owns })
 
+pub inputs::from_file-returns-in_err-answer-in-Some : goal.inputs::from_file-returns-in_err-answer-in-Some
+inputs::from_file-returns-in_err-answer-in-Some g t c =
+    let e = err_from_is_err_and c.from_residual-in_err-answer-in-Some.result c.from_residual-in_err-answer-in-Some.ensures.1 in rw (e.1, e.2) (record { plays = λ m is. stop _ (λ k. refl) (part _ (quietly (part _ (quietly (at_once _ _ _) (λ k hid d a. refl)) (c.target_of.ensures.plays.plays m is) c.in_ok-to.was) (λ k hid d a. refl)) (acted (there {on = give} {x = lent_value c.in-Some.name} (c.in-Some.ensures m c.target_of.new.run.streams))) refl) (c.in_err-answer-in-Some.ensures.task m (view_target (names_in m) c.args.target.now) (view (names_in m) c.args.x.now) (value_of c.in_ok-to.to)) c.in_err-answer-in-Some.was; owns = c.in_err-answer-in-Some.ensures.owns })
+
 pub inputs::from_file-returns-in-Some : goal.inputs::from_file-returns-in-Some
 inputs::from_file-returns-in-Some g t c =
-    let x = rw c.in-Some.is at c.held_line.ensures.some in
-    let y = x.2.line in
-    let old = c.target_of.new.run in
     record {
       plays = λ m is.
           let r = view_target (names_in m) c.args.target.now in
-          let file = view (names_in m) c.args.x.now in
-          let named = part _ (quietly (part _ (quietly (at_once _ _ _) (λ k hid d a. refl)) (c.target_of.ensures.plays.plays m is) c.in_ok-to.was) (λ k hid d a. refl)) (acted (there {on = give} {x = x.0} (x.1 m old.streams))) refl in
-          let line = line_got g.W.World.open_numbers (laws_of g.met.W.World.follows_append g.met.W.World.stops_later) g.met.W.World.follows_open m c.args.place r file c.in_ok-to.to x.0 old.store old.streams c.in-Some.line c.held_line.new.streams c.target_of.new.world x.2 in
-          hands (part (v.Input c.in-Some.line) named line refl)
-          (acted (c.set_record.ensures m c.held_line.new.streams (At (Value_of (p.getline_file c.args.place r file)) (v.Input c.in-Some.line ∷ x.0 ∷ value_of c.in_ok-to.to ∷ [])) (λ k. k) (file_got m c.args.place r c.in_ok-to.to x.0 (v.Input c.in-Some.line) (c.in_ok-to.ensures.spot (names_in m)) file)));
-      owns = first_owns _ (Named InputFile (text_of x.0)) old.streams c.held_line.new.streams y.before (head (own_text old.store own.Rs) y.before.unread y.before.ended) _ y.first c.target_of.ensures.plays.owns;
+          let x = view (names_in m) c.args.x.now in
+          let answer = c.in_ok-answer-in-Some.answer in
+          hands (part answer (part _ (quietly (part _ (quietly (at_once _ _ _) (λ k hid d a. refl)) (c.target_of.ensures.plays.plays m is) c.in_ok-to.was) (λ k hid d a. refl)) (acted (there {on = give} {x = lent_value c.in-Some.name} (c.in-Some.ensures m c.target_of.new.run.streams))) refl) (c.in_ok-answer-in-Some.ensures.task m r x (value_of c.in_ok-to.to)) c.in_ok-answer-in-Some.was)
+          (acted (c.set_record-in-Some.ensures m c.file_record-in-Some.new.streams (At (Value_of (p.getline_file c.args.place r x)) (answer ∷ lent_value c.in-Some.name ∷ value_of c.in_ok-to.to ∷ [])) (λ k. k) (file_got m c.args.place r c.in_ok-to.to (lent_value c.in-Some.name) answer (c.in_ok-to.ensures.spot (names_in m)) x)));
+      owns = c.in_ok-answer-in-Some.ensures.owns;
     }
 
 pub inputs::from_file-returns-in_err-name : goal.inputs::from_file-returns-in_err-name
 inputs::from_file-returns-in_err-name g t c =
-    let e = err_from_is_err_and c.from_residual-in_err-name.result c.from_residual-in_err-name.ensures.1 in rw (e.1, e.2) (record { plays = λ m is. stop _ (λ k. refl) (quietly (part _ (quietly (at_once _ _ _) (λ k hid d a. refl)) (c.target_of.ensures.plays.plays m is) c.in_ok-to.was) (λ k hid d a. refl)) (rw (c.held_line.ensures.none c.in_default.is) at (c.value.ensures.plays m is)) c.in_err-name.was; owns = c.value.ensures.owns })
+    let e = err_from_is_err_and c.from_residual-in_err-name.result c.from_residual-in_err-name.ensures.1 in rw (e.1, e.2) (record { plays = λ m is. stop _ (λ k. refl) (quietly (part _ (quietly (at_once _ _ _) (λ k hid d a. refl)) (c.target_of.ensures.plays.plays m is) c.in_ok-to.was) (λ k hid d a. refl)) (c.value.ensures.plays m is) c.in_err-name.was; owns = c.value.ensures.owns })
 
-pub inputs::from_file-returns-in_default-into_text : goal.inputs::from_file-returns-in_default-into_text
-inputs::from_file-returns-in_default-into_text g t c =
-    record { plays = λ m is. lacking (part _ (quietly (part _ (quietly (at_once _ _ _) (λ k hid d a. refl)) (c.target_of.ensures.plays.plays m is) c.in_ok-to.was) (λ k hid d a. refl)) (rw (c.held_line.ensures.none c.in_default.is) at (c.value.ensures.plays m is)) c.in_ok-name.was); owns = c.value.ensures.owns }
+pub inputs::from_file-returns-in_err-answer : goal.inputs::from_file-returns-in_err-answer
+inputs::from_file-returns-in_err-answer g t c =
+    let e = err_from_is_err_and c.from_residual-in_err-answer.result c.from_residual-in_err-answer.ensures.1 in rw (e.1, e.2) (record { plays = λ m is. stop _ (λ k. refl) (part _ (quietly (part _ (quietly (at_once _ _ _) (λ k hid d a. refl)) (c.target_of.ensures.plays.plays m is) c.in_ok-to.was) (λ k hid d a. refl)) (c.value.ensures.plays m is) c.in_ok-name.was) (rw c.of.ensures at (c.in_err-answer.ensures.task m (view_target (names_in m) c.args.target.now) (view (names_in m) c.args.x.now) (value_of c.in_ok-to.to))) c.in_err-answer.was; owns = c.in_err-answer.ensures.owns })
 
 pub inputs::from_file-returns : goal.inputs::from_file-returns
 inputs::from_file-returns g t c =
-    record { plays = λ m is. hands (part _ (quietly (part _ (quietly (at_once _ _ _) (λ k hid d a. refl)) (c.target_of.ensures.plays.plays m is) c.in_ok-to.was) (λ k hid d a. refl)) (rw (c.held_line.ensures.none c.in_default.is) at (c.value.ensures.plays m is)) c.in_ok-name.was) (c.getline_file.ensures.task m (view_target (names_in m) c.args.target.now) (view (names_in m) c.args.x.now) c.in_ok-name.name (c.in_ok-to.ensures.spot (names_in m)) (sym c.in-Ok.ensures)); owns = c.getline_file.ensures.owns }
+    record {
+      plays = λ m is.
+          let r = view_target (names_in m) c.args.target.now in
+          let x = view (names_in m) c.args.x.now in
+          let answer = c.in_ok-answer.answer in
+          hands (part answer (part _ (quietly (part _ (quietly (at_once _ _ _) (λ k hid d a. refl)) (c.target_of.ensures.plays.plays m is) c.in_ok-to.was) (λ k hid d a. refl)) (c.value.ensures.plays m is) c.in_ok-name.was) (rw c.of.ensures at (c.in_ok-answer.ensures.task m r x (value_of c.in_ok-to.to))) c.in_ok-answer.was)
+          (acted (c.set_record.ensures m c.file_record.new.streams (At (Value_of (p.getline_file c.args.place r x)) (answer ∷ c.in_ok-name.name ∷ value_of c.in_ok-to.to ∷ [])) (λ k. k) (file_got m c.args.place r c.in_ok-to.to c.in_ok-name.name answer (c.in_ok-to.ensures.spot (names_in m)) x)));
+      owns = c.in_ok-answer.ensures.owns;
+    }
 
 pub inputs::from_commands-returns-in_err-so_far : goal.inputs::from_commands-returns-in_err-so_far
 inputs::from_commands-returns-in_err-so_far g t c =
@@ -1067,17 +1071,13 @@ pub inputs::from_commands-returns-in_err-to : goal.inputs::from_commands-returns
 inputs::from_commands-returns-in_err-to g t c =
     let e = err_from_is_err_and c.from_residual-in_err-to.result c.from_residual-in_err-to.ensures.1 in rw (e.1, e.2) (record { plays = λ m is. stop _ (λ k. refl) (quietly (turned (c.loop-next.invariant.leads m is) (λ k. ap (λ ys. At (Pipes_of (view_pipes (names_in m) ys)) (c.loop-next.so_far ∷ []) ∷ k) (next_of c.args.xs.now c.loop-next.next-index c.next-item.result c.next-item.is c.loop-next-test.true))) (λ k hid d a. refl)) (c.target_of.ensures.plays.plays m is) c.in_err-to.was; owns = c.target_of.ensures.plays.owns })
 
-pub inputs::from_commands-returns-in_default : goal.inputs::from_commands-returns-in_default
-inputs::from_commands-returns-in_default g t c =
-    record { plays = λ m is. lacking (part _ (quietly (turned (c.loop-next.invariant.leads m is) (λ k. ap (λ ys. At (Pipes_of (view_pipes (names_in m) ys)) (c.loop-next.so_far ∷ []) ∷ k) (next_of c.args.xs.now c.loop-next.next-index c.next-item.result c.next-item.is c.loop-next-test.true))) (λ k hid d a. refl)) (c.target_of.ensures.plays.plays m is) c.in_ok-to.was); owns = c.target_of.ensures.plays.owns }
-
 pub inputs::from_commands-returns-in_err-so_far-2 : goal.inputs::from_commands-returns-in_err-so_far-2
 inputs::from_commands-returns-in_err-so_far-2 g t c =
-    let e = err_from_is_err_and c.from_residual-in_err-so_far-2.result c.from_residual-in_err-so_far-2.ensures.1 in rw (e.1, e.2) (record { plays = λ m is. stop _ (λ k. refl) (part _ (quietly (turned (c.loop-next.invariant.leads m is) (λ k. ap (λ ys. At (Pipes_of (view_pipes (names_in m) ys)) (c.loop-next.so_far ∷ []) ∷ k) (next_of c.args.xs.now c.loop-next.next-index c.next-item.result c.next-item.is c.loop-next-test.true))) (λ k hid d a. refl)) (c.target_of.ensures.plays.plays m is) c.in_ok-to.was) (c.getline_pipe.ensures.task m (view_target (names_in m) c.next-item.result.target) (view_pipes (names_in m) (drop (c.loop-next.next-index + 1) c.args.xs.now)) c.loop-next.so_far (c.in_ok-to.ensures.spot (names_in m)) (sym c.in-Ok.ensures)) c.in_err-so_far-2.was; owns = c.getline_pipe.ensures.owns })
+    let e = err_from_is_err_and c.from_residual-in_err-so_far-2.result c.from_residual-in_err-so_far-2.ensures.1 in rw (e.1, e.2) (record { plays = λ m is. stop _ (λ k. refl) (part _ (quietly (turned (c.loop-next.invariant.leads m is) (λ k. ap (λ ys. At (Pipes_of (view_pipes (names_in m) ys)) (c.loop-next.so_far ∷ []) ∷ k) (next_of c.args.xs.now c.loop-next.next-index c.next-item.result c.next-item.is c.loop-next-test.true))) (λ k hid d a. refl)) (c.target_of.ensures.plays.plays m is) c.in_ok-to.was) (rw c.of.ensures at (c.getline_pipe.ensures.task m (view_target (names_in m) c.next-item.result.target) (view_pipes (names_in m) (drop (c.loop-next.next-index + 1) c.args.xs.now)) (c.in_ok-to.ensures.spot (names_in m)))) c.in_err-so_far-2.was; owns = c.getline_pipe.ensures.owns })
 
 pub inputs::from_commands-loop-next-preserved : goal.inputs::from_commands-loop-next-preserved
 inputs::from_commands-loop-next-preserved g t c =
-    record { leads = λ m is. (part _ (part _ (quietly (turned (c.loop-next.invariant.leads m is) (λ k. ap (λ ys. At (Pipes_of (view_pipes (names_in m) ys)) (c.loop-next.so_far ∷ []) ∷ k) (next_of c.args.xs.now c.loop-next.next-index c.next-item.result c.next-item.is c.loop-next-test.true))) (λ k hid d a. refl)) (c.target_of.ensures.plays.plays m is) c.in_ok-to.was) (c.getline_pipe.ensures.task m (view_target (names_in m) c.next-item.result.target) (view_pipes (names_in m) (drop (c.loop-next.next-index + 1) c.args.xs.now)) c.loop-next.so_far (c.in_ok-to.ensures.spot (names_in m)) (sym c.in-Ok.ensures)) c.in_ok-so_far-2.was); owns = c.getline_pipe.ensures.owns }
+    record { leads = λ m is. (part _ (part _ (quietly (turned (c.loop-next.invariant.leads m is) (λ k. ap (λ ys. At (Pipes_of (view_pipes (names_in m) ys)) (c.loop-next.so_far ∷ []) ∷ k) (next_of c.args.xs.now c.loop-next.next-index c.next-item.result c.next-item.is c.loop-next-test.true))) (λ k hid d a. refl)) (c.target_of.ensures.plays.plays m is) c.in_ok-to.was) (rw c.of.ensures at (c.getline_pipe.ensures.task m (view_target (names_in m) c.next-item.result.target) (view_pipes (names_in m) (drop (c.loop-next.next-index + 1) c.args.xs.now)) (c.in_ok-to.ensures.spot (names_in m)))) c.in_ok-so_far-2.was); owns = c.getline_pipe.ensures.owns }
 
 pub inputs::from_commands-returns : goal.inputs::from_commands-returns
 inputs::from_commands-returns g t c =
@@ -1093,7 +1093,7 @@ inputs::close-returns-in_default g t c =
 
 pub inputs::close-returns : goal.inputs::close-returns
 inputs::close-returns g t c =
-    record { plays = λ m is. hands (quietly {then_ = λ k. Do (Close c.args.place c.in-Ok.name None) ∷ k} (part _ (quietly (at_once _ _ _) (λ k hid d a. refl)) (c.value.ensures.plays m is) c.in_ok-operand.was) (λ k hid d a. close_first m c.args.place (view (names_in m) c.args.x.now) c.in_ok-operand.operand c.in-Ok.name k _ (c.in-Ok.ensures))) (lifted m c.value.new.run.store (λ s. rw c.into_bytes.ensures at (c.close.ensures.task m s))); owns = c.close.ensures.owns }
+    record { plays = λ m is. hands (quietly {then_ = λ k. Do (Close c.args.place c.in-Ok.name None) ∷ k} (part _ (quietly (at_once _ _ _) (λ k hid d a. refl)) (c.value.ensures.plays m is) c.in_ok-operand.was) (λ k hid d a. close_first m c.args.place (view (names_in m) c.args.x.now) c.in_ok-operand.operand c.in-Ok.name k _ (c.in-Ok.ensures))) (lifted m c.value.new.run.store (λ s. rw c.bytes.ensures at (c.close.ensures.task m s))); owns = c.close.ensures.owns }
 
 pub inputs::system-returns-in_err-operand : goal.inputs::system-returns-in_err-operand
 inputs::system-returns-in_err-operand g t c =

@@ -1,4 +1,4 @@
-use Rattle.std.proofs.Common.{refl, rules, sym, ap, w64, ◌∙◌, ◌∷◌}
+use Rattle.std.proofs.Common.{rules, sym, ap, w64, ◌∷◌}
 use Rattle.std.proofs.lemmas.Int.{to_z-of_z}
 use Rattle.std.proofs.lemmas.Result.{err_from_is_err_and}
 use Rattle.std.specs.Prelude.{None, Some, option_map}
@@ -11,51 +11,45 @@ use Rattle.awk_asks.proofs.Closes.{close_done, close_duty, close_one, close_refu
 use Rattle.awk_asks.proofs.closing.close.Goals as goal
 
 pub loop-class-init : goal.loop-class-init
-loop-class-init g c = (λ m s. at_once (Do (Close c.args.place c.args.text.items None)) c.args.streams.now c.args.world.now, refl, c.requires)
+loop-class-init g c = (λ m s. at_once (Do (Close c.args.place c.args.text.now None)) c.args.streams.now c.args.world.now, c.requires)
 
 pub shut-requires : goal.shut-requires
 shut-requires g c =
-    let t = c.as_slice.ensures.value ∙ c.loop-class.invariant.1 in
-    let first = rw (t, c.in-Some.is) at c.first_of.ensures in
-    close_duty _ c.args.text.items (kind c.in-Some.class) c.in-Some.number c.loop-class.streams (sym first) c.loop-class.invariant.2
+    let first = rw c.in-Some.is at c.first_of.ensures in
+    close_duty _ c.args.text.now (kind c.in-Some.class) c.in-Some.number c.loop-class.streams (sym first) c.loop-class.invariant.1
 
 pub returns-in_err-status-clause-task : goal.returns-in_err-status-clause-task
 returns-in_err-status-clause-task g c =
     let p = err_from_is_err_and c.from_residual.result c.from_residual.ensures.1 in
-    let t = c.as_slice.ensures.value ∙ c.loop-class.invariant.1 in
-    let first = rw (t, c.in-Some.is) at c.first_of.ensures in
-    rw (p.1, p.2) (λ m s. close_refused g.W.World.open_numbers (laws_of g.met.W.World.follows_append g.met.W.World.stops_later) g.met.W.World.follows_open m s c.args.place c.args.text.items (option_map (λ n. Num n) c.loop-class.answer) c.loop-class.streams
+    let first = rw c.in-Some.is at c.first_of.ensures in
+    rw (p.1, p.2) (λ m s. close_refused g.W.World.open_numbers (laws_of g.met.W.World.follows_append g.met.W.World.stops_later) g.met.W.World.follows_open m s c.args.place c.args.text.now (option_map (λ n. Num n) c.loop-class.answer) c.loop-class.streams
     (kind c.in-Some.class) c.in-Some.number _ _ _ (sym first) c.in_err-status.ensures.answer (c.loop-class.invariant.0 m s))
 
 pub returns-in_err-status-clause-owns : goal.returns-in_err-status-clause-owns
-returns-in_err-status-clause-owns g c = rw c.in_err-status.ensures.numbers c.loop-class.invariant.2
+returns-in_err-status-clause-owns g c = rw c.in_err-status.ensures.numbers c.loop-class.invariant.1
 
 pub loop-class-smaller : goal.loop-class-smaller
 loop-class-smaller g c =
-    let t = c.as_slice.ensures.value ∙ c.loop-class.invariant.1 in
-    let first = rw (t, c.in-Some.is) at c.first_of.ensures in
-    let es = rw c.loop-class.invariant.1 at c.remove.ensures.entries in
-    rw es (shorter c.args.text.items (kind c.in-Some.class) c.in-Some.number c.loop-class.streams.entries (first_found c.args.text.items (kind c.in-Some.class) c.in-Some.number c.loop-class.streams.entries (sym first)))
+    let first = rw c.in-Some.is at c.first_of.ensures in
+    let es = c.remove.ensures.entries in
+    rw es (shorter c.args.text.now (kind c.in-Some.class) c.in-Some.number c.loop-class.streams.entries (first_found c.args.text.now (kind c.in-Some.class) c.in-Some.number c.loop-class.streams.entries (sym first)))
 
 pub loop-class-preserved : goal.loop-class-preserved
 loop-class-preserved g c =
-    let t = c.as_slice.ensures.value ∙ c.loop-class.invariant.1 in
-    let first = rw (t, c.in-Some.is) at c.first_of.ensures in
-    let es = rw c.loop-class.invariant.1 at c.remove.ensures.entries in
+    let first = rw c.in-Some.is at c.first_of.ensures in
+    let es = c.remove.ensures.entries in
     let a = c.in_ok-status.ensures.answer in (
-      λ m s. rw (to_z-of_z w64 c.first_status.result (search rules)) (turned (close_one g.W.World.open_numbers (laws_of g.met.W.World.follows_append g.met.W.World.stops_later) g.met.W.World.follows_open m s c.args.place c.args.text.items (option_map (λ n. Num n) c.loop-class.answer)
+      λ m s. rw (to_z-of_z w64 c.first_status.result (search rules)) (turned (close_one g.W.World.open_numbers (laws_of g.met.W.World.follows_append g.met.W.World.stops_later) g.met.W.World.follows_open m s c.args.place c.args.text.now (option_map (λ n. Num n) c.loop-class.answer)
           c.loop-class.streams c.remove.new.self (kind c.in-Some.class) c.in-Some.number a.0 _ _ (sym first) es c.remove.ensures.input a.1 (c.loop-class.invariant.0 m s))
-          (λ k. ap (λ x. Do (Close c.args.place c.args.text.items (Some x)) ∷ k) (next_so c.loop-class.answer c.in_ok-status.status c.first_status.result a.0 a.2 (rw (to_z-of_z w64 c.in_ok-status.status (search rules)) at c.first_status.ensures)))),
-      c.loop-class.invariant.1,
-      owns_closed _ _ c.args.text.items (kind c.in-Some.class) c.in-Some.number a.0 c.loop-class.streams c.remove.new.self (sym first) es c.in_ok-status.ensures.numbers c.loop-class.invariant.2,
+          (λ k. ap (λ x. Do (Close c.args.place c.args.text.now (Some x)) ∷ k) (next_so c.loop-class.answer c.in_ok-status.status c.first_status.result a.0 a.2 (rw (to_z-of_z w64 c.in_ok-status.status (search rules)) at c.first_status.ensures)))),
+      owns_closed _ _ c.args.text.now (kind c.in-Some.class) c.in-Some.number a.0 c.loop-class.streams c.remove.new.self (sym first) es c.in_ok-status.ensures.numbers c.loop-class.invariant.1,
     )
 
 pub returns-clause-task : goal.returns-clause-task
 returns-clause-task g c =
-    let t = c.as_slice.ensures.value ∙ c.loop-class.invariant.1 in
-    let first = rw (t, c.in_default.is) at c.first_of.ensures in
-    λ m s. close_done g.W.World.open_numbers (laws_of g.met.W.World.follows_append g.met.W.World.stops_later) g.met.W.World.follows_open m s c.args.place c.args.text.items (option_map (λ n. Num n) c.loop-class.answer) _ c.loop-class.streams c.loop-class.world
+    let first = rw c.in_default.is at c.first_of.ensures in
+    λ m s. close_done g.W.World.open_numbers (laws_of g.met.W.World.follows_append g.met.W.World.stops_later) g.met.W.World.follows_open m s c.args.place c.args.text.now (option_map (λ n. Num n) c.loop-class.answer) _ c.loop-class.streams c.loop-class.world
     c.answer_or.ensures (sym first) (c.loop-class.invariant.0 m s)
 
 pub returns-clause-owns : goal.returns-clause-owns
-returns-clause-owns g c = c.loop-class.invariant.2
+returns-clause-owns g c = c.loop-class.invariant.1

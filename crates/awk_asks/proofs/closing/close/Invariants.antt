@@ -1,4 +1,4 @@
-use Rattle.std.proofs.Common.{◌≡◌, ◌∷◌, length}
+use Rattle.std.proofs.Common.{◌∷◌, length}
 use Rattle.std.specs.Prelude.{None, option_map}
 use Rattle.awk_text.specs.declared.value.Value.TheVariants.{Num}
 use Rattle.awk_machine.specs.Pieces.{Close, Do}
@@ -9,9 +9,9 @@ use Rattle.awk_asks.proofs.closing.close.Given as goal
 
 abbrev pub invariant-loop-class : goal.invariant-loop-class
 invariant-loop-class g l =
-    ((m : Given) (s : State) → Leads (Led g.W.World.follows g.W.World.has_stopped) (Ended g.W.World.follows g.W.World.stops) (beside s) Tells (λ t. s.course.used) m (Do (Close l.fn.place l.fn.text.items None)) l.fn.streams l.fn.world
-    (λ k. Do (Close l.fn.place l.fn.text.items (option_map (λ n. Num n) l.answer)) ∷ k) l.streams l.world)
-    × (l.name.text.items ≡ l.fn.text.items) × Owns (g.W.World.open_numbers l.world) l.streams
+    ((m : Given) (s : State) → Leads (Led g.W.World.follows g.W.World.has_stopped) (Ended g.W.World.follows g.W.World.stops) (beside s) Tells (λ t. s.course.used) m (Do (Close l.fn.place l.text None)) l.fn.streams l.fn.world
+    (λ k. Do (Close l.fn.place l.text (option_map (λ n. Num n) l.answer)) ∷ k) l.streams l.world)
+    × Owns (g.W.World.open_numbers l.world) l.streams
 
 abbrev pub decreases-loop-class : goal.decreases-loop-class
 decreases-loop-class g l = length l.streams.entries

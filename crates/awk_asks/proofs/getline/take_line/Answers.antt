@@ -10,8 +10,8 @@ pub returns-clause-taken : goal.returns-clause-taken
 returns-clause-taken c = λ is.
     let old = c.args.streams.now in
     let new = c.take_line.new.self in
-    let class = kind c.args.class in
-    let name = c.args.name.now in
+    let class = kind c.args.name.now.class in
+    let name = c.args.name.now.text.now in
     let x = c.take_line.ensures.taken is in
     record {
       before = x.0;

@@ -7,7 +7,7 @@ pub unwrap-requires : goal.unwrap-requires
 unwrap-requires c =
     let n = c.in-Stream.name in
     let live = rw c.in-Stream.is at c.requires in
-    rw c.number.ensures (number_live (kind n.class) n.text.items c.args.streams.now live)
+    rw c.number.ensures (number_live (kind n.class) n.text.now c.args.streams.now live)
 
 pub returns-in-Standard : goal.returns-in-Standard
 returns-in-Standard c = rw c.in-Standard.is refl

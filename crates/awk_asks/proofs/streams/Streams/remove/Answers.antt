@@ -1,6 +1,6 @@
 use Rattle.std.proofs.Common.{map, sym, ap, ◌∙◌}
 use Rattle.awk_asks.specs.Tables.{kind, entry_of}
-use Rattle.awk_asks.specs.contracts.streams.NamePartialEq.TheImpl.{eq-value}
+use Rattle.awk_asks.specs.contracts.streams.NameEquivalentKeptName.TheImpl.{equivalent-value}
 use Rattle.awk_asks.proofs.Entries.{without-entries, name_test}
 use Rattle.awk_asks.proofs.streams.Streams.remove.Goals as goal
 
@@ -8,4 +8,4 @@ pub returns-clause-entries : goal.returns-clause-entries
 returns-clause-entries c =
     let n = c.args.name.now in
     rw (← c.self.view_is) (ap (map entry_of) c.shift_remove-removed.ensures.entries
-    ∙ sym (without-entries (eq-value.it n) (kind n.class) n.text.items (name_test n) c.self.inside.table.entries))
+    ∙ sym (without-entries (equivalent-value.it n) (kind n.class) n.text.now (name_test n) c.self.inside.table.entries))

@@ -4,18 +4,17 @@ use Rattle.std.specs.Map.{set_value}
 use Rattle.indexmap.specs.IndexMap.{spare}
 use Rattle.std.specs.Option.{option_map, option_copied_mut}
 use Rattle.awk_asks.specs.Tables.{kind, entry_of}
-use Rattle.awk_asks.specs.contracts.streams.SoughtEquivalentName.TheImpl.{equivalent-value}
-use Rattle.awk_asks.specs.declared.streams.Sought.{Sought}
-use Rattle.awk_asks.proofs.Entries.{input-entries, set_same, sought_test, table_same, with_input-entries}
+use Rattle.awk_asks.specs.contracts.streams.NameEquivalentKeptName.TheImpl.{equivalent-value}
+use Rattle.awk_asks.proofs.Entries.{input-entries, name_test, set_same, table_same, with_input-entries}
 use Rattle.awk_asks.proofs.streams.Streams.take_line.Goals as goal
 use Rattle.awk_asks.proofs.streams.Streams.take_line.Goals.{in-Some, in-None}
 
 pub returns-clause-taken : goal.returns-clause-taken
 returns-clause-taken c =
-    let q : Sought = record { class = c.args.class; text = c.args.text } in
-    let test = equivalent-value.it q in
+    let n = c.args.name.now in
+    let test = equivalent-value.it n in
     let old = c.self.inside.table.entries in
-    let input = input-entries test (kind c.args.class) c.args.text.now (sought_test q) old in
+    let input = input-entries test (kind n.class) n.text.now (name_test n) old in
     elim c.match-get_mut.branch [
       | in-Some w ↦ rw (w.result-is, w.self-inside-is, w.room-is, ← c.self.view_is) (λ t.
           let found = sym c.get_mut.ensures.value ∙ ap option_copied_mut w.in-Some.is in (
@@ -24,15 +23,15 @@ returns-clause-taken c =
             w.take_line.new.self,
             w.take_line.ensures.taken t,
             ap (map entry_of) (c.get_mut.follows.holds (record w.in-Some.open.now { reader = w.take_line.new.self })).0
-                ∙ sym (with_input-entries test (kind c.args.class) c.args.text.now (sought_test q) (λ x. w.take_line.new.self) old w.in-Some.open.now found),
+                ∙ sym (with_input-entries test (kind n.class) n.text.now (name_test n) (λ x. w.take_line.new.self) old w.in-Some.open.now found),
           ))
       | in-None w ↦ rw w.result-is (λ t. absurd (false≢true t))
     ]
 
 pub returns-clause-not_taken : goal.returns-clause-not_taken
 returns-clause-not_taken c =
-    let q : Sought = record { class = c.args.class; text = c.args.text } in
-    let test = equivalent-value.it q in
+    let n = c.args.name.now in
+    let test = equivalent-value.it n in
     let old = c.self.inside.table.entries in
     elim c.match-get_mut.branch [
       | in-Some w ↦ rw (w.result-is, w.self-inside-is, ← c.self.view_is) (λ f.
