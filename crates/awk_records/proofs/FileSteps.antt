@@ -1,6 +1,6 @@
 -- The files of operands: they are opened, read and shut.
 use Rattle.std.proofs.Common.{◌≡◌, inr, refl, sym, ap, subst, ◌∙◌, ◌-◌, arith, ℕ, Bool, true, false, true≢false, List, [], ◌∷◌, map, length}
-use Rattle.std.specs.Prelude.{Result, Ok, Err, Option, Some, None, option_map, is_none, is_some, pos, codes, if◌then◌else◌, unwrap_or, OnOk}
+use Rattle.std.specs.Prelude.{Result, Ok, Err, Option, Some, None, option_map, is_some, pos, codes, if◌then◌else◌, unwrap_or, OnOk}
 use Rattle.std.specs.Str.{bytes_eq}
 use Rattle.awk_text.specs.declared.value.Value.TheVariants as v
 use Rattle.awk_fields.specs.Takes.{Input}
@@ -292,10 +292,6 @@ file_named g text k s e = ap (λ b. if b then Goes (Do (Begun (Standard 0) text)
 pub none_at : {A : Type 0} (o : Option A) → is_some o ≡ false → o ≡ None
 none_at None e = refl
 none_at (Some x) e = absurd (true≢false e)
-
-pub some_unless : {A : Type 0} (o : Option A) → is_none o ≡ false → (x : A) × (o ≡ Some x)
-some_unless (Some x) e = (x, refl)
-some_unless None e = absurd (true≢false e)
 
 pub ok_any : {A E P : Type 0} (r : Result A E) → P → OnOk r P
 ok_any (Ok x) p = p

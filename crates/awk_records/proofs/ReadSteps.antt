@@ -15,7 +15,7 @@ use Rattle.awk_machine.specs.Getline.{fetch_file, got}
 use Rattle.awk_machine.specs.Pieces.{Piece, At, Do, Read, Fetch, Goes, Pipes_of, Value_of, give}
 use Rattle.awk_machine.specs.State.{Given}
 use Rattle.awk_machine.specs.Streams.{seen}
-use Rattle.awk_asks.specs.Chains.{Led, Ended, Leads}
+use Rattle.awk_asks.specs.Chains.{Leads}
 use Rattle.awk_asks.specs.Readings.{fetching}
 use Rattle.awk_asks.specs.declared.halt.Halt.{Halt}
 use Rattle.awk_asks.proofs.Chain.{at_once, done, part, quiet, stop}

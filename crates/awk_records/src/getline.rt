@@ -69,8 +69,8 @@ pub fn file_record<W: World>(
     world: &mut W,
 ) -> Result<Value, Halt>
     requires { Owns (W.open_numbers world.old) streams.old }
-    ensures task { (g : Given) (r : p.Reference) (x : Expression) (target : Spot)
-        → Performs W.follows W.has_stopped W.stops g (At (Value_of (p.getline_file place r x)) (lent_value name.entry ∷ value_of target ∷ [])) (read_of place r x (lent_value name.entry) target) (store.now, streams.old) world.old result (store.now, streams.new) world.new }
+    ensures task { (g : Given) (r : p.Reference) (x : Expression) (target : Value)
+        → Performs W.follows W.has_stopped W.stops g (At (Value_of (p.getline_file place r x)) (lent_value name.entry ∷ target ∷ [])) (read_of place r x (lent_value name.entry) target) (store.now, streams.old) world.old result (store.now, streams.new) world.new }
     ensures owns { Owns (W.open_numbers world.new) streams.new }
 {
     let mut buffer = Buffer::new();

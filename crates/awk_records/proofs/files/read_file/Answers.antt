@@ -1,4 +1,4 @@
-use Rattle.std.proofs.Common.{sym, ap, ◌∙◌}
+use Rattle.std.proofs.Common.{sym, ap, ◌∙◌, not}
 use Rattle.std.specs.Prelude.{Some}
 use Rattle.box_world.specs.Events.{OperandFile, Named}
 use Rattle.awk_program.specs.declared.variables.Own.TheVariants as own
@@ -6,10 +6,10 @@ use Rattle.awk_machine.specs.Pieces.{Do, Take}
 use Rattle.awk_machine.specs.State.{Main}
 use Rattle.awk_store.specs.Inputs.{key_of}
 use Rattle.awk_asks.proofs.Chain.{at_once, lacking}
-use Rattle.awk_asks.proofs.Lives.{live_found}
+use Rattle.awk_asks.proofs.Lives.{live_found, some_at}
 use Rattle.awk_tasks.proofs.Lifting.{apart, apart-text, lifted_at}
 use Rattle.awk_records.specs.Inputs.{found_main}
-use Rattle.awk_records.proofs.FileSteps.{current_is, ok_any, read_as, some_unless}
+use Rattle.awk_records.proofs.FileSteps.{current_is, ok_any, read_as}
 use Rattle.awk_records.proofs.MainSteps.{takes_so}
 use Rattle.awk_records.proofs.files.read_file.Goals as goal
 
@@ -21,7 +21,7 @@ returns-then-is_none-clause-task g c = λ m e. lacking (at_once _ (c.args.store.
 
 pub record-requires-clause-live : goal.record-requires-clause-live
 record-requires-clause-live g c =
-    let n = some_unless c.number.result (sym c.is_none.ensures ∙ c.if-is_none.false) in
+    let n = some_at c.number.result (c.is_none.ensures ∙ ap not c.if-is_none.false) in
     live_found OperandFile c.bytes.result.now n.0 c.args.streams.now (sym c.number.ensures ∙ n.1)
 
 pub returns-clause-task : goal.returns-clause-task
