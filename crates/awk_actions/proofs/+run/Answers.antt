@@ -5,7 +5,6 @@ use Rattle.awk_actions.proofs.Opens.{binary_first, binary_second, unary_first}
 use Rattle.awk_actions.proofs.Printing.{close_first, count_formatted, count_items, halts, print_target, printf_target, streamed, waits_deleted, waits_formatted, waits_printed}
 use Rattle.awk_actions.proofs.Turns.{and_off, and_on, choose_so, count_behind, count_listed, fill_stop, fill_turn, filled_from, got_of, next_of, or_off, or_on, text_given, waits_behind, waits_listed}
 use Rattle.awk_actions.specs.Loops.{loop_of, tested}
-use Rattle.awk_asks.proofs.Asking.{laws_of}
 use Rattle.awk_asks.proofs.Chain.{at_once, done, lacking, part, stop, turned}
 use Rattle.awk_records.proofs.ReadSteps.{file_got}
 use Rattle.awk_calls.proofs.Ending.{answers, answers_so, returns_to}
@@ -36,7 +35,7 @@ use Rattle.awk_tasks.specs.Spots.{meant, value_of}
 use Rattle.awk_tasks.specs.declared.spot.Spot.TheVariants as spot
 use Rattle.awk_tasks.specs.Wholes.{base, names_in}
 use Rattle.awk_machine.specs.Streams.{seen}
-use Rattle.box_world.specs.Events.{Named, Standard}
+use Rattle.box_world.specs.Events.{Standard}
 use Rattle.std.proofs.Common.{[], ap, arith, drop, false, length, map, refl, rules, sym, true, w64, ◌++◌, ◌+◌, ◌∙◌, ◌∷◌}
 use Rattle.std.proofs.lemmas.Int.{to_z-of_z}
 use Rattle.std.proofs.lemmas.Result.{err_from_is_err_and}
@@ -1023,9 +1022,9 @@ pub inputs::from_file-returns-in_err-to : goal.inputs::from_file-returns-in_err-
 inputs::from_file-returns-in_err-to g t c =
     let e = err_from_is_err_and c.from_residual.result c.from_residual.ensures.1 in rw (e.1, e.2) (record { plays = λ m is. stop _ (λ k. refl) (quietly (at_once _ _ _) (λ k hid d a. refl)) (c.target_of.ensures.plays.plays m is) c.in_err-to.was; owns = c.target_of.ensures.plays.owns })
 
-pub inputs::from_file-returns-in_err-answer-in-Some : goal.inputs::from_file-returns-in_err-answer-in-Some
-inputs::from_file-returns-in_err-answer-in-Some g t c =
-    let e = err_from_is_err_and c.from_residual-in_err-answer-in-Some.result c.from_residual-in_err-answer-in-Some.ensures.1 in rw (e.1, e.2) (record { plays = λ m is. stop _ (λ k. refl) (part _ (quietly (part _ (quietly (at_once _ _ _) (λ k hid d a. refl)) (c.target_of.ensures.plays.plays m is) c.in_ok-to.was) (λ k hid d a. refl)) (acted (there {on = give} {x = lent_value c.in-Some.name} (c.in-Some.ensures m c.target_of.new.run.streams))) refl) (c.in_err-answer-in-Some.ensures.task m (view_target (names_in m) c.args.target.now) (view (names_in m) c.args.x.now) (value_of c.in_ok-to.to)) c.in_err-answer-in-Some.was; owns = c.in_err-answer-in-Some.ensures.owns })
+pub inputs::from_file-returns-in_err-answer : goal.inputs::from_file-returns-in_err-answer
+inputs::from_file-returns-in_err-answer g t c =
+    let e = err_from_is_err_and c.from_residual-in_err-answer.result c.from_residual-in_err-answer.ensures.1 in rw (e.1, e.2) (record { plays = λ m is. stop _ (λ k. refl) (part _ (quietly (part _ (quietly (at_once _ _ _) (λ k hid d a. refl)) (c.target_of.ensures.plays.plays m is) c.in_ok-to.was) (λ k hid d a. refl)) (acted (there {on = give} {x = lent_value c.in-Some.name} (c.in-Some.ensures m c.target_of.new.run.streams))) refl) (c.in_err-answer.ensures.task m (view_target (names_in m) c.args.target.now) (view (names_in m) c.args.x.now) (value_of c.in_ok-to.to)) refl; owns = c.in_err-answer.ensures.owns })
 
 pub inputs::from_file-returns-in-Some : goal.inputs::from_file-returns-in-Some
 inputs::from_file-returns-in-Some g t c =
@@ -1033,19 +1032,19 @@ inputs::from_file-returns-in-Some g t c =
       plays = λ m is.
           let r = view_target (names_in m) c.args.target.now in
           let x = view (names_in m) c.args.x.now in
-          let answer = c.in_ok-answer-in-Some.answer in
-          hands (part answer (part _ (quietly (part _ (quietly (at_once _ _ _) (λ k hid d a. refl)) (c.target_of.ensures.plays.plays m is) c.in_ok-to.was) (λ k hid d a. refl)) (acted (there {on = give} {x = lent_value c.in-Some.name} (c.in-Some.ensures m c.target_of.new.run.streams))) refl) (c.in_ok-answer-in-Some.ensures.task m r x (value_of c.in_ok-to.to)) c.in_ok-answer-in-Some.was)
-          (acted (c.set_record-in-Some.ensures m c.file_record-in-Some.new.streams (At (Value_of (p.getline_file c.args.place r x)) (answer ∷ lent_value c.in-Some.name ∷ value_of c.in_ok-to.to ∷ [])) (λ k. k) (file_got m c.args.place r c.in_ok-to.to (lent_value c.in-Some.name) answer (c.in_ok-to.ensures.spot (names_in m)) x)));
-      owns = c.in_ok-answer-in-Some.ensures.owns;
+          let answer = c.in_ok-answer.answer in
+          hands (part answer (part _ (quietly (part _ (quietly (at_once _ _ _) (λ k hid d a. refl)) (c.target_of.ensures.plays.plays m is) c.in_ok-to.was) (λ k hid d a. refl)) (acted (there {on = give} {x = lent_value c.in-Some.name} (c.in-Some.ensures m c.target_of.new.run.streams))) refl) (c.in_ok-answer.ensures.task m r x (value_of c.in_ok-to.to)) refl)
+          (acted (c.set_record.ensures m c.file_record.new.streams (At (Value_of (p.getline_file c.args.place r x)) (answer ∷ lent_value c.in-Some.name ∷ value_of c.in_ok-to.to ∷ [])) (λ k. k) (file_got m c.args.place r c.in_ok-to.to (lent_value c.in-Some.name) answer (c.in_ok-to.ensures.spot (names_in m)) x)));
+      owns = c.in_ok-answer.ensures.owns;
     }
 
 pub inputs::from_file-returns-in_err-name : goal.inputs::from_file-returns-in_err-name
 inputs::from_file-returns-in_err-name g t c =
     let e = err_from_is_err_and c.from_residual-in_err-name.result c.from_residual-in_err-name.ensures.1 in rw (e.1, e.2) (record { plays = λ m is. stop _ (λ k. refl) (quietly (part _ (quietly (at_once _ _ _) (λ k hid d a. refl)) (c.target_of.ensures.plays.plays m is) c.in_ok-to.was) (λ k hid d a. refl)) (c.value.ensures.plays m is) c.in_err-name.was; owns = c.value.ensures.owns })
 
-pub inputs::from_file-returns-in_err-answer : goal.inputs::from_file-returns-in_err-answer
-inputs::from_file-returns-in_err-answer g t c =
-    let e = err_from_is_err_and c.from_residual-in_err-answer.result c.from_residual-in_err-answer.ensures.1 in rw (e.1, e.2) (record { plays = λ m is. stop _ (λ k. refl) (part _ (quietly (part _ (quietly (at_once _ _ _) (λ k hid d a. refl)) (c.target_of.ensures.plays.plays m is) c.in_ok-to.was) (λ k hid d a. refl)) (c.value.ensures.plays m is) c.in_ok-name.was) (rw c.of.ensures at (c.in_err-answer.ensures.task m (view_target (names_in m) c.args.target.now) (view (names_in m) c.args.x.now) (value_of c.in_ok-to.to))) c.in_err-answer.was; owns = c.in_err-answer.ensures.owns })
+pub inputs::from_file-returns-in_err-answer-2 : goal.inputs::from_file-returns-in_err-answer-2
+inputs::from_file-returns-in_err-answer-2 g t c =
+    let e = err_from_is_err_and c.from_residual-in_err-answer-2.result c.from_residual-in_err-answer-2.ensures.1 in rw (e.1, e.2) (record { plays = λ m is. stop _ (λ k. refl) (part _ (quietly (part _ (quietly (at_once _ _ _) (λ k hid d a. refl)) (c.target_of.ensures.plays.plays m is) c.in_ok-to.was) (λ k hid d a. refl)) (c.value.ensures.plays m is) c.in_ok-name.was) (rw c.of.ensures at (c.in_err-answer-2.ensures.task m (view_target (names_in m) c.args.target.now) (view (names_in m) c.args.x.now) (value_of c.in_ok-to.to))) refl; owns = c.in_err-answer-2.ensures.owns })
 
 pub inputs::from_file-returns : goal.inputs::from_file-returns
 inputs::from_file-returns g t c =
@@ -1053,10 +1052,10 @@ inputs::from_file-returns g t c =
       plays = λ m is.
           let r = view_target (names_in m) c.args.target.now in
           let x = view (names_in m) c.args.x.now in
-          let answer = c.in_ok-answer.answer in
-          hands (part answer (part _ (quietly (part _ (quietly (at_once _ _ _) (λ k hid d a. refl)) (c.target_of.ensures.plays.plays m is) c.in_ok-to.was) (λ k hid d a. refl)) (c.value.ensures.plays m is) c.in_ok-name.was) (rw c.of.ensures at (c.in_ok-answer.ensures.task m r x (value_of c.in_ok-to.to))) c.in_ok-answer.was)
-          (acted (c.set_record.ensures m c.file_record.new.streams (At (Value_of (p.getline_file c.args.place r x)) (answer ∷ c.in_ok-name.name ∷ value_of c.in_ok-to.to ∷ [])) (λ k. k) (file_got m c.args.place r c.in_ok-to.to c.in_ok-name.name answer (c.in_ok-to.ensures.spot (names_in m)) x)));
-      owns = c.in_ok-answer.ensures.owns;
+          let answer = c.in_ok-answer-2.answer in
+          hands (part answer (part _ (quietly (part _ (quietly (at_once _ _ _) (λ k hid d a. refl)) (c.target_of.ensures.plays.plays m is) c.in_ok-to.was) (λ k hid d a. refl)) (c.value.ensures.plays m is) c.in_ok-name.was) (rw c.of.ensures at (c.in_ok-answer-2.ensures.task m r x (value_of c.in_ok-to.to))) refl)
+          (acted (c.set_record-2.ensures m c.file_record-2.new.streams (At (Value_of (p.getline_file c.args.place r x)) (answer ∷ c.in_ok-name.name ∷ value_of c.in_ok-to.to ∷ [])) (λ k. k) (file_got m c.args.place r c.in_ok-to.to c.in_ok-name.name answer (c.in_ok-to.ensures.spot (names_in m)) x)));
+      owns = c.in_ok-answer-2.ensures.owns;
     }
 
 pub inputs::from_commands-returns-in_err-so_far : goal.inputs::from_commands-returns-in_err-so_far
