@@ -85,12 +85,7 @@ pub fn take_standard_line(rs: &[u8], streams: &mut Streams, room: &mut Vec<u8>) 
 
 /// The same of a stream that is opened. It stands out of line, so that reading the standard input stays short.
 #[inline(never)]
-pub fn take_line(
-    name: &Name<'_>,
-    rs: &[u8],
-    streams: &mut Streams,
-    room: &mut Vec<u8>,
-) -> bool
+pub fn take_line(name: &Name<'_>, rs: &[u8], streams: &mut Streams, room: &mut Vec<u8>) -> bool
     ensures taken { result ≡ true → IsLine (Named (kind name.now.class) name.now.text.now) rs.now streams.old room.new.items streams.new }
     ensures not_taken { result ≡ false → streams.new ≡ streams.old }
 {

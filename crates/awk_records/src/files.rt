@@ -126,11 +126,7 @@ pub fn begin_input<W: World>(
 
 /// Reads a record of the operand's file. That file stands open; the test of it is there since no contract carries this from one
 /// record to the next.
-fn read_file<W: World>(
-    store: &Store,
-    streams: &mut Streams,
-    world: &mut W,
-) -> Result<Found, Halt>
+fn read_file<W: World>(store: &Store, streams: &mut Streams, world: &mut W) -> Result<Found, Halt>
     requires { Owns (W.open_numbers world.old) streams.old }
     ensures task { (g : Given) → store.now.main.ended ≡ false
         → Performs W.follows W.has_stopped W.stops g (Do Take) (found_main (current_key store.now)) (store.now, streams.old) world.old result (store.now, streams.new) world.new }
