@@ -15,8 +15,7 @@ use awk_asks::{closing, requests};
 use awk_forms::at_hand::{MOST_LEVELS, at_hand};
 use awk_lent::lent::Lent;
 use awk_program::{Expr, Piped, Target};
-use awk_records::counted::{Counted, set_record};
-use awk_records::getline::{file_record, getline_pipe};
+use awk_records::getline::{file_record, getline_pipe, set_from_file};
 use awk_records::main_input::getline_main;
 use awk_tasks::values::into_text;
 use awk_text::place::Place;
@@ -67,14 +66,7 @@ pub fn from_file<W: World>(
     let to = target_of(cx, target, level, run, world)?;
     if let Some(name) = at_hand(&run.store, x, MOST_LEVELS) {
         let answer = file_record(cx.alloc, place, name, &run.store, &mut run.streams, world)?;
-        return set_record(
-            cx.alloc,
-            &mut run.store,
-            place,
-            to,
-            Counted::Nothing,
-            answer,
-        );
+        return set_from_file(cx.alloc, place, to, answer, &mut run.store);
     }
     let name = value(cx, x, level, run, world)?;
     let answer = file_record(
@@ -85,14 +77,7 @@ pub fn from_file<W: World>(
         &mut run.streams,
         world,
     )?;
-    set_record(
-        cx.alloc,
-        &mut run.store,
-        place,
-        to,
-        Counted::Nothing,
-        answer,
-    )
+    set_from_file(cx.alloc, place, to, answer, &mut run.store)
 }
 
 /// `command | getline target`, and a chain of them.

@@ -7,7 +7,9 @@ ghost use Rattle.awk_machine.specs.Getline as machine;
 ghost use Rattle.awk_machine.specs.Pieces.{At, Do, Piece, Pipes_of, Value_of, give};
 ghost use Rattle.awk_machine.specs.State.{Given};
 ghost use Rattle.awk_asks.specs.Readings.{fetching, key_of};
+ghost use Rattle.awk_asks.specs.Tables.{Table};
 ghost use Rattle.awk_asks.specs.Tasks.{Owns};
+ghost use Rattle.awk_tasks.specs.Acts.{Acts};
 ghost use Rattle.awk_tasks.specs.Spots.{IsSpotOf, value_of};
 ghost use Rattle.awk_tasks.specs.Wholes.{names_in};
 ghost use Rattle.awk_records.specs.Gots.{read_of};
@@ -59,7 +61,7 @@ fn fetch_record<W: World>(
     fetch(alloc, place, source, rs, streams, world)
 }
 
-/// Reads a record for `getline target < file`, once it is known what is set, and the file's name: `set_record` is to set it.
+/// Reads a record for `getline target < file`, once it is known what is set, and the file's name: `set_from_file` sets it.
 pub fn file_record<W: World>(
     alloc: Global,
     place: Place,
@@ -76,6 +78,20 @@ pub fn file_record<W: World>(
     let mut buffer = Buffer::new();
     let source = file_source(name.text(&mut buffer));
     fetch_record(alloc, place, &source, store, streams, world)
+}
+
+/// Sets what `getline target < file` sets to the record that was read, and answers 1; or answers what came in its place.
+pub fn set_from_file(
+    alloc: Global,
+    place: Place,
+    target: Spot,
+    answer: Value,
+    store: &mut Store,
+) -> Result<Value, Halt>
+    ensures { (g : Given) (t : Table) (r : p.Reference) (x : Expression) (name : Value) → IsSpotOf (names_in g) r target
+        → Acts g (At (Value_of (p.getline_file place r x)) (answer ∷ name ∷ value_of target ∷ [])) give (store.old, t) result (store.new, t) }
+{
+    set_record(alloc, store, place, target, Counted::Nothing, answer)
 }
 
 /// `command | getline target`, once the command and what is set are known.

@@ -6,7 +6,6 @@ use Rattle.awk_actions.proofs.Printing.{close_first, count_formatted, count_item
 use Rattle.awk_actions.proofs.Turns.{and_off, and_on, choose_so, count_behind, count_listed, fill_stop, fill_turn, filled_from, got_of, next_of, or_off, or_on, text_given, waits_behind, waits_listed}
 use Rattle.awk_actions.specs.Loops.{loop_of, tested}
 use Rattle.awk_asks.proofs.Chain.{at_once, done, lacking, part, stop, turned}
-use Rattle.awk_records.proofs.ReadSteps.{file_got}
 use Rattle.awk_calls.proofs.Ending.{answers, answers_so, returns_to}
 use Rattle.awk_calls.proofs.Leading.{jumped, takes}
 use Rattle.awk_calls.specs.Calls.{argument_of}
@@ -1034,7 +1033,7 @@ inputs::from_file-returns-in-Some g t c =
           let x = view (names_in m) c.args.x.now in
           let answer = c.in_ok-answer.answer in
           hands (part answer (part _ (quietly (part _ (quietly (at_once _ _ _) (λ k hid d a. refl)) (c.target_of.ensures.plays.plays m is) c.in_ok-to.was) (λ k hid d a. refl)) (acted (there {on = give} {x = lent_value c.in-Some.name} (c.in-Some.ensures m c.target_of.new.run.streams))) refl) (c.in_ok-answer.ensures.task m r x (value_of c.in_ok-to.to)) refl)
-          (acted (c.set_record.ensures m c.file_record.new.streams (At (Value_of (p.getline_file c.args.place r x)) (answer ∷ lent_value c.in-Some.name ∷ value_of c.in_ok-to.to ∷ [])) (λ k. k) (file_got m c.args.place r c.in_ok-to.to (lent_value c.in-Some.name) answer (c.in_ok-to.ensures.spot (names_in m)) x)));
+          (acted (c.set_from_file.ensures m c.file_record.new.streams r x (lent_value c.in-Some.name) (c.in_ok-to.ensures.spot (names_in m))));
       owns = c.in_ok-answer.ensures.owns;
     }
 
@@ -1054,7 +1053,7 @@ inputs::from_file-returns g t c =
           let x = view (names_in m) c.args.x.now in
           let answer = c.in_ok-answer-2.answer in
           hands (part answer (part _ (quietly (part _ (quietly (at_once _ _ _) (λ k hid d a. refl)) (c.target_of.ensures.plays.plays m is) c.in_ok-to.was) (λ k hid d a. refl)) (c.value.ensures.plays m is) c.in_ok-name.was) (rw c.of.ensures at (c.in_ok-answer-2.ensures.task m r x (value_of c.in_ok-to.to))) refl)
-          (acted (c.set_record-2.ensures m c.file_record-2.new.streams (At (Value_of (p.getline_file c.args.place r x)) (answer ∷ c.in_ok-name.name ∷ value_of c.in_ok-to.to ∷ [])) (λ k. k) (file_got m c.args.place r c.in_ok-to.to c.in_ok-name.name answer (c.in_ok-to.ensures.spot (names_in m)) x)));
+          (acted (c.set_from_file-2.ensures m c.file_record-2.new.streams r x c.in_ok-name.name (c.in_ok-to.ensures.spot (names_in m))));
       owns = c.in_ok-answer-2.ensures.owns;
     }
 
