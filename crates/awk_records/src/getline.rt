@@ -61,7 +61,8 @@ fn fetch_record<W: World>(
     fetch(alloc, place, source, rs, streams, world)
 }
 
-/// Reads a record for `getline target < file`, once it is known what is set, and the file's name: `set_from_file` sets it.
+/// Reads a record for `getline target < file`, once the file's name is known: the record as input, 0 at its end, or -1 where it
+/// can't be read. `set_from_file` sets it.
 pub fn file_record<W: World>(
     alloc: Global,
     place: Place,
