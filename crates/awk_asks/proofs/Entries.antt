@@ -1,18 +1,24 @@
 -- The table of streams, as contracts see it, after the calls of the map that holds it.
-use Rattle.std.proofs.Common.{◌≡◌, ℕ, Bool, true, false, cond, List, [], ◌∷◌, ◌++◌, map, Option, Some, None, refl, ap, sym, ◌∙◌}
+use Rattle.std.proofs.Common.{◌≡◌, ℕ, zero, suc, ◌<◌, Bool, true, false, cond, List, [], ◌∷◌, ◌++◌, map, length, get_or, slice_get, position, Option, Some, None, is_some, refl, ap, sym, subst, ◌∙◌, true≢false, arith}
 use Rattle.std.specs.Prelude.{if◌then◌else◌}
 use Rattle.std.specs.Option.{option_map}
-use Rattle.std.specs.Map.{lookup, remove_entry, set_value}
-use Rattle.indexmap.specs.IndexMap.{insert_entry}
-use Rattle.box_world.specs.Events.{Class, Stream, is_named, find_stream}
-use Rattle.std.specs.Prelude.{Result, Ok, Err, OnOk, IfOk, IfErr, IsOk}
+use Rattle.std.specs.Map.{lookup, keys_of, values_of, remove_entry, set_value}
+use Rattle.std.specs.List.{AllByRecursion, IsDistinct}
+use Rattle.std.specs.Cmp.Lexicographic.{nat_list_eq_equiv}
+use Rattle.std.proofs.lemmas.List.{length-map, get_or-map}
+use Rattle.std.proofs.lemmas.List.Quantifiers.{position-Some}
+use Rattle.std.proofs.lemmas.Map.Keys.{IsDistinct-head, IsDistinct-tail}
+use Rattle.std.proofs.lemmas.Option.{same_Some, slice_get-get_or}
+use Rattle.indexmap.specs.IndexMap.{insert_entry, set_value_at}
+use Rattle.box_world.specs.Events.{Class, Stream, class_number, is_named, find_stream}
+use Rattle.std.specs.Prelude.{Result, Ok, Err, OnOk, IfOk, IfErr, IfSome, IsOk}
 use Rattle.awk_asks.specs.contracts.streams.KeptNamePartialEq.TheImpl.{eq-value}
 use Rattle.awk_asks.specs.contracts.streams.NameEquivalentKeptName.TheImpl.{equivalent-value}
 use Rattle.awk_asks.specs.declared.streams.Name.{Name}
 use Rattle.awk_asks.specs.declared.streams.KeptName.{KeptName}
 use Rattle.awk_asks.specs.declared.streams.Open.{Open}
 use Rattle.awk_fields.specs.Takes.{Input}
-use Rattle.awk_asks.specs.Tables.{Table, kind, entry_of, entries_without, find_input, with_input}
+use Rattle.awk_asks.specs.Tables.{Table, kind, has_name, entry_of, entries_without, find_input, with_input}
 
 -- the table of these entries
 abbrev table_of : List (KeptName × Open) → Input → ℕ → Table
@@ -97,10 +103,74 @@ insert-entries eq name o (x ∷ xs) e = by (eq name x.0) e (insert-entries eq na
     by true p rest = absurd (cc)
     by false p rest = ap (λ l. entry_of x ∷ l) (rest p)
 
+-- ---- the entry at a place
+
+all_at : (P : KeptName → Type 0) (es : List (KeptName × Open)) (i : ℕ) (k : KeptName) (o : Open) → slice_get es i ≡ Some (k, o) → AllByRecursion P (keys_of es) → P k
+all_at P [] i k o at all = absurd (true≢false (sym (ap is_some at)))
+all_at P (e ∷ es) zero k o at all = subst (λ (x : KeptName × Open). P x.0) (same_Some e (k, o) at) all.0
+all_at P (e ∷ es) (suc i) k o at all = all_at P es i k o at all.1
+
+-- the one that a look-up found
+pub found_at : (test : KeptName → Bool) (es : List (KeptName × Open)) (i : ℕ) → position test (keys_of es) ≡ Some i → (k : KeptName) × (o : Open) × (slice_get es i ≡ Some (k, o)) × (test k ≡ true)
+found_at test [] i h = absurd (true≢false (sym (ap is_some h)))
+found_at test (e ∷ es) i h =
+    let k = position-Some test (keys_of (e ∷ es)) i e.0 h in
+    let here : i < length (e ∷ es) = omega (arith, k.0, length-map (e ∷ es) (λ x. x.0)) in
+    let x = get_or (e ∷ es) i e in
+    let hit : test x.0 ≡ true = ap test (sym (get_or-map (λ (x : KeptName × Open). x.0) (e ∷ es) i e e.0 here)) ∙ k.1 in
+    (x.0, x.1, slice_get-get_or (e ∷ es) i e here, hit)
+
+pub found_if : (test : KeptName → Bool) (es : List (KeptName × Open)) (r : Option ℕ) → r ≡ position test (keys_of es) → IfSome r (λ i. (k : KeptName) × (o : Open) × (slice_get es i ≡ Some (k, o)) × (test k ≡ true))
+found_if test es None h = tt
+found_if test es (Some i) h = found_at test es i (sym h)
+
+pub none_from : {A : Type 0} (x : Option A) → false ≡ is_some x → x ≡ None
+none_from None e = refl
+none_from (Some x) e = absurd (true≢false (sym e))
+
+-- two kept names of one class and text are equal
+same_name : (c : Class) (text : List ℕ) (x y : KeptName) → has_name c text x ≡ true → has_name c text y ≡ true → eq-value.it x y ≡ true
+same_name c text x y p q =
+    let n = class_number c ∷ text in
+    let one = class_number (kind x.class) ∷ x.text.items in
+    let other = class_number (kind y.class) ∷ y.text.items in
+    sym (nat_list_eq_equiv.congr n one other p) ∙ q
+
+-- no name before that place is of the same class and text
+module _ (c : Class) (text : List ℕ) where
+  not_before : (e : KeptName × Open) (es : List (KeptName × Open)) (i : ℕ) (k : KeptName) (o : Open) → IsDistinct eq-value.it (keys_of (e ∷ es)) → slice_get es i ≡ Some (k, o) → has_name c text k ≡ true → has_name c text e.0 ≡ false
+  not_before e es i k o d at hit = by (has_name c text e.0) refl
+    where
+      by : (b : Bool) → has_name c text e.0 ≡ b → b ≡ false
+      by true here = absurd (true≢false (sym (same_name c text e.0 k here hit) ∙ all_at (λ y. eq-value.it e.0 y ≡ false) es i k o at (IsDistinct-head eq-value.it e.0 (keys_of es) d)))
+      by false here = refl
+
+  lookup_at : (es : List (KeptName × Open)) (i : ℕ) (k : KeptName) (o : Open) → IsDistinct eq-value.it (keys_of es) → slice_get es i ≡ Some (k, o) → has_name c text k ≡ true → lookup (has_name c text) es ≡ Some o
+  lookup_at [] i k o d at hit = absurd (true≢false (sym (ap is_some at)))
+  lookup_at (e ∷ es) zero k o d at hit = rw (same_Some e (k, o) at, hit) refl
+  lookup_at (e ∷ es) (suc i) k o d at hit = rw (not_before e es i k o d at hit) (lookup_at es i k o (IsDistinct-tail eq-value.it e.0 (keys_of es) d) at hit)
+
+  values_at : (es : List (KeptName × Open)) (i : ℕ) (k : KeptName) (o : Open) → slice_get es i ≡ Some (k, o) → slice_get (values_of es) i ≡ Some o
+  values_at [] i k o at = absurd (true≢false (sym (ap is_some at)))
+  values_at (e ∷ es) zero k o at = ap (λ (x : KeptName × Open). Some x.1) (same_Some e (k, o) at)
+  values_at (e ∷ es) (suc i) k o at = values_at es i k o at
+
+  pub open_at : (es : List (KeptName × Open)) (i : ℕ) (k : KeptName) (o : Open) → IsDistinct eq-value.it (keys_of es) → slice_get es i ≡ Some (k, o) → has_name c text k ≡ true →
+      (x : Option Open) → x ≡ slice_get (values_of es) i → lookup (has_name c text) es ≡ x
+  open_at es i k o d at hit x e = lookup_at es i k o d at hit ∙ sym (values_at es i k o at) ∙ sym e
+
+  pub set_at : (es : List (KeptName × Open)) (i : ℕ) (k : KeptName) (o w : Open) → IsDistinct eq-value.it (keys_of es) → slice_get es i ≡ Some (k, o) → has_name c text k ≡ true → set_value_at es i w ≡ set_value (has_name c text) es w
+  set_at [] i k o w d at hit = refl
+  set_at (e ∷ es) zero k o w d at hit = rw (same_Some e (k, o) at, hit) refl
+  set_at (e ∷ es) (suc i) k o w d at hit = rw (not_before e es i k o d at hit) (ap (λ l. e ∷ l) (set_at es i k o w (IsDistinct-tail eq-value.it e.0 (keys_of es) d) at hit))
+
 -- ---- names
 
 pub kept_test : (n : KeptName) → IsTest (eq-value.it n) (kind n.class) n.text.items
 kept_test n e = refl
+
+pub text_test : (c : Class) (text : List ℕ) → IsTest (has_name c text) c text
+text_test c text e = refl
 
 pub name_test : (q : Name) → IsTest (equivalent-value.it q) (kind q.class) q.text.now
 name_test q e = refl

@@ -1,10 +1,11 @@
 -- The streams that a run has open, as a list.
-use Rattle.std.specs.Prelude.{◌≡◌, ℕ, List, [], ◌∷◌, map, if◌then◌else◌, Option, Some, None}
+use Rattle.std.specs.Prelude.{◌≡◌, ℕ, nat_eq, Bool, ◌&&◌, List, [], ◌∷◌, map, if◌then◌else◌, Option, Some, None}
 use Rattle.awk_fields.specs.declared.reader.Taken.{Taken}
 use Rattle.awk_fields.specs.declared.reader.Taken.TheVariants.{Record}
 use Rattle.awk_fields.specs.Heads.{head}
 use Rattle.awk_fields.specs.Takes.{Input, Takes}
-use Rattle.box_world.specs.Events.{Class, OperandFile, InputFile, InputCommand, OutputFile, OutputCommand, Stream, is_named}
+use Rattle.box_world.specs.Events.{Class, OperandFile, InputFile, InputCommand, OutputFile, OutputCommand, Stream, class_number, is_named}
+use Rattle.std.specs.Str.{bytes_eq}
 use Rattle.awk_asks.specs.declared.streams.Class as code
 use Rattle.awk_asks.specs.declared.streams.Class.TheVariants as class
 use Rattle.awk_asks.specs.declared.streams.KeptName.{KeptName}
@@ -34,6 +35,10 @@ entry_of e = record { stream = record { class = kind e.0.class; text = e.0.text.
 
 abbrev pub open_of : Table → List Stream
 open_of table = map (λ e. e.stream) table.entries
+
+-- a kept name is this class and text
+abbrev pub has_name : Class → List ℕ → KeptName → Bool
+has_name c text n = nat_eq (class_number c) (class_number (kind n.class)) && bytes_eq text n.text.items
 
 -- what is held unread of the first of this class and text
 abbrev pub find_input : Class → List ℕ → List Entry → Option Input

@@ -1,5 +1,5 @@
 // The streams that a run has open.
-ghost use Rattle.std.specs.Prelude.{◌≡◌, ◌<◌, [], ◌∷◌, ◌++◌, ◌&&◌, nat_eq, true, false, None, Some, OnOk, OnErr, IfOk, IfErr, IsOkUnless, ◌⊎◌, drop, slice_get, option_map};
+ghost use Rattle.std.specs.Prelude.{◌≡◌, ◌<◌, [], ◌∷◌, ◌++◌, ◌&&◌, nat_eq, true, false, None, Some, OnOk, OnErr, IfOk, IfErr, IfSome, IsOkUnless, ◌⊎◌, drop, slice_get, option_map};
 ghost use Rattle.awk_fields.specs.Heads.{head, too_long};
 ghost use Rattle.awk_fields.specs.Takes.{Input, Takes};
 ghost use Rattle.awk_fields.specs.declared.reader.Taken.TheVariants as taken;
@@ -9,9 +9,12 @@ ghost use Rattle.std.proofs.Common.{ap};
 ghost use Rattle.std.specs.Cmp as Cmp;
 ghost use Rattle.std.specs.Cmp.{on_equiv, on_per};
 ghost use Rattle.std.specs.Cmp.Lexicographic.{bytes_decides, nat_list_eq_equiv};
+ghost use Rattle.std.specs.Map.{lookup};
 ghost use Rattle.std.specs.Str.{bytes_eq};
 ghost use Rattle.awk_asks.specs.Closings.{first_of};
-ghost use Rattle.awk_asks.specs.Tables.{kind, open_of, entries_without, find_input, with_input, TakesLine, TakesOf};
+ghost use Rattle.awk_asks.specs.declared.streams.KeptName.{KeptName};
+ghost use Rattle.awk_asks.specs.declared.streams.Open.{Open};
+ghost use Rattle.awk_asks.specs.Tables.{kind, has_name, open_of, entries_without, find_input, with_input, TakesLine, TakesOf};
 
 use awk_fields::reader::{Reader, Taken};
 use awk_lib::is_same;
@@ -116,6 +119,7 @@ impl Equivalent<KeptName> for Name<'_> {
 
     ghost respects_eq = { λ q x y. nat_list_eq_equiv.congr (class_number (kind q.class) ∷ q.text.now) (class_number (kind x.class) ∷ x.text.items) (class_number (kind y.class) ∷ y.text.items) };
 
+    #[inline(always)]
     fn equivalent(&self, name: &KeptName) -> bool {
         self.class == name.class && is_same(self.text, name.text.as_slice())
     }
@@ -135,6 +139,8 @@ pub struct Streams {
     input: Reader,
     /// What the next record that is read is written into
     text_room: Vec<u8>,
+    /// Where the stream lies that a line was looked for in last
+    last: usize,
 }
 
 impl Model for Streams {
@@ -154,6 +160,21 @@ fn is_closed(class: Class) -> bool
     class != Class::OperandFile
 }
 
+/// Where the stream of this name lies, if it is open. Most often it is the one that was looked for last, so that one is tried
+/// before the name is hashed.
+#[inline(always)]
+fn place_of(table: &IndexMap<KeptName, Open>, last: usize, name: &Name<'_>) -> Option<usize>
+    ensures some { IfSome result (λ i. (k : KeptName) × (o : Open) × (slice_get table.now.entries i ≡ Some (k, o)) × (has_name (kind name.now.class) name.now.text.now k ≡ true)) }
+    ensures none { result ≡ None → lookup (has_name (kind name.now.class) name.now.text.now) table.now.entries ≡ None }
+{
+    if let Some((held, _)) = table.get_index(last) {
+        if name.equivalent(held) {
+            return Some(last);
+        }
+    }
+    table.get_index_of(*name)
+}
+
 impl Streams {
     /// No stream is open, and nothing is read. Takes no memory.
     pub fn new(alloc: Global) -> Streams
@@ -164,6 +185,7 @@ impl Streams {
             table: IndexMap::new(alloc),
             input: Reader::new(alloc),
             text_room: Vec::new(alloc),
+            last: 0,
         }
     }
 
@@ -294,7 +316,11 @@ impl Streams {
         ensures not_taken { result ≡ false → self.new ≡ self.old }
         ensures input { self.new.input ≡ self.old.input }
     {
-        match self.table.get_mut(*name) {
+        let Some(place) = place_of(&self.table, self.last, name) else {
+            return false;
+        };
+        self.last = place;
+        match self.table.get_index_mut(place) {
             Some(open) => open.reader.take_line(rs, room),
             None => false,
         }

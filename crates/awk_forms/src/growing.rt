@@ -120,7 +120,7 @@ fn grow(alloc: Global, store: &mut Store, to: Variable, more: &[u8]) -> Result<(
     ensures err { IfErr result (λ h. h ≡ Halt.Memory) }
     ensures used { store.new.used ≡ store.old.used }
 {
-    let Ok(text) = into_text(alloc, store.take(to)) else {
+    let Ok(text) = into_text(alloc, store.replace_value(to, Value::Unset)) else {
         return Err(Halt::Memory);
     };
     let mut bytes = text.into_bytes();

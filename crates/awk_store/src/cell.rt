@@ -81,13 +81,14 @@ impl Cell {
         }
     }
 
-    /// Takes the value out, and leaves it unset. An array stays as it is.
-    pub(crate) fn take_value(&mut self) -> Value
+    /// Sets the value, and answers the one before. An array stays as it is, and has none.
+    #[inline(always)]
+    pub(crate) fn replace_value(&mut self, value: Value) -> Value
         ensures value { result ≡ unwrap_or (scalar (Some self.old)) Value.Unset }
-        ensures after { self.new ≡ given_value Value.Unset self.old }
+        ensures after { self.new ≡ given_value value self.old }
     {
         match self {
-            Cell::Value(old) => mem::replace(old, Value::Unset),
+            Cell::Value(old) => mem::replace(old, value),
             Cell::Array(_) => Value::Unset,
         }
     }

@@ -90,24 +90,25 @@ fn set_bound(frame: &mut Vec<Bound>, place: usize, value: Value)
     }
 }
 
-/// Takes the value at a slot out, and leaves it unset. An array stays as it is.
-fn take_value(cells: &mut Vec<Cell>, slot: usize) -> Value
+/// Sets the value at a slot, and answers the one before. An array stays as it is.
+#[inline(always)]
+fn replace_value(cells: &mut Vec<Cell>, slot: usize, value: Value) -> Value
     ensures value { result ≡ value_at cells.old.items slot }
-    ensures after { cells.new.items ≡ change_at (given_value Value.Unset) cells.old.items slot }
+    ensures after { cells.new.items ≡ change_at (given_value value) cells.old.items slot }
 {
     match cells.get_mut(slot) {
-        Some(cell) => cell.take_value(),
+        Some(cell) => cell.replace_value(value),
         None => Value::Unset,
     }
 }
 
-/// Takes the value of a parameter out, and leaves it unset.
-fn take_bound(frame: &mut Vec<Bound>, place: usize) -> Value
+/// Sets a parameter to a value, and answers the one before.
+fn replace_bound(frame: &mut Vec<Bound>, place: usize, value: Value) -> Value
     ensures value { result ≡ unwrap_or (bound_scalar (slice_get frame.old.items place)) Value.Unset }
-    ensures after { frame.new.items ≡ slice_set frame.old.items place (Bound.Scalar Value.Unset) }
+    ensures after { frame.new.items ≡ slice_set frame.old.items place (Bound.Scalar value) }
 {
     if place < frame.len() {
-        return mem::replace(&mut frame[place], Bound::Scalar(Value::Unset)).into_value();
+        return mem::replace(&mut frame[place], Bound::Scalar(value)).into_value();
     }
     Value::Unset
 }
@@ -147,16 +148,18 @@ impl Store {
         }
     }
 
-    /// Takes the value of a variable out, and leaves the variable unset, as `set` does. Takes no memory.
+    /// Sets a variable to a value, as `set` does, and answers the value before. Takes no memory.
     ///
-    /// So a value can be changed outside the store: taken out, and set again.
-    pub fn take(&mut self, variable: Variable) -> Value
+    /// So the room of a text that goes can be used again, and a value can be changed outside the store: taken out with an unset
+    /// one in its place, and set again.
+    #[inline(always)]
+    pub fn replace_value(&mut self, variable: Variable, new: Value) -> Value
         ensures value { result ≡ value self.old variable }
-        ensures after { self.new ≡ with_value variable Value.Unset self.old }
+        ensures after { self.new ≡ with_value variable new self.old }
     {
         match variable {
-            Variable::Global(slot) => take_value(&mut self.cells, slot as usize),
-            Variable::Parameter(place) => take_bound(&mut self.frame, place as usize),
+            Variable::Global(slot) => replace_value(&mut self.cells, slot as usize, new),
+            Variable::Parameter(place) => replace_bound(&mut self.frame, place as usize, new),
         }
     }
 

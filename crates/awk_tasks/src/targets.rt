@@ -14,7 +14,7 @@ ghost use Rattle.awk_tasks.specs.Wholes.{names_in};
 use crate::elements::{read_element, set_element};
 use crate::fields::{read_field, set_field};
 use crate::spot::Spot;
-use crate::variables::{read_variable, set_variable};
+use crate::variables::{read_variable, replace_variable, set_variable};
 use awk_asks::halt::Halt;
 use awk_store::{Store, is_nf};
 use awk_text::fault::Fault;
@@ -81,6 +81,24 @@ pub fn set(
         }
         Spot::Field(number) => set_field(alloc, store, number, place, value),
     }
+}
+
+/// Sets it, and answers what a text before lay in, if one is left: the next text may be written there.
+#[inline(always)]
+pub fn replace(
+    alloc: Global,
+    store: &mut Store,
+    target: Spot,
+    place: Place,
+    value: Value,
+) -> Result<Vec<u8>, Halt>
+    ensures { (g : Given) (t : Table) → Acts g (Do (Set (meant (names_in g) target) place value)) goes_on (store.old, t) result (store.new, t) }
+{
+    if let Spot::Variable(variable) = target {
+        return replace_variable(alloc, store, variable, place, value);
+    }
+    set(alloc, store, target, place, value)?;
+    Ok(store.take_room())
 }
 
 /// The number of a value, as a value.

@@ -50,6 +50,33 @@ fn set_count(store: &mut Store, place: Place, value: &Value) -> Result<(), Halt>
     at(place, store.set_field_count(count))
 }
 
+/// What the text of a value lay in: none where it was a number or unset.
+fn into_room(alloc: Global, value: Value) -> Vec<u8> {
+    match value {
+        Value::Text(text) | Value::Input(text) => text.into_bytes(),
+        Value::Unset | Value::Num(_) => Vec::new(alloc),
+    }
+}
+
+/// Sets a variable, and answers what the text that it held lay in.
+#[inline(always)]
+pub fn replace_variable(
+    alloc: Global,
+    store: &mut Store,
+    variable: Variable,
+    place: Place,
+    value: Value,
+) -> Result<Vec<u8>, Halt>
+    ensures { (g : Given) (t : Table) → Acts g (Do (Set (machine.Variable (variable_of (names_in g) variable)) place value)) goes_on (store.old, t) result (store.new, t) }
+{
+    if is_nf(variable) {
+        set_count(store, place, &value)?;
+        return Ok(Vec::new(alloc));
+    }
+    let before = store.replace_value(variable, value);
+    Ok(into_room(alloc, before))
+}
+
 /// Sets a variable.
 pub fn set_variable(
     store: &mut Store,
