@@ -18,22 +18,24 @@ use crate::lists::{element_group, formatted};
 use crate::patterns::{locate, matches, split, substitute};
 use crate::targets::{alter, assign, change, increment, put, read_target, step_target};
 use awk_asks::halt::Halt;
-use awk_forms::at_hand::{MOST_LEVELS, number_at_hand, truth_at_hand, value_at_hand};
+use awk_forms::at_hand::{MOST_LEVELS, at_hand, number_at_hand, truth_at_hand, value_at_hand};
 use awk_forms::chains::{join, members, operated};
 use awk_forms::done::done_at_once;
 use awk_forms::made::owned;
 use awk_forms::operands::{Binary, Unary, part_of};
 use awk_forms::patterns::matched_record;
 use awk_forms::splitting::{done_once_split, truth_once_split};
+use awk_lent::lent::Lent;
 use awk_program::{Comparison, Expr, Joined, Term, Variable};
 use awk_text::fault::Fault;
 use awk_text::place::Place;
 use awk_text::value::{Value, number_of, truth};
-use awk_works::operators::{compared, truth_value};
+use awk_works::operators::{compared, compared_lent, truth_value};
 use box_world::world::World;
 
 /// The value of an expression. Each part is evaluated one level lower; where there is none left, memory for the parts is refused. Those of
-/// which functions that call themselves are made do not go through `evaluate`, whose frame is larger.
+/// which functions that call themselves are made do not go through `evaluate`, whose frame is larger, and neither do those of loops
+/// over a stream.
 #[cycle(run)]
 pub fn value<W: World>(
     cx: &Context<'_>,
@@ -56,6 +58,10 @@ pub fn value<W: World>(
         Expr::Chain(x, xs) => chain(cx, x.get(), xs.as_slice(), level - 1, run, world),
         Expr::Choice(x, y, z) => choose(cx, x.get(), y.get(), z.get(), level - 1, run, world),
         Expr::Call(place, f, xs) => call(cx, *place, *f, xs.as_slice(), level - 1, run, world),
+        Expr::GetlineFile(place, target, x) => {
+            from_file(cx, *place, target, x.get(), level - 1, run, world)
+        }
+        Expr::Pipe(x, xs) => from_commands(cx, x.get(), xs.as_slice(), level - 1, run, world),
         _ => evaluate(cx, e, level - 1, run, world),
     }
 }
@@ -148,6 +154,9 @@ fn compare<W: World>(
         (run.old.store, run.old.streams) world.old result (run.new.store, run.new.streams) world.new }
 {
     let one = value(cx, x, level, run, world)?;
+    if let Some(other) = at_hand(&run.store, y, MOST_LEVELS) {
+        return Ok(compared_lent(how, Lent::of(&one), other));
+    }
     let other = value(cx, y, level, run, world)?;
     Ok(compared(how, &one, &other))
 }

@@ -50,6 +50,7 @@ pub fn getline<W: World>(
 
 /// `getline target < file`
 #[cycle(run)]
+#[inline(never)]
 pub fn from_file<W: World>(
     cx: &Context<'_>,
     place: Place,
@@ -66,7 +67,14 @@ pub fn from_file<W: World>(
     let to = target_of(cx, target, level, run, world)?;
     if let Some(name) = at_hand(&run.store, x, MOST_LEVELS) {
         let answer = file_record(cx.alloc, place, name, &run.store, &mut run.streams, world)?;
-        return set_from_file(cx.alloc, place, to, answer, &mut run.store);
+        return set_from_file(
+        cx.alloc,
+        place,
+        to,
+        answer,
+        &mut run.store,
+        &mut run.streams,
+    );
     }
     let name = value(cx, x, level, run, world)?;
     let answer = file_record(
@@ -77,11 +85,19 @@ pub fn from_file<W: World>(
         &mut run.streams,
         world,
     )?;
-    set_from_file(cx.alloc, place, to, answer, &mut run.store)
+    set_from_file(
+        cx.alloc,
+        place,
+        to,
+        answer,
+        &mut run.store,
+        &mut run.streams,
+    )
 }
 
-/// `command | getline target`, and a chain of them.
+/// `command | getline target`, and a chain of them. The one command that is most often read so, a constant, is not copied.
 #[cycle(run)]
+#[inline(never)]
 pub fn from_commands<W: World>(
     cx: &Context<'_>,
     x: &Expr,
@@ -94,6 +110,20 @@ pub fn from_commands<W: World>(
     ensures { Does W.follows W.has_stopped W.stops W.open_numbers cx.now (λ g. value (p.pipe (view (names_in g) x.now) (view_pipes (names_in g) xs.now))) (λ g. give)
         (run.old.store, run.old.streams) world.old result (run.new.store, run.new.streams) world.new }
 {
+    if let Expr::Text(command) = x {
+        if let [next] = xs {
+            let to = target_of(cx, &next.target, level, run, world)?;
+            return getline_pipe(
+                cx.alloc,
+                next.place,
+                to,
+                Lent::Text(command.bytes()),
+                &mut run.store,
+                &mut run.streams,
+                world,
+            );
+        }
+    }
     let mut so_far = value(cx, x, level, run, world)?;
     for next in xs {
         let to = target_of(cx, &next.target, level, run, world)?;

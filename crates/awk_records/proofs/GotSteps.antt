@@ -54,11 +54,11 @@ module _ (g : Given) (p : Piece) (place : Place) (target : Target) (names : List
   before_set w e = moves (at_rest p w) (λ k hid c a. ap (held g (seen (base g w hid) c)) (is k (seen (base g w hid) c) ∙ got_record place target names x (to k) (seen (base g w hid) c) e))
 
   module _ (old mid : Whole) (e : is_record x ≡ true) where
-    pub not_set : {B : Type 0} {last : B → List Piece → List Piece} (r : Result (Unit {0}) Halt) (h : Halt) → Acts g (Do (Set target place x)) goes_on old r mid → r ≡ Err h → Acts g p last old (Err h) mid
+    pub not_set : {A B : Type 0} {last : B → List Piece → List Piece} (r : Result A Halt) (h : Halt) → Acts g (Do (Set target place x)) (goes_on {A = A}) old r mid → r ≡ Err h → Acts g p last old (Err h) mid
     not_set r h task is_err = stop h (before_set old e) task is_err
 
-    pub is_set : (r : Result (Unit {0}) Halt) → Acts g (Do (Set target place x)) goes_on old r mid → r ≡ Ok (tt {0}) → Passes g p old (λ k. counting place names (Do (Give (v.Num (pos 1))) ∷ to k)) mid
-    is_set r task is_ok = doing tt (before_set old e) task is_ok
+    pub is_set : {A : Type 0} (r : Result A Halt) (y : A) → Acts g (Do (Set target place x)) (goes_on {A = A}) old r mid → r ≡ Ok y → Passes g p old (λ k. counting place names (Do (Give (v.Num (pos 1))) ∷ to k)) mid
+    is_set r y task is_ok = doing y (before_set old e) task is_ok
 
 pub gives_one : (g : Given) (p : Piece) (to : List Piece → List Piece) (old new : Whole) → Passes g p old (λ k. Do (Give (v.Num (pos 1))) ∷ to k) new → Acts g p (λ v k. give v (to k)) old (Ok (v.Num (pos 1))) new
 gives_one g p to old new h = done (moves h (λ k hid c a. refl))

@@ -11,11 +11,12 @@ ghost use Rattle.awk_records.specs.Gots as spec;
 ghost use Rattle.awk_records.specs.Gots.{Counts, IsGot, names_of};
 
 use awk_asks::halt::Halt;
+use awk_asks::streams::Streams;
 use awk_program::Own;
 use awk_store::Store;
 use awk_tasks::Spot;
 use awk_tasks::counters::count;
-use awk_tasks::targets::set;
+use awk_tasks::targets::replace;
 use awk_text::place::Place;
 use awk_text::value::Value;
 use std::alloc::Global;
@@ -57,22 +58,25 @@ fn is_record(value: &Value) -> bool
 }
 
 /// Sets the target to a record that was read, and adds 1 to each of these variables; answers 1. What
-/// came in place of a record is the answer itself.
+/// came in place of a record is the answer itself. The next record is written where the text lay that the target held before.
 pub fn set_record(
     alloc: Global,
     store: &mut Store,
+    streams: &mut Streams,
     place: Place,
     target: Spot,
     counters: Counted,
     answer: Value,
 ) -> Result<Value, Halt>
-    ensures { (g : Given) (t : Table) (p : Piece) (to : List Piece → List Piece) → IsGot g p place (meant (names_in g) target) (names_of counters) answer to
-        → Acts g p (λ v k. give v (to k)) (store.old, t) result (store.new, t) }
+    ensures task { (g : Given) (p : Piece) (to : List Piece → List Piece) → IsGot g p place (meant (names_in g) target) (names_of counters) answer to
+        → Acts g p (λ v k. give v (to k)) (store.old, streams.old) result (store.new, streams.new) }
+    ensures same { streams.new ≡ streams.old }
 {
     if !is_record(&answer) {
         return Ok(answer);
     }
-    set(alloc, store, target, place, answer)?;
+    let room = replace(alloc, store, target, place, answer)?;
+    streams.keep_room(room);
     count_all(store, place, counters)?;
     Ok(Value::Num(1))
 }

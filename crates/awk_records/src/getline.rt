@@ -82,17 +82,20 @@ pub fn file_record<W: World>(
 }
 
 /// Sets what `getline target < file` sets to the record that was read, and answers 1; or answers what came in its place.
+#[inline(always)]
 pub fn set_from_file(
     alloc: Global,
     place: Place,
     target: Spot,
     answer: Value,
     store: &mut Store,
+    streams: &mut Streams,
 ) -> Result<Value, Halt>
-    ensures { (g : Given) (t : Table) (r : p.Reference) (x : Expression) (name : Value) → IsSpotOf (names_in g) r target
-        → Acts g (At (Value_of (p.getline_file place r x)) (answer ∷ name ∷ value_of target ∷ [])) give (store.old, t) result (store.new, t) }
+    ensures task { (g : Given) (r : p.Reference) (x : Expression) (name : Value) → IsSpotOf (names_in g) r target
+        → Acts g (At (Value_of (p.getline_file place r x)) (answer ∷ name ∷ value_of target ∷ [])) give (store.old, streams.old) result (store.new, streams.new) }
+    ensures same { streams.new ≡ streams.old }
 {
-    set_record(alloc, store, place, target, Counted::Nothing, answer)
+    set_record(alloc, store, streams, place, target, Counted::Nothing, answer)
 }
 
 /// `command | getline target`, once the command and what is set are known.
@@ -116,5 +119,5 @@ pub fn getline_pipe<W: World>(
         text: command.text(&mut buffer),
     });
     let answer = fetch_record(alloc, place, &source, store, streams, world)?;
-    set_record(alloc, store, place, target, Counted::Nr, answer)
+    set_record(alloc, store, streams, place, target, Counted::Nr, answer)
 }

@@ -180,7 +180,15 @@ pub fn getline_main<W: World>(
     ensures owns { Owns (W.open_numbers world.new) streams.new }
 {
     let answer = take(alloc, host, store, streams, world)?;
-    set_record(alloc, store, place, target, Counted::NrAndFnr, answer)
+    set_record(
+        alloc,
+        store,
+        streams,
+        place,
+        target,
+        Counted::NrAndFnr,
+        answer,
+    )
 }
 
 /// Sets `$0` to a record of the main input and counts it, before the rules meet it.

@@ -17,6 +17,7 @@ use Rattle.awk_store.specs.States.{Hidden}
 use Rattle.awk_asks.specs.declared.halt.Halt.{Halt}
 use Rattle.awk_asks.specs.declared.halt.Halt.TheVariants as halt
 use Rattle.awk_asks.specs.Chains.{Halted, Meets}
+use Rattle.awk_asks.specs.Tasks.{goes_on}
 use Rattle.awk_asks.proofs.Chain.{join}
 use Rattle.awk_tasks.specs.Wholes.{Whole, Agreeing, base, used}
 use Rattle.awk_tasks.specs.Acts.{Settles, HaltsSo, Passes, Acts, halt_at}
@@ -119,6 +120,10 @@ module _ {g : Given} where
 
   pub passes : {A : Type 0} {r : Result A Halt} {p q : Piece} {old mid new : Whole} {on : A → List Piece → List Piece} → Passes g p old (λ k. q ∷ k) mid → Acts g q on mid r new → Acts g p on old r new
   passes {r = r} h m = passes-at r h m
+
+  -- a task whose answer nothing is done with answers this as well
+  pub answers : {A B : Type 0} (x : B) {y : A} {p : Piece} {old new : Whole} → Acts g p (goes_on {A = A}) old (Ok y) new → Acts g p (goes_on {A = B}) old (Ok x) new
+  answers x h = record { same = h.same; settles = λ k hid c a. h.settles k hid c a }
 
   -- ---- faults as the code has them
 

@@ -56,6 +56,14 @@ pub expressions::value-returns-in-Choice : goal.expressions::value-returns-in-Ch
 expressions::value-returns-in-Choice g t c =
     record { plays = λ m is. rw (c.in-Choice.is, view-Choice) (rw (c.get-in-Choice.ensures, c.get-in-Choice-2.ensures, c.get-in-Choice-3.ensures) at (c.choose.ensures.plays m is)); owns = c.choose.ensures.owns }
 
+pub expressions::value-returns-in-GetlineFile : goal.expressions::value-returns-in-GetlineFile
+expressions::value-returns-in-GetlineFile g t c =
+    record { plays = λ m is. rw (c.in-GetlineFile.is, view-GetlineFile) (rw c.get-in-GetlineFile.ensures at (c.from_file.ensures.plays m is)); owns = c.from_file.ensures.owns }
+
+pub expressions::value-returns-in-Pipe : goal.expressions::value-returns-in-Pipe
+expressions::value-returns-in-Pipe g t c =
+    record { plays = λ m is. rw (c.in-Pipe.is, view-Pipe) (rw (c.get-in-Pipe.ensures, c.as_slice-in-Pipe.ensures) at (c.from_commands.ensures.plays m is)); owns = c.from_commands.ensures.owns }
+
 pub expressions::value-returns-in-Call : goal.expressions::value-returns-in-Call
 expressions::value-returns-in-Call g t c =
     record { plays = λ m is. rw (c.in-Call.is, view-Call) (rw c.as_slice-in-Call.ensures at (c.call.ensures.plays m is)); owns = c.call.ensures.owns }
@@ -1033,7 +1041,7 @@ inputs::from_file-returns-in-Some g t c =
           let x = view (names_in m) c.args.x.now in
           let answer = c.in_ok-answer.answer in
           hands (part answer (part _ (quietly (part _ (quietly (at_once _ _ _) (λ k hid d a. refl)) (c.target_of.ensures.plays.plays m is) c.in_ok-to.was) (λ k hid d a. refl)) (acted (there {on = give} {x = lent_value c.in-Some.name} (c.in-Some.ensures m c.target_of.new.run.streams))) refl) (c.in_ok-answer.ensures.task m r x (value_of c.in_ok-to.to)) refl)
-          (acted (c.set_from_file.ensures m c.file_record.new.streams r x (lent_value c.in-Some.name) (c.in_ok-to.ensures.spot (names_in m))));
+          (acted (c.set_from_file.ensures.task m r x (lent_value c.in-Some.name) (c.in_ok-to.ensures.spot (names_in m))));
       owns = c.in_ok-answer.ensures.owns;
     }
 
@@ -1053,9 +1061,13 @@ inputs::from_file-returns g t c =
           let x = view (names_in m) c.args.x.now in
           let answer = c.in_ok-answer-2.answer in
           hands (part answer (part _ (quietly (part _ (quietly (at_once _ _ _) (λ k hid d a. refl)) (c.target_of.ensures.plays.plays m is) c.in_ok-to.was) (λ k hid d a. refl)) (c.value.ensures.plays m is) c.in_ok-name.was) (rw c.of.ensures at (c.in_ok-answer-2.ensures.task m r x (value_of c.in_ok-to.to))) refl)
-          (acted (c.set_from_file-2.ensures m c.file_record-2.new.streams r x c.in_ok-name.name (c.in_ok-to.ensures.spot (names_in m))));
+          (acted (c.set_from_file-2.ensures.task m r x c.in_ok-name.name (c.in_ok-to.ensures.spot (names_in m))));
       owns = c.in_ok-answer-2.ensures.owns;
     }
+
+pub inputs::from_commands-returns-in-len1 : goal.inputs::from_commands-returns-in-len1
+inputs::from_commands-returns-in-len1 g t c =
+    record { plays = λ m is. ?; owns = c.getline_pipe.ensures.owns }
 
 pub inputs::from_commands-returns-in_err-so_far : goal.inputs::from_commands-returns-in_err-so_far
 inputs::from_commands-returns-in_err-so_far g t c =
@@ -1341,6 +1353,10 @@ expressions::compare-returns-in_err-one g t c =
 pub expressions::compare-returns-in_err-other : goal.expressions::compare-returns-in_err-other
 expressions::compare-returns-in_err-other g t c =
     let e = err_from_is_err_and c.from_residual-in_err-other.result c.from_residual-in_err-other.ensures.1 in rw (e.1, e.2) (record { plays = λ m is. stop _ (λ k. refl) (quietly (part _ (quietly (at_once _ _ _) (λ k hid d a. refl)) (c.value.ensures.plays m is) c.in_ok-one.was) (λ k hid d a. refl)) (c.value-2.ensures.plays m is) c.in_err-other.was; owns = c.value-2.ensures.owns })
+
+pub expressions::compare-returns-in-Some : goal.expressions::compare-returns-in-Some
+expressions::compare-returns-in-Some g t c =
+    record { plays = λ m is. done (quietly (part _ (quietly (part _ (quietly (at_once _ _ _) (λ k hid d a. refl)) (c.value.ensures.plays m is) c.in_ok-one.was) (λ k hid d a. refl)) (acted (there {on = give} {x = lent_value c.in-Some.other} (c.in-Some.ensures m c.value.new.run.streams))) refl) (λ k hid d a. ap (λ z. Goes (give z k) (seen (base m (c.value.new.run.store, c.value.new.run.streams) hid) d)) (sym (rw c.of.ensures at c.compared_lent.ensures)))); owns = c.value.ensures.owns }
 
 pub expressions::compare-returns : goal.expressions::compare-returns
 expressions::compare-returns g t c =

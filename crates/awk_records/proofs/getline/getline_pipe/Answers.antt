@@ -19,5 +19,5 @@ returns-in_err-answer-clause-task g c =
 pub returns-clause-task : goal.returns-clause-task
 returns-clause-task g c = λ m r xs is.
     passes (part c.in_ok-answer.answer (pipe_first m c.args.place r (value_of c.args.target) (lent_value c.args.command) (text_of (lent_value c.args.command)) (c.args.store.now, c.args.streams.now) c.args.world.now refl xs) (rw c.text.ensures at (c.fetch_record.ensures.task m)) c.in_ok-answer.was)
-    (acted (c.set_record.ensures m c.fetch_record.new.streams (At (Pipes_of (p.piped c.args.place r xs)) (c.in_ok-answer.answer ∷ value_of c.args.target ∷ lent_value c.args.command ∷ [])) (λ k. At (Pipes_of xs) [] ∷ k)
+    (acted (c.set_record.ensures.task m (At (Pipes_of (p.piped c.args.place r xs)) (c.in_ok-answer.answer ∷ value_of c.args.target ∷ lent_value c.args.command ∷ [])) (λ k. At (Pipes_of xs) [] ∷ k)
     (pipe_got m c.args.place r c.args.target (lent_value c.args.command) c.in_ok-answer.answer is xs)))

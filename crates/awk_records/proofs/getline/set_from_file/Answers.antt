@@ -5,6 +5,6 @@ use Rattle.awk_tasks.specs.Spots.{value_of}
 use Rattle.awk_records.proofs.ReadSteps.{file_got}
 use Rattle.awk_records.proofs.getline.set_from_file.Goals as goal
 
-pub returns : goal.returns
-returns c = λ g t r x name is.
-    c.set_record.ensures g t (At (Value_of (p.getline_file c.args.place r x)) (c.args.answer ∷ name ∷ value_of c.args.target ∷ [])) (λ k. k) (file_got g c.args.place r c.args.target name c.args.answer is x)
+pub returns-clause-task : goal.returns-clause-task
+returns-clause-task c = λ g r x name is.
+    c.set_record.ensures.task g (At (Value_of (p.getline_file c.args.place r x)) (c.args.answer ∷ name ∷ value_of c.args.target ∷ [])) (λ k. k) (file_got g c.args.place r c.args.target name c.args.answer is x)

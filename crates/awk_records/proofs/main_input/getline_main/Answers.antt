@@ -16,4 +16,4 @@ returns-in_err-answer-clause-task g c =
 pub returns-clause-task : goal.returns-clause-task
 returns-clause-task g c = λ m h r is.
     passes (part c.in_ok-answer.answer (main_first m r c.args.target c.args.place (c.args.store.now, c.args.streams.now) c.args.world.now) (c.take.ensures.task m h) c.in_ok-answer.was)
-    (acted (c.set_record.ensures m c.take.new.streams (At (Value_of (p.getline c.args.place r)) (c.in_ok-answer.answer ∷ value_of c.args.target ∷ [])) (λ k. k) (main_got m r c.args.target c.args.place c.in_ok-answer.answer is)))
+    (acted (c.set_record.ensures.task m (At (Value_of (p.getline c.args.place r)) (c.in_ok-answer.answer ∷ value_of c.args.target ∷ [])) (λ k. k) (main_got m r c.args.target c.args.place c.in_ok-answer.answer is)))
