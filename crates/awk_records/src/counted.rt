@@ -59,6 +59,7 @@ fn is_record(value: &Value) -> bool
 
 /// Sets the target to a record that was read, and adds 1 to each of these variables; answers 1. What
 /// came in place of a record is the answer itself. The next record is written where the text lay that the target held before.
+#[inline(always)]
 pub fn set_record(
     alloc: Global,
     store: &mut Store,

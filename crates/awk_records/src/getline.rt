@@ -44,6 +44,7 @@ fn file_source(name: &[u8]) -> Source<'_>
 }
 
 /// Reads a record of a stream by RS as it is, and opens the stream before where it is not open.
+#[inline(always)]
 fn fetch_record<W: World>(
     alloc: Global,
     place: Place,

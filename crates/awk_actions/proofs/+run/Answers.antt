@@ -10,7 +10,8 @@ use Rattle.awk_calls.proofs.Ending.{answers, answers_so, returns_to}
 use Rattle.awk_calls.proofs.Leading.{jumped, takes}
 use Rattle.awk_calls.specs.Calls.{argument_of}
 use Rattle.awk_format.specs.Directives.{◌>>=◌}
-use Rattle.awk_forms.proofs.Rests.{drop_all, ok_for}
+use Rattle.awk_forms.proofs.AtHand.{text_there}
+use Rattle.awk_forms.proofs.Rests.{drop_all, just_one, ok_for}
 use Rattle.awk_machine.specs.Builtins.{formatted_by}
 use Rattle.awk_forms.specs.Outputs.{to_standard, to_stream}
 use Rattle.awk_lent.specs.Lents.{lent_value}
@@ -1042,7 +1043,7 @@ inputs::from_file-returns-in-Some g t c =
           let answer = c.in_ok-answer.answer in
           hands (part answer (part _ (quietly (part _ (quietly (at_once _ _ _) (λ k hid d a. refl)) (c.target_of.ensures.plays.plays m is) c.in_ok-to.was) (λ k hid d a. refl)) (acted (there {on = give} {x = lent_value c.in-Some.name} (c.in-Some.ensures m c.target_of.new.run.streams))) refl) (c.in_ok-answer.ensures.task m r x (value_of c.in_ok-to.to)) refl)
           (acted (c.set_from_file.ensures.task m r x (lent_value c.in-Some.name) (c.in_ok-to.ensures.spot (names_in m))));
-      owns = c.in_ok-answer.ensures.owns;
+      owns = rw c.set_from_file.ensures.same c.in_ok-answer.ensures.owns;
     }
 
 pub inputs::from_file-returns-in_err-name : goal.inputs::from_file-returns-in_err-name
@@ -1062,16 +1063,21 @@ inputs::from_file-returns g t c =
           let answer = c.in_ok-answer-2.answer in
           hands (part answer (part _ (quietly (part _ (quietly (at_once _ _ _) (λ k hid d a. refl)) (c.target_of.ensures.plays.plays m is) c.in_ok-to.was) (λ k hid d a. refl)) (c.value.ensures.plays m is) c.in_ok-name.was) (rw c.of.ensures at (c.in_ok-answer-2.ensures.task m r x (value_of c.in_ok-to.to))) refl)
           (acted (c.set_from_file-2.ensures.task m r x c.in_ok-name.name (c.in_ok-to.ensures.spot (names_in m))));
-      owns = c.in_ok-answer-2.ensures.owns;
+      owns = rw c.set_from_file-2.ensures.same c.in_ok-answer-2.ensures.owns;
     }
 
 pub inputs::from_commands-returns-in-len1 : goal.inputs::from_commands-returns-in-len1
 inputs::from_commands-returns-in-len1 g t c =
-    record { plays = λ m is. ?; owns = c.getline_pipe.ensures.owns }
+    record {
+      plays = λ m is.
+          rw (c.in-Text.is, view-Text, just_one c.args.xs.now c.next-item.result c.in-len1.len_at_least c.in-len1.len_below c.next-item.is)
+          (rests (hands (part _ (quietly (part _ (quietly (at_once _ _ _) (λ k hid d a. refl)) (acted (there {on = give} {x = v.Text c.in-Text.command} (text_there m _ _))) refl) (λ k hid d a. refl)) (c.target_of.ensures.plays.plays m is) c.in_ok-to.was) (rw c.bytes.ensures at (c.getline_pipe.ensures.task m (view_target (names_in m) c.next-item.result.target) p.no_pipes (c.in_ok-to.ensures.spot (names_in m))))) (λ x k hid d a. refl));
+      owns = c.getline_pipe.ensures.owns;
+    }
 
 pub inputs::from_commands-returns-in_err-so_far : goal.inputs::from_commands-returns-in_err-so_far
 inputs::from_commands-returns-in_err-so_far g t c =
-    let e = err_from_is_err_and c.from_residual.result c.from_residual.ensures.1 in rw (e.1, e.2) (record { plays = λ m is. stop _ (λ k. refl) (quietly (at_once _ _ _) (λ k hid d a. refl)) (c.value.ensures.plays m is) c.in_err-so_far.was; owns = c.value.ensures.owns })
+    let e = err_from_is_err_and c.from_residual-in_err-so_far.result c.from_residual-in_err-so_far.ensures.1 in rw (e.1, e.2) (record { plays = λ m is. stop _ (λ k. refl) (quietly (at_once _ _ _) (λ k hid d a. refl)) (c.value.ensures.plays m is) c.in_err-so_far.was; owns = c.value.ensures.owns })
 
 pub inputs::from_commands-loop-next-init : goal.inputs::from_commands-loop-next-init
 inputs::from_commands-loop-next-init g t c =
@@ -1079,15 +1085,24 @@ inputs::from_commands-loop-next-init g t c =
 
 pub inputs::from_commands-returns-in_err-to : goal.inputs::from_commands-returns-in_err-to
 inputs::from_commands-returns-in_err-to g t c =
-    let e = err_from_is_err_and c.from_residual-in_err-to.result c.from_residual-in_err-to.ensures.1 in rw (e.1, e.2) (record { plays = λ m is. stop _ (λ k. refl) (quietly (turned (c.loop-next.invariant.leads m is) (λ k. ap (λ ys. At (Pipes_of (view_pipes (names_in m) ys)) (c.loop-next.so_far ∷ []) ∷ k) (next_of c.args.xs.now c.loop-next.next-index c.next-item.result c.next-item.is c.loop-next-test.true))) (λ k hid d a. refl)) (c.target_of.ensures.plays.plays m is) c.in_err-to.was; owns = c.target_of.ensures.plays.owns })
+    let e = err_from_is_err_and c.from_residual.result c.from_residual.ensures.1 in rw (e.1, e.2) (record {
+      plays = λ m is.
+          rw (c.in-Text.is, view-Text, just_one c.args.xs.now c.next-item.result c.in-len1.len_at_least c.in-len1.len_below c.next-item.is)
+          (stop _ (λ k. refl) (quietly (part _ (quietly (at_once _ _ _) (λ k hid d a. refl)) (acted (there {on = give} {x = v.Text c.in-Text.command} (text_there m _ _))) refl) (λ k hid d a. refl)) (c.target_of.ensures.plays.plays m is) c.in_err-to.was);
+      owns = c.target_of.ensures.plays.owns;
+    })
+
+pub inputs::from_commands-returns-in_err-to-2 : goal.inputs::from_commands-returns-in_err-to-2
+inputs::from_commands-returns-in_err-to-2 g t c =
+    let e = err_from_is_err_and c.from_residual-in_err-to-2.result c.from_residual-in_err-to-2.ensures.1 in rw (e.1, e.2) (record { plays = λ m is. stop _ (λ k. refl) (quietly (turned (c.loop-next.invariant.leads m is) (λ k. ap (λ ys. At (Pipes_of (view_pipes (names_in m) ys)) (c.loop-next.so_far ∷ []) ∷ k) (next_of c.args.xs.now c.loop-next.next-index c.next-item-in-loop-next.result c.next-item-in-loop-next.is c.loop-next-test.true))) (λ k hid d a. refl)) (c.target_of-in-loop-next.ensures.plays.plays m is) c.in_err-to-2.was; owns = c.target_of-in-loop-next.ensures.plays.owns })
 
 pub inputs::from_commands-returns-in_err-so_far-2 : goal.inputs::from_commands-returns-in_err-so_far-2
 inputs::from_commands-returns-in_err-so_far-2 g t c =
-    let e = err_from_is_err_and c.from_residual-in_err-so_far-2.result c.from_residual-in_err-so_far-2.ensures.1 in rw (e.1, e.2) (record { plays = λ m is. stop _ (λ k. refl) (part _ (quietly (turned (c.loop-next.invariant.leads m is) (λ k. ap (λ ys. At (Pipes_of (view_pipes (names_in m) ys)) (c.loop-next.so_far ∷ []) ∷ k) (next_of c.args.xs.now c.loop-next.next-index c.next-item.result c.next-item.is c.loop-next-test.true))) (λ k hid d a. refl)) (c.target_of.ensures.plays.plays m is) c.in_ok-to.was) (rw c.of.ensures at (c.getline_pipe.ensures.task m (view_target (names_in m) c.next-item.result.target) (view_pipes (names_in m) (drop (c.loop-next.next-index + 1) c.args.xs.now)) (c.in_ok-to.ensures.spot (names_in m)))) c.in_err-so_far-2.was; owns = c.getline_pipe.ensures.owns })
+    let e = err_from_is_err_and c.from_residual-in_err-so_far-2.result c.from_residual-in_err-so_far-2.ensures.1 in rw (e.1, e.2) (record { plays = λ m is. stop _ (λ k. refl) (part _ (quietly (turned (c.loop-next.invariant.leads m is) (λ k. ap (λ ys. At (Pipes_of (view_pipes (names_in m) ys)) (c.loop-next.so_far ∷ []) ∷ k) (next_of c.args.xs.now c.loop-next.next-index c.next-item-in-loop-next.result c.next-item-in-loop-next.is c.loop-next-test.true))) (λ k hid d a. refl)) (c.target_of-in-loop-next.ensures.plays.plays m is) c.in_ok-to-2.was) (rw c.of.ensures at (c.getline_pipe-in-loop-next.ensures.task m (view_target (names_in m) c.next-item-in-loop-next.result.target) (view_pipes (names_in m) (drop (c.loop-next.next-index + 1) c.args.xs.now)) (c.in_ok-to-2.ensures.spot (names_in m)))) c.in_err-so_far-2.was; owns = c.getline_pipe-in-loop-next.ensures.owns })
 
 pub inputs::from_commands-loop-next-preserved : goal.inputs::from_commands-loop-next-preserved
 inputs::from_commands-loop-next-preserved g t c =
-    record { leads = λ m is. (part _ (part _ (quietly (turned (c.loop-next.invariant.leads m is) (λ k. ap (λ ys. At (Pipes_of (view_pipes (names_in m) ys)) (c.loop-next.so_far ∷ []) ∷ k) (next_of c.args.xs.now c.loop-next.next-index c.next-item.result c.next-item.is c.loop-next-test.true))) (λ k hid d a. refl)) (c.target_of.ensures.plays.plays m is) c.in_ok-to.was) (rw c.of.ensures at (c.getline_pipe.ensures.task m (view_target (names_in m) c.next-item.result.target) (view_pipes (names_in m) (drop (c.loop-next.next-index + 1) c.args.xs.now)) (c.in_ok-to.ensures.spot (names_in m)))) c.in_ok-so_far-2.was); owns = c.getline_pipe.ensures.owns }
+    record { leads = λ m is. (part _ (part _ (quietly (turned (c.loop-next.invariant.leads m is) (λ k. ap (λ ys. At (Pipes_of (view_pipes (names_in m) ys)) (c.loop-next.so_far ∷ []) ∷ k) (next_of c.args.xs.now c.loop-next.next-index c.next-item-in-loop-next.result c.next-item-in-loop-next.is c.loop-next-test.true))) (λ k hid d a. refl)) (c.target_of-in-loop-next.ensures.plays.plays m is) c.in_ok-to-2.was) (rw c.of.ensures at (c.getline_pipe-in-loop-next.ensures.task m (view_target (names_in m) c.next-item-in-loop-next.result.target) (view_pipes (names_in m) (drop (c.loop-next.next-index + 1) c.args.xs.now)) (c.in_ok-to-2.ensures.spot (names_in m)))) c.in_ok-so_far-2.was); owns = c.getline_pipe-in-loop-next.ensures.owns }
 
 pub inputs::from_commands-returns : goal.inputs::from_commands-returns
 inputs::from_commands-returns g t c =
