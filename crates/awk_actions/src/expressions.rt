@@ -276,7 +276,12 @@ fn evaluate<W: World>(
         Expr::Substr(place, x, y, z) => {
             substr(cx, *place, x.get(), y.get(), z.get(), level, run, world)
         }
-        Expr::Chain(x, xs) => chain(cx, x.get(), xs.as_slice(), level, run, world),
+        // `value` has the ways of these.
+        Expr::Chain(_, _)
+        | Expr::Choice(_, _, _)
+        | Expr::Call(_, _, _)
+        | Expr::GetlineFile(_, _, _)
+        | Expr::Pipe(_, _) => value(cx, e, level, run, world),
         Expr::Concat(x, xs) => concat(cx, x.get(), xs.as_slice(), level, run, world),
         Expr::In(x, arrays) => within(cx, x.get(), arrays.as_slice(), level, run, world),
         Expr::Group(place, xs, arrays) => {
@@ -292,13 +297,7 @@ fn evaluate<W: World>(
         }
         Expr::And(x, xs) => all(cx, x.get(), xs.as_slice(), level, run, world),
         Expr::Or(x, xs) => any(cx, x.get(), xs.as_slice(), level, run, world),
-        Expr::Choice(x, y, z) => choose(cx, x.get(), y.get(), z.get(), level, run, world),
-        Expr::Call(place, f, xs) => call(cx, *place, *f, xs.as_slice(), level, run, world),
         Expr::Getline(place, target) => getline(cx, *place, target, level, run, world),
-        Expr::GetlineFile(place, target, x) => {
-            from_file(cx, *place, target, x.get(), level, run, world)
-        }
-        Expr::Pipe(x, xs) => from_commands(cx, x.get(), xs.as_slice(), level, run, world),
         Expr::Close(place, x) => close(cx, *place, x.get(), level, run, world),
         Expr::System(place, x) => system(cx, *place, x.get(), level, run, world),
         Expr::Pattern(place, text) => {

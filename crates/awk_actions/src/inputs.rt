@@ -13,9 +13,12 @@ use crate::targets::target_of;
 use awk_asks::halt::Halt;
 use awk_asks::{closing, requests};
 use awk_forms::at_hand::{MOST_LEVELS, at_hand};
+use awk_forms::keys::spot_at_hand;
 use awk_lent::lent::Lent;
 use awk_program::{Expr, Piped, Target};
-use awk_records::getline::{file_record, getline_pipe, set_from_file};
+use awk_records::getline::{
+    command_record, file_record, getline_pipe, set_from_command, set_from_file,
+};
 use awk_records::main_input::getline_main;
 use awk_tasks::values::into_text;
 use awk_text::place::Place;
@@ -48,7 +51,7 @@ pub fn getline<W: World>(
     )
 }
 
-/// `getline target < file`
+/// `getline target < file`. Where the file's name is at hand, and what is set needs no evaluation, the name is not copied.
 #[cycle(run)]
 #[inline(never)]
 pub fn from_file<W: World>(
@@ -64,18 +67,20 @@ pub fn from_file<W: World>(
     ensures { Does W.follows W.has_stopped W.stops W.open_numbers cx.now (λ g. value (p.getline_file place (view_target (names_in g) target.now) (view (names_in g) x.now))) (λ g. give)
         (run.old.store, run.old.streams) world.old result (run.new.store, run.new.streams) world.new }
 {
-    let to = target_of(cx, target, level, run, world)?;
-    if let Some(name) = at_hand(&run.store, x, MOST_LEVELS) {
-        let answer = file_record(cx.alloc, place, name, &run.store, &mut run.streams, world)?;
-        return set_from_file(
-        cx.alloc,
-        place,
-        to,
-        answer,
-        &mut run.store,
-        &mut run.streams,
-    );
+    if let Some(to) = spot_at_hand(target) {
+        if let Some(name) = at_hand(&run.store, x, MOST_LEVELS) {
+            let answer = file_record(cx.alloc, place, name, &run.store, &mut run.streams, world)?;
+            return set_from_file(
+                cx.alloc,
+                place,
+                to,
+                answer,
+                &mut run.store,
+                &mut run.streams,
+            );
+        }
     }
+    let to = target_of(cx, target, level, run, world)?;
     let name = value(cx, x, level, run, world)?;
     let answer = file_record(
         cx.alloc,
@@ -95,7 +100,8 @@ pub fn from_file<W: World>(
     )
 }
 
-/// `command | getline target`, and a chain of them. The one command that is most often read so, a constant, is not copied.
+/// `command | getline target`, and a chain of them. Where there is one command, which is at hand, and what is set needs
+/// no evaluation, the command is not copied.
 #[cycle(run)]
 #[inline(never)]
 pub fn from_commands<W: World>(
@@ -110,18 +116,26 @@ pub fn from_commands<W: World>(
     ensures { Does W.follows W.has_stopped W.stops W.open_numbers cx.now (λ g. value (p.pipe (view (names_in g) x.now) (view_pipes (names_in g) xs.now))) (λ g. give)
         (run.old.store, run.old.streams) world.old result (run.new.store, run.new.streams) world.new }
 {
-    if let Expr::Text(command) = x {
-        if let [next] = xs {
-            let to = target_of(cx, &next.target, level, run, world)?;
-            return getline_pipe(
-                cx.alloc,
-                next.place,
-                to,
-                Lent::Text(command.bytes()),
-                &mut run.store,
-                &mut run.streams,
-                world,
-            );
+    if let [only] = xs {
+        if let Some(to) = spot_at_hand(&only.target) {
+            if let Some(command) = at_hand(&run.store, x, MOST_LEVELS) {
+                let answer = command_record(
+                    cx.alloc,
+                    only.place,
+                    command,
+                    &run.store,
+                    &mut run.streams,
+                    world,
+                )?;
+                return set_from_command(
+                    cx.alloc,
+                    only.place,
+                    to,
+                    answer,
+                    &mut run.store,
+                    &mut run.streams,
+                );
+            }
         }
     }
     let mut so_far = value(cx, x, level, run, world)?;

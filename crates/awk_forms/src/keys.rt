@@ -2,7 +2,7 @@
 ghost use Rattle.std.specs.Prelude.{◌≡◌, ◌⊎◌, ◌∷◌, [], ℕ, List, length, reverse, Ok, Err, IfOk, IfErr, IfSome};
 ghost use Rattle.awk_asks.specs.Tables.{Table};
 ghost use Rattle.awk_fields.specs.Rows.{joined};
-ghost use Rattle.awk_machine.specs.Forms.{listed};
+ghost use Rattle.awk_machine.specs.Forms.{listed, spot};
 ghost use Rattle.awk_machine.specs.Operators.{limited, of_count};
 ghost use Rattle.awk_machine.specs.Pieces.{At, Doing, Target_of, Value_of, Members_of, give};
 ghost use Rattle.awk_machine.specs.State.{Given};
@@ -11,16 +11,17 @@ ghost use Rattle.awk_program.specs.Program.{Expression, Expressions};
 ghost use Rattle.awk_program.specs.declared.variables.Own.TheVariants as own;
 ghost use Rattle.awk_store.specs.Kept.{own_text};
 ghost use Rattle.awk_text.specs.declared.value.Value.TheVariants as v;
-ghost use Rattle.awk_tasks.specs.Acts.{Acts};
-ghost use Rattle.awk_program.specs.View.{variable_of};
+ghost use Rattle.awk_tasks.specs.Acts.{Acts, Passes};
+ghost use Rattle.awk_tasks.specs.Spots.{IsSpotOf, value_of};
+ghost use Rattle.awk_program.specs.View.{Names, variable_of, view_target};
 ghost use Rattle.awk_asks.specs.Tasks.{goes_on};
 ghost use Rattle.awk_tasks.specs.Wholes.{Whole, names_in};
 
 use awk_asks::halt::Halt;
-use awk_program::{Expr, Own, Variable};
+use awk_program::{Expr, Own, Target, Variable};
 use awk_store::Store;
-use awk_tasks::Key;
 use awk_tasks::faults::{at, halt_at};
+use awk_tasks::{Key, Spot};
 use awk_text::fault::Fault;
 use awk_text::octets::Octets;
 use awk_text::place::Place;
@@ -151,4 +152,23 @@ pub fn remove(
     let key = at(place, key(alloc, line, store, subscripts))?;
     store.remove(array, key.bytes());
     Ok(())
+}
+
+/// What is read or set, where it is a variable or a field by a constant: to evaluate it changes nothing and meets no fault.
+#[inline(always)]
+pub fn spot_at_hand(target: &Target<Expr>) -> Option<Spot>
+    ensures plays { IfSome result (λ s. (g : Given) (w : Whole) → Passes g (spot (view_target (names_in g) target.now)) w (give (value_of s)) w) }
+    ensures spot { IfSome result (λ s. (names : Names) → IsSpotOf names (view_target names target.now) s) }
+{
+    match target {
+        Target::Variable(variable) => Some(Spot::Variable(*variable)),
+        Target::Element(_, _, _) => None,
+        Target::Field(_, x) => match x.get() {
+            Expr::Number(number) => match u16::try_from(*number) {
+                Ok(number) => Some(Spot::Field(number)),
+                Err(_) => None,
+            },
+            _ => None,
+        },
+    }
 }

@@ -22,7 +22,7 @@ use Rattle.awk_asks.proofs.Chain.{at_once, done, part, quiet, stop}
 use Rattle.awk_tasks.specs.Spots.{IsSpotOf, meant, value_of}
 use Rattle.awk_tasks.specs.Wholes.{Whole, Agreeing, base, names_in, used}
 use Rattle.awk_tasks.specs.declared.spot.Spot.{Spot}
-use Rattle.awk_records.specs.Gots.{IsGot, read_of}
+use Rattle.awk_records.specs.Gots.{IsGot, piped_of, read_of}
 use Rattle.awk_records.specs.Performs.{Performs}
 
 -- the stream of a file's name
@@ -60,3 +60,11 @@ module _ {W : Type 0} {follows : W → List Call → W → Type 0} {has_stopped 
       Performs follows has_stopped stops g (At (Value_of (p.getline_file place r x)) (name ∷ target ∷ [])) (read_of place r x name target) old w answer new w'
   file_read (Ok y) task = done (part y (file_first g place r target name (text_of name) old w refl x key is) task refl)
   file_read (Err h) task = stop h (λ k. refl) (file_first g place r target name (text_of name) old w refl x key is) task refl
+
+-- the same of a command
+module _ {W : Type 0} {follows : W → List Call → W → Type 0} {has_stopped : W → Bool} {stops : W → List Call → Ask → W → Type 0} (g : Given) (place : Place) (r : p.Reference) (xs : Pipes) (name target : Value)
+    (old new : Whole) (w w' : W) where
+  pub command_read : (answer : Result Value Halt) → Performs follows has_stopped stops g (Do (fetching place (Named InputCommand (text_of name)))) give old w answer new w' →
+      Performs follows has_stopped stops g (At (Pipes_of (p.piped place r xs)) (target ∷ name ∷ [])) (piped_of place r xs name target) old w answer new w'
+  command_read (Ok y) task = done (part y (pipe_first g place r target name (text_of name) old w refl xs) task refl)
+  command_read (Err h) task = stop h (λ k. refl) (pipe_first g place r target name (text_of name) old w refl xs) task refl

@@ -4,12 +4,12 @@ use Rattle.awk_text.specs.declared.place.Place.{Place}
 use Rattle.awk_text.specs.declared.value.Value.{Value}
 use Rattle.awk_text.specs.declared.value.Value.TheVariants as v
 use Rattle.awk_program.specs.Program as p
-use Rattle.awk_program.specs.Program.{Expression}
+use Rattle.awk_program.specs.Program.{Expression, Pipes}
 use Rattle.awk_program.specs.Slots.{Text, name_of}
 use Rattle.awk_program.specs.declared.variables.Own.TheVariants as own
 use Rattle.awk_machine.specs.Getline.{got}
 use Rattle.awk_machine.specs.Moves.{move}
-use Rattle.awk_machine.specs.Pieces.{Piece, Target, At, Value_of}
+use Rattle.awk_machine.specs.Pieces.{Piece, Target, At, Pipes_of, Value_of}
 use Rattle.awk_machine.specs.State.{State, Given}
 use Rattle.awk_asks.specs.Tasks.{goes_on}
 use Rattle.awk_asks.specs.declared.halt.Halt.{Halt}
@@ -42,3 +42,7 @@ Counts g p old to (Err h) new = Acts g p (goes_on {A = Unit {0}}) old (Err h) ne
 -- what is left of `getline target < file` once a record was read, or something came in its place: all its values are there
 abbrev pub read_of : Place → p.Reference → Expression → Value → Value → Value → List Piece → List Piece
 read_of place r x name target answer k = At (Value_of (p.getline_file place r x)) (answer ∷ name ∷ target ∷ []) ∷ k
+
+-- the same of `command | getline target`, the first of its pipes
+abbrev pub piped_of : Place → p.Reference → Pipes → Value → Value → Value → List Piece → List Piece
+piped_of place r xs command target answer k = At (Pipes_of (p.piped place r xs)) (answer ∷ target ∷ command ∷ []) ∷ k

@@ -12,7 +12,7 @@ ghost use Rattle.awk_asks.specs.Tasks.{Owns};
 ghost use Rattle.awk_tasks.specs.Acts.{Acts};
 ghost use Rattle.awk_tasks.specs.Spots.{IsSpotOf, value_of};
 ghost use Rattle.awk_tasks.specs.Wholes.{names_in};
-ghost use Rattle.awk_records.specs.Gots.{read_of};
+ghost use Rattle.awk_records.specs.Gots.{piped_of, read_of};
 ghost use Rattle.awk_records.specs.Performs.{Performs};
 
 use crate::counted::{Counted, set_record};
@@ -96,7 +96,56 @@ pub fn set_from_file(
         → Acts g (At (Value_of (p.getline_file place r x)) (answer ∷ name ∷ value_of target ∷ [])) give (store.old, streams.old) result (store.new, streams.new) }
     ensures same { streams.new ≡ streams.old }
 {
-    set_record(alloc, store, streams, place, target, Counted::Nothing, answer)
+    set_record(
+        alloc,
+        store,
+        streams,
+        place,
+        target,
+        Counted::Nothing,
+        answer,
+    )
+}
+
+/// Reads a record for `command | getline target`, once the command and what is set are known: the record as input, 0 at its end,
+/// or -1 where it can't be read. `set_from_command` sets it.
+pub fn command_record<W: World>(
+    alloc: Global,
+    place: Place,
+    command: Lent<'_>,
+    store: &Store,
+    streams: &mut Streams,
+    world: &mut W,
+) -> Result<Value, Halt>
+    requires { Owns (W.open_numbers world.old) streams.old }
+    ensures task { (g : Given) (r : p.Reference) (xs : Pipes) (target : Value)
+        → Performs W.follows W.has_stopped W.stops g (At (Pipes_of (p.piped place r xs)) (target ∷ lent_value command.entry ∷ [])) (piped_of place r xs (lent_value command.entry) target) (store.now, streams.old) world.old result (store.now, streams.new) world.new }
+    ensures owns { Owns (W.open_numbers world.new) streams.new }
+{
+    let mut buffer = Buffer::new();
+    let source = Source::Stream(Name {
+        class: Class::InputCommand,
+        text: command.text(&mut buffer),
+    });
+    fetch_record(alloc, place, &source, store, streams, world)
+}
+
+/// Sets what `command | getline target` sets to the record that was read, adds 1 to NR, and answers 1; or answers what came in its
+/// place.
+#[inline(always)]
+pub fn set_from_command(
+    alloc: Global,
+    place: Place,
+    target: Spot,
+    answer: Value,
+    store: &mut Store,
+    streams: &mut Streams,
+) -> Result<Value, Halt>
+    ensures task { (g : Given) (r : p.Reference) (xs : Pipes) (command : Value) → IsSpotOf (names_in g) r target
+        → Acts g (At (Pipes_of (p.piped place r xs)) (answer ∷ value_of target ∷ command ∷ [])) (λ v k. give v (At (Pipes_of xs) [] ∷ k)) (store.old, streams.old) result (store.new, streams.new) }
+    ensures same { streams.new ≡ streams.old }
+{
+    set_record(alloc, store, streams, place, target, Counted::Nr, answer)
 }
 
 /// `command | getline target`, once the command and what is set are known.
@@ -114,11 +163,6 @@ pub fn getline_pipe<W: World>(
         → Performs W.follows W.has_stopped W.stops g (At (Pipes_of (p.piped place r xs)) (value_of target ∷ lent_value command.entry ∷ [])) (λ v k. give v (At (Pipes_of xs) [] ∷ k)) (store.old, streams.old) world.old result (store.new, streams.new) world.new }
     ensures owns { Owns (W.open_numbers world.new) streams.new }
 {
-    let mut buffer = Buffer::new();
-    let source = Source::Stream(Name {
-        class: Class::InputCommand,
-        text: command.text(&mut buffer),
-    });
-    let answer = fetch_record(alloc, place, &source, store, streams, world)?;
-    set_record(alloc, store, streams, place, target, Counted::Nr, answer)
+    let answer = command_record(alloc, place, command, store, streams, world)?;
+    set_from_command(alloc, place, target, answer, store, streams)
 }

@@ -1,16 +1,15 @@
 use Rattle.awk_actions.proofs.Calling.{argued_there, argue_name, argue_nothing, argue_stop, argue_turn, argue_value, arguments_so, body_so, called, counted, some_of}
 use Rattle.awk_actions.proofs.Going.{block_first, each_off, each_on, either_off, either_on, if_off, if_on, keys_first, keys_off, keys_on, starts_at_once, starts_stepped, test_first, test_none, test_then, turn_first, turn_none, turn_off, turn_on, turn_then}
-use Rattle.awk_actions.proofs.Leading.{failed_not, false_not, hands, hands_on, as_truth, quietly, rests, rests_told, told_number, told_truth, unwanted}
+use Rattle.awk_actions.proofs.Leading.{failed_not, false_not, hands_on, as_truth, quietly, rests, rests_told, told_number, told_truth, unwanted}
 use Rattle.awk_actions.proofs.Opens.{binary_first, binary_second, unary_first}
 use Rattle.awk_actions.proofs.Printing.{close_first, count_formatted, count_items, halts, print_target, printf_target, streamed, waits_deleted, waits_formatted, waits_printed}
 use Rattle.awk_actions.proofs.Turns.{and_off, and_on, choose_so, count_behind, count_listed, fill_stop, fill_turn, filled_from, got_of, next_of, or_off, or_on, text_given, waits_behind, waits_listed}
 use Rattle.awk_actions.specs.Loops.{loop_of, tested}
-use Rattle.awk_asks.proofs.Chain.{at_once, done, lacking, part, stop, turned}
+use Rattle.awk_asks.proofs.Chain.{at_once, done, lacking, part, passes, stop, turned}
 use Rattle.awk_calls.proofs.Ending.{answers, answers_so, returns_to}
 use Rattle.awk_calls.proofs.Leading.{jumped, takes}
 use Rattle.awk_calls.specs.Calls.{argument_of}
 use Rattle.awk_format.specs.Directives.{◌>>=◌}
-use Rattle.awk_forms.proofs.AtHand.{text_there}
 use Rattle.awk_forms.proofs.Rests.{drop_all, just_one, ok_for}
 use Rattle.awk_machine.specs.Builtins.{formatted_by}
 use Rattle.awk_forms.specs.Outputs.{to_standard, to_stream}
@@ -121,13 +120,9 @@ pub expressions::evaluate-returns-in-Substr : goal.expressions::evaluate-returns
 expressions::evaluate-returns-in-Substr g t c =
     record { plays = λ m is. rw (c.in-Substr.is, view-Substr) (rw (c.get-in-Substr.ensures, c.get-in-Substr-2.ensures, c.get-in-Substr-3.ensures) at (c.substr.ensures.plays m is)); owns = c.substr.ensures.owns }
 
-pub expressions::evaluate-returns-in-Chain : goal.expressions::evaluate-returns-in-Chain
-expressions::evaluate-returns-in-Chain g t c =
-    record { plays = λ m is. rw (c.in-Chain.is, view-Chain) (rw (c.get-in-Chain.ensures, c.as_slice.ensures) at (c.chain.ensures.plays m is)); owns = c.chain.ensures.owns }
-
 pub expressions::evaluate-returns-in-Concat : goal.expressions::evaluate-returns-in-Concat
 expressions::evaluate-returns-in-Concat g t c =
-    record { plays = λ m is. rw (c.in-Concat.is, view-Concat) (rw (c.get-in-Concat.ensures, c.as_slice-in-Concat.ensures) at (c.concat.ensures.plays m is)); owns = c.concat.ensures.owns }
+    record { plays = λ m is. rw (c.in-Concat.is, view-Concat) (rw (c.get-in-Concat.ensures, c.as_slice.ensures) at (c.concat.ensures.plays m is)); owns = c.concat.ensures.owns }
 
 pub expressions::evaluate-returns-in-In : goal.expressions::evaluate-returns-in-In
 expressions::evaluate-returns-in-In g t c =
@@ -145,10 +140,6 @@ pub expressions::evaluate-returns-in-Or : goal.expressions::evaluate-returns-in-
 expressions::evaluate-returns-in-Or g t c =
     record { plays = λ m is. rw (c.in-Or.is, view-Or) (rw (c.get-in-Or.ensures, c.as_slice-in-Or.ensures) at (c.any.ensures.plays m is)); owns = c.any.ensures.owns }
 
-pub expressions::evaluate-returns-in-Choice : goal.expressions::evaluate-returns-in-Choice
-expressions::evaluate-returns-in-Choice g t c =
-    record { plays = λ m is. rw (c.in-Choice.is, view-Choice) (rw (c.get-in-Choice.ensures, c.get-in-Choice-2.ensures, c.get-in-Choice-3.ensures) at (c.choose.ensures.plays m is)); owns = c.choose.ensures.owns }
-
 pub expressions::evaluate-returns-in-Sprintf : goal.expressions::evaluate-returns-in-Sprintf
 expressions::evaluate-returns-in-Sprintf g t c =
     record { plays = λ m is. rw (c.in-Sprintf.is, view-Sprintf) (rw (c.get-in-Sprintf.ensures, c.as_slice-in-Sprintf.ensures) at (c.formatted.ensures.plays m is)); owns = c.formatted.ensures.owns }
@@ -165,7 +156,7 @@ pub expressions::unary-returns : goal.expressions::unary-returns
 expressions::unary-returns g t c =
     record {
       plays = λ m is.
-          hands (part _ (quietly (at_once _ _ _) (λ k hid d a. unary_first c.args.form (view (names_in m) c.args.x.now) m k _)) (c.value.ensures.plays m is) c.in_ok-operand.was) (acted (c.give.ensures m (c.value.new.run.store, c.value.new.run.streams) (view (names_in m) c.args.x.now)));
+          passes (part _ (quietly (at_once _ _ _) (λ k hid d a. unary_first c.args.form (view (names_in m) c.args.x.now) m k _)) (c.value.ensures.plays m is) c.in_ok-operand.was) (acted (c.give.ensures m (c.value.new.run.store, c.value.new.run.streams) (view (names_in m) c.args.x.now)));
       owns = c.value.ensures.owns;
     }
 
@@ -189,7 +180,7 @@ pub expressions::binary-returns : goal.expressions::binary-returns
 expressions::binary-returns g t c =
     record {
       plays = λ m is.
-          hands (part _ (quietly (part _ (quietly (at_once _ _ _) (λ k hid d a. binary_first c.args.form (view (names_in m) c.args.x.now) (view (names_in m) c.args.y.now) m k _)) (c.value.ensures.plays m is) c.in_ok-left.was) (λ k hid d a. binary_second c.args.form (view (names_in m) c.args.x.now) (view (names_in m) c.args.y.now) c.in_ok-left.left m k _)) (c.value-2.ensures.plays m is) c.in_ok-right.was) (acted (c.give.ensures m (c.value-2.new.run.store, c.value-2.new.run.streams) (view (names_in m) c.args.x.now) (view (names_in m) c.args.y.now)));
+          passes (part _ (quietly (part _ (quietly (at_once _ _ _) (λ k hid d a. binary_first c.args.form (view (names_in m) c.args.x.now) (view (names_in m) c.args.y.now) m k _)) (c.value.ensures.plays m is) c.in_ok-left.was) (λ k hid d a. binary_second c.args.form (view (names_in m) c.args.x.now) (view (names_in m) c.args.y.now) c.in_ok-left.left m k _)) (c.value-2.ensures.plays m is) c.in_ok-right.was) (acted (c.give.ensures m (c.value-2.new.run.store, c.value-2.new.run.streams) (view (names_in m) c.args.x.now) (view (names_in m) c.args.y.now)));
       owns = c.value-2.ensures.owns;
     }
 
@@ -221,7 +212,7 @@ pub expressions::substr-returns : goal.expressions::substr-returns
 expressions::substr-returns g t c =
     record {
       plays = λ m is.
-          hands (part _ (quietly (part _ (quietly (part _ (quietly (at_once _ _ _) (λ k hid d a. refl)) (c.value.ensures.plays m is) c.in_ok-text.was) (λ k hid d a. refl)) (c.value-2.ensures.plays m is) c.in_ok-from.was) (λ k hid d a. refl)) (c.value-3.ensures.plays m is) c.in_ok-count.was) (acted (c.part_of.ensures m (c.value-3.new.run.store, c.value-3.new.run.streams) (view (names_in m) c.args.x.now) (view (names_in m) c.args.y.now) (view (names_in m) c.args.z.now)));
+          passes (part _ (quietly (part _ (quietly (part _ (quietly (at_once _ _ _) (λ k hid d a. refl)) (c.value.ensures.plays m is) c.in_ok-text.was) (λ k hid d a. refl)) (c.value-2.ensures.plays m is) c.in_ok-from.was) (λ k hid d a. refl)) (c.value-3.ensures.plays m is) c.in_ok-count.was) (acted (c.part_of.ensures m (c.value-3.new.run.store, c.value-3.new.run.streams) (view (names_in m) c.args.x.now) (view (names_in m) c.args.y.now) (view (names_in m) c.args.z.now)));
       owns = c.value-3.ensures.owns;
     }
 
@@ -277,7 +268,7 @@ pub expressions::within-returns : goal.expressions::within-returns
 expressions::within-returns g t c =
     record {
       plays = λ m is.
-          hands (part _ (quietly (at_once _ _ _) (λ k hid d a. refl)) (c.value.ensures.plays m is) c.in_ok-key.was) (acted (c.members.ensures m c.value.new.run.streams));
+          passes (part _ (quietly (at_once _ _ _) (λ k hid d a. refl)) (c.value.ensures.plays m is) c.in_ok-key.was) (acted (c.members.ensures m c.value.new.run.streams));
       owns = c.value.ensures.owns;
     }
 
@@ -403,7 +394,7 @@ pub targets::read_target-returns : goal.targets::read_target-returns
 targets::read_target-returns g t c =
     record {
       plays = λ m is.
-          hands (quietly {then_ = λ k. Do (Get (meant (names_in m) c.in_ok-from.from)) ∷ k} (part _ (quietly (at_once _ _ _) (λ k hid d a. refl)) (c.target_of.ensures.plays.plays m is) c.in_ok-from.was) (λ k hid d a. rw (c.in_ok-from.ensures.spot (names_in m)) refl)) (acted (c.read.ensures m c.target_of.new.run.streams));
+          passes (quietly {then_ = λ k. Do (Get (meant (names_in m) c.in_ok-from.from)) ∷ k} (part _ (quietly (at_once _ _ _) (λ k hid d a. refl)) (c.target_of.ensures.plays.plays m is) c.in_ok-from.was) (λ k hid d a. rw (c.in_ok-from.ensures.spot (names_in m)) refl)) (acted (c.read.ensures m c.target_of.new.run.streams));
       owns = c.target_of.ensures.plays.owns;
     }
 
@@ -550,7 +541,7 @@ pub lists::element_group-returns : goal.lists::element_group-returns
 lists::element_group-returns g t c =
     record {
       plays = λ m is.
-          hands (part _ (part _ (at_once _ _ _) (filled_from _ _ c.new-values.ensures.items c.fill.ensures.plays m is (Value_of (p.group c.args.place (expressions_of (map (view (names_in m)) c.args.xs.now)) (map (variable_of (names_in m)) c.args.arrays.now))) (waits_listed m (Value_of (p.group c.args.place (expressions_of (map (view (names_in m)) c.args.xs.now)) (map (variable_of (names_in m)) c.args.arrays.now))) (map (view (names_in m)) c.args.xs.now) (λ vs. keyed c.args.place vs (λ key k s. Goes (At (Members_of (map (variable_of (names_in m)) c.args.arrays.now)) (v.Text key ∷ []) ∷ k) s)) (λ vs k s. refl) (λ vs k. refl))) c.in_ok-fill.was) (acted (rw c.as_slice.ensures.value at (c.group_key.ensures m c.fill.new.run.streams (expressions_of (map (view (names_in m)) c.args.xs.now)) (map (variable_of (names_in m)) c.args.arrays.now) (rw c.as_slice.ensures.value (count_listed (view (names_in m)) c.args.xs.now _ _ c.new-values.ensures.items c.in_ok-fill.ensures.count))))) c.in_ok-key.was) (acted (c.members.ensures m c.fill.new.run.streams));
+          passes (part _ (part _ (at_once _ _ _) (filled_from _ _ c.new-values.ensures.items c.fill.ensures.plays m is (Value_of (p.group c.args.place (expressions_of (map (view (names_in m)) c.args.xs.now)) (map (variable_of (names_in m)) c.args.arrays.now))) (waits_listed m (Value_of (p.group c.args.place (expressions_of (map (view (names_in m)) c.args.xs.now)) (map (variable_of (names_in m)) c.args.arrays.now))) (map (view (names_in m)) c.args.xs.now) (λ vs. keyed c.args.place vs (λ key k s. Goes (At (Members_of (map (variable_of (names_in m)) c.args.arrays.now)) (v.Text key ∷ []) ∷ k) s)) (λ vs k s. refl) (λ vs k. refl))) c.in_ok-fill.was) (acted (rw c.as_slice.ensures.value at (c.group_key.ensures m c.fill.new.run.streams (expressions_of (map (view (names_in m)) c.args.xs.now)) (map (variable_of (names_in m)) c.args.arrays.now) (rw c.as_slice.ensures.value (count_listed (view (names_in m)) c.args.xs.now _ _ c.new-values.ensures.items c.in_ok-fill.ensures.count))))) c.in_ok-key.was) (acted (c.members.ensures m c.fill.new.run.streams));
       owns = c.fill.ensures.plays.owns;
     }
 
@@ -578,7 +569,7 @@ pub lists::formatted-returns : goal.lists::formatted-returns
 lists::formatted-returns g t c =
     record {
       plays = λ m is.
-          hands (part _ (part _ (quietly (at_once _ _ _) (λ k hid d a. refl)) (c.value.ensures.plays m is) c.in_ok-format.was) (filled_from _ (c.in_ok-format.format ∷ []) (c.in_ok-append.ensures.ok ∙ ap (λ vs. vs ++ c.in_ok-format.format ∷ []) c.new-values.ensures.items) c.fill.ensures.plays m is (Value_of (p.sprintf c.args.place (view (names_in m) c.args.x.now) (expressions_of (map (view (names_in m)) c.args.xs.now)))) (waits_behind m (Value_of (p.sprintf c.args.place (view (names_in m) c.args.x.now) (expressions_of (map (view (names_in m)) c.args.xs.now)))) (view (names_in m) c.args.x.now) (map (view (names_in m)) c.args.xs.now) (λ vs. deliver c.args.place (formatted_by vs >>= λ text. Ok (v.Text text))) (λ vs k s. refl) (λ vs k. refl))) c.in_ok-fill.was) (acted (rw c.as_slice.ensures.value at (c.sprintf.ensures m (c.fill.new.run.store, c.fill.new.run.streams) (view (names_in m) c.args.x.now) (expressions_of (map (view (names_in m)) c.args.xs.now)) (rw c.as_slice.ensures.value (count_behind (view (names_in m)) (view (names_in m) c.args.x.now) c.args.xs.now _ _ _ (c.in_ok-append.ensures.ok ∙ ap (λ vs. vs ++ c.in_ok-format.format ∷ []) c.new-values.ensures.items) c.in_ok-fill.ensures.count)))));
+          passes (part _ (part _ (quietly (at_once _ _ _) (λ k hid d a. refl)) (c.value.ensures.plays m is) c.in_ok-format.was) (filled_from _ (c.in_ok-format.format ∷ []) (c.in_ok-append.ensures.ok ∙ ap (λ vs. vs ++ c.in_ok-format.format ∷ []) c.new-values.ensures.items) c.fill.ensures.plays m is (Value_of (p.sprintf c.args.place (view (names_in m) c.args.x.now) (expressions_of (map (view (names_in m)) c.args.xs.now)))) (waits_behind m (Value_of (p.sprintf c.args.place (view (names_in m) c.args.x.now) (expressions_of (map (view (names_in m)) c.args.xs.now)))) (view (names_in m) c.args.x.now) (map (view (names_in m)) c.args.xs.now) (λ vs. deliver c.args.place (formatted_by vs >>= λ text. Ok (v.Text text))) (λ vs k s. refl) (λ vs k. refl))) c.in_ok-fill.was) (acted (rw c.as_slice.ensures.value at (c.sprintf.ensures m (c.fill.new.run.store, c.fill.new.run.streams) (view (names_in m) c.args.x.now) (expressions_of (map (view (names_in m)) c.args.xs.now)) (rw c.as_slice.ensures.value (count_behind (view (names_in m)) (view (names_in m) c.args.x.now) c.args.xs.now _ _ _ (c.in_ok-append.ensures.ok ∙ ap (λ vs. vs ++ c.in_ok-format.format ∷ []) c.new-values.ensures.items) c.in_ok-fill.ensures.count)))));
       owns = c.fill.ensures.plays.owns;
     }
 
@@ -647,7 +638,7 @@ pub patterns::locate-returns : goal.patterns::locate-returns
 patterns::locate-returns g t c =
     record {
       plays = λ m is.
-          hands (part _ (quietly (part _ (quietly (at_once _ _ _) (λ k hid d a. refl)) (c.value.ensures.plays m is) c.in_ok-text.was) (λ k hid d a. refl)) (c.source_of.ensures.plays.plays m is) c.in_ok-from.was) (acted (c.located.ensures m c.source_of.new.run.streams (view (names_in m) c.args.x.now) (view_ere (names_in m) c.args.pattern.now) (c.in_ok-from.ensures.kind (names_in m))));
+          passes (part _ (quietly (part _ (quietly (at_once _ _ _) (λ k hid d a. refl)) (c.value.ensures.plays m is) c.in_ok-text.was) (λ k hid d a. refl)) (c.source_of.ensures.plays.plays m is) c.in_ok-from.was) (acted (c.located.ensures m c.source_of.new.run.streams (view (names_in m) c.args.x.now) (view_ere (names_in m) c.args.pattern.now) (c.in_ok-from.ensures.kind (names_in m))));
       owns = c.source_of.ensures.plays.owns;
     }
 
@@ -671,7 +662,7 @@ pub patterns::split-returns : goal.patterns::split-returns
 patterns::split-returns g t c =
     record {
       plays = λ m is.
-          hands (part _ (quietly (part _ (quietly (at_once _ _ _) (λ k hid d a. refl)) (c.value.ensures.plays m is) c.in_ok-text.was) (λ k hid d a. refl)) (c.source_of.ensures.plays.plays m is) c.in_ok-by.was) (acted (c.split.ensures m c.source_of.new.run.streams (view (names_in m) c.args.x.now) (view_ere (names_in m) c.args.separator.now) (c.in_ok-by.ensures.kind (names_in m))));
+          passes (part _ (quietly (part _ (quietly (at_once _ _ _) (λ k hid d a. refl)) (c.value.ensures.plays m is) c.in_ok-text.was) (λ k hid d a. refl)) (c.source_of.ensures.plays.plays m is) c.in_ok-by.was) (acted (c.split.ensures m c.source_of.new.run.streams (view (names_in m) c.args.x.now) (view_ere (names_in m) c.args.separator.now) (c.in_ok-by.ensures.kind (names_in m))));
       owns = c.source_of.ensures.plays.owns;
     }
 
@@ -703,25 +694,13 @@ pub patterns::substitute-returns : goal.patterns::substitute-returns
 patterns::substitute-returns g t c =
     record {
       plays = λ m is.
-          hands (part _ (quietly (part _ (quietly (part _ (quietly (at_once _ _ _) (λ k hid d a. refl)) (c.source_of.ensures.plays.plays m is) c.in_ok-from.was) (λ k hid d a. refl)) (c.value.ensures.plays m is) c.in_ok-new.was) (λ k hid d a. refl)) (c.target_of.ensures.plays.plays m is) c.in_ok-to.was) (acted (c.substitute.ensures m c.target_of.new.run.streams (view_ere (names_in m) c.args.pattern.now) (view (names_in m) c.args.x.now) (view_target (names_in m) c.args.target.now) (c.in_ok-from.ensures.kind (names_in m)) (c.in_ok-to.ensures.spot (names_in m))));
+          passes (part _ (quietly (part _ (quietly (part _ (quietly (at_once _ _ _) (λ k hid d a. refl)) (c.source_of.ensures.plays.plays m is) c.in_ok-from.was) (λ k hid d a. refl)) (c.value.ensures.plays m is) c.in_ok-new.was) (λ k hid d a. refl)) (c.target_of.ensures.plays.plays m is) c.in_ok-to.was) (acted (c.substitute.ensures m c.target_of.new.run.streams (view_ere (names_in m) c.args.pattern.now) (view (names_in m) c.args.x.now) (view_target (names_in m) c.args.target.now) (c.in_ok-from.ensures.kind (names_in m)) (c.in_ok-to.ensures.spot (names_in m))));
       owns = c.target_of.ensures.plays.owns;
     }
-
-pub expressions::evaluate-returns-in-Call : goal.expressions::evaluate-returns-in-Call
-expressions::evaluate-returns-in-Call g t c =
-    record { plays = λ m is. rw (c.in-Call.is, view-Call) (rw c.as_slice-in-Call.ensures at (c.call.ensures.plays m is)); owns = c.call.ensures.owns }
 
 pub expressions::evaluate-returns-in-Getline : goal.expressions::evaluate-returns-in-Getline
 expressions::evaluate-returns-in-Getline g t c =
     record { plays = λ m is. rw (c.in-Getline.is, view-Getline) (c.getline.ensures.plays m is); owns = c.getline.ensures.owns }
-
-pub expressions::evaluate-returns-in-GetlineFile : goal.expressions::evaluate-returns-in-GetlineFile
-expressions::evaluate-returns-in-GetlineFile g t c =
-    record { plays = λ m is. rw (c.in-GetlineFile.is, view-GetlineFile) (rw c.get-in-GetlineFile.ensures at (c.from_file.ensures.plays m is)); owns = c.from_file.ensures.owns }
-
-pub expressions::evaluate-returns-in-Pipe : goal.expressions::evaluate-returns-in-Pipe
-expressions::evaluate-returns-in-Pipe g t c =
-    record { plays = λ m is. rw (c.in-Pipe.is, view-Pipe) (rw (c.get-in-Pipe.ensures, c.as_slice-in-Pipe.ensures) at (c.from_commands.ensures.plays m is)); owns = c.from_commands.ensures.owns }
 
 pub expressions::evaluate-returns-in-Close : goal.expressions::evaluate-returns-in-Close
 expressions::evaluate-returns-in-Close g t c =
@@ -757,7 +736,7 @@ statements::statement-returns-then-level-eq0 g t c =
 
 pub statements::statement-returns-then-not-is_one : goal.statements::statement-returns-then-not-is_one
 statements::statement-returns-then-not-is_one g t c =
-    record { plays = λ m is. hands (quietly (at_once _ _ _) (λ k hid d a. starts_at_once m (view_statement (names_in m) c.args.x.now) c.is_one.result (c.is_one.ensures (names_in m)) c.if-not-is_one.true k _)) (c.perform.ensures.plays m is); owns = c.perform.ensures.owns }
+    record { plays = λ m is. passes (quietly (at_once _ _ _) (λ k hid d a. starts_at_once m (view_statement (names_in m) c.args.x.now) c.is_one.result (c.is_one.ensures (names_in m)) c.if-not-is_one.true k _)) (c.perform.ensures.plays m is); owns = c.perform.ensures.owns }
 
 pub statements::statement-returns-in_err-step : goal.statements::statement-returns-in_err-step
 statements::statement-returns-in_err-step g t c =
@@ -765,7 +744,7 @@ statements::statement-returns-in_err-step g t c =
 
 pub statements::statement-returns : goal.statements::statement-returns
 statements::statement-returns g t c =
-    record { plays = λ m is. hands (part _ (quietly {then_ = λ k. Do Step ∷ At (Doing (view_statement (names_in m) c.args.x.now)) [] ∷ k} (at_once _ _ _) (λ k hid d a. starts_stepped m (view_statement (names_in m) c.args.x.now) c.is_one.result (c.is_one.ensures (names_in m)) c.if-not-is_one.false k _)) (takes (is.host.bound ∙ sym c.bound.ensures) (c.step.ensures c.args.run.now.streams)) c.in_ok-step.was) (c.perform-2.ensures.plays m is); owns = c.perform-2.ensures.owns }
+    record { plays = λ m is. passes (part _ (quietly {then_ = λ k. Do Step ∷ At (Doing (view_statement (names_in m) c.args.x.now)) [] ∷ k} (at_once _ _ _) (λ k hid d a. starts_stepped m (view_statement (names_in m) c.args.x.now) c.is_one.result (c.is_one.ensures (names_in m)) c.if-not-is_one.false k _)) (takes (is.host.bound ∙ sym c.bound.ensures) (c.step.ensures c.args.run.now.streams)) c.in_ok-step.was) (c.perform-2.ensures.plays m is); owns = c.perform-2.ensures.owns }
 
 pub statements::perform-returns-in-Expr : goal.statements::perform-returns-in-Expr
 statements::perform-returns-in-Expr g t c =
@@ -805,7 +784,7 @@ statements::perform-returns-in-Return g t c =
 
 pub statements::perform-returns-in-Block : goal.statements::perform-returns-in-Block
 statements::perform-returns-in-Block g t c =
-    record { plays = λ m is. rw (c.in-Block.is, statement-Block) (hands (quietly {then_ = λ k. Do (Each (map (view_statement (names_in m)) c.in-Block.xs)) ∷ k} (at_once _ _ _) (λ k hid d a. block_first m (map (view_statement (names_in m)) c.in-Block.xs) k _)) (rw c.as_slice-in-Block.ensures at (c.body.ensures.plays m is))); owns = c.body.ensures.owns }
+    record { plays = λ m is. rw (c.in-Block.is, statement-Block) (passes (quietly {then_ = λ k. Do (Each (map (view_statement (names_in m)) c.in-Block.xs)) ∷ k} (at_once _ _ _) (λ k hid d a. block_first m (map (view_statement (names_in m)) c.in-Block.xs) k _)) (rw c.as_slice-in-Block.ensures at (c.body.ensures.plays m is))); owns = c.body.ensures.owns }
 
 pub statements::perform-returns-in-If : goal.statements::perform-returns-in-If
 statements::perform-returns-in-If g t c =
@@ -853,7 +832,7 @@ statements::leave_by-returns-in_err-status-in-Some g t c =
 
 pub statements::leave_by-returns-in_ok-status-in-Some : goal.statements::leave_by-returns-in_ok-status-in-Some
 statements::leave_by-returns-in_ok-status-in-Some g t c =
-    record { plays = λ m is. rw c.in-Some.is (hands (part _ (quietly (at_once _ _ _) (λ k hid d a. refl)) (c.value.ensures.plays m is) c.in_ok-status-in-Some.was) (jumped _ (c.exit_with.ensures m c.value.new.run.streams (view (names_in m) c.in-Some.x)))); owns = c.value.ensures.owns }
+    record { plays = λ m is. rw c.in-Some.is (passes (part _ (quietly (at_once _ _ _) (λ k hid d a. refl)) (c.value.ensures.plays m is) c.in_ok-status-in-Some.was) (jumped _ (c.exit_with.ensures m c.value.new.run.streams (view (names_in m) c.in-Some.x)))); owns = c.value.ensures.owns }
 
 pub statements::give_back-returns-in-None : goal.statements::give_back-returns-in-None
 statements::give_back-returns-in-None g t c =
@@ -913,15 +892,15 @@ loops::turn_first-returns-in_err-behind g t c =
 
 pub loops::turn_first-returns : goal.loops::turn_first-returns
 loops::turn_first-returns g t c =
-    record { plays = λ m is. hands (part _ (turned (part _ (quietly (at_once _ _ _) (λ k hid d a. refl)) (c.statement.ensures.plays m is) c.in_ok-flow.was) (λ k. turn_on c.in_ok-flow.flow (loop_of (names_in m) (Some c.args.test.now) c.args.inner.now None) k (sym c.end_of.ensures ∙ c.in_default.is))) (c.behind.ensures.plays m is) c.in_ok-behind.was) (c.turns.ensures.plays m is); owns = c.turns.ensures.owns }
+    record { plays = λ m is. passes (part _ (turned (part _ (quietly (at_once _ _ _) (λ k hid d a. refl)) (c.statement.ensures.plays m is) c.in_ok-flow.was) (λ k. turn_on c.in_ok-flow.flow (loop_of (names_in m) (Some c.args.test.now) c.args.inner.now None) k (sym c.end_of.ensures ∙ c.in_default.is))) (c.behind.ensures.plays m is) c.in_ok-behind.was) (c.turns.ensures.plays m is); owns = c.turns.ensures.owns }
 
 pub loops::while_loop-returns : goal.loops::while_loop-returns
 loops::while_loop-returns g t c =
-    record { plays = λ m is. hands (quietly (at_once _ _ _) (λ k hid d a. refl)) (c.turns.ensures.plays m is); owns = c.turns.ensures.owns }
+    record { plays = λ m is. passes (quietly (at_once _ _ _) (λ k hid d a. refl)) (c.turns.ensures.plays m is); owns = c.turns.ensures.owns }
 
 pub loops::first_then-returns-in_default : goal.loops::first_then-returns-in_default
 loops::first_then-returns-in_default g t c =
-    record { plays = λ m is. rw (c.in_default.is) (hands (quietly (at_once _ _ _) (λ k hid d a. refl)) (rw (c.as_ref-test.ensures.value, c.as_ref-after.ensures.value) at (c.turns.ensures.plays m is))); owns = c.turns.ensures.owns }
+    record { plays = λ m is. rw (c.in_default.is) (passes (quietly (at_once _ _ _) (λ k hid d a. refl)) (rw (c.as_ref-test.ensures.value, c.as_ref-after.ensures.value) at (c.turns.ensures.plays m is))); owns = c.turns.ensures.owns }
 
 pub loops::over-loop-key-init : goal.loops::over-loop-key-init
 loops::over-loop-key-init g t c =
@@ -957,7 +936,7 @@ loops::over_keys-returns-in_default g t c =
 
 pub loops::over_keys-returns : goal.loops::over_keys-returns
 loops::over_keys-returns g t c =
-    record { plays = λ m is. hands (quietly {then_ = λ k. Do (Keys c.args.place (variable_of (names_in m) c.args.variable) (view_statement (names_in m) c.args.inner.now) c.in-Ok.keys.items) ∷ k} (at_once _ _ _) (λ k hid d a. keys_first m c.args.place (variable_of (names_in m) c.args.variable) (variable_of (names_in m) c.args.array) (view_statement (names_in m) c.args.inner.now) _ c.in-Ok.keys.items k _ (array-so m _ hid d a c.args.array) c.in-Ok.ensures.ok)) (rw (c.in-Ok.ensures.same, c.as_slice.ensures.value) at (c.over.ensures.plays m is)); owns = c.over.ensures.owns }
+    record { plays = λ m is. passes (quietly {then_ = λ k. Do (Keys c.args.place (variable_of (names_in m) c.args.variable) (view_statement (names_in m) c.args.inner.now) c.in-Ok.keys.items) ∷ k} (at_once _ _ _) (λ k hid d a. keys_first m c.args.place (variable_of (names_in m) c.args.variable) (variable_of (names_in m) c.args.array) (view_statement (names_in m) c.args.inner.now) _ c.in-Ok.keys.items k _ (array-so m _ hid d a c.args.array) c.in-Ok.ensures.ok)) (rw (c.in-Ok.ensures.same, c.as_slice.ensures.value) at (c.over.ensures.plays m is)); owns = c.over.ensures.owns }
 
 pub calls::argument-returns-in-Value : goal.calls::argument-returns-in-Value
 calls::argument-returns-in-Value g t c =
@@ -1024,27 +1003,27 @@ inputs::getline-returns-in_err-to g t c =
 
 pub inputs::getline-returns : goal.inputs::getline-returns
 inputs::getline-returns g t c =
-    record { plays = λ m is. hands (part _ (quietly (at_once _ _ _) (λ k hid d a. refl)) (c.target_of.ensures.plays.plays m is) c.in_ok-to.was) (c.getline_main.ensures.task m is.host (view_target (names_in m) c.args.target.now) (c.in_ok-to.ensures.spot (names_in m))); owns = c.getline_main.ensures.owns }
-
-pub inputs::from_file-returns-in_err-to : goal.inputs::from_file-returns-in_err-to
-inputs::from_file-returns-in_err-to g t c =
-    let e = err_from_is_err_and c.from_residual.result c.from_residual.ensures.1 in rw (e.1, e.2) (record { plays = λ m is. stop _ (λ k. refl) (quietly (at_once _ _ _) (λ k hid d a. refl)) (c.target_of.ensures.plays.plays m is) c.in_err-to.was; owns = c.target_of.ensures.plays.owns })
+    record { plays = λ m is. passes (part _ (quietly (at_once _ _ _) (λ k hid d a. refl)) (c.target_of.ensures.plays.plays m is) c.in_ok-to.was) (c.getline_main.ensures.task m is.host (view_target (names_in m) c.args.target.now) (c.in_ok-to.ensures.spot (names_in m))); owns = c.getline_main.ensures.owns }
 
 pub inputs::from_file-returns-in_err-answer : goal.inputs::from_file-returns-in_err-answer
 inputs::from_file-returns-in_err-answer g t c =
-    let e = err_from_is_err_and c.from_residual-in_err-answer.result c.from_residual-in_err-answer.ensures.1 in rw (e.1, e.2) (record { plays = λ m is. stop _ (λ k. refl) (part _ (quietly (part _ (quietly (at_once _ _ _) (λ k hid d a. refl)) (c.target_of.ensures.plays.plays m is) c.in_ok-to.was) (λ k hid d a. refl)) (acted (there {on = give} {x = lent_value c.in-Some.name} (c.in-Some.ensures m c.target_of.new.run.streams))) refl) (c.in_err-answer.ensures.task m (view_target (names_in m) c.args.target.now) (view (names_in m) c.args.x.now) (value_of c.in_ok-to.to)) refl; owns = c.in_err-answer.ensures.owns })
+    let e = err_from_is_err_and c.from_residual.result c.from_residual.ensures.1 in rw (e.1, e.2) (record { plays = λ m is. stop _ (λ k. refl) (part _ (quietly (part _ (quietly (at_once _ _ _) (λ k hid d a. refl)) (acted (there {on = give} {x = value_of c.in-Some.to} (c.in-Some.ensures.plays m (c.args.run.now.store, c.args.run.now.streams)))) refl) (λ k hid d a. refl)) (acted (there {on = give} {x = lent_value c.in-Some-at_hand.name} (c.in-Some-at_hand.ensures m c.args.run.now.streams))) refl) (c.in_err-answer.ensures.task m (view_target (names_in m) c.args.target.now) (view (names_in m) c.args.x.now) (value_of c.in-Some.to)) refl; owns = c.in_err-answer.ensures.owns })
 
-pub inputs::from_file-returns-in-Some : goal.inputs::from_file-returns-in-Some
-inputs::from_file-returns-in-Some g t c =
+pub inputs::from_file-returns-in-Some-at_hand : goal.inputs::from_file-returns-in-Some-at_hand
+inputs::from_file-returns-in-Some-at_hand g t c =
     record {
       plays = λ m is.
           let r = view_target (names_in m) c.args.target.now in
           let x = view (names_in m) c.args.x.now in
           let answer = c.in_ok-answer.answer in
-          hands (part answer (part _ (quietly (part _ (quietly (at_once _ _ _) (λ k hid d a. refl)) (c.target_of.ensures.plays.plays m is) c.in_ok-to.was) (λ k hid d a. refl)) (acted (there {on = give} {x = lent_value c.in-Some.name} (c.in-Some.ensures m c.target_of.new.run.streams))) refl) (c.in_ok-answer.ensures.task m r x (value_of c.in_ok-to.to)) refl)
-          (acted (c.set_from_file.ensures.task m r x (lent_value c.in-Some.name) (c.in_ok-to.ensures.spot (names_in m))));
+          passes (part answer (part _ (quietly (part _ (quietly (at_once _ _ _) (λ k hid d a. refl)) (acted (there {on = give} {x = value_of c.in-Some.to} (c.in-Some.ensures.plays m (c.args.run.now.store, c.args.run.now.streams)))) refl) (λ k hid d a. refl)) (acted (there {on = give} {x = lent_value c.in-Some-at_hand.name} (c.in-Some-at_hand.ensures m c.args.run.now.streams))) refl) (c.in_ok-answer.ensures.task m r x (value_of c.in-Some.to)) refl)
+          (acted (c.set_from_file.ensures.task m r x (lent_value c.in-Some-at_hand.name) (c.in-Some.ensures.spot (names_in m))));
       owns = rw c.set_from_file.ensures.same c.in_ok-answer.ensures.owns;
     }
+
+pub inputs::from_file-returns-in_err-to : goal.inputs::from_file-returns-in_err-to
+inputs::from_file-returns-in_err-to g t c =
+    let e = err_from_is_err_and c.from_residual-in_err-to.result c.from_residual-in_err-to.ensures.1 in rw (e.1, e.2) (record { plays = λ m is. stop _ (λ k. refl) (quietly (at_once _ _ _) (λ k hid d a. refl)) (c.target_of.ensures.plays.plays m is) c.in_err-to.was; owns = c.target_of.ensures.plays.owns })
 
 pub inputs::from_file-returns-in_err-name : goal.inputs::from_file-returns-in_err-name
 inputs::from_file-returns-in_err-name g t c =
@@ -1061,18 +1040,29 @@ inputs::from_file-returns g t c =
           let r = view_target (names_in m) c.args.target.now in
           let x = view (names_in m) c.args.x.now in
           let answer = c.in_ok-answer-2.answer in
-          hands (part answer (part _ (quietly (part _ (quietly (at_once _ _ _) (λ k hid d a. refl)) (c.target_of.ensures.plays.plays m is) c.in_ok-to.was) (λ k hid d a. refl)) (c.value.ensures.plays m is) c.in_ok-name.was) (rw c.of.ensures at (c.in_ok-answer-2.ensures.task m r x (value_of c.in_ok-to.to))) refl)
+          passes (part answer (part _ (quietly (part _ (quietly (at_once _ _ _) (λ k hid d a. refl)) (c.target_of.ensures.plays.plays m is) c.in_ok-to.was) (λ k hid d a. refl)) (c.value.ensures.plays m is) c.in_ok-name.was) (rw c.of.ensures at (c.in_ok-answer-2.ensures.task m r x (value_of c.in_ok-to.to))) refl)
           (acted (c.set_from_file-2.ensures.task m r x c.in_ok-name.name (c.in_ok-to.ensures.spot (names_in m))));
       owns = rw c.set_from_file-2.ensures.same c.in_ok-answer-2.ensures.owns;
     }
 
-pub inputs::from_commands-returns-in-len1 : goal.inputs::from_commands-returns-in-len1
-inputs::from_commands-returns-in-len1 g t c =
+pub inputs::from_commands-returns-in_err-answer : goal.inputs::from_commands-returns-in_err-answer
+inputs::from_commands-returns-in_err-answer g t c =
+    let e = err_from_is_err_and c.from_residual.result c.from_residual.ensures.1 in rw (e.1, e.2) (record {
+      plays = λ m is.
+          rw (just_one c.args.xs.now c.only-item.result c.in-len1.len_at_least c.in-len1.len_below c.only-item.is)
+          (stop _ (λ k. refl) (part _ (quietly (part _ (quietly (at_once _ _ _) (λ k hid d a. refl)) (acted (there {on = give} {x = lent_value c.in-Some-at_hand.command} (c.in-Some-at_hand.ensures m c.args.run.now.streams))) refl) (λ k hid d a. refl)) (acted (there {on = give} {x = value_of c.in-Some.to} (c.in-Some.ensures.plays m (c.args.run.now.store, c.args.run.now.streams)))) refl) (c.in_err-answer.ensures.task m (view_target (names_in m) c.only-item.result.target) p.no_pipes (value_of c.in-Some.to)) refl);
+      owns = c.in_err-answer.ensures.owns;
+    })
+
+pub inputs::from_commands-returns-in-Some-at_hand : goal.inputs::from_commands-returns-in-Some-at_hand
+inputs::from_commands-returns-in-Some-at_hand g t c =
     record {
       plays = λ m is.
-          rw (c.in-Text.is, view-Text, just_one c.args.xs.now c.next-item.result c.in-len1.len_at_least c.in-len1.len_below c.next-item.is)
-          (rests (hands (part _ (quietly (part _ (quietly (at_once _ _ _) (λ k hid d a. refl)) (acted (there {on = give} {x = v.Text c.in-Text.command} (text_there m _ _))) refl) (λ k hid d a. refl)) (c.target_of.ensures.plays.plays m is) c.in_ok-to.was) (rw c.bytes.ensures at (c.getline_pipe.ensures.task m (view_target (names_in m) c.next-item.result.target) p.no_pipes (c.in_ok-to.ensures.spot (names_in m))))) (λ x k hid d a. refl));
-      owns = c.getline_pipe.ensures.owns;
+          let r = view_target (names_in m) c.only-item.result.target in
+          rw (just_one c.args.xs.now c.only-item.result c.in-len1.len_at_least c.in-len1.len_below c.only-item.is)
+          (rests (passes (part c.in_ok-answer.answer (part _ (quietly (part _ (quietly (at_once _ _ _) (λ k hid d a. refl)) (acted (there {on = give} {x = lent_value c.in-Some-at_hand.command} (c.in-Some-at_hand.ensures m c.args.run.now.streams))) refl) (λ k hid d a. refl)) (acted (there {on = give} {x = value_of c.in-Some.to} (c.in-Some.ensures.plays m (c.args.run.now.store, c.args.run.now.streams)))) refl) (c.in_ok-answer.ensures.task m r p.no_pipes (value_of c.in-Some.to)) refl)
+          (acted (c.set_from_command.ensures.task m r p.no_pipes (lent_value c.in-Some-at_hand.command) (c.in-Some.ensures.spot (names_in m))))) (λ x k hid d a. refl));
+      owns = rw c.set_from_command.ensures.same c.in_ok-answer.ensures.owns;
     }
 
 pub inputs::from_commands-returns-in_err-so_far : goal.inputs::from_commands-returns-in_err-so_far
@@ -1085,24 +1075,15 @@ inputs::from_commands-loop-next-init g t c =
 
 pub inputs::from_commands-returns-in_err-to : goal.inputs::from_commands-returns-in_err-to
 inputs::from_commands-returns-in_err-to g t c =
-    let e = err_from_is_err_and c.from_residual.result c.from_residual.ensures.1 in rw (e.1, e.2) (record {
-      plays = λ m is.
-          rw (c.in-Text.is, view-Text, just_one c.args.xs.now c.next-item.result c.in-len1.len_at_least c.in-len1.len_below c.next-item.is)
-          (stop _ (λ k. refl) (quietly (part _ (quietly (at_once _ _ _) (λ k hid d a. refl)) (acted (there {on = give} {x = v.Text c.in-Text.command} (text_there m _ _))) refl) (λ k hid d a. refl)) (c.target_of.ensures.plays.plays m is) c.in_err-to.was);
-      owns = c.target_of.ensures.plays.owns;
-    })
-
-pub inputs::from_commands-returns-in_err-to-2 : goal.inputs::from_commands-returns-in_err-to-2
-inputs::from_commands-returns-in_err-to-2 g t c =
-    let e = err_from_is_err_and c.from_residual-in_err-to-2.result c.from_residual-in_err-to-2.ensures.1 in rw (e.1, e.2) (record { plays = λ m is. stop _ (λ k. refl) (quietly (turned (c.loop-next.invariant.leads m is) (λ k. ap (λ ys. At (Pipes_of (view_pipes (names_in m) ys)) (c.loop-next.so_far ∷ []) ∷ k) (next_of c.args.xs.now c.loop-next.next-index c.next-item-in-loop-next.result c.next-item-in-loop-next.is c.loop-next-test.true))) (λ k hid d a. refl)) (c.target_of-in-loop-next.ensures.plays.plays m is) c.in_err-to-2.was; owns = c.target_of-in-loop-next.ensures.plays.owns })
+    let e = err_from_is_err_and c.from_residual-in_err-to.result c.from_residual-in_err-to.ensures.1 in rw (e.1, e.2) (record { plays = λ m is. stop _ (λ k. refl) (quietly (turned (c.loop-next.invariant.leads m is) (λ k. ap (λ ys. At (Pipes_of (view_pipes (names_in m) ys)) (c.loop-next.so_far ∷ []) ∷ k) (next_of c.args.xs.now c.loop-next.next-index c.next-item.result c.next-item.is c.loop-next-test.true))) (λ k hid d a. refl)) (c.target_of.ensures.plays.plays m is) c.in_err-to.was; owns = c.target_of.ensures.plays.owns })
 
 pub inputs::from_commands-returns-in_err-so_far-2 : goal.inputs::from_commands-returns-in_err-so_far-2
 inputs::from_commands-returns-in_err-so_far-2 g t c =
-    let e = err_from_is_err_and c.from_residual-in_err-so_far-2.result c.from_residual-in_err-so_far-2.ensures.1 in rw (e.1, e.2) (record { plays = λ m is. stop _ (λ k. refl) (part _ (quietly (turned (c.loop-next.invariant.leads m is) (λ k. ap (λ ys. At (Pipes_of (view_pipes (names_in m) ys)) (c.loop-next.so_far ∷ []) ∷ k) (next_of c.args.xs.now c.loop-next.next-index c.next-item-in-loop-next.result c.next-item-in-loop-next.is c.loop-next-test.true))) (λ k hid d a. refl)) (c.target_of-in-loop-next.ensures.plays.plays m is) c.in_ok-to-2.was) (rw c.of.ensures at (c.getline_pipe-in-loop-next.ensures.task m (view_target (names_in m) c.next-item-in-loop-next.result.target) (view_pipes (names_in m) (drop (c.loop-next.next-index + 1) c.args.xs.now)) (c.in_ok-to-2.ensures.spot (names_in m)))) c.in_err-so_far-2.was; owns = c.getline_pipe-in-loop-next.ensures.owns })
+    let e = err_from_is_err_and c.from_residual-in_err-so_far-2.result c.from_residual-in_err-so_far-2.ensures.1 in rw (e.1, e.2) (record { plays = λ m is. stop _ (λ k. refl) (part _ (quietly (turned (c.loop-next.invariant.leads m is) (λ k. ap (λ ys. At (Pipes_of (view_pipes (names_in m) ys)) (c.loop-next.so_far ∷ []) ∷ k) (next_of c.args.xs.now c.loop-next.next-index c.next-item.result c.next-item.is c.loop-next-test.true))) (λ k hid d a. refl)) (c.target_of.ensures.plays.plays m is) c.in_ok-to.was) (rw c.of.ensures at (c.getline_pipe.ensures.task m (view_target (names_in m) c.next-item.result.target) (view_pipes (names_in m) (drop (c.loop-next.next-index + 1) c.args.xs.now)) (c.in_ok-to.ensures.spot (names_in m)))) c.in_err-so_far-2.was; owns = c.getline_pipe.ensures.owns })
 
 pub inputs::from_commands-loop-next-preserved : goal.inputs::from_commands-loop-next-preserved
 inputs::from_commands-loop-next-preserved g t c =
-    record { leads = λ m is. (part _ (part _ (quietly (turned (c.loop-next.invariant.leads m is) (λ k. ap (λ ys. At (Pipes_of (view_pipes (names_in m) ys)) (c.loop-next.so_far ∷ []) ∷ k) (next_of c.args.xs.now c.loop-next.next-index c.next-item-in-loop-next.result c.next-item-in-loop-next.is c.loop-next-test.true))) (λ k hid d a. refl)) (c.target_of-in-loop-next.ensures.plays.plays m is) c.in_ok-to-2.was) (rw c.of.ensures at (c.getline_pipe-in-loop-next.ensures.task m (view_target (names_in m) c.next-item-in-loop-next.result.target) (view_pipes (names_in m) (drop (c.loop-next.next-index + 1) c.args.xs.now)) (c.in_ok-to-2.ensures.spot (names_in m)))) c.in_ok-so_far-2.was); owns = c.getline_pipe-in-loop-next.ensures.owns }
+    record { leads = λ m is. (part _ (part _ (quietly (turned (c.loop-next.invariant.leads m is) (λ k. ap (λ ys. At (Pipes_of (view_pipes (names_in m) ys)) (c.loop-next.so_far ∷ []) ∷ k) (next_of c.args.xs.now c.loop-next.next-index c.next-item.result c.next-item.is c.loop-next-test.true))) (λ k hid d a. refl)) (c.target_of.ensures.plays.plays m is) c.in_ok-to.was) (rw c.of.ensures at (c.getline_pipe.ensures.task m (view_target (names_in m) c.next-item.result.target) (view_pipes (names_in m) (drop (c.loop-next.next-index + 1) c.args.xs.now)) (c.in_ok-to.ensures.spot (names_in m)))) c.in_ok-so_far-2.was); owns = c.getline_pipe.ensures.owns }
 
 pub inputs::from_commands-returns : goal.inputs::from_commands-returns
 inputs::from_commands-returns g t c =
@@ -1118,7 +1099,7 @@ inputs::close-returns-in_default g t c =
 
 pub inputs::close-returns : goal.inputs::close-returns
 inputs::close-returns g t c =
-    record { plays = λ m is. hands (quietly {then_ = λ k. Do (Close c.args.place c.in-Ok.name None) ∷ k} (part _ (quietly (at_once _ _ _) (λ k hid d a. refl)) (c.value.ensures.plays m is) c.in_ok-operand.was) (λ k hid d a. close_first m c.args.place (view (names_in m) c.args.x.now) c.in_ok-operand.operand c.in-Ok.name k _ (c.in-Ok.ensures))) (lifted m c.value.new.run.store (λ s. rw c.bytes.ensures at (c.close.ensures.task m s))); owns = c.close.ensures.owns }
+    record { plays = λ m is. passes (quietly {then_ = λ k. Do (Close c.args.place c.in-Ok.name None) ∷ k} (part _ (quietly (at_once _ _ _) (λ k hid d a. refl)) (c.value.ensures.plays m is) c.in_ok-operand.was) (λ k hid d a. close_first m c.args.place (view (names_in m) c.args.x.now) c.in_ok-operand.operand c.in-Ok.name k _ (c.in-Ok.ensures))) (lifted m c.value.new.run.store (λ s. rw c.bytes.ensures at (c.close.ensures.task m s))); owns = c.close.ensures.owns }
 
 pub inputs::system-returns-in_err-operand : goal.inputs::system-returns-in_err-operand
 inputs::system-returns-in_err-operand g t c =
@@ -1130,7 +1111,7 @@ inputs::system-returns-in_default g t c =
 
 pub inputs::system-returns : goal.inputs::system-returns
 inputs::system-returns g t c =
-    record { plays = λ m is. hands (part _ (quietly (at_once _ _ _) (λ k hid d a. refl)) (c.value.ensures.plays m is) c.in_ok-operand.was) (lifted m c.value.new.run.store (λ s. c.system.ensures.task m s c.value.new.run.streams (view (names_in m) c.args.x.now) c.in_ok-operand.operand (sym c.in-Ok.ensures))); owns = rw c.system.ensures.numbers c.value.ensures.owns }
+    record { plays = λ m is. passes (part _ (quietly (at_once _ _ _) (λ k hid d a. refl)) (c.value.ensures.plays m is) c.in_ok-operand.was) (lifted m c.value.new.run.store (λ s. c.system.ensures.task m s c.value.new.run.streams (view (names_in m) c.args.x.now) c.in_ok-operand.operand (sym c.in-Ok.ensures))); owns = rw c.system.ensures.numbers c.value.ensures.owns }
 
 pub output::general_print-returns-in_err-fill : goal.output::general_print-returns-in_err-fill
 output::general_print-returns-in_err-fill g t c =
@@ -1226,7 +1207,7 @@ expressions::general_effect-returns-in-Change g t c =
 
 pub targets::read_target-returns-in-Variable : goal.targets::read_target-returns-in-Variable
 targets::read_target-returns-in-Variable g t c =
-    record { plays = λ m is. rw c.in-Variable.is (hands (quietly {then_ = λ k. Do (Get (meant (names_in m) (spot.Variable c.in-Variable.variable))) ∷ k} (quietly {then_ = λ k. At (Value_of (p.read (p.variable (variable_of (names_in m) c.in-Variable.variable)))) (v.Unset ∷ []) ∷ k} (quietly {then_ = λ k. At (Target_of (p.variable (variable_of (names_in m) c.in-Variable.variable))) [] ∷ At (Value_of (p.read (p.variable (variable_of (names_in m) c.in-Variable.variable)))) [] ∷ k} (at_once _ _ _) (λ k hid d a. refl)) (λ k hid d a. refl)) (λ k hid d a. refl)) (acted (c.read_variable.ensures m c.args.run.now.streams))); owns = c.requires }
+    record { plays = λ m is. rw c.in-Variable.is (passes (quietly {then_ = λ k. Do (Get (meant (names_in m) (spot.Variable c.in-Variable.variable))) ∷ k} (quietly {then_ = λ k. At (Value_of (p.read (p.variable (variable_of (names_in m) c.in-Variable.variable)))) (v.Unset ∷ []) ∷ k} (quietly {then_ = λ k. At (Target_of (p.variable (variable_of (names_in m) c.in-Variable.variable))) [] ∷ At (Value_of (p.read (p.variable (variable_of (names_in m) c.in-Variable.variable)))) [] ∷ k} (at_once _ _ _) (λ k hid d a. refl)) (λ k hid d a. refl)) (λ k hid d a. refl)) (acted (c.read_variable.ensures m c.args.run.now.streams))); owns = c.requires }
 
 pub targets::alter-returns-in_err-to : goal.targets::alter-returns-in_err-to
 targets::alter-returns-in_err-to g t c =
@@ -1278,7 +1259,7 @@ statements::plain-returns g t c =
 
 pub statements::statement-returns-in-Expr : goal.statements::statement-returns-in-Expr
 statements::statement-returns-in-Expr g t c =
-    record { plays = λ m is. hands (part _ (quietly {then_ = λ k. Do Step ∷ At (Doing (view_statement (names_in m) c.args.x.now)) [] ∷ k} (at_once _ _ _) (λ k hid d a. starts_stepped m (view_statement (names_in m) c.args.x.now) c.is_one.result (c.is_one.ensures (names_in m)) c.if-not-is_one.false k _)) (takes (is.host.bound ∙ sym c.bound.ensures) (c.step.ensures c.args.run.now.streams)) c.in_ok-step.was) (rw (sym (ap (view_statement (names_in m)) c.in-Expr.is ∙ statement-Expr _ _)) at (c.plain.ensures.plays m is)); owns = c.plain.ensures.owns }
+    record { plays = λ m is. passes (part _ (quietly {then_ = λ k. Do Step ∷ At (Doing (view_statement (names_in m) c.args.x.now)) [] ∷ k} (at_once _ _ _) (λ k hid d a. starts_stepped m (view_statement (names_in m) c.args.x.now) c.is_one.result (c.is_one.ensures (names_in m)) c.if-not-is_one.false k _)) (takes (is.host.bound ∙ sym c.bound.ensures) (c.step.ensures c.args.run.now.streams)) c.in_ok-step.was) (rw (sym (ap (view_statement (names_in m)) c.in-Expr.is ∙ statement-Expr _ _)) at (c.plain.ensures.plays m is)); owns = c.plain.ensures.owns }
 
 pub loops::holds-returns-in-None : goal.loops::holds-returns-in-None
 loops::holds-returns-in-None g t c =
@@ -1298,7 +1279,7 @@ loops::first_then-returns-in_err-effect g t c =
 
 pub loops::first_then-returns : goal.loops::first_then-returns
 loops::first_then-returns g t c =
-    record { plays = λ m is. rw (c.in-Some.is) (hands (quietly (part _ (quietly (at_once _ _ _) (λ k hid d a. refl)) (c.effect.ensures.does.plays m is) c.in_ok-effect.was) (λ k hid d a. refl)) (rw (c.as_ref-test.ensures.value, c.as_ref-after.ensures.value) at (c.turns-2.ensures.plays m is))); owns = c.turns-2.ensures.owns }
+    record { plays = λ m is. rw (c.in-Some.is) (passes (quietly (part _ (quietly (at_once _ _ _) (λ k hid d a. refl)) (c.effect.ensures.does.plays m is) c.in_ok-effect.was) (λ k hid d a. refl)) (rw (c.as_ref-test.ensures.value, c.as_ref-after.ensures.value) at (c.turns-2.ensures.plays m is))); owns = c.turns-2.ensures.owns }
 
 pub expressions::number-returns-in_err-found : goal.expressions::number-returns-in_err-found
 expressions::number-returns-in_err-found g t c =
@@ -1403,11 +1384,11 @@ expressions::choose-returns-in_err-holds g t c =
 
 pub expressions::choose-returns-then-holds : goal.expressions::choose-returns-then-holds
 expressions::choose-returns-then-holds g t c =
-    record { plays = λ m is. hands (quietly (part _ (quietly (at_once _ _ _) (λ k hid d a. refl)) (c.truth_of.ensures.does.plays m is) c.in_ok-holds.was) (λ k hid d a. choose_so m (view (names_in m) c.args.x.now) (view (names_in m) c.args.y.now) (view (names_in m) c.args.z.now) c.truth_of.ensures.val true k _ (sym (told_truth c.truth_of.ensures.val _ _ c.in_ok-holds.was c.truth_of.ensures.is) ∙ c.if-holds.true))) (c.value.ensures.plays m is); owns = c.value.ensures.owns }
+    record { plays = λ m is. passes (quietly (part _ (quietly (at_once _ _ _) (λ k hid d a. refl)) (c.truth_of.ensures.does.plays m is) c.in_ok-holds.was) (λ k hid d a. choose_so m (view (names_in m) c.args.x.now) (view (names_in m) c.args.y.now) (view (names_in m) c.args.z.now) c.truth_of.ensures.val true k _ (sym (told_truth c.truth_of.ensures.val _ _ c.in_ok-holds.was c.truth_of.ensures.is) ∙ c.if-holds.true))) (c.value.ensures.plays m is); owns = c.value.ensures.owns }
 
 pub expressions::choose-returns-else-holds : goal.expressions::choose-returns-else-holds
 expressions::choose-returns-else-holds g t c =
-    record { plays = λ m is. hands (quietly (part _ (quietly (at_once _ _ _) (λ k hid d a. refl)) (c.truth_of.ensures.does.plays m is) c.in_ok-holds.was) (λ k hid d a. choose_so m (view (names_in m) c.args.x.now) (view (names_in m) c.args.y.now) (view (names_in m) c.args.z.now) c.truth_of.ensures.val false k _ (sym (told_truth c.truth_of.ensures.val _ _ c.in_ok-holds.was c.truth_of.ensures.is) ∙ c.if-holds.false))) (c.value-else-holds.ensures.plays m is); owns = c.value-else-holds.ensures.owns }
+    record { plays = λ m is. passes (quietly (part _ (quietly (at_once _ _ _) (λ k hid d a. refl)) (c.truth_of.ensures.does.plays m is) c.in_ok-holds.was) (λ k hid d a. choose_so m (view (names_in m) c.args.x.now) (view (names_in m) c.args.y.now) (view (names_in m) c.args.z.now) c.truth_of.ensures.val false k _ (sym (told_truth c.truth_of.ensures.val _ _ c.in_ok-holds.was c.truth_of.ensures.is) ∙ c.if-holds.false))) (c.value-else-holds.ensures.plays m is); owns = c.value-else-holds.ensures.owns }
 
 pub statements::when-returns-in_err-holds : goal.statements::when-returns-in_err-holds
 statements::when-returns-in_err-holds g t c =
@@ -1415,7 +1396,7 @@ statements::when-returns-in_err-holds g t c =
 
 pub statements::when-returns-then-holds : goal.statements::when-returns-then-holds
 statements::when-returns-then-holds g t c =
-    record { plays = λ m is. hands (quietly (part _ (quietly (at_once _ _ _) (λ k hid d a. refl)) (c.truth_of.ensures.does.plays m is) c.in_ok-holds.was) (λ k hid d a. if_on m (view (names_in m) c.args.test.now) (view_statement (names_in m) c.args.then.now) c.truth_of.ensures.val k _ (sym (told_truth c.truth_of.ensures.val _ _ c.in_ok-holds.was c.truth_of.ensures.is) ∙ c.if-holds.true))) (c.statement.ensures.plays m is); owns = c.statement.ensures.owns }
+    record { plays = λ m is. passes (quietly (part _ (quietly (at_once _ _ _) (λ k hid d a. refl)) (c.truth_of.ensures.does.plays m is) c.in_ok-holds.was) (λ k hid d a. if_on m (view (names_in m) c.args.test.now) (view_statement (names_in m) c.args.then.now) c.truth_of.ensures.val k _ (sym (told_truth c.truth_of.ensures.val _ _ c.in_ok-holds.was c.truth_of.ensures.is) ∙ c.if-holds.true))) (c.statement.ensures.plays m is); owns = c.statement.ensures.owns }
 
 pub statements::when-returns-else-holds : goal.statements::when-returns-else-holds
 statements::when-returns-else-holds g t c =
@@ -1427,11 +1408,11 @@ statements::either-returns-in_err-holds g t c =
 
 pub statements::either-returns-then-holds : goal.statements::either-returns-then-holds
 statements::either-returns-then-holds g t c =
-    record { plays = λ m is. hands (quietly (part _ (quietly (at_once _ _ _) (λ k hid d a. refl)) (c.truth_of.ensures.does.plays m is) c.in_ok-holds.was) (λ k hid d a. either_on m (view (names_in m) c.args.test.now) (view_statement (names_in m) c.args.then.now) (view_statement (names_in m) c.args.other.now) c.truth_of.ensures.val k _ (sym (told_truth c.truth_of.ensures.val _ _ c.in_ok-holds.was c.truth_of.ensures.is) ∙ c.if-holds.true))) (c.statement.ensures.plays m is); owns = c.statement.ensures.owns }
+    record { plays = λ m is. passes (quietly (part _ (quietly (at_once _ _ _) (λ k hid d a. refl)) (c.truth_of.ensures.does.plays m is) c.in_ok-holds.was) (λ k hid d a. either_on m (view (names_in m) c.args.test.now) (view_statement (names_in m) c.args.then.now) (view_statement (names_in m) c.args.other.now) c.truth_of.ensures.val k _ (sym (told_truth c.truth_of.ensures.val _ _ c.in_ok-holds.was c.truth_of.ensures.is) ∙ c.if-holds.true))) (c.statement.ensures.plays m is); owns = c.statement.ensures.owns }
 
 pub statements::either-returns-else-holds : goal.statements::either-returns-else-holds
 statements::either-returns-else-holds g t c =
-    record { plays = λ m is. hands (quietly (part _ (quietly (at_once _ _ _) (λ k hid d a. refl)) (c.truth_of.ensures.does.plays m is) c.in_ok-holds.was) (λ k hid d a. either_off m (view (names_in m) c.args.test.now) (view_statement (names_in m) c.args.then.now) (view_statement (names_in m) c.args.other.now) c.truth_of.ensures.val k _ (sym (told_truth c.truth_of.ensures.val _ _ c.in_ok-holds.was c.truth_of.ensures.is) ∙ c.if-holds.false))) (c.statement-else-holds.ensures.plays m is); owns = c.statement-else-holds.ensures.owns }
+    record { plays = λ m is. passes (quietly (part _ (quietly (at_once _ _ _) (λ k hid d a. refl)) (c.truth_of.ensures.does.plays m is) c.in_ok-holds.was) (λ k hid d a. either_off m (view (names_in m) c.args.test.now) (view_statement (names_in m) c.args.then.now) (view_statement (names_in m) c.args.other.now) c.truth_of.ensures.val k _ (sym (told_truth c.truth_of.ensures.val _ _ c.in_ok-holds.was c.truth_of.ensures.is) ∙ c.if-holds.false))) (c.statement-else-holds.ensures.plays m is); owns = c.statement-else-holds.ensures.owns }
 
 pub loops::holds-returns-in-Some : goal.loops::holds-returns-in-Some
 loops::holds-returns-in-Some g t c =
@@ -1532,7 +1513,7 @@ expressions::effect-returns-then-is_done-2 g t c =
 pub expressions::effect-returns : goal.expressions::effect-returns
 expressions::effect-returns g t c =
     let h = c.general_effect.ensures in
-    record { val = h.val; is = h.is; does = record { plays = λ m is. hands (part _ (at_once _ _ _) (acted (rw (c.done_at_once-is_done.ensures.not_done c.if-is_done.false) at (c.done_once_split.ensures.not_done (false_not c.in_ok-is_done.is_done c.in_ok-is_done.was c.if-is_done-2.false) m c.args.run.now.streams (value (view (names_in m) c.args.e.now))))) c.in_ok-is_done.was) (h.does.plays m is); owns = h.does.owns } }
+    record { val = h.val; is = h.is; does = record { plays = λ m is. passes (part _ (at_once _ _ _) (acted (rw (c.done_at_once-is_done.ensures.not_done c.if-is_done.false) at (c.done_once_split.ensures.not_done (false_not c.in_ok-is_done.is_done c.in_ok-is_done.was c.if-is_done-2.false) m c.args.run.now.streams (value (view (names_in m) c.args.e.now))))) c.in_ok-is_done.was) (h.does.plays m is); owns = h.does.owns } }
 
 pub expressions::truth_of-returns-in_err-found : goal.expressions::truth_of-returns-in_err-found
 expressions::truth_of-returns-in_err-found g t c =
@@ -1547,7 +1528,7 @@ expressions::truth_of-returns-in-Some-found g t c =
 pub expressions::truth_of-returns : goal.expressions::truth_of-returns
 expressions::truth_of-returns g t c =
     let h = c.general_truth.ensures in
-    record { val = h.val; is = h.is; does = record { plays = λ m is. hands (part _ (at_once _ _ _) (acted (c.truth_once_split.ensures.plays m c.args.run.now.streams (value (view (names_in m) c.args.e.now)))) c.in_ok-found.was) (h.does.plays m is); owns = h.does.owns } }
+    record { val = h.val; is = h.is; does = record { plays = λ m is. passes (part _ (at_once _ _ _) (acted (c.truth_once_split.ensures.plays m c.args.run.now.streams (value (view (names_in m) c.args.e.now)))) c.in_ok-found.was) (h.does.plays m is); owns = h.does.owns } }
 
 pub expressions::evaluate-returns-in_err-found-in-Match : goal.expressions::evaluate-returns-in_err-found-in-Match
 expressions::evaluate-returns-in_err-found-in-Match g t c =
@@ -1580,7 +1561,7 @@ patterns::matches-returns-in_err-from g t c =
 
 pub patterns::matches-returns : goal.patterns::matches-returns
 patterns::matches-returns g t c =
-    record { plays = λ m is. hands (part _ (quietly (part _ (quietly (part _ (at_once _ _ _) (acted (c.split_for.ensures m c.args.run.now.streams (value (p.matched c.args.place (view (names_in m) c.args.x.now) (view_ere (names_in m) c.args.pattern.now))))) c.in_ok-split_for.was) (λ k hid d a. refl)) (c.value.ensures.plays m is) c.in_ok-text.was) (λ k hid d a. refl)) (c.source_of.ensures.plays.plays m is) c.in_ok-from.was) (acted (c.matched.ensures m (c.source_of.new.run.store, c.source_of.new.run.streams) (view (names_in m) c.args.x.now) (view_ere (names_in m) c.args.pattern.now) (c.in_ok-from.ensures.kind (names_in m)))); owns = c.source_of.ensures.plays.owns }
+    record { plays = λ m is. passes (part _ (quietly (part _ (quietly (part _ (at_once _ _ _) (acted (c.split_for.ensures m c.args.run.now.streams (value (p.matched c.args.place (view (names_in m) c.args.x.now) (view_ere (names_in m) c.args.pattern.now))))) c.in_ok-split_for.was) (λ k hid d a. refl)) (c.value.ensures.plays m is) c.in_ok-text.was) (λ k hid d a. refl)) (c.source_of.ensures.plays.plays m is) c.in_ok-from.was) (acted (c.matched.ensures m (c.source_of.new.run.store, c.source_of.new.run.streams) (view (names_in m) c.args.x.now) (view_ere (names_in m) c.args.pattern.now) (c.in_ok-from.ensures.kind (names_in m)))); owns = c.source_of.ensures.plays.owns }
 
 pub output::print-returns-in_err-split_for_items : goal.output::print-returns-in_err-split_for_items
 output::print-returns-in_err-split_for_items g t c =
@@ -1596,11 +1577,11 @@ output::print-returns-in-Some-known g t c =
 
 pub output::print-returns-in-Some : goal.output::print-returns-in-Some
 output::print-returns-in-Some g t c =
-    rw c.in-Some.is (record { plays = λ m is. hands (part _ (at_once _ _ _) (acted (c.split_for_items.ensures m c.args.run.now.streams (At (Doing (p.print c.args.place (map (view (names_in m)) c.args.xs.now) (Some (view_redirection (names_in m) c.in-Some.to)))) []))) c.in_ok-split_for_items.was) (c.redirect.ensures.plays m is); owns = c.redirect.ensures.owns })
+    rw c.in-Some.is (record { plays = λ m is. passes (part _ (at_once _ _ _) (acted (c.split_for_items.ensures m c.args.run.now.streams (At (Doing (p.print c.args.place (map (view (names_in m)) c.args.xs.now) (Some (view_redirection (names_in m) c.in-Some.to)))) []))) c.in_ok-split_for_items.was) (c.redirect.ensures.plays m is); owns = c.redirect.ensures.owns })
 
 pub output::print-returns : goal.output::print-returns
 output::print-returns g t c =
-    rw c.in_default.is (record { plays = λ m is. hands (part _ (at_once _ _ _) (acted (c.split_for_items.ensures m c.args.run.now.streams (At (Doing (p.print c.args.place (map (view (names_in m)) c.args.xs.now) None)) []))) c.in_ok-split_for_items.was) (c.general_print.ensures.plays m is); owns = c.general_print.ensures.owns })
+    rw c.in_default.is (record { plays = λ m is. passes (part _ (at_once _ _ _) (acted (c.split_for_items.ensures m c.args.run.now.streams (At (Doing (p.print c.args.place (map (view (names_in m)) c.args.xs.now) None)) []))) c.in_ok-split_for_items.was) (c.general_print.ensures.plays m is); owns = c.general_print.ensures.owns })
 
 pub output::redirect-returns-in_err-split_for : goal.output::redirect-returns-in_err-split_for
 output::redirect-returns-in_err-split_for g t c =
@@ -1616,4 +1597,4 @@ output::redirect-returns-in-Some g t c =
 
 pub output::redirect-returns : goal.output::redirect-returns
 output::redirect-returns g t c =
-    record { plays = λ m is. hands (part _ (at_once _ _ _) (acted (c.split_for.ensures m c.args.run.now.streams (At (Doing (p.print c.args.place (map (view (names_in m)) c.args.xs.now) (Some (view_redirection (names_in m) c.args.to.now)))) []))) c.in_ok-split_for.was) (c.general_redirect.ensures.plays m is); owns = c.general_redirect.ensures.owns }
+    record { plays = λ m is. passes (part _ (at_once _ _ _) (acted (c.split_for.ensures m c.args.run.now.streams (At (Doing (p.print c.args.place (map (view (names_in m)) c.args.xs.now) (Some (view_redirection (names_in m) c.args.to.now)))) []))) c.in_ok-split_for.was) (c.general_redirect.ensures.plays m is); owns = c.general_redirect.ensures.owns }

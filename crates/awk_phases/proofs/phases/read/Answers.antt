@@ -1,8 +1,7 @@
 use Rattle.std.proofs.Common.{ap, ◌∙◌, ◌++◌}
 use Rattle.awk_machine.specs.Rules.{records}
 use Rattle.awk_store.specs.declared.phase.Phase.TheVariants as phase
-use Rattle.awk_asks.proofs.Chain.{done, turned}
-use Rattle.awk_actions.proofs.Leading.{hands}
+use Rattle.awk_asks.proofs.Chain.{done, passes, turned}
 use Rattle.awk_records.specs.Inputs.{more}
 use Rattle.awk_phases.proofs.PhaseSteps.{enters}
 use Rattle.awk_phases.proofs.phases.read.Goals as goal
@@ -16,7 +15,7 @@ returns-then-not-reads g c = record {
 
 pub returns : goal.returns
 returns g c = record {
-  plays = λ m is. hands (turned (enters phase.Ruling c.args.run.now.store c.set_phase.new.self c.args.run.now.streams c.args.world.now c.set_phase.ensures)
+  plays = λ m is. passes (turned (enters phase.Ruling c.args.run.now.store c.set_phase.new.self c.args.run.now.streams c.args.world.now c.set_phase.ensures)
       (λ k. ap (λ q. records q ++ k) is.program ∙ c.reads.ensures k ∙ ap (λ b. more b k) c.if-not-reads.false))
       (c.records.ensures.plays m is);
   owns = c.records.ensures.owns;

@@ -1,10 +1,10 @@
 use Rattle.std.proofs.Common.{refl}
-use Rattle.awk_asks.proofs.Chain.{at_once}
-use Rattle.awk_actions.proofs.Leading.{hands, quietly}
+use Rattle.awk_asks.proofs.Chain.{at_once, passes}
+use Rattle.awk_actions.proofs.Leading.{quietly}
 use Rattle.awk_phases.proofs.rules.rule.Goals as goal
 
 pub returns-in-Always : goal.returns-in-Always
-returns-in-Always g c = record { plays = λ m is. rw c.in-Always.is (hands (quietly (at_once _ _ _) (λ k hid d a. refl)) (rw c.as_slice-action.ensures at (c.body.ensures.plays m is))); owns = c.body.ensures.owns }
+returns-in-Always g c = record { plays = λ m is. rw c.in-Always.is (passes (quietly (at_once _ _ _) (λ k hid d a. refl)) (rw c.as_slice-action.ensures at (c.body.ensures.plays m is))); owns = c.body.ensures.owns }
 
 pub returns-in-Holds : goal.returns-in-Holds
 returns-in-Holds g c = record { plays = λ m is. rw c.in-Holds.is (rw c.as_slice-action.ensures at (c.where_holds.ensures.plays m is)); owns = c.where_holds.ensures.owns }

@@ -2,8 +2,8 @@ use Rattle.std.proofs.Common.{refl, sym, ◌∙◌, map}
 use Rattle.std.proofs.lemmas.Result.{err_from_is_err_and}
 use Rattle.awk_program.specs.View.{view, view_statement}
 use Rattle.awk_tasks.specs.Wholes.{names_in}
-use Rattle.awk_asks.proofs.Chain.{at_once, done, part, stop}
-use Rattle.awk_actions.proofs.Leading.{hands, quietly, told_truth}
+use Rattle.awk_asks.proofs.Chain.{at_once, done, part, passes, stop}
+use Rattle.awk_actions.proofs.Leading.{quietly, told_truth}
 use Rattle.awk_phases.proofs.RuleSteps.{holds_off, holds_on}
 use Rattle.awk_phases.proofs.rules.where_holds.Goals as goal
 
@@ -21,7 +21,7 @@ returns-then-not-holds g c = record {
 
 pub returns : goal.returns
 returns g c = record {
-  plays = λ m is. hands (quietly (part _ (quietly (at_once _ _ _) (λ k hid d a. refl)) (c.truth_of.ensures.does.plays m is) c.in_ok-holds.was)
+  plays = λ m is. passes (quietly (part _ (quietly (at_once _ _ _) (λ k hid d a. refl)) (c.truth_of.ensures.does.plays m is) c.in_ok-holds.was)
       (λ k hid d a. holds_on m c.args.n (view (names_in m) c.args.pattern.now) (map (view_statement (names_in m)) c.args.action.now) c.truth_of.ensures.val k _ (sym (told_truth c.truth_of.ensures.val _ _ c.in_ok-holds.was c.truth_of.ensures.is) ∙ c.if-not-holds.false)))
       (c.body.ensures.plays m is);
   owns = c.body.ensures.owns;

@@ -1,8 +1,7 @@
 use Rattle.std.proofs.Common.{refl, ap, ◌∙◌, true, false}
 use Rattle.std.specs.Prelude.{Ok, Some, None}
 use Rattle.std.proofs.lemmas.Result.{err_from_is_err_and}
-use Rattle.awk_asks.proofs.Chain.{at_once, done, lacking, part, stop}
-use Rattle.awk_actions.proofs.Leading.{hands}
+use Rattle.awk_asks.proofs.Chain.{at_once, done, lacking, part, passes, stop}
 use Rattle.awk_phases.proofs.rules.within.Goals as goal
 
 pub loop-pattern-init : goal.loop-pattern-init
@@ -21,7 +20,7 @@ returns-then-not-acts g c = record {
 
 pub returns-in-Some : goal.returns-in-Some
 returns-in-Some g c = record {
-  plays = λ m is. hands (part (Some true) (c.loop-pattern.invariant.leads m is) (c.meet.ensures.plays m is) (c.in_ok-is_done.was ∙ ap (λ o. Ok o) (c.in-Some.is ∙ ap (λ b. Some b) c.if-not-acts.false))) (c.body.ensures.plays m is);
+  plays = λ m is. passes (part (Some true) (c.loop-pattern.invariant.leads m is) (c.meet.ensures.plays m is) (c.in_ok-is_done.was ∙ ap (λ o. Ok o) (c.in-Some.is ∙ ap (λ b. Some b) c.if-not-acts.false))) (c.body.ensures.plays m is);
   owns = c.body.ensures.owns;
 }
 
