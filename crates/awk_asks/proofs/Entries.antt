@@ -136,6 +136,13 @@ same_name c text x y p q =
     let other = class_number (kind y.class) ∷ y.text.items in
     sym (nat_list_eq_equiv.congr n one other p) ∙ q
 
+-- what has a name of that class and text is found by that name
+pub found_by : (c : Class) (text : List ℕ) (k : KeptName) → has_name c text k ≡ true → (es : List (KeptName × Open)) → lookup (has_name c text) es ≡ lookup (eq-value.it k) es
+found_by c text k h [] = refl
+found_by c text k h (e ∷ es) =
+    let same : has_name c text e.0 ≡ eq-value.it k e.0 = nat_list_eq_equiv.congr (class_number c ∷ text) (class_number (kind k.class) ∷ k.text.items) (class_number (kind e.0.class) ∷ e.0.text.items) h in
+    rw same (ap (λ l. cond (eq-value.it k e.0) (Some e.1) l) (found_by c text k h es))
+
 -- no name before that place is of the same class and text
 module _ (c : Class) (text : List ℕ) where
   not_before : (e : KeptName × Open) (es : List (KeptName × Open)) (i : ℕ) (k : KeptName) (o : Open) → IsDistinct eq-value.it (keys_of (e ∷ es)) → slice_get es i ≡ Some (k, o) → has_name c text k ≡ true → has_name c text e.0 ≡ false

@@ -22,6 +22,7 @@ use awk_text::Memory;
 use awk_text::fault::Fault;
 use indexmap::{Equivalent, IndexMap};
 use std::alloc::Global;
+use std::cell::Cell;
 use std::hash::{Hash, Hasher};
 use std::marker::Model;
 use std::mem::replace;
@@ -141,6 +142,8 @@ pub struct Streams {
     text_room: Vec<u8>,
     /// Where the stream lies that a line was looked for in last
     last: usize,
+    /// Where the stream lies whose number was asked for last. No clause tells of it
+    asked: Cell<usize>,
 }
 
 impl Model for Streams {
@@ -186,6 +189,7 @@ impl Streams {
             input: Reader::new(alloc),
             text_room: Vec::new(alloc),
             last: 0,
+            asked: Cell::new(0),
         }
     }
 
@@ -193,8 +197,10 @@ impl Streams {
     pub fn number(&self, name: &Name<'_>) -> Option<u32>
         ensures { result ≡ find_stream (kind name.now.class) name.now.text.now (open_of self.now) }
     {
-        match self.table.get(*name) {
-            Some(open) => Some(open.number),
+        let place = place_of(&self.table, self.asked.get(), name)?;
+        self.asked.set(place);
+        match self.table.get_index(place) {
+            Some((_, open)) => Some(open.number),
             None => None,
         }
     }
