@@ -162,6 +162,9 @@ module _ (c : Class) (text : List ℕ) where
   values_at (e ∷ es) zero k o at = ap (λ (x : KeptName × Open). Some x.1) (same_Some e (k, o) at)
   values_at (e ∷ es) (suc i) k o at = values_at es i k o at
 
+  pub not_gone : (es : List (KeptName × Open)) (i : ℕ) (k : KeptName) (o : Open) → slice_get es i ≡ Some (k, o) → (x : Option Open) → x ≡ slice_get (values_of es) i → x ≡ None → ⊥
+  not_gone es i k o at x e none = true≢false (sym (ap is_some (sym none ∙ e ∙ values_at es i k o at)))
+
   pub open_at : (es : List (KeptName × Open)) (i : ℕ) (k : KeptName) (o : Open) → IsDistinct eq-value.it (keys_of es) → slice_get es i ≡ Some (k, o) → has_name c text k ≡ true →
       (x : Option Open) → x ≡ slice_get (values_of es) i → lookup (has_name c text) es ≡ x
   open_at es i k o d at hit x e = lookup_at es i k o d at hit ∙ sym (values_at es i k o at) ∙ sym e

@@ -294,7 +294,10 @@ impl Streams {
         ensures memory { IsOkUnless result Fault.Memory }
         ensures input { self.new.input ≡ self.old.input }
     {
-        match self.table.get_mut(*name) {
+        let Some(place) = place_of(&self.table, self.last, name) else {
+            return Ok(());
+        };
+        match self.table.get_index_mut(place) {
             Some(open) => open.reader.push(bytes),
             None => Ok(()),
         }
@@ -309,7 +312,11 @@ impl Streams {
             → (e ≡ Fault.Memory) ⊎ ((e ≡ Fault.TextTooLong) × (head rs.now i.unread i.ended ≡ too_long))) }
         ensures input { self.new.input ≡ self.old.input }
     {
-        match self.table.get_mut(*name) {
+        let Some(place) = place_of(&self.table, self.last, name) else {
+            return Ok(Taken::Done);
+        };
+        self.last = place;
+        match self.table.get_index_mut(place) {
             Some(open) => open.reader.take(rs, &mut self.text_room),
             None => Ok(Taken::Done),
         }
