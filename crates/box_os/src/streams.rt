@@ -1,5 +1,5 @@
 // Files and commands that are open.
-ghost use Rattle.std.specs.Prelude.{◌≡◌, true, false, Ok, IfOk, IfErr};
+ghost use Rattle.std.specs.Prelude.{◌≡◌, true, false, Ok, IfOk, IfErr, length};
 ghost use Rattle.box_world.specs.Calls.{IsDoing, IsReading, IsRunning, IsShutting};
 ghost use Rattle.box_world.specs.declared.ask.Reply.TheVariants.{Done, Failed};
 ghost use Rattle.box_world.specs.declared.ask.Stop.TheVariants.{Memory};
@@ -51,16 +51,18 @@ pub fn open_stream(rt: &HostRuntime, alloc: Global, mode: Mode, text: &str) -> i
 
 impl Stream {
     /// What it gives next. `Failed` where it is written to.
-    pub fn next(&mut self, alloc: Global) -> Result<Reply, Stop>
+    pub fn next(&mut self, alloc: Global, buffer: &mut Vec<u8>) -> Result<Reply, Stop>
+        requires { length buffer.old.items ≡ 8192 }
+        ensures buffer { length buffer.new.items ≡ 8192 }
         ensures fits { IfOk result (λ reply. IsReading reply) }
         ensures size { IfOk result (λ reply. IsWithin 8192 reply) }
         ensures output { is_input self.old ≡ false → result ≡ Ok Failed }
         ensures memory { IfErr result (λ e. e ≡ Memory) }
     {
         match self {
-            Stream::InputFile(file) => read_from(alloc, file),
+            Stream::InputFile(file) => read_from(alloc, buffer, file),
             Stream::InputCommand(child) => match &mut child.stdout {
-                Some(pipe) => read_from(alloc, pipe),
+                Some(pipe) => read_from(alloc, buffer, pipe),
                 None => Ok(Reply::Failed),
             },
             Stream::OutputFile(_) | Stream::OutputCommand(_, _) => Ok(Reply::Failed),

@@ -29,8 +29,15 @@ fn search(streams: &[OpenStream], number: u32) -> Result<usize, usize>
 }
 
 /// What the stream of the number gives next.
-pub fn next_of(streams: &mut Vec<OpenStream>, alloc: Global, number: u32) -> Result<Reply, Stop>
-    requires { IsRising (numbers_of streams.old.items) }
+pub fn next_of(
+    streams: &mut Vec<OpenStream>,
+    alloc: Global,
+    buffer: &mut Vec<u8>,
+    number: u32,
+) -> Result<Reply, Stop>
+    requires room { length buffer.old.items ≡ 8192 }
+    requires rising { IsRising (numbers_of streams.old.items) }
+    ensures buffer { length buffer.new.items ≡ 8192 }
     ensures same { numbers_of streams.new.items ≡ numbers_of streams.old.items }
     ensures fits { IfOk result (λ reply. IsReading reply) }
     ensures size { IfOk result (λ reply. IsWithin 8192 reply) }
@@ -38,7 +45,7 @@ pub fn next_of(streams: &mut Vec<OpenStream>, alloc: Global, number: u32) -> Res
     ensures memory { IfErr result (λ e. e ≡ Memory) }
 {
     match search(streams.as_slice(), number) {
-        Ok(at) => streams[at].stream.next(alloc),
+        Ok(at) => streams[at].stream.next(alloc, buffer),
         Err(_) => Ok(Reply::Failed),
     }
 }

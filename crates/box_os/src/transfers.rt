@@ -11,8 +11,8 @@ use box_world::ask::{Reply, Stop};
 use std::alloc::{AllocError, Global};
 use std::io::{Read, Write};
 
-// The most bytes that are read at once.
-const PIECE: usize = 8192;
+/// The most bytes that are read at once.
+pub const PIECE: usize = 8192;
 
 /// Room for so many bytes.
 pub fn room(alloc: Global, size: usize) -> Result<Vec<u8>, AllocError>
@@ -21,20 +21,26 @@ pub fn room(alloc: Global, size: usize) -> Result<Vec<u8>, AllocError>
     vec![in alloc; 0u8; size]
 }
 
-/// Reads once, and at most 8,192 bytes. Memory is taken before: where it is refused, nothing is
+/// Reads once, and at most 8,192 bytes, through a buffer of that size. Memory is taken before: where it is refused, nothing is
 /// read.
-pub fn read_from<R: Read>(alloc: Global, reader: &mut R) -> Result<Reply, Stop>
+pub fn read_from<R: Read>(
+    alloc: Global,
+    buffer: &mut Vec<u8>,
+    reader: &mut R,
+) -> Result<Reply, Stop>
+    requires { length buffer.old.items ≡ 8192 }
+    ensures buffer { length buffer.new.items ≡ 8192 }
     ensures fits { IfOk result (λ reply. IsReading reply) }
     ensures size { IfOk result (λ reply. IsWithin 8192 reply) }
     ensures bytes { IfOk result (λ reply. ReadsOn (R.remaining reader.old) (R.remaining reader.new) reply) }
     ensures err { OnErr result (reader.new ≡ reader.old) }
     ensures memory { IfErr result (λ e. e ≡ Memory) }
 {
-    let mut bytes = room(alloc, PIECE)?;
-    match reader.read(bytes.as_mut_slice()) {
+    let mut bytes = Vec::with_capacity(alloc, PIECE)?;
+    match reader.read(buffer.as_mut_slice()) {
         Ok(0) => Ok(Reply::End),
         Ok(count) => {
-            bytes.truncate(count);
+            bytes.extend_from_slice(&buffer[..count]).unwrap();
             Ok(Reply::Bytes(Octets::new(bytes)))
         }
         Err(_) => Ok(Reply::Failed),
