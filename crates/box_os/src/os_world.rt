@@ -13,7 +13,7 @@ use crate::environment::value_of;
 use crate::refusals::refused;
 use crate::streams::open_stream;
 use crate::table::{OpenStream, next_of, put_to, take_stream};
-use crate::transfers::{PIECE, read_from, room, write_out};
+use crate::transfers::{PIECE, read_from, write_out};
 use box_world::ask::{Ask, Mode, Reply, Request, Stop};
 use box_world::world::World;
 use std::alloc::Global;
@@ -36,8 +36,8 @@ pub struct OsWorld {
     streams: Vec<OpenStream>,
     // 2^32 where every number has been given
     next: u64,
-    // What is read goes through it; empty before the first reading
-    buffer: Vec<u8>,
+    // What is read goes through it, so that a small piece clears no room of its own.
+    buffer: [u8; PIECE],
 }
 
 impl Model for OsWorld {
@@ -62,7 +62,7 @@ impl OsWorld {
             alloc,
             streams: Vec::new(alloc),
             next: 3,
-            buffer: Vec::new(alloc),
+            buffer: [0; PIECE],
         }
     }
 
@@ -97,9 +97,6 @@ impl OsWorld {
         ensures outputs { (number ≡ 1) ⊎ (number ≡ 2) → IfOk result (λ reply. reply ≡ Failed) }
         ensures memory { IfErr result (λ e. e ≡ Memory) }
     {
-        if self.buffer.len() != PIECE {
-            self.buffer = room(self.alloc, PIECE)?;
-        }
         match number {
             0 => read_from(self.alloc, &mut self.buffer, &mut self.rt.stdin()),
             _ => next_of(&mut self.streams, self.alloc, &mut self.buffer, number),

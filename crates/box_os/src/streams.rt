@@ -1,5 +1,5 @@
 // Files and commands that are open.
-ghost use Rattle.std.specs.Prelude.{◌≡◌, true, false, Ok, IfOk, IfErr, length};
+ghost use Rattle.std.specs.Prelude.{◌≡◌, true, false, Ok, IfOk, IfErr};
 ghost use Rattle.box_world.specs.Calls.{IsDoing, IsReading, IsRunning, IsShutting};
 ghost use Rattle.box_world.specs.declared.ask.Reply.TheVariants.{Done, Failed};
 ghost use Rattle.box_world.specs.declared.ask.Stop.TheVariants.{Memory};
@@ -7,7 +7,7 @@ ghost use Rattle.box_os.specs.OsReading.{IsWithin};
 ghost use Rattle.box_os.specs.OsStreams.{is_command, is_input, opens_command, opens_input};
 
 use crate::commands::{listen_to, speak_to, wait_for};
-use crate::transfers::{read_from, write_out};
+use crate::transfers::{PIECE, read_from, write_out};
 use box_world::ask::{Mode, Reply, Stop};
 use std::alloc::Global;
 use std::fs::{File, OpenOptions};
@@ -51,9 +51,7 @@ pub fn open_stream(rt: &HostRuntime, alloc: Global, mode: Mode, text: &str) -> i
 
 impl Stream {
     /// What it gives next. `Failed` where it is written to.
-    pub fn next(&mut self, alloc: Global, buffer: &mut Vec<u8>) -> Result<Reply, Stop>
-        requires { length buffer.old.items ≡ 8192 }
-        ensures buffer { length buffer.new.items ≡ 8192 }
+    pub fn next(&mut self, alloc: Global, buffer: &mut [u8; PIECE]) -> Result<Reply, Stop>
         ensures fits { IfOk result (λ reply. IsReading reply) }
         ensures size { IfOk result (λ reply. IsWithin 8192 reply) }
         ensures output { is_input self.old ≡ false → result ≡ Ok Failed }

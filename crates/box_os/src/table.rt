@@ -7,6 +7,7 @@ ghost use Rattle.box_os.specs.OsNumbers.{IsRising, numbers_of};
 ghost use Rattle.box_os.specs.OsReading.{IsWithin};
 
 use crate::streams::Stream;
+use crate::transfers::PIECE;
 use box_world::ask::{Reply, Stop};
 use std::alloc::Global;
 
@@ -32,12 +33,10 @@ fn search(streams: &[OpenStream], number: u32) -> Result<usize, usize>
 pub fn next_of(
     streams: &mut Vec<OpenStream>,
     alloc: Global,
-    buffer: &mut Vec<u8>,
+    buffer: &mut [u8; PIECE],
     number: u32,
 ) -> Result<Reply, Stop>
-    requires room { length buffer.old.items ≡ 8192 }
-    requires rising { IsRising (numbers_of streams.old.items) }
-    ensures buffer { length buffer.new.items ≡ 8192 }
+    requires { IsRising (numbers_of streams.old.items) }
     ensures same { numbers_of streams.new.items ≡ numbers_of streams.old.items }
     ensures fits { IfOk result (λ reply. IsReading reply) }
     ensures size { IfOk result (λ reply. IsWithin 8192 reply) }

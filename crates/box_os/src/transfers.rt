@@ -25,11 +25,9 @@ pub fn room(alloc: Global, size: usize) -> Result<Vec<u8>, AllocError>
 /// read.
 pub fn read_from<R: Read>(
     alloc: Global,
-    buffer: &mut Vec<u8>,
+    buffer: &mut [u8; PIECE],
     reader: &mut R,
 ) -> Result<Reply, Stop>
-    requires { length buffer.old.items ≡ 8192 }
-    ensures buffer { length buffer.new.items ≡ 8192 }
     ensures fits { IfOk result (λ reply. IsReading reply) }
     ensures size { IfOk result (λ reply. IsWithin 8192 reply) }
     ensures bytes { IfOk result (λ reply. ReadsOn (R.remaining reader.old) (R.remaining reader.new) reply) }
