@@ -18,14 +18,7 @@ use Rattle.awk_asks.specs.declared.streams.Name.{Name}
 use Rattle.awk_asks.specs.declared.streams.KeptName.{KeptName}
 use Rattle.awk_asks.specs.declared.streams.Open.{Open}
 use Rattle.awk_fields.specs.Takes.{Input}
-use Rattle.awk_asks.specs.Tables.{Table, kind, has_name, entry_of, entries_without, find_input, with_input}
-
--- the table of these entries
-abbrev table_of : List (KeptName × Open) → Input → ℕ → Table
-table_of es input room = record { entries = map entry_of es; input = input; room = room }
-
-pub table_same : (input : Input) (xs ys : List (KeptName × Open)) (m n : ℕ) → xs ≡ ys → m ≡ n → table_of xs input m ≡ table_of ys input n
-table_same input xs ys m n e f = ap (λ l. table_of l input m) e ∙ ap (table_of ys input) f
+use Rattle.awk_asks.specs.Tables.{kind, has_name, entry_of, entries_without, find_input, with_input}
 
 -- a test of names by class and text
 abbrev pub IsTest : (KeptName → Bool) → Class → List ℕ → Type 0
@@ -111,7 +104,7 @@ all_at P (e ∷ es) zero k o at all = subst (λ (x : KeptName × Open). P x.0) (
 all_at P (e ∷ es) (suc i) k o at all = all_at P es i k o at all.1
 
 -- the one that a look-up found
-pub found_at : (test : KeptName → Bool) (es : List (KeptName × Open)) (i : ℕ) → position test (keys_of es) ≡ Some i → (k : KeptName) × (o : Open) × (slice_get es i ≡ Some (k, o)) × (test k ≡ true)
+found_at : (test : KeptName → Bool) (es : List (KeptName × Open)) (i : ℕ) → position test (keys_of es) ≡ Some i → (k : KeptName) × (o : Open) × (slice_get es i ≡ Some (k, o)) × (test k ≡ true)
 found_at test [] i h = absurd (true≢false (sym (ap is_some h)))
 found_at test (e ∷ es) i h =
     let k = position-Some test (keys_of (e ∷ es)) i e.0 h in

@@ -1,10 +1,10 @@
 use Rattle.std.proofs.Common.{sym, ap, ◌∙◌, is_some, true≢false}
+use Rattle.std.proofs.lemmas.Option.{same_Some}
 use Rattle.std.specs.Map.Iter.{deref_pair}
 use Rattle.std.specs.Option.{option_map}
 use Rattle.awk_asks.specs.Tables.{kind, has_name}
 use Rattle.awk_asks.proofs.Entries.{find-entries, found_by, text_test}
 use Rattle.awk_asks.proofs.streams.Streams.number.Goals as goal
-use Rattle.std.proofs.lemmas.Option.{same_Some}
 
 pub returns-in_err-place : goal.returns-in_err-place
 returns-in_err-place c =

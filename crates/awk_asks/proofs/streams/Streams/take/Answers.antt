@@ -41,7 +41,6 @@ pub returns-in-None-clause-ok : goal.returns-in-None-clause-ok
 returns-in-None-clause-ok c =
     let class = kind c.args.name.now.class in
     let text = c.args.name.now.text.now in
-    let test = has_name class text in
     let old = c.self.inside.table.entries in
     let at = c.in-Some.ensures.some in
     absurd (not_gone class text old c.in-Some.place at.0 at.1 at.2 _ c.get_index_mut.ensures.value (ap option_copied_mut c.in-None.is))
