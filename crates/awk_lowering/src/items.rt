@@ -4,7 +4,7 @@ ghost use Rattle.std.specs.Prelude.{◌≡◌, [], map, IfOk, OnOk};
 ghost use Rattle.awk_lowering.specs.Made.{AreStatements, names_in, scope_in};
 ghost use Rattle.awk_lowering.specs.MadeRules.{IsWhen, IsRule, IsFunction, tables_in};
 ghost use Rattle.awk_lowering.specs.Programs as spec;
-ghost use Rattle.awk_names.specs.Kinds.{texts};
+ghost use Rattle.awk_resolve.specs.Kinds.{texts};
 ghost use Rattle.awk_program.specs.Program as p;
 ghost use Rattle.awk_program.specs.View as code;
 ghost use Rattle.awk_tree.specs.View.{view_item, view_pattern, view_statement};
