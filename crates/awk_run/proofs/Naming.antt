@@ -18,9 +18,8 @@ use Rattle.awk_resolve.specs.declared.mention.Role.TheVariants as role
 use Rattle.awk_resolve.specs.declared.mention.Part.{Part}
 use Rattle.awk_resolve.specs.Said.{defined, defined_by}
 use Rattle.awk_lowering.specs.Programs.{each, functions_of}
-use Rattle.awk_resolve.specs.Tables.{Tables}
 use Rattle.awk_resolve.specs.Rolls.{added}
-use Rattle.awk_resolve.specs.Tables.{given, used, all_used, own_of, outside, mentioned, behind, variables}
+use Rattle.awk_resolve.specs.Tables.{Tables, given, used, all_used, own_of, outside, mentioned, behind, variables}
 
 -- the text stands among these
 abbrev pub Has : Text → List Text → Type 0
