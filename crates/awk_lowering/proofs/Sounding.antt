@@ -1,5 +1,5 @@
 -- A program has the names of its tables.
-use Rattle.std.proofs.Common.{◌≡◌, List, Result, Ok, Err, IfOk, map, ap, sym, subst}
+use Rattle.std.proofs.Common.{◌≡◌, ◌∙◌, List, Result, Ok, Err, IfOk, map, ap, sym, subst}
 use Rattle.awk_program.specs.declared.program.Program as code
 use Rattle.awk_program.specs.View.{view_program, names_of}
 use Rattle.awk_tree.specs.Tree.{Entry}
