@@ -14,6 +14,7 @@ A script that fails is made smaller for as long as it fails, and printed as a ro
 other awks. The scripts depend on the seed alone. The last line counts: 'N passed, M failed'.
 """
 import argparse
+import itertools
 import os
 import random
 import re
@@ -284,7 +285,7 @@ LEAST = {
     "own-block": ["{ }"],
 }
 
-LISTS = {"script": "\n", "statements": "\n", "items": ", ", "arguments": ", "}
+LISTS = {"script": "\n", "statements": "\n", "items": ", "}
 
 
 class Part(NamedTuple):
@@ -789,7 +790,7 @@ class Awkbox(Awk):
 PROBES = [
     ({"interval"}, 'BEGIN { exit "aa" !~ /^a{2}$/ }', ()),
     ({"power", "power-assignment"}, "BEGIN { exit 2 ^ 2 != 4 }", ()),
-    ({"RS="}, "END { exit NR != 1 }", (("-v", "RS="),)),
+    ({"RS="}, '{ exit $0 != "a" }', (("-v", "RS="),)),
 ]
 
 
@@ -851,33 +852,34 @@ def replacements(part):
             yield node
 
 
-def smaller_nodes(node):
-    """The node with one of its parts left out or replaced, those first that change most."""
-    is_list = node.kind in LISTS or node.kind == "format"
-    least = 0 if node.kind in ("script", "statements") else 1
-    for at, part in enumerate(node.pieces):
-        if not isinstance(part, Part):
-            continue
-        before, behind = node.pieces[:at], node.pieces[at + 1 :]
-        if is_list and len(node.pieces) > least:
-            yield replace(node, pieces=before + behind)
-        for put in replacements(part):
-            yield replace(node, pieces=before + (part._replace(node=put),) + behind)
-        for put in smaller_nodes(part.node):
-            yield replace(node, pieces=before + (part._replace(node=put),) + behind)
-
-
-def without_one(items):
+def without_some(items):
+    """The items without one half of them, and without each."""
+    half = len(items) // 2
+    if half > 1:
+        yield items[half:]
+        yield items[:half]
     for at in range(len(items)):
         yield items[:at] + items[at + 1 :]
 
 
+def smaller_nodes(node):
+    """The node with parts left out or replaced, those first that change most."""
+    if node.kind in LISTS or node.kind == "format":
+        least = 0 if node.kind in ("script", "statements") else 1
+        for pieces in without_some(node.pieces):
+            if len(pieces) >= least:
+                yield replace(node, pieces=pieces)
+    for at, part in enumerate(node.pieces):
+        if isinstance(part, Part):
+            for put in itertools.chain(replacements(part), smaller_nodes(part.node)):
+                yield replace(node, pieces=(*node.pieces[:at], part._replace(node=put), *node.pieces[at + 1 :]))
+
+
 def smaller_lines(lines):
-    yield from without_one(lines)
+    yield from without_some(lines)
     for at, line in enumerate(lines):
-        words = re.findall(r"[^ :,;\t]+|[ :,;\t]+", line)
-        for left in without_one(words):
-            yield lines[:at] + ("".join(left),) + lines[at + 1 :]
+        for words in without_some(re.findall(r"[^ :,;\t]+|[ :,;\t]+", line)):
+            yield (*lines[:at], "".join(words), *lines[at + 1 :])
 
 
 def smaller_cases(case):
@@ -886,13 +888,13 @@ def smaller_cases(case):
         smaller = replace(case, script=script)
         if len(smaller.text) < size:
             yield smaller
-    for options in without_one(case.options):
+    for options in without_some(case.options):
         yield replace(case, options=options)
-    for operands in without_one(case.operands):
+    for operands in without_some(case.operands):
         yield replace(case, operands=operands)
     for at, (name, lines) in enumerate(case.files):
         for fewer in smaller_lines(lines):
-            yield replace(case, files=case.files[:at] + ((name, fewer),) + case.files[at + 1 :])
+            yield replace(case, files=(*case.files[:at], (name, fewer), *case.files[at + 1 :]))
 
 
 def still_fails(verdict, awkbox, awks):
