@@ -1063,7 +1063,7 @@ def read_words():
     option("--beside", action="append", choices=OTHERS, help="an awk to compare with, in place of all; may be repeated")
     option("--alone", action="store_true", help="tell undecided scripts too, where awkbox agrees with no other awk")
     option("--program", type=Path, default=os.environ.get("AWKBOX_PROGRAM", BUILT),
-           help="the built program (what ./awkbox built, or what AWKBOX_PROGRAM names)")
+           help="the built program (what ./build made, or what AWKBOX_PROGRAM names)")
     words = reader.parse_args()
     if words.count is None:
         words.count = 1000 if words.seconds is None else 1_000_000_000
@@ -1074,7 +1074,7 @@ def main():
     words = read_words()
     program = Path(words.program).resolve()
     if not os.access(program, os.X_OK):
-        sys.exit(f"{program} is not there; ./awkbox builds the program")
+        sys.exit(f"{program} is not there; run ./build")
     limit()
     with tempfile.TemporaryDirectory() as room:
         room = Path(room).resolve()
