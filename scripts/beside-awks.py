@@ -108,8 +108,8 @@ condition
     4 comparison <number:concatenation> <comparison> <number:concatenation>
     3 comparison <text:concatenation> <comparison> <text:concatenation>
     1 comparison <text:concatenation> <comparison> <number:concatenation>
-    2 and NF >= <place> && ${place} <comparison> <number:concatenation>
-    1 and NF >= <place> && ${place} <comparison> <text:concatenation>
+    2 and length($<place>) && ${place} <comparison> <number:concatenation>
+    1 and length($<place>) && ${place} <comparison> <text:concatenation>
     3 match <any:comparison> ~ <regex>
     1 match <any:comparison> !~ <regex>
     1 match <any:comparison> ~ <regex-text>
@@ -188,7 +188,7 @@ statement
     1 any <number-target> *= 4; {number-target} /= 2; {number-target} = {number-target} % 997 + 0
     4 any <text-target> = substr(<text>, 1, 20)
     1 any <text-target> = <word>
-    2 any if (NF >= <place>) <text-target> = ${place}
+    2 any if (length($<place>)) <text-target> = ${place}
     2 any <number-array>[<key>] = <few>
     1 any <number-array>[<key>] += <few>
     2 any <number-array>[<key>]++
@@ -281,6 +281,7 @@ LEAST = {
     "atom": ["a"],
     "replacement": ['""', '"x"'],
     "main-block": ["{ print }"],
+    "rule": ["{ print }"],
     "print-statement": ["print"],
     "own-block": ["{ }"],
 }
@@ -938,15 +939,15 @@ def file_text(lines):
     return "".join(line + "\n" for line in lines)
 
 
-def command_rows(case, folder):
+def command_rows(case):
     """The commands of the script, with what they print and how they end."""
-    used = [command for command in COMMANDS if f'"{command}"' in case.text]
-    if used:
+    with tempfile.TemporaryDirectory() as folder:
         for name, lines in case.files:
-            (folder / name).write_text(file_text(lines))
-    for command in used:
-        done = subprocess.run(["sh", "-c", command], cwd=folder, stdin=subprocess.DEVNULL, capture_output=True)
-        yield f"command | {quoted(command.encode())} | {quoted(done.stdout)} | {done.returncode}"
+            (Path(folder) / name).write_text(file_text(lines))
+        for command in COMMANDS:
+            if f'"{command}"' in case.text:
+                done = subprocess.run(["sh", "-c", command], cwd=folder, stdin=subprocess.DEVNULL, capture_output=True)
+                yield f"command | {quoted(command.encode())} | {quoted(done.stdout)} | {done.returncode}"
 
 
 def start_rows(case):
@@ -979,20 +980,20 @@ def outcome_text(outcome):
     return f"status {outcome.status}, output {quoted(outcome.output)}{files}"
 
 
-def row(case, verdict, awkbox):
+def row(case, verdict):
     script = case.text.rstrip("\n")
     lines = [f"  run | `{script}`" if "`" not in script else f"  run | {quoted(script.encode())}"]
     answer = next(iter(verdict.others.values()))
-    rows = [*start_rows(case), *command_rows(case, awkbox.folder), *end_rows(case, answer)]
+    rows = [*start_rows(case), *command_rows(case), *end_rows(case, answer)]
     return "\n".join(lines + ["    " + line for line in rows])
 
 
-def tell(number, case, verdict, awkbox):
+def tell(number, case, verdict):
     print(f"# script {number}: awkbox came to {outcome_text(verdict.ours)}")
     for name, outcome in verdict.others.items():
         print(f"# {name}: {outcome_text(outcome)}")
     print("# as a row, below a policy that allows all, as the one of scripts.txt:")
-    print(row(case, verdict, awkbox), flush=True)
+    print(row(case, verdict), flush=True)
 
 
 def installed(names, room):
@@ -1031,11 +1032,11 @@ def look_into(number, case, verdict, awkbox, awks, until):
     again = judge(case, awkbox, awks)
     if verdict.fails and not again.fails:
         print(f"# script {number} came to another end when it was run again:")
-        tell(number, case, verdict, awkbox)
+        tell(number, case, verdict)
         return replace(verdict, others={})
     if verdict.fails:
         case = shrink(case, still_fails(verdict, awkbox, awks), until)
-    tell(number, case, judge(case, awkbox, awks), awkbox)
+    tell(number, case, judge(case, awkbox, awks))
     return verdict
 
 
