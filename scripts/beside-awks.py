@@ -1,21 +1,24 @@
 #!/usr/bin/env python3
 """Runs random scripts by awkbox and by the other awks that are installed, and compares what comes of them.
 
-The scripts and their inputs are of the common part of the language: whole numbers of moderate size, and nothing of what
-docs/LANGUAGE.md lists under "Where other awks answer otherwise". Each runs in a folder of its own, awkbox under a policy that
-allows what the scripts ask for. Compared are the exit status, the standard output and the files that are left.
+The scripts and their inputs are of the common part of the language: whole numbers of moderate size, and nothing of
+what docs/LANGUAGE.md lists under "Where other awks answer otherwise". Each runs in a folder of its own, awkbox under a
+policy that allows what the scripts ask for. Compared are the exit status, the standard output and the files left.
 
-A script fails where awkbox answers otherwise than all other awks, and these agree with one another; where a single other awk
-is installed, it fails where the two differ. Where the others disagree, or a run does not end in time, the script is open: it
-decides nothing, and is counted. An awk that lacks a form of the standard is passed over where a script has that form.
-So a fault that one other awk shares goes unseen; one that all of them share is looked for in the standard.
-A script that fails is made smaller for as long as it fails, and printed as a row of runs.txt; the
-answers are those of the other awks. The scripts depend on the seed alone. The last line counts: 'N passed, M failed'.
+A script fails where all other awks agree with one another and awkbox answers otherwise; where a single other awk is
+installed, where the two differ. A script is undecided, and only counted, where the others do not agree, where a run
+does not end in time, or where no other awk has what it needs (an awk without a form of the standard is left out of
+the scripts that have that form). So a fault that one other awk shares goes unseen: --beside compares with one alone.
+
+A script that fails is made smaller for as long as it fails, and printed as a row of runs.txt with the answers of the
+other awks. The scripts depend on the seed alone. The last line counts: 'N passed, M failed'.
 """
 import argparse
+import itertools
 import os
 import random
 import re
+import resource
 import shutil
 import signal
 import subprocess
@@ -25,7 +28,7 @@ import time
 from collections import Counter
 from dataclasses import dataclass, replace
 from pathlib import Path
-from typing import NamedTuple
+from typing import NamedTuple, Optional
 
 TOP = Path(__file__).resolve().parent.parent
 BUILT = TOP / "crates/awkbox_program/out/awkbox_program"
@@ -38,10 +41,14 @@ OTHERS = {
 
 # ---- The grammar: for each kind its forms, a line each, as `weight level template`.
 #
-# In a template `<kind>` is a part of that kind, `<kind:level>` one that stands in parentheses where it binds looser than the
-# level, and `{kind}` the name that `<kind>` gave before. What has no entry here is made by a function of Maker.
-# Kinds keep out what is not of the common part: a `small` is no more than a few hundred thousand, a `positive` is one that is
-# not negative, so that no awk makes a negative zero of it; a `text` may be compared with anything, and `any` may be a field too.
+# In a template `<kind>` is a part of that kind, `<kind:level>` one that stands in parentheses where it binds looser
+# than the level, and `{kind}` the name that `<kind>` gave before. Kinds without an entry are made by Maker.
+#
+# The kinds keep to the common part. What is multiplied is small, and not negative, since other awks have a negative
+# zero; what comes out negative or large is cut down by `%` before it is kept. A `text` compares alike in all awks;
+# `any` may be a field that is not there too, which does not. Nothing that is evaluated changes what stands beside it,
+# since awks differ in their order: so a function of an expression changes its own variables only, and a
+# `print-statement`, which stands in loops over a file, neither reads nor closes one.
 
 LEVELS = "any choice or and match comparison concatenation sum product sign power operand".split()
 
@@ -59,7 +66,7 @@ number
     1 choice <condition:or> ? <number> : <number:choice>
     1 sum <cut-text> + 0
     1 operand <number-array>[<key>]
-    1 operand <number-call>
+    4 operand <number-call>
 positive
     5 operand <few>
     2 operand <count>
@@ -93,7 +100,7 @@ text
     1 choice <condition:or> ? <text> : <text:choice>
     1 operand <text-array>[<key>]
     1 operand <piece-array>[<place>]
-    1 operand <text-call>
+    4 operand <text-call>
     1 operand <file-name>
     1 operand ARGV[1]
     1 operand ENVIRON["BESIDE"]
@@ -101,8 +108,8 @@ condition
     4 comparison <number:concatenation> <comparison> <number:concatenation>
     3 comparison <text:concatenation> <comparison> <text:concatenation>
     1 comparison <text:concatenation> <comparison> <number:concatenation>
-    2 and NF >= <place> && ${place} <comparison> <number:concatenation>
-    1 and NF >= <place> && ${place} <comparison> <text:concatenation>
+    2 and length($<place>) && ${place} <comparison> <number:concatenation>
+    1 and length($<place>) && ${place} <comparison> <text:concatenation>
     3 match <any:comparison> ~ <regex>
     1 match <any:comparison> !~ <regex>
     1 match <any:comparison> ~ <regex-text>
@@ -137,10 +144,10 @@ branch
     3 any <repeated>
     3 any <repeated><branch>
 repeated
-    5 any <atom>
-    1 any <atom>*
-    1 any <atom>+
-    1 any <atom>?
+    20 any <atom>
+    4 any <atom>*
+    4 any <atom>+
+    4 any <atom>?
     1 any <interval>
 interval
     1 any <atom>{<place>}
@@ -181,7 +188,7 @@ statement
     1 any <number-target> *= 4; {number-target} /= 2; {number-target} = {number-target} % 997 + 0
     4 any <text-target> = substr(<text>, 1, 20)
     1 any <text-target> = <word>
-    2 any if (NF >= <place>) <text-target> = ${place}
+    2 any if (length($<place>)) <text-target> = ${place}
     2 any <number-array>[<key>] = <few>
     1 any <number-array>[<key>] += <few>
     2 any <number-array>[<key>]++
@@ -204,9 +211,9 @@ statement
     1 any $0 = substr(<text>, 1, 20)
     3 any if (<condition>) <block>
     2 any if (<condition>) <block> else <block>
-    1 any for (<counter> = 0; {counter} < <few>; {counter}++) <loop-block>
-    1 any <counter> = 0; while ({counter}++ < <place>) <loop-block>
-    1 any <counter> = 0; do <loop-block> while (++{counter} < <place>)
+    2 any for (<counter> = 0; {counter} < <few>; {counter}++) <loop-block>
+    2 any <counter> = 0; while ({counter}++ < <place>) <loop-block>
+    2 any <counter> = 0; do <loop-block> while (++{counter} < <place>)
     1 any for (<counter> = 0; ; {counter}++) { if ({counter} > <place>) break; print {counter} }
     1 any <block>
     1 any if ((getline <text-target>) > 0) print NF, {text-target}
@@ -214,10 +221,10 @@ statement
     2 any while ((getline <text-target> < "in2") > 0) <print-block>; close("in2")
     1 any while ((getline < "in2") > 0) <print-block>; close("in2")
     1 any print (getline <text-target> < "none")
-    1 any print <items> > "again"; close("again"); while ((getline <text-target> < "again") > 0) <print-block>; close("again")
+    1 any print <items> > "tmp"; close("tmp"); while ((getline <text-target> < "tmp") > 0) <print-block>; close("tmp")
     1 any <command-loop>
     1 any print (system("exit <few>") > 0)
-    1 any <procedure-call>
+    9 any <procedure-call>
 reading-loop
     2 any while (("sort in2" | getline <text-target>) > 0) <print-block>; close("sort in2")
     1 any while (("sort in2" | getline) > 0) <print-block>; close("sort in2")
@@ -240,7 +247,7 @@ own-statement
     2 any if (<condition>) <own-block>
     1 any if (length(<text-target>) < 60) <number-target> = gsub(<regex>, <replacement>, {text-target})
 rule
-    4 any <main-block>
+    6 any <main-block>
     3 any <condition> <main-block>
     2 any <condition>
     2 any <regex> <main-block>
@@ -274,11 +281,12 @@ LEAST = {
     "atom": ["a"],
     "replacement": ['""', '"x"'],
     "main-block": ["{ print }"],
+    "rule": ["{ print }"],
     "print-statement": ["print"],
     "own-block": ["{ }"],
 }
 
-LISTS = {"script": "\n", "statements": "\n", "items": ", ", "arguments": ", "}
+LISTS = {"script": "\n", "statements": "\n", "items": ", "}
 
 
 class Part(NamedTuple):
@@ -338,21 +346,35 @@ def node_text(node):
     return "".join(piece if isinstance(piece, str) else part_text(piece) for piece in node.pieces)
 
 
+class Hole(NamedTuple):
+    """In a form, the place of a part."""
+
+    kind: str
+    level: int
+
+
+class Again(NamedTuple):
+    """In a form, the word once more that a hole of this kind got."""
+
+    kind: str
+
+
 class Form(NamedTuple):
     weight: int
     level: int
-    pieces: tuple  # a text, or (kind, level) of a part, or ("", kind) of a name that was given before
-    kinds: frozenset
+    pieces: tuple
+
+    @property
+    def kinds(self):
+        return {piece.kind for piece in self.pieces if isinstance(piece, Hole)}
+
+
+TEMPLATE = re.compile(r"([^<{]+|[<{](?![a-z]))|<([a-z-]+)(?::([a-z]+))?>|\{([a-z-]+)\}")
 
 
 def read_template(template):
-    for text, kind, level, name in re.findall(r"([^<{]+|[<{](?![a-z]))|<([a-z-]+)(?::([a-z]+))?>|\{([a-z-]+)\}", template):
-        if kind:
-            yield kind, LEVELS.index(level or "any")
-        elif name:
-            yield "", name
-        else:
-            yield text
+    for text, kind, level, again in TEMPLATE.findall(template):
+        yield Hole(kind, LEVELS.index(level or "any")) if kind else Again(again) if again else text
 
 
 def read_grammar(text):
@@ -363,15 +385,34 @@ def read_grammar(text):
             forms[kind] = []
             continue
         weight, level, template = line.split(None, 2)
-        pieces = tuple(read_template(template))
-        kinds = frozenset(piece[0] for piece in pieces if isinstance(piece, tuple))
-        forms[kind].append(Form(int(weight), LEVELS.index(level), pieces, kinds))
+        forms[kind].append(Form(int(weight), LEVELS.index(level), tuple(read_template(template))))
     return forms
 
 
 FORMS = read_grammar(GRAMMAR)
 
+# Parts that are made of one word, and may become another when a script is made smaller.
+CONSTANTS = {
+    "few": ["0", "1", "1", "2", "2", "3", "4", "5", "9"],
+    "field": ["$0", "$1", "$1", "$2", "$3", "$NF", "$(1 + 1)"],
+    "replacement": ['""', '"x"', '"&"', '"<&>"', r'"\\&"', '"-&"', '"a b"'],
+    "code": ["65", "97", "49", '"a"', '"bc"', '"5"'],
+}
 
+# Words that stay as they are.
+WORDS = {
+    "place": ["1", "2", "3", "4"],
+    "divisor": ["2", "3", "4", "5", "7", "9"],
+    "exponent": ["0", "1", "2", "3"],
+    "comparison": ["<", "<=", "==", "!=", ">", ">="],
+    "letter": list("aaabbbcc012:, "),
+    "separator": ['":"', '" "', '","', "/[:,]/", "/b+/", '"[ab]"', '"a|:"', "/, */", "SUBSEP"],
+    "text-array": ["B"],
+    "piece-array": ["C"],
+}
+
+# What a word of a script is made of.
+MARKS = ["a", "b", "c", "B", "0", "1", "2", "5", ":", ",", " ", "-", r"\t", r"\n", r"\"", r"\\", r"\101"]
 
 # Conversions of printf, each with the kind of its value and the flags that mean something for it.
 DIRECTIVES = [
@@ -386,23 +427,28 @@ DIRECTIVES = [
     ("s", "any", ["-"]),
 ]
 
+# What most scripts end with: what is in their variables.
+STATE = """END {
+    print n1, n2, n3 ":" t1 ":" t2 ":" t3 ":" v
+    for (k in A) print "A", k, A[k] | "sort > sorted"
+    for (k in B) print "B", k, B[k] | "sort > sorted"
+}"""
+
 
 def kinds_within(kind):
     """The kinds that may stand where this one may: it, and those that it has as a form by themselves."""
     within = {kind}
     for form in FORMS.get(kind, []):
-        if len(form.pieces) == 1 and isinstance(form.pieces[0], tuple):
-            within |= kinds_within(form.pieces[0][0])
+        if len(form.pieces) == 1 and isinstance(form.pieces[0], Hole):
+            within |= kinds_within(form.pieces[0].kind)
     return within
 
 
 WITHIN = {kind: kinds_within(kind) for kind in FORMS}
 
-# Forms that are deep go down to these where no depth is left.
-SHALLOW = {
-    kind: [form for form in forms if not form.kinds & (FORMS.keys() | {"format", "items", "block", "own-block"} - {"cut-text"})] or forms
-    for kind, forms in FORMS.items()
-}
+# The forms that are left where a script gets too deep: those of single words, if a kind has such ones.
+DEEP = FORMS.keys() | {"format", "items", "block", "own-block"}
+SHALLOW = {kind: [form for form in forms if not form.kinds & DEEP] or forms for kind, forms in FORMS.items()}
 
 
 @dataclass
@@ -421,6 +467,7 @@ class Maker:
 
     def __init__(self, choose, reads_files):
         self.choose = choose
+        self.pick = choose.choice
         self.reads_files = reads_files  # FILENAME is open where the standard input is read without an operand
         self.fresh = 0
         self.scope = Scope(["n1", "n2", "n3", "v"], ["n1", "n2", "n3"], ["t1", "t2", "t3"], ["A"], {})
@@ -428,100 +475,63 @@ class Maker:
         self.reads_commands = choose.random() < 0.2
 
     def make(self, kind, depth):
-        """A node of the kind, or the text of a name."""
+        """A node of the kind, or a word that stays as it is."""
         if kind in FORMS:
             return self.make_form(kind, depth)
+        if kind in CONSTANTS:
+            return leaf(kind, self.pick(CONSTANTS[kind]))
+        if kind in WORDS:
+            return self.pick(WORDS[kind])
         return getattr(self, "make_" + kind.replace("-", "_"))(depth)
 
     def make_form(self, kind, depth):
         forms = FORMS[kind] if depth > 0 else SHALLOW[kind]
         form = self.choose.choices(forms, [form.weight for form in forms])[0]
-        names, pieces = {}, []
+        words, pieces = {}, []
         for piece in form.pieces:
-            if isinstance(piece, str):
-                pieces.append(piece)
-            elif piece[0] == "":
-                pieces.append(names[piece[1]])
-            else:
-                made = self.make(piece[0], depth - 1)
-                if isinstance(made, Node):
-                    if len(form.pieces) == 1:
-                        return made
-                    made = Part(made, piece[1], piece[0])
-                else:
-                    names[piece[0]] = made
-                pieces.append(made)
+            if isinstance(piece, Again):
+                piece = words[piece.kind]
+            elif isinstance(piece, Hole):
+                made = self.make(piece.kind, depth - 1)
+                words[piece.kind] = made
+                piece = Part(made, piece.level, piece.kind) if isinstance(made, Node) else made
+            pieces.append(piece)
+        if len(pieces) == 1 and isinstance(pieces[0], Part):
+            return pieces[0].node
         return Node(kind, form.level, tuple(pieces))
 
     def make_list(self, kind, count, part_kind, depth, level="any"):
         level = LEVELS.index(level)
         return Node(kind, 0, tuple(Part(self.make(part_kind, depth), level, part_kind) for _ in range(count)))
 
-    # constants
-
-    def make_few(self, _):
-        return leaf("few", str(self.choose.choice([0, 1, 1, 2, 2, 3, 4, 5, 9])))
-
-    def make_place(self, _):
-        return str(self.choose.randint(1, 4))
-
-    def make_divisor(self, _):
-        return str(self.choose.randint(2, 9))
-
-    def make_exponent(self, _):
-        return str(self.choose.randint(0, 3))
-
-    def make_comparison(self, _):
-        return self.choose.choice(["<", "<=", "==", "!=", ">", ">="])
+    # words and names
 
     def make_word(self, _):
-        count = self.choose.choice([1, 1, 2, 3, 4])
-        marks = ["a", "b", "c", "B", "0", "1", "2", "5", ":", ",", " ", "-", r"\t", r"\n", r"\"", r"\\", r"\101"]
-        return leaf("word", '"' + "".join(self.choose.choices(marks, k=count)) + '"')
-
-    def make_letter(self, _):
-        return self.choose.choice("aaabbbcc012:, ")
-
-    def make_separator(self, _):
-        return self.choose.choice(['":"', '" "', '","', "/[:,]/", "/b+/", '"[ab]"', '"a|:"', "/, */", "SUBSEP"])
-
-    def make_replacement(self, _):
-        return leaf("replacement", self.choose.choice(['""', '"x"', '"&"', '"<&>"', r'"\\&"', '"-&"', '"a b"']))
-
-    # names
+        return leaf("word", '"' + "".join(self.choose.choices(MARKS, k=self.pick([1, 1, 2, 3, 4]))) + '"')
 
     def make_count(self, depth):
-        return self.choose.choice(["NF", self.make_record_number(depth)])
+        return self.pick(["NF", self.make_record_number(depth)])
 
     def make_record_number(self, _):
-        return "FNR" if self.reads_commands else self.choose.choice(["NR", "FNR"])
-
-    def make_field(self, _):
-        return leaf("field", self.choose.choice(["$0", "$1", "$1", "$2", "$3", "$NF", "$(1 + 1)"]))
+        return "FNR" if self.reads_commands else self.pick(["NR", "FNR"])
 
     def make_number_name(self, _):
-        return leaf("number-name", self.choose.choice(self.scope.numbers))
+        return leaf("number-name", self.pick(self.scope.numbers))
 
     def make_number_target(self, _):
-        return self.choose.choice(self.scope.number_targets)
+        return self.pick(self.scope.number_targets)
 
     def make_text_name(self, _):
-        return leaf("text-name", self.choose.choice(self.scope.texts))
+        return leaf("text-name", self.pick(self.scope.texts))
 
     def make_text_target(self, _):
-        return self.choose.choice(self.scope.texts)
+        return self.pick(self.scope.texts)
 
     def make_number_array(self, _):
-        return self.choose.choice(self.scope.number_arrays)
-
-    def make_text_array(self, _):
-        return "B"
-
-    def make_piece_array(self, _):
-        return "C"
+        return self.pick(self.scope.number_arrays)
 
     def make_array(self, depth):
-        return self.choose.choice([self.make_number_array(depth), "B", "C"])
+        return self.pick([self.make_number_array(depth), "B", "C"])
 
     def make_loop_key(self, _):
         self.fresh += 1
@@ -539,32 +549,29 @@ class Maker:
     # lists and blocks
 
     def make_items(self, depth):
-        return self.make_list("items", self.choose.choice([1, 1, 2, 2, 3]), "any", depth, "concatenation")
+        return self.make_list("items", self.pick([1, 1, 2, 2, 3]), "any", depth, "concatenation")
 
     def make_statements(self, depth):
-        return self.make_list("statements", self.choose.choice([1, 2, 2, 3]), "statement", depth)
+        return self.make_list("statements", self.pick([1, 2, 2, 3]), "statement", depth)
 
     def make_block(self, depth):
         return Node("block", 0, (Part(self.make("statements", depth), 0, "statements"),))
 
     def make_own_block(self, depth):
-        statements = self.make_list("statements", self.choose.choice([1, 2]), "own-statement", depth)
+        statements = self.make_list("statements", self.pick([1, 2]), "own-statement", depth)
         return Node("block", 0, (Part(statements, 0, "statements"),))
 
     def make_format(self, depth):
-        return self.make_list("format", self.choose.choice([1, 1, 2, 3]), "directive", depth)
+        return self.make_list("format", self.pick([1, 1, 2, 3]), "directive", depth)
 
     def make_directive(self, depth):
-        conversion, kind, flags = self.choose.choice(DIRECTIVES)
-        flag = self.choose.choice(["", "", *flags])
-        width = self.choose.choice(["", "", "1", "3", "6"])
-        precision = self.choose.choice(["", "", ".1", ".3"]) if conversion != "c" else ""
-        text = f"%{flag}{width}{precision}{conversion}" + self.choose.choice(["", " ", ":", "a", r"\n", "%%"])
+        conversion, kind, flags = self.pick(DIRECTIVES)
+        flag = self.pick(["", "", *flags])
+        width = self.pick(["", "", "1", "3", "6"])
+        precision = self.pick(["", "", ".1", ".3"]) if conversion != "c" else ""
+        text = f"%{flag}{width}{precision}{conversion}" + self.pick(["", " ", ":", "a", r"\n", "%%"])
         concatenation = LEVELS.index("concatenation")
         return Node("directive", 0, (text, Part(self.make(kind, depth), concatenation, kind)))
-
-    def make_code(self, _):
-        return leaf("code", self.choose.choice(["65", "97", "48 + 1", '"a"', '"bc"', '"5"']), "sum")
 
     def make_command_loop(self, depth):
         if not self.reads_commands:
@@ -591,15 +598,18 @@ class Maker:
         return Node(kind + "-call", LEVELS.index("operand"), pieces)
 
     def make_function(self, kind, name):
-        """A function that only changes its own variables, and calls itself with a first argument that comes down to 0."""
+        """A function that changes its own variables only, and calls itself until its first argument is 0."""
         outer, self.scope = self.scope, Scope(["n1", "d", "n"], ["n"], ["s", "r"], ["L"], {})
         ends = Part(self.make(kind, 1), 0, kind)
         body = Part(self.make("own-block", 2), 0, "own-block")
         value = Part(self.make(kind, 2), LEVELS.index("product"), kind)
-        value = (value, f" % 1009 + {name}(d - 1, s)") if kind == "number" else ("substr(", value, f", 1, 9) {name}(d - 1, s)")
         self.scope = outer
         start = f"function {name}(d, s, n, r, L) {{\n    if (d <= 0) return "
-        return Node("function", 0, (start, ends, "\n    ", body, "\n    return ", *value, "\n}"))
+        if kind == "number":
+            value = ("\n    return ", value, f" % 1009 + {name}(d - 1, s)\n}}")
+        else:
+            value = ("\n    return substr(", value, f", 1, 9) {name}(d - 1, s)\n}}")
+        return Node("function", 0, (start, ends, "\n    ", body, *value))
 
     def make_procedure(self, name):
         """A function that may do what a rule may, and is called as a statement only."""
@@ -608,16 +618,18 @@ class Maker:
         self.scope = outer
         return Node("function", 0, (f"function {name}(P, s, n, r, L) ", body))
 
-    def make_script(self):
-        parts = []
+    def make_functions(self):
         for kind, name in (("number", "f"), ("text", "g"), ("procedure", "h")):
-            if self.choose.random() < 0.25:
-                function = self.make_procedure(name) if kind == "procedure" else self.make_function(kind, name)
-                parts.append(Part(function, 0, "rule"))
+            if self.choose.random() < 0.2:
+                yield self.make_procedure(name) if kind == "procedure" else self.make_function(kind, name)
                 self.scope.calls[kind] = name
-        for _ in range(self.choose.choice([1, 2, 2, 3, 4])):
-            parts.append(Part(self.make("rule", 4), 0, "rule"))
-        return Node("script", 0, tuple(parts))
+
+    def make_script(self):
+        items = list(self.make_functions())
+        items += [self.make("rule", 4) for _ in range(self.pick([1, 2, 2, 3, 4]))]
+        if self.choose.random() < 0.7:
+            items.append(leaf("rule", STATE))
+        return Node("script", 0, tuple(Part(item, 0, "rule") for item in items))
 
 
 # ---- A case: a script with what it is started with.
@@ -652,7 +664,17 @@ OPTIONS = [
     (("-v", "SUBSEP=:"),),
     (("-v", r"ORS=|\n"),),
 ]
-OPERANDS = [("in1",), ("in1",), ("in1", "in2"), ("v=3", "in1"), ("in1", "v=a1", "in2"), ("in2", "", "in1"), (), ("-",), ("in2", "-")]
+OPERANDS = [
+    ("in1",),
+    ("in1",),
+    ("in1", "in2"),
+    ("v=3", "in1"),
+    ("in1", "v=a1", "in2"),
+    ("in2", "", "in1"),
+    (),
+    ("-",),
+    ("in2", "-"),
+]
 
 
 def make_line(choose):
@@ -680,35 +702,29 @@ def make_case(seed, number):
 class Outcome(NamedTuple):
     """What came of a run; the status is None where it did not end in time."""
 
-    status: int | None
+    status: Optional[int]
     output: bytes
     files: tuple
 
 
-POLICY = """version = 1
-base = "{base}"
-""" + "".join(
-    f'[[rule]]\neffect = "allow"\nkind = "{kind}"\nmatch = "{pattern}"\n'
-    for kind, patterns in {
-        "read": ["**"],
-        "write": ["**"],
-        "append": ["**"],
-        "run": ["sort in2", "sort > sorted", *(f"exit {number}" for number in range(10))],
-        "env": ["BESIDE"],
-        "assign": ["*"],
-    }.items()
-    for pattern in patterns
-)
+COMMANDS = ["sort in2", "sort > sorted", *(f"exit {status}" for status in range(10))]
+ALLOWED = [("read", "**"), ("write", "**"), ("append", "**"), ("env", "BESIDE"), ("assign", "*")]
+ALLOWED += [("run", command) for command in COMMANDS]
+
+RULE = """[[rule]]
+effect = "allow"
+kind = "{kind}"
+match = "{pattern}"
+"""
 
 REFUSED = 3  # awkbox's status where the script is refused
 MOST_SECONDS = 5
+MOST_SHRINKING = 30  # seconds
 MOST_BYTES = 1 << 20
 
 
 def limit():
     """Keeps a run that does not end from filling the disk."""
-    import resource
-
     resource.setrlimit(resource.RLIMIT_FSIZE, (MOST_BYTES, resource.getrlimit(resource.RLIMIT_FSIZE)[1]))
 
 
@@ -731,7 +747,7 @@ class Awk:
     def run(self, case):
         self.script.write_text(case.text)
         for name, lines in case.files:
-            (self.folder / name).write_text("".join(line + "\n" for line in lines))
+            (self.folder / name).write_text(file_text(lines))
         status = self.start(case)
         output = (self.folder.parent / "output").read_bytes()
         files = []
@@ -765,40 +781,63 @@ class Awkbox(Awk):
     def __init__(self, program, room):
         super().__init__("awkbox", [str(program), "run"], room)
         policy = self.folder.parent / "policy.toml"
-        policy.write_text(POLICY.format(base=self.folder))
+        rules = "".join(RULE.format(kind=kind, pattern=pattern) for kind, pattern in ALLOWED)
+        policy.write_text(f'version = 1\nbase = "{self.folder}"\n{rules}')
         self.command += ["--policy", str(policy), "--log", str(self.folder.parent / "log")]
 
 
-# What some awks do not have, though the standard does: the kinds of its forms, and a script that ends with status 0 where it is there.
+# What some awks lack, though the standard has it: kinds of forms, or the text of an option, each with a script that
+# ends with status 0 where they are there, and its options.
 PROBES = [
-    ({"interval"}, 'BEGIN { exit "aa" !~ /^a{2}$/ }'),
-    ({"power", "power-assignment"}, "BEGIN { exit 2 ^ 2 != 4 }"),
+    ({"interval"}, 'BEGIN { exit "aa" !~ /^a{2}$/ }', ()),
+    ({"power", "power-assignment"}, "BEGIN { exit 2 ^ 2 != 4 }", ()),
+    ({"RS="}, '{ exit $0 != "a" }', (("-v", "RS="),)),
 ]
 
 
 def probed(awk):
-    """The awk, with the kinds of forms that it lacks."""
-    for kinds, text in PROBES:
-        if awk.run(Case(leaf("probe", text), (), (), (("in1", ()),))).status != 0:
-            awk.lacks |= kinds
+    """The awk, with what it lacks."""
+    for lacks, text, options in PROBES:
+        case = Case(leaf("probe", text), options, (), (("in1", ("a",)),))
+        if awk.run(case).status != 0:
+            awk.lacks |= lacks
     return awk
 
 
-class Verdict(NamedTuple):
-    fails: bool
-    is_open: bool  # whether the others disagree, or a run did not end in time
+def needs(case):
+    return {node.kind for node in case.script.nodes()} | {text for _, text in case.options}
+
+
+@dataclass(frozen=True)
+class Verdict:
+    """What came of a case by awkbox, and by the others that have all that it needs."""
+
     ours: Outcome
-    others: dict  # of a name to its outcome
+    others: dict
+
+    @property
+    def is_undecided(self):
+        """Whether the others do not agree, or a run did not end in time."""
+        is_late = any(outcome.status is None for outcome in (self.ours, *self.others.values()))
+        return is_late or len(set(self.others.values())) != 1
+
+    @property
+    def is_same(self):
+        return not self.is_undecided and self.ours in self.others.values()
+
+    @property
+    def fails(self):
+        return not self.is_undecided and self.ours not in self.others.values()
+
+    @property
+    def is_alone(self):
+        """Whether awkbox agrees with none of others that do not agree."""
+        return self.is_undecided and bool(self.others) and self.ours not in self.others.values()
 
 
 def judge(case, awkbox, awks):
-    kinds = {node.kind for node in case.script.nodes()}
-    ours = awkbox.run(case)
-    others = {awk.name: awk.run(case) for awk in awks if not awk.lacks & kinds}
-    outcomes = set(others.values())
-    is_late = any(outcome.status is None for outcome in {ours, *outcomes})
-    is_open = is_late or len(outcomes) != 1
-    return Verdict(not is_open and ours not in outcomes, is_open, ours, others)
+    needed = needs(case)
+    return Verdict(awkbox.run(case), {awk.name: awk.run(case) for awk in awks if not awk.lacks & needed})
 
 
 # ---- Making a case that fails smaller.
@@ -814,33 +853,34 @@ def replacements(part):
             yield node
 
 
-def smaller_nodes(node):
-    """The node with one of its parts left out or replaced, those first that change most."""
-    is_list = node.kind in LISTS or node.kind == "format"
-    least = 0 if node.kind in ("script", "statements") else 1
-    for at, part in enumerate(node.pieces):
-        if not isinstance(part, Part):
-            continue
-        before, behind = node.pieces[:at], node.pieces[at + 1 :]
-        if is_list and len(node.pieces) > least:
-            yield replace(node, pieces=before + behind)
-        for put in replacements(part):
-            yield replace(node, pieces=before + (part._replace(node=put),) + behind)
-        for put in smaller_nodes(part.node):
-            yield replace(node, pieces=before + (part._replace(node=put),) + behind)
-
-
-def without_one(items):
+def without_some(items):
+    """The items without one half of them, and without each."""
+    half = len(items) // 2
+    if half > 1:
+        yield items[half:]
+        yield items[:half]
     for at in range(len(items)):
         yield items[:at] + items[at + 1 :]
 
 
+def smaller_nodes(node):
+    """The node with parts left out or replaced, those first that change most."""
+    if node.kind in LISTS or node.kind == "format":
+        least = 0 if node.kind in ("script", "statements") else 1
+        for pieces in without_some(node.pieces):
+            if len(pieces) >= least:
+                yield replace(node, pieces=pieces)
+    for at, part in enumerate(node.pieces):
+        if isinstance(part, Part):
+            for put in itertools.chain(replacements(part), smaller_nodes(part.node)):
+                yield replace(node, pieces=(*node.pieces[:at], part._replace(node=put), *node.pieces[at + 1 :]))
+
+
 def smaller_lines(lines):
-    yield from without_one(lines)
+    yield from without_some(lines)
     for at, line in enumerate(lines):
-        words = re.findall(r"[^ :,;\t]+|[ :,;\t]+", line)
-        for left in without_one(words):
-            yield lines[:at] + ("".join(left),) + lines[at + 1 :]
+        for words in without_some(re.findall(r"[^ :,;\t]+|[ :,;\t]+", line)):
+            yield (*lines[:at], "".join(words), *lines[at + 1 :])
 
 
 def smaller_cases(case):
@@ -849,13 +889,13 @@ def smaller_cases(case):
         smaller = replace(case, script=script)
         if len(smaller.text) < size:
             yield smaller
-    for options in without_one(case.options):
+    for options in without_some(case.options):
         yield replace(case, options=options)
-    for operands in without_one(case.operands):
+    for operands in without_some(case.operands):
         yield replace(case, operands=operands)
     for at, (name, lines) in enumerate(case.files):
         for fewer in smaller_lines(lines):
-            yield replace(case, files=case.files[:at] + ((name, fewer),) + case.files[at + 1 :])
+            yield replace(case, files=(*case.files[:at], (name, fewer), *case.files[at + 1 :]))
 
 
 def still_fails(verdict, awkbox, awks):
@@ -895,29 +935,35 @@ def quoted(data):
     return '"' + "".join(marks.get(byte) or (chr(byte) if 32 <= byte < 127 else f"\\{byte:03o}") for byte in data) + '"'
 
 
-def command_rows(case, awkbox):
+def file_text(lines):
+    return "".join(line + "\n" for line in lines)
+
+
+def command_rows(case):
     """The commands of the script, with what they print and how they end."""
-    for name, lines in case.files:
-        (awkbox.folder / name).write_text("".join(line + "\n" for line in lines))
-    for command in sorted(set(re.findall(r'"(sort in2|sort > sorted|exit \d)"', case.text))):
-        done = subprocess.run(["sh", "-c", command], cwd=awkbox.folder, stdin=subprocess.DEVNULL, stdout=subprocess.PIPE)
-        yield f"command | {quoted(command.encode())} | {quoted(done.stdout)} | {done.returncode}"
+    with tempfile.TemporaryDirectory() as folder:
+        for name, lines in case.files:
+            (Path(folder) / name).write_text(file_text(lines))
+        for command in COMMANDS:
+            if f'"{command}"' in case.text:
+                done = subprocess.run(["sh", "-c", command], cwd=folder, stdin=subprocess.DEVNULL, capture_output=True)
+                yield f"command | {quoted(command.encode())} | {quoted(done.stdout)} | {done.returncode}"
 
 
 def start_rows(case):
     yield "bound | 100000"
     for option, text in case.options:
-        if option == "-F":
-            yield f"separator | {quoted(text.encode())}"
-        else:
-            yield "assign | " + " | ".join(quoted(part.encode()) for part in text.split("=", 1))
+        name, _, value = text.partition("=")
+        words = ["separator", text] if option == "-F" else ["assign", name, value]
+        yield " | ".join(words[:1] + [quoted(word.encode()) for word in words[1:]])
     for operand in case.operands:
         yield f"operand | {quoted(operand.encode())}"
     for name, lines in case.files:
-        text = "".join(line + "\n" for line in lines)
-        yield f'put_file | "{name}" | {quoted(text.encode())}'
+        text = quoted(file_text(lines).encode())
+        if name in case.operands or f'"{name}"' in case.text:
+            yield f'put_file | "{name}" | {text}'
         if name == "in1":
-            yield f"put_input | {quoted(text.encode())}"
+            yield f"put_input | {text}"
 
 
 def end_rows(case, outcome):
@@ -934,20 +980,20 @@ def outcome_text(outcome):
     return f"status {outcome.status}, output {quoted(outcome.output)}{files}"
 
 
-def row(case, verdict, awkbox):
+def row(case, verdict):
     script = case.text.rstrip("\n")
     lines = [f"  run | `{script}`" if "`" not in script else f"  run | {quoted(script.encode())}"]
     answer = next(iter(verdict.others.values()))
-    rows = [*start_rows(case), *command_rows(case, awkbox), *end_rows(case, answer)]
+    rows = [*start_rows(case), *command_rows(case), *end_rows(case, answer)]
     return "\n".join(lines + ["    " + line for line in rows])
 
 
-def tell(number, case, verdict, awkbox):
+def tell(number, case, verdict):
     print(f"# script {number}: awkbox came to {outcome_text(verdict.ours)}")
     for name, outcome in verdict.others.items():
         print(f"# {name}: {outcome_text(outcome)}")
     print("# as a row, below a policy that allows all, as the one of scripts.txt:")
-    print(row(case, verdict, awkbox), flush=True)
+    print(row(case, verdict), flush=True)
 
 
 def installed(names, room):
@@ -960,16 +1006,16 @@ def installed(names, room):
 
 class Counts:
     def __init__(self):
-        self.passed = self.failed = self.open = self.alone = self.ran = 0
-        self.otherwise = Counter()
+        self.ran = self.passed = self.failed = self.undecided = self.alone = 0
         self.beside = Counter()
+        self.otherwise = Counter()
 
     def add(self, verdict):
         self.ran += 1
+        self.passed += verdict.is_same
         self.failed += verdict.fails
-        self.open += verdict.is_open
-        self.alone += verdict.is_open and verdict.ours not in verdict.others.values()
-        self.passed += not verdict.fails and not verdict.is_open
+        self.undecided += verdict.is_undecided
+        self.alone += verdict.is_alone
         for name, outcome in verdict.others.items():
             self.beside[name] += 1
             self.otherwise[name] += outcome != verdict.ours
@@ -977,41 +1023,51 @@ class Counts:
     def tell(self, seed):
         for name, count in self.beside.items():
             print(f"beside {name}: {count} scripts, {self.otherwise[name]} of them otherwise")
-        print(f"seed {seed}: {self.ran} scripts; in {self.open} the others disagree, in {self.alone} of these all with awkbox")
+        print(f"seed {seed}: {self.ran} scripts, {self.undecided} undecided ({self.alone} where awkbox stands alone)")
         print(f"{self.passed} passed, {self.failed} failed")
+
+
+def look_into(number, case, verdict, awkbox, awks, until):
+    """Tells a case that fails, made small. One that does not fail once more is undecided."""
+    again = judge(case, awkbox, awks)
+    if verdict.fails and not again.fails:
+        print(f"# script {number} came to another end when it was run again:")
+        tell(number, case, verdict)
+        return replace(verdict, others={})
+    if verdict.fails:
+        case = shrink(case, still_fails(verdict, awkbox, awks), until)
+    tell(number, case, judge(case, awkbox, awks))
+    return verdict
 
 
 def compare(words, awkbox, awks):
     counts, end = Counts(), time.monotonic() + (words.seconds or float("inf"))
-    number = words.first
-    while number < words.first + words.count and time.monotonic() < end:
+    for number in range(words.first, words.first + words.count):
+        if time.monotonic() > end:
+            break
         case = make_case(words.seed, number)
         verdict = judge(case, awkbox, awks)
+        if verdict.fails or words.alone and verdict.is_alone:
+            verdict = look_into(number, case, verdict, awkbox, awks, min(time.monotonic() + MOST_SHRINKING, end))
         counts.add(verdict)
-        is_alone = words.alone and verdict.is_open and verdict.ours not in verdict.others.values()
-        if verdict.fails or is_alone:
-            if verdict.fails and not words.no_shrinking:
-                until = min(time.monotonic() + 30, end)
-                case = shrink(case, still_fails(verdict, awkbox, awks), until)
-            tell(number, case, judge(case, awkbox, awks), awkbox)
-        number += 1
     counts.tell(words.seed)
     return counts.failed
 
 
 def read_words():
     reader = argparse.ArgumentParser(description=__doc__, formatter_class=argparse.RawDescriptionHelpFormatter)
-    reader.add_argument("--seed", type=int, default=1, help="what the scripts depend on (1)")
-    reader.add_argument("--count", type=int, help="how many scripts (1000, or as many as there is time for with --seconds)")
-    reader.add_argument("--seconds", type=float, help="how long at most")
-    reader.add_argument("--first", type=int, default=0, help="the number of the first script (0)")
-    reader.add_argument("--beside", action="append", choices=OTHERS, help="an awk to compare with, in place of all; may be repeated")
-    reader.add_argument("--no-shrinking", action="store_true", help="tell a script that fails as it is")
-    reader.add_argument("--alone", action="store_true", help="tell scripts too where the others disagree, and awkbox agrees with none")
-    reader.add_argument("--program", type=Path, default=os.environ.get("AWKBOX_PROGRAM", BUILT), help="the built program; AWKBOX_PROGRAM is another way to name it")
+    option = reader.add_argument
+    option("--seed", type=int, default=1, help="what the scripts depend on (1)")
+    option("--first", type=int, default=0, help="the number of the first script (0)")
+    option("--count", type=int, help="how many scripts (1000; with --seconds, as many as there is time for)")
+    option("--seconds", type=float, help="how long at most")
+    option("--beside", action="append", choices=OTHERS, help="an awk to compare with, in place of all; may be repeated")
+    option("--alone", action="store_true", help="tell undecided scripts too, where awkbox agrees with no other awk")
+    option("--program", type=Path, default=os.environ.get("AWKBOX_PROGRAM", BUILT),
+           help="the built program (what ./build made, or what AWKBOX_PROGRAM names)")
     words = reader.parse_args()
     if words.count is None:
-        words.count = 1000 if words.seconds is None else sys.maxsize
+        words.count = 1000 if words.seconds is None else 1_000_000_000
     return words
 
 
@@ -1019,7 +1075,7 @@ def main():
     words = read_words()
     program = Path(words.program).resolve()
     if not os.access(program, os.X_OK):
-        sys.exit(f"{program} is not there; ./awkbox builds the program")
+        sys.exit(f"{program} is not there; run ./build")
     limit()
     with tempfile.TemporaryDirectory() as room:
         room = Path(room).resolve()
