@@ -167,7 +167,8 @@ impl Matcher {
         }
     }
 
-    /// The end of the longest match from the place, if there is one; `None` where the table does not say.
+    /// The end of the longest match from the place, if there is one; `None` where the table does not say. What is read costs of
+    /// the budget, also where it is read to the text's end.
     fn longest(&self, text: &[u8], from: usize, budget: &mut usize) -> Option<Option<usize>>
         requires { from < length text.now }
         ensures { IfSome result (λ found. IsLongest self.now text.now from found) }
@@ -188,6 +189,7 @@ impl Matcher {
                 return None;
             }
         }
+        *budget = budget.saturating_sub(text.len() - from);
         Some(noted(ends[state], text.len(), best))
     }
 
