@@ -11,8 +11,7 @@ ghost use Rattle.awk_tasks.specs.Acts.{Acts};
 ghost use Rattle.awk_tasks.specs.Wholes.{Whole};
 ghost use Rattle.awk_tasks.specs.Checks.{gives_text};
 
-use crate::faults::at;
-use awk_asks::halt::Halt;
+use awk_asks::halt::{Halt, at};
 use awk_ere::Ere;
 use awk_store::Store;
 use awk_text::place::Place;
