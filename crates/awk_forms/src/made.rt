@@ -46,9 +46,7 @@ pub fn owned(alloc: Global, text: &[u8]) -> Result<Value, Halt>
     ensures ok { IfOk result (λ new. new ≡ Value.Text text.now) }
     ensures err { IfErr result (λ h. h ≡ Halt.Memory) }
 {
-    let Ok(bytes) = Vec::from_slice(alloc, text) else {
-        return Err(Halt::Memory);
-    };
+    let bytes = Vec::from_slice(alloc, text)?;
     Ok(Value::Text(Octets::new(bytes)))
 }
 
@@ -81,8 +79,6 @@ pub fn append(values: &mut Vec<Value>, value: Value) -> Result<(), Halt>
     ensures ok { OnOk result (values.new.items ≡ values.old.items ++ value ∷ []) }
     ensures err { IfErr result (λ h. h ≡ Halt.Memory) }
 {
-    match values.push(value) {
-        Ok(()) => Ok(()),
-        Err(_) => Err(Halt::Memory),
-    }
+    values.push(value)?;
+    Ok(())
 }

@@ -90,9 +90,7 @@ fn begin_named<W: World>(
         → Performs W.World g p goes_on old world.old result (store.new, streams.new) world.new }
     ensures owns { Owns (W.open_numbers world.new) streams.new }
 {
-    let Ok(copy) = text.copy(alloc) else {
-        return Err(Halt::Memory);
-    };
+    let copy = text.copy(alloc)?;
     let is_open = open_file(alloc, host, text.bytes(), streams, world)?;
     if is_open {
         begin(store, Source::Operand(copy), text);
@@ -198,9 +196,7 @@ fn give_up_file<W: World>(
         → Onward W.World g p old w (λ k. Do Take ∷ k) result (store.new, streams.new) world.new }
     ensures owns { Owns (W.open_numbers world.new) streams.new }
 {
-    let Ok(text) = current_text(alloc, store.main()) else {
-        return Err(Halt::Memory);
-    };
+    let text = current_text(alloc, store.main())?;
     report(alloc, b"read".as_slice(), text.bytes(), store, world)?;
     pass_file(store, streams, world)
 }

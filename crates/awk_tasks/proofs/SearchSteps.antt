@@ -62,10 +62,6 @@ module _ (g : Given) (w : Whole) (place : Place) (source : Text) where
   checks_constant P (Ok e) ok err = done (moves (is_ere (λ k. Do (Give (v.Text source)) ∷ k) (moves (at_rest _ w) (λ k hid c a. refl)) ok.1) (λ k hid c a. refl))
   checks_constant P (Err met) ok err = check_faults (λ k. Do (Give (v.Text source)) ∷ k) (moves (at_rest _ w) (λ k hid c a. refl)) met err
 
-pub ere_at : {A : Type 0} (Q : A → Type 0) (place : Place) (r : Result A Fault) → IfOk r Q → IfOk (result_at place r) Q
-ere_at Q place (Ok e) h = h
-ere_at Q place (Err met) h = h
-
 -- ---- it matches somewhere
 
 pub matches_so : (g : Given) (w : Whole) (source text : Text) (b : Bool) → HasMatch source text b → Acts g (Do (Match source text)) (λ b. give (of_truth b)) w (Ok b) w
