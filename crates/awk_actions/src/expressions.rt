@@ -11,14 +11,14 @@ ghost use Rattle.awk_tasks.specs.Wholes.{names_in};
 ghost use Rattle.awk_actions.specs.Runs.{Does, Tells, IsNumberOf, IsTruthOf, IsUnwanted};
 ghost use Rattle.awk_machine.specs.Operators.{of_truth};
 
-use crate::calls::call;
 use crate::context::{Context, Run};
-use crate::inputs::{close, from_commands, from_file, getline, system};
+use crate::evaluates::Evaluates;
+use crate::inputs::{close, getline, system};
 use crate::lists::{element_group, formatted};
 use crate::patterns::{locate, matches, split, substitute};
 use crate::targets::{alter, assign, change, increment, put, read_target, step_target};
 use awk_asks::halt::Halt;
-use awk_forms::at_hand::{MOST_LEVELS, at_hand, number_at_hand, truth_at_hand, value_at_hand};
+use awk_forms::at_hand::{MOST_LEVELS, at_hand, number_at_hand, truth_at_hand};
 use awk_forms::chains::{join, members, operated};
 use awk_forms::done::done_at_once;
 use awk_forms::made::owned;
@@ -33,69 +33,36 @@ use awk_text::value::{Value, number_of, truth};
 use awk_works::operators::{compared, compared_lent, truth_value};
 use box_world::world::World;
 
-/// The value of an expression. Each part is evaluated one level lower; where there is none left, memory for the parts is refused. Those of
-/// which functions that call themselves are made do not go through `evaluate`, whose frame is larger, and neither do those of loops
-/// over a stream.
-#[cycle(run)]
-pub fn value<W: World>(
-    cx: &Context<'_>,
-    e: &Expr,
-    level: u32,
-    run: &mut Run,
-    world: &mut W,
-) -> Result<Value, Halt>
-    requires { Owns (W.open_numbers world.old) run.old.streams }
-    ensures { Does W.follows W.has_stopped W.stops W.open_numbers cx.now (λ g. value (view (names_in g) e.now)) (λ g. give)
-        (run.old.store, run.old.streams) world.old result (run.new.store, run.new.streams) world.new }
-{
-    if let Some(there) = value_at_hand(cx.alloc, &run.store, e) {
-        return Ok(there);
-    }
-    if level == 0 {
-        return Err(Halt::Memory);
-    }
-    match e {
-        Expr::Chain(x, xs) => chain(cx, x.get(), xs.as_slice(), level - 1, run, world),
-        Expr::Choice(x, y, z) => choose(cx, x.get(), y.get(), z.get(), level - 1, run, world),
-        Expr::Call(place, f, xs) => call(cx, *place, *f, xs.as_slice(), level - 1, run, world),
-        Expr::GetlineFile(place, target, x) => {
-            from_file(cx, *place, target, x.get(), level - 1, run, world)
-        }
-        Expr::Pipe(x, xs) => from_commands(cx, x.get(), xs.as_slice(), level - 1, run, world),
-        _ => evaluate(cx, e, level - 1, run, world),
-    }
-}
-
 /// The number of an expression's value, or that it is out of range, which is a fault only where the number is used.
-#[cycle(run)]
-pub fn number<W: World>(
+pub fn number<W: World, E: Evaluates<W>>(
     cx: &Context<'_>,
     e: &Expr,
-    level: u32,
+    on: E,
     run: &mut Run,
     world: &mut W,
 ) -> Result<Result<i64, Fault>, Halt>
-    requires { Owns (W.open_numbers world.old) run.old.streams }
+    requires can { E.can on }
+    requires owns { Owns (W.open_numbers world.old) run.old.streams }
     ensures { Tells W.follows W.has_stopped W.stops W.open_numbers cx.now (λ g. value (view (names_in g) e.now)) IsNumberOf
         (run.old.store, run.old.streams) world.old result (run.new.store, run.new.streams) world.new }
 {
     if let Some(known) = number_at_hand(&run.store, e, MOST_LEVELS) {
         return Ok(Ok(known));
     }
-    let found = value(cx, e, level, run, world)?;
+    let found = on.value(cx, e, run, world)?;
     Ok(number_of(&found))
 }
 
 /// Whether the value of an expression is true.
-#[cycle(run)]
-pub fn truth_of<W: World>(
+pub fn truth_of<W: World, E: Evaluates<W>>(
     cx: &Context<'_>,
     e: &Expr,
-    level: u32,
+    on: E,
     run: &mut Run,
     world: &mut W,
 ) -> Result<bool, Halt>
-    requires { Owns (W.open_numbers world.old) run.old.streams }
+    requires can { E.can on }
+    requires owns { Owns (W.open_numbers world.old) run.old.streams }
     ensures { Tells W.follows W.has_stopped W.stops W.open_numbers cx.now (λ g. value (view (names_in g) e.now)) IsTruthOf
         (run.old.store, run.old.streams) world.old result (run.new.store, run.new.streams) world.new }
 {
@@ -106,71 +73,69 @@ pub fn truth_of<W: World>(
     if let Some(known) = found {
         return Ok(known);
     }
-    general_truth(cx, e, level, run, world)
+    general_truth(cx, e, on, run, world)
 }
 
 /// The same, of what is not at hand.
-#[cycle(run)]
 #[inline(never)]
-fn general_truth<W: World>(
+fn general_truth<W: World, E: Evaluates<W>>(
     cx: &Context<'_>,
     e: &Expr,
-    level: u32,
+    on: E,
     run: &mut Run,
     world: &mut W,
 ) -> Result<bool, Halt>
-    requires { Owns (W.open_numbers world.old) run.old.streams }
+    requires can { E.can on }
+    requires owns { Owns (W.open_numbers world.old) run.old.streams }
     ensures { Tells W.follows W.has_stopped W.stops W.open_numbers cx.now (λ g. value (view (names_in g) e.now)) IsTruthOf
         (run.old.store, run.old.streams) world.old result (run.new.store, run.new.streams) world.new }
 {
-    if level == 0 {
+    let Some(below) = on.below() else {
         return Err(Halt::Memory);
-    }
+    };
     match e {
-        Expr::Compare(how, x, y) => compare(cx, *how, x.get(), y.get(), level - 1, run, world),
-        Expr::Match(place, x, pattern) => {
-            matches(cx, *place, x.get(), pattern, level - 1, run, world)
-        }
+        Expr::Compare(how, x, y) => compare(cx, *how, x.get(), y.get(), below, run, world),
+        Expr::Match(place, x, pattern) => { matches(cx, *place, x.get(), pattern, on, run, world) }
         _ => {
-            let found = value(cx, e, level, run, world)?;
+            let found = on.value(cx, e, run, world)?;
             Ok(truth(&found))
         }
     }
 }
 
 /// Whether a comparison holds.
-#[cycle(run)]
-fn compare<W: World>(
+fn compare<W: World, E: Evaluates<W>>(
     cx: &Context<'_>,
     how: Comparison,
     x: &Expr,
     y: &Expr,
-    level: u32,
+    on: E,
     run: &mut Run,
     world: &mut W,
 ) -> Result<bool, Halt>
-    requires { Owns (W.open_numbers world.old) run.old.streams }
+    requires can { E.can on }
+    requires owns { Owns (W.open_numbers world.old) run.old.streams }
     ensures { Does W.follows W.has_stopped W.stops W.open_numbers cx.now (λ g. value (p.compare how (view (names_in g) x.now) (view (names_in g) y.now))) (λ g b. give (of_truth b))
         (run.old.store, run.old.streams) world.old result (run.new.store, run.new.streams) world.new }
 {
-    let one = value(cx, x, level, run, world)?;
+    let one = on.value(cx, x, run, world)?;
     if let Some(other) = at_hand(&run.store, y, MOST_LEVELS) {
         return Ok(compared_lent(how, Lent::of(&one), other));
     }
-    let other = value(cx, y, level, run, world)?;
+    let other = on.value(cx, y, run, world)?;
     Ok(compared(how, &one, &other))
 }
 
 /// Does what an expression does, whose value nothing wants.
-#[cycle(run)]
-pub fn effect<W: World>(
+pub fn effect<W: World, E: Evaluates<W>>(
     cx: &Context<'_>,
     e: &Expr,
-    level: u32,
+    on: E,
     run: &mut Run,
     world: &mut W,
 ) -> Result<(), Halt>
-    requires { Owns (W.open_numbers world.old) run.old.streams }
+    requires can { E.can on }
+    requires owns { Owns (W.open_numbers world.old) run.old.streams }
     ensures { Tells W.follows W.has_stopped W.stops W.open_numbers cx.now (λ g. value (view (names_in g) e.now)) IsUnwanted
         (run.old.store, run.old.streams) world.old result (run.new.store, run.new.streams) world.new }
 {
@@ -182,124 +147,107 @@ pub fn effect<W: World>(
     if is_done {
         return Ok(());
     }
-    general_effect(cx, e, level, run, world)
+    general_effect(cx, e, on, run, world)
 }
 
 /// The same, of what is not done at once.
-#[cycle(run)]
 #[inline(never)]
-fn general_effect<W: World>(
+fn general_effect<W: World, E: Evaluates<W>>(
     cx: &Context<'_>,
     e: &Expr,
-    level: u32,
+    on: E,
     run: &mut Run,
     world: &mut W,
 ) -> Result<(), Halt>
-    requires { Owns (W.open_numbers world.old) run.old.streams }
+    requires can { E.can on }
+    requires owns { Owns (W.open_numbers world.old) run.old.streams }
     ensures { Tells W.follows W.has_stopped W.stops W.open_numbers cx.now (λ g. value (view (names_in g) e.now)) IsUnwanted
         (run.old.store, run.old.streams) world.old result (run.new.store, run.new.streams) world.new }
 {
-    if level == 0 {
+    let Some(below) = on.below() else {
         return Err(Halt::Memory);
-    }
-    let below = level - 1;
+    };
     match e {
         Expr::Assign(place, target, x) => put(cx, *place, target, x.get(), below, run, world),
         Expr::Change(place, how, target, x) => {
-            alter(cx, *place, *how, target, x.get(), below, run, world)
+            alter(cx, *place, *how, target, x.get(), on, run, world)
         }
         Expr::Step(place, how, _, target) => {
-            step_target(cx, *place, *how, target, below, run, world)?;
+            step_target(cx, *place, *how, target, on, run, world)?;
             Ok(())
         }
         _ => {
-            value(cx, e, level, run, world)?;
+            on.value(cx, e, run, world)?;
             Ok(())
         }
     }
 }
 
 /// The value of an expression, once a level was taken for its parts.
-#[cycle(run)]
 #[inline(never)]
-fn evaluate<W: World>(
+pub fn evaluate<W: World, E: Evaluates<W>>(
     cx: &Context<'_>,
     e: &Expr,
-    level: u32,
+    on: E,
     run: &mut Run,
     world: &mut W,
 ) -> Result<Value, Halt>
-    requires { Owns (W.open_numbers world.old) run.old.streams }
+    requires can { E.can on }
+    requires owns { Owns (W.open_numbers world.old) run.old.streams }
     ensures { Does W.follows W.has_stopped W.stops W.open_numbers cx.now (λ g. value (view (names_in g) e.now)) (λ g. give)
         (run.old.store, run.old.streams) world.old result (run.new.store, run.new.streams) world.new }
 {
     match e {
         Expr::Number(number) => Ok(Value::Num(*number)),
         Expr::Text(text) => owned(cx.alloc, text.bytes()),
-        Expr::Read(target) => read_target(cx, target, level, run, world),
-        Expr::Assign(place, target, x) => assign(cx, *place, target, x.get(), level, run, world),
+        Expr::Read(target) => read_target(cx, target, on, run, world),
+        Expr::Assign(place, target, x) => assign(cx, *place, target, x.get(), on, run, world),
         Expr::Change(place, how, target, x) => {
-            change(cx, *place, *how, target, x.get(), level, run, world)
+            change(cx, *place, *how, target, x.get(), on, run, world)
         }
         Expr::Step(place, how, taken, target) => {
-            increment(cx, *place, *how, *taken, target, level, run, world)
+            increment(cx, *place, *how, *taken, target, on, run, world)
         }
-        Expr::Not(x) => unary(cx, Unary::Not, x.get(), level, run, world),
+        Expr::Not(x) => unary(cx, Unary::Not, x.get(), on, run, world),
         Expr::Signed(place, how, x) => {
-            unary(cx, Unary::Signed(*place, *how), x.get(), level, run, world)
+            unary(cx, Unary::Signed(*place, *how), x.get(), on, run, world)
         }
-        Expr::Int(place, x) => unary(cx, Unary::Int(*place), x.get(), level, run, world),
-        Expr::Measure(how, x) => unary(cx, Unary::Measure(*how), x.get(), level, run, world),
+        Expr::Int(place, x) => unary(cx, Unary::Int(*place), x.get(), on, run, world),
+        Expr::Measure(how, x) => unary(cx, Unary::Measure(*how), x.get(), on, run, world),
         Expr::Compare(how, x, y) => {
-            binary(
-                cx,
-                Binary::Compare(*how),
-                x.get(),
-                y.get(),
-                level,
-                run,
-                world,
-            )
+            binary(cx, Binary::Compare(*how), x.get(), y.get(), on, run, world)
         }
-        Expr::Index(x, y) => binary(cx, Binary::Index, x.get(), y.get(), level, run, world),
+        Expr::Index(x, y) => binary(cx, Binary::Index, x.get(), y.get(), on, run, world),
         Expr::SubstrFrom(place, x, y) => {
             binary(
                 cx,
                 Binary::SubstrFrom(*place),
                 x.get(),
                 y.get(),
-                level,
+                on,
                 run,
                 world,
             )
         }
         Expr::Substr(place, x, y, z) => {
-            substr(cx, *place, x.get(), y.get(), z.get(), level, run, world)
+            substr(cx, *place, x.get(), y.get(), z.get(), on, run, world)
         }
         // `value` has the ways of these.
         Expr::Chain(_, _)
         | Expr::Choice(_, _, _)
         | Expr::Call(_, _, _)
         | Expr::GetlineFile(_, _, _)
-        | Expr::Pipe(_, _) => value(cx, e, level, run, world),
-        Expr::Concat(x, xs) => concat(cx, x.get(), xs.as_slice(), level, run, world),
-        Expr::In(x, arrays) => within(cx, x.get(), arrays.as_slice(), level, run, world),
+        | Expr::Pipe(_, _) => on.value(cx, e, run, world),
+        Expr::Concat(x, xs) => concat(cx, x.get(), xs.as_slice(), on, run, world),
+        Expr::In(x, arrays) => within(cx, x.get(), arrays.as_slice(), on, run, world),
         Expr::Group(place, xs, arrays) => {
-            element_group(
-                cx,
-                *place,
-                xs.as_slice(),
-                arrays.as_slice(),
-                level,
-                run,
-                world,
-            )
+            element_group(cx, *place, xs.as_slice(), arrays.as_slice(), on, run, world)
         }
-        Expr::And(x, xs) => all(cx, x.get(), xs.as_slice(), level, run, world),
-        Expr::Or(x, xs) => any(cx, x.get(), xs.as_slice(), level, run, world),
-        Expr::Getline(place, target) => getline(cx, *place, target, level, run, world),
-        Expr::Close(place, x) => close(cx, *place, x.get(), level, run, world),
-        Expr::System(place, x) => system(cx, *place, x.get(), level, run, world),
+        Expr::And(x, xs) => all(cx, x.get(), xs.as_slice(), on, run, world),
+        Expr::Or(x, xs) => any(cx, x.get(), xs.as_slice(), on, run, world),
+        Expr::Getline(place, target) => getline(cx, *place, target, on, run, world),
+        Expr::Close(place, x) => close(cx, *place, x.get(), on, run, world),
+        Expr::System(place, x) => system(cx, *place, x.get(), on, run, world),
         Expr::Pattern(place, text) => {
             matched_record(
                 cx.alloc,
@@ -310,14 +258,12 @@ fn evaluate<W: World>(
             )
         }
         Expr::Match(place, x, pattern) => {
-            let found = matches(cx, *place, x.get(), pattern, level, run, world)?;
+            let found = matches(cx, *place, x.get(), pattern, on, run, world)?;
             Ok(truth_value(found))
         }
-        Expr::Locate(place, x, pattern) => {
-            locate(cx, *place, x.get(), pattern, level, run, world)
-        }
+        Expr::Locate(place, x, pattern) => { locate(cx, *place, x.get(), pattern, on, run, world) }
         Expr::Split(place, x, at_name, array, by) => {
-            split(cx, *place, x.get(), *at_name, *array, by, level, run, world)
+            split(cx, *place, x.get(), *at_name, *array, by, on, run, world)
         }
         Expr::Substitute(place, extent, pattern, x, target) => {
             substitute(
@@ -327,207 +273,207 @@ fn evaluate<W: World>(
                 pattern,
                 x.get(),
                 target,
-                level,
+                on,
                 run,
                 world,
             )
         }
         Expr::Sprintf(place, x, xs) => {
-            formatted(cx, *place, x.get(), xs.as_slice(), level, run, world)
+            formatted(cx, *place, x.get(), xs.as_slice(), on, run, world)
         }
     }
 }
 
 /// A form of one operand.
-#[cycle(run)]
-fn unary<W: World>(
+fn unary<W: World, E: Evaluates<W>>(
     cx: &Context<'_>,
     form: Unary,
     x: &Expr,
-    level: u32,
+    on: E,
     run: &mut Run,
     world: &mut W,
 ) -> Result<Value, Halt>
-    requires { Owns (W.open_numbers world.old) run.old.streams }
+    requires can { E.can on }
+    requires owns { Owns (W.open_numbers world.old) run.old.streams }
     ensures { Does W.follows W.has_stopped W.stops W.open_numbers cx.now (λ g. value (unary_of form (view (names_in g) x.now))) (λ g. give)
         (run.old.store, run.old.streams) world.old result (run.new.store, run.new.streams) world.new }
 {
-    let operand = value(cx, x, level, run, world)?;
+    let operand = on.value(cx, x, run, world)?;
     form.give(cx.alloc, &operand)
 }
 
 /// A form of two operands.
-#[cycle(run)]
-fn binary<W: World>(
+fn binary<W: World, E: Evaluates<W>>(
     cx: &Context<'_>,
     form: Binary,
     x: &Expr,
     y: &Expr,
-    level: u32,
+    on: E,
     run: &mut Run,
     world: &mut W,
 ) -> Result<Value, Halt>
-    requires { Owns (W.open_numbers world.old) run.old.streams }
+    requires can { E.can on }
+    requires owns { Owns (W.open_numbers world.old) run.old.streams }
     ensures { Does W.follows W.has_stopped W.stops W.open_numbers cx.now (λ g. value (binary_of form (view (names_in g) x.now) (view (names_in g) y.now))) (λ g. give)
         (run.old.store, run.old.streams) world.old result (run.new.store, run.new.streams) world.new }
 {
-    let left = value(cx, x, level, run, world)?;
-    let right = value(cx, y, level, run, world)?;
+    let left = on.value(cx, x, run, world)?;
+    let right = on.value(cx, y, run, world)?;
     form.give(cx.alloc, &left, &right)
 }
 
 /// `substr ( text , place , length )`
-#[cycle(run)]
-fn substr<W: World>(
+fn substr<W: World, E: Evaluates<W>>(
     cx: &Context<'_>,
     place: Place,
     x: &Expr,
     y: &Expr,
     z: &Expr,
-    level: u32,
+    on: E,
     run: &mut Run,
     world: &mut W,
 ) -> Result<Value, Halt>
-    requires { Owns (W.open_numbers world.old) run.old.streams }
+    requires can { E.can on }
+    requires owns { Owns (W.open_numbers world.old) run.old.streams }
     ensures { Does W.follows W.has_stopped W.stops W.open_numbers cx.now (λ g. value (p.substr place (view (names_in g) x.now) (view (names_in g) y.now) (view (names_in g) z.now))) (λ g. give)
         (run.old.store, run.old.streams) world.old result (run.new.store, run.new.streams) world.new }
 {
-    let text = value(cx, x, level, run, world)?;
-    let from = value(cx, y, level, run, world)?;
-    let count = value(cx, z, level, run, world)?;
+    let text = on.value(cx, x, run, world)?;
+    let from = on.value(cx, y, run, world)?;
+    let count = on.value(cx, z, run, world)?;
     part_of(cx.alloc, place, &text, &from, &count)
 }
 
 /// A chain of `+` and `-`, or of `*`, `/` and `%`; or one `^`.
-#[cycle(run)]
-fn chain<W: World>(
+pub fn chain<W: World, E: Evaluates<W>>(
     cx: &Context<'_>,
     x: &Expr,
     xs: &[Term<Expr>],
-    level: u32,
+    on: E,
     run: &mut Run,
     world: &mut W,
 ) -> Result<Value, Halt>
-    requires { Owns (W.open_numbers world.old) run.old.streams }
+    requires can { E.can on }
+    requires owns { Owns (W.open_numbers world.old) run.old.streams }
     ensures { Does W.follows W.has_stopped W.stops W.open_numbers cx.now (λ g. value (p.chain (view (names_in g) x.now) (terms_of (map (view_term (names_in g)) xs.now)))) (λ g. give)
         (run.old.store, run.old.streams) world.old result (run.new.store, run.new.streams) world.new }
 {
-    let mut so_far = value(cx, x, level, run, world)?;
+    let mut so_far = on.value(cx, x, run, world)?;
     for next in xs {
-        let operand = number(cx, &next.operand, level, run, world)?;
+        let operand = number(cx, &next.operand, on, run, world)?;
         so_far = operated(next.place, next.operator, &so_far, operand)?;
     }
     Ok(so_far)
 }
 
 /// Operands one directly after the other.
-#[cycle(run)]
-fn concat<W: World>(
+fn concat<W: World, E: Evaluates<W>>(
     cx: &Context<'_>,
     x: &Expr,
     xs: &[Joined<Expr>],
-    level: u32,
+    on: E,
     run: &mut Run,
     world: &mut W,
 ) -> Result<Value, Halt>
-    requires { Owns (W.open_numbers world.old) run.old.streams }
+    requires can { E.can on }
+    requires owns { Owns (W.open_numbers world.old) run.old.streams }
     ensures { Does W.follows W.has_stopped W.stops W.open_numbers cx.now (λ g. value (p.concat (view (names_in g) x.now) (joins_of (map (view_joined (names_in g)) xs.now)))) (λ g. give)
         (run.old.store, run.old.streams) world.old result (run.new.store, run.new.streams) world.new }
 {
-    let mut so_far = value(cx, x, level, run, world)?;
+    let mut so_far = on.value(cx, x, run, world)?;
     for next in xs {
-        let operand = value(cx, &next.operand, level, run, world)?;
+        let operand = on.value(cx, &next.operand, run, world)?;
         so_far = join(cx.alloc, next.place, so_far, &operand)?;
     }
     Ok(so_far)
 }
 
 /// `key in array in array ..`
-#[cycle(run)]
-fn within<W: World>(
+fn within<W: World, E: Evaluates<W>>(
     cx: &Context<'_>,
     x: &Expr,
     arrays: &[Variable],
-    level: u32,
+    on: E,
     run: &mut Run,
     world: &mut W,
 ) -> Result<Value, Halt>
-    requires { Owns (W.open_numbers world.old) run.old.streams }
+    requires can { E.can on }
+    requires owns { Owns (W.open_numbers world.old) run.old.streams }
     ensures { Does W.follows W.has_stopped W.stops W.open_numbers cx.now (λ g. value (p.member (view (names_in g) x.now) (map (variable_of (names_in g)) arrays.now))) (λ g. give)
         (run.old.store, run.old.streams) world.old result (run.new.store, run.new.streams) world.new }
 {
-    let key = value(cx, x, level, run, world)?;
+    let key = on.value(cx, x, run, world)?;
     Ok(members(&run.store, arrays, key))
 }
 
 /// A chain of `&&`.
-#[cycle(run)]
-fn all<W: World>(
+fn all<W: World, E: Evaluates<W>>(
     cx: &Context<'_>,
     x: &Expr,
     xs: &[Expr],
-    level: u32,
+    on: E,
     run: &mut Run,
     world: &mut W,
 ) -> Result<Value, Halt>
-    requires { Owns (W.open_numbers world.old) run.old.streams }
+    requires can { E.can on }
+    requires owns { Owns (W.open_numbers world.old) run.old.streams }
     ensures { Does W.follows W.has_stopped W.stops W.open_numbers cx.now (λ g. value (p.and (view (names_in g) x.now) (expressions_of (map (view (names_in g)) xs.now)))) (λ g. give)
         (run.old.store, run.old.streams) world.old result (run.new.store, run.new.streams) world.new }
 {
-    let mut last = value(cx, x, level, run, world)?;
+    let mut last = on.value(cx, x, run, world)?;
     for y in xs {
         if !truth(&last) {
             return Ok(truth_value(false));
         }
-        last = value(cx, y, level, run, world)?;
+        last = on.value(cx, y, run, world)?;
     }
     Ok(truth_value(truth(&last)))
 }
 
 /// A chain of `||`.
-#[cycle(run)]
-fn any<W: World>(
+fn any<W: World, E: Evaluates<W>>(
     cx: &Context<'_>,
     x: &Expr,
     xs: &[Expr],
-    level: u32,
+    on: E,
     run: &mut Run,
     world: &mut W,
 ) -> Result<Value, Halt>
-    requires { Owns (W.open_numbers world.old) run.old.streams }
+    requires can { E.can on }
+    requires owns { Owns (W.open_numbers world.old) run.old.streams }
     ensures { Does W.follows W.has_stopped W.stops W.open_numbers cx.now (λ g. value (p.or (view (names_in g) x.now) (expressions_of (map (view (names_in g)) xs.now)))) (λ g. give)
         (run.old.store, run.old.streams) world.old result (run.new.store, run.new.streams) world.new }
 {
-    let mut last = value(cx, x, level, run, world)?;
+    let mut last = on.value(cx, x, run, world)?;
     for y in xs {
         if truth(&last) {
             return Ok(truth_value(true));
         }
-        last = value(cx, y, level, run, world)?;
+        last = on.value(cx, y, run, world)?;
     }
     Ok(truth_value(truth(&last)))
 }
 
 /// `test ? then : else`
-#[cycle(run)]
 #[inline(always)]
-fn choose<W: World>(
+pub fn choose<W: World, E: Evaluates<W>>(
     cx: &Context<'_>,
     x: &Expr,
     y: &Expr,
     z: &Expr,
-    level: u32,
+    on: E,
     run: &mut Run,
     world: &mut W,
 ) -> Result<Value, Halt>
-    requires { Owns (W.open_numbers world.old) run.old.streams }
+    requires can { E.can on }
+    requires owns { Owns (W.open_numbers world.old) run.old.streams }
     ensures { Does W.follows W.has_stopped W.stops W.open_numbers cx.now (λ g. value (p.choose (view (names_in g) x.now) (view (names_in g) y.now) (view (names_in g) z.now))) (λ g. give)
         (run.old.store, run.old.streams) world.old result (run.new.store, run.new.streams) world.new }
 {
-    let holds = truth_of(cx, x, level, run, world)?;
+    let holds = truth_of(cx, x, on, run, world)?;
     if holds {
-        value(cx, y, level, run, world)
+        on.value(cx, y, run, world)
     } else {
-        value(cx, z, level, run, world)
+        on.value(cx, z, run, world)
     }
 }
