@@ -27,7 +27,7 @@ fn action<W: World>(
     world: &mut W,
 ) -> Result<Flow, Halt>
     requires { Owns (W.open_numbers world.old) run.old.streams }
-    ensures { (rest : Given → List p.Statement) → Does W.World cx.now
+    ensures { (rest : Given → List p.Statement) → Does W.follows W.has_stopped W.stops W.open_numbers cx.now
         (λ g. Do (Each (map (view_statement (names_in g)) xs.now ++ rest g))) (λ g f k. flows f (Do (Each (rest g)) ∷ k))
         (run.old.store, run.old.streams) world.old result (run.new.store, run.new.streams) world.new }
 {
@@ -48,7 +48,7 @@ pub fn actions<W: World>(
     world: &mut W,
 ) -> Result<Flow, Halt>
     requires { Owns (W.open_numbers world.old) run.old.streams }
-    ensures { Does W.World cx.now
+    ensures { Does W.follows W.has_stopped W.stops W.open_numbers cx.now
         (λ g. Do (Each (concatenated (map (map (view_statement (names_in g))) xs.now)))) (λ g. flows)
         (run.old.store, run.old.streams) world.old result (run.new.store, run.new.streams) world.new }
 {

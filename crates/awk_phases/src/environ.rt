@@ -33,7 +33,7 @@ fn set_environ(store: &mut Store, name: &[u8], text: Octets) -> Result<(), Halt>
 /// Looks a name of the environment up, and sets its element of ENVIRON where it has a value.
 fn look<W: World>(cx: &Context<'_>, name: &Octets, run: &mut Run, world: &mut W) -> Result<(), Halt>
     requires { Owns (W.open_numbers world.old) run.old.streams }
-    ensures { (names : List Text) → Does W.World cx.now (λ g. Do (machine.Environ (name.now ∷ names))) (λ g u k. Do (machine.Environ names) ∷ k)
+    ensures { (names : List Text) → Does W.follows W.has_stopped W.stops W.open_numbers cx.now (λ g. Do (machine.Environ (name.now ∷ names))) (λ g u k. Do (machine.Environ names) ∷ k)
         (run.old.store, run.old.streams) world.old result (run.new.store, run.new.streams) world.new }
 {
     let Ok(sent) = name.copy(cx.alloc) else {
@@ -54,7 +54,7 @@ pub fn environ<W: World>(
     world: &mut W,
 ) -> Result<(), Halt>
     requires { Owns (W.open_numbers world.old) run.old.streams }
-    ensures { Does W.World cx.now (λ g. Do (machine.Environ names.now)) (λ g. goes_on)
+    ensures { Does W.follows W.has_stopped W.stops W.open_numbers cx.now (λ g. Do (machine.Environ names.now)) (λ g. goes_on)
         (run.old.store, run.old.streams) world.old result (run.new.store, run.new.streams) world.new }
 {
     for name in names {

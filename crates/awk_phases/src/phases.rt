@@ -20,7 +20,7 @@ use box_world::world::World;
 /// The actions of BEGIN.
 fn begin<W: World>(cx: &Context<'_>, run: &mut Run, world: &mut W) -> Result<Flow, Halt>
     requires { Owns (W.open_numbers world.old) run.old.streams }
-    ensures { Does W.World cx.now (λ g. Do (Enter Beginning)) (λ g. flows)
+    ensures { Does W.follows W.has_stopped W.stops W.open_numbers cx.now (λ g. Do (Enter Beginning)) (λ g. flows)
         (run.old.store, run.old.streams) world.old result (run.new.store, run.new.streams) world.new }
 {
     run.store.set_phase(Phase::Beginning);
@@ -30,7 +30,7 @@ fn begin<W: World>(cx: &Context<'_>, run: &mut Run, world: &mut W) -> Result<Flo
 /// The rules for records.
 fn read<W: World>(cx: &Context<'_>, run: &mut Run, world: &mut W) -> Result<(), Halt>
     requires { Owns (W.open_numbers world.old) run.old.streams }
-    ensures { Does W.World cx.now (λ g. Do (Enter Ruling)) (λ g. goes_on)
+    ensures { Does W.follows W.has_stopped W.stops W.open_numbers cx.now (λ g. Do (Enter Ruling)) (λ g. goes_on)
         (run.old.store, run.old.streams) world.old result (run.new.store, run.new.streams) world.new }
 {
     run.store.set_phase(Phase::Ruling);
@@ -44,8 +44,8 @@ fn read<W: World>(cx: &Context<'_>, run: &mut Run, world: &mut W) -> Result<(), 
 fn before_end<W: World>(cx: &Context<'_>, run: &mut Run, world: &mut W) -> Result<(), Halt>
     requires { Owns (W.open_numbers world.old) run.old.streams }
     ensures plays { (g : Given) → IsGiven cx.now g → (first : W)
-        → Reached W.World g first (Do (Enter Beginning) ∷ Do (Enter Ruling) ∷ Do (Enter Ending) ∷ []) (run.old.store, run.old.streams) world.old
-        → Goes_on W.World g first (λ u. Do (Enter Ending) ∷ []) result (run.new.store, run.new.streams) world.new }
+        → Reached W.follows W.has_stopped W.stops g first (Do (Enter Beginning) ∷ Do (Enter Ruling) ∷ Do (Enter Ending) ∷ []) (run.old.store, run.old.streams) world.old
+        → Goes_on W.follows W.has_stopped W.stops g first (λ u. Do (Enter Ending) ∷ []) result (run.new.store, run.new.streams) world.new }
     ensures owns { Owns (W.open_numbers world.new) run.new.streams }
 {
     begin(cx, run, world)?;
@@ -55,8 +55,8 @@ fn before_end<W: World>(cx: &Context<'_>, run: &mut Run, world: &mut W) -> Resul
 /// The actions of END.
 fn end_actions<W: World>(cx: &Context<'_>, run: &mut Run, world: &mut W) -> Result<(), Halt>
     requires { Owns (W.open_numbers world.old) run.old.streams }
-    ensures plays { (g : Given) → IsGiven cx.now g → (first : W) → Reached W.World g first (Do (Enter Ending) ∷ []) (run.old.store, run.old.streams) world.old
-        → Goes_on W.World g first (λ u. Do Finish ∷ []) result (run.new.store, run.new.streams) world.new }
+    ensures plays { (g : Given) → IsGiven cx.now g → (first : W) → Reached W.follows W.has_stopped W.stops g first (Do (Enter Ending) ∷ []) (run.old.store, run.old.streams) world.old
+        → Goes_on W.follows W.has_stopped W.stops g first (λ u. Do Finish ∷ []) result (run.new.store, run.new.streams) world.new }
     ensures owns { Owns (W.open_numbers world.new) run.new.streams }
 {
     run.store.set_phase(Phase::Ending);
@@ -67,8 +67,8 @@ fn end_actions<W: World>(cx: &Context<'_>, run: &mut Run, world: &mut W) -> Resu
 /// END.
 fn end<W: World>(cx: &Context<'_>, run: &mut Run, world: &mut W) -> End
     requires { Owns (W.open_numbers world.old) run.old.streams }
-    ensures plays { (g : Given) → IsGiven cx.now g → (first : W) → Reached W.World g first (Do (Enter Ending) ∷ []) (run.old.store, run.old.streams) world.old
-        → Finished W.World g first result (run.new.store, run.new.streams) world.new }
+    ensures plays { (g : Given) → IsGiven cx.now g → (first : W) → Reached W.follows W.has_stopped W.stops g first (Do (Enter Ending) ∷ []) (run.old.store, run.old.streams) world.old
+        → Finished W.follows W.has_stopped W.stops g first result (run.new.store, run.new.streams) world.new }
     ensures owns { Owns (W.open_numbers world.new) run.new.streams }
 {
     match end_actions(cx, run, world) {
@@ -80,8 +80,8 @@ fn end<W: World>(cx: &Context<'_>, run: &mut Run, world: &mut W) -> End
 /// What is left to be done after a halt: END, or nothing.
 fn after<W: World>(cx: &Context<'_>, halt: Halt, run: &mut Run, world: &mut W) -> End
     requires { Owns (W.open_numbers world.old) run.old.streams }
-    ensures plays { (g : Given) → IsGiven cx.now g → (first : W) → Stopped W.World g first halt (run.old.store, run.old.streams) world.old
-        → Finished W.World g first result (run.new.store, run.new.streams) world.new }
+    ensures plays { (g : Given) → IsGiven cx.now g → (first : W) → Stopped W.follows W.has_stopped W.stops g first halt (run.old.store, run.old.streams) world.old
+        → Finished W.follows W.has_stopped W.stops g first result (run.new.store, run.new.streams) world.new }
     ensures owns { Owns (W.open_numbers world.new) run.new.streams }
 {
     if goes_to_end(halt, run.store.phase()) {
@@ -94,8 +94,8 @@ fn after<W: World>(cx: &Context<'_>, halt: Halt, run: &mut Run, world: &mut W) -
 pub fn play<W: World>(cx: &Context<'_>, run: &mut Run, world: &mut W) -> End
     requires { Owns (W.open_numbers world.old) run.old.streams }
     ensures plays { (g : Given) → IsGiven cx.now g → (first : W)
-        → Reached W.World g first (Do (Enter Beginning) ∷ Do (Enter Ruling) ∷ Do (Enter Ending) ∷ []) (run.old.store, run.old.streams) world.old
-        → Finished W.World g first result (run.new.store, run.new.streams) world.new }
+        → Reached W.follows W.has_stopped W.stops g first (Do (Enter Beginning) ∷ Do (Enter Ruling) ∷ Do (Enter Ending) ∷ []) (run.old.store, run.old.streams) world.old
+        → Finished W.follows W.has_stopped W.stops g first result (run.new.store, run.new.streams) world.new }
     ensures owns { Owns (W.open_numbers world.new) run.new.streams }
 {
     match before_end(cx, run, world) {

@@ -17,7 +17,7 @@ use box_world::world::World;
 /// Reads the next record, and does the rules for it; answers whether there was one.
 fn meet<W: World>(cx: &Context<'_>, run: &mut Run, world: &mut W) -> Result<bool, Halt>
     requires { Owns (W.open_numbers world.old) run.old.streams }
-    ensures { DoesIn W.World cx.now (λ g. At Records []) (λ g. more) at_records
+    ensures { DoesIn W.follows W.has_stopped W.stops W.open_numbers cx.now (λ g. At Records []) (λ g. more) at_records
         (run.old.store, run.old.streams) world.old result (run.new.store, run.new.streams) world.new }
 {
     let is_there = next_record(cx.alloc, cx.host, &mut run.store, &mut run.streams, world)?;
@@ -52,7 +52,7 @@ fn come_back(met: Result<bool, Halt>) -> Result<bool, Halt>
 /// Reads the next record, and does the rules for it, to their end or to a `next`; answers whether more may follow.
 fn turn<W: World>(cx: &Context<'_>, run: &mut Run, world: &mut W) -> Result<bool, Halt>
     requires { Owns (W.open_numbers world.old) run.old.streams }
-    ensures { Does W.World cx.now (λ g. At Records []) (λ g. more)
+    ensures { Does W.follows W.has_stopped W.stops W.open_numbers cx.now (λ g. At Records []) (λ g. more)
         (run.old.store, run.old.streams) world.old result (run.new.store, run.new.streams) world.new }
 {
     come_back(meet(cx, run, world))
@@ -61,7 +61,7 @@ fn turn<W: World>(cx: &Context<'_>, run: &mut Run, world: &mut W) -> Result<bool
 /// Reads the records of the main input, while there are any, and does the rules for each.
 pub fn records<W: World>(cx: &Context<'_>, run: &mut Run, world: &mut W) -> Result<(), Halt>
     requires { Owns (W.open_numbers world.old) run.old.streams }
-    ensures { Does W.World cx.now (λ g. At Records []) (λ g. goes_on)
+    ensures { Does W.follows W.has_stopped W.stops W.open_numbers cx.now (λ g. At Records []) (λ g. goes_on)
         (run.old.store, run.old.streams) world.old result (run.new.store, run.new.streams) world.new }
 {
     for _record in 0..u64::MAX {

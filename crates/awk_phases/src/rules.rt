@@ -30,7 +30,7 @@ fn where_holds<W: World>(
     world: &mut W,
 ) -> Result<Flow, Halt>
     requires { Owns (W.open_numbers world.old) run.old.streams }
-    ensures { Does W.World cx.now
+    ensures { Does W.follows W.has_stopped W.stops W.open_numbers cx.now
         (λ g. At (Choosing n (rule_of (p.holds (view (names_in g) pattern.now)) (map (view_statement (names_in g)) action.now))) []) (λ g. flows)
         (run.old.store, run.old.streams) world.old result (run.new.store, run.new.streams) world.new }
 {
@@ -60,7 +60,7 @@ fn meet<W: World>(
     world: &mut W,
 ) -> Result<Option<bool>, Halt>
     requires { Owns (W.open_numbers world.old) run.old.streams }
-    ensures { Does W.World cx.now
+    ensures { Does W.follows W.has_stopped W.stops W.open_numbers cx.now
         (λ g. At (Choosing n (rule_of (p.range (view (names_in g) first.now) (view (names_in g) last.now)) (map (view_statement (names_in g)) action.now))) [])
         (λ g. met n (rule_of (p.range (view (names_in g) first.now) (view (names_in g) last.now)) (map (view_statement (names_in g)) action.now)))
         (run.old.store, run.old.streams) world.old result (run.new.store, run.new.streams) world.new }
@@ -89,7 +89,7 @@ fn within<W: World>(
     world: &mut W,
 ) -> Result<Flow, Halt>
     requires { Owns (W.open_numbers world.old) run.old.streams }
-    ensures { Does W.World cx.now
+    ensures { Does W.follows W.has_stopped W.stops W.open_numbers cx.now
         (λ g. At (Choosing n (rule_of (p.range (view (names_in g) first.now) (view (names_in g) last.now)) (map (view_statement (names_in g)) action.now))) []) (λ g. flows)
         (run.old.store, run.old.streams) world.old result (run.new.store, run.new.streams) world.new }
 {
@@ -114,7 +114,7 @@ fn rule<W: World>(
     world: &mut W,
 ) -> Result<Flow, Halt>
     requires { Owns (W.open_numbers world.old) run.old.streams }
-    ensures { Does W.World cx.now (λ g. At (Choosing n (view_rule (names_in g) x.now)) []) (λ g. flows)
+    ensures { Does W.follows W.has_stopped W.stops W.open_numbers cx.now (λ g. At (Choosing n (view_rule (names_in g) x.now)) []) (λ g. flows)
         (run.old.store, run.old.streams) world.old result (run.new.store, run.new.streams) world.new }
 {
     let action = x.action.as_slice();
@@ -128,7 +128,7 @@ fn rule<W: World>(
 /// The rules for a record, one after the other.
 pub fn rules<W: World>(cx: &Context<'_>, run: &mut Run, world: &mut W) -> Result<(), Halt>
     requires { Owns (W.open_numbers world.old) run.old.streams }
-    ensures { Does W.World cx.now (λ g. Do (machine.Rules 0 g.program.rules)) (λ g. goes_on)
+    ensures { Does W.follows W.has_stopped W.stops W.open_numbers cx.now (λ g. Do (machine.Rules 0 g.program.rules)) (λ g. goes_on)
         (run.old.store, run.old.streams) world.old result (run.new.store, run.new.streams) world.new }
 {
     let rules = cx.program.rules.as_slice();

@@ -36,8 +36,8 @@ fn begin<W: World>(
 ) -> Result<(), Halt>
     requires { Owns (W.open_numbers world.old) run.old.streams }
     ensures plays { (g : Given) → IsGiven cx.now g → IsStart start.now g → (first : W)
-        → Reached W.World g first (first_pieces g) (run.old.store, run.old.streams) world.old
-        → Goes_on W.World g first (λ u. Do (Enter Beginning) ∷ Do (Enter Ruling) ∷ Do (Enter Ending) ∷ []) result (run.new.store, run.new.streams) world.new }
+        → Reached W.follows W.has_stopped W.stops g first (first_pieces g) (run.old.store, run.old.streams) world.old
+        → Goes_on W.follows W.has_stopped W.stops g first (λ u. Do (Enter Beginning) ∷ Do (Enter Ruling) ∷ Do (Enter Ending) ∷ []) result (run.new.store, run.new.streams) world.new }
     ensures owns { Owns (W.open_numbers world.new) run.new.streams }
 {
     prepare(cx, start, &mut run.store)?;
@@ -48,8 +48,8 @@ fn begin<W: World>(
 fn work<W: World>(cx: &Context<'_>, start: &Start<'_>, run: &mut Run, world: &mut W) -> End
     requires { Owns (W.open_numbers world.old) run.old.streams }
     ensures plays { (g : Given) → IsGiven cx.now g → IsStart start.now g → (first : W)
-        → Reached W.World g first (first_pieces g) (run.old.store, run.old.streams) world.old
-        → Finished W.World g first result (run.new.store, run.new.streams) world.new }
+        → Reached W.follows W.has_stopped W.stops g first (first_pieces g) (run.old.store, run.old.streams) world.old
+        → Finished W.follows W.has_stopped W.stops g first result (run.new.store, run.new.streams) world.new }
     ensures owns { Owns (W.open_numbers world.new) run.new.streams }
 {
     match begin(cx, start, run, world) {
