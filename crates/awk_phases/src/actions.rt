@@ -8,13 +8,13 @@ ghost use Rattle.awk_machine.specs.State.{Given};
 ghost use Rattle.awk_program.specs.Program as p;
 ghost use Rattle.awk_program.specs.View.{view_statement};
 ghost use Rattle.awk_tasks.specs.Wholes.{names_in};
-ghost use Rattle.awk_actions.specs.Runs.{Does};
+ghost use Rattle.awk_eval_parts.specs.Runs.{Does};
 
 use crate::rules::MOST_LEVELS;
-use awk_actions::{Context, Run, statement};
 use awk_asks::halt::Halt;
 use awk_calls::Flow;
 use awk_calls::ends::is_on;
+use awk_eval::{Context, Run, statement};
 use awk_program::Statement;
 use box_world::world::World;
 use sqlite_items::Items;

@@ -8,11 +8,11 @@ ghost use Rattle.awk_machine.specs.State.{Given};
 ghost use Rattle.awk_program.specs.Program.{global};
 ghost use Rattle.awk_program.specs.Slots.{Text};
 ghost use Rattle.awk_tasks.specs.Acts.{Acts};
-ghost use Rattle.awk_actions.specs.Runs.{Does};
+ghost use Rattle.awk_eval_parts.specs.Runs.{Does};
 
-use awk_actions::{Context, Run};
 use awk_asks::halt::Halt;
 use awk_asks::requests::environment;
+use awk_eval::{Context, Run};
 use awk_program::{Own, Variable};
 use awk_store::Store;
 use awk_tasks::elements::set_element;

@@ -2,15 +2,15 @@
 ghost use Rattle.std.specs.Prelude.{◌≡◌, [], Err};
 ghost use Rattle.awk_asks.specs.Tasks.{Owns, goes_on};
 ghost use Rattle.awk_machine.specs.Pieces.{At, Records};
-ghost use Rattle.awk_actions.specs.Runs.{Does};
+ghost use Rattle.awk_eval_parts.specs.Runs.{Does};
 ghost use Rattle.awk_records.specs.Inputs.{at_records, more};
 ghost use Rattle.awk_phases.specs.Rules as spec;
 ghost use Rattle.awk_phases.specs.Runs.{DoesIn};
 
 use crate::rules::rules;
-use awk_actions::{Context, Run};
 use awk_asks::halt::Halt;
 use awk_calls::steps::step;
+use awk_eval::{Context, Run};
 use awk_records::main_input::next_record;
 use box_world::world::World;
 

@@ -7,12 +7,12 @@ ghost use Rattle.awk_machine.specs.Pieces as machine;
 ghost use Rattle.awk_program.specs.Program as p;
 ghost use Rattle.awk_program.specs.View.{view, view_rule, view_statement};
 ghost use Rattle.awk_tasks.specs.Wholes.{names_in};
-ghost use Rattle.awk_actions.specs.Runs.{Does};
+ghost use Rattle.awk_eval_parts.specs.Runs.{Does};
 ghost use Rattle.awk_phases.specs.Rules.{met, rule_of};
 
-use awk_actions::{Context, Run, body, truth_of, value};
 use awk_asks::halt::Halt;
 use awk_calls::Flow;
+use awk_eval::{Context, Run, body, truth_of, value};
 use awk_program::{Expr, Rule, Statement, When};
 use awk_records::ranges::{begin_range, end_range};
 use box_world::world::World;

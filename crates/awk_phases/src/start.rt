@@ -16,8 +16,8 @@ ghost use Rattle.awk_text.specs.Escapes.{unescaped};
 ghost use Rattle.awk_records.specs.Hosts.{IsHost, can_set};
 ghost use Rattle.awk_phases.specs.Starts.{IsStart, Prepares, assigning};
 
-use awk_actions::Context;
 use awk_asks::halt::Halt;
+use awk_eval::Context;
 use awk_program::{Own, Variable};
 use awk_records::Host;
 use awk_store::Store;

@@ -7,7 +7,7 @@ ghost use Rattle.awk_phases.specs.Starts.{IsStart};
 ghost use Rattle.awk_run.specs.Givens.{given_of};
 
 use crate::hosting::host;
-use awk_actions::Context;
+use awk_eval::Context;
 use awk_parse::Script;
 use awk_phases::{Outcome, Report, Start, run_program};
 use awk_setup::Setup;

@@ -1,0 +1,7 @@
+use Rattle.awk_eval.proofs.walk.+walk.Given as goal
+
+abbrev pub decreases-value : goal.decreases-value
+decreases-value g l = l.level
+
+abbrev pub decreases-statement : goal.decreases-statement
+decreases-statement g l = l.level

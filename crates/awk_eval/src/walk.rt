@@ -1,0 +1,181 @@
+// Expressions and statements, no deeper than a number of levels.
+ghost use Rattle.std.specs.Prelude.{map};
+ghost use Rattle.awk_asks.specs.Tasks.{Owns};
+ghost use Rattle.awk_calls.specs.Flows.{flows};
+ghost use Rattle.awk_eval.specs.Nests.{Nests};
+ghost use Rattle.awk_machine.specs.Forms.{value};
+ghost use Rattle.awk_machine.specs.Pieces.{Do, Each, Start, give};
+ghost use Rattle.awk_eval_parts.specs.Runs.{Does, IsTruthOf, Tells};
+ghost use Rattle.awk_program.specs.View.{view, view_statement};
+ghost use Rattle.awk_tasks.specs.Wholes.{names_in};
+
+use awk_asks::halt::Halt;
+use awk_calls::Flow;
+use awk_calls::steps::{is_one, step};
+use awk_eval_expressions::expressions::{chain, choose, evaluate};
+use awk_eval_expressions::inputs::{from_commands, from_file};
+use awk_eval_parts::{Context, Evaluates, Run, tests};
+use awk_eval_statements::calls::call;
+use awk_eval_statements::statements;
+use awk_eval_statements::statements::{perform, plain};
+use awk_forms::at_hand::value_at_hand;
+use awk_program::{Expr, Statement};
+use awk_text::value::Value;
+use box_world::world::World;
+
+/// What evaluates, so many levels deep.
+#[derive(Clone, Copy)]
+struct Walk<V, S> {
+    level: u32,
+    value: V,
+    statement: S,
+}
+
+impl<
+    W: World,
+    V: Copy + Fn(&Context<'_>, &Expr, u32, &mut Run, &mut W) -> Result<Value, Halt>,
+    S: Copy + Fn(&Context<'_>, &Statement, u32, &mut Run, &mut W) -> Result<Flow, Halt>,
+> Evaluates<W> for Walk<V, S> {
+    ghost can = { λ on. Nests W.follows W.has_stopped W.stops W.open_numbers on.level (V.pre on.value) (V.post on.value) (S.pre on.statement) (S.post on.statement) };
+
+    #[inline(always)]
+    fn value(
+        self,
+        cx: &Context<'_>,
+        e: &Expr,
+        run: &mut Run,
+        world: &mut W,
+    ) -> Result<Value, Halt> {
+        (self.value)(cx, e, self.level, run, world)
+    }
+
+    #[inline(always)]
+    fn statement(
+        self,
+        cx: &Context<'_>,
+        x: &Statement,
+        run: &mut Run,
+        world: &mut W,
+    ) -> Result<Flow, Halt> {
+        (self.statement)(cx, x, self.level, run, world)
+    }
+
+    #[inline(always)]
+    fn below(self) -> Option<Self> {
+        if self.level == 0 {
+            return None;
+        }
+        Some(Walk {
+            level: self.level - 1,
+            value: self.value,
+            statement: self.statement,
+        })
+    }
+}
+
+/// The value of an expression. Each part is evaluated one level lower; where there is none left, memory for the parts is refused.
+#[cycle(walk)]
+pub fn value<W: World>(
+    cx: &Context<'_>,
+    e: &Expr,
+    level: u32,
+    run: &mut Run,
+    world: &mut W,
+) -> Result<Value, Halt>
+    requires { Owns (W.open_numbers world.old) run.old.streams }
+    ensures { Does W.follows W.has_stopped W.stops W.open_numbers cx.now (λ g. value (view (names_in g) e.now)) (λ g. give)
+        (run.old.store, run.old.streams) world.old result (run.new.store, run.new.streams) world.new }
+{
+    if let Some(there) = value_at_hand(cx.alloc, &run.store, e) {
+        return Ok(there);
+    }
+    if level == 0 {
+        return Err(Halt::Memory);
+    }
+    let below = Walk {
+        level: level - 1,
+        value: value::<W>,
+        statement: statement::<W>,
+    };
+    match e {
+        Expr::Chain(x, xs) => chain(cx, x.get(), xs.as_slice(), below, run, world),
+        Expr::Choice(x, y, z) => choose(cx, x.get(), y.get(), z.get(), below, run, world),
+        Expr::Call(place, f, xs) => call(cx, *place, *f, xs.as_slice(), below, run, world),
+        Expr::GetlineFile(place, target, x) => {
+            from_file(cx, *place, target, x.get(), below, run, world)
+        }
+        Expr::Pipe(x, xs) => from_commands(cx, x.get(), xs.as_slice(), below, run, world),
+        _ => evaluate(cx, e, below, run, world),
+    }
+}
+
+/// A statement. A step is taken before each that is no block, and before an empty block.
+#[cycle(walk)]
+pub fn statement<W: World>(
+    cx: &Context<'_>,
+    x: &Statement,
+    level: u32,
+    run: &mut Run,
+    world: &mut W,
+) -> Result<Flow, Halt>
+    requires { Owns (W.open_numbers world.old) run.old.streams }
+    ensures { Does W.follows W.has_stopped W.stops W.open_numbers cx.now (λ g. Do (Start (view_statement (names_in g) x.now))) (λ g. flows)
+        (run.old.store, run.old.streams) world.old result (run.new.store, run.new.streams) world.new }
+{
+    if level == 0 {
+        return Err(Halt::Memory);
+    }
+    let below = Walk {
+        level: level - 1,
+        value: value::<W>,
+        statement: statement::<W>,
+    };
+    if !is_one(x) {
+        return perform(cx, x, below, run, world);
+    }
+    step(cx.host.bound(), &mut run.store)?;
+    if let Statement::Expr(e) = x {
+        return plain(cx, e, below, run, world);
+    }
+    perform(cx, x, below, run, world)
+}
+
+/// Whether the value of an expression is true.
+pub fn truth_of<W: World>(
+    cx: &Context<'_>,
+    e: &Expr,
+    level: u32,
+    run: &mut Run,
+    world: &mut W,
+) -> Result<bool, Halt>
+    requires { Owns (W.open_numbers world.old) run.old.streams }
+    ensures { Tells W.follows W.has_stopped W.stops W.open_numbers cx.now (λ g. value (view (names_in g) e.now)) IsTruthOf
+        (run.old.store, run.old.streams) world.old result (run.new.store, run.new.streams) world.new }
+{
+    let here = Walk {
+        level,
+        value: value::<W>,
+        statement: statement::<W>,
+    };
+    tests::truth_of(cx, e, here, run, world)
+}
+
+/// Statements, one after the other.
+pub fn body<W: World>(
+    cx: &Context<'_>,
+    xs: &[Statement],
+    level: u32,
+    run: &mut Run,
+    world: &mut W,
+) -> Result<Flow, Halt>
+    requires { Owns (W.open_numbers world.old) run.old.streams }
+    ensures { Does W.follows W.has_stopped W.stops W.open_numbers cx.now (λ g. Do (Each (map (view_statement (names_in g)) xs.now))) (λ g. flows)
+        (run.old.store, run.old.streams) world.old result (run.new.store, run.new.streams) world.new }
+{
+    let here = Walk {
+        level,
+        value: value::<W>,
+        statement: statement::<W>,
+    };
+    statements::body(cx, xs, here, run, world)
+}
