@@ -291,7 +291,7 @@ pub none_at : {A : Type 0} (o : Option A) → is_some o ≡ false → o ≡ None
 none_at None e = refl
 none_at (Some x) e = absurd (true≢false e)
 
-pub ok_any : {A Ended ghosts P : Type 0} (r : Result A E) → P → OnOk r P
+pub ok_any : {A E P : Type 0} (r : Result A E) → P → OnOk r P
 ok_any (Ok x) p = p
 ok_any (Err e) p = tt
 
