@@ -5,7 +5,6 @@ use Rattle.std.proofs.lemmas.List.{reverse-reverse, length-reverse, length-map}
 use Rattle.awk_text.specs.declared.place.Place.{Place}
 use Rattle.awk_text.specs.declared.value.Value.{Value}
 use Rattle.awk_text.specs.declared.value.Value.TheVariants as v
-use Rattle.box_world.specs.Calls as world
 use Rattle.box_world.specs.declared.world.World.{Ghosts}
 use Rattle.awk_program.specs.Program as p
 use Rattle.awk_program.specs.Program.{Expression, Arguments}

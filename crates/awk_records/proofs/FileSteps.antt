@@ -28,7 +28,7 @@ use Rattle.awk_store.proofs.Cells.{change_count}
 use Rattle.awk_store.proofs.Setting as set
 use Rattle.awk_asks.specs.declared.getline.Found.{Found}
 use Rattle.awk_asks.specs.declared.halt.Halt.{Halt}
-use Rattle.awk_asks.specs.Chains.{Ended, Leads, Meets}
+use Rattle.awk_asks.specs.Chains.{Leads, Meets}
 use Rattle.awk_asks.specs.Tables.{Table, Entry, entries_without, find_input, open_of, with_input}
 use Rattle.awk_asks.specs.Tasks.{Answered, Refused, Opening, IsRead, IsSame, Owns, Tells, beside, goes_on, input_at, number_opened}
 use Rattle.awk_asks.proofs.Asking.{fits_here, number_at}
