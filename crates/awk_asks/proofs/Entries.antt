@@ -17,7 +17,7 @@ use Rattle.awk_asks.specs.contracts.streams.NameEquivalentKeptName.TheImpl.{equi
 use Rattle.awk_asks.specs.declared.streams.Name.{Name}
 use Rattle.awk_asks.specs.declared.streams.KeptName.{KeptName}
 use Rattle.awk_asks.specs.declared.streams.Open.{Open}
-use Rattle.awk_fields.specs.Takes.{Input}
+use Rattle.awk_fields.specs.Takes.{Input, Window}
 use Rattle.awk_asks.specs.Tables.{kind, has_name, entry_of, entries_without, find_input, with_input}
 
 -- a test of names by class and text
@@ -37,12 +37,12 @@ module _ (test : KeptName → Bool) (c : Class) (text : List ℕ) (is : IsTest t
       by true rest = refl
       by false rest = rest
 
-  pub input-entries : (es : List (KeptName × Open)) → find_input c text (map entry_of es) ≡ option_map (λ o. o.reader) (lookup test es)
+  pub input-entries : (es : List (KeptName × Open)) → find_input c text (map entry_of es) ≡ option_map (λ o. o.reader.input) (lookup test es)
   input-entries [] = refl
   input-entries (e ∷ es) = rw (sym (is e)) (by (test e.0) (input-entries es))
     where
-      by : (b : Bool) → find_input c text (map entry_of es) ≡ option_map (λ o. o.reader) (lookup test es) →
-          (if b then Some e.1.reader else find_input c text (map entry_of es)) ≡ option_map (λ o. o.reader) (cond b (Some e.1) (lookup test es))
+      by : (b : Bool) → find_input c text (map entry_of es) ≡ option_map (λ o. o.reader.input) (lookup test es) →
+          (if b then Some e.1.reader.input else find_input c text (map entry_of es)) ≡ option_map (λ o. o.reader.input) (cond b (Some e.1) (lookup test es))
       by true rest = refl
       by false rest = rest
 
@@ -57,14 +57,14 @@ module _ (test : KeptName → Bool) (c : Class) (text : List ℕ) (is : IsTest t
 
 -- an entry whose reader is changed
 module _ (test : KeptName → Bool) (c : Class) (text : List ℕ) (is : IsTest test c text) (change : Input → Input) where
-  pub with_input-entries : (es : List (KeptName × Open)) (o : Open) → lookup test es ≡ Some o → with_input c text change (map entry_of es) ≡ map entry_of (set_value test es (record o { reader = change o.reader }))
-  with_input-entries [] o h = refl
-  with_input-entries (e ∷ es) o h = rw (sym (is e)) (by (test e.0) h (with_input-entries es o))
+  pub with_input-entries : (es : List (KeptName × Open)) (o : Open) (new : Window) → lookup test es ≡ Some o → new.input ≡ change o.reader.input → with_input c text change (map entry_of es) ≡ map entry_of (set_value test es (record o { reader = new }))
+  with_input-entries [] o new h changed = refl
+  with_input-entries (e ∷ es) o new h changed = rw (sym (is e)) (by (test e.0) h (λ p. with_input-entries es o new p changed))
     where
-      by : (b : Bool) → cond b (Some e.1) (lookup test es) ≡ Some o → (lookup test es ≡ Some o → with_input c text change (map entry_of es) ≡ map entry_of (set_value test es (record o { reader = change o.reader }))) →
+      by : (b : Bool) → cond b (Some e.1) (lookup test es) ≡ Some o → (lookup test es ≡ Some o → with_input c text change (map entry_of es) ≡ map entry_of (set_value test es (record o { reader = new }))) →
           (if b then record (entry_of e) { input = change (entry_of e).input } ∷ map entry_of es else entry_of e ∷ with_input c text change (map entry_of es))
-          ≡ map entry_of (cond b ((e.0, record o { reader = change o.reader }) ∷ es) (e ∷ set_value test es (record o { reader = change o.reader })))
-      by true p rest = let q : o ≡ e.1 = cc in rw q refl
+          ≡ map entry_of (cond b ((e.0, record o { reader = new }) ∷ es) (e ∷ set_value test es (record o { reader = new })))
+      by true p rest = let q : o ≡ e.1 = cc in rw (changed, q) refl
       by false p rest = ap (λ l. entry_of e ∷ l) (rest p)
 
   pub with_input-absent : (es : List (KeptName × Open)) → lookup test es ≡ None → with_input c text change (map entry_of es) ≡ map entry_of es
@@ -75,6 +75,16 @@ module _ (test : KeptName → Bool) (c : Class) (text : List ℕ) (is : IsTest t
           (if b then record (entry_of e) { input = change (entry_of e).input } ∷ map entry_of es else entry_of e ∷ with_input c text change (map entry_of es)) ≡ entry_of e ∷ map entry_of es
       by true p rest = absurd (cc)
       by false p rest = ap (λ l. entry_of e ∷ l) (rest p)
+
+-- an entry whose reader has the same input
+pub same-entries : (test : KeptName → Bool) (es : List (KeptName × Open)) (o : Open) (new : Window) → lookup test es ≡ Some o → new.input ≡ o.reader.input → map entry_of (set_value test es (record o { reader = new })) ≡ map entry_of es
+same-entries test [] o new h same = refl
+same-entries test (e ∷ es) o new h same = by (test e.0) h (λ p. same-entries test es o new p same)
+  where
+    by : (b : Bool) → cond b (Some e.1) (lookup test es) ≡ Some o → (lookup test es ≡ Some o → map entry_of (set_value test es (record o { reader = new })) ≡ map entry_of es) →
+        map entry_of (cond b ((e.0, record o { reader = new }) ∷ es) (e ∷ set_value test es (record o { reader = new }))) ≡ entry_of e ∷ map entry_of es
+    by true p rest = let q : o ≡ e.1 = cc in rw (same, q) refl
+    by false p rest = ap (λ l. entry_of e ∷ l) (rest p)
 
 -- an entry that is put where it is stays
 pub set_same : (test : KeptName → Bool) (es : List (KeptName × Open)) (o : Open) → lookup test es ≡ Some o → set_value test es o ≡ es

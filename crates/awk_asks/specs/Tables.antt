@@ -31,7 +31,7 @@ pub record Table : Type 0 where
   pub room : ℕ
 
 abbrev pub entry_of : KeptName × Open → Entry
-entry_of e = record { stream = record { class = kind e.0.class; text = e.0.text.items; number = e.1.number }; input = e.1.reader }
+entry_of e = record { stream = record { class = kind e.0.class; text = e.0.text.items; number = e.1.number }; input = e.1.reader.input }
 
 abbrev pub open_of : Table → List Stream
 open_of table = map (λ e. e.stream) table.entries

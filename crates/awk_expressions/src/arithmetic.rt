@@ -6,10 +6,12 @@ ghost use Rattle.awk_tree.specs.Expressions as spec;
 ghost use Rattle.awk_tree.specs.Input.{Reads};
 ghost use Rattle.awk_tree.specs.View.{view, view_term};
 
+use crate::expression_signs::{arithmetic_of, begins_part, is_factor_sign, is_term_sign};
 use crate::grammar::Grammar;
-use awk_cursor::expression_signs::{arithmetic_of, begins_part, is_factor_sign, is_term_sign};
-use awk_cursor::nodes::{concat_of, product_of, sum_of};
-use awk_cursor::{Tokens, pair, terminal};
+use crate::nodes::{concat_of, product_of, sum_of};
+use crate::pairs::pair;
+use crate::terminals::terminal;
+use crate::tokens::Tokens;
 use awk_tree::{Expr, Fault, Goal, Term};
 use sqlite_items::{Boxed, Items};
 use std::alloc::Global;

@@ -7,8 +7,10 @@ ghost use Rattle.awk_tree.specs.Input.{Reads};
 ghost use Rattle.awk_tree.specs.View.{view};
 
 use crate::grammar::Grammar;
-use awk_cursor::nodes::{only, split, substitute, up_to_three};
-use awk_cursor::{Tokens, is, name_of, pair};
+use crate::nodes::{name_of, only, split, substitute, up_to_three};
+use crate::pairs::pair;
+use crate::terminals::is;
+use crate::tokens::Tokens;
 use awk_text::place::Place;
 use awk_tree::{Builtin, Expr, Fault, Goal, Terminal};
 use sqlite_items::{Boxed, Items};

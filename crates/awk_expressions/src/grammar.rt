@@ -5,7 +5,7 @@ ghost use Rattle.awk_tree.specs.Expressions as spec;
 ghost use Rattle.awk_tree.specs.Input.{Reads};
 ghost use Rattle.awk_tree.specs.View.{view};
 
-use awk_cursor::Tokens;
+use crate::tokens::Tokens;
 use awk_tree::{Expr, Fault, Goal};
 use sqlite_items::Boxed;
 use std::alloc::Global;

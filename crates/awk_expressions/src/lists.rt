@@ -7,7 +7,9 @@ ghost use Rattle.awk_tree.specs.Input.{Reads};
 ghost use Rattle.awk_tree.specs.View.{view};
 
 use crate::grammar::Grammar;
-use awk_cursor::{Tokens, is, joined};
+use crate::nodes::joined;
+use crate::terminals::is;
+use crate::tokens::Tokens;
 use awk_tree::{Expr, Fault, Goal, Terminal};
 use sqlite_items::{Boxed, Items};
 use std::alloc::Global;

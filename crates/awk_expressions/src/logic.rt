@@ -6,10 +6,12 @@ ghost use Rattle.awk_tree.specs.Expressions as spec;
 ghost use Rattle.awk_tree.specs.Input.{Reads};
 ghost use Rattle.awk_tree.specs.View.{view};
 
+use crate::expression_signs::assignment;
 use crate::grammar::Grammar;
-use awk_cursor::expression_signs::assignment;
-use awk_cursor::nodes::{and_of, assign, choose, is_lvalue, or_of};
-use awk_cursor::{Tokens, is, pair};
+use crate::nodes::{and_of, assign, choose, is_lvalue, or_of};
+use crate::pairs::pair;
+use crate::terminals::is;
+use crate::tokens::Tokens;
 use awk_tree::{Expr, Fault, Goal, Terminal};
 use sqlite_items::{Boxed, Items};
 use std::alloc::Global;

@@ -7,8 +7,10 @@ ghost use Rattle.awk_tree.specs.Input.{Reads};
 ghost use Rattle.awk_tree.specs.View.{view};
 
 use crate::grammar::Grammar;
-use awk_cursor::nodes::{field, getline};
-use awk_cursor::{Tokens, is, name_of, pair};
+use crate::nodes::{field, getline, name_of};
+use crate::pairs::pair;
+use crate::terminals::is;
+use crate::tokens::Tokens;
 use awk_tree::{Expr, Fault, Goal, Terminal};
 use sqlite_items::Boxed;
 use std::alloc::Global;

@@ -5,8 +5,9 @@ ghost use Rattle.awk_tree.specs.Expressions as spec;
 ghost use Rattle.awk_tree.specs.Input.{Reads};
 ghost use Rattle.awk_tree.specs.View.{view};
 
-use awk_cursor::nodes::member_of;
-use awk_cursor::{Tokens, is, name_of};
+use crate::nodes::{member_of, name_of};
+use crate::terminals::is;
+use crate::tokens::Tokens;
 use awk_tree::{Expr, Fault, Member, Terminal};
 use sqlite_items::{Boxed, Items};
 use std::alloc::Global;

@@ -6,7 +6,7 @@ ghost use Rattle.awk_tree.specs.Input.{Reads};
 ghost use Rattle.awk_tree.specs.View.{view};
 
 use crate::grammar::Grammar;
-use awk_cursor::Tokens;
+use crate::tokens::Tokens;
 use awk_text::place::Place;
 use awk_tree::{Expr, Fault, Goal};
 use sqlite_items::{Boxed, Items};

@@ -5,10 +5,11 @@ ghost use Rattle.awk_tree.specs.Expressions as spec;
 ghost use Rattle.awk_tree.specs.Input.{Reads};
 ghost use Rattle.awk_tree.specs.View.{view};
 
+use crate::expression_signs::{sign, step};
 use crate::grammar::Grammar;
-use awk_cursor::expression_signs::{sign, step};
-use awk_cursor::nodes::{after, before, is_lvalue, paren, power, signed, text_of};
-use awk_cursor::{Tokens, is, name_of};
+use crate::nodes::{after, before, is_lvalue, name_of, paren, power, signed, text_of};
+use crate::terminals::is;
+use crate::tokens::Tokens;
 use awk_tree::{Expr, Fault, Goal, Sign, Step, Terminal};
 use sqlite_items::Boxed;
 use std::alloc::Global;

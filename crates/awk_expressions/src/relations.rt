@@ -8,11 +8,13 @@ ghost use Rattle.awk_tree.specs.Tree as tree;
 ghost use Rattle.awk_tree.specs.Tree.{trees_of};
 ghost use Rattle.awk_tree.specs.View.{view, view_piped};
 
+use crate::expression_signs::{comparison, matching};
 use crate::grammar::Grammar;
 use crate::members::{in_name, in_names, in_rest};
-use awk_cursor::expression_signs::{comparison, matching};
-use awk_cursor::nodes::{compare, joined, matched, paren, pipe_of, unboxed};
-use awk_cursor::{Tokens, is, pair};
+use crate::nodes::{compare, joined, matched, paren, pipe_of, unboxed};
+use crate::pairs::pair;
+use crate::terminals::is;
+use crate::tokens::Tokens;
 use awk_text::place::Place;
 use awk_tree::{Expr, Fault, Goal, Member, Piped, Terminal};
 use sqlite_items::{Boxed, Items};

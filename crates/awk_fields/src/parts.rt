@@ -1,5 +1,5 @@
 // The fields of a record, which are split when they are first asked for.
-ghost use Rattle.std.specs.Prelude.{◌≡◌, List, ℕ, length, IfOk, OnOk, IfErr, IfSome};
+ghost use Rattle.std.specs.Prelude.{◌≡◌, List, ℕ, length, IfOk, OnOk, OnErr, IfErr, IfSome};
 ghost use Rattle.std.specs.List.{slice_index_or};
 ghost use Rattle.awk_fields.specs.Parts.{ArePartsKept, IsSound, IsSplitBy, row_of, values_of, whole_of};
 ghost use Rattle.awk_lent.specs.Lents.{lent_value};
@@ -31,10 +31,11 @@ pub struct Parts {
     pub edited: Edited,
 }
 
-/// Splits the text, unless that is done.
+/// Splits the text, unless that is done. Where memory is refused it stays unsplit.
 pub fn split_parts(parts: &mut Parts, text: &[u8]) -> Result<(), Memory>
     requires { IsSound text.now parts.old }
     ensures kept { ArePartsKept text.now parts.old parts.new }
+    ensures err { OnErr result (row_of text.now parts.new ≡ row_of text.now parts.old) }
     ensures sound { IsSound text.now parts.new }
     ensures split { OnOk result (IsSplitBy parts.new.state) }
 {
@@ -53,6 +54,7 @@ pub fn split_parts(parts: &mut Parts, text: &[u8]) -> Result<(), Memory>
 fn split_unsplit(parts: &mut Parts, text: &[u8]) -> Result<(), Memory>
     requires { IsSound text.now parts.old }
     ensures kept { ArePartsKept text.now parts.old parts.new }
+    ensures err { OnErr result (row_of text.now parts.new ≡ row_of text.now parts.old) }
     ensures sound { IsSound text.now parts.new }
     ensures split { OnOk result (IsSplitBy parts.new.state) }
 {

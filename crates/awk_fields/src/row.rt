@@ -200,10 +200,11 @@ impl Record {
 
     /// NF, the number of fields. The record stays the same.
     ///
-    /// Fails with `Fault::Memory` alone, where memory is refused.
+    /// Fails with `Fault::Memory` alone, where memory for the split is refused; then the record stays unsplit.
     pub fn count(&mut self) -> Result<i64, Fault>
         ensures ok { IfOk result (λ n. (values : List Value) × HasFields self.new values × (n ≡ pos (length values))) }
         ensures kept { IsKept self.old self.new }
+        ensures err { OnErr result (self.new ≡ self.old) }
         ensures fault { IfErr result (λ e. e ≡ Fault.Memory) }
     {
         split_parts(&mut self.parts, self.text.bytes())?;

@@ -10,11 +10,11 @@ use std::alloc::Global;
 
 /// Takes what records there are.
 fn take_all(reader: &mut Reader, rs: &[u8], found: &mut Vec<Octets>) -> Result<(), Fault>
-    ensures taken { OnOk result ((texts : List (List ℕ)) × (found.new.items ≡ found.old.items ++ texts) × FirstRecords rs.now reader.old.ended reader.old.unread texts reader.new.unread) }
-    ensures stopped { OnOk result (IsStopped (head rs.now reader.new.unread reader.new.ended)) }
-    ensures ended { OnOk result (reader.new.ended ≡ reader.old.ended) }
+    ensures taken { OnOk result ((texts : List (List ℕ)) × (found.new.items ≡ found.old.items ++ texts) × FirstRecords rs.now reader.old.input.ended reader.old.input.unread texts reader.new.input.unread) }
+    ensures stopped { OnOk result (IsStopped (head rs.now reader.new.input.unread reader.new.input.ended)) }
+    ensures ended { OnOk result (reader.new.input.ended ≡ reader.old.input.ended) }
     ensures fault { IfErr result (λ e. (e ≡ Fault.Memory)
-        ⊎ ((e ≡ Fault.TextTooLong) × IsTooLong rs.now reader.old.ended reader.old.unread)) }
+        ⊎ ((e ≡ Fault.TextTooLong) × IsTooLong rs.now reader.old.input.ended reader.old.input.unread)) }
 {
     let mut room = Vec::new(*found.allocator());
     while let Taken::Record(text) = reader.take(rs, &mut room)? {

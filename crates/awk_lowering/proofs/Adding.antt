@@ -6,7 +6,8 @@ use Rattle.awk_program.specs.declared.program.Program as code
 use Rattle.awk_program.specs.Program.{Statement, Rule, Function, Program}
 use Rattle.awk_program.specs.View.{Names, view_by, view_program}
 use Rattle.awk_lowering.specs.Scopes.{Scope}
-use Rattle.awk_lowering.specs.Programs.{Tables, functions_of, begins_of, ends_of, rules_of, each, names, program, with_entry, with_entries}
+use Rattle.awk_lowering.specs.Programs.{functions_of, begins_of, ends_of, rules_of, each, names, program, with_entry, with_entries}
+use Rattle.awk_resolve.specs.Tables.{Tables}
 
 -- what is said of equal names and scopes
 pub in_scope : (F : Names → Scope → Type 0) (t u : Names) (s r : Scope) → t ≡ u → s ≡ r → F t s → F u r

@@ -1,5 +1,5 @@
 pub mod Adding
 pub mod Carried
 pub mod Lists
-pub mod Rolls
+pub mod Sounding
 pub mod Rows

@@ -6,7 +6,7 @@ use Rattle.awk_tree.specs.View as tree
 use Rattle.awk_tree.specs.declared.expressions.Expr as tree_expr
 use Rattle.awk_tree.specs.declared.expressions.Piped as tree_piped
 use Rattle.awk_tree.specs.declared.expressions.Term as tree_term
-use Rattle.awk_names.specs.Mentions.{bare}
+use Rattle.awk_resolve.specs.Mentions.{bare}
 use Rattle.awk_program.specs.declared.expressions.Expr.{Expr}
 use Rattle.awk_program.specs.declared.expressions.Piped.{Piped}
 use Rattle.awk_program.specs.declared.expressions.Argument.{Argument}

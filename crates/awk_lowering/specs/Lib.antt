@@ -1,4 +1,3 @@
-pub mod Rolls
 pub mod Scopes
 pub mod Starts
 pub mod Forms

@@ -9,7 +9,7 @@ use Rattle.awk_tree.specs.declared.names.Name.{Name}
 use Rattle.awk_tree.specs.declared.names.Member.{Member}
 use Rattle.awk_tree.specs.declared.operators.Builtin.{Builtin}
 use Rattle.awk_tree.specs.declared.operators.Builtin.TheVariants as b
-use Rattle.awk_names.specs.Mentions.{bare}
+use Rattle.awk_resolve.specs.Mentions.{bare}
 use Rattle.awk_program.specs.declared.operators.Measure.TheVariants as m
 use Rattle.awk_program.specs.declared.operators.Operator.TheVariants as o
 use Rattle.awk_program.specs.declared.operators.Taken.TheVariants as taken

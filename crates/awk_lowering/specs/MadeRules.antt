@@ -5,16 +5,6 @@ use Rattle.awk_program.specs.declared.program.Rule as code_rule
 use Rattle.awk_program.specs.declared.program.Function as code_function
 use Rattle.awk_program.specs.Program.{When, Rule, Function}
 use Rattle.awk_program.specs.View.{Names, view_when, view_rule, view_function}
-use Rattle.awk_lowering.specs.Programs as programs
-use Rattle.awk_lowering.specs.declared.tables.Tables.{Tables}
-
-abbrev pub tables_in : Tables → programs.Tables
-tables_in n = record {
-  variables = n.variables;
-  script_arrays = n.script_arrays;
-  functions = n.functions;
-  arrays = n.arrays;
-}
 
 abbrev pub IsWhen : {E : Type 0} → Names → Result code_when.When E → When → Type 0
 IsWhen t made x = IfOk made (λ w. view_when t w ≡ x)

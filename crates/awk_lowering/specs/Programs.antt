@@ -4,22 +4,14 @@ use Rattle.std.specs.Str.{bytes_eq}
 use Rattle.awk_tree.specs.Tree as t
 use Rattle.awk_tree.specs.Tree.{Text, Entry, Condition}
 use Rattle.awk_tree.specs.Terminals.{nowhere}
-use Rattle.awk_names.specs.Kinds.{texts}
+use Rattle.awk_resolve.specs.Kinds.{texts}
+use Rattle.awk_resolve.specs.Tables.{Tables}
 use Rattle.awk_program.specs.declared.program.Name.{Name}
 use Rattle.awk_program.specs.Program as p
 use Rattle.awk_program.specs.Program.{Statement, When, Rule, Function, Program}
 use Rattle.awk_lowering.specs.Lowered.{lowered}
 use Rattle.awk_lowering.specs.LoweredStatements.{statement}
 use Rattle.awk_lowering.specs.Scopes.{Scope, arrays_by}
-
--- what the names of a whole script are
-pub record Tables : Type 0 where
-  -- its variables, awk's own first, and of each whether it is an array
-  pub variables : List Text
-  pub script_arrays : List Bool
-  -- its functions, in order, and of each parameter of each whether it is an array
-  pub functions : List Text
-  pub arrays : List (List Bool)
 
 -- an item that is no function has no parameters
 abbrev pub scope_with : Tables → List Text → List Bool → Scope

@@ -2,9 +2,10 @@
 
 ghost use Rattle.std.specs.Prelude.{◌≡◌, [], map, IfOk, OnOk};
 ghost use Rattle.awk_lowering.specs.Made.{AreStatements, names_in, scope_in};
-ghost use Rattle.awk_lowering.specs.MadeRules.{IsWhen, IsRule, IsFunction, tables_in};
+ghost use Rattle.awk_lowering.specs.MadeRules.{IsWhen, IsRule, IsFunction};
+ghost use Rattle.awk_resolve.specs.TablesIn.{tables_in};
 ghost use Rattle.awk_lowering.specs.Programs as spec;
-ghost use Rattle.awk_names.specs.Kinds.{texts};
+ghost use Rattle.awk_resolve.specs.Kinds.{texts};
 ghost use Rattle.awk_program.specs.Program as p;
 ghost use Rattle.awk_program.specs.View as code;
 ghost use Rattle.awk_tree.specs.View.{view_item, view_pattern, view_statement};
@@ -13,11 +14,10 @@ use crate::blocks::print_of;
 use crate::expressions::part;
 use crate::kept::{finished, only, push};
 use crate::names::Context;
-use crate::roll::Roll;
 use crate::rules::{function_of, holds, range, rule_of};
 use crate::statements::statements;
-use crate::tables::Tables;
 use awk_program::{Function, Name, Program, Rule, Statement, When};
+use awk_resolve::{Roll, Tables};
 use awk_text::Memory;
 use awk_text::octets::Octets;
 use awk_text::place::Place;

@@ -13,14 +13,12 @@ pub mod names;
 pub mod nodes;
 pub mod operators;
 pub mod parts;
-mod roll;
 pub mod rules;
+mod scripts;
 pub mod shapes;
 pub mod statements;
-mod tables;
 pub mod targets;
 
 pub use items::program;
 pub use names::Context;
-pub use roll::Roll;
-pub use tables::Tables;
+pub use scripts::lower;

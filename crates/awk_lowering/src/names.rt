@@ -9,8 +9,8 @@ ghost use Rattle.awk_program.specs.Program as p;
 ghost use Rattle.awk_program.specs.View.{variable_of};
 
 use crate::kept::push;
-use crate::roll::Roll;
 use awk_program::Variable;
+use awk_resolve::Roll;
 use awk_text::Memory;
 use awk_tree::Member;
 use sqlite_items::Items;

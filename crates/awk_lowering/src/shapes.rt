@@ -3,7 +3,7 @@
 ghost use Rattle.std.specs.Prelude.{◌≡◌, IfOk, option_copied, option_map};
 ghost use Rattle.awk_lowering.specs.Lowered as low;
 ghost use Rattle.awk_lowering.specs.Starts as starts;
-ghost use Rattle.awk_names.specs.Mentions as said;
+ghost use Rattle.awk_resolve.specs.Mentions as said;
 ghost use Rattle.awk_tree.specs.View.{view};
 
 use awk_text::Memory;

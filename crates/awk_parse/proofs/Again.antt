@@ -9,9 +9,9 @@ use Rattle.awk_tree.specs.Canon.{canon_script, bare_entry}
 use Rattle.awk_grammar_laws.proofs.Law.{done_is}
 use Rattle.awk_grammar_laws.proofs.Laws.{scripts_are_read_again}
 use Rattle.awk_statements.specs.Places as places
-use Rattle.awk_names.specs.Mentions.{part}
-use Rattle.awk_names.specs.Faultless.{Faultless}
-use Rattle.awk_names.proofs.Displacing.{faultless_places_aside}
+use Rattle.awk_resolve.specs.Mentions.{part}
+use Rattle.awk_resolve.specs.Faultless.{Faultless}
+use Rattle.awk_resolve.proofs.Displacing.{faultless_places_aside}
 use Rattle.awk_parse.specs.declared.flaw.Flaw.{Flaw}
 use Rattle.awk_parse.specs.declared.script.Script.{Script}
 use Rattle.awk_parse.specs.Flaws as flaws

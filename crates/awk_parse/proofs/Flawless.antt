@@ -6,9 +6,9 @@ use Rattle.awk_tree.specs.declared.fault.Fault.{Fault}
 use Rattle.awk_tree.specs.declared.fault.Fault.TheVariants as fault
 use Rattle.awk_tree.specs.Statements as grammar
 use Rattle.awk_statements.specs.Places as places
-use Rattle.awk_names.specs.declared.mention.Part.{Part}
-use Rattle.awk_names.specs.Faultless.{Faultless, GivesArrays}
-use Rattle.awk_names.specs.Kinds.{Agrees, Clashes, two_kinds, no_array}
+use Rattle.awk_resolve.specs.declared.mention.Part.{Part}
+use Rattle.awk_resolve.specs.Faultless.{Faultless, GivesArrays}
+use Rattle.awk_resolve.specs.Kinds.{Agrees, Clashes, two_kinds, no_array}
 use Rattle.awk_parse.specs.declared.flaw.Flaw.{Flaw}
 use Rattle.awk_parse.specs.declared.flaw.Flaw.TheVariants as flaw
 use Rattle.awk_parse.specs.Flaws.{Flawed, memory, word, function, kind}

@@ -2,15 +2,15 @@
 use Rattle.std.proofs.Common.{◌≡◌, ap, List, map}
 use Rattle.awk_tree.specs.View.{view_item}
 use Rattle.awk_tree.specs.declared.items.Item.{Item}
-use Rattle.awk_names.specs.Mentions.{part}
-use Rattle.awk_names.specs.Faults as names
-use Rattle.awk_names.specs.Faultless.{Faultless}
-use Rattle.awk_names.specs.declared.mention.Part.{Part}
-use Rattle.awk_kinds.specs.Marks.{AreKinds}
+use Rattle.awk_resolve.specs.Mentions.{part}
+use Rattle.awk_resolve.specs.Faults as names
+use Rattle.awk_resolve.specs.Faultless.{Faultless}
+use Rattle.awk_resolve.specs.declared.mention.Part.{Part}
+use Rattle.awk_resolve.specs.Marks.{AreKinds}
 use Rattle.awk_program.specs.View.{view_program, names_of}
 use Rattle.awk_lowering.specs.Programs.{program}
-use Rattle.awk_tables.specs.Tables.{tables}
-use Rattle.awk_tables.specs.Sound.{Sound}
+use Rattle.awk_resolve.specs.Tables.{tables}
+use Rattle.awk_resolve.specs.Sound.{Sound}
 use Rattle.awk_parse.specs.declared.script.Script.{Script}
 use Rattle.awk_parse.specs.Scripts.{IsScriptOf}
 

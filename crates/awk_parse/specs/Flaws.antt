@@ -2,9 +2,9 @@
 use Rattle.std.specs.Prelude.{List}
 use Rattle.awk_text.specs.declared.place.Place.{Place}
 use Rattle.awk_tokens.specs.declared.syntax_error.SyntaxError.{SyntaxError}
-use Rattle.awk_names.specs.declared.mention.Part.{Part}
-use Rattle.awk_names.specs.Faults.{Misplaced, Misdefined}
-use Rattle.awk_names.specs.Kinds.{Clashes, NotAfter}
+use Rattle.awk_resolve.specs.declared.mention.Part.{Part}
+use Rattle.awk_resolve.specs.Faults.{Misplaced, Misdefined}
+use Rattle.awk_resolve.specs.Kinds.{Clashes, NotAfter}
 use Rattle.awk_parse.specs.declared.flaw.Flaw.{Flaw}
 use Rattle.awk_parse.specs.declared.flaw.Flaw.TheVariants as flaw
 

@@ -9,14 +9,14 @@ use Rattle.awk_tree.specs.Statements as grammar
 use Rattle.awk_tree.specs.Canon.{bare_entry}
 use Rattle.awk_grammar_laws.specs.SpellsScripts.{SpellsScript}
 use Rattle.awk_statements.specs.Places as places
-use Rattle.awk_names.specs.Mentions.{part}
-use Rattle.awk_names.specs.Faults as names
-use Rattle.awk_names.specs.Faultless.{Faultless}
-use Rattle.awk_kinds.specs.Marks.{AreKinds}
+use Rattle.awk_resolve.specs.Mentions.{part}
+use Rattle.awk_resolve.specs.Faults as names
+use Rattle.awk_resolve.specs.Faultless.{Faultless}
+use Rattle.awk_resolve.specs.Marks.{AreKinds}
 use Rattle.awk_program.specs.View.{view_program, names_of}
 use Rattle.awk_lowering.specs.Programs.{program}
-use Rattle.awk_tables.specs.Tables.{tables}
-use Rattle.awk_tables.specs.Sound.{Sound}
+use Rattle.awk_resolve.specs.Tables.{tables}
+use Rattle.awk_resolve.specs.Sound.{Sound}
 use Rattle.awk_parse.specs.Flaws as flaws
 use Rattle.awk_parse.specs.Flaws.{Flawed}
 use Rattle.awk_parse.specs.declared.flaw.Flaw.{Flaw}

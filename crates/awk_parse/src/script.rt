@@ -1,11 +1,11 @@
 // Scripts that are accepted.
 
 ghost use Rattle.std.specs.Prelude.{◌≡◌, ◌↔◌, true, List, map, IfOk, IfErr, OnOk};
-ghost use Rattle.awk_kinds.specs.Assigns.{CanAssign};
-ghost use Rattle.awk_kinds.specs.Marks.{AreKinds};
-ghost use Rattle.awk_names.specs.Faultless.{Faultless};
-ghost use Rattle.awk_names.specs.Faults as names;
-ghost use Rattle.awk_names.specs.Mentions.{part};
+ghost use Rattle.awk_resolve.specs.Assigns.{CanAssign};
+ghost use Rattle.awk_resolve.specs.Marks.{AreKinds};
+ghost use Rattle.awk_resolve.specs.Faultless.{Faultless};
+ghost use Rattle.awk_resolve.specs.Faults as names;
+ghost use Rattle.awk_resolve.specs.Mentions.{part};
 ghost use Rattle.awk_parse.specs.Flaws.{Flawed};
 ghost use Rattle.awk_parse.specs.Scripts.{IsScriptOf, tree};
 ghost use Rattle.awk_tree.specs.Canon.{canon_script};
@@ -13,10 +13,10 @@ ghost use Rattle.awk_tree.specs.Tree as t;
 ghost use Rattle.awk_tree.specs.View.{view_item};
 
 use crate::flaw::Flaw;
-use awk_kinds::Kinds;
-use awk_names::{Part, misdefined, misplaced, names_environ, parts, reads_main};
+use awk_resolve::Kinds;
+use awk_resolve::{Part, misdefined, misplaced, names_environ, parts, reads_main};
 use awk_program::Program;
-use awk_tables::lower;
+use awk_lowering::lower;
 use awk_text::Memory;
 use awk_tokens::Token;
 use awk_tree::Item;

@@ -5,17 +5,17 @@ use Rattle.std.specs.Str.{bytes_eq}
 use Rattle.std.proofs.lemmas.Slice.Eq.{bytes_eq-Decides}
 use Rattle.awk_tokens.specs.Words.{is_name, reserved}
 use Rattle.awk_tree.specs.Tree.{Entry}
-use Rattle.awk_names.specs.Kinds as k
-use Rattle.awk_names.specs.Kinds.{global, Forced, texts}
-use Rattle.awk_names.specs.Mentions.{part}
-use Rattle.awk_names.specs.declared.mention.Part.{Part}
-use Rattle.awk_kinds.specs.Assigns.{CanAssign, can_assign}
-use Rattle.awk_kinds.specs.Marks.{has, AreKinds}
-use Rattle.awk_kinds.specs.Said.{defined}
-use Rattle.awk_kinds.specs.declared.kinds.Kinds.{Kinds}
-use Rattle.awk_kinds.proofs.Assigning.{may_assign}
+use Rattle.awk_resolve.specs.Kinds as k
+use Rattle.awk_resolve.specs.Kinds.{global, Forced, texts}
+use Rattle.awk_resolve.specs.Mentions.{part}
+use Rattle.awk_resolve.specs.declared.mention.Part.{Part}
+use Rattle.awk_resolve.specs.Assigns.{CanAssign, can_assign}
+use Rattle.awk_resolve.specs.Marks.{has, AreKinds}
+use Rattle.awk_resolve.specs.Said.{defined}
+use Rattle.awk_resolve.specs.declared.kinds.Kinds.{Kinds}
+use Rattle.awk_resolve.proofs.Assigning.{may_assign}
 use Rattle.awk_lowering.proofs.Adding.{texts_are}
-use Rattle.awk_tables.specs.Tables.{tables, variables, variable_flags, arrays_by}
+use Rattle.awk_resolve.specs.Tables.{tables, variables, variable_flags, arrays_by}
 use Rattle.awk_program.specs.Slots.{Text}
 use Rattle.awk_program.specs.View.{names_of, view_function, Names}
 use Rattle.awk_program.specs.declared.program.Function.{Function}

@@ -8,18 +8,18 @@ use Rattle.awk_tokens.specs.Words.{is_among}
 use Rattle.awk_tree.specs.Tree as t
 use Rattle.awk_tree.specs.Tree.{Text, Entry}
 use Rattle.awk_tree.specs.declared.names.Name.{Name}
-use Rattle.awk_names.specs.Kinds as k
-use Rattle.awk_names.specs.Kinds.{Kind, Named, global, parameter, Forced, Defines, texts, meant, scalars, arrays}
-use Rattle.awk_names.specs.Mentions.{part}
-use Rattle.awk_names.specs.declared.mention.Mention.{Mention}
-use Rattle.awk_names.specs.declared.mention.Mention.TheVariants.{Array, Call}
-use Rattle.awk_names.specs.declared.mention.Role.{Role}
-use Rattle.awk_names.specs.declared.mention.Role.TheVariants as role
-use Rattle.awk_names.specs.declared.mention.Part.{Part}
-use Rattle.awk_kinds.specs.Said.{defined, defined_by}
-use Rattle.awk_lowering.specs.Programs.{Tables, each, functions_of}
-use Rattle.awk_lowering.specs.Rolls.{added}
-use Rattle.awk_tables.specs.Tables.{given, used, all_used, own_of, outside, mentioned, behind, variables}
+use Rattle.awk_resolve.specs.Kinds as k
+use Rattle.awk_resolve.specs.Kinds.{Kind, Named, global, parameter, Forced, Defines, texts, meant, scalars, arrays}
+use Rattle.awk_resolve.specs.Mentions.{part}
+use Rattle.awk_resolve.specs.declared.mention.Mention.{Mention}
+use Rattle.awk_resolve.specs.declared.mention.Mention.TheVariants.{Array, Call}
+use Rattle.awk_resolve.specs.declared.mention.Role.{Role}
+use Rattle.awk_resolve.specs.declared.mention.Role.TheVariants as role
+use Rattle.awk_resolve.specs.declared.mention.Part.{Part}
+use Rattle.awk_resolve.specs.Said.{defined, defined_by}
+use Rattle.awk_lowering.specs.Programs.{each, functions_of}
+use Rattle.awk_resolve.specs.Rolls.{added}
+use Rattle.awk_resolve.specs.Tables.{Tables, given, used, all_used, own_of, outside, mentioned, behind, variables}
 
 -- the text stands among these
 abbrev pub Has : Text → List Text → Type 0

@@ -1,9 +1,9 @@
 -- What a run is given.
 use Rattle.std.proofs.Common.{◌≡◌, ◌∙◌, Bool, List, map, sym, subst}
 use Rattle.awk_tree.specs.Tree.{Entry}
-use Rattle.awk_names.specs.Faults.{names_environ}
-use Rattle.awk_names.specs.Mentions.{part}
-use Rattle.awk_tables.specs.Sound as tables
+use Rattle.awk_resolve.specs.Faults.{names_environ}
+use Rattle.awk_resolve.specs.Mentions.{part}
+use Rattle.awk_resolve.specs.Sound as tables
 use Rattle.awk_program.specs.declared.program.Program.{Program}
 use Rattle.awk_program.specs.View.{names_of}
 use Rattle.awk_store.specs.States.{Sound}

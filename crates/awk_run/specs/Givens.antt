@@ -1,7 +1,7 @@
 -- What plain awk is given by a script, and by what its run is started with (POSIX.1-2017 XCU awk, "OPTIONS", "OPERANDS",
 -- "ENVIRONMENT VARIABLES").
 use Rattle.std.specs.Prelude.{ℕ}
-use Rattle.awk_kinds.specs.Assigns.{can_assign}
+use Rattle.awk_resolve.specs.Assigns.{can_assign}
 use Rattle.awk_machine.specs.State.{Given}
 use Rattle.awk_parse.specs.declared.script.Script.{Script}
 use Rattle.awk_program.specs.View.{view_program}

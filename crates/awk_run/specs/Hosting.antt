@@ -1,6 +1,6 @@
 -- What the host of a script's run is told.
 use Rattle.std.specs.Prelude.{ℕ, ◌+◌, Bool, if◌then◌else◌, List, [], ◌∷◌, map}
-use Rattle.awk_kinds.specs.Assigns.{can_assign}
+use Rattle.awk_resolve.specs.Assigns.{can_assign}
 use Rattle.awk_parse.specs.declared.script.Script.{Script}
 use Rattle.awk_program.specs.Slots.{Text}
 use Rattle.awk_program.specs.View.{names_of}

@@ -1,6 +1,6 @@
 // The host of a run: the operands' words, and which of the script's names it may set.
 ghost use Rattle.std.specs.Prelude.{◌≡◌, map, IfOk, OnOk, if◌then◌else◌};
-ghost use Rattle.awk_kinds.specs.Assigns as kinds;
+ghost use Rattle.awk_resolve.specs.Assigns as kinds;
 ghost use Rattle.awk_parse.specs.Scripts.{IsScript};
 ghost use Rattle.awk_program.specs.View.{names_of};
 ghost use Rattle.awk_records.specs.Hosts.{IsHost};

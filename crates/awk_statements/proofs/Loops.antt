@@ -5,7 +5,7 @@ use Rattle.awk_tokens.specs.declared.token.Token.{Token}
 use Rattle.awk_tree.specs.declared.fault.Fault.TheVariants.{Unexpected}
 use Rattle.awk_tree.specs.Input.{Outcome, Parser, and_then}
 use Rattle.awk_tree.specs.Statements.{until_from}
-use Rattle.awk_cursor.proofs.Loops.{with_front}
+use Rattle.awk_expressions.proofs.Loops.{with_front}
 
 module _ {A : Type 0} (gap : List Token → List Token) (ends : List Token → Bool) (part : Parser A) where
   stops : (front : List A) (n : ℕ) (ts : List Token) (total : Outcome (List A)) → ends (gap ts) ≡ true → with_front front (until_from gap ends part n ts) ≡ total → total ≡ Ok (front, gap ts)

@@ -8,8 +8,7 @@ ghost use Rattle.awk_tree.specs.View.{view, view_item, view_pattern, view_statem
 use crate::bodies::Bodies;
 use crate::statement::statement;
 use crate::statement_signs::{ends_item, is_done};
-use awk_cursor::{Tokens, is, joined, name_of, pair, refused};
-use awk_expressions::Level;
+use awk_expressions::{Level, Tokens, is, joined, name_of, pair, refused};
 use awk_tokens::Token;
 use awk_tree::{Expr, Fault, Function, Item, Name, Pattern, Statement, Terminal};
 use sqlite_items::{Boxed, Items};

@@ -7,8 +7,7 @@ ghost use Rattle.awk_tree.specs.Statements as spec;
 ghost use Rattle.awk_tree.specs.View.{view, view_printed, view_redirection, view_statement};
 
 use crate::statement_signs::{ends_print, redirect};
-use awk_cursor::{Tokens, is, joined, pair};
-use awk_expressions::Level;
+use awk_expressions::{Level, Tokens, is, joined, pair};
 use awk_text::place::Place;
 use awk_tree::{Expr, Fault, Goal, Printed, Redirection, Statement, Terminal};
 use sqlite_items::{Boxed, Items};

@@ -8,8 +8,7 @@ ghost use Rattle.awk_tree.specs.Tree as tree;
 ghost use Rattle.awk_tree.specs.View.{view, view_statement};
 
 use crate::prints::{print, printf};
-use awk_cursor::{Tokens, is, name_of, pair, refused};
-use awk_expressions::Level;
+use awk_expressions::{Level, Tokens, is, name_of, pair, refused};
 use awk_tree::{Expr, Fault, Goal, Statement, Terminal};
 use sqlite_items::Boxed;
 

@@ -6,8 +6,7 @@ ghost use Rattle.awk_tree.specs.Statements as spec;
 ghost use Rattle.awk_tree.specs.View.{view_statement};
 
 use crate::bodies::Bodies;
-use awk_cursor::Tokens;
-use awk_expressions::Level;
+use awk_expressions::{Level, Tokens};
 use awk_tree::{Fault, Nested, Statement};
 use std::alloc::Global;
 

@@ -3,7 +3,7 @@
 ghost use Rattle.std.specs.Prelude.{◌≡◌};
 ghost use Rattle.awk_tree.specs.Statements as spec;
 
-use awk_cursor::{Tokens, is, terminal};
+use awk_expressions::{Tokens, is, terminal};
 use awk_tokens::Token;
 use awk_tree::{Redirect, Terminal};
 

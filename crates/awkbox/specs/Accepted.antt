@@ -1,7 +1,7 @@
 -- What is run, and what is refused before a run: the policy first, then the script, then the assignments of `-v`.
 use Rattle.std.specs.Prelude.{◌≡◌, ◌≢◌, ℕ, ◌+◌, List, [], ◌∷◌, Option, Some, None, ◌⊎◌, if◌then◌else◌}
-use Rattle.awk_kinds.specs.Assigns.{can_assign}
-use Rattle.awk_kinds.specs.declared.kinds.Kinds.{Kinds}
+use Rattle.awk_resolve.specs.Assigns.{can_assign}
+use Rattle.awk_resolve.specs.declared.kinds.Kinds.{Kinds}
 use Rattle.awk_parse.specs.Scripts.{IsRead, IsSpelled, IsRefused as IsRefusedByGrammar}
 use Rattle.awk_parse.specs.declared.script.Script.{Script as Spelled}
 use Rattle.awk_tokens.specs.Reads.{Reads, Refuses}

@@ -1,6 +1,6 @@
 // What is run, and what is refused before a run.
 ghost use Rattle.std.specs.Prelude.{◌≡◌, ◌<◌, ◌^◌, length, IfOk, IfErr};
-ghost use Rattle.awk_kinds.specs.Assigns.{can_assign};
+ghost use Rattle.awk_resolve.specs.Assigns.{can_assign};
 ghost use Rattle.awk_parse.specs.Scripts.{IsScript};
 ghost use Rattle.awkbox.specs.Accepted.{Accepted, IsAccepted, IsRefused, IsScriptRefused, ReadsScript, first_barred};
 

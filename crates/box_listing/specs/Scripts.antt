@@ -1,7 +1,7 @@
 -- The listing of a script, and what a policy says of it.
 use Rattle.std.specs.Prelude.{List, map}
-use Rattle.awk_names.specs.Faults.{names_environ}
-use Rattle.awk_names.specs.Mentions.{part}
+use Rattle.awk_resolve.specs.Faults.{names_environ}
+use Rattle.awk_resolve.specs.Mentions.{part}
 use Rattle.awk_parse.specs.Scripts.{tree}
 use Rattle.awk_parse.specs.declared.script.Script.{Script}
 use Rattle.awk_program.specs.View.{view_program}

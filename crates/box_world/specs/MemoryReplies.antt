@@ -1,5 +1,5 @@
 -- What a world in memory answers.
-use Rattle.std.specs.Prelude.{ℕ, ℤ, pos, ◌+◌, ◌^◌, ◌==◌, ◌&&◌, nat_lt, Bool, true, false, if◌then◌else◌, List, [], ◌∷◌, length, take, drop, Option, Some, None, is_some, unwrap_or}
+use Rattle.std.specs.Prelude.{ℕ, ℤ, pos, ◌+◌, ◌^◌, ◌==◌, ◌&&◌, ◌||◌, nat_le, nat_lt, Bool, true, false, if◌then◌else◌, List, [], ◌∷◌, length, take, drop, Option, Some, None, is_some, unwrap_or}
 use Rattle.std.specs.Map.{lookup}
 use Rattle.std.specs.Option.{option_map_or}
 use Rattle.std.specs.Str.{bytes_eq}
@@ -87,9 +87,12 @@ plain_reply store (System text) = Status (status_of text store.commands)
 plain_reply store (Env name) = value_of name store
 plain_reply store (Assign name text) = Done
 
--- asks are counted from 1
+-- whether the ask of this number, counted from 1, is to fail: it is the one that is, or none before a first one that is
+abbrev pub fails_at : ℕ → MemoryState → Bool
+fails_at number state = (number == state.fail_at) || option_map_or (λ first. nat_le first number) state.fail_from false
+
 abbrev pub is_failing : MemoryState → Bool
-is_failing state = length state.asked + 1 == state.fail_at
+is_failing state = fails_at (length state.asked + 1) state
 
 abbrev pub reply_of : MemoryState → Request → Reply
 reply_of state request = if is_failing state then Failed else plain_reply state.store request

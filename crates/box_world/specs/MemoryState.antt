@@ -1,5 +1,5 @@
 -- What a world in memory is: what it was asked, and what it holds.
-use Rattle.std.specs.Prelude.{ℕ, ℤ, List, []}
+use Rattle.std.specs.Prelude.{ℕ, ℤ, List, [], Option}
 use Rattle.box_world.specs.Calls.{Call}
 use Rattle.box_world.specs.declared.memory_world.store.Stream.{Stream}
 
@@ -33,6 +33,8 @@ pub record MemoryState : Type 0 where
   pub asked : List Call
   -- the number of the ask that is to fail, counted from 1; 0 for none
   pub fail_at : ℕ
+  -- the number from which on each ask is to fail, where there is one
+  pub fail_from : Option ℕ
   pub store : Contents
 
 -- what a new world holds

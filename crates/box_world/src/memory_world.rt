@@ -1,5 +1,5 @@
 // A world in memory, for tests and for hosts that give a script no real files.
-ghost use Rattle.std.specs.Prelude.{◌≡◌, ◌<◌, ◌∷◌, [], false, Ok, IfErr, IfOk, OnErr, OnOk};
+ghost use Rattle.std.specs.Prelude.{◌≡◌, ◌<◌, ◌∷◌, [], false, None, Some, Ok, IfErr, IfOk, OnErr, OnOk};
 ghost use Rattle.std.specs.Map.{lookup};
 ghost use Rattle.std.specs.Option.{option_copied};
 ghost use Rattle.std.specs.Str.{bytes_eq};
@@ -7,7 +7,7 @@ ghost use Rattle.box_world.specs.Calls.{IsFitting, IsStatus};
 ghost use Rattle.box_world.specs.MemoryLaw.{Leads, Leads-append, Leads-none, Leads-open, numbers_of};
 ghost use Rattle.box_world.specs.MemoryNumbers.{GivesNext};
 ghost use Rattle.box_world.specs.MemoryChanges.{answered};
-ghost use Rattle.box_world.specs.MemoryReplies.{reply_of};
+ghost use Rattle.box_world.specs.MemoryReplies.{fails_at, reply_of};
 ghost use Rattle.box_world.specs.MemoryState.{nothing};
 ghost use Rattle.box_world.specs.MemoryTexts.{with_text};
 ghost use Rattle.box_world.specs.declared.ask.Stop.TheVariants.{Memory as OutOfMemory};
@@ -32,6 +32,7 @@ pub struct MemoryWorld {
     alloc: Global,
     asked: Vec<(Ask, Reply)>,
     fail_at: usize,
+    fail_from: Option<usize>,
     store: Store,
 }
 
@@ -40,7 +41,12 @@ impl Model for MemoryWorld {
 
     ghost Value = { MemoryState };
 
-    ghost view = { λ w. record { asked = w.asked.items; fail_at = w.fail_at; store = w.store } };
+    ghost view = { λ w. record {
+      asked = w.asked.items;
+      fail_at = w.fail_at;
+      fail_from = w.fail_from;
+      store = w.store;
+    } };
 }
 
 impl MemoryWorld {
@@ -49,6 +55,7 @@ impl MemoryWorld {
         ensures { result ≡ record {
           asked = [];
           fail_at = 0;
+          fail_from = None;
           store = nothing;
         } }
     {
@@ -56,6 +63,7 @@ impl MemoryWorld {
             alloc,
             asked: Vec::new(alloc),
             fail_at: 0,
+            fail_from: None,
             store: Store::new(alloc),
         }
     }
@@ -114,12 +122,20 @@ impl MemoryWorld {
         self.store.set_chunk(n);
     }
 
-    /// Makes the ask of this number fail, and no other. Answered asks are counted from 1, those of
-    /// the past too; 0 is none of them. Takes no memory.
+    /// Makes the ask of this number fail, and no other than it and those of `fail_from`. Answered
+    /// asks are counted from 1, those of the past too; 0 is none of them. Takes no memory.
     pub fn fail_at(&mut self, n: usize)
         ensures { self.new ≡ record self.old { fail_at = n } }
     {
         self.fail_at = n;
+    }
+
+    /// Makes the ask of this number fail, and every later one, beside that of `fail_at`. They are
+    /// counted as there, so 0 means all. A second call replaces the first. Takes no memory.
+    pub fn fail_from(&mut self, n: usize)
+        ensures { self.new ≡ record self.old { fail_from = Some n } }
+    {
+        self.fail_from = Some(n);
     }
 
     /// The bytes of the file of this text, or `None` where there is none. Takes no memory.
@@ -158,12 +174,18 @@ impl MemoryWorld {
         self.asked.as_slice()
     }
 
+    fn fails_at(&self, number: usize) -> bool
+        ensures { result ≡ fails_at number self.now }
+    {
+        number == self.fail_at || self.fail_from.is_some_and(|first| first <= number)
+    }
+
     fn reply_to(&self, request: &Request) -> Result<Reply, Memory>
         ensures reply { IfOk result (λ r. r ≡ reply_of self.now request.now) }
         ensures fits { IfOk result (IsFitting (numbers_of self.now) request.now) }
         ensures next { IfOk result (GivesNext self.now.store.next) }
     {
-        if self.asked.len() + 1 == self.fail_at {
+        if self.fails_at(self.asked.len() + 1) {
             return Ok(Reply::Failed);
         }
         self.store.reply_to(request)
@@ -179,7 +201,8 @@ impl World for MemoryWorld {
 
     ghost stops = { λ _ _ _ _. ⊥ };
 
-    /// Answers the ask and keeps both, or answers `Stop::Memory` with nothing changed.
+    /// Answers the ask and keeps both, or answers `Stop::Memory` with nothing changed. An ask that
+    /// was made to fail is answered `Failed` and does nothing else, but a `Shut` ends its number.
     fn ask(&mut self, ask: &Ask) -> Result<Reply, Stop>
         // What a world owes.
         ensures ok { IfOk result (λ reply. Leads self.old ((ask.now, reply) ∷ []) self.new) }

@@ -187,6 +187,14 @@ fn fail_at(alloc: Global, world: &mut MemoryWorld, number: i64) -> Answer {
     bytes(alloc, b"done")
 }
 
+fn fail_from(alloc: Global, world: &mut MemoryWorld, number: i64) -> Answer {
+    let Ok(number) = usize::try_from(number) else {
+        return Err(Problem::NoArgument);
+    };
+    world.fail_from(number);
+    bytes(alloc, b"done")
+}
+
 fn put_file(alloc: Global, world: &mut MemoryWorld, name: &[u8], contents: &[u8]) -> Answer {
     let name = octets(alloc, name)?;
     world.put_file(name, octets(alloc, contents)?)?;
@@ -235,6 +243,7 @@ pub fn prepare(alloc: Global, world: &mut MemoryWorld, args: &[Arg<'_>]) -> Answ
         "put_input" => put_input(alloc, world, text(args, 1)),
         "chunk" => chunk(alloc, world, number(args, 1)?),
         "fail_at" => fail_at(alloc, world, number(args, 1)?),
+        "fail_from" => fail_from(alloc, world, number(args, 1)?),
         _ => left(alloc, world, args),
     }
 }

@@ -4,8 +4,8 @@ use Rattle.std.specs.Str.{is_utf8, chars}
 use lib.Utf8.{encode}
 use Rattle.awk_tree.specs.Tree as t
 use Rattle.awk_tree.specs.Tree.{Text, Entry}
-use Rattle.awk_names.specs.Faults.{names_environ}
-use Rattle.awk_names.specs.Mentions.{part}
+use Rattle.awk_resolve.specs.Faults.{names_environ}
+use Rattle.awk_resolve.specs.Mentions.{part}
 use Rattle.box_policy.specs.declared.policy.Effect.TheVariants.{Allow, Deny}
 use Rattle.box_policy.specs.declared.policy.Kind.{Kind}
 use Rattle.box_policy.specs.declared.policy.Kind.TheVariants.{Read, Write, Append, Run, Env, Assign}

@@ -16,9 +16,10 @@ use Rattle.awk_tree.specs.Expressions as ex
 use Rattle.awk_tree.specs.Statements as st
 use Rattle.awk_tree.specs.Tree as t
 use Rattle.awk_tree.specs.Tree.{Text, Entry}
-use Rattle.awk_names.specs.Kinds as kinds
+use Rattle.awk_resolve.specs.Kinds as kinds
 use Rattle.awk_program.specs.Program.{Program}
-use Rattle.awk_lowering.specs.Programs.{Tables, program}
+use Rattle.awk_lowering.specs.Programs.{program}
+use Rattle.awk_resolve.specs.Tables.{Tables}
 
 -- ---- tokens
 

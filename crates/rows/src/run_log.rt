@@ -3,8 +3,8 @@
 use std::alloc::Global;
 use std::io::{self, ErrorKind, Write};
 
-/// A log that fails from the write of this number on, and at the flush of this number. They are
-/// counted from 1; 0 is none.
+/// A log that fails from the write of this number on, and from the flush of this number on. They
+/// are counted from 1; 0 is none.
 #[derive(Drop)]
 pub struct RunLog {
     pub text: Vec<u8>,
@@ -39,7 +39,7 @@ impl Write for RunLog {
 
     fn flush(&mut self) -> io::Result<()> {
         self.flushes = self.flushes.saturating_add(1);
-        if self.flushes == self.bad_flush {
+        if self.bad_flush != 0 && self.flushes >= self.bad_flush {
             return Err(io::Error::from(ErrorKind::BrokenPipe));
         }
         Ok(())

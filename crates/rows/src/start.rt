@@ -38,6 +38,7 @@ pub fn is_start(name: &str) -> bool {
             | "put_input"
             | "chunk"
             | "fail_at"
+            | "fail_from"
             | "operand"
             | "assign"
             | "separator"

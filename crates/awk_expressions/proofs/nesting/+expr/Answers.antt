@@ -1,7 +1,7 @@
 use Rattle.std.proofs.Common.{◌≡◌, ◌-◌, refl, sym, arith, rules}
 use Rattle.std.proofs.lemmas.Grind.{common_steps}
 use Rattle.awk_tree.specs.Expressions.{expr}
-use Rattle.awk_cursor.proofs.Loops.{deeper}
+use Rattle.awk_expressions.proofs.Loops.{deeper}
 use Rattle.awk_expressions.proofs.nesting.+expr.Goals as goal
 
 pub returns-then-depth-eq0 : goal.returns-then-depth-eq0

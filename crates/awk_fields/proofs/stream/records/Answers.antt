@@ -28,9 +28,9 @@ loop-piece-preserved c =
     let rs = c.args.rs.now in
     let pieces = c.args.pieces.now in
     let i = c.loop-piece.piece-index in
-    let u = c.loop-piece.reader.unread in
+    let u = c.loop-piece.reader.input.unread in
     let piece = c.bytes.result.now in
-    let rest = c.take_all.new.reader.unread in
+    let rest = c.take_all.new.reader.input.unread in
     let pushed = c.in_ok-push.ensures.ok in
     let texts = c.in_ok-take_all.ensures.taken in
     let lt : i < length pieces = omega arith in
@@ -51,13 +51,13 @@ returns-clause-ok c =
     let rs = c.args.rs.now in
     let pieces = c.args.pieces.now in
     let i = c.loop-piece.piece-index in
-    let u = c.loop-piece.reader.unread in
-    let rest = c.take_all-2.new.reader.unread in
-    let finished = c.finish.ensures in
+    let u = c.loop-piece.reader.input.unread in
+    let rest = c.take_all-2.new.reader.input.unread in
+    let finished = c.finish.ensures.input in
     let texts = c.in_ok-take_all-2.ensures.taken in
     let all : take i pieces ≡ pieces = take_all i pieces (omega arith) in
     let more : FirstRecords rs true u texts.0 rest = subst (λ r. FirstRecords rs r.ended r.unread texts.0 rest) finished texts.2 in
-    let ended : c.take_all-2.new.reader.ended ≡ true = c.in_ok-take_all-2.ensures.ended ∙ ap (λ r. r.ended) finished in
+    let ended : c.take_all-2.new.reader.input.ended ≡ true = c.in_ok-take_all-2.ensures.ended ∙ ap (λ r. r.ended) finished in
     subst (Records rs (flat_map (λ (p : List ℕ). p) pieces)) (sym texts.1)
     (subst (λ ps. Records rs (flat_map (λ (p : List ℕ). p) ps) (c.loop-piece.found.items ++ texts.0)) all
     (stream_end rs (flat_map (λ (p : List ℕ). p) (take i pieces)) u c.loop-piece.found.items texts.0 rest c.loop-piece.invariant.found_are more (subst (λ e. IsStopped (head rs rest e)) ended c.in_ok-take_all-2.ensures.stopped)))
@@ -67,7 +67,7 @@ returns-in_err-take_all-clause-fault c =
     let rs = c.args.rs.now in
     let pieces = c.args.pieces.now in
     let i = c.loop-piece.piece-index in
-    let u = c.loop-piece.reader.unread in
+    let u = c.loop-piece.reader.input.unread in
     let piece = c.bytes.result.now in
     let so_far = flat_map (λ (p : List ℕ). p) (take i pieces) in
     let later = flat_map (λ (p : List ℕ). p) (drop (i + 1) pieces) in
@@ -85,11 +85,11 @@ returns-in_err-take_all-2-clause-fault c =
     let rs = c.args.rs.now in
     let pieces = c.args.pieces.now in
     let i = c.loop-piece.piece-index in
-    let u = c.loop-piece.reader.unread in
+    let u = c.loop-piece.reader.input.unread in
     let so_far = flat_map (λ (p : List ℕ). p) (take i pieces) in
     let whole : so_far ≡ flat_map (λ (p : List ℕ). p) pieces = ap (flat_map (λ (p : List ℕ). p)) (take_all i pieces (omega arith)) in
     let fault : FailsTooLong c.in_err-take_all-2.field-0.0 (IsTooLong rs true (flat_map (λ (p : List ℕ). p) pieces)) = elim c.in_err-take_all-2.ensures.fault [
       | inl memory ↦ inl memory
-      | inr long ↦ inr (long.0, subst (IsTooLong rs true) whole (stream_end_long rs so_far u c.loop-piece.found.items c.loop-piece.invariant.found_are (subst (λ r. IsTooLong rs r.ended r.unread) c.finish.ensures long.1)))
+      | inr long ↦ inr (long.0, subst (IsTooLong rs true) whole (stream_end_long rs so_far u c.loop-piece.found.items c.loop-piece.invariant.found_are (subst (λ r. IsTooLong rs r.ended r.unread) c.finish.ensures.input long.1)))
     ] in
     passed_on c.from_residual-in_err-take_all-2.result c.in_err-take_all-2.field-0.0 (λ e. FailsTooLong e (IsTooLong rs true (flat_map (λ (p : List ℕ). p) pieces))) c.from_residual-in_err-take_all-2.ensures.1 fault

@@ -1,7 +1,7 @@
 use Rattle.std.proofs.Common.{◌≡◌, drop, map}
 use Rattle.awk_tree.specs.View.{view_item}
 use Rattle.awk_program.specs.View.{view_by}
-use Rattle.awk_lowering.specs.MadeRules.{tables_in}
+use Rattle.awk_resolve.specs.TablesIn.{tables_in}
 use Rattle.awk_lowering.specs.Programs.{with_entries}
 use Rattle.awk_lowering.proofs.items.add_all.Given as goal
 

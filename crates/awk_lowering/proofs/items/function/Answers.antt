@@ -1,8 +1,8 @@
 use Rattle.std.proofs.Common.{map}
-use Rattle.awk_names.specs.Kinds.{texts}
+use Rattle.awk_resolve.specs.Kinds.{texts}
 use Rattle.awk_tree.specs.View.{view_statement}
 use Rattle.awk_lowering.specs.Made.{AreStatements}
-use Rattle.awk_lowering.specs.MadeRules.{tables_in}
+use Rattle.awk_resolve.specs.TablesIn.{tables_in}
 use Rattle.awk_lowering.specs.Programs as spec
 use Rattle.awk_lowering.proofs.Adding.{in_scope}
 use Rattle.awk_lowering.proofs.items.function.Goals as goal

@@ -1,6 +1,6 @@
 use Rattle.std.proofs.Common.{map}
 use Rattle.awk_tree.specs.View.{view_item}
-use Rattle.awk_lowering.specs.MadeRules.{tables_in}
+use Rattle.awk_resolve.specs.TablesIn.{tables_in}
 use Rattle.awk_lowering.proofs.Adding.{finished_program}
 use Rattle.awk_lowering.proofs.items.program.Goals as goal
 

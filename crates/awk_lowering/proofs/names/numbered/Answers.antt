@@ -1,5 +1,5 @@
 use Rattle.std.proofs.Common.{◌∙◌, sym}
-use Rattle.awk_lowering.proofs.Rolls.{stands_small, found_small}
+use Rattle.awk_resolve.proofs.Rolls.{stands_small, found_small}
 use Rattle.awk_lowering.proofs.names.numbered.Goals as goal
 
 pub returns-in-Some-clause-text : goal.returns-in-Some-clause-text

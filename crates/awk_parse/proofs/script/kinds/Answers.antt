@@ -1,7 +1,7 @@
 use Rattle.std.proofs.lemmas.Result.{err_from_is_err_and}
 use Rattle.awk_text.specs.declared.place.Place.{Place}
-use Rattle.awk_names.specs.Faults.{Misplaced, Misdefined}
-use Rattle.awk_names.specs.Kinds.{Clashes, NotAfter}
+use Rattle.awk_resolve.specs.Faults.{Misplaced, Misdefined}
+use Rattle.awk_resolve.specs.Kinds.{Clashes, NotAfter}
 use Rattle.awk_parse.specs.Flaws.{ArePlaced, AreDefined, memory, word, function, kind}
 use Rattle.awk_parse.proofs.script.kinds.Goals as goal
 

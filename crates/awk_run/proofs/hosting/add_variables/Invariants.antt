@@ -1,5 +1,5 @@
 use Rattle.std.proofs.Common.{◌≡◌, ◌≤◌, drop, length, map}
-use Rattle.awk_kinds.specs.Assigns.{can_assign}
+use Rattle.awk_resolve.specs.Assigns.{can_assign}
 use Rattle.awk_run.specs.Hosting.{with_variables}
 use Rattle.awk_run.proofs.hosting.add_variables.Given as goal
 

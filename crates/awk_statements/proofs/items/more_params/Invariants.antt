@@ -3,7 +3,7 @@ use Rattle.awk_tree.specs.declared.terminals.Terminal.TheVariants as w
 use Rattle.awk_tree.specs.Terminals.{is}
 use Rattle.awk_tree.specs.Input.{many_from}
 use Rattle.awk_tree.specs.Statements.{next_param, more_params}
-use Rattle.awk_cursor.proofs.Loops.{with_front}
+use Rattle.awk_expressions.proofs.Loops.{with_front}
 use Rattle.awk_statements.proofs.items.more_params.Given as goal
 
 abbrev pub invariant-loop-turn : goal.invariant-loop-turn

@@ -5,7 +5,7 @@ use Rattle.awk_tree.specs.Terminals.{is}
 use Rattle.awk_tree.specs.Input.{many_from}
 use Rattle.awk_tree.specs.Expressions.{expr}
 use Rattle.awk_tree.specs.Statements.{next_printed, more_printed}
-use Rattle.awk_cursor.proofs.Loops.{with_front}
+use Rattle.awk_expressions.proofs.Loops.{with_front}
 use Rattle.awk_statements.proofs.prints.more_printed.Given as goal
 
 abbrev pub invariant-loop-turn : goal.invariant-loop-turn

@@ -1,7 +1,7 @@
 use Rattle.std.proofs.Common.{◌≡◌, arith, rules}
 use Rattle.std.proofs.lemmas.Grind.{common_steps}
 use Rattle.awk_tree.specs.Statements.{statement}
-use Rattle.awk_cursor.proofs.Loops.{deeper}
+use Rattle.awk_expressions.proofs.Loops.{deeper}
 use Rattle.awk_statements.proofs.statement.+statement.Goals as goal
 
 pub returns-then-depth-eq0 : goal.returns-then-depth-eq0

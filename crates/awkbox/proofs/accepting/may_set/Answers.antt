@@ -1,8 +1,8 @@
 use Rattle.std.proofs.Common.{map}
 use Rattle.std.proofs.lemmas.Bool.Decides.{same_from_decides}
-use Rattle.awk_kinds.proofs.Assigning.{may_assign}
-use Rattle.awk_kinds.specs.Assigns.{can_assign}
-use Rattle.awk_names.specs.Mentions.{part}
+use Rattle.awk_resolve.proofs.Assigning.{may_assign}
+use Rattle.awk_resolve.specs.Assigns.{can_assign}
+use Rattle.awk_resolve.specs.Mentions.{part}
 use Rattle.awkbox.proofs.accepting.may_set.Goals as goal
 
 pub returns : goal.returns

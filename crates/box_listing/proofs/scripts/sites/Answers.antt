@@ -1,6 +1,6 @@
 use Rattle.std.proofs.Common.{◌∙◌, ap, map, List}
-use Rattle.awk_names.specs.Faults.{names_environ}
-use Rattle.awk_names.specs.Mentions.{part}
+use Rattle.awk_resolve.specs.Faults.{names_environ}
+use Rattle.awk_resolve.specs.Mentions.{part}
 use Rattle.awk_parse.specs.Scripts.{IsScriptOf, tree}
 use Rattle.awk_program.specs.View.{view_program}
 use Rattle.awk_tree.specs.Tree.{Entry}

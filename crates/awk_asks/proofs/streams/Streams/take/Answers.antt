@@ -1,4 +1,4 @@
-use Rattle.std.proofs.Common.{◌≡◌, map, sym, ap, ◌∙◌}
+use Rattle.std.proofs.Common.{◌≡◌, map, refl, sym, ap, ◌∙◌}
 use Rattle.std.proofs.lemmas.Result.{on_err_weaker}
 use Rattle.std.specs.Map.{set_value}
 use Rattle.std.specs.Option.{option_map, option_copied_mut}
@@ -14,7 +14,7 @@ returns-in_default-clause-ok c =
     let old = c.self.inside.table.entries in
     let input = input-entries test class text (text_test class text) old in
     rw (← c.self.view_is) (λ i e.
-    let f = sym (ap (option_map (λ o. o.reader)) (c.place_of.ensures.none c.in_default.is)) ∙ sym input ∙ e in absurd (cc))
+    let f = sym (ap (option_map (λ o. o.reader.input)) (c.place_of.ensures.none c.in_default.is)) ∙ sym input ∙ e in absurd (cc))
 
 pub returns-in-Some-get_index_mut-clause-ok : goal.returns-in-Some-get_index_mut-clause-ok
 returns-in-Some-get_index_mut-clause-ok c =
@@ -28,12 +28,12 @@ returns-in-Some-get_index_mut-clause-ok c =
     let input = input-entries test class text (text_test class text) old in
     rw (← c.self.view_is) (if_ok c.take.result
     (λ taken p i e.
-    let same : held.reader ≡ i = some_of _ i (sym (ap (option_map (λ o. o.reader)) found) ∙ sym input ∙ e) in
+    let same : held.reader.input ≡ i = some_of _ i (sym (ap (option_map (λ o. o.reader.input)) found) ∙ sym input ∙ e) in
     rw (← same) (
-      c.take.new.self,
+      c.take.new.self.input,
       p,
       ap (map entry_of) (set_at class text old c.in-Some.place at.0 at.1 (record held { reader = c.take.new.self }) c.get_index_mut.ensures.unique at.2 at.3)
-          ∙ sym (with_input-entries test class text (text_test class text) (λ x. c.take.new.self) old held found),
+          ∙ sym (with_input-entries test class text (text_test class text) (λ x. c.take.new.self.input) old held c.take.new.self found refl),
     ))
     c.take.ensures.ok)
 
@@ -72,6 +72,6 @@ returns-in-Some-get_index_mut-clause-fault c =
     let input = input-entries test class text (text_test class text) old in
     rw (← c.self.view_is) (if_err c.take.result
     (λ fault p i e.
-    let same : held.reader ≡ i = some_of _ i (sym (ap (option_map (λ o. o.reader)) found) ∙ sym input ∙ e) in
+    let same : held.reader.input ≡ i = some_of _ i (sym (ap (option_map (λ o. o.reader.input)) found) ∙ sym input ∙ e) in
     rw (← same) p)
     c.take.ensures.fault)

@@ -2,7 +2,7 @@ use Rattle.std.proofs.Common.{◌≡◌, ◌-◌, map}
 use Rattle.awk_tree.specs.View.{view_term}
 use Rattle.awk_tree.specs.Input.{many_from}
 use Rattle.awk_tree.specs.Expressions.{addend, addends, expr, is_term_sign}
-use Rattle.awk_cursor.proofs.Loops.{with_front}
+use Rattle.awk_expressions.proofs.Loops.{with_front}
 use Rattle.awk_expressions.proofs.grammar.Grammar.addends.Given as goal
 
 abbrev pub invariant-loop-turn : goal.invariant-loop-turn

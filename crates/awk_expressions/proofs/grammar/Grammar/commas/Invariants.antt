@@ -4,7 +4,7 @@ use Rattle.awk_tree.specs.declared.terminals.Terminal.TheVariants as w
 use Rattle.awk_tree.specs.Terminals.{is}
 use Rattle.awk_tree.specs.Input.{many_from}
 use Rattle.awk_tree.specs.Expressions.{expr, next_in_list, commas}
-use Rattle.awk_cursor.proofs.Loops.{with_front}
+use Rattle.awk_expressions.proofs.Loops.{with_front}
 use Rattle.awk_expressions.proofs.grammar.Grammar.commas.Given as goal
 
 abbrev pub invariant-loop-turn : goal.invariant-loop-turn

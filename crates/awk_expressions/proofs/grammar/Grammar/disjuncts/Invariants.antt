@@ -4,7 +4,7 @@ use Rattle.awk_tree.specs.Terminals.{is}
 use Rattle.awk_tree.specs.View.{view}
 use Rattle.awk_tree.specs.Input.{many_from}
 use Rattle.awk_tree.specs.Expressions.{disjuncts, expr, next_disjunct}
-use Rattle.awk_cursor.proofs.Loops.{with_front}
+use Rattle.awk_expressions.proofs.Loops.{with_front}
 use Rattle.awk_expressions.proofs.grammar.Grammar.disjuncts.Given as goal
 
 abbrev pub invariant-loop-turn : goal.invariant-loop-turn

@@ -3,7 +3,7 @@ use Rattle.std.proofs.lemmas.Grind.{common_steps}
 use Rattle.awk_tree.specs.Terminals.{ahead}
 use Rattle.awk_tree.specs.View.{view_term}
 use Rattle.awk_tree.specs.Expressions.{is_factor_sign}
-use Rattle.awk_cursor.proofs.Loops.{many_stops, many_ends, many_turn, viewed_goes}
+use Rattle.awk_expressions.proofs.Loops.{many_stops, many_ends, many_turn, viewed_goes}
 use Rattle.awk_expressions.proofs.grammar.Grammar.factors.Goals as goal
 
 pub returns-then-not-is_factor_sign : goal.returns-then-not-is_factor_sign

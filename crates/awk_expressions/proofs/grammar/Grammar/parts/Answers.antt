@@ -3,7 +3,7 @@ use Rattle.std.proofs.lemmas.Grind.{common_steps}
 use Rattle.awk_tree.specs.Terminals.{ahead}
 use Rattle.awk_tree.specs.View.{view}
 use Rattle.awk_tree.specs.Expressions.{begins_part}
-use Rattle.awk_cursor.proofs.Loops.{many_stops, many_ends, many_turn, viewed_goes}
+use Rattle.awk_expressions.proofs.Loops.{many_stops, many_ends, many_turn, viewed_goes}
 use Rattle.awk_expressions.proofs.grammar.Grammar.parts.Goals as goal
 
 pub returns-then-not-begins_part : goal.returns-then-not-begins_part

@@ -3,7 +3,7 @@ use Rattle.std.proofs.lemmas.Grind.{common_steps}
 use Rattle.awk_tree.specs.declared.terminals.Terminal.TheVariants as w
 use Rattle.awk_tree.specs.Terminals.{is, ahead}
 use Rattle.awk_tree.specs.View.{view_piped}
-use Rattle.awk_cursor.proofs.Loops.{many_stops, many_ends, many_turn, viewed_goes}
+use Rattle.awk_expressions.proofs.Loops.{many_stops, many_ends, many_turn, viewed_goes}
 use Rattle.awk_expressions.proofs.grammar.Grammar.pipes.Goals as goal
 
 pub returns-then-not-is : goal.returns-then-not-is

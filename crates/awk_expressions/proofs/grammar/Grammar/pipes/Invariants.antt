@@ -4,7 +4,7 @@ use Rattle.awk_tree.specs.Terminals.{is}
 use Rattle.awk_tree.specs.View.{view_piped}
 use Rattle.awk_tree.specs.Input.{many_from}
 use Rattle.awk_tree.specs.Expressions.{expr, one_pipe, pipes}
-use Rattle.awk_cursor.proofs.Loops.{with_front}
+use Rattle.awk_expressions.proofs.Loops.{with_front}
 use Rattle.awk_expressions.proofs.grammar.Grammar.pipes.Given as goal
 
 abbrev pub invariant-loop-turn : goal.invariant-loop-turn

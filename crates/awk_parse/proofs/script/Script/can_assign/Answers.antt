@@ -1,5 +1,5 @@
 use Rattle.std.proofs.Common.{map}
-use Rattle.awk_names.specs.Mentions.{part}
+use Rattle.awk_resolve.specs.Mentions.{part}
 use Rattle.awk_parse.proofs.script.Script.can_assign.Goals as goal
 
 pub returns : goal.returns

@@ -5,7 +5,7 @@ use Rattle.awk_tree.specs.Terminals.{is, look}
 use Rattle.awk_tree.specs.Input.{skip}
 use Rattle.awk_tree.specs.Expressions.{expr}
 use Rattle.awk_tree.specs.Statements.{until_from, statement, statement_here, statements}
-use Rattle.awk_cursor.proofs.Loops.{with_front}
+use Rattle.awk_expressions.proofs.Loops.{with_front}
 use Rattle.awk_statements.proofs.bodies.Bodies.statements.Given as goal
 
 abbrev pub invariant-loop-turn : goal.invariant-loop-turn

@@ -1,5 +1,0 @@
-use Rattle.awk_kinds.proofs.Assigning.{may_assign}
-use Rattle.awk_kinds.proofs.kinds.Kinds.can_assign.Goals as goal
-
-pub returns : goal.returns
-returns c = λ parts kinds. rw c.may_assign.ensures (may_assign parts c.args.self.now c.args.name.now kinds)

@@ -1,6 +1,0 @@
-use Rattle.std.proofs.Common.{◌≡◌, ◌++◌, drop}
-use Rattle.awk_kinds.specs.Uses as spec
-use Rattle.awk_kinds.proofs.uses.arrays.Given as goal
-
-abbrev pub invariant-loop-one : goal.invariant-loop-one
-invariant-loop-one l = spec.arrays l.uses ≡ l.numbers ++ spec.arrays (drop l.one-index l.uses)

@@ -1,7 +1,0 @@
-use Rattle.std.proofs.Common.{sym, ◌∙◌, ap}
-use Rattle.awk_names.proofs.TableLemmas.{named, with_text_named}
-use Rattle.awk_names.proofs.table.Table.put.Goals as goal
-
-pub returns-clause-ok : goal.returns-clause-ok
-returns-clause-ok g c = rw (← c.self.view_is, ← c.into_bytes.ensures)
-    (ap (named (λ k. k.items)) c.in_ok-insert.ensures.entries ∙ sym (with_text_named (λ k. k.items) c.into_bytes.result c.args.value c.self.inside.entries.entries))

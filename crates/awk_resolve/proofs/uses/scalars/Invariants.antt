@@ -1,0 +1,6 @@
+use Rattle.std.proofs.Common.{◌≡◌, ◌++◌, drop}
+use Rattle.awk_resolve.specs.Uses as spec
+use Rattle.awk_resolve.proofs.uses.scalars.Given as goal
+
+abbrev pub invariant-loop-one : goal.invariant-loop-one
+invariant-loop-one l = spec.scalars l.uses ≡ l.numbers ++ spec.scalars (drop l.one-index l.uses)

@@ -1,0 +1,106 @@
+// The functions of a script, and the calls of them.
+
+ghost use Rattle.std.specs.Prelude.{◌≡◌, IfOk, OnOk, IfSome, IfNone, is_none};
+ghost use Rattle.awk_resolve.specs.Faults.{Misdefined};
+ghost use Rattle.awk_resolve.specs.Search as search_of;
+ghost use Rattle.awk_text.specs.declared.place.Place as places;
+
+use crate::mention::{Mention, Part, Role};
+use crate::parameters::first_misnamed;
+use crate::table::Table;
+use awk_text::Memory;
+use awk_text::place::Place;
+use std::alloc::Global;
+
+/// The place of a function that is known already.
+fn redefined_in(known: &Table<usize>, role: &Role) -> Option<Place>
+    ensures { result ≡ search_of.redefined_in known.now role.now }
+{
+    match role {
+        Role::Function(name, _params) => match known.get(name.text.bytes()) {
+            Some(_count) => Some(name.place),
+            None => None,
+        },
+        Role::Begin | Role::End | Role::Rule => None,
+    }
+}
+
+/// Notes the function that an item of this role is.
+fn add(alloc: Global, role: &Role, known: &mut Table<usize>) -> Result<(), Memory>
+    ensures { OnOk result (known.new ≡ search_of.with_role role.now known.old) }
+{
+    match role {
+        Role::Function(name, params) => known.put(name.text.copy(alloc)?, params.len()),
+        Role::Begin | Role::End | Role::Rule => Ok(()),
+    }
+}
+
+/// Notes the functions of these parts, up to one that is known already: its place is answered.
+fn add_all(alloc: Global, parts: &[Part], known: &mut Table<usize>) -> Result<Option<Place>, Memory>
+    ensures place { IfOk result (λ place. place ≡ search_of.redefined known.old parts.now) }
+    ensures whole { IfOk result (λ place. IfNone place (known.new ≡ search_of.counts known.old parts.now)) }
+{
+    for part in parts {
+        if let Some(place) = redefined_in(known, &part.role) {
+            return Ok(Some(place));
+        }
+        add(alloc, &part.role, known)?;
+    }
+    Ok(None)
+}
+
+fn miscalled_mention(known: &Table<usize>, mention: &Mention) -> Option<Place>
+    ensures { (r : _) → result ≡ search_of.miscalled known.now r mention.now }
+{
+    match mention {
+        Mention::Call(name, args) => match known.get(name.text.bytes()) {
+            None => Some(name.place),
+            Some(count) => (*count < args.len()).then_some(name.place),
+        },
+        Mention::Scalar(_)
+        | Mention::Array(_)
+        | Mention::MainInput
+        | Mention::Next(_)
+        | Mention::Return(_)
+        | Mention::Stray(_) => None,
+    }
+}
+
+fn miscalled_in(known: &Table<usize>, mentions: &[Mention]) -> Option<Place>
+    ensures { (r : _) → result ≡ search_of.first_in (search_of.miscalled known.now) r mentions.now }
+{
+    for mention in mentions {
+        if let Some(place) = miscalled_mention(known, mention) {
+            return Some(place);
+        }
+    }
+    None
+}
+
+fn first_miscalled(known: &Table<usize>, parts: &[Part]) -> Option<Place>
+    ensures { result ≡ search_of.first (search_of.miscalled known.now) parts.now }
+{
+    for part in parts {
+        if let Some(place) = miscalled_in(known, part.mentions.as_slice()) {
+            return Some(place);
+        }
+    }
+    None
+}
+
+/// The place of a function that is defined twice, of a parameter that has the name of another one,
+/// of a function or of a variable that awk sets, or of a call that fits no function, if one of
+/// these stands in the script. `Memory` where memory is refused.
+pub fn misdefined(alloc: Global, parts: &[Part]) -> Result<Option<Place>, Memory>
+    ensures stands { IfOk result (λ found. IfSome found (λ place. Misdefined parts.now place)) }
+    ensures none { IfOk result (λ found. IfNone found ((place : places.Place) → Misdefined parts.now place → ⊥)) }
+{
+    let mut known = Table::new(alloc);
+    if let Some(place) = add_all(alloc, parts, &mut known)? {
+        return Ok(Some(place));
+    }
+    if let Some(place) = first_misnamed(alloc, &known, parts)? {
+        return Ok(Some(place));
+    }
+    Ok(first_miscalled(&known, parts))
+}

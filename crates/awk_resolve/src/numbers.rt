@@ -1,0 +1,272 @@
+// A number for each name of a script.
+
+ghost use Rattle.std.specs.Prelude.{◌≡◌, map, length, slice_get, IfOk, OnOk};
+ghost use Rattle.awk_resolve.specs.Kinds.{global, parameter};
+ghost use Rattle.awk_resolve.specs.Numbering as spec;
+ghost use Rattle.awk_resolve.specs.Uses as uses;
+
+use crate::mention::{Mention, Part, Role};
+use crate::table::Table;
+use crate::variables::{ARRAYS, SCALARS};
+use awk_text::Memory;
+use awk_text::octets::Octets;
+use awk_tree::Name;
+use sqlite_items::{Items, at};
+use std::alloc::{AllocError, Global};
+
+/// The parameters of a function.
+#[derive(Drop)]
+pub struct Scope {
+    /// Where each stands among them, by its text.
+    pub positions: Table<usize>,
+    /// The number of each, in order.
+    pub numbers: Items<usize>,
+}
+
+/// A number for each parameter of a script, and for each variable that it names or awk sets. No
+/// two have one number.
+#[derive(Drop)]
+pub struct Numbers {
+    pub functions: Table<Scope>,
+    pub globals: Table<usize>,
+    pub count: usize,
+}
+
+impl Scope {
+    fn new(alloc: Global) -> Scope
+        ensures { result ≡ spec.no_parameters }
+    {
+        Scope {
+            positions: Table::new(alloc),
+            numbers: Items::new(alloc),
+        }
+    }
+
+    fn add(&mut self, text: Octets, number: usize) -> Result<(), Memory>
+        ensures { OnOk result (self.new ≡ spec.with_parameter text number self.old) }
+    {
+        self.positions.put(text, self.numbers.len())?;
+        self.numbers.push(number)
+    }
+
+    /// The number of the parameter of this text.
+    pub fn number(&self, text: &[u8]) -> Option<usize>
+        ensures { result ≡ spec.in_scope self.now text.now }
+    {
+        match self.positions.get(text) {
+            Some(position) => self.numbers.get(*position).copied(),
+            None => None,
+        }
+    }
+}
+
+impl Numbers {
+    fn new(alloc: Global) -> Numbers
+        ensures { result ≡ spec.nothing }
+    {
+        Numbers {
+            functions: Table::new(alloc),
+            globals: Table::new(alloc),
+            count: 0,
+        }
+    }
+
+    /// The number of a variable of the whole script.
+    pub fn global(&self, text: &[u8]) -> Option<usize>
+        ensures { result ≡ spec.number self.now (global text.now) }
+    {
+        self.globals.get(text).copied()
+    }
+
+    /// The number of a parameter of this function.
+    pub fn parameter(&self, function: &[u8], text: &[u8]) -> Option<usize>
+        ensures { result ≡ spec.number self.now (parameter function.now text.now) }
+    {
+        match self.functions.get(function) {
+            Some(scope) => scope.number(text),
+            None => None,
+        }
+    }
+
+    /// The number of what a text is in an item of this role.
+    pub fn number(&self, role: &Role, text: &[u8]) -> Option<usize>
+        ensures { result ≡ spec.number_in self.now role.now text.now }
+    {
+        match role {
+            Role::Function(name, _params) => match self.parameter(name.text.bytes(), text) {
+                Some(number) => Some(number),
+                None => self.global(text),
+            },
+            Role::Begin | Role::End | Role::Rule => self.global(text),
+        }
+    }
+
+    pub fn is_function(&self, text: &[u8]) -> bool
+        ensures { result ≡ uses.is_function self.now text.now }
+    {
+        self.functions.get(text).is_some()
+    }
+
+    /// The numbers of the parameters of this function, in order.
+    pub fn parameters(&self, function: &[u8]) -> &[usize]
+        ensures { result.now ≡ uses.parameters self.now function.now }
+    {
+        match self.functions.get(function) {
+            Some(scope) => scope.numbers.as_slice(),
+            None => &[],
+        }
+    }
+
+    /// A number that no name has. More names than there are numbers have no room in memory.
+    fn fresh(&mut self) -> Result<usize, Memory>
+        ensures number { IfOk result (λ n. n ≡ self.old.count) }
+        ensures rest { OnOk result (self.new ≡ spec.counted self.old) }
+    {
+        let number = self.count;
+        self.count = number.checked_add(1).ok_or(AllocError)?;
+        Ok(number)
+    }
+
+    fn scope(&mut self, alloc: Global, params: &[Name]) -> Result<Scope, Memory>
+        ensures scope { IfOk result (λ s. s ≡ spec.scope self.old.count spec.no_parameters params.now) }
+        ensures rest { OnOk result (self.new ≡ spec.counted_by (length params.now) self.old) }
+    {
+        let mut scope = Scope::new(alloc);
+        for param in params {
+            let number = self.fresh()?;
+            scope.add(param.text.copy(alloc)?, number)?;
+        }
+        Ok(scope)
+    }
+
+    fn add_function(&mut self, alloc: Global, role: &Role) -> Result<(), Memory>
+        ensures { OnOk result (self.new ≡ spec.with_function role.now self.old) }
+    {
+        match role {
+            Role::Function(name, params) => {
+                let scope = self.scope(alloc, params.as_slice())?;
+                self.functions.put(name.text.copy(alloc)?, scope)
+            }
+            Role::Begin | Role::End | Role::Rule => Ok(()),
+        }
+    }
+
+    fn add_functions(&mut self, alloc: Global, parts: &[Part]) -> Result<(), Memory>
+        ensures { OnOk result (self.new ≡ spec.with_functions parts.now self.old) }
+    {
+        for part in parts {
+            self.add_function(alloc, &part.role)?;
+        }
+        Ok(())
+    }
+
+    fn add_global(&mut self, alloc: Global, text: &[u8]) -> Result<(), Memory>
+        ensures { OnOk result (self.new ≡ spec.with_global text.now self.old) }
+    {
+        let number = self.fresh()?;
+        self.globals
+            .put(Octets::new(Vec::from_slice(alloc, text)?), number)
+    }
+
+    /// Gives a number to what a text is in an item of this role, unless it has one.
+    fn add(&mut self, alloc: Global, role: &Role, text: &[u8]) -> Result<(), Memory>
+        ensures { OnOk result (self.new ≡ spec.with_name role.now text.now self.old) }
+    {
+        match self.number(role, text) {
+            Some(_number) => Ok(()),
+            None => self.add_global(alloc, text),
+        }
+    }
+
+    fn add_own(&mut self, alloc: Global, texts: &[&[u8]]) -> Result<(), Memory>
+        ensures { OnOk result (self.new ≡ spec.with_own (map (λ w. w.now) texts.now) self.old) }
+    {
+        for text in texts {
+            self.add(alloc, &Role::Begin, text)?;
+        }
+        Ok(())
+    }
+
+    fn add_argument(
+        &mut self,
+        alloc: Global,
+        role: &Role,
+        name: &Option<Name>,
+    ) -> Result<(), Memory>
+        ensures { OnOk result (self.new ≡ spec.with_argument role.now name.now self.old) }
+    {
+        match name {
+            Some(name) => self.add(alloc, role, name.text.bytes()),
+            None => Ok(()),
+        }
+    }
+
+    fn add_arguments(
+        &mut self,
+        alloc: Global,
+        role: &Role,
+        args: &[Option<Name>],
+    ) -> Result<(), Memory>
+        ensures { OnOk result (self.new ≡ spec.with_arguments role.now args.now self.old) }
+    {
+        for arg in args {
+            self.add_argument(alloc, role, arg)?;
+        }
+        Ok(())
+    }
+
+    fn add_mention(&mut self, alloc: Global, role: &Role, mention: &Mention) -> Result<(), Memory>
+        ensures { OnOk result (self.new ≡ spec.with_mention role.now mention.now self.old) }
+    {
+        match mention {
+            Mention::Scalar(name) => self.add(alloc, role, name.text.bytes()),
+            Mention::Array(name) => self.add(alloc, role, name.text.bytes()),
+            Mention::Call(_name, args) => self.add_arguments(alloc, role, args.as_slice()),
+            Mention::MainInput | Mention::Next(_) | Mention::Return(_) | Mention::Stray(_) => Ok(
+                (),
+            ),
+        }
+    }
+
+    fn add_mentions(
+        &mut self,
+        alloc: Global,
+        role: &Role,
+        mentions: &[Mention],
+    ) -> Result<(), Memory>
+        ensures { OnOk result (self.new ≡ spec.with_mentions role.now mentions.now self.old) }
+    {
+        for mention in mentions {
+            self.add_mention(alloc, role, mention)?;
+        }
+        Ok(())
+    }
+
+    fn add_parts(&mut self, alloc: Global, parts: &[Part]) -> Result<(), Memory>
+        ensures { OnOk result (self.new ≡ spec.with_parts parts.now self.old) }
+    {
+        for part in parts {
+            self.add_mentions(alloc, &part.role, part.mentions.as_slice())?;
+        }
+        Ok(())
+    }
+
+    /// Numbers the names of these items.
+    pub fn of(alloc: Global, parts: &[Part]) -> Result<Numbers, Memory>
+        ensures { IfOk result (λ numbers. numbers ≡ spec.numbers parts.now) }
+    {
+        let mut numbers = Numbers::new(alloc);
+        numbers.add_functions(alloc, parts)?;
+        numbers.add_own(alloc, &SCALARS)?;
+        numbers.add_own(alloc, &ARRAYS)?;
+        numbers.add_parts(alloc, parts)?;
+        Ok(numbers)
+    }
+}
+
+/// The number at this position.
+pub fn nth(numbers: &[usize], position: usize) -> Option<usize>
+    ensures { result ≡ slice_get numbers.now position }
+{
+    at(numbers, position).copied()
+}

@@ -1,0 +1,149 @@
+// The variables of a script, each where it stands first.
+
+ghost use Rattle.std.specs.Prelude.{◌≡◌, ◌++◌, [], ◌∷◌, map, IfOk, OnOk};
+ghost use Rattle.awk_resolve.specs.Rolls.{added};
+ghost use Rattle.awk_resolve.specs.Kinds.{scalars, arrays};
+ghost use Rattle.awk_resolve.specs.Sound.{Sound};
+ghost use Rattle.awk_resolve.specs.Tables as spec;
+
+use crate::mention::{Mention, Part, Role};
+use crate::roll::Roll;
+use crate::variables::{ARRAYS, SCALARS};
+use awk_text::Memory;
+use awk_text::octets::Octets;
+use awk_tree::Name;
+use std::alloc::{AllocError, Global};
+
+fn push_all(alloc: Global, texts: &[&[u8]], out: &mut Roll) -> Result<(), Memory>
+    ensures { OnOk result (out.new ≡ out.old ++ map (λ w. w.now) texts.now) }
+{
+    for text in texts {
+        out.push(Octets::new(Vec::from_slice(alloc, text)?))?;
+    }
+    Ok(())
+}
+
+/// The variables that awk sets.
+fn own(alloc: Global) -> Result<Roll, Memory>
+    ensures { IfOk result (λ roll. roll ≡ scalars ++ arrays) }
+{
+    let mut roll = Roll::new(alloc);
+    push_all(alloc, &SCALARS, &mut roll)?;
+    push_all(alloc, &ARRAYS, &mut roll)?;
+    Ok(roll)
+}
+
+/// Puts a name last, unless it is there.
+fn add_copy(alloc: Global, name: &Name, out: &mut Roll) -> Result<(), Memory>
+    ensures { OnOk result (out.new ≡ added name.now.text out.old) }
+{
+    out.add(name.text.copy(alloc)?)
+}
+
+/// Puts a name last that is no parameter, unless it is there.
+fn add_name(alloc: Global, parameters: &Roll, name: &Name, out: &mut Roll) -> Result<(), Memory>
+    ensures { OnOk result (out.new ≡ spec.behind out.old (spec.outside parameters.now (name.now ∷ []))) }
+{
+    match parameters.position(name.text.bytes()) {
+        Some(_place) => Ok(()),
+        None => add_copy(alloc, name, out),
+    }
+}
+
+fn add_argument(
+    alloc: Global,
+    parameters: &Roll,
+    name: &Option<Name>,
+    out: &mut Roll,
+) -> Result<(), Memory>
+    ensures { OnOk result (out.new ≡ spec.behind out.old (spec.outside parameters.now (spec.given (name.now ∷ [])))) }
+{
+    match name {
+        Some(name) => add_name(alloc, parameters, name, out),
+        None => Ok(()),
+    }
+}
+
+fn add_arguments(
+    alloc: Global,
+    parameters: &Roll,
+    args: &[Option<Name>],
+    out: &mut Roll,
+) -> Result<(), Memory>
+    ensures { OnOk result (out.new ≡ spec.behind out.old (spec.outside parameters.now (spec.given args.now))) }
+{
+    for arg in args {
+        add_argument(alloc, parameters, arg, out)?;
+    }
+    Ok(())
+}
+
+fn add_mention(
+    alloc: Global,
+    parameters: &Roll,
+    mention: &Mention,
+    out: &mut Roll,
+) -> Result<(), Memory>
+    ensures { OnOk result (out.new ≡ spec.behind out.old (spec.outside parameters.now (spec.used mention.now))) }
+{
+    match mention {
+        Mention::Scalar(name) => add_name(alloc, parameters, name, out),
+        Mention::Array(name) => add_name(alloc, parameters, name, out),
+        Mention::Call(_name, args) => add_arguments(alloc, parameters, args.as_slice(), out),
+        Mention::MainInput | Mention::Next(_) | Mention::Return(_) | Mention::Stray(_) => Ok(()),
+    }
+}
+
+fn add_mentions(
+    alloc: Global,
+    parameters: &Roll,
+    mentions: &[Mention],
+    out: &mut Roll,
+) -> Result<(), Memory>
+    ensures { OnOk result (out.new ≡ spec.behind out.old (spec.outside parameters.now (spec.all_used mentions.now))) }
+{
+    for mention in mentions {
+        add_mention(alloc, parameters, mention, out)?;
+    }
+    Ok(())
+}
+
+/// The names that an item of this role has to itself.
+fn parameters(alloc: Global, role: &Role) -> Result<Roll, Memory>
+    ensures { IfOk result (λ roll. roll ≡ spec.own_of role.now) }
+{
+    match role {
+        Role::Function(_name, params) => Roll::of_names(alloc, params.as_slice()),
+        Role::Begin | Role::End | Role::Rule => Ok(Roll::new(alloc)),
+    }
+}
+
+fn add_part(alloc: Global, part: &Part, out: &mut Roll) -> Result<(), Memory>
+    ensures { OnOk result (out.new ≡ spec.behind out.old (spec.outside (spec.own_of part.now.role) (spec.all_used part.now.mentions))) }
+{
+    let parameters = parameters(alloc, &part.role)?;
+    add_mentions(alloc, &parameters, part.mentions.as_slice(), out)
+}
+
+fn add_parts(alloc: Global, parts: &[Part], out: &mut Roll) -> Result<(), Memory>
+    ensures { OnOk result (out.new ≡ spec.behind out.old (spec.mentioned parts.now)) }
+{
+    for part in parts {
+        add_part(alloc, part, out)?;
+    }
+    Ok(())
+}
+
+/// The variables of these items, awk's own first. `Memory` where memory is refused, or a name has
+/// no letter, as none has that was read.
+pub fn variables(alloc: Global, parts: &[Part]) -> Result<Roll, Memory>
+    ensures variables { IfOk result (λ roll. roll ≡ spec.variables parts.now) }
+    ensures sound { IfOk result (λ roll. Sound roll) }
+{
+    let mut roll = own(alloc)?;
+    add_parts(alloc, parts, &mut roll)?;
+    match roll.position(&[]) {
+        Some(_place) => Err(AllocError),
+        None => Ok(roll),
+    }
+}

@@ -1,0 +1,234 @@
+// What the items of a script make of each number.
+
+ghost use Rattle.std.specs.Prelude.{◌≡◌, ◌++◌, [], map, replicate, IfOk, OnOk};
+ghost use Rattle.awk_resolve.specs.Uses as spec;
+
+use crate::mention::{Mention, Part, Role};
+use crate::numbers::{Numbers, nth};
+use crate::variables::{ARRAYS, SCALARS};
+use awk_text::Memory;
+use awk_tree::Name;
+use sqlite_items::Items;
+use std::alloc::Global;
+
+/// One use of a name, by its number.
+#[derive(Drop)]
+pub enum Use {
+    /// It is read or set as a scalar.
+    Scalar(usize),
+    /// It is used as an array.
+    Array(usize),
+    /// To the parameter of the first number, the name of the second is handed by itself.
+    Handed(usize, usize),
+}
+
+fn scalar(numbers: &Numbers, role: &Role, text: &[u8], out: &mut Items<Use>) -> Result<(), Memory>
+    ensures { OnOk result (out.new ≡ out.old ++ spec.scalar numbers.now role.now text.now) }
+{
+    match numbers.number(role, text) {
+        Some(number) => out.push(Use::Scalar(number)),
+        None => Ok(()),
+    }
+}
+
+fn array(numbers: &Numbers, role: &Role, text: &[u8], out: &mut Items<Use>) -> Result<(), Memory>
+    ensures { OnOk result (out.new ≡ out.old ++ spec.array numbers.now role.now text.now) }
+{
+    match numbers.number(role, text) {
+        Some(number) => out.push(Use::Array(number)),
+        None => Ok(()),
+    }
+}
+
+fn handed(
+    numbers: &Numbers,
+    role: &Role,
+    parameter: Option<usize>,
+    text: &[u8],
+    out: &mut Items<Use>,
+) -> Result<(), Memory>
+    ensures { OnOk result (out.new ≡ out.old ++ spec.handed numbers.now role.now parameter text.now) }
+{
+    match parameter {
+        Some(parameter) => match numbers.number(role, text) {
+            Some(number) => out.push(Use::Handed(parameter, number)),
+            None => Ok(()),
+        },
+        None => Ok(()),
+    }
+}
+
+/// A function by itself is no argument: its name is then used as a scalar too.
+fn function(numbers: &Numbers, role: &Role, text: &[u8], out: &mut Items<Use>) -> Result<(), Memory>
+    ensures { OnOk result (out.new ≡ out.old ++ spec.function numbers.now role.now text.now) }
+{
+    if numbers.is_function(text) {
+        scalar(numbers, role, text, out)
+    } else {
+        Ok(())
+    }
+}
+
+fn argument(
+    numbers: &Numbers,
+    role: &Role,
+    parameter: Option<usize>,
+    arg: &Option<Name>,
+    out: &mut Items<Use>,
+) -> Result<(), Memory>
+    ensures { OnOk result (out.new ≡ out.old ++ spec.argument numbers.now role.now parameter arg.now) }
+{
+    match arg {
+        Some(name) => {
+            function(numbers, role, name.text.bytes(), out)?;
+            handed(numbers, role, parameter, name.text.bytes(), out)
+        }
+        None => Ok(()),
+    }
+}
+
+fn arguments(
+    numbers: &Numbers,
+    role: &Role,
+    parameters: &[usize],
+    args: &[Option<Name>],
+    out: &mut Items<Use>,
+) -> Result<(), Memory>
+    ensures { OnOk result (out.new ≡ out.old ++ spec.arguments numbers.now role.now parameters.now 0 args.now) }
+{
+    let mut position = 0;
+    for arg in args {
+        argument(numbers, role, nth(parameters, position), arg, out)?;
+        position += 1;
+    }
+    Ok(())
+}
+
+fn mention(
+    numbers: &Numbers,
+    role: &Role,
+    mention: &Mention,
+    out: &mut Items<Use>,
+) -> Result<(), Memory>
+    ensures { OnOk result (out.new ≡ out.old ++ spec.mention numbers.now role.now mention.now) }
+{
+    match mention {
+        Mention::Scalar(name) => scalar(numbers, role, name.text.bytes(), out),
+        Mention::Array(name) => array(numbers, role, name.text.bytes(), out),
+        Mention::Call(name, args) => {
+            let parameters = numbers.parameters(name.text.bytes());
+            arguments(numbers, role, parameters, args.as_slice(), out)
+        }
+        Mention::MainInput | Mention::Next(_) | Mention::Return(_) | Mention::Stray(_) => Ok(()),
+    }
+}
+
+fn mentions(
+    numbers: &Numbers,
+    role: &Role,
+    mentions: &[Mention],
+    out: &mut Items<Use>,
+) -> Result<(), Memory>
+    ensures { OnOk result (out.new ≡ out.old ++ spec.mentions numbers.now role.now mentions.now) }
+{
+    for said in mentions {
+        mention(numbers, role, said, out)?;
+    }
+    Ok(())
+}
+
+fn parts(numbers: &Numbers, parts: &[Part], out: &mut Items<Use>) -> Result<(), Memory>
+    ensures { OnOk result (out.new ≡ out.old ++ spec.parts numbers.now parts.now) }
+{
+    for part in parts {
+        mentions(numbers, &part.role, part.mentions.as_slice(), out)?;
+    }
+    Ok(())
+}
+
+fn own_scalars(numbers: &Numbers, texts: &[&[u8]], out: &mut Items<Use>) -> Result<(), Memory>
+    ensures { OnOk result (out.new ≡ out.old ++ spec.own_scalars numbers.now (map (λ w. w.now) texts.now)) }
+{
+    for text in texts {
+        scalar(numbers, &Role::Begin, text, out)?;
+    }
+    Ok(())
+}
+
+fn own_arrays(numbers: &Numbers, texts: &[&[u8]], out: &mut Items<Use>) -> Result<(), Memory>
+    ensures { OnOk result (out.new ≡ out.old ++ spec.own_arrays numbers.now (map (λ w. w.now) texts.now)) }
+{
+    for text in texts {
+        array(numbers, &Role::Begin, text, out)?;
+    }
+    Ok(())
+}
+
+/// The uses of the variables that awk sets, and then those in these items.
+pub fn uses(alloc: Global, numbers: &Numbers, items: &[Part]) -> Result<Items<Use>, Memory>
+    ensures { IfOk result (λ uses. uses ≡ spec.uses numbers.now items.now) }
+{
+    let mut out = Items::new(alloc);
+    own_scalars(numbers, &SCALARS, &mut out)?;
+    own_arrays(numbers, &ARRAYS, &mut out)?;
+    parts(numbers, items, &mut out)?;
+    Ok(out)
+}
+
+/// The numbers that are scalars by a use of their own.
+pub fn scalars(alloc: Global, uses: &[Use]) -> Result<Items<usize>, Memory>
+    ensures { IfOk result (λ numbers. numbers ≡ spec.scalars uses.now) }
+{
+    let mut numbers = Items::new(alloc);
+    for one in uses {
+        if let Use::Scalar(number) = one {
+            numbers.push(*number)?;
+        }
+    }
+    Ok(numbers)
+}
+
+/// The numbers that are arrays by a use of their own.
+pub fn arrays(alloc: Global, uses: &[Use]) -> Result<Items<usize>, Memory>
+    ensures { IfOk result (λ numbers. numbers ≡ spec.arrays uses.now) }
+{
+    let mut numbers = Items::new(alloc);
+    for one in uses {
+        if let Use::Array(number) = one {
+            numbers.push(*number)?;
+        }
+    }
+    Ok(numbers)
+}
+
+fn no_links(alloc: Global, count: usize) -> Result<Vec<Items<usize>>, Memory>
+    ensures { IfOk result (λ table. table.items ≡ replicate count []) }
+{
+    let mut table = Vec::new(alloc);
+    for i in 0..count {
+        table.push(Items::new(alloc))?;
+    }
+    Ok(table)
+}
+
+fn link(table: &mut Vec<Items<usize>>, parameter: usize, number: usize) -> Result<(), Memory>
+    ensures { OnOk result (table.new.items ≡ spec.with_link parameter number table.old.items) }
+{
+    if let Some(numbers) = table.get_mut(parameter) {
+        numbers.push(number)?;
+    }
+    Ok(())
+}
+
+/// For each of this many numbers, the numbers of the names that are handed to it.
+pub fn links(alloc: Global, count: usize, uses: &[Use]) -> Result<Vec<Items<usize>>, Memory>
+    ensures { IfOk result (λ table. table.items ≡ spec.linked uses.now (replicate count [])) }
+{
+    let mut table = no_links(alloc, count)?;
+    for one in uses {
+        if let Use::Handed(parameter, number) = one {
+            link(&mut table, *parameter, *number)?;
+        }
+    }
+    Ok(table)
+}

@@ -1,0 +1,1035 @@
+#!/usr/bin/env python3
+"""Runs random scripts by awkbox and by the other awks that are installed, and compares what comes of them.
+
+The scripts and their inputs are of the common part of the language: whole numbers of moderate size, and nothing of what
+docs/LANGUAGE.md lists under "Where other awks answer otherwise". Each runs in a folder of its own, awkbox under a policy that
+allows what the scripts ask for. Compared are the exit status, the standard output and the files that are left.
+
+A script fails where awkbox answers otherwise than all other awks, and these agree with one another; where a single other awk
+is installed, it fails where the two differ. Where the others disagree, or a run does not end in time, the script is open: it
+decides nothing, and is counted. An awk that lacks a form of the standard is passed over where a script has that form.
+So a fault that one other awk shares goes unseen; one that all of them share is looked for in the standard.
+A script that fails is made smaller for as long as it fails, and printed as a row of runs.txt; the
+answers are those of the other awks. The scripts depend on the seed alone. The last line counts: 'N passed, M failed'.
+"""
+import argparse
+import os
+import random
+import re
+import shutil
+import signal
+import subprocess
+import sys
+import tempfile
+import time
+from collections import Counter
+from dataclasses import dataclass, replace
+from pathlib import Path
+from typing import NamedTuple
+
+TOP = Path(__file__).resolve().parent.parent
+BUILT = TOP / "crates/awkbox_program/out/awkbox_program"
+OTHERS = {
+    "gawk": ["gawk", "--posix"],
+    "mawk": ["mawk"],
+    "original-awk": ["original-awk"],
+    "busybox": ["busybox", "awk"],
+}
+
+# ---- The grammar: for each kind its forms, a line each, as `weight level template`.
+#
+# In a template `<kind>` is a part of that kind, `<kind:level>` one that stands in parentheses where it binds looser than the
+# level, and `{kind}` the name that `<kind>` gave before. What has no entry here is made by a function of Maker.
+# Kinds keep out what is not of the common part: a `small` is no more than a few hundred thousand, a `positive` is one that is
+# not negative, so that no awk makes a negative zero of it; a `text` may be compared with anything, and `any` may be a field too.
+
+LEVELS = "any choice or and match comparison concatenation sum product sign power operand".split()
+
+GRAMMAR = r"""
+number
+    5 operand <few>
+    1 choice -<few>
+    5 operand <number-name>
+    4 operand <positive>
+    3 sum <number:sum> + <number:product>
+    3 sum <number:sum> - <number:product>
+    2 product <positive:product> * <positive:sign>
+    1 product <number:product> % <divisor> + 0
+    1 operand int(<number:product> / <divisor>) + 0
+    1 choice <condition:or> ? <number> : <number:choice>
+    1 sum <cut-text> + 0
+    1 operand <number-array>[<key>]
+    1 operand <number-call>
+positive
+    5 operand <few>
+    2 operand <count>
+    2 operand length(<any>)
+    1 operand length()
+    2 operand index(<any>, <word>)
+    1 operand (<condition>)
+    1 operand ARGC
+    1 operand <power>
+power
+    1 power <few> ^ <exponent>
+power-assignment
+    1 any <number-target> = <few>; {number-target} ^= <exponent>
+cut-text
+    2 operand substr(<any>, <place>, 4)
+    1 operand substr(<any>, <place>, <few>)
+any
+    5 operand <field>
+    6 operand <text>
+text
+    5 operand <word>
+    5 operand <text-name>
+    4 concatenation <any:concatenation> <any:sum>
+    2 concatenation <any:concatenation> <number:sum>
+    1 concatenation <number:sum> <any:sum>
+    2 operand <cut-text>
+    1 operand substr(<any>, <place>)
+    1 operand tolower(<any>)
+    1 operand toupper(<any>)
+    1 operand sprintf(<format>)
+    1 choice <condition:or> ? <text> : <text:choice>
+    1 operand <text-array>[<key>]
+    1 operand <piece-array>[<place>]
+    1 operand <text-call>
+    1 operand <file-name>
+    1 operand ARGV[1]
+    1 operand ENVIRON["BESIDE"]
+condition
+    4 comparison <number:concatenation> <comparison> <number:concatenation>
+    3 comparison <text:concatenation> <comparison> <text:concatenation>
+    1 comparison <text:concatenation> <comparison> <number:concatenation>
+    2 and NF >= <place> && ${place} <comparison> <number:concatenation>
+    1 and NF >= <place> && ${place} <comparison> <text:concatenation>
+    3 match <any:comparison> ~ <regex>
+    1 match <any:comparison> !~ <regex>
+    1 match <any:comparison> ~ <regex-text>
+    2 operand <regex>
+    1 operand !<regex>
+    2 and <condition:and> && <condition:match>
+    2 or <condition:or> || <condition:and>
+    1 operand !(<condition>)
+    1 match <key:comparison> in <array>
+    1 match (<few>, <word>) in <array>
+    1 operand <text-name>
+    1 operand <number-name>
+    1 operand $<place>
+key
+    3 operand <word>
+    2 operand <few>
+    2 operand <field>
+    1 operand <cut-text>
+    1 operand <number-name>
+    1 any <few>, <word>
+regex
+    1 operand /<ere>/
+regex-text
+    1 operand "<ere>"
+ere
+    4 any <branch>
+    1 any ^<branch>
+    1 any <branch>$
+    1 any ^<branch>$
+    1 any <branch>|<ere>
+branch
+    3 any <repeated>
+    3 any <repeated><branch>
+repeated
+    5 any <atom>
+    1 any <atom>*
+    1 any <atom>+
+    1 any <atom>?
+    1 any <interval>
+interval
+    1 any <atom>{<place>}
+    1 any <atom>{<place>,}
+    1 any <atom>{1,<place>}
+atom
+    9 any <letter>
+    2 any .
+    2 any [<letter><letter>]
+    1 any [^<letter><letter>]
+    1 any [a-c]
+    1 any [0-9]
+    1 any [[:digit:]<letter>]
+    1 any [^[:alpha:]]
+    2 any (<branch>)
+    1 any (<branch>|<branch>)
+body
+    3 any <statements>
+statement
+    8 any print <items>
+    1 any print
+    1 any print(<items>)
+    3 any printf <format>
+    1 any printf(<format>)
+    2 any print <items> > "out1"
+    1 any printf <format> > ("out" 1)
+    1 any print <items> >> "out2"
+    1 any print <items> | "sort > sorted"
+    5 any <number-target> = <number:product> % 10007 + 0
+    2 any <number-target> += <few>
+    1 any <number-target> -= <few>
+    1 any <number-target>++
+    1 any --<number-target>
+    1 any <number-target> = <counter>++
+    1 any <power-assignment>
+    1 any <number-target> *= <place>; {number-target} = {number-target} % 1009 + 0
+    1 any <number-target> %= <divisor>; {number-target} += 0
+    1 any <number-target> *= 4; {number-target} /= 2; {number-target} = {number-target} % 997 + 0
+    4 any <text-target> = substr(<text>, 1, 20)
+    1 any <text-target> = <word>
+    2 any if (NF >= <place>) <text-target> = ${place}
+    2 any <number-array>[<key>] = <few>
+    1 any <number-array>[<key>] += <few>
+    2 any <number-array>[<key>]++
+    2 any <text-array>[<key>] = <word>
+    1 any <text-array>[<key>] = <text-name>
+    1 any delete <array>[<key>]
+    1 any <number-target> = 0; for (<loop-key> in <number-array>) {number-target} += {number-array}[{loop-key}]
+    1 any <number-target> = 0; for (<loop-key> in <array>) {number-target} += length({loop-key})
+    1 any for (<loop-key> in <array>) print {loop-key}, {array}[{loop-key}] | "sort > sorted"
+    2 any <number-target> = split(<any>, <piece-array>)
+    2 any <number-target> = split(<any>, <piece-array>, <separator>)
+    2 any if (length(<text-target>) < 60) <number-target> = gsub(<regex>, <replacement>, {text-target})
+    1 any <number-target> = sub(<regex>, <replacement>, <text-target>); {text-target} = substr({text-target}, 1, 30)
+    1 any if (length($0) < 60) print gsub(<regex>, <replacement>), $0, NF
+    1 any if (NF >= <place> && length($0) < 60) print sub(<regex-text>, <replacement>, ${place}), $0, NF
+    2 any if (match(<any>, <regex>)) print RSTART, RLENGTH
+    1 any $<place> = <few>
+    1 any $<place> = substr(<text>, 1, 6)
+    1 any NF = <place>
+    1 any $0 = substr(<text>, 1, 20)
+    3 any if (<condition>) <block>
+    2 any if (<condition>) <block> else <block>
+    1 any for (<counter> = 0; {counter} < <few>; {counter}++) <loop-block>
+    1 any <counter> = 0; while ({counter}++ < <place>) <loop-block>
+    1 any <counter> = 0; do <loop-block> while (++{counter} < <place>)
+    1 any for (<counter> = 0; ; {counter}++) { if ({counter} > <place>) break; print {counter} }
+    1 any <block>
+    1 any if ((getline <text-target>) > 0) print NF, {text-target}
+    1 any if ((getline) > 0) print NF, $0
+    2 any while ((getline <text-target> < "in2") > 0) <print-block>; close("in2")
+    1 any while ((getline < "in2") > 0) <print-block>; close("in2")
+    1 any print (getline <text-target> < "none")
+    1 any print <items> > "again"; close("again"); while ((getline <text-target> < "again") > 0) <print-block>; close("again")
+    1 any <command-loop>
+    1 any print (system("exit <few>") > 0)
+    1 any <procedure-call>
+reading-loop
+    2 any while (("sort in2" | getline <text-target>) > 0) <print-block>; close("sort in2")
+    1 any while (("sort in2" | getline) > 0) <print-block>; close("sort in2")
+print-block
+    1 any { <print-statement> }
+    1 any { <print-statement>; <print-statement> }
+print-statement
+    3 any print <items>
+    1 any printf <format>
+    1 any <number-target> += <few>
+    1 any <number-array>[<key>]++
+loop-block
+    4 any <block>
+    1 any { if (<condition>) break; <print-statement> }
+    1 any { if (<condition>) continue; <print-statement> }
+own-statement
+    3 any <number-target> = <number:product> % 10007 + 0
+    3 any <text-target> = substr(<text>, 1, 20)
+    2 any <number-array>[<key>]++
+    2 any if (<condition>) <own-block>
+    1 any if (length(<text-target>) < 60) <number-target> = gsub(<regex>, <replacement>, {text-target})
+rule
+    4 any <main-block>
+    3 any <condition> <main-block>
+    2 any <condition>
+    2 any <regex> <main-block>
+    1 any <regex>
+    1 any !<regex>
+    1 any <regex>, <regex> <main-block>
+    1 any <record-number> == <place>, <regex>
+    2 any BEGIN <block>
+    3 any END <block>
+main-block
+    6 any <block>
+    1 any { if (<condition>) next; <print-statement> }
+    1 any { if (<condition>) exit <few>; <print-statement> }
+    1 any { if (<condition>) exit; <print-statement> }
+"""
+
+# What a part becomes where it is made as small as it goes.
+LEAST = {
+    "number": ["0", "1"],
+    "positive": ["0", "1"],
+    "few": ["1"],
+    "any": ['""', '"a"', "$0"],
+    "text": ['""', '"a"'],
+    "cut-text": ['"1"'],
+    "key": ['"a"'],
+    "word": ['"a"'],
+    "condition": ["1", "0"],
+    "ere": ["a"],
+    "branch": ["a"],
+    "repeated": ["a"],
+    "atom": ["a"],
+    "replacement": ['""', '"x"'],
+    "main-block": ["{ print }"],
+    "print-statement": ["print"],
+    "own-block": ["{ }"],
+}
+
+LISTS = {"script": "\n", "statements": "\n", "items": ", ", "arguments": ", "}
+
+
+class Part(NamedTuple):
+    """A node in its place, which takes a kind: where it binds looser than the level, it stands in parentheses."""
+
+    node: "Node"
+    level: int
+    kind: str
+
+
+@dataclass(frozen=True)
+class Node:
+    """A piece of a script: its kind, how tight it binds, and its text, in which parts stand."""
+
+    kind: str
+    level: int
+    pieces: tuple
+
+    def parts(self):
+        return [piece for piece in self.pieces if isinstance(piece, Part)]
+
+    def nodes(self):
+        """This node and all below it."""
+        yield self
+        for part in self.parts():
+            yield from part.node.nodes()
+
+
+def leaf(kind, text, level="operand"):
+    return Node(kind, LEVELS.index(level), (text,))
+
+
+def part_text(part):
+    text = node_text(part.node)
+    return f"({text})" if part.node.level < part.level else text
+
+
+def format_text(node):
+    """The format of its directives, and behind it their values."""
+    directives = [part.node for part in node.parts()]
+    values = [part_text(part) for directive in directives for part in directive.parts()]
+    return ", ".join(['"' + "".join(directive.pieces[0] for directive in directives) + '"'] + values)
+
+
+def block_text(node):
+    inner = "".join(part_text(part) for part in node.parts())
+    return "{\n    " + inner.replace("\n", "\n    ") + "\n}" if inner else "{ }"
+
+
+def node_text(node):
+    if node.kind == "format":
+        return format_text(node)
+    if node.kind == "block":
+        return block_text(node)
+    if node.kind in LISTS:
+        return LISTS[node.kind].join(part_text(part) for part in node.parts())
+    return "".join(piece if isinstance(piece, str) else part_text(piece) for piece in node.pieces)
+
+
+class Form(NamedTuple):
+    weight: int
+    level: int
+    pieces: tuple  # a text, or (kind, level) of a part, or ("", kind) of a name that was given before
+    kinds: frozenset
+
+
+def read_template(template):
+    for text, kind, level, name in re.findall(r"([^<{]+|[<{](?![a-z]))|<([a-z-]+)(?::([a-z]+))?>|\{([a-z-]+)\}", template):
+        if kind:
+            yield kind, LEVELS.index(level or "any")
+        elif name:
+            yield "", name
+        else:
+            yield text
+
+
+def read_grammar(text):
+    forms, kind = {}, None
+    for line in filter(None, text.splitlines()):
+        if not line.startswith(" "):
+            kind = line
+            forms[kind] = []
+            continue
+        weight, level, template = line.split(None, 2)
+        pieces = tuple(read_template(template))
+        kinds = frozenset(piece[0] for piece in pieces if isinstance(piece, tuple))
+        forms[kind].append(Form(int(weight), LEVELS.index(level), pieces, kinds))
+    return forms
+
+
+FORMS = read_grammar(GRAMMAR)
+
+
+
+# Conversions of printf, each with the kind of its value and the flags that mean something for it.
+DIRECTIVES = [
+    ("d", "number", ["-", "+", " ", "0", "-+"]),
+    ("i", "number", ["-", "+", " ", "0"]),
+    ("o", "positive", ["-", "0"]),
+    ("u", "positive", ["-", "0"]),
+    ("x", "positive", ["-", "#", "0"]),
+    ("X", "positive", ["-", "#", "0"]),
+    ("c", "code", ["-"]),
+    ("s", "any", ["-"]),
+    ("s", "any", ["-"]),
+]
+
+
+def kinds_within(kind):
+    """The kinds that may stand where this one may: it, and those that it has as a form by themselves."""
+    within = {kind}
+    for form in FORMS.get(kind, []):
+        if len(form.pieces) == 1 and isinstance(form.pieces[0], tuple):
+            within |= kinds_within(form.pieces[0][0])
+    return within
+
+
+WITHIN = {kind: kinds_within(kind) for kind in FORMS}
+
+# Forms that are deep go down to these where no depth is left.
+SHALLOW = {
+    kind: [form for form in forms if not form.kinds & (FORMS.keys() | {"format", "items", "block", "own-block"} - {"cut-text"})] or forms
+    for kind, forms in FORMS.items()
+}
+
+
+@dataclass
+class Scope:
+    """The names that may be used in a place."""
+
+    numbers: list
+    number_targets: list  # those of them that may be set
+    texts: list
+    number_arrays: list
+    calls: dict  # of a kind of function to the name of the function
+
+
+class Maker:
+    """Makes a random script."""
+
+    def __init__(self, choose, reads_files):
+        self.choose = choose
+        self.reads_files = reads_files  # FILENAME is open where the standard input is read without an operand
+        self.fresh = 0
+        self.scope = Scope(["n1", "n2", "n3", "v"], ["n1", "n2", "n3"], ["t1", "t2", "t3"], ["A"], {})
+        # NR after a `command | getline` is another in other awks, so a script has the one or the other
+        self.reads_commands = choose.random() < 0.2
+
+    def make(self, kind, depth):
+        """A node of the kind, or the text of a name."""
+        if kind in FORMS:
+            return self.make_form(kind, depth)
+        return getattr(self, "make_" + kind.replace("-", "_"))(depth)
+
+    def make_form(self, kind, depth):
+        forms = FORMS[kind] if depth > 0 else SHALLOW[kind]
+        form = self.choose.choices(forms, [form.weight for form in forms])[0]
+        names, pieces = {}, []
+        for piece in form.pieces:
+            if isinstance(piece, str):
+                pieces.append(piece)
+            elif piece[0] == "":
+                pieces.append(names[piece[1]])
+            else:
+                made = self.make(piece[0], depth - 1)
+                if isinstance(made, Node):
+                    if len(form.pieces) == 1:
+                        return made
+                    made = Part(made, piece[1], piece[0])
+                else:
+                    names[piece[0]] = made
+                pieces.append(made)
+        return Node(kind, form.level, tuple(pieces))
+
+    def make_list(self, kind, count, part_kind, depth, level="any"):
+        level = LEVELS.index(level)
+        return Node(kind, 0, tuple(Part(self.make(part_kind, depth), level, part_kind) for _ in range(count)))
+
+    # constants
+
+    def make_few(self, _):
+        return leaf("few", str(self.choose.choice([0, 1, 1, 2, 2, 3, 4, 5, 9])))
+
+    def make_place(self, _):
+        return str(self.choose.randint(1, 4))
+
+    def make_divisor(self, _):
+        return str(self.choose.randint(2, 9))
+
+    def make_exponent(self, _):
+        return str(self.choose.randint(0, 3))
+
+    def make_comparison(self, _):
+        return self.choose.choice(["<", "<=", "==", "!=", ">", ">="])
+
+    def make_word(self, _):
+        count = self.choose.choice([1, 1, 2, 3, 4])
+        marks = ["a", "b", "c", "B", "0", "1", "2", "5", ":", ",", " ", "-", r"\t", r"\n", r"\"", r"\\", r"\101"]
+        return leaf("word", '"' + "".join(self.choose.choices(marks, k=count)) + '"')
+
+    def make_letter(self, _):
+        return self.choose.choice("aaabbbcc012:, ")
+
+    def make_separator(self, _):
+        return self.choose.choice(['":"', '" "', '","', "/[:,]/", "/b+/", '"[ab]"', '"a|:"', "/, */", "SUBSEP"])
+
+    def make_replacement(self, _):
+        return leaf("replacement", self.choose.choice(['""', '"x"', '"&"', '"<&>"', r'"\\&"', '"-&"', '"a b"']))
+
+    # names
+
+    def make_count(self, depth):
+        return self.choose.choice(["NF", self.make_record_number(depth)])
+
+    def make_record_number(self, _):
+        return "FNR" if self.reads_commands else self.choose.choice(["NR", "FNR"])
+
+    def make_field(self, _):
+        return leaf("field", self.choose.choice(["$0", "$1", "$1", "$2", "$3", "$NF", "$(1 + 1)"]))
+
+    def make_number_name(self, _):
+        return leaf("number-name", self.choose.choice(self.scope.numbers))
+
+    def make_number_target(self, _):
+        return self.choose.choice(self.scope.number_targets)
+
+    def make_text_name(self, _):
+        return leaf("text-name", self.choose.choice(self.scope.texts))
+
+    def make_text_target(self, _):
+        return self.choose.choice(self.scope.texts)
+
+    def make_number_array(self, _):
+        return self.choose.choice(self.scope.number_arrays)
+
+    def make_text_array(self, _):
+        return "B"
+
+    def make_piece_array(self, _):
+        return "C"
+
+    def make_array(self, depth):
+        return self.choose.choice([self.make_number_array(depth), "B", "C"])
+
+    def make_loop_key(self, _):
+        self.fresh += 1
+        return f"k{self.fresh}"
+
+    def make_counter(self, _):
+        self.fresh += 1
+        name = f"i{self.fresh}"
+        self.scope.numbers.append(name)
+        return name
+
+    def make_file_name(self, depth):
+        return leaf("file-name", "FILENAME") if self.reads_files else self.make("word", depth)
+
+    # lists and blocks
+
+    def make_items(self, depth):
+        return self.make_list("items", self.choose.choice([1, 1, 2, 2, 3]), "any", depth, "concatenation")
+
+    def make_statements(self, depth):
+        return self.make_list("statements", self.choose.choice([1, 2, 2, 3]), "statement", depth)
+
+    def make_block(self, depth):
+        return Node("block", 0, (Part(self.make("statements", depth), 0, "statements"),))
+
+    def make_own_block(self, depth):
+        statements = self.make_list("statements", self.choose.choice([1, 2]), "own-statement", depth)
+        return Node("block", 0, (Part(statements, 0, "statements"),))
+
+    def make_format(self, depth):
+        return self.make_list("format", self.choose.choice([1, 1, 2, 3]), "directive", depth)
+
+    def make_directive(self, depth):
+        conversion, kind, flags = self.choose.choice(DIRECTIVES)
+        flag = self.choose.choice(["", "", *flags])
+        width = self.choose.choice(["", "", "1", "3", "6"])
+        precision = self.choose.choice(["", "", ".1", ".3"]) if conversion != "c" else ""
+        text = f"%{flag}{width}{precision}{conversion}" + self.choose.choice(["", " ", ":", "a", r"\n", "%%"])
+        concatenation = LEVELS.index("concatenation")
+        return Node("directive", 0, (text, Part(self.make(kind, depth), concatenation, kind)))
+
+    def make_code(self, _):
+        return leaf("code", self.choose.choice(["65", "97", "48 + 1", '"a"', '"bc"', '"5"']), "sum")
+
+    def make_command_loop(self, depth):
+        if not self.reads_commands:
+            return self.make("print-statement", depth)
+        return self.make("reading-loop", depth)
+
+    # functions
+
+    def make_number_call(self, depth):
+        return self.make_call("number", depth) or self.make("few", depth)
+
+    def make_text_call(self, depth):
+        return self.make_call("text", depth) or self.make("word", depth)
+
+    def make_procedure_call(self, depth):
+        return self.make_call("procedure", depth) or self.make("print-statement", depth)
+
+    def make_call(self, kind, depth):
+        name = self.scope.calls.get(kind)
+        if not name:
+            return None
+        first = Part(self.make("few", 0), 0, "few") if kind != "procedure" else self.make_number_array(0)
+        pieces = (name + "(", first, ", ", Part(self.make("text", depth), 0, "text"), ")")
+        return Node(kind + "-call", LEVELS.index("operand"), pieces)
+
+    def make_function(self, kind, name):
+        """A function that only changes its own variables, and calls itself with a first argument that comes down to 0."""
+        outer, self.scope = self.scope, Scope(["n1", "d", "n"], ["n"], ["s", "r"], ["L"], {})
+        ends = Part(self.make(kind, 1), 0, kind)
+        body = Part(self.make("own-block", 2), 0, "own-block")
+        value = Part(self.make(kind, 2), LEVELS.index("product"), kind)
+        value = (value, f" % 1009 + {name}(d - 1, s)") if kind == "number" else ("substr(", value, f", 1, 9) {name}(d - 1, s)")
+        self.scope = outer
+        start = f"function {name}(d, s, n, r, L) {{\n    if (d <= 0) return "
+        return Node("function", 0, (start, ends, "\n    ", body, "\n    return ", *value, "\n}"))
+
+    def make_procedure(self, name):
+        """A function that may do what a rule may, and is called as a statement only."""
+        outer, self.scope = self.scope, Scope(["n1", "n"], ["n1", "n"], ["s", "r"], ["P", "L"], {})
+        body = Part(self.make("block", 2), 0, "block")
+        self.scope = outer
+        return Node("function", 0, (f"function {name}(P, s, n, r, L) ", body))
+
+    def make_script(self):
+        parts = []
+        for kind, name in (("number", "f"), ("text", "g"), ("procedure", "h")):
+            if self.choose.random() < 0.25:
+                function = self.make_procedure(name) if kind == "procedure" else self.make_function(kind, name)
+                parts.append(Part(function, 0, "rule"))
+                self.scope.calls[kind] = name
+        for _ in range(self.choose.choice([1, 2, 2, 3, 4])):
+            parts.append(Part(self.make("rule", 4), 0, "rule"))
+        return Node("script", 0, tuple(parts))
+
+
+# ---- A case: a script with what it is started with.
+
+
+@dataclass(frozen=True)
+class Case:
+    script: Node
+    options: tuple  # pairs, as ("-F", ":") and ("-v", "v=1")
+    operands: tuple
+    files: tuple  # pairs of a name and lines; "in1" is the standard input too
+
+    @property
+    def text(self):
+        return node_text(self.script) + "\n"
+
+
+OPTIONS = [
+    (),
+    (),
+    (),
+    (("-F", ":"),),
+    (("-F", ","),),
+    (("-F", "[:,]"),),
+    (("-F", "b+|:"),),
+    (("-v", "v=10"),),
+    (("-v", "v=a:1"), ("-F", ":")),
+    (("-v", "OFS=-"),),
+    (("-v", "OFS=, "), ("-F", ":")),
+    (("-v", "RS=;"),),
+    (("-v", "RS="),),
+    (("-v", "SUBSEP=:"),),
+    (("-v", r"ORS=|\n"),),
+]
+OPERANDS = [("in1",), ("in1",), ("in1", "in2"), ("v=3", "in1"), ("in1", "v=a1", "in2"), ("in2", "", "in1"), (), ("-",), ("in2", "-")]
+
+
+def make_line(choose):
+    words = []
+    for _ in range(choose.choice([0, 1, 2, 3, 3, 4, 5])):
+        word = "".join(choose.choices("abcABC", k=choose.randint(1, 3)))
+        number = str(choose.choice([0, 1, 2, 5, 9, 10, 12, 100, 999, "05", "+7", -1, -20]))
+        words.append(choose.choice([word, number, number, word + number]))
+        words.append(choose.choice([" ", " ", " ", "  ", "\t", ":", ":", ",", ", ", ";"]))
+    return "".join(words[:-1] if choose.random() < 0.8 else words)
+
+
+def make_case(seed, number):
+    choose = random.Random(f"{seed}:{number}")
+    files = []
+    for name in ("in1", "in2"):
+        files.append((name, tuple(make_line(choose) for _ in range(choose.choice([0, 1, 2, 3, 4, 6])))))
+    options, operands = choose.choice(OPTIONS), choose.choice(OPERANDS)
+    return Case(Maker(choose, bool(operands)).make_script(), options, operands, tuple(files))
+
+
+# ---- Running a case.
+
+
+class Outcome(NamedTuple):
+    """What came of a run; the status is None where it did not end in time."""
+
+    status: int | None
+    output: bytes
+    files: tuple
+
+
+POLICY = """version = 1
+base = "{base}"
+""" + "".join(
+    f'[[rule]]\neffect = "allow"\nkind = "{kind}"\nmatch = "{pattern}"\n'
+    for kind, patterns in {
+        "read": ["**"],
+        "write": ["**"],
+        "append": ["**"],
+        "run": ["sort in2", "sort > sorted", *(f"exit {number}" for number in range(10))],
+        "env": ["BESIDE"],
+        "assign": ["*"],
+    }.items()
+    for pattern in patterns
+)
+
+REFUSED = 3  # awkbox's status where the script is refused
+MOST_SECONDS = 5
+MOST_BYTES = 1 << 20
+
+
+def limit():
+    """Keeps a run that does not end from filling the disk."""
+    import resource
+
+    resource.setrlimit(resource.RLIMIT_FSIZE, (MOST_BYTES, resource.getrlimit(resource.RLIMIT_FSIZE)[1]))
+
+
+class Awk:
+    """An awk, with a folder of its own that its runs are in."""
+
+    def __init__(self, name, command, room):
+        self.name = name
+        self.command = command
+        self.folder = room / name / "base"
+        self.script = room / name / "script.awk"
+        self.folder.mkdir(parents=True)
+        self.environment = {"PATH": os.environ["PATH"], "LC_ALL": "C", "BESIDE": "7 a"}
+        self.lacks = set()
+
+    def words(self, case):
+        options = [word for option in case.options for word in option]
+        return [*self.command, *options, "-f", str(self.script), "--", *case.operands]
+
+    def run(self, case):
+        self.script.write_text(case.text)
+        for name, lines in case.files:
+            (self.folder / name).write_text("".join(line + "\n" for line in lines))
+        status = self.start(case)
+        output = (self.folder.parent / "output").read_bytes()
+        files = []
+        for path in sorted(self.folder.iterdir()):
+            files.append((path.name, path.read_bytes()))
+            path.unlink()
+        return Outcome(status, output, tuple(files))
+
+    def start(self, case):
+        with open(self.folder / "in1", "rb") as given, open(self.folder.parent / "output", "wb") as output:
+            process = subprocess.Popen(
+                self.words(case),
+                stdin=given,
+                stdout=output,
+                stderr=subprocess.DEVNULL,
+                cwd=self.folder,
+                env=self.environment,
+                start_new_session=True,
+            )
+            try:
+                return process.wait(MOST_SECONDS)
+            except subprocess.TimeoutExpired:
+                os.killpg(process.pid, signal.SIGKILL)
+                process.wait()
+                return None
+
+
+class Awkbox(Awk):
+    """The built program, under a policy that allows what the scripts ask for."""
+
+    def __init__(self, program, room):
+        super().__init__("awkbox", [str(program), "run"], room)
+        policy = self.folder.parent / "policy.toml"
+        policy.write_text(POLICY.format(base=self.folder))
+        self.command += ["--policy", str(policy), "--log", str(self.folder.parent / "log")]
+
+
+# What some awks do not have, though the standard does: the kinds of its forms, and a script that ends with status 0 where it is there.
+PROBES = [
+    ({"interval"}, 'BEGIN { exit "aa" !~ /^a{2}$/ }'),
+    ({"power", "power-assignment"}, "BEGIN { exit 2 ^ 2 != 4 }"),
+]
+
+
+def probed(awk):
+    """The awk, with the kinds of forms that it lacks."""
+    for kinds, text in PROBES:
+        if awk.run(Case(leaf("probe", text), (), (), (("in1", ()),))).status != 0:
+            awk.lacks |= kinds
+    return awk
+
+
+class Verdict(NamedTuple):
+    fails: bool
+    is_open: bool  # whether the others disagree, or a run did not end in time
+    ours: Outcome
+    others: dict  # of a name to its outcome
+
+
+def judge(case, awkbox, awks):
+    kinds = {node.kind for node in case.script.nodes()}
+    ours = awkbox.run(case)
+    others = {awk.name: awk.run(case) for awk in awks if not awk.lacks & kinds}
+    outcomes = set(others.values())
+    is_late = any(outcome.status is None for outcome in {ours, *outcomes})
+    is_open = is_late or len(outcomes) != 1
+    return Verdict(not is_open and ours not in outcomes, is_open, ours, others)
+
+
+# ---- Making a case that fails smaller.
+
+
+def replacements(part):
+    """What may stand in the place of a part: what its kind is at the least, and what stands in it of its kind."""
+    within = WITHIN.get(part.kind, {part.kind})
+    for text in LEAST.get(part.kind, []):
+        yield leaf(part.kind, text)
+    for node in part.node.nodes():
+        if node is not part.node and node.kind in within:
+            yield node
+
+
+def smaller_nodes(node):
+    """The node with one of its parts left out or replaced, those first that change most."""
+    is_list = node.kind in LISTS or node.kind == "format"
+    least = 0 if node.kind in ("script", "statements") else 1
+    for at, part in enumerate(node.pieces):
+        if not isinstance(part, Part):
+            continue
+        before, behind = node.pieces[:at], node.pieces[at + 1 :]
+        if is_list and len(node.pieces) > least:
+            yield replace(node, pieces=before + behind)
+        for put in replacements(part):
+            yield replace(node, pieces=before + (part._replace(node=put),) + behind)
+        for put in smaller_nodes(part.node):
+            yield replace(node, pieces=before + (part._replace(node=put),) + behind)
+
+
+def without_one(items):
+    for at in range(len(items)):
+        yield items[:at] + items[at + 1 :]
+
+
+def smaller_lines(lines):
+    yield from without_one(lines)
+    for at, line in enumerate(lines):
+        words = re.findall(r"[^ :,;\t]+|[ :,;\t]+", line)
+        for left in without_one(words):
+            yield lines[:at] + ("".join(left),) + lines[at + 1 :]
+
+
+def smaller_cases(case):
+    size = len(case.text)
+    for script in smaller_nodes(case.script):
+        smaller = replace(case, script=script)
+        if len(smaller.text) < size:
+            yield smaller
+    for options in without_one(case.options):
+        yield replace(case, options=options)
+    for operands in without_one(case.operands):
+        yield replace(case, operands=operands)
+    for at, (name, lines) in enumerate(case.files):
+        for fewer in smaller_lines(lines):
+            yield replace(case, files=case.files[:at] + ((name, fewer),) + case.files[at + 1 :])
+
+
+def still_fails(verdict, awkbox, awks):
+    """Whether a case fails as the verdict does: a script that is refused is another fault than one that runs."""
+    was_refused = verdict.ours.status == REFUSED
+
+    def fails(case):
+        now = judge(case, awkbox, awks)
+        return now.fails and (now.ours.status == REFUSED) == was_refused
+
+    return fails
+
+
+def shrink(case, fails, until):
+    """The smallest case that is found to fail in this time, going on from each that is smaller and fails."""
+    tried = set()
+    going = True
+    while going:
+        going = False
+        for smaller in smaller_cases(case):
+            if time.monotonic() > until:
+                return case
+            if smaller not in tried:
+                tried.add(smaller)
+                if fails(smaller):
+                    case, going = smaller, True
+                    break
+    return case
+
+
+# ---- Telling.
+
+
+def quoted(data):
+    """Bytes as a text of a row."""
+    marks = {ord('"'): r"\"", ord("\\"): r"\\", ord("\n"): r"\n", ord("\t"): r"\t"}
+    return '"' + "".join(marks.get(byte) or (chr(byte) if 32 <= byte < 127 else f"\\{byte:03o}") for byte in data) + '"'
+
+
+def command_rows(case, awkbox):
+    """The commands of the script, with what they print and how they end."""
+    for name, lines in case.files:
+        (awkbox.folder / name).write_text("".join(line + "\n" for line in lines))
+    for command in sorted(set(re.findall(r'"(sort in2|sort > sorted|exit \d)"', case.text))):
+        done = subprocess.run(["sh", "-c", command], cwd=awkbox.folder, stdin=subprocess.DEVNULL, stdout=subprocess.PIPE)
+        yield f"command | {quoted(command.encode())} | {quoted(done.stdout)} | {done.returncode}"
+
+
+def start_rows(case):
+    yield "bound | 100000"
+    for option, text in case.options:
+        if option == "-F":
+            yield f"separator | {quoted(text.encode())}"
+        else:
+            yield "assign | " + " | ".join(quoted(part.encode()) for part in text.split("=", 1))
+    for operand in case.operands:
+        yield f"operand | {quoted(operand.encode())}"
+    for name, lines in case.files:
+        text = "".join(line + "\n" for line in lines)
+        yield f'put_file | "{name}" | {quoted(text.encode())}'
+        if name == "in1":
+            yield f"put_input | {quoted(text.encode())}"
+
+
+def end_rows(case, outcome):
+    yield f"status => {outcome.status}"
+    yield f"output => {quoted(outcome.output)}"
+    given = {name for name, _ in case.files} | {"sorted"}
+    for name, data in outcome.files:
+        if name not in given:
+            yield f'file | "{name}" => {quoted(data)}'
+
+
+def outcome_text(outcome):
+    files = "".join(f', file "{name}" {quoted(data)}' for name, data in outcome.files if not name.startswith("in"))
+    return f"status {outcome.status}, output {quoted(outcome.output)}{files}"
+
+
+def row(case, verdict, awkbox):
+    script = case.text.rstrip("\n")
+    lines = [f"  run | `{script}`" if "`" not in script else f"  run | {quoted(script.encode())}"]
+    answer = next(iter(verdict.others.values()))
+    rows = [*start_rows(case), *command_rows(case, awkbox), *end_rows(case, answer)]
+    return "\n".join(lines + ["    " + line for line in rows])
+
+
+def tell(number, case, verdict, awkbox):
+    print(f"# script {number}: awkbox came to {outcome_text(verdict.ours)}")
+    for name, outcome in verdict.others.items():
+        print(f"# {name}: {outcome_text(outcome)}")
+    print("# as a row, below a policy that allows all, as the one of scripts.txt:")
+    print(row(case, verdict, awkbox), flush=True)
+
+
+def installed(names, room):
+    return [
+        probed(Awk(name, command, room))
+        for name, command in OTHERS.items()
+        if (not names or name in names) and shutil.which(command[0])
+    ]
+
+
+class Counts:
+    def __init__(self):
+        self.passed = self.failed = self.open = self.alone = self.ran = 0
+        self.otherwise = Counter()
+        self.beside = Counter()
+
+    def add(self, verdict):
+        self.ran += 1
+        self.failed += verdict.fails
+        self.open += verdict.is_open
+        self.alone += verdict.is_open and verdict.ours not in verdict.others.values()
+        self.passed += not verdict.fails and not verdict.is_open
+        for name, outcome in verdict.others.items():
+            self.beside[name] += 1
+            self.otherwise[name] += outcome != verdict.ours
+
+    def tell(self, seed):
+        for name, count in self.beside.items():
+            print(f"beside {name}: {count} scripts, {self.otherwise[name]} of them otherwise")
+        print(f"seed {seed}: {self.ran} scripts; in {self.open} the others disagree, in {self.alone} of these all with awkbox")
+        print(f"{self.passed} passed, {self.failed} failed")
+
+
+def compare(words, awkbox, awks):
+    counts, end = Counts(), time.monotonic() + (words.seconds or float("inf"))
+    number = words.first
+    while number < words.first + words.count and time.monotonic() < end:
+        case = make_case(words.seed, number)
+        verdict = judge(case, awkbox, awks)
+        counts.add(verdict)
+        is_alone = words.alone and verdict.is_open and verdict.ours not in verdict.others.values()
+        if verdict.fails or is_alone:
+            if verdict.fails and not words.no_shrinking:
+                until = min(time.monotonic() + 30, end)
+                case = shrink(case, still_fails(verdict, awkbox, awks), until)
+            tell(number, case, judge(case, awkbox, awks), awkbox)
+        number += 1
+    counts.tell(words.seed)
+    return counts.failed
+
+
+def read_words():
+    reader = argparse.ArgumentParser(description=__doc__, formatter_class=argparse.RawDescriptionHelpFormatter)
+    reader.add_argument("--seed", type=int, default=1, help="what the scripts depend on (1)")
+    reader.add_argument("--count", type=int, help="how many scripts (1000, or as many as there is time for with --seconds)")
+    reader.add_argument("--seconds", type=float, help="how long at most")
+    reader.add_argument("--first", type=int, default=0, help="the number of the first script (0)")
+    reader.add_argument("--beside", action="append", choices=OTHERS, help="an awk to compare with, in place of all; may be repeated")
+    reader.add_argument("--no-shrinking", action="store_true", help="tell a script that fails as it is")
+    reader.add_argument("--alone", action="store_true", help="tell scripts too where the others disagree, and awkbox agrees with none")
+    reader.add_argument("--program", type=Path, default=os.environ.get("AWKBOX_PROGRAM", BUILT), help="the built program; AWKBOX_PROGRAM is another way to name it")
+    words = reader.parse_args()
+    if words.count is None:
+        words.count = 1000 if words.seconds is None else sys.maxsize
+    return words
+
+
+def main():
+    words = read_words()
+    program = Path(words.program).resolve()
+    if not os.access(program, os.X_OK):
+        sys.exit(f"{program} is not there; ./awkbox builds the program")
+    limit()
+    with tempfile.TemporaryDirectory() as room:
+        room = Path(room).resolve()
+        awks = installed(words.beside, room)
+        if not awks:
+            print("no other awk is installed, so nothing is compared")
+            print("0 passed, 0 failed")
+            return 0
+        return 1 if compare(words, Awkbox(program, room), awks) else 0
+
+
+if __name__ == "__main__":
+    sys.exit(main())
