@@ -1,5 +1,5 @@
 -- Requests of tasks, over a world.
-use Rattle.std.proofs.Common.{◌≡◌, refl, sym, ◌∙◌, ap, ℕ, Bool, true, false, true≢false, List, [], ◌∷◌, ◌++◌}
+use Rattle.std.proofs.Common.{◌≡◌, refl, sym, ◌∙◌, ap, ℕ, true, false, true≢false, List, [], ◌∷◌, ◌++◌}
 use Rattle.std.specs.Prelude.{Err, Option, Some}
 use Rattle.awk_text.specs.declared.place.Place.{Place}
 use Rattle.awk_text.specs.declared.fault.Fault.TheVariants.{Output}
@@ -10,6 +10,7 @@ use Rattle.box_world.specs.declared.ask.Reply.TheVariants as reply
 use Rattle.box_world.specs.declared.ask.Request.{Request}
 use Rattle.box_world.specs.declared.ask.Request.TheVariants as request
 use Rattle.box_world.specs.Events.{Key, Standard, Named, Writes, Runs, Looks, calls, open_streams, number_of, find_stream}
+use Rattle.box_world.specs.declared.world.World.{Ghosts}
 use Rattle.awk_program.specs.Slots.{Text}
 use Rattle.awk_program.specs.Program as expression
 use Rattle.awk_program.specs.Program.{Expression}
@@ -23,7 +24,7 @@ use Rattle.awk_machine.specs.Printing.{unless_failed}
 use Rattle.awk_machine.specs.State.{State, Course, Given}
 use Rattle.awk_machine.specs.Streams.{want, with_event, seen}
 use Rattle.awk_asks.specs.declared.halt.Halt.{Halt}
-use Rattle.awk_asks.specs.Chains.{Led, Ended, Leads}
+use Rattle.awk_asks.specs.Chains.{Led, Leads}
 use Rattle.awk_asks.specs.Tables.{Table, open_of}
 use Rattle.awk_asks.specs.Tasks.{Answered, Refused, Tells, IsNumber, beside, Does, is_failed, looked, value_given}
 use Rattle.awk_asks.proofs.Chain.{Laws, at_once, asked, unanswered}
@@ -31,13 +32,14 @@ use Rattle.awk_asks.proofs.Numbers.{fits_alone}
 
 -- ---- what a world's law gives
 
-pub laws_of : {W : Type 0} {follows : W → List Call → W → Type 0} {has_stopped : W → Bool} {stops : W → List Call → Ask → W → Type 0} →
-    ((u v w : W) (xs ys : List Call) → follows u xs v → follows v ys w → follows u (xs ++ ys) w) →
-    ((u v w : W) (xs ys : List Call) (ask : Ask) → follows u xs v → has_stopped v ≡ has_stopped u → stops v ys ask w → stops u (xs ++ ys) ask w) →
-    Laws (Led follows has_stopped) (Ended follows stops)
-laws_of append later = record {
+pub laws_of : {W : Type 0} {ghosts : Ghosts W} →
+    ((u v w : W) (xs ys : List Call) → ghosts.follows u xs v → ghosts.follows v ys w → ghosts.follows u (xs ++ ys) w) →
+    ((u v w : W) (xs ys : List Call) (ask : Ask) → ghosts.follows u xs v → ghosts.has_stopped v ≡ ghosts.has_stopped u → ghosts.stops v ys ask w → ghosts.stops u (xs ++ ys) ask w) →
+    ((v w : W) (cs : List Call) → ghosts.follows v cs w → ghosts.open_numbers w ≡ open_after cs (ghosts.open_numbers v)) → Laws ghosts
+laws_of append later opens = record {
   joined = λ u v w xs ys p q. record { leads = append u v w xs ys p.leads q.leads; same = q.same ∙ p.same };
   later = λ u v w xs ys ask p q. record { leads = append u v w xs ys p.leads q.leads; stopped = later u v w xs ys ask p.leads p.same q.stopped };
+  opens = opens;
 }
 
 -- ---- replies
@@ -108,15 +110,14 @@ looks_found name names k reply.Done found e = ap (λ o. looked name names o k) e
 looks_found name names k (reply.Status z) found e = ap (λ o. looked name names o k) e
 looks_found name names k reply.Failed found e = ap (λ o. looked name names o k) e
 
-module _ {W : Type 0} {follows : W → List Call → W → Type 0} {has_stopped : W → Bool} {stops : W → List Call → Ask → W → Type 0} (open_numbers : W → List ℕ)
-    (laws : Laws (Led follows has_stopped) (Ended follows stops)) (opens : (v w : W) (cs : List Call) → follows v cs w → open_numbers w ≡ open_after cs (open_numbers v)) where
-  pub fits_here : (first w : W) (cs : List Call) (q : Request) (r : Reply) → Led follows has_stopped first cs w → IsFitting (open_numbers w) q r → IsFitting (open_after cs []) q r
-  fits_here first w cs q r led fits = fits_alone cs (open_numbers first) q r (rw (opens first w cs led.leads) at fits)
+module _ {W : Type 0} {ghosts : Ghosts W} (laws : Laws ghosts) where
+  pub fits_here : (first w : W) (cs : List Call) (q : Request) (r : Reply) → Led ghosts first cs w → IsFitting (ghosts.open_numbers w) q r → IsFitting (open_after cs []) q r
+  fits_here first w cs q r led fits = fits_alone cs (ghosts.open_numbers first) q r (rw (laws.opens first w cs led.leads) at fits)
 
   -- a text was put: on with the reply
   pub puts : (g : Given) (s : State) (place : Place) (key : Key) (text : Text) (number : ℕ) (table : Table) (r : Reply) (w w' : W) → IsNumber key number table →
-      Answered follows has_stopped (open_numbers w) (record { place = place; given = false; request = request.Put number text }) w r w' →
-      Leads (Led follows has_stopped) (Ended follows stops) (beside s) Tells (λ t. s.course.used) g (Do (Put place key text)) table w (λ k. unless_failed place k r) table w'
+      Answered ghosts (record { place = place; given = false; request = request.Put number text }) w r w' →
+      Leads ghosts (beside s) Tells (λ t. s.course.used) g (Do (Put place key text)) table w (λ k. unless_failed place k r) table w'
   puts g s place key text number table r w w' is x =
       asked {then_ = λ k r. unless_failed place k r} (want place (Writes key text)) (record { place = place; given = false; request = request.Put number text }) r laws refl (at_once _ table w)
       (λ first k taken c led a.
@@ -126,8 +127,8 @@ module _ {W : Type 0} {follows : W → List Call → W → Type 0} {has_stopped 
 
   -- it was not put
   pub put_refused : (g : Given) (s : State) (place : Place) (key : Key) (text : Text) (number : ℕ) (table : Table) (h : Halt) (w w' : W) {A : Type 0} {on : A → List Piece → List Piece} → IsNumber key number table →
-      Refused follows has_stopped stops (record { place = place; given = false; request = request.Put number text }) w h w' →
-      Does follows has_stopped stops g s (Do (Put place key text)) on table w (Err h) table w'
+      Refused ghosts (record { place = place; given = false; request = request.Put number text }) w h w' →
+      Does ghosts g s (Do (Put place key text)) on table w (Err h) table w'
   put_refused g s place key text number table h w w' is x =
       rw x.is (unanswered {then_ = λ k r. unless_failed place k r} (want place (Writes key text)) (record { place = place; given = false; request = request.Put number text }) x.by laws (at_once _ table w)
       (λ k taken c a. let n = number_at key number table taken c is a in (seen (beside s table taken) c, put_asks g s place key text k number table taken c is a, rw n refl))
@@ -135,16 +136,16 @@ module _ {W : Type 0} {follows : W → List Call → W → Type 0} {has_stopped 
 
   -- a command was run, or not
   pub runs : (g : Given) (s : State) (place : Place) (x : Expression) (v : Value) (text : Text) (table : Table) (r : Reply) (w w' : W) → text_of v ≡ text →
-      Answered follows has_stopped (open_numbers w) (record { place = place; given = false; request = request.System text }) w r w' →
-      Leads (Led follows has_stopped) (Ended follows stops) (beside s) Tells (λ t. s.course.used) g (At (Value_of (expression.system place x)) (v ∷ [])) table w (λ k. give (status_of r) k) table w'
+      Answered ghosts (record { place = place; given = false; request = request.System text }) w r w' →
+      Leads ghosts (beside s) Tells (λ t. s.course.used) g (At (Value_of (expression.system place x)) (v ∷ [])) table w (λ k. give (status_of r) k) table w'
   runs g s place x v text table r w w' e y =
       asked {then_ = λ k r. give (status_of r) k} (want place (Runs text)) (record { place = place; given = false; request = request.System text }) r laws refl (at_once _ table w)
       (λ first k taken c led a. (taken, rw e refl, fits_here first w (calls c.events) (request.System text) r led y.fits, refl, tells_ran table taken c place text r a))
       y.call
 
   pub run_refused : (g : Given) (s : State) (place : Place) (x : Expression) (v : Value) (text : Text) (table : Table) (h : Halt) (w w' : W) {A : Type 0} {on : A → List Piece → List Piece} → text_of v ≡ text →
-      Refused follows has_stopped stops (record { place = place; given = false; request = request.System text }) w h w' →
-      Does follows has_stopped stops g s (At (Value_of (expression.system place x)) (v ∷ [])) on table w (Err h) table w'
+      Refused ghosts (record { place = place; given = false; request = request.System text }) w h w' →
+      Does ghosts g s (At (Value_of (expression.system place x)) (v ∷ [])) on table w (Err h) table w'
   run_refused g s place x v text table h w w' e y =
       rw y.is (unanswered {then_ = λ k r. give (status_of r) k} (want place (Runs text)) (record { place = place; given = false; request = request.System text }) y.by laws (at_once _ table w)
       (λ k taken c a. (seen (beside s table taken) c, rw e refl, refl))
@@ -152,16 +153,16 @@ module _ {W : Type 0} {follows : W → List Call → W → Type 0} {has_stopped 
 
   -- a name of the environment was looked up, or not
   pub looks : (g : Given) (s : State) (name : Text) (names : List Text) (table : Table) (r : Reply) (w w' : W) →
-      Answered follows has_stopped (open_numbers w) (record { place = nowhere; given = false; request = request.Env name }) w r w' →
-      Leads (Led follows has_stopped) (Ended follows stops) (beside s) Tells (λ t. s.course.used) g (Do (Environ (name ∷ names))) table w (λ k. environ_by name (Do (Environ names) ∷ k) r) table w'
+      Answered ghosts (record { place = nowhere; given = false; request = request.Env name }) w r w' →
+      Leads ghosts (beside s) Tells (λ t. s.course.used) g (Do (Environ (name ∷ names))) table w (λ k. environ_by name (Do (Environ names) ∷ k) r) table w'
   looks g s name names table r w w' y =
       asked {then_ = λ k r. environ_by name (Do (Environ names) ∷ k) r} (want nowhere (Looks name)) (record { place = nowhere; given = false; request = request.Env name }) r laws refl (at_once _ table w)
       (λ first k taken c led a. (taken, refl, fits_here first w (calls c.events) (request.Env name) r led y.fits, refl, tells_looked table taken c nowhere name r a))
       y.call
 
   pub look_refused : (g : Given) (s : State) (name : Text) (names : List Text) (table : Table) (h : Halt) (w w' : W) {A : Type 0} {on : A → List Piece → List Piece} →
-      Refused follows has_stopped stops (record { place = nowhere; given = false; request = request.Env name }) w h w' →
-      Does follows has_stopped stops g s (Do (Environ (name ∷ names))) on table w (Err h) table w'
+      Refused ghosts (record { place = nowhere; given = false; request = request.Env name }) w h w' →
+      Does ghosts g s (Do (Environ (name ∷ names))) on table w (Err h) table w'
   look_refused g s name names table h w w' y =
       rw y.is (unanswered {then_ = λ k r. environ_by name (Do (Environ names) ∷ k) r} (want nowhere (Looks name)) (record { place = nowhere; given = false; request = request.Env name }) y.by laws (at_once _ table w)
       (λ k taken c a. (seen (beside s table taken) c, refl, refl))

@@ -8,12 +8,12 @@ use Rattle.awk_text.specs.declared.value.Value.{Value}
 use Rattle.awk_text.specs.declared.value.Value.TheVariants.{Num}
 use Rattle.awk_fields.specs.Takes.{Input}
 use Rattle.awk_text.specs.Values.{truth}
-use Rattle.box_world.specs.Calls.{Call, IsStream, numbers_after, open_after}
-use Rattle.box_world.specs.declared.ask.Ask.{Ask}
+use Rattle.box_world.specs.Calls.{IsStream, numbers_after}
 use Rattle.box_world.specs.declared.ask.Reply.{Reply}
 use Rattle.box_world.specs.declared.ask.Reply.TheVariants as reply
 use Rattle.box_world.specs.declared.ask.Request.TheVariants as request
 use Rattle.box_world.specs.Events.{Class, Key, Standard, Named, Shuts, Stream, calls, class_number, find_stream, is_named, open_streams, without_stream}
+use Rattle.box_world.specs.declared.world.World.{Ghosts}
 use Rattle.awk_program.specs.Slots.{Text}
 use Rattle.awk_machine.specs.Advances.{advance, asked_by, held}
 use Rattle.awk_machine.specs.Closing.{is_closed, first_stream, shut_answer, first_answer, answer_or, close_by}
@@ -21,7 +21,7 @@ use Rattle.awk_machine.specs.Pieces.{Piece, Do, Close, Asks, give}
 use Rattle.awk_machine.specs.State.{Course, Given, State}
 use Rattle.awk_machine.specs.Streams.{seen, want, with_event}
 use Rattle.awk_asks.specs.declared.halt.Halt.{Halt}
-use Rattle.awk_asks.specs.Chains.{Led, Ended, Leads, Meets}
+use Rattle.awk_asks.specs.Chains.{Leads, Meets}
 use Rattle.awk_asks.specs.Closings.{first_of, first_status, shut_status}
 use Rattle.awk_asks.specs.Tables.{Table, Entry, open_of, find_input, entries_without}
 use Rattle.awk_asks.specs.Tasks.{Answered, Refused, Distinct, Tells, IsRead, Owns, beside, input_at}
@@ -181,8 +181,7 @@ shorter text c n (e ∷ es) h = by (is_named c text e.stream) h (shorter text c 
 
 -- ---- the machine
 
-module _ {W : Type 0} {follows : W → List Call → W → Type 0} {has_stopped : W → Bool} {stops : W → List Call → Ask → W → Type 0} (open_numbers : W → List ℕ)
-    (laws : Laws (Led follows has_stopped) (Ended follows stops)) (opens : (v w : W) (cs : List Call) → follows v cs w → open_numbers w ≡ open_after cs (open_numbers v)) (g : Given) (s : State) (place : Place) (text : Text) where
+module _ {W : Type 0} {ghosts : Ghosts W} (laws : Laws ghosts) (g : Given) (s : State) (place : Place) (text : Text) where
   at_first : (c : Class) (n : ℕ) (table : Table) (taken : Key → ℕ) (co : Course) → first_of text table.entries ≡ Some (c, n) → Tells table taken co →
       first_stream text (open_streams co.events) ≡ Some (record { class = c; text = text; number = n })
   at_first c n table taken co h a = ap (first_stream text) a.streams ∙ first_is text c n table.entries h
@@ -198,24 +197,24 @@ module _ {W : Type 0} {follows : W → List Call → W → Type 0} {has_stopped 
       ∙ ap (λ o. asked_by (if is_some o then None else Some reply.Failed) (want place (Shuts (Named c text))) (λ r. Do (Close place text (Some (first_answer so_far (shut_answer r)))) ∷ k) (seen (beside s table taken) co)) (found_at c n table taken co h a)
 
   pub close_one : {p : Piece} {old : Table} {first : W} (so_far : Option Value) (table new : Table) (c : Class) (n : ℕ) (r : Reply) (w w' : W) → first_of text table.entries ≡ Some (c, n) →
-      new.entries ≡ entries_without c text table.entries → new.input ≡ table.input → Answered follows has_stopped (open_numbers w) (record { place = place; given = false; request = request.Shut n }) w r w' →
-      Leads (Led follows has_stopped) (Ended follows stops) (beside s) Tells (λ t. s.course.used) g p old first (λ k. Do (Close place text so_far) ∷ k) table w →
-      Leads (Led follows has_stopped) (Ended follows stops) (beside s) Tells (λ t. s.course.used) g p old first (λ k. Do (Close place text (Some (first_answer so_far (shut_answer r)))) ∷ k) new w'
+      new.entries ≡ entries_without c text table.entries → new.input ≡ table.input → Answered ghosts (record { place = place; given = false; request = request.Shut n }) w r w' →
+      Leads ghosts (beside s) Tells (λ t. s.course.used) g p old first (λ k. Do (Close place text so_far) ∷ k) table w →
+      Leads ghosts (beside s) Tells (λ t. s.course.used) g p old first (λ k. Do (Close place text (Some (first_answer so_far (shut_answer r)))) ∷ k) new w'
   close_one so_far table new c n r w w' h es same x lead =
       asked {then_ = λ k r. Do (Close place text (Some (first_answer so_far (shut_answer r)))) ∷ k} (want place (Shuts (Named c text))) (record { place = place; given = false; request = request.Shut n }) r laws refl lead
       (λ begin k taken co led a. (
         taken,
         close_asks so_far k c n table taken co h a,
-        fits_here open_numbers laws opens begin w (calls co.events) (request.Shut n) r led x.fits,
+        fits_here laws begin w (calls co.events) (request.Shut n) r led x.fits,
         ap (λ m. record { place = place; given = false; request = request.Shut m }) (number_at (Named c text) n table taken co (first_found text c n table.entries h) a),
         tells_closed place c text table new taken co r es same a,
       ))
       x.call
 
   pub close_refused : {p : Piece} {old : Table} {first : W} {A : Type 0} {on : A → List Piece → List Piece} (so_far : Option Value) (table : Table) (c : Class) (n : ℕ) (h : Halt) (w w' : W) → first_of text table.entries ≡ Some (c, n) →
-      Refused follows has_stopped stops (record { place = place; given = false; request = request.Shut n }) w h w' →
-      Leads (Led follows has_stopped) (Ended follows stops) (beside s) Tells (λ t. s.course.used) g p old first (λ k. Do (Close place text so_far) ∷ k) table w →
-      Meets (Led follows has_stopped) (Ended follows stops) (beside s) Tells (λ t. s.course.used) g p on old first (Err h) table w'
+      Refused ghosts (record { place = place; given = false; request = request.Shut n }) w h w' →
+      Leads ghosts (beside s) Tells (λ t. s.course.used) g p old first (λ k. Do (Close place text so_far) ∷ k) table w →
+      Meets ghosts (beside s) Tells (λ t. s.course.used) g p on old first (Err h) table w'
   close_refused so_far table c n h w w' e x lead =
       rw x.is (unanswered {q = λ k. Do (Close place text so_far)} {to = λ k. k} {then_ = λ k r. Do (Close place text (Some (first_answer so_far (shut_answer r)))) ∷ k} (want place (Shuts (Named c text))) (record { place = place; given = false; request = request.Shut n }) x.by laws lead
       (λ k taken co a. (
@@ -227,8 +226,8 @@ module _ {W : Type 0} {follows : W → List Call → W → Type 0} {has_stopped 
 
   -- none is left
   pub close_done : {p : Piece} {old : Table} {first : W} (so_far : Option Value) (answer : Value) (table : Table) (w : W) → answer ≡ answer_or so_far → first_of text table.entries ≡ None →
-      Leads (Led follows has_stopped) (Ended follows stops) (beside s) Tells (λ t. s.course.used) g p old first (λ k. Do (Close place text so_far) ∷ k) table w →
-      Meets (Led follows has_stopped) (Ended follows stops) (beside s) Tells (λ t. s.course.used) g p give old first (Ok answer) table w
+      Leads ghosts (beside s) Tells (λ t. s.course.used) g p old first (λ k. Do (Close place text so_far) ∷ k) table w →
+      Meets ghosts (beside s) Tells (λ t. s.course.used) g p give old first (Ok answer) table w
   close_done so_far answer table w is none lead =
       rw is (done (changes {then_ = λ k. give (answer_or so_far) k} refl lead (λ k taken co a. (
         taken,

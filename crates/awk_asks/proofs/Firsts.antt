@@ -11,7 +11,8 @@ use Rattle.awk_fields.specs.declared.reader.Taken.TheVariants as taking
 use Rattle.awk_fields.specs.Heads.{Head, taken, need_more, done, too_long, last, is_newline, pair_place, trimmed, ended_by, head}
 use Rattle.awk_fields.specs.Takes.{Input, Takes}
 use Rattle.box_world.specs.Events.{Key}
-use Rattle.awk_asks.specs.Readings.{FailsFirst, FirstIs, read_taken, halted}
+use Rattle.awk_asks.specs.Chains.{halt_at}
+use Rattle.awk_asks.specs.Readings.{FailsFirst, FirstIs, read_taken}
 use Rattle.awk_asks.specs.Tables.{Table}
 use Rattle.awk_asks.specs.Tasks.{IsReadAt}
 use Rattle.awk_asks.proofs.Reading.{drop_drop}
@@ -108,6 +109,6 @@ first_is key old new i j too_long taking.NeedMore x r = absurd x
 first_is key old new i j too_long taking.Done x r = absurd x
 
 -- and how it fails
-pub fails_first : (place : Place) (h : Head) (e : Fault) → (e ≡ fault.Memory) ⊎ ((e ≡ fault.TextTooLong) × (h ≡ too_long)) → FailsFirst place h (halted place e)
-fails_first place h e (inl x) = inl (ap (halted place) x)
-fails_first place h e (inr x) = inr (ap (halted place) x.0, x.1)
+pub fails_first : (place : Place) (h : Head) (e : Fault) → (e ≡ fault.Memory) ⊎ ((e ≡ fault.TextTooLong) × (h ≡ too_long)) → FailsFirst place h (halt_at place e)
+fails_first place h e (inl x) = inl (ap (halt_at place) x)
+fails_first place h e (inr x) = inr (ap (halt_at place) x.0, x.1)

@@ -3,13 +3,14 @@ use Rattle.std.proofs.Common.{◌≡◌, refl, sym, ◌∙◌, ap, ℕ, Bool, fa
 use Rattle.std.specs.Prelude.{Option, Some, None, option_map, IfSome, IfOk, Result, Ok, Err}
 use Rattle.awk_text.specs.declared.place.Place.{Place}
 use Rattle.awk_text.specs.declared.fault.Fault.TheVariants.{Output}
-use Rattle.box_world.specs.Calls.{Call, IsFitting, open_after, numbers_after}
+use Rattle.box_world.specs.Calls.{IsFitting, numbers_after}
 use Rattle.box_world.specs.declared.ask.Ask.{Ask}
 use Rattle.box_world.specs.declared.ask.Mode.{Mode}
 use Rattle.box_world.specs.declared.ask.Reply.{Reply}
 use Rattle.box_world.specs.declared.ask.Reply.TheVariants as reply
 use Rattle.box_world.specs.declared.ask.Request.TheVariants as request
 use Rattle.box_world.specs.Events.{Class, Key, Named, calls, find_stream, open_streams}
+use Rattle.box_world.specs.declared.world.World.{Ghosts}
 use Rattle.awk_program.specs.Slots.{Text}
 use Rattle.awk_machine.specs.Advances.{advance, asked_by, held}
 use Rattle.awk_machine.specs.Moves.{move}
@@ -19,7 +20,7 @@ use Rattle.awk_machine.specs.Printing.{unless_failed}
 use Rattle.awk_machine.specs.State.{State, Course, Given}
 use Rattle.awk_machine.specs.Streams.{seen}
 use Rattle.awk_asks.specs.declared.halt.Halt.{Halt}
-use Rattle.awk_asks.specs.Chains.{Led, Ended, Leads, Meets}
+use Rattle.awk_asks.specs.Chains.{Leads, Meets}
 use Rattle.awk_asks.specs.Tables.{Table, Entry, open_of}
 use Rattle.awk_asks.specs.Tasks.{Refused, Opening, Opens, Tells, IsSame, Owns, beside, Does, fetched, number_opened, entries_opened}
 use Rattle.awk_asks.proofs.Asking.{fits_here}
@@ -72,30 +73,29 @@ module _ (g : Given) (p : Piece) (place : Place) (given : Bool) (mode : Mode) (c
       let t = seen (beside s table taken) co in
       ap (held g t) (is k t) ∙ ap (λ o. asked_by (option_map reply.Opened o) (opening place given mode c text) (then_ k) t) e
 
-  module _ {W : Type 0} {follows : W → List Call → W → Type 0} {has_stopped : W → Bool} {stops : W → List Call → Ask → W → Type 0} (open_numbers : W → List ℕ)
-      (laws : Laws (Led follows has_stopped) (Ended follows stops)) (opens : (v w : W) (cs : List Call) → follows v cs w → open_numbers w ≡ open_after cs (open_numbers v)) where
+  module _ {W : Type 0} {ghosts : Ghosts W} (laws : Laws ghosts) where
     pub open_known : (n : ℕ) (table : Table) (w : W) → find_stream c text (open_of table) ≡ Some n →
-        Leads (Led follows has_stopped) (Ended follows stops) (beside s) Tells (λ t. s.course.used) g p table w (λ k. then_ k (reply.Opened n)) table w
+        Leads ghosts (beside s) Tells (λ t. s.course.used) g p table w (λ k. then_ k (reply.Opened n)) table w
     open_known n table w e =
         known then_ (reply.Opened n) (at_once p table w) (λ k taken co a. stays_open k n table taken co (ap (find_stream c text) a.streams ∙ e))
 
     pub open_asked : (found : Option ℕ) (table new : Table) (w w' : W) → find_stream c text (open_of table) ≡ None →
-        (x : Opening follows has_stopped (open_numbers w) (record { place = place; given = given; request = request.Open mode text }) c text table w found new w') →
-        Leads (Led follows has_stopped) (Ended follows stops) (beside s) Tells (λ t. s.course.used) g p table w (λ k. then_ k x.reply) new w'
+        (x : Opening ghosts (record { place = place; given = given; request = request.Open mode text }) c text table w found new w') →
+        Leads ghosts (beside s) Tells (λ t. s.course.used) g p table w (λ k. then_ k x.reply) new w'
     open_asked found table new w w' none x =
         asked {then_ = then_} (opening place given mode c text) (record { place = place; given = given; request = request.Open mode text }) x.reply laws refl (at_once p table w)
         (λ first k taken co led a. (
           fresh c text taken,
           asks_open k table new taken co (ap (find_stream c text) a.streams ∙ none),
-          fits_here open_numbers laws opens first w (calls co.events) (request.Open mode text) x.reply led x.answer.fits,
+          fits_here laws first w (calls co.events) (request.Open mode text) x.reply led x.answer.fits,
           refl,
           tells_opening place given mode c text table taken co a none x.reply found new x.number x.entries x.input,
         ))
         x.answer.call
 
     pub open_refused : (h : Halt) (table new : Table) (w w' : W) {A : Type 0} {on : A → List Piece → List Piece} → find_stream c text (open_of table) ≡ None → IsSame table new →
-        Refused follows has_stopped stops (record { place = place; given = given; request = request.Open mode text }) w h w' →
-        Meets (Led follows has_stopped) (Ended follows stops) (beside s) Tells (λ t. s.course.used) g p on table w (Err h) new w'
+        Refused ghosts (record { place = place; given = given; request = request.Open mode text }) w h w' →
+        Meets ghosts (beside s) Tells (λ t. s.course.used) g p on table w (Err h) new w'
     open_refused h table new w w' none same x =
         rw x.is (unanswered {then_ = then_} (opening place given mode c text) (record { place = place; given = given; request = request.Open mode text }) x.by laws
         (settled refl (λ hid. refl) (λ hid co a. tells_same table new hid co same a) (at_once p table w))
@@ -136,24 +136,23 @@ input_opens place key k found (reply.Status z) e = ap (λ o. fetched place key o
 input_opens place key k found (reply.Value b) e = ap (λ o. fetched place key o k) e
 input_opens place key k found reply.Failed e = ap (λ o. fetched place key o k) e
 
-module _ {W : Type 0} {follows : W → List Call → W → Type 0} {has_stopped : W → Bool} {stops : W → List Call → Ask → W → Type 0} (open_numbers : W → List ℕ)
-    (laws : Laws (Led follows has_stopped) (Ended follows stops)) (opens : (v w : W) (cs : List Call) → follows v cs w → open_numbers w ≡ open_after cs (open_numbers v)) where
+module _ {W : Type 0} {ghosts : Ghosts W} (laws : Laws ghosts) where
   -- what a world answered to the opening of an input
   pub input_asked : (g : Given) (s : State) (place : Place) (c : Class) (text : Text) (table new : Table) (w w' : W) (r : Result (Option ℕ) Halt) → find_stream c text (open_of table) ≡ None →
-      Opens follows has_stopped stops (open_numbers w) (record { place = place; given = false; request = request.Open (input_mode c) text }) c text table w r new w' →
-      Does follows has_stopped stops g s (Do (Fetch place c text)) (fetched place (Named c text)) table w r new w'
+      Opens ghosts (record { place = place; given = false; request = request.Open (input_mode c) text }) c text table w r new w' →
+      Does ghosts g s (Do (Fetch place c text)) (fetched place (Named c text)) table w r new w'
   input_asked g s place c text table new w w' (Ok found) none x =
-      done (turned (open_asked g (Do (Fetch place c text)) place false (input_mode c) c text (opened place (Named c text)) (λ k t. refl) s open_numbers laws opens found table new w w' none x)
+      done (turned (open_asked g (Do (Fetch place c text)) place false (input_mode c) c text (opened place (Named c text)) (λ k t. refl) s laws found table new w w' none x)
       (λ k. input_opens place (Named c text) k found x.reply x.number))
   input_asked g s place c text table new w w' (Err h) none x =
-      open_refused g (Do (Fetch place c text)) place false (input_mode c) c text (opened place (Named c text)) (λ k t. refl) s open_numbers laws opens h table new w w' none x.1 x.0
+      open_refused g (Do (Fetch place c text)) place false (input_mode c) c text (opened place (Named c text)) (λ k t. refl) s laws h table new w w' none x.1 x.0
 
 input_found : (c : Class) (text : Text) (old new : Table) (found : Option ℕ) → find_stream c text (open_of old) ≡ None → new.entries ≡ entries_opened c text found old.entries →
     IfSome found (λ n. find_stream c text (open_of new) ≡ Some n)
 input_found c text old new None none es = tt
 input_found c text old new (Some n) none es = found_opened c text n old new none es
 
-pub input_finds : {W : Type 0} (follows : W → List Call → W → Type 0) (has_stopped : W → Bool) (stops : W → List Call → Ask → W → Type 0) (numbers : List ℕ) (ask : Ask) (c : Class) (text : Text) (old new : Table) (w w' : W) (r : Result (Option ℕ) Halt) →
-    find_stream c text (open_of old) ≡ None → Opens follows has_stopped stops numbers ask c text old w r new w' → IfOk r (λ o. IfSome o (λ n. find_stream c text (open_of new) ≡ Some n))
-input_finds follows has_stopped stops numbers ask c text old new w w' (Ok found) none x = input_found c text old new found none x.entries
-input_finds follows has_stopped stops numbers ask c text old new w w' (Err h) none x = tt
+pub input_finds : {W : Type 0} (ghosts : Ghosts W) (ask : Ask) (c : Class) (text : Text) (old new : Table) (w w' : W) (r : Result (Option ℕ) Halt) →
+    find_stream c text (open_of old) ≡ None → Opens ghosts ask c text old w r new w' → IfOk r (λ o. IfSome o (λ n. find_stream c text (open_of new) ≡ Some n))
+input_finds ghosts ask c text old new w w' (Ok found) none x = input_found c text old new found none x.entries
+input_finds ghosts ask c text old new w w' (Err h) none x = tt

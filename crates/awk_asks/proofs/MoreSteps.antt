@@ -4,12 +4,12 @@ use Rattle.std.specs.Prelude.{Option, Some, None, is_some, Ok, Err, codes, if◌
 use Rattle.awk_text.specs.declared.place.Place.{Place}
 use Rattle.awk_fields.specs.Heads.{Head, taken, need_more, done, too_long, head}
 use Rattle.awk_fields.specs.Takes.{Input}
-use Rattle.box_world.specs.Calls.{Call, IsFitting, open_after}
-use Rattle.box_world.specs.declared.ask.Ask.{Ask}
+use Rattle.box_world.specs.Calls.{IsFitting}
 use Rattle.box_world.specs.declared.ask.Reply.{Reply}
 use Rattle.box_world.specs.declared.ask.Reply.TheVariants as reply
 use Rattle.box_world.specs.declared.ask.Request.TheVariants as request
 use Rattle.box_world.specs.Events.{Key, Standard, Reads, calls}
+use Rattle.box_world.specs.declared.world.World.{Ghosts}
 use Rattle.awk_program.specs.Slots.{Text}
 use Rattle.awk_machine.specs.Advances.{advance, asked_by, held}
 use Rattle.awk_machine.specs.Getline.{read_by, read_on}
@@ -22,7 +22,7 @@ use Rattle.awk_asks.specs.declared.halt.Halt.{Halt}
 use Rattle.awk_asks.specs.declared.halt.Halt.TheVariants as halt
 use Rattle.awk_asks.specs.declared.getline.Found.{Found}
 use Rattle.awk_asks.specs.declared.inputs.Source.{Source}
-use Rattle.awk_asks.specs.Chains.{Led, Ended, Leads, Meets}
+use Rattle.awk_asks.specs.Chains.{Leads, Meets}
 use Rattle.awk_asks.specs.Readings.{FailsFirst, FailsOpen, FirstIs, GoesOn, HasCome, IsReading, Received, Waits, further, gives_read, key_of, read_further}
 use Rattle.awk_asks.specs.Tables.{Table}
 use Rattle.awk_asks.specs.Tasks.{Answered, Refused, Tells, IsNumber, IsReadAt, IsSame, Owns, beside, Does, fetched, goes_on, input_at}
@@ -117,37 +117,36 @@ reads_so g s place key = record {
 
 -- ---- the machine asks
 
-module _ {W : Type 0} {follows : W → List Call → W → Type 0} {has_stopped : W → Bool} {stops : W → List Call → Ask → W → Type 0} (open_numbers : W → List ℕ)
-    (laws : Laws (Led follows has_stopped) (Ended follows stops)) (opens : (v w : W) (cs : List Call) → follows v cs w → open_numbers w ≡ open_after cs (open_numbers v))
+module _ {W : Type 0} {ghosts : Ghosts W} (laws : Laws ghosts)
     (g : Given) (s : State) (p : Piece) (place : Place) (source : Source) (to : Found → List Piece → List Piece) (form : IsReading g s p place (key_of source) to) (number : ℕ) (old : Table) (is : IsNumber (key_of source) number old)
     (before : Input) (live : input_at (key_of source) old ≡ Some before) (waits : head (own_text s (codes "RS")) before.unread before.ended ≡ need_more) where
   read_asks : (w : W) (k : List Piece) (t : Key → ℕ) (c : Course) → Tells old t c →
       advance g (p ∷ k) (seen (beside s old t) c) ≡ Asks (want place (Reads (key_of source))) (form.then_ k) (seen (beside s old t) c)
   read_asks w k t c a =
-      head_moves (Led follows has_stopped) (Ended follows stops) g s place (key_of source) (own_text s (codes "RS")) refl old before live form (at_once p old w) need_more waits k t c a
+      head_moves ghosts g s place (key_of source) (own_text s (codes "RS")) refl old before live form (at_once p old w) need_more waits k t c a
       ∙ ap (held g (seen (beside s old t) c)) (form.asks k (seen (beside s old t) c))
       ∙ ap (λ b. asked_by (if b then None else Some reply.Failed) (want place (Reads (key_of source))) (form.then_ k) (seen (beside s old t) c)) (live_in (key_of source) old t c (before, live) a)
 
   reads_more : (new : Table) (r : Reply) (on : Bool) (w w' : W) → before.ended ≡ false → Received (key_of source) old new before r on →
-      Answered follows has_stopped (open_numbers w) (record { place = place; given = false; request = request.Next number }) w r w' →
-      Leads (Led follows has_stopped) (Ended follows stops) (beside s) Tells (λ t. s.course.used) g p old w (further p to on) new w'
+      Answered ghosts (record { place = place; given = false; request = request.Next number }) w r w' →
+      Leads ghosts (beside s) Tells (λ t. s.course.used) g p old w (further p to on) new w'
   reads_more new r on w w' open_ got x =
       turned (asked {then_ = form.then_} (want place (Reads (key_of source))) (record { place = place; given = false; request = request.Next number }) r laws refl (at_once p old w)
       (λ first k t c led a.
       let n = number_at (key_of source) number old t c is a in
-      (t, read_asks w k t c a, fits_here open_numbers laws opens first w (calls c.events) (request.Next number) r led x.fits, rw n refl, tells_reply place (key_of source) old new t c before r on number (open_numbers w) x.fits open_ live got a))
+      (t, read_asks w k t c a, fits_here laws first w (calls c.events) (request.Next number) r led x.fits, rw n refl, tells_reply place (key_of source) old new t c before r on number (ghosts.open_numbers w) x.fits open_ live got a))
       x.call)
-      (λ k. onward form old new before r on number (open_numbers w) k x.fits got)
+      (λ k. onward form old new before r on number (ghosts.open_numbers w) k x.fits got)
 
   pub read_received : (new : Table) (r : Reply) (on : Bool) (w w' : W) → before.ended ≡ false → Received (key_of source) old new before r on →
-      Answered follows has_stopped (open_numbers w) (record { place = place; given = false; request = request.Next number }) w r w' →
-      Does follows has_stopped stops g s p (further p to) old w (Ok on) new w'
+      Answered ghosts (record { place = place; given = false; request = request.Next number }) w r w' →
+      Does ghosts g s p (further p to) old w (Ok on) new w'
   read_received new r on w w' open_ got x = finished (reads_more new r on w w' open_ got x)
 
   -- what came can't be held
   pub read_lacks : {A : Type 0} {on : A → List Piece → List Piece} (new : Table) (r : Reply) (w w' : W) → before.ended ≡ false → HasCome r →
-      Answered follows has_stopped (open_numbers w) (record { place = place; given = false; request = request.Next number }) w r w' →
-      Does follows has_stopped stops g s p on old w (Err halt.Memory) new w'
+      Answered ghosts (record { place = place; given = false; request = request.Next number }) w r w' →
+      Does ghosts g s p on old w (Err halt.Memory) new w'
   read_lacks {on = on} new r w w' open_ has x = record {
     plays = λ first k hid c a.
         let held_ = come source before old r has live in
@@ -156,8 +155,8 @@ module _ {W : Type 0} {follows : W → List Call → W → Type 0} {has_stopped 
   }
 
   pub read_refused : {A : Type 0} {on : A → List Piece → List Piece} (h : Halt) (w w' : W) →
-      Refused follows has_stopped stops (record { place = place; given = false; request = request.Next number }) w h w' →
-      Does follows has_stopped stops g s p on old w (Err h) old w'
+      Refused ghosts (record { place = place; given = false; request = request.Next number }) w h w' →
+      Does ghosts g s p on old w (Err h) old w'
   read_refused h w w' x =
       rw x.is (unanswered {then_ = form.then_} (want place (Reads (key_of source))) (record { place = place; given = false; request = request.Next number }) x.by laws (at_once p old w)
       (λ k t c a. let n = number_at (key_of source) number old t c is a in (seen (beside s old t) c, read_asks w k t c a, rw n refl))
@@ -165,22 +164,22 @@ module _ {W : Type 0} {follows : W → List Call → W → Type 0} {has_stopped 
 
 -- ---- the first record, once the machine stands before the reading
 
-module _ {W : Type 0} (F : W → List Call → W → Type 0) (E : W → List Call → Ask → W → Type 0) (g : Given) (s : State) (place : Place) (key : Key) (rs : Text) (rs_is : own_text s (codes "RS") ≡ rs)
+module _ {W : Type 0} (ghosts : Ghosts W) (g : Given) (s : State) (place : Place) (key : Key) (rs : Text) (rs_is : own_text s (codes "RS") ≡ rs)
     (mid new : Table) (before : Input) (live : input_at key mid ≡ Some before) {p q : Piece} {to : Found → List Piece → List Piece} (form : IsReading g s q place key to) {old : Table} {first w : W}
-    (lead : Leads F E (beside s) Tells (λ t. s.course.used) g p old first (λ k. q ∷ k) mid w) where
+    (lead : Leads ghosts (beside s) Tells (λ t. s.course.used) g p old first (λ k. q ∷ k) mid w) where
   gives_first : (h : Head) (x : Found) → head rs before.unread before.ended ≡ h → FirstIs key mid new before h (Some x) →
-      Leads F E (beside s) Tells (λ t. s.course.used) g p old first (λ k. to x k) new w
+      Leads ghosts (beside s) Tells (λ t. s.course.used) g p old first (λ k. to x k) new w
   gives_first (taken text rest) x e y =
       let b = behind rs before.unread before.ended text rest e in
-      let z = reads_record F E g s place key rs rs_is mid before live form lead text rest b.0 new e b.1 y.1 in
+      let z = reads_record ghosts g s place key rs rs_is mid before live form lead text rest b.0 new e b.1 y.1 in
       turned z (λ k. ap (λ u. to u k) (sym y.0))
   gives_first need_more x e y = absurd y
   gives_first done x e y =
-      let z = settled refl (λ hid. refl) (λ hid c a. tells_unread key mid new hid c before live y.1 a) (reads_end F E g s place key rs rs_is mid before live form lead e) in
+      let z = settled refl (λ hid. refl) (λ hid c a. tells_unread key mid new hid c before live y.1 a) (reads_end ghosts g s place key rs rs_is mid before live form lead e) in
       turned z (λ k. ap (λ u. to u k) (sym y.0))
   gives_first too_long x e y = absurd y
 
-  pub gives : (x : Found) → FirstIs key mid new before (head rs before.unread before.ended) (Some x) → Meets F E (beside s) Tells (λ t. s.course.used) g p to old first (Ok x) new w
+  pub gives : (x : Found) → FirstIs key mid new before (head rs before.unread before.ended) (Some x) → Meets ghosts (beside s) Tells (λ t. s.course.used) g p to old first (Ok x) new w
   gives x y = finished (gives_first (head rs before.unread before.ended) x refl y)
 
   -- none is whole: more is waited for
@@ -190,13 +189,13 @@ module _ {W : Type 0} (F : W → List Call → W → Type 0) (E : W → List Cal
   waits_by done e y = absurd y
   waits_by too_long e y = absurd y
 
-  pub still_reads : FirstIs key mid new before (head rs before.unread before.ended) None → Leads F E (beside s) Tells (λ t. s.course.used) g p old first (λ k. q ∷ k) new w
+  pub still_reads : FirstIs key mid new before (head rs before.unread before.ended) None → Leads ghosts (beside s) Tells (λ t. s.course.used) g p old first (λ k. q ∷ k) new w
   still_reads y = let x = waits_by (head rs before.unread before.ended) refl y in settled refl (λ hid. refl) (λ hid c a. tells_unread key mid new hid c before live x.1 a) lead
 
   pub fails : {A : Type 0} {on : A → List Piece → List Piece} (h : Halt) → IsSame mid new → FailsFirst place (head rs before.unread before.ended) h →
-      Meets F E (beside s) Tells (λ t. s.course.used) g p on old first (Err h) new w
+      Meets ghosts (beside s) Tells (λ t. s.course.used) g p on old first (Err h) new w
   fails h same (inl e) = rw e (lacking (settled refl (λ hid. refl) (λ hid c a. tells_same mid new hid c same a) lead))
-  fails h same (inr x) = rw x.0 (closed (settled refl (λ hid. refl) (λ hid c a. tells_same mid new hid c same a) (reads_long F E g s place key rs rs_is mid before live form lead x.1)))
+  fails h same (inr x) = rw x.0 (closed (settled refl (λ hid. refl) (λ hid c a. tells_same mid new hid c same a) (reads_long ghosts g s place key rs rs_is mid before live form lead x.1)))
 
 pub waits_first : (key : Key) (old new : Table) (before : Input) (h : Head) → FirstIs key old new before h None → (h ≡ need_more) × IsReadAt key before old new
 waits_first key old new before (taken text rest) y = absurd y
@@ -250,9 +249,9 @@ first_opens key old new before too_long x y = absurd y
 minus_nothing : (n : ℕ) → n - length {A = ℕ} [] ≡ n
 minus_nothing n = omega arith
 
-pub forgets : {W : Type 0} (F : W → List Call → W → Type 0) (E : W → List Call → Ask → W → Type 0) (g : Given) (s : State) (old new : Table) (w : W) → GoesOn (Standard 0) old → new.entries ≡ old.entries → new.input ≡ record { unread = []; ended = false } →
-    Meets F E (beside s) Tells (λ t. s.course.used) g (Do (machine.Forget (Standard 0))) (goes_on {A = Unit {0}}) old w (Ok (tt {0})) new w
-forgets F E g s old new w open_ es is = finished (changes refl (at_once _ old w) (λ k t c a. (
+pub forgets : {W : Type 0} (ghosts : Ghosts W) (g : Given) (s : State) (old new : Table) (w : W) → GoesOn (Standard 0) old → new.entries ≡ old.entries → new.input ≡ record { unread = []; ended = false } →
+    Meets ghosts (beside s) Tells (λ t. s.course.used) g (Do (machine.Forget (Standard 0))) (goes_on {A = Unit {0}}) old w (Ok (tt {0})) new w
+forgets ghosts g s old new w open_ es is = finished (changes refl (at_once _ old w) (λ k t c a. (
   λ other. if same_key (Standard 0) other then length (came (Standard 0) c.events) else t other,
   subst (λ n. Tells new (λ other. if same_key (Standard 0) other then n else t other) c) (minus_nothing (length (came (Standard 0) c.events)))
       (tells_taken (Standard 0) old new t c old.input [] (length old.input.unread) a refl (sym (drop_all old.input.unread)) (read_standard (record { unread = []; ended = old.input.ended }) old new es (is ∙ ap (λ b. record { unread = []; ended = b }) (sym (open_ old.input refl))))),

@@ -6,19 +6,19 @@ use Rattle.std.specs.Prelude.{option_map, unwrap_or, is_some, Err}
 use Rattle.std.proofs.lemmas.Bool.Decides.{nat_tests}
 use Rattle.awk_text.specs.declared.place.Place.{Place}
 use Rattle.awk_fields.specs.Takes.{Input}
-use Rattle.box_world.specs.Calls.{Call, IsStream, numbers_after, open_after}
-use Rattle.box_world.specs.declared.ask.Ask.{Ask}
+use Rattle.box_world.specs.Calls.{IsStream, numbers_after}
 use Rattle.box_world.specs.declared.ask.Reply.{Reply}
 use Rattle.box_world.specs.declared.ask.Reply.TheVariants as reply
 use Rattle.box_world.specs.declared.ask.Request.TheVariants as request
 use Rattle.box_world.specs.Events.{Class, Key, Standard, Named, Shuts, calls, no_stream, number_of, find_stream, is_named, open_streams, without_stream}
+use Rattle.box_world.specs.declared.world.World.{Ghosts}
 use Rattle.awk_program.specs.Slots.{Text}
 use Rattle.awk_machine.specs.Advances.{advance, asked_by, over_by}
 use Rattle.awk_machine.specs.Pieces.{Piece, Do, Closing, Asks, Outcome, ends, nowhere}
 use Rattle.awk_machine.specs.State.{Course, Given, State}
 use Rattle.awk_machine.specs.Streams.{seen, want, with_event}
 use Rattle.awk_asks.specs.declared.halt.Halt.{Halt}
-use Rattle.awk_asks.specs.Chains.{Led, Ended, Leads, Meets}
+use Rattle.awk_asks.specs.Chains.{Leads, Meets}
 use Rattle.awk_asks.specs.Tables.{Table, Entry, open_of, find_input}
 use Rattle.awk_asks.specs.Tasks.{Answered, Refused, Distinct, Tells, IsRead, Owns, beside, closing, left_of, input_at, one_if, times}
 use Rattle.awk_asks.proofs.Asking.{fits_here}
@@ -89,8 +89,7 @@ first_owns numbers after table new n r h j is owns = λ m.
     let i : one_if (nat_eq f.0.stream.number m) ≡ one_if (nat_eq n m) = ap (λ k. one_if (nat_eq k m)) f.2 in
     rw (is, j, times-without n m numbers) (omega (arith, o, i))
 
-module _ {W : Type 0} {follows : W → List Call → W → Type 0} {has_stopped : W → Bool} {stops : W → List Call → Ask → W → Type 0} (open_numbers : W → List ℕ)
-    (laws : Laws (Led follows has_stopped) (Ended follows stops)) (opens : (v w : W) (cs : List Call) → follows v cs w → open_numbers w ≡ open_after cs (open_numbers v)) (g : Given) (s : State) (o : Outcome) where
+module _ {W : Type 0} {ghosts : Ghosts W} (laws : Laws ghosts) (g : Given) (s : State) (o : Outcome) where
   number_first : (e : Entry) (es : List Entry) (table : Table) (taken : Key → ℕ) (co : Course) → table.entries ≡ e ∷ es → Tells table taken co → open_streams co.events ≡ e.stream ∷ map (λ x. x.stream) es
   number_first e es table taken co i a = a.streams ∙ ap (map (λ x. x.stream)) i
 
@@ -111,25 +110,25 @@ module _ {W : Type 0} {follows : W → List Call → W → Type 0} {has_stopped 
       ∙ ap (λ b. unwrap_or (if b then Some e.stream.number else find_stream e.stream.class e.stream.text (map (λ x. x.stream) es)) no_stream) (named_self e.stream.class e.stream.text e.stream.number) ∙ j
 
   pub shut_one : {p : Piece} {old : Table} {first : W} (any : Bool) (table new : Table) (n : ℕ) (r : Reply) (w w' : W) → option_map (λ e. e.stream.number) (slice_get table.entries 0) ≡ Some n →
-      new.entries ≡ drop 1 table.entries → new.input ≡ table.input → Answered follows has_stopped (open_numbers w) (record { place = nowhere; given = false; request = request.Shut n }) w r w' →
-      Leads (Led follows has_stopped) (Ended follows stops) (beside s) Tells (λ t. s.course.used) g p old first (closing o any) table w →
-      Leads (Led follows has_stopped) (Ended follows stops) (beside s) Tells (λ t. s.course.used) g p old first (closing o true) new w'
+      new.entries ≡ drop 1 table.entries → new.input ≡ table.input → Answered ghosts (record { place = nowhere; given = false; request = request.Shut n }) w r w' →
+      Leads ghosts (beside s) Tells (λ t. s.course.used) g p old first (closing o any) table w →
+      Leads ghosts (beside s) Tells (λ t. s.course.used) g p old first (closing o true) new w'
   shut_one any table new n r w w' h j same x lead =
       let f = first_of table n h in
       asked {to = closing o any} {then_ = λ k r. ends o} (want nowhere (Shuts (Named f.0.stream.class f.0.stream.text))) (record { place = nowhere; given = false; request = request.Shut n }) r laws refl lead
       (λ begin k taken co led a. (
         taken,
         shuts (left_of any k) f.0 (drop 1 table.entries) table taken co f.1 a,
-        fits_here open_numbers laws opens begin w (calls co.events) (request.Shut n) r led x.fits,
+        fits_here laws begin w (calls co.events) (request.Shut n) r led x.fits,
         ap (λ m. record { place = nowhere; given = false; request = request.Shut m }) (asks_shut f.0 (drop 1 table.entries) table taken co n f.1 f.2 a),
         tells_shut nowhere f.0 (drop 1 table.entries) table new taken co r f.1 j same a,
       ))
       x.call
 
   pub shut_refused : {p : Piece} {old : Table} {first : W} {A : Type 0} {on : A → List Piece → List Piece} (any : Bool) (table : Table) (n : ℕ) (h : Halt) (w w' : W) → option_map (λ e. e.stream.number) (slice_get table.entries 0) ≡ Some n →
-      Refused follows has_stopped stops (record { place = nowhere; given = false; request = request.Shut n }) w h w' →
-      Leads (Led follows has_stopped) (Ended follows stops) (beside s) Tells (λ t. s.course.used) g p old first (closing o any) table w →
-      Meets (Led follows has_stopped) (Ended follows stops) (beside s) Tells (λ t. s.course.used) g p on old first (Err h) table w'
+      Refused ghosts (record { place = nowhere; given = false; request = request.Shut n }) w h w' →
+      Leads ghosts (beside s) Tells (λ t. s.course.used) g p old first (closing o any) table w →
+      Meets ghosts (beside s) Tells (λ t. s.course.used) g p on old first (Err h) table w'
   shut_refused any table n h w w' e x lead =
       let f = first_of table n e in
       rw x.is (unanswered {q = λ k. Do (Closing o)} {to = left_of any} {then_ = λ k r. ends o} (want nowhere (Shuts (Named f.0.stream.class f.0.stream.text))) (record { place = nowhere; given = false; request = request.Shut n }) x.by laws lead

@@ -1,12 +1,14 @@
 -- What a part of a run owes: from its piece the machine comes to what is left to be done, or the part is halted.
-use Rattle.std.specs.Prelude.{◌≡◌, Bool, ℕ, List, ◌∷◌, Some, None, Result, MatchResult}
+use Rattle.std.specs.Prelude.{◌≡◌, ℕ, List, ◌∷◌, Some, None, Result, Ok, Err, MatchResult}
 use Rattle.awk_text.specs.declared.place.Place.{Place}
+use Rattle.awk_text.specs.declared.fault.Fault.{Fault}
 use Rattle.awk_text.specs.declared.fault.Fault.TheVariants.{Memory as NoMemory, Log as NoLog}
 use Rattle.box_world.specs.Calls.{Call}
 use Rattle.box_world.specs.declared.ask.Ask.{Ask}
 use Rattle.box_world.specs.declared.ask.Stop.{Stop}
 use Rattle.box_world.specs.declared.ask.Stop.TheVariants as stop
 use Rattle.box_world.specs.Events.{Want, calls, ask_of, open_streams}
+use Rattle.box_world.specs.declared.world.World.{Ghosts}
 use Rattle.awk_machine.specs.Pieces.{Piece, Cut, Faulted, ends}
 use Rattle.awk_machine.specs.Plays.{Reaches, Stands}
 use Rattle.awk_machine.specs.State.{State, Course, Given, Phase}
@@ -18,31 +20,41 @@ use Rattle.awk_asks.specs.declared.halt.Halt.TheVariants as halt
 -- ---- worlds
 
 -- the one world led to the other by these calls, and stopped no more than it had
-pub record Led {W : Type 0} (follows : W → List Call → W → Type 0) (has_stopped : W → Bool) (old : W) (cs : List Call) (new : W) : Type 0 where
-  pub leads : follows old cs new
-  pub same : has_stopped new ≡ has_stopped old
+pub record Led {W : Type 0} (ghosts : Ghosts W) (old : W) (cs : List Call) (new : W) : Type 0 where
+  pub leads : ghosts.follows old cs new
+  pub same : ghosts.has_stopped new ≡ ghosts.has_stopped old
 
 -- it led to the other by these calls, which stopped at this ask
-pub record Ended {W : Type 0} (follows : W → List Call → W → Type 0) (stops : W → List Call → Ask → W → Type 0) (old : W) (cs : List Call) (ask : Ask) (new : W) : Type 0 where
-  pub leads : follows old cs new
-  pub stopped : stops old cs ask new
+pub record Ended {W : Type 0} (ghosts : Ghosts W) (old : W) (cs : List Call) (ask : Ask) (new : W) : Type 0 where
+  pub leads : ghosts.follows old cs new
+  pub stopped : ghosts.stops old cs ask new
 
 -- how a part ends whose request was not answered
 abbrev pub halt_by : Place → Stop → Halt
 halt_by place stop.Memory = halt.Memory
 halt_by place stop.Log = halt.Log place
 
+-- how a part ends that met a fault at a place: for want of memory the run ends as it stands
+abbrev pub halt_at : Place → Fault → Halt
+halt_at place NoMemory = halt.Memory
+halt_at place fault = halt.Fault fault place
+
+-- what was made at a place, or how the part ends
+abbrev pub result_at : {A : Type 0} → Place → Result A Fault → Result A Halt
+result_at place (Ok x) = Ok x
+result_at place (Err fault) = Err (halt_at place fault)
+
 -- ---- parts
 
--- W is the world. `Leading first cs w`: the first world led to w by these calls; `Ending`: it ended so, at an ask.
+-- W is the world.
 -- St is what the code holds and H what it does not: `base` is the machine's state, less the course; `Agreeing` says what of the
 -- three agrees, and `used` how many steps were taken.
-module _ {W St H : Type 0} (Leading : W → List Call → W → Type 0) (Ending : W → List Call → Ask → W → Type 0) (base : St → H → State) (Agreeing : St → H → Course → Type 0) (used : St → ℕ) where
+module _ {W St H : Type 0} (ghosts : Ghosts W) (base : St → H → State) (Agreeing : St → H → Course → Type 0) (used : St → ℕ) where
   abbrev pub at : St → H → Course → State
   at store hid c = seen (base store hid) c
 
   pub record Knows (first : W) (store : St) (hid : H) (c : Course) (world : W) : Type 0 where
-    pub leads : Leading first (calls c.events) world
+    pub leads : Led ghosts first (calls c.events) world
     pub agrees : Agreeing store hid c
     pub spent : c.used ≡ used store
 
@@ -59,7 +71,7 @@ module _ {W St H : Type 0} (Leading : W → List Call → W → Type 0) (Ending 
       pub todo : List Piece
       pub last : State
       pub course : Course
-      pub leads : Leading first (calls course.events) world
+      pub leads : Led ghosts first (calls course.events) world
       pub spent : course.used ≡ used store
       pub chain : Reaches g from s c todo last course
       pub stands : (place : Place) → Stands g todo last course (Faulted NoMemory place) None
@@ -70,7 +82,7 @@ module _ {W St H : Type 0} (Leading : W → List Call → W → Type 0) (Ending 
       pub last : State
       pub course : Course
       pub want : Want
-      pub ended : Ending first (calls course.events) (ask_of want (open_streams course.events)) world
+      pub ended : Ended ghosts first (calls course.events) (ask_of want (open_streams course.events)) world
       pub spent : course.used ≡ used store
       pub chain : Reaches g from s c todo last course
       pub stands : Stands g todo last course (Faulted NoLog place) (Some want)

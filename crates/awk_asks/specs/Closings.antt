@@ -1,13 +1,13 @@
 -- The streams of a text (POSIX.1-2017 XCU awk, "Input/Output and General Functions", close).
-use Rattle.std.specs.Prelude.{◌≡◌, ℕ, ℤ, pos, negsuc, ◌&&◌, Bool, if◌then◌else◌, List, [], ◌∷◌, Option, Some, None, Result, Ok, Err}
+use Rattle.std.specs.Prelude.{◌≡◌, ℕ, ℤ, pos, negsuc, ◌&&◌, if◌then◌else◌, List, [], ◌∷◌, Option, Some, None, Result, Ok, Err}
 use Rattle.std.specs.Str.{bytes_eq}
 use Rattle.awk_text.specs.Values.{truth}
 use Rattle.awk_text.specs.declared.value.Value.TheVariants.{Num}
-use Rattle.box_world.specs.Calls.{Call}
 use Rattle.box_world.specs.declared.ask.Ask.{Ask}
 use Rattle.box_world.specs.declared.ask.Reply.{Reply}
 use Rattle.box_world.specs.declared.ask.Reply.TheVariants as reply
 use Rattle.box_world.specs.Events.{Class}
+use Rattle.box_world.specs.declared.world.World.{Ghosts}
 use Rattle.awk_program.specs.Slots.{Text}
 use Rattle.awk_machine.specs.Closing.{is_closed}
 use Rattle.awk_asks.specs.declared.halt.Halt.{Halt}
@@ -31,6 +31,6 @@ first_status None y = y
 first_status (Some x) y = if truth (Num x) then x else y
 
 -- the world was asked, and the status is what its reply means
-abbrev pub Shuts : {W : Type 0} → (W → List Call → W → Type 0) → (W → Bool) → (W → List Call → Ask → W → Type 0) → List ℕ → Ask → W → Result ℤ Halt → W → Type 0
-Shuts follows has_stopped stops numbers ask old (Ok n) new = (r : Reply) × Answered follows has_stopped numbers ask old r new × (n ≡ shut_status r)
-Shuts follows has_stopped stops numbers ask old (Err h) new = Refused follows has_stopped stops ask old h new
+abbrev pub Shuts : {W : Type 0} → Ghosts W → Ask → W → Result ℤ Halt → W → Type 0
+Shuts ghosts ask old (Ok n) new = (r : Reply) × Answered ghosts ask old r new × (n ≡ shut_status r)
+Shuts ghosts ask old (Err h) new = Refused ghosts ask old h new

@@ -1,8 +1,7 @@
 -- Streams that are read (POSIX.1-2017 XCU awk, "Input/Output and General Functions", getline).
 use Rattle.std.specs.Prelude.{◌≡◌, ◌⊎◌, ℕ, Bool, true, false, pos, List, ◌∷◌, ◌++◌, Option, Some, None}
 use Rattle.awk_text.specs.declared.place.Place.{Place}
-use Rattle.awk_text.specs.declared.fault.Fault.{Fault}
-use Rattle.awk_text.specs.declared.fault.Fault.TheVariants.{TextTooLong, Memory as NoMemory}
+use Rattle.awk_text.specs.declared.fault.Fault.TheVariants.{TextTooLong}
 use Rattle.awk_text.specs.declared.value.Value.{Value}
 use Rattle.awk_text.specs.declared.value.Value.TheVariants as v
 use Rattle.awk_fields.specs.declared.reader.Taken.{Taken}
@@ -71,11 +70,6 @@ pub record IsLine (key : Key) (rs : Text) (old : Table) (text : Text) (new : Tab
 -- it can't be taken: it is too long, or memory is refused
 abbrev pub FailsFirst : Place → Head → Halt → Type 0
 FailsFirst place first h = (h ≡ halt.Memory) ⊎ ((h ≡ halt.Fault TextTooLong place) × (first ≡ too_long))
-
--- how a reading ends that met a fault
-abbrev pub halted : Place → Fault → Halt
-halted place NoMemory = halt.Memory
-halted place fault = halt.Fault fault place
 
 -- ---- more of it
 

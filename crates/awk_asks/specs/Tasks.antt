@@ -4,7 +4,7 @@ use Rattle.awk_text.specs.declared.place.Place.{Place}
 use Rattle.awk_text.specs.declared.value.Value.TheVariants.{Input as InputText}
 use Rattle.awk_fields.specs.Rows.{Row}
 use Rattle.awk_fields.specs.Takes.{Input}
-use Rattle.box_world.specs.Calls.{Call, IsFitting, numbers_after}
+use Rattle.box_world.specs.Calls.{IsFitting, numbers_after}
 use Rattle.box_world.specs.declared.ask.Ask.{Ask}
 use Rattle.box_world.specs.declared.ask.Reply.{Reply}
 use Rattle.box_world.specs.declared.ask.Reply.TheVariants.{Opened, Failed, Value as GivenValue}
@@ -13,6 +13,7 @@ use Rattle.box_world.specs.declared.ask.Request.TheVariants.{Put}
 use Rattle.box_world.specs.declared.ask.Stop.{Stop}
 use Rattle.box_world.specs.declared.ask.Stop.TheVariants as stop
 use Rattle.box_world.specs.Events.{Class, Key, Standard, Named, Stream, find_stream, open_streams}
+use Rattle.box_world.specs.declared.world.World.{Ghosts}
 use Rattle.awk_program.specs.Slots.{Text}
 use Rattle.awk_program.specs.Program.{global}
 use Rattle.awk_machine.specs.Getline.{failure}
@@ -25,19 +26,19 @@ use Rattle.awk_asks.specs.Tables.{Table, Entry, open_of, find_input}
 
 -- ---- one request
 
-pub record Answered {W : Type 0} (follows : W → List Call → W → Type 0) (has_stopped : W → Bool) (numbers : List ℕ) (ask : Ask) (old : W) (reply : Reply) (new : W) : Type 0 where
-  pub call : Led follows has_stopped old ((ask, reply) ∷ []) new
-  pub fits : IsFitting numbers ask.request reply
+pub record Answered {W : Type 0} (ghosts : Ghosts W) (ask : Ask) (old : W) (reply : Reply) (new : W) : Type 0 where
+  pub call : Led ghosts old ((ask, reply) ∷ []) new
+  pub fits : IsFitting (ghosts.open_numbers old) ask.request reply
 
-pub record Refused {W : Type 0} (follows : W → List Call → W → Type 0) (has_stopped : W → Bool) (stops : W → List Call → Ask → W → Type 0) (ask : Ask) (old : W) (h : Halt) (new : W) : Type 0 where
+pub record Refused {W : Type 0} (ghosts : Ghosts W) (ask : Ask) (old : W) (h : Halt) (new : W) : Type 0 where
   pub by : Stop
   pub is : h ≡ halt_by ask.place by
-  pub memory : by ≡ stop.Memory → Led follows has_stopped old [] new
-  pub log : by ≡ stop.Log → Ended follows stops old [] ask new
+  pub memory : by ≡ stop.Memory → Led ghosts old [] new
+  pub log : by ≡ stop.Log → Ended ghosts old [] ask new
 
-abbrev pub Answers : {W : Type 0} → (W → List Call → W → Type 0) → (W → Bool) → (W → List Call → Ask → W → Type 0) → List ℕ → Ask → W → Result Reply Halt → W → Type 0
-Answers follows has_stopped stops numbers ask old (Ok reply) new = Answered follows has_stopped numbers ask old reply new
-Answers follows has_stopped stops numbers ask old (Err h) new = Refused follows has_stopped stops ask old h new
+abbrev pub Answers : {W : Type 0} → Ghosts W → Ask → W → Result Reply Halt → W → Type 0
+Answers ghosts ask old (Ok reply) new = Answered ghosts ask old reply new
+Answers ghosts ask old (Err h) new = Refused ghosts ask old h new
 
 abbrev pub is_failed : Reply → Bool
 is_failed Failed = true
@@ -82,8 +83,8 @@ abbrev pub beside : State → Table → (Key → ℕ) → State
 beside s table taken = record s { taken = taken }
 
 -- what a task owes, for a table, and whatever else the machine holds
-abbrev pub Does : {W A : Type 0} → (W → List Call → W → Type 0) → (W → Bool) → (W → List Call → Ask → W → Type 0) → Given → State → Piece → (A → List Piece → List Piece) → Table → W → Result A Halt → Table → W → Type 0
-Does follows has_stopped stops g s p to old w result new w' = Meets (Led follows has_stopped) (Ended follows stops) (beside s) Tells (λ table. s.course.used) g p to old w result new w'
+abbrev pub Does : {W A : Type 0} → Ghosts W → Given → State → Piece → (A → List Piece → List Piece) → Table → W → Result A Halt → Table → W → Type 0
+Does ghosts g s p to old w result new w' = Meets ghosts (beside s) Tells (λ table. s.course.used) g p to old w result new w'
 
 abbrev pub goes_on : {A : Type 0} → A → List Piece → List Piece
 goes_on x k = k
@@ -122,16 +123,16 @@ pub record IsSame (old new : Table) : Type 0 where
   pub input : new.input ≡ old.input
 
 -- the world was asked, and the table has what it opened
-pub record Opening {W : Type 0} (follows : W → List Call → W → Type 0) (has_stopped : W → Bool) (numbers : List ℕ) (ask : Ask) (c : Class) (text : Text) (table : Table) (old : W) (found : Option ℕ) (after : Table) (new : W) : Type 0 where
+pub record Opening {W : Type 0} (ghosts : Ghosts W) (ask : Ask) (c : Class) (text : Text) (table : Table) (old : W) (found : Option ℕ) (after : Table) (new : W) : Type 0 where
   pub reply : Reply
-  pub answer : Answered follows has_stopped numbers ask old reply new
+  pub answer : Answered ghosts ask old reply new
   pub number : number_opened reply ≡ found
   pub entries : after.entries ≡ entries_opened c text found table.entries
   pub input : after.input ≡ table.input
 
-abbrev pub Opens : {W : Type 0} → (W → List Call → W → Type 0) → (W → Bool) → (W → List Call → Ask → W → Type 0) → List ℕ → Ask → Class → Text → Table → W → Result (Option ℕ) Halt → Table → W → Type 0
-Opens follows has_stopped stops numbers ask c text table old (Ok found) after new = Opening follows has_stopped numbers ask c text table old found after new
-Opens follows has_stopped stops numbers ask c text table old (Err h) after new = Refused follows has_stopped stops ask old h new × IsSame table after
+abbrev pub Opens : {W : Type 0} → Ghosts W → Ask → Class → Text → Table → W → Result (Option ℕ) Halt → Table → W → Type 0
+Opens ghosts ask c text table old (Ok found) after new = Opening ghosts ask c text table old found after new
+Opens ghosts ask c text table old (Err h) after new = Refused ghosts ask old h new × IsSame table after
 
 -- what is done once a stream is open to be read, or cannot be opened
 abbrev pub fetched : Place → Key → Option ℕ → List Piece → List Piece

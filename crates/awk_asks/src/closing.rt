@@ -21,7 +21,7 @@ use box_world::world::World;
 pub fn shut_all<W: World>(streams: &mut Streams, world: &mut W) -> Result<bool, Halt>
     requires { Owns (W.open_numbers world.old) streams.old }
     ensures task { (g : Given) (s : State) (o : Outcome)
-        → Does W.follows W.has_stopped W.stops g s (Do (Closing o)) (closing o) streams.old world.old result streams.new world.new }
+        → Does W.World g s (Do (Closing o)) (closing o) streams.old world.old result streams.new world.new }
     ensures none { OnOk result (streams.new.entries ≡ []) }
 {
     let place = Place { line: 0, column: 0 };
@@ -68,7 +68,7 @@ fn answer_or(so_far: Option<i64>) -> Value
 /// Shuts a stream by its number, and answers its status.
 fn shut<W: World>(place: Place, number: u32, world: &mut W) -> Result<i64, Halt>
     requires { IsStream (W.open_numbers world.old) number }
-    ensures answer { Shuts W.follows W.has_stopped W.stops (W.open_numbers world.old) (record { place = place; given = false; request = Shut number }) world.old result world.new }
+    ensures answer { Shuts W.World (record { place = place; given = false; request = Shut number }) world.old result world.new }
     ensures numbers { MatchResult result (λ n. W.open_numbers world.new ≡ without number (W.open_numbers world.old)) (λ h. W.open_numbers world.new ≡ W.open_numbers world.old) }
 {
     let reply = request(place, false, Request::Shut(number), world)?;
@@ -85,7 +85,7 @@ pub fn close<W: World>(
 ) -> Result<Value, Halt>
     requires { Owns (W.open_numbers world.old) streams.old }
     ensures task { (g : Given) (s : State)
-        → Does W.follows W.has_stopped W.stops g s (Do (Close place text.now None)) give streams.old world.old result streams.new world.new }
+        → Does W.World g s (Do (Close place text.now None)) give streams.old world.old result streams.new world.new }
     ensures owns { Owns (W.open_numbers world.new) streams.new }
 {
     let mut answer = None;

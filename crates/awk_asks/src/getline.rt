@@ -18,7 +18,6 @@ use crate::requests::request;
 use crate::streams::{Name, Streams};
 use awk_fields::reader::Taken;
 use awk_text::Memory;
-use awk_text::fault::Fault;
 use awk_text::octets::Octets;
 use awk_text::place::Place;
 use awk_text::value::Value;
@@ -46,15 +45,6 @@ fn read_taken(taken: Taken) -> Option<Found>
     }
 }
 
-fn halted(place: Place, fault: Fault) -> Halt
-    ensures { result ≡ spec.halted place fault }
-{
-    match fault {
-        Fault::Memory => Halt::Memory,
-        _ => Halt::Fault(fault, place),
-    }
-}
-
 /// The first record of what is held unread, or the end; `None` where more is to come.
 fn first(
     place: Place,
@@ -69,7 +59,7 @@ fn first(
 {
     match take(streams, source, rs) {
         Ok(taken) => Ok(read_taken(taken)),
-        Err(fault) => Err(halted(place, fault)),
+        Err(fault) => Err(Halt::at(place, fault)),
     }
 }
 
@@ -140,17 +130,14 @@ fn more<W: World>(
     requires live { IsLive (key_of source.now) streams.old }
     requires open { GoesOn (key_of source.now) streams.old }
     ensures task { (g : Given) (s : State) (p : Piece) (to : Found → List Piece → List Piece) → IsReading g s p place (key_of source.now) to → Waits (own_text s (codes "RS")) (key_of source.now) streams.old
-        → Does W.follows W.has_stopped W.stops g s p (further p to) streams.old world.old result streams.new world.new }
+        → Does W.World g s p (further p to) streams.old world.old result streams.new world.new }
     ensures failed { IfOk result (λ on. on ≡ false → GoesOn (key_of source.now) streams.new) }
     ensures live { OnOk result (IsLive (key_of source.now) streams.new) }
     ensures owns { Owns (W.open_numbers world.new) streams.new }
 {
     let number = number(streams, source);
     let reply = request(place, false, Request::Next(number), world)?;
-    match receive(streams, source, &reply) {
-        Ok(on) => Ok(on),
-        Err(_) => Err(Halt::Memory),
-    }
+    Ok(receive(streams, source, &reply)?)
 }
 
 /// Reads a record of a stream that stands open, for any piece of the machine that does. `rs` is RS
@@ -165,7 +152,7 @@ pub fn record<W: World>(
     requires owns { Owns (W.open_numbers world.old) streams.old }
     requires live { IsLive (key_of source.now) streams.old }
     ensures task { (g : Given) (s : State) (p : Piece) (to : Found → List Piece → List Piece) → IsReading g s p place (key_of source.now) to → own_text s (codes "RS") ≡ rs.now
-        → Does W.follows W.has_stopped W.stops g s p to streams.old world.old result streams.new world.new }
+        → Does W.World g s p to streams.old world.old result streams.new world.new }
     ensures failed { IfOk result (λ x. FailsOpen (key_of source.now) x streams.new) }
     ensures owns { Owns (W.open_numbers world.new) streams.new }
 {
@@ -202,7 +189,7 @@ pub fn read<W: World>(
     requires owns { Owns (W.open_numbers world.old) streams.old }
     requires live { IsLive (key_of source.now) streams.old }
     ensures task { (g : Given) (s : State) → own_text s (codes "RS") ≡ rs.now
-        → Does W.follows W.has_stopped W.stops g s (Do (machine.Read place (key_of source.now))) give streams.old world.old result streams.new world.new }
+        → Does W.World g s (Do (machine.Read place (key_of source.now))) give streams.old world.old result streams.new world.new }
     ensures owns { Owns (W.open_numbers world.new) streams.new }
 {
     let found = record(place, source, rs, streams, world)?;
@@ -218,7 +205,7 @@ fn open_named<W: World>(
     world: &mut W,
 ) -> Result<bool, Halt>
     requires { Owns (W.open_numbers world.old) streams.old }
-    ensures task { (g : Given) (s : State) → Does W.follows W.has_stopped W.stops g s
+    ensures task { (g : Given) (s : State) → Does W.World g s
         (Do (machine.Fetch place (kind name.now.class) name.now.text.now)) (read_further place (Named (kind name.now.class) name.now.text.now)) streams.old world.old result streams.new world.new }
     ensures live { IfOk result (λ on. on ≡ true → IsLive (Named (kind name.now.class) name.now.text.now) streams.new) }
     ensures owns { Owns (W.open_numbers world.new) streams.new }
@@ -235,7 +222,7 @@ fn open_source<W: World>(
     world: &mut W,
 ) -> Result<bool, Halt>
     requires { Owns (W.open_numbers world.old) streams.old }
-    ensures task { (g : Given) (s : State) → Does W.follows W.has_stopped W.stops g s
+    ensures task { (g : Given) (s : State) → Does W.World g s
         (Do (fetching place (key_of source.now))) (read_further place (key_of source.now)) streams.old world.old result streams.new world.new }
     ensures live { IfOk result (λ on. on ≡ true → IsLive (key_of source.now) streams.new) }
     ensures owns { Owns (W.open_numbers world.new) streams.new }
@@ -257,7 +244,7 @@ pub fn fetch<W: World>(
 ) -> Result<Value, Halt>
     requires { Owns (W.open_numbers world.old) streams.old }
     ensures task { (g : Given) (s : State) → own_text s (codes "RS") ≡ rs.now
-        → Does W.follows W.has_stopped W.stops g s (Do (fetching place (key_of source.now))) give streams.old world.old result streams.new world.new }
+        → Does W.World g s (Do (fetching place (key_of source.now))) give streams.old world.old result streams.new world.new }
     ensures owns { Owns (W.open_numbers world.new) streams.new }
 {
     if let Some(text) = held_line(source, rs, streams) {

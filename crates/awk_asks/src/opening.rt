@@ -41,17 +41,13 @@ pub fn open<W: World>(
 ) -> Result<Option<u32>, Halt>
     requires owns { Owns (W.open_numbers world.old) streams.old }
     requires new { find_stream (kind name.now.class) name.now.text.now (open_of streams.old) ≡ None }
-    ensures opens { Opens W.follows W.has_stopped W.stops (W.open_numbers world.old)
+    ensures opens { Opens W.World
         (record { place = place; given = given; request = Open mode name.now.text.now }) (kind name.now.class) name.now.text.now streams.old world.old result streams.new world.new }
     ensures owns { Owns (W.open_numbers world.new) streams.new }
 {
-    let (Ok(kept), Ok(text)) = (name.kept(alloc), Vec::from_slice(alloc, name.text)) else {
-        return Err(Halt::Memory);
-    };
-    if streams.make_room().is_err() {
-        return Err(Halt::Memory);
-    }
-    let sent = Octets::new(text);
+    let kept = name.kept(alloc)?;
+    let sent = Octets::new(Vec::from_slice(alloc, name.text)?);
+    streams.make_room()?;
     let reply = request(place, given, Request::Open(mode, sent), world)?;
     match number_opened(&reply) {
         Some(number) => {
@@ -73,7 +69,7 @@ pub fn open_output<W: World>(
     world: &mut W,
 ) -> Result<u32, Halt>
     requires { Owns (W.open_numbers world.old) streams.old }
-    ensures task { (g : Given) (s : State) → Does W.follows W.has_stopped W.stops g s
+    ensures task { (g : Given) (s : State) → Does W.World g s
         (Do (machine.Open place mode (kind name.now.class) name.now.text.now)) goes_on streams.old world.old result streams.new world.new }
     ensures found { IfOk result (λ n. find_stream (kind name.now.class) name.now.text.now (open_of streams.new) ≡ Some n) }
     ensures owns { Owns (W.open_numbers world.new) streams.new }
@@ -97,7 +93,7 @@ pub fn open_input<W: World>(
     world: &mut W,
 ) -> Result<Option<u32>, Halt>
     requires { Owns (W.open_numbers world.old) streams.old }
-    ensures task { (g : Given) (s : State) → Does W.follows W.has_stopped W.stops g s
+    ensures task { (g : Given) (s : State) → Does W.World g s
         (Do (machine.Fetch place (kind name.now.class) name.now.text.now)) (fetched place (Named (kind name.now.class) name.now.text.now)) streams.old world.old result streams.new world.new }
     ensures found { IfOk result (λ o. IfSome o (λ n. find_stream (kind name.now.class) name.now.text.now (open_of streams.new) ≡ Some n)) }
     ensures owns { Owns (W.open_numbers world.new) streams.new }

@@ -23,7 +23,7 @@ use box_world::world::World;
 /// Makes a request that is lent. What it names is a stream that is open.
 fn answer<W: World>(ask: &Ask, world: &mut W) -> Result<Reply, Halt>
     requires { IsDuty (W.open_numbers world.old) ask.now.request }
-    ensures answer { Answers W.follows W.has_stopped W.stops (W.open_numbers world.old) ask.now world.old result world.new }
+    ensures answer { Answers W.World ask.now world.old result world.new }
     ensures numbers { Numbers ask.now.request (W.open_numbers world.old) result (W.open_numbers world.new) }
 {
     match world.ask(ask) {
@@ -40,7 +40,7 @@ pub fn request<W: World>(
     world: &mut W,
 ) -> Result<Reply, Halt>
     requires { IsDuty (W.open_numbers world.old) request }
-    ensures answer { Answers W.follows W.has_stopped W.stops (W.open_numbers world.old) (record { place = place; given = given; request = request }) world.old result world.new }
+    ensures answer { Answers W.World (record { place = place; given = given; request = request }) world.old result world.new }
     ensures numbers { Numbers request (W.open_numbers world.old) result (W.open_numbers world.new) }
 {
     let ask = Ask {
@@ -56,7 +56,7 @@ pub fn request<W: World>(
 pub fn put<W: World>(place: Place, number: u32, text: Octets, world: &mut W) -> Result<Octets, Halt>
     requires { IsStream (W.open_numbers world.old) number }
     ensures task { (g : Given) (s : State) (table : Table) (key : Key) → IsNumber key number table
-        → Does W.follows W.has_stopped W.stops g s (Do (Put place key text)) goes_on table world.old result table world.new }
+        → Does W.World g s (Do (Put place key text)) goes_on table world.old result table world.new }
     ensures text { IfOk result (λ same. same ≡ text) }
     ensures numbers { W.open_numbers world.new ≡ W.open_numbers world.old }
 {
@@ -93,7 +93,7 @@ fn is_failed(reply: &Reply) -> bool
 /// Runs a command to its end, and answers its exit status, or -1 where the world does not run it.
 pub fn system<W: World>(place: Place, command: Octets, world: &mut W) -> Result<Value, Halt>
     ensures task { (g : Given) (s : State) (table : Table) (x : Expression) (text : Value) → text_of text ≡ command
-        → Does W.follows W.has_stopped W.stops g s (At (Value_of (expression.system place x)) (text ∷ [])) give table world.old result table world.new }
+        → Does W.World g s (At (Value_of (expression.system place x)) (text ∷ [])) give table world.old result table world.new }
     ensures numbers { W.open_numbers world.new ≡ W.open_numbers world.old }
 {
     let reply = request(place, false, Request::System(command), world)?;
@@ -112,7 +112,7 @@ fn status(reply: &Reply) -> Value
 /// The value of a name of the environment, if it has one.
 pub fn environment<W: World>(name: Octets, world: &mut W) -> Result<Option<Octets>, Halt>
     ensures task { (g : Given) (s : State) (table : Table) (names : List Text)
-        → Does W.follows W.has_stopped W.stops g s (Do (Environ (name ∷ names))) (looked name names) table world.old result table world.new }
+        → Does W.World g s (Do (Environ (name ∷ names))) (looked name names) table world.old result table world.new }
     ensures numbers { W.open_numbers world.new ≡ W.open_numbers world.old }
 {
     let place = Place { line: 0, column: 0 };

@@ -122,8 +122,5 @@ function_by : (x : code_program.Program) (n : ℕ) (found : Option code_function
 function_by x n found e =
     sym (unwrap_or-slice_get (map (view_function (names_of x)) x.functions) n no_function) ∙ ap (λ o. unwrap_or o no_function) (slice_get-map (view_function (names_of x)) x.functions n ∙ ap (option_map (view_function (names_of x))) e)
 
-pub function_some : (x : code_program.Program) (n : ℕ) (f : code_function.Function) → slice_get x.functions n ≡ Some f → function (view_program x) n ≡ view_function (names_of x) f
-function_some x n f e = function_by x n (Some f) e
-
 pub function_none : (x : code_program.Program) (n : ℕ) → slice_get x.functions n ≡ None → function (view_program x) n ≡ no_function
 function_none x n e = function_by x n None e

@@ -60,9 +60,7 @@ pub fn pass(values: &mut Passed, value: Value) -> Result<(), Halt>
     ensures ok { OnOk result (values.new ≡ values.old ++ value ∷ []) }
     ensures err { IfErr result (λ h. h ≡ Halt.Memory) }
 {
-    let Ok(()) = values.push(value) else {
-        return Err(Halt::Memory);
-    };
+    values.push(value)?;
     Ok(())
 }
 

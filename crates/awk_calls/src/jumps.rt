@@ -9,7 +9,6 @@ ghost use Rattle.awk_calls.specs.Jumps.{Jumps};
 
 use awk_asks::halt::Halt;
 use awk_store::{Phase, Store};
-use awk_tasks::faults::halt_at;
 use awk_text::fault::Fault;
 use awk_text::place::Place;
 use awk_text::value::Value;
@@ -46,6 +45,6 @@ pub fn exit_with(store: &mut Store, place: Place, value: &Value) -> Halt
             store.set_status(status);
             Halt::Exit
         }
-        Err(fault) => halt_at(place, fault),
+        Err(fault) => Halt::at(place, fault),
     }
 }

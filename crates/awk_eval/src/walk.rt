@@ -5,7 +5,7 @@ ghost use Rattle.awk_calls.specs.Flows.{flows};
 ghost use Rattle.awk_eval.specs.Nests.{Nests};
 ghost use Rattle.awk_machine.specs.Forms.{value};
 ghost use Rattle.awk_machine.specs.Pieces.{Do, Each, Start, give};
-ghost use Rattle.awk_eval_parts.specs.Runs.{Does, IsTruthOf, Tells};
+ghost use Rattle.awk_eval_parts.specs.Runs.{Does, IsTruthOf, Tells, whole_of};
 ghost use Rattle.awk_program.specs.View.{view, view_statement};
 ghost use Rattle.awk_tasks.specs.Wholes.{names_in};
 
@@ -36,7 +36,7 @@ impl<
     V: Copy + Fn(&Context<'_>, &Expr, u32, &mut Run, &mut W) -> Result<Value, Halt>,
     S: Copy + Fn(&Context<'_>, &Statement, u32, &mut Run, &mut W) -> Result<Flow, Halt>,
 > Evaluates<W> for Walk<V, S> {
-    ghost can = { λ on. Nests W.follows W.has_stopped W.stops W.open_numbers on.level (V.pre on.value) (V.post on.value) (S.pre on.statement) (S.post on.statement) };
+    ghost can = { λ on. Nests W.World on.level (V.pre on.value) (V.post on.value) (S.pre on.statement) (S.post on.statement) };
 
     #[inline(always)]
     fn value(
@@ -83,8 +83,8 @@ pub fn value<W: World>(
     world: &mut W,
 ) -> Result<Value, Halt>
     requires { Owns (W.open_numbers world.old) run.old.streams }
-    ensures { Does W.follows W.has_stopped W.stops W.open_numbers cx.now (λ g. value (view (names_in g) e.now)) (λ g. give)
-        (run.old.store, run.old.streams) world.old result (run.new.store, run.new.streams) world.new }
+    ensures { Does W.World cx.now (λ g. value (view (names_in g) e.now)) (λ g. give)
+        (whole_of run.old) world.old result (whole_of run.new) world.new }
 {
     if let Some(there) = value_at_hand(cx.alloc, &run.store, e) {
         return Ok(there);
@@ -119,8 +119,8 @@ pub fn statement<W: World>(
     world: &mut W,
 ) -> Result<Flow, Halt>
     requires { Owns (W.open_numbers world.old) run.old.streams }
-    ensures { Does W.follows W.has_stopped W.stops W.open_numbers cx.now (λ g. Do (Start (view_statement (names_in g) x.now))) (λ g. flows)
-        (run.old.store, run.old.streams) world.old result (run.new.store, run.new.streams) world.new }
+    ensures { Does W.World cx.now (λ g. Do (Start (view_statement (names_in g) x.now))) (λ g. flows)
+        (whole_of run.old) world.old result (whole_of run.new) world.new }
 {
     if level == 0 {
         return Err(Halt::Memory);
@@ -149,8 +149,8 @@ pub fn truth_of<W: World>(
     world: &mut W,
 ) -> Result<bool, Halt>
     requires { Owns (W.open_numbers world.old) run.old.streams }
-    ensures { Tells W.follows W.has_stopped W.stops W.open_numbers cx.now (λ g. value (view (names_in g) e.now)) IsTruthOf
-        (run.old.store, run.old.streams) world.old result (run.new.store, run.new.streams) world.new }
+    ensures { Tells W.World cx.now (λ g. value (view (names_in g) e.now)) IsTruthOf
+        (whole_of run.old) world.old result (whole_of run.new) world.new }
 {
     let here = Walk {
         level,
@@ -169,8 +169,8 @@ pub fn body<W: World>(
     world: &mut W,
 ) -> Result<Flow, Halt>
     requires { Owns (W.open_numbers world.old) run.old.streams }
-    ensures { Does W.follows W.has_stopped W.stops W.open_numbers cx.now (λ g. Do (Each (map (view_statement (names_in g)) xs.now))) (λ g. flows)
-        (run.old.store, run.old.streams) world.old result (run.new.store, run.new.streams) world.new }
+    ensures { Does W.World cx.now (λ g. Do (Each (map (view_statement (names_in g)) xs.now))) (λ g. flows)
+        (whole_of run.old) world.old result (whole_of run.new) world.new }
 {
     let here = Walk {
         level,

@@ -8,7 +8,7 @@ ghost use Rattle.awk_program.specs.Program as p;
 ghost use Rattle.awk_program.specs.Program.{expressions_of, terms_of, joins_of};
 ghost use Rattle.awk_program.specs.View.{view, view_term, view_joined, variable_of};
 ghost use Rattle.awk_tasks.specs.Wholes.{names_in};
-ghost use Rattle.awk_eval_parts.specs.Runs.{Does, Tells, IsNumberOf, IsTruthOf, IsUnwanted};
+ghost use Rattle.awk_eval_parts.specs.Runs.{Does, Tells, IsNumberOf, IsTruthOf, IsUnwanted, whole_of};
 ghost use Rattle.awk_machine.specs.Operators.{of_truth};
 
 use crate::inputs::{close, getline, system};
@@ -45,8 +45,8 @@ pub fn evaluate<W: World, E: Evaluates<W>>(
 ) -> Result<Value, Halt>
     requires can { E.can on }
     requires owns { Owns (W.open_numbers world.old) run.old.streams }
-    ensures { Does W.follows W.has_stopped W.stops W.open_numbers cx.now (λ g. value (view (names_in g) e.now)) (λ g. give)
-        (run.old.store, run.old.streams) world.old result (run.new.store, run.new.streams) world.new }
+    ensures { Does W.World cx.now (λ g. value (view (names_in g) e.now)) (λ g. give)
+        (whole_of run.old) world.old result (whole_of run.new) world.new }
 {
     match e {
         Expr::Number(number) => Ok(Value::Num(*number)),
@@ -146,8 +146,8 @@ fn unary<W: World, E: Evaluates<W>>(
 ) -> Result<Value, Halt>
     requires can { E.can on }
     requires owns { Owns (W.open_numbers world.old) run.old.streams }
-    ensures { Does W.follows W.has_stopped W.stops W.open_numbers cx.now (λ g. value (unary_of form (view (names_in g) x.now))) (λ g. give)
-        (run.old.store, run.old.streams) world.old result (run.new.store, run.new.streams) world.new }
+    ensures { Does W.World cx.now (λ g. value (unary_of form (view (names_in g) x.now))) (λ g. give)
+        (whole_of run.old) world.old result (whole_of run.new) world.new }
 {
     let operand = on.value(cx, x, run, world)?;
     form.give(cx.alloc, &operand)
@@ -165,8 +165,8 @@ fn binary<W: World, E: Evaluates<W>>(
 ) -> Result<Value, Halt>
     requires can { E.can on }
     requires owns { Owns (W.open_numbers world.old) run.old.streams }
-    ensures { Does W.follows W.has_stopped W.stops W.open_numbers cx.now (λ g. value (binary_of form (view (names_in g) x.now) (view (names_in g) y.now))) (λ g. give)
-        (run.old.store, run.old.streams) world.old result (run.new.store, run.new.streams) world.new }
+    ensures { Does W.World cx.now (λ g. value (binary_of form (view (names_in g) x.now) (view (names_in g) y.now))) (λ g. give)
+        (whole_of run.old) world.old result (whole_of run.new) world.new }
 {
     let left = on.value(cx, x, run, world)?;
     let right = on.value(cx, y, run, world)?;
@@ -186,8 +186,8 @@ fn substr<W: World, E: Evaluates<W>>(
 ) -> Result<Value, Halt>
     requires can { E.can on }
     requires owns { Owns (W.open_numbers world.old) run.old.streams }
-    ensures { Does W.follows W.has_stopped W.stops W.open_numbers cx.now (λ g. value (p.substr place (view (names_in g) x.now) (view (names_in g) y.now) (view (names_in g) z.now))) (λ g. give)
-        (run.old.store, run.old.streams) world.old result (run.new.store, run.new.streams) world.new }
+    ensures { Does W.World cx.now (λ g. value (p.substr place (view (names_in g) x.now) (view (names_in g) y.now) (view (names_in g) z.now))) (λ g. give)
+        (whole_of run.old) world.old result (whole_of run.new) world.new }
 {
     let text = on.value(cx, x, run, world)?;
     let from = on.value(cx, y, run, world)?;
@@ -206,8 +206,8 @@ pub fn chain<W: World, E: Evaluates<W>>(
 ) -> Result<Value, Halt>
     requires can { E.can on }
     requires owns { Owns (W.open_numbers world.old) run.old.streams }
-    ensures { Does W.follows W.has_stopped W.stops W.open_numbers cx.now (λ g. value (p.chain (view (names_in g) x.now) (terms_of (map (view_term (names_in g)) xs.now)))) (λ g. give)
-        (run.old.store, run.old.streams) world.old result (run.new.store, run.new.streams) world.new }
+    ensures { Does W.World cx.now (λ g. value (p.chain (view (names_in g) x.now) (terms_of (map (view_term (names_in g)) xs.now)))) (λ g. give)
+        (whole_of run.old) world.old result (whole_of run.new) world.new }
 {
     let mut so_far = on.value(cx, x, run, world)?;
     for next in xs {
@@ -228,8 +228,8 @@ fn concat<W: World, E: Evaluates<W>>(
 ) -> Result<Value, Halt>
     requires can { E.can on }
     requires owns { Owns (W.open_numbers world.old) run.old.streams }
-    ensures { Does W.follows W.has_stopped W.stops W.open_numbers cx.now (λ g. value (p.concat (view (names_in g) x.now) (joins_of (map (view_joined (names_in g)) xs.now)))) (λ g. give)
-        (run.old.store, run.old.streams) world.old result (run.new.store, run.new.streams) world.new }
+    ensures { Does W.World cx.now (λ g. value (p.concat (view (names_in g) x.now) (joins_of (map (view_joined (names_in g)) xs.now)))) (λ g. give)
+        (whole_of run.old) world.old result (whole_of run.new) world.new }
 {
     let mut so_far = on.value(cx, x, run, world)?;
     for next in xs {
@@ -250,8 +250,8 @@ fn within<W: World, E: Evaluates<W>>(
 ) -> Result<Value, Halt>
     requires can { E.can on }
     requires owns { Owns (W.open_numbers world.old) run.old.streams }
-    ensures { Does W.follows W.has_stopped W.stops W.open_numbers cx.now (λ g. value (p.member (view (names_in g) x.now) (map (variable_of (names_in g)) arrays.now))) (λ g. give)
-        (run.old.store, run.old.streams) world.old result (run.new.store, run.new.streams) world.new }
+    ensures { Does W.World cx.now (λ g. value (p.member (view (names_in g) x.now) (map (variable_of (names_in g)) arrays.now))) (λ g. give)
+        (whole_of run.old) world.old result (whole_of run.new) world.new }
 {
     let key = on.value(cx, x, run, world)?;
     Ok(members(&run.store, arrays, key))
@@ -268,8 +268,8 @@ fn all<W: World, E: Evaluates<W>>(
 ) -> Result<Value, Halt>
     requires can { E.can on }
     requires owns { Owns (W.open_numbers world.old) run.old.streams }
-    ensures { Does W.follows W.has_stopped W.stops W.open_numbers cx.now (λ g. value (p.and (view (names_in g) x.now) (expressions_of (map (view (names_in g)) xs.now)))) (λ g. give)
-        (run.old.store, run.old.streams) world.old result (run.new.store, run.new.streams) world.new }
+    ensures { Does W.World cx.now (λ g. value (p.and (view (names_in g) x.now) (expressions_of (map (view (names_in g)) xs.now)))) (λ g. give)
+        (whole_of run.old) world.old result (whole_of run.new) world.new }
 {
     let mut last = on.value(cx, x, run, world)?;
     for y in xs {
@@ -292,8 +292,8 @@ fn any<W: World, E: Evaluates<W>>(
 ) -> Result<Value, Halt>
     requires can { E.can on }
     requires owns { Owns (W.open_numbers world.old) run.old.streams }
-    ensures { Does W.follows W.has_stopped W.stops W.open_numbers cx.now (λ g. value (p.or (view (names_in g) x.now) (expressions_of (map (view (names_in g)) xs.now)))) (λ g. give)
-        (run.old.store, run.old.streams) world.old result (run.new.store, run.new.streams) world.new }
+    ensures { Does W.World cx.now (λ g. value (p.or (view (names_in g) x.now) (expressions_of (map (view (names_in g)) xs.now)))) (λ g. give)
+        (whole_of run.old) world.old result (whole_of run.new) world.new }
 {
     let mut last = on.value(cx, x, run, world)?;
     for y in xs {
@@ -318,8 +318,8 @@ pub fn choose<W: World, E: Evaluates<W>>(
 ) -> Result<Value, Halt>
     requires can { E.can on }
     requires owns { Owns (W.open_numbers world.old) run.old.streams }
-    ensures { Does W.follows W.has_stopped W.stops W.open_numbers cx.now (λ g. value (p.choose (view (names_in g) x.now) (view (names_in g) y.now) (view (names_in g) z.now))) (λ g. give)
-        (run.old.store, run.old.streams) world.old result (run.new.store, run.new.streams) world.new }
+    ensures { Does W.World cx.now (λ g. value (p.choose (view (names_in g) x.now) (view (names_in g) y.now) (view (names_in g) z.now))) (λ g. give)
+        (whole_of run.old) world.old result (whole_of run.new) world.new }
 {
     let holds = truth_of(cx, x, on, run, world)?;
     if holds {

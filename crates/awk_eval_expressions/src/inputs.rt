@@ -5,7 +5,7 @@ ghost use Rattle.awk_machine.specs.Pieces.{give};
 ghost use Rattle.awk_program.specs.Program as p;
 ghost use Rattle.awk_program.specs.View.{view, view_pipes, view_target};
 ghost use Rattle.awk_tasks.specs.Wholes.{names_in};
-ghost use Rattle.awk_eval_parts.specs.Runs.{Does};
+ghost use Rattle.awk_eval_parts.specs.Runs.{Does, whole_of};
 
 use awk_asks::halt::Halt;
 use awk_asks::{closing, requests};
@@ -35,8 +35,8 @@ pub fn getline<W: World, E: Evaluates<W>>(
 ) -> Result<Value, Halt>
     requires can { E.can on }
     requires owns { Owns (W.open_numbers world.old) run.old.streams }
-    ensures { Does W.follows W.has_stopped W.stops W.open_numbers cx.now (λ g. value (p.getline place (view_target (names_in g) target.now))) (λ g. give)
-        (run.old.store, run.old.streams) world.old result (run.new.store, run.new.streams) world.new }
+    ensures { Does W.World cx.now (λ g. value (p.getline place (view_target (names_in g) target.now))) (λ g. give)
+        (whole_of run.old) world.old result (whole_of run.new) world.new }
 {
     let to = target_of(cx, target, on, run, world)?;
     getline_main(
@@ -63,8 +63,8 @@ pub fn from_file<W: World, E: Evaluates<W>>(
 ) -> Result<Value, Halt>
     requires can { E.can on }
     requires owns { Owns (W.open_numbers world.old) run.old.streams }
-    ensures { Does W.follows W.has_stopped W.stops W.open_numbers cx.now (λ g. value (p.getline_file place (view_target (names_in g) target.now) (view (names_in g) x.now))) (λ g. give)
-        (run.old.store, run.old.streams) world.old result (run.new.store, run.new.streams) world.new }
+    ensures { Does W.World cx.now (λ g. value (p.getline_file place (view_target (names_in g) target.now) (view (names_in g) x.now))) (λ g. give)
+        (whole_of run.old) world.old result (whole_of run.new) world.new }
 {
     if let Some(to) = spot_at_hand(target) {
         if let Some(name) = at_hand(&run.store, x, MOST_LEVELS) {
@@ -112,8 +112,8 @@ pub fn from_commands<W: World, E: Evaluates<W>>(
 ) -> Result<Value, Halt>
     requires can { E.can on }
     requires owns { Owns (W.open_numbers world.old) run.old.streams }
-    ensures { Does W.follows W.has_stopped W.stops W.open_numbers cx.now (λ g. value (p.pipe (view (names_in g) x.now) (view_pipes (names_in g) xs.now))) (λ g. give)
-        (run.old.store, run.old.streams) world.old result (run.new.store, run.new.streams) world.new }
+    ensures { Does W.World cx.now (λ g. value (p.pipe (view (names_in g) x.now) (view_pipes (names_in g) xs.now))) (λ g. give)
+        (whole_of run.old) world.old result (whole_of run.new) world.new }
 {
     if let [only] = xs {
         if let Some(to) = spot_at_hand(&only.target) {
@@ -164,8 +164,8 @@ pub fn close<W: World, E: Evaluates<W>>(
 ) -> Result<Value, Halt>
     requires can { E.can on }
     requires owns { Owns (W.open_numbers world.old) run.old.streams }
-    ensures { Does W.follows W.has_stopped W.stops W.open_numbers cx.now (λ g. value (p.close place (view (names_in g) x.now))) (λ g. give)
-        (run.old.store, run.old.streams) world.old result (run.new.store, run.new.streams) world.new }
+    ensures { Does W.World cx.now (λ g. value (p.close place (view (names_in g) x.now))) (λ g. give)
+        (whole_of run.old) world.old result (whole_of run.new) world.new }
 {
     let operand = on.value(cx, x, run, world)?;
     let Ok(name) = into_text(cx.alloc, operand) else {
@@ -185,8 +185,8 @@ pub fn system<W: World, E: Evaluates<W>>(
 ) -> Result<Value, Halt>
     requires can { E.can on }
     requires owns { Owns (W.open_numbers world.old) run.old.streams }
-    ensures { Does W.follows W.has_stopped W.stops W.open_numbers cx.now (λ g. value (p.system place (view (names_in g) x.now))) (λ g. give)
-        (run.old.store, run.old.streams) world.old result (run.new.store, run.new.streams) world.new }
+    ensures { Does W.World cx.now (λ g. value (p.system place (view (names_in g) x.now))) (λ g. give)
+        (whole_of run.old) world.old result (whole_of run.new) world.new }
 {
     let operand = on.value(cx, x, run, world)?;
     let Ok(command) = into_text(cx.alloc, operand) else {

@@ -5,7 +5,7 @@ ghost use Rattle.awk_machine.specs.Pieces.{give};
 ghost use Rattle.awk_program.specs.Program as p;
 ghost use Rattle.awk_program.specs.View.{view, view_ere, view_target, variable_of};
 ghost use Rattle.awk_tasks.specs.Wholes.{names_in};
-ghost use Rattle.awk_eval_parts.specs.Runs.{Does};
+ghost use Rattle.awk_eval_parts.specs.Runs.{Does, whole_of};
 
 use awk_asks::halt::Halt;
 use awk_eval_parts::sources::source_of;
@@ -29,8 +29,8 @@ pub fn locate<W: World, E: Evaluates<W>>(
 ) -> Result<Value, Halt>
     requires can { E.can on }
     requires owns { Owns (W.open_numbers world.old) run.old.streams }
-    ensures { Does W.follows W.has_stopped W.stops W.open_numbers cx.now (λ g. value (p.locate place (view (names_in g) x.now) (view_ere (names_in g) pattern.now))) (λ g. give)
-        (run.old.store, run.old.streams) world.old result (run.new.store, run.new.streams) world.new }
+    ensures { Does W.World cx.now (λ g. value (p.locate place (view (names_in g) x.now) (view_ere (names_in g) pattern.now))) (λ g. give)
+        (whole_of run.old) world.old result (whole_of run.new) world.new }
 {
     let text = on.value(cx, x, run, world)?;
     let from = source_of(cx, pattern, on, run, world)?;
@@ -58,8 +58,8 @@ pub fn split<W: World, E: Evaluates<W>>(
 ) -> Result<Value, Halt>
     requires can { E.can on }
     requires owns { Owns (W.open_numbers world.old) run.old.streams }
-    ensures { Does W.follows W.has_stopped W.stops W.open_numbers cx.now (λ g. value (p.split place (view (names_in g) x.now) at_name (variable_of (names_in g) array) (view_ere (names_in g) separator.now))) (λ g. give)
-        (run.old.store, run.old.streams) world.old result (run.new.store, run.new.streams) world.new }
+    ensures { Does W.World cx.now (λ g. value (p.split place (view (names_in g) x.now) at_name (variable_of (names_in g) array) (view_ere (names_in g) separator.now))) (λ g. give)
+        (whole_of run.old) world.old result (whole_of run.new) world.new }
 {
     let text = on.value(cx, x, run, world)?;
     let by = source_of(cx, separator, on, run, world)?;
@@ -89,8 +89,8 @@ pub fn substitute<W: World, E: Evaluates<W>>(
 ) -> Result<Value, Halt>
     requires can { E.can on }
     requires owns { Owns (W.open_numbers world.old) run.old.streams }
-    ensures { Does W.follows W.has_stopped W.stops W.open_numbers cx.now (λ g. value (p.substitute place extent (view_ere (names_in g) pattern.now) (view (names_in g) x.now) (view_target (names_in g) target.now))) (λ g. give)
-        (run.old.store, run.old.streams) world.old result (run.new.store, run.new.streams) world.new }
+    ensures { Does W.World cx.now (λ g. value (p.substitute place extent (view_ere (names_in g) pattern.now) (view (names_in g) x.now) (view_target (names_in g) target.now))) (λ g. give)
+        (whole_of run.old) world.old result (whole_of run.new) world.new }
 {
     let from = source_of(cx, pattern, on, run, world)?;
     let new = on.value(cx, x, run, world)?;

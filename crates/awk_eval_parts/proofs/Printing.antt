@@ -5,9 +5,8 @@ use Rattle.std.proofs.lemmas.List.{length-reverse, length-map}
 use Rattle.awk_text.specs.declared.place.Place.{Place}
 use Rattle.awk_text.specs.declared.value.Value.{Value}
 use Rattle.awk_text.specs.Values.{text_of}
-use Rattle.box_world.specs.Calls.{Call}
 use Rattle.box_world.specs.Events.{Named}
-use Rattle.box_world.specs.declared.ask.Ask.{Ask}
+use Rattle.box_world.specs.declared.world.World.{Ghosts}
 use Rattle.awk_program.specs.Program as p
 use Rattle.awk_program.specs.Program.{Expression}
 use Rattle.awk_program.specs.declared.statements.Redirection.{Redirection}
@@ -81,6 +80,6 @@ close_first g place x v name k s e = ap (λ y. held g s (Goes (Do (Close place y
 
 -- ---- what is halted is halted wherever its value would have gone
 
-pub halts : {W A B : Type 0} {F : W → List Call → W → Type 0} {E : W → List Call → Ask → W → Type 0} {g : Given} {q : Piece} {to : A → List Piece → List Piece} {on : B → List Piece → List Piece} {old new : Whole} {w w' : W} (h : Halt) →
-    Meets F E (base g) (Agreeing g) used g q to old w (Err h) new w' → Meets F E (base g) (Agreeing g) used g q on old w (Err h) new w'
+pub halts : {W A B : Type 0} {ghosts : Ghosts W} {g : Given} {q : Piece} {to : A → List Piece → List Piece} {on : B → List Piece → List Piece} {old new : Whole} {w w' : W} (h : Halt) →
+    Meets ghosts (base g) (Agreeing g) used g q to old w (Err h) new w' → Meets ghosts (base g) (Agreeing g) used g q on old w (Err h) new w'
 halts h m = record { plays = λ first k hid c a. m.plays first k hid c a }

@@ -3,8 +3,6 @@ use Rattle.std.proofs.Common.{◌≡◌, refl, sym, ap, subst, ◌∙◌, ℕ, s
 use Rattle.std.specs.Prelude.{true, false, if◌then◌else◌, IfOk, IfErr, Result, Ok, Err, Option, Some, slice_get, option_map, get_or}
 use Rattle.std.proofs.lemmas.List.{length-reverse, length-append, length-map, drop_more}
 use Rattle.std.proofs.lemmas.Option.{slice_get-map, slice_get-get_or}
-use Rattle.box_world.specs.Calls.{Call}
-use Rattle.box_world.specs.declared.ask.Ask.{Ask}
 use Rattle.awk_text.specs.declared.value.Value.{Value}
 use Rattle.awk_text.specs.declared.value.Value.TheVariants as v
 use Rattle.awk_program.specs.Program as p
@@ -16,10 +14,11 @@ use Rattle.awk_machine.specs.Pieces.{Part, Piece, At, Value_of, Ands_of, Ors_of,
 use Rattle.awk_machine.specs.State.{State, Given}
 use Rattle.awk_machine.specs.Statements.{to_records}
 use Rattle.awk_asks.specs.declared.halt.Halt.{Halt}
-use Rattle.awk_asks.specs.Chains.{Led, Ended, Leads, Meets}
+use Rattle.awk_asks.specs.Chains.{Leads, Meets}
 use Rattle.awk_asks.proofs.Chain as chain
 use Rattle.awk_asks.specs.declared.halt.Halt.TheVariants as halt
 use Rattle.awk_text.specs.Values.{truth}
+use Rattle.box_world.specs.declared.world.World.{Ghosts}
 use Rattle.awk_machine.specs.Operators.{of_truth}
 use Rattle.awk_tasks.specs.Acts.{Acts}
 use Rattle.awk_tasks.proofs.Acting as acting
@@ -48,23 +47,23 @@ waits_each g part all xs n f is within passed = record {
   passed = passed;
 }
 
-module _ {W : Type 0} {follows : W → List Call → W → Type 0} {has_stopped : W → Bool} {stops : W → List Call → Ask → W → Type 0} {open_numbers : W → List ℕ} {cx : Context} {old : Whole} {w : W} {mid : Whole} {w' : W} {new : Whole} {w'' : W} {r : Result Value Halt} where
+module _ {W : Type 0} {ghosts : Ghosts W} {cx : Context} {old : Whole} {w : W} {mid : Whole} {w' : W} {new : Whole} {w'' : W} {r : Result Value Halt} where
   -- one part more is evaluated
-  pub fill_turn : {xs : Given → List Expression} {had has : List Value} {n : ℕ} (x : Given → Expression) (val : Value) → Filling follows has_stopped stops open_numbers cx xs had has n old w mid w' →
-      ((g : Given) → slice_get (xs g) n ≡ Some (x g)) → Does follows has_stopped stops open_numbers cx (λ g. value (x g)) (λ g. give) mid w' r new w'' → r ≡ Ok val →
-      Filling follows has_stopped stops open_numbers cx xs had (has ++ val ∷ []) (n + 1) old w new w''
+  pub fill_turn : {xs : Given → List Expression} {had has : List Value} {n : ℕ} (x : Given → Expression) (val : Value) → Filling ghosts cx xs had has n old w mid w' →
+      ((g : Given) → slice_get (xs g) n ≡ Some (x g)) → Does ghosts cx (λ g. value (x g)) (λ g. give) mid w' r new w'' → r ≡ Ok val →
+      Filling ghosts cx xs had (has ++ val ∷ []) (n + 1) old w new w''
   fill_turn {had = had} {has = has} {n = n} x val h got does is = record {
     leads = λ g given part waits.
-        subst (λ vs. Leads (Led follows has_stopped) (Ended follows stops) (base g) (Agreeing g) used g (At part (reverse had)) old w (λ k. At part vs ∷ k) new w'') (reverse_last has val)
+        subst (λ vs. Leads ghosts (base g) (Agreeing g) used g (At part (reverse had)) old w (λ k. At part vs ∷ k) new w'') (reverse_last has val)
         (chain.part val (quietly (h.leads g given part waits) (λ k hid d a. waits.next n (x g) (got g) (reverse has) (length-reverse has ∙ h.count) k _)) (does.plays g given) is);
     owns = does.owns;
     count = one_more has has val (length had) n h.count;
   }
 
-  pub fill_stop : {xs : Given → List Expression} {had has : List Value} {n : ℕ} (x : Given → Expression) (e : Halt) (now : List Value) → Filling follows has_stopped stops open_numbers cx xs had has n old w mid w' →
-      ((g : Given) → slice_get (xs g) n ≡ Some (x g)) → Does follows has_stopped stops open_numbers cx (λ g. value (x g)) (λ g. give) mid w' r new w'' → r ≡ Err e →
+  pub fill_stop : {xs : Given → List Expression} {had has : List Value} {n : ℕ} (x : Given → Expression) (e : Halt) (now : List Value) → Filling ghosts cx xs had has n old w mid w' →
+      ((g : Given) → slice_get (xs g) n ≡ Some (x g)) → Does ghosts cx (λ g. value (x g)) (λ g. give) mid w' r new w'' → r ≡ Err e →
       (g : Given) → IsGiven cx g → (part : Part) → Waits g part (length had) (xs g) →
-      Meets (Led follows has_stopped) (Ended follows stops) (base g) (Agreeing g) used g (At part (reverse had)) (λ (u : Unit {0}) k. At part (reverse now) ∷ k) old w (Err e) new w''
+      Meets ghosts (base g) (Agreeing g) used g (At part (reverse had)) (λ (u : Unit {0}) k. At part (reverse now) ∷ k) old w (Err e) new w''
   fill_stop {has = has} {n = n} x e now h got does is g given part waits =
       chain.stop e (λ k. waits.passed (reverse has) k) (quietly (h.leads g given part waits) (λ k hid d a. waits.next n (x g) (got g) (reverse has) (length-reverse has ∙ h.count) k _)) (does.plays g given) is
 
@@ -94,10 +93,10 @@ waits_behind g part x ks f is passed = waits_each g part (x ∷ listed (expressi
 pub count_listed : {X : Type 0} (f : X → Expression) (xs : List X) (had has : List Value) → had ≡ [] → length has ≡ length had + length xs → length (listed (expressions_of (map f xs))) ≡ length has
 count_listed f xs had has none e = let a = ap length (listed-of (map f xs)) ∙ length-map xs f in let b = rw none at e in omega (arith, a, b)
 
-module _ {W A : Type 0} {follows : W → List Call → W → Type 0} {has_stopped : W → Bool} {stops : W → List Call → Ask → W → Type 0} {open_numbers : W → List ℕ} {cx : Context} {xs : Given → List Expression} {has : List Value} {old : Whole} {w : W} {r : Result A Halt} {new : Whole} {w' : W} where
-  pub filled_from : (had hs : List Value) → had ≡ hs → Fills follows has_stopped stops open_numbers cx xs had has old w r new w' → (g : Given) → IsGiven cx g → (part : Part) → Waits g part (length hs) (xs g) →
-      Meets (Led follows has_stopped) (Ended follows stops) (base g) (Agreeing g) used g (At part (reverse hs)) (λ (x : A) k. At part (reverse has) ∷ k) old w r new w'
-  filled_from had hs e f g is part waits = subst (λ zs. Waits g part (length zs) (xs g) → Meets (Led follows has_stopped) (Ended follows stops) (base g) (Agreeing g) used g (At part (reverse zs)) (λ (x : A) k. At part (reverse has) ∷ k) old w r new w') e (f.plays g is part) waits
+module _ {W A : Type 0} {ghosts : Ghosts W} {cx : Context} {xs : Given → List Expression} {has : List Value} {old : Whole} {w : W} {r : Result A Halt} {new : Whole} {w' : W} where
+  pub filled_from : (had hs : List Value) → had ≡ hs → Fills ghosts cx xs had has old w r new w' → (g : Given) → IsGiven cx g → (part : Part) → Waits g part (length hs) (xs g) →
+      Meets ghosts (base g) (Agreeing g) used g (At part (reverse hs)) (λ (x : A) k. At part (reverse has) ∷ k) old w r new w'
+  filled_from had hs e f g is part waits = subst (λ zs. Waits g part (length zs) (xs g) → Meets ghosts (base g) (Agreeing g) used g (At part (reverse zs)) (λ (x : A) k. At part (reverse has) ∷ k) old w r new w') e (f.plays g is part) waits
 
 -- ---- what depends on a truth
 

@@ -3,8 +3,7 @@ use Rattle.std.specs.Prelude.{◌≡◌, ℕ, ℤ, IfOk, ◌+◌, Bool, List, �
 use Rattle.awk_text.specs.declared.fault.Fault.{Fault}
 use Rattle.awk_text.specs.declared.value.Value.{Value}
 use Rattle.awk_text.specs.Values.{number_of, truth}
-use Rattle.box_world.specs.Calls.{Call}
-use Rattle.box_world.specs.declared.ask.Ask.{Ask}
+use Rattle.box_world.specs.declared.world.World.{Ghosts}
 use Rattle.awk_program.specs.View.{view_program}
 use Rattle.awk_program.specs.Program.{Expression}
 use Rattle.awk_machine.specs.Advances.{advance}
@@ -13,30 +12,35 @@ use Rattle.awk_machine.specs.Pieces.{Part, Piece, At, Goes, give}
 use Rattle.awk_machine.specs.State.{State, Given}
 use Rattle.awk_machine.specs.Statements.{to_records}
 use Rattle.awk_asks.specs.declared.halt.Halt.{Halt}
-use Rattle.awk_asks.specs.Chains.{Led, Ended, Meets}
+use Rattle.awk_asks.specs.Chains.{Meets}
 use Rattle.awk_asks.specs.Tasks.{Owns}
 use Rattle.awk_tasks.specs.Wholes.{Whole, Agreeing, base, used}
 use Rattle.awk_records.specs.Hosts.{IsHost}
 use Rattle.awk_eval_parts.specs.declared.context.Context.{Context}
+use Rattle.awk_eval_parts.specs.declared.context.Run.{Run}
 
 -- what a run is given is what the code has: the program, and what the host gave
 pub record IsGiven (cx : Context) (g : Given) : Type 0 where
   pub program : g.program ≡ view_program cx.program.now
   pub host : IsHost cx.host.now g
 
+-- what a run holds, as the machine's state is read of it
+abbrev pub whole_of : Run → Whole
+whole_of run = (run.store, run.streams)
+
 -- from its piece the machine leads on, or the part is halted, whatever else the run is given; and the open streams are the
 -- world's
-pub record Does {W A : Type 0} (follows : W → List Call → W → Type 0) (has_stopped : W → Bool) (stops : W → List Call → Ask → W → Type 0) (open_numbers : W → List ℕ)
+pub record Does {W A : Type 0} (ghosts : Ghosts W)
     (cx : Context) (p : Given → Piece) (to : Given → A → List Piece → List Piece) (old : Whole) (w : W) (result : Result A Halt) (new : Whole) (w' : W) : Type 0 where
-  pub plays : (g : Given) → IsGiven cx g → Meets (Led follows has_stopped) (Ended follows stops) (base g) (Agreeing g) used g (p g) (to g) old w result new w'
-  pub owns : Owns (open_numbers w') new.1
+  pub plays : (g : Given) → IsGiven cx g → Meets ghosts (base g) (Agreeing g) used g (p g) (to g) old w result new w'
+  pub owns : Owns (ghosts.open_numbers w') new.1
 
 -- the same of an answer that is no value, but tells of the value that is given what is wanted of it
-pub record Tells {W A : Type 0} (follows : W → List Call → W → Type 0) (has_stopped : W → Bool) (stops : W → List Call → Ask → W → Type 0) (open_numbers : W → List ℕ)
+pub record Tells {W A : Type 0} (ghosts : Ghosts W)
     (cx : Context) (p : Given → Piece) (Is : A → Value → Type 0) (old : Whole) (w : W) (result : Result A Halt) (new : Whole) (w' : W) : Type 0 where
   pub val : Value
   pub is : IfOk result (λ x. Is x val)
-  pub does : Does follows has_stopped stops open_numbers cx p (λ g x. give val) old w result new w'
+  pub does : Does ghosts cx p (λ g x. give val) old w result new w'
 
 -- what is told of a value
 abbrev pub IsNumberOf : Result ℤ Fault → Value → Type 0
@@ -56,8 +60,8 @@ pub record Waits (g : Given) (part : Part) (n : ℕ) (xs : List Expression) : Ty
   pub passed : (vs : List Value) (k : List Piece) → to_records (At part vs ∷ k) ≡ to_records k
 
 -- a list of parts is evaluated from left to right, for whatever part waits for them behind the values that it has
-pub record Fills {W A : Type 0} (follows : W → List Call → W → Type 0) (has_stopped : W → Bool) (stops : W → List Call → Ask → W → Type 0) (open_numbers : W → List ℕ)
+pub record Fills {W A : Type 0} (ghosts : Ghosts W)
     (cx : Context) (xs : Given → List Expression) (had has : List Value) (old : Whole) (w : W) (result : Result A Halt) (new : Whole) (w' : W) : Type 0 where
   pub plays : (g : Given) → IsGiven cx g → (part : Part) → Waits g part (length had) (xs g) →
-      Meets (Led follows has_stopped) (Ended follows stops) (base g) (Agreeing g) used g (At part (reverse had)) (λ (x : A) k. At part (reverse has) ∷ k) old w result new w'
-  pub owns : Owns (open_numbers w') new.1
+      Meets ghosts (base g) (Agreeing g) used g (At part (reverse had)) (λ (x : A) k. At part (reverse has) ∷ k) old w result new w'
+  pub owns : Owns (ghosts.open_numbers w') new.1

@@ -6,7 +6,7 @@ ghost use Rattle.awk_machine.specs.Pieces.{Do, Start, give};
 ghost use Rattle.awk_program.specs.View.{view, view_statement};
 ghost use Rattle.awk_tasks.specs.Wholes.{names_in};
 ghost use Rattle.awk_calls.specs.Flows.{flows};
-ghost use Rattle.awk_eval_parts.specs.Runs.{Does};
+ghost use Rattle.awk_eval_parts.specs.Runs.{Does, whole_of};
 
 use crate::context::{Context, Run};
 use awk_asks::halt::Halt;
@@ -24,8 +24,8 @@ pub trait Evaluates<W: World>: Copy {
     fn value(self, cx: &Context<'_>, e: &Expr, run: &mut Run, world: &mut W) -> Result<Value, Halt>
         requires can { can self }
         requires owns { Owns (W.open_numbers world.old) run.old.streams }
-        ensures { Does W.follows W.has_stopped W.stops W.open_numbers cx.now (λ g. value (view (names_in g) e.now)) (λ g. give)
-            (run.old.store, run.old.streams) world.old result (run.new.store, run.new.streams) world.new };
+        ensures { Does W.World cx.now (λ g. value (view (names_in g) e.now)) (λ g. give)
+            (whole_of run.old) world.old result (whole_of run.new) world.new };
 
     /// A statement.
     fn statement(
@@ -37,8 +37,8 @@ pub trait Evaluates<W: World>: Copy {
     ) -> Result<Flow, Halt>
         requires can { can self }
         requires owns { Owns (W.open_numbers world.old) run.old.streams }
-        ensures { Does W.follows W.has_stopped W.stops W.open_numbers cx.now (λ g. Do (Start (view_statement (names_in g) x.now))) (λ g. flows)
-            (run.old.store, run.old.streams) world.old result (run.new.store, run.new.streams) world.new };
+        ensures { Does W.World cx.now (λ g. Do (Start (view_statement (names_in g) x.now))) (λ g. flows)
+            (whole_of run.old) world.old result (whole_of run.new) world.new };
 
     /// The same, one level deeper, if there is one left.
     fn below(self) -> Option<Self>

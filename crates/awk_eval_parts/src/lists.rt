@@ -8,7 +8,7 @@ ghost use Rattle.awk_program.specs.Program.{expressions_of};
 ghost use Rattle.awk_program.specs.View.{view, variable_of};
 ghost use Rattle.awk_tasks.specs.Spots.{IsSpotOf, value_of};
 ghost use Rattle.awk_tasks.specs.Wholes.{names_in};
-ghost use Rattle.awk_eval_parts.specs.Runs.{Does, Fills};
+ghost use Rattle.awk_eval_parts.specs.Runs.{Does, Fills, whole_of};
 
 use crate::context::{Context, Run};
 use crate::evaluates::Evaluates;
@@ -34,8 +34,8 @@ pub fn fill<W: World, E: Evaluates<W>>(
 ) -> Result<(), Halt>
     requires can { E.can on }
     requires owns { Owns (W.open_numbers world.old) run.old.streams }
-    ensures plays { Fills W.follows W.has_stopped W.stops W.open_numbers cx.now (λ g. map (view (names_in g)) xs.now) values.old.items values.new.items
-        (run.old.store, run.old.streams) world.old result (run.new.store, run.new.streams) world.new }
+    ensures plays { Fills W.World cx.now (λ g. map (view (names_in g)) xs.now) values.old.items values.new.items
+        (whole_of run.old) world.old result (whole_of run.new) world.new }
     ensures count { OnOk result (length values.new.items ≡ length values.old.items + length xs.now) }
 {
     for x in xs {
@@ -57,8 +57,8 @@ pub fn element<W: World, E: Evaluates<W>>(
 ) -> Result<Spot, Halt>
     requires can { E.can on }
     requires owns { Owns (W.open_numbers world.old) run.old.streams }
-    ensures plays { Does W.follows W.has_stopped W.stops W.open_numbers cx.now (λ g. spot (p.element place (variable_of (names_in g) array) (expressions_of (map (view (names_in g)) keys.now)))) (λ g s. give (value_of s))
-        (run.old.store, run.old.streams) world.old result (run.new.store, run.new.streams) world.new }
+    ensures plays { Does W.World cx.now (λ g. spot (p.element place (variable_of (names_in g) array) (expressions_of (map (view (names_in g)) keys.now)))) (λ g s. give (value_of s))
+        (whole_of run.old) world.old result (whole_of run.new) world.new }
     ensures spot { IfOk result (λ s. (names : List (List ℕ)) → IsSpotOf names (p.element place (variable_of names array) (expressions_of (map (view names) keys.now))) s) }
 {
     if let Some(one) = only(keys) {
@@ -90,8 +90,8 @@ pub fn element_group<W: World, E: Evaluates<W>>(
 ) -> Result<Value, Halt>
     requires can { E.can on }
     requires owns { Owns (W.open_numbers world.old) run.old.streams }
-    ensures { Does W.follows W.has_stopped W.stops W.open_numbers cx.now (λ g. value (p.group place (expressions_of (map (view (names_in g)) xs.now)) (map (variable_of (names_in g)) arrays.now))) (λ g. give)
-        (run.old.store, run.old.streams) world.old result (run.new.store, run.new.streams) world.new }
+    ensures { Does W.World cx.now (λ g. value (p.group place (expressions_of (map (view (names_in g)) xs.now)) (map (variable_of (names_in g)) arrays.now))) (λ g. give)
+        (whole_of run.old) world.old result (whole_of run.new) world.new }
 {
     let mut values = Vec::new(cx.alloc);
     fill(cx, xs, &mut values, on, run, world)?;
@@ -117,8 +117,8 @@ pub fn formatted<W: World, E: Evaluates<W>>(
 ) -> Result<Value, Halt>
     requires can { E.can on }
     requires owns { Owns (W.open_numbers world.old) run.old.streams }
-    ensures { Does W.follows W.has_stopped W.stops W.open_numbers cx.now (λ g. value (p.sprintf place (view (names_in g) x.now) (expressions_of (map (view (names_in g)) xs.now)))) (λ g. give)
-        (run.old.store, run.old.streams) world.old result (run.new.store, run.new.streams) world.new }
+    ensures { Does W.World cx.now (λ g. value (p.sprintf place (view (names_in g) x.now) (expressions_of (map (view (names_in g)) xs.now)))) (λ g. give)
+        (whole_of run.old) world.old result (whole_of run.new) world.new }
 {
     let format = on.value(cx, x, run, world)?;
     let mut values = Vec::new(cx.alloc);

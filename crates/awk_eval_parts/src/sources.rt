@@ -8,7 +8,7 @@ ghost use Rattle.awk_machine.specs.Pieces.{give};
 ghost use Rattle.awk_program.specs.Program as p;
 ghost use Rattle.awk_program.specs.View.{view, view_ere};
 ghost use Rattle.awk_tasks.specs.Wholes.{names_in};
-ghost use Rattle.awk_eval_parts.specs.Runs.{Does};
+ghost use Rattle.awk_eval_parts.specs.Runs.{Does, whole_of};
 
 use crate::context::{Context, Run};
 use crate::evaluates::Evaluates;
@@ -29,8 +29,8 @@ pub fn source_of<W: World, E: Evaluates<W>>(
 ) -> Result<Source, Halt>
     requires can { E.can on }
     requires owns { Owns (W.open_numbers world.old) run.old.streams }
-    ensures plays { Does W.follows W.has_stopped W.stops W.open_numbers cx.now (λ g. source (view_ere (names_in g) pattern.now)) (λ g s. give (source_value s))
-        (run.old.store, run.old.streams) world.old result (run.new.store, run.new.streams) world.new }
+    ensures plays { Does W.World cx.now (λ g. source (view_ere (names_in g) pattern.now)) (λ g s. give (source_value s))
+        (whole_of run.old) world.old result (whole_of run.new) world.new }
     ensures kind { IfOk result (λ s. (names : List (List ℕ)) → IsSourceOf (view_ere names pattern.now) s) }
 {
     match pattern {
@@ -56,8 +56,8 @@ pub fn matches<W: World, E: Evaluates<W>>(
 ) -> Result<bool, Halt>
     requires can { E.can on }
     requires owns { Owns (W.open_numbers world.old) run.old.streams }
-    ensures { Does W.follows W.has_stopped W.stops W.open_numbers cx.now (λ g. value (p.matched place (view (names_in g) x.now) (view_ere (names_in g) pattern.now))) (λ g b. give (of_truth b))
-        (run.old.store, run.old.streams) world.old result (run.new.store, run.new.streams) world.new }
+    ensures { Does W.World cx.now (λ g. value (p.matched place (view (names_in g) x.now) (view_ere (names_in g) pattern.now))) (λ g b. give (of_truth b))
+        (whole_of run.old) world.old result (whole_of run.new) world.new }
 {
     split_for(&mut run.store, x)?;
     let known = matched_at_hand(cx.alloc, &mut run.patterns, &run.store, x, pattern);

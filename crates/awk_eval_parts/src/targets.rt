@@ -7,7 +7,7 @@ ghost use Rattle.awk_program.specs.Program as p;
 ghost use Rattle.awk_program.specs.View.{view, view_target};
 ghost use Rattle.awk_tasks.specs.Spots.{IsSpotOf, value_of};
 ghost use Rattle.awk_tasks.specs.Wholes.{names_in};
-ghost use Rattle.awk_eval_parts.specs.Runs.{Does, Tells, IsUnwanted};
+ghost use Rattle.awk_eval_parts.specs.Runs.{Does, Tells, IsUnwanted, whole_of};
 ghost use Rattle.awk_machine.specs.Expressions.{either};
 ghost use Rattle.awk_program.specs.declared.operators.Taken.{Taken as Which};
 
@@ -37,8 +37,8 @@ fn field<W: World, E: Evaluates<W>>(
 ) -> Result<Spot, Halt>
     requires can { E.can on }
     requires owns { Owns (W.open_numbers world.old) run.old.streams }
-    ensures plays { Does W.follows W.has_stopped W.stops W.open_numbers cx.now (λ g. spot (p.field place (view (names_in g) x.now))) (λ g s. give (value_of s))
-        (run.old.store, run.old.streams) world.old result (run.new.store, run.new.streams) world.new }
+    ensures plays { Does W.World cx.now (λ g. spot (p.field place (view (names_in g) x.now))) (λ g s. give (value_of s))
+        (whole_of run.old) world.old result (whole_of run.new) world.new }
     ensures spot { IfOk result (λ s. (names : List (List ℕ)) → IsSpotOf names (p.field place (view names x.now)) s) }
 {
     let operand = on.value(cx, x, run, world)?;
@@ -55,8 +55,8 @@ pub fn target_of<W: World, E: Evaluates<W>>(
 ) -> Result<Spot, Halt>
     requires can { E.can on }
     requires owns { Owns (W.open_numbers world.old) run.old.streams }
-    ensures plays { Does W.follows W.has_stopped W.stops W.open_numbers cx.now (λ g. spot (view_target (names_in g) target.now)) (λ g s. give (value_of s))
-        (run.old.store, run.old.streams) world.old result (run.new.store, run.new.streams) world.new }
+    ensures plays { Does W.World cx.now (λ g. spot (view_target (names_in g) target.now)) (λ g s. give (value_of s))
+        (whole_of run.old) world.old result (whole_of run.new) world.new }
     ensures spot { IfOk result (λ s. (names : List (List ℕ)) → IsSpotOf names (view_target names target.now) s) }
 {
     match target {
@@ -78,8 +78,8 @@ pub fn read_target<W: World, E: Evaluates<W>>(
 ) -> Result<Value, Halt>
     requires can { E.can on }
     requires owns { Owns (W.open_numbers world.old) run.old.streams }
-    ensures { Does W.follows W.has_stopped W.stops W.open_numbers cx.now (λ g. value (p.read (view_target (names_in g) target.now))) (λ g. give)
-        (run.old.store, run.old.streams) world.old result (run.new.store, run.new.streams) world.new }
+    ensures { Does W.World cx.now (λ g. value (p.read (view_target (names_in g) target.now))) (λ g. give)
+        (whole_of run.old) world.old result (whole_of run.new) world.new }
 {
     if let Target::Variable(variable) = target {
         return read_variable(cx.alloc, &mut run.store, *variable);
@@ -100,8 +100,8 @@ pub fn put<W: World, E: Evaluates<W>>(
 ) -> Result<(), Halt>
     requires can { E.can on }
     requires owns { Owns (W.open_numbers world.old) run.old.streams }
-    ensures { Tells W.follows W.has_stopped W.stops W.open_numbers cx.now (λ g. value (p.assign place (view_target (names_in g) target.now) (view (names_in g) x.now))) IsUnwanted
-        (run.old.store, run.old.streams) world.old result (run.new.store, run.new.streams) world.new }
+    ensures { Tells W.World cx.now (λ g. value (p.assign place (view_target (names_in g) target.now) (view (names_in g) x.now))) IsUnwanted
+        (whole_of run.old) world.old result (whole_of run.new) world.new }
 {
     let is_done = assigned(cx.alloc, &mut run.store, &mut run.texts, target, x)?;
     if is_done {
@@ -125,8 +125,8 @@ pub fn alter<W: World, E: Evaluates<W>>(
 ) -> Result<(), Halt>
     requires can { E.can on }
     requires owns { Owns (W.open_numbers world.old) run.old.streams }
-    ensures { Tells W.follows W.has_stopped W.stops W.open_numbers cx.now (λ g. value (p.change place how (view_target (names_in g) target.now) (view (names_in g) x.now))) IsUnwanted
-        (run.old.store, run.old.streams) world.old result (run.new.store, run.new.streams) world.new }
+    ensures { Tells W.World cx.now (λ g. value (p.change place how (view_target (names_in g) target.now) (view (names_in g) x.now))) IsUnwanted
+        (whole_of run.old) world.old result (whole_of run.new) world.new }
 {
     let to = target_of(cx, target, on, run, world)?;
     let operand = on.value(cx, x, run, world)?;
@@ -147,8 +147,8 @@ pub fn step_target<W: World, E: Evaluates<W>>(
 ) -> Result<(i64, i64), Halt>
     requires can { E.can on }
     requires owns { Owns (W.open_numbers world.old) run.old.streams }
-    ensures { (taken : Which) → Does W.follows W.has_stopped W.stops W.open_numbers cx.now (λ g. value (p.step place how taken (view_target (names_in g) target.now))) (λ g n. give (either taken n.0 n.1))
-        (run.old.store, run.old.streams) world.old result (run.new.store, run.new.streams) world.new }
+    ensures { (taken : Which) → Does W.World cx.now (λ g. value (p.step place how taken (view_target (names_in g) target.now))) (λ g n. give (either taken n.0 n.1))
+        (whole_of run.old) world.old result (whole_of run.new) world.new }
 {
     let to = target_of(cx, target, on, run, world)?;
     let old = read(cx.alloc, &mut run.store, &to)?;
@@ -169,8 +169,8 @@ pub fn assign<W: World, E: Evaluates<W>>(
 ) -> Result<Value, Halt>
     requires can { E.can on }
     requires owns { Owns (W.open_numbers world.old) run.old.streams }
-    ensures { Does W.follows W.has_stopped W.stops W.open_numbers cx.now (λ g. value (p.assign place (view_target (names_in g) target.now) (view (names_in g) x.now))) (λ g. give)
-        (run.old.store, run.old.streams) world.old result (run.new.store, run.new.streams) world.new }
+    ensures { Does W.World cx.now (λ g. value (p.assign place (view_target (names_in g) target.now) (view (names_in g) x.now))) (λ g. give)
+        (whole_of run.old) world.old result (whole_of run.new) world.new }
 {
     let to = target_of(cx, target, on, run, world)?;
     let new = on.value(cx, x, run, world)?;
@@ -194,8 +194,8 @@ pub fn change<W: World, E: Evaluates<W>>(
 ) -> Result<Value, Halt>
     requires can { E.can on }
     requires owns { Owns (W.open_numbers world.old) run.old.streams }
-    ensures { Does W.follows W.has_stopped W.stops W.open_numbers cx.now (λ g. value (p.change place how (view_target (names_in g) target.now) (view (names_in g) x.now))) (λ g. give)
-        (run.old.store, run.old.streams) world.old result (run.new.store, run.new.streams) world.new }
+    ensures { Does W.World cx.now (λ g. value (p.change place how (view_target (names_in g) target.now) (view (names_in g) x.now))) (λ g. give)
+        (whole_of run.old) world.old result (whole_of run.new) world.new }
 {
     let to = target_of(cx, target, on, run, world)?;
     let operand = on.value(cx, x, run, world)?;
@@ -221,8 +221,8 @@ pub fn increment<W: World, E: Evaluates<W>>(
 ) -> Result<Value, Halt>
     requires can { E.can on }
     requires owns { Owns (W.open_numbers world.old) run.old.streams }
-    ensures { Does W.follows W.has_stopped W.stops W.open_numbers cx.now (λ g. value (p.step place how taken (view_target (names_in g) target.now))) (λ g. give)
-        (run.old.store, run.old.streams) world.old result (run.new.store, run.new.streams) world.new }
+    ensures { Does W.World cx.now (λ g. value (p.step place how taken (view_target (names_in g) target.now))) (λ g. give)
+        (whole_of run.old) world.old result (whole_of run.new) world.new }
 {
     let (before, behind) = step_target(cx, place, how, target, on, run, world)?;
     match taken {

@@ -5,7 +5,7 @@ ghost use Rattle.awk_machine.specs.Pieces.{give};
 ghost use Rattle.awk_program.specs.Program as p;
 ghost use Rattle.awk_program.specs.View.{view};
 ghost use Rattle.awk_tasks.specs.Wholes.{names_in};
-ghost use Rattle.awk_eval_parts.specs.Runs.{Does, Tells, IsNumberOf, IsTruthOf, IsUnwanted};
+ghost use Rattle.awk_eval_parts.specs.Runs.{Does, Tells, IsNumberOf, IsTruthOf, IsUnwanted, whole_of};
 ghost use Rattle.awk_machine.specs.Operators.{of_truth};
 
 use crate::context::{Context, Run};
@@ -33,8 +33,8 @@ pub fn number<W: World, E: Evaluates<W>>(
 ) -> Result<Result<i64, Fault>, Halt>
     requires can { E.can on }
     requires owns { Owns (W.open_numbers world.old) run.old.streams }
-    ensures { Tells W.follows W.has_stopped W.stops W.open_numbers cx.now (λ g. value (view (names_in g) e.now)) IsNumberOf
-        (run.old.store, run.old.streams) world.old result (run.new.store, run.new.streams) world.new }
+    ensures { Tells W.World cx.now (λ g. value (view (names_in g) e.now)) IsNumberOf
+        (whole_of run.old) world.old result (whole_of run.new) world.new }
 {
     if let Some(known) = number_at_hand(&run.store, e, MOST_LEVELS) {
         return Ok(Ok(known));
@@ -53,8 +53,8 @@ pub fn truth_of<W: World, E: Evaluates<W>>(
 ) -> Result<bool, Halt>
     requires can { E.can on }
     requires owns { Owns (W.open_numbers world.old) run.old.streams }
-    ensures { Tells W.follows W.has_stopped W.stops W.open_numbers cx.now (λ g. value (view (names_in g) e.now)) IsTruthOf
-        (run.old.store, run.old.streams) world.old result (run.new.store, run.new.streams) world.new }
+    ensures { Tells W.World cx.now (λ g. value (view (names_in g) e.now)) IsTruthOf
+        (whole_of run.old) world.old result (whole_of run.new) world.new }
 {
     if let Some(known) = truth_at_hand(&run.store, e) {
         return Ok(known);
@@ -77,8 +77,8 @@ fn general_truth<W: World, E: Evaluates<W>>(
 ) -> Result<bool, Halt>
     requires can { E.can on }
     requires owns { Owns (W.open_numbers world.old) run.old.streams }
-    ensures { Tells W.follows W.has_stopped W.stops W.open_numbers cx.now (λ g. value (view (names_in g) e.now)) IsTruthOf
-        (run.old.store, run.old.streams) world.old result (run.new.store, run.new.streams) world.new }
+    ensures { Tells W.World cx.now (λ g. value (view (names_in g) e.now)) IsTruthOf
+        (whole_of run.old) world.old result (whole_of run.new) world.new }
 {
     let Some(below) = on.below() else {
         return Err(Halt::Memory);
@@ -105,8 +105,8 @@ fn compare<W: World, E: Evaluates<W>>(
 ) -> Result<bool, Halt>
     requires can { E.can on }
     requires owns { Owns (W.open_numbers world.old) run.old.streams }
-    ensures { Does W.follows W.has_stopped W.stops W.open_numbers cx.now (λ g. value (p.compare how (view (names_in g) x.now) (view (names_in g) y.now))) (λ g b. give (of_truth b))
-        (run.old.store, run.old.streams) world.old result (run.new.store, run.new.streams) world.new }
+    ensures { Does W.World cx.now (λ g. value (p.compare how (view (names_in g) x.now) (view (names_in g) y.now))) (λ g b. give (of_truth b))
+        (whole_of run.old) world.old result (whole_of run.new) world.new }
 {
     let one = on.value(cx, x, run, world)?;
     if let Some(other) = at_hand(&run.store, y, MOST_LEVELS) {
@@ -126,8 +126,8 @@ pub fn effect<W: World, E: Evaluates<W>>(
 ) -> Result<(), Halt>
     requires can { E.can on }
     requires owns { Owns (W.open_numbers world.old) run.old.streams }
-    ensures { Tells W.follows W.has_stopped W.stops W.open_numbers cx.now (λ g. value (view (names_in g) e.now)) IsUnwanted
-        (run.old.store, run.old.streams) world.old result (run.new.store, run.new.streams) world.new }
+    ensures { Tells W.World cx.now (λ g. value (view (names_in g) e.now)) IsUnwanted
+        (whole_of run.old) world.old result (whole_of run.new) world.new }
 {
     let is_done = done_at_once(cx.alloc, &mut run.store, &mut run.line, e);
     if is_done {
@@ -151,8 +151,8 @@ fn general_effect<W: World, E: Evaluates<W>>(
 ) -> Result<(), Halt>
     requires can { E.can on }
     requires owns { Owns (W.open_numbers world.old) run.old.streams }
-    ensures { Tells W.follows W.has_stopped W.stops W.open_numbers cx.now (λ g. value (view (names_in g) e.now)) IsUnwanted
-        (run.old.store, run.old.streams) world.old result (run.new.store, run.new.streams) world.new }
+    ensures { Tells W.World cx.now (λ g. value (view (names_in g) e.now)) IsUnwanted
+        (whole_of run.old) world.old result (whole_of run.new) world.new }
 {
     let Some(below) = on.below() else {
         return Err(Halt::Memory);

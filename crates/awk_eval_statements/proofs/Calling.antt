@@ -1,12 +1,11 @@
 -- Calls: how their arguments are evaluated, and what they begin and end with.
-use Rattle.std.proofs.Common.{◌≡◌, refl, sym, ap, subst, ◌∙◌, ℕ, ◌+◌, zero, suc, Bool, List, [], ◌∷◌, ◌++◌, length, reverse, map, arith}
+use Rattle.std.proofs.Common.{◌≡◌, refl, sym, ap, subst, ◌∙◌, ℕ, ◌+◌, zero, suc, List, [], ◌∷◌, ◌++◌, length, reverse, map, arith}
 use Rattle.std.specs.Prelude.{Result, Ok, Err, Option, Some, None, slice_get}
 use Rattle.std.proofs.lemmas.List.{reverse-reverse, length-reverse, length-map}
 use Rattle.awk_text.specs.declared.place.Place.{Place}
 use Rattle.awk_text.specs.declared.value.Value.{Value}
 use Rattle.awk_text.specs.declared.value.Value.TheVariants as v
-use Rattle.box_world.specs.Calls as world
-use Rattle.box_world.specs.declared.ask.Ask.{Ask}
+use Rattle.box_world.specs.declared.world.World.{Ghosts}
 use Rattle.awk_program.specs.Program as p
 use Rattle.awk_program.specs.Program.{Expression, Arguments}
 use Rattle.awk_program.specs.View.{Names, names_of, view, view_arguments, view_program, view_statement}
@@ -20,7 +19,7 @@ use Rattle.awk_machine.specs.Forms.{value}
 use Rattle.awk_machine.specs.Pieces.{Piece, At, Do, Call, Step, Value_of, Goes, give}
 use Rattle.awk_machine.specs.State.{State, Given}
 use Rattle.awk_asks.specs.declared.halt.Halt.{Halt}
-use Rattle.awk_asks.specs.Chains.{Led, Ended, Leads, Meets}
+use Rattle.awk_asks.specs.Chains.{Leads, Meets}
 use Rattle.awk_asks.proofs.Chain as chain
 use Rattle.awk_asks.specs.Tables.{Table}
 use Rattle.awk_asks.specs.Tasks.{Owns}
@@ -68,20 +67,20 @@ argue_nothing g place f xs vs is k s = argued g place f xs vs (Some by_nothing) 
 placed : (xs : Arguments) (has : List Value) (n : ℕ) (x : Argument) → length has ≡ n → slice_get (arguments xs) n ≡ Some x → slice_get (arguments xs) (length (reverse has)) ≡ Some x
 placed xs has n x count got = ap (slice_get (arguments xs)) (length-reverse has ∙ count) ∙ got
 
-module _ {W : Type 0} {follows : W → List world.Call → W → Type 0} {has_stopped : W → Bool} {stops : W → List world.Call → Ask → W → Type 0} {open_numbers : W → List ℕ} {cx : Context} {xs : Given → Arguments} {has : List Value} {n : ℕ} {old : Whole} {w : W} {mid : Whole} {w' : W} {r : Result Value Halt} {new : Whole} {w'' : W} where
-  pub argue_turn : (x : Given → Argument) (val : Value) → Arguing follows has_stopped stops open_numbers cx xs has n old w mid w' → ((g : Given) → slice_get (arguments (xs g)) n ≡ Some (x g)) →
-      Argued follows has_stopped stops open_numbers cx x mid w' r new w'' → r ≡ Ok val → Arguing follows has_stopped stops open_numbers cx xs (has ++ val ∷ []) (n + 1) old w new w''
+module _ {W : Type 0} {ghosts : Ghosts W} {cx : Context} {xs : Given → Arguments} {has : List Value} {n : ℕ} {old : Whole} {w : W} {mid : Whole} {w' : W} {r : Result Value Halt} {new : Whole} {w'' : W} where
+  pub argue_turn : (x : Given → Argument) (val : Value) → Arguing ghosts cx xs has n old w mid w' → ((g : Given) → slice_get (arguments (xs g)) n ≡ Some (x g)) →
+      Argued ghosts cx x mid w' r new w'' → r ≡ Ok val → Arguing ghosts cx xs (has ++ val ∷ []) (n + 1) old w new w''
   argue_turn x val h got does is = record {
     leads = λ g given place f.
-        subst (λ vs. Leads (Led follows has_stopped) (Ended follows stops) (base g) (Agreeing g) used g (value (p.call place f (xs g))) old w (λ k. At (Value_of (p.call place f (xs g))) vs ∷ k) new w'') (reverse_last has val)
+        subst (λ vs. Leads ghosts (base g) (Agreeing g) used g (value (p.call place f (xs g))) old w (λ k. At (Value_of (p.call place f (xs g))) vs ∷ k) new w'') (reverse_last has val)
         (chain.part val (h.leads g given place f) (does.plays g given place f (xs g) (reverse has) (placed (xs g) has n (x g) h.count (got g))) is);
     owns = does.owns;
     count = one_longer has (has ++ val ∷ []) val n refl h.count;
   }
 
-  pub argue_stop : {A : Type 0} {to : A → List Piece → List Piece} (x : Given → Argument) (e : Halt) → Arguing follows has_stopped stops open_numbers cx xs has n old w mid w' → ((g : Given) → slice_get (arguments (xs g)) n ≡ Some (x g)) →
-      Argued follows has_stopped stops open_numbers cx x mid w' r new w'' → r ≡ Err e →
-      (g : Given) → IsGiven cx g → (place : Place) (f : ℕ) → Meets (Led follows has_stopped) (Ended follows stops) (base g) (Agreeing g) used g (value (p.call place f (xs g))) to old w (Err e) new w''
+  pub argue_stop : {A : Type 0} {to : A → List Piece → List Piece} (x : Given → Argument) (e : Halt) → Arguing ghosts cx xs has n old w mid w' → ((g : Given) → slice_get (arguments (xs g)) n ≡ Some (x g)) →
+      Argued ghosts cx x mid w' r new w'' → r ≡ Err e →
+      (g : Given) → IsGiven cx g → (place : Place) (f : ℕ) → Meets ghosts (base g) (Agreeing g) used g (value (p.call place f (xs g))) to old w (Err e) new w''
   argue_stop x e h got does is g given place f =
       chain.stop e (λ k. refl) (h.leads g given place f) (does.plays g given place f (xs g) (reverse has) (placed (xs g) has n (x g) h.count (got g))) is
 
@@ -105,9 +104,9 @@ pub body_so : (g : Given) (cx : Context) → IsGiven cx g → (f : ℕ) (xs : Li
 body_so g cx is f xs e = ap (λ q. (function q f).body) is.program ∙ sym e ∙ ap (λ names. map (view_statement names) xs) (sym (ap (λ q. map (λ n. n.text) q.variables) is.program))
 
 -- an argument whose value is there is evaluated at once
-pub argued_there : {W : Type 0} {follows : W → List world.Call → W → Type 0} {has_stopped : W → Bool} {stops : W → List world.Call → Ask → W → Type 0} {open_numbers : W → List ℕ} {cx : Context}
-    (x : code.Argument Expr) (val : Value) (kept : Kept) (t : Table) (w : W) → Owns (open_numbers w) t → IsPassed x kept val →
-    Argued follows has_stopped stops open_numbers cx (λ m. argument_of (names_in m) x) (kept, t) w (Ok val) (kept, t) w
+pub argued_there : {W : Type 0} {ghosts : Ghosts W} {cx : Context}
+    (x : code.Argument Expr) (val : Value) (kept : Kept) (t : Table) (w : W) → Owns (ghosts.open_numbers w) t → IsPassed x kept val →
+    Argued ghosts cx (λ m. argument_of (names_in m) x) (kept, t) w (Ok val) (kept, t) w
 argued_there (argument.Value e) val kept t w owns h = record {
   plays = λ m is q n ys ws got. hands_on (λ k. refl) (quietly {then_ = λ k. value (view (names_in m) e) ∷ At (Value_of (p.call q n ys)) ws ∷ k} (chain.at_once _ _ _) (λ k hid d a. argue_value m q n ys ws _ got k _)) (acted (there {on = give} {x = val} (h m t)));
   owns = owns;

@@ -9,7 +9,7 @@ ghost use Rattle.awk_tasks.specs.Wholes.{names_in};
 ghost use Rattle.awk_calls.specs.Calls.{argument_of};
 ghost use Rattle.awk_eval_parts.specs.Calls.{Argued, Argues, IsPassed};
 ghost use Rattle.awk_text.specs.declared.value.Value.TheVariants as v;
-ghost use Rattle.awk_eval_parts.specs.Runs.{Does};
+ghost use Rattle.awk_eval_parts.specs.Runs.{Does, whole_of};
 
 use crate::statements::body;
 use awk_asks::halt::Halt;
@@ -45,8 +45,8 @@ fn argument<W: World, E: Evaluates<W>>(
 ) -> Result<Value, Halt>
     requires can { E.can on }
     requires owns { Owns (W.open_numbers world.old) run.old.streams }
-    ensures { Argued W.follows W.has_stopped W.stops W.open_numbers cx.now (λ g. argument_of (names_in g) x.now)
-        (run.old.store, run.old.streams) world.old result (run.new.store, run.new.streams) world.new }
+    ensures { Argued W.World cx.now (λ g. argument_of (names_in g) x.now)
+        (whole_of run.old) world.old result (whole_of run.new) world.new }
 {
     match x {
         Argument::Value(x) => on.value(cx, x, run, world),
@@ -65,8 +65,8 @@ fn arguments<W: World, E: Evaluates<W>>(
 ) -> Result<Passed, Halt>
     requires can { E.can on }
     requires owns { Owns (W.open_numbers world.old) run.old.streams }
-    ensures plays { Argues W.follows W.has_stopped W.stops W.open_numbers cx.now (λ g. view_arguments (names_in g) xs.now)
-        (run.old.store, run.old.streams) world.old result (run.new.store, run.new.streams) world.new }
+    ensures plays { Argues W.World cx.now (λ g. view_arguments (names_in g) xs.now)
+        (whole_of run.old) world.old result (whole_of run.new) world.new }
     ensures count { IfOk result (λ vs. length vs ≡ length xs.now) }
 {
     let mut values = run.store.spare_values();
@@ -94,8 +94,8 @@ pub fn call<W: World, E: Evaluates<W>>(
 ) -> Result<Value, Halt>
     requires can { E.can on }
     requires owns { Owns (W.open_numbers world.old) run.old.streams }
-    ensures { Does W.follows W.has_stopped W.stops W.open_numbers cx.now (λ g. value (p.call place f (view_arguments (names_in g) xs.now))) (λ g. give)
-        (run.old.store, run.old.streams) world.old result (run.new.store, run.new.streams) world.new }
+    ensures { Does W.World cx.now (λ g. value (p.call place f (view_arguments (names_in g) xs.now))) (λ g. give)
+        (whole_of run.old) world.old result (whole_of run.new) world.new }
 {
     let values = arguments(cx, xs, on, run, world)?;
     step(cx.host.bound(), &mut run.store)?;

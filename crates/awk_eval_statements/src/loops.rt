@@ -7,7 +7,7 @@ ghost use Rattle.awk_program.specs.View.{view, view_statement, variable_of};
 ghost use Rattle.awk_tasks.specs.Wholes.{names_in};
 ghost use Rattle.awk_calls.specs.Flows.{flows};
 ghost use Rattle.awk_eval_parts.specs.Loops.{loop_of, tested, to_test};
-ghost use Rattle.awk_eval_parts.specs.Runs.{Does};
+ghost use Rattle.awk_eval_parts.specs.Runs.{Does, whole_of};
 
 use awk_asks::halt::Halt;
 use awk_calls::Flow;
@@ -33,8 +33,8 @@ fn holds<W: World, E: Evaluates<W>>(
 ) -> Result<bool, Halt>
     requires can { E.can on }
     requires owns { Owns (W.open_numbers world.old) run.old.streams }
-    ensures { Does W.follows W.has_stopped W.stops W.open_numbers cx.now (λ g. At (Test (loop_of (names_in g) (option_copied test.entry) inner.now (option_copied after.entry))) []) (λ g. tested (loop_of (names_in g) (option_copied test.entry) inner.now (option_copied after.entry)))
-        (run.old.store, run.old.streams) world.old result (run.new.store, run.new.streams) world.new }
+    ensures { Does W.World cx.now (λ g. At (Test (loop_of (names_in g) (option_copied test.entry) inner.now (option_copied after.entry))) []) (λ g. tested (loop_of (names_in g) (option_copied test.entry) inner.now (option_copied after.entry)))
+        (whole_of run.old) world.old result (whole_of run.new) world.new }
 {
     match test {
         None => Ok(true),
@@ -54,8 +54,8 @@ fn behind<W: World, E: Evaluates<W>>(
 ) -> Result<(), Halt>
     requires can { E.can on }
     requires owns { Owns (W.open_numbers world.old) run.old.streams }
-    ensures { Does W.follows W.has_stopped W.stops W.open_numbers cx.now (λ g. At (Turn (loop_of (names_in g) (option_copied test.entry) inner.now (option_copied after.entry))) []) (λ g. λ u. to_test (loop_of (names_in g) (option_copied test.entry) inner.now (option_copied after.entry)))
-        (run.old.store, run.old.streams) world.old result (run.new.store, run.new.streams) world.new }
+    ensures { Does W.World cx.now (λ g. At (Turn (loop_of (names_in g) (option_copied test.entry) inner.now (option_copied after.entry))) []) (λ g. λ u. to_test (loop_of (names_in g) (option_copied test.entry) inner.now (option_copied after.entry)))
+        (whole_of run.old) world.old result (whole_of run.new) world.new }
 {
     let Some(after) = after else {
         return Ok(());
@@ -75,8 +75,8 @@ fn turns<W: World, E: Evaluates<W>>(
 ) -> Result<Flow, Halt>
     requires can { E.can on }
     requires owns { Owns (W.open_numbers world.old) run.old.streams }
-    ensures { Does W.follows W.has_stopped W.stops W.open_numbers cx.now (λ g. At (Test (loop_of (names_in g) (option_copied test.entry) inner.now (option_copied after.entry))) []) (λ g. flows)
-        (run.old.store, run.old.streams) world.old result (run.new.store, run.new.streams) world.new }
+    ensures { Does W.World cx.now (λ g. At (Test (loop_of (names_in g) (option_copied test.entry) inner.now (option_copied after.entry))) []) (λ g. flows)
+        (whole_of run.old) world.old result (whole_of run.new) world.new }
 {
     for _turn in 0..cx.host.bound() {
         let goes_on = holds(cx, test, inner, after, on, run, world)?;
@@ -103,8 +103,8 @@ pub fn turn_first<W: World, E: Evaluates<W>>(
 ) -> Result<Flow, Halt>
     requires can { E.can on }
     requires owns { Owns (W.open_numbers world.old) run.old.streams }
-    ensures { Does W.follows W.has_stopped W.stops W.open_numbers cx.now (λ g. At (Doing (p.do_while (view_statement (names_in g) inner.now) (view (names_in g) test.now))) []) (λ g. flows)
-        (run.old.store, run.old.streams) world.old result (run.new.store, run.new.streams) world.new }
+    ensures { Does W.World cx.now (λ g. At (Doing (p.do_while (view_statement (names_in g) inner.now) (view (names_in g) test.now))) []) (λ g. flows)
+        (whole_of run.old) world.old result (whole_of run.new) world.new }
 {
     let flow = on.statement(cx, inner, run, world)?;
     if let Some(end) = end_of(flow) {
@@ -125,8 +125,8 @@ pub fn while_loop<W: World, E: Evaluates<W>>(
 ) -> Result<Flow, Halt>
     requires can { E.can on }
     requires owns { Owns (W.open_numbers world.old) run.old.streams }
-    ensures { Does W.follows W.has_stopped W.stops W.open_numbers cx.now (λ g. At (Doing (p.while_do (view (names_in g) test.now) (view_statement (names_in g) inner.now))) []) (λ g. flows)
-        (run.old.store, run.old.streams) world.old result (run.new.store, run.new.streams) world.new }
+    ensures { Does W.World cx.now (λ g. At (Doing (p.while_do (view (names_in g) test.now) (view_statement (names_in g) inner.now))) []) (λ g. flows)
+        (whole_of run.old) world.old result (whole_of run.new) world.new }
 {
     turns(cx, Some(test), inner, None, on, run, world)
 }
@@ -144,8 +144,8 @@ pub fn first_then<W: World, E: Evaluates<W>>(
 ) -> Result<Flow, Halt>
     requires can { E.can on }
     requires owns { Owns (W.open_numbers world.old) run.old.streams }
-    ensures { Does W.follows W.has_stopped W.stops W.open_numbers cx.now (λ g. At (Doing (p.for_loop (option_map (view (names_in g)) first.now) (option_map (view (names_in g)) test.now) (option_map (view (names_in g)) after.now) (view_statement (names_in g) inner.now))) []) (λ g. flows)
-        (run.old.store, run.old.streams) world.old result (run.new.store, run.new.streams) world.new }
+    ensures { Does W.World cx.now (λ g. At (Doing (p.for_loop (option_map (view (names_in g)) first.now) (option_map (view (names_in g)) test.now) (option_map (view (names_in g)) after.now) (view_statement (names_in g) inner.now))) []) (λ g. flows)
+        (whole_of run.old) world.old result (whole_of run.new) world.new }
 {
     let test = test.as_ref();
     let after = after.as_ref();
@@ -169,8 +169,8 @@ fn over<W: World, E: Evaluates<W>>(
 ) -> Result<Flow, Halt>
     requires can { E.can on }
     requires owns { Owns (W.open_numbers world.old) run.old.streams }
-    ensures { Does W.follows W.has_stopped W.stops W.open_numbers cx.now (λ g. Do (Keys place (variable_of (names_in g) variable) (view_statement (names_in g) inner.now) keys.now)) (λ g. flows)
-        (run.old.store, run.old.streams) world.old result (run.new.store, run.new.streams) world.new }
+    ensures { Does W.World cx.now (λ g. Do (Keys place (variable_of (names_in g) variable) (view_statement (names_in g) inner.now) keys.now)) (λ g. flows)
+        (whole_of run.old) world.old result (whole_of run.new) world.new }
 {
     for key in keys {
         let Ok(text) = key.copy(cx.alloc) else {
@@ -198,8 +198,8 @@ pub fn over_keys<W: World, E: Evaluates<W>>(
 ) -> Result<Flow, Halt>
     requires can { E.can on }
     requires owns { Owns (W.open_numbers world.old) run.old.streams }
-    ensures { Does W.follows W.has_stopped W.stops W.open_numbers cx.now (λ g. At (Doing (p.for_each place (variable_of (names_in g) variable) (variable_of (names_in g) array) (view_statement (names_in g) inner.now))) []) (λ g. flows)
-        (run.old.store, run.old.streams) world.old result (run.new.store, run.new.streams) world.new }
+    ensures { Does W.World cx.now (λ g. At (Doing (p.for_each place (variable_of (names_in g) variable) (variable_of (names_in g) array) (view_statement (names_in g) inner.now))) []) (λ g. flows)
+        (whole_of run.old) world.old result (whole_of run.new) world.new }
 {
     let Ok(keys) = run.store.keys(array) else {
         return Err(Halt::Memory);

@@ -6,7 +6,7 @@ ghost use Rattle.awk_program.specs.Program as p;
 ghost use Rattle.awk_program.specs.View.{view, view_redirection};
 ghost use Rattle.awk_tasks.specs.Wholes.{names_in};
 ghost use Rattle.awk_calls.specs.Flows.{flows};
-ghost use Rattle.awk_eval_parts.specs.Runs.{Does};
+ghost use Rattle.awk_eval_parts.specs.Runs.{Does, whole_of};
 
 use awk_asks::halt::Halt;
 use awk_asks::requests::put;
@@ -40,8 +40,8 @@ pub fn print<W: World, E: Evaluates<W>>(
 ) -> Result<Flow, Halt>
     requires can { E.can on }
     requires owns { Owns (W.open_numbers world.old) run.old.streams }
-    ensures { Does W.follows W.has_stopped W.stops W.open_numbers cx.now (λ g. At (Doing (p.print place (map (view (names_in g)) xs.now) (option_map (view_redirection (names_in g)) to.now))) []) (λ g. flows)
-        (run.old.store, run.old.streams) world.old result (run.new.store, run.new.streams) world.new }
+    ensures { Does W.World cx.now (λ g. At (Doing (p.print place (map (view (names_in g)) xs.now) (option_map (view_redirection (names_in g)) to.now))) []) (λ g. flows)
+        (whole_of run.old) world.old result (whole_of run.new) world.new }
 {
     split_for_items(&mut run.store, xs)?;
     if let Some(to) = to {
@@ -68,8 +68,8 @@ fn redirect<W: World, E: Evaluates<W>>(
 ) -> Result<Flow, Halt>
     requires can { E.can on }
     requires owns { Owns (W.open_numbers world.old) run.old.streams }
-    ensures { Does W.follows W.has_stopped W.stops W.open_numbers cx.now (λ g. At (Doing (p.print place (map (view (names_in g)) xs.now) (Some (view_redirection (names_in g) to.now)))) []) (λ g. flows)
-        (run.old.store, run.old.streams) world.old result (run.new.store, run.new.streams) world.new }
+    ensures { Does W.World cx.now (λ g. At (Doing (p.print place (map (view (names_in g)) xs.now) (Some (view_redirection (names_in g) to.now)))) []) (λ g. flows)
+        (whole_of run.old) world.old result (whole_of run.new) world.new }
 {
     split_for(&mut run.store, &to.target)?;
     let known = redirected_at_hand(&mut run.line, &run.store, xs, to);
@@ -100,8 +100,8 @@ fn general_print<W: World, E: Evaluates<W>>(
 ) -> Result<Flow, Halt>
     requires can { E.can on }
     requires owns { Owns (W.open_numbers world.old) run.old.streams }
-    ensures { Does W.follows W.has_stopped W.stops W.open_numbers cx.now (λ g. At (Doing (p.print place (map (view (names_in g)) xs.now) None)) []) (λ g. flows)
-        (run.old.store, run.old.streams) world.old result (run.new.store, run.new.streams) world.new }
+    ensures { Does W.World cx.now (λ g. At (Doing (p.print place (map (view (names_in g)) xs.now) None)) []) (λ g. flows)
+        (whole_of run.old) world.old result (whole_of run.new) world.new }
 {
     let mut values = Vec::new(cx.alloc);
     fill(cx, xs, &mut values, on, run, world)?;
@@ -123,8 +123,8 @@ fn general_redirect<W: World, E: Evaluates<W>>(
 ) -> Result<Flow, Halt>
     requires can { E.can on }
     requires owns { Owns (W.open_numbers world.old) run.old.streams }
-    ensures { Does W.follows W.has_stopped W.stops W.open_numbers cx.now (λ g. At (Doing (p.print place (map (view (names_in g)) xs.now) (Some (view_redirection (names_in g) to.now)))) []) (λ g. flows)
-        (run.old.store, run.old.streams) world.old result (run.new.store, run.new.streams) world.new }
+    ensures { Does W.World cx.now (λ g. At (Doing (p.print place (map (view (names_in g)) xs.now) (Some (view_redirection (names_in g) to.now)))) []) (λ g. flows)
+        (whole_of run.old) world.old result (whole_of run.new) world.new }
 {
     let mut values = Vec::new(cx.alloc);
     fill(cx, xs, &mut values, on, run, world)?;
@@ -162,8 +162,8 @@ pub fn printf<W: World, E: Evaluates<W>>(
 ) -> Result<Flow, Halt>
     requires can { E.can on }
     requires owns { Owns (W.open_numbers world.old) run.old.streams }
-    ensures { Does W.follows W.has_stopped W.stops W.open_numbers cx.now (λ g. At (Doing (p.printf place (view (names_in g) x.now) (map (view (names_in g)) xs.now) (option_map (view_redirection (names_in g)) to.now))) []) (λ g. flows)
-        (run.old.store, run.old.streams) world.old result (run.new.store, run.new.streams) world.new }
+    ensures { Does W.World cx.now (λ g. At (Doing (p.printf place (view (names_in g) x.now) (map (view (names_in g)) xs.now) (option_map (view_redirection (names_in g)) to.now))) []) (λ g. flows)
+        (whole_of run.old) world.old result (whole_of run.new) world.new }
 {
     let format = on.value(cx, x, run, world)?;
     let mut values = Vec::new(cx.alloc);

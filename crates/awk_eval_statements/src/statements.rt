@@ -6,7 +6,7 @@ ghost use Rattle.awk_program.specs.Program as p;
 ghost use Rattle.awk_program.specs.View.{view, view_statement, variable_of};
 ghost use Rattle.awk_tasks.specs.Wholes.{names_in};
 ghost use Rattle.awk_calls.specs.Flows.{flows};
-ghost use Rattle.awk_eval_parts.specs.Runs.{Does};
+ghost use Rattle.awk_eval_parts.specs.Runs.{Does, whole_of};
 
 use crate::loops::{first_then, over_keys, turn_first, while_loop};
 use crate::output::{print, printf};
@@ -32,8 +32,8 @@ pub fn body<W: World, E: Evaluates<W>>(
 ) -> Result<Flow, Halt>
     requires can { E.can on }
     requires owns { Owns (W.open_numbers world.old) run.old.streams }
-    ensures { Does W.follows W.has_stopped W.stops W.open_numbers cx.now (λ g. Do (Each (map (view_statement (names_in g)) xs.now))) (λ g. flows)
-        (run.old.store, run.old.streams) world.old result (run.new.store, run.new.streams) world.new }
+    ensures { Does W.World cx.now (λ g. Do (Each (map (view_statement (names_in g)) xs.now))) (λ g. flows)
+        (whole_of run.old) world.old result (whole_of run.new) world.new }
 {
     for x in xs {
         let flow = on.statement(cx, x, run, world)?;
@@ -54,8 +54,8 @@ pub fn perform<W: World, E: Evaluates<W>>(
 ) -> Result<Flow, Halt>
     requires can { E.can on }
     requires owns { Owns (W.open_numbers world.old) run.old.streams }
-    ensures { Does W.follows W.has_stopped W.stops W.open_numbers cx.now (λ g. At (Doing (view_statement (names_in g) x.now)) []) (λ g. flows)
-        (run.old.store, run.old.streams) world.old result (run.new.store, run.new.streams) world.new }
+    ensures { Does W.World cx.now (λ g. At (Doing (view_statement (names_in g) x.now)) []) (λ g. flows)
+        (whole_of run.old) world.old result (whole_of run.new) world.new }
 {
     match x {
         Statement::Expr(e) => plain(cx, e, on, run, world),
@@ -99,8 +99,8 @@ pub fn plain<W: World, E: Evaluates<W>>(
 ) -> Result<Flow, Halt>
     requires can { E.can on }
     requires owns { Owns (W.open_numbers world.old) run.old.streams }
-    ensures { Does W.follows W.has_stopped W.stops W.open_numbers cx.now (λ g. At (Doing (p.plain (view (names_in g) e.now))) []) (λ g. flows)
-        (run.old.store, run.old.streams) world.old result (run.new.store, run.new.streams) world.new }
+    ensures { Does W.World cx.now (λ g. At (Doing (p.plain (view (names_in g) e.now))) []) (λ g. flows)
+        (whole_of run.old) world.old result (whole_of run.new) world.new }
 {
     effect(cx, e, on, run, world)?;
     Ok(Flow::On)
@@ -118,8 +118,8 @@ fn delete<W: World, E: Evaluates<W>>(
 ) -> Result<Flow, Halt>
     requires can { E.can on }
     requires owns { Owns (W.open_numbers world.old) run.old.streams }
-    ensures { Does W.follows W.has_stopped W.stops W.open_numbers cx.now (λ g. At (Doing (p.delete place (variable_of (names_in g) array) (map (view (names_in g)) keys.now))) []) (λ g. flows)
-        (run.old.store, run.old.streams) world.old result (run.new.store, run.new.streams) world.new }
+    ensures { Does W.World cx.now (λ g. At (Doing (p.delete place (variable_of (names_in g) array) (map (view (names_in g)) keys.now))) []) (λ g. flows)
+        (whole_of run.old) world.old result (whole_of run.new) world.new }
 {
     let mut values = Vec::new(cx.alloc);
     fill(cx, keys, &mut values, on, run, world)?;
@@ -145,8 +145,8 @@ fn leave_by<W: World, E: Evaluates<W>>(
 ) -> Result<Flow, Halt>
     requires can { E.can on }
     requires owns { Owns (W.open_numbers world.old) run.old.streams }
-    ensures { Does W.follows W.has_stopped W.stops W.open_numbers cx.now (λ g. At (Doing (p.exit place (option_map (view (names_in g)) x.now))) []) (λ g. flows)
-        (run.old.store, run.old.streams) world.old result (run.new.store, run.new.streams) world.new }
+    ensures { Does W.World cx.now (λ g. At (Doing (p.exit place (option_map (view (names_in g)) x.now))) []) (λ g. flows)
+        (whole_of run.old) world.old result (whole_of run.new) world.new }
 {
     match x {
         None => Err(exit(&mut run.store)),
@@ -167,8 +167,8 @@ fn give_back<W: World, E: Evaluates<W>>(
 ) -> Result<Flow, Halt>
     requires can { E.can on }
     requires owns { Owns (W.open_numbers world.old) run.old.streams }
-    ensures { Does W.follows W.has_stopped W.stops W.open_numbers cx.now (λ g. At (Doing (p.return (option_map (view (names_in g)) x.now))) []) (λ g. flows)
-        (run.old.store, run.old.streams) world.old result (run.new.store, run.new.streams) world.new }
+    ensures { Does W.World cx.now (λ g. At (Doing (p.return (option_map (view (names_in g)) x.now))) []) (λ g. flows)
+        (whole_of run.old) world.old result (whole_of run.new) world.new }
 {
     match x {
         None => Ok(Flow::Return(None)),
@@ -190,8 +190,8 @@ fn when<W: World, E: Evaluates<W>>(
 ) -> Result<Flow, Halt>
     requires can { E.can on }
     requires owns { Owns (W.open_numbers world.old) run.old.streams }
-    ensures { Does W.follows W.has_stopped W.stops W.open_numbers cx.now (λ g. At (Doing (p.if_then (view (names_in g) test.now) (view_statement (names_in g) then.now))) []) (λ g. flows)
-        (run.old.store, run.old.streams) world.old result (run.new.store, run.new.streams) world.new }
+    ensures { Does W.World cx.now (λ g. At (Doing (p.if_then (view (names_in g) test.now) (view_statement (names_in g) then.now))) []) (λ g. flows)
+        (whole_of run.old) world.old result (whole_of run.new) world.new }
 {
     let holds = truth_of(cx, test, on, run, world)?;
     if holds {
@@ -213,8 +213,8 @@ fn either<W: World, E: Evaluates<W>>(
 ) -> Result<Flow, Halt>
     requires can { E.can on }
     requires owns { Owns (W.open_numbers world.old) run.old.streams }
-    ensures { Does W.follows W.has_stopped W.stops W.open_numbers cx.now (λ g. At (Doing (p.if_else (view (names_in g) test.now) (view_statement (names_in g) then.now) (view_statement (names_in g) other.now))) []) (λ g. flows)
-        (run.old.store, run.old.streams) world.old result (run.new.store, run.new.streams) world.new }
+    ensures { Does W.World cx.now (λ g. At (Doing (p.if_else (view (names_in g) test.now) (view_statement (names_in g) then.now) (view_statement (names_in g) other.now))) []) (λ g. flows)
+        (whole_of run.old) world.old result (whole_of run.new) world.new }
 {
     let holds = truth_of(cx, test, on, run, world)?;
     if holds {

@@ -12,7 +12,8 @@ use Rattle.awk_store.specs.States.{Hidden}
 use Rattle.awk_asks.specs.declared.halt.Halt.{Halt}
 use Rattle.awk_asks.specs.declared.halt.Halt.TheVariants as halt
 use Rattle.awk_tasks.specs.Wholes.{Whole, Agreeing, base}
-use Rattle.awk_tasks.specs.Acts.{Acts, halt_at, result_at}
+use Rattle.awk_asks.specs.Chains.{halt_at, result_at}
+use Rattle.awk_tasks.specs.Acts.{Acts}
 use Rattle.awk_tasks.proofs.Acting.{at_rest, moves, done, faulted, lacking}
 
 abbrev result_err : {X : Type 0} → Halt → Result X Halt

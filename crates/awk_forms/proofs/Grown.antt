@@ -125,9 +125,3 @@ module _ (g : Given) (w : Whole) (place : Place) (x : Variable) (n : kept.is_nf 
       let text : Passes g (value assigned) w (λ k. At (Value_of assigned) (v.Text (old ++ more) ∷ v.Unset ∷ []) ∷ k) w = on (on waits read) (follows old fits) in
       moves (doing (tt {0}) (moves {then_ = λ k. Do (Set (machine.Variable (variable_of (names_in g) x)) place (v.Text (old ++ more))) ∷ Do (Give (v.Text (old ++ more))) ∷ k} text
       (λ k hid d a. rw (nf-so g w hid d a x, n) refl)) (sets_variable g w x place (v.Text (old ++ more)) new n same) refl) (λ k hid d a. refl)
-
--- ---- results
-
-pub some_for_all : {X Q : Type 0} (r : Option X) → Q → IfSome r (λ x. Q)
-some_for_all None h = tt
-some_for_all (Some x) h = h

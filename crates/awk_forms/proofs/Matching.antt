@@ -21,7 +21,8 @@ use Rattle.awk_machine.specs.Targets.{check_separator, target}
 use Rattle.awk_asks.specs.Tasks.{goes_on}
 use Rattle.awk_asks.specs.declared.halt.Halt.{Halt}
 use Rattle.awk_tasks.specs.Wholes.{Whole}
-use Rattle.awk_tasks.specs.Acts.{Acts, Passes, result_at}
+use Rattle.awk_asks.specs.Chains.{result_at}
+use Rattle.awk_tasks.specs.Acts.{Acts, Passes}
 use Rattle.awk_tasks.specs.Searching.{then_set}
 use Rattle.awk_tasks.proofs.Acting.{at_rest, moves, reworded, doing, done, stop, faulted}
 use Rattle.awk_forms.specs.Patterns.{source_value, IsSourceOf, reading}

@@ -124,9 +124,7 @@ fn grow(alloc: Global, store: &mut Store, to: Variable, more: &[u8]) -> Result<(
         return Err(Halt::Memory);
     };
     let mut bytes = text.into_bytes();
-    let Ok(()) = bytes.extend_from_slice(more) else {
-        return Err(Halt::Memory);
-    };
+    bytes.extend_from_slice(more)?;
     store.set(to, Value::Text(Octets::new(bytes)));
     Ok(())
 }
@@ -164,9 +162,7 @@ fn grown(
         grow(alloc, store, to, text)?;
         return Ok(true);
     }
-    let Ok(found) = gathered(store, rest, room, texts) else {
-        return Err(Halt::Memory);
-    };
+    let found = gathered(store, rest, room, texts)?;
     if !found {
         return Ok(false);
     }

@@ -17,10 +17,9 @@ ghost use Rattle.awk_program.specs.View.{Names, variable_of, view_target};
 ghost use Rattle.awk_asks.specs.Tasks.{goes_on};
 ghost use Rattle.awk_tasks.specs.Wholes.{Whole, names_in};
 
-use awk_asks::halt::Halt;
+use awk_asks::halt::{Halt, at};
 use awk_program::{Expr, Own, Target, Variable};
 use awk_store::Store;
-use awk_tasks::faults::{at, halt_at};
 use awk_tasks::{Key, Spot};
 use awk_text::fault::Fault;
 use awk_text::octets::Octets;
@@ -133,7 +132,7 @@ pub fn field_number(place: Place, value: &Value) -> Result<u16, Halt>
             Ok(number) => Ok(number),
             Err(_) => Err(Halt::Memory),
         },
-        Err(fault) => Err(halt_at(place, fault)),
+        Err(fault) => Err(Halt::at(place, fault)),
     }
 }
 

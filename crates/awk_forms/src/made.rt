@@ -6,13 +6,13 @@ ghost use Rattle.awk_program.specs.Program as p;
 ghost use Rattle.awk_program.specs.declared.operators.Taken.{Taken};
 ghost use Rattle.awk_program.specs.Program.{Expression, Reference};
 ghost use Rattle.awk_forms.specs.Made.{as_text, both_numbers, stepping, storing};
-ghost use Rattle.awk_tasks.specs.Acts.{Acts, result_at};
+ghost use Rattle.awk_asks.specs.Chains.{result_at};
+ghost use Rattle.awk_tasks.specs.Acts.{Acts};
 ghost use Rattle.awk_tasks.specs.Wholes.{Whole};
 ghost use Rattle.awk_works.specs.Numbers.{as_value};
 
-use awk_asks::halt::Halt;
+use awk_asks::halt::{Halt, at};
 use awk_program::{Operator, Step};
-use awk_tasks::faults::{at, halt_at};
 use awk_text::fault::Fault;
 use awk_text::octets::Octets;
 use awk_text::place::Place;
@@ -26,7 +26,7 @@ pub fn number_at(place: Place, made: Result<i64, Fault>) -> Result<Value, Halt>
 {
     match made {
         Ok(number) => Ok(Value::Num(number)),
-        Err(fault) => Err(halt_at(place, fault)),
+        Err(fault) => Err(Halt::at(place, fault)),
     }
 }
 
@@ -36,7 +36,7 @@ pub fn text_at(place: Place, made: Result<Octets, Fault>) -> Result<Value, Halt>
 {
     match made {
         Ok(text) => Ok(Value::Text(text)),
-        Err(fault) => Err(halt_at(place, fault)),
+        Err(fault) => Err(Halt::at(place, fault)),
     }
 }
 
@@ -46,9 +46,7 @@ pub fn owned(alloc: Global, text: &[u8]) -> Result<Value, Halt>
     ensures ok { IfOk result (λ new. new ≡ Value.Text text.now) }
     ensures err { IfErr result (λ h. h ≡ Halt.Memory) }
 {
-    let Ok(bytes) = Vec::from_slice(alloc, text) else {
-        return Err(Halt::Memory);
-    };
+    let bytes = Vec::from_slice(alloc, text)?;
     Ok(Value::Text(Octets::new(bytes)))
 }
 
@@ -81,8 +79,6 @@ pub fn append(values: &mut Vec<Value>, value: Value) -> Result<(), Halt>
     ensures ok { OnOk result (values.new.items ≡ values.old.items ++ value ∷ []) }
     ensures err { IfErr result (λ h. h ≡ Halt.Memory) }
 {
-    match values.push(value) {
-        Ok(()) => Ok(()),
-        Err(_) => Err(Halt::Memory),
-    }
+    values.push(value)?;
+    Ok(())
 }

@@ -11,7 +11,6 @@ ghost use Rattle.awk_tasks.specs.Wholes.{Whole};
 use crate::made::{number_at, owned};
 use awk_asks::halt::Halt;
 use awk_program::{Comparison, Measure, Sign};
-use awk_tasks::faults::halt_at;
 use awk_text::place::Place;
 use awk_text::value::{Value, truth};
 use awk_works::builtins::{index_of, measured, substr_from, substr_of, whole_number};
@@ -74,7 +73,7 @@ fn rest_of(alloc: Global, place: Place, value: &Value, from: &Value) -> Result<V
     let mut buffer = Buffer::new();
     match substr_from(value, from, &mut buffer) {
         Ok(text) => owned(alloc, text),
-        Err(fault) => Err(halt_at(place, fault)),
+        Err(fault) => Err(Halt::at(place, fault)),
     }
 }
 
@@ -104,6 +103,6 @@ pub fn part_of(
     let mut buffer = Buffer::new();
     match substr_of(value, from, count, &mut buffer) {
         Ok(text) => owned(alloc, text),
-        Err(fault) => Err(halt_at(place, fault)),
+        Err(fault) => Err(Halt::at(place, fault)),
     }
 }

@@ -18,12 +18,11 @@ ghost use Rattle.awk_tasks.specs.Wholes.{Whole, names_in};
 ghost use Rattle.awk_text.specs.Values.{text_of};
 
 use crate::at_hand::{MOST_LEVELS, at_hand};
-use awk_asks::halt::Halt;
+use awk_asks::halt::{Halt, at};
 use awk_ere::Ere;
 use awk_fields::Splitter;
 use awk_program::{Expr, Pattern, Variable};
 use awk_store::Store;
-use awk_tasks::faults::at;
 use awk_tasks::patterns::{check, matches, matches_record};
 use awk_tasks::{searches, splits};
 use awk_text::place::Place;

@@ -39,9 +39,7 @@ fn rebuild_where(store: &mut Store, wanted: bool) -> Result<(), Halt>
     if !wanted {
         return Ok(());
     }
-    let Ok(_) = store.rebuild() else {
-        return Err(Halt::Memory);
-    };
+    store.rebuild()?;
     Ok(())
 }
 

@@ -1,8 +1,7 @@
 -- The parts of a program: how each begins, and what ends it.
-use Rattle.std.proofs.Common.{◌≡◌, refl, sym, ap, subst, ◌∙◌, Bool, false, List, [], ◌∷◌, ◌++◌, map}
+use Rattle.std.proofs.Common.{◌≡◌, refl, sym, ap, subst, ◌∙◌, false, List, [], ◌∷◌, ◌++◌, map}
 use Rattle.std.specs.Prelude.{Some, None, Ok}
-use Rattle.box_world.specs.Calls.{Call}
-use Rattle.box_world.specs.declared.ask.Ask.{Ask}
+use Rattle.box_world.specs.declared.world.World.{Ghosts}
 use Rattle.awk_program.specs.Program.{Statement}
 use Rattle.awk_program.specs.View.{view_statement}
 use Rattle.awk_machine.specs.Advances.{advance}
@@ -16,7 +15,7 @@ use Rattle.awk_store.specs.Kept.{Kept}
 use Rattle.awk_store.specs.States.{phase_of}
 use Rattle.awk_store.specs.declared.phase.Phase.{Phase}
 use Rattle.awk_store.specs.declared.phase.Phase.TheVariants as phase
-use Rattle.awk_asks.specs.Chains.{Led, Ended, Leads, Meets}
+use Rattle.awk_asks.specs.Chains.{Leads, Meets}
 use Rattle.awk_asks.specs.Tables.{Table}
 use Rattle.awk_asks.proofs.Chain.{at_once, changes, done}
 use Rattle.awk_calls.specs.Ends.{is_on}
@@ -73,35 +72,35 @@ enter_so g phase.Beginning k s = refl
 enter_so g phase.Ruling k s = refl
 enter_so g phase.Ending k s = refl
 
-module _ {W : Type 0} {F : W → List Call → W → Type 0} {E : W → List Call → Ask → W → Type 0} {g : Given} where
-  entered_now : (ph : Phase) (old : Kept) (t : Table) (w : W) → Leads F E (base g) (Agreeing g) used g (Do (Enter (phase_of ph))) (old, t) w (entered g ph) (with_phase ph old, t) w
+module _ {W : Type 0} {ghosts : Ghosts W} {g : Given} where
+  entered_now : (ph : Phase) (old : Kept) (t : Table) (w : W) → Leads ghosts (base g) (Agreeing g) used g (Do (Enter (phase_of ph))) (old, t) w (entered g ph) (with_phase ph old, t) w
   entered_now ph old t w = changes refl (at_once _ (old, t) w) (λ k hid c a. (
     hid,
     record { tells = a.tells; row = a.row; cells = a.cells; sound = a.sound },
     enter_so g ph k (seen (base g (old, t) hid) c),
   ))
 
-  pub enters : (ph : Phase) (old new : Kept) (t : Table) (w : W) → new ≡ with_phase ph old → Leads F E (base g) (Agreeing g) used g (Do (Enter (phase_of ph))) (old, t) w (entered g ph) (new, t) w
-  enters ph old new t w same = subst (λ (n : Kept). Leads F E (base g) (Agreeing g) used g (Do (Enter (phase_of ph))) (old, t) w (entered g ph) (n, t) w) (sym same) (entered_now ph old t w)
+  pub enters : (ph : Phase) (old new : Kept) (t : Table) (w : W) → new ≡ with_phase ph old → Leads ghosts (base g) (Agreeing g) used g (Do (Enter (phase_of ph))) (old, t) w (entered g ph) (new, t) w
+  enters ph old new t w same = subst (λ (n : Kept). Leads ghosts (base g) (Agreeing g) used g (Do (Enter (phase_of ph))) (old, t) w (entered g ph) (n, t) w) (sym same) (entered_now ph old t w)
 
 -- ---- the end of a run's own work
 
-module _ {W : Type 0} {follows : W → List Call → W → Type 0} {has_stopped : W → Bool} {stops : W → List Call → Ask → W → Type 0} {g : Given} {first : W} {now : Whole} {w : W} where
-  pub finishes : Reached follows has_stopped stops g first (Do Finish ∷ []) now w → Reached follows has_stopped stops g first (ends (machine.Status (own_status now.0))) now w
+module _ {W : Type 0} {ghosts : Ghosts W} {g : Given} {first : W} {now : Whole} {w : W} where
+  pub finishes : Reached ghosts g first (Do Finish ∷ []) now w → Reached ghosts g first (ends (machine.Status (own_status now.0))) now w
   finishes y = then_move (ends (machine.Status (own_status now.0))) y (λ hid c. refl)
 
   -- where nothing is left to be done, the run has ended too
-  pub runs_out : Reached follows has_stopped stops g first [] now w → Reached follows has_stopped stops g first (ends (machine.Status (own_status now.0))) now w
+  pub runs_out : Reached ghosts g first [] now w → Reached ghosts g first (ends (machine.Status (own_status now.0))) now w
   runs_out y = then_move (ends (machine.Status (own_status now.0))) y (λ hid c. refl)
 
 -- END begins
-module _ {W : Type 0} {follows : W → List Call → W → Type 0} {has_stopped : W → Bool} {stops : W → List Call → Ask → W → Type 0} (g : Given) (cx : Context) (is : IsGiven cx g) {first w : W} where
-  pub ending : (old new : Kept) (t : Table) → new ≡ with_phase phase.Ending old → Reached follows has_stopped stops g first (Do (Enter Ending) ∷ []) (old, t) w →
-      Reached follows has_stopped stops g first (Do (Each (concatenated (map (map (view_statement (names_in g))) cx.program.now.end))) ∷ Do Finish ∷ []) (new, t) w
+module _ {W : Type 0} {ghosts : Ghosts W} (g : Given) (cx : Context) (is : IsGiven cx g) {first w : W} where
+  pub ending : (old new : Kept) (t : Table) → new ≡ with_phase phase.Ending old → Reached ghosts g first (Do (Enter Ending) ∷ []) (old, t) w →
+      Reached ghosts g first (Do (Each (concatenated (map (map (view_statement (names_in g))) cx.program.now.end))) ∷ Do Finish ∷ []) (new, t) w
   ending old new t same y =
-      subst (λ xs. Reached follows has_stopped stops g first (Do (Each (concatenated xs)) ∷ Do Finish ∷ []) (new, t) w) (end_so g cx is)
-      (then_part (tt {0}) y (done_as {to = λ u k. Do (Each (concatenated g.program.end)) ∷ Do Finish ∷ []} (enters {F = Led follows has_stopped} {E = Ended follows stops} {g = g} phase.Ending old new t w same)) refl)
+      subst (λ xs. Reached ghosts g first (Do (Each (concatenated xs)) ∷ Do Finish ∷ []) (new, t) w) (end_so g cx is)
+      (then_part (tt {0}) y (done_as {to = λ u k. Do (Each (concatenated g.program.end)) ∷ Do Finish ∷ []} (enters {ghosts = ghosts} {g = g} phase.Ending old new t w same)) refl)
     where
-      done_as : {to : Unit {0} → List Piece → List Piece} → Leads (Led follows has_stopped) (Ended follows stops) (base g) (Agreeing g) used g (Do (Enter Ending)) (old, t) w (to (tt {0})) (new, t) w →
-          Meets (Led follows has_stopped) (Ended follows stops) (base g) (Agreeing g) used g (Do (Enter Ending)) to (old, t) w (Ok (tt {0})) (new, t) w
+      done_as : {to : Unit {0} → List Piece → List Piece} → Leads ghosts (base g) (Agreeing g) used g (Do (Enter Ending)) (old, t) w (to (tt {0})) (new, t) w →
+          Meets ghosts (base g) (Agreeing g) used g (Do (Enter Ending)) to (old, t) w (Ok (tt {0})) (new, t) w
       done_as h = done h

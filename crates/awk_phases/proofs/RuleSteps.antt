@@ -1,10 +1,9 @@
 -- Rules: which of them are done, and what the machine goes on with behind them.
 use Rattle.std.proofs.Common.{◌≡◌, refl, sym, ap, ◌∙◌, ℕ, Bool, true, false, List, [], ◌∷◌, map}
 use Rattle.std.specs.Prelude.{if◌then◌else◌, get_or, Some, None, Result, Ok, Err, MatchResult}
-use Rattle.box_world.specs.Calls.{Call}
-use Rattle.box_world.specs.declared.ask.Ask.{Ask}
 use Rattle.awk_text.specs.Values.{truth}
 use Rattle.awk_text.specs.declared.value.Value.{Value}
+use Rattle.box_world.specs.declared.world.World.{Ghosts}
 use Rattle.awk_program.specs.Program as p
 use Rattle.awk_program.specs.Program.{Expression, Rule, Statement}
 use Rattle.awk_program.specs.View.{Names, view, view_rule}
@@ -20,7 +19,7 @@ use Rattle.awk_eval_parts.specs.Runs.{Does, IsGiven}
 use Rattle.awk_eval_parts.specs.declared.context.Context.{Context}
 use Rattle.awk_asks.specs.declared.halt.Halt.{Halt}
 use Rattle.awk_asks.specs.declared.halt.Halt.TheVariants as halt
-use Rattle.awk_asks.specs.Chains.{Led, Ended, Comes, Halted}
+use Rattle.awk_asks.specs.Chains.{Comes, Halted}
 use Rattle.awk_calls.specs.Flows.{flows}
 use Rattle.awk_calls.specs.declared.flow.Flow.{Flow}
 use Rattle.awk_calls.specs.declared.flow.Flow.TheVariants as flow
@@ -82,10 +81,10 @@ flows_on (flow.Return (Some v)) n xs k = refl
 
 -- ---- `next`
 
-module _ {W : Type 0} (follows : W → List Call → W → Type 0) (has_stopped : W → Bool) (stops : W → List Call → Ask → W → Type 0) (open_numbers : W → List ℕ) (cx : Context) (old new : Whole) (w w' : W) where
+module _ {W : Type 0} (ghosts : Ghosts W) (cx : Context) (old new : Whole) (w w' : W) where
   back_by : (r : Result Bool Halt) (g : Given) (first : W) (from : List Piece) (s : State) (c : Course) (k : List Piece) →
-      MatchResult r (λ x. Comes (Led follows has_stopped) (Ended follows stops) (base g) (Agreeing g) used g first from s c (more x k) new w') (λ h. Halted (Led follows has_stopped) (Ended follows stops) (base g) (Agreeing g) used g first from s c (at_records k) new w' h) →
-      MatchResult (come_back r) (λ x. Comes (Led follows has_stopped) (Ended follows stops) (base g) (Agreeing g) used g first from s c (more x k) new w') (λ h. Halted (Led follows has_stopped) (Ended follows stops) (base g) (Agreeing g) used g first from s c k new w' h)
+      MatchResult r (λ x. Comes ghosts (base g) (Agreeing g) used g first from s c (more x k) new w') (λ h. Halted ghosts (base g) (Agreeing g) used g first from s c (at_records k) new w' h) →
+      MatchResult (come_back r) (λ x. Comes ghosts (base g) (Agreeing g) used g first from s c (more x k) new w') (λ h. Halted ghosts (base g) (Agreeing g) used g first from s c k new w' h)
   back_by (Ok b) g first from s c k x = x
   back_by (Err (halt.Fault fault place)) g first from s c k x = x
   back_by (Err halt.Cut) g first from s c k x = x
@@ -94,8 +93,8 @@ module _ {W : Type 0} (follows : W → List Call → W → Type 0) (has_stopped 
   back_by (Err halt.Memory) g first from s c k x = x
   back_by (Err (halt.Log place)) g first from s c k x = x
 
-  pub comes_back : (r : Result Bool Halt) → DoesIn follows has_stopped stops open_numbers cx (λ g. At machine.Records []) (λ g. more) at_records old w r new w' →
-      Does follows has_stopped stops open_numbers cx (λ g. At machine.Records []) (λ g. more) old w (come_back r) new w'
+  pub comes_back : (r : Result Bool Halt) → DoesIn ghosts cx (λ g. At machine.Records []) (λ g. more) at_records old w r new w' →
+      Does ghosts cx (λ g. At machine.Records []) (λ g. more) old w (come_back r) new w'
   comes_back r x = record {
     plays = λ g is. record { plays = λ first k hid c a. back_by r g first (At machine.Records [] ∷ k) (seen (base g old hid) c) c k ((x.plays g is).plays first k hid c a) };
     owns = x.owns;
@@ -103,26 +102,26 @@ module _ {W : Type 0} (follows : W → List Call → W → Type 0) (has_stopped 
 
 -- ---- in the midst of records
 
-module _ {W : Type 0} {follows : W → List Call → W → Type 0} {has_stopped : W → Bool} {stops : W → List Call → Ask → W → Type 0} {g : Given} {p : Piece} {rest : List Piece → List Piece} {old new : Whole} {w w' : W} where
+module _ {W : Type 0} {ghosts : Ghosts W} {g : Given} {p : Piece} {rest : List Piece → List Piece} {old new : Whole} {w w' : W} where
   -- a part that begins in the midst of records
-  pub begun : {A : Type 0} {to : A → List Piece → List Piece} {r : Result A Halt} (x : A) → PerformsIn follows has_stopped stops g p to rest old w r new w' → r ≡ Ok x → LeadsOn follows has_stopped stops g p old w (to x) new w'
+  pub begun : {A : Type 0} {to : A → List Piece → List Piece} {r : Result A Halt} (x : A) → PerformsIn ghosts g p to rest old w r new w' → r ≡ Ok x → LeadsOn ghosts g p old w (to x) new w'
   begun {to = to} x m e = record {
     plays = λ first k hid c a.
-        let z : Comes (Led follows has_stopped) (Ended follows stops) (base g) (Agreeing g) used g first (p ∷ k) (seen (base g old hid) c) c (to x k) new w' = rw e at (m.plays first k hid c a) in z;
+        let z : Comes ghosts (base g) (Agreeing g) used g first (p ∷ k) (seen (base g old hid) c) c (to x k) new w' = rw e at (m.plays first k hid c a) in z;
   }
 
   -- and is halted
-  pub in_midst : {A B : Type 0} {to : A → List Piece → List Piece} {on : B → List Piece → List Piece} {r : Result A Halt} (h : Halt) → PerformsIn follows has_stopped stops g p to rest old w r new w' → r ≡ Err h → PerformsIn follows has_stopped stops g p on rest old w (Err h) new w'
+  pub in_midst : {A B : Type 0} {to : A → List Piece → List Piece} {on : B → List Piece → List Piece} {r : Result A Halt} (h : Halt) → PerformsIn ghosts g p to rest old w r new w' → r ≡ Err h → PerformsIn ghosts g p on rest old w (Err h) new w'
   in_midst h m e = record {
     plays = λ first k hid c a.
-        let z : Halted (Led follows has_stopped) (Ended follows stops) (base g) (Agreeing g) used g first (p ∷ k) (seen (base g old hid) c) c (rest k) new w' h = rw e at (m.plays first k hid c a) in z;
+        let z : Halted ghosts (base g) (Agreeing g) used g first (p ∷ k) (seen (base g old hid) c) c (rest k) new w' h = rw e at (m.plays first k hid c a) in z;
   }
 
   -- a part of what is left to be done before the records is halted
   pub stop_before : {A B : Type 0} {to : A → List Piece → List Piece} {on : B → List Piece → List Piece} {q : Piece} {behind : List Piece → List Piece} {mid : Whole} {u : W} {r : Result B Halt} (h : Halt) → ((k : List Piece) → to_records (behind k) ≡ to_records (rest k)) →
-      LeadsOn follows has_stopped stops g p old w (λ k. q ∷ behind k) mid u → Performs follows has_stopped stops g q on mid u r new w' → r ≡ Err h → PerformsIn follows has_stopped stops g p to rest old w (Err h) new w'
+      LeadsOn ghosts g p old w (λ k. q ∷ behind k) mid u → Performs ghosts g q on mid u r new w' → r ≡ Err h → PerformsIn ghosts g p to rest old w (Err h) new w'
   stop_before {q = q} {behind = behind} {mid = mid} h passed x m e = record {
     plays = λ first k hid c a. let y = x.plays first k hid c a in
-        let z : Halted (Led follows has_stopped) (Ended follows stops) (base g) (Agreeing g) used g first (q ∷ behind k) (seen (base g mid y.hidden) y.course) y.course (behind k) new w' h = rw e at (m.plays first (behind k) y.hidden y.course y.knows) in
-        halted-after (Led follows has_stopped) (Ended follows stops) (base g) (Agreeing g) used g h first (p ∷ k) (q ∷ behind k) (rest k) (behind k) (seen (base g old hid) c) (seen (base g mid y.hidden) y.course) c y.course new w' y.chain (passed k) z;
+        let z : Halted ghosts (base g) (Agreeing g) used g first (q ∷ behind k) (seen (base g mid y.hidden) y.course) y.course (behind k) new w' h = rw e at (m.plays first (behind k) y.hidden y.course y.knows) in
+        halted-after ghosts (base g) (Agreeing g) used g h first (p ∷ k) (q ∷ behind k) (rest k) (behind k) (seen (base g old hid) c) (seen (base g mid y.hidden) y.course) c y.course new w' y.chain (passed k) z;
   }

@@ -2,9 +2,8 @@
 use Rattle.std.proofs.Common.{◌≡◌, inl, refl, sym, ap, subst, ◌∙◌, ℕ, Bool, true, false, List, [], ◌∷◌, ◌++◌, map, arith, append_assoc}
 use Rattle.std.specs.Prelude.{Option, Some, None, Result, Ok, Err, codes, if◌then◌else◌, ◌==◌}
 use Rattle.std.proofs.lemmas.List.{length-map}
-use Rattle.box_world.specs.Calls.{Call}
-use Rattle.box_world.specs.declared.ask.Ask.{Ask}
 use Rattle.box_world.specs.Events.{Key, Standard, Named}
+use Rattle.box_world.specs.declared.world.World.{Ghosts}
 use Rattle.awk_fields.specs.Takes.{Input}
 use Rattle.awk_program.specs.Slots.{Text}
 use Rattle.awk_program.specs.View.{names_of}
@@ -60,14 +59,14 @@ pub prepares_so : {g : Given} {k : List Piece} {old new : Whole} {r : Result (Un
     Prepares g (operands 0 (codes "awk" ∷ ops) ++ (separators sep ++ (assigning g.can_assign pairs ++ k))) k old r new → Prepares g (operands 0 (codes "awk" ∷ g.operands) ++ separators g.separator ++ assigns g ++ k) k old r new
 prepares_so {g = g} {k = k} {old = old} {new = new} {r = r} ops sep pairs e f h x = subst (λ l. Prepares g l k old r new) (pieces_so g k ops sep pairs e f h) x
 
-module _ {W : Type 0} {follows : W → List Call → W → Type 0} {has_stopped : W → Bool} {stops : W → List Call → Ask → W → Type 0} {g : Given} {first : W} {mid : Whole} {w : W} where
-  pub then_prepared : {from to : List Piece} {new : Whole} {r : Result (Unit {0}) Halt} → Reached follows has_stopped stops g first from mid w → Prepares g from to mid r new → r ≡ Ok (tt {0}) → Reached follows has_stopped stops g first to new w
+module _ {W : Type 0} {ghosts : Ghosts W} {g : Given} {first : W} {mid : Whole} {w : W} where
+  pub then_prepared : {from to : List Piece} {new : Whole} {r : Result (Unit {0}) Halt} → Reached ghosts g first from mid w → Prepares g from to mid r new → r ≡ Ok (tt {0}) → Reached ghosts g first to new w
   then_prepared {from = from} {to = to} {new = new} y m e =
       let z : Settles g from mid y.hidden y.course to new = rw e at (m.settles y.hidden y.course y.knows.agrees) in
       record { course = y.course; hidden = z.hidden; knows = record { leads = y.knows.leads; agrees = z.agrees; spent = y.knows.spent ∙ sym m.same }; chain = join y.chain z.chain }
 
-  stopped_by : (h : Halt) (from : List Piece) (new : Whole) → used new ≡ used mid → (y : Reached follows has_stopped stops g first from mid w) → HaltsSo g from mid y.hidden y.course new h → (p : Piece) (k : List Piece) → from ≡ p ∷ k →
-      Stopped follows has_stopped stops g first h new w
+  stopped_by : (h : Halt) (from : List Piece) (new : Whole) → used new ≡ used mid → (y : Reached ghosts g first from mid w) → HaltsSo g from mid y.hidden y.course new h → (p : Piece) (k : List Piece) → from ≡ p ∷ k →
+      Stopped ghosts g first h new w
   stopped_by (halt.Fault fault place) from new same y z p k e = record { course = y.course; hidden = z.hidden; knows = record { leads = y.knows.leads; agrees = z.agrees; spent = y.knows.spent ∙ sym same }; chain = join y.chain z.chain }
   stopped_by halt.Memory from new same y z p k e = record {
     todo = p ∷ k;
@@ -83,8 +82,8 @@ module _ {W : Type 0} {follows : W → List Call → W → Type 0} {has_stopped 
   stopped_by halt.Exit from new same y z p k e = absurd z
   stopped_by (halt.Log place) from new same y z p k e = absurd z
 
-  pub then_unprepared : {to : List Piece} {new : Whole} {r : Result (Unit {0}) Halt} (h : Halt) (p : Piece) (k : List Piece) → Reached follows has_stopped stops g first (p ∷ k) mid w → Prepares g (p ∷ k) to mid r new → r ≡ Err h →
-      Stopped follows has_stopped stops g first h new w
+  pub then_unprepared : {to : List Piece} {new : Whole} {r : Result (Unit {0}) Halt} (h : Halt) (p : Piece) (k : List Piece) → Reached ghosts g first (p ∷ k) mid w → Prepares g (p ∷ k) to mid r new → r ≡ Err h →
+      Stopped ghosts g first h new w
   then_unprepared {new = new} h p k y m e = let z : HaltsSo g (p ∷ k) mid y.hidden y.course new h = rw e at (m.settles y.hidden y.course y.knows.agrees) in stopped_by h (p ∷ k) new m.same y z p k refl
 
 -- ---- the first state
@@ -131,9 +130,9 @@ module _ (g : Given) (cx : Context) (is : IsGiven cx g) (sound : Sound (names_of
   state_first : (k : Kept) (t : Table) → k ≡ first_kept g.program.variables → seen (base g (k, t) first_hidden) nothing ≡ first_state g
   state_first k t same = ap (λ x. seen (base g (x, t) first_hidden) nothing) same ∙ ap (λ s. seen s nothing) (begins g sound_so.once)
 
-  pub reached_first : {W : Type 0} (follows : W → List Call → W → Type 0) (has_stopped : W → Bool) (stops : W → List Call → Ask → W → Type 0) (w : W) → follows w [] w → (k : Kept) (t : Table) → k ≡ first_kept cx.program.now.variables → t.entries ≡ [] → t.input ≡ record { unread = []; ended = false } →
-      Reached follows has_stopped stops g w (first_pieces g) (k, t) w
-  reached_first follows has_stopped stops w none k t same es i =
+  pub reached_first : {W : Type 0} (ghosts : Ghosts W) (w : W) → ghosts.follows w [] w → (k : Kept) (t : Table) → k ≡ first_kept cx.program.now.variables → t.entries ≡ [] → t.input ≡ record { unread = []; ended = false } →
+      Reached ghosts g w (first_pieces g) (k, t) w
+  reached_first ghosts w none k t same es i =
       let mine : k ≡ first_kept g.program.variables = same ∙ ap (λ q. first_kept q.variables) (sym is.program) in
       record {
         course = nothing;
@@ -143,5 +142,5 @@ module _ (g : Given) (cx : Context) (is : IsGiven cx g) (sound : Sound (names_of
       }
 
 -- where there is no memory for a store
-pub reported_none : {W : Type 0} (follows : W → List Call → W → Type 0) (has_stopped : W → Bool) (stops : W → List Call → Ask → W → Type 0) (g : Given) (w : W) (place : Place) → follows w [] w → Reported follows has_stopped stops g w (Faulted NoMemory place) 0 w
-reported_none follows has_stopped stops g w place none = record { told = tt; played = record { events = []; last = None; plays = record { todo = first_pieces g; end = first_state g; chain = here; stands = lacks }; leads = none; ends = refl } }
+pub reported_none : {W : Type 0} (ghosts : Ghosts W) (g : Given) (w : W) (place : Place) → ghosts.follows w [] w → Reported ghosts.follows ghosts.has_stopped ghosts.stops g w (Faulted NoMemory place) 0 w
+reported_none ghosts g w place none = record { told = tt; played = record { events = []; last = None; plays = record { todo = first_pieces g; end = first_state g; chain = here; stands = lacks }; leads = none; ends = refl } }

@@ -8,7 +8,7 @@ ghost use Rattle.awk_machine.specs.State.{Given};
 ghost use Rattle.awk_program.specs.Program as p;
 ghost use Rattle.awk_program.specs.View.{view_statement};
 ghost use Rattle.awk_tasks.specs.Wholes.{names_in};
-ghost use Rattle.awk_eval_parts.specs.Runs.{Does};
+ghost use Rattle.awk_eval_parts.specs.Runs.{Does, whole_of};
 
 use crate::rules::MOST_LEVELS;
 use awk_asks::halt::Halt;
@@ -27,9 +27,9 @@ fn action<W: World>(
     world: &mut W,
 ) -> Result<Flow, Halt>
     requires { Owns (W.open_numbers world.old) run.old.streams }
-    ensures { (rest : Given → List p.Statement) → Does W.follows W.has_stopped W.stops W.open_numbers cx.now
+    ensures { (rest : Given → List p.Statement) → Does W.World cx.now
         (λ g. Do (Each (map (view_statement (names_in g)) xs.now ++ rest g))) (λ g f k. flows f (Do (Each (rest g)) ∷ k))
-        (run.old.store, run.old.streams) world.old result (run.new.store, run.new.streams) world.new }
+        (whole_of run.old) world.old result (whole_of run.new) world.new }
 {
     for x in xs {
         let flow = statement(cx, x, MOST_LEVELS, run, world)?;
@@ -48,9 +48,9 @@ pub fn actions<W: World>(
     world: &mut W,
 ) -> Result<Flow, Halt>
     requires { Owns (W.open_numbers world.old) run.old.streams }
-    ensures { Does W.follows W.has_stopped W.stops W.open_numbers cx.now
+    ensures { Does W.World cx.now
         (λ g. Do (Each (concatenated (map (map (view_statement (names_in g))) xs.now)))) (λ g. flows)
-        (run.old.store, run.old.streams) world.old result (run.new.store, run.new.streams) world.new }
+        (whole_of run.old) world.old result (whole_of run.new) world.new }
 {
     for x in xs {
         let flow = action(cx, x.as_slice(), run, world)?;

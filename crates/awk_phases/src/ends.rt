@@ -124,7 +124,7 @@ fn own(outcome: Outcome) -> Outcome
 /// Ends a run: each stream that is open is shut, in order of opening, unless memory or the log ended the run.
 pub fn close<W: World>(end: End, streams: &mut Streams, world: &mut W) -> Outcome
     requires { Owns (W.open_numbers world.old) streams.old }
-    ensures { (g : Given) (kept : Kept) (first : W) → Finished W.follows W.has_stopped W.stops g first end (kept, streams.old) world.old
+    ensures { (g : Given) (kept : Kept) (first : W) → Finished W.World g first end (kept, streams.old) world.old
         → Reported W.follows W.has_stopped W.stops g first (view_outcome result) kept.used world.new }
 {
     match end {
@@ -137,7 +137,7 @@ pub fn close<W: World>(end: End, streams: &mut Streams, world: &mut W) -> Outcom
 /// Shuts the streams at the end of a run.
 fn shut<W: World>(outcome: Outcome, streams: &mut Streams, world: &mut W) -> Outcome
     requires { Owns (W.open_numbers world.old) streams.old }
-    ensures { (g : Given) (kept : Kept) (first : W) → Finished W.follows W.has_stopped W.stops g first (End.Open outcome) (kept, streams.old) world.old
+    ensures { (g : Given) (kept : Kept) (first : W) → Finished W.World g first (End.Open outcome) (kept, streams.old) world.old
         → Reported W.follows W.has_stopped W.stops g first (view_outcome result) kept.used world.new }
 {
     match shut_all(streams, world) {

@@ -8,7 +8,7 @@ ghost use Rattle.awk_machine.specs.State.{Given};
 ghost use Rattle.awk_program.specs.Program.{global};
 ghost use Rattle.awk_program.specs.Slots.{Text};
 ghost use Rattle.awk_tasks.specs.Acts.{Acts};
-ghost use Rattle.awk_eval_parts.specs.Runs.{Does};
+ghost use Rattle.awk_eval_parts.specs.Runs.{Does, whole_of};
 
 use awk_asks::halt::Halt;
 use awk_asks::requests::environment;
@@ -33,12 +33,10 @@ fn set_environ(store: &mut Store, name: &[u8], text: Octets) -> Result<(), Halt>
 /// Looks a name of the environment up, and sets its element of ENVIRON where it has a value.
 fn look<W: World>(cx: &Context<'_>, name: &Octets, run: &mut Run, world: &mut W) -> Result<(), Halt>
     requires { Owns (W.open_numbers world.old) run.old.streams }
-    ensures { (names : List Text) → Does W.follows W.has_stopped W.stops W.open_numbers cx.now (λ g. Do (machine.Environ (name.now ∷ names))) (λ g u k. Do (machine.Environ names) ∷ k)
-        (run.old.store, run.old.streams) world.old result (run.new.store, run.new.streams) world.new }
+    ensures { (names : List Text) → Does W.World cx.now (λ g. Do (machine.Environ (name.now ∷ names))) (λ g u k. Do (machine.Environ names) ∷ k)
+        (whole_of run.old) world.old result (whole_of run.new) world.new }
 {
-    let Ok(sent) = name.copy(cx.alloc) else {
-        return Err(Halt::Memory);
-    };
+    let sent = name.copy(cx.alloc)?;
     let found = environment(sent, world)?;
     let Some(text) = found else {
         return Ok(());
@@ -54,8 +52,8 @@ pub fn environ<W: World>(
     world: &mut W,
 ) -> Result<(), Halt>
     requires { Owns (W.open_numbers world.old) run.old.streams }
-    ensures { Does W.follows W.has_stopped W.stops W.open_numbers cx.now (λ g. Do (machine.Environ names.now)) (λ g. goes_on)
-        (run.old.store, run.old.streams) world.old result (run.new.store, run.new.streams) world.new }
+    ensures { Does W.World cx.now (λ g. Do (machine.Environ names.now)) (λ g. goes_on)
+        (whole_of run.old) world.old result (whole_of run.new) world.new }
 {
     for name in names {
         look(cx, name, run, world)?;

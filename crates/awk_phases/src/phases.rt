@@ -4,7 +4,7 @@ ghost use Rattle.awk_asks.specs.Tasks.{Owns, goes_on};
 ghost use Rattle.awk_calls.specs.Flows.{flows};
 ghost use Rattle.awk_machine.specs.Pieces.{Do, Enter, Finish};
 ghost use Rattle.awk_machine.specs.State.{Beginning, Ending, Given, Ruling};
-ghost use Rattle.awk_eval_parts.specs.Runs.{Does, IsGiven};
+ghost use Rattle.awk_eval_parts.specs.Runs.{Does, IsGiven, whole_of};
 ghost use Rattle.awk_phases.specs.Runs.{Finished, Goes_on, Reached, Stopped};
 
 use crate::actions::actions;
@@ -20,8 +20,8 @@ use box_world::world::World;
 /// The actions of BEGIN.
 fn begin<W: World>(cx: &Context<'_>, run: &mut Run, world: &mut W) -> Result<Flow, Halt>
     requires { Owns (W.open_numbers world.old) run.old.streams }
-    ensures { Does W.follows W.has_stopped W.stops W.open_numbers cx.now (λ g. Do (Enter Beginning)) (λ g. flows)
-        (run.old.store, run.old.streams) world.old result (run.new.store, run.new.streams) world.new }
+    ensures { Does W.World cx.now (λ g. Do (Enter Beginning)) (λ g. flows)
+        (whole_of run.old) world.old result (whole_of run.new) world.new }
 {
     run.store.set_phase(Phase::Beginning);
     actions(cx, cx.program.begin.as_slice(), run, world)
@@ -30,8 +30,8 @@ fn begin<W: World>(cx: &Context<'_>, run: &mut Run, world: &mut W) -> Result<Flo
 /// The rules for records.
 fn read<W: World>(cx: &Context<'_>, run: &mut Run, world: &mut W) -> Result<(), Halt>
     requires { Owns (W.open_numbers world.old) run.old.streams }
-    ensures { Does W.follows W.has_stopped W.stops W.open_numbers cx.now (λ g. Do (Enter Ruling)) (λ g. goes_on)
-        (run.old.store, run.old.streams) world.old result (run.new.store, run.new.streams) world.new }
+    ensures { Does W.World cx.now (λ g. Do (Enter Ruling)) (λ g. goes_on)
+        (whole_of run.old) world.old result (whole_of run.new) world.new }
 {
     run.store.set_phase(Phase::Ruling);
     if !reads(cx.program) {
@@ -44,8 +44,8 @@ fn read<W: World>(cx: &Context<'_>, run: &mut Run, world: &mut W) -> Result<(), 
 fn before_end<W: World>(cx: &Context<'_>, run: &mut Run, world: &mut W) -> Result<(), Halt>
     requires { Owns (W.open_numbers world.old) run.old.streams }
     ensures plays { (g : Given) → IsGiven cx.now g → (first : W)
-        → Reached W.follows W.has_stopped W.stops g first (Do (Enter Beginning) ∷ Do (Enter Ruling) ∷ Do (Enter Ending) ∷ []) (run.old.store, run.old.streams) world.old
-        → Goes_on W.follows W.has_stopped W.stops g first (λ u. Do (Enter Ending) ∷ []) result (run.new.store, run.new.streams) world.new }
+        → Reached W.World g first (Do (Enter Beginning) ∷ Do (Enter Ruling) ∷ Do (Enter Ending) ∷ []) (whole_of run.old) world.old
+        → Goes_on W.World g first (λ u. Do (Enter Ending) ∷ []) result (whole_of run.new) world.new }
     ensures owns { Owns (W.open_numbers world.new) run.new.streams }
 {
     begin(cx, run, world)?;
@@ -55,8 +55,8 @@ fn before_end<W: World>(cx: &Context<'_>, run: &mut Run, world: &mut W) -> Resul
 /// The actions of END.
 fn end_actions<W: World>(cx: &Context<'_>, run: &mut Run, world: &mut W) -> Result<(), Halt>
     requires { Owns (W.open_numbers world.old) run.old.streams }
-    ensures plays { (g : Given) → IsGiven cx.now g → (first : W) → Reached W.follows W.has_stopped W.stops g first (Do (Enter Ending) ∷ []) (run.old.store, run.old.streams) world.old
-        → Goes_on W.follows W.has_stopped W.stops g first (λ u. Do Finish ∷ []) result (run.new.store, run.new.streams) world.new }
+    ensures plays { (g : Given) → IsGiven cx.now g → (first : W) → Reached W.World g first (Do (Enter Ending) ∷ []) (whole_of run.old) world.old
+        → Goes_on W.World g first (λ u. Do Finish ∷ []) result (whole_of run.new) world.new }
     ensures owns { Owns (W.open_numbers world.new) run.new.streams }
 {
     run.store.set_phase(Phase::Ending);
@@ -67,8 +67,8 @@ fn end_actions<W: World>(cx: &Context<'_>, run: &mut Run, world: &mut W) -> Resu
 /// END.
 fn end<W: World>(cx: &Context<'_>, run: &mut Run, world: &mut W) -> End
     requires { Owns (W.open_numbers world.old) run.old.streams }
-    ensures plays { (g : Given) → IsGiven cx.now g → (first : W) → Reached W.follows W.has_stopped W.stops g first (Do (Enter Ending) ∷ []) (run.old.store, run.old.streams) world.old
-        → Finished W.follows W.has_stopped W.stops g first result (run.new.store, run.new.streams) world.new }
+    ensures plays { (g : Given) → IsGiven cx.now g → (first : W) → Reached W.World g first (Do (Enter Ending) ∷ []) (whole_of run.old) world.old
+        → Finished W.World g first result (whole_of run.new) world.new }
     ensures owns { Owns (W.open_numbers world.new) run.new.streams }
 {
     match end_actions(cx, run, world) {
@@ -80,8 +80,8 @@ fn end<W: World>(cx: &Context<'_>, run: &mut Run, world: &mut W) -> End
 /// What is left to be done after a halt: END, or nothing.
 fn after<W: World>(cx: &Context<'_>, halt: Halt, run: &mut Run, world: &mut W) -> End
     requires { Owns (W.open_numbers world.old) run.old.streams }
-    ensures plays { (g : Given) → IsGiven cx.now g → (first : W) → Stopped W.follows W.has_stopped W.stops g first halt (run.old.store, run.old.streams) world.old
-        → Finished W.follows W.has_stopped W.stops g first result (run.new.store, run.new.streams) world.new }
+    ensures plays { (g : Given) → IsGiven cx.now g → (first : W) → Stopped W.World g first halt (whole_of run.old) world.old
+        → Finished W.World g first result (whole_of run.new) world.new }
     ensures owns { Owns (W.open_numbers world.new) run.new.streams }
 {
     if goes_to_end(halt, run.store.phase()) {
@@ -94,8 +94,8 @@ fn after<W: World>(cx: &Context<'_>, halt: Halt, run: &mut Run, world: &mut W) -
 pub fn play<W: World>(cx: &Context<'_>, run: &mut Run, world: &mut W) -> End
     requires { Owns (W.open_numbers world.old) run.old.streams }
     ensures plays { (g : Given) → IsGiven cx.now g → (first : W)
-        → Reached W.follows W.has_stopped W.stops g first (Do (Enter Beginning) ∷ Do (Enter Ruling) ∷ Do (Enter Ending) ∷ []) (run.old.store, run.old.streams) world.old
-        → Finished W.follows W.has_stopped W.stops g first result (run.new.store, run.new.streams) world.new }
+        → Reached W.World g first (Do (Enter Beginning) ∷ Do (Enter Ruling) ∷ Do (Enter Ending) ∷ []) (whole_of run.old) world.old
+        → Finished W.World g first result (whole_of run.new) world.new }
     ensures owns { Owns (W.open_numbers world.new) run.new.streams }
 {
     match before_end(cx, run, world) {

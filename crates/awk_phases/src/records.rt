@@ -2,7 +2,7 @@
 ghost use Rattle.std.specs.Prelude.{◌≡◌, [], Err};
 ghost use Rattle.awk_asks.specs.Tasks.{Owns, goes_on};
 ghost use Rattle.awk_machine.specs.Pieces.{At, Records};
-ghost use Rattle.awk_eval_parts.specs.Runs.{Does};
+ghost use Rattle.awk_eval_parts.specs.Runs.{Does, whole_of};
 ghost use Rattle.awk_records.specs.Inputs.{at_records, more};
 ghost use Rattle.awk_phases.specs.Rules as spec;
 ghost use Rattle.awk_phases.specs.Runs.{DoesIn};
@@ -17,8 +17,8 @@ use box_world::world::World;
 /// Reads the next record, and does the rules for it; answers whether there was one.
 fn meet<W: World>(cx: &Context<'_>, run: &mut Run, world: &mut W) -> Result<bool, Halt>
     requires { Owns (W.open_numbers world.old) run.old.streams }
-    ensures { DoesIn W.follows W.has_stopped W.stops W.open_numbers cx.now (λ g. At Records []) (λ g. more) at_records
-        (run.old.store, run.old.streams) world.old result (run.new.store, run.new.streams) world.new }
+    ensures { DoesIn W.World cx.now (λ g. At Records []) (λ g. more) at_records
+        (whole_of run.old) world.old result (whole_of run.new) world.new }
 {
     let is_there = next_record(cx.alloc, cx.host, &mut run.store, &mut run.streams, world)?;
     if !is_there {
@@ -52,8 +52,8 @@ fn come_back(met: Result<bool, Halt>) -> Result<bool, Halt>
 /// Reads the next record, and does the rules for it, to their end or to a `next`; answers whether more may follow.
 fn turn<W: World>(cx: &Context<'_>, run: &mut Run, world: &mut W) -> Result<bool, Halt>
     requires { Owns (W.open_numbers world.old) run.old.streams }
-    ensures { Does W.follows W.has_stopped W.stops W.open_numbers cx.now (λ g. At Records []) (λ g. more)
-        (run.old.store, run.old.streams) world.old result (run.new.store, run.new.streams) world.new }
+    ensures { Does W.World cx.now (λ g. At Records []) (λ g. more)
+        (whole_of run.old) world.old result (whole_of run.new) world.new }
 {
     come_back(meet(cx, run, world))
 }
@@ -61,8 +61,8 @@ fn turn<W: World>(cx: &Context<'_>, run: &mut Run, world: &mut W) -> Result<bool
 /// Reads the records of the main input, while there are any, and does the rules for each.
 pub fn records<W: World>(cx: &Context<'_>, run: &mut Run, world: &mut W) -> Result<(), Halt>
     requires { Owns (W.open_numbers world.old) run.old.streams }
-    ensures { Does W.follows W.has_stopped W.stops W.open_numbers cx.now (λ g. At Records []) (λ g. goes_on)
-        (run.old.store, run.old.streams) world.old result (run.new.store, run.new.streams) world.new }
+    ensures { Does W.World cx.now (λ g. At Records []) (λ g. goes_on)
+        (whole_of run.old) world.old result (whole_of run.new) world.new }
 {
     for _record in 0..u64::MAX {
         let goes_on = turn(cx, run, world)?;

@@ -7,7 +7,7 @@ ghost use Rattle.awk_machine.specs.Pieces as machine;
 ghost use Rattle.awk_program.specs.Program as p;
 ghost use Rattle.awk_program.specs.View.{view, view_rule, view_statement};
 ghost use Rattle.awk_tasks.specs.Wholes.{names_in};
-ghost use Rattle.awk_eval_parts.specs.Runs.{Does};
+ghost use Rattle.awk_eval_parts.specs.Runs.{Does, whole_of};
 ghost use Rattle.awk_phases.specs.Rules.{met, rule_of};
 
 use awk_asks::halt::Halt;
@@ -30,9 +30,9 @@ fn where_holds<W: World>(
     world: &mut W,
 ) -> Result<Flow, Halt>
     requires { Owns (W.open_numbers world.old) run.old.streams }
-    ensures { Does W.follows W.has_stopped W.stops W.open_numbers cx.now
+    ensures { Does W.World cx.now
         (λ g. At (Choosing n (rule_of (p.holds (view (names_in g) pattern.now)) (map (view_statement (names_in g)) action.now))) []) (λ g. flows)
-        (run.old.store, run.old.streams) world.old result (run.new.store, run.new.streams) world.new }
+        (whole_of run.old) world.old result (whole_of run.new) world.new }
 {
     let holds = truth_of(cx, pattern, MOST_LEVELS, run, world)?;
     if !holds {
@@ -60,10 +60,10 @@ fn meet<W: World>(
     world: &mut W,
 ) -> Result<Option<bool>, Halt>
     requires { Owns (W.open_numbers world.old) run.old.streams }
-    ensures { Does W.follows W.has_stopped W.stops W.open_numbers cx.now
+    ensures { Does W.World cx.now
         (λ g. At (Choosing n (rule_of (p.range (view (names_in g) first.now) (view (names_in g) last.now)) (map (view_statement (names_in g)) action.now))) [])
         (λ g. met n (rule_of (p.range (view (names_in g) first.now) (view (names_in g) last.now)) (map (view_statement (names_in g)) action.now)))
-        (run.old.store, run.old.streams) world.old result (run.new.store, run.new.streams) world.new }
+        (whole_of run.old) world.old result (whole_of run.new) world.new }
 {
     let pattern = next_pattern(run.store.is_on(n), first, last);
     let found = value(cx, pattern, MOST_LEVELS, run, world)?;
@@ -89,9 +89,9 @@ fn within<W: World>(
     world: &mut W,
 ) -> Result<Flow, Halt>
     requires { Owns (W.open_numbers world.old) run.old.streams }
-    ensures { Does W.follows W.has_stopped W.stops W.open_numbers cx.now
+    ensures { Does W.World cx.now
         (λ g. At (Choosing n (rule_of (p.range (view (names_in g) first.now) (view (names_in g) last.now)) (map (view_statement (names_in g)) action.now))) []) (λ g. flows)
-        (run.old.store, run.old.streams) world.old result (run.new.store, run.new.streams) world.new }
+        (whole_of run.old) world.old result (whole_of run.new) world.new }
 {
     for _pattern in 0..2 {
         let is_done = meet(cx, n, first, last, action, run, world)?;
@@ -114,8 +114,8 @@ fn rule<W: World>(
     world: &mut W,
 ) -> Result<Flow, Halt>
     requires { Owns (W.open_numbers world.old) run.old.streams }
-    ensures { Does W.follows W.has_stopped W.stops W.open_numbers cx.now (λ g. At (Choosing n (view_rule (names_in g) x.now)) []) (λ g. flows)
-        (run.old.store, run.old.streams) world.old result (run.new.store, run.new.streams) world.new }
+    ensures { Does W.World cx.now (λ g. At (Choosing n (view_rule (names_in g) x.now)) []) (λ g. flows)
+        (whole_of run.old) world.old result (whole_of run.new) world.new }
 {
     let action = x.action.as_slice();
     match &x.when {
@@ -128,8 +128,8 @@ fn rule<W: World>(
 /// The rules for a record, one after the other.
 pub fn rules<W: World>(cx: &Context<'_>, run: &mut Run, world: &mut W) -> Result<(), Halt>
     requires { Owns (W.open_numbers world.old) run.old.streams }
-    ensures { Does W.follows W.has_stopped W.stops W.open_numbers cx.now (λ g. Do (machine.Rules 0 g.program.rules)) (λ g. goes_on)
-        (run.old.store, run.old.streams) world.old result (run.new.store, run.new.streams) world.new }
+    ensures { Does W.World cx.now (λ g. Do (machine.Rules 0 g.program.rules)) (λ g. goes_on)
+        (whole_of run.old) world.old result (whole_of run.new) world.new }
 {
     let rules = cx.program.rules.as_slice();
     for n in 0..rules.len() {

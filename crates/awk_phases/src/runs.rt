@@ -6,7 +6,7 @@ ghost use Rattle.awk_machine.specs.Pieces.{Do, Enter};
 ghost use Rattle.awk_machine.specs.State.{Beginning, Ending, Given, Ruling};
 ghost use Rattle.awk_program.specs.View.{names_of};
 ghost use Rattle.awk_store.specs.States.{Sound};
-ghost use Rattle.awk_eval_parts.specs.Runs.{IsGiven};
+ghost use Rattle.awk_eval_parts.specs.Runs.{IsGiven, whole_of};
 ghost use Rattle.awk_phases.specs.Outcomes.{view_outcome};
 ghost use Rattle.awk_phases.specs.Reports.{Reported};
 ghost use Rattle.awk_phases.specs.Runs.{Finished, Goes_on, Reached};
@@ -36,8 +36,8 @@ fn begin<W: World>(
 ) -> Result<(), Halt>
     requires { Owns (W.open_numbers world.old) run.old.streams }
     ensures plays { (g : Given) → IsGiven cx.now g → IsStart start.now g → (first : W)
-        → Reached W.follows W.has_stopped W.stops g first (first_pieces g) (run.old.store, run.old.streams) world.old
-        → Goes_on W.follows W.has_stopped W.stops g first (λ u. Do (Enter Beginning) ∷ Do (Enter Ruling) ∷ Do (Enter Ending) ∷ []) result (run.new.store, run.new.streams) world.new }
+        → Reached W.World g first (first_pieces g) (whole_of run.old) world.old
+        → Goes_on W.World g first (λ u. Do (Enter Beginning) ∷ Do (Enter Ruling) ∷ Do (Enter Ending) ∷ []) result (whole_of run.new) world.new }
     ensures owns { Owns (W.open_numbers world.new) run.new.streams }
 {
     prepare(cx, start, &mut run.store)?;
@@ -48,8 +48,8 @@ fn begin<W: World>(
 fn work<W: World>(cx: &Context<'_>, start: &Start<'_>, run: &mut Run, world: &mut W) -> End
     requires { Owns (W.open_numbers world.old) run.old.streams }
     ensures plays { (g : Given) → IsGiven cx.now g → IsStart start.now g → (first : W)
-        → Reached W.follows W.has_stopped W.stops g first (first_pieces g) (run.old.store, run.old.streams) world.old
-        → Finished W.follows W.has_stopped W.stops g first result (run.new.store, run.new.streams) world.new }
+        → Reached W.World g first (first_pieces g) (whole_of run.old) world.old
+        → Finished W.World g first result (whole_of run.new) world.new }
     ensures owns { Owns (W.open_numbers world.new) run.new.streams }
 {
     match begin(cx, start, run, world) {

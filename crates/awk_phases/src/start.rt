@@ -49,9 +49,7 @@ pub struct Start<'a> {
 fn set_argument(alloc: Global, store: &mut Store, n: u64, text: &[u8]) -> Result<(), Halt>
     ensures { (g : Given) (t : Table) → Acts g (set_at_start (target.Element (global (codes "ARGV")) (decimal n) nowhere) (Value.Input text.now)) goes_on (store.old, t) result (store.new, t) }
 {
-    let Ok(copy) = Vec::from_slice(alloc, text) else {
-        return Err(Halt::Memory);
-    };
+    let copy = Vec::from_slice(alloc, text)?;
     let place = Place { line: 0, column: 0 };
     let array = Variable::Global(Own::Argv.slot());
     let mut buffer = Buffer::new();

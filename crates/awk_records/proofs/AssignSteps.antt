@@ -8,12 +8,11 @@ use Rattle.std.proofs.Math.Path.{fun_ext}
 use Rattle.awk_text.specs.declared.value.Value.{Value}
 use Rattle.awk_text.specs.declared.value.Value.TheVariants as v
 use Rattle.awk_text.specs.Escapes.{unescaped}
-use Rattle.box_world.specs.Calls.{Call, open_after}
-use Rattle.box_world.specs.declared.ask.Ask.{Ask}
 use Rattle.box_world.specs.declared.ask.Reply.{Reply}
 use Rattle.box_world.specs.declared.ask.Reply.TheVariants as reply
 use Rattle.box_world.specs.declared.ask.Request.TheVariants as request
 use Rattle.box_world.specs.Events.{Key, Assigns, Stream, ask_of, calls, open_streams}
+use Rattle.box_world.specs.declared.world.World.{Ghosts}
 use Rattle.awk_program.specs.Program as p
 use Rattle.awk_program.specs.Slots.{Text, slot_of}
 use Rattle.awk_program.specs.declared.variables.Own.TheVariants as own
@@ -31,7 +30,7 @@ use Rattle.awk_store.specs.Kept.{scalar}
 use Rattle.awk_store.specs.States.{Hidden, Sound, cell_named, values_of}
 use Rattle.awk_store.proofs.Slots.{differs}
 use Rattle.awk_asks.specs.declared.halt.Halt.{Halt}
-use Rattle.awk_asks.specs.Chains.{Led, Ended, Leads, Meets}
+use Rattle.awk_asks.specs.Chains.{Leads, Meets}
 use Rattle.awk_asks.specs.Tables.{Table}
 use Rattle.awk_asks.specs.Tasks.{Answered, Refused, Tells, goes_on}
 use Rattle.awk_asks.proofs.Asking.{fits_here}
@@ -133,8 +132,7 @@ tells_assigned g operand name text table taken c r a = record {
   inputs = λ other input e. let x = a.inputs other input e in record { unread = x.unread; ended = x.ended; within = x.within };
 }
 
-module _ {W : Type 0} {follows : W → List Call → W → Type 0} {has_stopped : W → Bool} {stops : W → List Call → Ask → W → Type 0} (open_numbers : W → List ℕ)
-    (laws : Laws (Led follows has_stopped) (Ended follows stops)) (opens : (v w : W) (cs : List Call) → follows v cs w → open_numbers w ≡ open_after cs (open_numbers v))
+module _ {W : Type 0} {ghosts : Ghosts W} (laws : Laws ghosts)
     (g : Given) (h : Hosted) (is : IsHost h g) (operand name text : Text) (p : Piece) (old mid : Whole) (m : Moves g p old (assignment g operand name text) mid) where
   assign_want : (ss : List Stream) → ask_of (operand_want g operand (Assigns name text)) ss ≡ record { place = nowhere; given = is_given h operand; request = request.Assign name text }
   assign_want ss = ap (λ b. record { place = nowhere; given = b; request = request.Assign name text }) (is.words operand)
@@ -142,22 +140,22 @@ module _ {W : Type 0} {follows : W → List Call → W → Type 0} {has_stopped 
   assign_asks : (k : List Piece) (hid : Hidden) (c : Course) → Agreeing g old hid c → advance g (p ∷ k) (seen (base g old hid) c) ≡ Asks (operand_want g operand (Assigns name text)) (λ r. assigned name text k r) (seen (base g mid hid) c)
   assign_asks k hid c a = ap (held g (seen (base g old hid) c)) (m.moves k hid c a)
 
-  pub assigns : (r : Reply) (w w' : W) → Answered follows has_stopped (open_numbers w) (record { place = nowhere; given = is_given h operand; request = request.Assign name text }) w r w' →
-      Leads (Led follows has_stopped) (Ended follows stops) (base g) (Agreeing g) used g p old w (λ k. assigned name text k r) mid w'
+  pub assigns : (r : Reply) (w w' : W) → Answered ghosts (record { place = nowhere; given = is_given h operand; request = request.Assign name text }) w r w' →
+      Leads ghosts (base g) (Agreeing g) used g p old w (λ k. assigned name text k r) mid w'
   assigns r w w' x =
       asked {then_ = λ k r. assigned name text k r} (operand_want g operand (Assigns name text)) (record { place = nowhere; given = is_given h operand; request = request.Assign name text }) r laws (sym m.same) (at_once p old w)
       (λ first k hid c led a.
       let b = m.agrees hid c a in (
         hid,
         assign_asks k hid c a,
-        fits_here open_numbers laws opens first w (calls c.events) (request.Assign name text) r led x.fits,
+        fits_here laws first w (calls c.events) (request.Assign name text) r led x.fits,
         assign_want (open_streams c.events),
         record { tells = tells_assigned g operand name text mid.1 hid.taken c r b.tells; row = b.row; cells = b.cells; sound = b.sound },
       ))
       x.call
 
-  pub assign_refused : {A : Type 0} {on : A → List Piece → List Piece} (halt : Halt) (w w' : W) → Refused follows has_stopped stops (record { place = nowhere; given = is_given h operand; request = request.Assign name text }) w halt w' →
-      Meets (Led follows has_stopped) (Ended follows stops) (base g) (Agreeing g) used g p on old w (Err halt) mid w'
+  pub assign_refused : {A : Type 0} {on : A → List Piece → List Piece} (halt : Halt) (w w' : W) → Refused ghosts (record { place = nowhere; given = is_given h operand; request = request.Assign name text }) w halt w' →
+      Meets ghosts (base g) (Agreeing g) used g p on old w (Err halt) mid w'
   assign_refused halt w w' x =
       rw x.is (restored nowhere x.by m.same (unanswered {then_ = λ k r. assigned name text k r} (operand_want g operand (Assigns name text)) (record { place = nowhere; given = is_given h operand; request = request.Assign name text }) x.by laws (at_once p old w)
       (λ k hid c a. (seen (base g mid hid) c, assign_asks k hid c a, assign_want (open_streams c.events)))

@@ -4,13 +4,13 @@ use Rattle.std.specs.Prelude.{Result, Ok, Err, Option, Some, None, option_map, i
 use Rattle.std.specs.Str.{bytes_eq}
 use Rattle.awk_text.specs.declared.value.Value.TheVariants as v
 use Rattle.awk_fields.specs.Takes.{Input}
-use Rattle.box_world.specs.Calls.{Call, IsStream, open_after, without}
-use Rattle.box_world.specs.declared.ask.Ask.{Ask}
+use Rattle.box_world.specs.Calls.{IsStream, without}
 use Rattle.box_world.specs.declared.ask.Mode.TheVariants as mode
 use Rattle.box_world.specs.declared.ask.Reply.{Reply}
 use Rattle.box_world.specs.declared.ask.Reply.TheVariants as reply
 use Rattle.box_world.specs.declared.ask.Request.TheVariants as request
 use Rattle.box_world.specs.Events.{Class, OperandFile, Key, Standard, Named, Opens, Shuts, Stream, ask_of, calls, find_stream, is_named, open_streams, without_stream}
+use Rattle.box_world.specs.declared.world.World.{Ghosts}
 use Rattle.awk_program.specs.Slots.{Text}
 use Rattle.awk_program.specs.declared.variables.Own.TheVariants as own
 use Rattle.awk_machine.specs.Advances.{advance, asked_by, held}
@@ -28,7 +28,7 @@ use Rattle.awk_store.proofs.Cells.{change_count}
 use Rattle.awk_store.proofs.Setting as set
 use Rattle.awk_asks.specs.declared.getline.Found.{Found}
 use Rattle.awk_asks.specs.declared.halt.Halt.{Halt}
-use Rattle.awk_asks.specs.Chains.{Led, Ended, Leads, Meets}
+use Rattle.awk_asks.specs.Chains.{Leads, Meets}
 use Rattle.awk_asks.specs.Tables.{Table, Entry, entries_without, find_input, open_of, with_input}
 use Rattle.awk_asks.specs.Tasks.{Answered, Refused, Opening, IsRead, IsSame, Owns, Tells, beside, goes_on, input_at, number_opened}
 use Rattle.awk_asks.proofs.Asking.{fits_here, number_at}
@@ -74,8 +74,7 @@ opened_so text k found (reply.Status z) e = ap (λ o. begun_or text (is_some o) 
 opened_so text k found (reply.Value b) e = ap (λ o. begun_or text (is_some o) k) e
 opened_so text k found reply.Failed e = ap (λ o. begun_or text (is_some o) k) e
 
-module _ {W : Type 0} {follows : W → List Call → W → Type 0} {has_stopped : W → Bool} {stops : W → List Call → Ask → W → Type 0} (open_numbers : W → List ℕ)
-    (laws : Laws (Led follows has_stopped) (Ended follows stops)) (opens : (v w : W) (cs : List Call) → follows v cs w → open_numbers w ≡ open_after cs (open_numbers v))
+module _ {W : Type 0} {ghosts : Ghosts W} (laws : Laws ghosts)
     (g : Given) (h : Hosted) (is : IsHost h g) (text : Text) (p : Piece) (old : Whole) (k : Kept) (t : Table) (m : Moves g p old (opening_of g text) (k, t)) where
   open_want : (ss : List Stream) → ask_of (operand_want g text (Opens mode.Read OperandFile text)) ss ≡ record { place = nowhere; given = is_given h text; request = request.Open mode.Read text }
   open_want ss = ap (λ b. record { place = nowhere; given = b; request = request.Open mode.Read text }) (is.words text)
@@ -87,20 +86,20 @@ module _ {W : Type 0} {follows : W → List Call → W → Type 0} {has_stopped 
       ∙ ap (λ z. asked_by (option_map reply.Opened z) (operand_want g text (Opens mode.Read OperandFile text)) (λ r. opened text l r) (seen (base g (k, t) hid) c)) (ap (find_stream OperandFile text) (m.agrees hid c a).tells.streams ∙ e)
 
   -- it is open
-  pub operand_known : (n : ℕ) (w : W) → find_stream OperandFile text (open_of t) ≡ Some n → Leads (Led follows has_stopped) (Ended follows stops) (base g) (Agreeing g) used g p old w (λ l. begun_or text true l) (k, t) w
+  pub operand_known : (n : ℕ) (w : W) → find_stream OperandFile text (open_of t) ≡ Some n → Leads ghosts (base g) (Agreeing g) used g p old w (λ l. begun_or text true l) (k, t) w
   operand_known n w e = changes (sym m.same) (at_once p old w) (λ l hid c a. (hid, m.agrees hid c a, open_at l hid c a (Some n) e))
 
   -- the world was asked
   pub operand_asked : (found : Option ℕ) (new : Table) (w w' : W) → find_stream OperandFile text (open_of t) ≡ None →
-      Opening follows has_stopped (open_numbers w) (record { place = nowhere; given = is_given h text; request = request.Open mode.Read text }) OperandFile text t w found new w' →
-      Leads (Led follows has_stopped) (Ended follows stops) (base g) (Agreeing g) used g p old w (λ l. begun_or text (is_some found) l) (k, new) w'
+      Opening ghosts (record { place = nowhere; given = is_given h text; request = request.Open mode.Read text }) OperandFile text t w found new w' →
+      Leads ghosts (base g) (Agreeing g) used g p old w (λ l. begun_or text (is_some found) l) (k, new) w'
   operand_asked found new w w' none x =
       turned (asked {then_ = λ l r. opened text l r} (operand_want g text (Opens mode.Read OperandFile text)) (record { place = nowhere; given = is_given h text; request = request.Open mode.Read text }) x.reply laws (sym m.same) (at_once p old w)
       (λ first l hid c led a.
       let b = m.agrees hid c a in (
         record { taken = fresh OperandFile text hid.taken; row = hid.row },
         open_at l hid c a None none,
-        fits_here open_numbers laws opens first w (calls c.events) (request.Open mode.Read text) x.reply led x.answer.fits,
+        fits_here laws first w (calls c.events) (request.Open mode.Read text) x.reply led x.answer.fits,
         open_want (open_streams c.events),
         record {
           tells = tells_opening nowhere (operand_want g text (Opens mode.Read OperandFile text)).given mode.Read OperandFile text t hid.taken c b.tells none x.reply found new x.number x.entries x.input;
@@ -113,8 +112,8 @@ module _ {W : Type 0} {follows : W → List Call → W → Type 0} {has_stopped 
       (λ l. opened_so text l found x.reply x.number)
 
   pub operand_refused : {A : Type 0} {on : A → List Piece → List Piece} (halt : Halt) (new : Table) (w w' : W) → find_stream OperandFile text (open_of t) ≡ None →
-      Refused follows has_stopped stops (record { place = nowhere; given = is_given h text; request = request.Open mode.Read text }) w halt w' →
-      Meets (Led follows has_stopped) (Ended follows stops) (base g) (Agreeing g) used g p on old w (Err halt) (k, new) w'
+      Refused ghosts (record { place = nowhere; given = is_given h text; request = request.Open mode.Read text }) w halt w' →
+      Meets ghosts (base g) (Agreeing g) used g p on old w (Err halt) (k, new) w'
   operand_refused halt new w w' none x =
       rw x.is (restored nowhere x.by m.same (unanswered {then_ = λ l r. opened text l r} (operand_want g text (Opens mode.Read OperandFile text)) (record { place = nowhere; given = is_given h text; request = request.Open mode.Read text }) x.by laws (at_once p old w)
       (λ l hid c a. (seen (base g (k, t) (record { taken = fresh OperandFile text hid.taken; row = hid.row })) c, open_at l hid c a None none, open_want (open_streams c.events)))
@@ -196,9 +195,9 @@ module _ (c : Class) (text : Text) (old : Table) (taken : Key → ℕ) (co : Cou
   pub tells_forgotten : Tells (forgotten c text old) (λ other. if same_key (Named c text) other then length (came (Named c text) co.events) else taken other) co
   tells_forgotten = forgotten_by (find_input c text old.entries) refl
 
-pub forgets_file : {W : Type 0} (F : W → List Call → W → Type 0) (E : W → List Call → Ask → W → Type 0) (g : Given) (s : State) (c : Class) (text : Text) (old : Table) (w : W) →
-    Meets F E (beside s) Tells (λ t. s.course.used) g (Do (machine.Forget (Named c text))) (goes_on {A = Unit {0}}) old w (Ok (tt {0})) (forgotten c text old) w
-forgets_file F E g s c text old w = finished (changes refl (at_once _ old w) (λ k t co a. (
+pub forgets_file : {W : Type 0} (ghosts : Ghosts W) (g : Given) (s : State) (c : Class) (text : Text) (old : Table) (w : W) →
+    Meets ghosts (beside s) Tells (λ t. s.course.used) g (Do (machine.Forget (Named c text))) (goes_on {A = Unit {0}}) old w (Ok (tt {0})) (forgotten c text old) w
+forgets_file ghosts g s c text old w = finished (changes refl (at_once _ old w) (λ k t co a. (
   λ other. if same_key (Named c text) other then length (came (Named c text) co.events) else t other,
   tells_forgotten c text old t co a,
   refl,
@@ -219,10 +218,9 @@ owns_gone numbers after c text n table new h es is owns = λ m.
     let less = times-without_stream m c text (open_of table) n h in
     rw (is, gone, times-without n m numbers, less) (omega (arith, o))
 
-module _ {W : Type 0} {follows : W → List Call → W → Type 0} {has_stopped : W → Bool} {stops : W → List Call → Ask → W → Type 0} (open_numbers : W → List ℕ)
-    (laws : Laws (Led follows has_stopped) (Ended follows stops)) (opens : (v w : W) (cs : List Call) → follows v cs w → open_numbers w ≡ open_after cs (open_numbers v))
+module _ {W : Type 0} {ghosts : Ghosts W} (laws : Laws ghosts)
     (g : Given) (text : Text) (k : Kept) (t now : Table) (but : IsBut OperandFile text t now) (p : Piece) (old : Whole) (first w : W)
-    (lead : LeadsOn follows has_stopped stops g p old first (λ l. Do (Past (Named OperandFile text)) ∷ Do Take ∷ l) (k, t) w) where
+    (lead : LeadsOn ghosts g p old first (λ l. Do (Past (Named OperandFile text)) ∷ Do Take ∷ l) (k, t) w) where
   abbrev passed : Kept
   passed = with_main (record k.main { current = None }) k
 
@@ -236,7 +234,7 @@ module _ {W : Type 0} {follows : W → List Call → W → Type 0} {has_stopped 
       ap (λ z. asked_by (if is_some z then None else Some reply.Failed) (want nowhere (Shuts (Named OperandFile text))) (λ r. l) (seen (base g (passed, t) hid) c)) (ap (find_stream OperandFile text) (a.tells.streams ∙ sym but.streams) ∙ e)
 
   -- it is not open
-  pub passes_unopened : find_stream OperandFile text (open_of now) ≡ None → LeadsOn follows has_stopped stops g p old first (λ l. Do Take ∷ l) (passed, now) w
+  pub passes_unopened : find_stream OperandFile text (open_of now) ≡ None → LeadsOn ghosts g p old first (λ l. Do Take ∷ l) (passed, now) w
   passes_unopened none =
       let there : find_stream OperandFile text (open_of t) ≡ None = ap (find_stream OperandFile text) (sym but.streams) ∙ none in
       let same : IsSame t now = record { entries = sym (without_absent OperandFile text now.entries none) ∙ but.others ∙ without_absent OperandFile text t.entries there; input = but.input } in
@@ -246,8 +244,8 @@ module _ {W : Type 0} {follows : W → List Call → W → Type 0} {has_stopped 
 
   -- it was shut
   pub passes_shut : (n : ℕ) (new : Table) (r : Reply) (w' : W) → find_stream OperandFile text (open_of now) ≡ Some n → new.entries ≡ entries_without OperandFile text now.entries → new.input ≡ now.input →
-      Answered follows has_stopped (open_numbers w) (record { place = nowhere; given = false; request = request.Shut n }) w r w' →
-      LeadsOn follows has_stopped stops g p old first (λ l. Do Take ∷ l) (passed, new) w'
+      Answered ghosts (record { place = nowhere; given = false; request = request.Shut n }) w r w' →
+      LeadsOn ghosts g p old first (λ l. Do Take ∷ l) (passed, new) w'
   passes_shut n new r w' found es same x =
       let there : find_stream OperandFile text (open_of t) ≡ Some n = ap (find_stream OperandFile text) (sym but.streams) ∙ found in
       asked {then_ = λ l r. Do Take ∷ l} (want nowhere (Shuts (Named OperandFile text))) (record { place = nowhere; given = false; request = request.Shut n }) r laws refl lead
@@ -255,15 +253,15 @@ module _ {W : Type 0} {follows : W → List Call → W → Type 0} {has_stopped 
       let b = past_agrees hid c a in (
         hid,
         past_at (Do Take ∷ l) hid c a (Some n) found,
-        fits_here open_numbers laws opens begin w (calls c.events) (request.Shut n) r led x.fits,
+        fits_here laws begin w (calls c.events) (request.Shut n) r led x.fits,
         ap (λ m. record { place = nowhere; given = false; request = request.Shut m }) (number_at (Named OperandFile text) n t hid.taken c there a.tells),
         record { tells = tells_closed nowhere OperandFile text t new hid.taken c r (es ∙ but.others) (same ∙ but.input) b.tells; row = b.row; cells = b.cells; sound = b.sound },
       ))
       x.call
 
   pub shut_refused : {A : Type 0} {on : A → List Piece → List Piece} (n : ℕ) (halt : Halt) (w' : W) → find_stream OperandFile text (open_of now) ≡ Some n →
-      Refused follows has_stopped stops (record { place = nowhere; given = false; request = request.Shut n }) w halt w' →
-      Meets (Led follows has_stopped) (Ended follows stops) (base g) (Agreeing g) used g p on old first (Err halt) (passed, now) w'
+      Refused ghosts (record { place = nowhere; given = false; request = request.Shut n }) w halt w' →
+      Meets ghosts (base g) (Agreeing g) used g p on old first (Err halt) (passed, now) w'
   shut_refused n halt w' found x =
       let there : find_stream OperandFile text (open_of t) ≡ Some n = ap (find_stream OperandFile text) (sym but.streams) ∙ found in
       rw x.is (restored nowhere x.by refl (unanswered {q = λ l. Do (Past (Named OperandFile text))} {to = λ l. Do Take ∷ l} {then_ = λ l r. Do Take ∷ l} (want nowhere (Shuts (Named OperandFile text))) (record { place = nowhere; given = false; request = request.Shut n }) x.by laws lead
@@ -301,7 +299,7 @@ pub same_text : (a b : Text) → Some (Named OperandFile a) ≡ Some (Named Oper
 same_text a b e = cc
 
 -- the stream that was read, in other words
-pub read_as : {W : Type 0} {follows : W → List Call → W → Type 0} {has_stopped : W → Bool} {stops : W → List Call → Ask → W → Type 0} {g : Given} {p : Piece} {old new : Whole} {w w' : W} {r : Result Found Halt} {key other : Key} →
-    key ≡ other → Performs follows has_stopped stops g p (found_main key) old w r new w' → Performs follows has_stopped stops g p (found_main other) old w r new w'
-read_as {follows = follows} {has_stopped = has_stopped} {stops = stops} {g = g} {p = p} {old = old} {new = new} {w = w} {w' = w'} {r = r} e h =
-    subst (λ z. Performs follows has_stopped stops g p (found_main z) old w r new w') e h
+pub read_as : {W : Type 0} {ghosts : Ghosts W} {g : Given} {p : Piece} {old new : Whole} {w w' : W} {r : Result Found Halt} {key other : Key} →
+    key ≡ other → Performs ghosts g p (found_main key) old w r new w' → Performs ghosts g p (found_main other) old w r new w'
+read_as {ghosts = ghosts} {g = g} {p = p} {old = old} {new = new} {w = w} {w' = w'} {r = r} e h =
+    subst (λ z. Performs ghosts g p (found_main z) old w r new w') e h

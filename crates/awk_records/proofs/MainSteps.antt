@@ -1,15 +1,14 @@
 -- How the machine goes on with the main input.
-use Rattle.std.proofs.Common.{◌≡◌, inr, refl, sym, ap, subst, ◌∙◌, ℕ, ℤ, Bool, true, false, List, [], ◌∷◌}
+use Rattle.std.proofs.Common.{◌≡◌, inr, refl, sym, ap, subst, ◌∙◌, ℤ, Bool, true, false, List, [], ◌∷◌}
 use Rattle.std.specs.Prelude.{Result, Ok, Err, Some, None, not, pos, int_lt, if◌then◌else◌}
 use Rattle.awk_text.specs.declared.fault.Fault.{Fault}
 use Rattle.awk_text.specs.declared.value.Value.{Value}
 use Rattle.awk_text.specs.declared.value.Value.TheVariants as v
 use Rattle.awk_text.specs.Values.{number_of}
-use Rattle.box_world.specs.Calls.{Call, open_after}
-use Rattle.box_world.specs.declared.ask.Ask.{Ask}
 use Rattle.box_world.specs.declared.ask.Reply.{Reply}
 use Rattle.box_world.specs.declared.ask.Request.TheVariants as request
 use Rattle.box_world.specs.Events.{Key, Standard, Writes, calls}
+use Rattle.box_world.specs.declared.world.World.{Ghosts}
 use Rattle.awk_program.specs.Program as p
 use Rattle.awk_program.specs.Slots.{Text}
 use Rattle.awk_program.specs.declared.variables.Own.TheVariants as own
@@ -29,14 +28,15 @@ use Rattle.awk_store.proofs.Reading as law
 use Rattle.awk_asks.specs.declared.getline.Found.TheVariants as found
 use Rattle.awk_asks.specs.declared.halt.Halt.{Halt}
 use Rattle.awk_asks.specs.declared.halt.Halt.TheVariants as halt
-use Rattle.awk_asks.specs.Chains.{Led, Ended, Halted, Leads, Meets}
+use Rattle.awk_asks.specs.Chains.{Halted, Leads, Meets}
 use Rattle.awk_asks.specs.Readings.{IsReading}
 use Rattle.awk_asks.specs.Tables.{Table}
 use Rattle.awk_asks.specs.Tasks.{Answered, Refused, goes_on}
 use Rattle.awk_asks.proofs.Asking.{fits_here, tells_written}
 use Rattle.awk_asks.proofs.Chain.{Laws, asked, at_once, done as finished, halted-after, part, quiet, unanswered}
 use Rattle.awk_asks.proofs.MoreSteps.{gives}
-use Rattle.awk_tasks.specs.Acts.{Acts, HaltsSo, Passes, halt_at, result_at}
+use Rattle.awk_asks.specs.Chains.{halt_at, result_at}
+use Rattle.awk_tasks.specs.Acts.{Acts, HaltsSo, Passes}
 use Rattle.awk_tasks.specs.Spots.{IsSpotOf, meant, value_of}
 use Rattle.awk_tasks.specs.Wholes.{Whole, Agreeing, base, names_in, used}
 use Rattle.awk_tasks.specs.declared.spot.Spot.{Spot}
@@ -135,55 +135,54 @@ takes_so g s key e f = record {
 }
 
 -- a line of the main input is taken
-pub line_taken : {W : Type 0} {follows : W → List Call → W → Type 0} {has_stopped : W → Bool} {stops : W → List Call → Ask → W → Type 0} (g : Given) (k : Kept) (old new : Table) (text : Text) (w : W) → IsMainLine k old text new →
-    Performs follows has_stopped stops g (Do Take) give (k, old) w (Ok (v.Input text)) (k, new) w
-line_taken {follows = follows} {has_stopped = has_stopped} {stops = stops} g k old new text w x =
-    let read : Performs follows has_stopped stops g (Do Take) (found_main x.key) (k, old) w (Ok (found.Record text)) (k, new) w =
+pub line_taken : {W : Type 0} {ghosts : Ghosts W} (g : Given) (k : Kept) (old new : Table) (text : Text) (w : W) → IsMainLine k old text new →
+    Performs ghosts g (Do Take) give (k, old) w (Ok (v.Input text)) (k, new) w
+line_taken {ghosts = ghosts} g k old new text w x =
+    let read : Performs ghosts g (Do Take) (found_main x.key) (k, old) w (Ok (found.Record text)) (k, new) w =
     lifted_at g k (λ row cells sound.
     let s = apart g k row in
-    gives (Led follows has_stopped) (Ended follows stops) g s nowhere x.key (kept.own_text k own.Rs) (apart-text g k row cells sound own.Rs) old new x.line.before x.line.live (takes_so g s x.key x.going x.current) (at_once _ old w) (found.Record text) x.line.first) in
+    gives ghosts g s nowhere x.key (kept.own_text k own.Rs) (apart-text g k row cells sound own.Rs) old new x.line.before x.line.live (takes_so g s x.key x.going x.current) (at_once _ old w) (found.Record text) x.line.first) in
     finished (part (found.Record text) (at_once _ (k, old) w) read refl)
 
 -- ---- a message
 
-module _ {W : Type 0} {follows : W → List Call → W → Type 0} {has_stopped : W → Bool} {stops : W → List Call → Ask → W → Type 0} (open_numbers : W → List ℕ)
-    (laws : Laws (Led follows has_stopped) (Ended follows stops)) (opens : (v w : W) (cs : List Call) → follows v cs w → open_numbers w ≡ open_after cs (open_numbers v)) (g : Given) (what name text : Text) (is : text ≡ message what name) (old : Kept) (t : Table) where
-  pub reports : (r : Reply) (w w' : W) (new : Kept) → new ≡ with_main (record old.main { failed = true }) old → Answered follows has_stopped (open_numbers w) (record { place = nowhere; given = false; request = request.Put 2 text }) w r w' →
-      Meets (Led follows has_stopped) (Ended follows stops) (base g) (Agreeing g) used g (Do (Report what name)) goes_on (old, t) w (Ok (tt {0})) (new, t) w'
+module _ {W : Type 0} {ghosts : Ghosts W} (laws : Laws ghosts) (g : Given) (what name text : Text) (is : text ≡ message what name) (old : Kept) (t : Table) where
+  pub reports : (r : Reply) (w w' : W) (new : Kept) → new ≡ with_main (record old.main { failed = true }) old → Answered ghosts (record { place = nowhere; given = false; request = request.Put 2 text }) w r w' →
+      Meets ghosts (base g) (Agreeing g) used g (Do (Report what name)) goes_on (old, t) w (Ok (tt {0})) (new, t) w'
   reports r w w' new same x =
-      let y : Answered follows has_stopped (open_numbers w) (record { place = nowhere; given = false; request = request.Put 2 (message what name) }) w r w' =
-      subst (λ z. Answered follows has_stopped (open_numbers w) (record { place = nowhere; given = false; request = request.Put 2 z }) w r w') is x in
-      subst (λ (z : Kept). Meets (Led follows has_stopped) (Ended follows stops) (base g) (Agreeing g) used g (Do (Report what name)) goes_on (old, t) w (Ok (tt {0})) (z, t) w') (sym same)
+      let y : Answered ghosts (record { place = nowhere; given = false; request = request.Put 2 (message what name) }) w r w' =
+      subst (λ z. Answered ghosts (record { place = nowhere; given = false; request = request.Put 2 z }) w r w') is x in
+      subst (λ (z : Kept). Meets ghosts (base g) (Agreeing g) used g (Do (Report what name)) goes_on (old, t) w (Ok (tt {0})) (z, t) w') (sym same)
       (finished (asked {then_ = λ k r. k} (want nowhere (Writes (Standard 2) (message what name))) (record { place = nowhere; given = false; request = request.Put 2 (message what name) }) r laws refl (at_once _ (old, t) w)
       (λ first k hid c led a. (
         hid,
         refl,
-        fits_here open_numbers laws opens first w (calls c.events) (request.Put 2 (message what name)) r led y.fits,
+        fits_here laws first w (calls c.events) (request.Put 2 (message what name)) r led y.fits,
         refl,
         record { tells = tells_written t hid.taken c nowhere (Standard 2) (message what name) r a.tells; row = a.row; cells = a.cells; sound = a.sound },
       ))
       y.call))
 
-  pub report_refused : {A : Type 0} {on : A → List Piece → List Piece} (h : Halt) (w w' : W) → Refused follows has_stopped stops (record { place = nowhere; given = false; request = request.Put 2 text }) w h w' →
-      Meets (Led follows has_stopped) (Ended follows stops) (base g) (Agreeing g) used g (Do (Report what name)) on (old, t) w (Err h) (old, t) w'
+  pub report_refused : {A : Type 0} {on : A → List Piece → List Piece} (h : Halt) (w w' : W) → Refused ghosts (record { place = nowhere; given = false; request = request.Put 2 text }) w h w' →
+      Meets ghosts (base g) (Agreeing g) used g (Do (Report what name)) on (old, t) w (Err h) (old, t) w'
   report_refused {A} {on} h w w' x =
-      let y : Refused follows has_stopped stops (record { place = nowhere; given = false; request = request.Put 2 (message what name) }) w h w' =
-      subst (λ z. Refused follows has_stopped stops (record { place = nowhere; given = false; request = request.Put 2 z }) w h w') is x in
-      subst (λ (q : Halt). Meets (Led follows has_stopped) (Ended follows stops) (base g) (Agreeing g) used g (Do (Report what name)) on (old, t) w (Err q) (old, t) w') (sym y.is)
+      let y : Refused ghosts (record { place = nowhere; given = false; request = request.Put 2 (message what name) }) w h w' =
+      subst (λ z. Refused ghosts (record { place = nowhere; given = false; request = request.Put 2 z }) w h w') is x in
+      subst (λ (q : Halt). Meets ghosts (base g) (Agreeing g) used g (Do (Report what name)) on (old, t) w (Err q) (old, t) w') (sym y.is)
       (unanswered {then_ = λ k r. k} (want nowhere (Writes (Standard 2) (message what name))) (record { place = nowhere; given = false; request = request.Put 2 (message what name) }) y.by laws (at_once _ (old, t) w)
       (λ k hid c a. (seen (base g (with_main (record old.main { failed = true }) old, t) hid) c, refl, refl))
       y.memory y.log)
 
 -- what is halted is halted whatever was to come
-pub halts_whole : {W A B : Type 0} {F : W → List Call → W → Type 0} {E : W → List Call → Ask → W → Type 0} {last : B → List Piece → List Piece} {on : A → List Piece → List Piece} (g : Given) (p : Piece) (old new : Whole) (w w' : W) (h : Halt) →
-    Meets F E (base g) (Agreeing g) used g p on old w (Err h) new w' → Meets F E (base g) (Agreeing g) used g p last old w (Err h) new w'
+pub halts_whole : {W A B : Type 0} {ghosts : Ghosts W} {last : B → List Piece → List Piece} {on : A → List Piece → List Piece} (g : Given) (p : Piece) (old new : Whole) (w w' : W) (h : Halt) →
+    Meets ghosts (base g) (Agreeing g) used g p on old w (Err h) new w' → Meets ghosts (base g) (Agreeing g) used g p last old w (Err h) new w'
 halts_whole g p old new w w' h x = record { plays = λ first k hid c a. x.plays first k hid c a }
 
 -- ---- getline from the main input, and the records that the rules meet
 
 module _ (g : Given) (r : p.Reference) (spot : Spot) (place : _) where
-  pub main_first : {W : Type 0} {F : W → List Call → W → Type 0} {E : W → List Call → Ask → W → Type 0} (old : Whole) (w : W) →
-      Leads F E (base g) (Agreeing g) used g (At (Value_of (p.getline place r)) (value_of spot ∷ [])) old w (λ k. Do Take ∷ At (Value_of (p.getline place r)) (value_of spot ∷ []) ∷ k) old w
+  pub main_first : {W : Type 0} {ghosts : Ghosts W} (old : Whole) (w : W) →
+      Leads ghosts (base g) (Agreeing g) used g (At (Value_of (p.getline place r)) (value_of spot ∷ [])) old w (λ k. Do Take ∷ At (Value_of (p.getline place r)) (value_of spot ∷ []) ∷ k) old w
   main_first old w = quiet (at_once _ old w) (λ k hid c. refl)
 
   pub main_got : (x : Value) → IsSpotOf (names_in g) r spot → IsGot g (At (Value_of (p.getline place r)) (x ∷ value_of spot ∷ [])) place (meant (names_in g) spot) main_counters x (λ k. k)
@@ -193,7 +192,7 @@ pub record_first : (g : Given) (text : Text) (vs : List Value) (old : Whole) →
     Passes g (At Records (v.Input text ∷ vs)) old (λ k. Do (Set (machine.Field 0) nowhere (v.Input text)) ∷ counting nowhere main_counters (Do Step ∷ Do (machine.Rules 0 g.program.rules) ∷ At Records [] ∷ k)) old
 record_first g text vs old = moves (at_rest _ old) (λ k hid c a. refl)
 
-pub records_first : {W : Type 0} {F : W → List Call → W → Type 0} {E : W → List Call → Ask → W → Type 0} (g : Given) (old : Whole) (w : W) → Leads F E (base g) (Agreeing g) used g (At Records []) old w (λ k. Do Take ∷ At Records [] ∷ k) old w
+pub records_first : {W : Type 0} {ghosts : Ghosts W} (g : Given) (old : Whole) (w : W) → Leads ghosts (base g) (Agreeing g) used g (At Records []) old w (λ k. Do Take ∷ At Records [] ∷ k) old w
 records_first g old w = quiet (at_once _ old w) (λ k hid c. refl)
 
 -- where no record is left, the rules are done with
@@ -203,42 +202,42 @@ no_record g v.Unset vs old f = moves (at_rest _ old) (λ k hid c a. refl)
 no_record g (v.Num n) vs old f = moves (at_rest _ old) (λ k hid c a. refl)
 no_record g (v.Text text) vs old f = moves (at_rest _ old) (λ k hid c a. refl)
 
-pub no_record_meets : {W : Type 0} {F : W → List Call → W → Type 0} {E : W → List Call → Ask → W → Type 0} (g : Given) (x : Value) (old : Whole) (w : W) → ((text : Text) → x ≡ v.Input text → ⊥) →
-    Meets F E (base g) (Agreeing g) used g (At Records (x ∷ [])) (meeting g) old w (Ok false) old w
+pub no_record_meets : {W : Type 0} {ghosts : Ghosts W} (g : Given) (x : Value) (old : Whole) (w : W) → ((text : Text) → x ≡ v.Input text → ⊥) →
+    Meets ghosts (base g) (Agreeing g) used g (At Records (x ∷ [])) (meeting g) old w (Ok false) old w
 no_record_meets g x old w f = acted (done (no_record g x [] old f))
 
 -- ---- in the midst of records
 
 -- a task of the store halts wherever it stands
-anywhere : {W : Type 0} (F : W → List Call → W → Type 0) (E : W → List Call → Ask → W → Type 0) (g : Given) (mid new : Whole) (w : W) (h : Halt) (first : W) (from k l : List Piece) (s : State) (c d : Course) (here : Hidden) →
-    HaltsSo g from mid here d new h → Halted F E (base g) (Agreeing g) used g first from s c k new w h → Halted F E (base g) (Agreeing g) used g first from s c l new w h
-anywhere F E g mid new w (halt.Fault fault place) first from k l s c d here x y = y
-anywhere F E g mid new w halt.Cut first from k l s c d here x y = y
-anywhere F E g mid new w halt.Next first from k l s c d here x y = absurd x
-anywhere F E g mid new w halt.Exit first from k l s c d here x y = y
-anywhere F E g mid new w halt.Memory first from k l s c d here x y = y
-anywhere F E g mid new w (halt.Log place) first from k l s c d here x y = y
+anywhere : {W : Type 0} (ghosts : Ghosts W) (g : Given) (mid new : Whole) (w : W) (h : Halt) (first : W) (from k l : List Piece) (s : State) (c d : Course) (here : Hidden) →
+    HaltsSo g from mid here d new h → Halted ghosts (base g) (Agreeing g) used g first from s c k new w h → Halted ghosts (base g) (Agreeing g) used g first from s c l new w h
+anywhere ghosts g mid new w (halt.Fault fault place) first from k l s c d here x y = y
+anywhere ghosts g mid new w halt.Cut first from k l s c d here x y = y
+anywhere ghosts g mid new w halt.Next first from k l s c d here x y = absurd x
+anywhere ghosts g mid new w halt.Exit first from k l s c d here x y = y
+anywhere ghosts g mid new w halt.Memory first from k l s c d here x y = y
+anywhere ghosts g mid new w (halt.Log place) first from k l s c d here x y = y
 
-module _ {W : Type 0} {follows : W → List Call → W → Type 0} {has_stopped : W → Bool} {stops : W → List Call → Ask → W → Type 0} {g : Given} {p : Piece} {rest : List Piece → List Piece} {old new : Whole} {w w' : W} where
-  pub done_in : {A : Type 0} {to : A → List Piece → List Piece} {x : A} → LeadsOn follows has_stopped stops g p old w (λ k. to x k) new w' → PerformsIn follows has_stopped stops g p to rest old w (Ok x) new w'
+module _ {W : Type 0} {ghosts : Ghosts W} {g : Given} {p : Piece} {rest : List Piece → List Piece} {old new : Whole} {w w' : W} where
+  pub done_in : {A : Type 0} {to : A → List Piece → List Piece} {x : A} → LeadsOn ghosts g p old w (λ k. to x k) new w' → PerformsIn ghosts g p to rest old w (Ok x) new w'
   done_in h = record { plays = λ first k hid c a. h.plays first k hid c a }
 
   module _ {mid : Whole} where
     pub stop_in : {A B : Type 0} {to : A → List Piece → List Piece} {on : B → List Piece → List Piece} {q : Piece} {r : Result B Halt} {w'' : W} (x : Halt) →
-        LeadsOn follows has_stopped stops g p old w (λ k. q ∷ rest k) mid w' → Performs follows has_stopped stops g q on mid w' r new w'' → r ≡ Err x → PerformsIn follows has_stopped stops g p to rest old w (Err x) new w''
+        LeadsOn ghosts g p old w (λ k. q ∷ rest k) mid w' → Performs ghosts g q on mid w' r new w'' → r ≡ Err x → PerformsIn ghosts g p to rest old w (Err x) new w''
     stop_in {q = q} {w'' = w''} x h m e = record {
       plays = λ first k hid c a. let y = h.plays first k hid c a in
-          let z : Halted (Led follows has_stopped) (Ended follows stops) (base g) (Agreeing g) used g first (q ∷ rest k) (seen (base g mid y.hidden) y.course) y.course (rest k) new w'' x = rw e at (m.plays first (rest k) y.hidden y.course y.knows) in
-          halted-after (Led follows has_stopped) (Ended follows stops) (base g) (Agreeing g) used g x first (p ∷ k) (q ∷ rest k) (rest k) (rest k) (seen (base g old hid) c) (seen (base g mid y.hidden) y.course) c y.course new w'' y.chain refl z;
+          let z : Halted ghosts (base g) (Agreeing g) used g first (q ∷ rest k) (seen (base g mid y.hidden) y.course) y.course (rest k) new w'' x = rw e at (m.plays first (rest k) y.hidden y.course y.knows) in
+          halted-after ghosts (base g) (Agreeing g) used g x first (p ∷ k) (q ∷ rest k) (rest k) (rest k) (seen (base g old hid) c) (seen (base g mid y.hidden) y.course) c y.course new w'' y.chain refl z;
     }
 
     pub stop_acts : {A B : Type 0} {to : A → List Piece → List Piece} {on : B → List Piece → List Piece} {q : Piece} {r : Result B Halt} (x : Halt) →
-        LeadsOn follows has_stopped stops g p old w (λ k. q ∷ k) mid w' → Acts g q on mid r new → r ≡ Err x → PerformsIn follows has_stopped stops g p to rest old w (Err x) new w'
+        LeadsOn ghosts g p old w (λ k. q ∷ k) mid w' → Acts g q on mid r new → r ≡ Err x → PerformsIn ghosts g p to rest old w (Err x) new w'
     stop_acts {on = on} {q = q} {r = r} x h m e = record {
       plays = λ first k hid c a. let y = h.plays first k hid c a in
           let u : HaltsSo g (q ∷ k) mid y.hidden y.course new x = rw e at (m.settles k y.hidden y.course y.knows.agrees) in
-          let t : Performs follows has_stopped stops g q on mid w' r new w' = acted m in
-          let z : Halted (Led follows has_stopped) (Ended follows stops) (base g) (Agreeing g) used g first (q ∷ k) (seen (base g mid y.hidden) y.course) y.course k new w' x = rw e at (t.plays first k y.hidden y.course y.knows) in
-          let v = anywhere (Led follows has_stopped) (Ended follows stops) g mid new w' x first (q ∷ k) k (rest k) (seen (base g mid y.hidden) y.course) y.course y.course y.hidden u z in
-          halted-after (Led follows has_stopped) (Ended follows stops) (base g) (Agreeing g) used g x first (p ∷ k) (q ∷ k) (rest k) (rest k) (seen (base g old hid) c) (seen (base g mid y.hidden) y.course) c y.course new w' y.chain refl v;
+          let t : Performs ghosts g q on mid w' r new w' = acted m in
+          let z : Halted ghosts (base g) (Agreeing g) used g first (q ∷ k) (seen (base g mid y.hidden) y.course) y.course k new w' x = rw e at (t.plays first k y.hidden y.course y.knows) in
+          let v = anywhere ghosts g mid new w' x first (q ∷ k) k (rest k) (seen (base g mid y.hidden) y.course) y.course y.course y.hidden u z in
+          halted-after ghosts (base g) (Agreeing g) used g x first (p ∷ k) (q ∷ k) (rest k) (rest k) (seen (base g old hid) c) (seen (base g mid y.hidden) y.course) c y.course new w' y.chain refl v;
     }

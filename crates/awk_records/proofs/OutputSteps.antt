@@ -1,9 +1,9 @@
 -- A text is put to a stream that the script names.
 use Rattle.std.proofs.Common.{◌≡◌, inr, refl, arith, ℕ, List, ◌∷◌}
-use Rattle.std.specs.Prelude.{Result, Ok, Err, Some, Bool}
-use Rattle.box_world.specs.Calls.{Call, IsStream}
-use Rattle.box_world.specs.declared.ask.Ask.{Ask}
+use Rattle.std.specs.Prelude.{Result, Ok, Err, Some}
+use Rattle.box_world.specs.Calls.{IsStream}
 use Rattle.box_world.specs.Events.{Class, find_stream}
+use Rattle.box_world.specs.declared.world.World.{Ghosts}
 use Rattle.awk_machine.specs.Pieces.{Piece}
 use Rattle.awk_machine.specs.State.{Given}
 use Rattle.awk_program.specs.Slots.{Text}
@@ -24,7 +24,7 @@ open_duty numbers c t n table h owns =
     inr (among_all n numbers (omega (arith, one, all)))
 
 -- a last piece, behind whatever was done
-pub onward_last : {W A : Type 0} {follows : W → List Call → W → Type 0} {has_stopped : W → Bool} {stops : W → List Call → Ask → W → Type 0} (g : Given) (p q : Piece) (old mid new : Whole) (w w' w'' : W) (r : Result A Halt) →
-    LeadsOn follows has_stopped stops g p old w (λ l. q ∷ l) mid w' → Performs follows has_stopped stops g q goes_on mid w' r new w'' → Onward follows has_stopped stops g p old w (λ l. l) r new w''
+pub onward_last : {W A : Type 0} {ghosts : Ghosts W} (g : Given) (p q : Piece) (old mid new : Whole) (w w' w'' : W) (r : Result A Halt) →
+    LeadsOn ghosts g p old w (λ l. q ∷ l) mid w' → Performs ghosts g q goes_on mid w' r new w'' → Onward ghosts g p old w (λ l. l) r new w''
 onward_last g p q old mid new w w' w'' (Ok x) lead task = part x lead task refl
 onward_last g p q old mid new w w' w'' (Err h) lead task = stop h (λ k. refl) lead task refl

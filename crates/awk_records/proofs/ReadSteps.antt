@@ -1,13 +1,12 @@
 -- A record is read of a file, or of a command.
-use Rattle.std.proofs.Common.{◌≡◌, refl, ap, ◌∙◌, Bool, true, false, List, [], ◌∷◌}
+use Rattle.std.proofs.Common.{◌≡◌, refl, ap, ◌∙◌, true, false, List, [], ◌∷◌}
 use Rattle.std.specs.Prelude.{Result, Ok, Err, codes, if◌then◌else◌}
 use Rattle.std.specs.Str.{bytes_eq}
 use Rattle.awk_text.specs.declared.place.Place.{Place}
 use Rattle.awk_text.specs.declared.value.Value.{Value}
 use Rattle.awk_text.specs.Values.{text_of}
-use Rattle.box_world.specs.Calls.{Call}
-use Rattle.box_world.specs.declared.ask.Ask.{Ask}
 use Rattle.box_world.specs.Events.{InputFile, InputCommand, Key, Standard, Named}
+use Rattle.box_world.specs.declared.world.World.{Ghosts}
 use Rattle.awk_program.specs.Program as p
 use Rattle.awk_program.specs.Program.{Expression, Pipes}
 use Rattle.awk_program.specs.Slots.{Text}
@@ -32,17 +31,17 @@ standard_file place text k e = ap (λ z. if z then Do (Read place (Standard 0)) 
 pub named_file : (place : Place) (text : Text) (k : List Piece) → bytes_eq text (codes "-") ≡ false → fetch_file place text k ≡ Do (fetching place (Named InputFile text)) ∷ k
 named_file place text k e = ap (λ z. if z then Do (Read place (Standard 0)) ∷ k else Do (Fetch place InputFile text) ∷ k) e
 
-module _ {W : Type 0} {F : W → List Call → W → Type 0} {E : W → List Call → Ask → W → Type 0} (g : Given) (place : Place) (r : p.Reference) (target : Value) (name : Value) (text : Text) (old : Whole) (w : W) (named : text_of name ≡ text) where
+module _ {W : Type 0} {ghosts : Ghosts W} (g : Given) (place : Place) (r : p.Reference) (target : Value) (name : Value) (text : Text) (old : Whole) (w : W) (named : text_of name ≡ text) where
   -- the machine comes to the reading of a file
   pub file_first : (x : Expression) (key : Key) → ((place : Place) (k : List Piece) → fetch_file place text k ≡ Do (fetching place key) ∷ k) →
-      Leads F E (base g) (Agreeing g) used g (At (Value_of (p.getline_file place r x)) (name ∷ target ∷ [])) old w
+      Leads ghosts (base g) (Agreeing g) used g (At (Value_of (p.getline_file place r x)) (name ∷ target ∷ [])) old w
       (λ k. Do (fetching place key) ∷ At (Value_of (p.getline_file place r x)) (name ∷ target ∷ []) ∷ k) old w
   file_first x key is = quiet (at_once _ old w) (λ k hid c.
       ap (λ t. Goes (fetch_file place t (At (Value_of (p.getline_file place r x)) (name ∷ target ∷ []) ∷ k)) (seen (base g old hid) c)) named
       ∙ ap (λ l. Goes l (seen (base g old hid) c)) (is place (At (Value_of (p.getline_file place r x)) (name ∷ target ∷ []) ∷ k)))
 
   -- or of a command
-  pub pipe_first : (xs : Pipes) → Leads F E (base g) (Agreeing g) used g (At (Pipes_of (p.piped place r xs)) (target ∷ name ∷ [])) old w
+  pub pipe_first : (xs : Pipes) → Leads ghosts (base g) (Agreeing g) used g (At (Pipes_of (p.piped place r xs)) (target ∷ name ∷ [])) old w
       (λ k. Do (Fetch place InputCommand text) ∷ At (Pipes_of (p.piped place r xs)) (target ∷ name ∷ []) ∷ k) old w
   pipe_first xs = quiet (at_once _ old w) (λ k hid c. ap (λ t. Goes (Do (Fetch place InputCommand t) ∷ At (Pipes_of (p.piped place r xs)) (target ∷ name ∷ []) ∷ k) (seen (base g old hid) c)) named)
 
@@ -54,17 +53,17 @@ module _ (g : Given) (place : Place) (r : p.Reference) (spot : Spot) (name x : V
   pipe_got xs k s = ap (λ z. got place z (codes "NR" ∷ []) x (At (Pipes_of xs) [] ∷ k) s) is
 
 -- a record was read of a file, or something came in its place; or the reading is halted
-module _ {W : Type 0} {follows : W → List Call → W → Type 0} {has_stopped : W → Bool} {stops : W → List Call → Ask → W → Type 0} (g : Given) (place : Place) (r : p.Reference) (x : Expression) (name target : Value) (key : Key)
+module _ {W : Type 0} {ghosts : Ghosts W} (g : Given) (place : Place) (r : p.Reference) (x : Expression) (name target : Value) (key : Key)
     (is : (place : Place) (k : List Piece) → fetch_file place (text_of name) k ≡ Do (fetching place key) ∷ k) (old new : Whole) (w w' : W) where
-  pub file_read : (answer : Result Value Halt) → Performs follows has_stopped stops g (Do (fetching place key)) give old w answer new w' →
-      Performs follows has_stopped stops g (At (Value_of (p.getline_file place r x)) (name ∷ target ∷ [])) (read_of place r x name target) old w answer new w'
+  pub file_read : (answer : Result Value Halt) → Performs ghosts g (Do (fetching place key)) give old w answer new w' →
+      Performs ghosts g (At (Value_of (p.getline_file place r x)) (name ∷ target ∷ [])) (read_of place r x name target) old w answer new w'
   file_read (Ok y) task = done (part y (file_first g place r target name (text_of name) old w refl x key is) task refl)
   file_read (Err h) task = stop h (λ k. refl) (file_first g place r target name (text_of name) old w refl x key is) task refl
 
 -- the same of a command
-module _ {W : Type 0} {follows : W → List Call → W → Type 0} {has_stopped : W → Bool} {stops : W → List Call → Ask → W → Type 0} (g : Given) (place : Place) (r : p.Reference) (xs : Pipes) (name target : Value)
+module _ {W : Type 0} {ghosts : Ghosts W} (g : Given) (place : Place) (r : p.Reference) (xs : Pipes) (name target : Value)
     (old new : Whole) (w w' : W) where
-  pub command_read : (answer : Result Value Halt) → Performs follows has_stopped stops g (Do (fetching place (Named InputCommand (text_of name)))) give old w answer new w' →
-      Performs follows has_stopped stops g (At (Pipes_of (p.piped place r xs)) (target ∷ name ∷ [])) (piped_of place r xs name target) old w answer new w'
+  pub command_read : (answer : Result Value Halt) → Performs ghosts g (Do (fetching place (Named InputCommand (text_of name)))) give old w answer new w' →
+      Performs ghosts g (At (Pipes_of (p.piped place r xs)) (target ∷ name ∷ [])) (piped_of place r xs name target) old w answer new w'
   command_read (Ok y) task = done (part y (pipe_first g place r target name (text_of name) old w refl xs) task refl)
   command_read (Err h) task = stop h (λ k. refl) (pipe_first g place r target name (text_of name) old w refl xs) task refl

@@ -3,9 +3,8 @@ use Rattle.std.specs.Prelude.{◌≡◌, Bool, true, false, if◌then◌else◌,
 use Rattle.awk_text.specs.Quoted.{quoted}
 use Rattle.awk_text.specs.declared.value.Value.{Value}
 use Rattle.awk_text.specs.declared.value.Value.TheVariants as v
-use Rattle.box_world.specs.Calls.{Call}
-use Rattle.box_world.specs.declared.ask.Ask.{Ask}
 use Rattle.box_world.specs.Events.{Key, Standard}
+use Rattle.box_world.specs.declared.world.World.{Ghosts}
 use Rattle.awk_program.specs.Slots.{Text}
 use Rattle.awk_program.specs.declared.variables.Own.TheVariants as own
 use Rattle.awk_machine.specs.MainInput.{own_name}
@@ -74,6 +73,6 @@ abbrev pub at_records : List Piece → List Piece
 at_records k = At Records [] ∷ k
 
 -- behind whatever was done the machine leads on, or the whole is halted
-abbrev pub Onward : {W A : Type 0} → (W → List Call → W → Type 0) → (W → Bool) → (W → List Call → Ask → W → Type 0) → Given → Piece → Whole → W → (List Piece → List Piece) → Result A Halt → Whole → W → Type 0
-Onward follows has_stopped stops g p old w to (Ok x) new w' = LeadsOn follows has_stopped stops g p old w to new w'
-Onward follows has_stopped stops g p old w to (Err h) new w' = Performs follows has_stopped stops g p (goes_on {A = Unit {0}}) old w (Err h) new w'
+abbrev pub Onward : {W A : Type 0} → Ghosts W → Given → Piece → Whole → W → (List Piece → List Piece) → Result A Halt → Whole → W → Type 0
+Onward ghosts g p old w to (Ok x) new w' = LeadsOn ghosts g p old w to new w'
+Onward ghosts g p old w to (Err h) new w' = Performs ghosts g p (goes_on {A = Unit {0}}) old w (Err h) new w'

@@ -96,7 +96,7 @@ pub fn assign<W: World>(
 ) -> Result<(), Halt>
     requires { can_set host.now name.now ≡ true }
     ensures task { (g : Given) → IsHost host.now g → (t : Table) (p : Piece) (old : Whole) → Moves g p old (assignment g operand.now name.now text.now) (store.old, t)
-        → Performs W.follows W.has_stopped W.stops g p goes_on old world.old result (store.new, t) world.new }
+        → Performs W.World g p goes_on old world.old result (store.new, t) world.new }
     ensures numbers { W.open_numbers world.new ≡ W.open_numbers world.old }
 {
     let Ok(sent) = copy_all(alloc, name, text) else {

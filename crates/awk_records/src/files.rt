@@ -60,7 +60,7 @@ fn open_file<W: World>(
 ) -> Result<bool, Halt>
     requires { Owns (W.open_numbers world.old) streams.old }
     ensures task { (g : Given) → IsHost host.now g → (k : Kept) (p : Piece) (old : Whole) → Moves g p old (opening_of g text.now) (k, streams.old)
-        → Performs W.follows W.has_stopped W.stops g p (begun_or text.now) old world.old result (k, streams.new) world.new }
+        → Performs W.World g p (begun_or text.now) old world.old result (k, streams.new) world.new }
     ensures owns { Owns (W.open_numbers world.new) streams.new }
 {
     let name = Name {
@@ -87,12 +87,10 @@ fn begin_named<W: World>(
 ) -> Result<(), Halt>
     requires { Owns (W.open_numbers world.old) streams.old }
     ensures task { (g : Given) → IsHost host.now g → (p : Piece) (old : Whole) → Moves g p old (opening_of g text) (store.old, streams.old)
-        → Performs W.follows W.has_stopped W.stops g p goes_on old world.old result (store.new, streams.new) world.new }
+        → Performs W.World g p goes_on old world.old result (store.new, streams.new) world.new }
     ensures owns { Owns (W.open_numbers world.new) streams.new }
 {
-    let Ok(copy) = text.copy(alloc) else {
-        return Err(Halt::Memory);
-    };
+    let copy = text.copy(alloc)?;
     let is_open = open_file(alloc, host, text.bytes(), streams, world)?;
     if is_open {
         begin(store, Source::Operand(copy), text);
@@ -112,7 +110,7 @@ pub fn begin_input<W: World>(
 ) -> Result<(), Halt>
     requires { Owns (W.open_numbers world.old) streams.old }
     ensures task { (g : Given) → IsHost host.now g → (p : Piece) (old : Whole) → Moves g p old (file g text) (store.old, streams.old)
-        → Performs W.follows W.has_stopped W.stops g p goes_on old world.old result (store.new, streams.new) world.new }
+        → Performs W.World g p goes_on old world.old result (store.new, streams.new) world.new }
     ensures owns { Owns (W.open_numbers world.new) streams.new }
 {
     if text.bytes() == b"-".as_slice() {
@@ -129,7 +127,7 @@ pub fn begin_input<W: World>(
 fn read_file<W: World>(store: &Store, streams: &mut Streams, world: &mut W) -> Result<Found, Halt>
     requires { Owns (W.open_numbers world.old) streams.old }
     ensures task { (g : Given) → store.now.main.ended ≡ false
-        → Performs W.follows W.has_stopped W.stops g (Do Take) (found_main (current_key store.now)) (store.now, streams.old) world.old result (store.now, streams.new) world.new }
+        → Performs W.World g (Do Take) (found_main (current_key store.now)) (store.now, streams.old) world.old result (store.now, streams.new) world.new }
     ensures current { OnOk result ((text : Text) × (store.now.main.current ≡ Some (Named event.OperandFile text))) }
     ensures owns { Owns (W.open_numbers world.new) streams.new }
 {
@@ -155,8 +153,8 @@ fn read_file<W: World>(store: &Store, streams: &mut Streams, world: &mut W) -> R
 fn pass_file<W: World>(store: &mut Store, streams: &mut Streams, world: &mut W) -> Result<(), Halt>
     requires { Owns (W.open_numbers world.old) streams.old }
     ensures task { (g : Given) (text : Text) → store.old.main.current ≡ Some (Named event.OperandFile text) → (t : Table) → IsBut event.OperandFile text t streams.old
-        → (p : Piece) (old : Whole) (w : W) → LeadsOn W.follows W.has_stopped W.stops g p old w (λ k. Do (Past (Named event.OperandFile text)) ∷ Do Take ∷ k) (store.old, t) world.old
-        → Onward W.follows W.has_stopped W.stops g p old w (λ k. Do Take ∷ k) result (store.new, streams.new) world.new }
+        → (p : Piece) (old : Whole) (w : W) → LeadsOn W.World g p old w (λ k. Do (Past (Named event.OperandFile text)) ∷ Do Take ∷ k) (store.old, t) world.old
+        → Onward W.World g p old w (λ k. Do Take ∷ k) result (store.new, streams.new) world.new }
     ensures owns { Owns (W.open_numbers world.new) streams.new }
 {
     let Some(text) = take_out(store) else {
@@ -194,13 +192,11 @@ fn give_up_file<W: World>(
 ) -> Result<(), Halt>
     requires { Owns (W.open_numbers world.old) streams.old }
     ensures task { (g : Given) (text : Text) → store.old.main.current ≡ Some (Named event.OperandFile text)
-        → (p : Piece) (old : Whole) (w : W) → LeadsOn W.follows W.has_stopped W.stops g p old w (found_main (Named event.OperandFile text) Found.Failed) (store.old, streams.old) world.old
-        → Onward W.follows W.has_stopped W.stops g p old w (λ k. Do Take ∷ k) result (store.new, streams.new) world.new }
+        → (p : Piece) (old : Whole) (w : W) → LeadsOn W.World g p old w (found_main (Named event.OperandFile text) Found.Failed) (store.old, streams.old) world.old
+        → Onward W.World g p old w (λ k. Do Take ∷ k) result (store.new, streams.new) world.new }
     ensures owns { Owns (W.open_numbers world.new) streams.new }
 {
-    let Ok(text) = current_text(alloc, store.main()) else {
-        return Err(Halt::Memory);
-    };
+    let text = current_text(alloc, store.main())?;
     report(alloc, b"read".as_slice(), text.bytes(), store, world)?;
     pass_file(store, streams, world)
 }
@@ -214,7 +210,7 @@ pub fn take_file<W: World>(
 ) -> Result<Option<Value>, Halt>
     requires { Owns (W.open_numbers world.old) streams.old }
     ensures task { (g : Given) → store.old.main.ended ≡ false
-        → Performs W.follows W.has_stopped W.stops g (Do Take) taken (store.old, streams.old) world.old result (store.new, streams.new) world.new }
+        → Performs W.World g (Do Take) taken (store.old, streams.old) world.old result (store.new, streams.new) world.new }
     ensures owns { Owns (W.open_numbers world.new) streams.new }
 {
     match read_file(store, streams, world)? {

@@ -54,7 +54,7 @@ fn fetch_record<W: World>(
     world: &mut W,
 ) -> Result<Value, Halt>
     requires { Owns (W.open_numbers world.old) streams.old }
-    ensures task { (g : Given) → Performs W.follows W.has_stopped W.stops g (Do (fetching place (key_of source.now))) give (store.now, streams.old) world.old result (store.now, streams.new) world.new }
+    ensures task { (g : Given) → Performs W.World g (Do (fetching place (key_of source.now))) give (store.now, streams.old) world.old result (store.now, streams.new) world.new }
     ensures owns { Owns (W.open_numbers world.new) streams.new }
 {
     let mut buffer = Buffer::new();
@@ -74,7 +74,7 @@ pub fn file_record<W: World>(
 ) -> Result<Value, Halt>
     requires { Owns (W.open_numbers world.old) streams.old }
     ensures task { (g : Given) (r : p.Reference) (x : Expression) (target : Value)
-        → Performs W.follows W.has_stopped W.stops g (At (Value_of (p.getline_file place r x)) (lent_value name.entry ∷ target ∷ [])) (read_of place r x (lent_value name.entry) target) (store.now, streams.old) world.old result (store.now, streams.new) world.new }
+        → Performs W.World g (At (Value_of (p.getline_file place r x)) (lent_value name.entry ∷ target ∷ [])) (read_of place r x (lent_value name.entry) target) (store.now, streams.old) world.old result (store.now, streams.new) world.new }
     ensures owns { Owns (W.open_numbers world.new) streams.new }
 {
     let mut buffer = Buffer::new();
@@ -119,7 +119,7 @@ pub fn command_record<W: World>(
 ) -> Result<Value, Halt>
     requires { Owns (W.open_numbers world.old) streams.old }
     ensures task { (g : Given) (r : p.Reference) (xs : Pipes) (target : Value)
-        → Performs W.follows W.has_stopped W.stops g (At (Pipes_of (p.piped place r xs)) (target ∷ lent_value command.entry ∷ [])) (piped_of place r xs (lent_value command.entry) target) (store.now, streams.old) world.old result (store.now, streams.new) world.new }
+        → Performs W.World g (At (Pipes_of (p.piped place r xs)) (target ∷ lent_value command.entry ∷ [])) (piped_of place r xs (lent_value command.entry) target) (store.now, streams.old) world.old result (store.now, streams.new) world.new }
     ensures owns { Owns (W.open_numbers world.new) streams.new }
 {
     let mut buffer = Buffer::new();
@@ -160,7 +160,7 @@ pub fn getline_pipe<W: World>(
 ) -> Result<Value, Halt>
     requires { Owns (W.open_numbers world.old) streams.old }
     ensures task { (g : Given) (r : p.Reference) (xs : Pipes) → IsSpotOf (names_in g) r target
-        → Performs W.follows W.has_stopped W.stops g (At (Pipes_of (p.piped place r xs)) (value_of target ∷ lent_value command.entry ∷ [])) (λ v k. give v (At (Pipes_of xs) [] ∷ k)) (store.old, streams.old) world.old result (store.new, streams.new) world.new }
+        → Performs W.World g (At (Pipes_of (p.piped place r xs)) (value_of target ∷ lent_value command.entry ∷ [])) (λ v k. give v (At (Pipes_of xs) [] ∷ k)) (store.old, streams.old) world.old result (store.new, streams.new) world.new }
     ensures owns { Owns (W.open_numbers world.new) streams.new }
 {
     let answer = command_record(alloc, place, command, store, streams, world)?;

@@ -44,7 +44,7 @@ fn read_standard<W: World>(
     requires owns { Owns (W.open_numbers world.old) streams.old }
     requires ended { store.now.main.ended ≡ false }
     requires current { store.now.main.current ≡ Some (Standard 0) }
-    ensures task { (g : Given) → Performs W.follows W.has_stopped W.stops g (Do Take) (found_main (Standard 0)) (store.now, streams.old) world.old result (store.now, streams.new) world.new }
+    ensures task { (g : Given) → Performs W.World g (Do Take) (found_main (Standard 0)) (store.now, streams.old) world.old result (store.now, streams.new) world.new }
     ensures failed { IfOk result (λ x. FailsOpen (Standard 0) x streams.new) }
     ensures owns { Owns (W.open_numbers world.new) streams.new }
 {
@@ -63,8 +63,8 @@ fn give_up<W: World>(
 ) -> Result<(), Halt>
     requires owns { Owns (W.open_numbers world.old) streams.old }
     requires open { GoesOn (Standard 0) streams.old }
-    ensures task { (g : Given) (p : Piece) (old : Whole) (w : W) → LeadsOn W.follows W.has_stopped W.stops g p old w (found_main (Standard 0) Found.Failed) (store.old, streams.old) world.old
-        → Onward W.follows W.has_stopped W.stops g p old w (λ k. Do Take ∷ k) result (store.new, streams.new) world.new }
+    ensures task { (g : Given) (p : Piece) (old : Whole) (w : W) → LeadsOn W.World g p old w (found_main (Standard 0) Found.Failed) (store.old, streams.old) world.old
+        → Onward W.World g p old w (λ k. Do Take ∷ k) result (store.new, streams.new) world.new }
     ensures owns { Owns (W.open_numbers world.new) streams.new }
 {
     report(alloc, b"read".as_slice(), b"-".as_slice(), store, world)?;
@@ -83,7 +83,7 @@ fn take_standard<W: World>(
     requires owns { Owns (W.open_numbers world.old) streams.old }
     requires ended { store.old.main.ended ≡ false }
     requires current { store.old.main.current ≡ Some (Standard 0) }
-    ensures task { (g : Given) → Performs W.follows W.has_stopped W.stops g (Do Take) taken (store.old, streams.old) world.old result (store.new, streams.new) world.new }
+    ensures task { (g : Given) → Performs W.World g (Do Take) taken (store.old, streams.old) world.old result (store.new, streams.new) world.new }
     ensures owns { Owns (W.open_numbers world.new) streams.new }
 {
     match read_standard(store, streams, world)? {
@@ -109,7 +109,7 @@ fn turn<W: World>(
 ) -> Result<Option<Value>, Halt>
     requires { Owns (W.open_numbers world.old) streams.old }
     ensures task { (g : Given) → IsHost host.now g
-        → Performs W.follows W.has_stopped W.stops g (Do Take) taken (store.old, streams.old) world.old result (store.new, streams.new) world.new }
+        → Performs W.World g (Do Take) taken (store.old, streams.old) world.old result (store.new, streams.new) world.new }
     ensures owns { Owns (W.open_numbers world.new) streams.new }
 {
     if store.main().ended {
@@ -135,7 +135,7 @@ fn take_on<W: World>(
 ) -> Result<Value, Halt>
     requires { Owns (W.open_numbers world.old) streams.old }
     ensures task { (g : Given) → IsHost host.now g
-        → Performs W.follows W.has_stopped W.stops g (Do Take) give (store.old, streams.old) world.old result (store.new, streams.new) world.new }
+        → Performs W.World g (Do Take) give (store.old, streams.old) world.old result (store.new, streams.new) world.new }
     ensures owns { Owns (W.open_numbers world.new) streams.new }
 {
     for _ in 0..u64::MAX {
@@ -157,7 +157,7 @@ pub fn take<W: World>(
 ) -> Result<Value, Halt>
     requires { Owns (W.open_numbers world.old) streams.old }
     ensures task { (g : Given) → IsHost host.now g
-        → Performs W.follows W.has_stopped W.stops g (Do Take) give (store.old, streams.old) world.old result (store.new, streams.new) world.new }
+        → Performs W.World g (Do Take) give (store.old, streams.old) world.old result (store.new, streams.new) world.new }
     ensures owns { Owns (W.open_numbers world.new) streams.new }
 {
     streams.keep_room(store.take_room());
@@ -176,7 +176,7 @@ pub fn getline_main<W: World>(
 ) -> Result<Value, Halt>
     requires { Owns (W.open_numbers world.old) streams.old }
     ensures task { (g : Given) → IsHost host.now g → (r : p.Reference) → IsSpotOf (names_in g) r target
-        → Performs W.follows W.has_stopped W.stops g (At (Value_of (p.getline place r)) (value_of target ∷ [])) give (store.old, streams.old) world.old result (store.new, streams.new) world.new }
+        → Performs W.World g (At (Value_of (p.getline place r)) (value_of target ∷ [])) give (store.old, streams.old) world.old result (store.new, streams.new) world.new }
     ensures owns { Owns (W.open_numbers world.new) streams.new }
 {
     let answer = take(alloc, host, store, streams, world)?;
@@ -240,7 +240,7 @@ fn next_any<W: World>(
 ) -> Result<bool, Halt>
     requires { Owns (W.open_numbers world.old) streams.old }
     ensures task { (g : Given) → IsHost host.now g
-        → PerformsIn W.follows W.has_stopped W.stops g (At Records []) (meeting g) at_records (store.old, streams.old) world.old result (store.new, streams.new) world.new }
+        → PerformsIn W.World g (At Records []) (meeting g) at_records (store.old, streams.old) world.old result (store.new, streams.new) world.new }
     ensures owns { Owns (W.open_numbers world.new) streams.new }
 {
     match take_on(alloc, host, store, streams, world)? {
@@ -264,7 +264,7 @@ pub fn next_record<W: World>(
 ) -> Result<bool, Halt>
     requires { Owns (W.open_numbers world.old) streams.old }
     ensures task { (g : Given) → IsHost host.now g
-        → PerformsIn W.follows W.has_stopped W.stops g (At Records []) (meeting g) at_records (store.old, streams.old) world.old result (store.new, streams.new) world.new }
+        → PerformsIn W.World g (At Records []) (meeting g) at_records (store.old, streams.old) world.old result (store.new, streams.new) world.new }
     ensures owns { Owns (W.open_numbers world.new) streams.new }
 {
     let mut room = store.take_room();

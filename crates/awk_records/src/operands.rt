@@ -20,12 +20,11 @@ use crate::assigns::assign;
 use crate::files::begin_input;
 use crate::host::Host;
 use crate::progress::{move_to, name_input, pass_operands};
-use awk_asks::halt::Halt;
+use awk_asks::halt::{Halt, at};
 use awk_asks::streams::Streams;
 use awk_calls::steps::step;
 use awk_program::{Own, Variable};
 use awk_store::Store;
-use awk_tasks::faults::at;
 use awk_text::fault::Fault;
 use awk_text::octets::Octets;
 use awk_text::place::Place;
@@ -108,7 +107,7 @@ fn begin_operand<W: World>(
 ) -> Result<(), Halt>
     requires { Owns (W.open_numbers world.old) streams.old }
     ensures task { (g : Given) → IsHost host.now g → (p : Piece) (old : Whole) → Moves g p old (operand_of g text) (store.old, streams.old)
-        → Performs W.follows W.has_stopped W.stops g p goes_on old world.old result (store.new, streams.new) world.new }
+        → Performs W.World g p goes_on old world.old result (store.new, streams.new) world.new }
     ensures owns { Owns (W.open_numbers world.new) streams.new }
 {
     let bytes = text.bytes();
@@ -136,7 +135,7 @@ fn look<W: World>(
     requires owns { Owns (W.open_numbers world.old) streams.old }
     requires next { next ≡ store.old.main.position + 1 }
     ensures task { (g : Given) → IsHost host.now g
-        → Performs W.follows W.has_stopped W.stops g (Do machine.Look) goes_on (store.old, streams.old) world.old result (store.new, streams.new) world.new }
+        → Performs W.World g (Do machine.Look) goes_on (store.old, streams.old) world.old result (store.new, streams.new) world.new }
     ensures owns { Owns (W.open_numbers world.new) streams.new }
 {
     let Ok(text) = operand_text(alloc, store) else {
@@ -157,7 +156,7 @@ pub fn operand<W: World>(
 ) -> Result<(), Halt>
     requires { Owns (W.open_numbers world.old) streams.old }
     ensures task { (g : Given) → IsHost host.now g
-        → Performs W.follows W.has_stopped W.stops g (Do machine.Operand) goes_on (store.old, streams.old) world.old result (store.new, streams.new) world.new }
+        → Performs W.World g (Do machine.Operand) goes_on (store.old, streams.old) world.old result (store.new, streams.new) world.new }
     ensures owns { Owns (W.open_numbers world.new) streams.new }
 {
     let place = Place { line: 0, column: 0 };

@@ -21,10 +21,8 @@ pub fn begin_range(store: &mut Store, rule: usize, first: &Value) -> Result<bool
     if !truth(first) {
         return Ok(false);
     }
-    match store.set_on(rule, true) {
-        Ok(()) => Ok(true),
-        Err(_) => Err(Halt::Memory),
-    }
+    store.set_on(rule, true)?;
+    Ok(true)
 }
 
 /// Turns the range of the rule at this place off where its last pattern holds. Its action is done for
@@ -36,8 +34,6 @@ pub fn end_range(store: &mut Store, rule: usize, last: &Value) -> Result<(), Hal
     if !truth(last) {
         return Ok(());
     }
-    match store.set_on(rule, false) {
-        Ok(()) => Ok(()),
-        Err(_) => Err(Halt::Memory),
-    }
+    store.set_on(rule, false)?;
+    Ok(())
 }

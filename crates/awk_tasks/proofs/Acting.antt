@@ -4,9 +4,8 @@ use Rattle.std.specs.Prelude.{Result, Ok, Err}
 use Rattle.awk_text.specs.declared.fault.Fault.{Fault}
 use Rattle.awk_text.specs.declared.fault.Fault.TheVariants as fault
 use Rattle.awk_text.specs.declared.place.Place.{Place}
-use Rattle.box_world.specs.Calls.{Call}
-use Rattle.box_world.specs.declared.ask.Ask.{Ask}
 use Rattle.box_world.specs.Events.{calls}
+use Rattle.box_world.specs.declared.world.World.{Ghosts}
 use Rattle.awk_machine.specs.Advances.{advance}
 use Rattle.awk_machine.specs.Pieces.{Piece, Goes, Seeks, Faulted, ends}
 use Rattle.awk_machine.specs.Plays.{Reaches, here, goes, seeks, lacks}
@@ -16,11 +15,12 @@ use Rattle.awk_machine.specs.Streams.{seen}
 use Rattle.awk_store.specs.States.{Hidden}
 use Rattle.awk_asks.specs.declared.halt.Halt.{Halt}
 use Rattle.awk_asks.specs.declared.halt.Halt.TheVariants as halt
-use Rattle.awk_asks.specs.Chains.{Halted, Meets}
+use Rattle.awk_asks.specs.Chains.{Led, Halted, Meets}
 use Rattle.awk_asks.specs.Tasks.{goes_on}
 use Rattle.awk_asks.proofs.Chain.{join}
 use Rattle.awk_tasks.specs.Wholes.{Whole, Agreeing, base, used}
-use Rattle.awk_tasks.specs.Acts.{Settles, HaltsSo, Passes, Acts, halt_at}
+use Rattle.awk_asks.specs.Chains.{halt_at}
+use Rattle.awk_tasks.specs.Acts.{Settles, HaltsSo, Passes, Acts}
 
 module _ {g : Given} where
   -- ---- the steps
@@ -163,9 +163,9 @@ module _ {g : Given} where
 
 -- ---- a task of the store is one of a run, over any world
 
-module _ {W : Type 0} (F : W → List Call → W → Type 0) (E : W → List Call → Ask → W → Type 0) (g : Given) where
-  acted-halts : (h : Halt) (first w : W) (p : Piece) (k : List Piece) (old new : Whole) (hid : Hidden) (c : Course) → used new ≡ used old → F first (calls c.events) w → c.used ≡ used old →
-      HaltsSo g (p ∷ k) old hid c new h → Halted F E (base g) (Agreeing g) used g first (p ∷ k) (seen (base g old hid) c) c k new w h
+module _ {W : Type 0} (ghosts : Ghosts W) (g : Given) where
+  acted-halts : (h : Halt) (first w : W) (p : Piece) (k : List Piece) (old new : Whole) (hid : Hidden) (c : Course) → used new ≡ used old → Led ghosts first (calls c.events) w → c.used ≡ used old →
+      HaltsSo g (p ∷ k) old hid c new h → Halted ghosts (base g) (Agreeing g) used g first (p ∷ k) (seen (base g old hid) c) c k new w h
   acted-halts halt.Memory first w p k old new hid c same leads spent x = record { todo = _; last = _; course = c; leads = leads; spent = spent ∙ sym same; chain = here; stands = λ place. lacks }
   acted-halts (halt.Fault e place) first w p k old new hid c same leads spent x = record { course = c; hidden = x.hidden; knows = record { leads = leads; agrees = x.agrees; spent = spent ∙ sym same }; chain = x.chain }
   acted-halts halt.Cut first w p k old new hid c same leads spent x = absurd x
@@ -173,7 +173,7 @@ module _ {W : Type 0} (F : W → List Call → W → Type 0) (E : W → List Cal
   acted-halts halt.Exit first w p k old new hid c same leads spent x = absurd x
   acted-halts (halt.Log place) first w p k old new hid c same leads spent x = absurd x
 
-  acted-at : {A : Type 0} (r : Result A Halt) {p : Piece} {to : A → List Piece → List Piece} {old new : Whole} {w : W} → Acts g p to old r new → Meets F E (base g) (Agreeing g) used g p to old w r new w
+  acted-at : {A : Type 0} (r : Result A Halt) {p : Piece} {to : A → List Piece → List Piece} {old new : Whole} {w : W} → Acts g p to old r new → Meets ghosts (base g) (Agreeing g) used g p to old w r new w
   acted-at (Ok x) {old = old} {new = new} h = record {
     plays = λ first k hid c a. let y = h.settles k hid c a.agrees in
         record { course = c; hidden = y.hidden; knows = record { leads = a.leads; agrees = y.agrees; spent = a.spent ∙ sym h.same }; chain = y.chain };
@@ -182,6 +182,6 @@ module _ {W : Type 0} (F : W → List Call → W → Type 0) (E : W → List Cal
     plays = λ first k hid c a. acted-halts x first w p k old new hid c h.same a.leads a.spent (h.settles k hid c a.agrees);
   }
 
-pub acted : {W A : Type 0} {F : W → List Call → W → Type 0} {E : W → List Call → Ask → W → Type 0} {g : Given} {r : Result A Halt} {p : Piece} {to : A → List Piece → List Piece} {old new : Whole} {w : W} →
-    Acts g p to old r new → Meets F E (base g) (Agreeing g) used g p to old w r new w
-acted {F = F} {E = E} {g = g} {r = r} h = acted-at F E g r h
+pub acted : {W A : Type 0} {ghosts : Ghosts W} {g : Given} {r : Result A Halt} {p : Piece} {to : A → List Piece → List Piece} {old new : Whole} {w : W} →
+    Acts g p to old r new → Meets ghosts (base g) (Agreeing g) used g p to old w r new w
+acted {ghosts = ghosts} {g = g} {r = r} h = acted-at ghosts g r h

@@ -27,7 +27,8 @@ use Rattle.awk_store.specs.Kept.{Kept}
 use Rattle.awk_works.proofs.Replaced.{limited_ok}
 use Rattle.awk_asks.specs.Tasks.{goes_on}
 use Rattle.awk_tasks.specs.Wholes.{Whole, base}
-use Rattle.awk_tasks.specs.Acts.{Acts, Passes, halt_at, result_at}
+use Rattle.awk_asks.specs.Chains.{halt_at, result_at}
+use Rattle.awk_tasks.specs.Acts.{Acts, Passes}
 use Rattle.awk_tasks.proofs.Acting.{at_rest, moves, alters, keeps, finds, reworded, done, faulted}
 use Rattle.awk_tasks.proofs.Reading.{own-text-so, fields-so, whole_kept}
 use Rattle.awk_tasks.proofs.Rebuilding.{limited_err, agreeing_row, rebuilt, rebuild_moves, rebuild_faults}

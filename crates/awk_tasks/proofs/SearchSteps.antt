@@ -28,7 +28,8 @@ use Rattle.awk_works.specs.Searches.{location, substituted}
 use Rattle.awk_works.specs.declared.searches.Location.{Location}
 use Rattle.awk_asks.specs.Tasks.{goes_on}
 use Rattle.awk_tasks.specs.Wholes.{Whole, Agreeing, base, names_in}
-use Rattle.awk_tasks.specs.Acts.{Acts, Passes, halt_at, result_at}
+use Rattle.awk_asks.specs.Chains.{halt_at, result_at}
+use Rattle.awk_tasks.specs.Acts.{Acts, Passes}
 use Rattle.awk_tasks.specs.Checks.{gives_text}
 use Rattle.awk_tasks.specs.Searching.{then_set}
 use Rattle.awk_tasks.proofs.Reading.{whole_kept}
@@ -60,10 +61,6 @@ module _ (g : Given) (w : Whole) (place : Place) (source : Text) where
       Acts g (At (Pattern_of (program.constant place source)) []) (gives_text source) w (result_at place r) w
   checks_constant P (Ok e) ok err = done (moves (is_ere (λ k. Do (Give (v.Text source)) ∷ k) (moves (at_rest _ w) (λ k hid c a. refl)) ok.1) (λ k hid c a. refl))
   checks_constant P (Err met) ok err = check_faults (λ k. Do (Give (v.Text source)) ∷ k) (moves (at_rest _ w) (λ k hid c a. refl)) met err
-
-pub ere_at : {A : Type 0} (Q : A → Type 0) (place : Place) (r : Result A Fault) → IfOk r Q → IfOk (result_at place r) Q
-ere_at Q place (Ok e) h = h
-ere_at Q place (Err met) h = h
 
 -- ---- it matches somewhere
 

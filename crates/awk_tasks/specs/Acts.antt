@@ -1,9 +1,6 @@
 -- What a task owes that asks nothing of the world and takes no step: from its piece the machine comes to what is left to be
 -- done, in the same course.
-use Rattle.std.specs.Prelude.{◌≡◌, List, ◌∷◌, Result, Ok, Err, MatchResult}
-use Rattle.awk_text.specs.declared.fault.Fault.{Fault}
-use Rattle.awk_text.specs.declared.fault.Fault.TheVariants.{Memory as NoMemory}
-use Rattle.awk_text.specs.declared.place.Place.{Place}
+use Rattle.std.specs.Prelude.{◌≡◌, List, ◌∷◌, Result, MatchResult}
 use Rattle.awk_machine.specs.Pieces.{Piece, Faulted, ends}
 use Rattle.awk_machine.specs.Plays.{Reaches}
 use Rattle.awk_machine.specs.State.{Course, Given}
@@ -12,16 +9,6 @@ use Rattle.awk_store.specs.States.{Hidden}
 use Rattle.awk_asks.specs.declared.halt.Halt.{Halt}
 use Rattle.awk_asks.specs.declared.halt.Halt.TheVariants as halt
 use Rattle.awk_tasks.specs.Wholes.{Whole, Agreeing, base, used}
-
--- how a part ends that met a fault at a place: for want of memory the run ends as it stands
-abbrev pub halt_at : Place → Fault → Halt
-halt_at place NoMemory = halt.Memory
-halt_at place fault = halt.Fault fault place
-
--- what was made at a place, or how the part ends
-abbrev pub result_at : {A : Type 0} → Place → Result A Fault → Result A Halt
-result_at place (Ok x) = Ok x
-result_at place (Err fault) = Err (halt_at place fault)
 
 module _ (g : Given) where
   -- from these pieces the machine comes to those, in the same course

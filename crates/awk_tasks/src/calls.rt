@@ -12,8 +12,7 @@ ghost use Rattle.awk_tasks.specs.Acts.{Acts};
 ghost use Rattle.awk_tasks.specs.Calling.{begun};
 ghost use Rattle.awk_tasks.specs.Wholes.{base, names_in};
 
-use crate::faults::at;
-use awk_asks::halt::Halt;
+use awk_asks::halt::{Halt, at};
 use awk_store::{Bound, Caller, Store};
 use awk_text::place::Place;
 

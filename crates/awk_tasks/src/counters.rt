@@ -6,8 +6,7 @@ ghost use Rattle.awk_asks.specs.Tasks.{goes_on};
 ghost use Rattle.awk_program.specs.Slots.{name_of};
 ghost use Rattle.awk_tasks.specs.Acts.{Acts};
 
-use crate::faults::at;
-use awk_asks::halt::Halt;
+use awk_asks::halt::{Halt, at};
 use awk_program::Own;
 use awk_store::Store;
 use awk_text::place::Place;

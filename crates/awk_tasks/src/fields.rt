@@ -8,9 +8,8 @@ ghost use Rattle.awk_asks.specs.Tasks.{goes_on};
 ghost use Rattle.awk_tasks.specs.Acts.{Acts};
 ghost use Rattle.awk_text.specs.Values.{text_of};
 
-use crate::faults::at;
 use crate::values::into_text;
-use awk_asks::halt::Halt;
+use awk_asks::halt::{Halt, at};
 use awk_store::Store;
 use awk_text::octets::Octets;
 use awk_text::place::Place;

@@ -7,7 +7,6 @@
 pub mod calls;
 pub mod counters;
 pub mod elements;
-pub mod faults;
 pub mod fields;
 pub mod patterns;
 pub mod printing;

@@ -11,8 +11,7 @@ ghost use Rattle.awk_tasks.specs.Acts.{Acts};
 ghost use Rattle.awk_tasks.specs.Wholes.{Whole};
 ghost use Rattle.awk_tasks.specs.Checks.{gives_text};
 
-use crate::faults::at;
-use awk_asks::halt::Halt;
+use awk_asks::halt::{Halt, at};
 use awk_ere::Ere;
 use awk_store::Store;
 use awk_text::place::Place;
@@ -38,10 +37,7 @@ pub fn check(
 pub fn matches(ere: &Ere, text: &[u8]) -> Result<bool, Halt>
     ensures { (g : Given) (w : Whole) → Acts g (Do (Match ere.now text.now)) (λ b. give (of_truth b)) w result w }
 {
-    let Ok(found) = ere.is_match(text) else {
-        return Err(Halt::Memory);
-    };
-    Ok(found)
+    Ok(ere.is_match(text)?)
 }
 
 /// Whether the ERE that a constant by itself is matches somewhere in the record.
@@ -55,9 +51,7 @@ pub fn matches_record(
     ensures { (g : Given) (t : Table) → Acts g (At (Value_of (program.pattern place source.now)) []) (λ b. give (of_truth b)) (store.old, t) result (store.new, t) }
 {
     let ere = check(alloc, patterns, place, source)?;
-    let Ok(_) = store.rebuild() else {
-        return Err(Halt::Memory);
-    };
+    store.rebuild()?;
     let Some(whole) = store.known_whole() else {
         return Err(Halt::Memory);
     };

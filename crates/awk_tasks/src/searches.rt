@@ -7,8 +7,7 @@ ghost use Rattle.awk_tasks.specs.Acts.{Acts};
 ghost use Rattle.awk_tasks.specs.Searching.{then_set};
 ghost use Rattle.awk_tasks.specs.Wholes.{Whole};
 
-use crate::faults::at;
-use awk_asks::halt::Halt;
+use awk_asks::halt::{Halt, at};
 use awk_ere::Ere;
 use awk_program::Own;
 use awk_store::Store;

@@ -7,8 +7,7 @@ ghost use Rattle.awk_text.specs.Values.{text_of};
 ghost use Rattle.awk_tasks.specs.Acts.{Acts};
 ghost use Rattle.awk_tasks.specs.Wholes.{names_in};
 
-use crate::faults::at;
-use awk_asks::halt::Halt;
+use awk_asks::halt::{Halt, at};
 use awk_fields::Splitter;
 use awk_lib::array::Array;
 use awk_program::Variable;

@@ -10,9 +10,8 @@ ghost use Rattle.awk_program.specs.View.{variable_of};
 ghost use Rattle.awk_tasks.specs.Acts.{Acts};
 ghost use Rattle.awk_tasks.specs.Wholes.{names_in};
 
-use crate::faults::at;
 use crate::values::copied;
-use awk_asks::halt::Halt;
+use awk_asks::halt::{Halt, at};
 use awk_program::Variable;
 use awk_store::{Store, is_nf};
 use awk_text::place::Place;

@@ -91,9 +91,3 @@ pub ends : (parts : List Text) (array : Array) (rest : List Text) (number : ℕ)
 ends parts array rest number over few f =
     let whole : parts ≡ f.done = f.parts_are ∙ ap (λ l. f.done ++ reverse l) over ∙ append-nil f.done in
     filled_by (nat_le (length parts) most_elements) parts refl few ∙ ap (λ l. Ok (numbered 1 l)) whole ∙ ap (λ a. Ok a) (sym f.array_is)
-
--- the number is small
-pub few_numbers : (parts : List Text) (array : Array) (rest : List Text) (number : ℕ) → length parts ≤ most_elements → Filling parts array rest number → number ≤ most_elements + 1
-few_numbers parts array rest number few f =
-    let count : length parts ≡ length f.done + length (reverse rest) = ap length f.parts_are ∙ length-append f.done (reverse rest) in
-    omega (arith, count, few, f.number_is)

@@ -2,15 +2,13 @@
 ghost use Rattle.std.specs.Prelude.{◌≡◌};
 ghost use Rattle.awk_lent.specs.Lents.{lent_value};
 ghost use Rattle.awk_machine.specs.Operators as spec;
-ghost use Rattle.awk_machine.specs.Operators.{limited, of_truth};
+ghost use Rattle.awk_machine.specs.Operators.{of_truth};
 ghost use Rattle.awk_works.specs.Numbers.{as_value};
 
 use awk_lent::lent::Lent;
 use awk_program::{Comparison, Operator, Sign, Step};
 use awk_text::arithmetic;
 use awk_text::fault::Fault;
-use awk_text::octets::Octets;
-use awk_text::texts::MOST_BYTES;
 use awk_text::value::{Value, compare, number_of};
 use std::cmp::Ordering;
 
@@ -118,17 +116,4 @@ pub fn truth_value(holds: bool) -> Value
     ensures { result ≡ of_truth holds }
 {
     Value::Num(if holds { 1 } else { 0 })
-}
-
-/// The text, where it is within the limit. Takes no memory.
-///
-/// Fails with `Fault::TextTooLong` exactly where it has more than `MOST_BYTES` bytes.
-pub fn limited(text: Vec<u8>) -> Result<Octets, Fault>
-    ensures { result ≡ limited text.items }
-{
-    if text.len() <= MOST_BYTES {
-        Ok(Octets::new(text))
-    } else {
-        Err(Fault::TextTooLong)
-    }
 }

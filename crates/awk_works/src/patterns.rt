@@ -1,15 +1,12 @@
 // The patterns of a run, compiled once.
 ghost use Rattle.std.specs.Prelude.{◌≡◌, ◌⊎◌, All, IfOk, IfErr, IfSome};
 ghost use Rattle.awk_fields.specs.Separators.{IsEre, IsNoEre};
-ghost use Rattle.awk_text.specs.Values.{text_of};
 ghost use Rattle.awk_works.specs.Cached.{AreEres, IsNear};
 
 use awk_ere::Ere;
 use awk_lib::is_same;
 use awk_text::Memory;
 use awk_text::fault::Fault;
-use awk_text::value::{Value, text_in};
-use itoa::Buffer;
 use lru::LruCache;
 use std::alloc::Global;
 use std::marker::Model;
@@ -172,16 +169,5 @@ impl Patterns {
         let ere = compiled(alloc, source)?;
         let _ = self.keep(alloc, source, &ere);
         Ok(ere)
-    }
-
-    /// The pattern that the text of a value spells, as `find` has it.
-    ///
-    /// Fails as `find` does.
-    pub fn find_of(&mut self, alloc: Global, pattern: &Value) -> Result<Rc<Ere>, Fault>
-        ensures ok { IfOk result (λ e. (e.value ≡ text_of pattern.now) × IsEre (text_of pattern.now)) }
-        ensures err { IfErr result (λ e. (e ≡ Fault.Memory) ⊎ ((e ≡ Fault.Pattern) × IsNoEre (text_of pattern.now))) }
-    {
-        let mut buffer = Buffer::new();
-        self.find(alloc, text_in(pattern, &mut buffer))
     }
 }

@@ -22,7 +22,7 @@ pub returns-in_err-status-clause-task : goal.returns-in_err-status-clause-task
 returns-in_err-status-clause-task g c =
     let p = err_from_is_err_and c.from_residual.result c.from_residual.ensures.1 in
     let first = rw c.in-Some.is at c.first_of.ensures in
-    rw (p.1, p.2) (λ m s. close_refused g.W.World.open_numbers (laws_of g.met.W.World.follows_append g.met.W.World.stops_later) g.met.W.World.follows_open m s c.args.place c.args.text.now (option_map (λ n. Num n) c.loop-class.answer) c.loop-class.streams
+    rw (p.1, p.2) (λ m s. close_refused (laws_of g.met.W.World.follows_append g.met.W.World.stops_later g.met.W.World.follows_open) m s c.args.place c.args.text.now (option_map (λ n. Num n) c.loop-class.answer) c.loop-class.streams
     (kind c.in-Some.class) c.in-Some.number _ _ _ (sym first) c.in_err-status.ensures.answer (c.loop-class.invariant.0 m s))
 
 pub returns-in_err-status-clause-owns : goal.returns-in_err-status-clause-owns
@@ -39,7 +39,7 @@ loop-class-preserved g c =
     let first = rw c.in-Some.is at c.first_of.ensures in
     let es = c.remove.ensures.entries in
     let a = c.in_ok-status.ensures.answer in (
-      λ m s. rw (to_z-of_z w64 c.first_status.result (search rules)) (turned (close_one g.W.World.open_numbers (laws_of g.met.W.World.follows_append g.met.W.World.stops_later) g.met.W.World.follows_open m s c.args.place c.args.text.now (option_map (λ n. Num n) c.loop-class.answer)
+      λ m s. rw (to_z-of_z w64 c.first_status.result (search rules)) (turned (close_one (laws_of g.met.W.World.follows_append g.met.W.World.stops_later g.met.W.World.follows_open) m s c.args.place c.args.text.now (option_map (λ n. Num n) c.loop-class.answer)
           c.loop-class.streams c.remove.new.self (kind c.in-Some.class) c.in-Some.number a.0 _ _ (sym first) es c.remove.ensures.input a.1 (c.loop-class.invariant.0 m s))
           (λ k. ap (λ x. Do (Close c.args.place c.args.text.now (Some x)) ∷ k) (next_so c.loop-class.answer c.in_ok-status.status c.first_status.result a.0 a.2 (rw (to_z-of_z w64 c.in_ok-status.status (search rules)) at c.first_status.ensures)))),
       owns_closed _ _ c.args.text.now (kind c.in-Some.class) c.in-Some.number a.0 c.loop-class.streams c.remove.new.self (sym first) es c.in_ok-status.ensures.numbers c.loop-class.invariant.1,
@@ -48,7 +48,7 @@ loop-class-preserved g c =
 pub returns-clause-task : goal.returns-clause-task
 returns-clause-task g c =
     let first = rw c.in_default.is at c.first_of.ensures in
-    λ m s. close_done g.W.World.open_numbers (laws_of g.met.W.World.follows_append g.met.W.World.stops_later) g.met.W.World.follows_open m s c.args.place c.args.text.now (option_map (λ n. Num n) c.loop-class.answer) _ c.loop-class.streams c.loop-class.world
+    λ m s. close_done (laws_of g.met.W.World.follows_append g.met.W.World.stops_later g.met.W.World.follows_open) m s c.args.place c.args.text.now (option_map (λ n. Num n) c.loop-class.answer) _ c.loop-class.streams c.loop-class.world
     c.answer_or.ensures (sym first) (c.loop-class.invariant.0 m s)
 
 pub returns-clause-owns : goal.returns-clause-owns

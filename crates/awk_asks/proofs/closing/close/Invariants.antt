@@ -3,13 +3,13 @@ use Rattle.std.specs.Prelude.{None, option_map}
 use Rattle.awk_text.specs.declared.value.Value.TheVariants.{Num}
 use Rattle.awk_machine.specs.Pieces.{Close, Do}
 use Rattle.awk_machine.specs.State.{Given, State}
-use Rattle.awk_asks.specs.Chains.{Led, Ended, Leads}
+use Rattle.awk_asks.specs.Chains.{Leads}
 use Rattle.awk_asks.specs.Tasks.{Owns, Tells, beside}
 use Rattle.awk_asks.proofs.closing.close.Given as goal
 
 abbrev pub invariant-loop-class : goal.invariant-loop-class
 invariant-loop-class g l =
-    ((m : Given) (s : State) → Leads (Led g.W.World.follows g.W.World.has_stopped) (Ended g.W.World.follows g.W.World.stops) (beside s) Tells (λ t. s.course.used) m (Do (Close l.fn.place l.text None)) l.fn.streams l.fn.world
+    ((m : Given) (s : State) → Leads g.W.World (beside s) Tells (λ t. s.course.used) m (Do (Close l.fn.place l.text None)) l.fn.streams l.fn.world
     (λ k. Do (Close l.fn.place l.text (option_map (λ n. Num n) l.answer)) ∷ k) l.streams l.world)
     × Owns (g.W.World.open_numbers l.world) l.streams
 

@@ -1,13 +1,13 @@
 use Rattle.std.proofs.Common.{length}
 use Rattle.awk_machine.specs.Pieces.{Closing, Do, Outcome}
 use Rattle.awk_machine.specs.State.{Given, State}
-use Rattle.awk_asks.specs.Chains.{Led, Ended, Leads}
+use Rattle.awk_asks.specs.Chains.{Leads}
 use Rattle.awk_asks.specs.Tasks.{Owns, Tells, beside, closing}
 use Rattle.awk_asks.proofs.closing.shut_all.Given as goal
 
 abbrev pub invariant-loop-number : goal.invariant-loop-number
 invariant-loop-number g l =
-    ((m : Given) (s : State) (o : Outcome) → Leads (Led g.W.World.follows g.W.World.has_stopped) (Ended g.W.World.follows g.W.World.stops) (beside s) Tells (λ t. s.course.used) m (Do (Closing o)) l.fn.streams l.fn.world (closing o l.any) l.streams l.world)
+    ((m : Given) (s : State) (o : Outcome) → Leads g.W.World (beside s) Tells (λ t. s.course.used) m (Do (Closing o)) l.fn.streams l.fn.world (closing o l.any) l.streams l.world)
     × Owns (g.W.World.open_numbers l.world) l.streams
 
 abbrev pub decreases-loop-number : goal.decreases-loop-number

@@ -11,7 +11,7 @@ use Rattle.awk_asks.proofs.getline.fetch.Goals as goal
 
 pub returns-in-Some-clause-task : goal.returns-in-Some-clause-task
 returns-in-Some-clause-task g c = λ m s rs.
-    line_at_once g.W.World.open_numbers (laws_of g.met.W.World.follows_append g.met.W.World.stops_later) g.met.W.World.follows_open m s c.args.place c.args.source.now c.in-Some.text c.args.rs.now rs c.args.streams.now c.held_line.new.streams c.args.world.now (rw c.in-Some.is at c.held_line.ensures.some)
+    line_at_once (laws_of g.met.W.World.follows_append g.met.W.World.stops_later g.met.W.World.follows_open) m s c.args.place c.args.source.now c.in-Some.text c.args.rs.now rs c.args.streams.now c.held_line.new.streams c.args.world.now (rw c.in-Some.is at c.held_line.ensures.some)
 
 pub returns-in-Some-clause-owns : goal.returns-in-Some-clause-owns
 returns-in-Some-clause-owns g c =

@@ -12,4 +12,4 @@ pub returns-in-Err-clause-same : goal.returns-in-Err-clause-same
 returns-in-Err-clause-same c = c.in-Err.ensures.err
 
 pub returns-in-Err-clause-err : goal.returns-in-Err-clause-err
-returns-in-Err-clause-err c = rw c.halted.ensures (λ i live. fails_first c.args.place (head c.args.rs.now i.unread i.ended) c.in-Err.fault (c.in-Err.ensures.fault i live))
+returns-in-Err-clause-err c = rw c.at.ensures (λ i live. fails_first c.args.place (head c.args.rs.now i.unread i.ended) c.in-Err.fault (c.in-Err.ensures.fault i live))

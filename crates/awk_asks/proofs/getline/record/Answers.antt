@@ -16,7 +16,7 @@ pub returns-in_err-found-clause-task : goal.returns-in_err-found-clause-task
 returns-in_err-found-clause-task g c =
     let p = err_from_is_err_and c.from_residual.result c.from_residual.ensures.1 in
     let live = c.loop.invariant.2 in
-    rw (p.1, p.2) (λ m s q to form rs. fails _ _ m s c.args.place (key_of c.args.source.now) c.args.rs.now rs c.loop.streams c.first.new.streams live.0 live.1 form (c.loop.invariant.0 m s q to form rs) _ c.in_err-found.ensures.same (c.in_err-found.ensures.err live.0 live.1))
+    rw (p.1, p.2) (λ m s q to form rs. fails _ m s c.args.place (key_of c.args.source.now) c.args.rs.now rs c.loop.streams c.first.new.streams live.0 live.1 form (c.loop.invariant.0 m s q to form rs) _ c.in_err-found.ensures.same (c.in_err-found.ensures.err live.0 live.1))
 
 pub returns-in_err-found-clause-owns : goal.returns-in_err-found-clause-owns
 returns-in_err-found-clause-owns g c = owns_same _ c.loop.streams c.first.new.streams c.in_err-found.ensures.same c.loop.invariant.1
@@ -24,7 +24,7 @@ returns-in_err-found-clause-owns g c = owns_same _ c.loop.streams c.first.new.st
 pub returns-in-Some-clause-task : goal.returns-in-Some-clause-task
 returns-in-Some-clause-task g c = λ m s q to form rs.
     let live = c.loop.invariant.2 in
-    gives _ _ m s c.args.place (key_of c.args.source.now) c.args.rs.now rs c.loop.streams c.first.new.streams live.0 live.1 form (c.loop.invariant.0 m s q to form rs) c.in-Some.found (rw c.in-Some.is at (c.in_ok-found.ensures.ok live.0 live.1))
+    gives _ m s c.args.place (key_of c.args.source.now) c.args.rs.now rs c.loop.streams c.first.new.streams live.0 live.1 form (c.loop.invariant.0 m s q to form rs) c.in-Some.found (rw c.in-Some.is at (c.in_ok-found.ensures.ok live.0 live.1))
 
 pub returns-in-Some-clause-owns : goal.returns-in-Some-clause-owns
 returns-in-Some-clause-owns g c =
@@ -55,7 +55,7 @@ returns-in_err-more-clause-task g c =
     let y = rw c.in_default.is at (c.in_ok-found.ensures.ok live.0 live.1) in
     rw (p.1, p.2) (λ m s q to form rs.
     let w = (first_waits key c.loop.streams c.first.new.streams live.0 c.args.rs.now y).1 in
-    stop _ (λ k. refl) (still_reads _ _ m s c.args.place key c.args.rs.now rs c.loop.streams c.first.new.streams live.0 live.1 form (c.loop.invariant.0 m s q to form rs) y)
+    stop _ (λ k. refl) (still_reads _ m s c.args.place key c.args.rs.now rs c.loop.streams c.first.new.streams live.0 live.1 form (c.loop.invariant.0 m s q to form rs) y)
     (c.in_err-more.ensures.task m s q to form (subst (λ z. Waits z key c.first.new.streams) (sym rs) w)) refl)
 
 pub returns-then-not-branch-clause-task : goal.returns-then-not-branch-clause-task
@@ -64,7 +64,7 @@ returns-then-not-branch-clause-task g c = λ m s q to form rs.
     let key = key_of c.args.source.now in
     let y = rw c.in_default.is at (c.in_ok-found.ensures.ok live.0 live.1) in
     let w = (first_waits key c.loop.streams c.first.new.streams live.0 c.args.rs.now y).1 in
-    done (part false (still_reads _ _ m s c.args.place key c.args.rs.now rs c.loop.streams c.first.new.streams live.0 live.1 form (c.loop.invariant.0 m s q to form rs) y)
+    done (part false (still_reads _ m s c.args.place key c.args.rs.now rs c.loop.streams c.first.new.streams live.0 live.1 form (c.loop.invariant.0 m s q to form rs) y)
     (c.more.ensures.task m s q to form (subst (λ z. Waits z key c.first.new.streams) (sym rs) w)) (c.in_ok-more.was ∙ ap (λ b. Ok b) c.if-not-branch.true))
 
 pub loop-preserved : goal.loop-preserved
@@ -74,7 +74,7 @@ loop-preserved g c = (
       let key = key_of c.args.source.now in
       let y = rw c.in_default.is at (c.in_ok-found.ensures.ok live.0 live.1) in
       let w = (first_waits key c.loop.streams c.first.new.streams live.0 c.args.rs.now y).1 in
-      part true (still_reads _ _ m s c.args.place key c.args.rs.now rs c.loop.streams c.first.new.streams live.0 live.1 form (c.loop.invariant.0 m s q to form rs) y)
+      part true (still_reads _ m s c.args.place key c.args.rs.now rs c.loop.streams c.first.new.streams live.0 live.1 form (c.loop.invariant.0 m s q to form rs) y)
       (c.more.ensures.task m s q to form (subst (λ z. Waits z key c.first.new.streams) (sym rs) w)) (c.in_ok-more.was ∙ ap (λ b. Ok b) c.if-not-branch.false),
   c.more.ensures.owns,
   c.in_ok-more.ensures.live,

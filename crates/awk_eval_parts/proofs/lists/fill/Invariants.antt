@@ -5,4 +5,4 @@ use Rattle.awk_eval_parts.specs.Along.{Filling}
 use Rattle.awk_eval_parts.proofs.lists.fill.Given as goal
 
 abbrev pub invariant-loop-x : goal.invariant-loop-x
-invariant-loop-x g l = Filling g.W.World.follows g.W.World.has_stopped g.W.World.stops g.W.World.open_numbers l.cx (λ m. map (view (names_in m)) l.xs) l.fn.values.items l.values.items l.x-index (l.fn.run.store, l.fn.run.streams) l.fn.world (l.run.store, l.run.streams) l.world
+invariant-loop-x g l = Filling g.W.World l.cx (λ m. map (view (names_in m)) l.xs) l.fn.values.items l.values.items l.x-index (l.fn.run.store, l.fn.run.streams) l.fn.world (l.run.store, l.run.streams) l.world

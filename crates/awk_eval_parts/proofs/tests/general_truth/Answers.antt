@@ -24,10 +24,10 @@ returns-in_ok-found-in_default-e g c =
 
 pub returns-in-Compare : goal.returns-in-Compare
 returns-in-Compare g c =
-    let h = as_truth {F = g.W.World.follows} {H = g.W.World.has_stopped} {S = g.W.World.stops} {N = g.W.World.open_numbers} {cx = c.args.cx.now} {p = λ m. value (p.compare c.in-Compare.how (view (names_in m) c.in-Compare.x) (view (names_in m) c.in-Compare.y))} {r = c.compare.result} (record { plays = λ m is. rw (c.get.ensures, c.get-in-Compare.ensures) at (c.compare.ensures.plays m is); owns = c.compare.ensures.owns }) in
+    let h = as_truth {ghosts = g.W.World} {cx = c.args.cx.now} {p = λ m. value (p.compare c.in-Compare.how (view (names_in m) c.in-Compare.x) (view (names_in m) c.in-Compare.y))} {r = c.compare.result} (record { plays = λ m is. rw (c.get.ensures, c.get-in-Compare.ensures) at (c.compare.ensures.plays m is); owns = c.compare.ensures.owns }) in
     record { val = h.val; is = h.is; does = record { plays = λ m is. rw (c.in-Compare.is, view-Compare) (h.does.plays m is); owns = h.does.owns } }
 
 pub returns-in-Match : goal.returns-in-Match
 returns-in-Match g c =
-    let h = as_truth {F = g.W.World.follows} {H = g.W.World.has_stopped} {S = g.W.World.stops} {N = g.W.World.open_numbers} {cx = c.args.cx.now} {p = λ m. value (p.matched c.in-Match.place (view (names_in m) c.in-Match.x) (view_ere (names_in m) c.in-Match.pattern))} {r = c.matches.result} (record { plays = λ m is. rw c.get-in-Match.ensures at (c.matches.ensures.plays m is); owns = c.matches.ensures.owns }) in
+    let h = as_truth {ghosts = g.W.World} {cx = c.args.cx.now} {p = λ m. value (p.matched c.in-Match.place (view (names_in m) c.in-Match.x) (view_ere (names_in m) c.in-Match.pattern))} {r = c.matches.result} (record { plays = λ m is. rw c.get-in-Match.ensures at (c.matches.ensures.plays m is); owns = c.matches.ensures.owns }) in
     record { val = h.val; is = h.is; does = record { plays = λ m is. rw (c.in-Match.is, view-Match) (h.does.plays m is); owns = h.does.owns } }

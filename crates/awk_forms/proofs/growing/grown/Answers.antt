@@ -23,7 +23,7 @@ pub returns-clause-done : goal.returns-clause-done
 returns-clause-done c = λ is.
     let held = c.in-Some.ensures.room in
     let more = c.gathered.new.texts.items in
-    let follows = c.in-Ok.ensures c.if-not-found.false in (
+    let follows = c.in_ok-found.ensures c.if-not-found.false in (
       v.Text (held.0 ++ more),
       λ g t place. assigns g (c.args.store.now, t) place c.args.to c.in-Some.ensures.nf (view (names_in g) c.args.first.now) (joins_of (map (view_joined (names_in g)) c.args.rest.now)) held.0 more
           c.in-Some.room c.grow-2.new.store (c.reads_variable.ensures c.if-not-reads_variable.false (names_in g)) held.1 held.2 (follows g t)

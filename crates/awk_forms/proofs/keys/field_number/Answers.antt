@@ -18,7 +18,7 @@ use Rattle.awk_machine.specs.Targets.{field_of}
 use Rattle.awk_forms.proofs.keys.field_number.Goals as goal
 
 pub returns-in-Err : goal.returns-in-Err
-returns-in-Err c = λ g w x. rw c.halt_at.ensures (as_halted (met_now g w _ c.args.place give (field_of c.args.value.now) _ (sym c.field_of.ensures ∙ ap as_value c.in-Err.is) (λ k hid d a. refl)))
+returns-in-Err c = λ g w x. rw c.at.ensures (as_halted (met_now g w _ c.args.place give (field_of c.args.value.now) _ (sym c.field_of.ensures ∙ ap as_value c.in-Err.is) (λ k hid d a. refl)))
 
 pub returns-in-Ok-try_from : goal.returns-in-Ok-try_from
 returns-in-Ok-try_from c = λ g w x. let z = field_is (number_of c.args.value.now) c.in-Ok.number (sym c.field_of.ensures ∙ ap as_value c.in-Ok.is) in

@@ -7,5 +7,5 @@ use Rattle.awk_phases.proofs.rules.rules.Given as goal
 
 abbrev pub invariant-loop-n : goal.invariant-loop-n
 invariant-loop-n g l =
-    Along g.W.World.follows g.W.World.has_stopped g.W.World.stops g.W.World.open_numbers l.cx (λ m. Do (Rules 0 m.program.rules)) (λ m k. Do (Rules l.n (map (view_rule (names_in m)) (drop l.n l.cx.program.now.rules))) ∷ k)
+    Along g.W.World l.cx (λ m. Do (Rules 0 m.program.rules)) (λ m k. Do (Rules l.n (map (view_rule (names_in m)) (drop l.n l.cx.program.now.rules))) ∷ k)
     (l.fn.run.store, l.fn.run.streams) l.fn.world (l.run.store, l.run.streams) l.world

@@ -18,7 +18,7 @@ returns-in_err-report-clause-owns g c = rw c.in_err-report.ensures.numbers c.req
 pub returns-clause-task : goal.returns-clause-task
 returns-clause-task g c = λ m q old w lead.
     part tt (part tt (part tt lead (rw (c.as_slice.ensures, c.as_slice-2.ensures) at (c.report.ensures.task m c.args.streams.now)) c.in_ok-report.was)
-    (lifted m c.report.new.store (λ s. forgets _ _ m s c.args.streams.now c.forget_standard.new.self c.report.new.world c.requires.open c.forget_standard.ensures.entries c.forget_standard.ensures.input)) refl)
+    (lifted m c.report.new.store (λ s. forgets _ m s c.args.streams.now c.forget_standard.new.self c.report.new.world c.requires.open c.forget_standard.ensures.entries c.forget_standard.ensures.input)) refl)
     (acted (passes_standard m (c.report.new.store, c.forget_standard.new.self) c.pass_standard.new.store c.pass_standard.ensures)) refl
 
 pub returns-clause-owns : goal.returns-clause-owns
