@@ -3,7 +3,7 @@
 use std::alloc::Global;
 
 /// How many growths at most are made behind a row to find the one that is refused: more than its number.
-const MOST: usize = 10_000;
+const MOST: usize = 1_500;
 
 /// Makes so many growths, each given back at once. Tells the number of the one that was refused, counted from 1.
 pub fn spend(alloc: Global, count: usize) -> Option<usize> {
