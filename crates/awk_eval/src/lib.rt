@@ -1,8 +1,24 @@
-//! Expressions and statements of awk scripts are evaluated over any world, as plain awk does ("Actions" and "Expressions in awk" of POSIX.1-2017 XCU
-//! awk). The forms stand in the crates below; here is their recursion.
+//! Expressions and statements of awk scripts are evaluated over any world, as plain awk does ("Actions" and "Expressions in awk" of
+//! POSIX.1-2017 XCU awk).
+//!
+//! A form is generic over what evaluates its parts ([`evaluates::Evaluates`]), and does not call itself: the recursion stands in `walk` alone. So
+//! a form is proved by itself, and an edit of it makes no other one anew.
 #![tactic(auto)]
 
+mod calls;
+mod context;
+mod evaluates;
+mod expressions;
+mod inputs;
+mod lists;
+mod loops;
+mod output;
+mod patterns;
+mod sources;
+mod statements;
+mod targets;
+mod tests;
 mod walk;
 
-pub use awk_eval_parts::{Context, Run};
+pub use context::{Context, Run};
 pub use walk::{body, statement, truth_of, value};

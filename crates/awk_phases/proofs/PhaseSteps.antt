@@ -23,9 +23,9 @@ use Rattle.awk_calls.specs.Flows.{flows}
 use Rattle.awk_calls.specs.declared.flow.Flow.{Flow}
 use Rattle.awk_calls.specs.declared.flow.Flow.TheVariants as flow
 use Rattle.awk_tasks.specs.Wholes.{Whole, Agreeing, base, names_in, used}
-use Rattle.awk_eval_parts.specs.Runs.{IsGiven}
-use Rattle.awk_eval_statements.proofs.Going.{each_off}
-use Rattle.awk_eval_parts.specs.declared.context.Context.{Context}
+use Rattle.awk_eval.specs.Runs.{IsGiven}
+use Rattle.awk_eval.proofs.Going.{each_off}
+use Rattle.awk_eval.specs.declared.context.Context.{Context}
 use Rattle.awk_phases.specs.Outcomes.{own_status}
 use Rattle.awk_phases.specs.Runs.{Reached}
 use Rattle.awk_phases.proofs.Reaching.{then_move, then_part}

@@ -29,8 +29,8 @@ use Rattle.awk_asks.specs.Tasks.{Owns, Tells, IsRead, input_at}
 use Rattle.awk_asks.proofs.Chain.{join}
 use Rattle.awk_tasks.specs.Acts.{HaltsSo, Settles}
 use Rattle.awk_tasks.specs.Wholes.{Whole, Agreeing, base, names_in, used}
-use Rattle.awk_eval_parts.specs.Runs.{IsGiven}
-use Rattle.awk_eval_parts.specs.declared.context.Context.{Context}
+use Rattle.awk_eval.specs.Runs.{IsGiven}
+use Rattle.awk_eval.specs.declared.context.Context.{Context}
 use Rattle.awk_phases.specs.Reports.{Reported}
 use Rattle.awk_phases.specs.Runs.{Reached, Stopped}
 use Rattle.awk_phases.specs.Starts.{Prepares, assigning}

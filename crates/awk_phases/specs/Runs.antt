@@ -9,8 +9,8 @@ use Rattle.awk_asks.specs.Chains.{Comes, Halted, Lacks, Unlogged}
 use Rattle.awk_tasks.specs.Wholes.{Whole, Agreeing, base, used}
 use Rattle.awk_records.specs.Performs.{PerformsIn}
 use Rattle.awk_asks.specs.Tasks.{Owns}
-use Rattle.awk_eval_parts.specs.Runs.{IsGiven}
-use Rattle.awk_eval_parts.specs.declared.context.Context.{Context}
+use Rattle.awk_eval.specs.Runs.{IsGiven}
+use Rattle.awk_eval.specs.declared.context.Context.{Context}
 use Rattle.awk_phases.specs.Outcomes.{view_outcome}
 use Rattle.awk_phases.specs.declared.ends.End.{End}
 use Rattle.awk_phases.specs.declared.ends.End.TheVariants.{Open, Memory, Log}

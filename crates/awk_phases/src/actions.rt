@@ -8,7 +8,7 @@ ghost use Rattle.awk_machine.specs.State.{Given};
 ghost use Rattle.awk_program.specs.Program as p;
 ghost use Rattle.awk_program.specs.View.{view_statement};
 ghost use Rattle.awk_tasks.specs.Wholes.{names_in};
-ghost use Rattle.awk_eval_parts.specs.Runs.{Does, whole_of};
+ghost use Rattle.awk_eval.specs.Runs.{Does, whole_of};
 
 use crate::rules::MOST_LEVELS;
 use awk_asks::halt::Halt;

@@ -8,7 +8,7 @@ ghost use Rattle.awk_machine.specs.State.{Given};
 ghost use Rattle.awk_program.specs.Program.{global};
 ghost use Rattle.awk_program.specs.Slots.{Text};
 ghost use Rattle.awk_tasks.specs.Acts.{Acts};
-ghost use Rattle.awk_eval_parts.specs.Runs.{Does, whole_of};
+ghost use Rattle.awk_eval.specs.Runs.{Does, whole_of};
 
 use awk_asks::halt::Halt;
 use awk_asks::requests::environment;

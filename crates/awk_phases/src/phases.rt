@@ -4,7 +4,7 @@ ghost use Rattle.awk_asks.specs.Tasks.{Owns, goes_on};
 ghost use Rattle.awk_calls.specs.Flows.{flows};
 ghost use Rattle.awk_machine.specs.Pieces.{Do, Enter, Finish};
 ghost use Rattle.awk_machine.specs.State.{Beginning, Ending, Given, Ruling};
-ghost use Rattle.awk_eval_parts.specs.Runs.{Does, IsGiven, whole_of};
+ghost use Rattle.awk_eval.specs.Runs.{Does, IsGiven, whole_of};
 ghost use Rattle.awk_phases.specs.Runs.{Finished, Goes_on, Reached, Stopped};
 
 use crate::actions::actions;

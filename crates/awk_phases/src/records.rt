@@ -2,7 +2,7 @@
 ghost use Rattle.std.specs.Prelude.{◌≡◌, [], Err};
 ghost use Rattle.awk_asks.specs.Tasks.{Owns, goes_on};
 ghost use Rattle.awk_machine.specs.Pieces.{At, Records};
-ghost use Rattle.awk_eval_parts.specs.Runs.{Does, whole_of};
+ghost use Rattle.awk_eval.specs.Runs.{Does, whole_of};
 ghost use Rattle.awk_records.specs.Inputs.{at_records, more};
 ghost use Rattle.awk_phases.specs.Rules as spec;
 ghost use Rattle.awk_phases.specs.Runs.{DoesIn};

@@ -7,7 +7,7 @@ ghost use Rattle.awk_machine.specs.Pieces as machine;
 ghost use Rattle.awk_program.specs.Program as p;
 ghost use Rattle.awk_program.specs.View.{view, view_rule, view_statement};
 ghost use Rattle.awk_tasks.specs.Wholes.{names_in};
-ghost use Rattle.awk_eval_parts.specs.Runs.{Does, whole_of};
+ghost use Rattle.awk_eval.specs.Runs.{Does, whole_of};
 ghost use Rattle.awk_phases.specs.Rules.{met, rule_of};
 
 use awk_asks::halt::Halt;

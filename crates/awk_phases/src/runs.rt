@@ -6,7 +6,7 @@ ghost use Rattle.awk_machine.specs.Pieces.{Do, Enter};
 ghost use Rattle.awk_machine.specs.State.{Beginning, Ending, Given, Ruling};
 ghost use Rattle.awk_program.specs.View.{names_of};
 ghost use Rattle.awk_store.specs.States.{Sound};
-ghost use Rattle.awk_eval_parts.specs.Runs.{IsGiven, whole_of};
+ghost use Rattle.awk_eval.specs.Runs.{IsGiven, whole_of};
 ghost use Rattle.awk_phases.specs.Outcomes.{view_outcome};
 ghost use Rattle.awk_phases.specs.Reports.{Reported};
 ghost use Rattle.awk_phases.specs.Runs.{Finished, Goes_on, Reached};

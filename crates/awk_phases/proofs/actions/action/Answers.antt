@@ -4,10 +4,10 @@ use Rattle.awk_program.specs.View.{view_statement}
 use Rattle.awk_machine.specs.Pieces.{Do, Each}
 use Rattle.awk_tasks.specs.Wholes.{names_in}
 use Rattle.awk_asks.proofs.Chain.{at_once, done, part, stop, turned}
-use Rattle.awk_eval_parts.proofs.Leading.{quietly}
-use Rattle.awk_eval_parts.proofs.Turns.{next_of}
+use Rattle.awk_eval.proofs.Leading.{quietly}
+use Rattle.awk_eval.proofs.Turns.{next_of}
 use Rattle.awk_forms.proofs.Rests.{drop_all}
-use Rattle.awk_eval_statements.proofs.Going.{each_on}
+use Rattle.awk_eval.proofs.Going.{each_on}
 use Rattle.awk_phases.proofs.PhaseSteps.{past_twice}
 use Rattle.awk_phases.proofs.actions.action.Goals as goal
 

@@ -4,7 +4,7 @@ use Rattle.awk_program.specs.View.{view_statement}
 use Rattle.awk_machine.specs.Pieces.{Do, Each}
 use Rattle.awk_machine.specs.State.{Given}
 use Rattle.awk_tasks.specs.Wholes.{names_in}
-use Rattle.awk_eval_parts.specs.Along.{Along}
+use Rattle.awk_eval.specs.Along.{Along}
 use Rattle.awk_phases.proofs.actions.action.Given as goal
 
 abbrev pub invariant-loop-x : goal.invariant-loop-x

@@ -5,10 +5,10 @@ use Rattle.awk_machine.specs.Pieces.{Do, Each}
 use Rattle.awk_machine.specs.Rules.{concatenated}
 use Rattle.awk_tasks.specs.Wholes.{names_in}
 use Rattle.awk_asks.proofs.Chain.{at_once, done, part, stop, turned}
-use Rattle.awk_eval_parts.proofs.Leading.{quietly}
-use Rattle.awk_eval_parts.proofs.Turns.{next_of}
+use Rattle.awk_eval.proofs.Leading.{quietly}
+use Rattle.awk_eval.proofs.Turns.{next_of}
 use Rattle.awk_forms.proofs.Rests.{drop_all}
-use Rattle.awk_eval_statements.proofs.Going.{each_on, each_off}
+use Rattle.awk_eval.proofs.Going.{each_on, each_off}
 use Rattle.awk_phases.proofs.actions.actions.Goals as goal
 
 pub loop-x-init : goal.loop-x-init

@@ -1,6 +1,6 @@
 use Rattle.std.proofs.Common.{refl}
 use Rattle.awk_asks.proofs.Chain.{at_once, passes}
-use Rattle.awk_eval_parts.proofs.Leading.{quietly}
+use Rattle.awk_eval.proofs.Leading.{quietly}
 use Rattle.awk_phases.proofs.rules.rule.Goals as goal
 
 pub returns-in-Always : goal.returns-in-Always

@@ -3,7 +3,7 @@ use Rattle.awk_program.specs.Program as p
 use Rattle.awk_program.specs.View.{view, view_statement}
 use Rattle.awk_machine.specs.Pieces.{At, Choosing}
 use Rattle.awk_tasks.specs.Wholes.{names_in}
-use Rattle.awk_eval_parts.specs.Along.{Along}
+use Rattle.awk_eval.specs.Along.{Along}
 use Rattle.awk_phases.specs.Rules.{rule_of}
 use Rattle.awk_phases.proofs.rules.within.Given as goal
 

@@ -1,6 +1,6 @@
 use Rattle.std.proofs.Common.{◌≡◌, length, arith}
 use Rattle.std.proofs.lemmas.Result.{err_from_is_err_and}
-use Rattle.awk_eval_parts.proofs.Turns.{next_of}
+use Rattle.awk_eval.proofs.Turns.{next_of}
 use Rattle.awk_forms.proofs.Rests.{drop_all}
 use Rattle.awk_phases.proofs.Preparing.{prepared, prepares_not, ready, unprepared}
 use Rattle.awk_phases.proofs.start.set_operands.Goals as goal

@@ -1,0 +1,226 @@
+// Statements.
+ghost use Rattle.std.specs.Prelude.{[], map, option_map};
+ghost use Rattle.awk_asks.specs.Tasks.{Owns};
+ghost use Rattle.awk_machine.specs.Pieces.{At, Do, Doing, Each, Start};
+ghost use Rattle.awk_program.specs.Program as p;
+ghost use Rattle.awk_program.specs.View.{view, view_statement, variable_of};
+ghost use Rattle.awk_tasks.specs.Wholes.{names_in};
+ghost use Rattle.awk_calls.specs.Flows.{flows};
+ghost use Rattle.awk_eval.specs.Runs.{Does, whole_of};
+
+use crate::context::{Context, Run};
+use crate::evaluates::Evaluates;
+use crate::lists::fill;
+use crate::loops::{first_then, over_keys, turn_first, while_loop};
+use crate::output::{print, printf};
+use crate::tests::{effect, truth_of};
+use awk_asks::halt::Halt;
+use awk_calls::Flow;
+use awk_calls::ends::is_on;
+use awk_calls::jumps::{exit, exit_with, next};
+use awk_forms::keys::remove;
+use awk_program::{Expr, Statement, Variable};
+use awk_text::place::Place;
+use box_world::world::World;
+
+/// Statements, one after the other.
+pub fn body<W: World, E: Evaluates<W>>(
+    cx: &Context<'_>,
+    xs: &[Statement],
+    on: E,
+    run: &mut Run,
+    world: &mut W,
+) -> Result<Flow, Halt>
+    requires can { E.can on }
+    requires owns { Owns (W.open_numbers world.old) run.old.streams }
+    ensures { Does W.World cx.now (λ g. Do (Each (map (view_statement (names_in g)) xs.now))) (λ g. flows)
+        (whole_of run.old) world.old result (whole_of run.new) world.new }
+{
+    for x in xs {
+        let flow = on.statement(cx, x, run, world)?;
+        if !is_on(&flow) {
+            return Ok(flow);
+        }
+    }
+    Ok(Flow::On)
+}
+
+/// What a statement does.
+pub fn perform<W: World, E: Evaluates<W>>(
+    cx: &Context<'_>,
+    x: &Statement,
+    on: E,
+    run: &mut Run,
+    world: &mut W,
+) -> Result<Flow, Halt>
+    requires can { E.can on }
+    requires owns { Owns (W.open_numbers world.old) run.old.streams }
+    ensures { Does W.World cx.now (λ g. At (Doing (view_statement (names_in g) x.now)) []) (λ g. flows)
+        (whole_of run.old) world.old result (whole_of run.new) world.new }
+{
+    match x {
+        Statement::Expr(e) => plain(cx, e, on, run, world),
+        Statement::Print(place, items, to) => {
+            print(cx, *place, items.as_slice(), to, on, run, world)
+        }
+        Statement::Printf(place, format, items, to) => {
+            printf(cx, *place, format, items.as_slice(), to, on, run, world)
+        }
+        Statement::Delete(place, array, keys) => {
+            delete(cx, *place, *array, keys.as_slice(), on, run, world)
+        }
+        Statement::Break => Ok(Flow::Break),
+        Statement::Continue => Ok(Flow::Continue),
+        Statement::Next(place) => Err(next(&mut run.store, *place)),
+        Statement::Exit(place, status) => leave_by(cx, *place, status, on, run, world),
+        Statement::Return(x) => give_back(cx, x, on, run, world),
+        Statement::Block(xs) => body(cx, xs.as_slice(), on, run, world),
+        Statement::If(test, then) => when(cx, test, then.get(), on, run, world),
+        Statement::IfElse(test, then, other) => {
+            either(cx, test, then.get(), other.get(), on, run, world)
+        }
+        Statement::While(test, inner) => { while_loop(cx, test, inner.get(), on, run, world) }
+        Statement::Do(inner, test) => turn_first(cx, inner.get(), test, on, run, world),
+        Statement::For(first, test, after, inner) => {
+            first_then(cx, first, test, inner.get(), after, on, run, world)
+        }
+        Statement::ForIn(place, key, array, inner) => {
+            over_keys(cx, *place, *key, *array, inner.get(), on, run, world)
+        }
+    }
+}
+
+/// An expression whose value nothing wants.
+pub fn plain<W: World, E: Evaluates<W>>(
+    cx: &Context<'_>,
+    e: &Expr,
+    on: E,
+    run: &mut Run,
+    world: &mut W,
+) -> Result<Flow, Halt>
+    requires can { E.can on }
+    requires owns { Owns (W.open_numbers world.old) run.old.streams }
+    ensures { Does W.World cx.now (λ g. At (Doing (p.plain (view (names_in g) e.now))) []) (λ g. flows)
+        (whole_of run.old) world.old result (whole_of run.new) world.new }
+{
+    effect(cx, e, on, run, world)?;
+    Ok(Flow::On)
+}
+
+/// `delete array [ list ]`
+fn delete<W: World, E: Evaluates<W>>(
+    cx: &Context<'_>,
+    place: Place,
+    array: Variable,
+    keys: &[Expr],
+    on: E,
+    run: &mut Run,
+    world: &mut W,
+) -> Result<Flow, Halt>
+    requires can { E.can on }
+    requires owns { Owns (W.open_numbers world.old) run.old.streams }
+    ensures { Does W.World cx.now (λ g. At (Doing (p.delete place (variable_of (names_in g) array) (map (view (names_in g)) keys.now))) []) (λ g. flows)
+        (whole_of run.old) world.old result (whole_of run.new) world.new }
+{
+    let mut values = Vec::new(cx.alloc);
+    fill(cx, keys, &mut values, on, run, world)?;
+    remove(
+        cx.alloc,
+        &mut run.line,
+        &mut run.store,
+        place,
+        array,
+        values.as_slice(),
+    )?;
+    Ok(Flow::On)
+}
+
+/// `exit`
+fn leave_by<W: World, E: Evaluates<W>>(
+    cx: &Context<'_>,
+    place: Place,
+    x: &Option<Expr>,
+    on: E,
+    run: &mut Run,
+    world: &mut W,
+) -> Result<Flow, Halt>
+    requires can { E.can on }
+    requires owns { Owns (W.open_numbers world.old) run.old.streams }
+    ensures { Does W.World cx.now (λ g. At (Doing (p.exit place (option_map (view (names_in g)) x.now))) []) (λ g. flows)
+        (whole_of run.old) world.old result (whole_of run.new) world.new }
+{
+    match x {
+        None => Err(exit(&mut run.store)),
+        Some(x) => {
+            let status = on.value(cx, x, run, world)?;
+            Err(exit_with(&mut run.store, place, &status))
+        }
+    }
+}
+
+/// `return`
+fn give_back<W: World, E: Evaluates<W>>(
+    cx: &Context<'_>,
+    x: &Option<Expr>,
+    on: E,
+    run: &mut Run,
+    world: &mut W,
+) -> Result<Flow, Halt>
+    requires can { E.can on }
+    requires owns { Owns (W.open_numbers world.old) run.old.streams }
+    ensures { Does W.World cx.now (λ g. At (Doing (p.return (option_map (view (names_in g)) x.now))) []) (λ g. flows)
+        (whole_of run.old) world.old result (whole_of run.new) world.new }
+{
+    match x {
+        None => Ok(Flow::Return(None)),
+        Some(x) => {
+            let answer = on.value(cx, x, run, world)?;
+            Ok(Flow::Return(Some(answer)))
+        }
+    }
+}
+
+/// `if ( test ) then`
+fn when<W: World, E: Evaluates<W>>(
+    cx: &Context<'_>,
+    test: &Expr,
+    then: &Statement,
+    on: E,
+    run: &mut Run,
+    world: &mut W,
+) -> Result<Flow, Halt>
+    requires can { E.can on }
+    requires owns { Owns (W.open_numbers world.old) run.old.streams }
+    ensures { Does W.World cx.now (λ g. At (Doing (p.if_then (view (names_in g) test.now) (view_statement (names_in g) then.now))) []) (λ g. flows)
+        (whole_of run.old) world.old result (whole_of run.new) world.new }
+{
+    let holds = truth_of(cx, test, on, run, world)?;
+    if holds {
+        on.statement(cx, then, run, world)
+    } else {
+        Ok(Flow::On)
+    }
+}
+
+/// `if ( test ) then else other`
+fn either<W: World, E: Evaluates<W>>(
+    cx: &Context<'_>,
+    test: &Expr,
+    then: &Statement,
+    other: &Statement,
+    on: E,
+    run: &mut Run,
+    world: &mut W,
+) -> Result<Flow, Halt>
+    requires can { E.can on }
+    requires owns { Owns (W.open_numbers world.old) run.old.streams }
+    ensures { Does W.World cx.now (λ g. At (Doing (p.if_else (view (names_in g) test.now) (view_statement (names_in g) then.now) (view_statement (names_in g) other.now))) []) (λ g. flows)
+        (whole_of run.old) world.old result (whole_of run.new) world.new }
+{
+    let holds = truth_of(cx, test, on, run, world)?;
+    if holds {
+        on.statement(cx, then, run, world)
+    } else {
+        on.statement(cx, other, run, world)
+    }
+}
