@@ -10,10 +10,12 @@ ghost use Rattle.awk_program.specs.View.{view, view_statement};
 ghost use Rattle.awk_tasks.specs.Wholes.{names_in};
 
 use crate::calls::call;
+use crate::context::{Context, Run};
+use crate::evaluates::Evaluates;
 use crate::expressions::{chain, choose, evaluate};
 use crate::inputs::{from_commands, from_file};
 use crate::statements::{perform, plain};
-use crate::{Context, Evaluates, Run, statements, tests};
+use crate::{statements, tests};
 use awk_asks::halt::Halt;
 use awk_calls::Flow;
 use awk_calls::steps::{is_one, step};
