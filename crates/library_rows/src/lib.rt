@@ -8,6 +8,7 @@ pub mod library;
 pub mod monitors;
 pub mod patterns;
 pub mod policies;
+pub mod readers;
 pub mod records;
 pub mod tokens;
 pub mod values;

@@ -1,5 +1,6 @@
 // A record whose fields are set, a step after the other.
 
+use crate::readers;
 use awk_fields::{Record, Splitter};
 use awk_text::fault::Fault;
 use awk_text::octets::Octets;
@@ -56,11 +57,20 @@ fn step(alloc: Global, record: &mut Record, args: &[Arg<'_>]) -> Answer {
 }
 
 /// The answers of the steps, on a record that begins empty.
-pub fn block(alloc: Global, steps: &[Row<'_>]) -> Result<Vec<Octets>, Problem> {
+fn record_block(alloc: Global, steps: &[Row<'_>]) -> Result<Vec<Octets>, Problem> {
     let mut record = Record::new(alloc);
     let mut answers = Vec::new(alloc);
     for row in steps {
         answers.push(told(alloc, step(alloc, &mut record, &row.args))?)?;
     }
     Ok(answers)
+}
+
+/// The answers of the steps, on a record or on a reader.
+pub fn block(alloc: Global, args: &[Arg<'_>], steps: &[Row<'_>]) -> Result<Vec<Octets>, Problem> {
+    match name(args, 0) {
+        "record" => record_block(alloc, steps),
+        "reader" => readers::block(alloc, steps),
+        _ => Err(Problem::NoCall),
+    }
 }

@@ -104,7 +104,7 @@ impl Table {
         steps: &[Row<'_>],
     ) -> Result<Vec<Octets>, Problem> {
         match self {
-            Table::Fields => records::block(alloc, steps),
+            Table::Fields => records::block(alloc, args, steps),
             Table::Library => library::block(alloc, steps),
             Table::Policies => policies::block(alloc, args, steps),
             Table::Worlds => worlds::block(alloc, steps),
