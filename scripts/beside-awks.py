@@ -73,7 +73,7 @@ positive
     2 operand length(<any>)
     1 operand length()
     2 operand index(<any>, <word>)
-    1 operand (<condition>)
+    1 operand (!(<condition>))
     1 operand ARGC
     1 operand <power>
 power
