@@ -1,6 +1,6 @@
 // What is said of a row whose memory was refused once.
 
-use crate::listings::listing;
+use crate::listings::listing_of;
 use crate::rows::begin;
 use crate::said::Said;
 use crate::same::is_begun;
@@ -64,7 +64,7 @@ fn judged(run: &Run, whole: &Run) -> Said {
 }
 
 /// Runs the first, whose memory is refused once, and then the second, which has all.
-fn run(alloc: Global, first: Start, second: Start, before: usize) -> Said {
+fn run_twice(alloc: Global, first: Start, second: Start, before: usize) -> Said {
     if let Some(number) = spend(alloc, before) {
         return Said::Early(number);
     }
@@ -79,12 +79,12 @@ fn run(alloc: Global, first: Start, second: Start, before: usize) -> Said {
 }
 
 /// What the row of the name says, after so many growths.
-fn said(alloc: Global, name: &str, before: usize) -> Said {
-    if let Some(listing) = listing(name) {
+fn answer_of(alloc: Global, name: &str, before: usize) -> Said {
+    if let Some(listing) = listing_of(name) {
         return listing.said(alloc, before);
     }
     match (begin(alloc, name), begin(alloc, name)) {
-        (Ok(Some(first)), Ok(Some(second))) => run(alloc, first, second, before),
+        (Ok(Some(first)), Ok(Some(second))) => run_twice(alloc, first, second, before),
         _ => Said::Nothing,
     }
 }
@@ -95,7 +95,7 @@ pub fn said_by(alloc: Global, line: &str) -> Said {
         return Said::Nothing;
     };
     match number.parse() {
-        Ok(before) => said(alloc, name, before),
+        Ok(before) => answer_of(alloc, name, before),
         Err(_) => Said::Nothing,
     }
 }

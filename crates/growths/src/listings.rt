@@ -25,7 +25,7 @@ pub struct Listing {
 }
 
 /// The row of this name.
-pub fn listing(name: &str) -> Option<Listing> {
+pub fn listing_of(name: &str) -> Option<Listing> {
     let (script, is_judged) = match name {
         "check-clean" => (WRITE, true),
         "check-refused" => (RUN, true),
