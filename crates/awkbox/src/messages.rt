@@ -190,7 +190,7 @@ impl fmt::Display for Message {
                 write!(f, "awkbox: not started in the policy's base \"{base}\"")
             }
             Message::CannotEnter(name) => write!(f, "awkbox: cannot enter \"{name}\""),
-            Message::SmallStack => f.write_str("awkbox: the stack is smaller than 8 MiB"),
+            Message::SmallStack => write!(f, "awkbox: the stack is smaller than 8 MiB"),
             Message::OutOfMemory => {
                 let text = Fault::Memory.text();
                 write!(f, "awkbox: F13 {text}")

@@ -62,11 +62,11 @@ fn leads_to(rt: &HostRuntime, name: &str, file: Identity) -> bool {
 }
 
 // Whether an operand is NAME=TEXT, and so names no file.
-fn is_assignment(operand: &[u8]) -> bool {
-    let Some(end) = operand.iter().position(|b| *b == b'=') else {
+fn is_assignment(operand: &str) -> bool {
+    let Some((name, _)) = operand.split_once('=') else {
         return false;
     };
-    let name = &operand[..end];
+    let name = name.as_bytes();
     match name.first() {
         Some(first) if !first.is_ascii_digit() => {
             name.iter().all(|b| b.is_ascii_alphanumeric() || *b == b'_')
@@ -77,7 +77,7 @@ fn is_assignment(operand: &[u8]) -> bool {
 
 fn is_named(rt: &HostRuntime, operand: &[u8], file: Identity) -> bool {
     match std::str::from_utf8(operand) {
-        Ok(name) => !is_assignment(operand) && leads_to(rt, name, file),
+        Ok(name) => !is_assignment(name) && leads_to(rt, name, file),
         Err(_) => false,
     }
 }
@@ -94,7 +94,7 @@ pub fn is_taken(
     let file = Identity::of(log);
     log.is_file()
         && (sources.contains(&file)
-            || STREAMS.iter().any(|name| leads_to(rt, name, file))
+            || STREAMS.iter().any(|name| leads_to(rt, *name, file))
             || operands.iter().any(|word| is_named(rt, word.bytes(), file)))
 }
 

@@ -10,7 +10,12 @@ pub struct OwnName {
 }
 
 // The name as it was given, from the root on, and the one without links, where they differ.
-fn add(rt: &HostRuntime, names: &mut Vec<OwnName>, file: OwnFile, name: &str) -> Result<(), Memory> {
+fn add(
+    rt: &HostRuntime,
+    names: &mut Vec<OwnName>,
+    file: OwnFile,
+    name: &str,
+) -> Result<(), Memory> {
     let given = match std::path::absolute(rt, name) {
         Ok(path) => path.into_string(),
         Err(_) => return Ok(()),

@@ -69,11 +69,32 @@ fn run_files(rt: &HostRuntime, run: &Run<'_>, operands: Vec<Octets>) -> Result<E
     let log = open_log_of(rt, run.log)?;
     let names = own_names(rt, run)?;
     enter(rt, run.folder)?;
-    let log = empty_log(rt, run, log, &[policy.identity, script.identity], setup.operands())?;
-    let (policy, script) = (policy.bytes.as_slice(), script.bytes.as_slice());
-    look(rt, policy, script, &setup, names.as_slice())?;
+    let log = empty_log(
+        rt,
+        run,
+        log,
+        &[policy.identity, script.identity],
+        setup.operands(),
+    )?;
+    let policy = policy.bytes;
+    let script = script.bytes;
+    look(
+        rt,
+        policy.as_slice(),
+        script.as_slice(),
+        &setup,
+        names.as_slice(),
+    )?;
     let world = OsWorld::new(rt.clone()?);
-    let driven = drive(rt.alloc(), policy, script, &setup, run.steps, world, log);
+    let driven = drive(
+        rt.alloc(),
+        policy.as_slice(),
+        script.as_slice(),
+        &setup,
+        run.steps,
+        world,
+        log,
+    );
     Ok(Ending::of(driven.answer))
 }
 

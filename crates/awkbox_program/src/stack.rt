@@ -13,8 +13,15 @@ fn limits(rt: &HostRuntime) -> Option<String> {
         return None;
     };
     match read_limited(rt.alloc(), &mut file, LONGEST_TABLE) {
-        Ok(bytes) => String::from_utf8(bytes).ok(),
+        Ok(bytes) => text_of(bytes),
         Err(_) => None,
+    }
+}
+
+fn text_of(bytes: Vec<u8>) -> Option<String> {
+    match String::from_utf8(bytes) {
+        Ok(text) => Some(text),
+        Err(_bytes) => None,
     }
 }
 
@@ -23,7 +30,10 @@ fn limit_in(table: &str) -> Option<u64> {
     for line in table.lines() {
         if let Some(row) = line.strip_prefix("Max stack size") {
             let word = row.split_ascii_whitespace().next()?;
-            return word.parse::<u64>().ok();
+            return match word.parse::<u64>() {
+                Ok(limit) => Some(limit),
+                Err(_) => None,
+            };
         }
     }
     None
@@ -31,8 +41,11 @@ fn limit_in(table: &str) -> Option<u64> {
 
 /// Whether the system says that the stack is smaller than what is counted on. No, where it does not say.
 pub fn is_small(rt: &HostRuntime) -> bool {
-    match limits(rt) {
-        Some(table) => limit_in(table.as_str()).is_some_and(|limit| limit < LEAST),
+    let Some(table) = limits(rt) else {
+        return false;
+    };
+    match limit_in(table.as_str()) {
+        Some(limit) => limit < LEAST,
         None => false,
     }
 }

@@ -38,11 +38,7 @@ fn reader(left: usize, most: usize) -> FakeReader {
     }
 }
 
-fn length_of(
-    alloc: Global,
-    reader: &mut FakeReader,
-    limit: usize,
-) -> Result<usize, ReadError> {
+fn length_of(alloc: Global, reader: &mut FakeReader, limit: usize) -> Result<usize, ReadError> {
     Ok(read_limited(alloc, reader, limit)?.len())
 }
 
