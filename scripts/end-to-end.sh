@@ -911,6 +911,41 @@ status=$?
 told 0 "" ""
 verdict "a listing that cannot be written"
 
+# Texts that break off, or nest without end: each is taken or refused.
+
+# ends_well MOST: whether the last run ended by itself, with at most this status
+ends_well() { [ "$status" -le "$1" ]; }
+for example in report-host/report teaching-server/exercise log-pipeline/step; do
+    whole=$examples/$example.awk
+    told=yes
+    for ((length = 0; length <= $(stat -c %s "$whole"); length++)); do
+        head -c "$length" "$whole" >"$work/script.awk"
+        awkbox list -f "$work/script.awk"
+        ends_well 0 || grep -qx 'awkbox: script [0-9]*:[0-9]* S[1-9]' "$work/errors" || told="no: $length bytes"
+    done
+    [ "$told" = yes ]
+    verdict "the script of the example $example, broken off at each byte (told: $told)"
+    whole=$examples/${example%/*}/policy.toml
+    script 'BEGIN { }'
+    told=yes
+    for ((length = 0; length <= $(stat -c %s "$whole"); length++)); do
+        head -c "$length" "$whole" >"$work/policy.toml"
+        check
+        ends_well 0 || grep -Eqx 'awkbox: policy P[1-7]( rule [0-9]+)?' "$work/errors" || told="no: $length bytes"
+    done
+    [ "$told" = yes ]
+    verdict "the policy of the example ${example%/*}, broken off at each byte (told: $told)"
+done
+head -c 100000 /dev/zero | tr '\0' '[' >"$work/policy.toml"
+check
+told 3 "" "awkbox: policy P1$line"
+verdict "a policy of brackets alone"
+no_rules
+head -c 1000000 /dev/zero | tr '\0' '(' >"$work/script.awk"
+check
+told 3 "" "awkbox: script 1:201 S5$line"
+verdict "a script of parentheses alone"
+
 # What commands give back, and a pipe that nobody reads.
 
 any_command
