@@ -4,6 +4,8 @@
 #![tactic(auto)]
 
 #[cfg(test)]
+mod limited;
+#[cfg(test)]
 mod monitors;
 #[cfg(test)]
 mod os_world;
