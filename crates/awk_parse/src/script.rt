@@ -13,10 +13,9 @@ ghost use Rattle.awk_tree.specs.Tree as t;
 ghost use Rattle.awk_tree.specs.View.{view_item};
 
 use crate::flaw::Flaw;
-use awk_resolve::Kinds;
-use awk_resolve::{Part, misdefined, misplaced, names_environ, parts, reads_main};
-use awk_program::Program;
 use awk_lowering::lower;
+use awk_program::Program;
+use awk_resolve::{Kinds, Part, misdefined, misplaced, names_environ, parts, reads_main};
 use awk_text::Memory;
 use awk_tokens::Token;
 use awk_tree::Item;
