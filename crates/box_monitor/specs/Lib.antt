@@ -2,6 +2,7 @@ pub mod Subjects
 pub mod Told
 pub mod Denials
 pub mod Asked
+pub mod Judged
 pub mod Lines
 pub mod Watch
 pub mod Leads

@@ -3,9 +3,11 @@ ghost use Rattle.std.specs.Prelude.{◌≡◌};
 ghost use Rattle.box_monitor.specs.Denials.{denial_of};
 ghost use Rattle.box_monitor.specs.Subjects.{kind_of, subject_of};
 
+use crate::judge::{Judge, Question};
 use awk_text::place::Place;
-use box_policy::policy::{Decision, Kind, Policy};
+use box_policy::policy::{Decision, Kind};
 use box_world::ask::{Ask, Mode, Request};
+use std::alloc::Global;
 use std::marker::Model;
 
 /// What a policy decides on: a path, a command or a name, and what is to be done with it.
@@ -70,11 +72,13 @@ fn subject_of<'a>(request: &'a Request) -> Option<Subject<'a>>
 }
 
 /// The denial, where the policy denies the ask.
-pub fn denial_of<'a>(policy: &Policy, ask: &'a Ask) -> Option<Denial<'a>>
-    ensures { result ≡ denial_of policy.now ask.now }
+pub fn denial_of<'a>(alloc: Global, judge: &mut Judge, ask: &'a Ask) -> Option<Denial<'a>>
+    ensures value { result ≡ denial_of judge.old ask.now }
+    ensures same { judge.new ≡ judge.old }
 {
     let Subject { kind, text } = subject_of(&ask.request)?;
-    let rule = match policy.decide(kind, text, ask.given) {
+    let given = ask.given;
+    let rule = match judge.decide(alloc, Question { kind, given, text }) {
         Decision::Allow(_) => return None,
         Decision::Deny(rule) => Some(rule),
         Decision::NoRule => None,

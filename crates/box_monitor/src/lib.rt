@@ -3,6 +3,7 @@
 #![tactic(auto)]
 
 mod denial;
+mod judge;
 mod line;
 pub mod log_end;
 pub mod monitor;

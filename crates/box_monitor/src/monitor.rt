@@ -11,6 +11,7 @@ ghost use Rattle.box_monitor.specs.Stops.{Stops};
 ghost use Rattle.box_monitor.specs.declared.log_end.LogEnd.TheVariants.{Whole};
 
 use crate::denial::{Denial, denial_of};
+use crate::judge::Judge;
 use crate::line::line_of;
 use crate::log_end::LogEnd;
 use crate::write::write_line;
@@ -32,7 +33,7 @@ use std::marker::Model;
 /// `Stop::Log` of the world behind, every ask is answered `Stop::Log` and does nothing.
 #[derive(Drop)]
 pub struct Monitor<W: World, L: Write> {
-    policy: Policy,
+    judge: Judge,
     world: W,
     log: L,
     denials: u64,
@@ -47,7 +48,7 @@ impl<W: World, L: Write> Model for Monitor<W, L> {
     ghost Value = { Watch W L };
 
     ghost view = { λ m. record {
-      policy = m.policy;
+      policy = m.judge;
       world = m.world;
       log = m.log;
       denials = m.denials;
@@ -62,7 +63,7 @@ impl<W: World, L: Write> Monitor<W, L> {
             record { policy = policy; world = world; log = log; denials = 0; stop = None } }
     {
         Monitor {
-            policy,
+            judge: Judge::new(policy),
             world,
             log,
             denials: 0,
@@ -75,7 +76,7 @@ impl<W: World, L: Write> Monitor<W, L> {
     pub fn into_parts(self) -> (Policy, W, L)
         ensures { result ≡ (self.policy, self.world, self.log) }
     {
-        (self.policy, self.world, self.log)
+        (self.judge.into_policy(), self.world, self.log)
     }
 
     /// How many asks were denied and answered; it stays at 2^64 - 1 from there on. Takes no memory.
@@ -179,7 +180,7 @@ impl<W: World, L: Write> World for Monitor<W, L> {
         if self.stop.is_some() {
             return Err(Stop::Log);
         }
-        match denial_of(&self.policy, ask) {
+        match denial_of(self.alloc, &mut self.judge, ask) {
             Some(denial) => self.refuse(&denial),
             None => self.pass(ask),
         }
