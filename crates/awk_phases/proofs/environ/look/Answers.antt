@@ -20,9 +20,9 @@ returns-in_err-found g c =
       owns = rw c.environment.ensures.numbers c.requires;
     })
 
-pub returns-in_default-found : goal.returns-in_default-found
-returns-in_default-found g c = λ names. record {
-  plays = λ m is. done (part None (at_once _ _ _) (lifted m c.args.run.now.store (λ s. rw c.in_ok-sent.ensures at (c.environment.ensures.task m s c.args.run.now.streams names))) (c.in_ok-found.was ∙ ap (λ o. Ok o) c.in_default-found.is));
+pub returns-in_default : goal.returns-in_default
+returns-in_default g c = λ names. record {
+  plays = λ m is. done (part None (at_once _ _ _) (lifted m c.args.run.now.store (λ s. rw c.in_ok-sent.ensures at (c.environment.ensures.task m s c.args.run.now.streams names))) (c.in_ok-found.was ∙ ap (λ o. Ok o) c.in_default.is));
   owns = rw c.environment.ensures.numbers c.requires;
 }
 
