@@ -74,10 +74,19 @@ impl Listing {
         let Ok(told) = first else {
             return Said::Answer("Memory");
         };
-        match (told.lines(alloc), self.call(alloc, script, policy)) {
-            (Ok(lines), Ok(whole)) if is_told(alloc, &whole, &lines) => Said::Answer("own"),
-            _ => Said::Answer("wrong"),
-        }
+        Said::Answer(if self.is_own(alloc, script, policy, &told) {
+            "own"
+        } else {
+            "wrong"
+        })
+    }
+
+    /// Whether a call with all memory answers the same.
+    fn is_own(self, alloc: Global, script: &Script, policy: &Policy, told: &Told) -> bool {
+        let (Ok(lines), Ok(whole)) = (told.lines(alloc), self.call(alloc, script, policy)) else {
+            return false;
+        };
+        is_told(alloc, &whole, &lines)
     }
 
     /// What the row says, after so many growths.

@@ -37,13 +37,15 @@ impl Start {
     }
 
     pub fn operand(mut self, text: &[u8]) -> Result<Start, Memory> {
-        self.operands.push(octets(self.alloc, text)?)?;
+        let text = octets(self.alloc, text)?;
+        self.operands.push(text)?;
         Ok(self)
     }
 
     pub fn file(mut self, name: &[u8], bytes: &[u8]) -> Result<Start, Memory> {
         let name = octets(self.alloc, name)?;
-        self.world.put_file(name, octets(self.alloc, bytes)?)?;
+        let bytes = octets(self.alloc, bytes)?;
+        self.world.put_file(name, bytes)?;
         Ok(self)
     }
 
