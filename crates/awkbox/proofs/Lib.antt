@@ -1,4 +1,3 @@
-mod Consumed
 pub mod Driving
 pub mod OneAnswer
 pub mod Passing

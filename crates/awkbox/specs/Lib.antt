@@ -3,4 +3,3 @@ pub mod Drives
 pub mod Endings
 pub mod Laws
 pub mod Messages
-pub mod Warnings

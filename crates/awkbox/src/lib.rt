@@ -10,7 +10,6 @@
 mod accepting;
 mod driver;
 pub mod laws;
-mod limited_read;
 mod messages;
 
 pub use accepting::{Refusal, policy_of};
@@ -23,10 +22,9 @@ pub use awk_tokens::SyntaxError;
 pub use box_monitor::log_end::LogEnd;
 pub use box_os::OsWorld;
 pub use box_policy::error::PolicyError;
-pub use box_policy::policy::{Decision, Kind, Policy};
+pub use box_policy::policy::Policy;
 pub use box_world::ask::{Ask, Mode, Reply, Request, Stop};
 pub use box_world::memory_world::MemoryWorld;
 pub use box_world::world::World;
 pub use driver::{Driven, drive};
-pub use limited_read::{ReadError, read_limited};
-pub use messages::{Access, Ending, Message, OwnFile, Warning};
+pub use messages::{Ending, Message, Warning};

@@ -32,42 +32,16 @@ pub enum Message {
     CannotRead(String),
     /// A file could not be made or emptied. The name is quoted, as the log of denials has it.
     CannotWrite(String),
-    /// Rules speak of files, and the program does not run in the base of the policy. The base is quoted,
-    /// as the log of denials has it.
-    OutsideBase(String),
-    /// The folder that the run is to be in cannot be entered. Its name is quoted, as the log of denials
-    /// has it.
-    CannotEnter(String),
-    /// The stack that the system gives is smaller than what is counted on.
-    SmallStack,
     /// Memory was refused outside the run.
     OutOfMemory,
 }
 
-/// One of the files that a run is started with.
-#[derive(Clone, Copy, Debug, PartialEq, Eq, Drop)]
-pub enum OwnFile {
-    Log,
-    Policy,
-    Script,
-}
-
-/// What a rule may allow a script to do with a file.
-#[derive(Clone, Copy, Debug, PartialEq, Eq, Drop)]
-pub enum Access {
-    Write,
-    Append,
-    Run,
-}
-
-/// One line on standard error, before a run that goes on: the rule of this number allows a script this
-/// access to a file that the run is started with. The name is quoted, as the log of denials has it.
+/// One line on standard error, before a run that goes on.
 #[derive(Debug, Drop)]
-pub struct Warning {
-    rule: u32,
-    access: Access,
-    file: OwnFile,
-    name: String,
+pub enum Warning {
+    /// The program runs in another folder than the base of the policy, though rules speak of files.
+    /// The base is quoted, as the log of denials has it.
+    OutsideBase(String),
 }
 
 /// How the program ends.
@@ -101,7 +75,7 @@ fn quoted_name(alloc: Global, name: &str) -> Result<String, Memory>
 }
 
 impl Message {
-    ghost use Rattle.awkbox.specs.Messages.{message_status, SaysCannotEnter, SaysCannotRead, SaysCannotWrite, SaysOutsideBase};
+    ghost use Rattle.awkbox.specs.Messages.{message_status, SaysCannotRead, SaysCannotWrite};
 
     /// That the file of this name cannot be read; `OutOfMemory` where memory for that is refused.
     pub fn cannot_read(alloc: Global, name: &str) -> Message
@@ -124,26 +98,6 @@ impl Message {
         }
     }
 
-    /// That the program does not run in this base; `OutOfMemory` where memory for that is refused.
-    pub fn outside_base(alloc: Global, base: &str) -> Message
-        ensures { SaysOutsideBase base.now result }
-    {
-        match quoted_name(alloc, base) {
-            Ok(base) => Message::OutsideBase(base),
-            Err(_) => Message::OutOfMemory,
-        }
-    }
-
-    /// That the folder of this name cannot be entered; `OutOfMemory` where memory for that is refused.
-    pub fn cannot_enter(alloc: Global, name: &str) -> Message
-        ensures { SaysCannotEnter name.now result }
-    {
-        match quoted_name(alloc, name) {
-            Ok(name) => Message::CannotEnter(name),
-            Err(_) => Message::OutOfMemory,
-        }
-    }
-
     /// The exit status: 2 for a fault, 4 where the steps ran out, and 3 where something was refused
     /// before the run.
     pub fn status(&self) -> u8
@@ -157,10 +111,7 @@ impl Message {
             | Message::Unspelled(_)
             | Message::Assignment(_)
             | Message::CannotRead(_)
-            | Message::CannotWrite(_)
-            | Message::OutsideBase(_)
-            | Message::CannotEnter(_)
-            | Message::SmallStack => 3,
+            | Message::CannotWrite(_) => 3,
         }
     }
 }
@@ -186,11 +137,6 @@ impl fmt::Display for Message {
             Message::Assignment(pair) => write!(f, "awkbox: assignment {pair} U3"),
             Message::CannotRead(name) => write!(f, "awkbox: cannot read \"{name}\""),
             Message::CannotWrite(name) => write!(f, "awkbox: cannot write \"{name}\""),
-            Message::OutsideBase(base) => {
-                write!(f, "awkbox: not started in the policy's base \"{base}\"")
-            }
-            Message::CannotEnter(name) => write!(f, "awkbox: cannot enter \"{name}\""),
-            Message::SmallStack => write!(f, "awkbox: the stack is smaller than 8 MiB"),
             Message::OutOfMemory => {
                 let text = Fault::Memory.text();
                 write!(f, "awkbox: F13 {text}")
@@ -199,71 +145,31 @@ impl fmt::Display for Message {
     }
 }
 
-impl Access {
-    ghost use Rattle.awkbox.specs.Warnings.{access_text};
-
-    // What a script does with the file.
-    fn text(self) -> &'static str
-        ensures { result.now ≡ access_text self }
-    {
-        match self {
-            Access::Write => "writing",
-            Access::Append => "appending to",
-            Access::Run => "running",
-        }
-    }
-}
-
-impl OwnFile {
-    ghost use Rattle.awkbox.specs.Warnings.{file_text};
-
-    // What the file is to the run.
-    fn text(self) -> &'static str
-        ensures { result.now ≡ file_text self }
-    {
-        match self {
-            OwnFile::Log => "log",
-            OwnFile::Policy => "policy",
-            OwnFile::Script => "script",
-        }
-    }
-}
-
 impl Warning {
-    ghost use Rattle.awkbox.specs.Warnings.{Warns};
+    ghost use Rattle.awkbox.specs.Messages.{WarnsOutside};
 
-    /// That the rule of this number allows this access to the file of this name.
-    pub fn new(
-        alloc: Global,
-        rule: u32,
-        access: Access,
-        file: OwnFile,
-        name: &str,
-    ) -> Result<Warning, Memory>
-        ensures { IfOk result (Warns rule access file name.now) }
+    /// That the run starts outside this base.
+    pub fn outside_base(alloc: Global, base: &str) -> Result<Warning, Memory>
+        ensures { IfOk result (WarnsOutside base.now) }
     {
-        let name = quoted_name(alloc, name)?;
-        Ok(Warning {
-            rule,
-            access,
-            file,
-            name,
-        })
+        Ok(Warning::OutsideBase(quoted_name(alloc, base)?))
     }
 }
 
 impl fmt::Display for Warning {
-    ghost use Rattle.awkbox.specs.Warnings.{warning_text};
+    ghost use Rattle.awkbox.specs.Messages.{warning_text};
 
     ghost output = { λ warning. Some (warning_text warning) };
 
     fn fmt<W: fmt::Write>(&self, f: &mut fmt::Formatter<W>) -> fmt::Result {
-        let (rule, access, file) = (self.rule, self.access.text(), self.file.text());
-        let name = self.name.as_str();
-        write!(
-            f,
-            "awkbox: warning: rule {rule} allows {access} the {file} \"{name}\""
-        )
+        match self {
+            Warning::OutsideBase(base) => {
+                write!(
+                    f,
+                    "awkbox: warning: started outside the policy's base \"{base}\""
+                )
+            }
+        }
     }
 }
 

@@ -9,12 +9,6 @@ pub struct Run<'a> {
     pub policy: &'a str,
     pub log: &'a str,
     pub script: &'a str,
-    /// Whether the log goes on behind what it holds.
-    pub log_append: bool,
-    /// How many bytes the run may write to the log.
-    pub log_limit: Option<u64>,
-    /// The folder that the run is in.
-    pub folder: Option<&'a str>,
     /// How many steps the run may take.
     pub steps: u64,
     /// The text that FS is set to.
@@ -34,8 +28,8 @@ pub enum Asked<'a> {
 /// The name that users know the program by, whatever the file is called that runs.
 pub const NAME: &str = "awkbox";
 
-/// The most steps that a run may take, and the most bytes that its log may be bounded by.
-const MOST: u64 = 1_000_000_000_000;
+/// The most steps that a run may take.
+const MOST_STEPS: u64 = 1_000_000_000_000;
 
 // The words of the commands, options and statuses stand in docs/options.txt too, for the manual page
 // and the completions; scripts/end-to-end.sh compares them.
@@ -74,23 +68,6 @@ fn log<'a>(alloc: Global) -> Arg<'a> {
     option(alloc, "log", "FILE", help)
         .long("log")
         .required(true)
-}
-
-fn log_append<'a>(alloc: Global) -> Arg<'a> {
-    Arg::new(alloc, "log-append")
-        .long("log-append")
-        .action(ArgAction::SetTrue)
-        .help("Keeps what the log holds, and adds to it")
-}
-
-fn log_limit<'a>(alloc: Global) -> Arg<'a> {
-    let help = "How many bytes the run may add to the log; at a line past it the run ends";
-    option(alloc, "log-limit", "BYTES", help).long("log-limit")
-}
-
-fn folder<'a>(alloc: Global) -> Arg<'a> {
-    let help = "The folder that the run is in; the other options name files from where it starts";
-    option(alloc, "folder", "DIR", help).short('C')
 }
 
 fn script<'a>(alloc: Global) -> Arg<'a> {
@@ -133,9 +110,6 @@ fn run_command<'a>(alloc: Global) -> Result<Command<'a>, AllocError> {
         .after_help(RUN_STATUSES)
         .arg(policy(alloc))?
         .arg(log(alloc))?
-        .arg(log_append(alloc))?
-        .arg(log_limit(alloc))?
-        .arg(folder(alloc))?
         .arg(steps(alloc))?
         .arg(separator(alloc))?
         .arg(assigns(alloc))?
@@ -169,12 +143,12 @@ fn command<'a>(alloc: Global) -> Result<Command<'a>, AllocError> {
 }
 
 // Digits alone, where `parse` would take a sign too.
-fn number_of(text: &str) -> Option<u64> {
+fn steps_of(text: &str) -> Option<u64> {
     if !text.as_bytes().iter().all(|b| b.is_ascii_digit()) {
         return None;
     }
     match text.parse::<u64>() {
-        Ok(number) if number <= MOST => Some(number),
+        Ok(steps) if steps <= MOST_STEPS => Some(steps),
         _ => None,
     }
 }
@@ -195,38 +169,16 @@ fn value_of<'a>(alloc: Global, matches: &ArgMatches<'a>, id: &str) -> Result<&'a
     }
 }
 
-fn steps_of(alloc: Global, matches: &ArgMatches<'_>) -> Result<u64, Error> {
-    match number_of(value_of(alloc, matches, "steps")?) {
-        Some(steps) => Ok(steps),
-        None => {
-            let text = "the value of --steps is not a whole number from 0 to 1000000000000";
-            Err(fault(alloc, text))
-        }
-    }
-}
-
-fn log_limit_of(alloc: Global, matches: &ArgMatches<'_>) -> Result<Option<u64>, Error> {
-    let Some(text) = matches.get_str("log-limit") else {
-        return Ok(None);
-    };
-    match number_of(text) {
-        Some(limit) => Ok(Some(limit)),
-        None => {
-            let text = "the value of --log-limit is not a whole number from 0 to 1000000000000";
-            Err(fault(alloc, text))
-        }
-    }
-}
-
 fn run_of<'a>(alloc: Global, matches: &ArgMatches<'a>) -> Result<Run<'a>, Error> {
+    let Some(steps) = steps_of(value_of(alloc, matches, "steps")?) else {
+        let text = "the value of --steps is not a whole number from 0 to 1000000000000";
+        return Err(fault(alloc, text));
+    };
     Ok(Run {
         policy: value_of(alloc, matches, "policy")?,
         log: value_of(alloc, matches, "log")?,
         script: value_of(alloc, matches, "script")?,
-        log_append: matches.get_flag("log-append"),
-        log_limit: log_limit_of(alloc, matches)?,
-        folder: matches.get_str("folder"),
-        steps: steps_of(alloc, matches)?,
+        steps,
         separator: matches.get_str("separator"),
         assigns: assigns_of(alloc, matches)?,
     })

@@ -4,12 +4,9 @@
 
 mod command_line;
 mod files;
-mod log;
-mod own_files;
 mod process;
 mod program;
 mod setup;
-mod stack;
 mod standard;
 mod words;
 

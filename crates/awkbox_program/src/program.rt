@@ -1,16 +1,12 @@
 // The program from its words to its exit status.
 use crate::command_line::{Asked, Run};
-use crate::files::{Identity, Source, is_taken, open_log, read, runs_in};
-use crate::log::Log;
-use crate::own_files::{OwnName, own_names, warn};
+use crate::files::{Identity, Source, make_log, read, runs_in};
 use crate::setup::setup_of;
-use crate::stack::is_small;
 use crate::standard::hold_closed;
 use crate::words::Words;
 use crate::{command_line, standard, words};
-use awkbox::{Ending, Message, Octets, OsWorld, Setup, drive, policy_of};
+use awkbox::{Ending, Message, Octets, OsWorld, Setup, Warning, drive, policy_of};
 use awkbox_listing::{Answer, Refusal, check, list};
-use std::env::set_current_dir;
 use std::fs::File;
 
 /// The exit status where the words are at fault.
@@ -19,9 +15,6 @@ const WORDS_REFUSED: u8 = 3;
 /// Does what the words ask for, tells on standard error what went wrong, and gives the exit status.
 /// A message that cannot be written is passed over.
 pub fn run(rt: &HostRuntime) -> u8 {
-    if is_small(rt) {
-        return say(rt, &Ending::Said(Message::SmallStack));
-    }
     // kept up to the end
     let Ok(_held) = hold_closed(rt) else {
         let message = Message::cannot_read(rt.alloc(), standard::NOTHING);
@@ -66,30 +59,13 @@ fn run_files(rt: &HostRuntime, run: &Run<'_>, operands: Vec<Octets>) -> Result<E
     let setup = setup_of(rt, run, operands)?;
     let policy = read_source(rt, run.policy)?;
     let script = read_source(rt, run.script)?;
-    let log = open_log_of(rt, run.log)?;
-    let names = own_names(rt, run)?;
-    enter(rt, run.folder)?;
-    let log = empty_log(
-        rt,
-        run,
-        log,
-        &[policy.identity, script.identity],
-        setup.operands(),
-    )?;
-    let policy = policy.bytes;
-    let script = script.bytes;
-    look(
-        rt,
-        policy.as_slice(),
-        script.as_slice(),
-        &setup,
-        names.as_slice(),
-    )?;
+    let log = make_log_of(rt, run.log, &[policy.identity, script.identity])?;
+    warn(rt, policy.bytes.as_slice(), script.bytes.as_slice(), &setup)?;
     let world = OsWorld::new(rt.clone()?);
     let driven = drive(
         rt.alloc(),
-        policy.as_slice(),
-        script.as_slice(),
+        policy.bytes.as_slice(),
+        script.bytes.as_slice(),
         &setup,
         run.steps,
         world,
@@ -98,26 +74,10 @@ fn run_files(rt: &HostRuntime, run: &Run<'_>, operands: Vec<Octets>) -> Result<E
     Ok(Ending::of(driven.answer))
 }
 
-fn enter(rt: &HostRuntime, folder: Option<&str>) -> Result<(), Message> {
-    let Some(name) = folder else {
-        return Ok(());
-    };
-    match set_current_dir(rt, name) {
-        Ok(()) => Ok(()),
-        Err(_) => Err(Message::cannot_enter(rt.alloc(), name)),
-    }
-}
-
-// Looks at what the policy says of the folder that the program is in, and of the files that the run is
-// started with: the policy judges a relative name under its base, and the system opens it under that
-// folder. Nothing is told where there will be no run.
-fn look(
-    rt: &HostRuntime,
-    policy: &[u8],
-    script: &[u8],
-    setup: &Setup,
-    names: &[OwnName],
-) -> Result<(), Message> {
+// Tells where the names that rules allow are not those that the run will open: the policy judges a
+// relative name under its base, and the system opens it under the folder that the program runs in.
+// Nothing is told where there will be no run.
+fn warn(rt: &HostRuntime, policy: &[u8], script: &[u8], setup: &Setup) -> Result<(), Message> {
     let Ok(policy) = policy_of(rt.alloc(), policy, script, setup) else {
         return Ok(());
     };
@@ -125,9 +85,9 @@ fn look(
         return Ok(());
     };
     if policy.speaks_of_files() && !runs_in(rt, base) {
-        return Err(Message::outside_base(rt.alloc(), base));
+        let warning = Warning::outside_base(rt.alloc(), base)?;
+        let _ = eprintln!(rt; "{warning}");
     }
-    warn(rt, &policy, names)?;
     Ok(())
 }
 
@@ -163,31 +123,9 @@ fn read_source(rt: &HostRuntime, name: &str) -> Result<Source, Message> {
     }
 }
 
-fn open_log_of(rt: &HostRuntime, name: &str) -> Result<File, Message> {
-    match open_log(rt, name) {
-        Ok(file) => Ok(file),
+fn make_log_of(rt: &HostRuntime, name: &str, sources: &[Identity]) -> Result<File, Message> {
+    match make_log(rt, name, sources) {
+        Ok(log) => Ok(log),
         Err(_) => Err(Message::cannot_write(rt.alloc(), name)),
-    }
-}
-
-// The log, emptied unless it is to go on. One that the run uses otherwise is refused, and stays as it is.
-fn empty_log(
-    rt: &HostRuntime,
-    run: &Run<'_>,
-    file: File,
-    sources: &[Identity],
-    operands: &[Octets],
-) -> Result<Log, Message> {
-    let is_ready = match file.metadata() {
-        Ok(metadata) => {
-            !is_taken(rt, &metadata, sources, operands)
-                && (run.log_append || !metadata.is_file() || file.set_len(0).is_ok())
-        }
-        Err(_) => false,
-    };
-    if is_ready {
-        Ok(Log::new(file, run.log_limit))
-    } else {
-        Err(Message::cannot_write(rt.alloc(), run.log))
     }
 }

@@ -4,8 +4,6 @@
 #![tactic(auto)]
 
 #[cfg(test)]
-mod limited;
-#[cfg(test)]
 mod monitors;
 #[cfg(test)]
 mod os_world;
