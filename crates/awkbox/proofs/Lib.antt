@@ -1,3 +1,4 @@
+mod Consumed
 pub mod Driving
 pub mod OneAnswer
 pub mod Passing

@@ -10,6 +10,7 @@
 mod accepting;
 mod driver;
 pub mod laws;
+mod limited_read;
 mod messages;
 
 pub use accepting::{Refusal, policy_of};
@@ -27,4 +28,5 @@ pub use box_world::ask::{Ask, Mode, Reply, Request, Stop};
 pub use box_world::memory_world::MemoryWorld;
 pub use box_world::world::World;
 pub use driver::{Driven, drive};
+pub use limited_read::{ReadError, read_limited};
 pub use messages::{Ending, Message, Warning};
