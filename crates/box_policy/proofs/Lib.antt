@@ -1,11 +1,15 @@
+pub mod AheadLemmas
 pub mod BasesLemmas
 pub mod BlocksLemmas
 pub mod CellsLemmas
+pub mod CoversLemmas
 pub mod DecisionsLemmas
 pub mod DividesLemmas
 pub mod DivisionLemmas
 pub mod ElementsLemmas
 pub mod FlatLemmas
+pub mod IndexLemmas
+pub mod JudgedLemmas
 pub mod NamesLemmas
 pub mod PlainLemmas
 pub mod TablesLemmas

@@ -75,16 +75,16 @@ not_double : (piece : List ℕ) → is_plain_pattern Component piece ≡ true �
 not_double [] h = refl
 not_double (b ∷ bs) h = ap (λ t. t && bytes_eq bs (codes "*")) (or_parts (b == 42) (b == 63) (first_plain Component b bs h).0).0
 
-component_plain : (piece : List ℕ) → is_plain_pattern Component piece ≡ true → component_symbol piece ≡ base_symbol piece
+pub bytes_eq-swap : (xs ys : List ℕ) → bytes_eq xs ys ≡ bytes_eq ys xs
+bytes_eq-swap [] [] = refl
+bytes_eq-swap [] (y ∷ ys) = refl
+bytes_eq-swap (x ∷ xs) [] = refl
+bytes_eq-swap (x ∷ xs) (y ∷ ys) = ap (λ t. t && bytes_eq xs ys) (eq-swap x y) ∙ ap (λ t. (y == x) && t) (bytes_eq-swap xs ys)
+
+pub component_plain : (piece : List ℕ) → is_plain_pattern Component piece ≡ true → component_symbol piece ≡ base_symbol piece
 component_plain piece h =
     ap (λ t. symbol t (λ name. t || fits (symbols Component piece) name)) (not_double piece h)
     ∙ ap (λ test. symbol false test) (λ i. λ name. (fits-plain Component piece name h ∙ bytes_eq-swap name piece) i)
-  where
-    bytes_eq-swap : (xs ys : List ℕ) → bytes_eq xs ys ≡ bytes_eq ys xs
-    bytes_eq-swap [] [] = refl
-    bytes_eq-swap [] (y ∷ ys) = refl
-    bytes_eq-swap (x ∷ xs) [] = refl
-    bytes_eq-swap (x ∷ xs) (y ∷ ys) = ap (λ t. t && bytes_eq xs ys) (eq-swap x y) ∙ ap (λ t. (y == x) && t) (bytes_eq-swap xs ys)
 
 components_plain : (pieces : List (List ℕ)) → list_all (is_plain_pattern Component) pieces ≡ true → map component_symbol pieces ≡ map base_symbol pieces
 components_plain [] h = refl

@@ -15,6 +15,8 @@ pub mod Tables
 pub mod Short
 pub mod Rulebook
 pub mod Decisions
+pub mod Shelves
+pub mod Targets
 pub mod Tree
 pub mod Words
 pub mod Wellformed

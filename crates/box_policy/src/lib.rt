@@ -1,7 +1,9 @@
 // A written policy: rules in order, of which the first that fits decides.
 #![tactic(auto)]
 
+mod deciding;
 pub mod error;
+mod index;
 mod matching;
 mod names;
 pub mod path;

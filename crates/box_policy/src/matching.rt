@@ -1,6 +1,6 @@
 // Patterns against subjects, in one walk over the subject and without memory: of each place in the
 // pattern a bit says whether the walk has reached it.
-ghost use Rattle.std.specs.Prelude.{◌≡◌, ◌<◌, ◌≤◌, ◌+◌, ◌*◌, ◌++◌, ◌∷◌, [], length, map, List, MatchOption, Some, None, codes, replicate};
+ghost use Rattle.std.specs.Prelude.{◌≡◌, ℕ, ◌<◌, ◌≤◌, ◌+◌, ◌*◌, ◌++◌, ◌∷◌, [], length, map, List, MatchOption, Some, None, codes, replicate};
 ghost use Rattle.std.specs.List.{list_all};
 ghost use Rattle.std.specs.Str.{bytes_eq};
 ghost use Rattle.std.specs.Bool.{Decides};
@@ -13,9 +13,10 @@ ghost use Rattle.box_policy.specs.Cells.{row, never, reach, row_fits, ones};
 ghost use Rattle.box_policy.specs.Division.{Symbol as SymbolOf, fits};
 ghost use Rattle.box_policy.specs.Divides.{Divides};
 ghost use Rattle.box_policy.specs.NamesLeft.{names_left};
-ghost use Rattle.box_policy.specs.Paths.{names, names_under};
+ghost use Rattle.box_policy.specs.Paths.{names};
 ghost use Rattle.box_policy.specs.Patterns.{symbols, component_symbol, base_symbol, path_symbols};
 ghost use Rattle.box_policy.specs.Tables.{IsTable, Holds};
+ghost use Rattle.box_policy.specs.Targets.{IsLeft};
 ghost use Rattle.box_policy.specs.Tokens.{lifted, piece_symbols, flat, stream, width};
 ghost use Rattle.box_policy.specs.Plain.{is_wild, is_plain_pattern};
 
@@ -137,7 +138,7 @@ fn is_wild(sort: Sort, byte: u8) -> bool
 }
 
 /// Whether each byte of the pattern stands for itself.
-fn is_plain(sort: Sort, pattern: &[u8]) -> bool
+pub(crate) fn is_plain(sort: Sort, pattern: &[u8]) -> bool
     ensures { result ≡ is_plain_pattern sort pattern.now }
 {
     for byte in pattern {
@@ -199,7 +200,7 @@ fn are_plain(pattern: &[u8]) -> bool
 }
 
 /// What is left of the subject's components behind those of the base, where they begin with these.
-fn behind_base<'a>(base: &[u8], mut subject: Names<'a>) -> Option<Names<'a>>
+pub(crate) fn behind_base<'a>(base: &[u8], mut subject: Names<'a>) -> Option<Names<'a>>
     ensures { MatchOption result (IsBehind (names base.now) (names_left subject.entry) None) (λ left. IsBehind (names base.now) (names_left subject.entry) (Some (names_left left))) }
 {
     let mut rest = base;
@@ -265,16 +266,17 @@ fn found_names(pattern: &[u8], subject: Names) -> bool
     }
 }
 
-/// Whether the pattern under the base fits the subject under the base.
-pub(crate) fn path_fits(base: &[u8], pattern: &[u8], subject: &[u8]) -> bool
+/// Whether the pattern fits the components of the subject, or those of them that are left behind the base's, which a
+/// relative pattern stands under.
+pub(crate) fn path_fits(subject: Names<'_>, left: Option<Names<'_>>, pattern: &[u8]) -> bool
     requires { length pattern.now ≤ 4096 }
-    ensures { result ≡ fits (path_symbols base.now pattern.now) (names_under base.now subject.now) }
+    ensures { (base : List ℕ) → IsLeft base (names_left subject.entry) left.entry →
+        result ≡ fits (path_symbols base pattern.now) (names_left subject.entry) }
 {
-    let names = Names::under(base, subject);
     if is_absolute(pattern) {
-        return names_fit(pattern, names);
+        return names_fit(pattern, subject);
     }
-    match behind_base(base, names) {
+    match left {
         Some(left) => names_fit(pattern, left),
         None => false,
     }

@@ -74,7 +74,7 @@ pub(crate) fn first_name(text: &[u8]) -> Option<(&[u8], &[u8])>
 }
 
 /// The components of a text, or of one text and then another.
-#[derive(Drop)]
+#[derive(Clone, Copy, Drop)]
 pub(crate) struct Names<'a> {
     front: &'a [u8],
     back: &'a [u8],

@@ -1,18 +1,17 @@
 // Rules, and what they decide.
 ghost use Rattle.std.specs.Prelude.{◌≡◌, ℕ, ◌≤◌, ◌<◌, true, length, IfOk, IfErr};
 ghost use Rattle.toml.specs.View.{table_view};
-ghost use Rattle.box_policy.specs.Decisions.{decision, decision_from, speaks};
+ghost use Rattle.box_policy.specs.Decisions.{decision};
 ghost use Rattle.box_policy.specs.Files.{is_of_files, speaks_of_files};
-ghost use Rattle.box_policy.specs.Fits.{is_readable, pattern_fits};
-ghost use Rattle.box_policy.specs.Short.{are_short};
+ghost use Rattle.box_policy.specs.Fits.{is_readable};
 ghost use Rattle.box_policy.specs.Refusals.{IsRefused, IsRefusedBy, refusal};
 ghost use Rattle.box_policy.specs.Written.{Writes, Written};
 
+use crate::deciding::{Target, judged};
 use crate::error::PolicyError;
-use crate::matching::{path_fits, text_fits};
+use crate::index::Index;
 use crate::names::{can_resolve, is_text};
 use crate::reading::{read_document, read_rules, read_table};
-use crate::tokens::Sort;
 use awk_text::octets::Octets;
 use std::alloc::Global;
 use std::marker::Model;
@@ -62,6 +61,7 @@ pub struct Rule {
 pub struct Policy {
     base: Octets,
     rules: Vec<Rule>,
+    index: Index,
 }
 
 /// The most rules that a policy may have.
@@ -78,9 +78,11 @@ impl Model for Policy {
 
     ghost view = { λ p. record { base = p.base; rules = p.rules.items } };
 
+    ghost use Rattle.box_policy.specs.Shelves.{IsIndex};
     ghost use Rattle.box_policy.specs.Short.{are_short};
 
-    ghost invariant = { λ p. (length p.rules.items ≤ 1024) × (are_short p.rules.items ≡ true) };
+    ghost invariant = { λ p. (length p.rules.items ≤ 1024) × (are_short p.rules.items ≡ true)
+        × IsIndex p.rules.items p.index };
 }
 
 impl Policy {
@@ -114,7 +116,8 @@ impl Policy {
         let document = read_document(table)?;
         let base = Octets::new(Vec::from_slice(alloc, document.base.as_bytes())?);
         let rules = read_rules(alloc, document.base.as_bytes(), document.rules)?;
-        Ok(Policy { base, rules })
+        let index = Index::of(alloc, rules.as_slice())?;
+        Ok(Policy { base, rules, index })
     }
 
     /// What the first rule of this kind decides whose `from` holds and whose pattern fits the
@@ -129,7 +132,8 @@ impl Policy {
         if !is_readable(base, kind, subject) {
             return Decision::NoRule;
         }
-        judged(base, self.rules.as_slice(), kind, subject, given)
+        let target = Target::of(base, kind, subject);
+        judged(&self.index, self.rules.as_slice(), target, given)
     }
 
     /// The path that relative ones stand under, as it is written. Takes no memory.
@@ -156,7 +160,7 @@ impl Policy {
     }
 }
 
-fn is_of_files(kind: Kind) -> bool
+pub(crate) fn is_of_files(kind: Kind) -> bool
     ensures { result ≡ is_of_files kind }
 {
     match kind {
@@ -172,46 +176,5 @@ fn is_readable(base: &[u8], kind: Kind, subject: &[u8]) -> bool
         Kind::Read | Kind::Write | Kind::Append => can_resolve(base, subject),
         Kind::Run => is_text(subject),
         Kind::Env | Kind::Assign => true,
-    }
-}
-
-fn judged(base: &[u8], rules: &[Rule], kind: Kind, subject: &[u8], given: bool) -> Decision
-    requires few { length rules.now ≤ 1024 }
-    requires short { are_short rules.now ≡ true }
-    requires readable { is_readable base.now kind subject.now ≡ true }
-    ensures { result ≡ decision_from 1 base.now rules.now kind subject.now given }
-{
-    let mut number = 1u32;
-    for rule in rules {
-        if speaks(base, rule, kind, subject, given) {
-            return match rule.effect {
-                Effect::Allow => Decision::Allow(number),
-                Effect::Deny => Decision::Deny(number),
-            };
-        }
-        number += 1;
-    }
-    Decision::NoRule
-}
-
-fn speaks(base: &[u8], rule: &Rule, kind: Kind, subject: &[u8], given: bool) -> bool
-    requires readable { is_readable base.now kind subject.now ≡ true }
-    requires short { length rule.now.pattern ≤ 4096 }
-    ensures { result ≡ speaks base.now rule.now kind subject.now given }
-{
-    rule.kind == kind
-        && (given || !rule.only_given)
-        && pattern_fits(base, kind, rule.pattern.bytes(), subject)
-}
-
-fn pattern_fits(base: &[u8], kind: Kind, pattern: &[u8], subject: &[u8]) -> bool
-    requires readable { is_readable base.now kind subject.now ≡ true }
-    requires short { length pattern.now ≤ 4096 }
-    ensures { result ≡ pattern_fits base.now kind pattern.now subject.now }
-{
-    match kind {
-        Kind::Read | Kind::Write | Kind::Append => path_fits(base, pattern, subject),
-        Kind::Run => text_fits(Sort::Command, pattern, subject),
-        Kind::Env | Kind::Assign => text_fits(Sort::Name, pattern, subject),
     }
 }
