@@ -19,5 +19,6 @@ pub mod Tables
 pub mod Beginnings
 pub mod Gathering
 pub mod Seeking
+pub mod Hoping
 pub mod Literals
 pub mod Images

@@ -13,6 +13,7 @@ pub mod Program
 pub mod Search
 pub mod Table
 pub mod Matcher
+pub mod Hopes
 pub mod Literal
 pub mod View
 pub mod Same

@@ -4,9 +4,10 @@ ghost use Rattle.awk_ere.specs.Pattern.{Pattern};
 ghost use Rattle.awk_ere.specs.Spelled.{IsPattern, IsAccepted, IsRefused, Finds, HasMatch, code_of};
 
 use crate::error::{EreError, Fault};
+use crate::hopes::{Hopes, no_hopes};
 use crate::literal::{find_text, is_literal};
 use crate::read::read_within;
-use crate::table::{Matcher, Sought};
+use crate::table::{Matcher, Sought, whole_budget};
 use awk_text::Memory;
 use std::alloc::Global;
 use std::marker::Model;
@@ -102,6 +103,73 @@ impl Ere {
             None => {
                 let found = self.find(text, 0)?;
                 Ok(found.is_some())
+            }
+        }
+    }
+}
+
+/// Searches of one text by one pattern, one after the other. What they read past the matches that they find is bounded for all
+/// together, so that they take time linear in the text (by design; time is not proved). Contracts see the pattern's text and the
+/// text that is searched.
+#[derive(Drop)]
+pub struct Searches<'a> {
+    ere: &'a Ere,
+    matcher: &'a Matcher,
+    text: &'a [u8],
+    is_first: bool,
+    budget: usize,
+    hopes: Hopes,
+}
+
+impl<'a> Model for Searches<'a> {
+    ghost use Rattle.std.specs.Prelude.{List, ℕ};
+    ghost use Rattle.awk_ere.specs.Pattern.{Pattern};
+    ghost use Rattle.awk_ere.specs.Matcher.{StandsFor};
+    ghost use Rattle.awk_ere.specs.Spelled.{IsPattern};
+    ghost use Rattle.awk_ere.specs.Hopes.{AreHopes};
+
+    ghost Value = { List ℕ × List ℕ };
+
+    ghost view = { λ s. (s.ere.now, s.text.now) };
+
+    ghost invariant = { λ s. (p : Pattern) × IsPattern s.ere.now p × StandsFor s.matcher.now p × AreHopes s.matcher.now.table s.text.now s.hopes };
+}
+
+impl<'a> Searches<'a> {
+    pub fn new(ere: &'a Ere, text: &'a [u8]) -> Searches<'a>
+        ensures { result ≡ (ere.now, text.now) }
+    {
+        let alloc = *ere.source.allocator();
+        Searches {
+            ere,
+            matcher: &ere.matcher,
+            text,
+            is_first: true,
+            budget: whole_budget(text),
+            hopes: no_hopes(alloc),
+        }
+    }
+
+    /// What `Ere::find` answers.
+    ///
+    /// Errors: `Memory` where memory is refused.
+    pub fn find(&mut self, from: usize) -> Result<Option<(usize, usize)>, Memory>
+        requires { from ≤ length self.old.1 }
+        ensures found { IfOk result (λ found. Finds self.old.0 self.old.1 from found) }
+        ensures same { self.new ≡ self.old }
+    {
+        let (ere, matcher, text) = (self.ere, self.matcher, self.text);
+        if self.is_first || ere.is_literal {
+            self.is_first = false;
+            return ere.find(text, from);
+        }
+        let sought = matcher.find_again(text, from, &mut self.budget, &mut self.hopes)?;
+        match sought {
+            Sought::Match(first, end) => Ok(Some((first, end))),
+            Sought::NoMatch => Ok(None),
+            Sought::Left(start) => {
+                let found = matcher.search(text, start)?;
+                Ok(found)
             }
         }
     }

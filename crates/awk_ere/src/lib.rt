@@ -8,6 +8,7 @@ pub mod error;
 mod escape;
 mod front;
 mod heads;
+mod hopes;
 mod interval;
 pub mod laws;
 mod literal;
@@ -21,6 +22,6 @@ mod table;
 mod token;
 mod tree;
 
-pub use ere::Ere as Ere;
+pub use ere::{Ere as Ere, Searches as Searches};
 pub use error::EreError as EreError;
 pub use plain::Plain as Plain;

@@ -1,5 +1,6 @@
 // The search by a table.
 ghost use Rattle.std.specs.Prelude.{◌≡◌, ◌≢◌, ◌==◌, ◌↔◌, ◌<◌, ◌≤◌, length, IfOk, IfSome, IsTrue, slice_index, if◌then◌else◌};
+ghost use Rattle.awk_ere.specs.Hopes.{AreHopes};
 ghost use Rattle.awk_ere.specs.Matcher.{BeginsIn, EndsFrom, Finds, IsAnchored, IsLater, IsLongest, IsSought, NoneTo, StandsFor, StartsAt, StartsFrom};
 ghost use Rattle.awk_ere.specs.Table.{AllLead};
 ghost use Rattle.awk_ere.specs.View.{pattern};
@@ -7,6 +8,7 @@ ghost use Rattle.awk_ere.specs.View.{pattern};
 use crate::bracket::Set;
 use crate::compile::{compile, compile_scan};
 use crate::heads::{LANES, is_open, next_head};
+use crate::hopes::{Hopes, is_hopeless, kept_rows};
 use crate::node::Node;
 use crate::program::Step;
 use crate::search::search;
@@ -84,6 +86,11 @@ fn stays_to(row: &[u8; 256], state: u8, text: &[u8], from: usize) -> usize
         place += 4;
     }
     stays_one_by_one(row, state, text, place)
+}
+
+/// What the searches of a text may cost.
+pub fn whole_budget(text: &[u8]) -> usize {
+    text.len().saturating_mul(BUDGET)
 }
 
 /// The state in which a search begins at the place.
@@ -340,7 +347,7 @@ impl Matcher {
     }
 
     /// The best match from the place on: each start in turn, as long as the budget lasts.
-    fn leftmost(&self, text: &[u8], from: usize, mut budget: usize) -> Sought
+    fn leftmost(&self, text: &[u8], from: usize, budget: &mut usize) -> Sought
         requires { from ≤ length text.now }
         ensures { IsSought self.now text.now from result }
     {
@@ -350,10 +357,10 @@ impl Matcher {
             if start == text.len() {
                 return self.find_at_end(text);
             }
-            if budget == 0 {
+            if *budget == 0 {
                 return Sought::Left(start);
             }
-            match self.longest(text, start, &mut budget) {
+            match self.longest(text, start, budget) {
                 None => return Sought::Left(start),
                 Some(Some(end)) => return Sought::Match(start, end),
                 Some(None) => {}
@@ -393,8 +400,8 @@ impl Matcher {
         match self.has_start(text, from) {
             Some(false) => Sought::NoMatch,
             Some(true) | None => {
-                let budget = text.len().saturating_mul(BUDGET);
-                self.leftmost(text, from, budget)
+                let mut budget = whole_budget(text);
+                self.leftmost(text, from, &mut budget)
             }
         }
     }
@@ -405,7 +412,8 @@ impl Matcher {
         requires { from ≤ length text.now }
         ensures { IsSought self.now text.now from result }
     {
-        match self.leftmost(text, from, FIRST_BUDGET) {
+        let mut budget = FIRST_BUDGET;
+        match self.leftmost(text, from, &mut budget) {
             Sought::Match(start, end) => Sought::Match(start, end),
             Sought::NoMatch => Sought::NoMatch,
             Sought::Left(start) => self.find_on(text, start),
@@ -429,6 +437,114 @@ impl Matcher {
             None => Sought::Left(start),
             Some(Some(end)) => Sought::Match(start, end),
             Some(None) => self.find_later(text, start + 1),
+        }
+    }
+
+    /// The end of the longest match from the place, if there is one, where nothing is read past it; `None` where the table does
+    /// not say.
+    fn longest_by(
+        &self,
+        text: &[u8],
+        from: usize,
+        hopes: &mut Hopes,
+    ) -> Result<Option<Option<usize>>, Memory>
+        requires from { from < length text.now }
+        requires hopes { AreHopes self.now.table text.now hopes.old }
+        ensures hopes { AreHopes self.now.table text.now hopes.new }
+        ensures longest { IfOk result (λ r. IfSome r (λ found. IsLongest self.now text.now from found)) }
+    {
+        let Some(first) = self.entry_state(from) else {
+            return Ok(None);
+        };
+        let (cells, accepts) = (self.table.cells.as_slice(), self.table.accepts.as_slice());
+        let ends = self.table.ends.as_slice();
+        let mut state = first;
+        let mut best = None;
+        for place in from..text.len() {
+            if is_hopeless(&self.table, text, text.len() - place, state, hopes)? {
+                return Ok(Some(best));
+            }
+            best = noted(accepts[state], place, best);
+            state = cells[state][text[place] as usize] as usize;
+            if state >= cells.len() {
+                return Ok(None);
+            }
+        }
+        Ok(Some(noted(ends[state], text.len(), best)))
+    }
+
+    /// The best match from the place on: each start in turn, where nothing is read past what is found.
+    fn leftmost_by(&self, text: &[u8], from: usize, hopes: &mut Hopes) -> Result<Sought, Memory>
+        requires from { from ≤ length text.now }
+        requires hopes { AreHopes self.now.table text.now hopes.old }
+        ensures hopes { AreHopes self.now.table text.now hopes.new }
+        ensures sought { IfOk result (λ r. IsSought self.now text.now from r) }
+    {
+        let mut at = from;
+        while at < text.len() {
+            let start = self.first_start(text, at);
+            if start == text.len() {
+                return Ok(self.find_at_end(text));
+            }
+            match self.longest_by(text, start, hopes)? {
+                None => return Ok(Sought::Left(start)),
+                Some(Some(end)) => return Ok(Sought::Match(start, end)),
+                Some(None) => {}
+            }
+            at = start + 1;
+        }
+        Ok(self.find_at_end(text))
+    }
+
+    /// The best match from the place on, where searches before it have cost the whole budget of the text.
+    #[inline(never)]
+    fn find_by(&self, text: &[u8], from: usize, hopes: &mut Hopes) -> Result<Sought, Memory>
+        requires from { from ≤ length text.now }
+        requires hopes { AreHopes self.now.table text.now hopes.old }
+        ensures hopes { AreHopes self.now.table text.now hopes.new }
+        ensures sought { IfOk result (λ r. IsSought self.now text.now from r) }
+    {
+        if !hopes.kept.is_empty() {
+            return self.leftmost_by(text, from, hopes);
+        }
+        match self.has_start(text, from) {
+            Some(false) => Ok(Sought::NoMatch),
+            Some(true) | None => {
+                let alloc = *self.program.allocator();
+                hopes.kept = kept_rows(alloc, &self.table, text)?;
+                self.leftmost_by(text, from, hopes)
+            }
+        }
+    }
+
+    /// The best match from the place on, where other searches of the text went before. All together may cost the budget; then
+    /// the text is read backwards, and what that shows is kept in `hopes`.
+    pub fn find_again(
+        &self,
+        text: &[u8],
+        from: usize,
+        budget: &mut usize,
+        hopes: &mut Hopes,
+    ) -> Result<Sought, Memory>
+        requires from { from ≤ length text.now }
+        requires hopes { AreHopes self.now.table text.now hopes.old }
+        ensures hopes { AreHopes self.now.table text.now hopes.new }
+        ensures sought { IfOk result (λ r. IsSought self.now text.now from r) }
+    {
+        if self.is_anchored() {
+            return Ok(self.find_anchored(text, from));
+        }
+        match self.leftmost(text, from, budget) {
+            Sought::Match(start, end) => Ok(Sought::Match(start, end)),
+            Sought::NoMatch => Ok(Sought::NoMatch),
+            Sought::Left(start) => {
+                if *budget == 0 {
+                    let sought = self.find_by(text, start, hopes)?;
+                    Ok(sought)
+                } else {
+                    Ok(Sought::Left(start))
+                }
+            }
         }
     }
 
