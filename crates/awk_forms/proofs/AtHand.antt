@@ -39,7 +39,7 @@ use Rattle.awk_tasks.proofs.Rebuilding.{agreeing_row}
 use Rattle.awk_tasks.proofs.RecordSteps.{reads_field, small}
 use Rattle.awk_tasks.proofs.VariableSteps.{reads_variable, counted_nf}
 use Rattle.awk_works.proofs.Lines.{within_held, written_held}
-use Rattle.awk_works.proofs.Replaced.{limited_ok}
+use Rattle.awk_works.proofs.Limited.{limited_ok}
 use Rattle.awk_forms.proofs.Rests.{drop_all}
 
 pub nil_right : {X : Type 0} (xs : List X) → xs ++ [] ≡ xs

@@ -28,7 +28,7 @@ use Rattle.awk_tasks.specs.Wholes.{Whole, names_in}
 use Rattle.awk_tasks.proofs.Acting.{at_rest, moves, reworded, doing}
 use Rattle.awk_tasks.proofs.Reading.{nf-so}
 use Rattle.awk_tasks.proofs.VariableSteps.{sets_variable}
-use Rattle.awk_works.proofs.Replaced.{limited_ok}
+use Rattle.awk_works.proofs.Limited.{limited_ok}
 use Rattle.awk_forms.proofs.AtHand.{nil_right, on, variable_there}
 use Rattle.awk_forms.proofs.Rests.{drop_all}
 use Rattle.awk_forms.specs.Growing.{Follows, Lends}

@@ -11,3 +11,4 @@ pub mod SplitSteps
 pub mod Lifting
 pub mod Lent
 pub mod PrintSteps
+pub mod OwnSteps

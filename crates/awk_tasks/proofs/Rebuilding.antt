@@ -17,7 +17,7 @@ use Rattle.awk_machine.specs.Streams.{seen}
 use Rattle.awk_store.specs.Changes as changes
 use Rattle.awk_store.specs.Kept as kept
 use Rattle.awk_store.specs.States.{Hidden}
-use Rattle.awk_works.proofs.Replaced.{limited_ok}
+use Rattle.awk_works.proofs.Limited.{limited_ok}
 use Rattle.awk_tasks.specs.Wholes.{Whole, Agreeing, base}
 use Rattle.awk_tasks.proofs.Reading.{own-text-so}
 

@@ -24,7 +24,7 @@ use Rattle.awk_store.specs.Changes as changes
 use Rattle.awk_store.specs.Changes.{row_of}
 use Rattle.awk_store.specs.Kept as kept
 use Rattle.awk_store.specs.Kept.{Kept}
-use Rattle.awk_works.proofs.Replaced.{limited_ok}
+use Rattle.awk_works.proofs.Limited.{limited_ok}
 use Rattle.awk_asks.specs.Tasks.{goes_on}
 use Rattle.awk_tasks.specs.Wholes.{Whole, base}
 use Rattle.awk_asks.specs.Chains.{halt_at, result_at}

@@ -22,8 +22,6 @@ use Rattle.awk_machine.specs.Variables as variables
 use Rattle.awk_store.specs.Changes as changes
 use Rattle.awk_store.specs.Kept.{Kept}
 use Rattle.awk_store.specs.States.{Hidden}
-use Rattle.awk_store.proofs.Cells.{change_count}
-use Rattle.awk_store.proofs.Setting as set
 use Rattle.awk_works.specs.Searches.{location, substituted}
 use Rattle.awk_works.specs.declared.searches.Location.{Location}
 use Rattle.awk_asks.specs.Tasks.{goes_on}
@@ -33,6 +31,7 @@ use Rattle.awk_tasks.specs.Acts.{Acts, Passes}
 use Rattle.awk_tasks.specs.Checks.{gives_text}
 use Rattle.awk_tasks.specs.Searching.{then_set}
 use Rattle.awk_tasks.proofs.Reading.{whole_kept}
+use Rattle.awk_tasks.proofs.OwnSteps.{own-set, own_agrees}
 use Rattle.awk_tasks.proofs.Acting.{at_rest, moves, alters, finds, reworded, done, faulted}
 
 -- ---- a text is an ERE, or it is none
@@ -72,14 +71,6 @@ pub record_first : (g : Given) (w : Whole) (place : Place) (source : Text) →
 record_first g w place source = moves (at_rest _ w) (λ k hid c a. ap (λ t. Goes (Do (Check place source) ∷ Do (Match source t) ∷ k) (seen (base g w hid) c)) (sym (whole_kept hid.row w.0.row a.row)))
 
 -- ---- match
-
-module _ (g : Given) (old : Whole) where
-  -- one of awk's own variables is set
-  pub own-set : (hid : Hidden) (c : Course) → Agreeing g old hid c → (x : Own) (val : Value) → variables.with_own (name_of x) val (seen (base g old hid) c) ≡ seen (base g (changes.with_own x val old.0, old.1) hid) c
-  own-set hid c a x val = ap (λ s. seen s c) (set.own (names_in g) old.0 hid a.sound x val)
-
-  pub own_agrees : (hid : Hidden) (c : Course) → Agreeing g old hid c → (x : Own) (val : Value) → Agreeing g (changes.with_own x val old.0, old.1) hid c
-  own_agrees hid c a x val = record { tells = a.tells; row = a.row; cells = change_count (changes.given_value val) old.0.cells (Rattle.awk_program.specs.Slots.slot_of x) ∙ a.cells; sound = a.sound }
 
 module _ (g : Given) (old : Whole) (source text : Text) where
   abbrev at_last : Location → Kept

@@ -2,3 +2,4 @@ pub mod Cached
 pub mod Filling
 pub mod Lines
 pub mod Replaced
+pub mod Limited

@@ -1,20 +1,10 @@
 -- The matches that a search found, as the machine asks for them.
-use Rattle.std.proofs.Common.{◌≡◌, ℕ, ◌≤◌, Bool, true, false, ℤ, pos, List, ◌∷◌, length, Some, Ok, refl, sym, ap, ap₂, subst, ◌∙◌, arith}
-use Rattle.std.proofs.lemmas.Bool.Decides.{nat_tests}
-use Rattle.std.specs.Prelude.{nat_le}
+use Rattle.std.proofs.Common.{◌≡◌, ℕ, ◌≤◌, Bool, ℤ, pos, List, ◌∷◌, length, Some, Ok, sym, ap, ap₂, subst, ◌∙◌}
 use Rattle.awk_text.specs.Limits.{most_bytes}
 use Rattle.awk_lib.specs.Replacing.{replaced, IsReplaced}
-use Rattle.awk_machine.specs.Operators.{limited}
 use Rattle.awk_format.specs.Directives.{◌>>=◌}
 use Rattle.awk_works.specs.Searches.{substituted}
-
--- a text within the limit
-limited_ok_by : (b : Bool) (text : List ℕ) → nat_le (length text) most_bytes ≡ b → length text ≤ most_bytes → limited text ≡ Ok text
-limited_ok_by true text e h = rw e refl
-limited_ok_by false text e h = absurd (grind (arith, nat_tests))
-
-pub limited_ok : (text : List ℕ) → length text ≤ most_bytes → limited text ≡ Ok text
-limited_ok text h = limited_ok_by (nat_le (length text) most_bytes) text refl h
+use Rattle.awk_works.proofs.Limited.{limited_ok}
 
 -- what was replaced is what the machine makes of the matches
 pub is_substituted : (source new old : List ℕ) (all : Bool) (m : ℕ × ℕ) (ms : List (ℕ × ℕ)) (text : List ℕ) (count : ℤ)

@@ -5,7 +5,7 @@ use Rattle.awk_program.specs.View.{view}
 use Rattle.awk_program.proofs.Views.{view-Read}
 use Rattle.awk_tasks.specs.Wholes.{names_in}
 use Rattle.awk_text.specs.Values.{text_of}
-use Rattle.awk_works.proofs.Replaced.{limited_ok}
+use Rattle.awk_works.proofs.Limited.{limited_ok}
 use Rattle.awk_forms.proofs.AtHand.{element_spot, field_there, field_number_is}
 use Rattle.awk_forms.proofs.Rests.{just_one}
 use Rattle.awk_forms.proofs.done.field_of_key.Goals as goal

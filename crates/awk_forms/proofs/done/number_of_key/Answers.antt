@@ -2,7 +2,7 @@ use Rattle.std.specs.Fmt.{signed_decimal}
 use Rattle.awk_program.specs.View.{view}
 use Rattle.awk_tasks.specs.Wholes.{names_in}
 use Rattle.awk_text.specs.declared.value.Value.TheVariants as v
-use Rattle.awk_works.proofs.Replaced.{limited_ok}
+use Rattle.awk_works.proofs.Limited.{limited_ok}
 use Rattle.awk_forms.specs.AtHand.{IsThere}
 use Rattle.awk_forms.proofs.AtHand.{element_spot}
 use Rattle.awk_forms.proofs.Rests.{just_one, some_for}

@@ -1,4 +1,4 @@
-use Rattle.awk_tasks.proofs.PrintSteps.{counts_result}
+use Rattle.awk_tasks.proofs.OwnSteps.{counts_result}
 use Rattle.awk_tasks.proofs.counters.count.Goals as goal
 
 pub returns : goal.returns
