@@ -9,12 +9,12 @@ use Rattle.awk_machine.specs.Pieces.{Piece, Goes, Steps as Stepping, Do, Step, C
 use Rattle.awk_machine.specs.State.{State, Course, Given}
 use Rattle.awk_machine.specs.Streams.{seen, with_step}
 use Rattle.awk_store.specs.States.{phase_of}
-use Rattle.awk_asks.specs.Chains.{Leads, Meets}
-use Rattle.awk_asks.specs.Tables.{Table}
-use Rattle.awk_asks.specs.Tasks.{goes_on, Tells}
-use Rattle.awk_asks.specs.declared.halt.Halt.{Halt}
-use Rattle.awk_asks.specs.declared.halt.Halt.TheVariants as halt
-use Rattle.awk_asks.proofs.Chain.{at_once, stepped, done, closed, cut, nexts, exits}
+use Rattle.awk_streams.specs.Chains.{Leads, Meets}
+use Rattle.awk_streams.specs.Tables.{Table}
+use Rattle.awk_streams.specs.Tasks.{goes_on, Tells}
+use Rattle.awk_streams.specs.declared.halt.Halt.{Halt}
+use Rattle.awk_streams.specs.declared.halt.Halt.TheVariants as halt
+use Rattle.awk_streams.proofs.Chain.{at_once, stepped, done, closed, cut, nexts, exits}
 use Rattle.awk_tasks.specs.Acts.{Passes}
 use Rattle.awk_tasks.specs.Wholes.{Whole, Agreeing, base, used}
 use Rattle.awk_calls.specs.Jumps.{Jumps}

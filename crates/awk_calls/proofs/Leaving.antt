@@ -24,10 +24,10 @@ use Rattle.awk_store.specs.States.{Hidden, phase_of}
 use Rattle.awk_store.specs.declared.phase.Phase.{Phase}
 use Rattle.awk_store.specs.declared.phase.Phase.TheVariants as phase
 use Rattle.awk_works.specs.Numbers.{exit_status}
-use Rattle.awk_asks.specs.declared.halt.Halt.{Halt}
-use Rattle.awk_asks.specs.Tables.{Table}
+use Rattle.awk_streams.specs.declared.halt.Halt.{Halt}
+use Rattle.awk_streams.specs.Tables.{Table}
 use Rattle.awk_tasks.specs.Wholes.{Agreeing, base}
-use Rattle.awk_asks.specs.Chains.{halt_at}
+use Rattle.awk_streams.specs.Chains.{halt_at}
 use Rattle.awk_tasks.specs.Acts.{Passes}
 use Rattle.awk_tasks.proofs.Acting.{at_rest, moves, alters}
 use Rattle.awk_calls.specs.Jumps.{Jumps}

@@ -14,8 +14,8 @@ use Rattle.awk_machine.specs.Pieces.{Piece, Do, Step}
 use Rattle.awk_machine.specs.Statements.{stepping}
 use Rattle.awk_store.specs.Changes as changes
 use Rattle.awk_store.specs.Kept.{Kept}
-use Rattle.awk_asks.specs.Tables.{Table}
-use Rattle.awk_asks.specs.declared.halt.Halt.TheVariants as halt
+use Rattle.awk_streams.specs.Tables.{Table}
+use Rattle.awk_streams.specs.declared.halt.Halt.TheVariants as halt
 use Rattle.awk_calls.specs.Steps.{Steps}
 
 -- ---- a step

@@ -2,8 +2,8 @@
 use Rattle.awk_machine.specs.Pieces.{Piece, Faulted, ends}
 use Rattle.awk_machine.specs.State.{Given}
 use Rattle.awk_machine.specs.Statements.{to_records, after_exit}
-use Rattle.awk_asks.specs.declared.halt.Halt.{Halt}
-use Rattle.awk_asks.specs.declared.halt.Halt.TheVariants as halt
+use Rattle.awk_streams.specs.declared.halt.Halt.{Halt}
+use Rattle.awk_streams.specs.declared.halt.Halt.TheVariants as halt
 use Rattle.awk_store.specs.States.{phase_of}
 use Rattle.awk_tasks.specs.Wholes.{Whole}
 use Rattle.awk_tasks.specs.Acts.{Passes}

@@ -1,8 +1,8 @@
 -- Steps of a run.
 use Rattle.std.specs.Prelude.{◌≡◌, ℕ, ◌<◌, ◌≤◌, Result, Ok, Err}
 use Rattle.awk_store.specs.Changes.{stepped}
-use Rattle.awk_asks.specs.declared.halt.Halt.{Halt}
-use Rattle.awk_asks.specs.declared.halt.Halt.TheVariants as halt
+use Rattle.awk_streams.specs.declared.halt.Halt.{Halt}
+use Rattle.awk_streams.specs.declared.halt.Halt.TheVariants as halt
 use Rattle.awk_tasks.specs.Wholes.{Whole, used}
 
 -- a step is taken, or none is left

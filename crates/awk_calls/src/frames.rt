@@ -1,6 +1,6 @@
 // What a call begins with, and what it leaves.
 ghost use Rattle.std.specs.Prelude.{◌≡◌, ◌∷◌, ◌++◌, [], List, map, drop, slice_set, None, IfErr, IfSome, OnOk};
-ghost use Rattle.awk_asks.specs.Tables.{Table};
+ghost use Rattle.awk_streams.specs.Tables.{Table};
 ghost use Rattle.awk_machine.specs.Calls as machine;
 ghost use Rattle.awk_machine.specs.Pieces.{Do, Call};
 ghost use Rattle.awk_machine.specs.State.{Given};
@@ -15,7 +15,7 @@ ghost use Rattle.awk_tasks.specs.Wholes.{base, names_in};
 ghost use Rattle.awk_calls.specs.Calls as calls;
 
 use crate::flow::Flow;
-use awk_asks::halt::Halt;
+use awk_streams::halt::Halt;
 use awk_program::{Argument, Expr, Program, Statement};
 use awk_store::{Bound, Caller, Passed, Reference, Store};
 use awk_tasks::calls::enter;

@@ -1,13 +1,13 @@
 // `next` and `exit`.
 ghost use Rattle.std.specs.Prelude.{◌∷◌, [], None, Some};
-ghost use Rattle.awk_asks.specs.Tables.{Table};
+ghost use Rattle.awk_streams.specs.Tables.{Table};
 ghost use Rattle.awk_machine.specs.Pieces.{At, Doing};
 ghost use Rattle.awk_machine.specs.State.{Given};
 ghost use Rattle.awk_program.specs.Program as p;
 ghost use Rattle.awk_program.specs.Program.{Expression};
 ghost use Rattle.awk_calls.specs.Jumps.{Jumps};
 
-use awk_asks::halt::Halt;
+use awk_streams::halt::Halt;
 use awk_store::{Phase, Store};
 use awk_text::fault::Fault;
 use awk_text::place::Place;

@@ -1,12 +1,12 @@
 // Steps.
 ghost use Rattle.std.specs.Prelude.{◌≡◌, ◌∷◌, List, if◌then◌else◌};
-ghost use Rattle.awk_asks.specs.Tables.{Table};
+ghost use Rattle.awk_streams.specs.Tables.{Table};
 ghost use Rattle.awk_machine.specs.Pieces.{Piece, Do, Step};
 ghost use Rattle.awk_machine.specs.Statements.{stepping};
 ghost use Rattle.awk_program.specs.View.{Names, view_statement};
 ghost use Rattle.awk_calls.specs.Steps.{Steps};
 
-use awk_asks::halt::Halt;
+use awk_streams::halt::Halt;
 use awk_program::Statement;
 use awk_store::Store;
 

@@ -18,11 +18,11 @@ use Rattle.awk_machine.specs.Calls.{Argument, function, arguments, by_value, by_
 use Rattle.awk_machine.specs.Forms.{value}
 use Rattle.awk_machine.specs.Pieces.{Piece, At, Do, Call, Step, Value_of, Goes, give}
 use Rattle.awk_machine.specs.State.{State, Given}
-use Rattle.awk_asks.specs.declared.halt.Halt.{Halt}
-use Rattle.awk_asks.specs.Chains.{Leads, Meets}
-use Rattle.awk_asks.proofs.Chain as chain
-use Rattle.awk_asks.specs.Tables.{Table}
-use Rattle.awk_asks.specs.Tasks.{Owns}
+use Rattle.awk_streams.specs.declared.halt.Halt.{Halt}
+use Rattle.awk_streams.specs.Chains.{Leads, Meets}
+use Rattle.awk_streams.proofs.Chain as chain
+use Rattle.awk_streams.specs.Tables.{Table}
+use Rattle.awk_streams.specs.Tasks.{Owns}
 use Rattle.awk_store.specs.Kept.{Kept}
 use Rattle.awk_tasks.proofs.Acting.{acted, done as there}
 use Rattle.awk_eval.proofs.Leading.{hands_on, quietly}

@@ -3,8 +3,8 @@ use Rattle.std.specs.Prelude.{◌≡◌, ℕ, ◌≤◌, Result}
 use Rattle.std.specs.Borrow.{Bor, MutBor}
 use Rattle.awk_text.specs.declared.value.Value.{Value}
 use Rattle.box_world.specs.declared.world.World.{Ghosts}
-use Rattle.awk_asks.specs.Tasks.{Owns}
-use Rattle.awk_asks.specs.declared.halt.Halt.{Halt}
+use Rattle.awk_streams.specs.Tasks.{Owns}
+use Rattle.awk_streams.specs.declared.halt.Halt.{Halt}
 use Rattle.awk_calls.specs.Flows.{flows}
 use Rattle.awk_calls.specs.declared.flow.Flow.{Flow}
 use Rattle.awk_machine.specs.Forms.{value}

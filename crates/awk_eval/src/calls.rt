@@ -1,6 +1,6 @@
 // Calls of the script's functions.
 ghost use Rattle.std.specs.Prelude.{◌≡◌, length, IfOk, IfSome};
-ghost use Rattle.awk_asks.specs.Tasks.{Owns};
+ghost use Rattle.awk_streams.specs.Tasks.{Owns};
 ghost use Rattle.awk_machine.specs.Forms.{value};
 ghost use Rattle.awk_machine.specs.Pieces.{give};
 ghost use Rattle.awk_program.specs.Program as p;
@@ -14,7 +14,7 @@ ghost use Rattle.awk_eval.specs.Runs.{Does, whole_of};
 use crate::context::{Context, Run};
 use crate::evaluates::Evaluates;
 use crate::statements::body;
-use awk_asks::halt::Halt;
+use awk_streams::halt::Halt;
 use awk_calls::frames::{begin, body_of, pass, returned};
 use awk_calls::steps::step;
 use awk_forms::at_hand::number_there;

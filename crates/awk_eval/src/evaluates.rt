@@ -1,6 +1,6 @@
 // What evaluates the parts of a form.
 ghost use Rattle.std.specs.Prelude.{IfSome};
-ghost use Rattle.awk_asks.specs.Tasks.{Owns};
+ghost use Rattle.awk_streams.specs.Tasks.{Owns};
 ghost use Rattle.awk_machine.specs.Forms.{value};
 ghost use Rattle.awk_machine.specs.Pieces.{Do, Start, give};
 ghost use Rattle.awk_program.specs.View.{view, view_statement};
@@ -9,7 +9,7 @@ ghost use Rattle.awk_calls.specs.Flows.{flows};
 ghost use Rattle.awk_eval.specs.Runs.{Does, whole_of};
 
 use crate::context::{Context, Run};
-use awk_asks::halt::Halt;
+use awk_streams::halt::Halt;
 use awk_calls::Flow;
 use awk_program::{Expr, Statement};
 use awk_text::value::Value;

@@ -1,6 +1,6 @@
 // Expressions.
 ghost use Rattle.std.specs.Prelude.{map};
-ghost use Rattle.awk_asks.specs.Tasks.{Owns};
+ghost use Rattle.awk_streams.specs.Tasks.{Owns};
 ghost use Rattle.awk_forms.specs.Operands.{unary_of, binary_of};
 ghost use Rattle.awk_machine.specs.Forms.{value};
 ghost use Rattle.awk_machine.specs.Pieces.{give};
@@ -19,7 +19,7 @@ use crate::patterns::{locate, split, substitute};
 use crate::sources::matches;
 use crate::targets::{assign, change, increment, read_target};
 use crate::tests::{number, truth_of};
-use awk_asks::halt::Halt;
+use awk_streams::halt::Halt;
 use awk_forms::at_hand::{MOST_LEVELS, at_hand, number_at_hand, truth_at_hand};
 use awk_forms::chains::{join, members, operated};
 use awk_forms::done::done_at_once;

@@ -1,6 +1,6 @@
 // Lists of expressions.
 ghost use Rattle.std.specs.Prelude.{◌≡◌, ◌+◌, List, ℕ, length, IfOk, OnOk, map};
-ghost use Rattle.awk_asks.specs.Tasks.{Owns};
+ghost use Rattle.awk_streams.specs.Tasks.{Owns};
 ghost use Rattle.awk_machine.specs.Forms.{value, spot};
 ghost use Rattle.awk_machine.specs.Pieces.{give};
 ghost use Rattle.awk_program.specs.Program as p;
@@ -12,7 +12,7 @@ ghost use Rattle.awk_eval.specs.Runs.{Does, Fills, whole_of};
 
 use crate::context::{Context, Run};
 use crate::evaluates::Evaluates;
-use awk_asks::halt::Halt;
+use awk_streams::halt::Halt;
 use awk_forms::chains::members;
 use awk_forms::keys::{element_key, group_key, one_key, only};
 use awk_forms::made::append;

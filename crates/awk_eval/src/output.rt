@@ -1,6 +1,6 @@
 // Output.
 ghost use Rattle.std.specs.Prelude.{[], Some, None, map, option_map};
-ghost use Rattle.awk_asks.specs.Tasks.{Owns};
+ghost use Rattle.awk_streams.specs.Tasks.{Owns};
 ghost use Rattle.awk_machine.specs.Pieces.{At, Doing};
 ghost use Rattle.awk_program.specs.Program as p;
 ghost use Rattle.awk_program.specs.View.{view, view_redirection};
@@ -11,8 +11,8 @@ ghost use Rattle.awk_eval.specs.Runs.{Does, whole_of};
 use crate::context::{Context, Run};
 use crate::evaluates::Evaluates;
 use crate::lists::fill;
-use awk_asks::halt::Halt;
-use awk_asks::requests::put;
+use awk_streams::halt::Halt;
+use awk_streams::requests::put;
 use awk_calls::Flow;
 use awk_forms::made::append;
 use awk_forms::outputs::{
@@ -22,7 +22,7 @@ use awk_forms::outputs::{
 use awk_forms::splitting::split_for;
 use awk_lent::lent::Lent;
 use awk_program::{Expr, Redirection};
-use awk_records::outputs::put_to;
+use awk_input::outputs::put_to;
 use awk_text::place::Place;
 use box_world::world::World;
 

@@ -1,5 +1,5 @@
 // Expressions that search for a pattern.
-ghost use Rattle.awk_asks.specs.Tasks.{Owns};
+ghost use Rattle.awk_streams.specs.Tasks.{Owns};
 ghost use Rattle.awk_machine.specs.Forms.{value};
 ghost use Rattle.awk_machine.specs.Pieces.{give};
 ghost use Rattle.awk_program.specs.Program as p;
@@ -11,7 +11,7 @@ use crate::context::{Context, Run};
 use crate::evaluates::Evaluates;
 use crate::sources::source_of;
 use crate::targets::target_of;
-use awk_asks::halt::Halt;
+use awk_streams::halt::Halt;
 use awk_forms::{patterns, replacements};
 use awk_program::{Expr, Extent, Pattern, Target, Variable};
 use awk_text::place::Place;

@@ -1,6 +1,6 @@
 // What stands where a pattern is wanted, and whether it matches.
 ghost use Rattle.std.specs.Prelude.{List, ℕ, IfOk};
-ghost use Rattle.awk_asks.specs.Tasks.{Owns};
+ghost use Rattle.awk_streams.specs.Tasks.{Owns};
 ghost use Rattle.awk_forms.specs.Patterns.{source_value, IsSourceOf};
 ghost use Rattle.awk_machine.specs.Forms.{source, value};
 ghost use Rattle.awk_machine.specs.Operators.{of_truth};
@@ -12,7 +12,7 @@ ghost use Rattle.awk_eval.specs.Runs.{Does, whole_of};
 
 use crate::context::{Context, Run};
 use crate::evaluates::Evaluates;
-use awk_asks::halt::Halt;
+use awk_streams::halt::Halt;
 use awk_forms::patterns::{self, Source, matched_at_hand};
 use awk_forms::splitting::split_for;
 use awk_program::{Expr, Pattern};

@@ -1,6 +1,6 @@
 // Statements.
 ghost use Rattle.std.specs.Prelude.{[], map, option_map};
-ghost use Rattle.awk_asks.specs.Tasks.{Owns};
+ghost use Rattle.awk_streams.specs.Tasks.{Owns};
 ghost use Rattle.awk_machine.specs.Pieces.{At, Do, Doing, Each, Start};
 ghost use Rattle.awk_program.specs.Program as p;
 ghost use Rattle.awk_program.specs.View.{view, view_statement, variable_of};
@@ -14,7 +14,7 @@ use crate::lists::fill;
 use crate::loops::{first_then, over_keys, turn_first, while_loop};
 use crate::output::{print, printf};
 use crate::tests::{effect, truth_of};
-use awk_asks::halt::Halt;
+use awk_streams::halt::Halt;
 use awk_calls::Flow;
 use awk_calls::ends::is_on;
 use awk_calls::jumps::{exit, exit_with, next};

@@ -1,6 +1,6 @@
 // What is read or set.
 ghost use Rattle.std.specs.Prelude.{List, ℕ, IfOk};
-ghost use Rattle.awk_asks.specs.Tasks.{Owns};
+ghost use Rattle.awk_streams.specs.Tasks.{Owns};
 ghost use Rattle.awk_machine.specs.Forms.{value, spot};
 ghost use Rattle.awk_machine.specs.Pieces.{give};
 ghost use Rattle.awk_program.specs.Program as p;
@@ -14,7 +14,7 @@ ghost use Rattle.awk_program.specs.declared.operators.Taken.{Taken as Which};
 use crate::context::{Context, Run};
 use crate::evaluates::Evaluates;
 use crate::lists::element;
-use awk_asks::halt::Halt;
+use awk_streams::halt::Halt;
 use awk_forms::growing::assigned;
 use awk_forms::keys::field_number;
 use awk_forms::made::{computed_at, stepped_at};

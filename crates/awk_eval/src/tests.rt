@@ -1,5 +1,5 @@
 // What an expression is wanted for: its number, its truth, or what it does.
-ghost use Rattle.awk_asks.specs.Tasks.{Owns};
+ghost use Rattle.awk_streams.specs.Tasks.{Owns};
 ghost use Rattle.awk_machine.specs.Forms.{value};
 ghost use Rattle.awk_machine.specs.Pieces.{give};
 ghost use Rattle.awk_program.specs.Program as p;
@@ -12,7 +12,7 @@ use crate::context::{Context, Run};
 use crate::evaluates::Evaluates;
 use crate::sources::matches;
 use crate::targets::{alter, put, step_target};
-use awk_asks::halt::Halt;
+use awk_streams::halt::Halt;
 use awk_forms::at_hand::{MOST_LEVELS, at_hand, number_at_hand, truth_at_hand};
 use awk_forms::done::done_at_once;
 use awk_forms::splitting::{done_once_split, truth_once_split};

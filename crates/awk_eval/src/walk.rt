@@ -1,6 +1,6 @@
 // Expressions and statements, no deeper than a number of levels.
 ghost use Rattle.std.specs.Prelude.{map};
-ghost use Rattle.awk_asks.specs.Tasks.{Owns};
+ghost use Rattle.awk_streams.specs.Tasks.{Owns};
 ghost use Rattle.awk_calls.specs.Flows.{flows};
 ghost use Rattle.awk_eval.specs.Nests.{Nests};
 ghost use Rattle.awk_machine.specs.Forms.{value};
@@ -16,7 +16,7 @@ use crate::expressions::{chain, choose, evaluate};
 use crate::inputs::{from_commands, from_file};
 use crate::statements::{perform, plain};
 use crate::{statements, tests};
-use awk_asks::halt::Halt;
+use awk_streams::halt::Halt;
 use awk_calls::Flow;
 use awk_calls::steps::{is_one, step};
 use awk_forms::at_hand::value_at_hand;

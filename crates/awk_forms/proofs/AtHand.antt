@@ -26,9 +26,9 @@ use Rattle.awk_machine.specs.Operators.{limited, operation, compared, of_truth}
 use Rattle.awk_machine.specs.Pieces.{Piece, Part, At, Do, Get, Match, Pattern_of, Value_of, Target_of, Terms_of, give}
 use Rattle.awk_machine.specs.State.{Given}
 use Rattle.awk_machine.specs.Targets.{target}
-use Rattle.awk_asks.specs.declared.halt.Halt.{Halt}
-use Rattle.awk_asks.specs.declared.halt.Halt.{Halt}
-use Rattle.awk_asks.specs.Tables.{Table}
+use Rattle.awk_streams.specs.declared.halt.Halt.{Halt}
+use Rattle.awk_streams.specs.declared.halt.Halt.{Halt}
+use Rattle.awk_streams.specs.Tables.{Table}
 use Rattle.awk_store.specs.Changes.{with_row}
 use Rattle.awk_store.specs.Kept as kept
 use Rattle.awk_tasks.specs.Acts.{Acts, Passes}

@@ -9,10 +9,10 @@ use Rattle.awk_machine.specs.Pieces.{Piece, Goes, granted, Faulted, ends}
 use Rattle.awk_machine.specs.State.{Course, Given}
 use Rattle.awk_machine.specs.Streams.{seen}
 use Rattle.awk_store.specs.States.{Hidden}
-use Rattle.awk_asks.specs.declared.halt.Halt.{Halt}
-use Rattle.awk_asks.specs.declared.halt.Halt.TheVariants as halt
+use Rattle.awk_streams.specs.declared.halt.Halt.{Halt}
+use Rattle.awk_streams.specs.declared.halt.Halt.TheVariants as halt
 use Rattle.awk_tasks.specs.Wholes.{Whole, Agreeing, base}
-use Rattle.awk_asks.specs.Chains.{halt_at, result_at}
+use Rattle.awk_streams.specs.Chains.{halt_at, result_at}
 use Rattle.awk_tasks.specs.Acts.{Acts}
 use Rattle.awk_tasks.proofs.Acting.{at_rest, moves, done, faulted, lacking}
 

@@ -31,8 +31,8 @@ use Rattle.awk_store.specs.Changes as changes
 use Rattle.awk_store.specs.Kept as kept
 use Rattle.awk_store.specs.States.{Hidden}
 use Rattle.awk_tasks.specs.Wholes.{Whole, Agreeing, base, names_in}
-use Rattle.awk_asks.specs.Tasks.{goes_on}
-use Rattle.awk_asks.specs.Chains.{result_at}
+use Rattle.awk_streams.specs.Tasks.{goes_on}
+use Rattle.awk_streams.specs.Chains.{result_at}
 use Rattle.awk_tasks.specs.Acts.{Acts}
 use Rattle.awk_tasks.proofs.Acting.{at_rest, alters, done}
 use Rattle.awk_tasks.proofs.ArraySteps.{array-set, array_agrees, array_used}

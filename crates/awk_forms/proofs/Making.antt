@@ -22,7 +22,7 @@ use Rattle.awk_machine.specs.State.{State, Course, Given}
 use Rattle.awk_machine.specs.Streams.{seen}
 use Rattle.awk_store.specs.States.{Hidden}
 use Rattle.awk_tasks.specs.Wholes.{Whole, Agreeing, base}
-use Rattle.awk_asks.specs.Chains.{result_at}
+use Rattle.awk_streams.specs.Chains.{result_at}
 use Rattle.awk_tasks.specs.Acts.{Acts}
 use Rattle.awk_tasks.proofs.Acting.{at_rest, moves, done}
 use Rattle.awk_works.specs.Numbers.{as_value}

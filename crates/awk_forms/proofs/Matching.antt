@@ -18,10 +18,10 @@ use Rattle.awk_machine.specs.Forms.{checked}
 use Rattle.awk_machine.specs.Pieces.{Piece, Target, At, Do, Get, Check, Split, Set, Give, Substitute, Value_of, give}
 use Rattle.awk_machine.specs.State.{Given}
 use Rattle.awk_machine.specs.Targets.{check_separator, target}
-use Rattle.awk_asks.specs.Tasks.{goes_on}
-use Rattle.awk_asks.specs.declared.halt.Halt.{Halt}
+use Rattle.awk_streams.specs.Tasks.{goes_on}
+use Rattle.awk_streams.specs.declared.halt.Halt.{Halt}
 use Rattle.awk_tasks.specs.Wholes.{Whole}
-use Rattle.awk_asks.specs.Chains.{result_at}
+use Rattle.awk_streams.specs.Chains.{result_at}
 use Rattle.awk_tasks.specs.Acts.{Acts, Passes}
 use Rattle.awk_tasks.specs.Searching.{then_set}
 use Rattle.awk_tasks.proofs.Acting.{at_rest, moves, reworded, doing, done, stop, faulted}

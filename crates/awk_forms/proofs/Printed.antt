@@ -16,7 +16,7 @@ use Rattle.awk_machine.specs.Pieces.{Piece, Part, At, Doing, Goes, granted}
 use Rattle.awk_machine.specs.Printing as machine
 use Rattle.awk_machine.specs.State.{Given}
 use Rattle.awk_machine.specs.Streams.{seen}
-use Rattle.awk_asks.specs.Tables.{Table}
+use Rattle.awk_streams.specs.Tables.{Table}
 use Rattle.awk_store.specs.Kept.{Kept}
 use Rattle.awk_tasks.specs.Acts.{Passes}
 use Rattle.awk_tasks.specs.Printed as spec

@@ -21,7 +21,7 @@ use Rattle.awk_machine.specs.Pieces as machine
 use Rattle.awk_machine.specs.Pieces.{Piece, Part, At, Do, Get, Set, Give, Value_of, give}
 use Rattle.awk_machine.specs.State.{Array, Given}
 use Rattle.awk_machine.specs.Targets.{target}
-use Rattle.awk_asks.specs.Tasks.{goes_on}
+use Rattle.awk_streams.specs.Tasks.{goes_on}
 use Rattle.awk_store.specs.Changes.{with_array, with_value}
 use Rattle.awk_store.specs.Kept as kept
 use Rattle.awk_store.specs.Kept.{Kept}

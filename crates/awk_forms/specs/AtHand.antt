@@ -17,7 +17,7 @@ use Rattle.awk_machine.specs.Pieces.{give}
 use Rattle.awk_machine.specs.State.{Given}
 use Rattle.awk_store.specs.Changes.{Adds, with_array}
 use Rattle.awk_store.specs.Kept.{Kept, array, reference}
-use Rattle.awk_asks.specs.Tables.{Table}
+use Rattle.awk_streams.specs.Tables.{Table}
 use Rattle.awk_tasks.specs.Acts.{Passes}
 use Rattle.awk_tasks.specs.Wholes.{names_in}
 use Rattle.awk_works.specs.Lines.{held}

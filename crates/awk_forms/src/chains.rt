@@ -3,7 +3,7 @@ ghost use Rattle.std.specs.Prelude.{◌≡◌, ◌∷◌, [], List, Ok, map};
 ghost use Rattle.awk_forms.specs.Made.{of_both};
 ghost use Rattle.awk_text.specs.Values.{number_of};
 ghost use Rattle.awk_text.specs.declared.value.Value.{Value as Val};
-ghost use Rattle.awk_asks.specs.Tables.{Table};
+ghost use Rattle.awk_streams.specs.Tables.{Table};
 ghost use Rattle.awk_machine.specs.Pieces.{At, Terms_of, Texts_of, Members_of, give};
 ghost use Rattle.awk_machine.specs.State.{Given};
 ghost use Rattle.awk_program.specs.Program as p;
@@ -13,7 +13,7 @@ ghost use Rattle.awk_tasks.specs.Acts.{Acts};
 ghost use Rattle.awk_tasks.specs.Wholes.{Whole, names_in};
 
 use crate::made::{number_at, text_at};
-use awk_asks::halt::Halt;
+use awk_streams::halt::Halt;
 use awk_program::{Operator, Variable};
 use awk_store::Store;
 use awk_text::fault::Fault;

@@ -1,6 +1,6 @@
 // A text that grows in its place.
 ghost use Rattle.std.specs.Prelude.{◌≡◌, ◌+◌, ◌≤◌, ◌++◌, List, ℕ, true, false, length, map, IfSome, IfOk, IfErr, OnOk};
-ghost use Rattle.awk_asks.specs.Tables.{Table};
+ghost use Rattle.awk_streams.specs.Tables.{Table};
 ghost use Rattle.awk_machine.specs.Forms.{value};
 ghost use Rattle.awk_machine.specs.Pieces.{give};
 ghost use Rattle.awk_machine.specs.State.{Given};
@@ -19,7 +19,7 @@ ghost use Rattle.awk_text.specs.declared.value.Value.TheVariants as v;
 ghost use Rattle.awk_forms.specs.Growing.{Follows, Lends};
 
 use crate::at_hand::{MOST_LEVELS, at_hand};
-use awk_asks::halt::Halt;
+use awk_streams::halt::Halt;
 use awk_program::{Expr, Joined, Target, Variable};
 use awk_store::{Store, is_nf};
 use awk_tasks::values::into_text;

@@ -1,6 +1,6 @@
 // Subscripts, as one text, and the numbers of fields.
 ghost use Rattle.std.specs.Prelude.{◌≡◌, ◌⊎◌, ◌∷◌, [], ℕ, List, length, reverse, Ok, Err, IfOk, IfErr, IfSome};
-ghost use Rattle.awk_asks.specs.Tables.{Table};
+ghost use Rattle.awk_streams.specs.Tables.{Table};
 ghost use Rattle.awk_fields.specs.Rows.{joined};
 ghost use Rattle.awk_machine.specs.Forms.{listed, spot};
 ghost use Rattle.awk_machine.specs.Operators.{limited, of_count};
@@ -14,10 +14,10 @@ ghost use Rattle.awk_text.specs.declared.value.Value.TheVariants as v;
 ghost use Rattle.awk_tasks.specs.Acts.{Acts, Passes};
 ghost use Rattle.awk_tasks.specs.Spots.{IsSpotOf, value_of};
 ghost use Rattle.awk_program.specs.View.{Names, variable_of, view_target};
-ghost use Rattle.awk_asks.specs.Tasks.{goes_on};
+ghost use Rattle.awk_streams.specs.Tasks.{goes_on};
 ghost use Rattle.awk_tasks.specs.Wholes.{Whole, names_in};
 
-use awk_asks::halt::{Halt, at};
+use awk_streams::halt::{Halt, at};
 use awk_program::{Expr, Own, Target, Variable};
 use awk_store::Store;
 use awk_tasks::{Key, Spot};
@@ -27,7 +27,7 @@ use awk_text::place::Place;
 use awk_text::value::Value;
 use awk_works::line::Line;
 use awk_works::targets::field_of;
-use awk_works::texts;
+use awk_works::texts::{joined_subscripts, key_of_one};
 use itoa::Buffer;
 use std::alloc::Global;
 
@@ -43,7 +43,7 @@ fn joined_key(
 {
     let mut buffer = Buffer::new();
     let subsep = store.own_text(Own::Subsep, &mut buffer);
-    let text = texts::key(line, subscripts, subsep)?;
+    let text = joined_subscripts(line, subscripts, subsep)?;
     Ok(Octets::new(Vec::from_slice(alloc, text)?))
 }
 
@@ -53,7 +53,7 @@ fn single_key(alloc: Global, subscript: &Value) -> Result<Octets, Fault>
     ensures err { IfErr result (λ e. (e ≡ Fault.Memory) ⊎ ((subsep : List ℕ) → limited (joined subsep (subscript.now ∷ [])) ≡ Err e)) }
 {
     let mut buffer = Buffer::new();
-    let text = texts::key_of_one(subscript, &mut buffer)?;
+    let text = key_of_one(subscript, &mut buffer)?;
     Ok(Octets::new(Vec::from_slice(alloc, text)?))
 }
 
@@ -105,7 +105,7 @@ pub fn one_key(place: Place, subscript: Value) -> Result<Key, Halt>
     ensures { (g : Given) (w : Whole) (a : p.Variable) (x : Expression) → Acts g (At (Target_of (p.element place a (p.more x p.none))) (subscript ∷ [])) (λ key. give (v.Text key)) w result w }
 {
     let mut buffer = Buffer::new();
-    at(place, texts::key_of_one(&subscript, &mut buffer))?;
+    at(place, key_of_one(&subscript, &mut buffer))?;
     Ok(Key::new(subscript))
 }
 

@@ -6,12 +6,12 @@ ghost use Rattle.awk_program.specs.Program as p;
 ghost use Rattle.awk_program.specs.declared.operators.Taken.{Taken};
 ghost use Rattle.awk_program.specs.Program.{Expression, Reference};
 ghost use Rattle.awk_forms.specs.Made.{as_text, both_numbers, stepping, storing};
-ghost use Rattle.awk_asks.specs.Chains.{result_at};
+ghost use Rattle.awk_streams.specs.Chains.{result_at};
 ghost use Rattle.awk_tasks.specs.Acts.{Acts};
 ghost use Rattle.awk_tasks.specs.Wholes.{Whole};
 ghost use Rattle.awk_works.specs.Numbers.{as_value};
 
-use awk_asks::halt::{Halt, at};
+use awk_streams::halt::{Halt, at};
 use awk_program::{Operator, Step};
 use awk_text::fault::Fault;
 use awk_text::octets::Octets;

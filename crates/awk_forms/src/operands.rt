@@ -9,7 +9,7 @@ ghost use Rattle.awk_tasks.specs.Acts.{Acts};
 ghost use Rattle.awk_tasks.specs.Wholes.{Whole};
 
 use crate::made::{number_at, owned};
-use awk_asks::halt::Halt;
+use awk_streams::halt::Halt;
 use awk_program::{Comparison, Measure, Sign};
 use awk_text::place::Place;
 use awk_text::value::{Value, truth};

@@ -1,6 +1,6 @@
 // The texts that print, printf and sprintf make.
 ghost use Rattle.std.specs.Prelude.{◌≡◌, ◌∷◌, ◌++◌, [], List, length, map, reverse, true, None, Some, Ok, Err, IfOk, IfErr, IfSome, ◌⊎◌};
-ghost use Rattle.awk_asks.specs.Tables.{Table};
+ghost use Rattle.awk_streams.specs.Tables.{Table};
 ghost use Rattle.awk_fields.specs.Rows.{joined};
 ghost use Rattle.awk_forms.specs.AtHand.{AreThere, HoldsJoined, IsThere};
 ghost use Rattle.awk_forms.specs.Outputs.{to_standard, to_stream};
@@ -26,7 +26,7 @@ ghost use Rattle.awk_works.specs.Lines.{held};
 use crate::at_hand::{MOST_LEVELS, at_hand};
 use crate::made::text_at;
 use crate::splitting::{is_field, is_whole, split_where};
-use awk_asks::halt::{Halt, at};
+use awk_streams::halt::{Halt, at};
 use awk_lent::lent::Lent;
 use awk_program::{Expr, Own, Redirection};
 use awk_store::Store;

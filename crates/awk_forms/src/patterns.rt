@@ -1,6 +1,6 @@
 // Forms that search for a pattern: an ERE by itself, `~`, match and split.
 ghost use Rattle.std.specs.Prelude.{◌≡◌, ◌∷◌, [], List, ℕ, false, IfOk, IfSome};
-ghost use Rattle.awk_asks.specs.Tables.{Table};
+ghost use Rattle.awk_streams.specs.Tables.{Table};
 ghost use Rattle.awk_fields.specs.Separators as separators;
 ghost use Rattle.awk_forms.specs.AtHand.{IsThere};
 ghost use Rattle.awk_forms.specs.Patterns.{source_value, IsSourceOf};
@@ -18,13 +18,14 @@ ghost use Rattle.awk_tasks.specs.Wholes.{Whole, names_in};
 ghost use Rattle.awk_text.specs.Values.{text_of};
 
 use crate::at_hand::{MOST_LEVELS, at_hand};
-use awk_asks::halt::{Halt, at};
+use awk_streams::halt::{Halt, at};
 use awk_ere::Ere;
 use awk_fields::Splitter;
 use awk_program::{Expr, Pattern, Variable};
 use awk_store::Store;
 use awk_tasks::patterns::{check, matches, matches_record};
-use awk_tasks::{searches, splits};
+use awk_tasks::searches::locate;
+use awk_tasks::splits::split_into;
 use awk_text::place::Place;
 use awk_text::value::{Value, text_in};
 use awk_works::operators::truth_value;
@@ -144,7 +145,7 @@ pub fn located(
         → Acts g (At (Value_of (p.locate place x y)) (source_value pattern ∷ text.now ∷ [])) give (store.old, t) result (store.new, t) }
 {
     let ere = used(alloc, patterns, place, pattern)?;
-    let start = searches::locate(store, &ere, text)?;
+    let start = locate(store, &ere, text)?;
     Ok(Value::Num(start))
 }
 
@@ -200,6 +201,6 @@ pub fn split(
         → Acts g (At (Value_of (p.split place x at_name (variable_of (names_in g) array) y)) (source_value by ∷ text.now ∷ [])) give (store.old, t) result (store.new, t) }
 {
     let separator = splitter(alloc, patterns, place, by)?;
-    let count = splits::split(alloc, store, at_name, array, &separator, text)?;
+    let count = split_into(alloc, store, at_name, array, &separator, text)?;
     Ok(Value::Num(count))
 }

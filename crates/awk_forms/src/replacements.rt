@@ -1,6 +1,6 @@
 // sub and gsub.
 ghost use Rattle.std.specs.Prelude.{◌≡◌, ◌∷◌, []};
-ghost use Rattle.awk_asks.specs.Tables.{Table};
+ghost use Rattle.awk_streams.specs.Tables.{Table};
 ghost use Rattle.awk_forms.specs.Patterns.{source_value, IsSourceOf, reading};
 ghost use Rattle.awk_machine.specs.Builtins as builtin;
 ghost use Rattle.awk_machine.specs.Pieces.{At, Piece, Value_of, give};
@@ -14,7 +14,7 @@ ghost use Rattle.awk_tasks.specs.Wholes.{names_in};
 ghost use Rattle.awk_text.specs.Values.{text_of};
 
 use crate::patterns::{Source, used};
-use awk_asks::halt::Halt;
+use awk_streams::halt::Halt;
 use awk_ere::Ere;
 use awk_program::Extent;
 use awk_store::Store;

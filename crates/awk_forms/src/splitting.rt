@@ -1,6 +1,6 @@
 // The record is split where that brings what an expression wants to hand: plain awk does not see it.
 ghost use Rattle.std.specs.Prelude.{◌≡◌, ◌∷◌, Ok, true, IfOk, IfSome};
-ghost use Rattle.awk_asks.specs.Tables.{Table};
+ghost use Rattle.awk_streams.specs.Tables.{Table};
 ghost use Rattle.awk_forms.specs.AtHand.{HasTruth, IsDone};
 ghost use Rattle.awk_machine.specs.Pieces.{Piece};
 ghost use Rattle.awk_machine.specs.State.{Given};
@@ -9,7 +9,7 @@ ghost use Rattle.awk_tasks.specs.Acts.{Acts};
 
 use crate::at_hand::truth_at_hand;
 use crate::done::done_at_once;
-use awk_asks::halt::Halt;
+use awk_streams::halt::Halt;
 use awk_program::{Expr, Target};
 use awk_store::{Store, is_nf};
 use awk_works::line::Line;

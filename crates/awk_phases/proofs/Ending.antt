@@ -18,10 +18,10 @@ use Rattle.awk_machine.specs.Streams.{seen}
 use Rattle.awk_store.specs.States.{phase_of}
 use Rattle.awk_store.specs.declared.phase.Phase.{Phase}
 use Rattle.awk_store.specs.declared.phase.Phase.TheVariants as phase
-use Rattle.awk_asks.specs.declared.halt.Halt.{Halt}
-use Rattle.awk_asks.specs.declared.halt.Halt.TheVariants as halt
-use Rattle.awk_asks.specs.Chains.{Lacks, Unlogged}
-use Rattle.awk_asks.specs.Tables.{Entry}
+use Rattle.awk_streams.specs.declared.halt.Halt.{Halt}
+use Rattle.awk_streams.specs.declared.halt.Halt.TheVariants as halt
+use Rattle.awk_streams.specs.Chains.{Lacks, Unlogged}
+use Rattle.awk_streams.specs.Tables.{Entry}
 use Rattle.awk_tasks.specs.Wholes.{Whole, Agreeing, base, used}
 use Rattle.awk_phases.specs.Outcomes.{at_once, goes_to_end, is_before_end, last, last_exit, own, own_fault, own_status, view_outcome}
 use Rattle.awk_phases.specs.Reports.{Reported}

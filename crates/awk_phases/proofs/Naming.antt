@@ -20,7 +20,7 @@ use Rattle.awk_machine.specs.Variables.{changed, with_variable}
 use Rattle.awk_store.specs.Kept.{scalar}
 use Rattle.awk_store.specs.States.{Hidden, cell_named, values_of}
 use Rattle.awk_store.specs.declared.cell.Cell.{Cell}
-use Rattle.awk_asks.specs.Tasks.{goes_on}
+use Rattle.awk_streams.specs.Tasks.{goes_on}
 use Rattle.awk_tasks.specs.Acts.{Acts}
 use Rattle.awk_tasks.specs.Wholes.{Whole, Agreeing, base, names_in}
 use Rattle.awk_tasks.proofs.Acting.{at_rest, done, moves}

@@ -15,9 +15,9 @@ use Rattle.awk_store.specs.Kept.{Kept}
 use Rattle.awk_store.specs.States.{phase_of}
 use Rattle.awk_store.specs.declared.phase.Phase.{Phase}
 use Rattle.awk_store.specs.declared.phase.Phase.TheVariants as phase
-use Rattle.awk_asks.specs.Chains.{Leads, Meets}
-use Rattle.awk_asks.specs.Tables.{Table}
-use Rattle.awk_asks.proofs.Chain.{at_once, changes, done}
+use Rattle.awk_streams.specs.Chains.{Leads, Meets}
+use Rattle.awk_streams.specs.Tables.{Table}
+use Rattle.awk_streams.proofs.Chain.{at_once, changes, done}
 use Rattle.awk_calls.specs.Ends.{is_on}
 use Rattle.awk_calls.specs.Flows.{flows}
 use Rattle.awk_calls.specs.declared.flow.Flow.{Flow}

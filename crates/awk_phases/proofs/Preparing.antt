@@ -6,10 +6,10 @@ use Rattle.awk_machine.specs.Plays.{Reaches, here}
 use Rattle.awk_machine.specs.State.{Course, Given}
 use Rattle.awk_machine.specs.Streams.{seen}
 use Rattle.awk_store.specs.States.{Hidden, Sound}
-use Rattle.awk_asks.specs.declared.halt.Halt.{Halt}
-use Rattle.awk_asks.specs.declared.halt.Halt.TheVariants as halt
-use Rattle.awk_asks.specs.Tasks.{goes_on}
-use Rattle.awk_asks.proofs.Chain.{join}
+use Rattle.awk_streams.specs.declared.halt.Halt.{Halt}
+use Rattle.awk_streams.specs.declared.halt.Halt.TheVariants as halt
+use Rattle.awk_streams.specs.Tasks.{goes_on}
+use Rattle.awk_streams.proofs.Chain.{join}
 use Rattle.awk_tasks.specs.Acts.{Acts, HaltsSo, Settles}
 use Rattle.awk_tasks.specs.Wholes.{Whole, base, names_in, used}
 use Rattle.awk_phases.specs.Starts.{Prepared, Prepares}

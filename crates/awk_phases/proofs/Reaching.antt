@@ -10,9 +10,9 @@ use Rattle.awk_machine.specs.State.{Course, Given}
 use Rattle.awk_machine.specs.Statements.{to_records}
 use Rattle.awk_machine.specs.Streams.{seen}
 use Rattle.awk_store.specs.States.{Hidden}
-use Rattle.awk_asks.specs.declared.halt.Halt.{Halt}
-use Rattle.awk_asks.specs.Chains.{Comes, Halted, Meets}
-use Rattle.awk_asks.proofs.Chain.{comes-after, halted-after, join}
+use Rattle.awk_streams.specs.declared.halt.Halt.{Halt}
+use Rattle.awk_streams.specs.Chains.{Comes, Halted, Meets}
+use Rattle.awk_streams.proofs.Chain.{comes-after, halted-after, join}
 use Rattle.awk_tasks.specs.Wholes.{Whole, Agreeing, base, used}
 use Rattle.awk_phases.specs.Runs.{Goes_on, Reached, Stopped}
 

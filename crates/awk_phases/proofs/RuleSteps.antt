@@ -17,18 +17,18 @@ use Rattle.awk_machine.specs.State.{State, Course, Given}
 use Rattle.awk_machine.specs.Streams.{seen}
 use Rattle.awk_eval.specs.Runs.{Does, IsGiven}
 use Rattle.awk_eval.specs.declared.context.Context.{Context}
-use Rattle.awk_asks.specs.declared.halt.Halt.{Halt}
-use Rattle.awk_asks.specs.declared.halt.Halt.TheVariants as halt
-use Rattle.awk_asks.specs.Chains.{Comes, Halted}
+use Rattle.awk_streams.specs.declared.halt.Halt.{Halt}
+use Rattle.awk_streams.specs.declared.halt.Halt.TheVariants as halt
+use Rattle.awk_streams.specs.Chains.{Comes, Halted}
 use Rattle.awk_calls.specs.Flows.{flows}
 use Rattle.awk_calls.specs.declared.flow.Flow.{Flow}
 use Rattle.awk_calls.specs.declared.flow.Flow.TheVariants as flow
 use Rattle.awk_store.specs.States.{Hidden}
 use Rattle.awk_tasks.specs.Wholes.{Whole, Agreeing, base, names_in, used}
-use Rattle.awk_records.specs.Inputs.{at_records, more}
-use Rattle.awk_records.specs.Performs.{LeadsOn, Performs, PerformsIn}
+use Rattle.awk_input.specs.Inputs.{at_records, more}
+use Rattle.awk_input.specs.Performs.{LeadsOn, Performs, PerformsIn}
 use Rattle.awk_machine.specs.Statements.{to_records}
-use Rattle.awk_asks.proofs.Chain.{halted-after}
+use Rattle.awk_streams.proofs.Chain.{halted-after}
 use Rattle.awk_phases.specs.Rules.{come_back, rule_of}
 use Rattle.awk_phases.specs.Runs.{DoesIn}
 

@@ -22,11 +22,11 @@ use Rattle.awk_store.specs.Kept.{Kept}
 use Rattle.awk_store.specs.Laws.{first_hidden}
 use Rattle.awk_store.specs.States.{Sound}
 use Rattle.awk_store.proofs.Beginning.{begins}
-use Rattle.awk_asks.specs.declared.halt.Halt.{Halt}
-use Rattle.awk_asks.specs.declared.halt.Halt.TheVariants as halt
-use Rattle.awk_asks.specs.Tables.{Table}
-use Rattle.awk_asks.specs.Tasks.{Owns, Tells, IsRead, input_at}
-use Rattle.awk_asks.proofs.Chain.{join}
+use Rattle.awk_streams.specs.declared.halt.Halt.{Halt}
+use Rattle.awk_streams.specs.declared.halt.Halt.TheVariants as halt
+use Rattle.awk_streams.specs.Tables.{Table}
+use Rattle.awk_streams.specs.Tasks.{Owns, Tells, IsRead, input_at}
+use Rattle.awk_streams.proofs.Chain.{join}
 use Rattle.awk_tasks.specs.Acts.{HaltsSo, Settles}
 use Rattle.awk_tasks.specs.Wholes.{Whole, Agreeing, base, names_in, used}
 use Rattle.awk_eval.specs.Runs.{IsGiven}

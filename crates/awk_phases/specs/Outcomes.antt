@@ -1,7 +1,7 @@
 -- How a run ended (POSIX.1-2017 XCU awk, "EXIT STATUS").
 use Rattle.std.specs.Prelude.{Bool, true, false, ℕ, unwrap_or, if◌then◌else◌}
-use Rattle.awk_asks.specs.declared.halt.Halt.{Halt}
-use Rattle.awk_asks.specs.declared.halt.Halt.TheVariants as halt
+use Rattle.awk_streams.specs.declared.halt.Halt.{Halt}
+use Rattle.awk_streams.specs.declared.halt.Halt.TheVariants as halt
 use Rattle.awk_machine.specs.Pieces as machine
 use Rattle.awk_store.specs.Kept.{Kept}
 use Rattle.awk_store.specs.declared.phase.Phase.{Phase}

@@ -3,8 +3,8 @@ use Rattle.std.specs.Prelude.{ℕ, Bool, true, false, List, [], ◌∷◌, Optio
 use Rattle.awk_machine.specs.Pieces.{Piece, At, Choosing}
 use Rattle.awk_machine.specs.Rules.{action}
 use Rattle.awk_program.specs.Program.{Rule, Statement, When}
-use Rattle.awk_asks.specs.declared.halt.Halt.{Halt}
-use Rattle.awk_asks.specs.declared.halt.Halt.TheVariants as halt
+use Rattle.awk_streams.specs.declared.halt.Halt.{Halt}
+use Rattle.awk_streams.specs.declared.halt.Halt.TheVariants as halt
 
 abbrev pub rule_of : When → List Statement → Rule
 rule_of when statements = record { when = when; action = statements }

@@ -4,11 +4,11 @@ use Rattle.box_world.specs.declared.world.World.{Ghosts}
 use Rattle.awk_machine.specs.Begins.{first_pieces, first_state, nothing}
 use Rattle.awk_machine.specs.Pieces.{Piece, ends}
 use Rattle.awk_machine.specs.State.{Given}
-use Rattle.awk_asks.specs.declared.halt.Halt.{Halt}
-use Rattle.awk_asks.specs.Chains.{Comes, Halted, Lacks, Unlogged}
+use Rattle.awk_streams.specs.declared.halt.Halt.{Halt}
+use Rattle.awk_streams.specs.Chains.{Comes, Halted, Lacks, Unlogged}
 use Rattle.awk_tasks.specs.Wholes.{Whole, Agreeing, base, used}
-use Rattle.awk_records.specs.Performs.{PerformsIn}
-use Rattle.awk_asks.specs.Tasks.{Owns}
+use Rattle.awk_input.specs.Performs.{PerformsIn}
+use Rattle.awk_streams.specs.Tasks.{Owns}
 use Rattle.awk_eval.specs.Runs.{IsGiven}
 use Rattle.awk_eval.specs.declared.context.Context.{Context}
 use Rattle.awk_phases.specs.Outcomes.{view_outcome}

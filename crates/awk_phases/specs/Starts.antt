@@ -9,7 +9,7 @@ use Rattle.awk_machine.specs.Begins.{set_at_start}
 use Rattle.awk_machine.specs.Pieces.{Piece, Variable}
 use Rattle.awk_machine.specs.State.{Course, Given}
 use Rattle.awk_store.specs.States.{Hidden}
-use Rattle.awk_asks.specs.declared.halt.Halt.{Halt}
+use Rattle.awk_streams.specs.declared.halt.Halt.{Halt}
 use Rattle.awk_tasks.specs.Acts.{HaltsSo, Settles}
 use Rattle.awk_tasks.specs.Wholes.{Whole, Agreeing, used}
 use Rattle.awk_phases.specs.declared.start.Start.{Start}

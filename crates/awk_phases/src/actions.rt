@@ -1,6 +1,6 @@
 // The actions of BEGIN and of END.
 ghost use Rattle.std.specs.Prelude.{◌∷◌, ◌++◌, List, map};
-ghost use Rattle.awk_asks.specs.Tasks.{Owns};
+ghost use Rattle.awk_streams.specs.Tasks.{Owns};
 ghost use Rattle.awk_calls.specs.Flows.{flows};
 ghost use Rattle.awk_machine.specs.Pieces.{Do, Each};
 ghost use Rattle.awk_machine.specs.Rules.{concatenated};
@@ -11,7 +11,7 @@ ghost use Rattle.awk_tasks.specs.Wholes.{names_in};
 ghost use Rattle.awk_eval.specs.Runs.{Does, whole_of};
 
 use crate::rules::MOST_LEVELS;
-use awk_asks::halt::Halt;
+use awk_streams::halt::Halt;
 use awk_calls::Flow;
 use awk_calls::ends::is_on;
 use awk_eval::{Context, Run, statement};

@@ -2,16 +2,16 @@
 ghost use Rattle.std.specs.Prelude.{◌≡◌};
 ghost use Rattle.awk_machine.specs.State.{Given};
 ghost use Rattle.awk_store.specs.Kept.{Kept};
-ghost use Rattle.awk_asks.specs.Tasks.{Owns};
+ghost use Rattle.awk_streams.specs.Tasks.{Owns};
 ghost use Rattle.awk_phases.specs.Outcomes as spec;
 ghost use Rattle.awk_phases.specs.Outcomes.{own_status, view_outcome};
 ghost use Rattle.awk_phases.specs.Reports.{Reported};
 ghost use Rattle.awk_phases.specs.Runs.{Finished};
 
 use crate::report::Outcome;
-use awk_asks::closing::shut_all;
-use awk_asks::halt::Halt;
-use awk_asks::streams::Streams;
+use awk_streams::closing::shut_all;
+use awk_streams::halt::Halt;
+use awk_streams::streams::Streams;
 use awk_store::{Phase, Store};
 use awk_text::fault::Fault;
 use awk_text::place::Place;

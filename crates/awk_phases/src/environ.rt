@@ -1,7 +1,7 @@
 // ENVIRON.
 ghost use Rattle.std.specs.Prelude.{◌∷◌, List, codes};
-ghost use Rattle.awk_asks.specs.Tables.{Table};
-ghost use Rattle.awk_asks.specs.Tasks.{Owns, goes_on};
+ghost use Rattle.awk_streams.specs.Tables.{Table};
+ghost use Rattle.awk_streams.specs.Tasks.{Owns, goes_on};
 ghost use Rattle.awk_machine.specs.Pieces as machine;
 ghost use Rattle.awk_machine.specs.Pieces.{nowhere, Do, Set};
 ghost use Rattle.awk_machine.specs.State.{Given};
@@ -10,8 +10,8 @@ ghost use Rattle.awk_program.specs.Slots.{Text};
 ghost use Rattle.awk_tasks.specs.Acts.{Acts};
 ghost use Rattle.awk_eval.specs.Runs.{Does, whole_of};
 
-use awk_asks::halt::Halt;
-use awk_asks::requests::environment;
+use awk_streams::halt::Halt;
+use awk_streams::requests::environment;
 use awk_eval::{Context, Run};
 use awk_program::{Own, Variable};
 use awk_store::Store;

@@ -1,6 +1,6 @@
 // BEGIN, the rules for records, and END, in their order.
 ghost use Rattle.std.specs.Prelude.{◌∷◌, []};
-ghost use Rattle.awk_asks.specs.Tasks.{Owns, goes_on};
+ghost use Rattle.awk_streams.specs.Tasks.{Owns, goes_on};
 ghost use Rattle.awk_calls.specs.Flows.{flows};
 ghost use Rattle.awk_machine.specs.Pieces.{Do, Enter, Finish};
 ghost use Rattle.awk_machine.specs.State.{Beginning, Ending, Given, Ruling};
@@ -10,10 +10,10 @@ ghost use Rattle.awk_phases.specs.Runs.{Finished, Goes_on, Reached, Stopped};
 use crate::actions::actions;
 use crate::ends::{End, done, goes_to_end, last};
 use crate::records::records;
-use awk_asks::halt::Halt;
+use awk_streams::halt::Halt;
 use awk_calls::Flow;
 use awk_eval::{Context, Run};
-use awk_records::reads::reads;
+use awk_input::reads::reads;
 use awk_store::Phase;
 use box_world::world::World;
 

@@ -1,17 +1,17 @@
 // The records of the main input, and the rules for each.
 ghost use Rattle.std.specs.Prelude.{◌≡◌, [], Err};
-ghost use Rattle.awk_asks.specs.Tasks.{Owns, goes_on};
+ghost use Rattle.awk_streams.specs.Tasks.{Owns, goes_on};
 ghost use Rattle.awk_machine.specs.Pieces.{At, Records};
 ghost use Rattle.awk_eval.specs.Runs.{Does, whole_of};
-ghost use Rattle.awk_records.specs.Inputs.{at_records, more};
+ghost use Rattle.awk_input.specs.Inputs.{at_records, more};
 ghost use Rattle.awk_phases.specs.Rules as spec;
 ghost use Rattle.awk_phases.specs.Runs.{DoesIn};
 
 use crate::rules::rules;
-use awk_asks::halt::Halt;
+use awk_streams::halt::Halt;
 use awk_calls::steps::step;
 use awk_eval::{Context, Run};
-use awk_records::main_input::next_record;
+use awk_input::main_input::next_record;
 use box_world::world::World;
 
 /// Reads the next record, and does the rules for it; answers whether there was one.

@@ -1,6 +1,6 @@
 // The rules for a record.
 ghost use Rattle.std.specs.Prelude.{◌≡◌, [], map, if◌then◌else◌};
-ghost use Rattle.awk_asks.specs.Tasks.{Owns, goes_on};
+ghost use Rattle.awk_streams.specs.Tasks.{Owns, goes_on};
 ghost use Rattle.awk_calls.specs.Flows.{flows};
 ghost use Rattle.awk_machine.specs.Pieces.{At, Choosing, Do};
 ghost use Rattle.awk_machine.specs.Pieces as machine;
@@ -10,11 +10,11 @@ ghost use Rattle.awk_tasks.specs.Wholes.{names_in};
 ghost use Rattle.awk_eval.specs.Runs.{Does, whole_of};
 ghost use Rattle.awk_phases.specs.Rules.{met, rule_of};
 
-use awk_asks::halt::Halt;
+use awk_streams::halt::Halt;
 use awk_calls::Flow;
 use awk_eval::{Context, Run, body, truth_of, value};
 use awk_program::{Expr, Rule, Statement, When};
-use awk_records::ranges::{begin_range, end_range};
+use awk_input::ranges::{begin_range, end_range};
 use box_world::world::World;
 
 /// How deep the evaluation of expressions and statements may nest: where no level is left, memory for the next one is refused.

@@ -1,6 +1,6 @@
 // Whole runs.
 ghost use Rattle.std.specs.Prelude.{◌∷◌, []};
-ghost use Rattle.awk_asks.specs.Tasks.{Owns};
+ghost use Rattle.awk_streams.specs.Tasks.{Owns};
 ghost use Rattle.awk_machine.specs.Begins.{first_pieces};
 ghost use Rattle.awk_machine.specs.Pieces.{Do, Enter};
 ghost use Rattle.awk_machine.specs.State.{Beginning, Ending, Given, Ruling};
@@ -17,8 +17,8 @@ use crate::environ::environ;
 use crate::phases::play;
 use crate::report::{Outcome, Report};
 use crate::start::{Start, looked_up, prepare};
-use awk_asks::halt::Halt;
-use awk_asks::streams::Streams;
+use awk_streams::halt::Halt;
+use awk_streams::streams::Streams;
 use awk_eval::{Context, Run};
 use awk_store::Store;
 use awk_text::fault::Fault;

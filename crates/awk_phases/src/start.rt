@@ -1,8 +1,8 @@
 // What is done before BEGIN: the operands, the separator of fields, and the host's own assignments.
 ghost use Rattle.std.specs.Prelude.{◌≡◌, ◌+◌, ◌∷◌, ◌++◌, [], pos, true, List, codes, length, option_copied, if◌then◌else◌};
 ghost use Rattle.std.specs.Fmt.{decimal};
-ghost use Rattle.awk_asks.specs.Tables.{Table};
-ghost use Rattle.awk_asks.specs.Tasks.{goes_on};
+ghost use Rattle.awk_streams.specs.Tables.{Table};
+ghost use Rattle.awk_streams.specs.Tasks.{goes_on};
 ghost use Rattle.awk_machine.specs.Begins as machine;
 ghost use Rattle.awk_machine.specs.Begins.{separators, set_at_start};
 ghost use Rattle.awk_machine.specs.Operators.{of_count};
@@ -13,13 +13,13 @@ ghost use Rattle.awk_program.specs.Program.{global};
 ghost use Rattle.awk_program.specs.Slots.{Text, name_of};
 ghost use Rattle.awk_tasks.specs.Acts.{Acts};
 ghost use Rattle.awk_text.specs.Escapes.{unescaped};
-ghost use Rattle.awk_records.specs.Hosts.{IsHost, can_set};
+ghost use Rattle.awk_input.specs.Hosts.{IsHost, can_set};
 ghost use Rattle.awk_phases.specs.Starts.{IsStart, Prepares, assigning};
 
-use awk_asks::halt::Halt;
+use awk_streams::halt::Halt;
 use awk_eval::Context;
 use awk_program::{Own, Variable};
-use awk_records::Host;
+use awk_input::Host;
 use awk_store::Store;
 use awk_tasks::elements::set_element;
 use awk_tasks::variables::set_variable;

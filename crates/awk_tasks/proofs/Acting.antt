@@ -13,13 +13,13 @@ use Rattle.awk_machine.specs.Questions.{Question, Answer, Right}
 use Rattle.awk_machine.specs.State.{Course, Given}
 use Rattle.awk_machine.specs.Streams.{seen}
 use Rattle.awk_store.specs.States.{Hidden}
-use Rattle.awk_asks.specs.declared.halt.Halt.{Halt}
-use Rattle.awk_asks.specs.declared.halt.Halt.TheVariants as halt
-use Rattle.awk_asks.specs.Chains.{Led, Halted, Meets}
-use Rattle.awk_asks.specs.Tasks.{goes_on}
-use Rattle.awk_asks.proofs.Chain.{join}
+use Rattle.awk_streams.specs.declared.halt.Halt.{Halt}
+use Rattle.awk_streams.specs.declared.halt.Halt.TheVariants as halt
+use Rattle.awk_streams.specs.Chains.{Led, Halted, Meets}
+use Rattle.awk_streams.specs.Tasks.{goes_on}
+use Rattle.awk_streams.proofs.Chain.{join}
 use Rattle.awk_tasks.specs.Wholes.{Whole, Agreeing, base, used}
-use Rattle.awk_asks.specs.Chains.{halt_at}
+use Rattle.awk_streams.specs.Chains.{halt_at}
 use Rattle.awk_tasks.specs.Acts.{Settles, HaltsSo, Passes, Acts}
 
 module _ {g : Given} where

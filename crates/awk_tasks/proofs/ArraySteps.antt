@@ -27,10 +27,10 @@ use Rattle.awk_store.specs.declared.frame.Reference as code
 use Rattle.awk_store.specs.declared.frame.Reference.TheVariants as r
 use Rattle.awk_store.proofs.Cells.{change_count}
 use Rattle.awk_store.proofs.Setting as set
-use Rattle.awk_asks.specs.Tasks.{goes_on}
-use Rattle.awk_asks.specs.declared.halt.Halt.{Halt}
+use Rattle.awk_streams.specs.Tasks.{goes_on}
+use Rattle.awk_streams.specs.declared.halt.Halt.{Halt}
 use Rattle.awk_tasks.specs.Wholes.{Whole, Agreeing, base, names_in}
-use Rattle.awk_asks.specs.Chains.{halt_at, result_at}
+use Rattle.awk_streams.specs.Chains.{halt_at, result_at}
 use Rattle.awk_tasks.specs.Acts.{Acts, Passes}
 use Rattle.awk_tasks.proofs.Acting.{at_rest, moves, alters, done, faulted}
 use Rattle.awk_tasks.proofs.Reading.{array-so}

@@ -22,7 +22,7 @@ use Rattle.awk_store.specs.declared.frame.Bound.{Bound}
 use Rattle.awk_store.specs.declared.frame.Caller.{Caller}
 use Rattle.awk_store.proofs.Calling.{enters}
 use Rattle.awk_tasks.specs.Wholes.{Whole, Agreeing, base, names_in}
-use Rattle.awk_asks.specs.Chains.{halt_at, result_at}
+use Rattle.awk_streams.specs.Chains.{halt_at, result_at}
 use Rattle.awk_tasks.specs.Acts.{Acts, Passes}
 use Rattle.awk_tasks.specs.Calling.{begun}
 use Rattle.awk_tasks.proofs.Acting.{at_rest, moves, alters, done, faulted}

@@ -12,11 +12,11 @@ use Rattle.awk_store.proofs.Reading as law
 use Rattle.awk_store.specs.Kept as kept
 use Rattle.awk_store.specs.Kept.{Kept}
 use Rattle.awk_store.specs.States.{Sound, state}
-use Rattle.awk_asks.specs.declared.halt.Halt.{Halt}
-use Rattle.awk_asks.specs.declared.halt.Halt.TheVariants as halt
-use Rattle.awk_asks.specs.Chains.{Comes, Halted, Meets}
-use Rattle.awk_asks.specs.Tables.{Table}
-use Rattle.awk_asks.specs.Tasks.{Does, Tells, beside}
+use Rattle.awk_streams.specs.declared.halt.Halt.{Halt}
+use Rattle.awk_streams.specs.declared.halt.Halt.TheVariants as halt
+use Rattle.awk_streams.specs.Chains.{Comes, Halted, Meets}
+use Rattle.awk_streams.specs.Tables.{Table}
+use Rattle.awk_streams.specs.Tasks.{Does, Tells, beside}
 use Rattle.awk_tasks.specs.Wholes.{Agreeing, base, names_in, used}
 
 -- what the store alone stands for, with this record, and with the steps that it has

@@ -18,9 +18,9 @@ use Rattle.awk_store.specs.Kept as kept
 use Rattle.awk_store.specs.Kept.{Kept}
 use Rattle.awk_store.specs.States.{Hidden}
 use Rattle.awk_store.proofs.Reading as law
-use Rattle.awk_asks.specs.Tasks.{goes_on}
+use Rattle.awk_streams.specs.Tasks.{goes_on}
 use Rattle.awk_tasks.specs.Wholes.{Whole, Agreeing, base, names_in}
-use Rattle.awk_asks.specs.Chains.{halt_at, result_at}
+use Rattle.awk_streams.specs.Chains.{halt_at, result_at}
 use Rattle.awk_tasks.specs.Acts.{Acts}
 use Rattle.awk_tasks.proofs.Acting.{at_rest, moves, alters, done, faulted}
 use Rattle.awk_store.proofs.Cells.{change_count}

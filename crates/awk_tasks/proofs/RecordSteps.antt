@@ -25,9 +25,9 @@ use Rattle.awk_store.specs.Changes.{row_of}
 use Rattle.awk_store.specs.Kept as kept
 use Rattle.awk_store.specs.Kept.{Kept}
 use Rattle.awk_works.proofs.Limited.{limited_ok}
-use Rattle.awk_asks.specs.Tasks.{goes_on}
+use Rattle.awk_streams.specs.Tasks.{goes_on}
 use Rattle.awk_tasks.specs.Wholes.{Whole, base}
-use Rattle.awk_asks.specs.Chains.{halt_at, result_at}
+use Rattle.awk_streams.specs.Chains.{halt_at, result_at}
 use Rattle.awk_tasks.specs.Acts.{Acts, Passes}
 use Rattle.awk_tasks.proofs.Acting.{at_rest, moves, alters, keeps, finds, reworded, done, faulted}
 use Rattle.awk_tasks.proofs.Reading.{own-text-so, fields-so, whole_kept}

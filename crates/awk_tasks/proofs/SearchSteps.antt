@@ -24,9 +24,9 @@ use Rattle.awk_store.specs.Kept.{Kept}
 use Rattle.awk_store.specs.States.{Hidden}
 use Rattle.awk_works.specs.Searches.{location, substituted}
 use Rattle.awk_works.specs.declared.searches.Location.{Location}
-use Rattle.awk_asks.specs.Tasks.{goes_on}
+use Rattle.awk_streams.specs.Tasks.{goes_on}
 use Rattle.awk_tasks.specs.Wholes.{Whole, Agreeing, base, names_in}
-use Rattle.awk_asks.specs.Chains.{halt_at, result_at}
+use Rattle.awk_streams.specs.Chains.{halt_at, result_at}
 use Rattle.awk_tasks.specs.Acts.{Acts, Passes}
 use Rattle.awk_tasks.specs.Checks.{gives_text}
 use Rattle.awk_tasks.specs.Searching.{then_set}

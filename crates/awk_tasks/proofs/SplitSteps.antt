@@ -25,7 +25,7 @@ use Rattle.awk_store.specs.States.{Hidden}
 use Rattle.awk_store.proofs.Cells.{as_it_was}
 use Rattle.awk_works.specs.Filled.{filled}
 use Rattle.awk_tasks.specs.Wholes.{Whole, Agreeing, base, names_in}
-use Rattle.awk_asks.specs.Chains.{halt_at, result_at}
+use Rattle.awk_streams.specs.Chains.{halt_at, result_at}
 use Rattle.awk_tasks.specs.Acts.{Acts, Passes}
 use Rattle.awk_tasks.proofs.Acting.{at_rest, moves, alters, finds, reworded, done, faulted}
 use Rattle.awk_tasks.proofs.ArraySteps.{with_new, array-set, array_agrees, array_used}

@@ -26,10 +26,10 @@ use Rattle.awk_store.specs.Kept as kept
 use Rattle.awk_store.specs.Kept.{Kept}
 use Rattle.awk_store.proofs.Cells.{change_count}
 use Rattle.awk_store.specs.States.{Hidden}
-use Rattle.awk_asks.specs.Tasks.{goes_on}
-use Rattle.awk_asks.specs.declared.halt.Halt.{Halt}
+use Rattle.awk_streams.specs.Tasks.{goes_on}
+use Rattle.awk_streams.specs.declared.halt.Halt.{Halt}
 use Rattle.awk_tasks.specs.Wholes.{Whole, Agreeing, base, names_in}
-use Rattle.awk_asks.specs.Chains.{halt_at, result_at}
+use Rattle.awk_streams.specs.Chains.{halt_at, result_at}
 use Rattle.awk_tasks.specs.Acts.{Acts, Passes}
 use Rattle.awk_tasks.proofs.Acting.{at_rest, moves, alters, keeps, finds, done, faulted}
 use Rattle.awk_tasks.proofs.Reading.{nf-so, variable-so, variable-set, fields-so}

@@ -6,8 +6,8 @@ use Rattle.awk_machine.specs.Plays.{Reaches}
 use Rattle.awk_machine.specs.State.{Course, Given}
 use Rattle.awk_machine.specs.Streams.{seen}
 use Rattle.awk_store.specs.States.{Hidden}
-use Rattle.awk_asks.specs.declared.halt.Halt.{Halt}
-use Rattle.awk_asks.specs.declared.halt.Halt.TheVariants as halt
+use Rattle.awk_streams.specs.declared.halt.Halt.{Halt}
+use Rattle.awk_streams.specs.declared.halt.Halt.TheVariants as halt
 use Rattle.awk_tasks.specs.Wholes.{Whole, Agreeing, base, used}
 
 module _ (g : Given) where

@@ -5,8 +5,8 @@ use Rattle.awk_program.specs.View.{Names}
 use Rattle.awk_machine.specs.State.{State, Course, Given}
 use Rattle.awk_store.specs.Kept.{Kept}
 use Rattle.awk_store.specs.States.{Hidden, Sound, state}
-use Rattle.awk_asks.specs.Tables.{Table}
-use Rattle.awk_asks.specs.Tasks.{Tells}
+use Rattle.awk_streams.specs.Tables.{Table}
+use Rattle.awk_streams.specs.Tasks.{Tells}
 
 -- the store, and the open streams
 abbrev pub Whole : Type 0

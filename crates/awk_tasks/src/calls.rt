@@ -7,12 +7,12 @@ ghost use Rattle.awk_machine.specs.State.{Given};
 ghost use Rattle.awk_program.specs.Program.{Arguments};
 ghost use Rattle.awk_store.specs.States.{Hidden, bound_of};
 ghost use Rattle.awk_text.specs.declared.value.Value.{Value};
-ghost use Rattle.awk_asks.specs.Tables.{Table};
+ghost use Rattle.awk_streams.specs.Tables.{Table};
 ghost use Rattle.awk_tasks.specs.Acts.{Acts};
 ghost use Rattle.awk_tasks.specs.Calling.{begun};
 ghost use Rattle.awk_tasks.specs.Wholes.{base, names_in};
 
-use awk_asks::halt::{Halt, at};
+use awk_streams::halt::{Halt, at};
 use awk_store::{Bound, Caller, Store};
 use awk_text::place::Place;
 

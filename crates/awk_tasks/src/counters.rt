@@ -1,12 +1,12 @@
 // Counters, as NR.
 ghost use Rattle.awk_machine.specs.Pieces.{Count, Do};
 ghost use Rattle.awk_machine.specs.State.{Given};
-ghost use Rattle.awk_asks.specs.Tables.{Table};
-ghost use Rattle.awk_asks.specs.Tasks.{goes_on};
+ghost use Rattle.awk_streams.specs.Tables.{Table};
+ghost use Rattle.awk_streams.specs.Tasks.{goes_on};
 ghost use Rattle.awk_program.specs.Slots.{name_of};
 ghost use Rattle.awk_tasks.specs.Acts.{Acts};
 
-use awk_asks::halt::{Halt, at};
+use awk_streams::halt::{Halt, at};
 use awk_program::Own;
 use awk_store::Store;
 use awk_text::place::Place;

@@ -3,13 +3,13 @@ ghost use Rattle.std.specs.Prelude.{◌≡◌};
 ghost use Rattle.awk_machine.specs.Pieces as machine;
 ghost use Rattle.awk_machine.specs.Pieces.{Do, Get, Set, give};
 ghost use Rattle.awk_machine.specs.State.{Given};
-ghost use Rattle.awk_asks.specs.Tables.{Table};
-ghost use Rattle.awk_asks.specs.Tasks.{goes_on};
+ghost use Rattle.awk_streams.specs.Tables.{Table};
+ghost use Rattle.awk_streams.specs.Tasks.{goes_on};
 ghost use Rattle.awk_tasks.specs.Acts.{Acts};
 ghost use Rattle.awk_text.specs.Values.{text_of};
 
 use crate::values::into_text;
-use awk_asks::halt::{Halt, at};
+use awk_streams::halt::{Halt, at};
 use awk_store::Store;
 use awk_text::octets::Octets;
 use awk_text::place::Place;

@@ -5,13 +5,13 @@ ghost use Rattle.awk_machine.specs.Operators.{of_truth};
 ghost use Rattle.awk_machine.specs.Pieces.{At, Check, Do, Match, Pattern_of, Value_of, give};
 ghost use Rattle.awk_machine.specs.State.{Given};
 ghost use Rattle.awk_program.specs.Program as program;
-ghost use Rattle.awk_asks.specs.Tables.{Table};
-ghost use Rattle.awk_asks.specs.Tasks.{goes_on};
+ghost use Rattle.awk_streams.specs.Tables.{Table};
+ghost use Rattle.awk_streams.specs.Tasks.{goes_on};
 ghost use Rattle.awk_tasks.specs.Acts.{Acts};
 ghost use Rattle.awk_tasks.specs.Wholes.{Whole};
 ghost use Rattle.awk_tasks.specs.Checks.{gives_text};
 
-use awk_asks::halt::{Halt, at};
+use awk_streams::halt::{Halt, at};
 use awk_ere::Ere;
 use awk_store::Store;
 use awk_text::place::Place;

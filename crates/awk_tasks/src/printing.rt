@@ -5,7 +5,7 @@ ghost use Rattle.awk_fields.specs.Rows.{joined};
 ghost use Rattle.awk_machine.specs.Operators.{limited};
 ghost use Rattle.awk_program.specs.declared.variables.Own.TheVariants as own;
 ghost use Rattle.awk_store.specs.Kept.{own_text};
-ghost use Rattle.awk_tasks.specs.Printed as spec;
+ghost use Rattle.awk_tasks.specs.Printed as line_spec;
 
 use awk_program::Own;
 use awk_store::Store;
@@ -19,8 +19,8 @@ use itoa::Buffer;
 /// The texts of the items with OFS between, or of the whole record where there are none, and then ORS. It is made in the line,
 /// and taken out of it; its room serves the next one once `Line::reuse` gives it back.
 pub fn text_of_items(line: &mut Line, store: &mut Store, items: &[Value]) -> Result<Octets, Fault>
-    ensures ok { IfOk result (λ text. spec.printed store.old items.now ≡ Ok text) }
-    ensures err { IfErr result (λ e. (e ≡ Fault.Memory) ⊎ (spec.printed store.old items.now ≡ Err e)) }
+    ensures ok { IfOk result (λ text. line_spec.printed store.old items.now ≡ Ok text) }
+    ensures err { IfErr result (λ e. (e ≡ Fault.Memory) ⊎ (line_spec.printed store.old items.now ≡ Err e)) }
     ensures same { store.new ≡ store.old }
 {
     if items.is_empty() {

@@ -1,27 +1,27 @@
 // What is searched for an ERE: match, sub and gsub.
 ghost use Rattle.awk_machine.specs.Pieces.{Do, Locate, Substitute, Target, give};
 ghost use Rattle.awk_machine.specs.State.{Given};
-ghost use Rattle.awk_asks.specs.Tables.{Table};
+ghost use Rattle.awk_streams.specs.Tables.{Table};
 ghost use Rattle.awk_text.specs.Values.{text_of};
 ghost use Rattle.awk_tasks.specs.Acts.{Acts};
 ghost use Rattle.awk_tasks.specs.Searching.{then_set};
 ghost use Rattle.awk_tasks.specs.Wholes.{Whole};
 
-use awk_asks::halt::{Halt, at};
+use awk_streams::halt::{Halt, at};
 use awk_ere::Ere;
 use awk_program::Own;
 use awk_store::Store;
 use awk_text::octets::Octets;
 use awk_text::place::Place;
 use awk_text::value::Value;
-use awk_works::searches;
+use awk_works::searches::{location_in, replaced_text};
 use std::alloc::Global;
 
 /// Where the first match is, which is counted from 1, or 0; sets RSTART and RLENGTH.
 pub fn locate(store: &mut Store, ere: &Ere, text: &Value) -> Result<i64, Halt>
     ensures { (g : Given) (t : Table) → Acts g (Do (Locate ere.now (text_of text.now))) (λ n. give (Value.Num n)) (store.old, t) result (store.new, t) }
 {
-    let Ok(found) = searches::locate(ere, text) else {
+    let Ok(found) = location_in(ere, text) else {
         return Err(Halt::Memory);
     };
     store.set_own(Own::Rstart, Value::Num(found.start));
@@ -40,5 +40,5 @@ pub fn replaced(
 ) -> Result<Option<(Octets, i64)>, Halt>
     ensures { (g : Given) (w : Whole) (to : Target) → Acts g (Do (Substitute place to ere.now (text_of new.now) old.now all)) (then_set place to) w result w }
 {
-    at(place, searches::substitute(alloc, ere, new, old, all))
+    at(place, replaced_text(alloc, ere, new, old, all))
 }

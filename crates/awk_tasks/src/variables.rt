@@ -4,14 +4,14 @@ ghost use Rattle.awk_store.specs.Kept as kept;
 ghost use Rattle.awk_machine.specs.Pieces as machine;
 ghost use Rattle.awk_machine.specs.Pieces.{Do, Get, Set, give};
 ghost use Rattle.awk_machine.specs.State.{Given};
-ghost use Rattle.awk_asks.specs.Tables.{Table};
-ghost use Rattle.awk_asks.specs.Tasks.{goes_on};
+ghost use Rattle.awk_streams.specs.Tables.{Table};
+ghost use Rattle.awk_streams.specs.Tasks.{goes_on};
 ghost use Rattle.awk_program.specs.View.{variable_of};
 ghost use Rattle.awk_tasks.specs.Acts.{Acts};
 ghost use Rattle.awk_tasks.specs.Wholes.{names_in};
 
 use crate::values::copied;
-use awk_asks::halt::{Halt, at};
+use awk_streams::halt::{Halt, at};
 use awk_program::Variable;
 use awk_store::{Store, is_nf};
 use awk_text::place::Place;

@@ -65,7 +65,7 @@ fn locate_in(ere: &Ere, text: &[u8]) -> Result<Location, Fault>
 /// Where the first match in the text of a value is.
 ///
 /// Fails with `Fault::Memory` alone, where memory is refused.
-pub fn locate(ere: &Ere, value: &Value) -> Result<Location, Fault>
+pub fn location_in(ere: &Ere, value: &Value) -> Result<Location, Fault>
     ensures ok { IfOk result (λ r. (ms : List (ℕ × ℕ)) × Found ere.now (text_of value.now) false ms × (r ≡ location ms)) }
     ensures err { IfErr result (λ e. e ≡ Fault.Memory) }
 {
@@ -78,7 +78,7 @@ pub fn locate(ere: &Ere, value: &Value) -> Result<Location, Fault>
 ///
 /// Fails with `Fault::TextTooLong` exactly where something is replaced and the new text has more than
 /// `MOST_BYTES` bytes, and with `Fault::Memory` where memory is refused.
-pub fn substitute(
+pub fn replaced_text(
     alloc: Global,
     ere: &Ere,
     new: &Value,

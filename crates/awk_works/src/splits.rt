@@ -5,7 +5,7 @@ ghost use Rattle.awk_text.specs.Values.{text_of};
 ghost use Rattle.std.specs.Fmt.{decimal};
 ghost use Rattle.awk_works.specs.Filled.{filled};
 
-use awk_fields::{Splitter, split};
+use awk_fields::Splitter;
 use awk_lib::array::{Array, MOST_ELEMENTS};
 use awk_text::fault::Fault;
 use awk_text::octets::Octets;
@@ -21,7 +21,7 @@ pub fn split_text(alloc: Global, splitter: &Splitter, value: &Value) -> Result<V
     ensures err { IfErr result (λ e. e ≡ Fault.Memory) }
 {
     let mut buffer = Buffer::new();
-    split(alloc, text_in(value, &mut buffer), splitter)
+    awk_fields::split(alloc, text_in(value, &mut buffer), splitter)
 }
 
 /// The digits of a number, as a key, in the buffer.
@@ -36,7 +36,7 @@ fn number_key(number: u64, buffer: &mut Buffer) -> &[u8]
 ///
 /// Fails with `Fault::TooManyElements` exactly where there are more than `MOST_ELEMENTS`, and then the array is
 /// as it was, and with `Fault::Memory` where memory is refused.
-pub fn fill(array: &mut Array<Value>, parts: Vec<Octets>) -> Result<i64, Fault>
+pub fn fill_with(array: &mut Array<Value>, parts: Vec<Octets>) -> Result<i64, Fault>
     ensures ok { OnOk result (filled parts.items ≡ Ok array.new) }
     ensures count { IfOk result (λ n. n ≡ pos (length parts.items)) }
     ensures err { IfErr result (λ e. (e ≡ Fault.Memory) ⊎ ((filled parts.items ≡ Err e) × (array.new ≡ array.old))) }

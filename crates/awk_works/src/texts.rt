@@ -28,7 +28,7 @@ pub fn printed(line: &mut Line, items: &[Value], ofs: &[u8], ors: &[u8]) -> Resu
 /// one is made.
 ///
 /// Fails as `printed` does.
-pub fn key<'a>(line: &'a mut Line, subscripts: &[Value], subsep: &[u8]) -> Result<&'a [u8], Fault>
+pub fn joined_subscripts<'a>(line: &'a mut Line, subscripts: &[Value], subsep: &[u8]) -> Result<&'a [u8], Fault>
     ensures ok { IfOk result (λ text. limited (joined subsep.now subscripts.now) ≡ Ok text.now) }
     ensures err { IfErr result (λ e. (e ≡ Fault.Memory) ⊎ (limited (joined subsep.now subscripts.now) ≡ Err e)) }
 {

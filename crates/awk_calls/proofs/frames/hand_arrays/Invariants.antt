@@ -1,5 +1,5 @@
 use Rattle.std.proofs.Common.{◌≡◌, List, length, map, take}
-use Rattle.awk_asks.specs.Tables.{Table}
+use Rattle.awk_streams.specs.Tables.{Table}
 use Rattle.awk_machine.specs.State.{Given}
 use Rattle.awk_store.specs.Kept.{as_scalar}
 use Rattle.awk_store.specs.States.{Hidden, bound_of}

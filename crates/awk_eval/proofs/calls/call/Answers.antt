@@ -1,6 +1,6 @@
 use Rattle.awk_eval.proofs.Calling.{body_so, called, counted}
 use Rattle.awk_eval.proofs.Leading.{quietly}
-use Rattle.awk_asks.proofs.Chain.{at_once, done, part, stop, turned}
+use Rattle.awk_streams.proofs.Chain.{at_once, done, part, stop, turned}
 use Rattle.awk_calls.proofs.Ending.{answers, answers_so, returns_to}
 use Rattle.awk_calls.proofs.Leading.{takes}
 use Rattle.awk_machine.specs.Pieces.{Call, Do, Each, Step, give}

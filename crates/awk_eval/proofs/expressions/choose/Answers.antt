@@ -1,6 +1,6 @@
 use Rattle.awk_eval.proofs.Leading.{quietly, told_truth}
 use Rattle.awk_eval.proofs.Turns.{choose_so}
-use Rattle.awk_asks.proofs.Chain.{at_once, part, passes, stop}
+use Rattle.awk_streams.proofs.Chain.{at_once, part, passes, stop}
 use Rattle.awk_machine.specs.Forms.{value}
 use Rattle.awk_program.specs.View.{view}
 use Rattle.awk_tasks.specs.Wholes.{names_in}

@@ -1,6 +1,6 @@
 use Rattle.awk_eval.proofs.Leading.{quietly, rests}
 use Rattle.awk_eval.proofs.Turns.{next_of}
-use Rattle.awk_asks.proofs.Chain.{at_once, done, part, passes, stop, turned}
+use Rattle.awk_streams.proofs.Chain.{at_once, done, part, passes, stop, turned}
 use Rattle.awk_forms.proofs.Rests.{drop_all, just_one}
 use Rattle.awk_lent.specs.Lents.{lent_value}
 use Rattle.awk_machine.specs.Forms.{answer, value}

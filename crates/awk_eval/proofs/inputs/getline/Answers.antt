@@ -1,5 +1,5 @@
 use Rattle.awk_eval.proofs.Leading.{quietly}
-use Rattle.awk_asks.proofs.Chain.{at_once, part, passes, stop}
+use Rattle.awk_streams.proofs.Chain.{at_once, part, passes, stop}
 use Rattle.awk_program.specs.View.{view_target}
 use Rattle.awk_tasks.specs.Wholes.{names_in}
 use Rattle.std.proofs.Common.{refl}

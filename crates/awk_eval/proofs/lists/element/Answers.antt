@@ -1,6 +1,6 @@
 use Rattle.awk_eval.proofs.Leading.{quietly}
 use Rattle.awk_eval.proofs.Turns.{count_listed, filled_from, waits_listed}
-use Rattle.awk_asks.proofs.Chain.{at_once, done, part, stop}
+use Rattle.awk_streams.proofs.Chain.{at_once, done, part, stop}
 use Rattle.awk_machine.specs.Forms.{answer, keyed, value}
 use Rattle.awk_machine.specs.Pieces.{Target_of}
 use Rattle.awk_program.specs.Program.{expressions_of}

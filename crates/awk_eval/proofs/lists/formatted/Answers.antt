@@ -1,6 +1,6 @@
 use Rattle.awk_eval.proofs.Leading.{quietly}
 use Rattle.awk_eval.proofs.Turns.{count_behind, filled_from, waits_behind}
-use Rattle.awk_asks.proofs.Chain.{at_once, lacking, part, passes, stop}
+use Rattle.awk_streams.proofs.Chain.{at_once, lacking, part, passes, stop}
 use Rattle.awk_format.specs.Directives.{◌>>=◌}
 use Rattle.awk_machine.specs.Builtins.{formatted_by}
 use Rattle.awk_machine.specs.Forms.{deliver, value}

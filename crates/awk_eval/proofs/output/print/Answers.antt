@@ -1,4 +1,4 @@
-use Rattle.awk_asks.proofs.Chain.{at_once, done, part, passes, stop}
+use Rattle.awk_streams.proofs.Chain.{at_once, done, part, passes, stop}
 use Rattle.awk_forms.specs.Outputs.{to_standard}
 use Rattle.awk_machine.specs.Pieces.{At, Doing}
 use Rattle.awk_program.specs.View.{view, view_redirection}

@@ -1,5 +1,5 @@
 use Rattle.awk_eval.proofs.Printing.{halts, streamed}
-use Rattle.awk_asks.proofs.Chain.{at_once, done, part, passes, stop, turned}
+use Rattle.awk_streams.proofs.Chain.{at_once, done, part, passes, stop, turned}
 use Rattle.awk_forms.specs.Outputs.{to_stream}
 use Rattle.awk_lent.specs.Lents.{lent_value}
 use Rattle.awk_text.specs.Values.{text_of}

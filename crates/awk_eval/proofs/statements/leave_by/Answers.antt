@@ -1,5 +1,5 @@
 use Rattle.awk_eval.proofs.Leading.{quietly}
-use Rattle.awk_asks.proofs.Chain.{at_once, part, passes, stop}
+use Rattle.awk_streams.proofs.Chain.{at_once, part, passes, stop}
 use Rattle.awk_calls.proofs.Leading.{jumped}
 use Rattle.awk_machine.specs.Forms.{value}
 use Rattle.awk_program.specs.View.{view}

@@ -1,6 +1,6 @@
 use Rattle.awk_eval.proofs.Going.{block_first, turn_first}
 use Rattle.awk_eval.proofs.Leading.{quietly}
-use Rattle.awk_asks.proofs.Chain.{at_once, done, passes}
+use Rattle.awk_streams.proofs.Chain.{at_once, done, passes}
 use Rattle.awk_calls.proofs.Leading.{jumped}
 use Rattle.awk_machine.specs.Expressions.{either}
 use Rattle.awk_machine.specs.Pieces.{Do, Each}

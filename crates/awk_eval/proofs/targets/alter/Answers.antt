@@ -1,5 +1,5 @@
 use Rattle.awk_eval.proofs.Leading.{hands_on, quietly, rests, unwanted}
-use Rattle.awk_asks.proofs.Chain.{at_once, part, stop, turned}
+use Rattle.awk_streams.proofs.Chain.{at_once, part, stop, turned}
 use Rattle.awk_machine.specs.Forms.{value}
 use Rattle.awk_machine.specs.Pieces.{At, Do, Get, Give, Set, Value_of}
 use Rattle.awk_machine.specs.Targets.{stored}

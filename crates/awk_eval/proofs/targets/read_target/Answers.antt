@@ -1,5 +1,5 @@
 use Rattle.awk_eval.proofs.Leading.{quietly}
-use Rattle.awk_asks.proofs.Chain.{at_once, part, passes, stop}
+use Rattle.awk_streams.proofs.Chain.{at_once, part, passes, stop}
 use Rattle.awk_machine.specs.Pieces.{At, Do, Get, Target_of, Value_of}
 use Rattle.awk_program.specs.View.{variable_of}
 use Rattle.awk_tasks.proofs.Acting.{acted}

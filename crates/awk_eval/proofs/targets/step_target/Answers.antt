@@ -1,5 +1,5 @@
 use Rattle.awk_eval.proofs.Leading.{quietly}
-use Rattle.awk_asks.proofs.Chain.{at_once, done, part, stop, turned}
+use Rattle.awk_streams.proofs.Chain.{at_once, done, part, stop, turned}
 use Rattle.awk_machine.specs.Expressions.{either}
 use Rattle.awk_machine.specs.Pieces.{At, Do, Get, Give, Set, Value_of}
 use Rattle.awk_program.specs.View.{view_target}

@@ -1,5 +1,5 @@
 use Rattle.awk_eval.proofs.Leading.{as_truth}
-use Rattle.awk_asks.proofs.Chain.{at_once, done, lacking, part, stop}
+use Rattle.awk_streams.proofs.Chain.{at_once, done, lacking, part, stop}
 use Rattle.awk_machine.specs.Forms.{value}
 use Rattle.awk_program.proofs.Views.{view-Compare, view-Match}
 use Rattle.awk_program.specs.View.{view, view_ere}

@@ -1,4 +1,4 @@
-use Rattle.awk_asks.proofs.Chain.{at_once, done, part, stop}
+use Rattle.awk_streams.proofs.Chain.{at_once, done, part, stop}
 use Rattle.awk_machine.specs.Forms.{value}
 use Rattle.awk_machine.specs.Pieces.{give}
 use Rattle.awk_tasks.proofs.Acting.{acted, done as there}

@@ -1,4 +1,4 @@
-use Rattle.awk_asks.proofs.Chain.{at_once, done, part, passes, stop}
+use Rattle.awk_streams.proofs.Chain.{at_once, done, part, passes, stop}
 use Rattle.awk_machine.specs.Forms.{value}
 use Rattle.awk_machine.specs.Pieces.{give}
 use Rattle.awk_program.specs.View.{view}

@@ -1,6 +1,6 @@
 use Rattle.awk_eval.proofs.Going.{starts_at_once, starts_stepped}
 use Rattle.awk_eval.proofs.Leading.{quietly}
-use Rattle.awk_asks.proofs.Chain.{at_once, lacking, part, passes, stop}
+use Rattle.awk_streams.proofs.Chain.{at_once, lacking, part, passes, stop}
 use Rattle.awk_calls.proofs.Leading.{takes}
 use Rattle.awk_machine.specs.Pieces.{At, Do, Doing, Step, give}
 use Rattle.awk_program.proofs.Views.{statement-Expr, view-Call, view-Chain, view-Choice, view-GetlineFile, view-Pipe}

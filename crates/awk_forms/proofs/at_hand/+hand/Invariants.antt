@@ -1,6 +1,6 @@
 use Rattle.std.proofs.Common.{◌≡◌, ◌≤◌, ◌+◌, ◌*◌, map}
 use Rattle.std.specs.Prelude.{Ok}
-use Rattle.awk_asks.specs.Tables.{Table}
+use Rattle.awk_streams.specs.Tables.{Table}
 use Rattle.awk_machine.specs.Forms.{value}
 use Rattle.awk_machine.specs.State.{Given}
 use Rattle.awk_program.specs.Program as p

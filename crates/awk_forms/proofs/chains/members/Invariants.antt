@@ -2,7 +2,7 @@ use Rattle.std.proofs.Common.{[], ◌∷◌, drop, map}
 use Rattle.awk_machine.specs.Pieces.{At, Members_of}
 use Rattle.awk_machine.specs.State.{Given}
 use Rattle.awk_program.specs.View.{variable_of}
-use Rattle.awk_asks.specs.Tables.{Table}
+use Rattle.awk_streams.specs.Tables.{Table}
 use Rattle.awk_tasks.specs.Acts.{Passes}
 use Rattle.awk_tasks.specs.Wholes.{names_in}
 use Rattle.awk_forms.proofs.chains.members.Given as goal

@@ -1,6 +1,6 @@
 use Rattle.std.proofs.Common.{sym, true, map}
 use Rattle.std.specs.Prelude.{◌≡◌}
-use Rattle.awk_asks.specs.Tables.{Table}
+use Rattle.awk_streams.specs.Tables.{Table}
 use Rattle.awk_machine.specs.Forms.{value}
 use Rattle.awk_machine.specs.Pieces.{give}
 use Rattle.awk_machine.specs.State.{Given}

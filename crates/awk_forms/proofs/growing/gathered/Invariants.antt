@@ -1,5 +1,5 @@
 use Rattle.std.proofs.Common.{◌+◌, ◌≤◌, ◌++◌, List, ℕ, [], ◌∷◌, length, map, drop}
-use Rattle.awk_asks.specs.Tables.{Table}
+use Rattle.awk_streams.specs.Tables.{Table}
 use Rattle.awk_machine.specs.Pieces.{At, Texts_of}
 use Rattle.awk_machine.specs.State.{Given}
 use Rattle.awk_program.specs.Program.{joins_of}

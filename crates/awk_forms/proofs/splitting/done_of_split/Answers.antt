@@ -1,5 +1,5 @@
 use Rattle.std.proofs.Common.{◌≡◌, Bool, true, false, Result, Ok, refl}
-use Rattle.awk_asks.specs.declared.halt.Halt.{Halt}
+use Rattle.awk_streams.specs.declared.halt.Halt.{Halt}
 use Rattle.awk_machine.specs.Forms.{value}
 use Rattle.awk_program.specs.View.{view}
 use Rattle.awk_tasks.specs.Wholes.{names_in}

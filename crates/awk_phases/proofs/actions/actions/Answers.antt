@@ -4,7 +4,7 @@ use Rattle.awk_program.specs.View.{view_statement}
 use Rattle.awk_machine.specs.Pieces.{Do, Each}
 use Rattle.awk_machine.specs.Rules.{concatenated}
 use Rattle.awk_tasks.specs.Wholes.{names_in}
-use Rattle.awk_asks.proofs.Chain.{at_once, done, part, stop, turned}
+use Rattle.awk_streams.proofs.Chain.{at_once, done, part, stop, turned}
 use Rattle.awk_eval.proofs.Leading.{quietly}
 use Rattle.awk_eval.proofs.Turns.{next_of}
 use Rattle.awk_forms.proofs.Rests.{drop_all}

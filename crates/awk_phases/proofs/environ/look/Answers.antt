@@ -1,7 +1,7 @@
 use Rattle.std.proofs.Common.{refl, ap, ◌∙◌}
 use Rattle.std.specs.Prelude.{Ok, Some, None}
 use Rattle.std.proofs.lemmas.Result.{err_from_is_err_and}
-use Rattle.awk_asks.proofs.Chain.{at_once, done, lacking, part, stop}
+use Rattle.awk_streams.proofs.Chain.{at_once, done, lacking, part, stop}
 use Rattle.awk_eval.proofs.Leading.{hands_on}
 use Rattle.awk_tasks.proofs.Acting.{acted}
 use Rattle.awk_tasks.proofs.Lifting.{lifted}

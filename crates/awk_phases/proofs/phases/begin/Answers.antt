@@ -2,7 +2,7 @@ use Rattle.std.proofs.Common.{ap, ◌∷◌}
 use Rattle.awk_machine.specs.Pieces.{Do, Each}
 use Rattle.awk_machine.specs.Rules.{concatenated}
 use Rattle.awk_store.specs.declared.phase.Phase.TheVariants as phase
-use Rattle.awk_asks.proofs.Chain.{passes, turned}
+use Rattle.awk_streams.proofs.Chain.{passes, turned}
 use Rattle.awk_phases.proofs.PhaseSteps.{begin_so, enters}
 use Rattle.awk_phases.proofs.phases.begin.Goals as goal
 

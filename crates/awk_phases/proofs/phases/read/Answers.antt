@@ -1,8 +1,8 @@
 use Rattle.std.proofs.Common.{ap, ◌∙◌, ◌++◌}
 use Rattle.awk_machine.specs.Rules.{records}
 use Rattle.awk_store.specs.declared.phase.Phase.TheVariants as phase
-use Rattle.awk_asks.proofs.Chain.{done, passes, turned}
-use Rattle.awk_records.specs.Inputs.{more}
+use Rattle.awk_streams.proofs.Chain.{done, passes, turned}
+use Rattle.awk_input.specs.Inputs.{more}
 use Rattle.awk_phases.proofs.PhaseSteps.{enters}
 use Rattle.awk_phases.proofs.phases.read.Goals as goal
 

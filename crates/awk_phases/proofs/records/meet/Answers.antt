@@ -1,9 +1,9 @@
 use Rattle.std.proofs.Common.{refl, ap, ◌∙◌, true, false}
 use Rattle.std.specs.Prelude.{Ok}
 use Rattle.std.proofs.lemmas.Result.{err_from_is_err_and}
-use Rattle.awk_asks.proofs.Chain.{part}
+use Rattle.awk_streams.proofs.Chain.{part}
 use Rattle.awk_calls.proofs.Leading.{takes}
-use Rattle.awk_records.proofs.MainSteps.{done_in, stop_in}
+use Rattle.awk_input.proofs.MainSteps.{done_in, stop_in}
 use Rattle.awk_phases.proofs.RuleSteps.{begun, in_midst, stop_before}
 use Rattle.awk_phases.proofs.records.meet.Goals as goal
 

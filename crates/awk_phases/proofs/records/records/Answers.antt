@@ -1,7 +1,7 @@
 use Rattle.std.proofs.Common.{refl, ap, ◌∙◌, true, false}
 use Rattle.std.specs.Prelude.{Ok}
 use Rattle.std.proofs.lemmas.Result.{err_from_is_err_and}
-use Rattle.awk_asks.proofs.Chain.{at_once, done, lacking, part, stop}
+use Rattle.awk_streams.proofs.Chain.{at_once, done, lacking, part, stop}
 use Rattle.awk_phases.proofs.records.records.Goals as goal
 
 pub loop-record-init : goal.loop-record-init

@@ -5,7 +5,7 @@ use Rattle.awk_program.specs.View.{view, view_statement}
 use Rattle.awk_program.specs.Program as p
 use Rattle.awk_tasks.specs.Wholes.{names_in}
 use Rattle.awk_tasks.proofs.Acting.{acted}
-use Rattle.awk_asks.proofs.Chain.{at_once, done, part, stop}
+use Rattle.awk_streams.proofs.Chain.{at_once, done, part, stop}
 use Rattle.awk_eval.proofs.Leading.{quietly}
 use Rattle.awk_phases.proofs.RuleSteps.{pattern_first}
 use Rattle.awk_phases.specs.Rules.{rule_of}

@@ -3,7 +3,7 @@ use Rattle.std.proofs.lemmas.Result.{err_from_is_err_and}
 use Rattle.awk_program.specs.View.{view_rule}
 use Rattle.awk_machine.specs.Pieces.{Do, Rules}
 use Rattle.awk_tasks.specs.Wholes.{names_in}
-use Rattle.awk_asks.proofs.Chain.{at_once, done, part, stop, turned}
+use Rattle.awk_streams.proofs.Chain.{at_once, done, part, stop, turned}
 use Rattle.awk_eval.proofs.Leading.{quietly}
 use Rattle.awk_eval.proofs.Turns.{next_of}
 use Rattle.awk_forms.proofs.Rests.{drop_all}

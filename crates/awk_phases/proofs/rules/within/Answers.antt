@@ -1,7 +1,7 @@
 use Rattle.std.proofs.Common.{refl, ap, ◌∙◌, true, false}
 use Rattle.std.specs.Prelude.{Ok, Some, None}
 use Rattle.std.proofs.lemmas.Result.{err_from_is_err_and}
-use Rattle.awk_asks.proofs.Chain.{at_once, done, lacking, part, passes, stop}
+use Rattle.awk_streams.proofs.Chain.{at_once, done, lacking, part, passes, stop}
 use Rattle.awk_phases.proofs.rules.within.Goals as goal
 
 pub loop-pattern-init : goal.loop-pattern-init

@@ -1,8 +1,8 @@
 use Rattle.std.proofs.Common.{List, ◌++◌, drop}
-use Rattle.awk_asks.specs.Tables.{Table}
+use Rattle.awk_streams.specs.Tables.{Table}
 use Rattle.awk_machine.specs.Pieces.{Piece}
 use Rattle.awk_machine.specs.State.{Given}
-use Rattle.awk_records.specs.Hosts.{IsHost}
+use Rattle.awk_input.specs.Hosts.{IsHost}
 use Rattle.awk_phases.specs.Starts.{Prepared, assigning}
 use Rattle.awk_phases.proofs.start.assign_all.Given as goal
 

@@ -1,5 +1,5 @@
 use Rattle.std.proofs.Common.{◌+◌, ◌≤◌, List, ◌++◌, drop, length}
-use Rattle.awk_asks.specs.Tables.{Table}
+use Rattle.awk_streams.specs.Tables.{Table}
 use Rattle.awk_machine.specs.Begins.{operands}
 use Rattle.awk_machine.specs.Pieces.{Piece}
 use Rattle.awk_machine.specs.State.{Given}

@@ -11,6 +11,6 @@ kept_so e (inr (p, same)) = inr (p, same ∙ e)
 pub returns : goal.returns
 returns c = λ g t.
     let elements_are : c.replace-elements.result ≡ array c.args.store.now c.args.array = c.replace-elements.ensures.value ∙ ap (array_at c.args.store.now) c.reference-reference.ensures in
-    rw c.at.ensures (fills_result g (c.args.store.now, t) c.args.array c.args.at_name c.args.parts.items c.fill-filled.result c.replace.new.self c.fill-filled.new.array
-    (put_back _ _ _ _ _ _ _ c.reference-reference.ensures c.replace-elements.ensures.after c.replace.ensures.after) c.fill-filled.ensures.ok c.fill-filled.ensures.count
-    (err_so c.fill-filled.result c.fill-filled.ensures.err (λ e h. kept_so elements_are h)))
+    rw c.at.ensures (fills_result g (c.args.store.now, t) c.args.array c.args.at_name c.args.parts.items c.fill_with-filled.result c.replace.new.self c.fill_with-filled.new.array
+    (put_back _ _ _ _ _ _ _ c.reference-reference.ensures c.replace-elements.ensures.after c.replace.ensures.after) c.fill_with-filled.ensures.ok c.fill_with-filled.ensures.count
+    (err_so c.fill_with-filled.result c.fill_with-filled.ensures.err (λ e h. kept_so elements_are h)))
