@@ -18,7 +18,7 @@ use Rattle.awk_machine.specs.Printing.{class_of, mode_of, target_of}
 use Rattle.awk_machine.specs.State.{State, Given}
 use Rattle.awk_streams.specs.declared.halt.Halt.{Halt}
 use Rattle.awk_streams.specs.Chains.{Meets}
-use Rattle.awk_tasks.specs.Wholes.{Whole, Agreeing, base, used}
+use Rattle.awk_store.specs.Wholes.{Whole, Agreeing, base, used}
 use Rattle.awk_eval.specs.Runs.{Waits}
 use Rattle.awk_eval.proofs.Turns.{waits_each}
 

@@ -1,13 +1,13 @@
 // Expressions and statements, no deeper than a number of levels.
 ghost use Rattle.std.specs.Prelude.{map};
 ghost use Rattle.awk_streams.specs.Tasks.{Owns};
-ghost use Rattle.awk_calls.specs.Flows.{flows};
+ghost use Rattle.awk_store.specs.Flows.{flows};
 ghost use Rattle.awk_eval.specs.Nests.{Nests};
 ghost use Rattle.awk_machine.specs.Forms.{value};
 ghost use Rattle.awk_machine.specs.Pieces.{Do, Each, Start, give};
 ghost use Rattle.awk_eval.specs.Runs.{Does, IsTruthOf, Tells, whole_of};
 ghost use Rattle.awk_program.specs.View.{view, view_statement};
-ghost use Rattle.awk_tasks.specs.Wholes.{names_in};
+ghost use Rattle.awk_store.specs.Wholes.{names_in};
 
 use crate::calls::call;
 use crate::context::{Context, Run};
@@ -17,9 +17,9 @@ use crate::inputs::{from_commands, from_file};
 use crate::statements::{perform, plain};
 use crate::{statements, tests};
 use awk_streams::halt::Halt;
-use awk_calls::Flow;
-use awk_calls::steps::{is_one, step};
-use awk_forms::at_hand::value_at_hand;
+use awk_store::Flow;
+use awk_store::steps::{is_one, step};
+use awk_quick::at_hand::value_at_hand;
 use awk_program::{Expr, Statement};
 use awk_text::value::Value;
 use box_world::world::World;

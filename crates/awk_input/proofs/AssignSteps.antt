@@ -35,11 +35,11 @@ use Rattle.awk_streams.specs.Tables.{Table}
 use Rattle.awk_streams.specs.Tasks.{Answered, Refused, Tells, goes_on}
 use Rattle.awk_streams.proofs.Asking.{fits_here}
 use Rattle.awk_streams.proofs.Chain.{Laws, asked, at_once, unanswered}
-use Rattle.awk_tasks.specs.Acts.{Acts}
-use Rattle.awk_tasks.specs.Spots.{meant}
-use Rattle.awk_tasks.specs.Wholes.{Whole, Agreeing, base, names_in, used}
-use Rattle.awk_tasks.specs.declared.spot.Spot.TheVariants as spot
-use Rattle.awk_tasks.proofs.Acting.{at_rest, done, moves}
+use Rattle.awk_store.specs.Acts.{Acts}
+use Rattle.awk_store.specs.Spots.{meant}
+use Rattle.awk_store.specs.Wholes.{Whole, Agreeing, base, names_in, used}
+use Rattle.awk_store.specs.declared.spot.Spot.TheVariants as spot
+use Rattle.awk_store.proofs.Acting.{at_rest, done, moves}
 use Rattle.awk_input.specs.Hosts as host
 use Rattle.awk_input.specs.Hosts.{Hosted, IsHost, IsSlotIn, can_set, is_given}
 use Rattle.awk_input.specs.Operands.{Moves, is_done}

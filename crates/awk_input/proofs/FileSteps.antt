@@ -36,9 +36,9 @@ use Rattle.awk_streams.proofs.Chain.{Laws, asked, at_once, changes, done as fini
 use Rattle.awk_streams.proofs.Firsts.{drop_all}
 use Rattle.awk_streams.proofs.Numbers.{among_all, found_once, times-without, times-without_stream}
 use Rattle.awk_streams.proofs.Reading.{key_is, read_at, tells_taken}
-use Rattle.awk_tasks.specs.Acts.{Acts}
-use Rattle.awk_tasks.specs.Wholes.{Whole, Agreeing, base, names_in, used}
-use Rattle.awk_tasks.proofs.Acting.{at_rest, alters, done}
+use Rattle.awk_store.specs.Acts.{Acts}
+use Rattle.awk_store.specs.Wholes.{Whole, Agreeing, base, names_in, used}
+use Rattle.awk_store.proofs.Acting.{at_rest, alters, done}
 use Rattle.awk_input.specs.Hosts.{Hosted, IsHost, is_given}
 use Rattle.awk_input.specs.Operands.{IsBut, Moves, begun_or, current_key, opening_of}
 use Rattle.awk_input.specs.Inputs.{found_main}

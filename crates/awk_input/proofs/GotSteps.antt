@@ -12,9 +12,9 @@ use Rattle.awk_machine.specs.State.{State, Given}
 use Rattle.awk_machine.specs.Streams.{seen}
 use Rattle.awk_streams.specs.Tasks.{goes_on}
 use Rattle.awk_streams.specs.declared.halt.Halt.{Halt}
-use Rattle.awk_tasks.specs.Acts.{Acts, Passes}
-use Rattle.awk_tasks.specs.Wholes.{Whole, base}
-use Rattle.awk_tasks.proofs.Acting.{at_rest, moves, doing, done, stop}
+use Rattle.awk_store.specs.Acts.{Acts, Passes}
+use Rattle.awk_store.specs.Wholes.{Whole, base}
+use Rattle.awk_store.proofs.Acting.{at_rest, moves, doing, done, stop}
 use Rattle.awk_input.specs.Gots.{Counts, IsGot, is_record}
 
 -- ---- counters

@@ -36,12 +36,12 @@ use Rattle.awk_streams.proofs.Asking.{fits_here, tells_written}
 use Rattle.awk_streams.proofs.Chain.{Laws, asked, at_once, done as finished, halted-after, part, quiet, unanswered}
 use Rattle.awk_streams.proofs.MoreSteps.{gives}
 use Rattle.awk_streams.specs.Chains.{halt_at, result_at}
-use Rattle.awk_tasks.specs.Acts.{Acts, HaltsSo, Passes}
-use Rattle.awk_tasks.specs.Spots.{IsSpotOf, meant, value_of}
-use Rattle.awk_tasks.specs.Wholes.{Whole, Agreeing, base, names_in, used}
-use Rattle.awk_tasks.specs.declared.spot.Spot.{Spot}
-use Rattle.awk_tasks.proofs.Lifting.{apart, apart-text, lifted_at}
-use Rattle.awk_tasks.proofs.Acting.{acted, at_rest, moves, alters, done, faulted}
+use Rattle.awk_store.specs.Acts.{Acts, HaltsSo, Passes}
+use Rattle.awk_store.specs.Spots.{IsSpotOf, meant, value_of}
+use Rattle.awk_store.specs.Wholes.{Whole, Agreeing, base, names_in, used}
+use Rattle.awk_store.specs.declared.spot.Spot.{Spot}
+use Rattle.awk_store.proofs.Lifting.{apart, apart-text, lifted_at}
+use Rattle.awk_store.proofs.Acting.{acted, at_rest, moves, alters, done, faulted}
 use Rattle.awk_input.specs.Gots.{IsGot}
 use Rattle.awk_input.specs.Performs.{LeadsOn, Performs, PerformsIn}
 use Rattle.awk_input.specs.Inputs.{IsMainLine, after_operands, found_main, meeting, message, past_standard, taken}

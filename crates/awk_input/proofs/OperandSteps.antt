@@ -1,7 +1,7 @@
 -- How the machine goes on from operand to operand.
 use Rattle.std.proofs.Common.{◌≡◌, refl, sym, ap, subst, ◌∙◌, ◌+◌, ◌<◌, ◌≤◌, ◌-◌, ℕ, ℤ, suc, ◌==◌, Bool, true, false, true≢false, ◌||◌, ◌&&◌, cond, not, List, [], ◌∷◌, length, length-drop, take, drop, arith}
 use Rattle.awk_streams.specs.declared.halt.Halt.{Halt}
-use Rattle.awk_calls.specs.Steps.{Steps}
+use Rattle.awk_store.specs.Steps.{Steps}
 use Rattle.std.specs.Prelude.{Result, Ok, Err, Some, pos, int_lt, codes, if◌then◌else◌}
 use Rattle.std.specs.Fmt.{decimal}
 use Rattle.std.specs.List.{after_first, before_first, list_any, position_or_len}
@@ -22,10 +22,10 @@ use Rattle.awk_store.specs.Changes.{with_main}
 use Rattle.awk_store.specs.Kept as kept
 use Rattle.awk_store.specs.Kept.{Kept}
 use Rattle.awk_store.specs.States.{Hidden}
-use Rattle.awk_tasks.specs.Acts.{Passes}
-use Rattle.awk_tasks.specs.Wholes.{Whole, Agreeing, base}
-use Rattle.awk_tasks.proofs.Acting.{at_rest, moves}
-use Rattle.awk_tasks.proofs.Reading.{array-so}
+use Rattle.awk_store.specs.Acts.{Passes}
+use Rattle.awk_store.specs.Wholes.{Whole, Agreeing, base}
+use Rattle.awk_store.proofs.Acting.{at_rest, moves}
+use Rattle.awk_store.proofs.Agreeing.{array-so}
 use Rattle.awk_input.specs.Hosts.{Hosted, IsHost, can_set}
 use Rattle.awk_input.specs.Operands.{Moves, argv, is_assigning}
 use Rattle.awk_input.proofs.MainSteps.{main_agrees, operand_by}

@@ -12,7 +12,7 @@ use Rattle.awk_streams.specs.Tables.{Table, open_of}
 use Rattle.awk_streams.specs.Tasks.{Owns, goes_on}
 use Rattle.awk_streams.proofs.Chain.{part, stop}
 use Rattle.awk_streams.proofs.Numbers.{among_all, found_once}
-use Rattle.awk_tasks.specs.Wholes.{Whole}
+use Rattle.awk_store.specs.Wholes.{Whole}
 use Rattle.awk_input.specs.Inputs.{Onward}
 use Rattle.awk_input.specs.Performs.{LeadsOn, Performs}
 

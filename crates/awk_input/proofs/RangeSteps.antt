@@ -16,9 +16,9 @@ use Rattle.awk_store.specs.Changes.{with_on}
 use Rattle.awk_store.specs.Kept.{Kept}
 use Rattle.awk_store.specs.States.{Hidden}
 use Rattle.awk_store.proofs.Ranges.{turns}
-use Rattle.awk_tasks.specs.Acts.{Acts}
-use Rattle.awk_tasks.specs.Wholes.{Whole, Agreeing, base, names_in}
-use Rattle.awk_tasks.proofs.Acting.{at_rest, moves, alters, done}
+use Rattle.awk_store.specs.Acts.{Acts}
+use Rattle.awk_store.specs.Wholes.{Whole, Agreeing, base, names_in}
+use Rattle.awk_store.proofs.Acting.{at_rest, moves, alters, done}
 use Rattle.awk_input.specs.Ranges.{acting, turned_on}
 
 module _ (g : Given) (old : Whole) (n : ℕ) (x : Rule) (y z : Expression) (is : x.when ≡ p.range y z) (v : Value) where

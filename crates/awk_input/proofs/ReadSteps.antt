@@ -18,9 +18,9 @@ use Rattle.awk_streams.specs.Chains.{Leads}
 use Rattle.awk_streams.specs.Readings.{fetching}
 use Rattle.awk_streams.specs.declared.halt.Halt.{Halt}
 use Rattle.awk_streams.proofs.Chain.{at_once, done, part, quiet, stop}
-use Rattle.awk_tasks.specs.Spots.{IsSpotOf, meant, value_of}
-use Rattle.awk_tasks.specs.Wholes.{Whole, Agreeing, base, names_in, used}
-use Rattle.awk_tasks.specs.declared.spot.Spot.{Spot}
+use Rattle.awk_store.specs.Spots.{IsSpotOf, meant, value_of}
+use Rattle.awk_store.specs.Wholes.{Whole, Agreeing, base, names_in, used}
+use Rattle.awk_store.specs.declared.spot.Spot.{Spot}
 use Rattle.awk_input.specs.Gots.{IsGot, piped_of, read_of}
 use Rattle.awk_input.specs.Performs.{Performs}
 

@@ -12,7 +12,7 @@ use Rattle.awk_machine.specs.Streams.{seen}
 use Rattle.awk_streams.specs.declared.halt.Halt.TheVariants as halt
 use Rattle.awk_streams.specs.Chains.{Leads, Meets, halt_by}
 use Rattle.awk_streams.proofs.Chain.{at_once, changes, lacking}
-use Rattle.awk_tasks.specs.Wholes.{Whole, Agreeing, base, used}
+use Rattle.awk_store.specs.Wholes.{Whole, Agreeing, base, used}
 use Rattle.awk_input.specs.Operands.{Moves}
 
 -- where memory is refused, or the log, what the store holds is no matter, but for its steps

@@ -15,8 +15,8 @@ use Rattle.awk_streams.specs.Tasks.{goes_on}
 use Rattle.awk_streams.specs.declared.halt.Halt.{Halt}
 use Rattle.awk_input.specs.declared.counted.Counted.{Counted}
 use Rattle.awk_input.specs.declared.counted.Counted.TheVariants as counted
-use Rattle.awk_tasks.specs.Acts.{Acts, Passes}
-use Rattle.awk_tasks.specs.Wholes.{Whole}
+use Rattle.awk_store.specs.Acts.{Acts, Passes}
+use Rattle.awk_store.specs.Wholes.{Whole}
 
 abbrev pub names_of : Counted → List Text
 names_of counted.Nothing = []

@@ -6,7 +6,7 @@ use Rattle.std.specs.Str.{bytes_eq}
 use Rattle.awk_tokens.specs.Words.{is_name, reserved}
 use Rattle.awk_program.specs.Slots.{Text}
 use Rattle.awk_machine.specs.State.{Given}
-use Rattle.awk_tasks.specs.Wholes.{names_in}
+use Rattle.awk_store.specs.Wholes.{names_in}
 use Rattle.awk_input.specs.declared.host.Use.{Use}
 use Rattle.awk_input.specs.declared.host.Use.TheVariants as what
 

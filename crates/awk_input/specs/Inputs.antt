@@ -17,7 +17,7 @@ use Rattle.awk_streams.specs.Readings.{IsLine}
 use Rattle.awk_streams.specs.Tables.{Table}
 use Rattle.awk_streams.specs.Tasks.{goes_on}
 use Rattle.awk_store.specs.Kept.{Kept, own_text}
-use Rattle.awk_tasks.specs.Wholes.{Whole}
+use Rattle.awk_store.specs.Wholes.{Whole}
 use Rattle.awk_input.specs.Performs.{LeadsOn, Performs}
 
 -- ---- how far it is read

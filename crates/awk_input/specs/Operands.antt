@@ -17,7 +17,7 @@ use Rattle.awk_machine.specs.Streams.{seen}
 use Rattle.awk_store.specs.Kept.{Kept}
 use Rattle.awk_store.specs.States.{Hidden}
 use Rattle.awk_streams.specs.Tables.{Table, entries_without, open_of}
-use Rattle.awk_tasks.specs.Wholes.{Whole, Agreeing, base, used}
+use Rattle.awk_store.specs.Wholes.{Whole, Agreeing, base, used}
 use Rattle.awk_input.specs.Hosts.{Hosted, can_set}
 
 -- the array of the operands

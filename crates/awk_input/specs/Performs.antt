@@ -7,7 +7,7 @@ use Rattle.awk_machine.specs.Streams.{seen}
 use Rattle.awk_store.specs.States.{Hidden}
 use Rattle.awk_streams.specs.declared.halt.Halt.{Halt}
 use Rattle.awk_streams.specs.Chains.{Knows, Comes, Halted, Leads, Meets}
-use Rattle.awk_tasks.specs.Wholes.{Whole, Agreeing, base, used}
+use Rattle.awk_store.specs.Wholes.{Whole, Agreeing, base, used}
 
 -- from its piece the machine leads on, or the part is halted
 abbrev pub Performs : {W A : Type 0} → Ghosts W → Given → Piece → (A → List Piece → List Piece) → Whole → W → Result A Halt → Whole → W → Type 0

@@ -1,6 +1,6 @@
 // getline from a file and from a command.
 ghost use Rattle.std.specs.Prelude.{◌≡◌, [], ◌∷◌, List};
-ghost use Rattle.awk_lent.specs.Lents.{lent_value};
+ghost use Rattle.awk_text.specs.Lents.{lent_value};
 ghost use Rattle.awk_program.specs.Program as p;
 ghost use Rattle.awk_program.specs.Program.{Expression, Pipes};
 ghost use Rattle.awk_machine.specs.Getline as machine;
@@ -9,9 +9,9 @@ ghost use Rattle.awk_machine.specs.State.{Given};
 ghost use Rattle.awk_streams.specs.Readings.{fetching, key_of};
 ghost use Rattle.awk_streams.specs.Tables.{Table};
 ghost use Rattle.awk_streams.specs.Tasks.{Owns};
-ghost use Rattle.awk_tasks.specs.Acts.{Acts};
-ghost use Rattle.awk_tasks.specs.Spots.{IsSpotOf, value_of};
-ghost use Rattle.awk_tasks.specs.Wholes.{names_in};
+ghost use Rattle.awk_store.specs.Acts.{Acts};
+ghost use Rattle.awk_store.specs.Spots.{IsSpotOf, value_of};
+ghost use Rattle.awk_store.specs.Wholes.{names_in};
 ghost use Rattle.awk_input.specs.Gots.{piped_of, read_of};
 ghost use Rattle.awk_input.specs.Performs.{Performs};
 
@@ -20,10 +20,10 @@ use awk_streams::getline::fetch;
 use awk_streams::halt::Halt;
 use awk_streams::inputs::Source;
 use awk_streams::streams::{Class, Name, Streams};
-use awk_lent::lent::Lent;
+use awk_text::lent::Lent;
 use awk_program::Own;
 use awk_store::Store;
-use awk_tasks::Spot;
+use awk_store::Spot;
 use awk_text::place::Place;
 use awk_text::value::Value;
 use box_world::world::World;

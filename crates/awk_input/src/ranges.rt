@@ -5,7 +5,7 @@ ghost use Rattle.awk_machine.specs.State.{Given};
 ghost use Rattle.awk_program.specs.Program as p;
 ghost use Rattle.awk_program.specs.Program.{Expression, Rule};
 ghost use Rattle.awk_streams.specs.Tables.{Table};
-ghost use Rattle.awk_tasks.specs.Acts.{Acts};
+ghost use Rattle.awk_store.specs.Acts.{Acts};
 ghost use Rattle.awk_input.specs.Ranges.{acting, turned_on};
 
 use awk_streams::halt::Halt;

@@ -25,7 +25,7 @@ use Rattle.awk_input.specs.Hosts.{Hosted, IsHost, IsSlotIn, can_set, is_free, is
 use Rattle.awk_input.specs.declared.host.Use.{Use}
 use Rattle.awk_input.specs.declared.host.Use.TheVariants.{Variable, Barred}
 use Rattle.awk_input.proofs.Hosting.{given_added, use_added}
-use Rattle.awk_setup.specs.SetupParts.{SetupParts}
+use Rattle.awk_run.specs.SetupParts.{SetupParts}
 use Rattle.awk_run.specs.Givens.{given_of}
 use Rattle.awk_run.specs.Hosting.{host_of, nothing_told, with_functions, with_variables, with_words}
 use Rattle.awk_run.proofs.Naming.{Has, AllForced, array_is_variable, function_is_defined, functions_are_forced, functions_named}

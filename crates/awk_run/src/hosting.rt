@@ -10,7 +10,7 @@ ghost use Rattle.awk_run.specs.Hosting.{host_of, with_functions, with_variables,
 use awk_parse::Script;
 use awk_program::Function;
 use awk_input::{Host, Use};
-use awk_setup::Setup;
+use crate::Setup;
 use awk_text::Memory;
 use awk_text::octets::Octets;
 use std::alloc::{AllocError, Global};

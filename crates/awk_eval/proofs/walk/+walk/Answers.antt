@@ -1,12 +1,12 @@
 use Rattle.awk_eval.proofs.Going.{starts_at_once, starts_stepped}
 use Rattle.awk_eval.proofs.Leading.{quietly}
 use Rattle.awk_streams.proofs.Chain.{at_once, lacking, part, passes, stop}
-use Rattle.awk_calls.proofs.Leading.{takes}
+use Rattle.awk_store.proofs.Leading.{takes}
 use Rattle.awk_machine.specs.Pieces.{At, Do, Doing, Step, give}
 use Rattle.awk_program.proofs.Views.{statement-Expr, view-Call, view-Chain, view-Choice, view-GetlineFile, view-Pipe}
 use Rattle.awk_program.specs.View.{view_statement}
-use Rattle.awk_tasks.proofs.Acting.{acted, done as there}
-use Rattle.awk_tasks.specs.Wholes.{names_in}
+use Rattle.awk_store.proofs.Acting.{acted, done as there}
+use Rattle.awk_store.specs.Wholes.{names_in}
 use Rattle.std.proofs.Common.{[], ap, false, refl, sym, true, ◌∙◌, ◌∷◌}
 use Rattle.std.proofs.lemmas.Result.{err_from_is_err_and}
 use Rattle.awk_eval.proofs.walk.+walk.Goals as goal

@@ -2,7 +2,7 @@ use Rattle.std.proofs.Common.{sym, ◌∙◌}
 use Rattle.std.proofs.lemmas.Result.{err_from_is_err_and}
 use Rattle.awk_streams.proofs.Asking.{laws_of}
 use Rattle.awk_streams.proofs.Chain.{done, passes, turned}
-use Rattle.awk_tasks.proofs.Acting.{acted}
+use Rattle.awk_store.proofs.Acting.{acted}
 use Rattle.awk_input.proofs.AssignSteps.{assign_refused, assigns, denied_so, sets_so}
 use Rattle.awk_input.proofs.Restored.{lacks_at}
 use Rattle.awk_input.proofs.assigns.assign.Goals as goal

@@ -1,7 +1,7 @@
 use Rattle.std.proofs.Common.{sym, ◌∙◌}
 use Rattle.std.proofs.lemmas.Result.{err_from_is_err_and}
-use Rattle.awk_tasks.specs.Spots.{meant}
-use Rattle.awk_tasks.specs.Wholes.{names_in}
+use Rattle.awk_store.specs.Spots.{meant}
+use Rattle.awk_store.specs.Wholes.{names_in}
 use Rattle.awk_input.specs.Gots.{names_of}
 use Rattle.awk_input.proofs.GotSteps.{gives_one, gives_other, halts_as, is_set, not_set}
 use Rattle.awk_input.proofs.counted.set_record.Goals as goal

@@ -3,7 +3,7 @@ use Rattle.std.specs.Prelude.{codes}
 use Rattle.std.specs.Str.{bytes_eq}
 use Rattle.box_world.specs.Events.{Standard}
 use Rattle.awk_streams.proofs.Chain.{passes}
-use Rattle.awk_tasks.proofs.Acting.{acted}
+use Rattle.awk_store.proofs.Acting.{acted}
 use Rattle.awk_input.proofs.FileSteps.{file_named, file_standard}
 use Rattle.awk_input.proofs.Restored.{goes_by, moved}
 use Rattle.awk_input.proofs.files.begin_input.Goals as goal

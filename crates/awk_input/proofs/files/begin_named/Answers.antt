@@ -3,7 +3,7 @@ use Rattle.std.specs.Prelude.{Some}
 use Rattle.std.proofs.lemmas.Result.{err_from_is_err_and}
 use Rattle.box_world.specs.Events.{OperandFile, Named}
 use Rattle.awk_streams.proofs.Chain.{at_once, part, passes, stop, turned}
-use Rattle.awk_tasks.proofs.Acting.{acted}
+use Rattle.awk_store.proofs.Acting.{acted}
 use Rattle.awk_input.specs.Operands.{begun_or}
 use Rattle.awk_input.proofs.Restored.{lacks_at}
 use Rattle.awk_input.proofs.files.begin_named.Goals as goal

@@ -3,7 +3,7 @@ use Rattle.std.proofs.lemmas.Result.{err_from_is_err_and}
 use Rattle.box_world.specs.Events.{OperandFile}
 use Rattle.awk_store.specs.Kept.{Kept}
 use Rattle.awk_streams.proofs.Chain.{lacking, part, stop}
-use Rattle.awk_tasks.proofs.Lifting.{lifted}
+use Rattle.awk_store.proofs.Lifting.{lifted}
 use Rattle.awk_input.proofs.FileSteps.{but_forgotten, forgets_file, forgotten}
 use Rattle.awk_input.proofs.files.give_up_file.Goals as goal
 

@@ -7,7 +7,7 @@ use Rattle.awk_machine.specs.State.{Main}
 use Rattle.awk_store.specs.Inputs.{key_of}
 use Rattle.awk_streams.proofs.Chain.{at_once, lacking}
 use Rattle.awk_streams.proofs.Lives.{live_found, some_at}
-use Rattle.awk_tasks.proofs.Lifting.{apart, apart-text, lifted_at}
+use Rattle.awk_store.proofs.Lifting.{apart, apart-text, lifted_at}
 use Rattle.awk_input.specs.Inputs.{found_main}
 use Rattle.awk_input.proofs.FileSteps.{current_is, ok_any, read_as}
 use Rattle.awk_input.proofs.MainSteps.{takes_so}

@@ -1,4 +1,4 @@
-use Rattle.awk_lent.specs.Lents.{lent_value}
+use Rattle.awk_text.specs.Lents.{lent_value}
 use Rattle.awk_input.proofs.ReadSteps.{command_read}
 use Rattle.awk_input.proofs.getline.command_record.Goals as goal
 

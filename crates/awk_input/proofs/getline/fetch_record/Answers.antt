@@ -1,6 +1,6 @@
 use Rattle.std.proofs.Common.{◌∙◌, sym}
 use Rattle.awk_program.specs.declared.variables.Own.TheVariants as own
-use Rattle.awk_tasks.proofs.Lifting.{apart, apart-text, lifted_at}
+use Rattle.awk_store.proofs.Lifting.{apart, apart-text, lifted_at}
 use Rattle.awk_input.proofs.getline.fetch_record.Goals as goal
 
 pub returns-clause-task : goal.returns-clause-task

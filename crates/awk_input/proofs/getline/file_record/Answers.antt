@@ -1,4 +1,4 @@
-use Rattle.awk_lent.specs.Lents.{lent_value}
+use Rattle.awk_text.specs.Lents.{lent_value}
 use Rattle.awk_streams.specs.Readings.{key_of}
 use Rattle.awk_input.proofs.ReadSteps.{file_read}
 use Rattle.awk_input.proofs.getline.file_record.Goals as goal

@@ -1,9 +1,9 @@
 use Rattle.std.proofs.Common.{refl}
 use Rattle.std.proofs.lemmas.Result.{err_from_is_err_and}
-use Rattle.awk_lent.specs.Lents.{lent_value}
+use Rattle.awk_text.specs.Lents.{lent_value}
 use Rattle.awk_streams.proofs.Chain.{at_once, part, passes, stop}
-use Rattle.awk_tasks.specs.Spots.{value_of}
-use Rattle.awk_tasks.proofs.Acting.{acted}
+use Rattle.awk_store.specs.Spots.{value_of}
+use Rattle.awk_store.proofs.Acting.{acted}
 use Rattle.awk_input.proofs.getline.getline_pipe.Goals as goal
 
 pub returns-in_err-answer-clause-task : goal.returns-in_err-answer-clause-task

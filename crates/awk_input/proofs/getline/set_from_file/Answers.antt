@@ -1,7 +1,7 @@
 use Rattle.std.proofs.Common.{[], ◌∷◌}
 use Rattle.awk_program.specs.Program as p
 use Rattle.awk_machine.specs.Pieces.{At, Value_of}
-use Rattle.awk_tasks.specs.Spots.{value_of}
+use Rattle.awk_store.specs.Spots.{value_of}
 use Rattle.awk_input.proofs.ReadSteps.{file_got}
 use Rattle.awk_input.proofs.getline.set_from_file.Goals as goal
 

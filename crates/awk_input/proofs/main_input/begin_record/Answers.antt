@@ -2,7 +2,7 @@ use Rattle.std.proofs.Common.{refl, ◌∷◌}
 use Rattle.std.proofs.lemmas.Result.{err_from_is_err_and}
 use Rattle.awk_text.specs.declared.value.Value.TheVariants as v
 use Rattle.awk_machine.specs.Pieces.{At, Records}
-use Rattle.awk_tasks.proofs.Acting.{doing, stop}
+use Rattle.awk_store.proofs.Acting.{doing, stop}
 use Rattle.awk_input.specs.Inputs.{counted_on}
 use Rattle.awk_input.proofs.GotSteps.{counts_so}
 use Rattle.awk_input.proofs.MainSteps.{record_first}

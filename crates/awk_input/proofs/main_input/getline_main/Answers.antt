@@ -3,8 +3,8 @@ use Rattle.std.proofs.lemmas.Result.{err_from_is_err_and}
 use Rattle.awk_program.specs.Program as p
 use Rattle.awk_machine.specs.Pieces.{At, Value_of}
 use Rattle.awk_streams.proofs.Chain.{part, passes, stop}
-use Rattle.awk_tasks.specs.Spots.{value_of}
-use Rattle.awk_tasks.proofs.Acting.{acted}
+use Rattle.awk_store.specs.Spots.{value_of}
+use Rattle.awk_store.proofs.Acting.{acted}
 use Rattle.awk_input.proofs.MainSteps.{main_first, main_got}
 use Rattle.awk_input.proofs.main_input.getline_main.Goals as goal
 

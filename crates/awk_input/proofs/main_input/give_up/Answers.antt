@@ -2,8 +2,8 @@ use Rattle.std.proofs.Common.{refl}
 use Rattle.std.proofs.lemmas.Result.{err_from_is_err_and}
 use Rattle.awk_streams.proofs.Chain.{part, stop}
 use Rattle.awk_streams.proofs.MoreSteps.{forgets}
-use Rattle.awk_tasks.proofs.Acting.{acted}
-use Rattle.awk_tasks.proofs.Lifting.{lifted}
+use Rattle.awk_store.proofs.Acting.{acted}
+use Rattle.awk_store.proofs.Lifting.{lifted}
 use Rattle.awk_input.proofs.MainSteps.{passes_standard}
 use Rattle.awk_input.proofs.main_input.give_up.Goals as goal
 

@@ -7,7 +7,7 @@ use Rattle.awk_streams.proofs.MoreSteps.{first_owns}
 use Rattle.std.proofs.lemmas.Result.{err_from_is_err_and}
 use Rattle.awk_text.specs.declared.value.Value.TheVariants as v
 use Rattle.awk_streams.proofs.Chain.{part}
-use Rattle.awk_tasks.proofs.Acting.{acted}
+use Rattle.awk_store.proofs.Acting.{acted}
 use Rattle.awk_input.proofs.MainSteps.{done_in, line_taken, records_first, stop_acts}
 use Rattle.awk_input.proofs.main_input.next_record.Goals as goal
 

@@ -2,7 +2,7 @@ use Rattle.std.proofs.Common.{refl, sym, ◌∙◌}
 use Rattle.box_world.specs.Events.{Standard}
 use Rattle.awk_program.specs.declared.variables.Own.TheVariants as own
 use Rattle.awk_machine.specs.Pieces.{Do, Take}
-use Rattle.awk_tasks.proofs.Lifting.{apart, apart-text, lifted_at}
+use Rattle.awk_store.proofs.Lifting.{apart, apart-text, lifted_at}
 use Rattle.awk_input.specs.Inputs.{found_main}
 use Rattle.awk_input.proofs.MainSteps.{takes_so}
 use Rattle.awk_input.proofs.main_input.read_standard.Goals as goal

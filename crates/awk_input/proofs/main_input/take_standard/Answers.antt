@@ -4,7 +4,7 @@ use Rattle.std.proofs.lemmas.Result.{err_from_is_err_and}
 use Rattle.awk_streams.specs.declared.getline.Found.TheVariants as found
 use Rattle.awk_machine.specs.Pieces.{Do, Take}
 use Rattle.awk_streams.proofs.Chain.{at_once, done, part, stop}
-use Rattle.awk_tasks.proofs.Acting.{acted}
+use Rattle.awk_store.proofs.Acting.{acted}
 use Rattle.awk_input.proofs.MainSteps.{halts_whole, passes_standard}
 use Rattle.awk_input.proofs.main_input.take_standard.Goals as goal
 

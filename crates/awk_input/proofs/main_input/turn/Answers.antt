@@ -2,8 +2,8 @@ use Rattle.std.proofs.Common.{refl, sym, ap, ◌∙◌}
 use Rattle.std.proofs.lemmas.Result.{err_from_is_err_and}
 use Rattle.awk_machine.specs.State.{Main}
 use Rattle.awk_streams.proofs.Chain.{done, part, stop}
-use Rattle.awk_calls.proofs.Leading.{led}
-use Rattle.awk_tasks.proofs.Acting.{acted}
+use Rattle.awk_store.proofs.Leading.{led}
+use Rattle.awk_store.proofs.Acting.{acted}
 use Rattle.awk_input.proofs.MainSteps.{has_ended, to_operand}
 use Rattle.awk_input.proofs.main_input.turn.Goals as goal
 

@@ -5,9 +5,9 @@ use Rattle.std.proofs.lemmas.Result.{err_from_is_err_and}
 use Rattle.awk_machine.specs.Pieces.{nowhere}
 use Rattle.awk_machine.specs.State.{Main}
 use Rattle.awk_streams.proofs.Chain.{part, passes, stop}
-use Rattle.awk_calls.proofs.Leading.{led, takes}
-use Rattle.awk_tasks.proofs.Acting.{acted}
-use Rattle.awk_tasks.proofs.VariableSteps.{ok_at}
+use Rattle.awk_store.proofs.Leading.{led, takes}
+use Rattle.awk_store.proofs.Acting.{acted}
+use Rattle.awk_store.proofs.VariableSteps.{ok_at}
 use Rattle.awk_input.proofs.MainSteps.{no_count, passes_operands}
 use Rattle.awk_input.proofs.OperandSteps.{stays_at, to_next}
 use Rattle.awk_input.proofs.operands.operand.Goals as goal

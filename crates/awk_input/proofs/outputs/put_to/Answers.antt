@@ -1,13 +1,13 @@
 use Rattle.std.proofs.Common.{refl}
 use Rattle.std.proofs.lemmas.Result.{err_from_is_err_and}
-use Rattle.awk_lent.specs.Lents.{lent_value}
+use Rattle.awk_text.specs.Lents.{lent_value}
 use Rattle.awk_text.specs.Values.{text_of}
 use Rattle.box_world.specs.Events.{Named}
 use Rattle.awk_machine.specs.Pieces as machine
 use Rattle.awk_machine.specs.Pieces.{Do}
 use Rattle.awk_machine.specs.Printing as printing
 use Rattle.awk_streams.proofs.Chain.{part, stop}
-use Rattle.awk_tasks.proofs.Lifting.{lifted}
+use Rattle.awk_store.proofs.Lifting.{lifted}
 use Rattle.awk_input.proofs.OutputSteps.{onward_last, open_duty}
 use Rattle.awk_input.proofs.outputs.put_to.Goals as goal
 

@@ -1,6 +1,6 @@
 use Rattle.std.proofs.Common.{refl, sym, ◌∙◌}
 use Rattle.std.proofs.lemmas.Result.{err_from_is_err_and}
-use Rattle.awk_tasks.proofs.Acting.{lacking}
+use Rattle.awk_store.proofs.Acting.{lacking}
 use Rattle.awk_input.proofs.RangeSteps.{stays_off, turns_so}
 use Rattle.awk_input.proofs.ranges.begin_range.Goals as goal
 
