@@ -5,15 +5,23 @@
 //! [`OsWorld`] is the world of real files and commands, [`MemoryWorld`] one in memory, for tests.
 //! [`Ending`] is what the program `awkbox` says and ends with after an answer. specs/Drives.antt says
 //! what a run is.
+//!
+//! Without a run, [`sites_of`] and [`verdict_of`] answer what a script may ask of the world and what a policy says of it;
+//! [`list`] and [`check`] answer the lines that the program `awkbox` prints for them, and its exit status. specs/Answers.antt says
+//! what each of the four answers, and specs/Scripts.antt which texts are accepted and refused.
 #![tactic(auto)]
 
 mod accepting;
+mod answers;
 mod driver;
 pub mod laws;
 mod limited_read;
+mod listing_refusal;
+mod listings;
 mod messages;
 
 pub use accepting::{Refusal, policy_of};
+pub use answers::{Answer, check, list};
 pub use awk_run::{Outcome, Report, Setup, SetupError};
 pub use awk_text::Memory;
 pub use awk_text::fault::Fault;
@@ -29,4 +37,6 @@ pub use box_world::memory_world::MemoryWorld;
 pub use box_world::world::World;
 pub use driver::{Driven, drive};
 pub use limited_read::{ReadError, read_limited};
+pub use listing_refusal::ListingRefusal;
+pub use listings::{sites_of, verdict_of};
 pub use messages::{Ending, Message, Warning};

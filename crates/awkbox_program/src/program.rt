@@ -6,7 +6,8 @@ use crate::standard::hold_closed;
 use crate::words::Words;
 use crate::{command_line, standard, words};
 use awkbox::{Ending, Message, Octets, OsWorld, Setup, Warning, drive, policy_of};
-use awkbox_listing::{Answer, Refusal, check, list};
+use awkbox::{Answer, check, list};
+use awkbox_listing::ListingRefusal;
 use std::fs::File;
 
 /// The exit status where the words are at fault.
@@ -104,15 +105,15 @@ fn check_files(rt: &HostRuntime, policy: &str, script: &str) -> Result<Ending, M
 }
 
 // Prints a listing or a verdict. That it cannot be written is passed over.
-fn told(rt: &HostRuntime, answer: Result<Answer, Refusal>) -> Result<Ending, Message> {
+fn told(rt: &HostRuntime, answer: Result<Answer, ListingRefusal>) -> Result<Ending, Message> {
     match answer {
         Ok(answer) => {
             let _ = rt.stdout().write_all(answer.lines.as_slice());
             Ok(Ending::Quiet(answer.status))
         }
-        Err(Refusal::Policy(error)) => Err(Message::Policy(error)),
-        Err(Refusal::Script(error)) => Err(Message::Script(error)),
-        Err(Refusal::Memory) => Err(Message::OutOfMemory),
+        Err(ListingRefusal::Policy(error)) => Err(Message::Policy(error)),
+        Err(ListingRefusal::Script(error)) => Err(Message::Script(error)),
+        Err(ListingRefusal::Memory) => Err(Message::OutOfMemory),
     }
 }
 
