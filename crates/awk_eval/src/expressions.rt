@@ -35,7 +35,7 @@ use awk_text::value::{Value, number_of, truth};
 use awk_builtins::operators::{compared, compared_lent, truth_value};
 use box_world::world::World;
 
-/// The value of an expression, once a level was taken for its parts.
+/// The value of an expression, once room on the stack was taken for its parts.
 #[inline(never)]
 pub fn evaluate<W: World, E: Evaluates<W>>(
     cx: &Context<'_>,

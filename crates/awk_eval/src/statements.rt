@@ -45,7 +45,28 @@ pub fn body<W: World, E: Evaluates<W>>(
     Ok(Flow::On)
 }
 
+/// What a block does. It stands by itself, and so does what a test chooses: they nest most, and take the least of the stack so.
+#[inline(never)]
+pub fn block<W: World, E: Evaluates<W>>(
+    cx: &Context<'_>,
+    x: &Statement,
+    on: E,
+    run: &mut Run,
+    world: &mut W,
+) -> Result<Flow, Halt>
+    requires can { E.can on }
+    requires owns { Owns (W.open_numbers world.old) run.old.streams }
+    ensures { Does W.World cx.now (λ g. At (Doing (view_statement (names_in g) x.now)) []) (λ g. flows)
+        (whole_of run.old) world.old result (whole_of run.new) world.new }
+{
+    match x {
+        Statement::Block(xs) => body(cx, xs.as_slice(), on, run, world),
+        _ => perform(cx, x, on, run, world),
+    }
+}
+
 /// What a statement does.
+#[inline(never)]
 pub fn perform<W: World, E: Evaluates<W>>(
     cx: &Context<'_>,
     x: &Statement,
@@ -181,7 +202,8 @@ fn give_back<W: World, E: Evaluates<W>>(
 }
 
 /// `if ( test ) then`
-fn when<W: World, E: Evaluates<W>>(
+#[inline(never)]
+pub fn when<W: World, E: Evaluates<W>>(
     cx: &Context<'_>,
     test: &Expr,
     then: &Statement,
@@ -203,7 +225,8 @@ fn when<W: World, E: Evaluates<W>>(
 }
 
 /// `if ( test ) then else other`
-fn either<W: World, E: Evaluates<W>>(
+#[inline(never)]
+pub fn either<W: World, E: Evaluates<W>>(
     cx: &Context<'_>,
     test: &Expr,
     then: &Statement,

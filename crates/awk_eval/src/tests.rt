@@ -10,6 +10,7 @@ ghost use Rattle.awk_machine.specs.Operators.{of_truth};
 
 use crate::context::{Context, Run};
 use crate::evaluates::Evaluates;
+use crate::units::units_of;
 use crate::sources::matches;
 use crate::targets::{alter, put, step_target};
 use awk_streams::halt::Halt;
@@ -80,7 +81,7 @@ fn general_truth<W: World, E: Evaluates<W>>(
     ensures { Tells W.World cx.now (λ g. value (view (names_in g) e.now)) IsTruthOf
         (whole_of run.old) world.old result (whole_of run.new) world.new }
 {
-    let Some(below) = on.below() else {
+    let Some(below) = on.below(units_of(e)) else {
         return Err(Halt::Memory);
     };
     match e {
@@ -154,7 +155,7 @@ fn general_effect<W: World, E: Evaluates<W>>(
     ensures { Tells W.World cx.now (λ g. value (view (names_in g) e.now)) IsUnwanted
         (whole_of run.old) world.old result (whole_of run.new) world.new }
 {
-    let Some(below) = on.below() else {
+    let Some(below) = on.below(units_of(e)) else {
         return Err(Halt::Memory);
     };
     match e {

@@ -10,13 +10,12 @@ ghost use Rattle.awk_store.specs.Wholes.{names_in};
 ghost use Rattle.awk_streams.specs.Tasks.{Owns};
 ghost use Rattle.std.specs.Prelude.{List, map, ◌++◌, ◌∷◌};
 
-use awk_eval::{Context, Run, statement};
+use awk_eval::{Context, MOST_UNITS, Run, statement};
 use awk_program::Statement;
 use awk_store::Flow;
 use awk_store::flow::is_on;
 use awk_streams::halt::Halt;
 use box_world::world::World;
-use crate::rules::MOST_LEVELS;
 use sqlite_items::Items;
 
 /// The statements of one action, with what stands behind them in other actions.
@@ -32,7 +31,7 @@ fn action<W: World>(
         (whole_of run.old) world.old result (whole_of run.new) world.new }
 {
     for x in xs {
-        let flow = statement(cx, x, MOST_LEVELS, run, world)?;
+        let flow = statement(cx, x, MOST_UNITS, run, world)?;
         if !is_on(&flow) {
             return Ok(flow);
         }

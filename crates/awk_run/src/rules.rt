@@ -10,15 +10,12 @@ ghost use Rattle.awk_store.specs.Wholes.{names_in};
 ghost use Rattle.awk_streams.specs.Tasks.{Owns, goes_on};
 ghost use Rattle.std.specs.Prelude.{[], if◌then◌else◌, map, ◌≡◌};
 
-use awk_eval::{Context, Run, body, truth_of, value};
+use awk_eval::{Context, MOST_UNITS, Run, body, truth_of, value};
 use awk_input::ranges::{begin_range, end_range};
 use awk_program::{Expr, Rule, Statement, When};
 use awk_store::Flow;
 use awk_streams::halt::Halt;
 use box_world::world::World;
-
-/// How deep the evaluation of expressions and statements may nest: where no level is left, memory for the next one is refused.
-pub const MOST_LEVELS: u32 = 2_500;
 
 /// The rule of an expression: its action is done where the expression holds.
 fn where_holds<W: World>(
@@ -34,11 +31,11 @@ fn where_holds<W: World>(
         (λ g. At (Choosing n (rule_of (p.holds (view (names_in g) pattern.now)) (map (view_statement (names_in g)) action.now))) []) (λ g. flows)
         (whole_of run.old) world.old result (whole_of run.new) world.new }
 {
-    let holds = truth_of(cx, pattern, MOST_LEVELS, run, world)?;
+    let holds = truth_of(cx, pattern, MOST_UNITS, run, world)?;
     if !holds {
         return Ok(Flow::On);
     }
-    body(cx, action, MOST_LEVELS, run, world)
+    body(cx, action, MOST_UNITS, run, world)
 }
 
 /// The pattern of a range that is met next: its last one where it is on, and else its first one.
@@ -66,7 +63,7 @@ fn meet<W: World>(
         (whole_of run.old) world.old result (whole_of run.new) world.new }
 {
     let pattern = next_pattern(run.store.is_on(n), first, last);
-    let found = value(cx, pattern, MOST_LEVELS, run, world)?;
+    let found = value(cx, pattern, MOST_UNITS, run, world)?;
     if run.store.is_on(n) {
         end_range(&mut run.store, n, &found)?;
         return Ok(Some(true));
@@ -99,7 +96,7 @@ fn within<W: World>(
             if !acts {
                 return Ok(Flow::On);
             }
-            return body(cx, action, MOST_LEVELS, run, world);
+            return body(cx, action, MOST_UNITS, run, world);
         }
     }
     Err(Halt::Memory)
@@ -119,7 +116,7 @@ fn rule<W: World>(
 {
     let action = x.action.as_slice();
     match &x.when {
-        When::Always => body(cx, action, MOST_LEVELS, run, world),
+        When::Always => body(cx, action, MOST_UNITS, run, world),
         When::Holds(pattern) => where_holds(cx, n, pattern, action, run, world),
         When::Range(first, last) => within(cx, n, first, last, action, run, world),
     }
