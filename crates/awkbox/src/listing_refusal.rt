@@ -14,7 +14,7 @@ pub enum ListingRefusal {
 }
 
 impl From<PolicyError> for ListingRefusal {
-    ghost use Rattle.awkbox_listing.specs.declared.refusal.ListingRefusal.TheVariants.{Policy};
+    ghost use Rattle.awkbox.specs.declared.listing_refusal.ListingRefusal.TheVariants.{Policy};
 
     ghost from_gives = { λ error refusal. refusal ≡ Policy error };
 
@@ -24,7 +24,7 @@ impl From<PolicyError> for ListingRefusal {
 }
 
 impl From<SyntaxError> for ListingRefusal {
-    ghost use Rattle.awkbox_listing.specs.declared.refusal.ListingRefusal.TheVariants.{Script};
+    ghost use Rattle.awkbox.specs.declared.listing_refusal.ListingRefusal.TheVariants.{Script};
 
     ghost from_gives = { λ error refusal. refusal ≡ Script error };
 
@@ -34,7 +34,7 @@ impl From<SyntaxError> for ListingRefusal {
 }
 
 impl From<AllocError> for ListingRefusal {
-    ghost use Rattle.awkbox_listing.specs.declared.refusal.ListingRefusal.TheVariants.{Memory};
+    ghost use Rattle.awkbox.specs.declared.listing_refusal.ListingRefusal.TheVariants.{Memory};
 
     ghost from_gives = { λ _ refusal. refusal ≡ Memory };
 

@@ -7,7 +7,7 @@ use crate::words::Words;
 use crate::{command_line, standard, words};
 use awkbox::{Ending, Message, Octets, OsWorld, Setup, Warning, drive, policy_of};
 use awkbox::{Answer, check, list};
-use awkbox_listing::ListingRefusal;
+use awkbox::ListingRefusal;
 use std::fs::File;
 
 /// The exit status where the words are at fault.
