@@ -1,6 +1,6 @@
 // A script's run under a policy.
 ghost use Rattle.std.specs.Prelude.{◌≡◌, IfOk, IfErr};
-ghost use Rattle.awk_phases.specs.Outcomes.{view_outcome};
+ghost use Rattle.awk_run.specs.Outcomes.{view_outcome};
 ghost use Rattle.awkbox.specs.Accepted.{IsRefused};
 ghost use Rattle.awk_run.specs.Givens.{given_of};
 ghost use Rattle.awkbox.specs.Drives.{Drives, DrivesText};

@@ -6,18 +6,26 @@
 //! [`OsWorld`] is the world of real files and commands, [`MemoryWorld`] one in memory, for tests.
 //! [`Ending`] is what the program `awkbox` says and ends with after an answer. specs/Drives.antt says
 //! what a run is.
+//!
+//! Without a run, [`sites_of`] and [`verdict_of`] answer what a script may ask of the world and what a policy says of it;
+//! [`list`] and [`check`] answer the lines that the program `awkbox` prints for them, and its exit status. specs/Answers.antt says
+//! what each of the four answers, and specs/Scripts.antt which texts are accepted and refused.
 #![tactic(auto)]
 
 mod accepting;
+mod answers;
 mod driver;
 pub mod laws;
 mod limited_log;
 mod limited_read;
+mod listing_refusal;
+mod listings;
 mod messages;
 mod own_files;
 mod stack;
 
 pub use accepting::{Prepared, Refusal, prepare};
+pub use answers::{Answer, check, list};
 pub use awk_run::{Outcome, Report, Setup, SetupError};
 pub use awk_text::Memory;
 pub use awk_text::fault::Fault;
@@ -34,6 +42,8 @@ pub use box_world::world::World;
 pub use driver::{Driven, Ran, drive};
 pub use limited_log::LimitedLog;
 pub use limited_read::{ReadError, read_limited};
+pub use listing_refusal::ListingRefusal;
+pub use listings::{sites_of, verdict_of};
 pub use messages::{Ending, Message, OwnFile, Warning};
 pub use own_files::{Identity, may_be_log, may_start, writing_rule};
 pub use stack::tells_of_small_stack;

@@ -5,8 +5,7 @@ use crate::runs::{read_source, run_script};
 use crate::standard::hold_closed;
 use crate::words::Words;
 use crate::{command_line, standard, words};
-use awkbox::{Ending, Message};
-use awkbox_listing::{Answer, Refusal, check, list};
+use awkbox::{Answer, Ending, ListingRefusal, Message, check, list};
 
 /// The exit status where the words are at fault.
 const WORDS_REFUSED: u8 = 3;
@@ -70,14 +69,14 @@ fn check_files(rt: &HostRuntime, policy: &str, script: &str) -> Result<Ending, M
 }
 
 // Prints a listing or a verdict. That it cannot be written is passed over.
-fn told(rt: &HostRuntime, answer: Result<Answer, Refusal>) -> Result<Ending, Message> {
+fn told(rt: &HostRuntime, answer: Result<Answer, ListingRefusal>) -> Result<Ending, Message> {
     match answer {
         Ok(answer) => {
             let _ = rt.stdout().write_all(answer.lines.as_slice());
             Ok(Ending::Quiet(answer.status))
         }
-        Err(Refusal::Policy(error)) => Err(Message::Policy(error)),
-        Err(Refusal::Script(error)) => Err(Message::Script(error)),
-        Err(Refusal::Memory) => Err(Message::OutOfMemory),
+        Err(ListingRefusal::Policy(error)) => Err(Message::Policy(error)),
+        Err(ListingRefusal::Script(error)) => Err(Message::Script(error)),
+        Err(ListingRefusal::Memory) => Err(Message::OutOfMemory),
     }
 }

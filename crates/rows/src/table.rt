@@ -2,13 +2,11 @@
 
 use crate::runs;
 use awk_text::octets::Octets;
-use library_rows::{
-    fields, formats, library, monitors, patterns, policies, records, tokens, values, worlds,
-};
-use row_tables::problem::Problem;
-use row_tables::row::{Arg, Row};
-use row_tables::shown::Answer;
-use script_rows::{listings, parses, programs};
+use row_calls::{fields, formats, library, monitors, patterns, policies, records, tokens, values, worlds};
+use row_calls::problem::Problem;
+use row_calls::row::{Arg, Row};
+use row_calls::shown::Answer;
+use row_calls::{listings, parses, programs};
 use std::alloc::Global;
 
 /// A table: a file of rows about one subject.

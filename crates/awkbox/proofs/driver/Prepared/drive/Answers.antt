@@ -1,6 +1,6 @@
 use Rattle.awkbox.proofs.Driving.{drives}
 use Rattle.awk_run.specs.Givens.{given_of}
-use Rattle.awk_phases.specs.Outcomes.{view_outcome}
+use Rattle.awk_run.specs.Outcomes.{view_outcome}
 use Rattle.awkbox.proofs.driver.Prepared.drive.Goals as goal
 
 pub returns : goal.returns
