@@ -6,10 +6,18 @@ use Rattle.awk_text.specs.Arithmetic.{ranged}
 use Rattle.awk_text.specs.Numerals.{number}
 use Rattle.awk_text.specs.declared.fault.Fault.{Fault}
 
+-- what stands behind these words, where a text begins with them
+abbrev pub after : List ℕ → List ℕ → Option (List ℕ)
+after words text = if bytes_eq (take (length words) text) words then Some (drop (length words) text) else None
+
+abbrev pub or_else : Option (List ℕ) → Option (List ℕ) → Option (List ℕ)
+or_else (Some rest) other = Some rest
+or_else None other = other
+
 -- what stands behind these words, at the first place where a text has them
 abbrev pub behind : List ℕ → List ℕ → Option (List ℕ)
 behind words [] = None
-behind words (b ∷ bs) = if bytes_eq (take (length words) (b ∷ bs)) words then Some (drop (length words) (b ∷ bs)) else behind words bs
+behind words (b ∷ bs) = or_else (after words (b ∷ bs)) (behind words bs)
 
 -- a number of bytes that is smaller than 8 MiB; the word `unlimited` reads as 0
 abbrev pub is_small : Result ℤ Fault → Bool

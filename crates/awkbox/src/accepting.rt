@@ -85,7 +85,11 @@ impl Prepared {
 
     /// Lets both go, where there is to be no run.
     pub fn release(self) {
-        self.script.release();
+        let Prepared {
+            policy: _policy,
+            script,
+        } = self;
+        script.release();
     }
 }
 

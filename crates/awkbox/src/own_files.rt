@@ -1,5 +1,6 @@
 // The files that a run is given, its policy, its script and its log, and what a script might do to them.
 ghost use Rattle.std.specs.Prelude.{◌≡◌, option_map};
+ghost use Rattle.std.specs.List.{list_any};
 ghost use Rattle.awkbox.specs.OwnFiles.{allowing, are_one, behind_slash, is_same, may_be_log, may_start, name_in, rule_of_inner, rule_of_name, writing_rule};
 
 use box_policy::policy::{Decision, Kind, Policy};
@@ -19,6 +20,17 @@ fn is_same(left: Identity, right: Identity) -> bool
     left.device == right.device && left.number == right.number
 }
 
+fn is_among(file: Identity, files: &[Identity]) -> bool
+    ensures { result ≡ list_any (is_same file) files.now }
+{
+    for other in files {
+        if is_same(file, *other) {
+            return true;
+        }
+    }
+    false
+}
+
 /// Whether this file may be the log of a run, which also knows the others: its policy, its script, the files that its operands
 /// name and those that its standard streams lead to.
 ///
@@ -27,7 +39,7 @@ fn is_same(left: Identity, right: Identity) -> bool
 pub fn may_be_log(log: Identity, is_regular: bool, others: &[Identity]) -> bool
     ensures { result ≡ may_be_log log is_regular others.now }
 {
-    !(is_regular && others.iter().any(|other| is_same(log, *other)))
+    !(is_regular && is_among(log, others))
 }
 
 fn are_one(here: Option<Identity>, base: Option<Identity>) -> bool
@@ -83,7 +95,7 @@ fn name_in<'a>(folder: &[u8], name: &'a [u8]) -> Option<&'a [u8]>
 }
 
 fn rule_of_inner(policy: &Policy, name: Option<&[u8]>) -> Option<u32>
-    ensures { result ≡ rule_of_inner policy.now (option_map (λ inner. inner.now) name) }
+    ensures { result ≡ rule_of_inner policy.now (option_map (λ inner. inner.now) name.entry) }
 {
     rule_of_name(policy, name?)
 }

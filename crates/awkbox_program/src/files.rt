@@ -68,7 +68,9 @@ impl OpenLog {
     /// The file for the lines of a run, emptied unless what it holds is kept.
     pub fn begin(self, is_kept: bool) -> io::Result<File> {
         let OpenLog {
-            file, is_regular, ..
+            file,
+            is_regular,
+            ..
         } = self;
         if is_regular && !is_kept {
             file.set_len(0)?;

@@ -35,7 +35,12 @@ pub fn run_script(
     let taken = others(rt, policy.identity, script.identity, &setup)?;
     let log = LimitedLog::new(begin_log(rt, run, log, taken.as_slice())?, run.log_limit);
     let world = OsWorld::new(rt.clone()?);
-    let prepared = match prepare(alloc, policy.bytes.as_slice(), script.bytes.as_slice(), &setup) {
+    let prepared = match prepare(
+        alloc,
+        policy.bytes.as_slice(),
+        script.bytes.as_slice(),
+        &setup,
+    ) {
         Ok(prepared) => prepared,
         Err(refusal) => return Ok(Ending::of(Err(refusal))),
     };
