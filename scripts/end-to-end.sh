@@ -449,12 +449,12 @@ verdict "four runs that share a log"
 # Texts without end.
 
 script 'BEGIN { print "hi" }'
-for words in "--policy $work/policy.toml -f /dev/zero" "--policy /dev/zero -f $work/script.awk"; do
+for pair in "--policy $work/policy.toml -f /dev/zero" "--policy /dev/zero -f $work/script.awk"; do
     rm -f "$work/log"
     # shellcheck disable=SC2086
-    awkbox run --log "$work/log" $words
+    awkbox run --log "$work/log" $pair
     [ "$status" -eq 3 ] && holds "$work/errors" "awkbox: cannot read \"/dev/zero\"$line" && [ ! -e "$work/log" ]
-    verdict "a text without end: $words"
+    verdict "a text without end: ${pair//$work\//}"
 done
 printf 'BEGIN { print "hi" } #' >"$work/script.awk"
 head -c $((16777216 - 22)) /dev/zero | tr '\0' x >>"$work/script.awk"
@@ -1135,15 +1135,15 @@ tells() {
         cmp -s - <(grep -v '^fn' "$work/errors" | sed 's/ in [0-9]* min$//')
 }
 begins="proving and building the program"
-at_once="$(nproc) at once"
+at_once="on $(nproc) processors"
 wrapper high
 [ "$status" -eq 1 ] && holds "$work/output" "" && grep -qx 'fn high::main: proved' "$work/errors" &&
-    tells "not built; run ./build" "$begins: 3 of 3 crates, $at_once" "high failed; the end of $fresh/crates/high/out/build.log:" \
+    tells "not built; run ./build" "$begins: 3 of 3 crates $at_once" "high failed; the end of $fresh/crates/high/out/build.log:" \
         "not built: 1 crates stand on what failed"
 verdict "the wrapper where a crate is not proved"
 wrapper
 [ "$status" -eq 0 ] && holds "$work/output" "ran run a b$line" &&
-    tells "not built; run ./build" "$begins: 2 of 3 crates, $at_once" "built $fresh/crates/awkbox_program/out/awkbox_program"
+    tells "not built; run ./build" "$begins: 2 of 3 crates $at_once" "built $fresh/crates/awkbox_program/out/awkbox_program"
 verdict "the wrapper goes on where the build ended"
 wrapper
 [ "$status" -eq 0 ] && holds "$work/output" "ran run a b$line" && holds "$work/errors" ""
