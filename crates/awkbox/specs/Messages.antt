@@ -9,7 +9,6 @@ use Rattle.awk_tokens.specs.Refusals.{refusal_text}
 use Rattle.awkbox.specs.declared.messages.Message.{Message}
 use Rattle.awkbox.specs.declared.messages.Message.TheVariants.{Fault, StepBound, Policy, Script, Unspelled, Assignment, CannotRead, CannotWrite, CannotEnter, NotInBase, SmallStack, OutOfMemory}
 use Rattle.awkbox.specs.declared.messages.Warning.{Warning}
-use Rattle.awkbox.specs.declared.messages.Warning.TheVariants.{Writable}
 use Rattle.awkbox.specs.declared.messages.OwnFile.{OwnFile}
 use Rattle.awkbox.specs.declared.messages.OwnFile.TheVariants.{Log, Policy as PolicyFile, Script as ScriptFile}
 use Rattle.box_policy.specs.Refusals.{refusal_text as policy_text}
@@ -76,9 +75,9 @@ own_word ScriptFile = codes "script"
 
 -- a warning's line, without its newline
 abbrev pub warning_text : Warning → List ℕ
-warning_text (Writable rule file name) =
-    codes "awkbox: warning: rule " ++ decimal rule ++ codes " allows writing to the " ++ own_word file ++ codes " \"" ++ string_bytes name ++ codes "\""
+warning_text warning =
+    codes "awkbox: warning: rule " ++ decimal warning.rule ++ codes " allows writing to the " ++ own_word warning.file ++ codes " \"" ++ string_bytes warning.name ++ codes "\""
 
--- a warning that this rule lets a script write to this file, of this name
-abbrev pub WarnsWritable : ℕ → OwnFile → List ℕ → Warning → Type 0
-WarnsWritable rule file name (Writable number own shown) = (number ≡ rule) × (own ≡ file) × (string_bytes shown ≡ quoted name)
+-- a warning that this rule lets the script write to this file, of this name
+abbrev pub Warns : ℕ → OwnFile → List ℕ → Warning → Type 0
+Warns rule file name warning = (warning.rule ≡ rule) × (warning.file ≡ file) × (string_bytes warning.name ≡ quoted name)

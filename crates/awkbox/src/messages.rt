@@ -51,12 +51,14 @@ pub enum OwnFile {
     Script,
 }
 
-/// One line on standard error, before a run that goes on.
+/// One line on standard error, before a run that goes on: that a rule lets the script write to a file that the run is given.
 #[derive(Debug, Drop)]
-pub enum Warning {
-    /// The rule of this number lets a script write to a file that the run is given. The name is quoted, as the log of denials
-    /// has it.
-    Writable(u32, OwnFile, String),
+pub struct Warning {
+    /// The number of the rule.
+    pub rule: u32,
+    pub file: OwnFile,
+    /// The file's name, quoted as the log of denials has it.
+    pub name: String,
 }
 
 /// How the program ends.
@@ -204,13 +206,17 @@ impl OwnFile {
 }
 
 impl Warning {
-    ghost use Rattle.awkbox.specs.Messages.{WarnsWritable};
+    ghost use Rattle.awkbox.specs.Messages.{Warns};
 
-    /// That the rule of this number lets a script write to this file of a run, of this name.
-    pub fn writable(alloc: Global, rule: u32, file: OwnFile, name: &str) -> Result<Warning, Memory>
-        ensures { IfOk result (WarnsWritable rule file name.now) }
+    /// That the rule of this number lets the script write to this file of a run, of this name.
+    pub fn new(alloc: Global, rule: u32, file: OwnFile, name: &str) -> Result<Warning, Memory>
+        ensures { IfOk result (Warns rule file name.now) }
     {
-        Ok(Warning::Writable(rule, file, quoted_name(alloc, name)?))
+        Ok(Warning {
+            rule,
+            file,
+            name: quoted_name(alloc, name)?,
+        })
     }
 }
 
@@ -220,15 +226,11 @@ impl fmt::Display for Warning {
     ghost output = { λ warning. Some (warning_text warning) };
 
     fn fmt<W: fmt::Write>(&self, f: &mut fmt::Formatter<W>) -> fmt::Result {
-        match self {
-            Warning::Writable(rule, file, name) => {
-                let word = file.word();
-                write!(
-                    f,
-                    "awkbox: warning: rule {rule} allows writing to the {word} \"{name}\""
-                )
-            }
-        }
+        let (rule, word, name) = (self.rule, self.file.word(), self.name.as_str());
+        write!(
+            f,
+            "awkbox: warning: rule {rule} allows writing to the {word} \"{name}\""
+        )
     }
 }
 

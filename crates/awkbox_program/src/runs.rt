@@ -156,7 +156,7 @@ fn warn(
         None => writing_rule(policy, here, followed.as_str().as_bytes()),
     };
     if let Some(rule) = rule {
-        let warning = Warning::writable(rt.alloc(), rule, file, name)?;
+        let warning = Warning::new(rt.alloc(), rule, file, name)?;
         let _ = eprintln!(rt; "{warning}");
     }
     Ok(())
