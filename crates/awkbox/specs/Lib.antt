@@ -3,5 +3,8 @@ pub mod Answers
 pub mod Drives
 pub mod Endings
 pub mod Laws
+pub mod Limited
 pub mod Messages
+pub mod OwnFiles
 pub mod Scripts
+pub mod Stack
