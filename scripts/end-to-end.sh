@@ -908,7 +908,7 @@ typed() {
 mkdir "$work/names"
 touch "$work/names/policy.toml"
 for shell in bash zsh; do
-    command -v "$shell" >/dev/null || continue
+    command -v "$shell" >/dev/null && [ -e /dev/ptmx ] || continue
     typed "$shell" "run --policy=pol" run --policy=policy.toml &&
         typed "$shell" "check --policy=" check --policy=policy.toml &&
         typed "$shell" "run --log pol" run --log policy.toml &&

@@ -21,7 +21,7 @@ def rc(shell: str, told: Path) -> str:
     """What the shell reads as it starts."""
     load = {
         "bash": f". {shlex.quote(str(COMPLETIONS))}/awkbox.bash",
-        "zsh": f"fpath=({shlex.quote(str(COMPLETIONS))} $fpath); autoload -Uz compinit; compinit -u -D; unsetopt zle_bracketed_paste",
+        "zsh": f"fpath=({shlex.quote(str(COMPLETIONS))} $fpath); autoload -Uz compinit; compinit -u -D",
     }[shell]
     # In two parts, so that the prompt is not what is typed.
     return f"{load}\nawkbox() {{ printf '%s\\n' \"$@\" > {shlex.quote(str(told))}; exit; }}\nPS1='ready to ''type> '\n"
