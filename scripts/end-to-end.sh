@@ -197,8 +197,6 @@ status=$?
 is 2 "" "awkbox: 1:19 F12 cannot write the denial log$line" "" && [ ! -e "$work/elsewhere/x" ]
 verdict "a log that takes nothing"
 
-mkdir -p out/2026 out/archive answers solutions daily
-
 # recipe FOLDER: runs the commands that the folder's README shows, at the top of a clone, and tells
 # whether they print what the README says
 recipe() {
