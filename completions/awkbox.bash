@@ -2,6 +2,12 @@
 _awkbox() {
     local word=${COMP_WORDS[COMP_CWORD]} before=${COMP_WORDS[COMP_CWORD-1]} options
     COMPREPLY=()
+    # bash cuts a word at each = into three
+    if [ "$word" = = ]; then
+        word=
+    elif [ "$before" = = ]; then
+        before=${COMP_WORDS[COMP_CWORD-2]}
+    fi
     case $before in
     -C)
         compopt -o filenames 2>/dev/null

@@ -197,33 +197,6 @@ status=$?
 is 2 "" "awkbox: 1:19 F12 cannot write the denial log$line" "" && [ ! -e "$work/elsewhere/x" ]
 verdict "a log that takes nothing"
 
-# example NAME SCRIPT: runs an example of the repository, with this folder as its base
-example() {
-    sed "s|^base = .*|base = \"$base\"|" "$examples/$1/policy.toml" >"$work/policy.toml"
-    cp "$examples/$1/$2" "$work/script.awk"
-    run </dev/null
-}
-
-mkdir -p out/2026 out/archive answers solutions daily
-
-example report-host report.awk
-is 2 "" "awkbox: 5:19 F7 cannot open or write output$line" \
-    "4:2 run none \"test -s out/2026/totals.txt; id\"${line}5:19 write 1 \"out/archive/2025.txt\"$line" &&
-    holds out/2026/totals.txt "total 12$line" && [ ! -e out/archive/2025.txt ]
-verdict "the example of a report host"
-
-example teaching-server exercise.awk
-is 2 "" "awkbox: 4:12 F7 cannot open or write output$line" \
-    "3:2 run none \"cat solutions/a.txt\"${line}4:12 write none \"answers/../solutions/a.txt\"$line" &&
-    holds answers/a.txt "4$line" && [ ! -e solutions/a.txt ]
-verdict "the example of a teaching server"
-
-echo precious >victim
-example log-pipeline step.awk
-is 0 "" "" "4:2 run none \"sort -ovictim\"${line}5:2 run none \"rm -r daily\"$line" &&
-    holds daily/2026-11-22.log "started${line}done$line" && holds victim "precious$line"
-verdict "the example of a step of a log pipeline, which denies an option that would empty a file"
-
 # recipe FOLDER: runs the commands that the folder's README shows, at the top of a clone, and tells
 # whether they print what the README says
 recipe() {
@@ -242,9 +215,30 @@ mkdir -p "$clone/crates/awkbox_program/out"
 cp -R "$top/README.md" "$top/examples" "$top/man" "$top/completions" "$top/install" "$clone"
 ln -s "$program" "$clone/awkbox"
 ln -s "$program" "$clone/crates/awkbox_program/out/awkbox_program"
-for folder in . examples/hi examples/report-host examples/teaching-server examples/log-pipeline; do
+recipes=(. examples/hi examples/report-host examples/teaching-server examples/log-pipeline)
+command -v parallel >/dev/null && recipes+=(examples/many-machines)
+for folder in "${recipes[@]}"; do
     recipe "$folder"
     verdict "the commands of the README in $folder"
+done
+
+# The example of the README's first lines: its script, its rule, its log.
+policy 'effect = "allow"
+kind = "write"
+match = "out/**"'
+script "$(sed -n '/^```awk$/,/^```$/{/^```/!p}' "$top/README.md")"
+run
+is 2 "no commands here$line" "awkbox: 4:19 F7 cannot open or write output$line" \
+    "$(grep -E '^[0-9]+:[0-9]+ (run|write) ' "$top/README.md")$line" && holds out/totals.txt "total 12$line" &&
+    grep -qF 'awkbox: 4:19 F7 cannot open or write output' "$top/README.md"
+verdict "the first example of the README"
+
+# The code of a page is that of a file that is proved and run.
+from_file() { sed -n "/^\/\/ $1: begin\$/,/^\/\/ $1: end\$/{/^\/\/ $1: /!p}" "$top/crates/rows/src/hosts.rt"; }
+shown=$(sed -n '/^```rust$/,/^```$/{/^```/!p}' "$top/docs/EMBEDDING.md")
+for part in world host; do
+    [ -n "$(from_file "$part")" ] && [[ $shown == *"$(from_file "$part")"* ]]
+    verdict "the code of docs/EMBEDDING.md is that of the rows: $part"
 done
 
 # Standard streams that the program was started without.
@@ -985,7 +979,7 @@ awkbox list -f "$work/none.awk"
 told 3 "" "awkbox: cannot read \"$work/none.awk\"$line"
 verdict "a listing of a script that is not there"
 
-for example in hi/hi report-host/report teaching-server/exercise log-pipeline/step; do
+for example in hi/hi report-host/report teaching-server/exercise log-pipeline/step many-machines/count; do
     folder=$examples/${example%/*}
     awkbox list -f "$examples/$example.awk"
     [ "$status" -eq 0 ] && cmp -s "$work/output" "$folder/listing.txt" && holds "$work/errors" ""
@@ -1094,6 +1088,32 @@ for page in awkbox.1 awkbox-policy.5; do
     verdict "the manual page $page (checked: $checked)"
 done
 
+if man -l "$top/man/awkbox.1" >/dev/null 2>&1; then
+    MANWIDTH=200 MAN_KEEP_FORMATTING= man -l "$top/man/awkbox.1" 2>/dev/null >"$work/output"
+    grep -qF -- '-f FILE [-- OPERAND ...]' "$work/output"
+    verdict "the manual page shows operands behind --"
+fi
+
+# installs STATUS OUTPUT ERRORS WORD..: whether the installation ended so
+installs() {
+    local wanted=$1 output=$2 errors=$3
+    shift 3
+    "$clone/install" "$@" >"$work/output" 2>"$work/errors"
+    status=$?
+    [ "$status" -eq "$wanted" ] && grep -qxF -- "$output" "$work/output" "$work/errors" &&
+        { [ -z "$errors" ] && [ ! -s "$work/errors" ] || grep -qxF -- "$errors" "$work/errors"; }
+}
+usage='usage: ./install [PREFIX]'
+(
+    cd "$work" || exit 1
+    installs 0 "$usage" "" --help && installs 0 "$usage" "" -h &&
+        installs 2 "$usage" "install: unknown option --prefix" --prefix &&
+        installs 2 "$usage" "install: unknown option -x" --uninstall -x &&
+        installs 2 "$usage" "install: an empty PREFIX" "" &&
+        installs 2 "$usage" "install: too many words" prefix more && [ ! -e prefix ]
+)
+verdict "the words of the installation"
+
 prefix=$work/prefix
 "$clone/install" "$prefix" >"$work/output" 2>&1
 status=$?
@@ -1103,6 +1123,11 @@ status=$?
     cmp -s "$prefix/share/zsh/site-functions/_awkbox" "$top/completions/_awkbox" &&
     cmp -s "$prefix/share/bash-completion/completions/awkbox" "$top/completions/awkbox.bash"
 verdict "the installation"
+
+touch "$prefix/bin/other"
+installs 0 "removed $prefix/bin/awkbox, its manual pages and its completions" "" --uninstall "$prefix" &&
+    [ "$(find "$prefix" -type f)" = "$prefix/bin/other" ]
+verdict "what was installed is taken away, and nothing else"
 
 # The wrapper and the build, over three crates and a prover that are made up.
 fresh=$work/fresh
@@ -1169,10 +1194,27 @@ completed() {
     [ "$(completed awkbox run -f a -- "$work/kept.t")" = "$work/kept.toml" ] &&
     [ "$(completed awkbox run --policy "$work/kept.t")" = "$work/kept.toml" ]
 verdict "the completions for bash"
-if command -v zsh >/dev/null; then
-    zsh -n "$top/completions/_awkbox"
-    verdict "the completions for zsh can be read"
-fi
+
+# typed SHELL TEXT WORD..: whether the shell, where it is there, makes these words of the text and a tab
+typed() {
+    local shell=$1 text=$2
+    shift 2
+    (cd "$work/names" && python3 "$top/scripts/typed.py" "$shell" "$text") >"$work/output" 2>&1
+    status=$?
+    [ "$status" -eq 0 ] && holds "$work/output" "$(printf '%s\n' "$@")$line"
+}
+mkdir "$work/names"
+touch "$work/names/policy.toml"
+for shell in bash zsh; do
+    command -v "$shell" >/dev/null && [ -e /dev/ptmx ] || continue
+    typed "$shell" "run --policy=pol" run --policy=policy.toml &&
+        typed "$shell" "check --policy=" check --policy=policy.toml &&
+        typed "$shell" "run --log pol" run --log policy.toml &&
+        typed "$shell" "run -f pol" run -f policy.toml
+    verdict "$shell finds the files of options"
+    typed "$shell" "run -f f -- pol" run -f f -- policy.toml && typed "$shell" "run -f f pol" run -f f pol
+    verdict "$shell finds operands behind -- alone"
+done
 
 script 'BEGIN { print "hi" }'
 no_rules
