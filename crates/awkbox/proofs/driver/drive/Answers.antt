@@ -1,6 +1,7 @@
 use Rattle.awkbox.proofs.Driving.{drives}
 use Rattle.awk_run.specs.Givens.{given_of}
 use Rattle.awk_phases.specs.Outcomes.{view_outcome}
+use Rattle.box_policy.proofs.CountsLemmas.{written_fresh}
 use Rattle.awkbox.proofs.driver.drive.Goals as goal
 
 pub run-report-requires : goal.run-report-requires
@@ -8,7 +9,8 @@ run-report-requires g c = (c.in-Ok.ensures.ok.read.tokens, c.in-Ok.ensures.ok.re
 
 pub returns-clause-driven : goal.returns-clause-driven
 returns-clause-driven g c =
-    let ran = rw c.new-monitor.ensures at c.run-report.ensures in
+    let fresh = written_fresh c.args.policy.now c.in-Ok.parts.0 c.in-Ok.ensures.ok.written in
+    let ran = rw (c.new-monitor.ensures, fresh) at c.run-report.ensures in
     record {
       book = c.in-Ok.parts.0;
       spelled = c.in-Ok.parts.1;
