@@ -476,6 +476,50 @@ bash -c 'ulimit -s 8192 && exec "$@"' - "$program" run --policy "$work/policy.to
 status=$?
 is 0 "hi$line" "" ""
 verdict "a stack of 8 MiB"
+# Limits.
+
+# limited RULE..: writes the policy file in version 2 with these rules
+limited() {
+    policy "$@"
+    sed -i 's/^version = 1$/version = 2/' "$work/policy.toml"
+}
+
+limited 'effect = "allow"
+kind = "run"
+match = "echo sent"
+limit = 1'
+script 'BEGIN { while (n++ < 3) system("echo sent") }'
+run
+is 0 "sent$line" "" "1:25 run none \"echo sent\"${line}1:25 run none \"echo sent\"$line"
+verdict "a command that may run once"
+
+awkbox check --policy "$work/policy.toml" -f "$work/script.awk"
+: >"$work/log"
+is 1 "open${line}1:25 run \"echo sent\"$line" "" ""
+verdict "what is said of it before"
+
+mkdir -p in
+for n in 1 2 3; do echo "$n" >"in/$n"; done
+limited 'effect = "allow"
+kind = "read"
+match = "in/*"
+limit = 2'
+script 'BEGIN { while (n++ < 3) { f = "in/" n; r = (getline x < f); print r, x } }'
+run
+is 0 "1 1${line}1 2${line}-1 2$line" "" "1:45 read none \"in/3\"$line"
+verdict "a number of files"
+
+limited 'effect = "deny"
+kind = "run"
+match = "**"
+limit = 1'
+run
+: >"$work/log"
+is 3 "" "awkbox: policy P5 rule 1$line" ""
+verdict "a limit beside an effect that denies"
+
+no_rules
+script 'BEGIN { print "hi" }'
 
 # The folder of the start.
 

@@ -21,7 +21,7 @@ use Rattle.box_monitor.specs.Watch.{Watch}
 use Rattle.box_monitor.specs.declared.log_end.LogEnd.{LogEnd}
 use Rattle.box_monitor.specs.declared.log_end.LogEnd.TheVariants.{Whole, Part, Unsure}
 use Rattle.awkbox.specs.Drives.{Drives, EndsAtLog, EndsInside, EndsWhole, LogStands}
-use Rattle.awkbox.proofs.Passing.{asked-calls, denial-same, denied-calls, told-calls}
+use Rattle.awkbox.proofs.Passing.{asked-calls, denial-calls, denied-calls, told-calls}
 
 -- a monitor that did not stop
 going : (s : Option LogEnd) → is_some s ≡ is_some {T = LogEnd} None → s ≡ None
@@ -48,7 +48,7 @@ module _ {W L : Type 0} (follows : W → List Call → W → Type 0) (has_stoppe
         → EndsAtLog stops contents book log es want (unwrap_or m.stop Whole) m.log
     at_log want a = record {
       line = a.line;
-      denied = sym (denial-same book want (open_streams es)) ∙ a.denied;
+      denied = sym (denial-calls book es want (open_streams es)) ∙ a.denied;
       ends = ended m.stop (contents log) (contents m.log) (log_text (told_of book es)) (line_of a.line)
           (subst (λ t. LogEnds m.stop (contents log) (contents m.log) (log_text t) (line_of a.line)) (told-calls book es) a.log);
     }
@@ -56,7 +56,7 @@ module _ {W L : Type 0} (follows : W → List Call → W → Type 0) (has_stoppe
     inside : (want : Want) → StopsInside stops contents (fresh book world log) (calls es) (ask_of want (open_streams es)) m
         → EndsInside stops contents book world log es want (unwrap_or m.stop Whole) m.world m.log
     inside want a = record {
-      allowed = sym (denial-same book want (open_streams es)) ∙ a.allowed;
+      allowed = sym (denial-calls book es want (open_streams es)) ∙ a.allowed;
       inner = subst (λ z. stops world z (ask_of want (open_streams es)) m.world) (asked-calls book es failed) a.inner;
       whole = record {
         whole = ap (λ s. unwrap_or s Whole) a.stop;

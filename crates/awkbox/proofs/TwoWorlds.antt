@@ -6,7 +6,7 @@ use Rattle.box_world.specs.declared.ask.Reply.TheVariants.{Failed}
 use Rattle.box_world.specs.Events.{Want, Event, calls}
 use Rattle.box_policy.specs.Rulebook.{Rulebook}
 use Rattle.box_monitor.specs.Lines.{log_text}
-use Rattle.box_monitor.specs.Passed.{DeniedFail, denial_of_want, passed_on, told_of}
+use Rattle.box_monitor.specs.Passed.{DeniedFail, after_events, after_want, denial_after, denial_of_want, passed_on, told_of}
 use Rattle.awk_machine.specs.Advances.{advance}
 use Rattle.awk_machine.specs.Begins.{nothing}
 use Rattle.awk_machine.specs.Laws.{replies, Alike, OneRun}
@@ -94,77 +94,88 @@ abbrev answers : List Event → List Reply
 answers [] = []
 answers (e ∷ es) = e.reply ∷ answers es
 
+-- of those that are allowed, each judged after those before it
+abbrev allowed : Rulebook → List Event → List Reply
+allowed book [] = []
+allowed book (e ∷ es) =
+    cond (is_none (denial_of_want book e.want)) (e.reply ∷ allowed (after_want book e.want) es) (allowed (after_want book e.want) es)
+
+-- each denied one failed
+abbrev FailedSince : Rulebook → List Event → Type 0
+FailedSince book [] = Unit {0}
+FailedSince book (e ∷ es) = (IsSome (denial_of_want book e.want) → e.reply ≡ Failed) × FailedSince (after_want book e.want) es
+
+denied : (book : Rulebook) (w : Want) (q r : Reply) → is_none (denial_of_want book w) ≡ false → (IsSome (denial_of_want book w) → q ≡ Failed) → (IsSome (denial_of_want book w) → r ≡ Failed) → q ≡ r
+denied book w q r h f g = some (denial_of_want book w) h f g
+  where
+    some : {A : Type 0} (o : Option A) → is_none o ≡ false → (IsSome o → q ≡ Failed) → (IsSome o → r ≡ Failed) → q ≡ r
+    some None h f g = cc
+    some (Some x) h f g = f refl ∙ sym (g refl)
+
+-- at a request that both make the replies are equal, and the rest of the allowed ones are alike
+at_once : (book : Rulebook) (w : Want) (q r : Reply) (qs rs : List Reply) (b : Bool) → is_none (denial_of_want book w) ≡ b →
+    (IsSome (denial_of_want book w) → q ≡ Failed) → (IsSome (denial_of_want book w) → r ≡ Failed) →
+    Alike (cond b (q ∷ qs) qs) (cond b (r ∷ rs) rs) → (q ≡ r) × Alike qs rs
+at_once book w q r qs rs true h f g like = like
+at_once book w q r qs rs false h f g like = (denied book w q r h f g, like)
+
+nothing_alike : (qs : List Reply) → Alike qs []
+nothing_alike [] = tt
+nothing_alike (q ∷ qs) = tt
+
+-- the same request after the same events
+first_alike : (book : Rulebook) (v w : Want) (q r : Reply) (es fs : List Event) → w ≡ v → FailedSince book (event v q ∷ es) → FailedSince book (event w r ∷ fs) →
+    Alike (allowed book (event v q ∷ es)) (allowed book (event w r ∷ fs)) →
+    (q ≡ r) × Alike (allowed (after_want book v) es) (allowed (after_want book v) fs) × FailedSince (after_want book v) fs
+first_alike book v w q r es fs e f g like =
+    let late : FailedSince book (event v r ∷ fs) = subst (λ (z : Want). FailedSince book (event z r ∷ fs)) e g in
+    let both = at_once book v q r (allowed (after_want book v) es) (allowed (after_want book v) fs) (is_none (denial_of_want book v)) refl f.0 late.0
+    (subst (λ (z : Want). Alike (allowed book (event v q ∷ es)) (allowed book (event z r ∷ fs))) e like) in
+    (both.0, both.1, late.1)
+
+meet : {g : Given} {k : List Piece} {s : State} {c : Course} {es fs : List Event} (book : Rulebook) → By g k s c es → By g k s c fs → FailedSince book es → FailedSince book fs →
+    Alike (allowed book es) (allowed book fs) → Alike (answers es) (answers fs)
+meet book none y a b like = tt
+meet {es = es} book (quiet h x) none a b like = nothing_alike (answers es)
+meet book (quiet h x) (quiet h' y) a b like = meet book x (same-goes h h' y) a b like
+meet book (quiet h x) (step h' y) a b like = absurd (goes-steps h h')
+meet book (quiet h x) (ask r h' y) a b like = absurd (goes-asks h h')
+meet book (quiet h x) (seek i h' z y) a b like = absurd (goes-seeks h h')
+meet {es = es} book (step h x) none a b like = nothing_alike (answers es)
+meet book (step h x) (quiet h' y) a b like = absurd (goes-steps h' h)
+meet book (step h x) (step h' y) a b like = meet book x (same-steps h h' y) a b like
+meet book (step h x) (ask r h' y) a b like = absurd (steps-asks h h')
+meet book (step h x) (seek i h' z y) a b like = absurd (steps-seeks h h')
+meet book (ask r h x) none a b like = tt
+meet book (ask r h x) (quiet h' y) a b like = absurd (goes-asks h' h)
+meet book (ask r h x) (step h' y) a b like = absurd (steps-asks h' h)
+meet book (ask {w = v} {es = es} q h x) (ask {w = w} {es = fs} r h' y) a b like =
+    let p = first_alike book v w q r es fs (same-want h h') a b like in
+    (p.0, meet (after_want book v) x (same-asks h h' (sym p.0) y) a.1 p.2 p.1)
+meet book (ask r h x) (seek i h' z y) a b like = absurd (asks-seeks h h')
+meet {es = es} book (seek i h z x) none a b like = nothing_alike (answers es)
+meet book (seek i h z x) (quiet h' y) a b like = absurd (goes-seeks h' h)
+meet book (seek i h z x) (step h' y) a b like = absurd (steps-seeks h' h)
+meet book (seek i h z x) (ask r h' y) a b like = absurd (asks-seeks h' h)
+meet book (seek i h z x) (seek i' h' z' y) a b like = meet book x (same-seeks h h' z z' y) a b like
+
+-- ---- the same of events of which the newest stands first
+
+answers_since : (xs es : List Event) → replies (since xs es) ≡ replies es ++ answers xs
+answers_since [] es = sym (append-nil (replies es))
+answers_since (x ∷ xs) es = answers_since xs (x ∷ es) ∙ append_assoc (replies es) (x.reply ∷ []) (answers xs)
+
+one_since : (x : Event) (passed : List Event) (later : List Reply) (b : Bool) → replies (cond b (x ∷ passed) passed) ++ later ≡ replies passed ++ cond b (x.reply ∷ later) later
+one_since x passed later true = append_assoc (replies passed) (x.reply ∷ []) later
+one_since x passed later false = refl
+
 module _ (book : Rulebook) where
-  -- of those that are allowed
-  abbrev allowed : List Event → List Reply
-  allowed [] = []
-  allowed (e ∷ es) = cond (is_none (denial_of_want book e.want)) (e.reply ∷ allowed es) (allowed es)
-
-  denied : (w : Want) (q r : Reply) → is_none (denial_of_want book w) ≡ false → (IsSome (denial_of_want book w) → q ≡ Failed) → (IsSome (denial_of_want book w) → r ≡ Failed) → q ≡ r
-  denied w q r h f g = some (denial_of_want book w) h f g
-    where
-      some : {A : Type 0} (o : Option A) → is_none o ≡ false → (IsSome o → q ≡ Failed) → (IsSome o → r ≡ Failed) → q ≡ r
-      some None h f g = cc
-      some (Some x) h f g = f refl ∙ sym (g refl)
-
-  -- at a request that both make the replies are equal, and the rest of the allowed ones are alike
-  at_once : (w : Want) (q r : Reply) (es fs : List Event) (b : Bool) → is_none (denial_of_want book w) ≡ b →
-      (IsSome (denial_of_want book w) → q ≡ Failed) → (IsSome (denial_of_want book w) → r ≡ Failed) →
-      Alike (cond b (q ∷ allowed es) (allowed es)) (cond b (r ∷ allowed fs) (allowed fs)) → (q ≡ r) × Alike (allowed es) (allowed fs)
-  at_once w q r es fs true h f g like = like
-  at_once w q r es fs false h f g like = (denied w q r h f g, like)
-
-  nothing_alike : (qs : List Reply) → Alike qs []
-  nothing_alike [] = tt
-  nothing_alike (q ∷ qs) = tt
-
-  first_alike : (v w : Want) (q r : Reply) (es fs : List Event) → w ≡ v → (IsSome (denial_of_want book v) → q ≡ Failed) → (IsSome (denial_of_want book w) → r ≡ Failed) →
-      Alike (allowed (event v q ∷ es)) (allowed (event w r ∷ fs)) → (q ≡ r) × Alike (allowed es) (allowed fs)
-  first_alike v w q r es fs e f g like =
-      at_once v q r es fs (is_none (denial_of_want book v)) refl f (subst (λ (z : Want). IsSome (denial_of_want book z) → r ≡ Failed) e g)
-      (subst (λ (z : Want). Alike (allowed (event v q ∷ es)) (allowed (event z r ∷ fs))) e like)
-
-  meet : {g : Given} {k : List Piece} {s : State} {c : Course} {es fs : List Event} → By g k s c es → By g k s c fs → DeniedFail book es → DeniedFail book fs →
-      Alike (allowed es) (allowed fs) → Alike (answers es) (answers fs)
-  meet none y a b like = tt
-  meet {es = es} (quiet h x) none a b like = nothing_alike (answers es)
-  meet (quiet h x) (quiet h' y) a b like = meet x (same-goes h h' y) a b like
-  meet (quiet h x) (step h' y) a b like = absurd (goes-steps h h')
-  meet (quiet h x) (ask r h' y) a b like = absurd (goes-asks h h')
-  meet (quiet h x) (seek i h' z y) a b like = absurd (goes-seeks h h')
-  meet {es = es} (step h x) none a b like = nothing_alike (answers es)
-  meet (step h x) (quiet h' y) a b like = absurd (goes-steps h' h)
-  meet (step h x) (step h' y) a b like = meet x (same-steps h h' y) a b like
-  meet (step h x) (ask r h' y) a b like = absurd (steps-asks h h')
-  meet (step h x) (seek i h' z y) a b like = absurd (steps-seeks h h')
-  meet (ask r h x) none a b like = tt
-  meet (ask r h x) (quiet h' y) a b like = absurd (goes-asks h' h)
-  meet (ask r h x) (step h' y) a b like = absurd (steps-asks h' h)
-  meet (ask {w = v} {es = es} q h x) (ask {w = w} {es = fs} r h' y) a b like =
-      let p = first_alike v w q r es fs (same-want h h') a.0 b.0 like in
-      (p.0, meet x (same-asks h h' (sym p.0) y) a.1 b.1 p.1)
-  meet (ask r h x) (seek i h' z y) a b like = absurd (asks-seeks h h')
-  meet {es = es} (seek i h z x) none a b like = nothing_alike (answers es)
-  meet (seek i h z x) (quiet h' y) a b like = absurd (goes-seeks h' h)
-  meet (seek i h z x) (step h' y) a b like = absurd (steps-seeks h' h)
-  meet (seek i h z x) (ask r h' y) a b like = absurd (asks-seeks h' h)
-  meet (seek i h z x) (seek i' h' z' y) a b like = meet x (same-seeks h h' z z' y) a b like
-
-  -- ---- the same of events of which the newest stands first
-
-  answers_since : (xs es : List Event) → replies (since xs es) ≡ replies es ++ answers xs
-  answers_since [] es = sym (append-nil (replies es))
-  answers_since (x ∷ xs) es = answers_since xs (x ∷ es) ∙ append_assoc (replies es) (x.reply ∷ []) (answers xs)
-
-  one_since : (x : Event) (xs es : List Event) (b : Bool) → replies (cond b (x ∷ passed_on book es) (passed_on book es)) ++ allowed xs ≡ replies (passed_on book es) ++ cond b (x.reply ∷ allowed xs) (allowed xs)
-  one_since x xs es true = append_assoc (replies (passed_on book es)) (x.reply ∷ []) (allowed xs)
-  one_since x xs es false = refl
-
-  allowed_since : (xs es : List Event) → replies (passed_on book (since xs es)) ≡ replies (passed_on book es) ++ allowed xs
+  allowed_since : (xs es : List Event) → replies (passed_on book (since xs es)) ≡ replies (passed_on book es) ++ allowed (after_events book es) xs
   allowed_since [] es = sym (append-nil (replies (passed_on book es)))
-  allowed_since (x ∷ xs) es = allowed_since xs (x ∷ es) ∙ one_since x xs es (is_none (denial_of_want book x.want))
+  allowed_since (x ∷ xs) es =
+      allowed_since xs (x ∷ es) ∙ one_since x (passed_on book es) (allowed (after_events book (x ∷ es)) xs) (is_none (denial_after book es x.want))
 
-  failed_since : (xs es : List Event) → DeniedFail book (since xs es) → DeniedFail book xs × DeniedFail book es
+  failed_since : (xs es : List Event) → DeniedFail book (since xs es) → FailedSince (after_events book es) xs × DeniedFail book es
   failed_since [] es h = (tt, h)
   failed_since (x ∷ xs) es h = let p = failed_since xs (x ∷ es) h in ((p.1.0, p.0), p.1.1)
 
@@ -173,7 +184,7 @@ module _ (book : Rulebook) where
   all_alike {d = d} {e = e} x y a b like =
       let p = trail x in
       let q = trail y in
-      let same = meet p.chain q.chain (failed_since p.events [] (subst (DeniedFail book) p.grown a)).0 (failed_since q.events [] (subst (DeniedFail book) q.grown b)).0
+      let same = meet book p.chain q.chain (failed_since p.events [] (subst (DeniedFail book) p.grown a)).0 (failed_since q.events [] (subst (DeniedFail book) q.grown b)).0
       (rw (p.grown, q.grown, allowed_since p.events [], allowed_since q.events []) at like) in
       rw (p.grown, q.grown, answers_since p.events [], answers_since q.events []) same
 

@@ -13,15 +13,15 @@ use Rattle.box_world.specs.Events.{Event, Want, ask_of, calls, open_streams}
 use Rattle.box_world.specs.declared.ask.Ask.{Ask}
 use Rattle.box_policy.specs.Rulebook.{Rulebook}
 use Rattle.box_monitor.specs.Lines.{line_of, log_text}
-use Rattle.box_monitor.specs.Passed.{DeniedFail, denial_of_want, passed_on, told_of}
+use Rattle.box_monitor.specs.Passed.{DeniedFail, denial_after, passed_on, told_of}
 use Rattle.box_monitor.specs.Stops.{LogEnds}
 use Rattle.box_monitor.specs.Told.{Told}
 use Rattle.box_monitor.specs.declared.log_end.LogEnd.{LogEnd}
 use Rattle.box_monitor.specs.declared.log_end.LogEnd.TheVariants.{Whole}
 use Rattle.awkbox.specs.Accepted.{Accepted}
 
--- Plain awk plays these events, the newest first, to this outcome, in these steps, and each that the policy denies has
--- failed, as awk lets it fail. The last request, which is no event, is the one that the log ended the run at.
+-- Plain awk plays these events, the newest first, to this outcome, in these steps, and each that the policy denies after
+-- those before it has failed, as awk lets it fail. The last request, which is no event, is the one that the log ended the run at.
 pub record PlaysUnder (book : Rulebook) (g : Given) (events : List Event) (o : Outcome) (used : ℕ) (last : Option Want) : Type 0 where
   pub plays : Plays g events o used last
   pub failed : DeniedFail book events
@@ -35,12 +35,12 @@ module _ {W L : Type 0} (stops : W → List Call → Ask → W → Type 0) (cont
   -- the last request is denied, and the log did not take its line whole
   pub record EndsAtLog (book : Rulebook) (log : L) (events : List Event) (want : Want) (end : LogEnd) (log' : L) : Type 0 where
     pub line : Told
-    pub denied : denial_of_want book want ≡ Some line
+    pub denied : denial_after book events want ≡ Some line
     pub ends : LogEnds (Some end) (contents log) (contents log') (log_text (told_of book events)) (line_of line)
 
   -- the last request is not denied, and the world may stop at it of itself
   pub record EndsInside (book : Rulebook) (world : W) (log : L) (events : List Event) (want : Want) (end : LogEnd) (world' : W) (log' : L) : Type 0 where
-    pub allowed : denial_of_want book want ≡ None
+    pub allowed : denial_after book events want ≡ None
     pub inner : stops world (calls (passed_on book events)) (ask_of want (open_streams events)) world'
     pub whole : EndsWhole book log events end log'
 

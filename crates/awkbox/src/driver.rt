@@ -5,6 +5,7 @@ ghost use Rattle.awkbox.specs.Accepted.{IsRefused};
 ghost use Rattle.awk_run.specs.Givens.{given_of};
 ghost use Rattle.awkbox.specs.Drives.{Drives, DrivesText};
 ghost use Rattle.box_monitor.specs.declared.log_end.LogEnd.TheVariants.{Whole};
+ghost use Rattle.box_policy.specs.Counts.{cleared};
 
 use crate::accepting::{Prepared, Refusal, prepare};
 use awk_run::{Report, Setup, run};
@@ -33,7 +34,8 @@ pub struct Ran<W: World, L: Write> {
 }
 
 impl Prepared {
-    /// Runs the script over a world, under the policy, as [`drive`] runs the script that a text spells.
+    /// Runs the script over a world, under the policy, whose rules have allowed nothing before, as [`drive`] runs the script that a
+    /// text spells.
     pub fn drive<W: World, L: Write>(
         self,
         alloc: Global,
@@ -43,7 +45,7 @@ impl Prepared {
         log: L,
     ) -> Ran<W, L>
         ensures { Drives W.follows W.stops L.contents
-            self.0 (given_of self.1 setup.now steps) world log
+            (cleared self.0) (given_of self.1 setup.now steps) world log
             (view_outcome result.report.outcome) result.report.used result.log_end result.world result.log }
     {
         let Prepared { policy, script } = self;

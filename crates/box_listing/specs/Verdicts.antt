@@ -1,11 +1,11 @@
 -- What a policy says of a listing before a run.
-use Rattle.std.specs.Prelude.{◌≡◌, Bool, true, false, not, List, [], ◌∷◌, Option, Some, None, filter, is_none}
+use Rattle.std.specs.Prelude.{◌≡◌, Bool, true, false, List, [], ◌∷◌, Option, Some, None, filter}
 use Rattle.awk_program.specs.Program.{Program}
 use Rattle.awk_program.specs.Slots.{Text}
 use Rattle.box_policy.specs.declared.policy.Kind.{Kind}
-use Rattle.box_policy.specs.declared.policy.Decision.{Decision}
-use Rattle.box_policy.specs.declared.policy.Decision.TheVariants.{Allow, Deny, NoRule}
-use Rattle.box_policy.specs.Decisions.{decision}
+use Rattle.box_policy.specs.declared.policy.Outlook.{Outlook}
+use Rattle.box_policy.specs.declared.policy.Outlook.TheVariants.{Always, Never, Sometimes}
+use Rattle.box_policy.specs.Decisions.{outlook}
 use Rattle.box_policy.specs.Rulebook.{Rulebook}
 use Rattle.box_listing.specs.Listings.{IsListing}
 use Rattle.box_listing.specs.declared.site.Site.{Site}
@@ -13,30 +13,39 @@ use Rattle.box_listing.specs.declared.site.Sort.{Sort}
 use Rattle.box_listing.specs.declared.verdict.Verdict.{Verdict}
 use Rattle.box_listing.specs.declared.verdict.Verdict.TheVariants.{Clean, Open, Refused}
 
-abbrev pub is_allow : Decision → Bool
-is_allow (Allow n) = true
-is_allow (Deny n) = false
-is_allow NoRule = false
+-- what a policy says of a text that is known, where it is no operand of the run
+abbrev pub outlook_at : Rulebook → Kind → Option Text → Option Outlook
+outlook_at book kind None = None
+outlook_at book kind (Some text) = Some (outlook book kind text false)
 
--- a text that is known and denied, where it is no operand of the run
-abbrev pub denies : Rulebook → Kind → Option Text → Bool
-denies book kind None = false
-denies book kind (Some text) = not (is_allow (decision book kind text false))
+-- it is known and never allowed
+abbrev pub denies : Option Outlook → Bool
+denies None = false
+denies (Some Always) = false
+denies (Some Never) = true
+denies (Some Sometimes) = false
 
 abbrev pub is_denied : Rulebook → Site → Bool
-is_denied book site = denies book site.kind site.text
+is_denied book site = denies (outlook_at book site.kind site.text)
 
-abbrev pub is_open : Site → Bool
-is_open site = is_none site.text
+-- it is not known, or it is allowed as long as a limit lasts
+abbrev pub leaves_open : Option Outlook → Bool
+leaves_open None = true
+leaves_open (Some Always) = false
+leaves_open (Some Never) = false
+leaves_open (Some Sometimes) = true
 
--- the denied sites, where there are any; else those whose text is not known; else all are known and allowed
-abbrev pub verdict_by : (denied unknown : List Site) → Verdict
-verdict_by (x ∷ xs) unknown = Refused (x ∷ xs)
+abbrev pub is_open : Rulebook → Site → Bool
+is_open book site = leaves_open (outlook_at book site.kind site.text)
+
+-- the denied sites, where there are any; else the open ones; else all are known and always allowed
+abbrev pub verdict_by : (denied undecided : List Site) → Verdict
+verdict_by (x ∷ xs) undecided = Refused (x ∷ xs)
 verdict_by [] (y ∷ ys) = Open (y ∷ ys)
 verdict_by [] [] = Clean
 
 abbrev pub verdict : Rulebook → List Site → Verdict
-verdict book sites = verdict_by (filter (is_denied book) sites) (filter is_open sites)
+verdict book sites = verdict_by (filter (is_denied book) sites) (filter (is_open book) sites)
 
 -- the verdict on the listing of a program, which names ENVIRON or not
 pub record IsVerdict (program : Program) (order : List Sort) (names : Bool) (book : Rulebook) (result : Verdict) : Type 0 where

@@ -55,8 +55,8 @@ pub fn sites(alloc: Global, script: &Script) -> Result<Vec<Site>, Memory>
 }
 
 /// What a policy says of all runs of a script, before any: of its sites, `Refused` with those whose text is known and
-/// denied, where there are any; else `Open` with those whose text is not known, where there are any; else `Clean`.
-/// `Memory` where memory is refused.
+/// never allowed, where there are any; else `Open` with those whose text is not known or is allowed as long as a limit
+/// lasts, where there are any; else `Clean`. `Memory` where memory is refused.
 pub fn check(alloc: Global, script: &Script, policy: &Policy) -> Result<Verdict, Memory>
     ensures { IfOk result (λ verdict. (items : List Entry) → IsScriptOf items script.now → IsVerdictOf script.now items policy.now verdict) }
 {

@@ -5,7 +5,7 @@ ghost use Rattle.box_listing.specs.Verdicts as spec;
 
 use crate::site::Site;
 use awk_text::Memory;
-use box_policy::policy::{Decision, Policy};
+use box_policy::policy::{Outlook, Policy};
 use std::alloc::Global;
 use std::marker::Model;
 
@@ -34,7 +34,8 @@ impl Sites {
 }
 
 /// What a policy says of all runs of a script. `Clean`: no run asks for what it denies. `Refused`: it
-/// denies these sites, whose texts are known. `Open`: of these sites only a run can tell.
+/// denies these sites, whose texts are known. `Open`: of these sites only a run can tell, by their texts
+/// or by how often its rules have allowed.
 #[derive(Drop)]
 pub enum Verdict {
     Clean,
@@ -42,57 +43,42 @@ pub enum Verdict {
     Refused(Sites),
 }
 
-fn is_allow(decision: Decision) -> bool
-    ensures { result ≡ spec.is_allow decision }
-{
-    match decision {
-        Decision::Allow(_) => true,
-        Decision::Deny(_) | Decision::NoRule => false,
-    }
-}
-
-/// Whether the text is known and denied.
-fn is_denied(policy: &Policy, site: &Site) -> bool
-    ensures { result ≡ spec.is_denied policy.now site.now }
+/// What the policy says of a site: `None` where the text is not known.
+fn outlook_of(policy: &Policy, site: &Site) -> Option<Outlook>
+    ensures { result ≡ spec.outlook_at policy.now site.now.kind site.now.text }
 {
     match &site.text {
-        None => false,
-        Some(text) => !is_allow(policy.decide(site.kind, text.bytes(), false)),
+        None => None,
+        Some(text) => Some(policy.outlook(site.kind, text.bytes(), false)),
     }
 }
 
-fn is_open(site: &Site) -> bool
-    ensures { result ≡ spec.is_open site.now }
-{
-    site.text.is_none()
-}
-
-fn verdict_by(denied: Sites, unknown: Sites) -> Verdict
-    ensures { result ≡ spec.verdict_by denied unknown }
+fn verdict_by(denied: Sites, undecided: Sites) -> Verdict
+    ensures { result ≡ spec.verdict_by denied undecided }
 {
     if !denied.list().is_empty() {
         Verdict::Refused(denied)
-    } else if !unknown.list().is_empty() {
-        Verdict::Open(unknown)
+    } else if !undecided.list().is_empty() {
+        Verdict::Open(undecided)
     } else {
         Verdict::Clean
     }
 }
 
 /// What a policy says of these sites, where none is of an operand word: `Refused` with those whose text
-/// is known and denied, where there are any; else `Open` with those whose text is not known, where there
-/// are any; else `Clean`. `Memory` where memory is refused.
+/// is known and never allowed, where there are any; else `Open` with those whose text is not known or is
+/// allowed as long as a limit lasts, where there are any; else `Clean`. `Memory` where memory is refused.
 pub fn judge(alloc: Global, policy: &Policy, sites: Vec<Site>) -> Result<Verdict, Memory>
     ensures { IfOk result (λ verdict. verdict ≡ spec.verdict policy.now sites.items) }
 {
     let mut denied = Vec::new(alloc);
-    let mut unknown = Vec::new(alloc);
+    let mut undecided = Vec::new(alloc);
     for site in sites {
-        if is_denied(policy, &site) {
-            denied.push(site)?;
-        } else if is_open(&site) {
-            unknown.push(site)?;
+        match outlook_of(policy, &site) {
+            Some(Outlook::Never) => denied.push(site)?,
+            Some(Outlook::Sometimes) | None => undecided.push(site)?,
+            Some(Outlook::Always) => {}
         }
     }
-    Ok(verdict_by(Sites { sites: denied }, Sites { sites: unknown }))
+    Ok(verdict_by(Sites { sites: denied }, Sites { sites: undecided }))
 }

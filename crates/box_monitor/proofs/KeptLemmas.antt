@@ -1,13 +1,16 @@
 -- The decisions that are kept stay the policy's: what is found, moved to the front and put.
 use Rattle.std.proofs.Common.{◌≡◌, ℕ, zero, suc, Bool, true, false, List, [], ◌∷◌, Option, None, Some, IfSome, drop, sym, ap, refl, ◌∙◌, inl, inr}
 use Rattle.std.specs.Map.{lookup}
+use Rattle.std.specs.Prelude.{MatchOption}
 use Rattle.std.specs.Str.{bytes_eq}
 use Rattle.std.proofs.lemmas.Slice.Eq.{bytes_eq-Decides}
 use Rattle.box_policy.specs.declared.policy.Decision.{Decision}
 use Rattle.box_policy.specs.declared.policy.Kind.{Kind}
 use Rattle.box_policy.specs.declared.policy.Kind.TheVariants.{Read, Write, Append, Run, Env, Assign}
 use Rattle.box_policy.specs.Decisions.{decision, kind_number}
+use Rattle.box_policy.specs.Counts.{is_used_up_at, noted}
 use Rattle.box_policy.specs.Rulebook.{Rulebook}
+use Rattle.box_policy.proofs.CountsLemmas.{decides_still}
 use Rattle.box_monitor.specs.declared.judge.KeptQuestion.{KeptQuestion}
 use Rattle.box_monitor.specs.Judged.{spelled, AreDecided}
 use Rattle.lru.specs.LruCache.{LruCache, promoted, put_entries}
@@ -80,3 +83,12 @@ after_put book c k d all is e is_there =
         | inr before ↦ put.0 ∙ (is ∙ sym (same_decision book k.kind e.0.kind k.given e.0.given k.text.items e.0.text.items before.2))
       ]
     ]
+
+-- what was decided stays where no rule is used up by what was counted
+pub after_note : (n : ℕ) (book : Rulebook) (es : List (KeptQuestion × Decision)) → is_used_up_at (noted n book) n ≡ false → AreDecided book es → AreDecided (noted n book) es
+after_note n book es left all e is_there = all e is_there ∙ sym (decides_still n book e.0.kind e.0.text.items e.0.given left)
+
+pub cache_after_note : (n : ℕ) (book : Rulebook) (cache : Option (LruCache KeptQuestion Decision)) → is_used_up_at (noted n book) n ≡ false
+    → MatchOption cache (Unit {0}) (λ c. AreDecided book c.entries) → MatchOption cache (Unit {0}) (λ c. AreDecided (noted n book) c.entries)
+cache_after_note n book None left h = tt
+cache_after_note n book (Some c) left h = after_note n book c.entries left h

@@ -2,7 +2,7 @@
 use Rattle.std.specs.Prelude.{◌≡◌, ℕ, ◌+◌, ◌-◌, ◌^◌, ◌≤◌, min, Bool, List, length, Option, None}
 use Rattle.std.specs.Io.KnownBytes.{Appends}
 use Rattle.box_world.specs.Calls.{Call}
-use Rattle.box_monitor.specs.Asked.{asked, told, AllFailed}
+use Rattle.box_monitor.specs.Asked.{after, asked, told, AllFailed}
 use Rattle.box_monitor.specs.Lines.{log_text}
 use Rattle.box_monitor.specs.Watch.{Watch}
 
@@ -14,11 +14,11 @@ pub record Goes {W L : Type 0} (has_stopped : W → Bool) (contents : L → Opti
   pub steady : has_stopped new.world ≡ has_stopped old.world
   pub log : Appends (contents old.log) (contents new.log) (log_text (told old.policy calls))
 
--- The monitor goes on by these calls: the world behind by those that are not denied, and the others
--- were answered Failed, counted and told.
+-- The monitor goes on by these calls: the world behind by those that are not denied, which were counted
+-- for the rules that allow them, and the others were answered Failed, counted and told.
 pub record Leads {W L : Type 0} (follows : W → List Call → W → Type 0) (has_stopped : W → Bool)
     (contents : L → Option (List ℕ)) (old : Watch W L) (calls : List Call) (new : Watch W L) : Type 0 where
-  pub policy : new.policy ≡ old.policy
+  pub policy : new.policy ≡ after old.policy calls
   pub inner : follows old.world (asked old.policy calls) new.world
   pub failed : AllFailed old.policy calls
   pub denials : old.denials ≤ 2 ^ 64 - 1 → new.denials ≡ min (old.denials + length (told old.policy calls)) (2 ^ 64 - 1)

@@ -1,6 +1,7 @@
 pub mod Subjects
 pub mod Told
 pub mod Denials
+pub mod Rulings
 pub mod Asked
 pub mod Judged
 pub mod Lines

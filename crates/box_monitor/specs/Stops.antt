@@ -3,7 +3,7 @@ use Rattle.std.specs.Prelude.{◌≡◌, ℕ, ◌<◌, true, List, ◌++◌, len
 use Rattle.std.specs.Io.KnownBytes.{Appends}
 use Rattle.box_world.specs.Calls.{Call}
 use Rattle.box_world.specs.declared.ask.Ask.{Ask}
-use Rattle.box_monitor.specs.Asked.{asked, told}
+use Rattle.box_monitor.specs.Asked.{after, asked, told}
 use Rattle.box_monitor.specs.Denials.{denial_of}
 use Rattle.box_monitor.specs.Lines.{line_of, log_text}
 use Rattle.box_monitor.specs.Told.{Told}
@@ -27,13 +27,13 @@ LogEnds None old new text line = ⊥
 pub record StopsAtLog {W L : Type 0} (contents : L → Option (List ℕ))
     (old : Watch W L) (calls : List Call) (ask : Ask) (new : Watch W L) : Type 0 where
   pub line : Told
-  pub denied : denial_of old.policy ask ≡ Some line
+  pub denied : denial_of (after old.policy calls) ask ≡ Some line
   pub log : LogEnds new.stop (contents old.log) (contents new.log) (log_text (told old.policy calls)) (line_of line)
 
 -- it stops at an ask that is not denied, where the world behind does
 pub record StopsInside {W L : Type 0} (stops : W → List Call → Ask → W → Type 0) (contents : L → Option (List ℕ))
     (old : Watch W L) (calls : List Call) (ask : Ask) (new : Watch W L) : Type 0 where
-  pub allowed : denial_of old.policy ask ≡ None
+  pub allowed : denial_of (after old.policy calls) ask ≡ None
   pub inner : stops old.world (asked old.policy calls) ask new.world
   pub stop : new.stop ≡ Some Whole
   pub log : Appends (contents old.log) (contents new.log) (log_text (told old.policy calls))

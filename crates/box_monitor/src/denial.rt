@@ -1,6 +1,7 @@
 // What the policy denies, and what the log tells of it.
 ghost use Rattle.std.specs.Prelude.{◌≡◌};
-ghost use Rattle.box_monitor.specs.Denials.{denial_of};
+ghost use Rattle.box_monitor.specs.Denials.{denial_of, rule_for};
+ghost use Rattle.box_monitor.specs.Rulings.{denial_in, rule_in};
 ghost use Rattle.box_monitor.specs.Subjects.{kind_of, subject_of};
 
 use crate::judge::{Judge, Question};
@@ -43,6 +44,14 @@ impl<'a> Model for Denial<'a> {
     ghost view = { λ d. record { place = d.place; kind = d.kind; rule = d.rule; text = d.text.now } };
 }
 
+/// What is done with an ask: it is passed on, and the rule of this number allows it where it is decided on, or it is
+/// denied.
+#[derive(Drop)]
+pub enum Ruling<'a> {
+    Passed(Option<u32>),
+    Denied(Denial<'a>),
+}
+
 fn kind_of(mode: Mode) -> Kind
     ensures { result ≡ kind_of mode }
 {
@@ -71,19 +80,22 @@ fn subject_of<'a>(request: &'a Request) -> Option<Subject<'a>>
     })
 }
 
-/// The denial, where the policy denies the ask.
-pub fn denial_of<'a>(alloc: Global, judge: &mut Judge, ask: &'a Ask) -> Option<Denial<'a>>
-    ensures value { result ≡ denial_of judge.old ask.now }
+/// What the policy says of the ask.
+pub fn ruling_of<'a>(alloc: Global, judge: &mut Judge, ask: &'a Ask) -> Ruling<'a>
+    ensures denial { denial_in result ≡ denial_of judge.old ask.now }
+    ensures rule { rule_in result ≡ rule_for judge.old ask.now.given (subject_of ask.now.request) }
     ensures same { judge.new ≡ judge.old }
 {
-    let Subject { kind, text } = subject_of(&ask.request)?;
+    let Some(Subject { kind, text }) = subject_of(&ask.request) else {
+        return Ruling::Passed(None);
+    };
     let given = ask.given;
     let rule = match judge.decide(alloc, Question { kind, given, text }) {
-        Decision::Allow(_) => return None,
+        Decision::Allow(rule) => return Ruling::Passed(Some(rule)),
         Decision::Deny(rule) => Some(rule),
         Decision::NoRule => None,
     };
-    Some(Denial {
+    Ruling::Denied(Denial {
         place: ask.place,
         kind,
         rule,

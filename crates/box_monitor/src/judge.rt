@@ -5,6 +5,7 @@ ghost use Rattle.std.specs.Cmp as Cmp;
 ghost use Rattle.std.specs.Cmp.{on_equiv, on_per};
 ghost use Rattle.std.specs.Cmp.Lexicographic.{bytes_decides, nat_list_eq_equiv};
 ghost use Rattle.std.specs.Str.{bytes_eq};
+ghost use Rattle.box_policy.specs.Counts.{cleared, noted};
 ghost use Rattle.box_policy.specs.Decisions.{decision};
 ghost use Rattle.box_policy.specs.Rulebook.{Rulebook};
 ghost use Rattle.box_monitor.specs.Judged.{spelled, AreDecided};
@@ -48,7 +49,7 @@ type Cache = LruCache<KeptQuestion, Decision>;
 #[derive(Drop)]
 pub struct Judge {
     policy: Policy,
-    /// `None` until a decision is first kept.
+    /// `None` until a decision is first kept, and once more where a rule is used up, which may change each one.
     cache: Option<Cache>,
 }
 
@@ -190,21 +191,33 @@ fn store(
 }
 
 impl Judge {
-    /// The policy, which has decided nothing yet. Takes no memory.
+    /// The policy, of which no rule has allowed anything yet. Takes no memory.
     pub fn new(policy: Policy) -> Judge
-        ensures { result ≡ policy }
+        ensures { result ≡ cleared policy }
     {
+        let mut policy = policy;
+        policy.clear();
         Judge {
             policy,
             cache: None,
         }
     }
 
-    /// The policy, given back. Takes no memory.
+    /// The policy with its counts, given back. Takes no memory.
     pub fn into_policy(self) -> Policy
         ensures { result ≡ self }
     {
         self.policy
+    }
+
+    /// Counts one more request that the rule of this number has allowed. Takes no memory.
+    pub fn note(&mut self, rule: u32)
+        ensures { self.new ≡ noted rule self.old }
+    {
+        self.policy.note(rule);
+        if self.policy.is_used_up(rule) {
+            self.cache = None;
+        }
     }
 
     /// What was decided on this question, if that is kept.

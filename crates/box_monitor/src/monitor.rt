@@ -1,16 +1,17 @@
 // A world that asks another world what the policy allows, and logs the rest.
 ghost use Rattle.std.specs.Prelude.{◌≡◌, [], ◌∷◌, None, Some, is_some, unwrap_or};
-ghost use Rattle.std.specs.Prelude.{IfOk, OnErr, IsErrOf, IsNone, IsSome, IsTrue};
+ghost use Rattle.std.specs.Prelude.{IfOk, OnErr, OnOk, IsErrOf, IsNone, IsSome, IsTrue};
 ghost use Rattle.box_world.specs.Calls.{IsDuty, IsFitting, MarksStop};
 ghost use Rattle.box_world.specs.declared.ask.Reply.TheVariants.{Failed};
-ghost use Rattle.box_monitor.specs.Denials.{denial_of};
+ghost use Rattle.box_policy.specs.Counts.{cleared};
+ghost use Rattle.box_monitor.specs.Denials.{after_ask, denial_of, with_noted};
 ghost use Rattle.box_monitor.specs.Laws.{Leads-none, Leads-append, Leads-open, Stops-later};
 ghost use Rattle.box_monitor.specs.Leads.{Leads};
 ghost use Rattle.box_monitor.specs.Refusals.{Breaks, Tells};
 ghost use Rattle.box_monitor.specs.Stops.{Stops};
 ghost use Rattle.box_monitor.specs.declared.log_end.LogEnd.TheVariants.{Whole};
 
-use crate::denial::{Denial, denial_of};
+use crate::denial::{Denial, Ruling, ruling_of};
 use crate::judge::Judge;
 use crate::line::line_of;
 use crate::log_end::LogEnd;
@@ -27,7 +28,8 @@ use std::marker::Model;
 /// A request to open, to run, for a name of the environment or for an assignment is decided on. One
 /// that the policy denies is answered `Failed`, and the log gains its line: its place, its kind, the
 /// rule that denies it or `none`, and its path, command or name. All else goes to the world behind as
-/// it came, and the answer comes back as it is.
+/// it came, and the answer comes back as it is. An answer, `Failed` too, counts for the rule that
+/// allowed its request; a `Stop` does not.
 ///
 /// Where a write or a flush of the log fails, the answer is `Stop::Log`. From then on, and after a
 /// `Stop::Log` of the world behind, every ask is answered `Stop::Log` and does nothing.
@@ -57,10 +59,11 @@ impl<W: World, L: Write> Model for Monitor<W, L> {
 }
 
 impl<W: World, L: Write> Monitor<W, L> {
-    /// A monitor before this world, which has denied nothing yet. Takes no memory.
+    /// A monitor before this world, which has denied nothing yet, and of whose policy no rule has
+    /// allowed anything. Takes no memory.
     pub fn new(alloc: Global, policy: Policy, world: W, log: L) -> Monitor<W, L>
         ensures { result ≡
-            record { policy = policy; world = world; log = log; denials = 0; stop = None } }
+            record { policy = cleared policy; world = world; log = log; denials = 0; stop = None } }
     {
         Monitor {
             judge: Judge::new(policy),
@@ -72,7 +75,8 @@ impl<W: World, L: Write> Monitor<W, L> {
         }
     }
 
-    /// The policy, the world behind and the log, given back. Takes no memory.
+    /// The policy with the counts of the asks made, the world behind and the log, given back. Takes no
+    /// memory.
     pub fn into_parts(self) -> (Policy, W, L)
         ensures { result ≡ (self.policy, self.world, self.log) }
     {
@@ -115,10 +119,12 @@ impl<W: World, L: Write> Monitor<W, L> {
         }
     }
 
-    // Asks the world behind.
-    fn pass(&mut self, ask: &Ask) -> Result<Reply, Stop>
+    // Asks the world behind, and counts its answer for the rule that allows the ask.
+    fn pass(&mut self, ask: &Ask, rule: Option<u32>) -> Result<Reply, Stop>
         requires { IsDuty (W.open_numbers self.old.world) ask.now.request }
-        ensures same { self.new ≡ record self.old { world = self.new.world; stop = self.new.stop } }
+        ensures same { (self.new.log ≡ self.old.log) × (self.new.denials ≡ self.old.denials) }
+        ensures counted { OnOk result (self.new.policy ≡ with_noted rule self.old.policy) }
+        ensures uncounted { OnErr result (self.new.policy ≡ self.old.policy) }
         ensures ok { IfOk result
             (λ reply. W.follows self.old.world ((ask.now, reply) ∷ []) self.new.world) }
         ensures fits { IfOk result
@@ -129,11 +135,27 @@ impl<W: World, L: Write> Monitor<W, L> {
         ensures goes { ¬ IsErrOf result Stop.Log → (self.new.stop ≡ self.old.stop)
             × (W.has_stopped self.new.world ≡ W.has_stopped self.old.world) }
     {
-        let answer = self.world.ask(ask);
-        if let Err(Stop::Log) = answer {
-            self.stop = Some(LogEnd::Whole);
+        match self.world.ask(ask) {
+            Ok(reply) => {
+                self.note(rule);
+                Ok(reply)
+            }
+            Err(stop) => {
+                if let Stop::Log = stop {
+                    self.stop = Some(LogEnd::Whole);
+                }
+                Err(stop)
+            }
         }
-        answer
+    }
+
+    // Counts one more request for the rule that allowed it, where there is one.
+    fn note(&mut self, rule: Option<u32>)
+        ensures { self.new ≡ record self.old { policy = with_noted rule self.old.policy } }
+    {
+        if let Some(rule) = rule {
+            self.judge.note(rule);
+        }
     }
 }
 
@@ -180,9 +202,9 @@ impl<W: World, L: Write> World for Monitor<W, L> {
         if self.stop.is_some() {
             return Err(Stop::Log);
         }
-        match denial_of(self.alloc, &mut self.judge, ask) {
-            Some(denial) => self.refuse(&denial),
-            None => self.pass(ask),
+        match ruling_of(self.alloc, &mut self.judge, ask) {
+            Ruling::Denied(denial) => self.refuse(&denial),
+            Ruling::Passed(rule) => self.pass(ask, rule),
         }
     }
 

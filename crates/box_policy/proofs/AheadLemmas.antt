@@ -72,6 +72,10 @@ drop-next (suc i) (y ∷ ys) x rest h =
 abbrev pub IsMet : (Rule → Bool) → List Rule → ℕ → ℕ → Rule → Type 0
 IsMet test rules i j rule = first_of test (i + 1) (drop i rules) ≡ cond (test rule) (Some (j + 1)) (first_of test (j + 1 + 1) (drop (j + 1) rules))
 
+and_false : (a b : Bool) → b ≡ false → (a && b) ≡ false
+and_false true b h = h
+and_false false b h = refl
+
 module _ (p q r : Rule → Bool) (rules : List Rule) where
   -- a rule that speaks passes one of the tests
   abbrev pub Covers : List ℕ → Kind → List ℕ → Bool → Type 0
@@ -86,8 +90,8 @@ module _ (p q r : Rule → Bool) (rules : List Rule) where
     pub rooted : IsMet p rules i j rule
     pub under : IsMet q rules i j rule
     pub other : IsMet r rules i j rule
-    pub rest : (base : List ℕ) (kind : Kind) (subject : List ℕ) (given : Bool) → Covers base kind subject given
-        → decision_from (i + 1) base (drop i rules) kind subject given ≡ decision_from (j + 1) base (rule ∷ drop (j + 1) rules) kind subject given
+    pub rest : (looked : Rule → Bool) (base : List ℕ) (kind : Kind) (subject : List ℕ) (given : Bool) → Covers base kind subject given
+        → decision_from looked (i + 1) base (drop i rules) kind subject given ≡ decision_from looked (j + 1) base (rule ∷ drop (j + 1) rules) kind subject given
 
   met_here : (i m : ℕ) (rule : Rule) (more : List Rule) → drop i rules ≡ rule ∷ more → Some (i + 1) ≡ Some m → Met i m
   met_here i m rule more at h =
@@ -101,7 +105,7 @@ module _ (p q r : Rule → Bool) (rules : List Rule) where
         rooted = ap (first_of p (i + 1)) there;
         under = ap (first_of q (i + 1)) there;
         other = ap (first_of r (i + 1)) there;
-        rest = λ base kind subject given covers. ap (λ l. decision_from (i + 1) base l kind subject given) there;
+        rest = λ looked base kind subject given covers. ap (λ l. decision_from looked (i + 1) base l kind subject given) there;
       }
 
   passed_test : (test : Rule → Bool) (i j : ℕ) (rule found : Rule) (more : List Rule) → drop i rules ≡ rule ∷ more → test rule ≡ false → IsMet test rules (i + 1) j found → IsMet test rules i j found
@@ -120,10 +124,10 @@ module _ (p q r : Rule → Bool) (rules : List Rule) where
     rooted = passed_test p i later.j rule later.rule more at np later.rooted;
     under = passed_test q i later.j rule later.rule more at nq later.under;
     other = passed_test r i later.j rule later.rule more at nr later.other;
-    rest = λ base kind subject given covers.
-        ap (λ l. decision_from (i + 1) base l kind subject given) at
-        ∙ (ap (λ b. cond b (decided rule.effect (i + 1)) (decision_from (i + 1 + 1) base more kind subject given)) (covers rule np nq nr)
-        ∙ (ap (λ l. decision_from (i + 1 + 1) base l kind subject given) (sym (drop-next i rules rule more at)) ∙ later.rest base kind subject given covers));
+    rest = λ looked base kind subject given covers.
+        ap (λ l. decision_from looked (i + 1) base l kind subject given) at
+        ∙ (ap (λ b. cond b (decided rule.effect (i + 1)) (decision_from looked (i + 1 + 1) base more kind subject given)) (and_false (looked rule) _ (covers rule np nq nr))
+        ∙ (ap (λ l. decision_from looked (i + 1 + 1) base l kind subject given) (sym (drop-next i rules rule more at)) ∙ later.rest looked base kind subject given covers));
   }
 
   first_is : (test : Rule → Bool) (n : ℕ) (rule : Rule) (more : List Rule) → test rule ≡ true → first_of test n (rule ∷ more) ≡ Some n
@@ -174,20 +178,22 @@ module _ (p q r : Rule → Bool) (rules : List Rule) where
       by onward false false true ip iq ir = here (inr (least-first (i + 1) (first_of q (i + 1) (rule ∷ more)) (first_of r (i + 1) (rule ∷ more)) of_q of_r (inr (first_is r (i + 1) rule more ir))))
       by onward false false false ip iq ir = met_later i m rule more at ip iq ir (onward (sym (later ip iq ir) ∙ h))
 
-  none_from : (base : List ℕ) (kind : Kind) (subject : List ℕ) (given : Bool) → Covers base kind subject given → (rs : List Rule) (n : ℕ) → first_of p n rs ≡ None → first_of q n rs ≡ None → first_of r n rs ≡ None → decision_from n base rs kind subject given ≡ NoRule
-  none_from base kind subject given covers [] n np nq nr = refl
-  none_from base kind subject given covers (rule ∷ more) n np nq nr =
+  none_from : (looked : Rule → Bool) (base : List ℕ) (kind : Kind) (subject : List ℕ) (given : Bool) → Covers base kind subject given → (rs : List Rule) (n : ℕ)
+      → first_of p n rs ≡ None → first_of q n rs ≡ None → first_of r n rs ≡ None → decision_from looked n base rs kind subject given ≡ NoRule
+  none_from looked base kind subject given covers [] n np nq nr = refl
+  none_from looked base kind subject given covers (rule ∷ more) n np nq nr =
       let a = none_step (p rule) n (first_of p (n + 1) more) np in
       let b = none_step (q rule) n (first_of q (n + 1) more) nq in
       let c = none_step (r rule) n (first_of r (n + 1) more) nr in
-      ap (λ t. cond t (decided rule.effect n) (decision_from (n + 1) base more kind subject given)) (covers rule a.0 b.0 c.0)
-      ∙ none_from base kind subject given covers more (n + 1) a.1 b.1 c.1
+      ap (λ t. cond t (decided rule.effect n) (decision_from looked (n + 1) base more kind subject given)) (and_false (looked rule) _ (covers rule a.0 b.0 c.0))
+      ∙ none_from looked base kind subject given covers more (n + 1) a.1 b.1 c.1
 
-  pub none_met : (base : List ℕ) (kind : Kind) (subject : List ℕ) (given : Bool) → Covers base kind subject given → (i : ℕ) → least_at (i + 1) (drop i rules) ≡ None → decision_from (i + 1) base (drop i rules) kind subject given ≡ NoRule
-  none_met base kind subject given covers i h =
+  pub none_met : (looked : Rule → Bool) (base : List ℕ) (kind : Kind) (subject : List ℕ) (given : Bool) → Covers base kind subject given → (i : ℕ)
+      → least_at (i + 1) (drop i rules) ≡ None → decision_from looked (i + 1) base (drop i rules) kind subject given ≡ NoRule
+  none_met looked base kind subject given covers i h =
       let a = least-none (first_of p (i + 1) (drop i rules)) (least (first_of q (i + 1) (drop i rules)) (first_of r (i + 1) (drop i rules))) h in
       let b = least-none (first_of q (i + 1) (drop i rules)) (first_of r (i + 1) (drop i rules)) a.1 in
-      none_from base kind subject given covers (drop i rules) (i + 1) a.0 b.0 b.1
+      none_from looked base kind subject given covers (drop i rules) (i + 1) a.0 b.0 b.1
 
 -- ---- behind the rule that was met
 

@@ -18,12 +18,14 @@ unreadable base Run pattern subject h = rw h
 unreadable base Env pattern subject h = absurd (true≢false h)
 unreadable base Assign pattern subject h = absurd (true≢false h)
 
-both_false : (a b : Bool) → ((a && b) && false) ≡ false
-both_false true true = refl
-both_false true false = refl
-both_false false b = refl
+both_false : (look a b : Bool) → (look && ((a && b) && false)) ≡ false
+both_false true true true = refl
+both_false true true false = refl
+both_false true false b = refl
+both_false false a b = refl
 
-pub decision_from-unreadable : (n : ℕ) (base : List ℕ) (rules : List Rule) (kind : Kind) (subject : List ℕ) (given : Bool) → is_readable base kind subject ≡ false → decision_from n base rules kind subject given ≡ NoRule
-decision_from-unreadable n base [] kind subject given h = refl
-decision_from-unreadable n base (rule ∷ rules) kind subject given h =
-    rw (unreadable base kind rule.pattern subject h, both_false (nat_eq (kind_number rule.kind) (kind_number kind)) (given || not rule.only_given)) (decision_from-unreadable (n + 1) base rules kind subject given h)
+pub decision_from-unreadable : (looked : Rule → Bool) (n : ℕ) (base : List ℕ) (rules : List Rule) (kind : Kind) (subject : List ℕ) (given : Bool) → is_readable base kind subject ≡ false → decision_from looked n base rules kind subject given ≡ NoRule
+decision_from-unreadable looked n base [] kind subject given h = refl
+decision_from-unreadable looked n base (rule ∷ rules) kind subject given h =
+    rw (unreadable base kind rule.pattern subject h, both_false (looked rule) (nat_eq (kind_number rule.kind) (kind_number kind)) (given || not rule.only_given))
+    (decision_from-unreadable looked (n + 1) base rules kind subject given h)

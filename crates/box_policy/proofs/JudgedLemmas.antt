@@ -1,5 +1,5 @@
 -- A decision goes from rule to rule of those that are ahead.
-use Rattle.std.proofs.Common.{◌≡◌, ◌∙◌, ℕ, zero, suc, ◌+◌, ◌-◌, ◌≤◌, ◌<◌, Bool, true, false, cond, List, [], ◌∷◌, length, drop, Some, None, Option, sym, ap, refl, subst, arith, slice_get, get_or}
+use Rattle.std.proofs.Common.{◌≡◌, ◌∙◌, ℕ, zero, suc, ◌+◌, ◌-◌, ◌≤◌, ◌<◌, ◌&&◌, Bool, true, false, cond, List, [], ◌∷◌, length, drop, Some, None, Option, sym, ap, refl, subst, arith, slice_get, get_or}
 use Rattle.std.specs.Prelude.{nat_le}
 use Rattle.std.proofs.lemmas.Bool.{and_parts, leb-true}
 use Rattle.box_policy.specs.declared.deciding.Ahead.{Ahead}
@@ -84,28 +84,29 @@ module _ (target : Target) (rules : List Rule) (ahead : Ahead) (passed number : 
       })
 
   -- the rule that is met decides, or those behind it do
-  pub rest : (base : List ℕ) (kind : Kind) (subject : List ℕ) (given : Bool) (rule : Rule) → IsTarget base kind subject target → rule ≡ get_or rules (number - 1) rule
-      → decision_from (passed + 1) base (drop passed rules) kind subject given
-      ≡ cond (speaks base rule kind subject given) (decided rule.effect number) (decision_from (number + 1) base (drop number rules) kind subject given)
-  rest base kind subject given rule t read =
+  pub rest : (looked : Rule → Bool) (base : List ℕ) (kind : Kind) (subject : List ℕ) (given : Bool) (rule : Rule) → IsTarget base kind subject target → rule ≡ get_or rules (number - 1) rule
+      → decision_from looked (passed + 1) base (drop passed rules) kind subject given
+      ≡ cond (looked rule && speaks base rule kind subject given) (decided rule.effect number) (decision_from looked (number + 1) base (drop number rules) kind subject given)
+  rest looked base kind subject given rule t read =
       let same : it.rule ≡ rule = read_drop it.j rules it.rule rule (drop (it.j + 1) rules) it.there (read ∙ ap (λ k. get_or rules k rule) place) in
-      it.rest base kind subject given (covers base kind subject given target t)
-      ∙ (λ i. cond (speaks base (same i) kind subject given) (decided (same i).effect (sym it.number i)) (decision_from (sym it.number i + 1) base (drop (sym it.number i) rules) kind subject given))
+      it.rest looked base kind subject given (covers base kind subject given target t)
+      ∙ (λ i. cond (looked (same i) && speaks base (same i) kind subject given) (decided (same i).effect (sym it.number i))
+      (decision_from looked (sym it.number i + 1) base (drop (sym it.number i) rules) kind subject given))
 
-  pub decides : (base : List ℕ) (kind : Kind) (subject : List ℕ) (given : Bool) (rule : Rule) → IsTarget base kind subject target → rule ≡ get_or rules (number - 1) rule
-      → speaks base rule kind subject given ≡ true → decision_from (passed + 1) base (drop passed rules) kind subject given ≡ decided rule.effect number
-  decides base kind subject given rule t read holds =
-      rest base kind subject given rule t read ∙ ap (λ b. cond b (decided rule.effect number) (decision_from (number + 1) base (drop number rules) kind subject given)) holds
+  pub decides : (looked : Rule → Bool) (base : List ℕ) (kind : Kind) (subject : List ℕ) (given : Bool) (rule : Rule) → IsTarget base kind subject target → rule ≡ get_or rules (number - 1) rule
+      → (looked rule && speaks base rule kind subject given) ≡ true → decision_from looked (passed + 1) base (drop passed rules) kind subject given ≡ decided rule.effect number
+  decides looked base kind subject given rule t read holds =
+      rest looked base kind subject given rule t read ∙ ap (λ b. cond b (decided rule.effect number) (decision_from looked (number + 1) base (drop number rules) kind subject given)) holds
 
-  pub goes_on : (base : List ℕ) (kind : Kind) (subject : List ℕ) (given : Bool) (rule : Rule) → IsTarget base kind subject target → rule ≡ get_or rules (number - 1) rule
-      → speaks base rule kind subject given ≡ false
-      → decision_from (passed + 1) base (drop passed rules) kind subject given ≡ decision_from (number + 1) base (drop number rules) kind subject given
-  goes_on base kind subject given rule t read fails =
-      rest base kind subject given rule t read ∙ ap (λ b. cond b (decided rule.effect number) (decision_from (number + 1) base (drop number rules) kind subject given)) fails
+  pub goes_on : (looked : Rule → Bool) (base : List ℕ) (kind : Kind) (subject : List ℕ) (given : Bool) (rule : Rule) → IsTarget base kind subject target → rule ≡ get_or rules (number - 1) rule
+      → (looked rule && speaks base rule kind subject given) ≡ false
+      → decision_from looked (passed + 1) base (drop passed rules) kind subject given ≡ decision_from looked (number + 1) base (drop number rules) kind subject given
+  goes_on looked base kind subject given rule t read fails =
+      rest looked base kind subject given rule t read ∙ ap (λ b. cond b (decided rule.effect number) (decision_from looked (number + 1) base (drop number rules) kind subject given)) fails
 
 -- where none is ahead no rule speaks
-pub ends : (target : Target) (rules : List Rule) (ahead : Ahead) (passed : ℕ) (base : List ℕ) (kind : Kind) (subject : List ℕ) (given : Bool) → IsAhead target rules ahead passed
-    → IsTarget base kind subject target → least ahead.rooted (least ahead.under ahead.other) ≡ None → decision_from (passed + 1) base (drop passed rules) kind subject given ≡ NoRule
-ends target rules ahead passed base kind subject given a t none =
-    none_met (rooted_at target) (under_at target) (other_at target) rules base kind subject given (covers base kind subject given target t) passed
+pub ends : (looked : Rule → Bool) (target : Target) (rules : List Rule) (ahead : Ahead) (passed : ℕ) (base : List ℕ) (kind : Kind) (subject : List ℕ) (given : Bool) → IsAhead target rules ahead passed
+    → IsTarget base kind subject target → least ahead.rooted (least ahead.under ahead.other) ≡ None → decision_from looked (passed + 1) base (drop passed rules) kind subject given ≡ NoRule
+ends looked target rules ahead passed base kind subject given a t none =
+    none_met (rooted_at target) (under_at target) (other_at target) rules looked base kind subject given (covers base kind subject given target t) passed
     (sym (λ i. least (a.rooted i) (least (a.under i) (a.other i))) ∙ none)

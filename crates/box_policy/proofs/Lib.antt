@@ -2,6 +2,7 @@ pub mod AheadLemmas
 pub mod BasesLemmas
 pub mod BlocksLemmas
 pub mod CellsLemmas
+pub mod CountsLemmas
 pub mod CoversLemmas
 pub mod DecisionsLemmas
 pub mod DividesLemmas
@@ -11,6 +12,7 @@ pub mod FlatLemmas
 pub mod IndexLemmas
 pub mod JudgedLemmas
 pub mod NamesLemmas
+pub mod OutlookLemmas
 pub mod PlainLemmas
 pub mod TablesLemmas
 pub mod TextLemmas

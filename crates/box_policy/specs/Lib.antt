@@ -14,6 +14,7 @@ pub mod Blocks
 pub mod Tables
 pub mod Short
 pub mod Rulebook
+pub mod Counts
 pub mod Decisions
 pub mod Shelves
 pub mod Targets

@@ -1,4 +1,4 @@
--- A policy as it is written.
+-- A policy: what is written, with how often each rule that has a limit has allowed.
 use Rattle.std.specs.Prelude.{ℕ, List}
 use Rattle.box_policy.specs.declared.policy.Rule.{Rule}
 

@@ -1,6 +1,8 @@
 -- What patterns are matched with, found once for all rules.
 use Rattle.std.specs.Prelude.{◌≡◌, ℕ, Bool, true, false, List, [], ◌∷◌, Option, Some, None, if◌then◌else◌, nat_lt, ◌==◌}
 use Rattle.std.specs.Str.{bytes_eq}
+use Rattle.box_policy.specs.declared.deciding.Sight.{Sight}
+use Rattle.box_policy.specs.declared.deciding.Sight.TheVariants.{Left, Lasting, All}
 use Rattle.box_policy.specs.declared.deciding.Target.{Target}
 use Rattle.box_policy.specs.declared.index.Group.{Group}
 use Rattle.box_policy.specs.declared.index.Group.TheVariants.{Rooted, Under, Other}
@@ -8,11 +10,18 @@ use Rattle.box_policy.specs.declared.names.Names.{Names}
 use Rattle.box_policy.specs.declared.policy.Kind.{Kind}
 use Rattle.box_policy.specs.declared.policy.Rule.{Rule}
 use Rattle.box_policy.specs.Bases.{IsBehind}
+use Rattle.box_policy.specs.Decisions.{is_any, is_lasting, is_left}
 use Rattle.box_policy.specs.Files.{is_of_files}
 use Rattle.box_policy.specs.Fits.{is_readable}
 use Rattle.box_policy.specs.NamesLeft.{names_left}
 use Rattle.box_policy.specs.Paths.{names, names_under}
 use Rattle.box_policy.specs.Shelves.{shelf, stands}
+
+-- the rules that are looked at
+abbrev pub sees : Sight → Rule → Bool
+sees Left rule = is_left rule
+sees Lasting rule = is_lasting rule
+sees All rule = is_any rule
 
 -- what is left of a subject's components behind those of the base, if it stands under that
 abbrev pub IsLeft : List ℕ → List (List ℕ) → Option Names → Type 0

@@ -1,5 +1,5 @@
 // The first rule that speaks of a subject.
-ghost use Rattle.std.specs.Prelude.{◌≡◌, ℕ, ◌≤◌, ◌+◌, true, List, length, drop, slice_get};
+ghost use Rattle.std.specs.Prelude.{◌≡◌, ℕ, ◌≤◌, ◌+◌, ◌&&◌, true, List, length, drop, slice_get};
 ghost use Rattle.box_policy.specs.declared.policy.Kind.{Kind as KindOf};
 ghost use Rattle.box_policy.specs.declared.policy.Rule.{Rule as RuleOf};
 ghost use Rattle.box_policy.specs.Decisions.{decided, decision_from, speaks};
@@ -7,13 +7,33 @@ ghost use Rattle.box_policy.specs.Fits.{is_readable, pattern_fits};
 ghost use Rattle.box_policy.specs.NamesLeft.{names_left};
 ghost use Rattle.box_policy.specs.Shelves.{first_of, IsIndex};
 ghost use Rattle.box_policy.specs.Short.{are_short};
-ghost use Rattle.box_policy.specs.Targets.{IsTarget, leads, rooted_at, under_at, other_at, least, after};
+ghost use Rattle.box_policy.specs.Targets.{IsTarget, sees, leads, rooted_at, under_at, other_at, least, after};
 
 use crate::index::{Group, Index, Shelf};
 use crate::matching::{behind_base, path_fits, text_fits};
 use crate::names::Names;
 use crate::policy::{Decision, Effect, Kind, Rule, is_of_files};
 use crate::tokens::Sort;
+
+/// Which rules are looked at: those that are not used up, those without a limit, or all.
+#[derive(Clone, Copy, Drop)]
+pub(crate) enum Sight {
+    Left,
+    Lasting,
+    All,
+}
+
+impl Sight {
+    fn sees(self, rule: &Rule) -> bool
+        ensures { result ≡ sees self rule.now }
+    {
+        match self {
+            Sight::Left => !rule.is_used_up(),
+            Sight::Lasting => !rule.is_limited(),
+            Sight::All => true,
+        }
+    }
+}
 
 /// What the patterns are matched with. It is found once for all rules.
 #[derive(Clone, Copy, Drop)]
@@ -50,7 +70,7 @@ fn decided(effect: Effect, number: u32) -> Decision
     ensures { result ≡ decided effect number }
 {
     match effect {
-        Effect::Allow => Decision::Allow(number),
+        Effect::Allow(_) => Decision::Allow(number),
         Effect::Deny => Decision::Deny(number),
     }
 }
@@ -75,6 +95,15 @@ fn speaks(target: Target<'_>, rule: &Rule, given: bool) -> bool
     rule.kind == target.kind
         && (given || !rule.only_given)
         && pattern_fits(target, rule.pattern.bytes())
+}
+
+/// Whether the rule is looked at and speaks.
+fn decides(sight: Sight, target: Target<'_>, rule: &Rule, given: bool) -> bool
+    requires short { length rule.now.pattern ≤ 4096 }
+    ensures { (base : List ℕ) (kind : KindOf) (subject : List ℕ) → IsTarget base kind subject target.entry →
+        result ≡ (sees sight rule.now && speaks base rule.now kind subject given) }
+{
+    sight.sees(rule) && speaks(target, rule, given)
 }
 
 /// The first rule of the group that may fit these components.
@@ -174,13 +203,20 @@ impl Ahead {
     }
 }
 
-/// What the first rule that speaks decides. The rules that may speak are met in their order.
-pub(crate) fn judged(index: &Index, rules: &[Rule], target: Target<'_>, given: bool) -> Decision
+/// What the first rule decides that is looked at and speaks. The rules that may speak are met in their
+/// order.
+pub(crate) fn judged(
+    index: &Index,
+    rules: &[Rule],
+    sight: Sight,
+    target: Target<'_>,
+    given: bool,
+) -> Decision
     requires few { length rules.now ≤ 1024 }
     requires short { are_short rules.now ≡ true }
     requires index { IsIndex rules.now index.now }
     ensures { (base : List ℕ) (kind : KindOf) (subject : List ℕ) → IsTarget base kind subject target.entry →
-        result ≡ decision_from 1 base rules.now kind subject given }
+        result ≡ decision_from (sees sight) 1 base rules.now kind subject given }
 {
     let mut ahead = Ahead::of(index, target);
     // Those up to the last one that was looked at.
@@ -188,7 +224,7 @@ pub(crate) fn judged(index: &Index, rules: &[Rule], target: Target<'_>, given: b
     while let Some(number) = ahead.first() {
         passed = number as usize;
         let rule = &rules[passed - 1];
-        if speaks(target, rule, given) {
+        if decides(sight, target, rule, given) {
             return decided(rule.effect, number);
         }
         let next = index.next(passed - 1);

@@ -17,7 +17,7 @@ pub struct PolicyError {
 impl PolicyError {
     /// The bytes are not UTF-8, or the text is not TOML.
     pub const DOCUMENT: u8 = 1;
-    /// The version is absent or is not 1.
+    /// The version is absent, or neither 1 nor 2.
     pub const VERSION: u8 = 2;
     /// The base is absent, or is not an absolute path without `*`, `?` and `..`.
     pub const BASE: u8 = 3;

@@ -1,6 +1,7 @@
 // A written policy: rules in order, of which the first that fits decides.
 #![tactic(auto)]
 
+mod counting;
 mod deciding;
 pub mod error;
 mod index;

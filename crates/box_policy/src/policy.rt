@@ -1,13 +1,16 @@
 // Rules, and what they decide.
 ghost use Rattle.std.specs.Prelude.{◌≡◌, ℕ, ◌≤◌, ◌<◌, true, length, IfOk, IfErr};
 ghost use Rattle.toml.specs.View.{table_view};
-ghost use Rattle.box_policy.specs.Decisions.{decision};
+ghost use Rattle.box_policy.specs.Counts.{cleared, is_used_up_at, noted, used};
+ghost use Rattle.box_policy.specs.Decisions.{decision, decision_from, outlook, outlook_by};
 ghost use Rattle.box_policy.specs.Files.{is_of_files, speaks_of_files};
 ghost use Rattle.box_policy.specs.Fits.{is_readable};
 ghost use Rattle.box_policy.specs.Refusals.{IsRefused, IsRefusedBy, refusal};
+ghost use Rattle.box_policy.specs.Targets.{sees};
 ghost use Rattle.box_policy.specs.Written.{Writes, Written};
 
-use crate::deciding::{Target, judged};
+use crate::counting::{clear_in, note_in, rule_at};
+use crate::deciding::{Sight, Target, judged};
 use crate::error::PolicyError;
 use crate::index::Index;
 use crate::names::{can_resolve, is_text};
@@ -29,10 +32,18 @@ pub enum Kind {
     Assign,
 }
 
-/// What a rule does with what it speaks of.
+/// How often a rule may allow, from 1 to 1,000,000, and how often it has.
+#[derive(Clone, Copy, Debug, PartialEq, Eq, Drop)]
+pub struct Quota {
+    pub limit: u32,
+    pub used: u32,
+}
+
+/// What a rule does with what it speaks of: it allows, a number of times where it has a limit, or it
+/// denies.
 #[derive(Clone, Copy, Debug, PartialEq, Eq, Drop)]
 pub enum Effect {
-    Allow,
+    Allow(Option<Quota>),
     Deny,
 }
 
@@ -43,6 +54,15 @@ pub enum Decision {
     Allow(u32),
     Deny(u32),
     NoRule,
+}
+
+/// What a policy decides of a subject over a whole run, however often its rules have allowed: it is
+/// always allowed, or never, or as long as a rule with a limit is not used up.
+#[derive(Clone, Copy, Debug, PartialEq, Eq, Drop)]
+pub enum Outlook {
+    Always,
+    Never,
+    Sometimes,
 }
 
 /// One rule. `only_given` says that it speaks of operand words alone; the pattern stands as it is
@@ -56,7 +76,7 @@ pub struct Rule {
 }
 
 /// The rules of a policy in their order, at most 1,024, with the base that relative paths stand
-/// under.
+/// under. Of each rule that has a limit it holds how often that has allowed.
 #[derive(Drop)]
 pub struct Policy {
     base: Octets,
@@ -69,6 +89,9 @@ pub const MAX_RULES: usize = 1024;
 
 /// The most bytes that a pattern may have.
 pub const MAX_PATTERN: usize = 4096;
+
+/// The most requests that a rule's limit may name.
+pub const MAX_LIMIT: i64 = 1_000_000;
 
 impl Model for Policy {
     ghost use Rattle.std.specs.Prelude.{length, ◌≤◌, ◌≡◌, true};
@@ -85,11 +108,23 @@ impl Model for Policy {
         × IsIndex p.rules.items p.index };
 }
 
+fn outlook_by(first: Decision, lasting: Decision) -> Outlook
+    ensures { result ≡ outlook_by first lasting }
+{
+    match (first, lasting) {
+        (_, Decision::Allow(_)) => Outlook::Always,
+        (Decision::Allow(_), _) => Outlook::Sometimes,
+        _ => Outlook::Never,
+    }
+}
+
 impl Policy {
-    /// The policy that a text writes: a TOML document with `version = 1`, an absolute `base`, and an
+    /// The policy that a text writes: a TOML document with `version` 1 or 2, an absolute `base`, and an
     /// array of tables `rule`, which may be absent. A rule has `effect` (`"allow"`, `"deny"`), `kind`
     /// (`"read"`, `"write"`, `"append"`, `"run"`, `"env"`, `"assign"`), `match`, and for read and
-    /// assign alone it may have `from` (`"any"`, or `"given"` for operand words alone).
+    /// assign alone it may have `from` (`"any"`, or `"given"` for operand words alone). In version 2 a
+    /// rule that allows may have `limit`, a whole number from 1 to 1,000,000: how many requests it may
+    /// allow. No rule has allowed anything yet.
     ///
     /// The `match` of read, write and append is a path under the base: the component `**` stands for
     /// any number of components, and inside another one `*` stands for any run of bytes and `?` for
@@ -115,25 +150,85 @@ impl Policy {
     {
         let document = read_document(table)?;
         let base = Octets::new(Vec::from_slice(alloc, document.base.as_bytes())?);
-        let rules = read_rules(alloc, document.base.as_bytes(), document.rules)?;
+        let rules = read_rules(
+            alloc,
+            document.version,
+            document.base.as_bytes(),
+            document.rules,
+        )?;
         let index = Index::of(alloc, rules.as_slice())?;
         Ok(Policy { base, rules, index })
     }
 
     /// What the first rule of this kind decides whose `from` holds and whose pattern fits the
-    /// subject: a path, a command or a name. `given` says that the subject is an operand word that
-    /// the run was started with. Takes no memory. A rule whose pattern has no `*` (nor `?`, in a
-    /// path) takes one comparison in time, and any other at most the product of the lengths of its
-    /// pattern and the subject over the width of a word.
+    /// subject: a path, a command or a name. A rule that has allowed as often as its limit says is not
+    /// looked at. `given` says that the subject is an operand word that the run was started with.
+    /// Takes no memory. A rule whose pattern has no `*` (nor `?`, in a path) takes one comparison in
+    /// time, and any other at most the product of the lengths of its pattern and the subject over the
+    /// width of a word.
     pub fn decide(&self, kind: Kind, subject: &[u8], given: bool) -> Decision
         ensures { result ≡ decision self.now kind subject.now given }
+    {
+        self.first(Sight::Left, kind, subject, given)
+    }
+
+    /// What `decide` answers of the same over a whole run: `Always` where the first rule without a
+    /// limit that fits allows; `Never` where it does not, or is not there, and none with a limit fits
+    /// before it; else `Sometimes`. It does not look at what was counted. Takes no memory.
+    pub fn outlook(&self, kind: Kind, subject: &[u8], given: bool) -> Outlook
+        ensures { result ≡ outlook self.now kind subject.now given }
+    {
+        let first = self.first(Sight::All, kind, subject, given);
+        let lasting = self.first(Sight::Lasting, kind, subject, given);
+        outlook_by(first, lasting)
+    }
+
+    /// What the first of these rules decides that fits.
+    fn first(&self, sight: Sight, kind: Kind, subject: &[u8], given: bool) -> Decision
+        ensures { result ≡ decision_from (sees sight) 1 self.now.base self.now.rules kind subject.now given }
     {
         let base = self.base.bytes();
         if !is_readable(base, kind, subject) {
             return Decision::NoRule;
         }
         let target = Target::of(base, kind, subject);
-        judged(&self.index, self.rules.as_slice(), target, given)
+        judged(&self.index, self.rules.as_slice(), sight, target, given)
+    }
+
+    /// Counts one more request that the rule of this number has allowed. Nothing changes where the rule
+    /// is not there, has no limit or is used up. Takes no memory.
+    pub fn note(&mut self, rule: u32)
+        ensures { self.new ≡ noted rule self.old }
+    {
+        note_in(&mut self.rules, rule);
+    }
+
+    /// How many requests the rule of this number has allowed: those that were noted. 0 where the rule
+    /// is not there or has no limit. Takes no memory.
+    pub fn used(&self, rule: u32) -> u64
+        ensures { result ≡ used self.now rule }
+    {
+        match rule_at(self.rules.as_slice(), rule) {
+            Some(rule) => rule.effect.used() as u64,
+            None => 0,
+        }
+    }
+
+    /// Whether the rule of this number has allowed as many requests as its limit says. Takes no memory.
+    pub fn is_used_up(&self, rule: u32) -> bool
+        ensures { result ≡ is_used_up_at self.now rule }
+    {
+        match rule_at(self.rules.as_slice(), rule) {
+            Some(rule) => rule.is_used_up(),
+            None => false,
+        }
+    }
+
+    /// Makes all counts 0, as before a run. Takes no memory.
+    pub fn clear(&mut self)
+        ensures { self.new ≡ cleared self.old }
+    {
+        clear_in(&mut self.rules);
     }
 
     /// The path that relative ones stand under, as it is written. Takes no memory.

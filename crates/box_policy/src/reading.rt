@@ -6,7 +6,7 @@ ghost use Rattle.toml.specs.Parse.{parse_document};
 ghost use Rattle.toml.specs.Text.{are_tables};
 ghost use Rattle.toml.specs.View.{view, table_view, items_view};
 ghost use Rattle.box_policy.specs.Tree.{text_at, has_key, keys_pass, is_tables, tables_in, tables_of};
-ghost use Rattle.box_policy.specs.Words.{is_top_key, is_rule_key, is_version_one, has_wildcard, is_base, effect_named, kind_named, from_named, from_in, has_rule_keys};
+ghost use Rattle.box_policy.specs.Words.{allowing, denying, effect_named, effect_of, from_in, from_named, has_limits, has_rule_keys, has_wildcard, is_base, is_rule_key, is_top_key, kind_named, quota_named, version_named, version_of};
 ghost use Rattle.box_policy.specs.Wellformed.{has_double_star, is_component, is_path_pattern, is_command_pattern, is_name_pattern, is_pattern};
 ghost use Rattle.box_policy.specs.Patterns.{is_name_byte};
 ghost use Rattle.box_policy.specs.Paths.{names};
@@ -18,15 +18,23 @@ ghost use Rattle.box_policy.specs.Written.{WritesRule};
 
 use crate::error::PolicyError;
 use crate::names::{can_resolve, first_name, is_absolute};
-use crate::policy::{Effect, Kind, MAX_PATTERN, MAX_RULES, Rule};
+use crate::policy::{Effect, Kind, MAX_LIMIT, MAX_PATTERN, MAX_RULES, Quota, Rule};
 use crate::tokens::is_name_byte;
 use awk_text::octets::Octets;
 use std::alloc::Global;
 use toml::{Table, Value};
 
-/// What stands in a document beside its version.
+/// The version of a policy. From the second one on rules may have limits.
+#[derive(Clone, Copy)]
+pub(crate) enum Version {
+    One,
+    Two,
+}
+
+/// What stands in a document.
 #[derive(Clone, Copy)]
 pub(crate) struct Document<'a> {
+    pub(crate) version: Version,
     pub(crate) base: &'a str,
     pub(crate) rules: &'a [Value],
 }
@@ -79,10 +87,25 @@ fn is_top_key(key: &str) -> bool
     key == "version" || key == "base" || key == "rule"
 }
 
-fn is_rule_key(key: &str) -> bool
-    ensures { result ≡ is_rule_key key.now }
+impl Version {
+    fn has_limits(self) -> bool
+        ensures { result ≡ has_limits self }
+    {
+        match self {
+            Version::One => false,
+            Version::Two => true,
+        }
+    }
+}
+
+fn is_rule_key(version: Version, key: &str) -> bool
+    ensures { result ≡ is_rule_key version key.now }
 {
-    key == "effect" || key == "kind" || key == "match" || key == "from"
+    key == "effect"
+        || key == "kind"
+        || key == "match"
+        || key == "from"
+        || (key == "limit" && version.has_limits())
 }
 
 fn has_top_keys_only(table: &Table) -> bool
@@ -96,32 +119,42 @@ fn has_top_keys_only(table: &Table) -> bool
     true
 }
 
-fn has_rule_keys_only(table: &Table) -> bool
-    ensures { result ≡ keys_pass is_rule_key (table_view table.now) }
+fn has_rule_keys_only(version: Version, table: &Table) -> bool
+    ensures { result ≡ keys_pass (is_rule_key version) (table_view table.now) }
 {
     for key in table.keys() {
-        if !is_rule_key(key.as_str()) {
+        if !is_rule_key(version, key.as_str()) {
             return false;
         }
     }
     true
 }
 
-fn has_rule_keys(table: &Table) -> bool
-    ensures { result ≡ has_rule_keys (table_view table.now) }
+fn has_rule_keys(version: Version, table: &Table) -> bool
+    ensures { result ≡ has_rule_keys version (table_view table.now) }
 {
-    has_rule_keys_only(table)
+    has_rule_keys_only(version, table)
         && has_key(table, "effect")
         && has_key(table, "kind")
         && has_key(table, "match")
 }
 
-fn is_version_one(table: &Table) -> bool
-    ensures { result ≡ is_version_one (table_view table.now) }
+fn version_named(number: i64) -> Option<Version>
+    ensures { result ≡ version_named number }
 {
-    match value_at(table, "version") {
-        Some(value) => value.as_integer() == Some(1),
-        None => false,
+    match number {
+        1 => Some(Version::One),
+        2 => Some(Version::Two),
+        _ => None,
+    }
+}
+
+fn version_of(table: &Table) -> Option<Version>
+    ensures { result ≡ version_of (table_view table.now) }
+{
+    match value_at(table, "version")?.as_integer() {
+        Some(number) => version_named(number),
+        None => None,
     }
 }
 
@@ -137,14 +170,56 @@ fn is_base(base: &[u8]) -> bool
     is_absolute(base) && !has_wildcard(base) && can_resolve(base, base)
 }
 
-fn effect_named(word: &str) -> Option<Effect>
-    ensures { result ≡ effect_named word.now }
+fn quota_named(limit: i64) -> Option<Quota>
+    ensures { result ≡ quota_named limit }
+{
+    if 1 <= limit && limit <= MAX_LIMIT {
+        Some(Quota {
+            limit: limit as u32,
+            used: 0,
+        })
+    } else {
+        None
+    }
+}
+
+/// A rule that allows, with the limit that stands in its table; `None` where that is wrong.
+fn allowing(limit: Option<&Value>) -> Option<Effect>
+    ensures { result ≡ allowing (option_map (λ v. view v.now) limit.entry) }
+{
+    let Some(limit) = limit else {
+        return Some(Effect::Allow(None));
+    };
+    match limit.as_integer() {
+        Some(number) => Some(Effect::Allow(Some(quota_named(number)?))),
+        None => None,
+    }
+}
+
+/// A rule that denies; `None` where a limit stands in its table.
+fn denying(limit: Option<&Value>) -> Option<Effect>
+    ensures { result ≡ denying (option_map (λ v. view v.now) limit.entry) }
+{
+    match limit {
+        Some(_) => None,
+        None => Some(Effect::Deny),
+    }
+}
+
+fn effect_named(limit: Option<&Value>, word: &str) -> Option<Effect>
+    ensures { result ≡ effect_named (option_map (λ v. view v.now) limit.entry) word.now }
 {
     match word {
-        "allow" => Some(Effect::Allow),
-        "deny" => Some(Effect::Deny),
+        "allow" => allowing(limit),
+        "deny" => denying(limit),
         _ => None,
     }
+}
+
+fn effect_of(table: &Table) -> Option<Effect>
+    ensures { result ≡ effect_of (table_view table.now) }
+{
+    effect_named(value_at(table, "limit"), text_at(table, "effect")?)
 }
 
 fn kind_named(word: &str) -> Option<Kind>
@@ -299,8 +374,7 @@ fn rule_items(table: &Table) -> Option<&[Value]>
     if are_tables(items) { Some(items) } else { None }
 }
 
-/// What stands in the document beside its version, or the first thing that is wrong above its
-/// rules.
+/// What stands in the document, or the first thing that is wrong above its rules.
 pub(crate) fn read_document(table: &Table) -> Result<Document<'_>, PolicyError>
     ensures ok { IfOk result (λ document. IsDocument (table_view table.now) document) }
     ensures few { IfOk result (λ document. length (tables_in (items_view document.rules.now)) ≤ 1024) }
@@ -309,9 +383,9 @@ pub(crate) fn read_document(table: &Table) -> Result<Document<'_>, PolicyError>
     if !has_top_keys_only(table) {
         return Err(PolicyError::new(PolicyError::KEY));
     }
-    if !is_version_one(table) {
+    let Some(version) = version_of(table) else {
         return Err(PolicyError::new(PolicyError::VERSION));
-    }
+    };
     let Some(base) = text_at(table, "base") else {
         return Err(PolicyError::new(PolicyError::BASE));
     };
@@ -324,20 +398,29 @@ pub(crate) fn read_document(table: &Table) -> Result<Document<'_>, PolicyError>
     if rules.len() > MAX_RULES {
         return Err(PolicyError::new(PolicyError::LIMIT));
     }
-    Ok(Document { base, rules })
+    Ok(Document {
+        version,
+        base,
+        rules,
+    })
 }
 
 /// The values of a rule's table, or the first thing that is wrong in it.
-fn read_draft<'a>(base: &[u8], number: u32, table: &'a Table) -> Result<Draft<'a>, PolicyError>
+fn read_draft<'a>(
+    version: Version,
+    base: &[u8],
+    number: u32,
+    table: &'a Table,
+) -> Result<Draft<'a>, PolicyError>
     ensures ok { IfOk result (λ draft. IsDraft (table_view table.now) draft) }
-    ensures refusal { result_err result ≡ rule_refusal base.now number (table_view table.now) }
+    ensures refusal { result_err result ≡ rule_refusal version base.now number (table_view table.now) }
 {
     let refused = |code| PolicyError { code, rule: number };
-    if !has_rule_keys(table) {
+    if !has_rule_keys(version, table) {
         return Err(refused(PolicyError::KEY));
     }
     let (Some(effect), Some(kind), Some(pattern)) = (
-        text_at(table, "effect").and_then(effect_named),
+        effect_of(table),
         text_at(table, "kind").and_then(kind_named),
         text_at(table, "match"),
     ) else {
@@ -360,11 +443,17 @@ fn read_draft<'a>(base: &[u8], number: u32, table: &'a Table) -> Result<Draft<'a
     })
 }
 
-fn read_rule(alloc: Global, base: &[u8], number: u32, table: &Table) -> Result<Rule, PolicyError>
-    ensures ok { IfOk result (λ rule. WritesRule (table_view table.now) rule × (rule_refusal base.now number (table_view table.now) ≡ None)) }
-    ensures refused { IfErr result (IsRefusedBy (rule_refusal base.now number (table_view table.now))) }
+fn read_rule(
+    alloc: Global,
+    version: Version,
+    base: &[u8],
+    number: u32,
+    table: &Table,
+) -> Result<Rule, PolicyError>
+    ensures ok { IfOk result (λ rule. WritesRule (table_view table.now) rule × (rule_refusal version base.now number (table_view table.now) ≡ None)) }
+    ensures refused { IfErr result (IsRefusedBy (rule_refusal version base.now number (table_view table.now))) }
 {
-    let draft = read_draft(base, number, table)?;
+    let draft = read_draft(version, base, number, table)?;
     Ok(Rule {
         effect: draft.effect,
         kind: draft.kind,
@@ -376,6 +465,7 @@ fn read_rule(alloc: Global, base: &[u8], number: u32, table: &Table) -> Result<R
 /// The rules of these tables, or the first thing that is wrong in them.
 pub(crate) fn read_rules(
     alloc: Global,
+    version: Version,
     base: &[u8],
     items: &[Value],
 ) -> Result<Vec<Rule>, PolicyError>
@@ -383,8 +473,8 @@ pub(crate) fn read_rules(
     ensures ok { IfOk result (λ rules. AllZip WritesRule (tables_in (items_view items.now)) rules.items) }
     ensures few { IfOk result (λ rules. length rules.items ≤ 1024) }
     ensures short { IfOk result (λ rules. are_short rules.items ≡ true) }
-    ensures accepted { IfOk result (λ _. rules_refusal base.now 1 (tables_in (items_view items.now)) ≡ None) }
-    ensures refused { IfErr result (IsRefusedBy (rules_refusal base.now 1 (tables_in (items_view items.now)))) }
+    ensures accepted { IfOk result (λ _. rules_refusal version base.now 1 (tables_in (items_view items.now)) ≡ None) }
+    ensures refused { IfErr result (IsRefusedBy (rules_refusal version base.now 1 (tables_in (items_view items.now)))) }
 {
     let mut rules = Vec::new(alloc);
     let mut number = 1u32;
@@ -392,7 +482,7 @@ pub(crate) fn read_rules(
         let Some(table) = item.as_table() else {
             continue;
         };
-        rules.push(read_rule(alloc, base, number, table)?)?;
+        rules.push(read_rule(alloc, version, base, number, table)?)?;
         number += 1;
     }
     Ok(rules)

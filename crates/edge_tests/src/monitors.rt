@@ -287,6 +287,30 @@ fn it_goes_on_where_the_world_had_no_memory(rt: HostRuntime) -> Result<(), Fail>
     Ok(())
 }
 
+const TWO_WRITES: &[u8] = b"version = 2
+base = \"/w\"
+rule = [{ effect = \"allow\", kind = \"write\", match = \"/etc/*\", limit = 2 }]
+";
+
+// How often the one rule has allowed once this world was asked for the file that it allows, as the monitor gives it back.
+fn used_by(alloc: Global, world: FakeWorld) -> Result<u64, Fail> {
+    let policy = Policy::read(alloc, TWO_WRITES)?;
+    let ask = denied(alloc)?;
+    let mut monitor = Monitor::new(alloc, policy, world, Vec::new(alloc));
+    let _ = monitor.ask(&ask);
+    let (policy, _, _) = monitor.into_parts();
+    Ok(policy.used(1))
+}
+
+#[test]
+fn an_answer_counts_and_a_stop_does_not(rt: HostRuntime) -> Result<(), Fail> {
+    let alloc = rt.alloc();
+    assert_eq!(rt; used_by(alloc, fake_world(None))?, 1);
+    assert_eq!(rt; used_by(alloc, fake_world(Some(Stop::Memory)))?, 0);
+    assert_eq!(rt; used_by(alloc, fake_world(Some(Stop::Log)))?, 0);
+    Ok(())
+}
+
 // Holds the first 64 bytes and takes no memory.
 #[derive(Drop)]
 struct ShortLog {

@@ -1,5 +1,5 @@
 -- Which request of a run a site covers, and what that says of a policy.
-use Rattle.std.specs.Prelude.{◌≡◌, ℕ, false, List, [], Option, Some, None, All, Contains, IsSome}
+use Rattle.std.specs.Prelude.{◌≡◌, ℕ, false, List, [], ◌∷◌, Option, Some, None, All, Contains, IsSome}
 use Rattle.awk_text.specs.declared.place.Place.{Place}
 use Rattle.awk_machine.specs.Pieces.{Outcome}
 use Rattle.awk_machine.specs.Plays.{Plays}
@@ -7,6 +7,7 @@ use Rattle.awk_machine.specs.State.{Given}
 use Rattle.box_world.specs.Events.{Want, Event, request_of}
 use Rattle.box_policy.specs.Rulebook.{Rulebook}
 use Rattle.box_monitor.specs.Denials.{denial_at}
+use Rattle.box_monitor.specs.Passed.{after_events, denial_after}
 use Rattle.box_monitor.specs.Subjects.{Subject, subject_of}
 use Rattle.box_listing.specs.Listings.{IsListing}
 use Rattle.box_listing.specs.Verdicts.{verdict}
@@ -41,13 +42,14 @@ IsCovered sites e = IsCoveredAt sites e.want.place (subject_of_want e.want)
 
 -- ---- denials
 
--- the policy does not deny what is asked
-abbrev pub IsAllowed : Rulebook → Event → Type 0
-IsAllowed book e = denial_at book e.want.place e.want.given (subject_of_want e.want) ≡ None
+-- of these events, the newest first, the policy denies none after those before it
+abbrev pub AllAllowed : Rulebook → List Event → Type 0
+AllAllowed book [] = Unit {0}
+AllAllowed book (e ∷ es) = (denial_after book es e.want ≡ None) × AllAllowed book es
 
 -- ---- the laws
 
--- each request of each run that a policy could deny is covered by a site of the listing
+-- each request of each run that a policy could deny, after some events, is covered by a site of the listing
 abbrev pub AllCovered : Type 0
 AllCovered =
     (g : Given) (order : List Sort) (sites : List Site) (events : List Event) (o : Outcome) (n : ℕ) (last : Option Want) →
@@ -57,11 +59,11 @@ AllCovered =
 abbrev pub NoneDenied : Type 0
 NoneDenied =
     (g : Given) (order : List Sort) (book : Rulebook) (sites : List Site) (events : List Event) (o : Outcome) (n : ℕ) (last : Option Want) →
-    IsListing g.program order g.names_environ sites → verdict book sites ≡ Clean → Plays g events o n last → All (IsAllowed book) events
+    IsListing g.program order g.names_environ sites → verdict book sites ≡ Clean → Plays g events o n last → AllAllowed book events
 
--- a site that is refused has a text, and what it covers is denied where it is no operand that was given
+-- a site that is refused has a text, and what it covers is denied after whatever events, where it is no operand that was given
 abbrev pub RefusedDenied : Type 0
 RefusedDenied =
-    (book : Rulebook) (sites refused : List Site) (site : Site) (place : Place) (subject : Subject) →
+    (book : Rulebook) (sites refused : List Site) (site : Site) (events : List Event) (place : Place) (subject : Subject) →
     verdict book sites ≡ Refused refused → Contains refused site → Covers site place subject →
-    IsSome site.text × IsSome (denial_at book place false (Some subject))
+    IsSome site.text × IsSome (denial_at (after_events book events) place false (Some subject))

@@ -1,9 +1,9 @@
-// Policies: which texts are policies, and what they decide.
+// Policies: which texts are policies, what they decide, and how often their rules have allowed.
 use awk_text::Memory;
 use awk_text::octets::Octets;
 use box_policy::path::normal;
-use box_policy::policy::{Decision, Kind, Policy};
-use crate::args::{bare, name, text};
+use box_policy::policy::{Decision, Kind, Outlook, Policy};
+use crate::args::{bare, name, number, text};
 use crate::problem::Problem;
 use crate::row::{Arg, Row};
 use crate::shown::{Answer, bracketed, bytes, show, told, yes_or_no};
@@ -86,23 +86,64 @@ fn show_decision(alloc: Global, decision: Decision) -> Answer {
     }
 }
 
-fn step(alloc: Global, policy: &Policy, args: &[Arg<'_>]) -> Answer {
-    let is_given = match name(args, 0) {
-        "count" => return show(alloc, policy.count()),
-        "decide" => false,
-        "decide_given" => true,
-        _ => return Err(Problem::NoCall),
-    };
+fn show_outlook(alloc: Global, outlook: Outlook) -> Answer {
+    match outlook {
+        Outlook::Always => bytes(alloc, b"always"),
+        Outlook::Never => bytes(alloc, b"never"),
+        Outlook::Sometimes => bytes(alloc, b"sometimes"),
+    }
+}
+
+/// The number of a rule.
+fn rule(args: &[Arg<'_>]) -> Result<u32, Problem> {
+    match u32::try_from(number(args, 1)?) {
+        Ok(rule) => Ok(rule),
+        Err(_) => Err(Problem::NoArgument),
+    }
+}
+
+/// Notes that the rule allowed a request, as often as the row says: once, where it says nothing.
+fn note(alloc: Global, policy: &mut Policy, args: &[Arg<'_>]) -> Answer {
+    let rule = rule(args)?;
+    for _ in 0..number(args, 2).unwrap_or(1) {
+        policy.note(rule);
+    }
+    show(alloc, policy.used(rule))
+}
+
+fn decide(alloc: Global, policy: &Policy, args: &[Arg<'_>], is_given: bool) -> Answer {
     let (kind, subject) = (kind(name(args, 1))?, text(args, 1));
     show_decision(alloc, policy.decide(kind, subject, is_given))
 }
 
+fn outlook(alloc: Global, policy: &Policy, args: &[Arg<'_>], is_given: bool) -> Answer {
+    let (kind, subject) = (kind(name(args, 1))?, text(args, 1));
+    show_outlook(alloc, policy.outlook(kind, subject, is_given))
+}
+
+fn step(alloc: Global, policy: &mut Policy, args: &[Arg<'_>]) -> Answer {
+    match name(args, 0) {
+        "count" => show(alloc, policy.count()),
+        "decide" => decide(alloc, policy, args, false),
+        "decide_given" => decide(alloc, policy, args, true),
+        "outlook" => outlook(alloc, policy, args, false),
+        "outlook_given" => outlook(alloc, policy, args, true),
+        "note" => note(alloc, policy, args),
+        "used" => show(alloc, policy.used(rule(args)?)),
+        "clear" => {
+            policy.clear();
+            bytes(alloc, b"done")
+        }
+        _ => Err(Problem::NoCall),
+    }
+}
+
 /// The answers of the steps, under the policy of the line before them.
 pub fn block(alloc: Global, args: &[Arg<'_>], steps: &[Row<'_>]) -> Result<Vec<Octets>, Problem> {
-    let policy = Policy::read(alloc, text(args, 1))?;
+    let mut policy = Policy::read(alloc, text(args, 1))?;
     let mut answers = Vec::new(alloc);
     for row in steps {
-        answers.push(told(alloc, step(alloc, &policy, &row.args))?)?;
+        answers.push(told(alloc, step(alloc, &mut policy, &row.args))?)?;
     }
     Ok(answers)
 }

@@ -1,3 +1,4 @@
+use Rattle.box_policy.proofs.CountsLemmas.{written_fresh}
 use Rattle.awkbox.proofs.driver.drive.Goals as goal
 
 pub returns-clause-driven : goal.returns-clause-driven
@@ -6,5 +7,5 @@ returns-clause-driven g c =
       book = c.in-Ok.prepared.0;
       spelled = c.in-Ok.prepared.1;
       accepted = c.in-Ok.ensures.ok;
-      drives = c.drive-report.ensures;
+      drives = rw (written_fresh c.args.policy.now c.in-Ok.prepared.0 c.in-Ok.ensures.ok.written) at c.drive-report.ensures;
     }

@@ -18,6 +18,6 @@ invariant-loop-item l =
       numbers : l.number + length rest ≡ 1 + length all;
       counted : l.number ≡ length l.rules.items + 1;
       short : are_short l.rules.items ≡ true;
-      refused : rules_refusal l.base l.number rest ≡ rules_refusal l.base 1 all;
+      refused : rules_refusal l.version l.base l.number rest ≡ rules_refusal l.version l.base 1 all;
       written : (more : List Rule) → AllZip WritesRule rest more → AllZip WritesRule all (l.rules.items ++ more);
     }
