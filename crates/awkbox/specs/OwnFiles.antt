@@ -2,11 +2,10 @@
 use Rattle.std.specs.Prelude.{ℕ, Bool, false, not, ◌&&◌, ◌||◌, ◌==◌, List, [], ◌∷◌, length, take, drop, Option, None, Some, if◌then◌else◌}
 use Rattle.std.specs.List.{list_any}
 use Rattle.std.specs.Str.{bytes_eq}
+use Rattle.box_monitor.specs.Denials.{allowing}
 use Rattle.box_policy.specs.Decisions.{decision}
 use Rattle.box_policy.specs.Files.{speaks_of_files}
 use Rattle.box_policy.specs.Rulebook.{Rulebook}
-use Rattle.box_policy.specs.declared.policy.Decision.{Decision}
-use Rattle.box_policy.specs.declared.policy.Decision.TheVariants.{Allow, Deny, NoRule}
 use Rattle.box_policy.specs.declared.policy.Kind.{Kind}
 use Rattle.box_policy.specs.declared.policy.Kind.TheVariants.{Write, Append}
 use Rattle.awkbox.specs.declared.own_files.Identity.{Identity}
@@ -29,11 +28,6 @@ abbrev pub may_start : Rulebook → Option Identity → Option Identity → Bool
 may_start book here base = not (speaks_of_files book) || are_one here base
 
 -- ---- which rule lets a script write to a file
-
-abbrev pub allowing : Decision → Option ℕ
-allowing (Allow rule) = Some rule
-allowing (Deny rule) = None
-allowing NoRule = None
 
 abbrev pub or_else : Option ℕ → Option ℕ → Option ℕ
 or_else (Some rule) other = Some rule

@@ -1,7 +1,8 @@
 // The files that a run is given, its policy, its script and its log, and what a script might do to them.
 ghost use Rattle.std.specs.Prelude.{◌≡◌, option_map};
 ghost use Rattle.std.specs.List.{list_any};
-ghost use Rattle.awkbox.specs.OwnFiles.{allowing, are_one, behind_slash, is_same, may_be_log, may_start, name_in, rule_of_inner, rule_of_name, writing_rule};
+ghost use Rattle.box_monitor.specs.Denials.{allowing};
+ghost use Rattle.awkbox.specs.OwnFiles.{are_one, behind_slash, is_same, may_be_log, may_start, name_in, rule_of_inner, rule_of_name, writing_rule};
 
 use box_policy::policy::{Decision, Kind, Policy};
 
