@@ -79,7 +79,8 @@ impl Ere {
         if self.is_literal {
             return Ok(find_text(text, &self.source, from));
         }
-        match self.matcher.find(text, from) {
+        let mut budget = whole_budget(text);
+        match self.matcher.find(text, from, &mut budget) {
             Sought::Match(start, end) => Ok(Some((start, end))),
             Sought::NoMatch => Ok(None),
             Sought::Left(start) => {
@@ -116,7 +117,7 @@ pub struct Searches<'a> {
     ere: &'a Ere,
     matcher: &'a Matcher,
     text: &'a [u8],
-    is_first: bool,
+    /// How many bytes may still be looked at before the text is read backwards.
     budget: usize,
     hopes: Hopes,
 }
@@ -144,7 +145,6 @@ impl<'a> Searches<'a> {
             ere,
             matcher: &ere.matcher,
             text,
-            is_first: true,
             budget: whole_budget(text),
             hopes: no_hopes(alloc),
         }
@@ -159,16 +159,14 @@ impl<'a> Searches<'a> {
         ensures same { self.new ≡ self.old }
     {
         let (ere, matcher, text) = (self.ere, self.matcher, self.text);
-        if self.is_first || ere.is_literal {
-            self.is_first = false;
+        if ere.is_literal {
             return ere.find(text, from);
         }
-        let sought = matcher.find_again(text, from, &mut self.budget, &mut self.hopes)?;
-        match sought {
+        match matcher.find(text, from, &mut self.budget) {
             Sought::Match(first, end) => Ok(Some((first, end))),
             Sought::NoMatch => Ok(None),
             Sought::Left(start) => {
-                let found = matcher.search(text, start)?;
+                let found = matcher.find_left(text, start, self.budget, &mut self.hopes)?;
                 Ok(found)
             }
         }
