@@ -8,9 +8,9 @@ over ten seconds is left out from there on. --large has patterns at the limit of
 import argparse
 import math
 import os
+import resource
 import subprocess
 import tempfile
-import time
 
 SIZES, ENOUGH, LIMIT = (65536, 131072, 262144), 0.1, 10
 POLICY = 'version = 1\nbase = "/tmp"\n'
@@ -35,14 +35,15 @@ def run(command, folder, case, size, rounds):
     script = f'BEGIN {{ for (t = "{unit}"; length(t) < {size}; ) t = t t; t = substr(t, 1, {size}) "{end}"; for (k = 0; k < {rounds}; k++) {{ s = t; {operation} }} }}\n'
     with open(f"{folder}/s.awk", "w") as out:
         out.write(script)
-    begun = time.perf_counter()
-    try:
-        ran = subprocess.run(command, stdin=subprocess.DEVNULL, capture_output=True, timeout=LIMIT, cwd="/tmp", env={**os.environ, "LC_ALL": "C"})
-    except subprocess.TimeoutExpired:
+    before = resource.getrusage(resource.RUSAGE_CHILDREN)
+    ran = subprocess.run(command, stdin=subprocess.DEVNULL, capture_output=True, cwd="/tmp", env={**os.environ, "LC_ALL": "C"},
+                         preexec_fn=lambda: resource.setrlimit(resource.RLIMIT_CPU, (LIMIT, LIMIT)))
+    after = resource.getrusage(resource.RUSAGE_CHILDREN)
+    if ran.returncode < 0:
         return math.inf
     if ran.returncode:
         raise SystemExit(f"{operation}: {ran.stderr.decode().strip()}")
-    return time.perf_counter() - begun
+    return after.ru_utime + after.ru_stime - before.ru_utime - before.ru_stime
 
 
 def one(command, folder, case, size):

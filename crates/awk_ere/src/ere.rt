@@ -76,18 +76,8 @@ impl Ere {
         requires { from ≤ length text.now }
         ensures { IfOk result (λ found. Finds self.now text.now from found) }
     {
-        if self.is_literal {
-            return Ok(find_text(text, &self.source, from));
-        }
-        let mut budget = whole_budget(text);
-        match self.matcher.find(text, from, &mut budget) {
-            Sought::Match(start, end) => Ok(Some((start, end))),
-            Sought::NoMatch => Ok(None),
-            Sought::Left(start) => {
-                let found = self.matcher.search(text, start)?;
-                Ok(found)
-            }
-        }
+        let mut searches = Searches::new(self, text);
+        searches.find(from)
     }
 
     /// Whether there is a match anywhere in the text.
@@ -160,10 +150,10 @@ impl<'a> Searches<'a> {
     {
         let (ere, matcher, text) = (self.ere, self.matcher, self.text);
         if ere.is_literal {
-            return ere.find(text, from);
+            return Ok(find_text(text, &ere.source, from));
         }
         match matcher.find(text, from, &mut self.budget) {
-            Sought::Match(first, end) => Ok(Some((first, end))),
+            Sought::Match(start, end) => Ok(Some((start, end))),
             Sought::NoMatch => Ok(None),
             Sought::Left(start) => {
                 let found = matcher.find_left(text, start, self.budget, &mut self.hopes)?;

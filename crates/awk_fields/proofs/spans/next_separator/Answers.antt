@@ -13,11 +13,11 @@ ahead_in x y text at found same is h = subst (λ z. IsAhead z.0 z.1 at found) (s
 found_in : (x y : List ℕ × List ℕ) (text : List ℕ) (at : ℕ) (found : Option (ℕ × ℕ)) → x ≡ y → y.1 ≡ text → Finds x.0 x.1 at found → Finds y.0 text at found
 found_in x y text at found same is h = subst (λ t. Finds y.0 t at found) is (subst (λ z. Finds z.0 z.1 at found) same h)
 
-pub find_ahead-ahead-requires-clause-inside : goal.find_ahead-ahead-requires-clause-inside
-find_ahead-ahead-requires-clause-inside c = rw (c.loop-at.invariant.same, c.requires.text) (omega arith)
+pub find_ahead-requires-clause-inside : goal.find_ahead-requires-clause-inside
+find_ahead-requires-clause-inside c = rw (c.loop-at.invariant.same, c.requires.text) (omega arith)
 
-pub find_ahead-ahead-requires-clause-ahead : goal.find_ahead-ahead-requires-clause-ahead
-find_ahead-ahead-requires-clause-ahead c = ahead_in _ _ _ _ _ c.loop-at.invariant.same c.requires.text c.loop-at.invariant.ahead
+pub find_ahead-requires-clause-ahead : goal.find_ahead-requires-clause-ahead
+find_ahead-requires-clause-ahead c = ahead_in _ _ _ _ _ c.loop-at.invariant.same c.requires.text c.loop-at.invariant.ahead
 
 pub loop-at-preserved : goal.loop-at-preserved
 loop-at-preserved c =

@@ -1,11 +1,17 @@
 use Rattle.std.proofs.Common.{Some, None}
 use Rattle.awk_ere.proofs.Searching.{finds_best}
 use Rattle.awk_ere.proofs.Seeking.{found_later}
+use Rattle.awk_ere.proofs.Literals.{literal_finds}
 use Rattle.awk_ere.proofs.ere.Searches.find.Goals as goal
+
+pub returns-then-ere-clause-found : goal.returns-then-ere-clause-found
+returns-then-ere-clause-found c =
+    rw (← c.self.view_is, ← c.ere.view_is)
+    (literal_finds _ _ _ _ (c.ere.invariant.3 c.if-ere.true) c.ere.invariant.1.short (rw c.deref.ensures.value at c.find_text.ensures))
 
 pub returns-in-Match-clause-found : goal.returns-in-Match-clause-found
 returns-in-Match-clause-found c =
-    rw (← c.self.view_is) (c.self.invariant.0, c.self.invariant.1, finds_best _ _ _ _ c.self.invariant.2 c.self.inside.text.now c.args.from (Some (c.in-Match.first, c.in-Match.end)) c.in-Match.ensures)
+    rw (← c.self.view_is) (c.self.invariant.0, c.self.invariant.1, finds_best _ _ _ _ c.self.invariant.2 c.self.inside.text.now c.args.from (Some (c.in-Match.start, c.in-Match.end)) c.in-Match.ensures)
 
 pub returns-in-NoMatch-clause-found : goal.returns-in-NoMatch-clause-found
 returns-in-NoMatch-clause-found c =
