@@ -11,8 +11,8 @@ found_in x y text at found same is h = subst (λ t. Finds y.0 t at found) is (su
 pub loop-at-init : goal.loop-at-init
 loop-at-init c = record { reaches = reaches_begin c.args.searches.now.0 c.args.text.now c.args.from c.args.last; same = refl }
 
-pub find-start-requires : goal.find-start-requires
-find-start-requires c = rw (c.loop-at.invariant.same, c.requires) (omega arith)
+pub find-requires : goal.find-requires
+find-requires c = rw (c.loop-at.invariant.same, c.requires) (omega arith)
 
 pub loop-at-preserved : goal.loop-at-preserved
 loop-at-preserved c =

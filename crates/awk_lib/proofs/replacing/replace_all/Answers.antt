@@ -10,7 +10,9 @@ use Rattle.awk_lib.proofs.replacing.replace_all.Goals as goal
 
 pub loop-next-init : goal.loop-next-init
 loop-next-init c =
-    let next = rw c.new-searches.ensures at c.in_ok-next.ensures.next in
+    let ere = c.args.ere.now in
+    let text = c.args.text.now in
+    let next : IsNextMatch ere text 0 None c.in_ok-next.next = subst (λ z. IsNextMatch z.0 text 0 None c.in_ok-next.next) c.new-searches.ensures c.in_ok-next.ensures.next in
     record {
       turn = rw c.in_ok-out.ensures (turn_begin c.args.ere.now c.args.with.now c.args.text.now c.in_ok-next.next next
       (λ e. false≢true (sym (ap is_some e) ∙ c.is_none.ensures ∙ ap not c.if-is_none.false)));
@@ -24,7 +26,7 @@ loop-next-preserved c =
     let text = c.args.text.now in
     let turn : Turn ere with text (Some (c.in-Some.start, c.in-Some.end)) c.loop-next.done c.loop-next.count c.loop-next.out =
     subst (λ n. Turn ere with text n c.loop-next.done c.loop-next.count c.loop-next.out) c.in-Some.is c.loop-next.invariant.turn in
-    let next = rw c.loop-next.invariant.same at c.in_ok-next-2.ensures.next in
+    let next = subst (λ z. IsNextMatch z.0 text c.next_from.result (Some c.in-Some.end) c.in_ok-next-2.next) c.loop-next.invariant.same c.in_ok-next-2.ensures.next in
     record {
       turn = turn_on ere with text c.in-Some.start c.in-Some.end c.in_ok-next-2.next c.loop-next.done c.loop-next.count c.loop-next.out c.push_match.new.out turn c.in_ok-push_match.ensures
       (subst (λ f. IsNextMatch ere text f (Some c.in-Some.end) c.in_ok-next-2.next) c.next_from.ensures next);
