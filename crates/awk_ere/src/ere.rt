@@ -76,17 +76,8 @@ impl Ere {
         requires { from ≤ length text.now }
         ensures { IfOk result (λ found. Finds self.now text.now from found) }
     {
-        if self.is_literal {
-            return Ok(find_text(text, &self.source, from));
-        }
-        match self.matcher.find(text, from) {
-            Sought::Match(start, end) => Ok(Some((start, end))),
-            Sought::NoMatch => Ok(None),
-            Sought::Left(start) => {
-                let found = self.matcher.search(text, start)?;
-                Ok(found)
-            }
-        }
+        let mut searches = Searches::new(self, text);
+        searches.find(from)
     }
 
     /// Whether there is a match anywhere in the text.
@@ -116,7 +107,7 @@ pub struct Searches<'a> {
     ere: &'a Ere,
     matcher: &'a Matcher,
     text: &'a [u8],
-    is_first: bool,
+    /// How many bytes may still be looked at before the text is read backwards.
     budget: usize,
     hopes: Hopes,
 }
@@ -144,7 +135,6 @@ impl<'a> Searches<'a> {
             ere,
             matcher: &ere.matcher,
             text,
-            is_first: true,
             budget: whole_budget(text),
             hopes: no_hopes(alloc),
         }
@@ -159,16 +149,14 @@ impl<'a> Searches<'a> {
         ensures same { self.new ≡ self.old }
     {
         let (ere, matcher, text) = (self.ere, self.matcher, self.text);
-        if self.is_first || ere.is_literal {
-            self.is_first = false;
-            return ere.find(text, from);
+        if ere.is_literal {
+            return Ok(find_text(text, &ere.source, from));
         }
-        let sought = matcher.find_again(text, from, &mut self.budget, &mut self.hopes)?;
-        match sought {
-            Sought::Match(first, end) => Ok(Some((first, end))),
+        match matcher.find(text, from, &mut self.budget) {
+            Sought::Match(start, end) => Ok(Some((start, end))),
             Sought::NoMatch => Ok(None),
             Sought::Left(start) => {
-                let found = matcher.search(text, start)?;
+                let found = matcher.find_left(text, start, self.budget, &mut self.hopes)?;
                 Ok(found)
             }
         }

@@ -27,7 +27,7 @@ const FIRST_BUDGET: usize = 64;
 const TRIES: usize = 4;
 
 /// What a search by the table gives.
-#[derive(Drop)]
+#[derive(Clone, Copy)]
 pub enum Sought {
     /// The best match, from its start to its end.
     Match(usize, usize),
@@ -88,9 +88,11 @@ fn stays_to(row: &[u8; 256], state: u8, text: &[u8], from: usize) -> usize
     stays_one_by_one(row, state, text, place)
 }
 
-/// What the searches of a text may cost.
+/// How many bytes the searches of a text may look at.
 pub fn whole_budget(text: &[u8]) -> usize {
-    text.len().saturating_mul(BUDGET)
+    text.len()
+        .saturating_mul(BUDGET)
+        .saturating_add(FIRST_BUDGET)
 }
 
 /// The state in which a search begins at the place.
@@ -346,8 +348,8 @@ impl Matcher {
         }
     }
 
-    /// The best match from the place on: each start in turn, as long as the budget lasts.
-    fn leftmost(&self, text: &[u8], from: usize, budget: &mut usize) -> Sought
+    /// The best match from the place on: each start in turn, until so much of the budget is left.
+    fn leftmost(&self, text: &[u8], from: usize, budget: &mut usize, left: usize) -> Sought
         requires { from ≤ length text.now }
         ensures { IsSought self.now text.now from result }
     {
@@ -357,7 +359,7 @@ impl Matcher {
             if start == text.len() {
                 return self.find_at_end(text);
             }
-            if *budget == 0 {
+            if *budget <= left {
                 return Sought::Left(start);
             }
             match self.longest(text, start, budget) {
@@ -391,37 +393,34 @@ impl Matcher {
         }
     }
 
-    /// The best match from the place on, where it is asked first whether there is any.
+    /// The best match from the place on, where it is asked first whether there is any. That reads no further than the match.
     #[inline(never)]
-    fn find_on(&self, text: &[u8], from: usize) -> Sought
+    fn find_on(&self, text: &[u8], from: usize, budget: &mut usize) -> Sought
         requires { from ≤ length text.now }
         ensures { IsSought self.now text.now from result }
     {
         match self.has_start(text, from) {
             Some(false) => Sought::NoMatch,
-            Some(true) | None => {
-                let mut budget = whole_budget(text);
-                self.leftmost(text, from, &mut budget)
-            }
+            Some(true) | None => self.leftmost(text, from, budget, 0),
         }
     }
 
     /// The best match from the place on, where a start before it has failed.
     #[inline(never)]
-    fn find_later(&self, text: &[u8], from: usize) -> Sought
+    fn find_later(&self, text: &[u8], from: usize, budget: &mut usize) -> Sought
         requires { from ≤ length text.now }
         ensures { IsSought self.now text.now from result }
     {
-        let mut budget = FIRST_BUDGET;
-        match self.leftmost(text, from, &mut budget) {
-            Sought::Match(start, end) => Sought::Match(start, end),
-            Sought::NoMatch => Sought::NoMatch,
-            Sought::Left(start) => self.find_on(text, start),
+        let left = budget.saturating_sub(FIRST_BUDGET);
+        match self.leftmost(text, from, budget, left) {
+            Sought::Left(start) => self.find_on(text, start, budget),
+            sought => sought,
         }
     }
 
-    /// The best match from the place on. The first start mostly is one, and then nothing else is needed.
-    pub fn find(&self, text: &[u8], from: usize) -> Sought
+    /// The best match from the place on, as far as the budget lasts, of which what is read costs. The first start mostly is a
+    /// match, and then nothing else is needed.
+    pub fn find(&self, text: &[u8], from: usize, budget: &mut usize) -> Sought
         requires { from ≤ length text.now }
         ensures { IsSought self.now text.now from result }
     {
@@ -432,11 +431,13 @@ impl Matcher {
         if start == text.len() {
             return self.find_at_end(text);
         }
-        let mut budget = 0;
-        match self.longest(text, start, &mut budget) {
+        if *budget == 0 {
+            return Sought::Left(start);
+        }
+        match self.longest(text, start, budget) {
             None => Sought::Left(start),
             Some(Some(end)) => Sought::Match(start, end),
-            Some(None) => self.find_later(text, start + 1),
+            Some(None) => self.find_later(text, start + 1, budget),
         }
     }
 
@@ -517,33 +518,32 @@ impl Matcher {
         }
     }
 
-    /// The best match from the place on, where other searches of the text went before. All together may cost the budget; then
-    /// the text is read backwards, and what that shows is kept in `hopes`.
-    pub fn find_again(
+    /// The best match from the place on, where the table says no more, or not within the budget, of which this is left. What the
+    /// text read backwards shows is kept in `hopes`.
+    ///
+    /// Errors: `Memory` where memory is refused.
+    #[inline(never)]
+    pub fn find_left(
         &self,
         text: &[u8],
         from: usize,
-        budget: &mut usize,
+        budget: usize,
         hopes: &mut Hopes,
-    ) -> Result<Sought, Memory>
+    ) -> Result<Option<(usize, usize)>, Memory>
         requires from { from ≤ length text.now }
         requires hopes { AreHopes self.now.table text.now hopes.old }
         ensures hopes { AreHopes self.now.table text.now hopes.new }
-        ensures sought { IfOk result (λ r. IsSought self.now text.now from r) }
+        ensures found { IfOk result (λ found. Finds self.now text.now from found) }
     {
-        if self.is_anchored() {
-            return Ok(self.find_anchored(text, from));
+        if budget > 0 {
+            return self.search(text, from);
         }
-        match self.leftmost(text, from, budget) {
-            Sought::Match(start, end) => Ok(Sought::Match(start, end)),
-            Sought::NoMatch => Ok(Sought::NoMatch),
+        match self.find_by(text, from, hopes)? {
+            Sought::Match(start, end) => Ok(Some((start, end))),
+            Sought::NoMatch => Ok(None),
             Sought::Left(start) => {
-                if *budget == 0 {
-                    let sought = self.find_by(text, start, hopes)?;
-                    Ok(sought)
-                } else {
-                    Ok(Sought::Left(start))
-                }
+                let found = self.search(text, start)?;
+                Ok(found)
             }
         }
     }

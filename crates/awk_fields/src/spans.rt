@@ -12,7 +12,7 @@ ghost use Rattle.awk_fields.specs.Seeking.{IsAhead, IsNextSeparator};
 ghost use Rattle.memchr.specs.Find.{IsFirst, Passes, is_byte};
 
 use crate::marks::{BLOCK, Marks, without_lowest};
-use awk_ere::Ere;
+use awk_ere::{Ere, Searches};
 use awk_text::Memory;
 use awk_text::octets::Octets;
 use memchr::memchr;
@@ -157,36 +157,38 @@ fn best_separator(
 
 /// The best match of the ERE from a place on, of which `ahead` is one from an earlier place on.
 fn find_ahead(
-    text: &[u8],
-    ere: &Ere,
+    searches: &mut Searches,
     from: usize,
     ahead: Option<(usize, usize)>,
 ) -> Result<Option<(usize, usize)>, Memory>
-    requires inside { from ≤ length text.now }
-    requires ahead { IsAhead ere.now text.now from ahead }
-    ensures { IfOk result (λ found. Finds ere.now text.now from found) }
+    requires inside { from ≤ length searches.old.1 }
+    requires ahead { IsAhead searches.old.0 searches.old.1 from ahead }
+    ensures found { IfOk result (λ found. Finds searches.old.0 searches.old.1 from found) }
+    ensures same { searches.new ≡ searches.old }
 {
     match ahead {
-        Some((start, _)) if start < from => ere.find(text, from),
+        Some((start, _)) if start < from => searches.find(from),
         _ => Ok(ahead),
     }
 }
 
 /// What separates next from a place on, and the ERE's best match as far as it is known then.
 fn next_separator(
+    searches: &mut Searches,
     text: &[u8],
-    ere: &Ere,
     newline: bool,
     from: usize,
     mut ahead: Option<(usize, usize)>,
 ) -> Result<(Option<(usize, usize)>, Option<(usize, usize)>), Memory>
-    requires { IsAhead ere.now text.now from ahead }
-    ensures next { IfOk result (λ r. IsNextSeparator ere.now newline text.now from r.0) }
-    ensures ahead { IfOk result (λ r. IfSome r.0 (λ m. IsAhead ere.now text.now m.1 r.1)) }
+    requires text { searches.old.1 ≡ text.now }
+    requires ahead { IsAhead searches.old.0 text.now from ahead }
+    ensures next { IfOk result (λ r. IsNextSeparator searches.old.0 newline text.now from r.0) }
+    ensures ahead { IfOk result (λ r. IfSome r.0 (λ m. IsAhead searches.old.0 text.now m.1 r.1)) }
+    ensures same { searches.new ≡ searches.old }
 {
     let mut at = from;
     while at <= text.len() {
-        ahead = find_ahead(text, ere, at, ahead)?;
+        ahead = find_ahead(searches, at, ahead)?;
         let Some((start, end)) = best_separator(text, newline, at, ahead) else {
             return Ok((None, ahead));
         };
@@ -208,13 +210,14 @@ pub fn ere_spans(
     requires { spans.items ≡ [] }
     ensures { IfOk result (λ found. (fields : List (List ℕ)) × Parts (ere pattern.now newline) text.now fields × AreSpans text.now found.items fields) }
 {
-    let known = pattern.find(text, 0)?;
-    let (mut next, mut ahead) = next_separator(text, pattern, newline, 0, known)?;
+    let mut searches = Searches::new(pattern, text);
+    let known = searches.find(0)?;
+    let (mut next, mut ahead) = next_separator(&mut searches, text, newline, 0, known)?;
     let mut start = 0;
     while let Some((at, end)) = next {
         spans.push(Span { start, end: at })?;
         start = end;
-        (next, ahead) = next_separator(text, pattern, newline, end, ahead)?;
+        (next, ahead) = next_separator(&mut searches, text, newline, end, ahead)?;
     }
     let end = text.len();
     spans.push(Span { start, end })?;

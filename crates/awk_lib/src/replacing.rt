@@ -8,7 +8,7 @@ ghost use Rattle.awk_lib.specs.Written.{written};
 ghost use Rattle.awk_text.specs.Limits.{most_bytes};
 
 use crate::new_text::NewText;
-use awk_ere::Ere;
+use awk_ere::{Ere, Searches};
 use awk_text::Memory;
 use awk_text::fault::Fault;
 use awk_text::octets::Octets;
@@ -107,16 +107,18 @@ fn next_from(start: usize, end: usize) -> usize
 
 /// The match from a place on that is replaced next, of which the one before ended at `last`.
 fn next_match(
-    ere: &Ere,
+    searches: &mut Searches,
     text: &[u8],
     from: usize,
     last: Option<usize>,
 ) -> Result<Option<(usize, usize)>, Memory>
-    ensures { IfOk result (λ found. IsNextMatch ere.now text.now from last found) }
+    requires { searches.old.1 ≡ text.now }
+    ensures next { IfOk result (λ found. IsNextMatch searches.old.0 text.now from last found) }
+    ensures same { searches.new ≡ searches.old }
 {
     let mut at = from;
     while at <= text.len() {
-        let Some((start, end)) = ere.find(text, at)? else {
+        let Some((start, end)) = searches.find(at)? else {
             return Ok(None);
         };
         if is_passed(last, start, end) {
@@ -163,7 +165,8 @@ fn replace_all(
     ensures fault { IfErr result (λ e. (e ≡ Fault.Memory)
         ⊎ ((e ≡ Fault.TextTooLong) × ((m : ℕ × ℕ) × (ms : List (ℕ × ℕ)) × IsTooLong ere.now with.now text.now true (m ∷ ms)))) }
 {
-    let mut next = next_match(ere, text, 0, None)?;
+    let mut searches = Searches::new(ere, text);
+    let mut next = next_match(&mut searches, text, 0, None)?;
     if next.is_none() {
         return Ok(None);
     }
@@ -175,7 +178,7 @@ fn replace_all(
         push_match(&mut out, with, plain, text, done, start, end)?;
         done = end;
         count += 1;
-        next = next_match(ere, text, next_from(start, end), Some(end))?;
+        next = next_match(&mut searches, text, next_from(start, end), Some(end))?;
     }
     let new = out.finish(&text[done..])?;
     // No memory holds a text of so many places.

@@ -1,6 +1,6 @@
-use Rattle.std.proofs.Common.{Bool, true, arith}
-use Rattle.std.proofs.Math.ListN.{length-replicate, length-set}
-use Rattle.awk_ere.proofs.Hoping.{off_begin, off_more}
+use Rattle.std.proofs.Common.{Bool, true}
+use Rattle.std.proofs.Math.ListN.{length-replicate}
+use Rattle.awk_ere.proofs.Hoping.{off_begin}
 use Rattle.awk_ere.proofs.hopes.row_before.Goals as goal
 
 pub loop-state-init : goal.loop-state-init

@@ -1,21 +1,23 @@
-use Rattle.std.proofs.Common.{Some, None, subst}
-use Rattle.awk_ere.specs.Matcher.{IsSought}
+use Rattle.std.proofs.Common.{Some, None}
 use Rattle.awk_ere.proofs.Searching.{finds_best}
 use Rattle.awk_ere.proofs.Seeking.{found_later}
-use Rattle.awk_ere.proofs.ere.Searches.find.Goals.{in-Match, in-NoMatch, in-Left+in_ok-found-in-Left}
+use Rattle.awk_ere.proofs.Literals.{literal_finds}
 use Rattle.awk_ere.proofs.ere.Searches.find.Goals as goal
 
-pub returns-clause-found : goal.returns-clause-found
-returns-clause-found c = elim c.match-sought.branch [
-  | in-Match w ↦
-      let h = subst (λ r. IsSought c.self.inside.matcher.now c.self.inside.text.now c.args.from r) w.in-Match.is c.in_ok-sought.ensures.sought in
-      rw (w.result-is, ← c.self.view_is)
-      (c.self.invariant.0, c.self.invariant.1, finds_best _ _ _ _ c.self.invariant.2 c.self.inside.text.now c.args.from (Some (w.in-Match.first, w.in-Match.end)) h)
-  | in-NoMatch w ↦
-      let h = subst (λ r. IsSought c.self.inside.matcher.now c.self.inside.text.now c.args.from r) w.in-NoMatch.is c.in_ok-sought.ensures.sought in
-      rw (w.result-is, ← c.self.view_is) (c.self.invariant.0, c.self.invariant.1, finds_best _ _ _ _ c.self.invariant.2 c.self.inside.text.now c.args.from None h)
-  | in-Left+in_ok-found-in-Left w ↦
-      let h = subst (λ r. IsSought c.self.inside.matcher.now c.self.inside.text.now c.args.from r) w.in-Left.is c.in_ok-sought.ensures.sought in
-      let found = found_later _ _ _ _ _ h w.in_ok-found-in-Left.ensures in
-      rw (w.result-is, ← c.self.view_is) (c.self.invariant.0, c.self.invariant.1, finds_best _ _ _ _ c.self.invariant.2 c.self.inside.text.now c.args.from _ found)
-]
+pub returns-then-ere-clause-found : goal.returns-then-ere-clause-found
+returns-then-ere-clause-found c =
+    rw (← c.self.view_is, ← c.ere.view_is)
+    (literal_finds _ _ _ _ (c.ere.invariant.3 c.if-ere.true) c.ere.invariant.1.short (rw c.deref.ensures.value at c.find_text.ensures))
+
+pub returns-in-Match-clause-found : goal.returns-in-Match-clause-found
+returns-in-Match-clause-found c =
+    rw (← c.self.view_is) (c.self.invariant.0, c.self.invariant.1, finds_best _ _ _ _ c.self.invariant.2 c.self.inside.text.now c.args.from (Some (c.in-Match.start, c.in-Match.end)) c.in-Match.ensures)
+
+pub returns-in-NoMatch-clause-found : goal.returns-in-NoMatch-clause-found
+returns-in-NoMatch-clause-found c =
+    rw (← c.self.view_is) (c.self.invariant.0, c.self.invariant.1, finds_best _ _ _ _ c.self.invariant.2 c.self.inside.text.now c.args.from None c.in-NoMatch.ensures)
+
+pub returns-in_ok-found-in-Left-clause-found : goal.returns-in_ok-found-in-Left-clause-found
+returns-in_ok-found-in-Left-clause-found c =
+    let found = found_later _ _ _ _ _ c.in-Left.ensures c.in_ok-found-in-Left.ensures.found in
+    rw (← c.self.view_is) (c.self.invariant.0, c.self.invariant.1, finds_best _ _ _ _ c.self.invariant.2 c.self.inside.text.now c.args.from _ found)

@@ -17,8 +17,8 @@ returns-in-Some-Some c = found_at _ _ _ _ _ (rw c.in-Some-Some.field-0-is at c.i
 pub returns-in-None : goal.returns-in-None
 returns-in-None c = none_on _ _ _ _ _ c.loop-at.invariant c.first_start-start.ensures
 
-pub returns-then-budget-eq0 : goal.returns-then-budget-eq0
-returns-then-budget-eq0 c = none_on _ _ _ _ _ c.loop-at.invariant c.first_start-start.ensures
+pub returns-then-budget-left : goal.returns-then-budget-left
+returns-then-budget-left c = none_on _ _ _ _ _ c.loop-at.invariant c.first_start-start.ensures
 
 pub returns-then-start-text : goal.returns-then-start-text
 returns-then-start-text c =
