@@ -2,13 +2,24 @@
 _awkbox() {
     local word=${COMP_WORDS[COMP_CWORD]} before=${COMP_WORDS[COMP_CWORD-1]} options
     COMPREPLY=()
+    # bash cuts a word at each = into three
+    if [ "$word" = = ]; then
+        word=
+    elif [ "$before" = = ]; then
+        before=${COMP_WORDS[COMP_CWORD-2]}
+    fi
     case $before in
+    -C)
+        compopt -o filenames 2>/dev/null
+        mapfile -t COMPREPLY < <(compgen -d -- "$word")
+        return
+        ;;
     --policy | --log | -f)
         compopt -o filenames 2>/dev/null
         mapfile -t COMPREPLY < <(compgen -f -- "$word")
         return
         ;;
-    --steps | -F | -v) return ;;
+    --log-limit | --steps | -F | -v) return ;;
     esac
     if [ "$COMP_CWORD" -eq 1 ]; then
         mapfile -t COMPREPLY < <(compgen -W 'run list check --help' -- "$word")
@@ -22,7 +33,7 @@ _awkbox() {
         ;;
     esac
     case ${COMP_WORDS[1]} in
-    run) options='--policy --log --steps -F -v -f --help --' ;;
+    run) options='--policy --log --log-append --log-limit -C --steps -F -v -f --help --' ;;
     list) options='-f --help' ;;
     check) options='--policy -f --help' ;;
     *) options= ;;

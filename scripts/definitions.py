@@ -21,7 +21,7 @@ SUBJECTS = [
     ("texts, values, patterns, records, formats, arrays", ["awk_text", "awk_ere", "awk_fields", "awk_format", "awk_lib"]),
     ("the form of a script that runs", ["awk_program"]),
     ("plain awk", ["awk_machine"]),
-    ("what a run is given", ["awk_setup", "awk_run"]),
+    ("what a run is given", ["awk_run"]),
     ("tokens, the tree and the grammar", ["awk_tokens", "awk_tree", "awk_grammar_laws", "awk_statements"]),
     ("names, and the program of a script", []),
 ]

@@ -197,33 +197,6 @@ status=$?
 is 2 "" "awkbox: 1:19 F12 cannot write the denial log$line" "" && [ ! -e "$work/elsewhere/x" ]
 verdict "a log that takes nothing"
 
-# example NAME SCRIPT: runs an example of the repository, with this folder as its base
-example() {
-    sed "s|^base = .*|base = \"$base\"|" "$examples/$1/policy.toml" >"$work/policy.toml"
-    cp "$examples/$1/$2" "$work/script.awk"
-    run </dev/null
-}
-
-mkdir -p out/2026 out/archive answers solutions daily
-
-example report-host report.awk
-is 2 "" "awkbox: 5:19 F7 cannot open or write output$line" \
-    "4:2 run none \"test -s out/2026/totals.txt; id\"${line}5:19 write 1 \"out/archive/2025.txt\"$line" &&
-    holds out/2026/totals.txt "total 12$line" && [ ! -e out/archive/2025.txt ]
-verdict "the example of a report host"
-
-example teaching-server exercise.awk
-is 2 "" "awkbox: 4:12 F7 cannot open or write output$line" \
-    "3:2 run none \"cat solutions/a.txt\"${line}4:12 write none \"answers/../solutions/a.txt\"$line" &&
-    holds answers/a.txt "4$line" && [ ! -e solutions/a.txt ]
-verdict "the example of a teaching server"
-
-echo precious >victim
-example log-pipeline step.awk
-is 0 "" "" "4:2 run none \"sort -ovictim\"${line}5:2 run none \"rm -r daily\"$line" &&
-    holds daily/2026-11-22.log "started${line}done$line" && holds victim "precious$line"
-verdict "the example of a step of a log pipeline, which denies an option that would empty a file"
-
 # recipe FOLDER: runs the commands that the folder's README shows, at the top of a clone, and tells
 # whether they print what the README says
 recipe() {
@@ -242,9 +215,30 @@ mkdir -p "$clone/crates/awkbox_program/out"
 cp -R "$top/README.md" "$top/examples" "$top/man" "$top/completions" "$top/install" "$clone"
 ln -s "$program" "$clone/awkbox"
 ln -s "$program" "$clone/crates/awkbox_program/out/awkbox_program"
-for folder in . examples/hi examples/report-host examples/teaching-server examples/log-pipeline; do
+recipes=(. examples/hi examples/report-host examples/teaching-server examples/log-pipeline)
+command -v parallel >/dev/null && recipes+=(examples/many-machines)
+for folder in "${recipes[@]}"; do
     recipe "$folder"
     verdict "the commands of the README in $folder"
+done
+
+# The example of the README's first lines: its script, its rule, its log.
+policy 'effect = "allow"
+kind = "write"
+match = "out/**"'
+script "$(sed -n '/^```awk$/,/^```$/{/^```/!p}' "$top/README.md")"
+run
+is 2 "no commands here$line" "awkbox: 4:19 F7 cannot open or write output$line" \
+    "$(grep -E '^[0-9]+:[0-9]+ (run|write) ' "$top/README.md")$line" && holds out/totals.txt "total 12$line" &&
+    grep -qF 'awkbox: 4:19 F7 cannot open or write output' "$top/README.md"
+verdict "the first example of the README"
+
+# The code of a page is that of a file that is proved and run.
+from_file() { sed -n "/^\/\/ $1: begin\$/,/^\/\/ $1: end\$/{/^\/\/ $1: /!p}" "$top/crates/rows/src/hosts.rt"; }
+shown=$(sed -n '/^```rust$/,/^```$/{/^```/!p}' "$top/docs/EMBEDDING.md")
+for part in world host; do
+    [ -n "$(from_file "$part")" ] && [[ $shown == *"$(from_file "$part")"* ]]
+    verdict "the code of docs/EMBEDDING.md is that of the rows: $part"
 done
 
 # Standard streams that the program was started without.
@@ -339,6 +333,149 @@ awkbox run --policy "$work/policy.toml" --log /dev/null -f "$work/script.awk"
 is 0 "hi$line" "" ""
 verdict "a log that is no regular file"
 
+# keeps_log NAME WORD..: whether a run with this log and these words is refused, and the log stays as it was
+keeps_log() {
+    local name=$1
+    shift
+    awkbox run --policy "$work/policy.toml" --log "$name" -f "$work/script.awk" "$@"
+    [ "$status" -eq 3 ] && [ ! -s "$work/output" ] &&
+        holds "$work/errors" "awkbox: cannot write \"$name\"$line" && holds "$work/log" "from another run$line"
+}
+echo "from another run" >"$work/log"
+cp "$work/log" "$work/other"
+ln -sf "$work/log" "$work/log.link"
+keeps_log "$work/log" -- "$work/other" "$work/log"
+verdict "a log that is an operand's file"
+keeps_log "$work/log" -- ../log
+verdict "a log that is an operand's file, by another name"
+keeps_log "$work/log.link" -- "$work/log"
+verdict "a log that is an operand's file, by a symbolic link"
+keeps_log "$work/log" <"$work/log"
+verdict "a log that is the standard input"
+
+# stream NUMBER LOG: whether a run whose standard stream of this number is the log is refused, and adds only what it says
+stream() {
+    local said="awkbox: cannot write \"$2\"$line"
+    echo "from another run" >"$work/log"
+    : >"$work/output"
+    : >"$work/errors"
+    local words=(run --policy "$work/policy.toml" --log "$2" -f "$work/script.awk")
+    case $1 in
+    1) "$program" "${words[@]}" >>"$work/log" 2>"$work/errors" ;;
+    2) "$program" "${words[@]}" >"$work/output" 2>>"$work/log" ;;
+    7) "$program" "${words[@]}" >"$work/output" 2>"$work/errors" 7>>"$work/policy.toml" ;;
+    esac
+    status=$?
+    case $1 in
+    2) is 3 "" "" "from another run$line$said" ;;
+    *) is 3 "" "$said" "from another run$line" && cmp -s "$work/policy.toml" "$work/kept.toml" ;;
+    esac
+}
+stream 1 "$work/log"
+verdict "a log that is the standard output"
+for name in /dev/stdout /dev/fd/1 /proc/self/fd/1; do
+    stream 1 "$name"
+    verdict "a log that is the standard output, by the name $name"
+done
+stream 2 "$work/log"
+verdict "a log that is the standard error"
+for name in /dev/stderr /dev/fd/2 /proc/self/fd/2; do
+    stream 2 "$name"
+    verdict "a log that is the standard error, by the name $name"
+done
+for name in /dev/fd/7 /proc/self/fd/7; do
+    stream 7 "$name"
+    verdict "a log that is the policy, by the name $name of an open file"
+done
+stream 1 /dev/fd/63
+verdict "a log by the name of a descriptor that is closed"
+
+script 'BEGIN { system("id"); print "on" }'
+denial="1:9 run none \"id\"$line"
+"$program" run --policy "$work/policy.toml" --log /dev/fd/7 -f "$work/script.awk" \
+    >"$work/output" 2>"$work/errors" 7>"$work/log"
+status=$?
+is 0 "on$line" "" "$denial"
+verdict "a log by the name of another open file"
+"$program" run --policy "$work/policy.toml" --log /dev/stdout -f "$work/script.awk" 2>"$work/errors" |
+    cat >"$work/output"
+status=${PIPESTATUS[0]}
+: >"$work/log"
+is 0 "${denial}on$line" "" ""
+verdict "a log that is the standard output, where that is a pipe"
+mkfifo "$work/fifo"
+cat "$work/fifo" >"$work/log" &
+awkbox run --policy "$work/policy.toml" --log "$work/fifo" -f "$work/script.awk" -- "$work/fifo"
+wait
+is 0 "on$line" "" "$denial"
+verdict "a log that is a pipe with a name"
+: >"$work/log"
+awkbox run --policy "$work/policy.toml" --log "$work/log.link" -f "$work/script.awk"
+is 0 "on$line" "" "$denial" && [ -L "$work/log.link" ]
+verdict "a log by a symbolic link"
+
+run --log-append
+is 0 "on$line" "" "from another run$line$denial"
+verdict "a log that is added to"
+script 'BEGIN { system("id"); system("id"); print "on" }'
+second="1:23 run none \"id\"$line"
+both=$((${#denial} + ${#second}))
+run --log-limit "$both"
+is 0 "on$line" "" "$denial$second"
+verdict "a log of as many bytes as the limit"
+run --log-limit $((both - 1))
+is 2 "" "awkbox: 1:23 F12 cannot write the denial log$line" "$denial"
+verdict "a log that would pass the limit"
+run --log-limit 0
+is 2 "" "awkbox: 1:9 F12 cannot write the denial log$line" ""
+verdict "a log that takes nothing"
+run --log-append --log-limit "$both"
+is 0 "on$line" "" "from another run$line$denial$second"
+verdict "a limit counts what this run adds"
+for _ in 1 2 3 4; do
+    "$program" run --policy "$work/policy.toml" --log "$work/log" --log-append -f "$work/script.awk" \
+        >/dev/null 2>>"$work/errors" &
+done
+wait
+[ "$(grep -cxF "${denial%"$line"}" "$work/log")" -eq 5 ] && [ "$(wc -l <"$work/log")" -eq 11 ]
+verdict "four runs that share a log"
+
+# Texts without end.
+
+script 'BEGIN { print "hi" }'
+for pair in "--policy $work/policy.toml -f /dev/zero" "--policy /dev/zero -f $work/script.awk"; do
+    rm -f "$work/log"
+    # shellcheck disable=SC2086
+    awkbox run --log "$work/log" $pair
+    [ "$status" -eq 3 ] && holds "$work/errors" "awkbox: cannot read \"/dev/zero\"$line" && [ ! -e "$work/log" ]
+    verdict "a text without end: ${pair//$work\//}"
+done
+printf 'BEGIN { print "hi" } #' >"$work/script.awk"
+head -c $((16777216 - 22)) /dev/zero | tr '\0' x >>"$work/script.awk"
+run
+is 0 "hi$line" "" ""
+verdict "a script of 16 MiB"
+printf x >>"$work/script.awk"
+run
+is 3 "" "awkbox: cannot read \"$work/script.awk\"$line" "from another run$line"
+verdict "a script of one byte more"
+
+# A stack that is too small.
+
+script 'BEGIN { print "hi" }'
+for kilobytes in 256 8191; do
+    echo "from another run" >"$work/log"
+    bash -c 'ulimit -s "$1" && shift && exec "$@"' - "$kilobytes" "$program" run --policy "$work/policy.toml" \
+        --log "$work/log" -f "$work/script.awk" >"$work/output" 2>"$work/errors"
+    status=$?
+    is 3 "" "awkbox: the stack is smaller than 8 MiB$line" "from another run$line"
+    verdict "a stack of $kilobytes KiB"
+done
+bash -c 'ulimit -s 8192 && exec "$@"' - "$program" run --policy "$work/policy.toml" --log "$work/log" \
+    -f "$work/script.awk" >"$work/output" 2>"$work/errors"
+status=$?
+is 0 "hi$line" "" ""
+verdict "a stack of 8 MiB"
 # Limits.
 
 # limited RULE..: writes the policy file in version 2 with these rules
@@ -386,18 +523,23 @@ script 'BEGIN { print "hi" }'
 
 # The folder of the start.
 
-warning="awkbox: warning: started outside the policy's base \"$base\"$line"
+outside="awkbox: not started in the policy's base \"$base\"$line"
 mkdir -p "$work/start/out"
 cd "$work/start" || exit 2
+script 'BEGIN { print "hi"; print "a" > "out/a" }'
 for kind in read write append; do
     policy "effect = \"allow\"
 kind = \"$kind\"
 match = \"out/*\""
     run
-    is 0 "hi$line" "$warning" ""
+    is 3 "" "$outside" "" && [ ! -e out/a ]
     verdict "a start in another folder, with a rule of kind $kind"
 done
+run --log-append
+is 3 "" "$outside" "from another run$line"
+verdict "a start in another folder, with a log that is added to"
 
+script 'BEGIN { print "hi" }'
 no_rules
 run
 is 0 "hi$line" "" ""
@@ -413,12 +555,6 @@ verdict "a start in another folder, without a rule of files"
 policy 'effect = "allow"
 kind = "write"
 match = "out/*"'
-script "BEGIN { print \"a\" > \"$work/elsewhere/x\" }"
-run
-is 2 "" "${warning}awkbox: 1:19 F7 cannot open or write output$line" \
-    "1:19 write none \"$work/elsewhere/x\"$line"
-verdict "a start in another folder changes neither the status nor the rest"
-
 script 'BEGIN { print ) }'
 run
 [ "$status" -eq 3 ] && [ ! -s "$work/output" ] && [ "$(wc -l <"$work/errors")" -eq 1 ] &&
@@ -432,11 +568,117 @@ run
 is 0 "hi$line" "" ""
 verdict "a start in the base, by way of a link"
 
+# in another folder, with the words' files there
+cd "$work/start" || exit 2
+cp "$work/policy.toml" "$work/start/its.toml"
+printf '%s\n' 'BEGIN { print "a" > "out/a"; print "b" > "/etc/x" }' >"$work/start/its.awk"
+for folder in ../base "$work/way" "$base/out/.."; do
+    rm -f "$base/out/a" "$work/start/out/a" its.log
+    awkbox run -C "$folder" --policy its.toml --log its.log -f its.awk
+    cp its.log "$work/log"
+    is 2 "" "awkbox: 1:40 F7 cannot open or write output$line" "1:40 write none \"/etc/x\"$line" &&
+        holds "$base/out/a" "a$line" && [ ! -e out/a ] && [ ! -e "$base/its.log" ]
+    verdict "a run that enters the folder $folder"
+done
+policy 'effect = "allow"
+kind = "read"
+match = "**"
+from = "given"'
+script '{ print FILENAME, $0 }'
+echo 5 >"$base/in.txt"
+run "-C$base" -- in.txt
+is 0 "in.txt 5$line" "" ""
+verdict "operands under the folder that is entered"
+cp "$base/in.txt" "$work/start/in.txt"
+echo "from another run" >"$work/log"
+awkbox run -C "$base" --policy "$work/policy.toml" --log in.txt -f "$work/script.awk" -- in.txt
+is 0 "in.txt 5$line" "" "from another run$line" && holds in.txt ""
+verdict "a log that has the name of an operand in another folder"
+for folder in "$work/none" "$work/policy.toml" ''; do
+    run -C "$folder"
+    is 3 "" "awkbox: cannot enter \"$folder\"$line" "from another run$line"
+    verdict "a folder that cannot be entered: '$folder'"
+done
+run -C "$work/start"
+is 3 "" "$outside" ""
+verdict "a folder that is entered and is not the base"
+
 cd "$base" || exit 2
+script 'BEGIN { print "hi" }'
 sed -i 's|^base = .*|base = "/nowhere \\"at all\\""|' "$work/policy.toml"
 run
-is 0 "hi$line" "awkbox: warning: started outside the policy's base \"/nowhere \\x22at all\\x22\"$line" ""
+is 3 "" "awkbox: not started in the policy's base \"/nowhere \\x22at all\\x22\"$line" ""
 verdict "a base that is no folder"
+
+# Rules that let a script write to the run's own files.
+
+cp "$work/script.awk" own.awk
+# own RULE..: runs own.awk with a policy and a log that lie in the base too
+own() {
+    policy "$@"
+    cp "$work/policy.toml" own.toml
+    awkbox run --policy own.toml --log "${log:-own.log}" -f "${awk:-$base/own.awk}"
+    : >"$work/log"
+}
+writable() { printf 'awkbox: warning: rule %s allows writing to the %s "%s"\n' "$@"; }
+own 'effect = "allow"
+kind = "write"
+match = "**"'
+is 0 "hi$line" "$(writable 1 log own.log 1 policy own.toml 1 script "$base/own.awk")$line" ""
+verdict "a rule that allows writing to all of a run's own files"
+own 'effect = "deny"
+kind = "write"
+match = "own.*"' 'effect = "allow"
+kind = "append"
+match = "*.log"' 'effect = "allow"
+kind = "write"
+match = "**"'
+is 0 "hi$line" "$(writable 2 log own.log)$line" ""
+verdict "a rule that allows appending to the log"
+log=$work/log own 'effect = "allow"
+kind = "write"
+match = "*"' 'effect = "allow"
+kind = "write"
+match = "/**/log"'
+is 0 "hi$line" "$(writable 2 log "$work/log" 1 policy own.toml 1 script "$base/own.awk")$line" ""
+verdict "a rule that allows writing by an absolute name"
+mkdir -p deep
+ln -sf ../own.awk deep/link.awk
+awk=deep/../deep/link.awk own 'effect = "allow"
+kind = "write"
+match = "own.awk"'
+is 0 "hi$line" "$(writable 1 script deep/../deep/link.awk)$line" ""
+verdict "a rule that allows writing to what a link leads to"
+awk=deep/link.awk own 'effect = "allow"
+kind = "write"
+match = "deep/*"'
+is 0 "hi$line" "$(writable 1 script deep/link.awk)$line" ""
+verdict "a rule that allows writing by the name of a link"
+own 'effect = "allow"
+kind = "read"
+match = "**"' 'effect = "allow"
+kind = "run"
+match = "**"' 'effect = "allow"
+kind = "write"
+match = "out/*"'
+is 0 "hi$line" "" ""
+verdict "rules that allow writing to none of them"
+cd "$work/start" || exit 2
+cp "$base/own.awk" its.awk
+policy 'effect = "allow"
+kind = "write"
+match = "*.awk"'
+awkbox run -C "$work/way" --policy "$work/policy.toml" --log "$work/log" -f ../base/own.awk
+is 0 "hi$line" "$(writable 1 script ../base/own.awk)$line" ""
+verdict "a name in the folder of the start is warned of as one in the base"
+sed -i "s|^base = .*|base = \"$work/way\"|" "$work/policy.toml"
+awkbox run -C "$base" --policy "$work/policy.toml" --log "$work/log" -f "$base/own.awk"
+is 0 "hi$line" "$(writable 1 script "$base/own.awk")$line" ""
+verdict "a file in a base that has a link for its name"
+awkbox run -C "$base" --policy "$work/policy.toml" --log "$work/log" -f its.awk
+is 0 "hi$line" "" ""
+verdict "a file in the folder of the start that has an allowed name in the base"
+cd "$base" || exit 2
 
 # The words of run: variables, separator, steps and operands.
 
@@ -674,6 +916,56 @@ run
 is 5 "end$line" "" ""
 verdict "the status of a script"
 
+# A host that bounds what a run takes, by the recipe of docs/HOSTING.md.
+
+mkdir -p "$work/host"
+sed -n '/^```sh$/,/^```$/{/^```/!p}' "$top/docs/HOSTING.md" >"$work/recipe"
+# attack NAME SECONDS SCRIPT RULE..: runs the script by the recipe, and fails where it takes longer
+attack() {
+    local name=$1 most=$2
+    local home=$work/host/$name
+    mkdir -p "$home"
+    script "$3"
+    base=$home no_rules
+    [ $# -lt 4 ] || base=$home policy "${@:4}"
+    local before=$SECONDS
+    awkbox=$program policy=$work/policy.toml logs=$work/host bash -c '. "$0" && host "$@"' "$work/recipe" \
+        "$home" "$work/script.awk" >"$work/output" 2>"$work/errors" </dev/null
+    status=$?
+    cp "$work/host/$name.log" "$work/log"
+    took=$((SECONDS - before))
+    [ "$took" -le "$most" ]
+}
+attack plain 5 'BEGIN { print "a" > "a"; system("id"); print "hi" }' 'effect = "allow"
+kind = "write"
+match = "a"' && is 0 "hi$line" "" "1:26 run none \"id\"$line" && holds "$work/host/plain/a" "a$line"
+verdict "a run by the recipe for hosts"
+attack memory 10 'BEGIN { for (s = "x"; i < 22; i++) s = s s; while (1) a[n++] = s n }' &&
+    is 2 "" "awkbox: 0:0 F13 out of memory$line" ""
+verdict "an attack on memory"
+attack command 30 "BEGIN { system(\"sleep 1000.$$; sleep 1000.$$\") }" 'effect = "allow"
+kind = "run"
+match = "**"' && [ "$status" -eq 124 ] && ! pgrep -f "sleep 1000[.]$$" >/dev/null
+verdict "an attack by a command without end"
+attack log 10 'BEGIN { for (c = "id"; i < 12; i++) c = c c; while (1) system(c) }' && [ "$status" -eq 2 ] &&
+    holds "$work/errors" "awkbox: 1:56 F12 cannot write the denial log$line" &&
+    [ "$(wc -c <"$work/log")" -le 1000000 ] && [ "$(tail -c 3 "$work/log")" = 'd"' ]
+verdict "an attack that floods the log"
+attack file 10 'BEGIN { for (s = "x"; i < 20; i++) s = s s; while (1) print s > "a" }' 'effect = "allow"
+kind = "write"
+match = "a"' && is 2 "" "awkbox: 1:63 F7 cannot open or write output$line" "" &&
+    [ "$(wc -c <"$work/host/file/a")" -le 20480000 ]
+verdict "an attack that floods a file"
+nest=$(printf '(%.0s' {1..100000})
+attack nest 10 "BEGIN { x = ${nest}1${nest//(/)} }" && [ "$status" -eq 3 ] && grep -Eqx 'awkbox: script 1:[0-9]+ S5' "$work/errors"
+verdict "an attack by a deep nest"
+attack calls 10 'function f(n) { return f(n + 1) + 1 } BEGIN { f(0) }' && [ "$status" -eq 2 ] &&
+    grep -Eqx 'awkbox: [0-9]+:[0-9]+ F[0-9]+ .*' "$work/errors"
+verdict "an attack by calls without end"
+attack pattern 30 'BEGIN { for (s = "a"; i < 20; i++) s = s s; while (1) n += match(s, /((a?){141}){141}b/) }' &&
+    [ "$status" -ge 124 ]
+verdict "an attack by a pattern that is slow"
+
 # Listings and verdicts.
 
 # told STATUS OUTPUT ERRORS: whether the program ended with these
@@ -731,7 +1023,7 @@ awkbox list -f "$work/none.awk"
 told 3 "" "awkbox: cannot read \"$work/none.awk\"$line"
 verdict "a listing of a script that is not there"
 
-for example in hi/hi report-host/report teaching-server/exercise log-pipeline/step; do
+for example in hi/hi report-host/report teaching-server/exercise log-pipeline/step many-machines/count; do
     folder=$examples/${example%/*}
     awkbox list -f "$examples/$example.awk"
     [ "$status" -eq 0 ] && cmp -s "$work/output" "$folder/listing.txt" && holds "$work/errors" ""
@@ -819,7 +1111,7 @@ while IFS=$'\t' read -r kind name value words; do
     grep -qF -- "$name" "$top/completions/awkbox.bash" || differing="$differing bash:$name"
     grep -qF -- "$words" "$top/completions/_awkbox" || differing="$differing zsh:$name"
 done <"$top/docs/options.txt"
-options() { grep -oE -- '(^|[ ,])--?[a-zA-Z]+' | tr -d ' ,' | sort -u; }
+options() { grep -oE -- '(^|[ ,])--?[a-zA-Z][a-zA-Z-]*' | tr -d ' ,' | sort -u; }
 said=$(options <"$work/helps" | grep -vx -e '-h')
 known=$(cut -f 2 <"$top/docs/options.txt" | grep '^-' | sort -u)
 echo "differing:$differing; said:" $said "; known:" $known >"$work/output"
@@ -840,6 +1132,32 @@ for page in awkbox.1 awkbox-policy.5; do
     verdict "the manual page $page (checked: $checked)"
 done
 
+if man -l "$top/man/awkbox.1" >/dev/null 2>&1; then
+    MANWIDTH=200 MAN_KEEP_FORMATTING= man -l "$top/man/awkbox.1" 2>/dev/null >"$work/output"
+    grep -qF -- '-f FILE [-- OPERAND ...]' "$work/output"
+    verdict "the manual page shows operands behind --"
+fi
+
+# installs STATUS OUTPUT ERRORS WORD..: whether the installation ended so
+installs() {
+    local wanted=$1 output=$2 errors=$3
+    shift 3
+    "$clone/install" "$@" >"$work/output" 2>"$work/errors"
+    status=$?
+    [ "$status" -eq "$wanted" ] && grep -qxF -- "$output" "$work/output" "$work/errors" &&
+        { [ -z "$errors" ] && [ ! -s "$work/errors" ] || grep -qxF -- "$errors" "$work/errors"; }
+}
+usage='usage: ./install [PREFIX]'
+(
+    cd "$work" || exit 1
+    installs 0 "$usage" "" --help && installs 0 "$usage" "" -h &&
+        installs 2 "$usage" "install: unknown option --prefix" --prefix &&
+        installs 2 "$usage" "install: unknown option -x" --uninstall -x &&
+        installs 2 "$usage" "install: an empty PREFIX" "" &&
+        installs 2 "$usage" "install: too many words" prefix more && [ ! -e prefix ]
+)
+verdict "the words of the installation"
+
 prefix=$work/prefix
 "$clone/install" "$prefix" >"$work/output" 2>&1
 status=$?
@@ -849,6 +1167,11 @@ status=$?
     cmp -s "$prefix/share/zsh/site-functions/_awkbox" "$top/completions/_awkbox" &&
     cmp -s "$prefix/share/bash-completion/completions/awkbox" "$top/completions/awkbox.bash"
 verdict "the installation"
+
+touch "$prefix/bin/other"
+installs 0 "removed $prefix/bin/awkbox, its manual pages and its completions" "" --uninstall "$prefix" &&
+    [ "$(find "$prefix" -type f)" = "$prefix/bin/other" ]
+verdict "what was installed is taken away, and nothing else"
 
 # The wrapper and the build, over three crates and a prover that are made up.
 fresh=$work/fresh
@@ -881,15 +1204,15 @@ tells() {
         cmp -s - <(grep -v '^fn' "$work/errors" | sed 's/ in [0-9]* min$//')
 }
 begins="proving and building the program"
-at_once="$(nproc) at once"
+at_once="on $(nproc) processors"
 wrapper high
 [ "$status" -eq 1 ] && holds "$work/output" "" && grep -qx 'fn high::main: proved' "$work/errors" &&
-    tells "not built; run ./build" "$begins: 3 of 3 crates, $at_once" "high failed; the end of $fresh/crates/high/out/build.log:" \
+    tells "not built; run ./build" "$begins: 3 of 3 crates $at_once" "high failed; the end of $fresh/crates/high/out/build.log:" \
         "not built: 1 crates stand on what failed"
 verdict "the wrapper where a crate is not proved"
 wrapper
 [ "$status" -eq 0 ] && holds "$work/output" "ran run a b$line" &&
-    tells "not built; run ./build" "$begins: 2 of 3 crates, $at_once" "built $fresh/crates/awkbox_program/out/awkbox_program"
+    tells "not built; run ./build" "$begins: 2 of 3 crates $at_once" "built $fresh/crates/awkbox_program/out/awkbox_program"
 verdict "the wrapper goes on where the build ended"
 wrapper
 [ "$status" -eq 0 ] && holds "$work/output" "ran run a b$line" && holds "$work/errors" ""
@@ -910,14 +1233,32 @@ completed() {
 }
 [ "$(completed awkbox r)" = run ] && [ "$(completed awkbox run --p)" = --policy ] &&
     [ "$(completed awkbox check --)" = "--policy --help" ] &&
+    [ "$(completed awkbox run --log-l)" = --log-limit ] && [ "$(completed awkbox run -C "$work/elsew")" = "$work/elsewhere" ] &&
     [ "$(completed awkbox list -f a -)" = "-f --help" ] &&
     [ "$(completed awkbox run -f a -- "$work/kept.t")" = "$work/kept.toml" ] &&
     [ "$(completed awkbox run --policy "$work/kept.t")" = "$work/kept.toml" ]
 verdict "the completions for bash"
-if command -v zsh >/dev/null; then
-    zsh -n "$top/completions/_awkbox"
-    verdict "the completions for zsh can be read"
-fi
+
+# typed SHELL TEXT WORD..: whether the shell, where it is there, makes these words of the text and a tab
+typed() {
+    local shell=$1 text=$2
+    shift 2
+    (cd "$work/names" && python3 "$top/scripts/typed.py" "$shell" "$text") >"$work/output" 2>&1
+    status=$?
+    [ "$status" -eq 0 ] && holds "$work/output" "$(printf '%s\n' "$@")$line"
+}
+mkdir "$work/names"
+touch "$work/names/policy.toml"
+for shell in bash zsh; do
+    command -v "$shell" >/dev/null && [ -e /dev/ptmx ] || continue
+    typed "$shell" "run --policy=pol" run --policy=policy.toml &&
+        typed "$shell" "check --policy=" check --policy=policy.toml &&
+        typed "$shell" "run --log pol" run --log policy.toml &&
+        typed "$shell" "run -f pol" run -f policy.toml
+    verdict "$shell finds the files of options"
+    typed "$shell" "run -f f -- pol" run -f f -- policy.toml && typed "$shell" "run -f f pol" run -f f pol
+    verdict "$shell finds operands behind -- alone"
+done
 
 script 'BEGIN { print "hi" }'
 no_rules
@@ -954,6 +1295,12 @@ fault "a separator twice" run --policy p --log l -F a -F b -f f
 for steps in +5 -1 1e3 1000000000001 99999999999999999999 ''; do
     fault "a bound of '$steps' steps" run --policy p --log l --steps "$steps" -f f
 done
+for bytes in +5 -1 1e3 18446744073709551616 ''; do
+    fault "a limit of '$bytes' bytes" run --policy p --log l --log-limit "$bytes" -f f
+done
+fault "a value of --log-append" run --policy p --log l --log-append=x -f f
+fault "a folder twice" run --policy p --log l -C a -C b -f f
+fault "a folder of check" check --policy p -C a -f f
 fault "an operand of list" list -f f -- a
 fault "an operand of check" check --policy p -f f -- a
 fault "a policy of list" list --policy p -f f

@@ -1,8 +1,11 @@
 #!/usr/bin/env python3
-"""stack-of-forms.py PROGRAM: the bytes of stack that each form of the language takes where it is nested, beside a call's.
+"""stack-of-forms.py [--nests] PROGRAM: the bytes of stack that each form of the language takes where it is nested, beside a call's.
 
 A function calls itself 60 and 120 times deep, at the bottom reads its own VmStk from /proc/self/status, and is run with the form
-nested 0 and 8 times around the call. The stack grows by pages, so a number is right to some 10 bytes. Linux alone."""
+nested 0 and 8 times around the call. The stack grows by pages, so a number is right to some 10 bytes. Linux alone.
+
+With --nests each form is nested too deep instead: 199 calls with 60 of it around each. A run has to end by itself, as F13 where
+the nest is too deep, and 199 calls with 20 `if` around each have to come to their end. The last line counts the trials."""
 import re
 import subprocess
 import sys
@@ -38,13 +41,43 @@ def each_call(program, folder, body):
     return (stack(program, folder, body, MANY) - stack(program, folder, body, FEW)) / (MANY - FEW)
 
 
-def nested(form, inner):
-    for _ in range(NESTS):
+def nested(form, inner, times=NESTS):
+    for _ in range(times):
         inner = form % inner
     return inner
 
 
+def ends_well(program, folder, body, wanted):
+    script = "function g(x) { return x } function f(n) { if (n < 1) return 0; %s } BEGIN { c[1]; f(199); print \"done\" }" % body
+    with open(f"{folder}/s.awk", "w") as out:
+        out.write(script)
+    with open(f"{folder}/policy.toml", "w") as out:
+        out.write(POLICY)
+    command = [program, "run", "--policy", f"{folder}/policy.toml", "--log", f"{folder}/log", "-f", f"{folder}/s.awk"]
+    ran = subprocess.run(command, capture_output=True, text=True, timeout=60, stdin=subprocess.DEVNULL, cwd="/proc")
+    told = "done" if ran.stdout.startswith("done") else "F13" if " F13 " in ran.stderr else "other"
+    if told in wanted and ran.returncode in (0, 2):
+        return True
+    print(f"{body[:60]}..: status {ran.returncode} {ran.stderr.strip()[:80]}")
+    return False
+
+
+def nests(program):
+    passed = failed = 0
+    with tempfile.TemporaryDirectory() as folder:
+        trials = [("%s" % nested("if (n>0||n<5) %s", "f(n-1)", 20), ("done",))]
+        trials += [("return %s+0" % nested(form, "f(n-1)", 60), ("done", "F13")) for form in EXPRESSIONS]
+        trials += [("%s" % nested(form, "f(n-1)", 60), ("done", "F13")) for form in STATEMENTS]
+        for body, wanted in trials:
+            good = ends_well(program, folder, body, wanted)
+            passed, failed = passed + good, failed + (not good)
+    print(f"{passed} passed, {failed} failed")
+    return failed == 0
+
+
 def main():
+    if sys.argv[1] == "--nests":
+        sys.exit(0 if nests(sys.argv[2]) else 1)
     program = sys.argv[1]
     with tempfile.TemporaryDirectory() as folder:
         for forms, body, inner in ((EXPRESSIONS, "return %s+0", "f(n-1)"), (STATEMENTS, "%s", "f(n-1)+0")):

@@ -18,17 +18,17 @@ use Rattle.awk_machine.specs.Calls.{Argument, function, arguments, by_value, by_
 use Rattle.awk_machine.specs.Forms.{value}
 use Rattle.awk_machine.specs.Pieces.{Piece, At, Do, Call, Step, Value_of, Goes, give}
 use Rattle.awk_machine.specs.State.{State, Given}
-use Rattle.awk_asks.specs.declared.halt.Halt.{Halt}
-use Rattle.awk_asks.specs.Chains.{Leads, Meets}
-use Rattle.awk_asks.proofs.Chain as chain
-use Rattle.awk_asks.specs.Tables.{Table}
-use Rattle.awk_asks.specs.Tasks.{Owns}
+use Rattle.awk_streams.specs.declared.halt.Halt.{Halt}
+use Rattle.awk_streams.specs.Chains.{Leads, Meets}
+use Rattle.awk_streams.proofs.Chain as chain
+use Rattle.awk_streams.specs.Tables.{Table}
+use Rattle.awk_streams.specs.Tasks.{Owns}
 use Rattle.awk_store.specs.Kept.{Kept}
-use Rattle.awk_tasks.proofs.Acting.{acted, done as there}
+use Rattle.awk_store.proofs.Acting.{acted, done as there}
 use Rattle.awk_eval.proofs.Leading.{hands_on, quietly}
-use Rattle.awk_tasks.specs.Wholes.{Whole, Agreeing, base, names_in, used}
-use Rattle.awk_calls.specs.Calls.{argument_of}
-use Rattle.awk_calls.proofs.Framing.{one_longer, reverse_last}
+use Rattle.awk_store.specs.Wholes.{Whole, Agreeing, base, names_in, used}
+use Rattle.awk_store.specs.Calls.{argument_of}
+use Rattle.awk_store.proofs.Framing.{one_longer, reverse_last}
 use Rattle.awk_eval.specs.Along.{Arguing}
 use Rattle.awk_eval.specs.Calls.{Argued, IsPassed}
 use Rattle.awk_eval.specs.Runs.{IsGiven}

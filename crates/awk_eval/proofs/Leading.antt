@@ -7,11 +7,11 @@ use Rattle.awk_machine.specs.State.{Course, Given}
 use Rattle.awk_machine.specs.Statements.{to_records}
 use Rattle.awk_machine.specs.Streams.{seen}
 use Rattle.awk_store.specs.States.{Hidden}
-use Rattle.awk_asks.specs.Chains.{Leads, Meets}
-use Rattle.awk_asks.proofs.Chain.{at_once, changes, part, done, stop}
-use Rattle.awk_asks.specs.declared.halt.Halt.{Halt}
-use Rattle.awk_tasks.specs.Acts.{Passes}
-use Rattle.awk_tasks.specs.Wholes.{Whole, Agreeing, base, used}
+use Rattle.awk_streams.specs.Chains.{Leads, Meets}
+use Rattle.awk_streams.proofs.Chain.{at_once, changes, part, done, stop}
+use Rattle.awk_streams.specs.declared.halt.Halt.{Halt}
+use Rattle.awk_store.specs.Acts.{Passes}
+use Rattle.awk_store.specs.Wholes.{Whole, Agreeing, base, used}
 use Rattle.awk_text.specs.Values.{number_of, truth}
 use Rattle.awk_text.specs.declared.fault.Fault.{Fault}
 use Rattle.awk_text.specs.declared.value.Value.{Value}

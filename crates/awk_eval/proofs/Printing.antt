@@ -16,9 +16,9 @@ use Rattle.awk_program.specs.Slots.{Text}
 use Rattle.awk_machine.specs.Pieces.{Part, Piece, At, Close, Do, Doing, Open, Put, Value_of, Goes, Then}
 use Rattle.awk_machine.specs.Printing.{class_of, mode_of, target_of}
 use Rattle.awk_machine.specs.State.{State, Given}
-use Rattle.awk_asks.specs.declared.halt.Halt.{Halt}
-use Rattle.awk_asks.specs.Chains.{Meets}
-use Rattle.awk_tasks.specs.Wholes.{Whole, Agreeing, base, used}
+use Rattle.awk_streams.specs.declared.halt.Halt.{Halt}
+use Rattle.awk_streams.specs.Chains.{Meets}
+use Rattle.awk_store.specs.Wholes.{Whole, Agreeing, base, used}
 use Rattle.awk_eval.specs.Runs.{Waits}
 use Rattle.awk_eval.proofs.Turns.{waits_each}
 

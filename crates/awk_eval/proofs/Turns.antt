@@ -13,18 +13,18 @@ use Rattle.awk_machine.specs.Moves.{move}
 use Rattle.awk_machine.specs.Pieces.{Part, Piece, At, Value_of, Ands_of, Ors_of, Goes, Then, give}
 use Rattle.awk_machine.specs.State.{State, Given}
 use Rattle.awk_machine.specs.Statements.{to_records}
-use Rattle.awk_asks.specs.declared.halt.Halt.{Halt}
-use Rattle.awk_asks.specs.Chains.{Leads, Meets}
-use Rattle.awk_asks.proofs.Chain as chain
-use Rattle.awk_asks.specs.declared.halt.Halt.TheVariants as halt
+use Rattle.awk_streams.specs.declared.halt.Halt.{Halt}
+use Rattle.awk_streams.specs.Chains.{Leads, Meets}
+use Rattle.awk_streams.proofs.Chain as chain
+use Rattle.awk_streams.specs.declared.halt.Halt.TheVariants as halt
 use Rattle.awk_text.specs.Values.{truth}
 use Rattle.box_world.specs.declared.world.World.{Ghosts}
 use Rattle.awk_machine.specs.Operators.{of_truth}
-use Rattle.awk_tasks.specs.Acts.{Acts}
-use Rattle.awk_tasks.proofs.Acting as acting
-use Rattle.awk_forms.proofs.Rests.{listed-of}
-use Rattle.awk_tasks.specs.Wholes.{Whole, Agreeing, base, used}
-use Rattle.awk_calls.proofs.Framing.{reverse_last}
+use Rattle.awk_store.specs.Acts.{Acts}
+use Rattle.awk_store.proofs.Acting as acting
+use Rattle.awk_builtins.proofs.Rests.{listed-of}
+use Rattle.awk_store.specs.Wholes.{Whole, Agreeing, base, used}
+use Rattle.awk_store.proofs.Framing.{reverse_last}
 use Rattle.awk_eval.specs.Along.{Filling}
 use Rattle.awk_eval.specs.Runs.{IsGiven, Does, Fills, Waits}
 use Rattle.awk_eval.specs.declared.context.Context.{Context}

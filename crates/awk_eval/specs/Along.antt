@@ -8,9 +8,9 @@ use Rattle.awk_program.specs.Program.{Expression, Arguments}
 use Rattle.awk_machine.specs.Forms.{value}
 use Rattle.awk_machine.specs.Pieces.{Part, Piece, At, Value_of}
 use Rattle.awk_machine.specs.State.{Given}
-use Rattle.awk_asks.specs.Chains.{Leads}
-use Rattle.awk_asks.specs.Tasks.{Owns}
-use Rattle.awk_tasks.specs.Wholes.{Whole, Agreeing, base, used}
+use Rattle.awk_streams.specs.Chains.{Leads}
+use Rattle.awk_streams.specs.Tasks.{Owns}
+use Rattle.awk_store.specs.Wholes.{Whole, Agreeing, base, used}
 use Rattle.awk_eval.specs.declared.context.Context.{Context}
 use Rattle.awk_eval.specs.Runs.{IsGiven, Waits}
 

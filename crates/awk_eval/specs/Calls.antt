@@ -10,15 +10,15 @@ use Rattle.awk_program.specs.declared.expressions.Argument as code
 use Rattle.awk_program.specs.declared.expressions.Argument.TheVariants as argument
 use Rattle.awk_program.specs.declared.expressions.Expr.{Expr}
 use Rattle.awk_store.specs.Kept.{Kept}
-use Rattle.awk_forms.specs.AtHand.{IsThere}
+use Rattle.awk_quick.specs.AtHand.{IsThere}
 use Rattle.awk_machine.specs.Calls.{Argument, arguments}
 use Rattle.awk_machine.specs.Forms.{value}
 use Rattle.awk_machine.specs.Pieces.{At, Value_of}
 use Rattle.awk_machine.specs.State.{Given}
-use Rattle.awk_asks.specs.declared.halt.Halt.{Halt}
-use Rattle.awk_asks.specs.Chains.{Meets}
-use Rattle.awk_asks.specs.Tasks.{Owns}
-use Rattle.awk_tasks.specs.Wholes.{Whole, Agreeing, base, used}
+use Rattle.awk_streams.specs.declared.halt.Halt.{Halt}
+use Rattle.awk_streams.specs.Chains.{Meets}
+use Rattle.awk_streams.specs.Tasks.{Owns}
+use Rattle.awk_store.specs.Wholes.{Whole, Agreeing, base, used}
 use Rattle.awk_eval.specs.declared.context.Context.{Context}
 use Rattle.awk_eval.specs.Runs.{IsGiven}
 

@@ -3,10 +3,10 @@ use Rattle.std.specs.Prelude.{◌≡◌, ℕ, ◌≤◌, Result}
 use Rattle.std.specs.Borrow.{Bor, MutBor}
 use Rattle.awk_text.specs.declared.value.Value.{Value}
 use Rattle.box_world.specs.declared.world.World.{Ghosts}
-use Rattle.awk_asks.specs.Tasks.{Owns}
-use Rattle.awk_asks.specs.declared.halt.Halt.{Halt}
-use Rattle.awk_calls.specs.Flows.{flows}
-use Rattle.awk_calls.specs.declared.flow.Flow.{Flow}
+use Rattle.awk_streams.specs.Tasks.{Owns}
+use Rattle.awk_streams.specs.declared.halt.Halt.{Halt}
+use Rattle.awk_store.specs.Flows.{flows}
+use Rattle.awk_store.specs.declared.flow.Flow.{Flow}
 use Rattle.awk_machine.specs.Forms.{value}
 use Rattle.awk_machine.specs.Pieces.{Do, Start, give}
 use Rattle.awk_eval.specs.Runs.{Does}
@@ -15,7 +15,7 @@ use Rattle.awk_eval.specs.declared.context.Run.{Run}
 use Rattle.awk_program.specs.View.{view, view_statement}
 use Rattle.awk_program.specs.declared.expressions.Expr.{Expr}
 use Rattle.awk_program.specs.declared.statements.Statement.{Statement}
-use Rattle.awk_tasks.specs.Wholes.{names_in}
+use Rattle.awk_store.specs.Wholes.{names_in}
 
 pub record Nests {W : Type 0} (ghosts : Ghosts W)
     (level : ℕ)

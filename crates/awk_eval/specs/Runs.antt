@@ -11,11 +11,11 @@ use Rattle.awk_machine.specs.Forms.{value}
 use Rattle.awk_machine.specs.Pieces.{Part, Piece, At, Goes, give}
 use Rattle.awk_machine.specs.State.{State, Given}
 use Rattle.awk_machine.specs.Statements.{to_records}
-use Rattle.awk_asks.specs.declared.halt.Halt.{Halt}
-use Rattle.awk_asks.specs.Chains.{Meets}
-use Rattle.awk_asks.specs.Tasks.{Owns}
-use Rattle.awk_tasks.specs.Wholes.{Whole, Agreeing, base, used}
-use Rattle.awk_records.specs.Hosts.{IsHost}
+use Rattle.awk_streams.specs.declared.halt.Halt.{Halt}
+use Rattle.awk_streams.specs.Chains.{Meets}
+use Rattle.awk_streams.specs.Tasks.{Owns}
+use Rattle.awk_store.specs.Wholes.{Whole, Agreeing, base, used}
+use Rattle.awk_input.specs.Hosts.{IsHost}
 use Rattle.awk_eval.specs.declared.context.Context.{Context}
 use Rattle.awk_eval.specs.declared.context.Run.{Run}
 

@@ -1,23 +1,23 @@
 // What evaluates the parts of a form.
 ghost use Rattle.std.specs.Prelude.{IfSome};
-ghost use Rattle.awk_asks.specs.Tasks.{Owns};
+ghost use Rattle.awk_streams.specs.Tasks.{Owns};
 ghost use Rattle.awk_machine.specs.Forms.{value};
 ghost use Rattle.awk_machine.specs.Pieces.{Do, Start, give};
 ghost use Rattle.awk_program.specs.View.{view, view_statement};
-ghost use Rattle.awk_tasks.specs.Wholes.{names_in};
-ghost use Rattle.awk_calls.specs.Flows.{flows};
+ghost use Rattle.awk_store.specs.Wholes.{names_in};
+ghost use Rattle.awk_store.specs.Flows.{flows};
 ghost use Rattle.awk_eval.specs.Runs.{Does, whole_of};
 
 use crate::context::{Context, Run};
-use awk_asks::halt::Halt;
-use awk_calls::Flow;
+use awk_streams::halt::Halt;
+use awk_store::Flow;
 use awk_program::{Expr, Statement};
 use awk_text::value::Value;
 use box_world::world::World;
 
-/// What evaluates expressions and statements, so many levels deep.
+/// What evaluates expressions and statements, within what is left of the stack.
 pub trait Evaluates<W: World>: Copy {
-    /// It may be called: the levels that are left are fewer than those of the caller.
+    /// It may be called: less of the stack is left than to the caller.
     ghost can: { Self → Type 0 };
 
     /// The value of an expression.
@@ -40,8 +40,8 @@ pub trait Evaluates<W: World>: Copy {
         ensures { Does W.World cx.now (λ g. Do (Start (view_statement (names_in g) x.now))) (λ g. flows)
             (whole_of run.old) world.old result (whole_of run.new) world.new };
 
-    /// The same, one level deeper, if there is one left.
-    fn below(self) -> Option<Self>
+    /// The same, for what stands inside a form that takes so many units of the stack, if as many are left.
+    fn below(self, units: u32) -> Option<Self>
         requires { can self }
         ensures { IfSome result can };
 }

@@ -1,13 +1,13 @@
 // Expressions.
 ghost use Rattle.std.specs.Prelude.{map};
-ghost use Rattle.awk_asks.specs.Tasks.{Owns};
-ghost use Rattle.awk_forms.specs.Operands.{unary_of, binary_of};
+ghost use Rattle.awk_streams.specs.Tasks.{Owns};
+ghost use Rattle.awk_builtins.specs.Operands.{binary_of, unary_of};
 ghost use Rattle.awk_machine.specs.Forms.{value};
 ghost use Rattle.awk_machine.specs.Pieces.{give};
 ghost use Rattle.awk_program.specs.Program as p;
 ghost use Rattle.awk_program.specs.Program.{expressions_of, terms_of, joins_of};
 ghost use Rattle.awk_program.specs.View.{view, view_term, view_joined, variable_of};
-ghost use Rattle.awk_tasks.specs.Wholes.{names_in};
+ghost use Rattle.awk_store.specs.Wholes.{names_in};
 ghost use Rattle.awk_eval.specs.Runs.{Does, Tells, IsNumberOf, IsTruthOf, IsUnwanted, whole_of};
 ghost use Rattle.awk_machine.specs.Operators.{of_truth};
 
@@ -19,23 +19,23 @@ use crate::patterns::{locate, split, substitute};
 use crate::sources::matches;
 use crate::targets::{assign, change, increment, read_target};
 use crate::tests::{number, truth_of};
-use awk_asks::halt::Halt;
-use awk_forms::at_hand::{MOST_LEVELS, at_hand, number_at_hand, truth_at_hand};
-use awk_forms::chains::{join, members, operated};
-use awk_forms::done::done_at_once;
-use awk_forms::made::owned;
-use awk_forms::operands::{Binary, Unary, part_of};
-use awk_forms::patterns::matched_record;
-use awk_forms::splitting::{done_once_split, truth_once_split};
-use awk_lent::lent::Lent;
+use awk_streams::halt::Halt;
+use awk_quick::at_hand::{MOST_LEVELS, at_hand, number_at_hand, truth_at_hand};
+use awk_builtins::chains::{join, members, operated};
+use awk_quick::done::done_at_once;
+use awk_builtins::made::owned;
+use awk_builtins::functions::{Binary, Unary, part_of};
+use awk_builtins::patterns::matched_record;
+use awk_quick::splitting::{done_once_split, truth_once_split};
+use awk_text::lent::Lent;
 use awk_program::{Comparison, Expr, Joined, Term, Variable};
 use awk_text::fault::Fault;
 use awk_text::place::Place;
 use awk_text::value::{Value, number_of, truth};
-use awk_works::operators::{compared, compared_lent, truth_value};
+use awk_builtins::operators::{compared, compared_lent, truth_value};
 use box_world::world::World;
 
-/// The value of an expression, once a level was taken for its parts.
+/// The value of an expression, once room on the stack was taken for its parts.
 #[inline(never)]
 pub fn evaluate<W: World, E: Evaluates<W>>(
     cx: &Context<'_>,

@@ -1,26 +1,26 @@
 // getline in its forms, `close` and `system`.
-ghost use Rattle.awk_asks.specs.Tasks.{Owns};
+ghost use Rattle.awk_streams.specs.Tasks.{Owns};
 ghost use Rattle.awk_machine.specs.Forms.{value};
 ghost use Rattle.awk_machine.specs.Pieces.{give};
 ghost use Rattle.awk_program.specs.Program as p;
 ghost use Rattle.awk_program.specs.View.{view, view_pipes, view_target};
-ghost use Rattle.awk_tasks.specs.Wholes.{names_in};
+ghost use Rattle.awk_store.specs.Wholes.{names_in};
 ghost use Rattle.awk_eval.specs.Runs.{Does, whole_of};
 
 use crate::context::{Context, Run};
 use crate::evaluates::Evaluates;
 use crate::targets::target_of;
-use awk_asks::halt::Halt;
-use awk_asks::{closing, requests};
-use awk_forms::at_hand::{MOST_LEVELS, at_hand};
-use awk_forms::keys::spot_at_hand;
-use awk_lent::lent::Lent;
+use awk_streams::halt::Halt;
+use awk_streams::{closing, requests};
+use awk_quick::at_hand::{MOST_LEVELS, at_hand};
+use awk_quick::at_hand::spot_at_hand;
+use awk_text::lent::Lent;
 use awk_program::{Expr, Piped, Target};
-use awk_records::getline::{
+use awk_input::getline::{
     command_record, file_record, getline_pipe, set_from_command, set_from_file,
 };
-use awk_records::main_input::getline_main;
-use awk_tasks::values::into_text;
+use awk_input::main_input::getline_main;
+use awk_store::values::into_text;
 use awk_text::place::Place;
 use awk_text::value::Value;
 use box_world::world::World;

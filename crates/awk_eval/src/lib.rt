@@ -18,7 +18,9 @@ mod sources;
 mod statements;
 mod targets;
 mod tests;
+mod units;
 mod walk;
 
 pub use context::{Context, Run};
+pub use units::MOST_UNITS as MOST_UNITS;
 pub use walk::{body, statement, truth_of, value};

@@ -1,24 +1,24 @@
 // Lists of expressions.
 ghost use Rattle.std.specs.Prelude.{◌≡◌, ◌+◌, List, ℕ, length, IfOk, OnOk, map};
-ghost use Rattle.awk_asks.specs.Tasks.{Owns};
+ghost use Rattle.awk_streams.specs.Tasks.{Owns};
 ghost use Rattle.awk_machine.specs.Forms.{value, spot};
 ghost use Rattle.awk_machine.specs.Pieces.{give};
 ghost use Rattle.awk_program.specs.Program as p;
 ghost use Rattle.awk_program.specs.Program.{expressions_of};
 ghost use Rattle.awk_program.specs.View.{view, variable_of};
-ghost use Rattle.awk_tasks.specs.Spots.{IsSpotOf, value_of};
-ghost use Rattle.awk_tasks.specs.Wholes.{names_in};
+ghost use Rattle.awk_store.specs.Spots.{IsSpotOf, value_of};
+ghost use Rattle.awk_store.specs.Wholes.{names_in};
 ghost use Rattle.awk_eval.specs.Runs.{Does, Fills, whole_of};
 
 use crate::context::{Context, Run};
 use crate::evaluates::Evaluates;
-use awk_asks::halt::Halt;
-use awk_forms::chains::members;
-use awk_forms::keys::{element_key, group_key, one_key, only};
-use awk_forms::made::append;
-use awk_forms::outputs::sprintf;
+use awk_streams::halt::Halt;
+use awk_builtins::chains::members;
+use awk_builtins::keys::{element_key, group_key, one_key, only};
+use awk_builtins::made::append;
+use awk_builtins::printing::sprintf;
 use awk_program::{Expr, Variable};
-use awk_tasks::{Key, Spot};
+use awk_store::{Key, Spot};
 use awk_text::place::Place;
 use awk_text::value::Value;
 use box_world::world::World;

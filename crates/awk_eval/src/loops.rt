@@ -1,23 +1,23 @@
 // Loops. A turn takes at least one step, and so does the loop before its first one: no loop has more tests than the run has steps.
 ghost use Rattle.std.specs.Prelude.{[], option_map, option_copied};
-ghost use Rattle.awk_asks.specs.Tasks.{Owns};
+ghost use Rattle.awk_streams.specs.Tasks.{Owns};
 ghost use Rattle.awk_machine.specs.Pieces.{At, Do, Doing, Keys, Test, Turn};
 ghost use Rattle.awk_program.specs.Program as p;
 ghost use Rattle.awk_program.specs.View.{view, view_statement, variable_of};
-ghost use Rattle.awk_tasks.specs.Wholes.{names_in};
-ghost use Rattle.awk_calls.specs.Flows.{flows};
+ghost use Rattle.awk_store.specs.Wholes.{names_in};
+ghost use Rattle.awk_store.specs.Flows.{flows};
 ghost use Rattle.awk_eval.specs.Loops.{loop_of, tested, to_test};
 ghost use Rattle.awk_eval.specs.Runs.{Does, whole_of};
 
 use crate::context::{Context, Run};
 use crate::evaluates::Evaluates;
 use crate::tests::{effect, truth_of};
-use awk_asks::halt::Halt;
-use awk_calls::Flow;
-use awk_calls::ends::end_of;
+use awk_streams::halt::Halt;
+use awk_store::Flow;
+use awk_store::flow::end_of;
 use awk_lib::key::Key;
 use awk_program::{Expr, Statement, Variable};
-use awk_tasks::variables::set_variable;
+use awk_store::variables::set_variable;
 use awk_text::place::Place;
 use awk_text::value::Value;
 use box_world::world::World;

@@ -1,28 +1,26 @@
 // Output.
 ghost use Rattle.std.specs.Prelude.{[], Some, None, map, option_map};
-ghost use Rattle.awk_asks.specs.Tasks.{Owns};
+ghost use Rattle.awk_streams.specs.Tasks.{Owns};
 ghost use Rattle.awk_machine.specs.Pieces.{At, Doing};
 ghost use Rattle.awk_program.specs.Program as p;
 ghost use Rattle.awk_program.specs.View.{view, view_redirection};
-ghost use Rattle.awk_tasks.specs.Wholes.{names_in};
-ghost use Rattle.awk_calls.specs.Flows.{flows};
+ghost use Rattle.awk_store.specs.Wholes.{names_in};
+ghost use Rattle.awk_store.specs.Flows.{flows};
 ghost use Rattle.awk_eval.specs.Runs.{Does, whole_of};
 
 use crate::context::{Context, Run};
 use crate::evaluates::Evaluates;
 use crate::lists::fill;
-use awk_asks::halt::Halt;
-use awk_asks::requests::put;
-use awk_calls::Flow;
-use awk_forms::made::append;
-use awk_forms::outputs::{
-    formatted_for, formatted_line, printed_at_hand, printed_for, printed_line, redirected_at_hand,
-    split_for_items,
-};
-use awk_forms::splitting::split_for;
-use awk_lent::lent::Lent;
+use awk_streams::halt::Halt;
+use awk_streams::requests::put;
+use awk_store::Flow;
+use awk_builtins::made::append;
+use awk_builtins::printing::{formatted_for, formatted_line, printed_for, printed_line};
+use awk_quick::printing::{printed_at_hand, redirected_at_hand, split_for_items};
+use awk_quick::splitting::split_for;
+use awk_text::lent::Lent;
 use awk_program::{Expr, Redirection};
-use awk_records::outputs::put_to;
+use awk_input::outputs::put_to;
 use awk_text::place::Place;
 use box_world::world::World;
 

@@ -1,18 +1,18 @@
 // Expressions that search for a pattern.
-ghost use Rattle.awk_asks.specs.Tasks.{Owns};
+ghost use Rattle.awk_streams.specs.Tasks.{Owns};
 ghost use Rattle.awk_machine.specs.Forms.{value};
 ghost use Rattle.awk_machine.specs.Pieces.{give};
 ghost use Rattle.awk_program.specs.Program as p;
 ghost use Rattle.awk_program.specs.View.{view, view_ere, view_target, variable_of};
-ghost use Rattle.awk_tasks.specs.Wholes.{names_in};
+ghost use Rattle.awk_store.specs.Wholes.{names_in};
 ghost use Rattle.awk_eval.specs.Runs.{Does, whole_of};
 
 use crate::context::{Context, Run};
 use crate::evaluates::Evaluates;
 use crate::sources::source_of;
 use crate::targets::target_of;
-use awk_asks::halt::Halt;
-use awk_forms::{patterns, replacements};
+use awk_streams::halt::Halt;
+use awk_builtins::{replacements, searches, splits};
 use awk_program::{Expr, Extent, Pattern, Target, Variable};
 use awk_text::place::Place;
 use awk_text::value::Value;
@@ -35,7 +35,7 @@ pub fn locate<W: World, E: Evaluates<W>>(
 {
     let text = on.value(cx, x, run, world)?;
     let from = source_of(cx, pattern, on, run, world)?;
-    patterns::located(
+    searches::located(
         cx.alloc,
         &mut run.patterns,
         &mut run.store,
@@ -64,7 +64,7 @@ pub fn split<W: World, E: Evaluates<W>>(
 {
     let text = on.value(cx, x, run, world)?;
     let by = source_of(cx, separator, on, run, world)?;
-    patterns::split(
+    splits::split(
         cx.alloc,
         &mut run.patterns,
         &mut run.store,

@@ -1,20 +1,22 @@
 // What stands where a pattern is wanted, and whether it matches.
 ghost use Rattle.std.specs.Prelude.{List, ℕ, IfOk};
-ghost use Rattle.awk_asks.specs.Tasks.{Owns};
-ghost use Rattle.awk_forms.specs.Patterns.{source_value, IsSourceOf};
+ghost use Rattle.awk_streams.specs.Tasks.{Owns};
+ghost use Rattle.awk_builtins.specs.Patterns.{IsSourceOf, source_value};
 ghost use Rattle.awk_machine.specs.Forms.{source, value};
 ghost use Rattle.awk_machine.specs.Operators.{of_truth};
 ghost use Rattle.awk_machine.specs.Pieces.{give};
 ghost use Rattle.awk_program.specs.Program as p;
 ghost use Rattle.awk_program.specs.View.{view, view_ere};
-ghost use Rattle.awk_tasks.specs.Wholes.{names_in};
+ghost use Rattle.awk_store.specs.Wholes.{names_in};
 ghost use Rattle.awk_eval.specs.Runs.{Does, whole_of};
 
 use crate::context::{Context, Run};
 use crate::evaluates::Evaluates;
-use awk_asks::halt::Halt;
-use awk_forms::patterns::{self, Source, matched_at_hand};
-use awk_forms::splitting::split_for;
+use awk_streams::halt::Halt;
+use awk_builtins::patterns;
+use awk_builtins::patterns::Source;
+use awk_quick::matching::matched_at_hand;
+use awk_quick::splitting::split_for;
 use awk_program::{Expr, Pattern};
 use awk_text::place::Place;
 use box_world::world::World;

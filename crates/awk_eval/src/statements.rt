@@ -1,11 +1,11 @@
 // Statements.
 ghost use Rattle.std.specs.Prelude.{[], map, option_map};
-ghost use Rattle.awk_asks.specs.Tasks.{Owns};
+ghost use Rattle.awk_streams.specs.Tasks.{Owns};
 ghost use Rattle.awk_machine.specs.Pieces.{At, Do, Doing, Each, Start};
 ghost use Rattle.awk_program.specs.Program as p;
 ghost use Rattle.awk_program.specs.View.{view, view_statement, variable_of};
-ghost use Rattle.awk_tasks.specs.Wholes.{names_in};
-ghost use Rattle.awk_calls.specs.Flows.{flows};
+ghost use Rattle.awk_store.specs.Wholes.{names_in};
+ghost use Rattle.awk_store.specs.Flows.{flows};
 ghost use Rattle.awk_eval.specs.Runs.{Does, whole_of};
 
 use crate::context::{Context, Run};
@@ -14,11 +14,11 @@ use crate::lists::fill;
 use crate::loops::{first_then, over_keys, turn_first, while_loop};
 use crate::output::{print, printf};
 use crate::tests::{effect, truth_of};
-use awk_asks::halt::Halt;
-use awk_calls::Flow;
-use awk_calls::ends::is_on;
-use awk_calls::jumps::{exit, exit_with, next};
-use awk_forms::keys::remove;
+use awk_streams::halt::Halt;
+use awk_store::Flow;
+use awk_store::flow::is_on;
+use awk_store::jumps::{exit, exit_with, next};
+use awk_builtins::keys::remove;
 use awk_program::{Expr, Statement, Variable};
 use awk_text::place::Place;
 use box_world::world::World;
@@ -45,7 +45,28 @@ pub fn body<W: World, E: Evaluates<W>>(
     Ok(Flow::On)
 }
 
+/// What a block does. It stands by itself, and so does what a test chooses: they nest most, and take the least of the stack so.
+#[inline(never)]
+pub fn block<W: World, E: Evaluates<W>>(
+    cx: &Context<'_>,
+    x: &Statement,
+    on: E,
+    run: &mut Run,
+    world: &mut W,
+) -> Result<Flow, Halt>
+    requires can { E.can on }
+    requires owns { Owns (W.open_numbers world.old) run.old.streams }
+    ensures { Does W.World cx.now (λ g. At (Doing (view_statement (names_in g) x.now)) []) (λ g. flows)
+        (whole_of run.old) world.old result (whole_of run.new) world.new }
+{
+    match x {
+        Statement::Block(xs) => body(cx, xs.as_slice(), on, run, world),
+        _ => perform(cx, x, on, run, world),
+    }
+}
+
 /// What a statement does.
+#[inline(never)]
 pub fn perform<W: World, E: Evaluates<W>>(
     cx: &Context<'_>,
     x: &Statement,
@@ -181,7 +202,8 @@ fn give_back<W: World, E: Evaluates<W>>(
 }
 
 /// `if ( test ) then`
-fn when<W: World, E: Evaluates<W>>(
+#[inline(never)]
+pub fn when<W: World, E: Evaluates<W>>(
     cx: &Context<'_>,
     test: &Expr,
     then: &Statement,
@@ -203,7 +225,8 @@ fn when<W: World, E: Evaluates<W>>(
 }
 
 /// `if ( test ) then else other`
-fn either<W: World, E: Evaluates<W>>(
+#[inline(never)]
+pub fn either<W: World, E: Evaluates<W>>(
     cx: &Context<'_>,
     test: &Expr,
     then: &Statement,

@@ -1,26 +1,27 @@
 // What an expression is wanted for: its number, its truth, or what it does.
-ghost use Rattle.awk_asks.specs.Tasks.{Owns};
+ghost use Rattle.awk_streams.specs.Tasks.{Owns};
 ghost use Rattle.awk_machine.specs.Forms.{value};
 ghost use Rattle.awk_machine.specs.Pieces.{give};
 ghost use Rattle.awk_program.specs.Program as p;
 ghost use Rattle.awk_program.specs.View.{view};
-ghost use Rattle.awk_tasks.specs.Wholes.{names_in};
+ghost use Rattle.awk_store.specs.Wholes.{names_in};
 ghost use Rattle.awk_eval.specs.Runs.{Does, Tells, IsNumberOf, IsTruthOf, IsUnwanted, whole_of};
 ghost use Rattle.awk_machine.specs.Operators.{of_truth};
 
 use crate::context::{Context, Run};
 use crate::evaluates::Evaluates;
+use crate::units::units_of;
 use crate::sources::matches;
 use crate::targets::{alter, put, step_target};
-use awk_asks::halt::Halt;
-use awk_forms::at_hand::{MOST_LEVELS, at_hand, number_at_hand, truth_at_hand};
-use awk_forms::done::done_at_once;
-use awk_forms::splitting::{done_once_split, truth_once_split};
-use awk_lent::lent::Lent;
+use awk_streams::halt::Halt;
+use awk_quick::at_hand::{MOST_LEVELS, at_hand, number_at_hand, truth_at_hand};
+use awk_quick::done::done_at_once;
+use awk_quick::splitting::{done_once_split, truth_once_split};
+use awk_text::lent::Lent;
 use awk_program::{Comparison, Expr};
 use awk_text::fault::Fault;
 use awk_text::value::{number_of, truth};
-use awk_works::operators::{compared, compared_lent};
+use awk_builtins::operators::{compared, compared_lent};
 use box_world::world::World;
 
 /// The number of an expression's value, or that it is out of range, which is a fault only where the number is used.
@@ -80,7 +81,7 @@ fn general_truth<W: World, E: Evaluates<W>>(
     ensures { Tells W.World cx.now (λ g. value (view (names_in g) e.now)) IsTruthOf
         (whole_of run.old) world.old result (whole_of run.new) world.new }
 {
-    let Some(below) = on.below() else {
+    let Some(below) = on.below(units_of(e)) else {
         return Err(Halt::Memory);
     };
     match e {
@@ -154,7 +155,7 @@ fn general_effect<W: World, E: Evaluates<W>>(
     ensures { Tells W.World cx.now (λ g. value (view (names_in g) e.now)) IsUnwanted
         (whole_of run.old) world.old result (whole_of run.new) world.new }
 {
-    let Some(below) = on.below() else {
+    let Some(below) = on.below(units_of(e)) else {
         return Err(Halt::Memory);
     };
     match e {

@@ -1,33 +1,34 @@
-// Expressions and statements, no deeper than a number of levels.
+// Expressions and statements, no deeper than the stack lets them be.
 ghost use Rattle.std.specs.Prelude.{map};
-ghost use Rattle.awk_asks.specs.Tasks.{Owns};
-ghost use Rattle.awk_calls.specs.Flows.{flows};
+ghost use Rattle.awk_streams.specs.Tasks.{Owns};
+ghost use Rattle.awk_store.specs.Flows.{flows};
 ghost use Rattle.awk_eval.specs.Nests.{Nests};
 ghost use Rattle.awk_machine.specs.Forms.{value};
 ghost use Rattle.awk_machine.specs.Pieces.{Do, Each, Start, give};
 ghost use Rattle.awk_eval.specs.Runs.{Does, IsTruthOf, Tells, whole_of};
 ghost use Rattle.awk_program.specs.View.{view, view_statement};
-ghost use Rattle.awk_tasks.specs.Wholes.{names_in};
+ghost use Rattle.awk_store.specs.Wholes.{names_in};
 
 use crate::calls::call;
 use crate::context::{Context, Run};
 use crate::evaluates::Evaluates;
 use crate::expressions::{chain, choose, evaluate};
 use crate::inputs::{from_commands, from_file};
-use crate::statements::{perform, plain};
+use crate::statements::{block, either, perform, plain, when};
+use crate::units::{units_of, units_of_statement};
 use crate::{statements, tests};
-use awk_asks::halt::Halt;
-use awk_calls::Flow;
-use awk_calls::steps::{is_one, step};
-use awk_forms::at_hand::value_at_hand;
+use awk_streams::halt::Halt;
+use awk_store::Flow;
+use awk_store::steps::{is_one, step};
+use awk_quick::at_hand::value_at_hand;
 use awk_program::{Expr, Statement};
 use awk_text::value::Value;
 use box_world::world::World;
 
-/// What evaluates, so many levels deep.
+/// What evaluates, within so many units of the stack.
 #[derive(Clone, Copy)]
 struct Walk<V, S> {
-    level: u32,
+    left: u32,
     value: V,
     statement: S,
 }
@@ -37,7 +38,7 @@ impl<
     V: Copy + Fn(&Context<'_>, &Expr, u32, &mut Run, &mut W) -> Result<Value, Halt>,
     S: Copy + Fn(&Context<'_>, &Statement, u32, &mut Run, &mut W) -> Result<Flow, Halt>,
 > Evaluates<W> for Walk<V, S> {
-    ghost can = { λ on. Nests W.World on.level (V.pre on.value) (V.post on.value) (S.pre on.statement) (S.post on.statement) };
+    ghost can = { λ on. Nests W.World on.left (V.pre on.value) (V.post on.value) (S.pre on.statement) (S.post on.statement) };
 
     #[inline(always)]
     fn value(
@@ -47,7 +48,7 @@ impl<
         run: &mut Run,
         world: &mut W,
     ) -> Result<Value, Halt> {
-        (self.value)(cx, e, self.level, run, world)
+        (self.value)(cx, e, self.left, run, world)
     }
 
     #[inline(always)]
@@ -58,28 +59,29 @@ impl<
         run: &mut Run,
         world: &mut W,
     ) -> Result<Flow, Halt> {
-        (self.statement)(cx, x, self.level, run, world)
+        (self.statement)(cx, x, self.left, run, world)
     }
 
     #[inline(always)]
-    fn below(self) -> Option<Self> {
-        if self.level == 0 {
+    fn below(self, units: u32) -> Option<Self> {
+        if self.left < units {
             return None;
         }
         Some(Walk {
-            level: self.level - 1,
+            left: self.left - units,
             value: self.value,
             statement: self.statement,
         })
     }
 }
 
-/// The value of an expression. Each part is evaluated one level lower; where there is none left, memory for the parts is refused.
+/// The value of an expression. Its parts are evaluated within what it leaves of the stack; where that is too little, memory for them
+/// is refused.
 #[cycle(walk)]
 pub fn value<W: World>(
     cx: &Context<'_>,
     e: &Expr,
-    level: u32,
+    left: u32,
     run: &mut Run,
     world: &mut W,
 ) -> Result<Value, Halt>
@@ -90,11 +92,12 @@ pub fn value<W: World>(
     if let Some(there) = value_at_hand(cx.alloc, &run.store, e) {
         return Ok(there);
     }
-    if level == 0 {
+    let units = units_of(e);
+    if left < units {
         return Err(Halt::Memory);
     }
     let below = Walk {
-        level: level - 1,
+        left: left - units,
         value: value::<W>,
         statement: statement::<W>,
     };
@@ -115,7 +118,7 @@ pub fn value<W: World>(
 pub fn statement<W: World>(
     cx: &Context<'_>,
     x: &Statement,
-    level: u32,
+    left: u32,
     run: &mut Run,
     world: &mut W,
 ) -> Result<Flow, Halt>
@@ -123,29 +126,34 @@ pub fn statement<W: World>(
     ensures { Does W.World cx.now (λ g. Do (Start (view_statement (names_in g) x.now))) (λ g. flows)
         (whole_of run.old) world.old result (whole_of run.new) world.new }
 {
-    if level == 0 {
+    let units = units_of_statement(x);
+    if left < units {
         return Err(Halt::Memory);
     }
     let below = Walk {
-        level: level - 1,
+        left: left - units,
         value: value::<W>,
         statement: statement::<W>,
     };
     if !is_one(x) {
-        return perform(cx, x, below, run, world);
+        return block(cx, x, below, run, world);
     }
     step(cx.host.bound(), &mut run.store)?;
-    if let Statement::Expr(e) = x {
-        return plain(cx, e, below, run, world);
+    match x {
+        Statement::Expr(e) => plain(cx, e, below, run, world),
+        Statement::If(test, then) => when(cx, test, then.get(), below, run, world),
+        Statement::IfElse(test, then, other) => {
+            either(cx, test, then.get(), other.get(), below, run, world)
+        }
+        _ => perform(cx, x, below, run, world),
     }
-    perform(cx, x, below, run, world)
 }
 
 /// Whether the value of an expression is true.
 pub fn truth_of<W: World>(
     cx: &Context<'_>,
     e: &Expr,
-    level: u32,
+    left: u32,
     run: &mut Run,
     world: &mut W,
 ) -> Result<bool, Halt>
@@ -154,7 +162,7 @@ pub fn truth_of<W: World>(
         (whole_of run.old) world.old result (whole_of run.new) world.new }
 {
     let here = Walk {
-        level,
+        left,
         value: value::<W>,
         statement: statement::<W>,
     };
@@ -165,7 +173,7 @@ pub fn truth_of<W: World>(
 pub fn body<W: World>(
     cx: &Context<'_>,
     xs: &[Statement],
-    level: u32,
+    left: u32,
     run: &mut Run,
     world: &mut W,
 ) -> Result<Flow, Halt>
@@ -174,7 +182,7 @@ pub fn body<W: World>(
         (whole_of run.old) world.old result (whole_of run.new) world.new }
 {
     let here = Walk {
-        level,
+        left,
         value: value::<W>,
         statement: statement::<W>,
     };

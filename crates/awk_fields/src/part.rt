@@ -1,12 +1,12 @@
 // One field of a record of which fields are set: a part of the record's text, or a value of its own.
 ghost use Rattle.std.specs.Prelude.{◌≡◌, length, IfOk, IfErr};
 ghost use Rattle.awk_text.specs.Values.{text_of};
-ghost use Rattle.awk_lent.specs.Lents.{lent_value};
+ghost use Rattle.awk_text.specs.Lents.{lent_value};
 ghost use Rattle.awk_fields.specs.Edits.{IsPartOf, part_bytes, value_of};
 ghost use Rattle.awk_fields.specs.Spans.{IsWithin, part};
 
 use crate::spans::Span;
-use awk_lent::lent::Lent;
+use awk_text::lent::Lent;
 use awk_text::Memory;
 use awk_text::fault::Fault;
 use awk_text::octets::Octets;

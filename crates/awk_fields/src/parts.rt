@@ -2,13 +2,13 @@
 ghost use Rattle.std.specs.Prelude.{◌≡◌, List, ℕ, length, IfOk, OnOk, OnErr, IfErr, IfSome};
 ghost use Rattle.std.specs.List.{slice_index_or};
 ghost use Rattle.awk_fields.specs.Parts.{ArePartsKept, IsSound, IsSplitBy, row_of, values_of, whole_of};
-ghost use Rattle.awk_lent.specs.Lents.{lent_value};
+ghost use Rattle.awk_text.specs.Lents.{lent_value};
 
 use crate::edits::{Edited, Whole, cut, edited_whole, rebuild_edited};
 use crate::part::{lent_part, part_value, span_value};
 use crate::spans::Span;
 use crate::splitter::Splitter;
-use awk_lent::lent::Lent;
+use awk_text::lent::Lent;
 use awk_text::Memory;
 use awk_text::fault::Fault;
 use awk_text::value::Value;

@@ -1,7 +1,7 @@
 // A record: its whole text, and its fields by number.
 ghost use Rattle.std.specs.Prelude.{◌≡◌, ◌<◌, ◌≤◌, ◌⊎◌, ℕ, List, [], Ok, Err, pos, length, IfOk, OnOk, OnErr, IfErr, IfSome};
 ghost use Rattle.awk_text.specs.Limits.{most_bytes};
-ghost use Rattle.awk_lent.specs.Lents.{lent_value};
+ghost use Rattle.awk_text.specs.Lents.{lent_value};
 ghost use Rattle.awk_fields.specs.Rows.{known, unsplit, place_of, field_place, HasFields, IsKept, IsValueAt, SetsField, SetsCount, SetsNoField, SetsNoCount};
 
 use crate::edits::{Edited, put, set_len};
@@ -10,7 +10,7 @@ use crate::parts::{
     rebuild_parts, split_parts,
 };
 use crate::splitter::Splitter;
-use awk_lent::lent::Lent;
+use awk_text::lent::Lent;
 use awk_text::Memory;
 use awk_text::fault::Fault;
 use awk_text::octets::Octets;

@@ -1,6 +1,6 @@
 -- What an array ends as, once the `&mut` to one of its values has ended.
-use Rattle.std.specs.Prelude.{ℕ, List, Option, Some, Result}
-use Rattle.std.specs.Borrow.{Fml, RattleType, MutBor, Lends, LendsIf, LendsIfOk}
+use Rattle.std.specs.Prelude.{ℕ, List, Option, Some}
+use Rattle.std.specs.Borrow.{Fml, RattleType, MutBor, Lends, LendsIf}
 use Rattle.indexmap.specs.IndexMap.{with_value_at}
 use Rattle.awk_lib.specs.Arrays.{Array, with_element}
 use Rattle.awk_lib.specs.Numbering.{number_at}
@@ -23,7 +23,3 @@ module _ (V : RattleType) where
   -- the key has the last value written through r, and at `None` the array stays as it is
   abbrev pub lends_element : MutBor (Array V.Denot) → List ℕ → Option (MutBor V.Denot) → Fml
   lends_element s key r = LendsIf (array.the_row V) V s r (with_element s.now key) s.now
-
-  -- the same, and at `Err` the array stays as it is
-  abbrev pub lends_put : {E : Type 0} → MutBor (Array V.Denot) → List ℕ → Result (MutBor V.Denot) E → Fml
-  lends_put s key r = LendsIfOk (array.the_row V) V s r (with_element s.now key) s.now

@@ -87,10 +87,6 @@ impl<V> Array<V> {
 }
 
 impl<V: Drop> Array<V> {
-    ghost use Rattle.std.specs.Borrow.{sem};
-    ghost use Rattle.std.specs.Prelude.{unwrap_or};
-    ghost use Rattle.awk_lib.specs.Lends.{lends_put};
-
     /// Gives the key the value: in its place where the key is there, and else last.
     ///
     /// Fails with `Fault::TooManyElements` exactly where the key is new and there are `MOST_ELEMENTS`
@@ -132,31 +128,6 @@ impl<V: Drop> Array<V> {
         self.next = next;
         self.settled &= added.is_last;
         Ok(())
-    }
-
-    /// The value of the key, to write. Where the key is not there, it is added last, with the
-    /// value that is given.
-    ///
-    /// Fails as `put` does. Takes no memory where the key is there.
-    pub fn get_or_insert(&mut self, key: &[u8], value: V) -> Result<&mut V, Fault>
-        ensures* writes_back { sem 𝓛 (lends_put V.row self.entry key.now result) }
-        ensures value { IfOk result (λ x. x.now ≡ unwrap_or (element self.old key.now) value) }
-        ensures room { OnOk result ((w : V) → put self.old key.now w ≡ Ok (with_element self.old key.now w)) }
-        ensures err { IfErr result (λ e. (e ≡ Fault.Memory) ⊎ ((w : V) → put self.old key.now w ≡ Err e)) }
-    {
-        if let Some(place) = self.elements.find(key) {
-            return Ok(self.elements.value_mut(place));
-        }
-        if self.elements.count >= MOST_ELEMENTS {
-            return Err(Fault::TooManyElements);
-        }
-        let Some(next) = self.next.checked_add(1) else {
-            return Err(Fault::Memory);
-        };
-        let added = self.elements.add(key, self.next, value)?;
-        self.next = next;
-        self.settled &= added.is_last;
-        Ok(self.elements.value_mut(added.place))
     }
 
     /// Removes the key, if it is there. Takes no memory.

@@ -1,5 +1,10 @@
 -- The program that the expressions of a script stand for: names for what they stand for, constants made,
--- parentheses gone, and one form for each thing that can be said (POSIX.1-2017 XCU awk, "Expressions in awk").
+-- parentheses gone, and one form for each thing that can be said (POSIX.1-2017 XCU awk, "Expressions in awk"):
+--
+--   ( x )                          x                       x !~ y                        ! (x ~ y)
+--   an ERE by itself               $0 ~ that ERE           length, without parentheses   length($0)
+--   getline, without a target      getline $0              sub(x, y), gsub(x, y)         sub(x, y, $0), gsub(x, y, $0)
+--   split(x, a)                    split(x, a, FS)         x + y - z                     one chain, and so are * / %, && and ||
 use Rattle.std.specs.Prelude.{pos, Bool, true, false, List, [], ◌∷◌, map, get_or, codes, Option, Some, None}
 use Rattle.awk_text.specs.Escapes.{unescaped}
 use Rattle.awk_text.specs.declared.place.Place.{Place}

@@ -1,4 +1,19 @@
 -- What is still to be done, and what a move leads to.
+--
+-- An example: how `1 + x` comes to its value, where x holds 2. What is still to be done is a list of pieces, the first one first; here
+-- a piece is its part with the values that came to it, the newest first. Each line is one move behind the one above it.
+--
+--   Value_of (1 + x) []
+--   Value_of (1) []        then  Terms_of (+ x) []           a chain begins with its first operand
+--   Terms_of (+ x) [1]                                       a value goes to the part that waits for it (`give`)
+--   Value_of (x) []        then  Terms_of (+ x) [1]
+--   Target_of (x) []       then  Value_of (x) []      then  Terms_of (+ x) [1]
+--   Value_of (x) [unset]   then  Terms_of (+ x) [1]          a variable has no subscript
+--   Do Get (x)             then  Terms_of (+ x) [1]
+--   Terms_of (+ x) [2, 1]
+--   Terms_of () [3]                                          or the fault F1 at the place of `+`
+--
+-- and the next move gives 3 to whatever waits for it.
 use Rattle.std.specs.Prelude.{Option, ℕ, Bool, List, [], ◌∷◌, Result, Ok, Err}
 use Rattle.awk_text.specs.declared.value.Value.{Value}
 use Rattle.awk_text.specs.declared.place.Place.{Place}

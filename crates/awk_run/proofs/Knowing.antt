@@ -21,11 +21,11 @@ use Rattle.awk_program.specs.View.{names_of, view_function, Names}
 use Rattle.awk_program.specs.declared.program.Function.{Function}
 use Rattle.awk_parse.specs.Scripts.{IsScript, IsScriptOf}
 use Rattle.awk_parse.specs.declared.script.Script.{Script}
-use Rattle.awk_records.specs.Hosts.{Hosted, IsHost, IsSlotIn, can_set, is_free, is_given, slot_in, slot_of, use_of, with_name, with_word}
-use Rattle.awk_records.specs.declared.host.Use.{Use}
-use Rattle.awk_records.specs.declared.host.Use.TheVariants.{Variable, Barred}
-use Rattle.awk_records.proofs.Hosting.{given_added, use_added}
-use Rattle.awk_setup.specs.SetupParts.{SetupParts}
+use Rattle.awk_input.specs.Hosts.{Hosted, IsHost, IsSlotIn, can_set, is_free, is_given, slot_in, slot_of, use_of, with_name, with_word}
+use Rattle.awk_input.specs.declared.host.Use.{Use}
+use Rattle.awk_input.specs.declared.host.Use.TheVariants.{Variable, Barred}
+use Rattle.awk_input.proofs.Hosting.{given_added, use_added}
+use Rattle.awk_run.specs.SetupParts.{SetupParts}
 use Rattle.awk_run.specs.Givens.{given_of}
 use Rattle.awk_run.specs.Hosting.{host_of, nothing_told, with_functions, with_variables, with_words}
 use Rattle.awk_run.proofs.Naming.{Has, AllForced, array_is_variable, function_is_defined, functions_are_forced, functions_named}

@@ -5,7 +5,7 @@ use Rattle.awk_resolve.specs.Assigns.{can_assign}
 use Rattle.awk_machine.specs.State.{Given}
 use Rattle.awk_parse.specs.declared.script.Script.{Script}
 use Rattle.awk_program.specs.View.{view_program}
-use Rattle.awk_setup.specs.SetupParts.{SetupParts}
+use Rattle.awk_run.specs.SetupParts.{SetupParts}
 
 abbrev pub given_of : Script → SetupParts → ℕ → Given
 given_of s setup steps = record {

@@ -4,9 +4,9 @@ use Rattle.awk_resolve.specs.Assigns.{can_assign}
 use Rattle.awk_parse.specs.declared.script.Script.{Script}
 use Rattle.awk_program.specs.Slots.{Text}
 use Rattle.awk_program.specs.View.{names_of}
-use Rattle.awk_records.specs.Hosts.{Hosted, with_name, with_word}
-use Rattle.awk_records.specs.declared.host.Use.TheVariants.{Variable, Barred}
-use Rattle.awk_setup.specs.SetupParts.{SetupParts}
+use Rattle.awk_input.specs.Hosts.{Hosted, with_name, with_word}
+use Rattle.awk_input.specs.declared.host.Use.TheVariants.{Variable, Barred}
+use Rattle.awk_run.specs.SetupParts.{SetupParts}
 
 -- the words that the run was started with
 abbrev pub with_words : List Text → Hosted → Hosted

@@ -3,14 +3,14 @@ ghost use Rattle.std.specs.Prelude.{◌≡◌, map, IfOk, OnOk, if◌then◌else
 ghost use Rattle.awk_resolve.specs.Assigns as kinds;
 ghost use Rattle.awk_parse.specs.Scripts.{IsScript};
 ghost use Rattle.awk_program.specs.View.{names_of};
-ghost use Rattle.awk_records.specs.Hosts.{IsHost};
+ghost use Rattle.awk_input.specs.Hosts.{IsHost};
 ghost use Rattle.awk_run.specs.Givens.{given_of};
 ghost use Rattle.awk_run.specs.Hosting.{host_of, with_functions, with_variables, with_words};
 
 use awk_parse::Script;
 use awk_program::Function;
-use awk_records::{Host, Use};
-use awk_setup::Setup;
+use awk_input::{Host, Use};
+use crate::Setup;
 use awk_text::Memory;
 use awk_text::octets::Octets;
 use std::alloc::{AllocError, Global};

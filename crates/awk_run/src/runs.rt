@@ -1,16 +1,16 @@
 // Runs of scripts.
 ghost use Rattle.std.specs.Prelude.{◌≡◌, ℕ};
 ghost use Rattle.awk_parse.specs.Scripts.{IsScript};
-ghost use Rattle.awk_phases.specs.Outcomes.{view_outcome};
-ghost use Rattle.awk_phases.specs.Reports.{Reported};
-ghost use Rattle.awk_phases.specs.Starts.{IsStart};
+ghost use Rattle.awk_run.specs.Outcomes.{view_outcome};
+ghost use Rattle.awk_run.specs.Reports.{Reported};
+ghost use Rattle.awk_run.specs.Starts.{IsStart};
 ghost use Rattle.awk_run.specs.Givens.{given_of};
 
 use crate::hosting::host;
 use awk_eval::Context;
 use awk_parse::Script;
-use awk_phases::{Outcome, Report, Start, run_program};
-use awk_setup::Setup;
+use crate::{Outcome, Report, Start, run_program};
+use crate::Setup;
 use awk_text::fault::Fault;
 use awk_text::place::Place;
 use box_world::world::World;

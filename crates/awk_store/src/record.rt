@@ -1,6 +1,6 @@
 // The record.
 ghost use Rattle.std.specs.Prelude.{◌≡◌, ◌⊎◌, ◌<◌, ◌≤◌, ℕ, List, Ok, Err, pos, length, IfOk, IfErr, IfSome, OnOk, OnErr};
-ghost use Rattle.awk_lent.specs.Lents.{lent_value};
+ghost use Rattle.awk_text.specs.Lents.{lent_value};
 ghost use Rattle.awk_text.specs.Limits.{most_bytes};
 ghost use Rattle.awk_text.specs.Values.{text_of};
 ghost use Rattle.awk_machine.specs.Targets.{is_empty};
@@ -16,7 +16,7 @@ use crate::separators::Separators;
 use crate::store::Store;
 use crate::variables::{own_bytes, own_text};
 use awk_fields::Splitter;
-use awk_lent::lent::Lent;
+use awk_text::lent::Lent;
 use awk_program::Own;
 use awk_text::Memory;
 use awk_text::fault::Fault;

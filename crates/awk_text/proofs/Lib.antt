@@ -3,3 +3,4 @@ mod Numbers
 mod Octals
 mod Powers
 mod Readings
+pub mod Digits

@@ -1,9 +1,10 @@
 pub mod Arithmetic
 pub mod Escapes
 pub mod Faults
+pub mod Lents
 pub mod Limits
 pub mod Numerals
+pub mod Places
 pub mod Quoted
 pub mod Readings
 pub mod Values
-pub mod Places

@@ -4,6 +4,7 @@
 pub mod arithmetic;
 pub mod escape;
 pub mod fault;
+pub mod lent;
 pub mod numeral;
 pub mod octets;
 pub mod place;

@@ -6,7 +6,7 @@ use Rattle.awk_machine.specs.Laws.{EndsBy}
 use Rattle.awk_machine.specs.Pieces.{Outcome, Faulted, Piece}
 use Rattle.awk_machine.specs.Plays.{Stands, unlogged}
 use Rattle.awk_machine.specs.State.{Course, Given, State}
-use Rattle.awk_phases.specs.Reports.{IsTold, Reported}
+use Rattle.awk_run.specs.Reports.{IsTold, Reported}
 use Rattle.awk_text.specs.declared.fault.Fault.TheVariants.{Log as NoLog}
 use Rattle.awk_text.specs.declared.place.Place.{Place}
 use Rattle.box_world.specs.Calls.{Call}

@@ -1,4 +1,5 @@
 mod Consumed
+mod Spelling
 pub mod Driving
 pub mod OneAnswer
 pub mod Passing

@@ -48,7 +48,3 @@ abbrev pub IsRefused : List ℕ → List ℕ → List (List ℕ × List ℕ) →
 IsRefused policy script pairs (Policy e) = IsPolicyRefused policy e
 IsRefused policy script pairs (Script e) = (book : Rulebook) × Written policy book × IsScriptRefused script e
 IsRefused policy script pairs (Assign n) = IsBarred policy script pairs n
-
--- the texts write this policy and spell some script
-abbrev pub IsAccepted : List ℕ → List ℕ → List (List ℕ × List ℕ) → Rulebook → Type 0
-IsAccepted policy script pairs book = (s : Spelled) × Accepted policy script pairs book s

@@ -6,7 +6,7 @@ use Rattle.awk_machine.specs.Plays.{Plays}
 use Rattle.awk_machine.specs.State.{Given}
 use Rattle.awk_parse.specs.declared.script.Script.{Script}
 use Rattle.awk_run.specs.Givens.{given_of}
-use Rattle.awk_setup.specs.SetupParts.{SetupParts}
+use Rattle.awk_run.specs.SetupParts.{SetupParts}
 use Rattle.awk_text.specs.declared.fault.Fault.TheVariants.{Log as NoLog}
 use Rattle.box_world.specs.Calls.{Call}
 use Rattle.box_world.specs.Events.{Event, Want, ask_of, calls, open_streams}

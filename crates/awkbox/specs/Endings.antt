@@ -6,9 +6,9 @@ use Rattle.awkbox.specs.declared.messages.Ending.{Ending}
 use Rattle.awkbox.specs.declared.messages.Ending.TheVariants.{Quiet, Said}
 use Rattle.awkbox.specs.declared.accepting.Refusal.{Refusal}
 use Rattle.awkbox.specs.declared.accepting.Refusal.TheVariants.{Policy, Script, Assign}
-use Rattle.awk_phases.specs.declared.report.Outcome.{Outcome}
-use Rattle.awk_phases.specs.declared.report.Outcome.TheVariants.{Status, Fault, Cut}
-use Rattle.awk_phases.specs.declared.report.Report.{Report}
+use Rattle.awk_run.specs.declared.report.Outcome.{Outcome}
+use Rattle.awk_run.specs.declared.report.Outcome.TheVariants.{Status, Fault, Cut}
+use Rattle.awk_run.specs.declared.report.Report.{Report}
 
 abbrev pub ending_of_outcome : Outcome → Ending
 ending_of_outcome (Status status) = Quiet status

@@ -1,5 +1,10 @@
 pub mod Accepted
+pub mod Answers
 pub mod Drives
 pub mod Endings
 pub mod Laws
+pub mod Limited
 pub mod Messages
+pub mod OwnFiles
+pub mod Scripts
+pub mod Stack

@@ -7,9 +7,10 @@ use Rattle.awk_text.specs.Quoted.{quoted}
 use Rattle.awk_text.specs.declared.fault.Fault.TheVariants.{StepBound as F11, Memory as F13}
 use Rattle.awk_tokens.specs.Refusals.{refusal_text}
 use Rattle.awkbox.specs.declared.messages.Message.{Message}
-use Rattle.awkbox.specs.declared.messages.Message.TheVariants.{Fault, StepBound, Policy, Script, Unspelled, Assignment, CannotRead, CannotWrite, OutOfMemory}
+use Rattle.awkbox.specs.declared.messages.Message.TheVariants.{Fault, StepBound, Policy, Script, Unspelled, Assignment, CannotRead, CannotWrite, CannotEnter, NotInBase, SmallStack, OutOfMemory}
 use Rattle.awkbox.specs.declared.messages.Warning.{Warning}
-use Rattle.awkbox.specs.declared.messages.Warning.TheVariants.{OutsideBase}
+use Rattle.awkbox.specs.declared.messages.OwnFile.{OwnFile}
+use Rattle.awkbox.specs.declared.messages.OwnFile.TheVariants.{Log, Policy as PolicyFile, Script as ScriptFile}
 use Rattle.box_policy.specs.Refusals.{refusal_text as policy_text}
 
 -- the line, without its newline
@@ -22,6 +23,9 @@ message_text (Unspelled pair) = codes "awkbox: assignment " ++ decimal pair ++ c
 message_text (Assignment pair) = codes "awkbox: assignment " ++ decimal pair ++ codes " U3"
 message_text (CannotRead name) = codes "awkbox: cannot read \"" ++ string_bytes name ++ codes "\""
 message_text (CannotWrite name) = codes "awkbox: cannot write \"" ++ string_bytes name ++ codes "\""
+message_text (CannotEnter name) = codes "awkbox: cannot enter \"" ++ string_bytes name ++ codes "\""
+message_text (NotInBase base) = codes "awkbox: not started in the policy's base \"" ++ string_bytes base ++ codes "\""
+message_text SmallStack = codes "awkbox: the stack is smaller than 8 MiB"
 message_text OutOfMemory = codes "awkbox: F13 " ++ fault_text F13
 
 -- 2 for a fault, 4 where the steps ran out, 3 where something was refused before the run
@@ -34,6 +38,9 @@ message_status (Unspelled pair) = 3
 message_status (Assignment pair) = 3
 message_status (CannotRead name) = 3
 message_status (CannotWrite name) = 3
+message_status (CannotEnter name) = 3
+message_status (NotInBase base) = 3
+message_status SmallStack = 3
 message_status OutOfMemory = 2
 
 -- a message that the file of this name cannot be read, or that memory was refused
@@ -48,10 +55,29 @@ SaysCannotWrite name (CannotWrite shown) = string_bytes shown ≡ quoted name
 SaysCannotWrite name OutOfMemory = Unit {0}
 SaysCannotWrite name message = ⊥
 
+-- a message that the folder of this name cannot be entered, or that memory was refused
+abbrev pub SaysCannotEnter : List ℕ → Message → Type 0
+SaysCannotEnter name (CannotEnter shown) = string_bytes shown ≡ quoted name
+SaysCannotEnter name OutOfMemory = Unit {0}
+SaysCannotEnter name message = ⊥
+
+-- a message that the program was not started in this base, or that memory was refused
+abbrev pub SaysNotInBase : List ℕ → Message → Type 0
+SaysNotInBase base (NotInBase shown) = string_bytes shown ≡ quoted base
+SaysNotInBase base OutOfMemory = Unit {0}
+SaysNotInBase base message = ⊥
+
+-- the word for a file that a run is given
+abbrev pub own_word : OwnFile → List ℕ
+own_word Log = codes "log"
+own_word PolicyFile = codes "policy"
+own_word ScriptFile = codes "script"
+
 -- a warning's line, without its newline
 abbrev pub warning_text : Warning → List ℕ
-warning_text (OutsideBase base) = codes "awkbox: warning: started outside the policy's base \"" ++ string_bytes base ++ codes "\""
+warning_text warning =
+    codes "awkbox: warning: rule " ++ decimal warning.rule ++ codes " allows writing to the " ++ own_word warning.file ++ codes " \"" ++ string_bytes warning.name ++ codes "\""
 
--- a warning that the run starts outside this base
-abbrev pub WarnsOutside : List ℕ → Warning → Type 0
-WarnsOutside base (OutsideBase shown) = string_bytes shown ≡ quoted base
+-- a warning that this rule lets the script write to this file, of this name
+abbrev pub Warns : ℕ → OwnFile → List ℕ → Warning → Type 0
+Warns rule file name warning = (warning.rule ≡ rule) × (warning.file ≡ file) × (string_bytes warning.name ≡ quoted name)

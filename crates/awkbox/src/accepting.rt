@@ -2,7 +2,7 @@
 ghost use Rattle.std.specs.Prelude.{◌≡◌, ◌<◌, ◌^◌, length, IfOk, IfErr};
 ghost use Rattle.awk_resolve.specs.Assigns.{can_assign};
 ghost use Rattle.awk_parse.specs.Scripts.{IsScript};
-ghost use Rattle.awkbox.specs.Accepted.{Accepted, IsAccepted, IsRefused, IsScriptRefused, ReadsScript, first_barred};
+ghost use Rattle.awkbox.specs.Accepted.{Accepted, IsRefused, IsScriptRefused, ReadsScript, first_barred};
 
 use awk_parse::{Script, parse};
 use awk_run::Setup;
@@ -11,6 +11,7 @@ use awk_tokens::{SyntaxError, tokens};
 use box_policy::error::PolicyError;
 use box_policy::policy::Policy;
 use std::alloc::Global;
+use std::marker::Model;
 
 /// Why nothing was run: the policy, the script, or the `-v` pair of this number was refused.
 #[derive(Clone, Copy, Debug, PartialEq, Eq, Drop)]
@@ -56,13 +57,50 @@ fn first_barred(script: &Script, assigns: &[(Octets, Octets)]) -> Option<u32>
     None
 }
 
-/// The policy and the script, or the first refusal.
-pub(crate) fn accepted(
+/// A policy and a script that a run goes by, which contracts see as a pair. It is driven, or else released.
+pub struct Prepared {
+    pub(crate) policy: Policy,
+    pub(crate) script: Script,
+}
+
+impl Model for Prepared {
+    ghost use Rattle.awk_parse.specs.Scripts.{IsScript};
+    ghost use Rattle.awk_parse.specs.declared.script.Script.{Script as Spelled};
+    ghost use Rattle.box_policy.specs.Rulebook.{Rulebook};
+
+    ghost Value = { Rulebook × Spelled };
+
+    ghost view = { λ p. (p.policy, p.script) };
+
+    ghost invariant = { λ p. IsScript p.script };
+}
+
+impl Prepared {
+    /// The policy. Takes no memory.
+    pub fn policy(&self) -> &Policy
+        ensures { result.now ≡ self.now.0 }
+    {
+        &self.policy
+    }
+
+    /// Lets both go, where there is to be no run.
+    pub fn release(self) {
+        let Prepared {
+            policy: _policy,
+            script,
+        } = self;
+        script.release();
+    }
+}
+
+/// The policy and the script that a run goes by, or the first refusal: the policy's, then the script's, and then that of the
+/// first `-v` pair whose name may not be set.
+pub fn prepare(
     alloc: Global,
     policy: &[u8],
     script: &[u8],
     setup: &Setup,
-) -> Result<(Policy, Script), Refusal>
+) -> Result<Prepared, Refusal>
     ensures ok { IfOk result (λ parts. Accepted policy.now script.now setup.now.assigns parts.0 parts.1) }
     ensures refused { IfErr result (IsRefused policy.now script.now setup.now.assigns) }
 {
@@ -79,26 +117,6 @@ pub(crate) fn accepted(
             script.release();
             Err(Refusal::Assign(pair))
         }
-        None => Ok((policy, script)),
-    }
-}
-
-/// The policy that a run would be under, for what a host wants to know of it before the run; or the
-/// refusal that [`crate::drive`] would answer.
-pub fn policy_of(
-    alloc: Global,
-    policy: &[u8],
-    script: &[u8],
-    setup: &Setup,
-) -> Result<Policy, Refusal>
-    ensures ok { IfOk result (IsAccepted policy.now script.now setup.now.assigns) }
-    ensures refused { IfErr result (IsRefused policy.now script.now setup.now.assigns) }
-{
-    match accepted(alloc, policy, script, setup) {
-        Ok((policy, script)) => {
-            script.release();
-            Ok(policy)
-        }
-        Err(refusal) => Err(refusal),
+        None => Ok(Prepared { policy, script }),
     }
 }

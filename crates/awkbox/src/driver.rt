@@ -1,11 +1,13 @@
 // A script's run under a policy.
 ghost use Rattle.std.specs.Prelude.{◌≡◌, IfOk, IfErr};
-ghost use Rattle.awk_phases.specs.Outcomes.{view_outcome};
+ghost use Rattle.awk_run.specs.Outcomes.{view_outcome};
 ghost use Rattle.awkbox.specs.Accepted.{IsRefused};
-ghost use Rattle.awkbox.specs.Drives.{DrivesText};
+ghost use Rattle.awk_run.specs.Givens.{given_of};
+ghost use Rattle.awkbox.specs.Drives.{Drives, DrivesText};
 ghost use Rattle.box_monitor.specs.declared.log_end.LogEnd.TheVariants.{Whole};
+ghost use Rattle.box_policy.specs.Counts.{cleared};
 
-use crate::accepting::{Refusal, accepted};
+use crate::accepting::{Prepared, Refusal, prepare};
 use awk_run::{Report, Setup, run};
 use box_monitor::log_end::LogEnd;
 use box_monitor::monitor::Monitor;
@@ -20,6 +22,45 @@ pub struct Driven<W: World, L: Write> {
     pub world: W,
     pub log: L,
     pub log_end: LogEnd,
+}
+
+/// A run that is over: its report, and the world and the log given back, with how the log stands.
+#[derive(Drop)]
+pub struct Ran<W: World, L: Write> {
+    pub report: Report,
+    pub world: W,
+    pub log: L,
+    pub log_end: LogEnd,
+}
+
+impl Prepared {
+    /// Runs the script over a world, under the policy, whose rules have allowed nothing before, as [`drive`] runs the script that a
+    /// text spells.
+    pub fn drive<W: World, L: Write>(
+        self,
+        alloc: Global,
+        setup: &Setup,
+        steps: u64,
+        world: W,
+        log: L,
+    ) -> Ran<W, L>
+        ensures { Drives W.follows W.stops L.contents
+            (cleared self.0) (given_of self.1 setup.now steps) world log
+            (view_outcome result.report.outcome) result.report.used result.log_end result.world result.log }
+    {
+        let Prepared { policy, script } = self;
+        let mut monitor = Monitor::new(alloc, policy, world, log);
+        let report = run(alloc, &script, setup, steps, &mut monitor);
+        script.release();
+        let log_end = monitor.log_end();
+        let (_, world, log) = monitor.into_parts();
+        Ran {
+            report,
+            world,
+            log,
+            log_end,
+        }
+    }
 }
 
 /// Runs a script over a world, under a policy, with at most these steps, and logs each request that
@@ -44,8 +85,8 @@ pub fn drive<W: World, L: Write>(
         policy.now script.now setup.now steps world log
         (view_outcome report.outcome) report.used result.log_end result.world result.log) }
 {
-    let (policy, script) = match accepted(alloc, policy, script, setup) {
-        Ok(parts) => parts,
+    let prepared = match prepare(alloc, policy, script, setup) {
+        Ok(prepared) => prepared,
         Err(refusal) => {
             return Driven {
                 answer: Err(refusal),
@@ -55,11 +96,12 @@ pub fn drive<W: World, L: Write>(
             };
         }
     };
-    let mut monitor = Monitor::new(alloc, policy, world, log);
-    let report = run(alloc, &script, setup, steps, &mut monitor);
-    script.release();
-    let log_end = monitor.log_end();
-    let (_, world, log) = monitor.into_parts();
+    let Ran {
+        report,
+        world,
+        log,
+        log_end,
+    } = prepared.drive(alloc, setup, steps, world, log);
     Driven {
         answer: Ok(report),
         world,

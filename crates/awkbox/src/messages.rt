@@ -30,18 +30,35 @@ pub enum Message {
     Assignment(u32),
     /// A file could not be read. The name is quoted, as the log of denials has it.
     CannotRead(String),
-    /// A file could not be made or emptied. The name is quoted, as the log of denials has it.
+    /// A file could not be made or emptied, or may not be the log. The name is quoted, as the log of denials has it.
     CannotWrite(String),
+    /// A folder could not be entered. The name is quoted, as the log of denials has it.
+    CannotEnter(String),
+    /// The program runs in another folder than the base of the policy, though rules speak of files. The base is quoted, as
+    /// the log of denials has it.
+    NotInBase(String),
+    /// The stack of the process is too small for a run.
+    SmallStack,
     /// Memory was refused outside the run.
     OutOfMemory,
 }
 
-/// One line on standard error, before a run that goes on.
+/// One of the files that a run is given.
+#[derive(Clone, Copy, Debug, PartialEq, Eq, Drop)]
+pub enum OwnFile {
+    Log,
+    Policy,
+    Script,
+}
+
+/// One line on standard error, before a run that goes on: that a rule lets the script write to a file that the run is given.
 #[derive(Debug, Drop)]
-pub enum Warning {
-    /// The program runs in another folder than the base of the policy, though rules speak of files.
-    /// The base is quoted, as the log of denials has it.
-    OutsideBase(String),
+pub struct Warning {
+    /// The number of the rule.
+    pub rule: u32,
+    pub file: OwnFile,
+    /// The file's name, quoted as the log of denials has it.
+    pub name: String,
 }
 
 /// How the program ends.
@@ -75,7 +92,7 @@ fn quoted_name(alloc: Global, name: &str) -> Result<String, Memory>
 }
 
 impl Message {
-    ghost use Rattle.awkbox.specs.Messages.{message_status, SaysCannotRead, SaysCannotWrite};
+    ghost use Rattle.awkbox.specs.Messages.{message_status, SaysCannotEnter, SaysCannotRead, SaysCannotWrite, SaysNotInBase};
 
     /// That the file of this name cannot be read; `OutOfMemory` where memory for that is refused.
     pub fn cannot_read(alloc: Global, name: &str) -> Message
@@ -87,13 +104,33 @@ impl Message {
         }
     }
 
-    /// That the file of this name cannot be made or emptied; `OutOfMemory` where memory for that is
+    /// That the file of this name cannot be made or emptied, or may not be the log; `OutOfMemory` where memory for that is
     /// refused.
     pub fn cannot_write(alloc: Global, name: &str) -> Message
         ensures { SaysCannotWrite name.now result }
     {
         match quoted_name(alloc, name) {
             Ok(name) => Message::CannotWrite(name),
+            Err(_) => Message::OutOfMemory,
+        }
+    }
+
+    /// That the folder of this name cannot be entered; `OutOfMemory` where memory for that is refused.
+    pub fn cannot_enter(alloc: Global, name: &str) -> Message
+        ensures { SaysCannotEnter name.now result }
+    {
+        match quoted_name(alloc, name) {
+            Ok(name) => Message::CannotEnter(name),
+            Err(_) => Message::OutOfMemory,
+        }
+    }
+
+    /// That the program was not started in this base; `OutOfMemory` where memory for that is refused.
+    pub fn not_in_base(alloc: Global, base: &str) -> Message
+        ensures { SaysNotInBase base.now result }
+    {
+        match quoted_name(alloc, base) {
+            Ok(base) => Message::NotInBase(base),
             Err(_) => Message::OutOfMemory,
         }
     }
@@ -111,7 +148,10 @@ impl Message {
             | Message::Unspelled(_)
             | Message::Assignment(_)
             | Message::CannotRead(_)
-            | Message::CannotWrite(_) => 3,
+            | Message::CannotWrite(_)
+            | Message::CannotEnter(_)
+            | Message::NotInBase(_)
+            | Message::SmallStack => 3,
         }
     }
 }
@@ -137,6 +177,11 @@ impl fmt::Display for Message {
             Message::Assignment(pair) => write!(f, "awkbox: assignment {pair} U3"),
             Message::CannotRead(name) => write!(f, "awkbox: cannot read \"{name}\""),
             Message::CannotWrite(name) => write!(f, "awkbox: cannot write \"{name}\""),
+            Message::CannotEnter(name) => write!(f, "awkbox: cannot enter \"{name}\""),
+            Message::NotInBase(base) => {
+                write!(f, "awkbox: not started in the policy's base \"{base}\"")
+            }
+            Message::SmallStack => f.write_str("awkbox: the stack is smaller than 8 MiB"),
             Message::OutOfMemory => {
                 let text = Fault::Memory.text();
                 write!(f, "awkbox: F13 {text}")
@@ -145,14 +190,33 @@ impl fmt::Display for Message {
     }
 }
 
-impl Warning {
-    ghost use Rattle.awkbox.specs.Messages.{WarnsOutside};
+impl OwnFile {
+    ghost use Rattle.awkbox.specs.Messages.{own_word};
 
-    /// That the run starts outside this base.
-    pub fn outside_base(alloc: Global, base: &str) -> Result<Warning, Memory>
-        ensures { IfOk result (WarnsOutside base.now) }
+    /// The word for it.
+    fn word(self) -> &'static str
+        ensures { result.now ≡ own_word self }
     {
-        Ok(Warning::OutsideBase(quoted_name(alloc, base)?))
+        match self {
+            OwnFile::Log => "log",
+            OwnFile::Policy => "policy",
+            OwnFile::Script => "script",
+        }
+    }
+}
+
+impl Warning {
+    ghost use Rattle.awkbox.specs.Messages.{Warns};
+
+    /// That the rule of this number lets the script write to this file of a run, of this name.
+    pub fn new(alloc: Global, rule: u32, file: OwnFile, name: &str) -> Result<Warning, Memory>
+        ensures { IfOk result (Warns rule file name.now) }
+    {
+        Ok(Warning {
+            rule,
+            file,
+            name: quoted_name(alloc, name)?,
+        })
     }
 }
 
@@ -162,14 +226,11 @@ impl fmt::Display for Warning {
     ghost output = { λ warning. Some (warning_text warning) };
 
     fn fmt<W: fmt::Write>(&self, f: &mut fmt::Formatter<W>) -> fmt::Result {
-        match self {
-            Warning::OutsideBase(base) => {
-                write!(
-                    f,
-                    "awkbox: warning: started outside the policy's base \"{base}\""
-                )
-            }
-        }
+        let (rule, word, name) = (self.rule, self.file.word(), self.name.as_str());
+        write!(
+            f,
+            "awkbox: warning: rule {rule} allows writing to the {word} \"{name}\""
+        )
     }
 }
 

@@ -3,12 +3,18 @@ use clap::error::ErrorKind;
 use clap::{Arg, ArgAction, ArgMatches, Command, Error};
 use std::alloc::{AllocError, Global};
 
-/// What `awkbox run` is asked for, operands aside. Policy, log and script are names of files.
+/// What `awkbox run` is asked for, operands aside. Policy, log and script are names of files, and the folder that of a folder.
 #[derive(Debug, Drop)]
 pub struct Run<'a> {
     pub policy: &'a str,
     pub log: &'a str,
+    /// Whether what the log holds is kept.
+    pub adds_to_log: bool,
+    /// How many bytes the run may add to the log.
+    pub log_limit: u64,
     pub script: &'a str,
+    /// The folder that is entered before the run.
+    pub folder: Option<&'a str>,
     /// How many steps the run may take.
     pub steps: u64,
     /// The text that FS is set to.
@@ -70,6 +76,23 @@ fn log<'a>(alloc: Global) -> Arg<'a> {
         .required(true)
 }
 
+fn log_append<'a>(alloc: Global) -> Arg<'a> {
+    Arg::new(alloc, "log-append")
+        .action(ArgAction::SetTrue)
+        .long("log-append")
+        .help("The log is not emptied before the run, so that runs may share one")
+}
+
+fn log_limit<'a>(alloc: Global) -> Arg<'a> {
+    let help = "How many bytes the run may add to the log";
+    option(alloc, "log-limit", "BYTES", help).long("log-limit")
+}
+
+fn folder<'a>(alloc: Global) -> Arg<'a> {
+    let help = "The folder that is entered before the run, once policy, script and log are open";
+    option(alloc, "folder", "DIR", help).short('C')
+}
+
 fn script<'a>(alloc: Global) -> Arg<'a> {
     option(alloc, "script", "FILE", "The awk script")
         .short('f')
@@ -110,6 +133,9 @@ fn run_command<'a>(alloc: Global) -> Result<Command<'a>, AllocError> {
         .after_help(RUN_STATUSES)
         .arg(policy(alloc))?
         .arg(log(alloc))?
+        .arg(log_append(alloc))?
+        .arg(log_limit(alloc))?
+        .arg(folder(alloc))?
         .arg(steps(alloc))?
         .arg(separator(alloc))?
         .arg(assigns(alloc))?
@@ -143,13 +169,36 @@ fn command<'a>(alloc: Global) -> Result<Command<'a>, AllocError> {
 }
 
 // Digits alone, where `parse` would take a sign too.
-fn steps_of(text: &str) -> Option<u64> {
+fn count_of(text: &str, most: u64) -> Option<u64> {
     if !text.as_bytes().iter().all(|b| b.is_ascii_digit()) {
         return None;
     }
     match text.parse::<u64>() {
-        Ok(steps) if steps <= MOST_STEPS => Some(steps),
+        Ok(count) if count <= most => Some(count),
         _ => None,
+    }
+}
+
+fn steps_of(alloc: Global, matches: &ArgMatches<'_>) -> Result<u64, Error> {
+    match count_of(value_of(alloc, matches, "steps")?, MOST_STEPS) {
+        Some(steps) => Ok(steps),
+        None => Err(fault(
+            alloc,
+            "the value of --steps is not a whole number from 0 to 1000000000000",
+        )),
+    }
+}
+
+fn log_limit_of(alloc: Global, matches: &ArgMatches<'_>) -> Result<u64, Error> {
+    let Some(text) = matches.get_str("log-limit") else {
+        return Ok(u64::MAX);
+    };
+    match count_of(text, u64::MAX) {
+        Some(limit) => Ok(limit),
+        None => Err(fault(
+            alloc,
+            "the value of --log-limit is not a whole number from 0 to 18446744073709551615",
+        )),
     }
 }
 
@@ -170,15 +219,14 @@ fn value_of<'a>(alloc: Global, matches: &ArgMatches<'a>, id: &str) -> Result<&'a
 }
 
 fn run_of<'a>(alloc: Global, matches: &ArgMatches<'a>) -> Result<Run<'a>, Error> {
-    let Some(steps) = steps_of(value_of(alloc, matches, "steps")?) else {
-        let text = "the value of --steps is not a whole number from 0 to 1000000000000";
-        return Err(fault(alloc, text));
-    };
     Ok(Run {
         policy: value_of(alloc, matches, "policy")?,
         log: value_of(alloc, matches, "log")?,
+        adds_to_log: matches.get_flag("log-append"),
+        log_limit: log_limit_of(alloc, matches)?,
         script: value_of(alloc, matches, "script")?,
-        steps,
+        folder: matches.get_str("folder"),
+        steps: steps_of(alloc, matches)?,
         separator: matches.get_str("separator"),
         assigns: assigns_of(alloc, matches)?,
     })

@@ -1,22 +1,24 @@
 // The files that the program is given.
-use std::fs::{File, Metadata, OpenOptions};
-use std::io::{self, ErrorKind, Read};
+use awkbox::{Identity, ReadError, read_limited};
+use std::fs::{File, Metadata, OpenOptions, metadata};
+use std::io;
 use std::os::unix::fs::MetadataExt;
 
-/// What tells a file from every other one, whatever name it is opened by.
-#[derive(Clone, Copy, Debug, PartialEq, Eq, Drop)]
-pub struct Identity {
-    device: u64,
-    number: u64,
+/// The most bytes that a policy or a script may have.
+const MOST_BYTES: usize = 16_777_216;
+
+fn identity_of(metadata: &Metadata) -> Identity {
+    Identity {
+        device: metadata.dev(),
+        number: metadata.ino(),
+    }
 }
 
-impl Identity {
-    /// Which file these are the data of.
-    pub fn of(metadata: &Metadata) -> Identity {
-        Identity {
-            device: metadata.dev(),
-            number: metadata.ino(),
-        }
+/// Which file this name leads to. None, where it cannot be looked at.
+pub fn look(rt: &HostRuntime, name: &str) -> Option<Identity> {
+    match metadata(rt, name) {
+        Ok(metadata) => Some(identity_of(&metadata)),
+        Err(_) => None,
     }
 }
 
@@ -27,36 +29,52 @@ pub struct Source {
     pub bytes: Vec<u8>,
 }
 
-/// Reads the file.
-pub fn read(rt: &HostRuntime, name: &str) -> io::Result<Source> {
-    let mut file = File::open(rt, name)?;
-    let identity = Identity::of(&file.metadata()?);
-    let mut bytes = Vec::new(rt.alloc());
-    file.read_to_end(&mut bytes)?;
-    Ok(Source { identity, bytes })
+/// Reads the file, which may not be too long.
+pub fn read(rt: &HostRuntime, name: &str) -> Result<Source, ReadError> {
+    let Ok(mut file) = File::open(rt, name) else {
+        return Err(ReadError::Failed);
+    };
+    let Ok(metadata) = file.metadata() else {
+        return Err(ReadError::Failed);
+    };
+    let bytes = read_limited(rt.alloc(), &mut file, MOST_BYTES)?;
+    Ok(Source {
+        identity: identity_of(&metadata),
+        bytes,
+    })
 }
 
-/// Opens the log, made or emptied, for adding at its end alone. One of the sources is refused, and
-/// stays as it is.
-///
-/// What is no regular file, as a terminal or a pipe, holds nothing that could be emptied, and may be
-/// source and log at once.
-pub fn make_log(rt: &HostRuntime, name: &str, sources: &[Identity]) -> io::Result<File> {
-    let log = OpenOptions::new().append(true).create(true).open(rt, name)?;
-    let metadata = log.metadata()?;
-    if metadata.is_file() {
-        if sources.contains(&Identity::of(&metadata)) {
-            return Err(io::Error::from(ErrorKind::AlreadyExists));
-        }
-        log.set_len(0)?;
+/// A log that is open for adding at its end alone, and still holds what it held.
+#[derive(Drop)]
+pub struct OpenLog {
+    file: File,
+    pub identity: Identity,
+    /// What is no regular file, as a terminal or a pipe, holds nothing that could be emptied.
+    pub is_regular: bool,
+}
+
+impl OpenLog {
+    /// Opens the log, made where it is not there.
+    pub fn open(rt: &HostRuntime, name: &str) -> io::Result<OpenLog> {
+        let file = OpenOptions::new().append(true).create(true).open(rt, name)?;
+        let metadata = file.metadata()?;
+        Ok(OpenLog {
+            file,
+            identity: identity_of(&metadata),
+            is_regular: metadata.is_file(),
+        })
     }
-    Ok(log)
-}
 
-/// Whether the program runs in this folder. No, where either cannot be looked at.
-pub fn runs_in(rt: &HostRuntime, folder: &str) -> bool {
-    match (std::fs::metadata(rt, "."), std::fs::metadata(rt, folder)) {
-        (Ok(here), Ok(there)) => Identity::of(&here) == Identity::of(&there),
-        _ => false,
+    /// The file for the lines of a run, emptied unless what it holds is kept.
+    pub fn begin(self, is_kept: bool) -> io::Result<File> {
+        let OpenLog {
+            file,
+            is_regular,
+            ..
+        } = self;
+        if is_regular && !is_kept {
+            file.set_len(0)?;
+        }
+        Ok(file)
     }
 }

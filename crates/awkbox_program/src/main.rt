@@ -4,8 +4,10 @@
 
 mod command_line;
 mod files;
+mod folders;
 mod process;
 mod program;
+mod runs;
 mod setup;
 mod standard;
 mod words;

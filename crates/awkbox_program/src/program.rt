@@ -1,13 +1,11 @@
 // The program from its words to its exit status.
-use crate::command_line::{Asked, Run};
-use crate::files::{Identity, Source, make_log, read, runs_in};
-use crate::setup::setup_of;
+use crate::command_line::Asked;
+use crate::process::has_small_stack;
+use crate::runs::{read_source, run_script};
 use crate::standard::hold_closed;
 use crate::words::Words;
 use crate::{command_line, standard, words};
-use awkbox::{Ending, Message, Octets, OsWorld, Setup, Warning, drive, policy_of};
-use awkbox_listing::{Answer, Refusal, check, list};
-use std::fs::File;
+use awkbox::{Answer, Ending, ListingRefusal, Message, check, list};
 
 /// The exit status where the words are at fault.
 const WORDS_REFUSED: u8 = 3;
@@ -20,6 +18,9 @@ pub fn run(rt: &HostRuntime) -> u8 {
         let message = Message::cannot_read(rt.alloc(), standard::NOTHING);
         return say(rt, &Ending::Said(message));
     };
+    if has_small_stack(rt) {
+        return say(rt, &Ending::Said(Message::SmallStack));
+    }
     match words::read(rt) {
         Ok(words) => follow(rt, words),
         Err(error) => say_words(rt, &error),
@@ -29,7 +30,7 @@ pub fn run(rt: &HostRuntime) -> u8 {
 fn follow(rt: &HostRuntime, words: Words) -> u8 {
     let Words { options, operands } = words;
     let ending = match command_line::read(rt.alloc(), options.as_slice()) {
-        Ok(Asked::Run(run)) => run_files(rt, &run, operands),
+        Ok(Asked::Run(run)) => run_script(rt, &run, operands),
         Ok(_) if !operands.is_empty() => {
             return say_words(rt, &command_line::fault(rt.alloc(), "a word too many"));
         }
@@ -55,42 +56,6 @@ fn say(rt: &HostRuntime, ending: &Ending) -> u8 {
     ending.status()
 }
 
-fn run_files(rt: &HostRuntime, run: &Run<'_>, operands: Vec<Octets>) -> Result<Ending, Message> {
-    let setup = setup_of(rt, run, operands)?;
-    let policy = read_source(rt, run.policy)?;
-    let script = read_source(rt, run.script)?;
-    let log = make_log_of(rt, run.log, &[policy.identity, script.identity])?;
-    warn(rt, policy.bytes.as_slice(), script.bytes.as_slice(), &setup)?;
-    let world = OsWorld::new(rt.clone()?);
-    let driven = drive(
-        rt.alloc(),
-        policy.bytes.as_slice(),
-        script.bytes.as_slice(),
-        &setup,
-        run.steps,
-        world,
-        log,
-    );
-    Ok(Ending::of(driven.answer))
-}
-
-// Tells where the names that rules allow are not those that the run will open: the policy judges a
-// relative name under its base, and the system opens it under the folder that the program runs in.
-// Nothing is told where there will be no run.
-fn warn(rt: &HostRuntime, policy: &[u8], script: &[u8], setup: &Setup) -> Result<(), Message> {
-    let Ok(policy) = policy_of(rt.alloc(), policy, script, setup) else {
-        return Ok(());
-    };
-    let Ok(base) = std::str::from_utf8(policy.base()) else {
-        return Ok(());
-    };
-    if policy.speaks_of_files() && !runs_in(rt, base) {
-        let warning = Warning::outside_base(rt.alloc(), base)?;
-        let _ = eprintln!(rt; "{warning}");
-    }
-    Ok(())
-}
-
 fn list_file(rt: &HostRuntime, script: &str) -> Result<Ending, Message> {
     let script = read_source(rt, script)?;
     told(rt, list(rt.alloc(), script.bytes.as_slice()))
@@ -104,28 +69,14 @@ fn check_files(rt: &HostRuntime, policy: &str, script: &str) -> Result<Ending, M
 }
 
 // Prints a listing or a verdict. That it cannot be written is passed over.
-fn told(rt: &HostRuntime, answer: Result<Answer, Refusal>) -> Result<Ending, Message> {
+fn told(rt: &HostRuntime, answer: Result<Answer, ListingRefusal>) -> Result<Ending, Message> {
     match answer {
         Ok(answer) => {
             let _ = rt.stdout().write_all(answer.lines.as_slice());
             Ok(Ending::Quiet(answer.status))
         }
-        Err(Refusal::Policy(error)) => Err(Message::Policy(error)),
-        Err(Refusal::Script(error)) => Err(Message::Script(error)),
-        Err(Refusal::Memory) => Err(Message::OutOfMemory),
-    }
-}
-
-fn read_source(rt: &HostRuntime, name: &str) -> Result<Source, Message> {
-    match read(rt, name) {
-        Ok(source) => Ok(source),
-        Err(_) => Err(Message::cannot_read(rt.alloc(), name)),
-    }
-}
-
-fn make_log_of(rt: &HostRuntime, name: &str, sources: &[Identity]) -> Result<File, Message> {
-    match make_log(rt, name, sources) {
-        Ok(log) => Ok(log),
-        Err(_) => Err(Message::cannot_write(rt.alloc(), name)),
+        Err(ListingRefusal::Policy(error)) => Err(Message::Policy(error)),
+        Err(ListingRefusal::Script(error)) => Err(Message::Script(error)),
+        Err(ListingRefusal::Memory) => Err(Message::OutOfMemory),
     }
 }

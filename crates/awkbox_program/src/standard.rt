@@ -3,6 +3,9 @@ use std::fs::{File, OpenOptions};
 use std::io;
 use std::os::fd::{AsFd, BorrowedFd};
 
+/// The names that lead to what the standard streams are, where the system has them.
+pub const STREAMS: [&str; 3] = ["/proc/self/fd/0", "/proc/self/fd/1", "/proc/self/fd/2"];
+
 /// What stands for a stream that is closed.
 pub const NOTHING: &str = "/dev/null";
 

@@ -23,9 +23,9 @@ enum Next {
     Operand,
 }
 
-const SHORT: [&str; 3] = ["-f", "-v", "-F"];
+const SHORT: [&str; 4] = ["-f", "-v", "-F", "-C"];
 
-const LONG: [&str; 3] = ["--policy", "--log", "--steps"];
+const LONG: [&str; 4] = ["--policy", "--log", "--log-limit", "--steps"];
 
 // Whether the next word is the value of this one.
 fn wants_value(word: &str) -> bool {

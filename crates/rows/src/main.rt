@@ -4,6 +4,7 @@
 #![tactic(auto)]
 
 mod asked;
+mod hosts;
 mod report;
 mod run_log;
 mod runs;

@@ -3,10 +3,10 @@
 use crate::table::Table;
 use awk_text::octets::Octets;
 use awk_text::quote::quote_log;
-use row_tables::cursor::Cursor;
-use row_tables::problem::Problem;
-use row_tables::row::Row;
-use row_tables::shown::told;
+use row_calls::cursor::Cursor;
+use row_calls::problem::Problem;
+use row_calls::row::Row;
+use row_calls::shown::told;
 use std::alloc::Global;
 use std::rt::Files;
 use std::{fs, slice, str};

@@ -1,14 +1,14 @@
 // The tables, and which calls stand in which.
 
-use crate::runs;
+use crate::{hosts, runs};
 use awk_text::octets::Octets;
-use library_rows::{
-    fields, formats, library, monitors, patterns, policies, records, tokens, values, worlds,
+use row_calls::problem::Problem;
+use row_calls::row::{Arg, Row};
+use row_calls::shown::Answer;
+use row_calls::{
+    fields, formats, library, listings, monitors, parses, patterns, policies, programs, records,
+    tokens, values, worlds,
 };
-use row_tables::problem::Problem;
-use row_tables::row::{Arg, Row};
-use row_tables::shown::Answer;
-use script_rows::{listings, parses, programs};
 use std::alloc::Global;
 
 /// A table: a file of rows about one subject.
@@ -32,9 +32,10 @@ pub enum Table {
     Scripts,
     Streams,
     Operands,
+    Hosts,
 }
 
-pub const TABLES: [Table; 18] = [
+pub const TABLES: [Table; 19] = [
     Table::Values,
     Table::Patterns,
     Table::Searches,
@@ -53,6 +54,7 @@ pub const TABLES: [Table; 18] = [
     Table::Scripts,
     Table::Streams,
     Table::Operands,
+    Table::Hosts,
 ];
 
 impl Table {
@@ -76,6 +78,7 @@ impl Table {
             Table::Scripts => "scripts.txt",
             Table::Streams => "streams.txt",
             Table::Operands => "operands.txt",
+            Table::Hosts => "hosts.txt",
         }
     }
 
@@ -92,6 +95,7 @@ impl Table {
             Table::Programs => programs::call(alloc, args),
             Table::Policies => policies::call(alloc, args),
             Table::Listings => listings::call(alloc, args),
+            Table::Hosts => hosts::call(alloc, args),
             _ => Err(Problem::NoCall),
         }
     }

@@ -1,11 +1,11 @@
 use Rattle.awk_eval.proofs.Calling.{argue_name, argue_nothing, argue_value, some_of}
 use Rattle.awk_eval.proofs.Leading.{hands_on, quietly}
-use Rattle.awk_asks.proofs.Chain.{at_once, done}
-use Rattle.awk_calls.specs.Calls.{argument_of}
+use Rattle.awk_streams.proofs.Chain.{at_once, done}
+use Rattle.awk_store.specs.Calls.{argument_of}
 use Rattle.awk_machine.specs.Forms.{value}
 use Rattle.awk_machine.specs.Pieces.{At, Value_of}
 use Rattle.awk_program.specs.View.{view}
-use Rattle.awk_tasks.specs.Wholes.{names_in}
+use Rattle.awk_store.specs.Wholes.{names_in}
 use Rattle.std.proofs.Common.{ap, refl, ◌∙◌, ◌∷◌}
 use Rattle.awk_eval.proofs.calls.argument.Goals as goal
 use Rattle.awk_program.specs.Program as p

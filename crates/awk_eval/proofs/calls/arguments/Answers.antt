@@ -1,8 +1,8 @@
 use Rattle.awk_eval.proofs.Calling.{argued_there, argue_stop, argue_turn, arguments_so}
 use Rattle.awk_eval.proofs.Turns.{got_of}
-use Rattle.awk_asks.proofs.Chain.{at_once, done, lacking}
-use Rattle.awk_calls.specs.Calls.{argument_of}
-use Rattle.awk_tasks.specs.Wholes.{names_in}
+use Rattle.awk_streams.proofs.Chain.{at_once, done, lacking}
+use Rattle.awk_store.specs.Calls.{argument_of}
+use Rattle.awk_store.specs.Wholes.{names_in}
 use Rattle.std.proofs.Common.{ap, arith, false, length, refl, rules, true, w64, ◌+◌, ◌∙◌}
 use Rattle.std.proofs.lemmas.Int.{to_z-of_z}
 use Rattle.std.proofs.lemmas.Result.{err_from_is_err_and}

@@ -1,5 +1,5 @@
 use Rattle.awk_program.specs.View.{view_arguments}
-use Rattle.awk_tasks.specs.Wholes.{names_in}
+use Rattle.awk_store.specs.Wholes.{names_in}
 use Rattle.awk_eval.specs.Along.{Arguing}
 use Rattle.awk_eval.proofs.calls.arguments.Given as goal
 

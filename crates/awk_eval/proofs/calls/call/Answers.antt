@@ -1,13 +1,13 @@
 use Rattle.awk_eval.proofs.Calling.{body_so, called, counted}
 use Rattle.awk_eval.proofs.Leading.{quietly}
-use Rattle.awk_asks.proofs.Chain.{at_once, done, part, stop, turned}
-use Rattle.awk_calls.proofs.Ending.{answers, answers_so, returns_to}
-use Rattle.awk_calls.proofs.Leading.{takes}
+use Rattle.awk_streams.proofs.Chain.{at_once, done, part, stop, turned}
+use Rattle.awk_store.proofs.Ending.{answers, answers_so, returns_to}
+use Rattle.awk_store.proofs.Leading.{takes}
 use Rattle.awk_machine.specs.Pieces.{Call, Do, Each, Step, give}
 use Rattle.awk_program.specs.View.{view_arguments, view_statement}
-use Rattle.awk_tasks.proofs.Acting.{acted}
-use Rattle.awk_tasks.specs.Calling.{ending}
-use Rattle.awk_tasks.specs.Wholes.{names_in}
+use Rattle.awk_store.proofs.Acting.{acted}
+use Rattle.awk_store.specs.Calling.{ending}
+use Rattle.awk_store.specs.Wholes.{names_in}
 use Rattle.std.proofs.Common.{ap, map, refl, sym, ◌∙◌, ◌∷◌}
 use Rattle.std.proofs.lemmas.Result.{err_from_is_err_and}
 use Rattle.awk_eval.proofs.calls.call.Goals as goal

@@ -4,7 +4,7 @@ use Rattle.awk_program.specs.Program.{expressions_of}
 use Rattle.awk_program.specs.View.{view}
 use Rattle.awk_machine.specs.Forms.{value}
 use Rattle.awk_machine.specs.Pieces.{At, Ors_of}
-use Rattle.awk_tasks.specs.Wholes.{names_in}
+use Rattle.awk_store.specs.Wholes.{names_in}
 use Rattle.awk_eval.specs.Along.{Along}
 use Rattle.awk_eval.proofs.expressions.any.Given as goal
 

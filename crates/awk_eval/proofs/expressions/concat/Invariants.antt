@@ -4,7 +4,7 @@ use Rattle.awk_program.specs.Program.{joins_of}
 use Rattle.awk_program.specs.View.{view, view_joined}
 use Rattle.awk_machine.specs.Forms.{value}
 use Rattle.awk_machine.specs.Pieces.{At, Texts_of}
-use Rattle.awk_tasks.specs.Wholes.{names_in}
+use Rattle.awk_store.specs.Wholes.{names_in}
 use Rattle.awk_eval.specs.Along.{Along}
 use Rattle.awk_eval.proofs.expressions.concat.Given as goal
 

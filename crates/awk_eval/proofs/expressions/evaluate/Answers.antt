@@ -1,8 +1,8 @@
 use Rattle.awk_eval.proofs.Leading.{quietly}
 use Rattle.awk_eval.proofs.Turns.{text_given}
-use Rattle.awk_asks.proofs.Chain.{at_once, done, part, stop}
+use Rattle.awk_streams.proofs.Chain.{at_once, done, part, stop}
 use Rattle.awk_program.proofs.Views.{view-And, view-Assign, view-Change, view-Close, view-Compare, view-Concat, view-Getline, view-Group, view-In, view-Index, view-Int, view-Locate, view-Match, view-Measure, view-Not, view-Number, view-Or, view-Pattern, view-Read, view-Signed, view-Split, view-Sprintf, view-Step, view-Substitute, view-Substr, view-SubstrFrom, view-System, view-Text}
-use Rattle.awk_tasks.proofs.Acting.{acted}
+use Rattle.awk_store.proofs.Acting.{acted}
 use Rattle.std.proofs.Common.{refl, rules, w64}
 use Rattle.std.proofs.lemmas.Int.{to_z-of_z}
 use Rattle.std.proofs.lemmas.Result.{err_from_is_err_and}

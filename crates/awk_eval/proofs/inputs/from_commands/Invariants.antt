@@ -3,7 +3,7 @@ use Rattle.awk_program.specs.Program as p
 use Rattle.awk_program.specs.View.{view, view_pipes}
 use Rattle.awk_machine.specs.Forms.{value}
 use Rattle.awk_machine.specs.Pieces.{At, Pipes_of}
-use Rattle.awk_tasks.specs.Wholes.{names_in}
+use Rattle.awk_store.specs.Wholes.{names_in}
 use Rattle.awk_eval.specs.Along.{Along}
 use Rattle.awk_eval.proofs.inputs.from_commands.Given as goal
 

@@ -1,12 +1,12 @@
 use Rattle.awk_eval.proofs.Leading.{quietly}
-use Rattle.awk_asks.proofs.Chain.{at_once, part, passes, stop}
-use Rattle.awk_lent.specs.Lents.{lent_value}
+use Rattle.awk_streams.proofs.Chain.{at_once, part, passes, stop}
+use Rattle.awk_text.specs.Lents.{lent_value}
 use Rattle.awk_machine.specs.Forms.{answer, value}
 use Rattle.awk_machine.specs.Pieces.{give}
 use Rattle.awk_program.specs.View.{view, view_target}
-use Rattle.awk_tasks.proofs.Acting.{acted, done as there}
-use Rattle.awk_tasks.specs.Spots.{value_of}
-use Rattle.awk_tasks.specs.Wholes.{names_in}
+use Rattle.awk_store.proofs.Acting.{acted, done as there}
+use Rattle.awk_store.specs.Spots.{value_of}
+use Rattle.awk_store.specs.Wholes.{names_in}
 use Rattle.std.proofs.Common.{refl}
 use Rattle.std.proofs.lemmas.Result.{err_from_is_err_and}
 use Rattle.awk_eval.proofs.inputs.from_file.Goals as goal

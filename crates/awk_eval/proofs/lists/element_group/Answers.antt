@@ -1,11 +1,11 @@
 use Rattle.awk_eval.proofs.Turns.{count_listed, filled_from, waits_listed}
-use Rattle.awk_asks.proofs.Chain.{at_once, part, passes, stop}
+use Rattle.awk_streams.proofs.Chain.{at_once, part, passes, stop}
 use Rattle.awk_machine.specs.Forms.{keyed, value}
 use Rattle.awk_machine.specs.Pieces.{At, Goes, Members_of, Value_of}
 use Rattle.awk_program.specs.Program.{expressions_of}
 use Rattle.awk_program.specs.View.{variable_of, view}
-use Rattle.awk_tasks.proofs.Acting.{acted}
-use Rattle.awk_tasks.specs.Wholes.{names_in}
+use Rattle.awk_store.proofs.Acting.{acted}
+use Rattle.awk_store.specs.Wholes.{names_in}
 use Rattle.std.proofs.Common.{[], map, refl, ◌∷◌}
 use Rattle.std.proofs.lemmas.Result.{err_from_is_err_and}
 use Rattle.awk_eval.proofs.lists.element_group.Goals as goal

@@ -1,6 +1,6 @@
 use Rattle.std.proofs.Common.{map}
 use Rattle.awk_program.specs.View.{view}
-use Rattle.awk_tasks.specs.Wholes.{names_in}
+use Rattle.awk_store.specs.Wholes.{names_in}
 use Rattle.awk_eval.specs.Along.{Filling}
 use Rattle.awk_eval.proofs.lists.fill.Given as goal
 

@@ -1,14 +1,14 @@
 use Rattle.awk_eval.proofs.Leading.{quietly}
 use Rattle.awk_eval.proofs.Turns.{count_behind, filled_from, waits_behind}
-use Rattle.awk_asks.proofs.Chain.{at_once, lacking, part, passes, stop}
+use Rattle.awk_streams.proofs.Chain.{at_once, lacking, part, passes, stop}
 use Rattle.awk_format.specs.Directives.{◌>>=◌}
 use Rattle.awk_machine.specs.Builtins.{formatted_by}
 use Rattle.awk_machine.specs.Forms.{deliver, value}
 use Rattle.awk_machine.specs.Pieces.{Value_of}
 use Rattle.awk_program.specs.Program.{expressions_of}
 use Rattle.awk_program.specs.View.{view}
-use Rattle.awk_tasks.proofs.Acting.{acted}
-use Rattle.awk_tasks.specs.Wholes.{names_in}
+use Rattle.awk_store.proofs.Acting.{acted}
+use Rattle.awk_store.specs.Wholes.{names_in}
 use Rattle.std.proofs.Common.{[], ap, map, refl, ◌++◌, ◌+◌, ◌∙◌, ◌∷◌}
 use Rattle.std.proofs.lemmas.Result.{err_from_is_err_and}
 use Rattle.std.specs.Prelude.{Ok}

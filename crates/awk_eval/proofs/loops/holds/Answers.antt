@@ -1,9 +1,9 @@
 use Rattle.awk_eval.proofs.Going.{test_first, test_none, test_then}
 use Rattle.awk_eval.proofs.Leading.{hands_on, quietly, rests_told}
 use Rattle.awk_eval.specs.Loops.{loop_of}
-use Rattle.awk_asks.proofs.Chain.{at_once, done}
+use Rattle.awk_streams.proofs.Chain.{at_once, done}
 use Rattle.awk_program.specs.View.{view}
-use Rattle.awk_tasks.specs.Wholes.{names_in}
+use Rattle.awk_store.specs.Wholes.{names_in}
 use Rattle.std.proofs.Common.{ap, refl}
 use Rattle.std.specs.Prelude.{option_copied, option_map}
 use Rattle.awk_eval.proofs.loops.holds.Goals as goal

@@ -1,7 +1,7 @@
 use Rattle.std.proofs.Common.{◌∷◌, drop}
 use Rattle.awk_program.specs.View.{view_statement, variable_of}
 use Rattle.awk_machine.specs.Pieces.{Do, Keys}
-use Rattle.awk_tasks.specs.Wholes.{names_in}
+use Rattle.awk_store.specs.Wholes.{names_in}
 use Rattle.awk_eval.specs.Along.{Along}
 use Rattle.awk_eval.proofs.loops.over.Given as goal
 

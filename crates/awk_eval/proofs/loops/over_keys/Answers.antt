@@ -1,11 +1,11 @@
 use Rattle.awk_eval.proofs.Going.{keys_first}
 use Rattle.awk_eval.proofs.Leading.{quietly}
-use Rattle.awk_asks.proofs.Chain.{at_once, lacking, passes}
+use Rattle.awk_streams.proofs.Chain.{at_once, lacking, passes}
 use Rattle.awk_machine.specs.Forms.{value}
 use Rattle.awk_machine.specs.Pieces.{Do, Keys}
 use Rattle.awk_program.specs.View.{variable_of, view_statement}
-use Rattle.awk_tasks.proofs.Reading.{array-so}
-use Rattle.awk_tasks.specs.Wholes.{names_in}
+use Rattle.awk_store.proofs.Agreeing.{array-so}
+use Rattle.awk_store.specs.Wholes.{names_in}
 use Rattle.std.proofs.Common.{◌∷◌}
 use Rattle.awk_eval.proofs.loops.over_keys.Goals as goal
 

@@ -1,8 +1,8 @@
 use Rattle.awk_eval.proofs.Going.{turn_off, turn_on}
 use Rattle.awk_eval.proofs.Leading.{quietly}
 use Rattle.awk_eval.specs.Loops.{loop_of}
-use Rattle.awk_asks.proofs.Chain.{at_once, done, part, passes, stop, turned}
-use Rattle.awk_tasks.specs.Wholes.{names_in}
+use Rattle.awk_streams.proofs.Chain.{at_once, done, part, passes, stop, turned}
+use Rattle.awk_store.specs.Wholes.{names_in}
 use Rattle.std.proofs.Common.{refl, sym, ◌∙◌}
 use Rattle.std.proofs.lemmas.Result.{err_from_is_err_and}
 use Rattle.std.specs.Prelude.{None, Some}

@@ -1,7 +1,7 @@
 use Rattle.awk_eval.proofs.Going.{turn_off, turn_on}
 use Rattle.awk_eval.specs.Loops.{loop_of, tested}
-use Rattle.awk_asks.proofs.Chain.{at_once, done, lacking, part, stop, turned}
-use Rattle.awk_tasks.specs.Wholes.{names_in}
+use Rattle.awk_streams.proofs.Chain.{at_once, done, lacking, part, stop, turned}
+use Rattle.awk_store.specs.Wholes.{names_in}
 use Rattle.std.proofs.Common.{ap, false, refl, sym, true, ◌∙◌}
 use Rattle.std.proofs.lemmas.Result.{err_from_is_err_and}
 use Rattle.std.specs.Prelude.{option_copied}

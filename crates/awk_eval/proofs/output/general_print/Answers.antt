@@ -1,12 +1,12 @@
 use Rattle.awk_eval.proofs.Printing.{count_items, waits_printed}
 use Rattle.awk_eval.proofs.Turns.{filled_from}
-use Rattle.awk_asks.proofs.Chain.{at_once, done, part, stop}
+use Rattle.awk_streams.proofs.Chain.{at_once, done, part, stop}
 use Rattle.awk_machine.specs.Forms.{value}
 use Rattle.awk_machine.specs.Pieces.{Doing}
 use Rattle.awk_program.specs.View.{view}
-use Rattle.awk_tasks.proofs.Acting.{acted}
-use Rattle.awk_tasks.proofs.Lifting.{lifted}
-use Rattle.awk_tasks.specs.Wholes.{names_in}
+use Rattle.awk_store.proofs.Acting.{acted}
+use Rattle.awk_store.proofs.Lifting.{lifted}
+use Rattle.awk_store.specs.Wholes.{names_in}
 use Rattle.box_world.specs.Events.{Standard}
 use Rattle.std.proofs.Common.{map, refl}
 use Rattle.std.proofs.lemmas.Result.{err_from_is_err_and}

@@ -1,10 +1,10 @@
-use Rattle.awk_asks.proofs.Chain.{at_once, done, part, passes, stop}
-use Rattle.awk_forms.specs.Outputs.{to_standard}
+use Rattle.awk_streams.proofs.Chain.{at_once, done, part, passes, stop}
+use Rattle.awk_builtins.specs.Outputs.{to_standard}
 use Rattle.awk_machine.specs.Pieces.{At, Doing}
 use Rattle.awk_program.specs.View.{view, view_redirection}
-use Rattle.awk_tasks.proofs.Acting.{acted, done as there}
-use Rattle.awk_tasks.proofs.Lifting.{lifted}
-use Rattle.awk_tasks.specs.Wholes.{names_in}
+use Rattle.awk_store.proofs.Acting.{acted, done as there}
+use Rattle.awk_store.proofs.Lifting.{lifted}
+use Rattle.awk_store.specs.Wholes.{names_in}
 use Rattle.box_world.specs.Events.{Standard}
 use Rattle.std.proofs.Common.{[], map, refl}
 use Rattle.std.proofs.lemmas.Result.{err_from_is_err_and}

@@ -1,15 +1,15 @@
 use Rattle.awk_eval.proofs.Leading.{quietly}
 use Rattle.awk_eval.proofs.Printing.{count_formatted, halts, printf_target, streamed, waits_formatted}
 use Rattle.awk_eval.proofs.Turns.{filled_from}
-use Rattle.awk_asks.proofs.Chain.{at_once, done, lacking, part, stop, turned}
-use Rattle.awk_lent.specs.Lents.{lent_value}
+use Rattle.awk_streams.proofs.Chain.{at_once, done, lacking, part, stop, turned}
+use Rattle.awk_text.specs.Lents.{lent_value}
 use Rattle.awk_text.specs.Values.{text_of}
 use Rattle.awk_machine.specs.Forms.{value}
 use Rattle.awk_machine.specs.Pieces.{At, Doing}
 use Rattle.awk_program.specs.View.{view, view_redirection}
-use Rattle.awk_tasks.proofs.Acting.{acted}
-use Rattle.awk_tasks.proofs.Lifting.{lifted}
-use Rattle.awk_tasks.specs.Wholes.{names_in}
+use Rattle.awk_store.proofs.Acting.{acted}
+use Rattle.awk_store.proofs.Lifting.{lifted}
+use Rattle.awk_store.specs.Wholes.{names_in}
 use Rattle.box_world.specs.Events.{Standard}
 use Rattle.std.proofs.Common.{[], ap, map, refl, sym, ◌++◌, ◌+◌, ◌∙◌, ◌∷◌}
 use Rattle.std.proofs.lemmas.Result.{err_from_is_err_and}

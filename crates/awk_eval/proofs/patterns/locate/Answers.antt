@@ -1,9 +1,9 @@
 use Rattle.awk_eval.proofs.Leading.{quietly}
-use Rattle.awk_asks.proofs.Chain.{at_once, part, passes, stop}
+use Rattle.awk_streams.proofs.Chain.{at_once, part, passes, stop}
 use Rattle.awk_machine.specs.Forms.{value}
 use Rattle.awk_program.specs.View.{view, view_ere}
-use Rattle.awk_tasks.proofs.Acting.{acted}
-use Rattle.awk_tasks.specs.Wholes.{names_in}
+use Rattle.awk_store.proofs.Acting.{acted}
+use Rattle.awk_store.specs.Wholes.{names_in}
 use Rattle.std.proofs.Common.{refl}
 use Rattle.std.proofs.lemmas.Result.{err_from_is_err_and}
 use Rattle.awk_eval.proofs.patterns.locate.Goals as goal

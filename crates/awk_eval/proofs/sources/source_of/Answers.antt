@@ -1,8 +1,8 @@
 use Rattle.awk_eval.proofs.Leading.{quietly}
-use Rattle.awk_asks.proofs.Chain.{at_once, done, part, stop}
-use Rattle.awk_forms.proofs.Rests.{ok_for}
+use Rattle.awk_streams.proofs.Chain.{at_once, done, part, stop}
+use Rattle.awk_builtins.proofs.Rests.{ok_for}
 use Rattle.awk_machine.specs.Forms.{value}
-use Rattle.awk_tasks.proofs.Acting.{acted}
+use Rattle.awk_store.proofs.Acting.{acted}
 use Rattle.std.proofs.Common.{refl}
 use Rattle.std.proofs.lemmas.Result.{err_from_is_err_and}
 use Rattle.awk_eval.proofs.sources.source_of.Goals as goal

@@ -1,11 +1,11 @@
 use Rattle.awk_eval.proofs.Going.{each_off, each_on}
 use Rattle.awk_eval.proofs.Leading.{quietly}
 use Rattle.awk_eval.proofs.Turns.{next_of}
-use Rattle.awk_asks.proofs.Chain.{at_once, done, part, stop, turned}
-use Rattle.awk_forms.proofs.Rests.{drop_all}
+use Rattle.awk_streams.proofs.Chain.{at_once, done, part, stop, turned}
+use Rattle.awk_builtins.proofs.Rests.{drop_all}
 use Rattle.awk_machine.specs.Pieces.{Do, Each}
 use Rattle.awk_program.specs.View.{view_statement}
-use Rattle.awk_tasks.specs.Wholes.{names_in}
+use Rattle.awk_store.specs.Wholes.{names_in}
 use Rattle.std.proofs.Common.{ap, drop, false, map, refl, sym, true, ◌+◌, ◌∙◌, ◌∷◌}
 use Rattle.std.proofs.lemmas.Result.{err_from_is_err_and}
 use Rattle.awk_eval.proofs.statements.body.Goals as goal

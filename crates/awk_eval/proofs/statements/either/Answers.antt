@@ -1,8 +1,8 @@
 use Rattle.awk_eval.proofs.Going.{either_off, either_on}
 use Rattle.awk_eval.proofs.Leading.{quietly, told_truth}
-use Rattle.awk_asks.proofs.Chain.{at_once, part, passes, stop}
+use Rattle.awk_streams.proofs.Chain.{at_once, part, passes, stop}
 use Rattle.awk_program.specs.View.{view, view_statement}
-use Rattle.awk_tasks.specs.Wholes.{names_in}
+use Rattle.awk_store.specs.Wholes.{names_in}
 use Rattle.std.proofs.Common.{false, refl, sym, true, ◌∙◌}
 use Rattle.std.proofs.lemmas.Result.{err_from_is_err_and}
 use Rattle.awk_eval.proofs.statements.either.Goals as goal

@@ -1,12 +1,12 @@
 use Rattle.awk_eval.proofs.Going.{block_first, turn_first}
 use Rattle.awk_eval.proofs.Leading.{quietly}
-use Rattle.awk_asks.proofs.Chain.{at_once, done, passes}
-use Rattle.awk_calls.proofs.Leading.{jumped}
+use Rattle.awk_streams.proofs.Chain.{at_once, done, passes}
+use Rattle.awk_store.proofs.Leading.{jumped}
 use Rattle.awk_machine.specs.Expressions.{either}
 use Rattle.awk_machine.specs.Pieces.{Do, Each}
 use Rattle.awk_program.proofs.Views.{statement-Block, statement-Break, statement-Continue, statement-Delete, statement-Do, statement-Exit, statement-Expr, statement-For, statement-ForIn, statement-If, statement-IfElse, statement-Next, statement-Print, statement-Printf, statement-Return, statement-While}
 use Rattle.awk_program.specs.View.{view_statement}
-use Rattle.awk_tasks.specs.Wholes.{names_in}
+use Rattle.awk_store.specs.Wholes.{names_in}
 use Rattle.std.proofs.Common.{map, refl, ◌∷◌}
 use Rattle.awk_eval.proofs.statements.perform.Goals as goal
 

@@ -1,12 +1,12 @@
 use Rattle.awk_eval.proofs.Leading.{quietly}
-use Rattle.awk_asks.proofs.Chain.{at_once, done, lacking, part, stop}
+use Rattle.awk_streams.proofs.Chain.{at_once, done, lacking, part, stop}
 use Rattle.awk_machine.specs.Forms.{value}
 use Rattle.awk_machine.specs.Pieces.{Do, Give, Set}
 use Rattle.awk_machine.specs.Targets.{stored}
-use Rattle.awk_tasks.proofs.Acting.{acted}
-use Rattle.awk_tasks.proofs.Spots.{stored-so}
-use Rattle.awk_tasks.specs.Spots.{meant}
-use Rattle.awk_tasks.specs.Wholes.{names_in}
+use Rattle.awk_store.proofs.Acting.{acted}
+use Rattle.awk_store.proofs.Spots.{stored-so}
+use Rattle.awk_store.specs.Spots.{meant}
+use Rattle.awk_store.specs.Wholes.{names_in}
 use Rattle.std.proofs.Common.{refl, sym, ◌∙◌, ◌∷◌}
 use Rattle.std.proofs.lemmas.Result.{err_from_is_err_and}
 use Rattle.awk_eval.proofs.targets.assign.Goals as goal

@@ -1,13 +1,13 @@
 use Rattle.awk_eval.proofs.Leading.{quietly}
-use Rattle.awk_asks.proofs.Chain.{at_once, done, lacking, part, stop, turned}
+use Rattle.awk_streams.proofs.Chain.{at_once, done, lacking, part, stop, turned}
 use Rattle.awk_machine.specs.Forms.{value}
 use Rattle.awk_machine.specs.Pieces.{At, Do, Get, Give, Set, Value_of}
 use Rattle.awk_machine.specs.Targets.{stored}
 use Rattle.awk_program.specs.View.{view, view_target}
-use Rattle.awk_tasks.proofs.Acting.{acted}
-use Rattle.awk_tasks.proofs.Spots.{stored-so}
-use Rattle.awk_tasks.specs.Spots.{meant, value_of}
-use Rattle.awk_tasks.specs.Wholes.{names_in}
+use Rattle.awk_store.proofs.Acting.{acted}
+use Rattle.awk_store.proofs.Spots.{stored-so}
+use Rattle.awk_store.specs.Spots.{meant, value_of}
+use Rattle.awk_store.specs.Wholes.{names_in}
 use Rattle.std.proofs.Common.{[], ap, refl, rules, sym, w64, ◌∙◌, ◌∷◌}
 use Rattle.std.proofs.lemmas.Int.{to_z-of_z}
 use Rattle.std.proofs.lemmas.Result.{err_from_is_err_and}

@@ -1,4 +1,4 @@
-use Rattle.awk_asks.proofs.Chain.{at_once, done, part, stop, turned}
+use Rattle.awk_streams.proofs.Chain.{at_once, done, part, stop, turned}
 use Rattle.std.proofs.Common.{refl, rules, w64}
 use Rattle.std.proofs.lemmas.Int.{to_z-of_z}
 use Rattle.std.proofs.lemmas.Result.{err_from_is_err_and}

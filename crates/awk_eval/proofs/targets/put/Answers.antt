@@ -1,13 +1,13 @@
 use Rattle.awk_eval.proofs.Leading.{hands_on, quietly, rests, unwanted}
-use Rattle.awk_asks.proofs.Chain.{at_once, done, part, stop}
+use Rattle.awk_streams.proofs.Chain.{at_once, done, part, stop}
 use Rattle.awk_machine.specs.Forms.{value}
 use Rattle.awk_machine.specs.Pieces.{Do, Give, Set, give}
 use Rattle.awk_machine.specs.Targets.{stored}
-use Rattle.awk_tasks.proofs.Acting.{acted, done as there, lacking as lacks_there}
-use Rattle.awk_tasks.proofs.Spots.{stored-so}
-use Rattle.awk_tasks.specs.Spots as spots
-use Rattle.awk_tasks.specs.Spots.{meant}
-use Rattle.awk_tasks.specs.Wholes.{names_in}
+use Rattle.awk_store.proofs.Acting.{acted, done as there, lacking as lacks_there}
+use Rattle.awk_store.proofs.Spots.{stored-so}
+use Rattle.awk_store.specs.Spots as spots
+use Rattle.awk_store.specs.Spots.{meant}
+use Rattle.awk_store.specs.Wholes.{names_in}
 use Rattle.std.proofs.Common.{false, refl, true, ◌∷◌}
 use Rattle.std.proofs.lemmas.Result.{err_from_is_err_and}
 use Rattle.awk_eval.proofs.targets.put.Goals as goal

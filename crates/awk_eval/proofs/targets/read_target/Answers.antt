@@ -1,11 +1,11 @@
 use Rattle.awk_eval.proofs.Leading.{quietly}
-use Rattle.awk_asks.proofs.Chain.{at_once, part, passes, stop}
+use Rattle.awk_streams.proofs.Chain.{at_once, part, passes, stop}
 use Rattle.awk_machine.specs.Pieces.{At, Do, Get, Target_of, Value_of}
 use Rattle.awk_program.specs.View.{variable_of}
-use Rattle.awk_tasks.proofs.Acting.{acted}
-use Rattle.awk_tasks.specs.Spots.{meant}
-use Rattle.awk_tasks.specs.declared.spot.Spot.TheVariants as spot
-use Rattle.awk_tasks.specs.Wholes.{names_in}
+use Rattle.awk_store.proofs.Acting.{acted}
+use Rattle.awk_store.specs.Spots.{meant}
+use Rattle.awk_store.specs.declared.spot.Spot.TheVariants as spot
+use Rattle.awk_store.specs.Wholes.{names_in}
 use Rattle.std.proofs.Common.{[], refl, ◌∷◌}
 use Rattle.std.proofs.lemmas.Result.{err_from_is_err_and}
 use Rattle.awk_eval.proofs.targets.read_target.Goals as goal

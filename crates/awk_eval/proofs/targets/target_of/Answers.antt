@@ -1,5 +1,5 @@
 use Rattle.awk_eval.proofs.Leading.{quietly}
-use Rattle.awk_asks.proofs.Chain.{at_once, done}
+use Rattle.awk_streams.proofs.Chain.{at_once, done}
 use Rattle.std.proofs.Common.{refl, sym}
 use Rattle.awk_eval.proofs.targets.target_of.Goals as goal
 

@@ -1,10 +1,10 @@
 use Rattle.awk_eval.proofs.Leading.{quietly}
-use Rattle.awk_asks.proofs.Chain.{at_once, done, part, stop}
-use Rattle.awk_lent.specs.Lents.{lent_value}
+use Rattle.awk_streams.proofs.Chain.{at_once, done, part, stop}
+use Rattle.awk_text.specs.Lents.{lent_value}
 use Rattle.awk_machine.specs.Forms.{value}
 use Rattle.awk_machine.specs.Pieces.{Goes, give}
-use Rattle.awk_tasks.proofs.Acting.{acted, done as there}
-use Rattle.awk_tasks.specs.Wholes.{base}
+use Rattle.awk_store.proofs.Acting.{acted, done as there}
+use Rattle.awk_store.specs.Wholes.{base}
 use Rattle.awk_machine.specs.Streams.{seen}
 use Rattle.std.proofs.Common.{ap, refl, sym}
 use Rattle.std.proofs.lemmas.Result.{err_from_is_err_and}

@@ -1,4 +1,4 @@
-use Rattle.awk_asks.proofs.Chain.{at_once, done, lacking, part, stop}
+use Rattle.awk_streams.proofs.Chain.{at_once, done, lacking, part, stop}
 use Rattle.awk_machine.specs.Expressions.{either}
 use Rattle.awk_machine.specs.Forms.{value}
 use Rattle.awk_program.proofs.Views.{view-Assign, view-Change, view-Step}

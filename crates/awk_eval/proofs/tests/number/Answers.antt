@@ -1,7 +1,7 @@
-use Rattle.awk_asks.proofs.Chain.{at_once, done, part, stop}
+use Rattle.awk_streams.proofs.Chain.{at_once, done, part, stop}
 use Rattle.awk_machine.specs.Forms.{value}
 use Rattle.awk_machine.specs.Pieces.{give}
-use Rattle.awk_tasks.proofs.Acting.{acted, done as there}
+use Rattle.awk_store.proofs.Acting.{acted, done as there}
 use Rattle.awk_text.specs.declared.fault.Fault.{Fault}
 use Rattle.std.proofs.Common.{refl, rules, sym, w64}
 use Rattle.std.proofs.lemmas.Int.{to_z-of_z}

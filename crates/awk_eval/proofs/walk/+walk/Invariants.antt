@@ -1,7 +1,7 @@
 use Rattle.awk_eval.proofs.walk.+walk.Given as goal
 
 abbrev pub decreases-value : goal.decreases-value
-decreases-value g l = l.level
+decreases-value g l = l.left
 
 abbrev pub decreases-statement : goal.decreases-statement
-decreases-statement g l = l.level
+decreases-statement g l = l.left

@@ -1,7 +1,7 @@
 use Rattle.std.proofs.Common.{ap, sym}
 use Rattle.awk_machine.specs.Pieces.{nowhere}
 use Rattle.awk_program.specs.View.{view_program}
-use Rattle.awk_phases.proofs.Starting.{reported_none}
+use Rattle.awk_run.proofs.Starting.{reported_none}
 use Rattle.awk_run.specs.Givens.{given_of}
 use Rattle.awk_run.proofs.Running.{sound_so}
 use Rattle.awk_run.proofs.runs.run.Goals as goal

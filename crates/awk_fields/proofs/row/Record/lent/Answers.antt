@@ -1,6 +1,6 @@
 use Rattle.std.proofs.Common.{◌-◌, ℕ, List, slice_index_or, ap, ◌∙◌}
 use Rattle.awk_text.specs.declared.value.Value.TheVariants.{Unset}
-use Rattle.awk_lent.specs.Lents.{lent_value}
+use Rattle.awk_text.specs.Lents.{lent_value}
 use Rattle.awk_fields.specs.Parts.{values_of, whole_of}
 use Rattle.awk_fields.specs.Rows.{IsValueAt}
 use Rattle.awk_fields.proofs.RowLemmas.{held_split, value_at_place, some_both}

@@ -1,6 +1,0 @@
-use Rattle.std.proofs.Common.{◌≡◌, drop}
-use Rattle.awk_asks.specs.Closings.{first_of}
-use Rattle.awk_asks.proofs.streams.Streams.first_of.Given as goal
-
-abbrev pub invariant-loop-i : goal.invariant-loop-i
-invariant-loop-i l = first_of l.fn.text l.fn.self.entries ≡ first_of l.fn.text (drop l.i l.fn.self.entries)

@@ -1,0 +1,12 @@
+pub mod Cached
+pub mod Filling
+pub mod Granted
+pub mod Lines
+pub mod Listed
+pub mod Making
+pub mod Matching
+pub mod PrintSteps
+pub mod Replaced
+pub mod Rests
+pub mod SearchSteps
+pub mod SplitSteps

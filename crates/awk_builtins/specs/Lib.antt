@@ -1,0 +1,11 @@
+pub mod Cached
+pub mod Checks
+pub mod Filled
+pub mod Lines
+pub mod Made
+pub mod Operands
+pub mod Outputs
+pub mod Patterns
+pub mod Printed
+pub mod Searches
+pub mod Searching

@@ -1,0 +1,174 @@
+// The texts that print, printf and sprintf make.
+ghost use Rattle.awk_builtins.specs.Outputs.{to_standard, to_stream};
+ghost use Rattle.awk_builtins.specs.Printed as line_spec;
+ghost use Rattle.awk_builtins.specs.Printed.{items};
+ghost use Rattle.awk_fields.specs.Rows.{joined};
+ghost use Rattle.awk_machine.specs.Builtins as spec;
+ghost use Rattle.awk_machine.specs.Forms.{listed};
+ghost use Rattle.awk_machine.specs.Operators.{limited};
+ghost use Rattle.awk_machine.specs.Pieces.{At, Doing, Value_of, give};
+ghost use Rattle.awk_machine.specs.State.{Given};
+ghost use Rattle.awk_program.specs.Program as p;
+ghost use Rattle.awk_program.specs.Program.{Expression, Expressions};
+ghost use Rattle.awk_program.specs.declared.statements.Redirection.{Redirection};
+ghost use Rattle.awk_program.specs.declared.variables.Own.TheVariants as own;
+ghost use Rattle.awk_store.specs.Acts.{Acts};
+ghost use Rattle.awk_store.specs.Kept.{own_text};
+ghost use Rattle.awk_store.specs.Wholes.{Whole};
+ghost use Rattle.awk_streams.specs.Tables.{Table};
+ghost use Rattle.std.specs.Prelude.{Err, IfErr, IfOk, List, None, Ok, Some, length, reverse, ◌++◌, ◌∷◌, ◌≡◌, ◌⊎◌};
+
+use awk_format::format;
+use awk_program::{Own, Redirection};
+use awk_store::Store;
+use awk_streams::halt::{Halt, at};
+use awk_text::fault::Fault;
+use awk_text::octets::Octets;
+use awk_text::place::Place;
+use awk_text::texts::MOST_BYTES;
+use awk_text::value::{Value, text_in};
+use crate::line::Line;
+use crate::made::text_at;
+use itoa::Buffer;
+use std::alloc::Global;
+
+/// The text that sprintf and printf make: the first value is the format, and an absent one is empty.
+///
+/// Fails as `awk_format::format` does.
+pub fn formatted_by(alloc: Global, values: &[Value]) -> Result<Vec<u8>, Fault>
+    ensures ok { IfOk result (λ text. spec.formatted_by values.now ≡ Ok text.items) }
+    ensures err { IfErr result (λ e. (e ≡ Fault.Memory) ⊎ (spec.formatted_by values.now ≡ Err e)) }
+{
+    let mut buffer = Buffer::new();
+    match values {
+        [] => format(alloc, &[], &[]),
+        [first, others @ ..] => format(alloc, text_in(first, &mut buffer), others),
+    }
+}
+
+/// The text that print makes of its items: their texts with OFS between, and ORS. It is made in the line, and taken out of it.
+///
+/// Fails with `Fault::TextTooLong` exactly where the text has more than `MOST_BYTES` bytes, and with
+/// `Fault::Memory` where memory is refused.
+pub fn printed(line: &mut Line, items: &[Value], ofs: &[u8], ors: &[u8]) -> Result<Octets, Fault>
+    ensures ok { IfOk result (λ text. limited (joined ofs.now items.now ++ ors.now) ≡ Ok text) }
+    ensures err { IfErr result (λ e. (e ≡ Fault.Memory) ⊎ (limited (joined ofs.now items.now ++ ors.now) ≡ Err e)) }
+{
+    line.join(items, ofs, ors)?;
+    line.take()
+}
+
+/// The texts of the items with OFS between, or of the whole record where there are none, and then ORS. It is made in the line,
+/// and taken out of it; its room serves the next one once `Line::reuse` gives it back.
+pub fn text_of_items(line: &mut Line, store: &mut Store, items: &[Value]) -> Result<Octets, Fault>
+    ensures ok { IfOk result (λ text. line_spec.printed store.old items.now ≡ Ok text) }
+    ensures err { IfErr result (λ e. (e ≡ Fault.Memory) ⊎ (line_spec.printed store.old items.now ≡ Err e)) }
+    ensures same { store.new ≡ store.old }
+{
+    if items.is_empty() {
+        text_of_record(line, store)
+    } else {
+        text_of_values(line, store, items)
+    }
+}
+
+/// The texts of some items with OFS between, and what ends them.
+fn text_of_values(line: &mut Line, store: &Store, items: &[Value]) -> Result<Octets, Fault>
+    ensures ok { IfOk result (λ text. limited (joined (own_text store.now own.Ofs) items.now ++ own_text store.now own.Ors) ≡ Ok text) }
+    ensures err { IfErr result (λ e. (e ≡ Fault.Memory) ⊎ (limited (joined (own_text store.now own.Ofs) items.now ++ own_text store.now own.Ors) ≡ Err e)) }
+{
+    let (mut first, mut second) = (Buffer::new(), Buffer::new());
+    let ofs = store.own_text(Own::Ofs, &mut first);
+    let ors = store.own_text(Own::Ors, &mut second);
+    printed(line, items, ofs, ors)
+}
+
+/// The whole record and what ends it.
+fn text_of_record(line: &mut Line, store: &mut Store) -> Result<Octets, Fault>
+    ensures ok { IfOk result (λ text. limited (store.old.row.whole ++ own_text store.old own.Ors) ≡ Ok text) }
+    ensures err { IfErr result (λ e. (e ≡ Fault.Memory) ⊎ (limited (store.old.row.whole ++ own_text store.old own.Ors) ≡ Err e)) }
+    ensures same { store.new ≡ store.old }
+{
+    store.rebuild()?;
+    let Some(whole) = store.known_whole() else {
+        return Err(Fault::Memory);
+    };
+    let mut buffer = Buffer::new();
+    let ors = store.own_text(Own::Ors, &mut buffer);
+    ended(line, whole, ors)
+}
+
+/// A text and what ends it, made in the line and taken out of it.
+pub fn ended(line: &mut Line, whole: &[u8], ors: &[u8]) -> Result<Octets, Fault>
+    ensures ok { IfOk result (λ text. limited (whole.now ++ ors.now) ≡ Ok text) }
+    ensures err { IfErr result (λ e. (e ≡ Fault.Memory) ⊎ (limited (whole.now ++ ors.now) ≡ Err e)) }
+{
+    line.clear();
+    line.push(whole)?;
+    line.push(ors)?;
+    line.take()
+}
+
+/// The text that a format and its values make.
+fn text_of_format(alloc: Global, values: &[Value]) -> Result<Octets, Fault>
+    ensures ok { IfOk result (λ text. spec.formatted_by values.now ≡ Ok text) }
+    ensures err { IfErr result (λ e. (e ≡ Fault.Memory) ⊎ (spec.formatted_by values.now ≡ Err e)) }
+{
+    Ok(Octets::new(formatted_by(alloc, values)?))
+}
+
+/// What `sprintf ( format , list )` gives: the first value is the format.
+pub fn sprintf(alloc: Global, place: Place, values: &[Value]) -> Result<Value, Halt>
+    ensures { (g : Given) (w : Whole) (x : Expression) (xs : Expressions) → length (x ∷ listed xs) ≡ length values.now
+        → Acts g (At (Value_of (p.sprintf place x xs)) (reverse values.now)) give w result w }
+{
+    text_at(place, text_of_format(alloc, values))
+}
+
+/// The text that print puts to the standard output.
+pub fn printed_line(
+    line: &mut Line,
+    store: &mut Store,
+    place: Place,
+    items: &[Value],
+) -> Result<Octets, Halt>
+    ensures { (g : Given) (t : Table) (xs : List Expression) → length xs ≡ length items.now
+        → Acts g (At (Doing (p.print place xs None)) (reverse items.now)) (to_standard place) (store.old, t) result (store.new, t) }
+{
+    at(place, text_of_items(line, store, items))
+}
+
+/// The text that printf puts to the standard output: the first value is the format.
+pub fn formatted_line(alloc: Global, place: Place, values: &[Value]) -> Result<Octets, Halt>
+    ensures { (g : Given) (w : Whole) (x : Expression) (xs : List Expression) → length (x ∷ xs) ≡ length values.now
+        → Acts g (At (Doing (p.printf place x xs None)) (reverse values.now)) (to_standard place) w result w }
+{
+    at(place, text_of_format(alloc, values))
+}
+
+/// The text that print puts to the stream of this name.
+pub fn printed_for(
+    line: &mut Line,
+    store: &mut Store,
+    place: Place,
+    items: &[Value],
+    name: &Value,
+) -> Result<Octets, Halt>
+    ensures { (g : Given) (t : Table) (xs : List Expression) (r : Redirection Expression) → length xs ≡ length items.now
+        → Acts g (At (Doing (p.print place xs (Some r))) (name.now ∷ reverse items.now)) (to_stream r name.now) (store.old, t) result (store.new, t) }
+{
+    at(place, text_of_items(line, store, items))
+}
+
+/// The text that printf puts to the stream of this name: the first value is the format.
+pub fn formatted_for(
+    alloc: Global,
+    place: Place,
+    values: &[Value],
+    name: &Value,
+) -> Result<Octets, Halt>
+    ensures { (g : Given) (w : Whole) (x : Expression) (xs : List Expression) (r : Redirection Expression) → length (x ∷ xs) ≡ length values.now
+        → Acts g (At (Doing (p.printf place x xs (Some r))) (name.now ∷ reverse values.now)) (to_stream r name.now) w result w }
+{
+    at(place, text_of_format(alloc, values))
+}

@@ -1,0 +1,169 @@
+// split: what it separates by, what it makes, and what it fills.
+ghost use Rattle.awk_builtins.specs.Filled.{filled};
+ghost use Rattle.awk_builtins.specs.Patterns.{IsSourceOf, source_value};
+ghost use Rattle.awk_fields.specs.Fields.{Fields};
+ghost use Rattle.awk_fields.specs.Separators as separators;
+ghost use Rattle.awk_machine.specs.Builtins.{split_by};
+ghost use Rattle.awk_machine.specs.Pieces.{At, Do, Fill, Piece, Split, Value_of, give};
+ghost use Rattle.awk_machine.specs.State.{Given};
+ghost use Rattle.awk_machine.specs.Targets.{check_separator};
+ghost use Rattle.awk_program.specs.Program as p;
+ghost use Rattle.awk_program.specs.Program.{Expression};
+ghost use Rattle.awk_program.specs.View.{variable_of};
+ghost use Rattle.awk_store.specs.Acts.{Acts, Passes};
+ghost use Rattle.awk_store.specs.Wholes.{Whole, names_in};
+ghost use Rattle.awk_streams.specs.Tables.{Table};
+ghost use Rattle.awk_text.specs.Values.{text_of};
+ghost use Rattle.std.specs.Fmt.{decimal};
+ghost use Rattle.std.specs.Prelude.{Err, IfErr, IfOk, List, Ok, OnOk, [], false, length, pos, ℕ, ◌∷◌, ◌≡◌, ◌⊎◌};
+
+use awk_ere::Ere;
+use awk_fields::Splitter;
+use awk_lib::array::{Array, MOST_ELEMENTS};
+use awk_program::Variable;
+use awk_store::Store;
+use awk_streams::halt::{Halt, at};
+use awk_text::fault::Fault;
+use awk_text::octets::Octets;
+use awk_text::place::Place;
+use awk_text::value::{Value, text_in};
+use crate::cache::Patterns;
+use crate::patterns::{Source, check};
+use itoa::Buffer;
+use std::alloc::Global;
+
+/// The parts of the text of a value.
+///
+/// Fails with `Fault::Memory` alone, where memory is refused.
+pub fn split_text(alloc: Global, splitter: &Splitter, value: &Value) -> Result<Vec<Octets>, Fault>
+    ensures ok { IfOk result (λ parts. Fields splitter.now (text_of value.now) parts.items) }
+    ensures err { IfErr result (λ e. e ≡ Fault.Memory) }
+{
+    let mut buffer = Buffer::new();
+    awk_fields::split(alloc, text_in(value, &mut buffer), splitter)
+}
+
+/// The digits of a number, as a key, in the buffer.
+fn number_key(number: u64, buffer: &mut Buffer) -> &[u8]
+    ensures { result.now ≡ decimal number }
+{
+    buffer.format(number).as_bytes()
+}
+
+/// Fills the array with the parts, in place of what it holds, under the keys 1, 2 and so on; and answers how
+/// many there are.
+///
+/// Fails with `Fault::TooManyElements` exactly where there are more than `MOST_ELEMENTS`, and then the array is
+/// as it was, and with `Fault::Memory` where memory is refused.
+pub fn fill_with(array: &mut Array<Value>, parts: Vec<Octets>) -> Result<i64, Fault>
+    ensures ok { OnOk result (filled parts.items ≡ Ok array.new) }
+    ensures count { IfOk result (λ n. n ≡ pos (length parts.items)) }
+    ensures err { IfErr result (λ e. (e ≡ Fault.Memory) ⊎ ((filled parts.items ≡ Err e) × (array.new ≡ array.old))) }
+{
+    let count = parts.len();
+    if MOST_ELEMENTS < count {
+        return Err(Fault::TooManyElements);
+    }
+    array.clear();
+    let mut rest = parts;
+    rest.as_mut_slice().reverse();
+    let mut number: u64 = 1;
+    let mut digits = Buffer::new();
+    while let Some(part) = rest.pop() {
+        array.set(number_key(number, &mut digits), Value::Input(part))?;
+        number += 1;
+    }
+    Ok(count as i64)
+}
+
+/// Fills an array with the parts, in place of what it holds, and answers how many there are. Too many are a fault at the place
+/// of the array's name.
+fn fill(
+    alloc: Global,
+    store: &mut Store,
+    at_name: Place,
+    array: Variable,
+    parts: Vec<Octets>,
+) -> Result<i64, Halt>
+    ensures { (g : Given) (t : Table) → Acts g (Do (Fill at_name (variable_of (names_in g) array) parts.items)) (λ n. give (Value.Num n)) (store.old, t) result (store.new, t) }
+{
+    let reference = store.reference(array);
+    let mut elements = store.replace(reference, Array::new(alloc));
+    let filled = fill_with(&mut elements, parts);
+    store.replace(reference, elements);
+    at(at_name, filled)
+}
+
+/// Splits the text of a value into an array, in place of what it holds, and answers how many parts there are. Too many are a
+/// fault at the place of the array's name.
+pub fn split_into(
+    alloc: Global,
+    store: &mut Store,
+    at_name: Place,
+    array: Variable,
+    splitter: &Splitter,
+    text: &Value,
+) -> Result<i64, Halt>
+    ensures { (g : Given) (t : Table) → Acts g (Do (Split at_name (variable_of (names_in g) array) splitter.now (text_of text.now))) (λ n. give (Value.Num n)) (store.old, t) result (store.new, t) }
+{
+    let Ok(parts) = split_text(alloc, splitter, text) else {
+        return Err(Halt::Memory);
+    };
+    fill(alloc, store, at_name, array, parts)
+}
+
+/// What a text that was computed separates by: an ERE where it has two bytes or more.
+fn computed_splitter(
+    alloc: Global,
+    patterns: &mut Patterns,
+    place: Place,
+    by: &[u8],
+) -> Result<Splitter, Halt>
+    ensures { (g : Given) (w : Whole) (at : Place) (a : p.Variable) (text : List ℕ) (from : Piece)
+        → Passes g from w (λ k. check_separator place by.now (Do (Split at a (separators.separator by.now false) text) ∷ k)) w
+        → Acts g from (λ s k. Do (Split at a s text) ∷ k) w result w }
+{
+    if by.len() > 1 {
+        let ere = check(alloc, patterns, place, by)?;
+        return Ok(Splitter::by_compiled(ere));
+    }
+    at(place, Splitter::new(alloc, by, false))
+}
+
+/// What split separates by: from whatever leads to the check of a separator on to the splitting.
+fn splitter(
+    alloc: Global,
+    patterns: &mut Patterns,
+    place: Place,
+    by: Source,
+) -> Result<Splitter, Halt>
+    ensures { (g : Given) (w : Whole) (y : p.Ere) → IsSourceOf y by → (at : Place) (a : p.Variable) (text : List ℕ) (from : Piece)
+        → Passes g from w (split_by y place at a text (text_of (source_value by))) w → Acts g from (λ s k. Do (Split at a s text) ∷ k) w result w }
+{
+    match by {
+        Source::Constant(ere) => Ok(Splitter::by_compiled(ere)),
+        Source::Computed(computed) => {
+            let mut buffer = Buffer::new();
+            computed_splitter(alloc, patterns, place, text_in(&computed, &mut buffer))
+        }
+    }
+}
+
+/// What `split ( text , array , separator )` gives: how many parts there are. The array holds them, in place of what it held.
+pub fn split(
+    alloc: Global,
+    patterns: &mut Patterns,
+    store: &mut Store,
+    place: Place,
+    at_name: Place,
+    array: Variable,
+    text: &Value,
+    by: Source,
+) -> Result<Value, Halt>
+    ensures { (g : Given) (t : Table) (x : Expression) (y : p.Ere) → IsSourceOf y by
+        → Acts g (At (Value_of (p.split place x at_name (variable_of (names_in g) array) y)) (source_value by ∷ text.now ∷ [])) give (store.old, t) result (store.new, t) }
+{
+    let separator = splitter(alloc, patterns, place, by)?;
+    let count = split_into(alloc, store, at_name, array, &separator, text)?;
+    Ok(Value::Num(count))
+}

@@ -1,5 +1,0 @@
-pub mod Ending
-pub mod Framing
-pub mod Leading
-pub mod Leaving
-pub mod Stepping

@@ -1,5 +1,0 @@
-use Rattle.awk_forms.proofs.Rests.{just_one}
-use Rattle.awk_forms.proofs.keys.only.Goals as goal
-
-pub returns-in-len1 : goal.returns-in-len1
-returns-in-len1 c = just_one c.args.subscripts.now c.one-item.result c.in-len1.len_at_least c.in-len1.len_below c.one-item.is

@@ -1,6 +1,0 @@
-pub mod AtHand
-pub mod Growing
-pub mod Made
-pub mod Operands
-pub mod Outputs
-pub mod Patterns

@@ -1,4 +1,0 @@
-// Values whose texts are lent.
-#![tactic(auto)]
-
-pub mod lent;

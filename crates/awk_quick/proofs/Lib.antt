@@ -1,0 +1,4 @@
+pub mod AtHand
+pub mod Grown
+pub mod Printed
+pub mod Storing

@@ -1,0 +1,85 @@
+-- Expressions whose value is there: to evaluate them changes nothing and meets no fault; and assignments that are done at once.
+use Rattle.std.specs.Prelude.{◌≡◌, ◌≤◌, ℕ, ℤ, Bool, Ok, Some, List, [], ◌∷◌, Option, length, map}
+use Rattle.awk_fields.specs.Rows.{joined}
+use Rattle.awk_text.specs.Limits.{most_bytes}
+use Rattle.awk_text.specs.Values.{number_of, numeric, text_of, truth}
+use Rattle.awk_text.specs.declared.value.Value.{Value}
+use Rattle.awk_text.specs.declared.place.Place.{Place}
+use Rattle.awk_text.specs.declared.value.Value.TheVariants as v
+use Rattle.awk_program.specs.Program as p
+use Rattle.awk_program.specs.Program.{Expression, expressions_of, joins_of}
+use Rattle.awk_program.specs.declared.variables.Variable.{Variable}
+use Rattle.awk_program.specs.View.{Names, view, view_joined}
+use Rattle.awk_program.specs.declared.expressions.Expr.{Expr}
+use Rattle.awk_program.specs.declared.expressions.Joined.{Joined}
+use Rattle.awk_machine.specs.Forms.{spot, value}
+use Rattle.awk_machine.specs.Pieces.{give}
+use Rattle.awk_machine.specs.State.{Given}
+use Rattle.awk_store.specs.Changes.{Adds, with_array}
+use Rattle.awk_store.specs.Kept.{Kept, array, reference}
+use Rattle.awk_streams.specs.Tables.{Table}
+use Rattle.awk_store.specs.Acts.{Passes}
+use Rattle.awk_store.specs.Wholes.{names_in}
+use Rattle.awk_builtins.specs.Lines.{held}
+
+module _ (x : Names → Expression) where
+  -- whatever else a run holds beside the store
+  abbrev pub Gives : Value → Kept → Kept → Type 0
+  Gives val old new = (g : Given) (t : Table) → Passes g (value (x (names_in g))) (old, t) (give val) (new, t)
+
+  module _ (kept : Kept) where
+    abbrev pub IsThere : Value → Type 0
+    IsThere val = Gives val kept kept
+
+    -- a value with this number is there
+    pub record HasNumber (n : ℤ) : Type 0 where
+      pub val : Value
+      pub is : number_of val ≡ Ok n
+      pub there : IsThere val
+
+    -- a value is there that is this number, and is compared and tested as it
+    pub record CountsAs (n : ℤ) : Type 0 where
+      pub val : Value
+      pub is : number_of val ≡ Ok n
+      pub looks : numeric val ≡ Some n
+      pub there : IsThere val
+
+    -- a value with this truth is there
+    pub record HasTruth (b : Bool) : Type 0 where
+      pub val : Value
+      pub is : truth val ≡ b
+      pub there : IsThere val
+
+  -- the whole is done
+  pub record IsDone (old new : Kept) : Type 0 where
+    pub val : Value
+    pub gives : Gives val old new
+
+-- the values of a list of expressions are there
+abbrev pub AreThere : Kept → List Expr → List Value → Type 0
+AreThere kept [] [] = Unit {0}
+AreThere kept [] (val ∷ vals) = ⊥
+AreThere kept (x ∷ xs) [] = ⊥
+AreThere kept (x ∷ xs) (val ∷ vals) = IsThere (λ names. view names x) kept val × AreThere kept xs vals
+
+-- a line is the texts of a value and of those behind it, with a separator between
+pub record HoldsJoined (kept : Kept) (xs : List Expr) (separator : List ℕ) (first : Value) (line : Option (List ℕ)) : Type 0 where
+  pub vals : List Value
+  pub there : AreThere kept xs vals
+  pub line_is : line ≡ held (joined separator (first ∷ vals))
+
+-- a line is the text of a value, which is that of operands one after the other, and is there where that text is within the limit
+pub record HoldsOperands (kept : Kept) (first : Expr) (rest : List (Joined Expr)) (line : Option (List ℕ)) : Type 0 where
+  pub val : Value
+  pub line_is : line ≡ held (text_of val)
+  pub there : length (text_of val) ≤ most_bytes → IsThere (λ names. p.concat (view names first) (joins_of (map (view_joined names) rest))) kept val
+
+-- subscripts are this key, of whichever array
+abbrev pub IsKey : List Expr → Kept → List ℕ → Type 0
+IsKey keys kept key = (g : Given) (t : Table) (place : Place) (of_ : p.Variable) → Passes g (spot (p.element place of_ (expressions_of (map (view (names_in g)) keys)))) (kept, t) (give (v.Text key)) (kept, t)
+
+-- the element with these subscripts holds a number, and is given the sum of that and another one
+pub record AddsAt (of_ : Variable) (keys : List Expr) (by_ : ℤ) (old new : Kept) : Type 0 where
+  pub key : List ℕ
+  pub is : IsKey keys old key
+  pub adds : Adds (Some (array old of_)) key by_ (λ elements. new ≡ with_array (reference old of_) elements old)

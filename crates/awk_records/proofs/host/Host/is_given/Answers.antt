@@ -1,6 +1,0 @@
-use Rattle.std.proofs.Common.{sym, ◌∙◌}
-use Rattle.awk_records.proofs.Hosting.{any_named}
-use Rattle.awk_records.proofs.host.Host.is_given.Goals as goal
-
-pub returns : goal.returns
-returns c = rw (← c.self.view_is) (c.contains.ensures ∙ sym (any_named (λ k. k.items) c.args.text.now c.self.inside.words.keys))

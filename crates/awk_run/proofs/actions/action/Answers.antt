@@ -1,0 +1,52 @@
+use Rattle.std.proofs.Common.{refl, sym, ap, ◌∙◌, ◌+◌, ◌++◌, [], ◌∷◌, drop, map}
+use Rattle.std.proofs.lemmas.Result.{err_from_is_err_and}
+use Rattle.awk_program.specs.View.{view_statement}
+use Rattle.awk_machine.specs.Pieces.{Do, Each}
+use Rattle.awk_store.specs.Wholes.{names_in}
+use Rattle.awk_streams.proofs.Chain.{at_once, done, part, stop, turned}
+use Rattle.awk_eval.proofs.Leading.{quietly}
+use Rattle.awk_eval.proofs.Turns.{next_of}
+use Rattle.awk_builtins.proofs.Rests.{drop_all}
+use Rattle.awk_eval.proofs.Going.{each_on}
+use Rattle.awk_run.proofs.PhaseSteps.{past_twice}
+use Rattle.awk_run.proofs.actions.action.Goals as goal
+
+pub loop-x-init : goal.loop-x-init
+loop-x-init g c = λ rest. record { leads = λ m is. at_once _ _ _; owns = c.requires }
+
+pub returns-in_err-flow : goal.returns-in_err-flow
+returns-in_err-flow g c =
+    let e = err_from_is_err_and c.from_residual.result c.from_residual.ensures.1 in
+    rw (e.1, e.2) (λ rest. record {
+      plays = λ m is. stop _ (λ k. refl)
+          (quietly (turned ((c.loop-x.invariant rest).leads m is) (λ k. ap (λ ys. Do (Each (map (view_statement (names_in m)) ys ++ rest m)) ∷ k) (next_of c.args.xs.now c.loop-x.x-index c.x-item.result c.x-item.is c.loop-x-test.true))) (λ k hid d a. refl))
+          (c.statement.ensures.plays m is) c.in_err-flow.was;
+      owns = c.statement.ensures.owns;
+    })
+
+pub returns-then-not-is_on : goal.returns-then-not-is_on
+returns-then-not-is_on g c = λ rest. record {
+  plays = λ m is. done (turned (part _
+      (quietly (turned ((c.loop-x.invariant rest).leads m is) (λ k. ap (λ ys. Do (Each (map (view_statement (names_in m)) ys ++ rest m)) ∷ k) (next_of c.args.xs.now c.loop-x.x-index c.x-item.result c.x-item.is c.loop-x-test.true))) (λ k hid d a. refl))
+      (c.statement.ensures.plays m is) c.in_ok-flow.was)
+      (λ k. past_twice c.in_ok-flow.flow (map (view_statement (names_in m)) (drop (c.loop-x.x-index + 1) c.args.xs.now) ++ rest m) (rest m) k (sym c.is_on.ensures ∙ c.if-not-is_on.true)));
+  owns = c.statement.ensures.owns;
+}
+
+pub loop-x-preserved : goal.loop-x-preserved
+loop-x-preserved g c = λ rest. record {
+  leads = λ m is. turned (part _
+      (quietly (turned ((c.loop-x.invariant rest).leads m is) (λ k. ap (λ ys. Do (Each (map (view_statement (names_in m)) ys ++ rest m)) ∷ k) (next_of c.args.xs.now c.loop-x.x-index c.x-item.result c.x-item.is c.loop-x-test.true))) (λ k hid d a. refl))
+      (c.statement.ensures.plays m is) c.in_ok-flow.was)
+      (λ k. each_on c.in_ok-flow.flow (map (view_statement (names_in m)) (drop (c.loop-x.x-index + 1) c.args.xs.now) ++ rest m) k (sym c.is_on.ensures ∙ c.if-not-is_on.false));
+  owns = c.statement.ensures.owns;
+}
+
+pub returns : goal.returns
+returns g c = λ rest. record {
+  plays = λ m is. done (turned ((c.loop-x.invariant rest).leads m is) (λ k. ap (λ ys. Do (Each (map (view_statement (names_in m)) ys ++ rest m)) ∷ k) (drop_all c.args.xs.now c.loop-x.x-index c.loop-x-test.false)));
+  owns = (c.loop-x.invariant rest).owns;
+}
+
+pub statement-requires : goal.statement-requires
+statement-requires g c = (c.loop-x.invariant (λ m. [])).owns

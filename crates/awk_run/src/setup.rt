@@ -1,0 +1,151 @@
+// What a run is started with.
+ghost use Rattle.awk_run.specs.SetupParts.{ascends, first_unspelled};
+ghost use Rattle.std.specs.Option.{option_copied};
+ghost use Rattle.std.specs.Prelude.{MatchBool, MatchOption, length, ◌<◌, ◌^◌, ◌≡◌};
+
+use awk_text::octets::Octets;
+use awk_tokens::is_name;
+use std::cmp::Ordering;
+use std::marker::Model;
+
+/// What a run is started with: the operand words, the names of the environment that it may ask for,
+/// the pairs of `-v`, and the text of `-F`.
+#[derive(Drop)]
+pub struct Setup {
+    operands: Vec<Octets>,
+    names: Vec<Octets>,
+    assigns: Vec<(Octets, Octets)>,
+    separator: Option<Octets>,
+}
+
+impl Model for Setup {
+    ghost use Rattle.awk_run.specs.SetupParts.{SetupParts};
+
+    ghost Value = { SetupParts };
+
+    ghost view = { λ s. record {
+      operands = s.operands.items;
+      names = s.names.items;
+      assigns = s.assigns.items;
+      separator = s.separator;
+    } };
+
+    // so that the number of each pair is a u32
+    ghost use Rattle.std.specs.Prelude.{◌<◌, ◌^◌, length};
+
+    ghost invariant = { λ s. length s.assigns.items < 2 ^ 32 };
+}
+
+/// Why words make no setup: U1, a pair of `-v` whose name is none, with the number of the first such
+/// pair; U2, names of the environment that are not in ascending order without repeats.
+#[derive(Clone, Copy, Debug, PartialEq, Eq, Drop)]
+pub struct SetupError {
+    pub code: u8,
+    pub pair: u32,
+}
+
+impl SetupError {
+    /// U1: the name of a pair is not spelled as a name of the language.
+    pub const NAME: u8 = 1;
+    /// U2: the names of the environment do not ascend byte by byte. `pair` is 0.
+    pub const ORDER: u8 = 2;
+}
+
+/// The number of the first pair whose name is none, counted from 1.
+fn first_unspelled(assigns: &[(Octets, Octets)]) -> Option<u32>
+    requires { length assigns.now < 2 ^ 32 }
+    ensures { result ≡ first_unspelled 1 assigns.now }
+{
+    let mut number = 0u32;
+    for (name, _) in assigns {
+        number += 1;
+        if !is_name(name.bytes()) {
+            return Some(number);
+        }
+    }
+    None
+}
+
+fn ascends(names: &[Octets]) -> bool
+    ensures { result ≡ ascends names.now }
+{
+    for i in 1..names.len() {
+        if names[i - 1].bytes().cmp(names[i].bytes()) != Ordering::Less {
+            return false;
+        }
+    }
+    true
+}
+
+impl Setup {
+    /// The setup of these words. Fewer than 2^32 pairs are the caller's duty. Takes no memory.
+    ///
+    /// Refused as U1 where the name of a pair is not spelled as a name, and else as U2 where the names
+    /// of the environment do not ascend.
+    pub fn read(
+        operands: Vec<Octets>,
+        names: Vec<Octets>,
+        assigns: Vec<(Octets, Octets)>,
+        separator: Option<Octets>,
+    ) -> Result<Setup, SetupError>
+        requires { length assigns.items < 2 ^ 32 }
+        ensures { MatchOption (first_unspelled 1 assigns.items)
+            (MatchBool (ascends names.items)
+            (result ≡ Ok (record {
+              operands = operands.items;
+              names = names.items;
+              assigns = assigns.items;
+              separator = separator;
+            }))
+            (result ≡ Err (record { code = 2; pair = 0 })))
+            (λ pair. result ≡ Err (record { code = 1; pair = pair })) }
+    {
+        if let Some(pair) = first_unspelled(assigns.as_slice()) {
+            return Err(SetupError {
+                code: SetupError::NAME,
+                pair,
+            });
+        }
+        if !ascends(names.as_slice()) {
+            return Err(SetupError {
+                code: SetupError::ORDER,
+                pair: 0,
+            });
+        }
+        Ok(Setup {
+            operands,
+            names,
+            assigns,
+            separator,
+        })
+    }
+
+    /// The operand words, in order. Takes no memory.
+    pub fn operands(&self) -> &[Octets]
+        ensures { result.now ≡ self.now.operands }
+    {
+        self.operands.as_slice()
+    }
+
+    /// The names of the environment, in ascending order. Takes no memory.
+    pub fn names(&self) -> &[Octets]
+        ensures { result.now ≡ self.now.names }
+    {
+        self.names.as_slice()
+    }
+
+    /// The text of `-F`, where there is one. Takes no memory.
+    pub fn separator(&self) -> Option<&Octets>
+        ensures { option_copied result ≡ self.now.separator }
+    {
+        self.separator.as_ref()
+    }
+
+    /// The pairs of `-v`, in order: fewer than 2^32. Takes no memory.
+    pub fn assigns(&self) -> &[(Octets, Octets)]
+        ensures pairs { result.now ≡ self.now.assigns }
+        ensures few { length self.now.assigns < 2 ^ 32 }
+    {
+        self.assigns.as_slice()
+    }
+}

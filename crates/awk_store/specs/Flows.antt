@@ -1,0 +1,13 @@
+-- How a statement ends that is not halted, and what is left to be done then (POSIX.1-2017 XCU awk, "Actions").
+use Rattle.std.specs.Prelude.{List, Some, None}
+use Rattle.awk_machine.specs.Pieces.{Piece}
+use Rattle.awk_machine.specs.Statements.{after_break, after_continue, to_leave, leave_with}
+use Rattle.awk_store.specs.declared.flow.Flow.{Flow}
+use Rattle.awk_store.specs.declared.flow.Flow.TheVariants as flow
+
+abbrev pub flows : Flow → List Piece → List Piece
+flows flow.On k = k
+flows flow.Break k = after_break k
+flows flow.Continue k = after_continue k
+flows (flow.Return None) k = to_leave k
+flows (flow.Return (Some v)) k = leave_with v (to_leave k)

@@ -1,0 +1,61 @@
+// The record and its fields.
+ghost use Rattle.awk_machine.specs.Pieces as machine;
+ghost use Rattle.awk_machine.specs.Pieces.{Do, Get, Set, give};
+ghost use Rattle.awk_machine.specs.State.{Given};
+ghost use Rattle.awk_store.specs.Acts.{Acts};
+ghost use Rattle.awk_streams.specs.Tables.{Table};
+ghost use Rattle.awk_streams.specs.Tasks.{goes_on};
+ghost use Rattle.awk_text.specs.Values.{text_of};
+ghost use Rattle.std.specs.Prelude.{◌≡◌};
+
+use awk_streams::halt::{Halt, at};
+use awk_text::octets::Octets;
+use awk_text::place::Place;
+use awk_text::value::Value;
+use crate::Store;
+use crate::values::into_text;
+use std::alloc::Global;
+
+/// Reads a field by its number: 0 is the whole record. The record is split where it was not.
+pub fn read_field(store: &mut Store, number: u16) -> Result<Value, Halt>
+    ensures { (g : Given) (t : Table) → Acts g (Do (Get (machine.Field number))) give (store.old, t) result (store.new, t) }
+{
+    let Ok(value) = store.field(i64::from(number)) else {
+        return Err(Halt::Memory);
+    };
+    Ok(value)
+}
+
+/// Sets the whole record to the text of a value; its fields go by FS and RS as they are now.
+#[inline(always)]
+pub fn set_record(store: &mut Store, place: Place, text: Octets) -> Result<(), Halt>
+    ensures { (g : Given) (t : Table) (x : Value) → text_of x ≡ text → Acts g (Do (Set (machine.Field 0) place x)) goes_on (store.old, t) result (store.new, t) }
+{
+    at(place, store.set_whole(text))
+}
+
+/// Sets the whole record to a value.
+fn set_whole(alloc: Global, store: &mut Store, place: Place, value: Value) -> Result<(), Halt>
+    ensures { (g : Given) (t : Table) → Acts g (Do (Set (machine.Field 0) place value)) goes_on (store.old, t) result (store.new, t) }
+{
+    let Ok(text) = into_text(alloc, value) else {
+        return Err(Halt::Memory);
+    };
+    set_record(store, place, text)
+}
+
+/// Sets a field by its number: 0 is the whole record.
+pub fn set_field(
+    alloc: Global,
+    store: &mut Store,
+    number: u16,
+    place: Place,
+    value: Value,
+) -> Result<(), Halt>
+    ensures { (g : Given) (t : Table) → Acts g (Do (Set (machine.Field number) place value)) goes_on (store.old, t) result (store.new, t) }
+{
+    if number == 0 {
+        return set_whole(alloc, store, place, value);
+    }
+    at(place, store.set_field(i64::from(number), value))
+}

@@ -1,0 +1,137 @@
+// What is read or set, of whichever sort it is.
+ghost use Rattle.awk_machine.specs.Pieces.{Do, Get, Set, give};
+ghost use Rattle.awk_machine.specs.State.{Given};
+ghost use Rattle.awk_machine.specs.Targets as machine;
+ghost use Rattle.awk_store.specs.Acts.{Acts, Passes};
+ghost use Rattle.awk_store.specs.Spots as spec;
+ghost use Rattle.awk_store.specs.Spots.{meant};
+ghost use Rattle.awk_store.specs.Wholes.{names_in};
+ghost use Rattle.awk_streams.specs.Tables.{Table};
+ghost use Rattle.awk_streams.specs.Tasks.{goes_on};
+ghost use Rattle.awk_text.specs.Values as values;
+ghost use Rattle.std.specs.Prelude.{IfOk, IfSome, ◌≡◌};
+
+use awk_streams::halt::Halt;
+use awk_text::fault::Fault;
+use awk_text::octets::Octets;
+use awk_text::place::Place;
+use awk_text::value::{Value, number_of, text_in, text_of};
+use crate::{Store, is_nf};
+use crate::elements::{read_element, set_element};
+use crate::fields::{read_field, set_field};
+use crate::spot::Spot;
+use crate::variables::{read_variable, replace_variable, set_variable};
+use itoa::Buffer;
+use std::alloc::Global;
+
+/// Reads it.
+pub fn read(alloc: Global, store: &mut Store, target: &Spot) -> Result<Value, Halt>
+    ensures { (g : Given) (t : Table) → Acts g (Do (Get (meant (names_in g) target.now))) give (store.old, t) result (store.new, t) }
+{
+    match target {
+        Spot::Variable(variable) => read_variable(alloc, store, *variable),
+        Spot::Element(place, array, key) => {
+            let mut buffer = Buffer::new();
+            read_element(alloc, store, *place, *array, key.text(&mut buffer))
+        }
+        Spot::Field(number) => read_field(store, *number),
+    }
+}
+
+/// The text that it holds, lent, where that is there and reading it changes nothing: of `$0` unless it is to be rebuilt, of an
+/// element, and of a variable that is not NF. Takes no memory.
+pub fn lent<'a>(store: &'a Store, target: &Spot, buffer: &'a mut Buffer) -> Option<&'a [u8]>
+    ensures { IfSome result (λ text. (g : Given) (t : Table) → (x : Value) × (values.text_of x ≡ text.now) × Passes g (Do (Get (meant (names_in g) target.now))) (store.now, t) (give x) (store.now, t)) }
+{
+    match target {
+        Spot::Variable(variable) => {
+            if is_nf(*variable) {
+                return None;
+            }
+            Some(text_in(store.value(*variable)?, buffer))
+        }
+        Spot::Element(_, array, key) => {
+            let mut digits = Buffer::new();
+            Some(text_in(store.element(*array, key.text(&mut digits))?, buffer))
+        }
+        Spot::Field(number) => {
+            if *number == 0 {
+                return store.known_whole();
+            }
+            None
+        }
+    }
+}
+
+/// Sets it.
+pub fn set(
+    alloc: Global,
+    store: &mut Store,
+    target: Spot,
+    place: Place,
+    value: Value,
+) -> Result<(), Halt>
+    ensures { (g : Given) (t : Table) → Acts g (Do (Set (meant (names_in g) target) place value)) goes_on (store.old, t) result (store.new, t) }
+{
+    match target {
+        Spot::Variable(variable) => set_variable(store, variable, place, value),
+        Spot::Element(at_name, array, key) => {
+            let mut buffer = Buffer::new();
+            set_element(store, at_name, array, key.text(&mut buffer), value)
+        }
+        Spot::Field(number) => set_field(alloc, store, number, place, value),
+    }
+}
+
+/// Sets it, and answers what a text before lay in, if one is left: the next text may be written there.
+#[inline(always)]
+pub fn replace(
+    alloc: Global,
+    store: &mut Store,
+    target: Spot,
+    place: Place,
+    value: Value,
+) -> Result<Vec<u8>, Halt>
+    ensures { (g : Given) (t : Table) → Acts g (Do (Set (meant (names_in g) target) place value)) goes_on (store.old, t) result (store.new, t) }
+{
+    if let Spot::Variable(variable) = target {
+        return replace_variable(alloc, store, variable, place, value);
+    }
+    set(alloc, store, target, place, value)?;
+    Ok(store.take_room())
+}
+
+/// The number of a value, as a value.
+fn as_number(value: &Value) -> Value
+    ensures { result ≡ machine.as_number (values.number_of value.now) }
+{
+    match number_of(value) {
+        Ok(number) => Value::Num(number),
+        Err(_) => Value::Unset,
+    }
+}
+
+/// What the target holds once the value is set there: `$0` is always input, and NF always a number.
+///
+/// Fails where memory is refused.
+pub fn stored(alloc: Global, target: &Spot, value: &Value) -> Result<Value, Fault>
+    ensures { IfOk result (λ x. x ≡ spec.stored target.now value.now) }
+{
+    match target {
+        Spot::Variable(variable) => {
+            if is_nf(*variable) {
+                Ok(as_number(value))
+            } else {
+                value.copy(alloc)
+            }
+        }
+        Spot::Element(_, _, _) => value.copy(alloc),
+        Spot::Field(number) => {
+            if *number == 0 {
+                Ok(Value::Input(Octets::new(text_of(alloc, value)?)))
+            } else {
+                value.copy(alloc)
+            }
+        }
+    }
+}

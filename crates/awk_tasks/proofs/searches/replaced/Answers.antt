@@ -1,7 +1,0 @@
-use Rattle.awk_text.specs.Values.{text_of}
-use Rattle.awk_tasks.proofs.SearchSteps.{replaces_result}
-use Rattle.awk_tasks.proofs.searches.replaced.Goals as goal
-
-pub returns : goal.returns
-returns c = λ g w to.
-    rw c.at.ensures (replaces_result g w c.args.place to c.args.ere.now (text_of c.args.new.now) c.args.old.now c.args.all c.substitute.result c.substitute.ensures.ok c.substitute.ensures.err)

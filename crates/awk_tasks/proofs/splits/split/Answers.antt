@@ -1,8 +1,0 @@
-use Rattle.awk_tasks.proofs.Acting.{passes}
-use Rattle.awk_tasks.proofs.SplitSteps.{split_first}
-use Rattle.awk_text.specs.Values.{text_of}
-use Rattle.awk_tasks.proofs.splits.split.Goals as goal
-
-pub returns : goal.returns
-returns c = λ g t.
-    passes (split_first g (c.args.store.now, t) c.args.array c.args.at_name c.args.splitter.now (text_of c.args.text.now) c.in-Ok.parts.items c.in-Ok.ensures.ok) (c.fill.ensures g t)

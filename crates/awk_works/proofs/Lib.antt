@@ -1,4 +1,0 @@
-pub mod Cached
-pub mod Filling
-pub mod Lines
-pub mod Replaced

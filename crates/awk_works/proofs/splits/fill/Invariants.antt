@@ -1,9 +1,0 @@
-use Rattle.std.proofs.Common.{length}
-use Rattle.awk_works.proofs.Filling.{Filling}
-use Rattle.awk_works.proofs.splits.fill.Given as goal
-
-abbrev pub invariant-loop-part : goal.invariant-loop-part
-invariant-loop-part l = Filling l.fn.parts.items l.array l.rest.items l.number
-
-abbrev pub decreases-loop-part : goal.decreases-loop-part
-decreases-loop-part l = length l.rest.items

@@ -1,5 +1,0 @@
-pub mod Cached
-pub mod Filled
-pub mod Lines
-pub mod Numbers
-pub mod Searches

@@ -1,0 +1,45 @@
+// The sites of a script's text, and what a policy's text says of them.
+ghost use Rattle.awk_tree.specs.Tree.{Entry};
+ghost use Rattle.awkbox.specs.Answers.{IsCheckRefused, IsJudged, IsListRefused, IsListed};
+ghost use Rattle.awkbox.specs.Scripts.{IsScriptRefused, Spells};
+ghost use Rattle.std.specs.Prelude.{IfErr, IfOk, List};
+
+use awk_parse::{Script, parse};
+use awk_tokens::{SyntaxError, tokens};
+use box_listing::{Site, Verdict, check, sites};
+use box_policy::policy::Policy;
+use crate::listing_refusal::ListingRefusal;
+use std::alloc::Global;
+
+/// The script that the text spells.
+fn script_of(alloc: Global, text: &[u8]) -> Result<Script, SyntaxError>
+    ensures ok { IfOk result (λ script. (items : List Entry) × Spells text.now items script) }
+    ensures refused { IfErr result (IsScriptRefused text.now) }
+{
+    let tokens = tokens(alloc, text)?;
+    parse(alloc, tokens.as_slice())
+}
+
+/// The sites of the script that the text spells, where a run of it may ask: see [`box_listing::sites`].
+pub fn sites_of(alloc: Global, script: &[u8]) -> Result<Vec<Site>, ListingRefusal>
+    ensures ok { IfOk result (λ sites. IsListed script.now sites.items) }
+    ensures refused { IfErr result (IsListRefused script.now) }
+{
+    let script = script_of(alloc, script)?;
+    let sites = sites(alloc, &script);
+    script.release();
+    Ok(sites?)
+}
+
+/// What the policy that the first text writes says of all runs of the script that the second one spells: see
+/// [`box_listing::check`]. The policy is refused before the script.
+pub fn verdict_of(alloc: Global, policy: &[u8], script: &[u8]) -> Result<Verdict, ListingRefusal>
+    ensures ok { IfOk result (λ verdict. IsJudged policy.now script.now verdict) }
+    ensures refused { IfErr result (IsCheckRefused policy.now script.now) }
+{
+    let policy = Policy::read(alloc, policy)?;
+    let script = script_of(alloc, script)?;
+    let verdict = check(alloc, &script, &policy);
+    script.release();
+    Ok(verdict?)
+}

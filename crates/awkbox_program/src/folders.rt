@@ -1,0 +1,53 @@
+// The folder that the program is started in, and the one that a run is in.
+use awkbox::{Memory, Message};
+use std::env::{current_dir, set_current_dir};
+use std::fs::canonicalize;
+use std::path::PathBuf;
+
+/// The folders of a run, by their absolute names; that of one that cannot be told is empty.
+#[derive(Drop)]
+pub struct Folders {
+    started: PathBuf,
+    here: PathBuf,
+}
+
+/// Enters the folder of this name, where there is one.
+pub fn enter(rt: &HostRuntime, folder: Option<&str>) -> Result<Folders, Message> {
+    let started = current(rt)?;
+    if let Some(name) = folder {
+        if set_current_dir(rt, name).is_err() {
+            return Err(Message::cannot_enter(rt.alloc(), name));
+        }
+    }
+    Ok(Folders {
+        started,
+        here: current(rt)?,
+    })
+}
+
+fn current(rt: &HostRuntime) -> Result<PathBuf, Memory> {
+    match current_dir(rt) {
+        Ok(folder) => Ok(folder),
+        Err(_) => PathBuf::from_str(rt.alloc(), ""),
+    }
+}
+
+impl Folders {
+    /// The folder that the run is in.
+    pub fn here(&self) -> &str {
+        self.here.as_str()
+    }
+
+    /// The absolute form of a name that stands in the words of the command line.
+    pub fn absolute(&self, rt: &HostRuntime, name: &str) -> Result<PathBuf, Memory> {
+        self.started.join(rt.alloc(), name)
+    }
+}
+
+/// The name of the same file without links on its way; this name, where it cannot be told.
+pub fn resolved(rt: &HostRuntime, absolute: &str) -> Result<PathBuf, Memory> {
+    match canonicalize(rt, absolute) {
+        Ok(resolved) => Ok(resolved),
+        Err(_) => PathBuf::from_str(rt.alloc(), absolute),
+    }
+}

@@ -1,0 +1,60 @@
+// What a call takes from its row. Arguments are counted from 1; the call's name stands at 0.
+use awk_text::Memory;
+use awk_text::numeral::looks_numeric;
+use awk_text::octets::Octets;
+use awk_text::value::Value;
+use crate::problem::Problem;
+use crate::row::Arg;
+use std::str;
+use std::alloc::Global;
+
+/// The bare words of an argument; none where it is missing.
+pub fn bare<'a, 'b>(args: &'a [Arg<'b>], at: usize) -> &'a [u8] {
+    match args.get(at) {
+        Some(arg) => arg.word,
+        None => b"",
+    }
+}
+
+/// The bare words of an argument, as a name that has a meaning in the table; no name has bytes that are not UTF-8.
+pub fn name<'a, 'b>(args: &'a [Arg<'b>], at: usize) -> &'a str {
+    str::from_utf8(bare(args, at)).unwrap_or("")
+}
+
+/// The text of an argument; the empty one where it is missing.
+pub fn text<'a, 'b>(args: &'a [Arg<'b>], at: usize) -> &'a [u8] {
+    match args.get(at) {
+        Some(arg) => arg.text.as_slice(),
+        None => b"",
+    }
+}
+
+pub fn number(args: &[Arg<'_>], at: usize) -> Result<i64, Problem> {
+    looks_numeric(bare(args, at)).ok_or(Problem::NoArgument)
+}
+
+pub fn octets(alloc: Global, bytes: &[u8]) -> Result<Octets, Memory> {
+    Ok(Octets::new(Vec::from_slice(alloc, bytes)?))
+}
+
+/// A value: a number, `unset`, a text, or a text from outside after the word `field`.
+fn value(alloc: Global, arg: &Arg<'_>) -> Result<Value, Problem> {
+    if let Some(number) = looks_numeric(arg.word) {
+        return Ok(Value::Num(number));
+    }
+    let text = octets(alloc, arg.text.as_slice())?;
+    match arg.word {
+        b"unset" => Ok(Value::Unset),
+        b"field" => Ok(Value::Input(text)),
+        _ => Ok(Value::Text(text)),
+    }
+}
+
+/// The arguments from this one on, as values.
+pub fn values(alloc: Global, args: &[Arg<'_>], from: usize) -> Result<Vec<Value>, Problem> {
+    let mut values = Vec::new(alloc);
+    for arg in args.iter().skip(from) {
+        values.push(value(alloc, arg)?)?;
+    }
+    Ok(values)
+}

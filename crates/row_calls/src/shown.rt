@@ -1,0 +1,55 @@
+// Answers, as rows write them.
+use awk_text::octets::Octets;
+use awk_text::value::Value;
+use crate::problem::Problem;
+use std::alloc::{AllocError, Global};
+use std::fmt::Display;
+
+/// What a call answers, as bytes.
+pub type Answer = Result<Vec<u8>, Problem>;
+
+pub fn bytes(alloc: Global, bytes: &[u8]) -> Answer {
+    Ok(Vec::from_slice(alloc, bytes)?)
+}
+
+pub fn show<T: Display + Drop>(alloc: Global, shown: T) -> Answer {
+    let shown = shown.to_string(alloc)?;
+    Ok(shown.into_bytes())
+}
+
+pub fn yes_or_no(alloc: Global, is_so: bool) -> Answer {
+    bytes(alloc, if is_so { b"yes" } else { b"no" })
+}
+
+/// A value as an argument writes it.
+pub fn show_value(alloc: Global, value: &Value) -> Answer {
+    match value {
+        Value::Unset => bytes(alloc, b"unset"),
+        Value::Num(number) => show(alloc, *number),
+        Value::Text(text) => bytes(alloc, text.bytes()),
+        Value::Input(text) => {
+            let mut shown = Vec::from_slice(alloc, b"field ".as_slice())?;
+            shown.extend_from_slice(text.bytes())?;
+            Ok(shown)
+        }
+    }
+}
+
+/// The texts, each in brackets.
+pub fn bracketed(alloc: Global, texts: &[Octets]) -> Answer {
+    let mut shown = Vec::new(alloc);
+    for text in texts {
+        shown.push(b'[')?;
+        shown.extend_from_slice(text.bytes())?;
+        shown.push(b']')?;
+    }
+    Ok(shown)
+}
+
+/// What a row is compared with: the answer, or why there is none.
+pub fn told(alloc: Global, answer: Answer) -> Result<Octets, AllocError> {
+    match answer {
+        Ok(bytes) => Ok(Octets::new(bytes)),
+        Err(problem) => Ok(Octets::new(problem.to_string(alloc)?.into_bytes())),
+    }
+}
