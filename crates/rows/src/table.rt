@@ -1,12 +1,14 @@
 // The tables, and which calls stand in which.
 
-use crate::runs;
 use awk_text::octets::Octets;
-use row_calls::{fields, formats, library, monitors, patterns, policies, records, tokens, values, worlds};
 use row_calls::problem::Problem;
 use row_calls::row::{Arg, Row};
 use row_calls::shown::Answer;
-use row_calls::{listings, parses, programs};
+use row_calls::{
+    fields, formats, library, listings, monitors, parses, patterns, policies, programs, records,
+    tokens, values, worlds,
+};
+use run_rows::{inputs, runs};
 use std::alloc::Global;
 
 /// A table: a file of rows about one subject.
@@ -25,14 +27,16 @@ pub enum Table {
     Worlds,
     Monitors,
     Listings,
+    Inputs,
     Runs,
+    Growths,
     Choices,
     Scripts,
     Streams,
     Operands,
 }
 
-pub const TABLES: [Table; 18] = [
+pub const TABLES: [Table; 20] = [
     Table::Values,
     Table::Patterns,
     Table::Searches,
@@ -46,7 +50,9 @@ pub const TABLES: [Table; 18] = [
     Table::Worlds,
     Table::Monitors,
     Table::Listings,
+    Table::Inputs,
     Table::Runs,
+    Table::Growths,
     Table::Choices,
     Table::Scripts,
     Table::Streams,
@@ -69,7 +75,9 @@ impl Table {
             Table::Worlds => "worlds.txt",
             Table::Monitors => "monitors.txt",
             Table::Listings => "listings.txt",
+            Table::Inputs => "inputs.txt",
             Table::Runs => "runs.txt",
+            Table::Growths => "growths.txt",
             Table::Choices => "choices.txt",
             Table::Scripts => "scripts.txt",
             Table::Streams => "streams.txt",
@@ -90,6 +98,7 @@ impl Table {
             Table::Programs => programs::call(alloc, args),
             Table::Policies => policies::call(alloc, args),
             Table::Listings => listings::call(alloc, args),
+            Table::Inputs => inputs::call(alloc, args),
             _ => Err(Problem::NoCall),
         }
     }
@@ -108,8 +117,12 @@ impl Table {
             Table::Worlds => worlds::block(alloc, steps),
             Table::Monitors => monitors::block(alloc, args, steps),
             Table::Listings => listings::block(alloc, args, steps),
-            Table::Runs | Table::Choices | Table::Scripts | Table::Streams | Table::Operands =>
-                runs::block(alloc, args, steps),
+            Table::Runs
+            | Table::Growths
+            | Table::Choices
+            | Table::Scripts
+            | Table::Streams
+            | Table::Operands => runs::block(alloc, args, steps),
             _ => Err(Problem::NoCall),
         }
     }
