@@ -7,7 +7,6 @@ ghost use Rattle.awk_machine.specs.Operators.{of_truth};
 ghost use Rattle.awk_machine.specs.Pieces.{At, Check, Do, Match, Pattern_of, Piece, Value_of, give};
 ghost use Rattle.awk_machine.specs.State.{Given};
 ghost use Rattle.awk_program.specs.Program as p;
-ghost use Rattle.awk_program.specs.Program as program;
 ghost use Rattle.awk_program.specs.Program.{Expression};
 ghost use Rattle.awk_store.specs.Acts.{Acts, Passes};
 ghost use Rattle.awk_store.specs.Wholes.{Whole};
@@ -35,7 +34,7 @@ pub fn check(
     source: &[u8],
 ) -> Result<Rc<Ere>, Halt>
     ensures check { (g : Given) (w : Whole) → Acts g (Do (Check place source.now)) goes_on w result w }
-    ensures constant { (g : Given) (w : Whole) → Acts g (At (Pattern_of (program.constant place source.now)) []) (gives_text source.now) w result w }
+    ensures constant { (g : Given) (w : Whole) → Acts g (At (Pattern_of (p.constant place source.now)) []) (gives_text source.now) w result w }
     ensures ere { IfOk result (λ e. (e.value ≡ source.now) × IsEre source.now) }
 {
     at(place, patterns.find(alloc, source))
@@ -56,7 +55,7 @@ pub fn matches_record(
     place: Place,
     source: &[u8],
 ) -> Result<bool, Halt>
-    ensures { (g : Given) (t : Table) → Acts g (At (Value_of (program.pattern place source.now)) []) (λ b. give (of_truth b)) (store.old, t) result (store.new, t) }
+    ensures { (g : Given) (t : Table) → Acts g (At (Value_of (p.pattern place source.now)) []) (λ b. give (of_truth b)) (store.old, t) result (store.new, t) }
 {
     let ere = check(alloc, patterns, place, source)?;
     store.rebuild()?;

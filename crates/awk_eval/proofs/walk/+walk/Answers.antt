@@ -11,8 +11,8 @@ use Rattle.std.proofs.Common.{[], ap, false, refl, sym, true, ◌∙◌, ◌∷�
 use Rattle.std.proofs.lemmas.Result.{err_from_is_err_and}
 use Rattle.awk_eval.proofs.walk.+walk.Goals as goal
 
-pub value-returns-then-left-lt : goal.value-returns-then-left-lt
-value-returns-then-left-lt g t c =
+pub value-returns-then-left-units : goal.value-returns-then-left-units
+value-returns-then-left-units g t c =
     record { plays = λ m is. lacking (at_once _ _ _); owns = c.requires }
 
 pub value-returns-in-Chain : goal.value-returns-in-Chain
@@ -35,8 +35,8 @@ pub value-returns-in-Call : goal.value-returns-in-Call
 value-returns-in-Call g t c =
     record { plays = λ m is. rw (c.in-Call.is, view-Call) (rw c.as_slice-in-Call.ensures at (c.call.ensures.plays m is)); owns = c.call.ensures.owns }
 
-pub statement-returns-then-left-lt : goal.statement-returns-then-left-lt
-statement-returns-then-left-lt g t c =
+pub statement-returns-then-left-units : goal.statement-returns-then-left-units
+statement-returns-then-left-units g t c =
     record { plays = λ m is. lacking (at_once _ _ _); owns = c.requires }
 
 pub statement-returns-then-not-is_one : goal.statement-returns-then-not-is_one
@@ -47,8 +47,8 @@ pub statement-returns-in_err-step : goal.statement-returns-in_err-step
 statement-returns-in_err-step g t c =
     let e = err_from_is_err_and c.from_residual.result c.from_residual.ensures.1 in rw (e.1, e.2) (record { plays = λ m is. stop _ (λ k. refl) (quietly {then_ = λ k. Do Step ∷ At (Doing (view_statement (names_in m) c.args.x.now)) [] ∷ k} (at_once _ _ _) (λ k hid d a. starts_stepped m (view_statement (names_in m) c.args.x.now) c.is_one.result (c.is_one.ensures (names_in m)) c.if-not-is_one.false k _)) (takes (is.host.bound ∙ sym c.bound.ensures) (c.step.ensures c.args.run.now.streams)) c.in_err-step.was; owns = c.requires })
 
-pub statement-returns : goal.statement-returns
-statement-returns g t c =
+pub statement-returns-in_default : goal.statement-returns-in_default
+statement-returns-in_default g t c =
     record { plays = λ m is. passes (part _ (quietly {then_ = λ k. Do Step ∷ At (Doing (view_statement (names_in m) c.args.x.now)) [] ∷ k} (at_once _ _ _) (λ k hid d a. starts_stepped m (view_statement (names_in m) c.args.x.now) c.is_one.result (c.is_one.ensures (names_in m)) c.if-not-is_one.false k _)) (takes (is.host.bound ∙ sym c.bound.ensures) (c.step.ensures c.args.run.now.streams)) c.in_ok-step.was) (c.perform.ensures.plays m is); owns = c.perform.ensures.owns }
 
 pub statement-returns-in-Expr : goal.statement-returns-in-Expr
@@ -57,7 +57,7 @@ statement-returns-in-Expr g t c =
 
 pub statement-returns-in-If : goal.statement-returns-in-If
 statement-returns-in-If g t c =
-    record { plays = λ m is. passes (part _ (quietly {then_ = λ k. Do Step ∷ At (Doing (view_statement (names_in m) c.args.x.now)) [] ∷ k} (at_once _ _ _) (λ k hid d a. starts_stepped m (view_statement (names_in m) c.args.x.now) c.is_one.result (c.is_one.ensures (names_in m)) c.if-not-is_one.false k _)) (takes (is.host.bound ∙ sym c.bound.ensures) (c.step.ensures c.args.run.now.streams)) c.in_ok-step.was) (rw (sym (ap (view_statement (names_in m)) c.in-If.is ∙ statement-If _ _ _)) at (rw c.get-in-If.ensures at (c.when.ensures.plays m is))); owns = c.when.ensures.owns }
+    record { plays = λ m is. passes (part _ (quietly {then_ = λ k. Do Step ∷ At (Doing (view_statement (names_in m) c.args.x.now)) [] ∷ k} (at_once _ _ _) (λ k hid d a. starts_stepped m (view_statement (names_in m) c.args.x.now) c.is_one.result (c.is_one.ensures (names_in m)) c.if-not-is_one.false k _)) (takes (is.host.bound ∙ sym c.bound.ensures) (c.step.ensures c.args.run.now.streams)) c.in_ok-step.was) (rw (sym (ap (view_statement (names_in m)) c.in-If.is ∙ statement-If _ _ _)) at (rw c.get.ensures at (c.when.ensures.plays m is))); owns = c.when.ensures.owns }
 
 pub statement-returns-in-IfElse : goal.statement-returns-in-IfElse
 statement-returns-in-IfElse g t c =
