@@ -60,7 +60,7 @@ fn is_read_well(alloc: Global, text: &[u8]) -> bool {
 /// Reads each prefix of the text, as a script that breaks off.
 pub fn read_prefixes(alloc: Global, text: &[u8]) -> Result<(), Problem> {
     for end in 0..=text.len() {
-        if !is_read_well(alloc, &text[..end]) {
+        if !is_read_well(alloc, text.get(..end).unwrap_or(text)) {
             return Err(Problem::Prefix(end));
         }
     }
