@@ -1,16 +1,17 @@
 // What scripts may ask, as it is listed, and as it stands to a policy.
-use awk_parse::Script;
-use awk_text::octets::Octets;
-use box_listing::{check, lines_of, sites, verdict_lines};
-use box_policy::policy::Policy;
 use crate::args::{name, text};
 use crate::parses::script;
 use crate::problem::Problem;
 use crate::row::{Arg, Row};
 use crate::shown::{Answer, told};
+use awk_parse::Script;
+use awk_text::octets::Octets;
+use box_listing::{check, lines_of, sites, verdict_lines};
+use box_policy::policy::Policy;
 use std::alloc::Global;
 
-fn sites_in(alloc: Global, script: &Script) -> Answer {
+/// The sites of the script, a line each.
+pub fn sites_in(alloc: Global, script: &Script) -> Answer {
     let sites = sites(alloc, script)?;
     Ok(lines_of(alloc, &sites)?)
 }
@@ -22,7 +23,8 @@ fn listed(alloc: Global, text: &[u8]) -> Answer {
     answer
 }
 
-fn verdict_on(alloc: Global, policy: &Policy, script: &Script) -> Answer {
+/// The verdict of the policy on the script, and the sites that it is about.
+pub fn verdict_on(alloc: Global, policy: &Policy, script: &Script) -> Answer {
     let verdict = check(alloc, script, policy)?;
     Ok(verdict_lines(alloc, &verdict)?)
 }

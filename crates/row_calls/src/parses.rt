@@ -1,11 +1,11 @@
 // Scripts as they are parsed: which are accepted, how they are spelled, and what they ask of a host.
-use awk_parse::{Script, canon, parse};
-use awk_text::Memory;
-use awk_tokens::{Token, TokenKind, tokens};
 use crate::args::{name, text};
 use crate::problem::Problem;
 use crate::row::Arg;
 use crate::shown::{Answer, bytes, yes_or_no};
+use awk_parse::{Script, canon, parse};
+use awk_text::Memory;
+use awk_tokens::{SyntaxError, Token, TokenKind, tokens};
 use std::alloc::Global;
 
 /// The script of this text.
@@ -42,6 +42,29 @@ fn parsed_again(alloc: Global, script: &Script) -> Answer {
         return Err(Problem::TwoAnswers);
     }
     bytes(alloc, b"ok")
+}
+
+/// Whether the text is refused, or is a script that its canonical spelling spells again.
+fn is_read_well(alloc: Global, text: &[u8]) -> bool {
+    match script(alloc, text) {
+        Ok(script) => {
+            let again = parsed_again(alloc, &script);
+            script.release();
+            again.is_ok()
+        }
+        Err(Problem::Script(error)) => error.code != SyntaxError::MEMORY,
+        Err(_) => false,
+    }
+}
+
+/// Reads each prefix of the text, as a script that breaks off.
+pub fn read_prefixes(alloc: Global, text: &[u8]) -> Result<(), Problem> {
+    for end in 0..=text.len() {
+        if !is_read_well(alloc, text.get(..end).unwrap_or(text)) {
+            return Err(Problem::Prefix(end));
+        }
+    }
+    Ok(())
 }
 
 /// What a script has before the text of such a token, and behind it.

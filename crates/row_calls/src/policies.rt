@@ -1,12 +1,13 @@
 // Policies: which texts are policies, what they decide, and how often their rules have allowed.
-use awk_text::Memory;
-use awk_text::octets::Octets;
-use box_policy::path::normal;
-use box_policy::policy::{Decision, Kind, Outlook, Policy};
 use crate::args::{bare, name, number, text};
 use crate::problem::Problem;
 use crate::row::{Arg, Row};
 use crate::shown::{Answer, bracketed, bytes, show, told, yes_or_no};
+use awk_text::Memory;
+use awk_text::octets::Octets;
+use box_policy::error::PolicyError;
+use box_policy::path::normal;
+use box_policy::policy::{Decision, Kind, Outlook, Policy};
 use std::alloc::Global;
 
 /// What stands before the lines of a policy's one rule.
@@ -27,6 +28,24 @@ fn kind(name: &str) -> Result<Kind, Problem> {
 fn policy(alloc: Global, text: &[u8]) -> Answer {
     let _policy = Policy::read(alloc, text)?;
     bytes(alloc, b"accepted")
+}
+
+/// Whether the text is a policy, or refused for what it says.
+fn is_read_well(alloc: Global, text: &[u8]) -> bool {
+    match Policy::read(alloc, text) {
+        Ok(_) => true,
+        Err(error) => error.code != PolicyError::MEMORY,
+    }
+}
+
+/// Reads each prefix of the text, as a policy that breaks off.
+pub fn read_prefixes(alloc: Global, text: &[u8]) -> Result<(), Problem> {
+    for end in 0..=text.len() {
+        if !is_read_well(alloc, text.get(..end).unwrap_or(text)) {
+            return Err(Problem::Prefix(end));
+        }
+    }
+    Ok(())
 }
 
 /// A policy of one rule, which has the texts of the arguments as its lines.

@@ -4,8 +4,8 @@ use awk_text::fault::Fault;
 use awk_tokens::SyntaxError;
 use box_policy::error::PolicyError;
 use box_world::ask::Stop;
-use std::fmt;
 use std::alloc::{AllocError, AllocFailed};
+use std::fmt;
 
 /// Why a call gives no answer. What a call refuses is an answer of its own, which a row can name.
 #[derive(Clone, Copy, Drop)]
@@ -18,6 +18,8 @@ pub enum Problem {
     NoArgument,
     /// Two ways that are to answer the same do not.
     TwoAnswers,
+    /// The first so many bytes of the text are not read as they ought to be.
+    Prefix(usize),
     /// The world did not do what the call begins with.
     NotDone,
     /// The words of the host make no setup.
@@ -35,6 +37,7 @@ impl fmt::Display for Problem {
             Problem::NoCall => f.write_str("there is no such call"),
             Problem::NoArgument => f.write_str("an argument is missing or of another sort"),
             Problem::TwoAnswers => f.write_str("two ways give two answers"),
+            Problem::Prefix(count) => write!(f, "the first {count} bytes are not read well"),
             Problem::NotDone => f.write_str("the world did not do it"),
             Problem::NoSetup => f.write_str("the words of the host make no setup"),
             Problem::Fault(fault) => write!(f, "F{} {}", fault.code(), fault.text()),

@@ -3,12 +3,9 @@
 //! that does not hold and how many do. The tables begin with what a user needs to add one.
 #![tactic(auto)]
 
-mod asked;
 mod hosts;
+mod prefixes;
 mod report;
-mod run_log;
-mod runs;
-mod start;
 mod table;
 
 use report::Report;

@@ -1,5 +1,6 @@
 // Which rows hold.
 
+use crate::prefixes::read_prefixes;
 use crate::table::Table;
 use awk_text::octets::Octets;
 use awk_text::quote::quote_log;
@@ -112,6 +113,20 @@ impl Report {
         }
     }
 
+    /// Tells each row about a text of which a prefix is not read as it ought to be.
+    fn check_prefixes<P: Print + AllocGlobal>(
+        &mut self,
+        rt: &P,
+        source: Source<'_>,
+        rows: &[Row<'_>],
+    ) {
+        for row in rows {
+            if let Err(problem) = read_prefixes(rt.alloc(), source.table, row) {
+                self.fail_by(rt, source, row.left, problem);
+            }
+        }
+    }
+
     /// Judges the next row, with the steps that follow it, or says that the table has ended.
     fn check_next<P: Print + AllocGlobal>(
         &mut self,
@@ -131,6 +146,8 @@ impl Report {
             Ok(answers) => self.judge_all(rt, source, &steps, &answers),
             Err(problem) => self.fail_by(rt, source, row.left, problem),
         }
+        self.check_prefixes(rt, source, slice::from_ref(&row));
+        self.check_prefixes(rt, source, &steps);
         Ok(true)
     }
 

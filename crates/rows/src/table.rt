@@ -1,6 +1,6 @@
 // The tables, and which calls stand in which.
 
-use crate::{hosts, runs};
+use crate::hosts;
 use awk_text::octets::Octets;
 use row_calls::problem::Problem;
 use row_calls::row::{Arg, Row};
@@ -9,6 +9,7 @@ use row_calls::{
     fields, formats, library, listings, monitors, parses, patterns, policies, programs, records,
     tokens, values, worlds,
 };
+use run_rows::{inputs, runs};
 use std::alloc::Global;
 
 /// A table: a file of rows about one subject.
@@ -27,7 +28,9 @@ pub enum Table {
     Worlds,
     Monitors,
     Listings,
+    Inputs,
     Runs,
+    Growths,
     Choices,
     Scripts,
     Streams,
@@ -35,7 +38,7 @@ pub enum Table {
     Hosts,
 }
 
-pub const TABLES: [Table; 19] = [
+pub const TABLES: [Table; 21] = [
     Table::Values,
     Table::Patterns,
     Table::Searches,
@@ -49,7 +52,9 @@ pub const TABLES: [Table; 19] = [
     Table::Worlds,
     Table::Monitors,
     Table::Listings,
+    Table::Inputs,
     Table::Runs,
+    Table::Growths,
     Table::Choices,
     Table::Scripts,
     Table::Streams,
@@ -73,7 +78,9 @@ impl Table {
             Table::Worlds => "worlds.txt",
             Table::Monitors => "monitors.txt",
             Table::Listings => "listings.txt",
+            Table::Inputs => "inputs.txt",
             Table::Runs => "runs.txt",
+            Table::Growths => "growths.txt",
             Table::Choices => "choices.txt",
             Table::Scripts => "scripts.txt",
             Table::Streams => "streams.txt",
@@ -96,6 +103,7 @@ impl Table {
             Table::Policies => policies::call(alloc, args),
             Table::Listings => listings::call(alloc, args),
             Table::Hosts => hosts::call(alloc, args),
+            Table::Inputs => inputs::call(alloc, args),
             _ => Err(Problem::NoCall),
         }
     }
@@ -114,8 +122,12 @@ impl Table {
             Table::Worlds => worlds::block(alloc, steps),
             Table::Monitors => monitors::block(alloc, args, steps),
             Table::Listings => listings::block(alloc, args, steps),
-            Table::Runs | Table::Choices | Table::Scripts | Table::Streams | Table::Operands =>
-                runs::block(alloc, args, steps),
+            Table::Runs
+            | Table::Growths
+            | Table::Choices
+            | Table::Scripts
+            | Table::Streams
+            | Table::Operands => runs::block(alloc, args, steps),
             _ => Err(Problem::NoCall),
         }
     }

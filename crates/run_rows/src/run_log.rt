@@ -10,6 +10,8 @@ pub struct RunLog {
     pub text: Vec<u8>,
     pub bad_write: u32,
     pub bad_flush: u32,
+    /// Memory for a write was refused.
+    pub is_refused: bool,
     writes: u32,
     flushes: u32,
 }
@@ -21,6 +23,7 @@ impl RunLog {
             text: Vec::new(alloc),
             bad_write: 0,
             bad_flush: 0,
+            is_refused: false,
             writes: 0,
             flushes: 0,
         }
@@ -33,7 +36,10 @@ impl Write for RunLog {
         if self.bad_write != 0 && self.writes >= self.bad_write {
             return Err(io::Error::from(ErrorKind::BrokenPipe));
         }
-        self.text.extend_from_slice(buf)?;
+        if self.text.extend_from_slice(buf).is_err() {
+            self.is_refused = true;
+            return Err(io::Error::from(ErrorKind::OutOfMemory));
+        }
         Ok(buf.len())
     }
 

@@ -5,11 +5,11 @@ use crate::run_log::RunLog;
 use crate::start::{Start, is_start};
 use awk_text::octets::Octets;
 use awkbox::{Driven, Ending, LogEnd, MemoryWorld, Refusal, Report};
-use row_calls::worlds::left;
 use row_calls::args::{name, text};
 use row_calls::problem::Problem;
 use row_calls::row::{Arg, Row};
 use row_calls::shown::{Answer, bytes, show, told};
+use row_calls::worlds::left;
 use std::alloc::Global;
 
 /// What the program says at its end: nothing, or a message.
@@ -49,7 +49,7 @@ fn refused(alloc: Global, answer: Result<Report, Refusal>) -> Answer {
 }
 
 /// What is told after the run.
-fn end(alloc: Global, driven: &Driven<MemoryWorld, RunLog>, args: &[Arg<'_>]) -> Answer {
+pub fn end(alloc: Global, driven: &Driven<MemoryWorld, RunLog>, args: &[Arg<'_>]) -> Answer {
     match name(args, 0) {
         "says" => message(alloc, driven.answer),
         "status" => show(alloc, Ending::of(driven.answer).status()),
@@ -86,6 +86,11 @@ fn start_len(rows: &[Row<'_>]) -> usize {
     rows.len()
 }
 
+/// The rows that say what the run begins with, and those that tell what came of it.
+pub fn parts<'a, 'b>(rows: &'a [Row<'b>]) -> (&'a [Row<'b>], &'a [Row<'b>]) {
+    rows.split_at(start_len(rows).min(rows.len()))
+}
+
 /// The answers of the rows that say what the run begins with.
 fn begin(
     alloc: Global,
@@ -120,7 +125,7 @@ fn run(
     rows: &[Row<'_>],
     answers: &mut Vec<Octets>,
 ) -> Result<(), Problem> {
-    let (before, after) = rows.split_at(start_len(rows).min(rows.len()));
+    let (before, after) = parts(rows);
     let mut start = Start::new(alloc);
     begin(alloc, &mut start, before, answers)?;
     let driven = start.drive(alloc, policy, script)?;

@@ -1,0 +1,49 @@
+// Inputs that are read whole, up to a limit.
+
+use awkbox::{Fault, ReadError, read_limited};
+use row_calls::args::{name, number};
+use row_calls::problem::Problem;
+use row_calls::row::Arg;
+use row_calls::shown::{Answer, bytes};
+use std::alloc::Global;
+use std::io::{self, ErrorKind, Read};
+
+/// A reader that is told by arguments, one for each reading: the bytes that it gives, or how it fails.
+#[derive(Drop)]
+struct Told<'a, 'b> {
+    readings: &'a [Arg<'b>],
+}
+
+impl Read for Told<'_, '_> {
+    fn read(&mut self, buf: &mut [u8]) -> io::Result<usize> {
+        let Some((first, rest)) = self.readings.split_first() else {
+            return Ok(0);
+        };
+        self.readings = rest;
+        match first.word {
+            b"failed" => Err(io::Error::from(ErrorKind::Other)),
+            b"interrupted" => Err(io::Error::from(ErrorKind::Interrupted)),
+            _ => first.text.as_slice().read(buf),
+        }
+    }
+}
+
+fn read(alloc: Global, limit: i64, readings: &[Arg<'_>]) -> Answer {
+    let Ok(limit) = usize::try_from(limit) else {
+        return Err(Problem::NoArgument);
+    };
+    match read_limited(alloc, &mut Told { readings }, limit) {
+        Ok(all) => Ok(all),
+        Err(ReadError::Failed) => bytes(alloc, b"failed"),
+        Err(ReadError::TooLong) => bytes(alloc, b"too long"),
+        Err(ReadError::Memory) => Err(Problem::Fault(Fault::Memory)),
+    }
+}
+
+/// The answer of the call.
+pub fn call(alloc: Global, args: &[Arg<'_>]) -> Answer {
+    match name(args, 0) {
+        "read_limited" => read(alloc, number(args, 1)?, args.get(2..).unwrap_or(&[])),
+        _ => Err(Problem::NoCall),
+    }
+}
