@@ -620,7 +620,13 @@ own() {
     awkbox run --policy own.toml --log "${log:-own.log}" -f "${awk:-$base/own.awk}"
     : >"$work/log"
 }
-writable() { printf 'awkbox: warning: rule %s allows writing to the %s "%s"\n' "$@"; }
+# writable RULE FILE NAME..: the lines that warn of these
+writable() {
+    while [ $# -gt 0 ]; do
+        printf 'awkbox: warning: the policy lets a script write the %s "%s": rule %s\n' "$2" "$3" "$1"
+        shift 3
+    done
+}
 own 'effect = "allow"
 kind = "write"
 match = "**"'

@@ -43,6 +43,9 @@ pub record Reaches (source text : List ℕ) (from : ℕ) (last : Option ℕ) (at
   pub low : from ≤ at
   pub leads : (rest : List (ℕ × ℕ)) → AllFrom source text at last rest → AllFrom source text from last rest
 
+pub reaches_begin : (source text : List ℕ) (from : ℕ) (last : Option ℕ) → Reaches source text from last from
+reaches_begin source text from last = record { low = omega arith; leads = λ rest h. h }
+
 module _ (source text : List ℕ) (from : ℕ) (last : Option ℕ) (at : ℕ) (r : Reaches source text from last at) where
   pub reaches_on : (i j : ℕ) → Finds source text at (Some (i, j)) → is_passed last (i, j) ≡ true → Reaches source text from last (next_from (i, j))
   reaches_on i j found is =

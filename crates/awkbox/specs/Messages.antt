@@ -76,7 +76,7 @@ own_word ScriptFile = codes "script"
 -- a warning's line, without its newline
 abbrev pub warning_text : Warning → List ℕ
 warning_text warning =
-    codes "awkbox: warning: rule " ++ decimal warning.rule ++ codes " allows writing to the " ++ own_word warning.file ++ codes " \"" ++ string_bytes warning.name ++ codes "\""
+    codes "awkbox: warning: the policy lets a script write the " ++ own_word warning.file ++ codes " \"" ++ string_bytes warning.name ++ codes "\": rule " ++ decimal warning.rule
 
 -- a warning that this rule lets the script write to this file, of this name
 abbrev pub Warns : ℕ → OwnFile → List ℕ → Warning → Type 0

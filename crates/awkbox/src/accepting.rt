@@ -11,7 +11,6 @@ use awk_tokens::{SyntaxError, tokens};
 use box_policy::error::PolicyError;
 use box_policy::policy::Policy;
 use std::alloc::Global;
-use std::marker::Model;
 
 /// Why nothing was run: the policy, the script, or the `-v` pair of this number was refused.
 #[derive(Clone, Copy, Debug, PartialEq, Eq, Drop)]
@@ -57,28 +56,16 @@ fn first_barred(script: &Script, assigns: &[(Octets, Octets)]) -> Option<u32>
     None
 }
 
-/// A policy and a script that a run goes by, which contracts see as a pair. It is driven, or else released.
+/// A policy and a script that a run goes by. It is driven, or else released.
 pub struct Prepared {
     pub(crate) policy: Policy,
     pub(crate) script: Script,
 }
 
-impl Model for Prepared {
-    ghost use Rattle.awk_parse.specs.Scripts.{IsScript};
-    ghost use Rattle.awk_parse.specs.declared.script.Script.{Script as Spelled};
-    ghost use Rattle.box_policy.specs.Rulebook.{Rulebook};
-
-    ghost Value = { Rulebook × Spelled };
-
-    ghost view = { λ p. (p.policy, p.script) };
-
-    ghost invariant = { λ p. IsScript p.script };
-}
-
 impl Prepared {
     /// The policy. Takes no memory.
     pub fn policy(&self) -> &Policy
-        ensures { result.now ≡ self.now.0 }
+        ensures { result.now ≡ self.now.policy }
     {
         &self.policy
     }
@@ -101,7 +88,8 @@ pub fn prepare(
     script: &[u8],
     setup: &Setup,
 ) -> Result<Prepared, Refusal>
-    ensures ok { IfOk result (λ parts. Accepted policy.now script.now setup.now.assigns parts.0 parts.1) }
+    ensures ok { IfOk result (λ prepared. Accepted policy.now script.now setup.now.assigns prepared.policy prepared.script) }
+    ensures script { IfOk result (λ prepared. IsScript prepared.script) }
     ensures refused { IfErr result (IsRefused policy.now script.now setup.now.assigns) }
 {
     let policy = match Policy::read(alloc, policy) {

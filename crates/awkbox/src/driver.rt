@@ -1,5 +1,6 @@
 // A script's run under a policy.
 ghost use Rattle.std.specs.Prelude.{◌≡◌, IfOk, IfErr};
+ghost use Rattle.awk_parse.specs.Scripts.{IsScript};
 ghost use Rattle.awk_run.specs.Outcomes.{view_outcome};
 ghost use Rattle.awkbox.specs.Accepted.{IsRefused};
 ghost use Rattle.awk_run.specs.Givens.{given_of};
@@ -44,8 +45,9 @@ impl Prepared {
         world: W,
         log: L,
     ) -> Ran<W, L>
+        requires { IsScript self.script }
         ensures { Drives W.follows W.stops L.contents
-            (cleared self.0) (given_of self.1 setup.now steps) world log
+            (cleared self.policy) (given_of self.script setup.now steps) world log
             (view_outcome result.report.outcome) result.report.used result.log_end result.world result.log }
     {
         let Prepared { policy, script } = self;

@@ -226,10 +226,10 @@ impl fmt::Display for Warning {
     ghost output = { λ warning. Some (warning_text warning) };
 
     fn fmt<W: fmt::Write>(&self, f: &mut fmt::Formatter<W>) -> fmt::Result {
-        let (rule, word, name) = (self.rule, self.file.word(), self.name.as_str());
+        let (word, name, rule) = (self.file.word(), &self.name, self.rule);
         write!(
             f,
-            "awkbox: warning: rule {rule} allows writing to the {word} \"{name}\""
+            "awkbox: warning: the policy lets a script write the {word} \"{name}\": rule {rule}"
         )
     }
 }
