@@ -15,7 +15,7 @@ loop-next-init c =
     let next : IsNextMatch ere text 0 None c.in_ok-next.next = subst (λ z. IsNextMatch z.0 text 0 None c.in_ok-next.next) c.new-searches.ensures c.in_ok-next.ensures.next in
     record {
       turn = rw c.in_ok-out.ensures (turn_begin c.args.ere.now c.args.with.now c.args.text.now c.in_ok-next.next next
-      (λ e. false≢true (sym (ap is_some e) ∙ c.is_none.ensures ∙ ap not c.if-is_none.false)));
+          (λ e. false≢true (sym (ap is_some e) ∙ c.is_none.ensures ∙ ap not c.if-is_none.false)));
       same = c.in_ok-next.ensures.same ∙ c.new-searches.ensures;
     }
 
@@ -29,7 +29,7 @@ loop-next-preserved c =
     let next = subst (λ z. IsNextMatch z.0 text c.next_from.result (Some c.in-Some.end) c.in_ok-next-2.next) c.loop-next.invariant.same c.in_ok-next-2.ensures.next in
     record {
       turn = turn_on ere with text c.in-Some.start c.in-Some.end c.in_ok-next-2.next c.loop-next.done c.loop-next.count c.loop-next.out c.push_match.new.out turn c.in_ok-push_match.ensures
-      (subst (λ f. IsNextMatch ere text f (Some c.in-Some.end) c.in_ok-next-2.next) c.next_from.ensures next);
+          (subst (λ f. IsNextMatch ere text f (Some c.in-Some.end) c.in_ok-next-2.next) c.next_from.ensures next);
       same = c.in_ok-next-2.ensures.same ∙ c.loop-next.invariant.same;
     }
 
