@@ -12,7 +12,7 @@ import resource
 import subprocess
 import tempfile
 
-SIZES, ENOUGH, LIMIT = (65536, 131072, 262144), 0.1, 10
+SIZES, ENOUGH, LIMIT = (65536, 131072, 262144), 0.1, 2
 POLICY = 'version = 1\nbase = "/tmp"\n'
 # what is repeated to make the text, what stands at its end, the operation on s
 CASES = [
