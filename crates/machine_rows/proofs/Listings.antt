@@ -46,7 +46,7 @@ abbrev book : Rulebook
 book = record {
   base = codes "/w";
   rules =
-      rule Deny Read (codes "/w/in/secret*") ∷ rule Allow Read (codes "/w/in/**") ∷ rule Allow Write (codes "/w/out/*") ∷ rule Allow Run (codes "sort *") ∷ rule Allow Env (codes "LANG") ∷ [];
+      rule Deny Read (codes "/w/in/secret*") ∷ rule (Allow None) Read (codes "/w/in/**") ∷ rule (Allow None) Write (codes "/w/out/*") ∷ rule (Allow None) Run (codes "sort *") ∷ rule (Allow None) Env (codes "LANG") ∷ [];
 }
 
 abbrev empty : Rulebook
