@@ -2,7 +2,7 @@ use Rattle.awkbox.proofs.Driving.{drives}
 use Rattle.awk_run.specs.Givens.{given_of}
 use Rattle.awk_run.specs.Outcomes.{view_outcome}
 use Rattle.box_policy.specs.Counts.{cleared}
-use Rattle.awkbox.proofs.driver.Prepared.drive.Goals as goal
+use Rattle.awkbox.proofs.accepting.Prepared.drive.Goals as goal
 
 pub returns : goal.returns
 returns g c =
