@@ -508,6 +508,7 @@ script 'BEGIN { while (n++ < 3) { f = "in/" n; r = (getline x < f); print r, x }
 run
 is 0 "1 1${line}1 2${line}-1 2$line" "" "1:45 read none \"in/3\"$line"
 verdict "a number of files"
+rm in/1 in/2 in/3
 
 limited 'effect = "deny"
 kind = "run"
