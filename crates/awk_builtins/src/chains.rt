@@ -13,6 +13,8 @@ ghost use Rattle.awk_text.specs.Values.{number_of, text_of};
 ghost use Rattle.awk_text.specs.declared.value.Value.{Value as Val};
 ghost use Rattle.std.specs.Prelude.{Err, IfErr, IfOk, List, Ok, [], map, ◌++◌, ◌∷◌, ◌≡◌, ◌⊎◌};
 
+use crate::made::{number_at, text_at};
+use crate::operators::{operation, truth_value};
 use awk_program::{Operator, Variable};
 use awk_store::Store;
 use awk_streams::halt::Halt;
@@ -21,8 +23,6 @@ use awk_text::octets::Octets;
 use awk_text::place::Place;
 use awk_text::texts::MOST_BYTES;
 use awk_text::value::{Value, number_of, text_in};
-use crate::made::{number_at, text_at};
-use crate::operators::{operation, truth_value};
 use itoa::Buffer;
 use std::alloc::Global;
 

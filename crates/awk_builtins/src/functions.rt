@@ -13,6 +13,8 @@ ghost use Rattle.awk_store.specs.Wholes.{Whole};
 ghost use Rattle.awk_text.specs.Values.{text_of};
 ghost use Rattle.std.specs.Prelude.{Err, IfErr, IfOk, IsOkUnless, Ok, [], ◌∷◌, ◌≡◌};
 
+use crate::made::{number_at, owned};
+use crate::operators::{compared, signed, truth_value};
 use awk_lib::texts::{index, substr, to_case};
 use awk_program::{Comparison, Measure, Sign};
 use awk_streams::halt::Halt;
@@ -20,8 +22,6 @@ use awk_text::fault::Fault;
 use awk_text::octets::Octets;
 use awk_text::place::Place;
 use awk_text::value::{Value, number_of, text_in, truth};
-use crate::made::{number_at, owned};
-use crate::operators::{compared, signed, truth_value};
 use itoa::Buffer;
 use std::alloc::Global;
 

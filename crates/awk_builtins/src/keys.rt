@@ -16,17 +16,17 @@ ghost use Rattle.awk_streams.specs.Tasks.{goes_on};
 ghost use Rattle.awk_text.specs.declared.value.Value.TheVariants as v;
 ghost use Rattle.std.specs.Prelude.{Err, IfErr, IfOk, IfSome, List, Ok, [], length, reverse, ℕ, ◌∷◌, ◌≡◌, ◌⊎◌};
 
+use crate::line::Line;
+use crate::printing::printed;
 use awk_program::{Expr, Own, Variable};
-use awk_store::{Key, Store};
 use awk_store::numbers::field_of;
+use awk_store::{Key, Store};
 use awk_streams::halt::{Halt, at};
 use awk_text::fault::Fault;
 use awk_text::octets::Octets;
 use awk_text::place::Place;
 use awk_text::texts::MOST_BYTES;
 use awk_text::value::{Value, text_in};
-use crate::line::Line;
-use crate::printing::printed;
 use itoa::Buffer;
 use std::alloc::Global;
 
@@ -34,7 +34,11 @@ use std::alloc::Global;
 /// one is made.
 ///
 /// Fails as `printed` does.
-pub fn joined_subscripts<'a>(line: &'a mut Line, subscripts: &[Value], subsep: &[u8]) -> Result<&'a [u8], Fault>
+pub fn joined_subscripts<'a>(
+    line: &'a mut Line,
+    subscripts: &[Value],
+    subsep: &[u8],
+) -> Result<&'a [u8], Fault>
     ensures ok { IfOk result (λ text. limited (joined subsep.now subscripts.now) ≡ Ok text.now) }
     ensures err { IfErr result (λ e. (e ≡ Fault.Memory) ⊎ (limited (joined subsep.now subscripts.now) ≡ Err e)) }
 {

@@ -13,9 +13,9 @@ use awk_text::octets::Octets;
 use awk_text::texts::MOST_BYTES;
 use awk_text::value::{Value, text_in};
 use itoa::Buffer;
-use std::mem;
 use std::alloc::Global;
 use std::marker::Model;
+use std::mem;
 
 /// A text that is made piece by piece, or that it has gone over `MOST_BYTES`: then no more is kept of it. The
 /// room of one text serves the next one.

@@ -11,13 +11,13 @@ ghost use Rattle.awk_store.specs.Wholes.{Whole};
 ghost use Rattle.awk_streams.specs.Chains.{result_at};
 ghost use Rattle.std.specs.Prelude.{IfErr, IfOk, OnOk, [], ◌++◌, ◌∷◌, ◌≡◌};
 
+use crate::operators::{computed, stepped};
 use awk_program::{Operator, Step};
 use awk_streams::halt::{Halt, at};
 use awk_text::fault::Fault;
 use awk_text::octets::Octets;
 use awk_text::place::Place;
 use awk_text::value::{Value, number_of};
-use crate::operators::{computed, stepped};
 use std::alloc::Global;
 
 /// A number that was made at a place, as a value, or how the part ends. Takes no memory.

@@ -15,13 +15,13 @@ ghost use Rattle.awk_streams.specs.Tasks.{goes_on};
 ghost use Rattle.awk_text.specs.Values.{text_of};
 ghost use Rattle.std.specs.Prelude.{IfOk, List, [], ◌∷◌, ◌≡◌};
 
+use crate::cache::Patterns;
+use crate::operators::truth_value;
 use awk_ere::Ere;
 use awk_store::Store;
 use awk_streams::halt::{Halt, at};
 use awk_text::place::Place;
 use awk_text::value::{Value, text_in};
-use crate::cache::Patterns;
-use crate::operators::truth_value;
 use itoa::Buffer;
 use std::alloc::Global;
 use std::rc::Rc;

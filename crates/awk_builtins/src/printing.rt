@@ -18,6 +18,8 @@ ghost use Rattle.awk_store.specs.Wholes.{Whole};
 ghost use Rattle.awk_streams.specs.Tables.{Table};
 ghost use Rattle.std.specs.Prelude.{Err, IfErr, IfOk, List, None, Ok, Some, length, reverse, ◌++◌, ◌∷◌, ◌≡◌, ◌⊎◌};
 
+use crate::line::Line;
+use crate::made::text_at;
 use awk_format::format;
 use awk_program::{Own, Redirection};
 use awk_store::Store;
@@ -27,8 +29,6 @@ use awk_text::octets::Octets;
 use awk_text::place::Place;
 use awk_text::texts::MOST_BYTES;
 use awk_text::value::{Value, text_in};
-use crate::line::Line;
-use crate::made::text_at;
 use itoa::Buffer;
 use std::alloc::Global;
 

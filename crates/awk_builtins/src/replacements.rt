@@ -15,19 +15,19 @@ ghost use Rattle.awk_streams.specs.Tables.{Table};
 ghost use Rattle.awk_text.specs.Values.{text_of};
 ghost use Rattle.std.specs.Prelude.{Err, IfErr, IfOk, List, Ok, [], ℕ, ◌-◌, ◌<◌, ◌∷◌, ◌≡◌, ◌⊎◌};
 
+use crate::cache::Patterns;
+use crate::patterns::{Source, used};
 use awk_ere::Ere;
 use awk_lib::replace_any;
 use awk_program::Extent;
-use awk_store::{Spot, Store};
 use awk_store::targets::{lent, read, set};
+use awk_store::{Spot, Store};
 use awk_streams::halt::{Halt, at};
 use awk_text::Memory;
 use awk_text::fault::Fault;
 use awk_text::octets::Octets;
 use awk_text::place::Place;
 use awk_text::value::{Value, text_in};
-use crate::cache::Patterns;
-use crate::patterns::{Source, used};
 use itoa::Buffer;
 use std::alloc::Global;
 

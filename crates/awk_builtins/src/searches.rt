@@ -12,6 +12,8 @@ ghost use Rattle.awk_streams.specs.Tables.{Table};
 ghost use Rattle.awk_text.specs.Values.{text_of};
 ghost use Rattle.std.specs.Prelude.{Err, IfErr, IfOk, List, Ok, [], false, pos, ℕ, ◌+◌, ◌-◌, ◌<◌, ◌^◌, ◌∷◌, ◌≡◌, ◌≤◌};
 
+use crate::cache::Patterns;
+use crate::patterns::{Source, used};
 use awk_ere::Ere;
 use awk_program::Own;
 use awk_store::Store;
@@ -20,8 +22,6 @@ use awk_text::Memory;
 use awk_text::fault::Fault;
 use awk_text::place::Place;
 use awk_text::value::{Value, text_in};
-use crate::cache::Patterns;
-use crate::patterns::{Source, used};
 use itoa::Buffer;
 use std::alloc::Global;
 

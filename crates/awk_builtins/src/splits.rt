@@ -17,6 +17,8 @@ ghost use Rattle.awk_text.specs.Values.{text_of};
 ghost use Rattle.std.specs.Fmt.{decimal};
 ghost use Rattle.std.specs.Prelude.{Err, IfErr, IfOk, List, Ok, OnOk, [], false, length, pos, ℕ, ◌∷◌, ◌≡◌, ◌⊎◌};
 
+use crate::cache::Patterns;
+use crate::patterns::{Source, check};
 use awk_ere::Ere;
 use awk_fields::Splitter;
 use awk_lib::array::{Array, MOST_ELEMENTS};
@@ -27,8 +29,6 @@ use awk_text::fault::Fault;
 use awk_text::octets::Octets;
 use awk_text::place::Place;
 use awk_text::value::{Value, text_in};
-use crate::cache::Patterns;
-use crate::patterns::{Source, check};
 use itoa::Buffer;
 use std::alloc::Global;
 

@@ -9,9 +9,9 @@ ghost use Rattle.awk_store.specs.Flows.{flows};
 ghost use Rattle.awk_eval.specs.Runs.{Does, whole_of};
 
 use crate::context::{Context, Run};
-use awk_streams::halt::Halt;
-use awk_store::Flow;
 use awk_program::{Expr, Statement};
+use awk_store::Flow;
+use awk_streams::halt::Halt;
 use awk_text::value::Value;
 use box_world::world::World;
 

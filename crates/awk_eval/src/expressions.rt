@@ -19,20 +19,20 @@ use crate::patterns::{locate, split, substitute};
 use crate::sources::matches;
 use crate::targets::{assign, change, increment, read_target};
 use crate::tests::{number, truth_of};
-use awk_streams::halt::Halt;
-use awk_quick::at_hand::{MOST_LEVELS, at_hand, number_at_hand, truth_at_hand};
 use awk_builtins::chains::{join, members, operated};
-use awk_quick::done::done_at_once;
-use awk_builtins::made::owned;
 use awk_builtins::functions::{Binary, Unary, part_of};
+use awk_builtins::made::owned;
+use awk_builtins::operators::{compared, compared_lent, truth_value};
 use awk_builtins::patterns::matched_record;
-use awk_quick::splitting::{done_once_split, truth_once_split};
-use awk_text::lent::Lent;
 use awk_program::{Comparison, Expr, Joined, Term, Variable};
+use awk_quick::at_hand::{MOST_LEVELS, at_hand, number_at_hand, truth_at_hand};
+use awk_quick::done::done_at_once;
+use awk_quick::splitting::{done_once_split, truth_once_split};
+use awk_streams::halt::Halt;
 use awk_text::fault::Fault;
+use awk_text::lent::Lent;
 use awk_text::place::Place;
 use awk_text::value::{Value, number_of, truth};
-use awk_builtins::operators::{compared, compared_lent, truth_value};
 use box_world::world::World;
 
 /// The value of an expression, once room on the stack was taken for its parts.

@@ -10,17 +10,16 @@ ghost use Rattle.awk_eval.specs.Runs.{Does, whole_of};
 use crate::context::{Context, Run};
 use crate::evaluates::Evaluates;
 use crate::targets::target_of;
-use awk_streams::halt::Halt;
-use awk_streams::{closing, requests};
-use awk_quick::at_hand::{MOST_LEVELS, at_hand};
-use awk_quick::at_hand::spot_at_hand;
-use awk_text::lent::Lent;
-use awk_program::{Expr, Piped, Target};
 use awk_input::getline::{
     command_record, file_record, getline_pipe, set_from_command, set_from_file,
 };
 use awk_input::main_input::getline_main;
+use awk_program::{Expr, Piped, Target};
+use awk_quick::at_hand::{MOST_LEVELS, at_hand, spot_at_hand};
 use awk_store::values::into_text;
+use awk_streams::halt::Halt;
+use awk_streams::{closing, requests};
+use awk_text::lent::Lent;
 use awk_text::place::Place;
 use awk_text::value::Value;
 use box_world::world::World;

@@ -12,13 +12,13 @@ ghost use Rattle.awk_eval.specs.Runs.{Does, Fills, whole_of};
 
 use crate::context::{Context, Run};
 use crate::evaluates::Evaluates;
-use awk_streams::halt::Halt;
 use awk_builtins::chains::members;
 use awk_builtins::keys::{element_key, group_key, one_key, only};
 use awk_builtins::made::append;
 use awk_builtins::printing::sprintf;
 use awk_program::{Expr, Variable};
 use awk_store::{Key, Spot};
+use awk_streams::halt::Halt;
 use awk_text::place::Place;
 use awk_text::value::Value;
 use box_world::world::World;

@@ -12,12 +12,12 @@ ghost use Rattle.awk_eval.specs.Runs.{Does, whole_of};
 
 use crate::context::{Context, Run};
 use crate::evaluates::Evaluates;
-use awk_streams::halt::Halt;
 use awk_builtins::patterns;
 use awk_builtins::patterns::Source;
+use awk_program::{Expr, Pattern};
 use awk_quick::matching::matched_at_hand;
 use awk_quick::splitting::split_for;
-use awk_program::{Expr, Pattern};
+use awk_streams::halt::Halt;
 use awk_text::place::Place;
 use box_world::world::World;
 

@@ -14,12 +14,12 @@ use crate::lists::fill;
 use crate::loops::{first_then, over_keys, turn_first, while_loop};
 use crate::output::{print, printf};
 use crate::tests::{effect, truth_of};
-use awk_streams::halt::Halt;
+use awk_builtins::keys::remove;
+use awk_program::{Expr, Statement, Variable};
 use awk_store::Flow;
 use awk_store::flow::is_on;
 use awk_store::jumps::{exit, exit_with, next};
-use awk_builtins::keys::remove;
-use awk_program::{Expr, Statement, Variable};
+use awk_streams::halt::Halt;
 use awk_text::place::Place;
 use box_world::world::World;
 

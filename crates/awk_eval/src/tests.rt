@@ -10,18 +10,18 @@ ghost use Rattle.awk_machine.specs.Operators.{of_truth};
 
 use crate::context::{Context, Run};
 use crate::evaluates::Evaluates;
-use crate::units::units_of;
 use crate::sources::matches;
 use crate::targets::{alter, put, step_target};
-use awk_streams::halt::Halt;
+use crate::units::units_of;
+use awk_builtins::operators::{compared, compared_lent};
+use awk_program::{Comparison, Expr};
 use awk_quick::at_hand::{MOST_LEVELS, at_hand, number_at_hand, truth_at_hand};
 use awk_quick::done::done_at_once;
 use awk_quick::splitting::{done_once_split, truth_once_split};
-use awk_text::lent::Lent;
-use awk_program::{Comparison, Expr};
+use awk_streams::halt::Halt;
 use awk_text::fault::Fault;
+use awk_text::lent::Lent;
 use awk_text::value::{number_of, truth};
-use awk_builtins::operators::{compared, compared_lent};
 use box_world::world::World;
 
 /// The number of an expression's value, or that it is out of range, which is a fault only where the number is used.

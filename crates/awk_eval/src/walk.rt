@@ -17,11 +17,11 @@ use crate::inputs::{from_commands, from_file};
 use crate::statements::{block, either, perform, plain, when};
 use crate::units::{units_of, units_of_statement};
 use crate::{statements, tests};
-use awk_streams::halt::Halt;
+use awk_program::{Expr, Statement};
+use awk_quick::at_hand::value_at_hand;
 use awk_store::Flow;
 use awk_store::steps::{is_one, step};
-use awk_quick::at_hand::value_at_hand;
-use awk_program::{Expr, Statement};
+use awk_streams::halt::Halt;
 use awk_text::value::Value;
 use box_world::world::World;
 

@@ -10,9 +10,9 @@ use crate::parts::{
     rebuild_parts, split_parts,
 };
 use crate::splitter::Splitter;
-use awk_text::lent::Lent;
 use awk_text::Memory;
 use awk_text::fault::Fault;
+use awk_text::lent::Lent;
 use awk_text::octets::Octets;
 use awk_text::texts::MOST_BYTES;
 use awk_text::value::Value;

@@ -16,12 +16,11 @@ ghost use Rattle.awk_input.specs.Operands.{Moves};
 ghost use Rattle.awk_input.specs.Performs.{Performs};
 
 use crate::host::Host;
+use awk_program::Variable;
+use awk_store::targets::set;
+use awk_store::{Spot, Store};
 use awk_streams::halt::Halt;
 use awk_streams::requests::request;
-use awk_program::Variable;
-use awk_store::Store;
-use awk_store::Spot;
-use awk_store::targets::set;
 use awk_text::escape::unescape;
 use awk_text::fault::Fault;
 use awk_text::octets::Octets;

@@ -10,13 +10,12 @@ ghost use Rattle.awk_store.specs.Wholes.{Whole, names_in};
 ghost use Rattle.awk_input.specs.Gots as spec;
 ghost use Rattle.awk_input.specs.Gots.{Counts, IsGot, names_of};
 
-use awk_streams::halt::Halt;
-use awk_streams::streams::Streams;
 use awk_program::Own;
-use awk_store::Store;
-use awk_store::Spot;
 use awk_store::counters::count;
 use awk_store::targets::replace;
+use awk_store::{Spot, Store};
+use awk_streams::halt::Halt;
+use awk_streams::streams::Streams;
 use awk_text::place::Place;
 use awk_text::value::Value;
 use std::alloc::Global;

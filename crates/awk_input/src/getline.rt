@@ -16,14 +16,13 @@ ghost use Rattle.awk_input.specs.Gots.{piped_of, read_of};
 ghost use Rattle.awk_input.specs.Performs.{Performs};
 
 use crate::counted::{Counted, set_record};
+use awk_program::Own;
+use awk_store::{Spot, Store};
 use awk_streams::getline::fetch;
 use awk_streams::halt::Halt;
 use awk_streams::inputs::Source;
 use awk_streams::streams::{Class, Name, Streams};
 use awk_text::lent::Lent;
-use awk_program::Own;
-use awk_store::Store;
-use awk_store::Spot;
 use awk_text::place::Place;
 use awk_text::value::Value;
 use box_world::world::World;

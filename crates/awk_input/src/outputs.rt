@@ -14,12 +14,12 @@ ghost use Rattle.awk_store.specs.Wholes.{Whole};
 ghost use Rattle.awk_input.specs.Inputs.{Onward};
 ghost use Rattle.awk_input.specs.Performs.{LeadsOn};
 
+use awk_program::Redirect;
 use awk_streams::halt::Halt;
 use awk_streams::opening::open_output;
 use awk_streams::requests::put;
 use awk_streams::streams::{Class, Name, Streams};
 use awk_text::lent::Lent;
-use awk_program::Redirect;
 use awk_text::octets::Octets;
 use awk_text::place::Place;
 use box_world::ask::Mode;

@@ -8,8 +8,8 @@ ghost use Rattle.awk_streams.specs.Tables.{Table};
 ghost use Rattle.awk_store.specs.Acts.{Acts};
 ghost use Rattle.awk_input.specs.Ranges.{acting, turned_on};
 
-use awk_streams::halt::Halt;
 use awk_store::Store;
+use awk_streams::halt::Halt;
 use awk_text::value::{Value, truth};
 
 /// Turns the range of the rule at this place on where its first pattern holds, and answers whether it

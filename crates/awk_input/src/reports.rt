@@ -9,9 +9,9 @@ ghost use Rattle.awk_input.specs.Inputs as spec;
 ghost use Rattle.awk_input.specs.Performs.{Performs};
 
 use crate::progress::fail;
+use awk_store::Store;
 use awk_streams::halt::Halt;
 use awk_streams::requests::request;
-use awk_store::Store;
 use awk_text::fault::Fault;
 use awk_text::octets::Octets;
 use awk_text::place::Place;

@@ -15,6 +15,10 @@ ghost use Rattle.awk_text.specs.declared.value.Value.{Value as Val};
 ghost use Rattle.awk_text.specs.declared.value.Value.TheVariants as v;
 ghost use Rattle.std.specs.Prelude.{IfSome, Some, false, length, map, true, ℤ, ◌≡◌, ◌≤◌};
 
+use crate::at_hand::{
+    MOST_LEVELS, at_hand, number_at_hand, number_kept, number_there, value_at_hand,
+};
+use crate::printing::add_item;
 use awk_builtins::line::Line;
 use awk_builtins::operators::{operation, stepped};
 use awk_program::{Expr, Joined, Operator, Step, Target, Variable};
@@ -22,8 +26,6 @@ use awk_store::{Store, is_nf};
 use awk_text::place::Place;
 use awk_text::texts::MOST_BYTES;
 use awk_text::value::Value;
-use crate::at_hand::{MOST_LEVELS, at_hand, number_at_hand, number_kept, number_there, value_at_hand};
-use crate::printing::add_item;
 use itoa::Buffer;
 use std::alloc::Global;
 

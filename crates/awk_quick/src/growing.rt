@@ -18,16 +18,16 @@ ghost use Rattle.awk_text.specs.declared.value.Value.{Value as Val};
 ghost use Rattle.awk_text.specs.declared.value.Value.TheVariants as v;
 ghost use Rattle.std.specs.Prelude.{IfErr, IfOk, IfSome, List, OnOk, false, length, map, true, ℕ, ◌++◌, ◌+◌, ◌≡◌, ◌≤◌};
 
+use crate::at_hand::{MOST_LEVELS, at_hand};
 use awk_program::{Expr, Joined, Target, Variable};
-use awk_store::{Store, is_nf};
 use awk_store::values::into_text;
+use awk_store::{Store, is_nf};
 use awk_streams::halt::Halt;
 use awk_text::Memory;
 use awk_text::octets::Octets;
 use awk_text::place::Place;
 use awk_text::texts::MOST_BYTES;
 use awk_text::value::Value;
-use crate::at_hand::{MOST_LEVELS, at_hand};
 use itoa::Buffer;
 use std::alloc::Global;
 

@@ -6,13 +6,13 @@ ghost use Rattle.awk_program.specs.View.{view, view_ere};
 ghost use Rattle.awk_quick.specs.AtHand.{IsThere};
 ghost use Rattle.std.specs.Prelude.{IfSome};
 
+use crate::at_hand::{MOST_LEVELS, at_hand};
 use awk_builtins::cache::Patterns;
 use awk_builtins::patterns::{check, matches};
 use awk_program::{Expr, Pattern};
 use awk_store::Store;
 use awk_streams::halt::at;
 use awk_text::place::Place;
-use crate::at_hand::{MOST_LEVELS, at_hand};
 use itoa::Buffer;
 use std::alloc::Global;
 

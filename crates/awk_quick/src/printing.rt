@@ -20,6 +20,8 @@ ghost use Rattle.awk_text.specs.Values.{text_of};
 ghost use Rattle.awk_text.specs.declared.value.Value.{Value as Val};
 ghost use Rattle.std.specs.Prelude.{Err, IfSome, List, None, Ok, Some, [], map, true, ◌++◌, ◌∷◌, ◌≡◌};
 
+use crate::at_hand::{MOST_LEVELS, at_hand};
+use crate::splitting::{is_field, is_whole, split_where};
 use awk_builtins::line::Line;
 use awk_builtins::printing::ended;
 use awk_program::{Expr, Own, Redirection};
@@ -28,8 +30,6 @@ use awk_streams::halt::{Halt, at};
 use awk_text::lent::Lent;
 use awk_text::octets::Octets;
 use awk_text::place::Place;
-use crate::at_hand::{MOST_LEVELS, at_hand};
-use crate::splitting::{is_field, is_whole, split_where};
 use itoa::Buffer;
 
 /// Adds the text of an item that is at hand, and answers whether it did.

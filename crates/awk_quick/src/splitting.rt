@@ -7,12 +7,12 @@ ghost use Rattle.awk_store.specs.Acts.{Acts};
 ghost use Rattle.awk_streams.specs.Tables.{Table};
 ghost use Rattle.std.specs.Prelude.{IfOk, IfSome, Ok, true, ◌∷◌, ◌≡◌};
 
+use crate::at_hand::truth_at_hand;
+use crate::done::done_at_once;
 use awk_builtins::line::Line;
 use awk_program::{Expr, Target};
 use awk_store::{Store, is_nf};
 use awk_streams::halt::Halt;
-use crate::at_hand::truth_at_hand;
-use crate::done::done_at_once;
 use std::alloc::Global;
 
 /// Whether an expression is a field other than `$0`.

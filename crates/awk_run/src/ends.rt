@@ -8,6 +8,7 @@ ghost use Rattle.awk_store.specs.Kept.{Kept};
 ghost use Rattle.awk_streams.specs.Tasks.{Owns};
 ghost use Rattle.std.specs.Prelude.{◌≡◌};
 
+use crate::report::Outcome;
 use awk_store::{Phase, Store};
 use awk_streams::closing::shut_all;
 use awk_streams::halt::Halt;
@@ -15,7 +16,6 @@ use awk_streams::streams::Streams;
 use awk_text::fault::Fault;
 use awk_text::place::Place;
 use box_world::world::World;
-use crate::report::Outcome;
 
 /// How a run's own work has ended.
 #[derive(Clone, Copy, Debug, PartialEq, Eq, Drop)]

@@ -7,10 +7,10 @@ ghost use Rattle.awk_input.specs.Hosts.{IsHost};
 ghost use Rattle.awk_run.specs.Givens.{given_of};
 ghost use Rattle.awk_run.specs.Hosting.{host_of, with_functions, with_variables, with_words};
 
+use crate::Setup;
+use awk_input::{Host, Use};
 use awk_parse::Script;
 use awk_program::Function;
-use awk_input::{Host, Use};
-use crate::Setup;
 use awk_text::Memory;
 use awk_text::octets::Octets;
 use std::alloc::{AllocError, Global};

@@ -7,14 +7,14 @@ ghost use Rattle.awk_store.specs.Flows.{flows};
 ghost use Rattle.awk_streams.specs.Tasks.{Owns, goes_on};
 ghost use Rattle.std.specs.Prelude.{[], ◌∷◌};
 
+use crate::actions::actions;
+use crate::ends::{End, done, goes_to_end, last};
+use crate::records::records;
 use awk_eval::{Context, Run};
 use awk_input::reads::reads;
 use awk_store::{Flow, Phase};
 use awk_streams::halt::Halt;
 use box_world::world::World;
-use crate::actions::actions;
-use crate::ends::{End, done, goes_to_end, last};
-use crate::records::records;
 
 /// The actions of BEGIN.
 fn begin<W: World>(cx: &Context<'_>, run: &mut Run, world: &mut W) -> Result<Flow, Halt>

@@ -12,6 +12,11 @@ ghost use Rattle.awk_store.specs.States.{Sound};
 ghost use Rattle.awk_streams.specs.Tasks.{Owns};
 ghost use Rattle.std.specs.Prelude.{[], ◌∷◌};
 
+use crate::ends::{End, close, last};
+use crate::environ::environ;
+use crate::phases::play;
+use crate::report::{Outcome, Report};
+use crate::start::{Start, looked_up, prepare};
 use awk_builtins::cache::Patterns;
 use awk_builtins::line::Line;
 use awk_eval::{Context, Run};
@@ -21,11 +26,6 @@ use awk_streams::streams::Streams;
 use awk_text::fault::Fault;
 use awk_text::place::Place;
 use box_world::world::World;
-use crate::ends::{End, close, last};
-use crate::environ::environ;
-use crate::phases::play;
-use crate::report::{Outcome, Report};
-use crate::start::{Start, looked_up, prepare};
 
 /// All that is done before BEGIN.
 fn begin<W: World>(

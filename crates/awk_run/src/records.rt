@@ -7,12 +7,12 @@ ghost use Rattle.awk_run.specs.Runs.{DoesIn};
 ghost use Rattle.awk_streams.specs.Tasks.{Owns, goes_on};
 ghost use Rattle.std.specs.Prelude.{Err, [], ◌≡◌};
 
+use crate::rules::rules;
 use awk_eval::{Context, Run};
 use awk_input::main_input::next_record;
 use awk_store::steps::step;
 use awk_streams::halt::Halt;
 use box_world::world::World;
-use crate::rules::rules;
 
 /// Reads the next record, and does the rules for it; answers whether there was one.
 fn meet<W: World>(cx: &Context<'_>, run: &mut Run, world: &mut W) -> Result<bool, Halt>

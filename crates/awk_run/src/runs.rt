@@ -7,10 +7,9 @@ ghost use Rattle.awk_run.specs.Starts.{IsStart};
 ghost use Rattle.awk_run.specs.Givens.{given_of};
 
 use crate::hosting::host;
+use crate::{Outcome, Report, Setup, Start, run_program};
 use awk_eval::Context;
 use awk_parse::Script;
-use crate::{Outcome, Report, Start, run_program};
-use crate::Setup;
 use awk_text::fault::Fault;
 use awk_text::place::Place;
 use box_world::world::World;

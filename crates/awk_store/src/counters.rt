@@ -6,10 +6,10 @@ ghost use Rattle.awk_store.specs.Acts.{Acts};
 ghost use Rattle.awk_streams.specs.Tables.{Table};
 ghost use Rattle.awk_streams.specs.Tasks.{goes_on};
 
+use crate::Store;
 use awk_program::Own;
 use awk_streams::halt::{Halt, at};
 use awk_text::place::Place;
-use crate::Store;
 
 /// Adds 1 to the number of one of awk's own variables.
 #[inline(always)]

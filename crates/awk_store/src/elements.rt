@@ -8,12 +8,12 @@ ghost use Rattle.awk_store.specs.Wholes.{names_in};
 ghost use Rattle.awk_streams.specs.Tables.{Table};
 ghost use Rattle.awk_streams.specs.Tasks.{goes_on};
 
+use crate::Store;
+use crate::values::copied;
 use awk_program::Variable;
 use awk_streams::halt::{Halt, at};
 use awk_text::place::Place;
 use awk_text::value::Value;
-use crate::Store;
-use crate::values::copied;
 use std::alloc::Global;
 
 /// Reads an element by its key, and makes it where it is not there. A fault is at the place of the array's name.

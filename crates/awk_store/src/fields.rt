@@ -8,12 +8,12 @@ ghost use Rattle.awk_streams.specs.Tasks.{goes_on};
 ghost use Rattle.awk_text.specs.Values.{text_of};
 ghost use Rattle.std.specs.Prelude.{◌≡◌};
 
+use crate::Store;
+use crate::values::into_text;
 use awk_streams::halt::{Halt, at};
 use awk_text::octets::Octets;
 use awk_text::place::Place;
 use awk_text::value::Value;
-use crate::Store;
-use crate::values::into_text;
 use std::alloc::Global;
 
 /// Reads a field by its number: 0 is the whole record. The record is split where it was not.

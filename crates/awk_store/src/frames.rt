@@ -17,12 +17,12 @@ ghost use Rattle.awk_streams.specs.Tables.{Table};
 ghost use Rattle.awk_text.specs.declared.value.Value.{Value, Value as Val};
 ghost use Rattle.std.specs.Prelude.{IfErr, IfSome, List, None, Ok, OnOk, [], drop, length, map, slice_set, ℕ, ◌++◌, ◌∷◌, ◌≡◌};
 
+use crate::flow::Flow;
+use crate::{Bound, Caller, Passed, Reference, Store};
 use awk_program::{Argument, Expr, Program, Statement};
 use awk_streams::halt::{Halt, at};
 use awk_text::place::Place;
 use awk_text::value::Value;
-use crate::{Bound, Caller, Passed, Reference, Store};
-use crate::flow::Flow;
 
 /// Begins a call: these are what its first parameters hold, and the kinds of those that have no argument. Answers what the
 /// caller waits with.

@@ -7,12 +7,12 @@ ghost use Rattle.awk_store.specs.Jumps.{Jumps};
 ghost use Rattle.awk_streams.specs.Tables.{Table};
 ghost use Rattle.std.specs.Prelude.{None, Some, [], ◌∷◌};
 
+use crate::numbers::exit_status;
+use crate::{Phase, Store};
 use awk_streams::halt::Halt;
 use awk_text::fault::Fault;
 use awk_text::place::Place;
 use awk_text::value::Value;
-use crate::{Phase, Store};
-use crate::numbers::exit_status;
 
 /// `next`: all calls end, and the record is done with. Outside the rules for records it is a fault. Takes no memory.
 pub fn next(store: &mut Store, place: Place) -> Halt

@@ -6,9 +6,9 @@ ghost use Rattle.awk_store.specs.Steps.{Steps};
 ghost use Rattle.awk_streams.specs.Tables.{Table};
 ghost use Rattle.std.specs.Prelude.{List, if◌then◌else◌, ◌∷◌, ◌≡◌};
 
+use crate::Store;
 use awk_program::Statement;
 use awk_streams::halt::Halt;
-use crate::Store;
 
 /// Takes a step, where one is left.
 pub fn step(bound: u64, store: &mut Store) -> Result<(), Halt>

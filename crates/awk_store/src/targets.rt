@@ -11,16 +11,16 @@ ghost use Rattle.awk_streams.specs.Tasks.{goes_on};
 ghost use Rattle.awk_text.specs.Values as values;
 ghost use Rattle.std.specs.Prelude.{IfOk, IfSome, ◌≡◌};
 
+use crate::elements::{read_element, set_element};
+use crate::fields::{read_field, set_field};
+use crate::spot::Spot;
+use crate::variables::{read_variable, replace_variable, set_variable};
+use crate::{Store, is_nf};
 use awk_streams::halt::Halt;
 use awk_text::fault::Fault;
 use awk_text::octets::Octets;
 use awk_text::place::Place;
 use awk_text::value::{Value, number_of, text_in, text_of};
-use crate::{Store, is_nf};
-use crate::elements::{read_element, set_element};
-use crate::fields::{read_field, set_field};
-use crate::spot::Spot;
-use crate::variables::{read_variable, replace_variable, set_variable};
 use itoa::Buffer;
 use std::alloc::Global;
 

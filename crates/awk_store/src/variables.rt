@@ -16,19 +16,19 @@ ghost use Rattle.awk_text.specs.Values.{text_of};
 ghost use Rattle.std.specs.Option.{option_copied};
 ghost use Rattle.std.specs.Prelude.{Err, IfErr, IfSome, Ok, OnOk, false, pos, slice_get, slice_set, true, unwrap_or, ℤ, ◌≡◌};
 
+use crate::cell::Cell;
+use crate::frame::Bound;
+use crate::store::Store;
+use crate::values::copied;
 use awk_program::{Own, Variable};
 use awk_streams::halt::{Halt, at};
 use awk_text::arithmetic::add;
 use awk_text::fault::Fault;
 use awk_text::place::Place;
 use awk_text::value::{Value, number_of, text_in};
-use crate::cell::Cell;
-use crate::frame::Bound;
-use crate::store::Store;
-use crate::values::copied;
 use itoa::Buffer;
-use std::mem;
 use std::alloc::Global;
+use std::mem;
 
 /// The value at a slot. There is none in an array, nor where the slot is none.
 #[inline(always)]

@@ -9,8 +9,8 @@ ghost use Rattle.std.specs.List.{list_all};
 ghost use Rattle.std.specs.Ordering.{nat_cmp};
 ghost use Rattle.std.specs.Prelude.{IfNone, IfSome, Ok, Some, false, length, true, ◌<◌, ◌≡◌, ◌≤◌, ◌⊎◌};
 
-use crate::numeral;
 use crate::fault::Fault;
+use crate::numeral;
 use crate::value::Value;
 use itoa::Buffer;
 use std::cmp::Ordering;

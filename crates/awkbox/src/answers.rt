@@ -3,9 +3,9 @@ ghost use Rattle.awkbox.specs.Answers as spec;
 ghost use Rattle.awkbox.specs.Answers.{Checks, IsCheckRefused, IsListRefused, Lists};
 ghost use Rattle.std.specs.Prelude.{IfErr, IfOk, ◌≡◌};
 
-use box_listing::{Verdict, lines_of, verdict_lines};
 use crate::listing_refusal::ListingRefusal;
 use crate::listings::{sites_of, verdict_of};
+use box_listing::{Verdict, lines_of, verdict_lines};
 use std::alloc::Global;
 
 /// What the program prints, and the exit status that goes with it.

@@ -4,11 +4,11 @@ ghost use Rattle.awkbox.specs.Answers.{IsCheckRefused, IsJudged, IsListRefused, 
 ghost use Rattle.awkbox.specs.Scripts.{IsScriptRefused, Spells};
 ghost use Rattle.std.specs.Prelude.{IfErr, IfOk, List};
 
+use crate::listing_refusal::ListingRefusal;
 use awk_parse::{Script, parse};
 use awk_tokens::{SyntaxError, tokens};
 use box_listing::{Site, Verdict, check, sites};
 use box_policy::policy::Policy;
-use crate::listing_refusal::ListingRefusal;
 use std::alloc::Global;
 
 /// The script that the text spells.

@@ -5,9 +5,10 @@ use crate::setup::setup_of;
 use crate::standard::hold_closed;
 use crate::words::Words;
 use crate::{command_line, standard, words};
-use awkbox::{Ending, Message, Octets, OsWorld, Setup, Warning, drive, policy_of};
-use awkbox::{Answer, check, list};
-use awkbox::ListingRefusal;
+use awkbox::{
+    Answer, Ending, ListingRefusal, Message, Octets, OsWorld, Setup, Warning, check, drive, list,
+    policy_of,
+};
 use std::fs::File;
 
 /// The exit status where the words are at fault.

@@ -1,12 +1,12 @@
 // What a call takes from its row. Arguments are counted from 1; the call's name stands at 0.
+use crate::problem::Problem;
+use crate::row::Arg;
 use awk_text::Memory;
 use awk_text::numeral::looks_numeric;
 use awk_text::octets::Octets;
 use awk_text::value::Value;
-use crate::problem::Problem;
-use crate::row::Arg;
-use std::str;
 use std::alloc::Global;
+use std::str;
 
 /// The bare words of an argument; none where it is missing.
 pub fn bare<'a, 'b>(args: &'a [Arg<'b>], at: usize) -> &'a [u8] {

@@ -1,8 +1,8 @@
 // Reads rows from the text of a table.
-use awk_text::escape::unescape;
-use awk_text::numeral::leading_digits;
 use crate::problem::Problem;
 use crate::row::{Arg, Row};
+use awk_text::escape::unescape;
+use awk_text::numeral::leading_digits;
 use memchr::memchr;
 use std::alloc::Global;
 

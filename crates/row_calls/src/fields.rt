@@ -1,13 +1,13 @@
 // Fields of texts, and records of inputs.
 ghost use Rattle.std.specs.Prelude.{◌<◌};
 
-use awk_fields::{Record, Splitter, records, split};
-use awk_text::fault::Fault;
-use awk_text::octets::Octets;
 use crate::args::{name, octets, text};
 use crate::problem::Problem;
 use crate::row::Arg;
 use crate::shown::{Answer, bracketed};
+use awk_fields::{Record, Splitter, records, split};
+use awk_text::fault::Fault;
+use awk_text::octets::Octets;
 use std::alloc::Global;
 
 fn splitter(alloc: Global, call: &str, separator: &[u8]) -> Result<Splitter, Problem> {

@@ -1,9 +1,9 @@
 // `printf` and `sprintf`.
-use awk_format::format;
 use crate::args::{name, text, values};
 use crate::problem::Problem;
 use crate::row::Arg;
 use crate::shown::Answer;
+use awk_format::format;
 use std::alloc::Global;
 
 /// The answer of the call.

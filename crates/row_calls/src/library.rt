@@ -1,12 +1,12 @@
 // Arrays, and the built-in functions on texts.
-use awk_ere::Ere;
-use awk_lib::{index, replace, substr, to_case};
-use awk_lib::array::Array;
-use awk_text::octets::Octets;
 use crate::args::{name, number, octets, text};
 use crate::problem::Problem;
 use crate::row::{Arg, Row};
 use crate::shown::{Answer, bracketed, bytes, show, told};
+use awk_ere::Ere;
+use awk_lib::array::Array;
+use awk_lib::{index, replace, substr, to_case};
+use awk_text::octets::Octets;
 use std::alloc::Global;
 
 fn substr_of(alloc: Global, args: &[Arg<'_>]) -> Answer {

@@ -1,13 +1,13 @@
 // What scripts may ask, as it is listed, and as it stands to a policy.
-use awk_parse::Script;
-use awk_text::octets::Octets;
-use box_listing::{check, lines_of, sites, verdict_lines};
-use box_policy::policy::Policy;
 use crate::args::{name, text};
 use crate::parses::script;
 use crate::problem::Problem;
 use crate::row::{Arg, Row};
 use crate::shown::{Answer, told};
+use awk_parse::Script;
+use awk_text::octets::Octets;
+use box_listing::{check, lines_of, sites, verdict_lines};
+use box_policy::policy::Policy;
 use std::alloc::Global;
 
 fn sites_in(alloc: Global, script: &Script) -> Answer {

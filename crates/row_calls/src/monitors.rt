@@ -2,6 +2,11 @@
 ghost use Rattle.box_world.specs.Calls.{IsDuty};
 ghost use Rattle.std.specs.Prelude.{IfOk, List, ℕ};
 
+use crate::args::{bare, name, octets, text};
+use crate::problem::Problem;
+use crate::row::{Arg, Row};
+use crate::shown::{Answer, bytes, show, told};
+use crate::worlds::{left, show_reply};
 use awk_text::numeral::leading_digits;
 use awk_text::octets::Octets;
 use awk_text::place::Place;
@@ -10,11 +15,6 @@ use box_policy::policy::Policy;
 use box_world::ask::{Ask, Mode, Request};
 use box_world::memory_world::MemoryWorld;
 use box_world::world::World;
-use crate::args::{bare, name, octets, text};
-use crate::problem::Problem;
-use crate::row::{Arg, Row};
-use crate::shown::{Answer, bytes, show, told};
-use crate::worlds::{left, show_reply};
 use memchr::memchr;
 use std::alloc::Global;
 

@@ -1,11 +1,11 @@
 // Scripts as they are parsed: which are accepted, how they are spelled, and what they ask of a host.
-use awk_parse::{Script, canon, parse};
-use awk_text::Memory;
-use awk_tokens::{Token, TokenKind, tokens};
 use crate::args::{name, text};
 use crate::problem::Problem;
 use crate::row::Arg;
 use crate::shown::{Answer, bytes, yes_or_no};
+use awk_parse::{Script, canon, parse};
+use awk_text::Memory;
+use awk_tokens::{Token, TokenKind, tokens};
 use std::alloc::Global;
 
 /// The script of this text.

@@ -1,11 +1,11 @@
 // Patterns, and the search for their matches.
 ghost use Rattle.std.specs.Prelude.{length, ◌≤◌};
 
-use awk_ere::{Ere, Plain};
 use crate::args::{name, number, text};
 use crate::problem::Problem;
 use crate::row::Arg;
 use crate::shown::{Answer, bytes, yes_or_no};
+use awk_ere::{Ere, Plain};
 use std::alloc::Global;
 
 /// Where a match begins and ends, as the numbers of bytes before.

@@ -1,12 +1,12 @@
 // Policies: which texts are policies, and what they decide.
-use awk_text::Memory;
-use awk_text::octets::Octets;
-use box_policy::path::normal;
-use box_policy::policy::{Decision, Kind, Policy};
 use crate::args::{bare, name, text};
 use crate::problem::Problem;
 use crate::row::{Arg, Row};
 use crate::shown::{Answer, bracketed, bytes, show, told, yes_or_no};
+use awk_text::Memory;
+use awk_text::octets::Octets;
+use box_policy::path::normal;
+use box_policy::policy::{Decision, Kind, Policy};
 use std::alloc::Global;
 
 /// What stands before the lines of a policy's one rule.

@@ -4,8 +4,8 @@ use awk_text::fault::Fault;
 use awk_tokens::SyntaxError;
 use box_policy::error::PolicyError;
 use box_world::ask::Stop;
-use std::fmt;
 use std::alloc::{AllocError, AllocFailed};
+use std::fmt;
 
 /// Why a call gives no answer. What a call refuses is an answer of its own, which a row can name.
 #[derive(Clone, Copy, Drop)]

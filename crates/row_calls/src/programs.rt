@@ -1,12 +1,12 @@
 // Scripts in the form that runs, as they are printed.
-use awk_printer::printed;
-use awk_text::Memory;
-use awk_text::numeral::leading_digits;
 use crate::args::{name, text};
 use crate::parses::script;
 use crate::problem::Problem;
 use crate::row::Arg;
 use crate::shown::Answer;
+use awk_printer::printed;
+use awk_text::Memory;
+use awk_text::numeral::leading_digits;
 use std::alloc::Global;
 
 fn program(alloc: Global, text: &[u8]) -> Answer {

@@ -1,12 +1,12 @@
 // A reader whose input comes a piece at a time, a step after the other. No step ends it.
 ghost use Rattle.std.specs.Prelude.{false, ◌≡◌};
 
-use awk_fields::reader::{Reader, Taken};
-use awk_text::octets::Octets;
 use crate::args::{name, text};
 use crate::problem::Problem;
 use crate::row::{Arg, Row};
 use crate::shown::{Answer, bracketed, bytes, show, told};
+use awk_fields::reader::{Reader, Taken};
+use awk_text::octets::Octets;
 use std::alloc::Global;
 
 fn push(alloc: Global, reader: &mut Reader, piece: &[u8]) -> Answer

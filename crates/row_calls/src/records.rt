@@ -1,13 +1,13 @@
 // A record whose fields are set, a step after the other.
+use crate::args::{name, number, octets, text, values};
+use crate::problem::Problem;
+use crate::readers;
+use crate::row::{Arg, Row};
+use crate::shown::{Answer, bytes, show, show_value, told};
 use awk_fields::{Record, Splitter};
 use awk_text::fault::Fault;
 use awk_text::octets::Octets;
 use awk_text::value::text_of;
-use crate::readers;
-use crate::args::{name, number, octets, text, values};
-use crate::problem::Problem;
-use crate::row::{Arg, Row};
-use crate::shown::{Answer, bytes, show, show_value, told};
 use std::alloc::Global;
 
 fn set_whole(alloc: Global, record: &mut Record, fs: &[u8], text: &[u8]) -> Answer {

@@ -1,6 +1,5 @@
 // Rows, as they are read from a table.
 
-
 /// What stands between two bars: bare words as they are written, and then a text, of which each
 /// quoted piece is unescaped and repeated as often as it says.
 #[derive(Drop)]

@@ -1,7 +1,7 @@
 // Answers, as rows write them.
+use crate::problem::Problem;
 use awk_text::octets::Octets;
 use awk_text::value::Value;
-use crate::problem::Problem;
 use std::alloc::{AllocError, Global};
 use std::fmt::Display;
 

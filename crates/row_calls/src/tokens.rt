@@ -1,10 +1,10 @@
 // The tokens of scripts.
-use awk_text::Memory;
-use awk_tokens::{Token, TokenKind, tokens};
 use crate::args::{name, text};
 use crate::problem::Problem;
 use crate::row::Arg;
 use crate::shown::Answer;
+use awk_text::Memory;
+use awk_tokens::{Token, TokenKind, tokens};
 use std::alloc::Global;
 
 fn kind_word(kind: TokenKind) -> &'static str {

@@ -1,4 +1,8 @@
 // Values, their arithmetic, and texts as scripts and logs write them.
+use crate::args::{name, number, text, values};
+use crate::problem::Problem;
+use crate::row::Arg;
+use crate::shown::{Answer, bytes, show, show_value, yes_or_no};
 use awk_text::arithmetic::{add, div, mul, neg, pow, rem, sub};
 use awk_text::escape::unescape;
 use awk_text::fault::Fault;
@@ -6,10 +10,6 @@ use awk_text::numeral::looks_numeric;
 use awk_text::quote::quote_log;
 use awk_text::texts::join;
 use awk_text::value::{Value, compare, number_of, text_of, truth};
-use crate::args::{name, number, text, values};
-use crate::problem::Problem;
-use crate::row::Arg;
-use crate::shown::{Answer, bytes, show, show_value, yes_or_no};
 use std::alloc::Global;
 use std::cmp::Ordering;
 

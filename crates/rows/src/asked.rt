@@ -1,11 +1,11 @@
 // The requests of a run.
 
 use awkbox::{Ask, MemoryWorld, Mode, Reply, Request};
-use row_calls::worlds::show_reply;
 use row_calls::args::{bare, number, text};
 use row_calls::problem::Problem;
 use row_calls::row::Arg;
 use row_calls::shown::{Answer, bytes};
+use row_calls::worlds::show_reply;
 use std::alloc::Global;
 
 fn mode_word(mode: Mode) -> &'static str {

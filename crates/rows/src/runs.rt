@@ -5,11 +5,11 @@ use crate::run_log::RunLog;
 use crate::start::{Start, is_start};
 use awk_text::octets::Octets;
 use awkbox::{Driven, Ending, LogEnd, MemoryWorld, Refusal, Report};
-use row_calls::worlds::left;
 use row_calls::args::{name, text};
 use row_calls::problem::Problem;
 use row_calls::row::{Arg, Row};
 use row_calls::shown::{Answer, bytes, show, told};
+use row_calls::worlds::left;
 use std::alloc::Global;
 
 /// What the program says at its end: nothing, or a message.

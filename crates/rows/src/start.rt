@@ -3,11 +3,11 @@
 use crate::run_log::RunLog;
 use awk_text::octets::Octets;
 use awkbox::{Driven, MemoryWorld, Setup, drive};
-use row_calls::worlds::prepare;
 use row_calls::args::{name, number, octets, text};
 use row_calls::problem::Problem;
 use row_calls::row::Arg;
 use row_calls::shown::{Answer, bytes};
+use row_calls::worlds::prepare;
 use std::alloc::Global;
 
 /// How many steps a run may take where its row does not say.

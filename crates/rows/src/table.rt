@@ -2,11 +2,13 @@
 
 use crate::runs;
 use awk_text::octets::Octets;
-use row_calls::{fields, formats, library, monitors, patterns, policies, records, tokens, values, worlds};
 use row_calls::problem::Problem;
 use row_calls::row::{Arg, Row};
 use row_calls::shown::Answer;
-use row_calls::{listings, parses, programs};
+use row_calls::{
+    fields, formats, library, listings, monitors, parses, patterns, policies, programs, records,
+    tokens, values, worlds,
+};
 use std::alloc::Global;
 
 /// A table: a file of rows about one subject.
