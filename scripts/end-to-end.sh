@@ -1312,5 +1312,12 @@ fault "an operand of list" list -f f -- a
 fault "an operand of check" check --policy p -f f -- a
 fault "a policy of list" list --policy p -f f
 
+# Nests.
+
+if command -v python3 >/dev/null; then
+    (ulimit -s 8192 && "$top/scripts/stack-of-forms.py" --nests "$program") >"$work/output" 2>"$work/errors"
+    verdict "each form nested too deep ends by itself"
+fi
+
 echo "$passed passed, $failed failed"
 [ "$failed" -eq 0 ]
