@@ -12,18 +12,20 @@ use std::io::{self, ErrorKind, Read};
 #[derive(Drop)]
 struct Told<'a, 'b> {
     readings: &'a [Arg<'b>],
+    /// Which reading is the next one.
+    next: usize,
 }
 
 impl Read for Told<'_, '_> {
     fn read(&mut self, buf: &mut [u8]) -> io::Result<usize> {
-        let Some((first, rest)) = self.readings.split_first() else {
+        let Some(reading) = self.readings.get(self.next) else {
             return Ok(0);
         };
-        self.readings = rest;
-        match first.word {
+        self.next += 1;
+        match reading.word {
             b"failed" => Err(io::Error::from(ErrorKind::Other)),
             b"interrupted" => Err(io::Error::from(ErrorKind::Interrupted)),
-            _ => first.text.as_slice().read(buf),
+            _ => reading.text.as_slice().read(buf),
         }
     }
 }
@@ -32,7 +34,8 @@ fn read(alloc: Global, limit: i64, readings: &[Arg<'_>]) -> Answer {
     let Ok(limit) = usize::try_from(limit) else {
         return Err(Problem::NoArgument);
     };
-    match read_limited(alloc, &mut Told { readings }, limit) {
+    let mut told = Told { readings, next: 0 };
+    match read_limited(alloc, &mut told, limit) {
         Ok(all) => Ok(all),
         Err(ReadError::Failed) => bytes(alloc, b"failed"),
         Err(ReadError::TooLong) => bytes(alloc, b"too long"),
