@@ -233,14 +233,6 @@ is 2 "no commands here$line" "awkbox: 4:19 F7 cannot open or write output$line" 
     grep -qF 'awkbox: 4:19 F7 cannot open or write output' "$top/README.md"
 verdict "the first example of the README"
 
-# The code of a page is that of a file that is proved and run.
-from_file() { sed -n "/^\/\/ $1: begin\$/,/^\/\/ $1: end\$/{/^\/\/ $1: /!p}" "$top/crates/rows/src/hosts.rt"; }
-shown=$(sed -n '/^```rust$/,/^```$/{/^```/!p}' "$top/docs/EMBEDDING.md")
-for part in world host; do
-    [ -n "$(from_file "$part")" ] && [[ $shown == *"$(from_file "$part")"* ]]
-    verdict "the code of docs/EMBEDDING.md is that of the rows: $part"
-done
-
 # Standard streams that the program was started without.
 
 forged='1:1 run 7 "forged"'

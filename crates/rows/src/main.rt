@@ -3,7 +3,6 @@
 //! that does not hold and how many do. The tables begin with what a user needs to add one.
 #![tactic(auto)]
 
-mod hosts;
 mod prefixes;
 mod report;
 mod table;

@@ -1,6 +1,5 @@
 // The tables, and which calls stand in which.
 
-use crate::hosts;
 use awk_text::octets::Octets;
 use row_calls::problem::Problem;
 use row_calls::row::{Arg, Row};
@@ -35,10 +34,9 @@ pub enum Table {
     Scripts,
     Streams,
     Operands,
-    Hosts,
 }
 
-pub const TABLES: [Table; 21] = [
+pub const TABLES: [Table; 20] = [
     Table::Values,
     Table::Patterns,
     Table::Searches,
@@ -59,7 +57,6 @@ pub const TABLES: [Table; 21] = [
     Table::Scripts,
     Table::Streams,
     Table::Operands,
-    Table::Hosts,
 ];
 
 impl Table {
@@ -85,7 +82,6 @@ impl Table {
             Table::Scripts => "scripts.txt",
             Table::Streams => "streams.txt",
             Table::Operands => "operands.txt",
-            Table::Hosts => "hosts.txt",
         }
     }
 
@@ -102,7 +98,6 @@ impl Table {
             Table::Programs => programs::call(alloc, args),
             Table::Policies => policies::call(alloc, args),
             Table::Listings => listings::call(alloc, args),
-            Table::Hosts => hosts::call(alloc, args),
             Table::Inputs => inputs::call(alloc, args),
             _ => Err(Problem::NoCall),
         }
