@@ -11,3 +11,4 @@ mod OperandSteps
 mod Opening
 mod Shutting
 mod FileSteps
+mod SkipSteps
