@@ -1,3 +1,4 @@
+pub mod Arrays
 pub mod Cached
 pub mod Filling
 pub mod Granted
