@@ -19,8 +19,9 @@ use crate::patterns::{locate, split, substitute};
 use crate::sources::matches;
 use crate::targets::{assign, change, increment, read_target};
 use crate::tests::{number, truth_of};
+use awk_builtins::arrays::count;
 use awk_builtins::chains::{join, members, operated};
-use awk_builtins::functions::{Binary, Unary, count_of, part_of};
+use awk_builtins::functions::{Binary, Unary, part_of};
 use awk_builtins::made::owned;
 use awk_builtins::operators::{compared, compared_lent, truth_value};
 use awk_builtins::patterns::matched_record;
@@ -66,7 +67,7 @@ pub fn evaluate<W: World, E: Evaluates<W>>(
         }
         Expr::Int(place, x) => unary(cx, Unary::Int(*place), x.get(), on, run, world),
         Expr::Measure(how, x) => unary(cx, Unary::Measure(*how), x.get(), on, run, world),
-        Expr::Count(array) => Ok(count_of(&run.store, *array)),
+        Expr::Count(array) => count(&run.store, *array),
         Expr::Compare(how, x, y) => {
             binary(cx, Binary::Compare(*how), x.get(), y.get(), on, run, world)
         }

@@ -10,7 +10,7 @@ ghost use Rattle.awk_eval.specs.Runs.{Does, whole_of};
 use crate::context::{Context, Run};
 use crate::evaluates::Evaluates;
 use crate::targets::target_of;
-use awk_builtins::printing::flushed;
+use awk_builtins::flushing;
 use awk_input::getline::{
     command_record, file_record, getline_pipe, set_from_command, set_from_file,
 };
@@ -189,7 +189,7 @@ pub fn flush<W: World, E: Evaluates<W>>(
         (whole_of run.old) world.old result (whole_of run.new) world.new }
 {
     let operand = on.value(cx, x, run, world)?;
-    Ok(flushed(&run.streams, &operand))
+    Ok(flushing::flush(&operand, &run.streams))
 }
 
 /// `system ( command )`

@@ -11,4 +11,3 @@ mod OperandSteps
 mod Opening
 mod Shutting
 mod FileSteps
-mod SkipSteps

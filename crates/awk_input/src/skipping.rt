@@ -2,7 +2,7 @@
 ghost use Rattle.std.specs.Prelude.{Err, List, [], ◌∷◌};
 ghost use Rattle.awk_machine.specs.Pieces.{At, Doing, Piece};
 ghost use Rattle.awk_machine.specs.State.{Given};
-ghost use Rattle.awk_machine.specs.Statements.{skipping, to_records};
+ghost use Rattle.awk_machine.specs.Statements.{skipping};
 ghost use Rattle.awk_program.specs.Program as p;
 ghost use Rattle.awk_store.specs.Flows.{flows};
 ghost use Rattle.awk_store.specs.Wholes.{Whole};
@@ -12,10 +12,9 @@ ghost use Rattle.awk_input.specs.Performs.{LeadsOn, Performs};
 
 use crate::files::pass_file;
 use crate::progress::pass_standard;
-use awk_store::{Phase, Source, Store};
+use awk_store::{Source, Store, jumps};
 use awk_streams::halt::Halt;
 use awk_streams::streams::Streams;
-use awk_text::fault::Fault;
 use awk_text::place::Place;
 use box_world::world::World;
 
@@ -51,13 +50,11 @@ pub fn next_file<W: World>(
         → Performs W.World g (At (Doing (p.next_file place)) []) flows (store.old, streams.old) world.old (Err result) (store.new, streams.new) world.new }
     ensures owns { Owns (W.open_numbers world.new) streams.new }
 {
-    match store.phase() {
-        Phase::Ruling => {}
-        _ => return Halt::Fault(Fault::NextOutside, place),
+    if let Err(halt) = jumps::next_file(store, place) {
+        return halt;
     }
-    store.unwind();
-    match skip(store, streams, world) {
-        Ok(()) => Halt::Next,
-        Err(halt) => halt,
+    if let Err(halt) = skip(store, streams, world) {
+        return halt;
     }
+    Halt::Next
 }

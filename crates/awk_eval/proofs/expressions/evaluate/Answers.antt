@@ -46,7 +46,7 @@ returns-in-Measure g c =
 
 pub returns-in-Count : goal.returns-in-Count
 returns-in-Count g c =
-    record { plays = λ m is. rw (c.in-Count.is, view-Count) (acted (c.count_of.ensures m c.args.run.now.streams)); owns = c.requires.owns }
+    record { plays = λ m is. rw (c.in-Count.is, view-Count) (acted (c.count.ensures m c.args.run.now.streams)); owns = c.requires.owns }
 
 pub returns-in-Compare : goal.returns-in-Compare
 returns-in-Compare g c =

@@ -14,4 +14,4 @@ returns-in_err-operand g c =
 
 pub returns : goal.returns
 returns g c =
-    record { plays = λ m is. passes (part _ (quietly (at_once _ _ _) (λ k hid d a. refl)) (c.value.ensures.plays m is) c.in_ok-operand.was) (acted (c.flushed.ensures m c.value.new.run.store (view (names_in m) c.args.x.now))); owns = c.value.ensures.owns }
+    record { plays = λ m is. passes (part _ (quietly (at_once _ _ _) (λ k hid d a. refl)) (c.value.ensures.plays m is) c.in_ok-operand.was) (acted (c.flush.ensures m c.value.new.run.store (view (names_in m) c.args.x.now))); owns = c.value.ensures.owns }
