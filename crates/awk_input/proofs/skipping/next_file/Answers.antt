@@ -1,0 +1,1 @@
+use Rattle.awk_input.proofs.skipping.next_file.Goals as goal
