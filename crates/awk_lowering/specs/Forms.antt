@@ -98,16 +98,16 @@ abbrev pub negated : Bool → Expression → Expression
 negated false x = x
 negated true x = p.not x
 
--- ---- built-in functions other than length, match and sprintf, by the number of their arguments
+-- ---- built-in functions other than match and sprintf, by the number of their arguments
 
 abbrev pub of_none : Place → tree_builtin.Builtin → Expression
-of_none q b.Fflush = p.number (pos 0)
+of_none q b.Length = p.measure m.Length (p.read (whole_record q))
 of_none q which = unwritten
 
 abbrev pub of_one : Place → tree_builtin.Builtin → Expression → Expression
 of_one q b.Close x = p.close q x
-of_one q b.Fflush x = p.flush x
 of_one q b.Int x = p.int q x
+of_one q b.Length x = p.measure m.Length x
 of_one q b.System x = p.system q x
 of_one q b.Tolower x = p.measure m.Tolower x
 of_one q b.Toupper x = p.measure m.Toupper x

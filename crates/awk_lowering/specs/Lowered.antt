@@ -5,7 +5,6 @@
 --   an ERE by itself               $0 ~ that ERE           length, without parentheses   length($0)
 --   getline, without a target      getline $0              sub(x, y), gsub(x, y)         sub(x, y, $0), gsub(x, y, $0)
 --   split(x, a)                    split(x, a, FS)         x + y - z                     one chain, and so are * / %, && and ||
---   length(a), of an array         its count               fflush()                      0
 use Rattle.std.specs.Prelude.{pos, Bool, true, false, List, [], ◌∷◌, map, get_or, codes, Option, Some, None}
 use Rattle.awk_text.specs.Escapes.{unescaped}
 use Rattle.awk_text.specs.declared.place.Place.{Place}
@@ -76,28 +75,6 @@ called q which (p.more x (p.more y p.none)) = of_two q which x y
 called q which (p.more x (p.more y (p.more z p.none))) = of_three q which x y z
 called q which (p.more x (p.more y (p.more z (p.more u xs)))) = unwritten
 
--- the array that a name by itself is
-abbrev pub array_if : Bool → Variable → Option Variable
-array_if false v = None
-array_if true v = Some v
-
-abbrev pub array_named : Scope → Text → Option Variable
-array_named c text = array_if (is_array c text) (variable c text)
-
-abbrev pub array_of : Scope → Option Name → Option Variable
-array_of c None = None
-array_of c (Some n) = array_named c n.text
-
--- `length` of an array is the count of its elements, and of anything else that of its text
-abbrev pub counted_or : Option Variable → Expression → Expression
-counted_or None x = p.measure m.Length x
-counted_or (Some v) x = p.count v
-
-abbrev pub length_of : Scope → Place → Trees → Expressions → Expression
-length_of c q t.none us = p.measure m.Length (p.read (whole_record q))
-length_of c q (t.more x t.none) (p.more u p.none) = counted_or (array_of c (bare x)) u
-length_of c q xs us = unwritten
-
 -- `match ( text , pattern )`
 abbrev pub located : Place → Trees → Expressions → Expression
 located q (t.more x (t.more y t.none)) (p.more u (p.more v p.none)) = p.locate q u (ere_of (constant y) v)
@@ -109,21 +86,20 @@ formatted q p.none = unwritten
 formatted q (p.more x xs) = p.sprintf q x xs
 
 -- The three that are unwritten have forms of their own.
-abbrev pub built : Scope → Place → Builtin → Trees → Expressions → Expression
-built c q b.Match xs us = located q xs us
-built c q b.Sprintf xs us = formatted q us
-built c q b.Close xs us = called q b.Close us
-built c q b.Fflush xs us = called q b.Fflush us
-built c q b.Gsub xs us = unwritten
-built c q b.Index xs us = called q b.Index us
-built c q b.Int xs us = called q b.Int us
-built c q b.Length xs us = length_of c q xs us
-built c q b.Split xs us = unwritten
-built c q b.Sub xs us = unwritten
-built c q b.Substr xs us = called q b.Substr us
-built c q b.System xs us = called q b.System us
-built c q b.Tolower xs us = called q b.Tolower us
-built c q b.Toupper xs us = called q b.Toupper us
+abbrev pub built : Place → Builtin → Trees → Expressions → Expression
+built q b.Match xs us = located q xs us
+built q b.Sprintf xs us = formatted q us
+built q b.Close xs us = called q b.Close us
+built q b.Gsub xs us = unwritten
+built q b.Index xs us = called q b.Index us
+built q b.Int xs us = called q b.Int us
+built q b.Length xs us = called q b.Length us
+built q b.Split xs us = unwritten
+built q b.Sub xs us = unwritten
+built q b.Substr xs us = called q b.Substr us
+built q b.System xs us = called q b.System us
+built q b.Tolower xs us = called q b.Tolower us
+built q b.Toupper xs us = called q b.Toupper us
 
 -- a getline of the main input, or of a file
 abbrev pub got_by : Place → Reference → Option Expression → Expression
@@ -146,7 +122,7 @@ abbrev mutual
   lowered c (t.field q x) = p.read (p.field q (lowered c x))
   lowered c (t.paren q x) = lowered c x
   lowered c (t.call n xs) = p.call n.place (function c n.text) (arguments c (arrays_of c n.text) xs)
-  lowered c (t.builtin q which xs) = built c q which xs (lowered_list c xs)
+  lowered c (t.builtin q which xs) = built q which xs (lowered_list c xs)
   lowered c (t.bare_length q) = p.measure m.Length (p.read (whole_record q))
   lowered c (t.split q x n y) = p.split q (lowered c x) n.place (variable c n.text) (separator c y)
   lowered c (t.substitute q all x y z) = p.substitute q (extent_of all) (ere_of (constant x) (lowered c x)) (lowered c y) (target_or_record c q z)

@@ -22,7 +22,7 @@ use crate::operators::{
     assign_of, comparison, extent, negated, of_none, of_one, of_three, of_two, record_length,
     signed_of, step,
 };
-use crate::parts::{argument_of, given, join_of, length_of, piped_of, power_of, term_of};
+use crate::parts::{argument_of, given, join_of, piped_of, power_of, term_of};
 use crate::shapes::{bare, constant, first_in, later, start, takes_array};
 use crate::targets::{
     computed_of, constant_of, element_of, field_of, field_separator, record_of, variable_of,
@@ -285,17 +285,16 @@ fn builtin(
     args: &[awk_tree::Expr],
     level: u32,
 ) -> Result<Expr, Memory>
-    ensures { Is (names_in context.now) result (low.built (scope_in context.now) place which (trees_of (map view args.now)) (low.lowered_list (scope_in context.now) (trees_of (map view args.now)))) }
+    ensures { Is (names_in context.now) result (low.built place which (trees_of (map view args.now)) (low.lowered_list (scope_in context.now) (trees_of (map view args.now)))) }
 {
     match which {
         Builtin::Match => located(context, place, args, level),
         Builtin::Sprintf => formatted(context, place, args, level),
         Builtin::Close => called(context, place, Builtin::Close, args, level),
-        Builtin::Fflush => called(context, place, Builtin::Fflush, args, level),
         Builtin::Gsub => Err(AllocError),
         Builtin::Index => called(context, place, Builtin::Index, args, level),
         Builtin::Int => called(context, place, Builtin::Int, args, level),
-        Builtin::Length => length(context, place, args, level),
+        Builtin::Length => called(context, place, Builtin::Length, args, level),
         Builtin::Split => Err(AllocError),
         Builtin::Sub => Err(AllocError),
         Builtin::Substr => called(context, place, Builtin::Substr, args, level),
@@ -317,7 +316,7 @@ fn called(
     ensures { Is (names_in context.now) result (low.called place which (low.lowered_list (scope_in context.now) (trees_of (map view args.now)))) }
 {
     match args {
-        [] => of_none(place, which),
+        [] => of_none(context.alloc, place, which),
         [x] => of_one(place, which, part(context, x, level)),
         [x, y] => {
             let x = part(context, x, level);
@@ -328,23 +327,6 @@ fn called(
             let y = part(context, y, level);
             of_three(place, which, x, y, part(context, z, level))
         }
-        _ => Err(AllocError),
-    }
-}
-
-/// `length ( list )`
-#[cycle(expression)]
-fn length(
-    context: &Context<'_>,
-    place: Place,
-    args: &[awk_tree::Expr],
-    level: u32,
-) -> Result<Expr, Memory>
-    ensures { Is (names_in context.now) result (low.length_of (scope_in context.now) place (trees_of (map view args.now)) (low.lowered_list (scope_in context.now) (trees_of (map view args.now)))) }
-{
-    match args {
-        [] => record_length(context.alloc, place),
-        [x] => length_of(context, bare(x), part(context, x, level)),
         _ => Err(AllocError),
     }
 }

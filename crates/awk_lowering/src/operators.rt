@@ -122,11 +122,11 @@ pub fn record_length(alloc: Global, place: Place) -> Result<Expr, Memory>
 }
 
 /// A built-in function without arguments
-pub fn of_none(place: Place, which: Builtin) -> Result<Expr, Memory>
+pub fn of_none(alloc: Global, place: Place, which: Builtin) -> Result<Expr, Memory>
     ensures { (t : Names) → Is t result (spec.of_none place which) }
 {
     match which {
-        Builtin::Fflush => Ok(Expr::Number(0)),
+        Builtin::Length => record_length(alloc, place),
         _ => Err(AllocError),
     }
 }
@@ -138,8 +138,8 @@ pub fn of_one(place: Place, which: Builtin, x: Result<Boxed<Expr>, Memory>) -> R
     let x = x?;
     match which {
         Builtin::Close => Ok(Expr::Close(place, x)),
-        Builtin::Fflush => Ok(Expr::Flush(x)),
         Builtin::Int => Ok(Expr::Int(place, x)),
+        Builtin::Length => Ok(Expr::Measure(Measure::Length, x)),
         Builtin::System => Ok(Expr::System(place, x)),
         Builtin::Tolower => Ok(Expr::Measure(Measure::Tolower, x)),
         Builtin::Toupper => Ok(Expr::Measure(Measure::Toupper, x)),

@@ -1,20 +1,20 @@
 // Later parts of chains and lists, and what is handed to functions, of parts that are made already.
 
-ghost use Rattle.std.specs.Prelude.{◌≡◌, IfOk, Some, option_copied, option_map};
+ghost use Rattle.std.specs.Prelude.{◌≡◌, IfOk, Some, option_copied};
 ghost use Rattle.awk_lowering.specs.Forms as spec;
 ghost use Rattle.awk_lowering.specs.Lowered as low;
 ghost use Rattle.awk_lowering.specs.Made.{Is, IsPerhaps, IsTarget, IsArgument, IsPiped, or_value, names_in, scope_in};
 ghost use Rattle.awk_program.specs.Program as p;
 ghost use Rattle.awk_program.specs.Program.{Arguments, Expression, Reference};
-ghost use Rattle.awk_program.specs.View.{Names, variable_of, view_term, view_joined};
+ghost use Rattle.awk_program.specs.View.{Names, view_term, view_joined};
 ghost use Rattle.awk_program.specs.declared.operators.Operator.TheVariants as o;
 ghost use Rattle.awk_text.specs.declared.place.Place as spot;
 
 use crate::kept::{both, either, only};
 use crate::names::{Context, is_array, variable};
-use crate::nodes::{chain_of, measure_of};
+use crate::nodes::chain_of;
 use crate::operators::operator;
-use awk_program::{Argument, Expr, Joined, Measure, Operator, Piped, Target, Term, Variable};
+use awk_program::{Argument, Expr, Joined, Operator, Piped, Target, Term};
 use awk_text::Memory;
 use awk_text::place::Place;
 use awk_tree::{Arithmetic, Name};
@@ -131,43 +131,6 @@ pub fn argument_of(
     match name {
         None => value_of(value),
         Some(n) => either(by_name(context, takes_array, n), value_of(value)),
-    }
-}
-
-/// The variable of this name, where it is an array.
-fn array_named(context: &Context<'_>, text: &[u8]) -> Result<Option<Variable>, Memory>
-    ensures { IfOk result (λ found. option_map (variable_of (names_in context.now)) found ≡ low.array_named (scope_in context.now) text.now) }
-{
-    if is_array(context, text) {
-        let v = variable(context, text)?;
-        Ok(Some(v))
-    } else {
-        Ok(None)
-    }
-}
-
-/// The array that a name by itself is.
-fn array_of(context: &Context<'_>, name: Option<&Name>) -> Result<Option<Variable>, Memory>
-    ensures { IfOk result (λ found. option_map (variable_of (names_in context.now)) found ≡ low.array_of (scope_in context.now) (option_copied name.entry)) }
-{
-    match name {
-        None => Ok(None),
-        Some(n) => array_named(context, n.text.bytes()),
-    }
-}
-
-/// `length` of a name by itself, or of this value
-pub fn length_of(
-    context: &Context<'_>,
-    name: Option<&Name>,
-    value: Result<Boxed<Expr>, Memory>,
-) -> Result<Expr, Memory>
-    ensures { (a : Expression) → Is (names_in context.now) value a → Is (names_in context.now) result (low.counted_or (low.array_of (scope_in context.now) (option_copied name.entry)) a) }
-{
-    match array_of(context, name) {
-        Ok(Some(v)) => Ok(Expr::Count(v)),
-        Ok(None) => measure_of(Measure::Length, value),
-        Err(refused) => Err(refused),
     }
 }
 

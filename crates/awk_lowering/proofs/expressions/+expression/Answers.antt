@@ -206,10 +206,6 @@ pub builtin-returns-in-Close : goal.builtin-returns-in-Close
 builtin-returns-in-Close t c =
     rw c.in-Close.is c.called.ensures
 
-pub builtin-returns-in-Fflush : goal.builtin-returns-in-Fflush
-builtin-returns-in-Fflush t c =
-    rw c.in-Fflush.is c.called-in-Fflush.ensures
-
 pub builtin-returns-in-Index : goal.builtin-returns-in-Index
 builtin-returns-in-Index t c =
     rw c.in-Index.is c.called-in-Index.ensures
@@ -220,7 +216,7 @@ builtin-returns-in-Int t c =
 
 pub builtin-returns-in-Length : goal.builtin-returns-in-Length
 builtin-returns-in-Length t c =
-    rw c.in-Length.is c.length.ensures
+    rw c.in-Length.is c.called-in-Length.ensures
 
 pub builtin-returns-in-Substr : goal.builtin-returns-in-Substr
 builtin-returns-in-Substr t c =
@@ -253,14 +249,6 @@ called-returns-in-len2 t c =
 pub called-returns-in-len3 : goal.called-returns-in-len3
 called-returns-in-len3 t c =
     rw (just_three c.args.args.now c.x-item-then-args-lt4.result c.y-item-then-args-lt4.result c.z-item.result c.in-len3.len_at_least c.in-len3.len_below c.x-item-then-args-lt4.is c.y-item-then-args-lt4.is c.z-item.is) (c.of_three.ensures _ _ _ _ c.part-x-in-len3.ensures c.part-y.ensures c.part-in-len3.ensures)
-
-pub length-returns-in-empty : goal.length-returns-in-empty
-length-returns-in-empty t c =
-    rw (none_left c.args.args.now c.in-empty.len_below) (c.record_length.ensures _)
-
-pub length-returns-in-len1 : goal.length-returns-in-len1
-length-returns-in-len1 t c =
-    rw (just_one c.args.args.now c.x-item.result c.in-len1.len_at_least c.in-len1.len_below c.x-item.is, ← c.bare.ensures) (c.length_of.ensures _ c.part.ensures)
 
 pub located-returns-in-len2 : goal.located-returns-in-len2
 located-returns-in-len2 t c =

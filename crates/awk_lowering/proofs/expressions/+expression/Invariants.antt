@@ -73,9 +73,6 @@ decreases-call l = 4 + 16 * l.level
 abbrev pub decreases-called : goal.decreases-called
 decreases-called l = 2 + 16 * l.level
 
-abbrev pub decreases-length : goal.decreases-length
-decreases-length l = 2 + 16 * l.level
-
 abbrev pub decreases-located : goal.decreases-located
 decreases-located l = 3 + 16 * l.level
 

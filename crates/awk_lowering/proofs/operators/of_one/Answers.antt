@@ -1,5 +1,5 @@
 use Rattle.std.proofs.Common.{rules, refl}
-use Rattle.awk_program.proofs.Views.{view-Close, view-Flush, view-Int, view-Measure, view-System}
+use Rattle.awk_program.proofs.Views.{view-Close, view-Int, view-Measure, view-System}
 use Rattle.awk_lowering.proofs.operators.of_one.Goals as goal
 
 pub returns-in_err-x : goal.returns-in_err-x
@@ -11,8 +11,8 @@ returns-in-Close c = λ t a h. let p = rw c.in_ok-x.was at h in rw (c.in-Close.i
 pub returns-in-Int : goal.returns-in-Int
 returns-in-Int c = λ t a h. let p = rw c.in_ok-x.was at h in rw (c.in-Int.is, view-Int, p) refl
 
-pub returns-in-Fflush : goal.returns-in-Fflush
-returns-in-Fflush c = λ t a h. let p = rw c.in_ok-x.was at h in rw (c.in-Fflush.is, view-Flush, p) refl
+pub returns-in-Length : goal.returns-in-Length
+returns-in-Length c = λ t a h. let p = rw c.in_ok-x.was at h in rw (c.in-Length.is, view-Measure, p) refl
 
 pub returns-in-System : goal.returns-in-System
 returns-in-System c = λ t a h. let p = rw c.in_ok-x.was at h in rw (c.in-System.is, view-System, p) refl
