@@ -67,7 +67,7 @@ abbrev mutual
   value (p.getline_file place r x) = reading place (constant x) ++ (target r ++ value x)
   value (p.pipe x xs) = value x ++ pipes (constant x) xs
   value (p.measure how x) = value x
-  value (p.count a) = []
+  value (p.count array) = []
   value (p.int place x) = value x
   value (p.index x y) = value x ++ value y
   value (p.substr_from place x y) = value x ++ value y
