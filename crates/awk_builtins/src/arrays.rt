@@ -18,7 +18,7 @@ use awk_text::value::Value;
 pub fn count(store: &Store, array: Variable) -> Result<Value, Halt>
     ensures { (g : Given) (t : Table) → Acts g (At (Value_of (p.count (variable_of (names_in g) array))) []) give (store.now, t) result (store.now, t) }
 {
-    match i64::try_from(store.count(array)) {
+    match i64::try_from(store.element_count(array)) {
         Ok(count) => Ok(Value::Num(count)),
         Err(_) => Err(Halt::Memory),
     }

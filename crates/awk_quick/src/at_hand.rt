@@ -152,7 +152,7 @@ fn count_at_hand(store: &Store, e: &Expr) -> Option<i64>
     let Expr::Count(array) = e else {
         return None;
     };
-    i64::try_from(store.count(*array)).ok()
+    i64::try_from(store.element_count(*array)).ok()
 }
 
 /// The value of what is read, where to read it changes nothing.

@@ -182,7 +182,7 @@ impl Store {
     }
 
     /// How many elements there are. Takes no memory.
-    pub fn count(&self, name: Variable) -> usize
+    pub fn element_count(&self, name: Variable) -> usize
         ensures { result ≡ length (array self.now name) }
     {
         match self.array_at(self.reference(name)) {
