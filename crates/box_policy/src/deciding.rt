@@ -87,7 +87,7 @@ fn pattern_fits(target: Target<'_>, pattern: &[u8]) -> bool
     }
 }
 
-fn speaks(target: Target<'_>, rule: &Rule, given: bool) -> bool
+pub(crate) fn speaks(target: Target<'_>, rule: &Rule, given: bool) -> bool
     requires short { length rule.now.pattern ≤ 4096 }
     ensures { (base : List ℕ) (kind : KindOf) (subject : List ℕ) → IsTarget base kind subject target.entry →
         result ≡ speaks base rule.now kind subject given }

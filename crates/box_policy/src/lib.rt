@@ -4,6 +4,7 @@
 mod counting;
 mod deciding;
 pub mod error;
+pub mod exact;
 mod index;
 mod matching;
 mod names;
@@ -11,4 +12,5 @@ pub mod path;
 pub mod policy;
 mod reading;
 mod table;
+pub mod telling;
 mod tokens;
