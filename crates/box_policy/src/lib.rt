@@ -4,6 +4,7 @@
 mod counting;
 mod deciding;
 pub mod error;
+mod in_turn;
 mod index;
 mod matching;
 mod names;
