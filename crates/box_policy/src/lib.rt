@@ -5,6 +5,7 @@ mod counting;
 mod deciding;
 pub mod error;
 pub mod exact;
+mod in_turn;
 mod index;
 mod matching;
 mod names;
