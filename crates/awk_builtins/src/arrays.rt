@@ -7,7 +7,7 @@ ghost use Rattle.awk_store.specs.Acts.{Acts};
 ghost use Rattle.awk_store.specs.Wholes.{names_in};
 ghost use Rattle.awk_streams.specs.Tables.{Table};
 ghost use Rattle.awk_streams.specs.Tasks.{goes_on};
-ghost use Rattle.std.specs.Prelude.{Ok, [], tt};
+ghost use Rattle.std.specs.Prelude.{Ok, []};
 
 use awk_program::Variable;
 use awk_store::Store;

@@ -152,7 +152,10 @@ fn count_at_hand(store: &Store, e: &Expr) -> Option<i64>
     let Expr::Count(array) = e else {
         return None;
     };
-    i64::try_from(store.element_count(*array)).ok()
+    match i64::try_from(store.element_count(*array)) {
+        Ok(count) => Some(count),
+        Err(_) => None,
+    }
 }
 
 /// The value of what is read, where to read it changes nothing.

@@ -1,4 +1,4 @@
-use Rattle.awk_builtins.proofs.Arrays.{empties_so}
+use Rattle.awk_builtins.proofs.WholeArrays.{empties_so}
 use Rattle.awk_builtins.proofs.arrays.remove_all.Goals as goal
 
 pub returns : goal.returns

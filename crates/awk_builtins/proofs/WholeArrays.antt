@@ -1,18 +1,13 @@
--- Arrays as wholes: how many elements one has, and all of them removed; and whether an output is open.
-use Rattle.std.proofs.Common.{◌≡◌, refl, sym, ap, subst, ◌∙◌, List, [], ◌∷◌, length, ℤ}
-use Rattle.std.specs.Prelude.{Bool, Ok, pos}
-use Rattle.awk_text.specs.declared.value.Value.{Value}
+-- Arrays as wholes: how many elements one has, and all of them removed.
+use Rattle.std.proofs.Common.{◌≡◌, sym, ap, subst, ◌∙◌, [], length, ℤ}
+use Rattle.std.specs.Prelude.{Ok, pos}
 use Rattle.awk_text.specs.declared.value.Value.TheVariants as v
-use Rattle.awk_text.specs.Values.{text_of}
 use Rattle.awk_program.specs.Program as p
-use Rattle.awk_program.specs.Program.{Expression}
 use Rattle.awk_program.specs.View.{variable_of}
 use Rattle.awk_program.specs.declared.variables.Variable.{Variable}
-use Rattle.awk_machine.specs.Flushing.{flushed, has_output}
 use Rattle.awk_machine.specs.Pieces.{At, Doing, Value_of, Goes, give}
 use Rattle.awk_machine.specs.State.{Given}
 use Rattle.awk_machine.specs.Streams.{seen}
-use Rattle.awk_streams.specs.Tables.{open_of}
 use Rattle.awk_streams.specs.Tasks.{goes_on}
 use Rattle.awk_store.specs.Acts.{Acts, Passes}
 use Rattle.awk_store.specs.Changes as changes
@@ -36,9 +31,3 @@ module _ (g : Given) (w : Whole) where
   empties_so x new same =
       subst (λ n. Acts g (At (Doing (p.delete_all (variable_of (names_in g) x))) []) goes_on w (Ok (tt {0})) (n, w.1)) (sym same)
       (done (alters (array_used g w x []) (at_rest _ w) (λ k hid c a. (hid, array_agrees g w x [] hid c a, ap (λ s. Goes k s) (array-set g w x [] hid c a)))))
-
-  -- ---- fflush
-
-  pub flushes_so : (x : Expression) (val : Value) (b : Bool) → b ≡ has_output (text_of val) (open_of w.1) → Acts g (At (Value_of (p.flush x)) (val ∷ [])) give w (Ok (flushed b)) w
-  flushes_so x val b is = done (moves (at_rest _ w) (λ k hid c a.
-      ap (λ streams. Goes (give (flushed (has_output (text_of val) streams)) k) (seen (base g w hid) c)) a.tells.streams ∙ ap (λ d. Goes (give (flushed d) k) (seen (base g w hid) c)) (sym is)))
