@@ -4,7 +4,6 @@
 mod counting;
 mod deciding;
 pub mod error;
-mod in_turn;
 mod index;
 mod matching;
 mod names;
