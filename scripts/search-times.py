@@ -52,6 +52,8 @@ def run(command, folder, case, size, limit, rounds):
 def one(command, folder, case, size, limit):
     """The seconds of one operation, or infinity."""
     start = min(run(command, folder, case, size, limit, 0) for _ in range(3))
+    if start == math.inf:
+        return start
     rounds = 1
     while True:
         took = run(command, folder, case, size, limit, rounds) - start

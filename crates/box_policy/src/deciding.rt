@@ -66,7 +66,7 @@ impl<'a> Target<'a> {
     }
 }
 
-pub(crate) fn decided(effect: Effect, number: u32) -> Decision
+fn decided(effect: Effect, number: u32) -> Decision
     ensures { result ≡ decided effect number }
 {
     match effect {
@@ -98,7 +98,7 @@ pub(crate) fn speaks(target: Target<'_>, rule: &Rule, given: bool) -> bool
 }
 
 /// Whether the rule is looked at and speaks.
-pub(crate) fn decides(sight: Sight, target: Target<'_>, rule: &Rule, given: bool) -> bool
+fn decides(sight: Sight, target: Target<'_>, rule: &Rule, given: bool) -> bool
     requires short { length rule.now.pattern ≤ 4096 }
     ensures { (base : List ℕ) (kind : KindOf) (subject : List ℕ) → IsTarget base kind subject target.entry →
         result ≡ (sees sight rule.now && speaks base rule.now kind subject given) }

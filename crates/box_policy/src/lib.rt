@@ -5,7 +5,6 @@ mod counting;
 mod deciding;
 pub mod error;
 pub mod exact;
-mod in_turn;
 mod index;
 mod matching;
 mod names;

@@ -13,7 +13,6 @@ ghost use Rattle.box_policy.specs.Written.{Writes, Written};
 use crate::counting::{clear_in, note_in, rule_at};
 use crate::deciding::{Sight, Target, judged};
 use crate::error::PolicyError;
-use crate::in_turn::{FEW_RULES, judged_in_turn};
 use crate::index::Index;
 use crate::names::{can_resolve, is_text};
 use crate::reading::{read_document, read_rules, read_table};
@@ -194,12 +193,7 @@ impl Policy {
             return Decision::NoRule;
         }
         let target = Target::of(base, kind, subject);
-        let rules = self.rules.as_slice();
-        if rules.len() <= FEW_RULES {
-            judged_in_turn(rules, sight, target, given)
-        } else {
-            judged(&self.index, rules, sight, target, given)
-        }
+        judged(&self.index, self.rules.as_slice(), sight, target, given)
     }
 
     /// Counts one more request that the rule of this number has allowed. Nothing changes where the rule
