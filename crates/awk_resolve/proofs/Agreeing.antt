@@ -86,7 +86,7 @@ shown parts a kind (k.subscripted p n c d) = inl (n.place, k.as_array p n c d)
 shown parts a kind (k.measured_function p n g ps c d def h) = inl (g.place, k.as_function g ps def)
 shown parts a kind (k.handed_function r f args n g ps c d def h) = inl (g.place, k.as_function g ps def)
 shown parts a kind (k.handed r f args i n q kind2 c d tk forced) = inl (n.place, k.as_argument r f args n c (at_found args i (Some n) d))
-shown parts a kind (k.measured r f args i n q c d (g, ps, def, same, place) asked forced) = inl (q.place, rw same at (k.as_parameter g ps q def (at_found ps i q place)))
+shown parts a kind (k.measured r f args i n q c d (g, ps, def, same, place) asks forced) = inl (q.place, rw same at (k.as_parameter g ps q def (at_found ps i q place)))
 
 no_own_array : (x : Text) → Contains scalars x → Contains arrays x → ⊥
 no_own_array x c d = by (contains_cases (codes "ARGV") (codes "ENVIRON" ∷ []) x d)

@@ -40,7 +40,7 @@ function_only parts a kind e (k.measured_function p n g ps c d def h) = absurd (
 function_only parts a kind e (k.handed_function r f args n g ps c d def h) = absurd (cc)
 function_only parts a kind e (k.handed r f args i n q kind2 c d tk forced) =
     let (g, ps, def, same) = function_only parts (parameter f.text q.text) kind e forced in absurd (cc)
-function_only parts a kind e (k.measured r f args i n q c d tk asked forced) = absurd (cc)
+function_only parts a kind e (k.measured r f args i n q c d tk asks forced) = absurd (cc)
 
 global_text : (x y : Text) → global x ≡ global y → x ≡ y
 global_text x y e = cc

@@ -12,7 +12,7 @@ use Rattle.awk_tree.specs.declared.operators.Builtin.{Builtin}
 use Rattle.awk_tree.specs.declared.operators.Builtin.TheVariants as b
 use Rattle.awk_tree.specs.Canon.{bare, bare_all, bare_perhaps, bare_terms, bare_pipes, bare_name, bare_member, bare_redirection, bare_statement, bare_statements, bare_condition, bare_entry}
 use Rattle.awk_resolve.specs.declared.mention.Mention.{Mention}
-use Rattle.awk_resolve.specs.declared.mention.Mention.TheVariants.{Scalar, Array, Measured, Return}
+use Rattle.awk_resolve.specs.declared.mention.Mention.TheVariants.{Scalar, Array, Return}
 use Rattle.awk_resolve.specs.declared.mention.Role.TheVariants as role
 use Rattle.awk_resolve.specs.Mentions as m
 use Rattle.awk_resolve.specs.Mentions.{mentions, each, arguments, perhaps, terms, pipes, said, each_said, part}

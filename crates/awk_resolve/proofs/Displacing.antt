@@ -273,14 +273,14 @@ forced_back ps n k (kinds.handed r f args i x q kind c a t h) =
     (kinds.handed s f' given i y q' kind c' (a' ∙ ap Some v) (subst (λ g. Takes ps g i q') (sym (text_is f' f j)) t')
     (subst (λ g. Forced ps (kinds.parameter g q'.text) kind) (sym (text_is f' f j))
     (subst (λ g. Forced ps (kinds.parameter f.text g) kind) (sym (text_is q' q w)) (forced_back ps (kinds.parameter f.text q.text) kind h))))
-forced_back ps n k (kinds.measured r f args i x q c a t asked h) =
+forced_back ps n k (kinds.measured r f args i x q c a t asks h) =
     let (s, f', given, c', b, j, l) = calls_back ps r f args c in
     let (o, a', u) = get_map (option_map bare_name) given i (Some x) (ap (λ w. slice_get w i) l ∙ a) in
     let (y, v, z) = some_back o x u in
     let (q', t', w) = takes_back ps f.text i q t in
     subst (λ n'. Forced ps n' kinds.array) (sym (parameter_is f q f' q' j w))
     (kinds.measured s f' given i y q' c' (a' ∙ ap Some v) (subst (λ g. Takes ps g i q') (sym (text_is f' f j)) t')
-    (subst (λ n'. Measures ps n') (parameter_is f q f' q' j w) (measures_back ps (kinds.parameter f.text q.text) asked))
+    (subst (λ n'. Measures ps n') (parameter_is f q f' q' j w) (measures_back ps (kinds.parameter f.text q.text) asks))
     (subst (λ n'. Forced ps n' kinds.array) (sym (meant_is r s x y b z)) (forced_back ps (meant r x.text) kinds.array h)))
 
 agrees_bare : (ps : List Part) → Agrees ps → Agrees (map bare_part ps)

@@ -187,7 +187,7 @@ module _ (parts : List Part) (well : (place : Place) → Misdefined parts place 
   forced_leads kind p f args i x q c d at2 tk forced = k.handed p.role f args i x q kind (p, c, refl, d) at2 tk forced
 
   measures_lead : Leads (Measures parts)
-  measures_lead p f args i x q c d at2 tk asked = k.handed_on p.role f args i x q (p, c, refl, d) at2 tk asked
+  measures_lead p f args i x q c d at2 tk asks = k.handed_on p.role f args i x q (p, c, refl, d) at2 tk asks
 
   linked_right : (q n : ℕ) → Linked table q n → Right (Handed q n)
   linked_right q n h = elim (linked_only us q n (replicate t.count []) h) [ inl none ↦ absurd (no_links t.count q n none) | inr c ↦ all_right (Handed q n) c ]
@@ -211,11 +211,11 @@ module _ (parts : List Part) (well : (place : Place) → Misdefined parts place 
 
   -- what is handed to a measured number makes that one an array
   back_right : (q n : ℕ) → Right (Handed q n) → Holds (Measures parts) q → Means k.array n → Means k.array q
-  back_right q n (p, f, args, i, x, c, d, at2, par, there) (a, is, asked) (b, is2, forced) =
+  back_right q n (p, f, args, i, x, c, d, at2, par, there) (a, is, asks) (b, is2, forced) =
       let (y, takes_it, numbered) = parameter_place f.text i q par in
       let same = (injective parts well).one a (parameter f.text y.text) q is numbered in
       let same2 = (injective parts well).one b (meant p.role x.text) n is2 (named p x.text n c there) in
-      (parameter f.text y.text, numbered, k.measured p.role f args i x y (p, c, refl, d) at2 takes_it (rw same at asked) (rw same2 at forced))
+      (parameter f.text y.text, numbered, k.measured p.role f args i x y (p, c, refl, d) at2 takes_it (rw same at asks) (rw same2 at forced))
 
   pub arrays_mean : (marks : List Bool) → Marks (u.measures us) table marks → (n : ℕ) → Reached (u.arrays us) (u.with_back_links marks us table) n → Means k.array n
   arrays_mean marks measured n (seed n2 inside c) = all_right (Array n) (arrays_sound us n c)
@@ -315,8 +315,8 @@ module _ (parts : List Part) (well : (place : Place) → Misdefined parts place 
       let (n, e) = known parts well p (said.Measured x) x c d refl in
       starts_with (u.measures us) table table_length (meant p.role x.text) n (named p x.text n c e)
       (measures_have us n (in_parts p (said.Measured x) (Measured n) c d (Contains-append_right (u.function t p.role x.text) _ (Measured n) (measured_in p.role x.text n e))))
-  measures_reached a (k.handed_on r f args i x q (p, c, role_is, d) at2 tk asked) =
-      let got = from_link (u.measures us) table table_length (λ n a h. h) p f args i x q c d at2 tk (measures_reached (parameter f.text q.text) asked) in
+  measures_reached a (k.handed_on r f args i x q (p, c, role_is, d) at2 tk asks) =
+      let got = from_link (u.measures us) table table_length (λ n a h. h) p f args i x q c d at2 tk (measures_reached (parameter f.text q.text) asks) in
       rw role_is at got
 
   pub scalars_reached : (a : Named) (kind : Kind) → kind ≡ k.scalar → Forced parts a kind → Gets (u.scalars us) table a
@@ -334,7 +334,7 @@ module _ (parts : List Part) (well : (place : Place) → Misdefined parts place 
   scalars_reached a kind is (k.handed r f args i x q kind2 (p, c, role_is, d) at2 tk forced) =
       let got = from_link (u.scalars us) table table_length (λ n a h. h) p f args i x q c d at2 tk (scalars_reached (parameter f.text q.text) kind is forced) in
       rw role_is at got
-  scalars_reached a kind is (k.measured r f args i x q c at2 tk asked forced) = absurd (cc)
+  scalars_reached a kind is (k.measured r f args i x q c at2 tk asks forced) = absurd (cc)
 
   module _ (marks : List Bool) (measured : Marks (u.measures us) table marks) where
     abbrev back : List (List ℕ)
@@ -348,10 +348,10 @@ module _ (parts : List Part) (well : (place : Place) → Misdefined parts place 
 
     from_back : (p : Part) (f : Name) (args : List (Option Name)) (i : ℕ) (x q : Name) → Contains parts p → Contains p.mentions (said.Call f args) → slice_get args i ≡ Some (Some x)
         → Takes parts f.text i q → Measures parts (parameter f.text q.text) → Gets (u.arrays us) back (meant p.role x.text) → Gets (u.arrays us) back (parameter f.text q.text)
-    from_back p f args i x q c d at2 tk asked (b, numbered_b, there) =
+    from_back p f args i x q c d at2 tk asks (b, numbered_b, there) =
         let (n, a, numbered, meaning, use_there) = handing p f args i x q c d at2 tk in
         let same : a ≡ b = some_one _ a b meaning numbered_b in
-        let (m, numbered_m, reached_m) = measures_reached (parameter f.text q.text) asked in
+        let (m, numbered_m, reached_m) = measures_reached (parameter f.text q.text) asks in
         let same2 : m ≡ n = some_one _ m n numbered_m numbered in
         let marked : slice_get marks n ≡ Some true = rw same2 at ((measured m).1 reached_m) in
         let (ns, e, g) = back_has marks us n a table (inside table table_length (meant p.role x.text) a meaning) marked use_there in
@@ -373,6 +373,6 @@ module _ (parts : List Part) (well : (place : Place) → Misdefined parts place 
     arrays_reached a kind is (k.handed r f args i x q kind2 (p, c, role_is, d) at2 tk forced) =
         let got = from_link (u.arrays us) back long_back (λ n a h. back_keeps marks us n a table h) p f args i x q c d at2 tk (arrays_reached (parameter f.text q.text) kind is forced) in
         rw role_is at got
-    arrays_reached a kind is (k.measured r f args i x q (p, c, role_is, d) at2 tk asked forced) =
+    arrays_reached a kind is (k.measured r f args i x q (p, c, role_is, d) at2 tk asks forced) =
         let far = arrays_reached (meant r x.text) k.array refl forced in
-        from_back p f args i x q c d at2 tk asked (rw (← role_is) at far)
+        from_back p f args i x q c d at2 tk asks (rw (← role_is) at far)

@@ -89,8 +89,9 @@ fn alone(xs: &[Expr]) -> Option<&Name>
     ensures { option_copied result ≡ spec.alone (trees_of (map view xs.now)) }
 {
     match xs {
+        [] => None,
         [x] => bare(x),
-        _ => None,
+        [_, _, ..] => None,
     }
 }
 

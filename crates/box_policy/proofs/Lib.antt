@@ -15,6 +15,7 @@ pub mod NamesLemmas
 pub mod OutlookLemmas
 pub mod PlainLemmas
 pub mod TablesLemmas
+pub mod TellingLemmas
 pub mod TextLemmas
 pub mod TreeLemmas
 pub mod WalksLemmas

@@ -16,11 +16,13 @@ pub mod Short
 pub mod Rulebook
 pub mod Counts
 pub mod Decisions
+pub mod Telling
 pub mod Shelves
 pub mod Targets
 pub mod Tree
 pub mod Words
 pub mod Wellformed
+pub mod Exact
 pub mod Refusals
 pub mod Written
 pub mod Readings

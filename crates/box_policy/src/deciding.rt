@@ -66,7 +66,7 @@ impl<'a> Target<'a> {
     }
 }
 
-fn decided(effect: Effect, number: u32) -> Decision
+pub(crate) fn decided(effect: Effect, number: u32) -> Decision
     ensures { result ≡ decided effect number }
 {
     match effect {
@@ -87,7 +87,7 @@ fn pattern_fits(target: Target<'_>, pattern: &[u8]) -> bool
     }
 }
 
-fn speaks(target: Target<'_>, rule: &Rule, given: bool) -> bool
+pub(crate) fn speaks(target: Target<'_>, rule: &Rule, given: bool) -> bool
     requires short { length rule.now.pattern ≤ 4096 }
     ensures { (base : List ℕ) (kind : KindOf) (subject : List ℕ) → IsTarget base kind subject target.entry →
         result ≡ speaks base rule.now kind subject given }
@@ -98,7 +98,7 @@ fn speaks(target: Target<'_>, rule: &Rule, given: bool) -> bool
 }
 
 /// Whether the rule is looked at and speaks.
-fn decides(sight: Sight, target: Target<'_>, rule: &Rule, given: bool) -> bool
+pub(crate) fn decides(sight: Sight, target: Target<'_>, rule: &Rule, given: bool) -> bool
     requires short { length rule.now.pattern ≤ 4096 }
     ensures { (base : List ℕ) (kind : KindOf) (subject : List ℕ) → IsTarget base kind subject target.entry →
         result ≡ (sees sight rule.now && speaks base rule.now kind subject given) }

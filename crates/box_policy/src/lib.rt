@@ -4,6 +4,8 @@
 mod counting;
 mod deciding;
 pub mod error;
+pub mod exact;
+mod in_turn;
 mod index;
 mod matching;
 mod names;
@@ -11,4 +13,5 @@ pub mod path;
 pub mod policy;
 mod reading;
 mod table;
+pub mod telling;
 mod tokens;

@@ -186,7 +186,7 @@ fn found_text(sort: Sort, pattern: &[u8], text: &[u8]) -> bool
 }
 
 /// Whether each byte of the components stands for itself.
-fn are_plain(pattern: &[u8]) -> bool
+pub(crate) fn are_plain(pattern: &[u8]) -> bool
     ensures { result ≡ list_all (is_plain_pattern Component) (names pattern.now) }
 {
     let mut rest = pattern;

@@ -8,7 +8,7 @@ ghost use Rattle.box_policy.specs.NamesLeft.{names_left};
 
 const SLASH: u8 = b'/';
 
-fn is_utf8(bytes: &[u8]) -> bool
+pub(crate) fn is_utf8(bytes: &[u8]) -> bool
     ensures { result ≡ is_utf8 bytes.now }
 {
     std::str::from_utf8(bytes).is_ok()

@@ -5,6 +5,7 @@ ghost use Rattle.box_policy.specs.Counts.{cleared, is_used_up_at, noted, used};
 ghost use Rattle.box_policy.specs.Decisions.{decision, decision_from, outlook, outlook_by};
 ghost use Rattle.box_policy.specs.Files.{is_of_files, speaks_of_files};
 ghost use Rattle.box_policy.specs.Fits.{is_readable};
+ghost use Rattle.box_policy.specs.Short.{are_short};
 ghost use Rattle.box_policy.specs.Refusals.{IsRefused, IsRefusedBy, refusal};
 ghost use Rattle.box_policy.specs.Targets.{sees};
 ghost use Rattle.box_policy.specs.Written.{Writes, Written};
@@ -12,6 +13,7 @@ ghost use Rattle.box_policy.specs.Written.{Writes, Written};
 use crate::counting::{clear_in, note_in, rule_at};
 use crate::deciding::{Sight, Target, judged};
 use crate::error::PolicyError;
+use crate::in_turn::{FEW_RULES, judged_in_turn};
 use crate::index::Index;
 use crate::names::{can_resolve, is_text};
 use crate::reading::{read_document, read_rules, read_table};
@@ -192,7 +194,12 @@ impl Policy {
             return Decision::NoRule;
         }
         let target = Target::of(base, kind, subject);
-        judged(&self.index, self.rules.as_slice(), sight, target, given)
+        let rules = self.rules.as_slice();
+        if rules.len() <= FEW_RULES {
+            judged_in_turn(rules, sight, target, given)
+        } else {
+            judged(&self.index, rules, sight, target, given)
+        }
     }
 
     /// Counts one more request that the rule of this number has allowed. Nothing changes where the rule
@@ -238,6 +245,15 @@ impl Policy {
         self.base.bytes()
     }
 
+    /// The rules in their order. Takes no memory.
+    pub fn rules(&self) -> &[Rule]
+        ensures rules { result.now ≡ self.now.rules }
+        ensures few { length result.now ≤ 1024 }
+        ensures short { are_short result.now ≡ true }
+    {
+        self.rules.as_slice()
+    }
+
     /// Whether a rule is of kind read, write or append: whether the policy speaks of files. Takes no
     /// memory.
     pub fn speaks_of_files(&self) -> bool
@@ -264,7 +280,7 @@ pub(crate) fn is_of_files(kind: Kind) -> bool
     }
 }
 
-fn is_readable(base: &[u8], kind: Kind, subject: &[u8]) -> bool
+pub(crate) fn is_readable(base: &[u8], kind: Kind, subject: &[u8]) -> bool
     ensures { result ≡ is_readable base.now kind subject.now }
 {
     match kind {

@@ -339,7 +339,7 @@ fn is_name_pattern(pattern: &[u8]) -> bool
     !pattern.is_empty() && are_names_or_stars(pattern)
 }
 
-fn is_pattern(base: &[u8], kind: Kind, pattern: &[u8]) -> bool
+pub(crate) fn is_pattern(base: &[u8], kind: Kind, pattern: &[u8]) -> bool
     ensures { result ≡ is_pattern base.now kind pattern.now }
 {
     match kind {

@@ -28,7 +28,7 @@ statement-returns-in_ok-array-in-Delete t c =
 
 pub statement-returns-in-DeleteAll : goal.statement-returns-in-DeleteAll
 statement-returns-in-DeleteAll t c =
-    rw (c.in-DeleteAll.is, statement-DeleteAll) c.array.ensures
+    rw (c.in-DeleteAll.is, statement-DeleteAll) c.array-in-DeleteAll.ensures
 
 pub statement-returns-in-Break : goal.statement-returns-in-Break
 statement-returns-in-Break t c =
