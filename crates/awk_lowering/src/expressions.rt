@@ -16,9 +16,9 @@ use crate::constants::{number, pattern, quoted};
 use crate::kept::{boxed, kept, push};
 use crate::names::{Context, arrays_in, arrays_of, function, variable};
 use crate::nodes::{
-    and_of, call_of, chain_of, choose_of, compare_of, concat_of, count_of, getline_file_of, getline_of,
-    group_of, locate_of, match_of, member_of, or_of, pipe_of, read_of, split_of, sprintf_of,
-    step_of, substitute_of,
+    and_of, call_of, chain_of, choose_of, compare_of, concat_of, count_of, getline_file_of,
+    getline_of, group_of, locate_of, match_of, member_of, or_of, pipe_of, read_of, split_of,
+    sprintf_of, step_of, substitute_of,
 };
 use crate::operators::{
     assign_of, comparison, extent, negated, of_none, of_one, of_three, of_two, record_length,

@@ -9,8 +9,8 @@ ghost use Rattle.awk_program.specs.View as code;
 ghost use Rattle.awk_tree.specs.View.{view, view_redirection, view_statement};
 
 use crate::blocks::{
-    block_of, delete_all_of, delete_of, do_of, exit_of, for_in_of, for_of, if_else_of, if_of, nothing, plain_of,
-    print_of, printf_of, redirection_of, return_of, while_of,
+    block_of, delete_all_of, delete_of, do_of, exit_of, for_in_of, for_of, if_else_of, if_of,
+    nothing, plain_of, print_of, printf_of, redirection_of, return_of, while_of,
 };
 use crate::expressions::{list, optional, part};
 use crate::kept::{boxed, kept, push};
