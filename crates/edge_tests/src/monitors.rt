@@ -360,9 +360,11 @@ fn refused_memory_changes_nothing(rt: HostRuntime) -> Result<(), Fail> {
 #[test]
 fn an_allowed_ask_needs_no_memory(rt: HostRuntime) -> Result<(), Fail> {
     let alloc = rt.alloc();
-    let (Ok(policy), Ok(ask), Ok(put)) =
-        (Policy::read(alloc, TWO_WRITES), denied(alloc), put(alloc))
-    else {
+    let (Ok(policy), Ok(ask), Ok(put)) = (
+        Policy::read(alloc, TWO_WRITES),
+        denied(alloc),
+        put(alloc),
+    ) else {
         return Ok(());
     };
     let log = ShortLog {

@@ -50,7 +50,7 @@ CoversWant site w = CoversAt site w.place (subject_of_wish w.wish)
 abbrev pub IsRefusedSite : Rulebook → Site → Type 0
 IsRefusedSite book site =
     IsSome site.text × ((events : List Event) (w : Want) → CoversWant site w → w.given ≡ false →
-        IsSome (denial_after book events w))
+    IsSome (denial_after book events w))
 
 -- so it is with each site of a script that its verdict refuses
 abbrev pub ScriptDenied : Type 0
