@@ -1,4 +1,6 @@
 pub mod AtHand
 pub mod Grown
+pub mod Made
 pub mod Printed
 pub mod Storing
+pub mod Truths

@@ -11,11 +11,13 @@ ghost use Rattle.awk_store.specs.Kept as kept;
 ghost use Rattle.awk_store.specs.Spots.{IsSpotOf, value_of};
 ghost use Rattle.awk_store.specs.Wholes.{Whole, names_in};
 ghost use Rattle.awk_text.specs.Lents.{lent_value};
+ghost use Rattle.awk_text.specs.declared.value.Value.{Value as Val};
 ghost use Rattle.awk_text.specs.declared.value.Value.TheVariants as v;
 ghost use Rattle.std.specs.Prelude.{Err, IfSome, Ok, false, map, ◌≡◌};
 
+use crate::parts::{index_of, length_where, measured_of, part_of};
 use awk_builtins::operators::{compared_lent, compared_numbers, operation};
-use awk_program::{Comparison, Expr, Target, Term, Variable};
+use awk_program::{Comparison, Expr, Measure, Target, Term, Variable};
 use awk_store::{Spot, Store, is_nf};
 use awk_text::lent::{Lent, few_digits};
 use awk_text::octets::Octets;
@@ -215,6 +217,57 @@ fn number_of_target(store: &Store, target: &Target<Expr>, level: u32) -> Option<
     value.number().ok()
 }
 
+/// The value that length, index, substr or int gives for values that are there; the number of elements of an array. A part of a
+/// text is lent as the text is.
+#[cycle(hand)]
+#[inline(never)]
+fn made_at_hand<'a>(store: &'a Store, e: &'a Expr, level: u32) -> Option<Lent<'a>>
+    ensures { IfSome result (λ v. IsThere (λ names. view names e.now) store.now (lent_value v)) }
+{
+    match e {
+        Expr::Measure(how, x) => {
+            let text = at_hand(store, x.get(), level)?;
+            let length = length_where(*how, text)?;
+            Some(Lent::Num(length))
+        }
+        Expr::Index(x, y) => {
+            let text = at_hand(store, x.get(), level)?;
+            let part = at_hand(store, y.get(), level)?;
+            Some(Lent::Num(index_of(text, part)))
+        }
+        Expr::SubstrFrom(_, x, y) => {
+            let text = at_hand(store, x.get(), level)?;
+            let from = number_at_hand(store, y.get(), level)?;
+            part_of(text, from, None)
+        }
+        Expr::Substr(_, x, y, z) => {
+            let text = at_hand(store, x.get(), level)?;
+            let from = number_at_hand(store, y.get(), level)?;
+            let count = number_at_hand(store, z.get(), level)?;
+            part_of(text, from, Some(count))
+        }
+        Expr::Int(_, x) => {
+            let number = number_at_hand(store, x.get(), level)?;
+            Some(Lent::Num(number))
+        }
+        Expr::Count(_) => {
+            let count = count_at_hand(store, e)?;
+            Some(Lent::Num(count))
+        }
+        _ => None,
+    }
+}
+
+/// The number of such a value.
+#[cycle(hand)]
+#[inline(never)]
+fn number_made(store: &Store, e: &Expr, level: u32) -> Option<i64>
+    ensures { IfSome result (λ n. HasNumber (λ names. view names e.now) store.now n) }
+{
+    let value = made_at_hand(store, e, level)?;
+    value.number().ok()
+}
+
 /// The number of an expression's value, where the value is there.
 #[cycle(hand)]
 #[inline(always)]
@@ -230,13 +283,13 @@ pub fn number_at_hand(store: &Store, e: &Expr, level: u32) -> Option<i64>
     if let Expr::Number(number) = e {
         return Some(*number);
     }
-    let Expr::Chain(x, xs) = e else {
-        return count_at_hand(store, e);
-    };
     if level == 0 {
         return None;
     }
-    chain_at_hand(store, x.get(), xs.as_slice(), level - 1)
+    if let Expr::Chain(x, xs) = e {
+        return chain_at_hand(store, x.get(), xs.as_slice(), level - 1);
+    }
+    number_made(store, e, level - 1)
 }
 
 /// The value of an expression, where it is there: to evaluate it changes nothing and meets no fault.
@@ -254,13 +307,12 @@ pub fn at_hand<'a>(store: &'a Store, e: &'a Expr, level: u32) -> Option<Lent<'a>
     if let Expr::Number(number) = e {
         return Some(Lent::Num(*number));
     }
-    let Expr::Chain(x, xs) = e else {
-        let count = count_at_hand(store, e)?;
-        return Some(Lent::Num(count));
-    };
     if level == 0 {
         return None;
     }
+    let Expr::Chain(x, xs) = e else {
+        return made_at_hand(store, e, level - 1);
+    };
     let number = chain_at_hand(store, x.get(), xs.as_slice(), level - 1)?;
     Some(Lent::Num(number))
 }
@@ -312,6 +364,15 @@ fn value_there(alloc: Global, store: &Store, e: &Expr) -> Option<Value>
     owned(alloc, value)
 }
 
+/// What length, tolower or toupper gives for a value that is there. `None` stands for refused memory too.
+#[inline(never)]
+fn measured_there(alloc: Global, store: &Store, how: Measure, x: &Expr) -> Option<Value>
+    ensures { IfSome result (λ v. IsThere (λ names. p.measure how (view names x.now)) store.now v) }
+{
+    let value = at_hand(store, x, MOST_LEVELS)?;
+    measured_of(alloc, how, value)
+}
+
 /// The same. What numbers make is a number, and is not copied on its way.
 #[inline(always)]
 pub fn value_at_hand(alloc: Global, store: &Store, e: &Expr) -> Option<Value>
@@ -321,7 +382,14 @@ pub fn value_at_hand(alloc: Global, store: &Store, e: &Expr) -> Option<Value>
         return Some(Value::Num(number));
     }
     match e {
-        Expr::Read(_) | Expr::Text(_) | Expr::Count(_) => value_there(alloc, store, e),
+        Expr::Measure(how, x) => measured_there(alloc, store, *how, x.get()),
+        Expr::Read(_)
+        | Expr::Text(_)
+        | Expr::Index(_, _)
+        | Expr::SubstrFrom(_, _, _)
+        | Expr::Substr(_, _, _, _)
+        | Expr::Int(_, _)
+        | Expr::Count(_) => value_there(alloc, store, e),
         _ => None,
     }
 }
@@ -384,13 +452,90 @@ fn compared_at_hand(store: &Store, how: Comparison, x: &Expr, y: &Expr) -> Optio
     }
 }
 
-/// Whether an expression is true whose value is there.
+/// Whether the key is in the array, where the key is there; in several arrays it is not looked for.
+fn member_at_hand(store: &Store, x: &Expr, arrays: &[Variable]) -> Option<bool>
+    ensures { IfSome result (λ b. HasTruth (λ names. p.member (view names x.now) (map (variable_of names) arrays.now)) store.now b) }
+{
+    let [array] = arrays else {
+        return None;
+    };
+    let key = at_hand(store, x, MOST_LEVELS)?;
+    let mut digits = Buffer::new();
+    Some(store.contains(*array, key.text(&mut digits)))
+}
+
+/// Whether an expression is true that is no chain of tests, where its value is there.
+#[inline(never)]
+fn part_is_true(store: &Store, e: &Expr) -> Option<bool>
+    ensures { IfSome result (λ b. HasTruth (λ names. view names e.now) store.now b) }
+{
+    match e {
+        Expr::Compare(how, x, y) => compared_at_hand(store, *how, x.get(), y.get()),
+        Expr::In(x, arrays) => member_at_hand(store, x.get(), arrays.as_slice()),
+        Expr::Read(_)
+        | Expr::Number(_)
+        | Expr::Text(_)
+        | Expr::Chain(_, _)
+        | Expr::Measure(_, _)
+        | Expr::Index(_, _)
+        | Expr::SubstrFrom(_, _, _)
+        | Expr::Substr(_, _, _, _)
+        | Expr::Int(_, _)
+        | Expr::Count(_) => {
+            let value = at_hand(store, e, MOST_LEVELS)?;
+            Some(value.truth())
+        }
+        _ => None,
+    }
+}
+
+/// Whether a chain of `&&` is true, where its parts are there as far as they are wanted.
+fn all_are_true(store: &Store, x: &Expr, xs: &[Expr]) -> Option<bool>
+    ensures { IfSome result (λ b. HasTruth (λ names. p.and (view names x.now) (expressions_of (map (view names) xs.now))) store.now b) }
+{
+    let mut last = part_is_true(store, x)?;
+    for y in xs {
+        if !last {
+            return Some(false);
+        }
+        last = part_is_true(store, y)?;
+    }
+    Some(last)
+}
+
+/// Whether a chain of `||` is true, where its parts are there as far as they are wanted.
+fn one_is_true(store: &Store, x: &Expr, xs: &[Expr]) -> Option<bool>
+    ensures { IfSome result (λ b. HasTruth (λ names. p.or (view names x.now) (expressions_of (map (view names) xs.now))) store.now b) }
+{
+    let mut last = part_is_true(store, x)?;
+    for y in xs {
+        if last {
+            return Some(true);
+        }
+        last = part_is_true(store, y)?;
+    }
+    Some(last)
+}
+
+/// Whether `! operand` is true, where the operand is there.
+fn is_untrue(store: &Store, x: &Expr) -> Option<bool>
+    ensures { IfSome result (λ b. HasTruth (λ names. p.not (view names x.now)) store.now b) }
+{
+    let holds = part_is_true(store, x)?;
+    Some(!holds)
+}
+
+/// Whether an expression is true whose value is there, or whose parts' values are.
 #[inline(never)]
 fn truth_there(store: &Store, e: &Expr) -> Option<bool>
     ensures { IfSome result (λ b. HasTruth (λ names. view names e.now) store.now b) }
 {
-    let value = at_hand(store, e, MOST_LEVELS)?;
-    Some(value.truth())
+    match e {
+        Expr::And(x, xs) => all_are_true(store, x.get(), xs.as_slice()),
+        Expr::Or(x, xs) => one_is_true(store, x.get(), xs.as_slice()),
+        Expr::Not(x) => is_untrue(store, x.get()),
+        _ => part_is_true(store, e),
+    }
 }
 
 /// Whether an expression is true, where its value is there, or it is a comparison of two such.
@@ -402,6 +547,31 @@ pub fn truth_at_hand(store: &Store, e: &Expr) -> Option<bool>
         return compared_at_hand(store, *how, x.get(), y.get());
     }
     truth_there(store, e)
+}
+
+/// `chosen`, of a choice.
+#[inline(never)]
+fn part_chosen<'a>(store: &Store, e: &'a Expr) -> &'a Expr
+    ensures { (val : Val) → IsThere (λ names. view names result.now) store.now val → IsThere (λ names. view names e.now) store.now val }
+{
+    let Expr::Choice(x, y, z) = e else {
+        return e;
+    };
+    let Some(holds) = truth_at_hand(store, x.get()) else {
+        return e;
+    };
+    if holds { y.get() } else { z.get() }
+}
+
+/// The part that a choice comes to, where the truth of its test is at hand; what else there is comes back as it is.
+#[inline(always)]
+pub fn chosen<'a>(store: &Store, e: &'a Expr) -> &'a Expr
+    ensures { (val : Val) → IsThere (λ names. view names result.now) store.now val → IsThere (λ names. view names e.now) store.now val }
+{
+    match e {
+        Expr::Choice(_, _, _) => part_chosen(store, e),
+        _ => e,
+    }
 }
 
 /// What is read or set, where it is a variable or a field by a constant: to evaluate it changes nothing and meets no fault.

@@ -16,7 +16,7 @@ ghost use Rattle.awk_text.specs.declared.value.Value.TheVariants as v;
 ghost use Rattle.std.specs.Prelude.{IfSome, Some, false, length, map, true, ℤ, ◌≡◌, ◌≤◌};
 
 use crate::at_hand::{
-    MOST_LEVELS, at_hand, number_at_hand, number_kept, number_there, value_at_hand,
+    MOST_LEVELS, at_hand, chosen, number_at_hand, number_kept, number_there, value_at_hand,
 };
 use crate::printing::add_item;
 use awk_builtins::line::Line;
@@ -154,7 +154,7 @@ fn assigned_variable(alloc: Global, store: &mut Store, variable: Variable, x: &E
     if is_nf(variable) {
         return false;
     }
-    let Some(value) = value_at_hand(alloc, store, x) else {
+    let Some(value) = value_at_hand(alloc, store, chosen(store, x)) else {
         return false;
     };
     store.set(variable, value);
@@ -174,7 +174,7 @@ fn assigned_element(
     ensures done { result ≡ true → (place at_name : Place) → IsDone (λ names. p.assign place (p.element at_name (variable_of names array) (expressions_of (map (view names) keys.now))) (view names x.now)) store.old store.new }
     ensures not_done { result ≡ false → store.new ≡ store.old }
 {
-    let Some(value) = value_at_hand(alloc, store, x) else {
+    let Some(value) = value_at_hand(alloc, store, chosen(store, x)) else {
         return false;
     };
     if let Some(number) = number_of_key(store, keys) {

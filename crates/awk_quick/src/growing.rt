@@ -18,7 +18,7 @@ ghost use Rattle.awk_text.specs.declared.value.Value.{Value as Val};
 ghost use Rattle.awk_text.specs.declared.value.Value.TheVariants as v;
 ghost use Rattle.std.specs.Prelude.{IfErr, IfOk, IfSome, List, OnOk, false, length, map, true, ℕ, ◌++◌, ◌+◌, ◌≡◌, ◌≤◌};
 
-use crate::at_hand::{MOST_LEVELS, at_hand};
+use crate::at_hand::{MOST_LEVELS, at_hand, chosen};
 use awk_program::{Expr, Joined, Target, Variable};
 use awk_store::values::into_text;
 use awk_store::{Store, is_nf};
@@ -36,7 +36,7 @@ fn add_text(store: &Store, e: &Expr, room: usize, texts: &mut Vec<u8>) -> Result
     ensures room { IfOk result (λ added. added ≡ true → length texts.new.items ≤ room) }
     ensures text { IfOk result (λ added. added ≡ true → (text : List ℕ) × (texts.new.items ≡ texts.old.items ++ text) × ((g : Given) (t : Table) → Lends g (store.now, t) (view (names_in g) e.now) text)) }
 {
-    let Some(value) = at_hand(store, e, MOST_LEVELS) else {
+    let Some(value) = at_hand(store, chosen(store, e), MOST_LEVELS) else {
         return Ok(false);
     };
     let mut buffer = Buffer::new();

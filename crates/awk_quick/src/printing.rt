@@ -20,8 +20,8 @@ ghost use Rattle.awk_text.specs.Values.{text_of};
 ghost use Rattle.awk_text.specs.declared.value.Value.{Value as Val};
 ghost use Rattle.std.specs.Prelude.{Err, IfSome, List, None, Ok, Some, [], map, true, ◌++◌, ◌∷◌, ◌≡◌};
 
-use crate::at_hand::{MOST_LEVELS, at_hand};
-use crate::splitting::{is_field, is_whole, split_where};
+use crate::at_hand::{MOST_LEVELS, at_hand, chosen};
+use crate::splitting::{is_whole, split_where, wants_split};
 use awk_builtins::line::Line;
 use awk_builtins::printing::ended;
 use awk_program::{Expr, Own, Redirection};
@@ -36,7 +36,7 @@ use itoa::Buffer;
 pub(crate) fn add_item(line: &mut Line, store: &Store, x: &Expr) -> bool
     ensures { result ≡ true → (val : Val) × (line.new ≡ written line.old (text_of val)) × IsThere (λ names. view names x.now) store.now val }
 {
-    let Some(value) = at_hand(store, x, MOST_LEVELS) else {
+    let Some(value) = at_hand(store, chosen(store, x), MOST_LEVELS) else {
         return false;
     };
     let mut buffer = Buffer::new();
@@ -138,12 +138,12 @@ pub fn redirected_at_hand<'a>(
     Some((name, text))
 }
 
-/// Splits the record where one of the expressions is a field, and rebuilds it where one is `$0`, or where there is none, so
+/// Splits the record where one of the expressions wants a field, and rebuilds it where one is `$0`, or where there is none, so
 /// that they are at hand.
 pub fn split_for_items(store: &mut Store, xs: &[Expr]) -> Result<(), Halt>
     ensures { (g : Given) (t : Table) (q : Piece) → Acts g q (λ u k. q ∷ k) (store.old, t) result (store.new, t) }
 {
-    let split = xs.iter().any(|x| is_field(x));
+    let split = xs.iter().any(|x| wants_split(x));
     let whole = xs.is_empty() || xs.iter().any(|x| is_whole(x));
     split_where(store, split, whole)
 }

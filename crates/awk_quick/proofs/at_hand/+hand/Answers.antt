@@ -1,18 +1,20 @@
 use Rattle.std.proofs.Common.{◌≡◌, refl, sym, ap, ◌∙◌, rules, arith, map, w64}
-use Rattle.std.specs.Prelude.{Ok}
+use Rattle.std.specs.Prelude.{None, Ok, Some}
 use Rattle.std.specs.Result.{result_ok}
 use Rattle.std.proofs.lemmas.Int.{to_z-of_z}
 use Rattle.awk_text.specs.Lents.{lent_value}
 use Rattle.awk_program.specs.Program as p
 use Rattle.awk_program.specs.Program.{expressions_of, terms_of}
 use Rattle.awk_program.specs.View.{variable_of, view, view_target, view_term}
-use Rattle.awk_program.proofs.Views.{view-Chain, view-Number, view-Read, view-Text}
+use Rattle.awk_program.proofs.Views.{view-Chain, view-Index, view-Int, view-Measure, view-Number, view-Read, view-Substr, view-SubstrFrom, view-Text}
+use Rattle.awk_lib.specs.Texts.{substr}
 use Rattle.awk_fields.specs.Rows.{IsValueAt}
 use Rattle.awk_store.specs.Wholes.{names_in}
-use Rattle.awk_text.specs.Values.{number_of}
+use Rattle.awk_text.specs.Values.{number_of, text_of}
 use Rattle.awk_text.specs.declared.value.Value.TheVariants as v
 use Rattle.awk_quick.specs.AtHand.{HasNumber, IsThere}
 use Rattle.awk_quick.proofs.AtHand.{chain_first, element_there, field_number_is, field_there, number_there, terms_at, terms_done, text_there}
+use Rattle.awk_quick.proofs.Made.{index_there, measured_there, part_there, rest_there, whole_there}
 use Rattle.awk_builtins.proofs.Rests.{just_one, ok_told, some_done, some_for}
 use Rattle.awk_quick.proofs.at_hand.+hand.Goals as goal
 
@@ -29,9 +31,6 @@ at_hand-returns-in-Read t c =
 pub at_hand-returns : goal.at_hand-returns
 at_hand-returns t c = λ g u.
     rw (c.in-Chain.is, view-Chain, to_z-of_z w64 c.in_ok-number.number (search rules)) (rw (c.get.ensures, c.as_slice.ensures) at (c.in_ok-number.ensures g u))
-
-pub at_hand-returns-in_default-e-3 : goal.at_hand-returns-in_default-e-3
-at_hand-returns-in_default-e-3 t c = λ g u. rw (to_z-of_z w64 c.in_ok-count.count (search rules)) (c.in_ok-count.ensures g u)
 
 pub element_at_hand-returns : goal.element_at_hand-returns
 element_at_hand-returns t c = λ g u.
@@ -55,10 +54,6 @@ pub number_at_hand-returns-in-Number : goal.number_at_hand-returns-in-Number
 number_at_hand-returns-in-Number t c =
     rw (to_z-of_z w64 c.in-Number.number (search rules)) (record { val = v.Num c.in-Number.number; is = refl; there = λ g u. rw (c.in-Number.is, view-Number) (number_there g _ c.in-Number.number) })
 
-pub number_at_hand-returns-in_default-e-2 : goal.number_at_hand-returns-in_default-e-2
-number_at_hand-returns-in_default-e-2 t c =
-    some_for {P = λ n. IsThere (λ names. view names c.args.e.now) c.args.store.now (v.Num n)} c.count_at_hand.result (λ n h. record { val = v.Num n; is = refl; there = h }) c.count_at_hand.ensures
-
 pub number_of_target-returns-in-Some : goal.number_of_target-returns-in-Some
 number_of_target-returns-in-Some t c =
     let h = c.in-Some.ensures in rw (to_z-of_z w64 c.in-Some.number (search rules)) (record { val = h.val; is = h.is; there = h.there })
@@ -74,10 +69,16 @@ number_at_hand-returns-in-Read t c =
     some_for {P = λ n. HasNumber (λ names. p.read (view_target names c.in-Read.target)) c.args.store.now n} c.number_of_target.result
     (λ n h. record { val = h.val; is = h.is; there = λ g u. rw (c.in-Read.is, view-Read) (h.there g u) }) c.number_of_target.ensures
 
-pub number_at_hand-returns : goal.number_at_hand-returns
-number_at_hand-returns t c =
+pub number_at_hand-returns-in-Chain : goal.number_at_hand-returns-in-Chain
+number_at_hand-returns-in-Chain t c =
     some_for {P = λ n. IsThere (λ names. p.chain (view names c.get.result.now) (terms_of (map (view_term names) c.as_slice.result.now))) c.args.store.now (v.Num n)} c.chain_at_hand.result
     (λ n h. record { val = v.Num n; is = refl; there = λ g u. rw (c.in-Chain.is, view-Chain) (rw (c.get.ensures, c.as_slice.ensures) at (h g u)) }) c.chain_at_hand.ensures
+
+pub number_made-returns : goal.number_made-returns
+number_made-returns t c =
+    let number = number_of (lent_value c.in_ok-value.value) in
+    rw (c.ok.ensures.value, c.number.ensures) (some_for {P = λ n. number ≡ Ok n} (result_ok number)
+    (λ n is. record { val = lent_value c.in_ok-value.value; is = is; there = c.in_ok-value.ensures }) (ok_told number))
 
 pub target_at_hand-returns-in-Variable : goal.target_at_hand-returns-in-Variable
 target_at_hand-returns-in-Variable t c =
@@ -119,3 +120,42 @@ pub chain_at_hand-returns : goal.chain_at_hand-returns
 chain_at_hand-returns t c = λ g u.
     let l = c.loop-next.invariant in
     rw (sym (l.exact (some_done c.args.xs.now c.loop-next.next-index c.loop-next-test.false c.if-is_empty.ensures))) (terms_done g (c.args.store.now, u) c.args.xs.now c.loop-next.next-index l.val c.loop-next-test.false (l.along g u))
+
+pub made_at_hand-returns-in_ok-length-in-Measure : goal.made_at_hand-returns-in_ok-length-in-Measure
+made_at_hand-returns-in_ok-length-in-Measure t c = λ g u.
+    rw (c.in-Measure.is, view-Measure, to_z-of_z w64 c.in_ok-length-in-Measure.length (search rules), c.in_ok-length-in-Measure.ensures)
+    (rw c.get.ensures at (measured_there g (c.args.store.now, u) c.in-Measure.how (view (names_in g) c.get.result.now) (lent_value c.in_ok-text-in-Measure.text) (c.in_ok-text-in-Measure.ensures g u)))
+
+pub made_at_hand-returns-in_ok-part-in-Index : goal.made_at_hand-returns-in_ok-part-in-Index
+made_at_hand-returns-in_ok-part-in-Index t c = λ g u.
+    rw (c.in-Index.is, view-Index, to_z-of_z w64 c.index_of.result (search rules), c.index_of.ensures)
+    (rw (c.get-in-Index.ensures, c.get-in-Index-2.ensures) at (index_there g (c.args.store.now, u) (view (names_in g) c.get-in-Index.result.now) (view (names_in g) c.get-in-Index-2.result.now)
+    (lent_value c.in_ok-text-in-Index.text) (lent_value c.in_ok-part-in-Index.part) (c.in_ok-text-in-Index.ensures g u) (c.in_ok-part-in-Index.ensures g u)))
+
+pub made_at_hand-returns-in_ok-from-in-SubstrFrom : goal.made_at_hand-returns-in_ok-from-in-SubstrFrom
+made_at_hand-returns-in_ok-from-in-SubstrFrom t c =
+    let h = c.in_ok-from-in-SubstrFrom.ensures in
+    let text = lent_value c.in_ok-text-in-SubstrFrom.text in
+    some_for {P = λ new. lent_value new ≡ v.Text (substr (text_of text) c.in_ok-from-in-SubstrFrom.from None)} c.part_of.result
+    (λ new is g u. rw (c.in-SubstrFrom.is, view-SubstrFrom, is) (rw (c.get-in-SubstrFrom.ensures, c.get-in-SubstrFrom-2.ensures) at
+    (rest_there g (c.args.store.now, u) c.in-SubstrFrom.field-0 (view (names_in g) c.get-in-SubstrFrom.result.now) (view (names_in g) c.get-in-SubstrFrom-2.result.now) text h.val c.in_ok-from-in-SubstrFrom.from
+    (c.in_ok-text-in-SubstrFrom.ensures g u) (h.there g u) h.is))) (rw (to_z-of_z w64 c.in_ok-from-in-SubstrFrom.from (search rules)) at c.part_of.ensures)
+
+pub made_at_hand-returns-in_ok-count-in-Substr : goal.made_at_hand-returns-in_ok-count-in-Substr
+made_at_hand-returns-in_ok-count-in-Substr t c =
+    let h = c.in_ok-from-in-Substr.ensures in
+    let n = c.in_ok-count-in-Substr.ensures in
+    let text = lent_value c.in_ok-text-in-Substr.text in
+    some_for {P = λ new. lent_value new ≡ v.Text (substr (text_of text) c.in_ok-from-in-Substr.from (Some c.in_ok-count-in-Substr.count))} c.part_of-in-Substr.result
+    (λ new is g u. rw (c.in-Substr.is, view-Substr, is) (rw (c.get-in-Substr.ensures, c.get-in-Substr-2.ensures, c.get-in-Substr-3.ensures) at
+    (part_there g (c.args.store.now, u) c.in-Substr.field-0 (view (names_in g) c.get-in-Substr.result.now) (view (names_in g) c.get-in-Substr-2.result.now) (view (names_in g) c.get-in-Substr-3.result.now) text h.val n.val
+    c.in_ok-from-in-Substr.from c.in_ok-count-in-Substr.count (c.in_ok-text-in-Substr.ensures g u) (h.there g u) (n.there g u) h.is n.is))) (rw (to_z-of_z w64 c.in_ok-from-in-Substr.from (search rules), to_z-of_z w64 c.in_ok-count-in-Substr.count (search rules)) at c.part_of-in-Substr.ensures)
+
+pub made_at_hand-returns-in_ok-number-in-Int : goal.made_at_hand-returns-in_ok-number-in-Int
+made_at_hand-returns-in_ok-number-in-Int t c = λ g u.
+    let h = c.in_ok-number-in-Int.ensures in
+    rw (c.in-Int.is, view-Int, to_z-of_z w64 c.in_ok-number-in-Int.number (search rules))
+    (rw c.get-in-Int.ensures at (whole_there g (c.args.store.now, u) c.in-Int.field-0 (view (names_in g) c.get-in-Int.result.now) h.val c.in_ok-number-in-Int.number (h.there g u) h.is))
+
+pub made_at_hand-returns-in_ok-count-in-Count : goal.made_at_hand-returns-in_ok-count-in-Count
+made_at_hand-returns-in_ok-count-in-Count t c = λ g u. rw (to_z-of_z w64 c.in_ok-count-in-Count.count (search rules)) (c.in_ok-count-in-Count.ensures g u)

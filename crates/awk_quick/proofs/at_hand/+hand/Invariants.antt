@@ -42,3 +42,9 @@ decreases-field_at_hand l = 3 + 5 * l.level
 
 abbrev pub decreases-chain_at_hand : goal.decreases-chain_at_hand
 decreases-chain_at_hand l = 3 + 5 * l.level
+
+abbrev pub decreases-made_at_hand : goal.decreases-made_at_hand
+decreases-made_at_hand l = 3 + 5 * l.level
+
+abbrev pub decreases-number_made : goal.decreases-number_made
+decreases-number_made l = 4 + 5 * l.level
