@@ -4,7 +4,8 @@
 Each case is an operation on a text that is hard for its pattern: starts that read on to the end and fail, or matches of which each
 reads on to the end. It is done as often as takes a tenth of a second, on 64, 128 and 256 KB; the milliseconds of one stand, without
 what the program takes to start and to make the text, and the exponent between the first and the last (1 is linear). A peer that takes
-over ten seconds is left out from there on. --large has patterns at the limit of size, with the nanoseconds that a byte takes."""
+over two seconds is left out from there on. --large has patterns at the limit of size, on 2, 4 and 8 KB and with ten seconds, and the
+nanoseconds that a byte takes."""
 import argparse
 import math
 import os
@@ -12,7 +13,9 @@ import resource
 import subprocess
 import tempfile
 
-SIZES, ENOUGH, LIMIT = (65536, 131072, 262144), 0.1, 2
+ENOUGH = 0.1
+# the sizes of the texts, and the seconds that a peer may take
+USUAL, LONG = ((65536, 131072, 262144), 2), ((2048, 4096, 8192), 10)
 POLICY = 'version = 1\nbase = "/tmp"\n'
 # what is repeated to make the text, what stands at its end, the operation on s
 CASES = [
@@ -26,18 +29,18 @@ CASES = [
 ]
 LARGE = [
     ("a", "", "match(s, /((a?){141}){141}b/)"), ("a", "b", "match(s, /((a?){141}){141}b/)"), ("a", "", "match(s, /((a?){141}){141}/)"),
-    ("ab", "c", "match(s, /((a|b){100}){199}c/)"), ("ab", "", "match(s, /([^c]{0,255}){78}c/)"), ("ab", "", "match(s, /(([ab]*c){141}){70}/)"),
+    ("ab", "c", "match(s, /((a|b){100}){99}c/)"), ("ab", "", "match(s, /([^c]{0,255}){78}c/)"), ("ab", "", "match(s, /(([ab]*c){141}){70}/)"),
 ]
 
 
-def run(command, folder, case, size, rounds):
+def run(command, folder, case, size, limit, rounds):
     unit, end, operation = case
     script = f'BEGIN {{ for (t = "{unit}"; length(t) < {size}; ) t = t t; t = substr(t, 1, {size}) "{end}"; for (k = 0; k < {rounds}; k++) {{ s = t; {operation} }} }}\n'
     with open(f"{folder}/s.awk", "w") as out:
         out.write(script)
     before = resource.getrusage(resource.RUSAGE_CHILDREN)
     ran = subprocess.run(command, stdin=subprocess.DEVNULL, capture_output=True, cwd="/tmp", env={**os.environ, "LC_ALL": "C"},
-                         preexec_fn=lambda: resource.setrlimit(resource.RLIMIT_CPU, (LIMIT, LIMIT)))
+                         preexec_fn=lambda: resource.setrlimit(resource.RLIMIT_CPU, (limit, limit)))
     after = resource.getrusage(resource.RUSAGE_CHILDREN)
     if ran.returncode < 0:
         return math.inf
@@ -46,27 +49,29 @@ def run(command, folder, case, size, rounds):
     return after.ru_utime + after.ru_stime - before.ru_utime - before.ru_stime
 
 
-def one(command, folder, case, size):
+def one(command, folder, case, size, limit):
     """The seconds of one operation, or infinity."""
-    start = min(run(command, folder, case, size, 0) for _ in range(3))
+    start = min(run(command, folder, case, size, limit, 0) for _ in range(3))
+    if start == math.inf:
+        return start
     rounds = 1
     while True:
-        took = run(command, folder, case, size, rounds) - start
+        took = run(command, folder, case, size, limit, rounds) - start
         if took >= ENOUGH or rounds >= 1 << 20:
-            return min([took] + [run(command, folder, case, size, rounds) - start for _ in range(2 if took < 1 else 0)]) / rounds
+            return min([took] + [run(command, folder, case, size, limit, rounds) - start for _ in range(2 if took < 1 else 0)]) / rounds
         rounds *= 8 if took < ENOUGH / 8 else 2
 
 
-def times(command, folder, case):
+def times(command, folder, case, sizes, limit):
     found = []
-    for size in SIZES:
-        found.append(math.inf if math.inf in found else one(command, folder, case, size))
+    for size in sizes:
+        found.append(math.inf if math.inf in found else one(command, folder, case, size, limit))
     return found
 
 
-def shown(found):
+def shown(found, sizes):
     cells = ["%9.3f" % (t * 1000) if t < math.inf else "        -" for t in found]
-    grows = "%6.2f" % (math.log(found[-1] / found[0]) / math.log(SIZES[-1] / SIZES[0])) if found[-1] < math.inf else "     -"
+    grows = "%6.2f" % (math.log(found[-1] / found[0]) / math.log(sizes[-1] / sizes[0])) if found[-1] < math.inf else "     -"
     return " ".join(cells) + grows
 
 
@@ -80,11 +85,13 @@ def main():
             out.write(POLICY)
         own = [os.path.abspath(a.program), "run", "--policy", f"{folder}/policy.toml", "--log", f"{folder}/log", "-f", f"{folder}/s.awk"]
         gawk = ["gawk", "-f", f"{folder}/s.awk"]
-        print("%-44s %35s %35s" % ("milliseconds for 64, 128, 256 KB, exponent", "awkbox", "gawk"))
+        sizes, limit = LONG if a.large else USUAL
+        title = "milliseconds for %d, %d, %d KB, exponent" % tuple(size // 1024 for size in sizes)
+        print("%-44s %35s %35s" % (title, "awkbox", "gawk"))
         for case in LARGE if a.large else CASES:
-            ours, theirs = times(own, folder, case), times(gawk, folder, case)
-            each = "  %8.1f ns a byte" % (ours[0] / SIZES[0] * 1e9) if a.large else ""
-            print("%-44s %s %s%s" % (f"{case[2]}  on {case[0]}..{case[1]}", shown(ours), shown(theirs), each), flush=True)
+            ours, theirs = (times(command, folder, case, sizes, limit) for command in (own, gawk))
+            each = "  %8.1f ns a byte" % (ours[-1] / sizes[-1] * 1e9) if a.large else ""
+            print("%-44s %s %s%s" % (f"{case[2]}  on {case[0]}..{case[1]}", shown(ours, sizes), shown(theirs, sizes), each), flush=True)
 
 
 if __name__ == "__main__":

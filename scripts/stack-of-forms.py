@@ -19,7 +19,7 @@ EXPRESSIONS = ["-(%s)", "!(%s)", "((%s)+n)", "(n+(%s))", "(n^(%s))", "((%s) n)",
                "((%s,1) in a)", "(v=(%s))", "(a[%s]=n)", "($(%s)=n)", "(v+=(%s))", "(a[%s]+=n)", "(a[%s]++)", "($(%s)++)",
                "length(%s)", "tolower(%s)", "int(%s)", "index((%s),n)", "substr((%s),n)", "substr((%s),n,n)", 'sprintf("%%s",(%s))',
                "match((%s),n)", "match(n,(%s))", "split((%s),b,n)", "split(n,b,(%s))", "sub(n,(%s),v)", "gsub((%s),n,v)",
-               "close(%s)", "g(%s)", "(getline q < (%s))"]
+               "close(%s)", "fflush(%s)", "g(%s)", "(getline q < (%s))"]
 STATEMENTS = ["if (n>0||n<5) %s", "if (n<0) n=1; else %s", "{ n=n; %s }", "while (n>-1) { %s; break }", "do { %s; break } while (n)",
               "for (i=0;i<1;i++) { %s; break }", "for (i in c) %s"]
 

@@ -1,5 +1,6 @@
 pub mod Cached
 pub mod Filling
+pub mod Flushes
 pub mod Granted
 pub mod Lines
 pub mod Listed
@@ -10,3 +11,4 @@ pub mod Replaced
 pub mod Rests
 pub mod SearchSteps
 pub mod SplitSteps
+pub mod WholeArrays

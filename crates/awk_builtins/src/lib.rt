@@ -3,8 +3,10 @@
 //! function evaluates a part, and none asks the world.
 #![tactic(auto)]
 
+pub mod arrays;
 pub mod cache;
 pub mod chains;
+pub mod flushing;
 pub mod functions;
 pub mod keys;
 pub mod line;

@@ -91,6 +91,7 @@ pub fn builtin_text(builtin: Builtin) -> &'static str
 {
     match builtin {
         Builtin::Close => "close",
+        Builtin::Fflush => "fflush",
         Builtin::Gsub => "gsub",
         Builtin::Index => "index",
         Builtin::Int => "int",

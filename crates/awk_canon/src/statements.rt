@@ -71,6 +71,15 @@ fn delete(alloc: Global, name: &Name, xs: &[Expr], out: &mut Vec<Token>) -> Resu
     push_end(alloc, out)
 }
 
+/// `delete NAME`
+fn delete_all(alloc: Global, name: &Name, out: &mut Vec<Token>) -> Result<(), Memory>
+    ensures { OnOk result (out.new.items ≡ out.old.items ++ spec.canon_statement (t.delete_all name.now)) }
+{
+    push_keyword(alloc, "delete", out)?;
+    push_name(alloc, name, out)?;
+    push_end(alloc, out)
+}
+
 /// A word that is a statement by itself.
 fn word(alloc: Global, text: &str, out: &mut Vec<Token>) -> Result<(), Memory>
     ensures { OnOk result (out.new.items ≡ out.old.items ++ terminals.keyword text.now ∷ spec.end) }
@@ -153,9 +162,11 @@ fn statement(alloc: Global, s: &Statement, out: &mut Vec<Token>) -> Result<(), M
         Statement::Print(_place, xs, target) => output(alloc, "print", xs, target, out),
         Statement::Printf(_place, xs, target) => output(alloc, "printf", xs, target, out),
         Statement::Delete(name, xs) => delete(alloc, name, xs.as_slice(), out),
+        Statement::DeleteAll(name) => delete_all(alloc, name, out),
         Statement::Break(_place) => word(alloc, "break", out),
         Statement::Continue(_place) => word(alloc, "continue", out),
         Statement::Next(_place) => word(alloc, "next", out),
+        Statement::NextFile(_place) => word(alloc, "nextfile", out),
         Statement::Exit(_place, x) => leave(alloc, "exit", x, out),
         Statement::Return(_place, x) => leave(alloc, "return", x, out),
         Statement::Block(xs) => action(alloc, xs.as_slice(), out),

@@ -13,12 +13,13 @@ ghost use Rattle.awk_machine.specs.Operators.{of_truth};
 
 use crate::context::{Context, Run};
 use crate::evaluates::Evaluates;
-use crate::inputs::{close, getline, system};
+use crate::inputs::{close, flush, getline, system};
 use crate::lists::{element_group, formatted};
 use crate::patterns::{locate, split, substitute};
 use crate::sources::matches;
 use crate::targets::{assign, change, increment, read_target};
 use crate::tests::{number, truth_of};
+use awk_builtins::arrays::count;
 use awk_builtins::chains::{join, members, operated};
 use awk_builtins::functions::{Binary, Unary, part_of};
 use awk_builtins::made::owned;
@@ -66,6 +67,7 @@ pub fn evaluate<W: World, E: Evaluates<W>>(
         }
         Expr::Int(place, x) => unary(cx, Unary::Int(*place), x.get(), on, run, world),
         Expr::Measure(how, x) => unary(cx, Unary::Measure(*how), x.get(), on, run, world),
+        Expr::Count(array) => count(&run.store, *array),
         Expr::Compare(how, x, y) => {
             binary(cx, Binary::Compare(*how), x.get(), y.get(), on, run, world)
         }
@@ -99,6 +101,7 @@ pub fn evaluate<W: World, E: Evaluates<W>>(
         Expr::Or(x, xs) => any(cx, x.get(), xs.as_slice(), on, run, world),
         Expr::Getline(place, target) => getline(cx, *place, target, on, run, world),
         Expr::Close(place, x) => close(cx, *place, x.get(), on, run, world),
+        Expr::Flush(x) => flush(cx, x.get(), on, run, world),
         Expr::System(place, x) => system(cx, *place, x.get(), on, run, world),
         Expr::Pattern(place, text) => {
             matched_record(

@@ -1,4 +1,4 @@
-// getline in its forms, `close` and `system`.
+// getline in its forms, `close`, `fflush` and `system`.
 ghost use Rattle.awk_streams.specs.Tasks.{Owns};
 ghost use Rattle.awk_machine.specs.Forms.{value};
 ghost use Rattle.awk_machine.specs.Pieces.{give};
@@ -10,6 +10,7 @@ ghost use Rattle.awk_eval.specs.Runs.{Does, whole_of};
 use crate::context::{Context, Run};
 use crate::evaluates::Evaluates;
 use crate::targets::target_of;
+use awk_builtins::flushing;
 use awk_input::getline::{
     command_record, file_record, getline_pipe, set_from_command, set_from_file,
 };
@@ -172,6 +173,23 @@ pub fn close<W: World, E: Evaluates<W>>(
         return Err(Halt::Memory);
     };
     closing::close(place, name.bytes(), &mut run.streams, world)
+}
+
+/// `fflush ( name )`
+pub fn flush<W: World, E: Evaluates<W>>(
+    cx: &Context<'_>,
+    x: &Expr,
+    on: E,
+    run: &mut Run,
+    world: &mut W,
+) -> Result<Value, Halt>
+    requires can { E.can on }
+    requires owns { Owns (W.open_numbers world.old) run.old.streams }
+    ensures { Does W.World cx.now (λ g. value (p.flush (view (names_in g) x.now))) (λ g. give)
+        (whole_of run.old) world.old result (whole_of run.new) world.new }
+{
+    let operand = on.value(cx, x, run, world)?;
+    Ok(flushing::flush(&operand, &run.streams))
 }
 
 /// `system ( command )`

@@ -14,7 +14,9 @@ use crate::lists::fill;
 use crate::loops::{first_then, over_keys, turn_first, while_loop};
 use crate::output::{print, printf};
 use crate::tests::{effect, truth_of};
+use awk_builtins::arrays::remove_all;
 use awk_builtins::keys::remove;
+use awk_input::skipping::next_file;
 use awk_program::{Expr, Statement, Variable};
 use awk_store::Flow;
 use awk_store::flow::is_on;
@@ -90,9 +92,16 @@ pub fn perform<W: World, E: Evaluates<W>>(
         Statement::Delete(place, array, keys) => {
             delete(cx, *place, *array, keys.as_slice(), on, run, world)
         }
+        Statement::DeleteAll(array) => {
+            remove_all(&mut run.store, *array);
+            Ok(Flow::On)
+        }
         Statement::Break => Ok(Flow::Break),
         Statement::Continue => Ok(Flow::Continue),
         Statement::Next(place) => Err(next(&mut run.store, *place)),
+        Statement::NextFile(place) => {
+            Err(next_file(*place, &mut run.store, &mut run.streams, world))
+        }
         Statement::Exit(place, status) => leave_by(cx, *place, status, on, run, world),
         Statement::Return(x) => give_back(cx, x, on, run, world),
         Statement::Block(xs) => body(cx, xs.as_slice(), on, run, world),

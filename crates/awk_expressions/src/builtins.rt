@@ -127,6 +127,26 @@ impl<F: Fn(Global, &mut Tokens<'_>, usize, Goal) -> Result<Boxed<Expr>, Fault>> 
         Ok(only(self.alloc, x)?)
     }
 
+    /// `( [ expr ] )`
+    #[tactic(auto, using(awk_tree::proofs::Views::views), unfolding(awk_tree::specs::Expressions::of_one_or_none))]
+    fn of_one_or_none(
+        &self,
+        tokens: &mut Tokens<'_>,
+        place: Place,
+        which: Builtin,
+    ) -> Result<Boxed<Expr>, Fault>
+        requires { Nests self.now.depth (F.pre self.now.inner) (F.post self.now.inner) }
+        ensures { Reads view (spec.of_one_or_none self.now.depth (spec.expr self.now.depth) place which tokens.old) result tokens.new }
+    {
+        tokens.one(Terminal::OpenParen)?;
+        if self.depth == 0 {
+            return Err(tokens.deep());
+        }
+        let all = self.one_or_none(tokens)?;
+        tokens.one(Terminal::CloseParen)?;
+        Ok(Boxed::new(self.alloc, Expr::Builtin(place, which, all))?)
+    }
+
     /// `length | length ( ) | length ( expr )`
     #[tactic(auto, using(awk_tree::proofs::Views::views), unfolding(awk_tree::specs::Expressions::length_of))]
     fn length_of(&self, tokens: &mut Tokens<'_>, place: Place) -> Result<Boxed<Expr>, Fault>
@@ -136,13 +156,7 @@ impl<F: Fn(Global, &mut Tokens<'_>, usize, Goal) -> Result<Boxed<Expr>, Fault>> 
         if !is(tokens.ahead(), Terminal::OpenParen) {
             return Ok(Boxed::new(self.alloc, Expr::Length(place))?);
         }
-        tokens.one(Terminal::OpenParen)?;
-        if self.depth == 0 {
-            return Err(tokens.deep());
-        }
-        let all = self.one_or_none(tokens)?;
-        tokens.one(Terminal::CloseParen)?;
-        Ok(Boxed::new(self.alloc, Expr::Builtin(place, Builtin::Length, all))?)
+        self.of_one_or_none(tokens, place, Builtin::Length)
     }
 
     /// `( expr , NAME [ , expr ] )`
@@ -217,6 +231,7 @@ impl<F: Fn(Global, &mut Tokens<'_>, usize, Goal) -> Result<Boxed<Expr>, Fault>> 
         let place = tokens.any()?.place;
         match which {
             Builtin::Close => self.of_one(tokens, place, which),
+            Builtin::Fflush => self.of_one_or_none(tokens, place, which),
             Builtin::Gsub => self.substitute_of(tokens, place, true),
             Builtin::Index => self.of_two(tokens, place, which),
             Builtin::Int => self.of_one(tokens, place, which),

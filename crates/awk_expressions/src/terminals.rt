@@ -6,7 +6,7 @@ ghost use Rattle.awk_tree.specs.Terminals as spec;
 use awk_tokens::{Token, TokenKind};
 use awk_tree::{Assignment, Builtin, Step, Terminal};
 
-const KEYWORDS: [(&[u8], Terminal); 19] = [
+const KEYWORDS: [(&[u8], Terminal); 20] = [
     (b"BEGIN", Terminal::BeginWord),
     (b"END", Terminal::EndWord),
     (b"break", Terminal::Break),
@@ -22,14 +22,16 @@ const KEYWORDS: [(&[u8], Terminal); 19] = [
     (b"if", Terminal::If),
     (b"in", Terminal::In),
     (b"next", Terminal::Next),
+    (b"nextfile", Terminal::NextFile),
     (b"print", Terminal::Print),
     (b"printf", Terminal::Printf),
     (b"return", Terminal::Return),
     (b"while", Terminal::While),
 ];
 
-const BUILTINS: [(&[u8], Terminal); 13] = [
+const BUILTINS: [(&[u8], Terminal); 14] = [
     (b"close", Terminal::Builtin(Builtin::Close)),
+    (b"fflush", Terminal::Builtin(Builtin::Fflush)),
     (b"gsub", Terminal::Builtin(Builtin::Gsub)),
     (b"index", Terminal::Builtin(Builtin::Index)),
     (b"int", Terminal::Builtin(Builtin::Int)),
@@ -200,11 +202,12 @@ fn number_of(one: Terminal) -> u8
         Terminal::If => 52,
         Terminal::In => 53,
         Terminal::Next => 54,
-        Terminal::Print => 55,
-        Terminal::Printf => 56,
-        Terminal::Return => 57,
-        Terminal::While => 58,
-        Terminal::Refused => 59,
+        Terminal::NextFile => 55,
+        Terminal::Print => 56,
+        Terminal::Printf => 57,
+        Terminal::Return => 58,
+        Terminal::While => 59,
+        Terminal::Refused => 60,
     }
 }
 

@@ -24,10 +24,12 @@ with_end _ _ _ _ (r.an_expression n us x rest _) = refl
 with_end _ _ _ _ (r.an_empty_print n t vs z rest _ _) = refl
 with_end _ _ _ _ (r.a_print n t us vs xs z rest _ _ _) = refl
 with_end _ _ _ _ (r.a_printf n t us vs xs z rest _ _ _) = refl
+with_end _ _ _ _ (r.a_delete_all n t m rest _ _ _) = refl
 with_end _ _ _ _ (r.a_delete n t m o c us xs rest _ _ _ _ _ _) = sym (append_assoc (keyword (codes "delete") ∷ token kind.Name m.text ∷ sign (codes "[") ∷ canon_items xs) (sign (codes "]") ∷ []) end)
 with_end _ _ _ _ (r.a_break n t rest _) = refl
 with_end _ _ _ _ (r.a_continue n t rest _) = refl
 with_end _ _ _ _ (r.a_next n t rest _) = refl
+with_end _ _ _ _ (r.a_next_file n t rest _) = refl
 with_end _ _ _ _ (r.an_exit n t us x rest _ _) = refl
 with_end _ _ _ _ (r.a_return n t us x rest _ _) = refl
 

@@ -37,7 +37,7 @@ plain_between : (us vs : List Token) (u m c : Token) → ((us ++ u ∷ []) ++ m 
 plain_between us vs u m c = simp append_assoc
 
 module _ (n depth : ℕ) (inner : Goal → Parser Tree) (deeper : Inner n depth inner) where
-  -- ---- sprintf and length
+  -- ---- sprintf, fflush and length
 
   list_spells : (us : List Token) (q : ((Token × Token) × List Tree) × Token) (rest : List Token) → Both (pair (pair (builtin_form n depth inner deeper b.Sprintf) opening) (lists n depth inner deeper)) closing us q rest → Spells n rule.prim us (tree.builtin q.0.0.0.place b.Sprintf (trees_of q.0.1)) rest
   list_spells _ _ _ (both _ _ rest _ _ (both _ us _ _ xs (both _ _ _ _ _ (this t _ h) (this o _ i)) (opens, k)) (this c _ j)) = g.a_sprintf n t o c us xs rest h i j opens k
@@ -68,22 +68,25 @@ module _ (n depth : ℕ) (inner : Goal → Parser Tree) (deeper : Inner n depth 
       (λ _. then_at Near Near Near (whole n false) singles (inner (goal.Expr false)) (λ x. pure (x ∷ [])) ts (deeper.wholes false ts)
       (pure_on Near (whole n false) singles (λ x. x ∷ []) (λ x. append-nil (canon x)) (λ x. refl) (λ us x rest h. one_argument us x rest h.1))))
 
+  perhaps_spells : (which : Builtin) → g.takes_none which ≡ true → g.takes_one which ≡ true → (us : List Token) (q : ((Token × Token) × List Tree) × Token) (rest : List Token)
+      → Both (pair (pair (builtin_form n depth inner deeper which) opening) (opened_form n depth inner deeper singles)) closing us q rest → Spells n rule.prim us (tree.builtin q.0.0.0.place which (trees_of q.0.1)) rest
+  perhaps_spells which empty single _ _ _ (both _ _ rest _ _ (both _ us _ _ xs (both _ _ _ _ _ (this t _ h) (this o _ i)) (opens, k)) (this c _ j)) = made us xs (c ∷ rest) k where
+    made : (us : List Token) (xs : List Tree) (after : List Token) → Single us xs (c ∷ rest) → Spells n rule.prim (t ∷ o ∷ us ++ c ∷ []) (tree.builtin t.place which (trees_of xs)) rest
+    made _ _ _ (no_argument _) = g.a_call_of_none n which t o c rest empty h i j opens
+    made _ _ _ (one_argument us x _ l) = g.a_call_of_one n which t o c us x rest single h i j opens l
+
+  of_one_or_none_law : (which : Builtin) → g.takes_none which ≡ true → g.takes_one which ≡ true → LawOn Near Near (builtin_form n depth inner deeper which) (here n rule.prim) (λ t. e.of_one_or_none depth inner t.place which)
+  unfolding e.of_one_or_none
+  of_one_or_none_law which empty single t ts =
+      seq_at Near Near Near (builtin_form n depth inner deeper which) opening (here n rule.prim) (one w.OpenParen) (λ t _. opened depth (e.one_or_none depth inner) >>= λ xs. one w.CloseParen >>= λ _. pure (tree.builtin t.place which (trees_of xs))) t ts (opening_law Near ts)
+      (λ q ts. seq_at Near Near Near (pair (builtin_form n depth inner deeper which) opening) (opened_form n depth inner deeper singles) (here n rule.prim) (opened depth (e.one_or_none depth inner)) (λ q xs. one w.CloseParen >>= λ _. pure (tree.builtin q.0.place which (trees_of xs))) q ts
+      (opened_law n depth inner deeper Near singles (e.one_or_none depth inner) single_law ts)
+      (λ q ts. seq_at Near Near Near (pair (pair (builtin_form n depth inner deeper which) opening) (opened_form n depth inner deeper singles)) closing (here n rule.prim) (one w.CloseParen) (λ q _. pure (tree.builtin q.0.0.place which (trees_of q.1))) q ts (closing_law Near ts)
+      (pure_on Near (pair (pair (pair (builtin_form n depth inner deeper which) opening) (opened_form n depth inner deeper singles)) closing) (here n rule.prim) (λ q. tree.builtin q.0.0.0.place which (trees_of q.0.1)) (λ q. refl)
+      (λ q. ap (tree.builtin nowhere which) (bare_all-of q.0.1)) (perhaps_spells which empty single))))
+
   abbrev length_word : Form Token
   length_word = builtin_form n depth inner deeper b.Length
-
-  length_spells : (us : List Token) (q : ((Token × Token) × List Tree) × Token) (rest : List Token) → Both (pair (pair length_word opening) (opened_form n depth inner deeper singles)) closing us q rest → Spells n rule.prim us (tree.builtin q.0.0.0.place b.Length (trees_of q.0.1)) rest
-  length_spells _ _ _ (both _ _ rest _ _ (both _ us _ _ xs (both _ _ _ _ _ (this t _ h) (this o _ i)) (opens, k)) (this c _ j)) = made us xs (c ∷ rest) k where
-    made : (us : List Token) (xs : List Tree) (after : List Token) → Single us xs (c ∷ rest) → Spells n rule.prim (t ∷ o ∷ us ++ c ∷ []) (tree.builtin t.place b.Length (trees_of xs)) rest
-    made _ _ _ (no_argument _) = g.an_empty_length n t o c rest h i j opens
-    made _ _ _ (one_argument us x _ l) = g.a_length n t o c us x rest h i j opens l
-
-  with_argument : LawOn Near Near length_word (here n rule.prim) (λ t. one w.OpenParen >>= λ _. opened depth (e.one_or_none depth inner) >>= λ xs. one w.CloseParen >>= λ _. pure (tree.builtin t.place b.Length (trees_of xs)))
-  with_argument t ts =
-      seq_at Near Near Near length_word opening (here n rule.prim) (one w.OpenParen) (λ t _. opened depth (e.one_or_none depth inner) >>= λ xs. one w.CloseParen >>= λ _. pure (tree.builtin t.place b.Length (trees_of xs))) t ts (opening_law Near ts)
-      (λ q ts. seq_at Near Near Near (pair length_word opening) (opened_form n depth inner deeper singles) (here n rule.prim) (opened depth (e.one_or_none depth inner)) (λ q xs. one w.CloseParen >>= λ _. pure (tree.builtin q.0.place b.Length (trees_of xs))) q ts (opened_law n depth inner deeper Near singles (e.one_or_none depth inner) single_law ts)
-      (λ q ts. seq_at Near Near Near (pair (pair length_word opening) (opened_form n depth inner deeper singles)) closing (here n rule.prim) (one w.CloseParen) (λ q _. pure (tree.builtin q.0.0.place b.Length (trees_of q.1))) q ts (closing_law Near ts)
-      (pure_on Near (pair (pair (pair length_word opening) (opened_form n depth inner deeper singles)) closing) (here n rule.prim) (λ q. tree.builtin q.0.0.0.place b.Length (trees_of q.0.1)) (λ q. refl)
-      (λ q. ap (tree.builtin nowhere b.Length) (bare_all-of q.0.1)) length_spells)))
 
   without_argument : (t : Token) (ts : List Token) → is (ahead ts) w.OpenParen ≡ false → GoesAt Near Near length_word (here n rule.prim) (λ t. pure (tree.bare_length t.place)) t ts
   without_argument t ts stop y r h =
@@ -96,9 +99,9 @@ module _ (n depth : ℕ) (inner : Goal → Parser Tree) (deeper : Inner n depth 
   of_length_law : LawOn Near Near length_word (here n rule.prim) (λ t. e.length_of depth inner t.place)
   unfolding e.length_of
   of_length_law t ts =
-      choice_on Near length_word (here n rule.prim) (λ t kind. cond (is kind w.OpenParen) (one w.OpenParen >>= λ _. opened depth (e.one_or_none depth inner) >>= λ xs. one w.CloseParen >>= λ _. pure (tree.builtin t.place b.Length (trees_of xs))) (pure (tree.bare_length t.place))) t ts
-      (if_on Near Near length_word (here n rule.prim) (is (ahead ts) w.OpenParen) (λ t. one w.OpenParen >>= λ _. opened depth (e.one_or_none depth inner) >>= λ xs. one w.CloseParen >>= λ _. pure (tree.builtin t.place b.Length (trees_of xs))) (λ t. pure (tree.bare_length t.place)) t ts
-      (λ _. with_argument t ts) (λ h. without_argument t ts h))
+      choice_on Near length_word (here n rule.prim) (λ t kind. cond (is kind w.OpenParen) (e.of_one_or_none depth inner t.place b.Length) (pure (tree.bare_length t.place))) t ts
+      (if_on Near Near length_word (here n rule.prim) (is (ahead ts) w.OpenParen) (λ t. e.of_one_or_none depth inner t.place b.Length) (λ t. pure (tree.bare_length t.place)) t ts
+      (λ _. of_one_or_none_law b.Length refl refl t ts) (λ h. without_argument t ts h))
 
   -- ---- split
 
@@ -183,6 +186,7 @@ module _ (n depth : ℕ) (inner : Goal → Parser Tree) (deeper : Inner n depth 
 
   builtin_by_law : (which : Builtin) → LawOn Near Near (builtin_form n depth inner deeper which) (here n rule.prim) (λ t. e.builtin_by depth inner t.place which)
   builtin_by_law b.Close = of_one_law n depth inner deeper b.Close refl
+  builtin_by_law b.Fflush = of_one_or_none_law b.Fflush refl refl
   builtin_by_law b.Gsub = of_substitute_law true
   builtin_by_law b.Index = of_two_law n depth inner deeper b.Index refl
   builtin_by_law b.Int = of_one_law n depth inner deeper b.Int refl

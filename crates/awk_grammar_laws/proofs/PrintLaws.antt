@@ -36,7 +36,7 @@ use Rattle.awk_grammar_laws.proofs.Builtins.{prefixed}
 use Rattle.awk_grammar_laws.proofs.Primaries.{knowing, known}
 use Rattle.awk_grammar_laws.proofs.Chains.{cat_law}
 use Rattle.awk_grammar_laws.proofs.Depths.{full, expression_law, grouping, grouped_at, expr_rest_law}
-use Rattle.awk_grammar_laws.proofs.SimpleLaws.{simple_form, plain_law, delete_law, break_at, continue_at, next_at, exit_at, return_at, printed_form, more_printed_law}
+use Rattle.awk_grammar_laws.proofs.SimpleLaws.{simple_form, plain_law, delete_law, break_at, continue_at, next_at, next_file_at, exit_at, return_at, printed_form, more_printed_law}
 
 abbrev redirect_terminal : Redirect → Terminal
 redirect_terminal to.Write = w.Greater
@@ -234,6 +234,7 @@ module _ (n depth : ℕ) (inner : Goal → Parser Tree) (deeper : Inner n depth 
   simple_at w.Break ts sees = break_at n depth inner deeper ts sees
   simple_at w.Continue ts sees = continue_at n depth inner deeper ts sees
   simple_at w.Next ts sees = next_at n depth inner deeper ts sees
+  simple_at w.NextFile ts sees = next_file_at n depth inner deeper ts sees
   simple_at w.Exit ts sees = exit_at n depth inner deeper ts sees
   simple_at w.Return ts sees = return_at n depth inner deeper ts sees
   simple_at _ ts sees = plain_law n depth inner deeper ts

@@ -45,6 +45,7 @@ assignment_is set.Power = refl
 pub builtin_is : (which : Builtin) → terminal (builtin_word (builtin_text which)) ≡ w.Builtin which
 unfolding terminal_of
 builtin_is b.Close = refl
+builtin_is b.Fflush = refl
 builtin_is b.Gsub = refl
 builtin_is b.Index = refl
 builtin_is b.Int = refl

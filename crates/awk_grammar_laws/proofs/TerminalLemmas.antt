@@ -16,7 +16,7 @@ both_true true false h = absurd cc
 both_true false b h = absurd cc
 
 abbrev terminals : List Terminal
-terminals = w.End ∷ w.Newline ∷ w.Semicolon ∷ w.CloseBrace ∷ w.OpenBrace ∷ w.OpenParen ∷ w.CloseParen ∷ w.OpenBracket ∷ w.CloseBracket ∷ w.Comma ∷ w.Number ∷ w.Quoted ∷ w.Pattern ∷ w.Name ∷ w.CallName ∷ w.Refused ∷ w.Plus ∷ w.Minus ∷ w.Star ∷ w.Slash ∷ w.Percent ∷ w.Caret ∷ w.Not ∷ w.Greater ∷ w.Less ∷ w.Bar ∷ w.BarGetline ∷ w.Question ∷ w.Colon ∷ w.Tilde ∷ w.Dollar ∷ w.Refused ∷ w.Equal ∷ w.LessOrEqual ∷ w.GreaterOrEqual ∷ w.NotEqual ∷ w.NotTilde ∷ w.Refused ∷ w.And ∷ w.Or ∷ w.Append ∷ w.BeginWord ∷ w.EndWord ∷ w.Break ∷ w.Continue ∷ w.Delete ∷ w.Do ∷ w.Else ∷ w.Exit ∷ w.For ∷ w.Function ∷ w.Getline ∷ w.If ∷ w.In ∷ w.Next ∷ w.Print ∷ w.Printf ∷ w.Return ∷ w.While ∷ w.Refused ∷ []
+terminals = w.End ∷ w.Newline ∷ w.Semicolon ∷ w.CloseBrace ∷ w.OpenBrace ∷ w.OpenParen ∷ w.CloseParen ∷ w.OpenBracket ∷ w.CloseBracket ∷ w.Comma ∷ w.Number ∷ w.Quoted ∷ w.Pattern ∷ w.Name ∷ w.CallName ∷ w.Refused ∷ w.Plus ∷ w.Minus ∷ w.Star ∷ w.Slash ∷ w.Percent ∷ w.Caret ∷ w.Not ∷ w.Greater ∷ w.Less ∷ w.Bar ∷ w.BarGetline ∷ w.Question ∷ w.Colon ∷ w.Tilde ∷ w.Dollar ∷ w.Refused ∷ w.Equal ∷ w.LessOrEqual ∷ w.GreaterOrEqual ∷ w.NotEqual ∷ w.NotTilde ∷ w.Refused ∷ w.And ∷ w.Or ∷ w.Append ∷ w.BeginWord ∷ w.EndWord ∷ w.Break ∷ w.Continue ∷ w.Delete ∷ w.Do ∷ w.Else ∷ w.Exit ∷ w.For ∷ w.Function ∷ w.Getline ∷ w.If ∷ w.In ∷ w.Next ∷ w.NextFile ∷ w.Print ∷ w.Printf ∷ w.Return ∷ w.While ∷ w.Refused ∷ []
 
 abbrev terminal_at : ℕ → Terminal
 terminal_at n = get_or terminals n w.End

@@ -30,10 +30,18 @@ abbrev pub Newlines : List Token → Type 0
 Newlines [] = Unit {0}
 Newlines (t ∷ ts) = (terminal t ≡ w.Newline) × Newlines ts
 
--- the built-in functions of one argument, and those of two
+-- the built-in functions that can be called with nothing in their parentheses, those with one argument,
+-- and those with two
+abbrev pub takes_none : Builtin → Bool
+takes_none b.Fflush = true
+takes_none b.Length = true
+takes_none other = false
+
 abbrev pub takes_one : Builtin → Bool
 takes_one b.Close = true
+takes_one b.Fflush = true
 takes_one b.Int = true
+takes_one b.Length = true
 takes_one b.System = true
 takes_one b.Tolower = true
 takes_one b.Toupper = true
@@ -66,7 +74,12 @@ mutual
         → Opens n → Spells (suc n) (rule.expr false) us x (c ∷ rest) → Spells n rule.prim (o ∷ us ++ c ∷ []) (tree.paren o.place x) rest
     a_call : (n : ℕ) (t o c : Token) (us : List Token) (xs : List Tree) (rest : List Token) → terminal t ≡ w.CallName → terminal o ≡ w.OpenParen → terminal c ≡ w.CloseParen
         → Opens n → Arguments (suc n) us xs (c ∷ rest) → Spells n rule.prim (t ∷ o ∷ us ++ c ∷ []) (tree.call (name_of t) (trees_of xs)) rest
-    -- | close ( expr ), and so int, system, tolower, toupper
+    -- | length, where no ( follows
+    a_bare_length : (n : ℕ) (t : Token) (rest : List Token) → terminal t ≡ w.Builtin b.Length → is (ahead rest) w.OpenParen ≡ false → Spells n rule.prim (t ∷ []) (tree.bare_length t.place) rest
+    -- | length ( ), and so fflush
+    a_call_of_none : (n : ℕ) (which : Builtin) (t o c : Token) (rest : List Token) → takes_none which ≡ true → terminal t ≡ w.Builtin which → terminal o ≡ w.OpenParen → terminal c ≡ w.CloseParen
+        → Opens n → Spells n rule.prim (t ∷ o ∷ c ∷ []) (tree.builtin t.place which (trees_of [])) rest
+    -- | close ( expr ), and so fflush, int, length, system, tolower, toupper
     a_call_of_one : (n : ℕ) (which : Builtin) (t o c : Token) (us : List Token) (x : Tree) (rest : List Token) → takes_one which ≡ true → terminal t ≡ w.Builtin which → terminal o ≡ w.OpenParen → terminal c ≡ w.CloseParen
         → Opens n → Spells (suc n) (rule.expr false) us x (c ∷ rest) → Spells n rule.prim (t ∷ o ∷ us ++ c ∷ []) (tree.builtin t.place which (trees_of (x ∷ []))) rest
     -- | index ( expr , expr ), and so match
@@ -79,12 +92,6 @@ mutual
     -- | sprintf ( list )
     a_sprintf : (n : ℕ) (t o c : Token) (us : List Token) (xs : List Tree) (rest : List Token) → terminal t ≡ w.Builtin b.Sprintf → terminal o ≡ w.OpenParen → terminal c ≡ w.CloseParen
         → Opens n → Listed (suc n) us xs (c ∷ rest) → Spells n rule.prim (t ∷ o ∷ us ++ c ∷ []) (tree.builtin t.place b.Sprintf (trees_of xs)) rest
-    -- | length, where no ( follows | length ( ) | length ( expr )
-    a_bare_length : (n : ℕ) (t : Token) (rest : List Token) → terminal t ≡ w.Builtin b.Length → is (ahead rest) w.OpenParen ≡ false → Spells n rule.prim (t ∷ []) (tree.bare_length t.place) rest
-    an_empty_length : (n : ℕ) (t o c : Token) (rest : List Token) → terminal t ≡ w.Builtin b.Length → terminal o ≡ w.OpenParen → terminal c ≡ w.CloseParen
-        → Opens n → Spells n rule.prim (t ∷ o ∷ c ∷ []) (tree.builtin t.place b.Length (trees_of [])) rest
-    a_length : (n : ℕ) (t o c : Token) (us : List Token) (x : Tree) (rest : List Token) → terminal t ≡ w.Builtin b.Length → terminal o ≡ w.OpenParen → terminal c ≡ w.CloseParen
-        → Opens n → Spells (suc n) (rule.expr false) us x (c ∷ rest) → Spells n rule.prim (t ∷ o ∷ us ++ c ∷ []) (tree.builtin t.place b.Length (trees_of (x ∷ []))) rest
     -- | split ( expr , NAME [ , expr ] )
     a_split : (n : ℕ) (t o u m c : Token) (us ns vs : List Token) (x : Tree) (y : Option Tree) (rest : List Token) → terminal t ≡ w.Builtin b.Split → terminal o ≡ w.OpenParen → terminal u ≡ w.Comma → Newlines ns → terminal m ≡ w.Name → terminal c ≡ w.CloseParen
         → Opens n → Spells (suc n) (rule.expr false) us x (u ∷ ns ++ m ∷ vs ++ c ∷ rest) → Further (suc n) vs y (c ∷ rest)

@@ -16,7 +16,7 @@ use Rattle.awk_program.specs.declared.variables.Own.TheVariants as own
 use Rattle.awk_machine.specs.Advances.{advance, asked_by, held}
 use Rattle.awk_machine.specs.MainInput.{file, opened, operand_want}
 use Rattle.awk_machine.specs.Pieces as machine
-use Rattle.awk_machine.specs.Pieces.{nowhere, Piece, Begun, Do, Past, Take, Goes, Asks}
+use Rattle.awk_machine.specs.Pieces.{nowhere, Piece, Begun, Do, Past, Goes, Asks}
 use Rattle.awk_machine.specs.State.{State, Course, Given}
 use Rattle.awk_machine.specs.Streams.{came, same_key, seen, want}
 use Rattle.awk_machine.specs.Variables as variables
@@ -219,8 +219,8 @@ owns_gone numbers after c text n table new h es is owns = λ m.
     rw (is, gone, times-without n m numbers, less) (omega (arith, o))
 
 module _ {W : Type 0} {ghosts : Ghosts W} (laws : Laws ghosts)
-    (g : Given) (text : Text) (k : Kept) (t now : Table) (but : IsBut OperandFile text t now) (p : Piece) (old : Whole) (first w : W)
-    (lead : LeadsOn ghosts g p old first (λ l. Do (Past (Named OperandFile text)) ∷ Do Take ∷ l) (k, t) w) where
+    (g : Given) (text : Text) (k : Kept) (t now : Table) (but : IsBut OperandFile text t now) (rest : List Piece → List Piece) (p : Piece) (old : Whole) (first w : W)
+    (lead : LeadsOn ghosts g p old first (λ l. Do (Past (Named OperandFile text)) ∷ rest l) (k, t) w) where
   abbrev passed : Kept
   passed = with_main (record k.main { current = None }) k
 
@@ -234,25 +234,25 @@ module _ {W : Type 0} {ghosts : Ghosts W} (laws : Laws ghosts)
       ap (λ z. asked_by (if is_some z then None else Some reply.Failed) (want nowhere (Shuts (Named OperandFile text))) (λ r. l) (seen (base g (passed, t) hid) c)) (ap (find_stream OperandFile text) (a.tells.streams ∙ sym but.streams) ∙ e)
 
   -- it is not open
-  pub passes_unopened : find_stream OperandFile text (open_of now) ≡ None → LeadsOn ghosts g p old first (λ l. Do Take ∷ l) (passed, now) w
+  pub passes_unopened : find_stream OperandFile text (open_of now) ≡ None → LeadsOn ghosts g p old first rest (passed, now) w
   passes_unopened none =
       let there : find_stream OperandFile text (open_of t) ≡ None = ap (find_stream OperandFile text) (sym but.streams) ∙ none in
       let same : IsSame t now = record { entries = sym (without_absent OperandFile text now.entries none) ∙ but.others ∙ without_absent OperandFile text t.entries there; input = but.input } in
       changes refl lead (λ l hid c a.
       let b = past_agrees hid c a in
-      (hid, record { tells = tells_same t now hid.taken c same b.tells; row = b.row; cells = b.cells; sound = b.sound }, past_at (Do Take ∷ l) hid c a None none))
+      (hid, record { tells = tells_same t now hid.taken c same b.tells; row = b.row; cells = b.cells; sound = b.sound }, past_at (rest l) hid c a None none))
 
   -- it was shut
   pub passes_shut : (n : ℕ) (new : Table) (r : Reply) (w' : W) → find_stream OperandFile text (open_of now) ≡ Some n → new.entries ≡ entries_without OperandFile text now.entries → new.input ≡ now.input →
       Answered ghosts (record { place = nowhere; given = false; request = request.Shut n }) w r w' →
-      LeadsOn ghosts g p old first (λ l. Do Take ∷ l) (passed, new) w'
+      LeadsOn ghosts g p old first rest (passed, new) w'
   passes_shut n new r w' found es same x =
       let there : find_stream OperandFile text (open_of t) ≡ Some n = ap (find_stream OperandFile text) (sym but.streams) ∙ found in
-      asked {then_ = λ l r. Do Take ∷ l} (want nowhere (Shuts (Named OperandFile text))) (record { place = nowhere; given = false; request = request.Shut n }) r laws refl lead
+      asked {then_ = λ l r. rest l} (want nowhere (Shuts (Named OperandFile text))) (record { place = nowhere; given = false; request = request.Shut n }) r laws refl lead
       (λ begin l hid c led a.
       let b = past_agrees hid c a in (
         hid,
-        past_at (Do Take ∷ l) hid c a (Some n) found,
+        past_at (rest l) hid c a (Some n) found,
         fits_here laws begin w (calls c.events) (request.Shut n) r led x.fits,
         ap (λ m. record { place = nowhere; given = false; request = request.Shut m }) (number_at (Named OperandFile text) n t hid.taken c there a.tells),
         record { tells = tells_closed nowhere OperandFile text t new hid.taken c r (es ∙ but.others) (same ∙ but.input) b.tells; row = b.row; cells = b.cells; sound = b.sound },
@@ -264,10 +264,10 @@ module _ {W : Type 0} {ghosts : Ghosts W} (laws : Laws ghosts)
       Meets ghosts (base g) (Agreeing g) used g p on old first (Err halt) (passed, now) w'
   shut_refused n halt w' found x =
       let there : find_stream OperandFile text (open_of t) ≡ Some n = ap (find_stream OperandFile text) (sym but.streams) ∙ found in
-      rw x.is (restored nowhere x.by refl (unanswered {q = λ l. Do (Past (Named OperandFile text))} {to = λ l. Do Take ∷ l} {then_ = λ l r. Do Take ∷ l} (want nowhere (Shuts (Named OperandFile text))) (record { place = nowhere; given = false; request = request.Shut n }) x.by laws lead
+      rw x.is (restored nowhere x.by refl (unanswered {q = λ l. Do (Past (Named OperandFile text))} {to = rest} {then_ = λ l r. rest l} (want nowhere (Shuts (Named OperandFile text))) (record { place = nowhere; given = false; request = request.Shut n }) x.by laws lead
       (λ l hid c a. (
         seen (base g (passed, t) hid) c,
-        past_at (Do Take ∷ l) hid c a (Some n) found,
+        past_at (rest l) hid c a (Some n) found,
         ap (λ m. record { place = nowhere; given = false; request = request.Shut m }) (number_at (Named OperandFile text) n t hid.taken c there a.tells),
       ))
       x.memory x.log))

@@ -1,5 +1,5 @@
 // The files of operands.
-ghost use Rattle.std.specs.Prelude.{◌≡◌, ◌∷◌, false, true, Some, IfOk, OnOk, Ok};
+ghost use Rattle.std.specs.Prelude.{◌≡◌, ◌∷◌, false, true, List, Some, IfOk, OnOk, Ok};
 ghost use Rattle.awk_machine.specs.MainInput.{file};
 ghost use Rattle.awk_machine.specs.Pieces.{Begun, Do, Past, Piece, Take};
 ghost use Rattle.awk_machine.specs.State.{Given};
@@ -149,12 +149,17 @@ fn read_file<W: World>(store: &Store, streams: &mut Streams, world: &mut W) -> R
 
 // ---- it is done with
 
-/// Shuts the operand's file, whatever the reply; nothing is read now.
-fn pass_file<W: World>(store: &mut Store, streams: &mut Streams, world: &mut W) -> Result<(), Halt>
+/// Shuts the operand's file, whatever the reply; nothing is read now. What is held unread of it is let go.
+pub fn pass_file<W: World>(
+    store: &mut Store,
+    streams: &mut Streams,
+    world: &mut W,
+) -> Result<(), Halt>
     requires { Owns (W.open_numbers world.old) streams.old }
     ensures task { (g : Given) (text : Text) → store.old.main.current ≡ Some (Named event.OperandFile text) → (t : Table) → IsBut event.OperandFile text t streams.old
-        → (p : Piece) (old : Whole) (w : W) → LeadsOn W.World g p old w (λ k. Do (Past (Named event.OperandFile text)) ∷ Do Take ∷ k) (store.old, t) world.old
-        → Onward W.World g p old w (λ k. Do Take ∷ k) result (store.new, streams.new) world.new }
+        → (rest : List Piece → List Piece) (p : Piece) (old : Whole) (w : W)
+        → LeadsOn W.World g p old w (λ k. Do (Past (Named event.OperandFile text)) ∷ rest k) (store.old, t) world.old
+        → Onward W.World g p old w rest result (store.new, streams.new) world.new }
     ensures owns { Owns (W.open_numbers world.new) streams.new }
 {
     let Some(text) = take_out(store) else {

@@ -16,5 +16,6 @@ mod progress;
 pub mod ranges;
 pub mod reads;
 mod reports;
+pub mod skipping;
 
 pub use host::{Host, Use};

@@ -102,10 +102,13 @@ negated true x = p.not x
 
 abbrev pub of_none : Place → tree_builtin.Builtin → Expression
 of_none q b.Length = p.measure m.Length (p.read (whole_record q))
+-- it asks for nothing that a run could see
+of_none q b.Fflush = p.number (pos 0)
 of_none q which = unwritten
 
 abbrev pub of_one : Place → tree_builtin.Builtin → Expression → Expression
 of_one q b.Close x = p.close q x
+of_one q b.Fflush x = p.flush x
 of_one q b.Int x = p.int q x
 of_one q b.Length x = p.measure m.Length x
 of_one q b.System x = p.system q x

@@ -5,7 +5,8 @@
 --   an ERE by itself               $0 ~ that ERE           length, without parentheses   length($0)
 --   getline, without a target      getline $0              sub(x, y), gsub(x, y)         sub(x, y, $0), gsub(x, y, $0)
 --   split(x, a)                    split(x, a, FS)         x + y - z                     one chain, and so are * / %, && and ||
-use Rattle.std.specs.Prelude.{pos, Bool, true, false, List, [], ◌∷◌, map, get_or, codes, Option, Some, None}
+--   fflush()                       0                       length(a)                     the count of the array a
+use Rattle.std.specs.Prelude.{pos, Bool, true, false, if◌then◌else◌, List, [], ◌∷◌, map, get_or, codes, Option, Some, None}
 use Rattle.awk_text.specs.Escapes.{unescaped}
 use Rattle.awk_text.specs.declared.place.Place.{Place}
 use Rattle.awk_tree.specs.Tree as t
@@ -14,7 +15,7 @@ use Rattle.awk_tree.specs.declared.names.Name.{Name}
 use Rattle.awk_tree.specs.declared.names.Member.{Member}
 use Rattle.awk_tree.specs.declared.operators.Builtin.{Builtin}
 use Rattle.awk_tree.specs.declared.operators.Builtin.TheVariants as b
-use Rattle.awk_resolve.specs.Mentions.{bare}
+use Rattle.awk_resolve.specs.Mentions.{bare, alone}
 use Rattle.awk_program.specs.declared.operators.Measure.TheVariants as m
 use Rattle.awk_program.specs.declared.operators.Operator.TheVariants as o
 use Rattle.awk_program.specs.declared.operators.Taken.TheVariants as taken
@@ -85,21 +86,32 @@ abbrev pub formatted : Place → Expressions → Expression
 formatted q p.none = unwritten
 formatted q (p.more x xs) = p.sprintf q x xs
 
+-- the array that a name is
+abbrev pub array_among : Scope → Option Name → Option Name
+array_among c None = None
+array_among c (Some n) = if is_array c n.text then Some n else None
+
+-- `length ( array )` counts its elements
+abbrev pub length_of : Scope → Option Name → Expression → Expression
+length_of c None x = x
+length_of c (Some n) x = p.count (variable c n.text)
+
 -- The three that are unwritten have forms of their own.
-abbrev pub built : Place → Builtin → Trees → Expressions → Expression
-built q b.Match xs us = located q xs us
-built q b.Sprintf xs us = formatted q us
-built q b.Close xs us = called q b.Close us
-built q b.Gsub xs us = unwritten
-built q b.Index xs us = called q b.Index us
-built q b.Int xs us = called q b.Int us
-built q b.Length xs us = called q b.Length us
-built q b.Split xs us = unwritten
-built q b.Sub xs us = unwritten
-built q b.Substr xs us = called q b.Substr us
-built q b.System xs us = called q b.System us
-built q b.Tolower xs us = called q b.Tolower us
-built q b.Toupper xs us = called q b.Toupper us
+abbrev pub built : Scope → Place → Builtin → Trees → Expressions → Expression
+built c q b.Match xs us = located q xs us
+built c q b.Sprintf xs us = formatted q us
+built c q b.Close xs us = called q b.Close us
+built c q b.Fflush xs us = called q b.Fflush us
+built c q b.Gsub xs us = unwritten
+built c q b.Index xs us = called q b.Index us
+built c q b.Int xs us = called q b.Int us
+built c q b.Length xs us = length_of c (array_among c (alone xs)) (called q b.Length us)
+built c q b.Split xs us = unwritten
+built c q b.Sub xs us = unwritten
+built c q b.Substr xs us = called q b.Substr us
+built c q b.System xs us = called q b.System us
+built c q b.Tolower xs us = called q b.Tolower us
+built c q b.Toupper xs us = called q b.Toupper us
 
 -- a getline of the main input, or of a file
 abbrev pub got_by : Place → Reference → Option Expression → Expression
@@ -122,7 +134,7 @@ abbrev mutual
   lowered c (t.field q x) = p.read (p.field q (lowered c x))
   lowered c (t.paren q x) = lowered c x
   lowered c (t.call n xs) = p.call n.place (function c n.text) (arguments c (arrays_of c n.text) xs)
-  lowered c (t.builtin q which xs) = built q which xs (lowered_list c xs)
+  lowered c (t.builtin q which xs) = built c q which xs (lowered_list c xs)
   lowered c (t.bare_length q) = p.measure m.Length (p.read (whole_record q))
   lowered c (t.split q x n y) = p.split q (lowered c x) n.place (variable c n.text) (separator c y)
   lowered c (t.substitute q all x y z) = p.substitute q (extent_of all) (ere_of (constant x) (lowered c x)) (lowered c y) (target_or_record c q z)

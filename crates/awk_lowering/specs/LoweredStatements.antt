@@ -26,9 +26,11 @@ abbrev mutual
   statement c (t.print q xs to) = p.print q (map (lowered c) xs.items) (option_map (redirected c) to)
   statement c (t.printf q xs to) = printed c q xs.items (option_map (redirected c) to)
   statement c (t.delete n xs) = p.delete n.place (variable c n.text) (map (lowered c) xs)
+  statement c (t.delete_all n) = p.delete_all (variable c n.text)
   statement c (t.break q) = p.break
   statement c (t.continue q) = p.continue
   statement c (t.next q) = p.next q
+  statement c (t.next_file q) = p.next_file q
   statement c (t.exit q x) = p.exit q (option_map (lowered c) x)
   statement c (t.return q x) = p.return (option_map (lowered c) x)
   statement c (t.block xs) = p.block (statements c xs)

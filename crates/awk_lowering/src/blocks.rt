@@ -69,6 +69,16 @@ pub fn delete_of(
     }
 }
 
+/// `delete NAME`
+pub fn delete_all_of(v: Result<Variable, Memory>) -> Result<Statement, Memory>
+    ensures { (t : Names) (a : p.Variable) → IsVariable t v a → IsStatement t result (p.delete_all a) }
+{
+    match v {
+        Ok(v) => Ok(Statement::DeleteAll(v)),
+        Err(refused) => Err(refused),
+    }
+}
+
 /// `exit`
 pub fn exit_of(place: Place, x: Result<Option<Boxed<Expr>>, Memory>) -> Result<Statement, Memory>
     ensures { (t : Names) (a : Option Expression) → IsPerhaps t x a → IsStatement t result (p.exit place a) }

@@ -7,6 +7,8 @@ ghost use Rattle.awk_lowering.specs.Lowered.{lowered};
 ghost use Rattle.awk_lowering.specs.OneByOne.{lowered_term, lowered_join, then_arguments, then_pipes};
 ghost use Rattle.awk_lowering.specs.Made.{Is, AreAll, AreTerms, AreJoins, ArePipes, AreArguments, IsTarget, IsEre, IsPerhaps, names_in, scope_in};
 ghost use Rattle.awk_program.specs.View as code;
+ghost use Rattle.awk_resolve.specs.Mentions.{alone};
+ghost use Rattle.awk_tree.specs.declared.operators.Builtin.TheVariants as which_builtin;
 ghost use Rattle.awk_tree.specs.Tree.{trees_of, perhaps_of, pipes_of};
 ghost use Rattle.awk_tree.specs.View.{view, view_term, view_piped};
 
@@ -14,16 +16,16 @@ use crate::constants::{number, pattern, quoted};
 use crate::kept::{boxed, kept, push};
 use crate::names::{Context, arrays_in, arrays_of, function, variable};
 use crate::nodes::{
-    and_of, call_of, chain_of, choose_of, compare_of, concat_of, getline_file_of, getline_of,
-    group_of, locate_of, match_of, member_of, or_of, pipe_of, read_of, split_of, sprintf_of,
-    step_of, substitute_of,
+    and_of, call_of, chain_of, choose_of, compare_of, concat_of, count_of, getline_file_of,
+    getline_of, group_of, locate_of, match_of, member_of, or_of, pipe_of, read_of, split_of,
+    sprintf_of, step_of, substitute_of,
 };
 use crate::operators::{
     assign_of, comparison, extent, negated, of_none, of_one, of_three, of_two, record_length,
     signed_of, step,
 };
 use crate::parts::{argument_of, given, join_of, piped_of, power_of, term_of};
-use crate::shapes::{bare, constant, first_in, later, start, takes_array};
+use crate::shapes::{array_alone, bare, constant, first_in, later, start, takes_array};
 use crate::targets::{
     computed_of, constant_of, element_of, field_of, field_separator, record_of, variable_of,
 };
@@ -285,22 +287,39 @@ fn builtin(
     args: &[awk_tree::Expr],
     level: u32,
 ) -> Result<Expr, Memory>
-    ensures { Is (names_in context.now) result (low.built place which (trees_of (map view args.now)) (low.lowered_list (scope_in context.now) (trees_of (map view args.now)))) }
+    ensures { Is (names_in context.now) result (low.built (scope_in context.now) place which (trees_of (map view args.now)) (low.lowered_list (scope_in context.now) (trees_of (map view args.now)))) }
 {
     match which {
         Builtin::Match => located(context, place, args, level),
         Builtin::Sprintf => formatted(context, place, args, level),
         Builtin::Close => called(context, place, Builtin::Close, args, level),
+        Builtin::Fflush => called(context, place, Builtin::Fflush, args, level),
         Builtin::Gsub => Err(AllocError),
         Builtin::Index => called(context, place, Builtin::Index, args, level),
         Builtin::Int => called(context, place, Builtin::Int, args, level),
-        Builtin::Length => called(context, place, Builtin::Length, args, level),
+        Builtin::Length => length(context, place, args, level),
         Builtin::Split => Err(AllocError),
         Builtin::Sub => Err(AllocError),
         Builtin::Substr => called(context, place, Builtin::Substr, args, level),
         Builtin::System => called(context, place, Builtin::System, args, level),
         Builtin::Tolower => called(context, place, Builtin::Tolower, args, level),
         Builtin::Toupper => called(context, place, Builtin::Toupper, args, level),
+    }
+}
+
+/// `length ( text )`, and `length ( array )`
+#[cycle(expression)]
+fn length(
+    context: &Context<'_>,
+    place: Place,
+    args: &[awk_tree::Expr],
+    level: u32,
+) -> Result<Expr, Memory>
+    ensures { Is (names_in context.now) result (low.length_of (scope_in context.now) (low.array_among (scope_in context.now) (alone (trees_of (map view args.now)))) (low.called place which_builtin.Length (low.lowered_list (scope_in context.now) (trees_of (map view args.now))))) }
+{
+    match array_alone(context, args) {
+        Some(name) => count_of(variable(context, name.text.bytes())),
+        None => called(context, place, Builtin::Length, args, level),
     }
 }
 

@@ -234,6 +234,16 @@ pub fn measure_of(how: Measure, x: Result<Boxed<Expr>, Memory>) -> Result<Expr, 
     }
 }
 
+/// `length ( array )`
+pub fn count_of(v: Result<Variable, Memory>) -> Result<Expr, Memory>
+    ensures { (t : Names) (a : p.Variable) → IsVariable t v a → Is t result (p.count a) }
+{
+    match v {
+        Ok(v) => Ok(Expr::Count(v)),
+        Err(refused) => Err(refused),
+    }
+}
+
 /// `sprintf ( format , list )`
 pub fn sprintf_of(
     place: Place,

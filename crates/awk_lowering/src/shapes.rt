@@ -1,11 +1,14 @@
 // What an expression is by itself.
 
-ghost use Rattle.std.specs.Prelude.{◌≡◌, IfOk, option_copied, option_map};
+ghost use Rattle.std.specs.Prelude.{◌≡◌, IfOk, map, option_copied, option_map};
 ghost use Rattle.awk_lowering.specs.Lowered as low;
 ghost use Rattle.awk_lowering.specs.Starts as starts;
 ghost use Rattle.awk_resolve.specs.Mentions as said;
+ghost use Rattle.awk_lowering.specs.Made.{scope_in};
+ghost use Rattle.awk_tree.specs.Tree.{trees_of};
 ghost use Rattle.awk_tree.specs.View.{view};
 
+use crate::names::{Context, is_array};
 use awk_text::Memory;
 use awk_text::octets::Octets;
 use awk_text::place::Place;
@@ -47,6 +50,33 @@ pub fn bare(e: &Expr) -> Option<&Name>
         | Expr::Or(_, _)
         | Expr::Choice(_, _, _)
         | Expr::Assign(_, _, _, _) => None,
+    }
+}
+
+/// The name that a list is, where it is one name by itself.
+fn alone(xs: &[Expr]) -> Option<&Name>
+    ensures { option_copied result ≡ said.alone (trees_of (map view xs.now)) }
+{
+    match xs {
+        [] => None,
+        [x] => bare(x),
+        [_, _, ..] => None,
+    }
+}
+
+/// The array that a list is, where it is the name of one by itself.
+pub fn array_alone<'a>(context: &Context<'_>, xs: &'a [Expr]) -> Option<&'a Name>
+    ensures { option_copied result ≡ low.array_among (scope_in context.now) (said.alone (trees_of (map view xs.now))) }
+{
+    match alone(xs) {
+        Some(name) => {
+            if is_array(context, name.text.bytes()) {
+                Some(name)
+            } else {
+                None
+            }
+        }
+        None => None,
     }
 }
 

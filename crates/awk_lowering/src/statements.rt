@@ -9,8 +9,8 @@ ghost use Rattle.awk_program.specs.View as code;
 ghost use Rattle.awk_tree.specs.View.{view, view_redirection, view_statement};
 
 use crate::blocks::{
-    block_of, delete_of, do_of, exit_of, for_in_of, for_of, if_else_of, if_of, nothing, plain_of,
-    print_of, printf_of, redirection_of, return_of, while_of,
+    block_of, delete_all_of, delete_of, do_of, exit_of, for_in_of, for_of, if_else_of, if_of,
+    nothing, plain_of, print_of, printf_of, redirection_of, return_of, while_of,
 };
 use crate::expressions::{list, optional, part};
 use crate::kept::{boxed, kept, push};
@@ -94,9 +94,11 @@ fn statement(
             let v = variable(context, n.text.bytes());
             delete_of(n.place, v, list(context, keys.as_slice(), below))
         }
+        awk_tree::Statement::DeleteAll(n) => delete_all_of(variable(context, n.text.bytes())),
         awk_tree::Statement::Break(_) => Ok(Statement::Break),
         awk_tree::Statement::Continue(_) => Ok(Statement::Continue),
         awk_tree::Statement::Next(place) => Ok(Statement::Next(*place)),
+        awk_tree::Statement::NextFile(place) => Ok(Statement::NextFile(*place)),
         awk_tree::Statement::Exit(place, x) => exit_of(*place, optional(context, x, below)),
         awk_tree::Statement::Return(_, x) => return_of(optional(context, x, below)),
         awk_tree::Statement::Block(body) => block_of(statements(context, body.as_slice(), below)),

@@ -15,6 +15,7 @@ pub mod Statements
 pub mod MainInput
 pub mod Rules
 pub mod Closing
+pub mod Flushing
 pub mod Moves
 pub mod Advances
 pub mod Begins

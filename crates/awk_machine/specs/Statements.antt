@@ -6,13 +6,14 @@ use Rattle.awk_text.specs.declared.value.Value.{Value}
 use Rattle.awk_text.specs.declared.value.Value.TheVariants as v
 use Rattle.awk_text.specs.declared.fault.Fault.TheVariants.{NextOutside}
 use Rattle.awk_text.specs.Values.{number_of}
+use Rattle.box_world.specs.Events.{Key}
 use Rattle.awk_program.specs.Slots.{Text}
 use Rattle.awk_program.specs.Program as p
 use Rattle.awk_program.specs.Program.{Expression, Statement, Statements}
 use Rattle.awk_machine.specs.Builtins.{formatted_by}
 use Rattle.awk_machine.specs.Forms.{value, unary, each_of, keyed, if_true}
 use Rattle.awk_lib.specs.Arrays.{keys, without}
-use Rattle.awk_machine.specs.Pieces.{Loop, Part, Test, Turn, Leave, Records, Doing, Piece, At, Do, Set, Variable, Step, Start, Each, Keys, Enter, Finish, Then, Goes, granted, fails}
+use Rattle.awk_machine.specs.Pieces.{Loop, Part, Test, Turn, Leave, Records, Doing, Piece, At, Do, Set, Variable, Step, Start, Each, Keys, Past, Enter, Finish, Then, Goes, granted, fails}
 use Rattle.awk_machine.specs.Printing.{print_by, printed}
 use Rattle.awk_machine.specs.State.{State, Phase, Ruling, Ending}
 use Rattle.awk_machine.specs.Variables.{array, with_array}
@@ -98,6 +99,15 @@ abbrev pub next : Phase → Place → Then
 next Ruling place k s = Goes (to_records k) (unwound s)
 next other place k s = fails NextOutside place s
 
+-- the stream that is read now is done with before the next record
+abbrev pub skipping : Option Key → List Piece → List Piece
+skipping None k = k
+skipping (Some key) k = Do (Past key) ∷ k
+
+abbrev pub next_file : Phase → Place → Then
+next_file Ruling place k s = Goes (skipping s.main.current (to_records k)) (unwound s)
+next_file other place k s = fails NextOutside place s
+
 -- the actions of END, or the end
 abbrev pub after_exit : Phase → List Piece
 after_exit Ending = Do Finish ∷ []
@@ -116,6 +126,9 @@ return (Some x) part vs k s = unary (value x) part (λ v k s. Goes (leave_with v
 abbrev pub delete : Place → p.Variable → List Expression → Part → List Value → Then
 delete place a xs part vs k s = each_of xs part (λ vs. keyed place vs (λ key k s. Goes k (with_array a (without (array s a) key) s))) vs k s
 
+abbrev pub delete_all : p.Variable → Then
+delete_all a k s = Goes k (with_array a [] s)
+
 -- ---- all forms
 
 abbrev pub do_statement : Statement → Part → List Value → Then
@@ -123,9 +136,11 @@ do_statement (p.plain x) part vs k s = unary (value x) part (λ v k s. Goes k s)
 do_statement (p.print place xs r) part vs k s = print_by printed place xs r part vs k s
 do_statement (p.printf place x xs r) part vs k s = print_by (λ s. formatted_by) place (x ∷ xs) r part vs k s
 do_statement (p.delete place a xs) part vs k s = delete place a xs part vs k s
+do_statement (p.delete_all a) part vs k s = delete_all a k s
 do_statement p.break part vs k s = Goes (after_break k) s
 do_statement p.continue part vs k s = Goes (after_continue k) s
 do_statement (p.next place) part vs k s = next s.phase place k s
+do_statement (p.next_file place) part vs k s = next_file s.phase place k s
 do_statement (p.exit place x) part vs k s = exit place x part vs k s
 do_statement (p.return x) part vs k s = return x part vs k s
 do_statement (p.block xs) part vs k s = Goes (Do (Each (in_order xs)) ∷ k) s

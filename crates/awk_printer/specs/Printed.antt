@@ -45,6 +45,7 @@ abbrev mutual
   expression_text (p.getline_file q r x) = form (codes "getline<") (placed q ∷ reference_text r ∷ expression_text x ∷ [])
   expression_text (p.pipe x xs) = form (codes "|getline") (expression_text x ∷ pipes_text xs ∷ [])
   expression_text (p.measure how x) = form (measure_text how) (expression_text x ∷ [])
+  expression_text (p.count v) = form (codes "count") (variable_text v ∷ [])
   expression_text (p.int q x) = form (codes "int") (placed q ∷ expression_text x ∷ [])
   expression_text (p.index x y) = form (codes "index") (expression_text x ∷ expression_text y ∷ [])
   expression_text (p.substr_from q x y) = form (codes "substr/2") (placed q ∷ expression_text x ∷ expression_text y ∷ [])
@@ -54,6 +55,7 @@ abbrev mutual
   expression_text (p.split q x at v y) = form (codes "split") (placed q ∷ expression_text x ∷ placed at ∷ variable_text v ∷ ere_text y ∷ [])
   expression_text (p.substitute q all x y r) = form (extent_text all) (placed q ∷ ere_text x ∷ expression_text y ∷ reference_text r ∷ [])
   expression_text (p.close q x) = form (codes "close") (placed q ∷ expression_text x ∷ [])
+  expression_text (p.flush x) = form (codes "fflush") (expression_text x ∷ [])
   expression_text (p.system q x) = form (codes "system") (placed q ∷ expression_text x ∷ [])
 
   pub reference_text : Reference → Text
@@ -109,9 +111,11 @@ abbrev mutual
   statement_text (p.print q xs r) = form (codes "print") (placed q ∷ list_text xs ∷ redirection_text r ∷ [])
   statement_text (p.printf q x xs r) = form (codes "printf") (placed q ∷ expression_text x ∷ list_text xs ∷ redirection_text r ∷ [])
   statement_text (p.delete q v xs) = form (codes "delete") (placed q ∷ variable_text v ∷ list_text xs ∷ [])
+  statement_text (p.delete_all v) = form (codes "delete-all") (variable_text v ∷ [])
   statement_text p.break = form (codes "break") []
   statement_text p.continue = form (codes "continue") []
   statement_text (p.next q) = form (codes "next") (placed q ∷ [])
+  statement_text (p.next_file q) = form (codes "nextfile") (placed q ∷ [])
   statement_text (p.exit q x) = form (codes "exit") (placed q ∷ perhaps_text x ∷ [])
   statement_text (p.return x) = form (codes "return") (perhaps_text x ∷ [])
   statement_text (p.block xs) = form (codes "block") (statements_text xs ∷ [])

@@ -62,6 +62,7 @@ pub fn expression(names: &[Name], e: &Expr, level: u32, out: &mut Page)
         Expr::GetlineFile(q, r, x) => setting(names, "getline<", *q, r, x.get(), below, out),
         Expr::Pipe(x, xs) => pipe(names, x.get(), xs.as_slice(), below, out),
         Expr::Measure(how, x) => one(names, measure_text(*how), x.get(), below, out),
+        Expr::Count(v) => of_variable(names, "count", *v, out),
         Expr::Int(q, x) => at_one(names, "int", *q, x.get(), below, out),
         Expr::Index(x, y) => two(names, "index", x.get(), y.get(), below, out),
         Expr::SubstrFrom(q, x, y) => at_two(names, "substr/2", *q, x.get(), y.get(), below, out),
@@ -75,6 +76,7 @@ pub fn expression(names: &[Name], e: &Expr, level: u32, out: &mut Page)
             substitute(names, extent_text(*all), *q, x, y.get(), r, below, out)
         }
         Expr::Close(q, x) => at_one(names, "close", *q, x.get(), below, out),
+        Expr::Flush(x) => one(names, "fflush", x.get(), below, out),
         Expr::System(q, x) => at_one(names, "system", *q, x.get(), below, out),
     }
 }
@@ -86,6 +88,15 @@ fn record_pattern(q: Place, x: &[u8], out: &mut Page)
     open("record~", out);
     place(q, out);
     quoted(b'/', x, out);
+    close(out)
+}
+
+/// A form of one variable.
+pub fn of_variable(names: &[Name], head: &str, v: Variable, out: &mut Page)
+    ensures { Adds out.old out.new (spec.form head.now (variable_text (variable_of (names_in names.now) v) ∷ [])) }
+{
+    open(head, out);
+    variable(names, v, out);
     close(out)
 }
 

@@ -9,7 +9,7 @@ ghost use Rattle.awk_program.specs.Program as p;
 ghost use Rattle.awk_program.specs.Program.{statements_of};
 ghost use Rattle.awk_program.specs.View.{variable_of, view, view_redirection, view_statement};
 
-use crate::expressions::{at_one, element, expression, list, perhaps};
+use crate::expressions::{at_one, element, expression, list, of_variable, perhaps};
 use crate::page::{Page, cut};
 use crate::pieces::{close, open, place, text, variable};
 use crate::words::redirect_text;
@@ -90,10 +90,11 @@ fn bare(head: &str, out: &mut Page)
     close(out)
 }
 
-fn next(q: Place, out: &mut Page)
-    ensures { Adds out.old out.new (statement_text (p.next q)) }
+/// A word that is a statement by itself, with its place.
+fn bare_at(head: &str, q: Place, out: &mut Page)
+    ensures { Adds out.old out.new (spec.form head.now (spec.placed q ∷ [])) }
 {
-    open("next", out);
+    open(head, out);
     place(q, out);
     close(out)
 }
@@ -151,9 +152,11 @@ fn statement(names: &[Name], s: &Statement, level: u32, out: &mut Page)
         Statement::Delete(q, v, xs) => {
             element(names, "delete", *q, *v, xs.as_slice(), DEEPEST, out)
         }
+        Statement::DeleteAll(v) => of_variable(names, "delete-all", *v, out),
         Statement::Break => bare("break", out),
         Statement::Continue => bare("continue", out),
-        Statement::Next(q) => next(*q, out),
+        Statement::Next(q) => bare_at("next", *q, out),
+        Statement::NextFile(q) => bare_at("nextfile", *q, out),
         Statement::Exit(q, x) => exit(names, *q, x, out),
         Statement::Return(x) => give(names, x, out),
         Statement::Block(xs) => block(names, xs.as_slice(), below, out),

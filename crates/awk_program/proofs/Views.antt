@@ -169,6 +169,10 @@ pub view-Measure : (t : Names) (how : Measure) (x : Expr) → view t (e.Measure 
 unfolding layer
 view-Measure t how x = opened t _ _ (e.rolls-Measure how x)
 
+pub view-Count : (t : Names) (v : code.Variable) → view t (e.Count v) ≡ p.count (variable_of t v)
+unfolding layer
+view-Count t v = opened t _ _ (e.rolls-Count v)
+
 pub view-Int : (t : Names) (q : Place) (x : Expr) → view t (e.Int q x) ≡ p.int q (view t x)
 unfolding layer
 view-Int t q x = opened t _ _ (e.rolls-Int q x)
@@ -212,6 +216,10 @@ pub view-Close : (t : Names) (q : Place) (x : Expr) → view t (e.Close q x) ≡
 unfolding layer
 view-Close t q x = opened t _ _ (e.rolls-Close q x)
 
+pub view-Flush : (t : Names) (x : Expr) → view t (e.Flush x) ≡ p.flush (view t x)
+unfolding layer
+view-Flush t x = opened t _ _ (e.rolls-Flush x)
+
 pub view-System : (t : Names) (q : Place) (x : Expr) → view t (e.System q x) ≡ p.system q (view t x)
 unfolding layer
 view-System t q x = opened t _ _ (e.rolls-System q x)
@@ -241,6 +249,10 @@ pub statement-Delete : (t : Names) (q : Place) (v : code.Variable) (xs : List Ex
 unfolding statement_layer
 statement-Delete t q v xs = opened_statement t _ _ (s.rolls-Delete q v xs)
 
+pub statement-DeleteAll : (t : Names) (v : code.Variable) → view_statement t (s.DeleteAll v) ≡ p.delete_all (variable_of t v)
+unfolding statement_layer
+statement-DeleteAll t v = opened_statement t _ _ (s.rolls-DeleteAll v)
+
 pub statement-Break : (t : Names) → view_statement t s.Break ≡ p.break
 unfolding statement_layer
 statement-Break t = opened_statement t _ _ s.rolls-Break
@@ -252,6 +264,10 @@ statement-Continue t = opened_statement t _ _ s.rolls-Continue
 pub statement-Next : (t : Names) (q : Place) → view_statement t (s.Next q) ≡ p.next q
 unfolding statement_layer
 statement-Next t q = opened_statement t _ _ (s.rolls-Next q)
+
+pub statement-NextFile : (t : Names) (q : Place) → view_statement t (s.NextFile q) ≡ p.next_file q
+unfolding statement_layer
+statement-NextFile t q = opened_statement t _ _ (s.rolls-NextFile q)
 
 pub statement-Exit : (t : Names) (q : Place) (x : Option Expr) → view_statement t (s.Exit q x) ≡ p.exit q (option_map (view t) x)
 unfolding statement_layer
@@ -289,6 +305,6 @@ pub statement-ForIn : (t : Names) (q : Place) (k : code.Variable) (a : code.Vari
 unfolding statement_layer
 statement-ForIn t q k a y = opened_statement t _ _ (s.rolls-ForIn q k a y)
 
-pub ruleset views = (view-Number, view-Text, view-Pattern, view-Read, view-Assign, view-Change, view-Step, view-Not, view-Signed, view-Chain, view-Concat, view-Compare, view-Match, view-In, view-Group, view-And, view-Or, view-Choice, view-Call, view-Getline, view-GetlineFile, view-Pipe, view-Measure, view-Int, view-Index, view-SubstrFrom, view-Substr, view-Sprintf, view-Locate, view-Split, view-Substitute, view-Close, view-System)
+pub ruleset views = (view-Number, view-Text, view-Pattern, view-Read, view-Assign, view-Change, view-Step, view-Not, view-Signed, view-Chain, view-Concat, view-Compare, view-Match, view-In, view-Group, view-And, view-Or, view-Choice, view-Call, view-Getline, view-GetlineFile, view-Pipe, view-Measure, view-Count, view-Int, view-Index, view-SubstrFrom, view-Substr, view-Sprintf, view-Locate, view-Split, view-Substitute, view-Close, view-Flush, view-System)
 
-pub ruleset statement_views = (statement-Expr, statement-Print, statement-Printf, statement-Delete, statement-Break, statement-Continue, statement-Next, statement-Exit, statement-Return, statement-Block, statement-If, statement-IfElse, statement-While, statement-Do, statement-For, statement-ForIn)
+pub ruleset statement_views = (statement-Expr, statement-Print, statement-Printf, statement-Delete, statement-DeleteAll, statement-Break, statement-Continue, statement-Next, statement-NextFile, statement-Exit, statement-Return, statement-Block, statement-If, statement-IfElse, statement-While, statement-Do, statement-For, statement-ForIn)

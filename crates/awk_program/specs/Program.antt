@@ -46,6 +46,8 @@ mutual
     getline_file : Place → Reference → Expression → Expression
     pipe : Expression → Pipes → Expression
     measure : Measure → Expression → Expression
+    -- how many elements an array has
+    count : Variable → Expression
     int : Place → Expression → Expression
     index : Expression → Expression → Expression
     substr_from : Place → Expression → Expression → Expression
@@ -55,6 +57,7 @@ mutual
     split : Place → Expression → Place → Variable → Ere → Expression
     substitute : Place → Extent → Ere → Expression → Reference → Expression
     close : Place → Expression → Expression
+    flush : Expression → Expression
     system : Place → Expression → Expression
 
   -- whatever is read or set
@@ -110,9 +113,11 @@ mutual
     print : Place → List Expression → Option (Redirection Expression) → Statement
     printf : Place → Expression → List Expression → Option (Redirection Expression) → Statement
     delete : Place → Variable → List Expression → Statement
+    delete_all : Variable → Statement
     break : Statement
     continue : Statement
     next : Place → Statement
+    next_file : Place → Statement
     exit : Place → Option Expression → Statement
     return : Option Expression → Statement
     block : Statements → Statement

@@ -81,6 +81,7 @@ view_step t (Expr-F.Getline place r) = p.getline place (reference_of t r)
 view_step t (Expr-F.GetlineFile place r x) = p.getline_file place (reference_of t r) x
 view_step t (Expr-F.Pipe x xs) = p.pipe x (pipes_of t xs)
 view_step t (Expr-F.Measure how x) = p.measure how x
+view_step t (Expr-F.Count v) = p.count (variable_of t v)
 view_step t (Expr-F.Int place x) = p.int place x
 view_step t (Expr-F.Index x y) = p.index x y
 view_step t (Expr-F.SubstrFrom place x y) = p.substr_from place x y
@@ -90,6 +91,7 @@ view_step t (Expr-F.Locate place x y) = p.locate place x (ere_of y)
 view_step t (Expr-F.Split place x at v y) = p.split place x at (variable_of t v) (ere_of y)
 view_step t (Expr-F.Substitute place all x y r) = p.substitute place all (ere_of x) y (reference_of t r)
 view_step t (Expr-F.Close place x) = p.close place x
+view_step t (Expr-F.Flush x) = p.flush x
 view_step t (Expr-F.System place x) = p.system place x
 
 unfoldable pub view : Names → Expr → Expression
@@ -132,9 +134,11 @@ statement_step t (Statement-F.Expr x) = p.plain (view t x)
 statement_step t (Statement-F.Print place xs r) = p.print place (map (view t) xs) (option_map (view_redirection t) r)
 statement_step t (Statement-F.Printf place x xs r) = p.printf place (view t x) (map (view t) xs) (option_map (view_redirection t) r)
 statement_step t (Statement-F.Delete place v xs) = p.delete place (variable_of t v) (map (view t) xs)
+statement_step t (Statement-F.DeleteAll v) = p.delete_all (variable_of t v)
 statement_step t Statement-F.Break = p.break
 statement_step t Statement-F.Continue = p.continue
 statement_step t (Statement-F.Next place) = p.next place
+statement_step t (Statement-F.NextFile place) = p.next_file place
 statement_step t (Statement-F.Exit place x) = p.exit place (option_map (view t) x)
 statement_step t (Statement-F.Return x) = p.return (option_map (view t) x)
 statement_step t (Statement-F.Block xs) = p.block (statements_of xs)

@@ -102,6 +102,8 @@ pub enum Expr {
     Pipe(Boxed<Expr>, Items<Piped<Expr>>),
     /// `length ( text )`, `tolower ( text )`, `toupper ( text )`
     Measure(Measure, Boxed<Expr>),
+    /// `length ( array )`
+    Count(Variable),
     /// `int ( number )`
     Int(Place, Boxed<Expr>),
     /// `index ( text , part )`
@@ -120,6 +122,8 @@ pub enum Expr {
     Substitute(Place, Extent, Pattern<Expr>, Boxed<Expr>, Target<Expr>),
     /// `close ( name )`
     Close(Place, Boxed<Expr>),
+    /// `fflush ( name )`
+    Flush(Boxed<Expr>),
     /// `system ( command )`
     System(Place, Boxed<Expr>),
 }

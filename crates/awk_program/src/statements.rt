@@ -24,9 +24,12 @@ pub enum Statement {
     Printf(Place, Expr, Items<Expr>, Option<Redirection<Expr>>),
     /// `delete array [ list ]`, with the place of the array's name
     Delete(Place, Variable, Items<Expr>),
+    /// `delete array`
+    DeleteAll(Variable),
     Break,
     Continue,
     Next(Place),
+    NextFile(Place),
     Exit(Place, Option<Expr>),
     Return(Option<Expr>),
     /// `{ }`, and an empty one for the empty statement

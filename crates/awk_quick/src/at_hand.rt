@@ -144,6 +144,20 @@ fn field_at_hand<'a>(
     store.lent_field(number)
 }
 
+/// The number of elements of an array, where an expression asks for that.
+#[inline(never)]
+fn count_at_hand(store: &Store, e: &Expr) -> Option<i64>
+    ensures { IfSome result (λ n. IsThere (λ names. view names e.now) store.now (v.Num n)) }
+{
+    let Expr::Count(array) = e else {
+        return None;
+    };
+    match i64::try_from(store.element_count(*array)) {
+        Ok(count) => Some(count),
+        Err(_) => None,
+    }
+}
+
 /// The value of what is read, where to read it changes nothing.
 #[cycle(hand)]
 #[inline(always)]
@@ -217,7 +231,7 @@ pub fn number_at_hand(store: &Store, e: &Expr, level: u32) -> Option<i64>
         return Some(*number);
     }
     let Expr::Chain(x, xs) = e else {
-        return None;
+        return count_at_hand(store, e);
     };
     if level == 0 {
         return None;
@@ -241,7 +255,8 @@ pub fn at_hand<'a>(store: &'a Store, e: &'a Expr, level: u32) -> Option<Lent<'a>
         return Some(Lent::Num(*number));
     }
     let Expr::Chain(x, xs) = e else {
-        return None;
+        let count = count_at_hand(store, e)?;
+        return Some(Lent::Num(count));
     };
     if level == 0 {
         return None;
@@ -306,7 +321,7 @@ pub fn value_at_hand(alloc: Global, store: &Store, e: &Expr) -> Option<Value>
         return Some(Value::Num(number));
     }
     match e {
-        Expr::Read(_) | Expr::Text(_) => value_there(alloc, store, e),
+        Expr::Read(_) | Expr::Text(_) | Expr::Count(_) => value_there(alloc, store, e),
         _ => None,
     }
 }

@@ -83,8 +83,10 @@ shown parts a kind (k.own_array x c) = inr (x, refl, inr (refl, c))
 shown parts a kind (k.defined f ps d) = inl (f.place, k.as_function f ps d)
 shown parts a kind (k.read_or_set p n c d) = inl (n.place, k.as_scalar p n c d)
 shown parts a kind (k.subscripted p n c d) = inl (n.place, k.as_array p n c d)
+shown parts a kind (k.measured_function p n g ps c d def h) = inl (g.place, k.as_function g ps def)
 shown parts a kind (k.handed_function r f args n g ps c d def h) = inl (g.place, k.as_function g ps def)
 shown parts a kind (k.handed r f args i n q kind2 c d tk forced) = inl (n.place, k.as_argument r f args n c (at_found args i (Some n) d))
+shown parts a kind (k.measured r f args i n q c d (g, ps, def, same, place) asks forced) = inl (q.place, rw same at (k.as_parameter g ps q def (at_found ps i q place)))
 
 no_own_array : (x : Text) → Contains scalars x → Contains arrays x → ⊥
 no_own_array x c d = by (contains_cases (codes "ARGV") (codes "ENVIRON" ∷ []) x d)
@@ -219,6 +221,7 @@ module _ (parts : List Part) (well : (place : Place) → Misdefined parts place 
   mention_stands : (p : Part) (n : m.Mention) (q : Place) → Contains parts p → Contains p.mentions n → MentionAt c p.role n q → Shows q ⊎ NoArray q
   mention_stands p (said.Scalar n) q d e h = inl (name_shows p n q d (k.as_scalar p n d e) h)
   mention_stands p (said.Array n) q d e h = inl (name_shows p n q d (k.as_array p n d e) h)
+  mention_stands p (said.Measured n) q d e h = inl (name_shows p n q d (k.as_measured p n d e) h)
   mention_stands p (said.Call f args) q d e (inl (inl h)) = inl (function_shows f q (k.as_call p.role f args (p, d, refl, e)) h)
   mention_stands p (said.Call f args) q d e (inl (inr h)) = inr (call_lacks p f args q d e h)
   mention_stands p (said.Call f args) q d e (inr (None, g, h)) = absurd h
@@ -268,6 +271,7 @@ module _ (parts : List Part) (well : (place : Place) → Misdefined parts place 
       in_role p f ps n.place d g (inr (n, h, (ap (λ r. s.has_two c r n.text) (sym g) ∙ has_it, refl)))
   shown_there a q e (k.as_scalar p n d g) = in_mention p (said.Scalar n) n.place d g (two_same p n.text d ∙ e, refl)
   shown_there a q e (k.as_array p n d g) = in_mention p (said.Array n) n.place d g (two_same p n.text d ∙ e, refl)
+  shown_there a q e (k.as_measured p n d g) = in_mention p (said.Measured n) n.place d g (two_same p n.text d ∙ e, refl)
   shown_there a q e (k.as_call r f args (p, d, g, h)) = in_mention p (said.Call f args) f.place d h (inl (inl (e, refl)))
   shown_there a q e (k.as_argument r f args n (p, d, g, h) i) =
       let e2 : two c (meant p.role n.text) ≡ true = ap (λ z. two c (meant z n.text)) g ∙ e in

@@ -8,6 +8,8 @@ use Rattle.awk_tree.specs.declared.statements.Redirection.{Redirection}
 use Rattle.awk_tree.specs.Tree as t
 use Rattle.awk_tree.specs.Tree.{Tree, Trees, Perhaps, Terms, Pipes, Statement, Statements, Condition, Entry, trees_of, perhaps_of, statements_of}
 use Rattle.awk_tree.specs.Terminals.{nowhere}
+use Rattle.awk_tree.specs.declared.operators.Builtin.{Builtin}
+use Rattle.awk_tree.specs.declared.operators.Builtin.TheVariants as b
 use Rattle.awk_tree.specs.Canon.{bare, bare_all, bare_perhaps, bare_terms, bare_pipes, bare_name, bare_member, bare_redirection, bare_statement, bare_statements, bare_condition, bare_entry}
 use Rattle.awk_resolve.specs.declared.mention.Mention.{Mention}
 use Rattle.awk_resolve.specs.declared.mention.Mention.TheVariants.{Scalar, Array, Return}
@@ -41,6 +43,19 @@ bare_argument : (n : Option Name) (ms : List Mention) → m.argument (option_map
 bare_argument None ms = refl
 bare_argument (Some n) ms = refl
 
+bare_alone : (xs : Trees) → m.alone (bare_all xs) ≡ option_map bare_name (m.alone xs)
+bare_alone t.none = refl
+bare_alone (t.more x t.none) = bare_named x
+bare_alone (t.more x (t.more y ys)) = refl
+
+bare_measured : (which : Builtin) (xs : Trees) → m.measured which (bare_all xs) ≡ option_map bare_name (m.measured which xs)
+bare_measured b.Length xs = bare_alone xs
+bare_measured which xs = refl
+
+bare_built : (n : Option Name) (ms : List Mention) → m.built (option_map bare_name n) (map bare_mention ms) ≡ map bare_mention (m.built n ms)
+bare_built None ms = refl
+bare_built (Some n) ms = refl
+
 mutual
   pub bare_mentions : (x : Tree) → mentions (bare x) ≡ map bare_mention (mentions x)
   bare_mentions (t.number p x) = refl
@@ -51,7 +66,7 @@ mutual
   bare_mentions (t.field p x) = bare_mentions x
   bare_mentions (t.paren p x) = bare_mentions x
   bare_mentions (t.call f xs) = rw (bare_bares xs, bare_arguments xs) refl
-  bare_mentions (t.builtin p b xs) = bare_each xs
+  bare_mentions (t.builtin p which xs) = rw (bare_measured which xs, bare_each xs) (bare_built (m.measured which xs) (each xs))
   bare_mentions (t.bare_length p) = refl
   bare_mentions (t.split p x n y) = both (mentions x) (Array n ∷ perhaps y) _ _ (bare_mentions x) (ap (λ l. Array (bare_name n) ∷ l) (bare_optional y))
   bare_mentions (t.substitute p all x y z) = both (mentions x) (mentions y ++ perhaps z) _ _ (bare_mentions x) (both (mentions y) (perhaps z) _ _ (bare_mentions y) (bare_optional z))
@@ -118,9 +133,11 @@ mutual
   bare_said inside (t.print p x r) = both (m.all x.items) (m.target r) _ _ (bare_list x.items) (bare_target r)
   bare_said inside (t.printf p x r) = both (m.all x.items) (m.target r) _ _ (bare_list x.items) (bare_target r)
   bare_said inside (t.delete n xs) = ap (λ l. Array (bare_name n) ∷ l) (bare_list xs)
+  bare_said inside (t.delete_all n) = refl
   bare_said inside (t.break p) = bare_leaving inside p
   bare_said inside (t.continue p) = bare_leaving inside p
   bare_said inside (t.next p) = refl
+  bare_said inside (t.next_file p) = refl
   bare_said inside (t.exit p x) = bare_perhaps_said x
   bare_said inside (t.return p x) = ap (λ l. Return nowhere ∷ l) (bare_perhaps_said x)
   bare_said inside (t.block xs) = bare_each_said inside xs

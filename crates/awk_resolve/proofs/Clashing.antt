@@ -152,6 +152,7 @@ module _ (c : Kinds) where
   abbrev pub MentionAt : Role → m.Mention → Place → Type 0
   MentionAt r (said.Scalar n) q = NameAt r n q
   MentionAt r (said.Array n) q = NameAt r n q
+  MentionAt r (said.Measured n) q = NameAt r n q
   MentionAt r (said.Call f args) q = (NameAt role.Begin f q ⊎ CallAt f args q) ⊎ Some_of args (ArgumentAt r) q
   MentionAt r n q = ⊥
 
@@ -174,6 +175,7 @@ module _ (c : Kinds) where
   mention_adds : (r : Role) (n : m.Mention) → Adds (MentionAt r n) (s.at_mention c r n)
   mention_adds r (said.Scalar n) = name_adds r n
   mention_adds r (said.Array n) = name_adds r n
+  mention_adds r (said.Measured n) = name_adds r n
   mention_adds r (said.Call f args) =
       then_adds (λ q. NameAt role.Begin f q ⊎ CallAt f args q) (Some_of args (ArgumentAt r)) (λ o. s.at_call c f args (s.at_name c role.Begin f o)) (over (s.at_argument c r) args)
       (then_adds (NameAt role.Begin f) (CallAt f args) (s.at_name c role.Begin f) (s.at_call c f args) (name_adds role.Begin f) (true_adds (s.lacks_array c (u.parameters c.numbers f.text) 0 args) f.place))

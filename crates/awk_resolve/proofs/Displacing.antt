@@ -5,12 +5,12 @@ use Rattle.awk_tree.specs.declared.names.Name.{Name}
 use Rattle.awk_tree.specs.Tree.{Text}
 use Rattle.awk_tree.specs.Canon.{bare_name}
 use Rattle.awk_resolve.specs.declared.mention.Mention.{Mention}
-use Rattle.awk_resolve.specs.declared.mention.Mention.TheVariants.{Scalar, Array, Call, Next, Return, Stray}
+use Rattle.awk_resolve.specs.declared.mention.Mention.TheVariants.{Scalar, Array, Measured, Call, Next, Return, Stray}
 use Rattle.awk_resolve.specs.declared.mention.Role.{Role}
 use Rattle.awk_resolve.specs.declared.mention.Role.TheVariants as role
 use Rattle.awk_resolve.specs.declared.mention.Part.{Part}
 use Rattle.awk_resolve.specs.Kinds as kinds
-use Rattle.awk_resolve.specs.Kinds.{Kind, Named, texts, meant, Defines, Calls, Takes, Forced, Agrees}
+use Rattle.awk_resolve.specs.Kinds.{Kind, Named, texts, meant, Defines, Calls, Takes, Forced, Measures, Agrees}
 use Rattle.awk_resolve.specs.Faults as faults
 use Rattle.awk_resolve.specs.Faults.{Misplaced, Redefined, Miscalled, Misnamed, Misdefined}
 use Rattle.awk_resolve.proofs.Lists.{contains_first, contains_later, contains_none, contains_cases}
@@ -79,6 +79,10 @@ scalar_back m n e = absurd (cc)
 array_back : (m : Mention) (n : Name) → bare_mention m ≡ Array n → (x : Name) × (m ≡ Array x) × (bare_name x ≡ n)
 array_back (Array x) n e = (x, refl, cc)
 array_back m n e = absurd (cc)
+
+measured_back : (m : Mention) (n : Name) → bare_mention m ≡ Measured n → (x : Name) × (m ≡ Measured x) × (bare_name x ≡ n)
+measured_back (Measured x) n e = (x, refl, cc)
+measured_back m n e = absurd (cc)
 
 call_back : (m : Mention) (f : Name) (args : List (Option Name)) → bare_mention m ≡ Call f args →
     (g : Name) × (given : List (Option Name)) × (m ≡ Call g given) × (bare_name g ≡ f) × (map (option_map bare_name) given ≡ args)
@@ -212,6 +216,24 @@ takes_back ps f i q (g, gs, d, e, h) =
     let (x, l, n) = get_map bare_name gs' i q (ap (λ w. slice_get w i) k ∙ h) in
     (x, (g', gs', d', text_is g' g j ∙ e, l), n)
 
+parameter_is : (f q f' q' : Name) → bare_name f' ≡ f → bare_name q' ≡ q → kinds.parameter f.text q.text ≡ kinds.parameter f'.text q'.text
+parameter_is f q f' q' e d = rw (text_is f' f e, text_is q' q d) refl
+
+measures_back : (ps : List Part) (n : Named) → Measures (map bare_part ps) n → Measures ps n
+measures_back ps n (kinds.asked p x c d) =
+    let (q, c', s) = contains_map bare_part ps p c in
+    let (m, d', h) = contains_map bare_mention q.mentions (Measured x) (mention_in p q (Measured x) s d) in
+    let (y, i, j) = measured_back m x h in
+    subst (λ w. Measures ps w) (meant_is p.role q.role x y (role_of p q s) j) (kinds.asked q y c' (subst (λ w. Contains q.mentions w) i d'))
+measures_back ps n (kinds.handed_on r f args i x q c a t h) =
+    let (s, f', given, c', b, j, l) = calls_back ps r f args c in
+    let (o, a', u) = get_map (option_map bare_name) given i (Some x) (ap (λ w. slice_get w i) l ∙ a) in
+    let (y, v, z) = some_back o x u in
+    let (q', t', w) = takes_back ps f.text i q t in
+    subst (λ n'. Measures ps n') (meant_is r s x y b z)
+    (kinds.handed_on s f' given i y q' c' (a' ∙ ap Some v) (subst (λ g. Takes ps g i q') (sym (text_is f' f j)) t')
+    (subst (λ n'. Measures ps n') (parameter_is f q f' q' j w) (measures_back ps (kinds.parameter f.text q.text) h)))
+
 forced_back : (ps : List Part) (n : Named) (k : Kind) → Forced (map bare_part ps) n k → Forced ps n k
 forced_back ps n k (kinds.own_scalar x c) = kinds.own_scalar x c
 forced_back ps n k (kinds.own_array x c) = kinds.own_array x c
@@ -227,6 +249,14 @@ forced_back ps n k (kinds.subscripted p x c d) =
     let (m, d', h) = contains_map bare_mention q.mentions (Array x) (mention_in p q (Array x) s d) in
     let (y, i, j) = array_back m x h in
     subst (λ w. Forced ps w kinds.array) (meant_is p.role q.role x y (role_of p q s) j) (kinds.subscripted q y c' (subst (λ w. Contains q.mentions w) i d'))
+forced_back ps n k (kinds.measured_function p x g gs c d def e) =
+    let (q, c', s) = contains_map bare_part ps p c in
+    let (m, d', h) = contains_map bare_mention q.mentions (Measured x) (mention_in p q (Measured x) s d) in
+    let (y, i, j) = measured_back m x h in
+    let (g', gs', def', t, t') = defines_back ps g gs def in
+    subst (λ w. Forced ps (kinds.global w) kinds.scalar) (text_is g' g t)
+    (kinds.measured_function q y g' gs' c' (subst (λ w. Contains q.mentions w) i d') def'
+    (meant_is p.role q.role x y (role_of p q s) j ∙ e ∙ ap kinds.global (sym (text_is g' g t))))
 forced_back ps n k (kinds.handed_function r f args x g gs c a d e) =
     let (s, f', given, c', i, j, l) = calls_back ps r f args c in
     let (o, a', h) = contains_map (option_map bare_name) given (Some x) (subst (λ w. Contains w (Some x)) (sym l) a) in
@@ -243,6 +273,15 @@ forced_back ps n k (kinds.handed r f args i x q kind c a t h) =
     (kinds.handed s f' given i y q' kind c' (a' ∙ ap Some v) (subst (λ g. Takes ps g i q') (sym (text_is f' f j)) t')
     (subst (λ g. Forced ps (kinds.parameter g q'.text) kind) (sym (text_is f' f j))
     (subst (λ g. Forced ps (kinds.parameter f.text g) kind) (sym (text_is q' q w)) (forced_back ps (kinds.parameter f.text q.text) kind h))))
+forced_back ps n k (kinds.measured r f args i x q c a t asks h) =
+    let (s, f', given, c', b, j, l) = calls_back ps r f args c in
+    let (o, a', u) = get_map (option_map bare_name) given i (Some x) (ap (λ w. slice_get w i) l ∙ a) in
+    let (y, v, z) = some_back o x u in
+    let (q', t', w) = takes_back ps f.text i q t in
+    subst (λ n'. Forced ps n' kinds.array) (sym (parameter_is f q f' q' j w))
+    (kinds.measured s f' given i y q' c' (a' ∙ ap Some v) (subst (λ g. Takes ps g i q') (sym (text_is f' f j)) t')
+    (subst (λ n'. Measures ps n') (parameter_is f q f' q' j w) (measures_back ps (kinds.parameter f.text q.text) asks))
+    (subst (λ n'. Forced ps n' kinds.array) (sym (meant_is r s x y b z)) (forced_back ps (meant r x.text) kinds.array h)))
 
 agrees_bare : (ps : List Part) → Agrees ps → Agrees (map bare_part ps)
 agrees_bare ps h n k l a b = h n k l (forced_back ps n k a) (forced_back ps n l b)

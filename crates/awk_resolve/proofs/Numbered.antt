@@ -11,7 +11,7 @@ use Rattle.awk_tree.specs.declared.names.Name.{Name}
 use Rattle.awk_resolve.specs.Kinds.{Named, global, parameter, Defines}
 use Rattle.awk_resolve.specs.TextTables.{with_text}
 use Rattle.awk_resolve.specs.declared.mention.Mention.{Mention}
-use Rattle.awk_resolve.specs.declared.mention.Mention.TheVariants.{Scalar, Array, Call}
+use Rattle.awk_resolve.specs.declared.mention.Mention.TheVariants.{Scalar, Array, Measured, Call}
 use Rattle.awk_resolve.specs.declared.mention.Role.{Role}
 use Rattle.awk_resolve.specs.declared.mention.Role.TheVariants as role
 use Rattle.awk_resolve.specs.declared.mention.Part.{Part}
@@ -397,12 +397,14 @@ arguments_known r (a ∷ rest) n t c = elim (contains_cases a rest (Some n) c) [
 mention_grows : (r : Role) (m : Mention) (t : Numbers) → Grows t (s.with_mention r m t)
 mention_grows r (Scalar n) t = name_grows r n.text t
 mention_grows r (Array n) t = name_grows r n.text t
+mention_grows r (Measured n) t = name_grows r n.text t
 mention_grows r (Call f args) t = arguments_grow r args t
 mention_grows r m t = grows_none t
 
 mention_known : (r : Role) (m : Mention) (x : Name) (t : Numbers) → Names m x → Known (s.with_mention r m t) r x.text
 mention_known r (Scalar n) x t e = rw e (name_known r x.text t)
 mention_known r (Array n) x t e = rw e (name_known r x.text t)
+mention_known r (Measured n) x t e = rw e (name_known r x.text t)
 mention_known r (Call f args) x t c = arguments_known r args x t c
 mention_known r m x t c = absurd c
 

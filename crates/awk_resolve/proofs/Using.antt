@@ -12,7 +12,7 @@ use Rattle.awk_resolve.specs.Numbering.{number_in}
 use Rattle.awk_resolve.specs.Uses as u
 use Rattle.awk_resolve.specs.declared.numbers.Numbers.{Numbers}
 use Rattle.awk_resolve.specs.declared.uses.Use.{Use}
-use Rattle.awk_resolve.specs.declared.uses.Use.TheVariants.{Scalar, Array, Handed}
+use Rattle.awk_resolve.specs.declared.uses.Use.TheVariants.{Scalar, Array, Measured, Handed}
 
 only_one : {A : Type 0} (x y : A) → Contains (x ∷ []) y → x ≡ y
 only_one x y c = by (contains_cases x [] y c)
@@ -98,6 +98,13 @@ module _ (t : Numbers) where
       by None e d = absurd (contains_none v d)
       by (Some n) e d = (n, e, only_one (Array n) v d)
 
+  pub measured_is : (r : Role) (x : Text) (v : Use) → Contains (u.measured t r x) v → (n : ℕ) × (number_in t r x ≡ Some n) × (Measured n ≡ v)
+  measured_is r x v c = by (number_in t r x) refl c
+    where
+      by : (o : Option ℕ) → number_in t r x ≡ o → Contains (u.measured_of o) v → (n : ℕ) × (number_in t r x ≡ Some n) × (Measured n ≡ v)
+      by None e d = absurd (contains_none v d)
+      by (Some n) e d = (n, e, only_one (Measured n) v d)
+
   pub handed_is : (r : Role) (p : Option ℕ) (x : Text) (v : Use) → Contains (u.handed t r p x) v → (q : ℕ) × (n : ℕ) × (p ≡ Some q) × (number_in t r x ≡ Some n) × (Handed q n ≡ v)
   handed_is r None x v c = absurd (contains_none v c)
   handed_is r (Some q) x v c = by (number_in t r x) refl c
@@ -106,7 +113,7 @@ module _ (t : Numbers) where
       by None e d = absurd (contains_none v d)
       by (Some n) e d = (q, n, refl, e, only_one (Handed q n) v d)
 
-  function_is : (r : Role) (x : Text) (v : Use) → Contains (u.function t r x) v → (u.is_function t x ≡ true) × Contains (u.scalar t r x) v
+  pub function_is : (r : Role) (x : Text) (v : Use) → Contains (u.function t r x) v → (u.is_function t x ≡ true) × Contains (u.scalar t r x) v
   function_is r x v c = by (u.is_function t x) refl c
     where
       by : (b : Bool) → u.is_function t x ≡ b → Contains (if b then u.scalar t r x else []) v → (u.is_function t x ≡ true) × Contains (u.scalar t r x) v
@@ -164,6 +171,7 @@ scalars_sound (Scalar x ∷ us) n c = elim (contains_cases x (u.scalars us) n c)
   | inr d ↦ contains_later (Scalar x) us (Scalar n) (scalars_sound us n d)
 ]
 scalars_sound (Array x ∷ us) n c = contains_later (Array x) us (Scalar n) (scalars_sound us n c)
+scalars_sound (Measured x ∷ us) n c = contains_later (Measured x) us (Scalar n) (scalars_sound us n c)
 scalars_sound (Handed p x ∷ us) n c = contains_later (Handed p x) us (Scalar n) (scalars_sound us n c)
 
 pub arrays_sound : (us : List Use) (n : ℕ) → Contains (u.arrays us) n → Contains us (Array n)
@@ -173,7 +181,18 @@ arrays_sound (Array x ∷ us) n c = elim (contains_cases x (u.arrays us) n c) [
   | inr d ↦ contains_later (Array x) us (Array n) (arrays_sound us n d)
 ]
 arrays_sound (Scalar x ∷ us) n c = contains_later (Scalar x) us (Array n) (arrays_sound us n c)
+arrays_sound (Measured x ∷ us) n c = contains_later (Measured x) us (Array n) (arrays_sound us n c)
 arrays_sound (Handed p x ∷ us) n c = contains_later (Handed p x) us (Array n) (arrays_sound us n c)
+
+pub measures_sound : (us : List Use) (n : ℕ) → Contains (u.measures us) n → Contains us (Measured n)
+measures_sound [] n c = absurd (contains_none n c)
+measures_sound (Measured x ∷ us) n c = elim (contains_cases x (u.measures us) n c) [
+  | inl same ↦ rw same (contains_first (Measured n) us)
+  | inr d ↦ contains_later (Measured x) us (Measured n) (measures_sound us n d)
+]
+measures_sound (Scalar x ∷ us) n c = contains_later (Scalar x) us (Measured n) (measures_sound us n c)
+measures_sound (Array x ∷ us) n c = contains_later (Array x) us (Measured n) (measures_sound us n c)
+measures_sound (Handed p x ∷ us) n c = contains_later (Handed p x) us (Measured n) (measures_sound us n c)
 
 pub scalars_have : (us : List Use) (n : ℕ) → Contains us (Scalar n) → Contains (u.scalars us) n
 scalars_have [] n c = absurd (contains_none (Scalar n) c)
@@ -184,6 +203,8 @@ scalars_have (x ∷ us) n c = by x (contains_cases x us (Scalar n) c) (scalars_h
     by (Scalar y) (inr d) rest = contains_later y (u.scalars us) n (rest d)
     by (Array y) (inl same) rest = absurd (cc)
     by (Array y) (inr d) rest = rest d
+    by (Measured y) (inl same) rest = absurd (cc)
+    by (Measured y) (inr d) rest = rest d
     by (Handed p y) (inl same) rest = absurd (cc)
     by (Handed p y) (inr d) rest = rest d
 
@@ -196,6 +217,22 @@ arrays_have (x ∷ us) n c = by x (contains_cases x us (Array n) c) (arrays_have
     by (Array y) (inr d) rest = contains_later y (u.arrays us) n (rest d)
     by (Scalar y) (inl same) rest = absurd (cc)
     by (Scalar y) (inr d) rest = rest d
+    by (Measured y) (inl same) rest = absurd (cc)
+    by (Measured y) (inr d) rest = rest d
+    by (Handed p y) (inl same) rest = absurd (cc)
+    by (Handed p y) (inr d) rest = rest d
+
+pub measures_have : (us : List Use) (n : ℕ) → Contains us (Measured n) → Contains (u.measures us) n
+measures_have [] n c = absurd (contains_none (Measured n) c)
+measures_have (x ∷ us) n c = by x (contains_cases x us (Measured n) c) (measures_have us n)
+  where
+    by : (x : Use) → (x ≡ Measured n) ⊎ Contains us (Measured n) → (Contains us (Measured n) → Contains (u.measures us) n) → Contains (u.measures (x ∷ us)) n
+    by (Measured y) (inl same) rest = let one : y ≡ n = cc in (0, omega arith, one)
+    by (Measured y) (inr d) rest = contains_later y (u.measures us) n (rest d)
+    by (Scalar y) (inl same) rest = absurd (cc)
+    by (Scalar y) (inr d) rest = rest d
+    by (Array y) (inl same) rest = absurd (cc)
+    by (Array y) (inr d) rest = rest d
     by (Handed p y) (inl same) rest = absurd (cc)
     by (Handed p y) (inr d) rest = rest d
 
@@ -240,12 +277,14 @@ pub linked_length : (us : List Use) (table : List (List ℕ)) → length (u.link
 linked_length [] table = refl
 linked_length (Scalar n ∷ us) table = linked_length us table
 linked_length (Array n ∷ us) table = linked_length us table
+linked_length (Measured n ∷ us) table = linked_length us table
 linked_length (Handed p n ∷ us) table = linked_length us (u.with_link p n table) ∙ link_length p n table
 
 linked_keeps : (us : List Use) (q a : ℕ) (table : List (List ℕ)) → Linked table q a → Linked (u.linked us table) q a
 linked_keeps [] q a table h = h
 linked_keeps (Scalar n ∷ us) q a table h = linked_keeps us q a table h
 linked_keeps (Array n ∷ us) q a table h = linked_keeps us q a table h
+linked_keeps (Measured n ∷ us) q a table h = linked_keeps us q a table h
 linked_keeps (Handed p n ∷ us) q a table h = linked_keeps us q a (u.with_link p n table) (link_keeps p n q a table h)
 
 pub linked_has : (us : List Use) (q a : ℕ) (table : List (List ℕ)) → q < length table → Contains us (Handed q a) → Linked (u.linked us table) q a
@@ -258,21 +297,20 @@ linked_has (x ∷ us) q a table h c = by x (contains_cases x us (Handed q a) c) 
     by (Scalar n) (inr d) rest = rest table h d
     by (Array n) (inl same) rest = absurd (cc)
     by (Array n) (inr d) rest = rest table h d
+    by (Measured n) (inl same) rest = absurd (cc)
+    by (Measured n) (inr d) rest = rest table h d
     by (Handed p n) (inl same) rest = let one : p ≡ q = cc in let two : n ≡ a = cc in linked_keeps us q a (u.with_link p n table) (rw (one, two) (link_new q a table h))
     by (Handed p n) (inr d) rest = rest (u.with_link p n table) (rw (link_length p n table) h) d
 
+or_later : (x : Use) (us : List Use) (q a : ℕ) (table : List (List ℕ)) → Linked table q a ⊎ Contains us (Handed q a) → Linked table q a ⊎ Contains (x ∷ us) (Handed q a)
+or_later x us q a table (inl g) = inl g
+or_later x us q a table (inr c) = inr (contains_later x us (Handed q a) c)
+
 pub linked_only : (us : List Use) (q a : ℕ) (table : List (List ℕ)) → Linked (u.linked us table) q a → Linked table q a ⊎ Contains us (Handed q a)
 linked_only [] q a table h = inl h
-linked_only (Scalar n ∷ us) q a table h = later (Scalar n) us q a table (linked_only us q a table h)
-  where
-    later : (x : Use) (us : List Use) (q a : ℕ) (table : List (List ℕ)) → Linked table q a ⊎ Contains us (Handed q a) → Linked table q a ⊎ Contains (x ∷ us) (Handed q a)
-    later x us q a table (inl g) = inl g
-    later x us q a table (inr c) = inr (contains_later x us (Handed q a) c)
-linked_only (Array n ∷ us) q a table h = later (Array n) us q a table (linked_only us q a table h)
-  where
-    later : (x : Use) (us : List Use) (q a : ℕ) (table : List (List ℕ)) → Linked table q a ⊎ Contains us (Handed q a) → Linked table q a ⊎ Contains (x ∷ us) (Handed q a)
-    later x us q a table (inl g) = inl g
-    later x us q a table (inr c) = inr (contains_later x us (Handed q a) c)
+linked_only (Scalar n ∷ us) q a table h = or_later (Scalar n) us q a table (linked_only us q a table h)
+linked_only (Array n ∷ us) q a table h = or_later (Array n) us q a table (linked_only us q a table h)
+linked_only (Measured n ∷ us) q a table h = or_later (Measured n) us q a table (linked_only us q a table h)
 linked_only (Handed p n ∷ us) q a table h = by (linked_only us q a (u.with_link p n table) h)
   where
     first : Linked table q a ⊎ (Handed p n ≡ Handed q a) → Linked table q a ⊎ Contains (Handed p n ∷ us) (Handed q a)
@@ -287,3 +325,84 @@ pub no_links : (count q a : ℕ) → Linked (replicate count []) q a → ⊥
 no_links zero q a (ns, e, c) = cc
 no_links (suc count) zero a (ns, e, c) = let same : ns ≡ [] = cc in contains_none a (rw same at c)
 no_links (suc count) (suc q) a h = no_links count q a h
+
+-- ---- links back to what is measured
+
+module _ (measured : List Bool) where
+  step_length : (o : Option Bool) (p n : ℕ) (table : List (List ℕ)) → length (u.back_link o p n table) ≡ length table
+  step_length None p n table = refl
+  step_length (Some false) p n table = refl
+  step_length (Some true) p n table = link_length n p table
+
+  step_keeps : (o : Option Bool) (p n q a : ℕ) (table : List (List ℕ)) → Linked table q a → Linked (u.back_link o p n table) q a
+  step_keeps None p n q a table h = h
+  step_keeps (Some false) p n q a table h = h
+  step_keeps (Some true) p n q a table h = link_keeps n p q a table h
+
+  pub back_length : (us : List Use) (table : List (List ℕ)) → length (u.with_back_links measured us table) ≡ length table
+  back_length [] table = refl
+  back_length (Scalar n ∷ us) table = back_length us table
+  back_length (Array n ∷ us) table = back_length us table
+  back_length (Measured n ∷ us) table = back_length us table
+  back_length (Handed p n ∷ us) table = back_length us (u.back_link (slice_get measured p) p n table) ∙ step_length (slice_get measured p) p n table
+
+  pub back_keeps : (us : List Use) (q a : ℕ) (table : List (List ℕ)) → Linked table q a → Linked (u.with_back_links measured us table) q a
+  back_keeps [] q a table h = h
+  back_keeps (Scalar n ∷ us) q a table h = back_keeps us q a table h
+  back_keeps (Array n ∷ us) q a table h = back_keeps us q a table h
+  back_keeps (Measured n ∷ us) q a table h = back_keeps us q a table h
+  back_keeps (Handed p n ∷ us) q a table h = back_keeps us q a (u.back_link (slice_get measured p) p n table) (step_keeps (slice_get measured p) p n q a table h)
+
+  pub back_has : (us : List Use) (q a : ℕ) (table : List (List ℕ)) → a < length table → slice_get measured q ≡ Some true → Contains us (Handed q a)
+      → Linked (u.with_back_links measured us table) a q
+  back_has [] q a table h m c = absurd (contains_none (Handed q a) c)
+  back_has (x ∷ us) q a table h m c = by x (contains_cases x us (Handed q a) c) (back_has us q a)
+    where
+      by : (x : Use) → (x ≡ Handed q a) ⊎ Contains us (Handed q a)
+          → ((other : List (List ℕ)) → a < length other → slice_get measured q ≡ Some true → Contains us (Handed q a) → Linked (u.with_back_links measured us other) a q)
+          → Linked (u.with_back_links measured (x ∷ us) table) a q
+      by (Scalar n) (inl same) rest = absurd (cc)
+      by (Scalar n) (inr d) rest = rest table h m d
+      by (Array n) (inl same) rest = absurd (cc)
+      by (Array n) (inr d) rest = rest table h m d
+      by (Measured n) (inl same) rest = absurd (cc)
+      by (Measured n) (inr d) rest = rest table h m d
+      by (Handed p n) (inl same) rest =
+          let one : p ≡ q = cc in
+          let two : n ≡ a = cc in
+          let new : Linked (u.back_link (slice_get measured q) q a table) a q = rw m (link_new a q table h) in
+          rw (one, two) (back_keeps us a q (u.back_link (slice_get measured q) q a table) new)
+      by (Handed p n) (inr d) rest = rest (u.back_link (slice_get measured p) p n table) (rw (step_length (slice_get measured p) p n table) h) m d
+
+  -- a link back from a, of what is handed to q
+  abbrev pub Back : List Use → ℕ → ℕ → Type 0
+  Back us q a = Contains us (Handed q a) × (slice_get measured q ≡ Some true)
+
+  step_only : (o : Option Bool) (p n q a : ℕ) (table : List (List ℕ)) → slice_get measured p ≡ o → Linked (u.back_link o p n table) a q
+      → Linked table a q ⊎ ((Handed p n ≡ Handed q a) × (slice_get measured q ≡ Some true))
+  step_only None p n q a table e h = inl h
+  step_only (Some false) p n q a table e h = inl h
+  step_only (Some true) p n q a table e h = by (link_only n p a q table h)
+    where
+      by : Linked table a q ⊎ (Handed n p ≡ Handed a q) → Linked table a q ⊎ ((Handed p n ≡ Handed q a) × (slice_get measured q ≡ Some true))
+      by (inl g) = inl g
+      by (inr same) = let one : n ≡ a = cc in let two : p ≡ q = cc in inr (rw (one, two) refl, rw two at e)
+
+  or_back : (x : Use) (us : List Use) (q a : ℕ) (table : List (List ℕ)) → Linked table a q ⊎ Back us q a → Linked table a q ⊎ Back (x ∷ us) q a
+  or_back x us q a table (inl g) = inl g
+  or_back x us q a table (inr (c, m)) = inr (contains_later x us (Handed q a) c, m)
+
+  pub back_only : (us : List Use) (q a : ℕ) (table : List (List ℕ)) → Linked (u.with_back_links measured us table) a q → Linked table a q ⊎ Back us q a
+  back_only [] q a table h = inl h
+  back_only (Scalar n ∷ us) q a table h = or_back (Scalar n) us q a table (back_only us q a table h)
+  back_only (Array n ∷ us) q a table h = or_back (Array n) us q a table (back_only us q a table h)
+  back_only (Measured n ∷ us) q a table h = or_back (Measured n) us q a table (back_only us q a table h)
+  back_only (Handed p n ∷ us) q a table h = by (back_only us q a (u.back_link (slice_get measured p) p n table) h)
+    where
+      first : Linked table a q ⊎ ((Handed p n ≡ Handed q a) × (slice_get measured q ≡ Some true)) → Linked table a q ⊎ Back (Handed p n ∷ us) q a
+      first (inl g) = inl g
+      first (inr (e, m)) = inr (rw e (contains_first (Handed q a) us), m)
+
+      by : Linked (u.back_link (slice_get measured p) p n table) a q ⊎ Back us q a → Linked table a q ⊎ Back (Handed p n ∷ us) q a
+      by (inl g) = first (step_only (slice_get measured p) p n q a table refl g)
+      by (inr (c, m)) = inr (contains_later (Handed p n) us (Handed q a) c, m)

@@ -3,7 +3,7 @@ use Rattle.std.specs.Prelude.{map, option_map}
 use Rattle.awk_tree.specs.Canon.{bare_name}
 use Rattle.awk_tree.specs.Terminals.{nowhere}
 use Rattle.awk_resolve.specs.declared.mention.Mention.{Mention}
-use Rattle.awk_resolve.specs.declared.mention.Mention.TheVariants.{Scalar, Array, Call, MainInput, Next, Return, Stray}
+use Rattle.awk_resolve.specs.declared.mention.Mention.TheVariants.{Scalar, Array, Measured, Call, MainInput, Next, Return, Stray}
 use Rattle.awk_resolve.specs.declared.mention.Role.{Role}
 use Rattle.awk_resolve.specs.declared.mention.Role.TheVariants as role
 use Rattle.awk_resolve.specs.declared.mention.Part.{Part}
@@ -11,6 +11,7 @@ use Rattle.awk_resolve.specs.declared.mention.Part.{Part}
 abbrev pub bare_mention : Mention → Mention
 bare_mention (Scalar n) = Scalar (bare_name n)
 bare_mention (Array n) = Array (bare_name n)
+bare_mention (Measured n) = Measured (bare_name n)
 bare_mention (Call f args) = Call (bare_name f) (map (option_map bare_name) args)
 bare_mention MainInput = MainInput
 bare_mention (Next p) = Next nowhere

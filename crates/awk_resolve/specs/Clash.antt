@@ -4,7 +4,7 @@ use Rattle.awk_text.specs.declared.place.Place.{Place}
 use Rattle.awk_tree.specs.Tree.{Text}
 use Rattle.awk_tree.specs.declared.names.Name.{Name}
 use Rattle.awk_resolve.specs.declared.mention.Mention.{Mention}
-use Rattle.awk_resolve.specs.declared.mention.Mention.TheVariants.{Scalar, Array, Call}
+use Rattle.awk_resolve.specs.declared.mention.Mention.TheVariants.{Scalar, Array, Measured, Call}
 use Rattle.awk_resolve.specs.declared.mention.Role.{Role}
 use Rattle.awk_resolve.specs.declared.mention.Role.TheVariants as role
 use Rattle.awk_resolve.specs.declared.mention.Part.{Part}
@@ -56,6 +56,7 @@ at_call c f args = where_true (lacks_array c (parameters c.numbers f.text) 0 arg
 abbrev pub at_mention : Kinds → Role → Mention → Step
 at_mention c r (Scalar n) least = at_name c r n least
 at_mention c r (Array n) least = at_name c r n least
+at_mention c r (Measured n) least = at_name c r n least
 at_mention c r (Call f args) least = over (at_argument c r) args (at_call c f args (at_name c role.Begin f least))
 at_mention c r m least = least
 

@@ -7,13 +7,13 @@ use Rattle.awk_tree.specs.Tree.{Text}
 use Rattle.awk_text.specs.declared.place.Place.{Place}
 use Rattle.awk_tree.specs.declared.names.Name.{Name}
 use Rattle.awk_resolve.specs.declared.mention.Mention.{Mention}
-use Rattle.awk_resolve.specs.declared.mention.Mention.TheVariants.{Scalar, Array, Call, MainInput, Next, Return, Stray}
+use Rattle.awk_resolve.specs.declared.mention.Mention.TheVariants.{Scalar, Array, Measured, Call, MainInput, Next, Return, Stray}
 use Rattle.awk_resolve.specs.declared.mention.Role.{Role}
 use Rattle.awk_resolve.specs.declared.mention.Role.TheVariants as role
 use Rattle.awk_resolve.specs.declared.mention.Part.{Part}
 use Rattle.awk_resolve.specs.Kinds.{texts, scalars, arrays, Defines, Calls}
 
--- A word outside the statements that it belongs to: `next` in BEGIN or END, `return` outside a
+-- A word outside the statements that it belongs to: `next` or `nextfile` in BEGIN or END, `return` outside a
 -- function, `break` or `continue` outside a loop.
 pub data Misplaced (parts : List Part) : Place → Type 0 where
   next_in_begin : (p : Part) (place : Place) → Contains parts p → p.role ≡ role.Begin → Contains p.mentions (Next place) → Misplaced parts place
@@ -80,6 +80,7 @@ is_argument x (Some n) = bytes_eq n.text x
 abbrev pub is_name_of : Text → Mention → Bool
 is_name_of x (Scalar n) = bytes_eq n.text x
 is_name_of x (Array n) = bytes_eq n.text x
+is_name_of x (Measured n) = bytes_eq n.text x
 is_name_of x (Call f args) = bytes_eq f.text x || list_any (is_argument x) args
 is_name_of x m = false
 

@@ -5,7 +5,7 @@ use Rattle.awk_tokens.specs.Words.{is_among}
 use Rattle.awk_tree.specs.Tree.{Text}
 use Rattle.awk_text.specs.declared.place.Place.{Place}
 use Rattle.awk_tree.specs.declared.names.Name.{Name}
-use Rattle.awk_resolve.specs.declared.mention.Mention.TheVariants.{Scalar, Array, Call}
+use Rattle.awk_resolve.specs.declared.mention.Mention.TheVariants.{Scalar, Array, Measured, Call}
 use Rattle.awk_resolve.specs.declared.mention.Role.{Role}
 use Rattle.awk_resolve.specs.declared.mention.Role.TheVariants as role
 use Rattle.awk_resolve.specs.declared.mention.Part.{Part}
@@ -52,14 +52,27 @@ Calls parts r f args = (p : Part) × Contains parts p × (p.role ≡ r) × Conta
 abbrev pub Takes : List Part → Text → ℕ → Name → Type 0
 Takes parts f i q = (g : Name) × (ps : List Name) × Defines parts g ps × (g.text ≡ f) × (slice_get ps i ≡ Some q)
 
+-- The names whose length is asked, by themselves or as the parameter that they are handed to by themselves:
+-- the least set that is closed under these rules.
+pub data Measures (parts : List Part) : Named → Type 0 where
+  asked : (p : Part) (n : Name) → Contains parts p → Contains p.mentions (Measured n) → Measures parts (meant p.role n.text)
+  handed_on :
+      (r : Role) (f : Name) (args : List (Option Name)) (i : ℕ) (n q : Name) → Calls parts r f args → slice_get args i ≡ Some (Some n) →
+      Takes parts f.text i q → Measures parts (parameter f.text q.text) → Measures parts (meant r n.text)
+
 -- The least set of names with kinds that is closed under these rules. A name that is handed to a
--- parameter by itself is what the parameter is.
+-- parameter by itself is what the parameter is. A parameter whose length is asked is an array where
+-- an array is handed to it.
 pub data Forced (parts : List Part) : Named → Kind → Type 0 where
   own_scalar : (x : Text) → Contains scalars x → Forced parts (global x) scalar
   own_array : (x : Text) → Contains arrays x → Forced parts (global x) array
   defined : (f : Name) (ps : List Name) → Defines parts f ps → Forced parts (global f.text) function
   read_or_set : (p : Part) (n : Name) → Contains parts p → Contains p.mentions (Scalar n) → Forced parts (meant p.role n.text) scalar
   subscripted : (p : Part) (n : Name) → Contains parts p → Contains p.mentions (Array n) → Forced parts (meant p.role n.text) array
+  -- a function has no length
+  measured_function :
+      (p : Part) (n g : Name) (ps : List Name) → Contains parts p → Contains p.mentions (Measured n) → Defines parts g ps →
+      meant p.role n.text ≡ global g.text → Forced parts (global g.text) scalar
   -- a function's name is no argument
   handed_function :
       (r : Role) (f : Name) (args : List (Option Name)) (n g : Name) (ps : List Name) → Calls parts r f args → Contains args (Some n) → Defines parts g ps →
@@ -67,6 +80,10 @@ pub data Forced (parts : List Part) : Named → Kind → Type 0 where
   handed :
       (r : Role) (f : Name) (args : List (Option Name)) (i : ℕ) (n q : Name) (k : Kind) → Calls parts r f args → slice_get args i ≡ Some (Some n) →
       Takes parts f.text i q → Forced parts (parameter f.text q.text) k → Forced parts (meant r n.text) k
+  measured :
+      (r : Role) (f : Name) (args : List (Option Name)) (i : ℕ) (n q : Name) → Calls parts r f args → slice_get args i ≡ Some (Some n) →
+      Takes parts f.text i q → Measures parts (parameter f.text q.text) → Forced parts (meant r n.text) array →
+      Forced parts (parameter f.text q.text) array
 
 -- where a name stands
 pub data Appears (parts : List Part) : Named → Place → Type 0 where
@@ -74,6 +91,7 @@ pub data Appears (parts : List Part) : Named → Place → Type 0 where
   as_parameter : (f : Name) (ps : List Name) (q : Name) → Defines parts f ps → Contains ps q → Appears parts (parameter f.text q.text) q.place
   as_scalar : (p : Part) (n : Name) → Contains parts p → Contains p.mentions (Scalar n) → Appears parts (meant p.role n.text) n.place
   as_array : (p : Part) (n : Name) → Contains parts p → Contains p.mentions (Array n) → Appears parts (meant p.role n.text) n.place
+  as_measured : (p : Part) (n : Name) → Contains parts p → Contains p.mentions (Measured n) → Appears parts (meant p.role n.text) n.place
   as_call : (r : Role) (f : Name) (args : List (Option Name)) → Calls parts r f args → Appears parts (global f.text) f.place
   as_argument : (r : Role) (f : Name) (args : List (Option Name)) (n : Name) → Calls parts r f args → Contains args (Some n) → Appears parts (meant r n.text) n.place
 

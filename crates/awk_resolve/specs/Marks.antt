@@ -4,7 +4,10 @@ use Rattle.awk_resolve.specs.Kinds as k
 use Rattle.awk_resolve.specs.Kinds.{Kind, Named, global, parameter, Forced}
 use Rattle.awk_resolve.specs.declared.mention.Part.{Part}
 use Rattle.awk_resolve.specs.Numbering.{number}
+use Rattle.awk_resolve.specs.Reached.{Reached}
+use Rattle.awk_resolve.specs.Uses as u
 use Rattle.awk_resolve.specs.Uses.{is_function}
+use Rattle.awk_resolve.specs.declared.uses.Use.{Use}
 use Rattle.awk_resolve.specs.declared.kinds.Kinds.{Kinds}
 
 abbrev pub is_set : Option Bool → Bool
@@ -24,3 +27,11 @@ has c (parameter f x) k.function = false
 -- each name has the kinds that it is forced to, and no other one
 abbrev pub AreKinds : List Part → Kinds → Type 0
 AreKinds parts c = (a : Named) (kind : Kind) → (has c a kind ≡ true) ↔ Forced parts a kind
+
+-- the marks of what is reached
+abbrev pub Marks : List ℕ → List (List ℕ) → List Bool → Type 0
+Marks seeds links marks = (n : ℕ) → (slice_get marks n ≡ Some true) ↔ Reached seeds links n
+
+-- The marks of the arrays: from each of them along the links, and back to those numbers whose length is asked.
+abbrev pub AreArrays : List Use → List (List ℕ) → List Bool → Type 0
+AreArrays us links marks = (measured : List Bool) × Marks (u.measures us) links measured × Marks (u.arrays us) (u.with_back_links measured us links) marks

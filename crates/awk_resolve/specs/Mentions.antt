@@ -7,8 +7,10 @@ use Rattle.awk_tree.specs.declared.names.Member.{Member}
 use Rattle.awk_tree.specs.declared.statements.Redirection.{Redirection}
 use Rattle.awk_tree.specs.Tree as t
 use Rattle.awk_tree.specs.Tree.{Tree, Trees, Perhaps, Terms, Pipes, Statement, Statements, Condition, Entry, trees_of, perhaps_of, statements_of}
+use Rattle.awk_tree.specs.declared.operators.Builtin.{Builtin}
+use Rattle.awk_tree.specs.declared.operators.Builtin.TheVariants as b
 use Rattle.awk_resolve.specs.declared.mention.Mention.{Mention}
-use Rattle.awk_resolve.specs.declared.mention.Mention.TheVariants.{Scalar, Array, Call, MainInput, Next, Return, Stray}
+use Rattle.awk_resolve.specs.declared.mention.Mention.TheVariants.{Scalar, Array, Measured, Call, MainInput, Next, Return, Stray}
 use Rattle.awk_resolve.specs.declared.mention.Role.TheVariants as role
 use Rattle.awk_resolve.specs.declared.mention.Part.{Part}
 
@@ -38,6 +40,21 @@ abbrev pub argument : Option Name → List Mention → List Mention
 argument None said = said
 argument (Some n) said = []
 
+-- the name that a list is, where it is one name by itself
+abbrev pub alone : Trees → Option Name
+alone (t.more x t.none) = bare x
+alone xs = None
+
+-- the name whose length is asked
+abbrev pub measured : Builtin → Trees → Option Name
+measured b.Length xs = alone xs
+measured which xs = None
+
+-- what is said in the arguments of a built-in function
+abbrev pub built : Option Name → List Mention → List Mention
+built None said = said
+built (Some n) said = Measured n ∷ []
+
 abbrev mutual
   pub mentions : Tree → List Mention
   mentions (t.number p x) = []
@@ -48,7 +65,7 @@ abbrev mutual
   mentions (t.field p x) = mentions x
   mentions (t.paren p x) = mentions x
   mentions (t.call f xs) = Call f (bares xs) ∷ arguments xs
-  mentions (t.builtin p b xs) = each xs
+  mentions (t.builtin p which xs) = built (measured which xs) (each xs)
   mentions (t.bare_length p) = []
   mentions (t.split p x n y) = mentions x ++ Array n ∷ perhaps y
   mentions (t.substitute p all x y z) = mentions x ++ (mentions y ++ perhaps z)
@@ -116,9 +133,11 @@ abbrev mutual
   said inside (t.print p x r) = all x.items ++ target r
   said inside (t.printf p x r) = all x.items ++ target r
   said inside (t.delete n xs) = Array n ∷ all xs
+  said inside (t.delete_all n) = Array n ∷ []
   said inside (t.break p) = leaving inside p
   said inside (t.continue p) = leaving inside p
   said inside (t.next p) = Next p ∷ []
+  said inside (t.next_file p) = Next p ∷ []
   said inside (t.exit p x) = optional x
   said inside (t.return p x) = Return p ∷ optional x
   said inside (t.block xs) = each_said inside xs

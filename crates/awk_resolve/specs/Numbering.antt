@@ -9,7 +9,7 @@ use Rattle.awk_tree.specs.declared.names.Name.{Name}
 use Rattle.awk_resolve.specs.Kinds.{Named, global, parameter, scalars, arrays}
 use Rattle.awk_resolve.specs.TextTables.{with_text}
 use Rattle.awk_resolve.specs.declared.mention.Mention.{Mention}
-use Rattle.awk_resolve.specs.declared.mention.Mention.TheVariants.{Scalar, Array, Call}
+use Rattle.awk_resolve.specs.declared.mention.Mention.TheVariants.{Scalar, Array, Measured, Call}
 use Rattle.awk_resolve.specs.declared.mention.Role.{Role}
 use Rattle.awk_resolve.specs.declared.mention.Role.TheVariants as role
 use Rattle.awk_resolve.specs.declared.mention.Part.{Part}
@@ -99,6 +99,7 @@ with_arguments r (n ∷ ns) t = with_arguments r ns (with_argument r n t)
 abbrev pub with_mention : Role → Mention → Numbers → Numbers
 with_mention r (Scalar n) t = with_name r n.text t
 with_mention r (Array n) t = with_name r n.text t
+with_mention r (Measured n) t = with_name r n.text t
 with_mention r (Call f args) t = with_arguments r args t
 with_mention r m t = t
 

@@ -2,7 +2,7 @@
 use Rattle.std.specs.Prelude.{◌≡◌, List, [], ◌∷◌, ◌++◌, Some, Contains}
 use Rattle.awk_tree.specs.declared.names.Name.{Name}
 use Rattle.awk_resolve.specs.declared.mention.Mention.{Mention}
-use Rattle.awk_resolve.specs.declared.mention.Mention.TheVariants.{Scalar, Array, Call}
+use Rattle.awk_resolve.specs.declared.mention.Mention.TheVariants.{Scalar, Array, Measured, Call}
 use Rattle.awk_resolve.specs.declared.mention.Role.{Role}
 use Rattle.awk_resolve.specs.declared.mention.Role.TheVariants as role
 use Rattle.awk_resolve.specs.declared.mention.Part.{Part}
@@ -11,6 +11,7 @@ use Rattle.awk_resolve.specs.declared.mention.Part.{Part}
 abbrev pub Names : Mention → Name → Type 0
 Names (Scalar n) x = n ≡ x
 Names (Array n) x = n ≡ x
+Names (Measured n) x = n ≡ x
 Names (Call f args) x = Contains args (Some x)
 Names m x = ⊥
 

@@ -9,7 +9,7 @@ use Rattle.awk_tree.specs.declared.names.Name.{Name}
 use Rattle.awk_resolve.specs.Kinds as k
 use Rattle.awk_resolve.specs.Kinds.{Named, global, parameter, texts, scalars, arrays}
 use Rattle.awk_resolve.specs.declared.mention.Mention.{Mention}
-use Rattle.awk_resolve.specs.declared.mention.Mention.TheVariants.{Scalar, Array, Call}
+use Rattle.awk_resolve.specs.declared.mention.Mention.TheVariants.{Scalar, Array, Measured, Call}
 use Rattle.awk_resolve.specs.declared.mention.Role.{Role}
 use Rattle.awk_resolve.specs.declared.mention.Role.TheVariants as role
 use Rattle.awk_resolve.specs.declared.mention.Part.{Part}
@@ -39,6 +39,7 @@ given (Some n ∷ args) = n ∷ given args
 abbrev pub used : Mention → List Name
 used (Scalar n) = n ∷ []
 used (Array n) = n ∷ []
+used (Measured n) = n ∷ []
 used (Call f args) = given args
 used m = []
 

@@ -1,5 +1,5 @@
 -- What the items of a script make of the numbers of its names.
-use Rattle.std.specs.Prelude.{ℕ, zero, suc, ◌+◌, Bool, if◌then◌else◌, List, [], ◌∷◌, ◌++◌, slice_get, Option, Some, None, is_some}
+use Rattle.std.specs.Prelude.{ℕ, zero, suc, ◌+◌, Bool, true, false, if◌then◌else◌, List, [], ◌∷◌, ◌++◌, slice_get, Option, Some, None, is_some}
 use Rattle.std.specs.Map.{lookup}
 use Rattle.std.specs.Str.{bytes_eq}
 use Rattle.awk_tree.specs.Tree.{Text}
@@ -14,7 +14,7 @@ use Rattle.awk_resolve.specs.Numbering.{number_in}
 use Rattle.awk_resolve.specs.declared.numbers.Scope.{Scope}
 use Rattle.awk_resolve.specs.declared.numbers.Numbers.{Numbers}
 use Rattle.awk_resolve.specs.declared.uses.Use.{Use}
-use Rattle.awk_resolve.specs.declared.uses.Use.TheVariants.{Scalar, Array, Handed}
+use Rattle.awk_resolve.specs.declared.uses.Use.TheVariants.{Scalar, Array, Measured, Handed}
 
 abbrev pub scalar_of : Option ℕ → List Use
 scalar_of None = []
@@ -29,6 +29,13 @@ array_of (Some n) = Array n ∷ []
 
 abbrev pub array : Numbers → Role → Text → List Use
 array t r x = array_of (number_in t r x)
+
+abbrev pub measured_of : Option ℕ → List Use
+measured_of None = []
+measured_of (Some n) = Measured n ∷ []
+
+abbrev pub measured : Numbers → Role → Text → List Use
+measured t r x = measured_of (number_in t r x)
 
 abbrev pub handed_of : Option ℕ → Option ℕ → List Use
 handed_of None a = []
@@ -63,6 +70,7 @@ parameters t f = parameters_of (lookup (bytes_eq f) t.functions)
 abbrev pub mention : Numbers → Role → m.Mention → List Use
 mention t r (said.Scalar n) = scalar t r n.text
 mention t r (said.Array n) = array t r n.text
+mention t r (said.Measured n) = function t r n.text ++ measured t r n.text
 mention t r (said.Call f args) = arguments t r (parameters t f.text) 0 args
 mention t r x = []
 
@@ -91,13 +99,22 @@ abbrev pub scalars : List Use → List ℕ
 scalars [] = []
 scalars (Scalar n ∷ us) = n ∷ scalars us
 scalars (Array n ∷ us) = scalars us
+scalars (Measured n ∷ us) = scalars us
 scalars (Handed p n ∷ us) = scalars us
 
 abbrev pub arrays : List Use → List ℕ
 arrays [] = []
 arrays (Scalar n ∷ us) = arrays us
 arrays (Array n ∷ us) = n ∷ arrays us
+arrays (Measured n ∷ us) = arrays us
 arrays (Handed p n ∷ us) = arrays us
+
+abbrev pub measures : List Use → List ℕ
+measures [] = []
+measures (Scalar n ∷ us) = measures us
+measures (Array n ∷ us) = measures us
+measures (Measured n ∷ us) = n ∷ measures us
+measures (Handed p n ∷ us) = measures us
 
 -- what is handed to each number
 abbrev pub with_link : ℕ → ℕ → List (List ℕ) → List (List ℕ)
@@ -109,4 +126,18 @@ abbrev pub linked : List Use → List (List ℕ) → List (List ℕ)
 linked [] table = table
 linked (Scalar n ∷ us) table = linked us table
 linked (Array n ∷ us) table = linked us table
+linked (Measured n ∷ us) table = linked us table
 linked (Handed p n ∷ us) table = linked us (with_link p n table)
+
+-- and from what is handed to a measured number back to that number
+abbrev pub back_link : Option Bool → ℕ → ℕ → List (List ℕ) → List (List ℕ)
+back_link None p n table = table
+back_link (Some false) p n table = table
+back_link (Some true) p n table = with_link n p table
+
+abbrev pub with_back_links : List Bool → List Use → List (List ℕ) → List (List ℕ)
+with_back_links measured [] table = table
+with_back_links measured (Scalar n ∷ us) table = with_back_links measured us table
+with_back_links measured (Array n ∷ us) table = with_back_links measured us table
+with_back_links measured (Measured n ∷ us) table = with_back_links measured us table
+with_back_links measured (Handed p n ∷ us) table = with_back_links measured us (back_link (slice_get measured p) p n table)

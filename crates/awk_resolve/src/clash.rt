@@ -120,6 +120,7 @@ fn at_mention(kinds: &Kinds, role: &Role, mention: &Mention, least: Option<Place
     match mention {
         Mention::Scalar(name) => at_name(kinds, role, name, least),
         Mention::Array(name) => at_name(kinds, role, name, least),
+        Mention::Measured(name) => at_name(kinds, role, name, least),
         Mention::Call(name, args) => {
             let least = at_name(kinds, &Role::Begin, name, least);
             let least = at_call(kinds, name, args.as_slice(), least);

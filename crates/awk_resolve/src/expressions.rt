@@ -9,7 +9,7 @@ ghost use Rattle.awk_resolve.specs.declared.mention.Mention.TheVariants as menti
 
 use crate::mention::{Mention, copy_name};
 use awk_text::Memory;
-use awk_tree::{Expr, Member, Name, Piped, Term};
+use awk_tree::{Builtin, Expr, Member, Name, Piped, Term};
 use sqlite_items::{Boxed, Items};
 use std::alloc::Global;
 
@@ -27,6 +27,14 @@ pub fn array(alloc: Global, name: &Name, out: &mut Items<Mention>) -> Result<(),
 {
     let name = copy_name(alloc, name)?;
     out.push(Mention::Array(name))
+}
+
+/// Notes that the length of a name is asked.
+fn length(alloc: Global, name: &Name, out: &mut Items<Mention>) -> Result<(), Memory>
+    ensures { OnOk result (out.new ≡ out.old ++ mention.Measured name.now ∷ []) }
+{
+    let name = copy_name(alloc, name)?;
+    out.push(Mention::Measured(name))
 }
 
 fn members(alloc: Global, members: &[Member], out: &mut Items<Mention>) -> Result<(), Memory>
@@ -73,6 +81,39 @@ fn bare(e: &Expr) -> Option<&Name>
         | Expr::Or(_, _)
         | Expr::Choice(_, _, _)
         | Expr::Assign(_, _, _, _) => None,
+    }
+}
+
+/// The name that a list is, where it is one name by itself.
+fn alone(xs: &[Expr]) -> Option<&Name>
+    ensures { option_copied result ≡ spec.alone (trees_of (map view xs.now)) }
+{
+    match xs {
+        [] => None,
+        [x] => bare(x),
+        [_, _, ..] => None,
+    }
+}
+
+/// The name whose length is asked.
+fn measured(which: Builtin, args: &[Expr]) -> Option<&Name>
+    ensures { option_copied result ≡ spec.measured which (trees_of (map view args.now)) }
+{
+    match which {
+        Builtin::Length => alone(args),
+        Builtin::Close
+        | Builtin::Fflush
+        | Builtin::Gsub
+        | Builtin::Index
+        | Builtin::Int
+        | Builtin::Match
+        | Builtin::Split
+        | Builtin::Sprintf
+        | Builtin::Sub
+        | Builtin::Substr
+        | Builtin::System
+        | Builtin::Tolower
+        | Builtin::Toupper => None,
     }
 }
 
@@ -135,7 +176,7 @@ pub fn expression(alloc: Global, e: &Expr, out: &mut Items<Mention>) -> Result<(
             call(alloc, name, args.as_slice(), out)?;
             arguments(alloc, args.as_slice(), out)
         }
-        Expr::Builtin(_place, _builtin, args) => each(alloc, args.as_slice(), out),
+        Expr::Builtin(_place, which, args) => builtin(alloc, *which, args.as_slice(), out),
         Expr::Split(_place, text, name, separator) => {
             expression(alloc, text.get(), out)?;
             array(alloc, name, out)?;
@@ -185,6 +226,22 @@ pub fn expression(alloc: Global, e: &Expr, out: &mut Items<Mention>) -> Result<(
             expression(alloc, z.get(), out)
         }
         Expr::Assign(x, _place, _assignment, y) => two(alloc, x.get(), y.get(), out),
+    }
+}
+
+/// Notes what is said in the arguments of a built-in function.
+#[cycle(expression)]
+fn builtin(
+    alloc: Global,
+    which: Builtin,
+    args: &[Expr],
+    out: &mut Items<Mention>,
+) -> Result<(), Memory>
+    ensures { OnOk result (out.new ≡ out.old ++ spec.built (spec.measured which (trees_of (map view args.now))) (spec.each (trees_of (map view args.now)))) }
+{
+    match measured(which, args) {
+        Some(name) => length(alloc, name, out),
+        None => each(alloc, args, out),
     }
 }
 

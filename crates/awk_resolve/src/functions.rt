@@ -59,6 +59,7 @@ fn miscalled_mention(known: &Table<usize>, mention: &Mention) -> Option<Place>
         },
         Mention::Scalar(_)
         | Mention::Array(_)
+        | Mention::Measured(_)
         | Mention::MainInput
         | Mention::Next(_)
         | Mention::Return(_)

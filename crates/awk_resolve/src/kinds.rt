@@ -7,7 +7,7 @@ ghost use Rattle.awk_resolve.specs.Kinds.{Agrees, Clashes, NotAfter, global, par
 ghost use Rattle.awk_resolve.specs.Kinds as names;
 ghost use Rattle.awk_resolve.specs.declared.mention.Part as items;
 ghost use Rattle.awk_text.specs.declared.place.Place as places;
-ghost use Rattle.awk_resolve.specs.Marks.{AreKinds};
+ghost use Rattle.awk_resolve.specs.Marks.{AreArrays, AreKinds};
 ghost use Rattle.awk_resolve.specs.Marks as spec;
 ghost use Rattle.awk_resolve.specs.Numbering.{numbers};
 ghost use Rattle.awk_resolve.specs.Assigns.{CanAssign};
@@ -17,7 +17,7 @@ use crate::clash::first_clash;
 use crate::mention::Part;
 use crate::numbers::Numbers;
 use crate::reach::reached;
-use crate::uses::{arrays, links, scalars, uses};
+use crate::uses::{Use, arrays, link_measured, links, measures, scalars, uses};
 use awk_text::Memory;
 use awk_text::place::Place;
 use awk_tokens::{is_name, reserved};
@@ -41,6 +41,22 @@ pub(crate) fn is_marked(marks: &Items<bool>, number: Option<usize>) -> bool
     }
 }
 
+/// Marks the arrays. The links lead from each parameter to what is handed to it, and here also back to those
+/// parameters whose length is asked, which are found along the links as they were.
+fn array_marks(
+    alloc: Global,
+    uses: &[Use],
+    links: &mut Vec<Items<usize>>,
+) -> Result<Items<bool>, Memory>
+    ensures { IfOk result (λ marks. AreArrays uses.now links.old.items marks) }
+{
+    let measures = measures(alloc, uses)?;
+    let measured = reached(alloc, measures.as_slice(), links.as_slice())?;
+    link_measured(links, &measured, uses)?;
+    let arrays = arrays(alloc, uses)?;
+    reached(alloc, arrays.as_slice(), links.as_slice())
+}
+
 impl Kinds {
     fn marked(alloc: Global, parts: &[Part]) -> Result<Kinds, Memory>
         requires { (place : places.Place) → Misdefined parts.now place → ⊥ }
@@ -50,11 +66,10 @@ impl Kinds {
         let numbers = Numbers::of(alloc, parts)?;
         let uses = uses(alloc, &numbers, parts)?;
         let scalars = scalars(alloc, uses.as_slice())?;
-        let arrays = arrays(alloc, uses.as_slice())?;
-        let links = links(alloc, numbers.count, uses.as_slice())?;
+        let mut links = links(alloc, numbers.count, uses.as_slice())?;
         Ok(Kinds {
             scalars: reached(alloc, scalars.as_slice(), links.as_slice())?,
-            arrays: reached(alloc, arrays.as_slice(), links.as_slice())?,
+            arrays: array_marks(alloc, uses.as_slice(), &mut links)?,
             numbers,
         })
     }

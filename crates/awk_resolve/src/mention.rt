@@ -15,12 +15,14 @@ pub enum Mention {
     Scalar(Name),
     /// The name is used as an array.
     Array(Name),
+    /// The length of the name is asked, which may be a scalar or an array.
+    Measured(Name),
     /// A function of the script is called. An argument that is a name by itself is given here, and
     /// the call alone tells what it is used as.
     Call(Name, Items<Option<Name>>),
     /// A `getline` that has no file reads the main input.
     MainInput,
-    /// `next`
+    /// `next` or `nextfile`
     Next(Place),
     /// `return`
     Return(Place),

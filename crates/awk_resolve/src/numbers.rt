@@ -221,6 +221,7 @@ impl Numbers {
         match mention {
             Mention::Scalar(name) => self.add(alloc, role, name.text.bytes()),
             Mention::Array(name) => self.add(alloc, role, name.text.bytes()),
+            Mention::Measured(name) => self.add(alloc, role, name.text.bytes()),
             Mention::Call(_name, args) => self.add_arguments(alloc, role, args.as_slice()),
             Mention::MainInput | Mention::Next(_) | Mention::Return(_) | Mention::Stray(_) => Ok(
                 (),

@@ -35,7 +35,11 @@ fn misplaced_word(role: &Role, mention: &Mention) -> Option<Place>
         Mention::Next(place) => is_begin_or_end(role).then_some(*place),
         Mention::Return(place) => (!is_function(role)).then_some(*place),
         Mention::Stray(place) => Some(*place),
-        Mention::Scalar(_) | Mention::Array(_) | Mention::Call(_, _) | Mention::MainInput => None,
+        Mention::Scalar(_)
+        | Mention::Array(_)
+        | Mention::Measured(_)
+        | Mention::Call(_, _)
+        | Mention::MainInput => None,
     }
 }
 

@@ -24,6 +24,7 @@ fn is_main_input(mention: &Mention) -> bool
         Mention::MainInput => true,
         Mention::Scalar(_)
         | Mention::Array(_)
+        | Mention::Measured(_)
         | Mention::Call(_, _)
         | Mention::Next(_)
         | Mention::Return(_)
@@ -85,7 +86,7 @@ fn has_environ(mention: &Mention) -> bool
     ensures { result ≡ spec.is_name_of (codes "ENVIRON") mention.now }
 {
     match mention {
-        Mention::Scalar(name) | Mention::Array(name) => is_environ(name),
+        Mention::Scalar(name) | Mention::Array(name) | Mention::Measured(name) => is_environ(name),
         Mention::Call(name, args) => is_environ(name) || has_argument(args.as_slice()),
         Mention::MainInput | Mention::Next(_) | Mention::Return(_) | Mention::Stray(_) => false,
     }

@@ -89,6 +89,7 @@ fn add_mention(
     match mention {
         Mention::Scalar(name) => add_name(alloc, parameters, name, out),
         Mention::Array(name) => add_name(alloc, parameters, name, out),
+        Mention::Measured(name) => add_name(alloc, parameters, name, out),
         Mention::Call(_name, args) => add_arguments(alloc, parameters, args.as_slice(), out),
         Mention::MainInput | Mention::Next(_) | Mention::Return(_) | Mention::Stray(_) => Ok(()),
     }

@@ -83,9 +83,11 @@ fn statement(
             array(alloc, name, out)?;
             each(alloc, keys.as_slice(), out)
         }
+        Statement::DeleteAll(name) => array(alloc, name, out),
         Statement::Break(place) => leaving(is_inside, *place, out),
         Statement::Continue(place) => leaving(is_inside, *place, out),
         Statement::Next(place) => out.push(Mention::Next(*place)),
+        Statement::NextFile(place) => out.push(Mention::Next(*place)),
         Statement::Exit(_place, x) => optional(alloc, x, out),
         Statement::Return(place, x) => {
             out.push(Mention::Return(*place))?;

@@ -1,6 +1,6 @@
 // What the items of a script make of each number.
 
-ghost use Rattle.std.specs.Prelude.{◌≡◌, ◌++◌, [], map, replicate, IfOk, OnOk};
+ghost use Rattle.std.specs.Prelude.{◌≡◌, ◌++◌, [], map, replicate, slice_get, IfOk, OnOk};
 ghost use Rattle.awk_resolve.specs.Uses as spec;
 
 use crate::mention::{Mention, Part, Role};
@@ -18,6 +18,8 @@ pub enum Use {
     Scalar(usize),
     /// It is used as an array.
     Array(usize),
+    /// Its length is asked.
+    Measured(usize),
     /// To the parameter of the first number, the name of the second is handed by itself.
     Handed(usize, usize),
 }
@@ -40,6 +42,15 @@ fn array(numbers: &Numbers, role: &Role, text: &[u8], out: &mut Items<Use>) -> R
     }
 }
 
+fn measured(numbers: &Numbers, role: &Role, text: &[u8], out: &mut Items<Use>) -> Result<(), Memory>
+    ensures { OnOk result (out.new ≡ out.old ++ spec.measured numbers.now role.now text.now) }
+{
+    match numbers.number(role, text) {
+        Some(number) => out.push(Use::Measured(number)),
+        None => Ok(()),
+    }
+}
+
 fn handed(
     numbers: &Numbers,
     role: &Role,
@@ -58,7 +69,7 @@ fn handed(
     }
 }
 
-/// A function by itself is no argument: its name is then used as a scalar too.
+/// A function by itself is no argument, and has no length: its name is then used as a scalar too.
 fn function(numbers: &Numbers, role: &Role, text: &[u8], out: &mut Items<Use>) -> Result<(), Memory>
     ensures { OnOk result (out.new ≡ out.old ++ spec.function numbers.now role.now text.now) }
 {
@@ -115,6 +126,10 @@ fn mention(
     match mention {
         Mention::Scalar(name) => scalar(numbers, role, name.text.bytes(), out),
         Mention::Array(name) => array(numbers, role, name.text.bytes(), out),
+        Mention::Measured(name) => {
+            function(numbers, role, name.text.bytes(), out)?;
+            measured(numbers, role, name.text.bytes(), out)
+        }
         Mention::Call(name, args) => {
             let parameters = numbers.parameters(name.text.bytes());
             arguments(numbers, role, parameters, args.as_slice(), out)
@@ -201,6 +216,19 @@ pub fn arrays(alloc: Global, uses: &[Use]) -> Result<Items<usize>, Memory>
     Ok(numbers)
 }
 
+/// The numbers whose length is asked by a use of their own.
+pub fn measures(alloc: Global, uses: &[Use]) -> Result<Items<usize>, Memory>
+    ensures { IfOk result (λ numbers. numbers ≡ spec.measures uses.now) }
+{
+    let mut numbers = Items::new(alloc);
+    for one in uses {
+        if let Use::Measured(number) = one {
+            numbers.push(*number)?;
+        }
+    }
+    Ok(numbers)
+}
+
 fn no_links(alloc: Global, count: usize) -> Result<Vec<Items<usize>>, Memory>
     ensures { IfOk result (λ table. table.items ≡ replicate count []) }
 {
@@ -231,4 +259,34 @@ pub fn links(alloc: Global, count: usize, uses: &[Use]) -> Result<Vec<Items<usiz
         }
     }
     Ok(table)
+}
+
+fn link_back(
+    table: &mut Vec<Items<usize>>,
+    measured: &Items<bool>,
+    parameter: usize,
+    number: usize,
+) -> Result<(), Memory>
+    ensures { OnOk result (table.new.items ≡ spec.back_link (slice_get measured.now parameter) parameter number table.old.items) }
+{
+    match measured.get(parameter) {
+        Some(true) => link(table, number, parameter),
+        Some(false) | None => Ok(()),
+    }
+}
+
+/// Links each name that is handed to a parameter whose length is asked back to that parameter.
+pub fn link_measured(
+    table: &mut Vec<Items<usize>>,
+    measured: &Items<bool>,
+    uses: &[Use],
+) -> Result<(), Memory>
+    ensures { OnOk result (table.new.items ≡ spec.with_back_links measured.now uses.now table.old.items) }
+{
+    for one in uses {
+        if let Use::Handed(parameter, number) = one {
+            link_back(table, measured, *parameter, *number)?;
+        }
+    }
+    Ok(())
 }

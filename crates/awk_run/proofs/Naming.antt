@@ -164,7 +164,9 @@ array_is_variable parts a kind x e is (k.own_array y c) =
 array_is_variable parts a kind x e is (k.defined f ps d) = absurd (cc)
 array_is_variable parts a kind x e is (k.read_or_set p n c d) = absurd (cc)
 array_is_variable parts a kind x e is (k.subscripted p n c d) = named_variable parts p (Array n) n x c d (or_left (bytes_eq n.text n.text) false (itself n.text)) is
+array_is_variable parts a kind x e is (k.measured_function p n g ps c d def h) = absurd (cc)
 array_is_variable parts a kind x e is (k.handed_function r f args n g ps c d def h) = absurd (cc)
+array_is_variable parts a kind x e is (k.measured r f args i n q c at tk asked forced) = absurd (cc)
 array_is_variable parts a kind x e is (k.handed r f args i n q kind2 (p, c, of, d) at tk forced) =
     named_variable parts p (Call f args) n x c d (given_has args i n at) (ap (λ (z : Role). meant z n.text) of ∙ is)
 
@@ -176,7 +178,9 @@ function_only parts a kind e (k.own_array x c) = absurd (cc)
 function_only parts a kind e (k.defined f ps d) = (f, ps, d, refl)
 function_only parts a kind e (k.read_or_set p n c d) = absurd (cc)
 function_only parts a kind e (k.subscripted p n c d) = absurd (cc)
+function_only parts a kind e (k.measured_function p n g ps c d def h) = absurd (cc)
 function_only parts a kind e (k.handed_function r f args n g ps c d def h) = absurd (cc)
+function_only parts a kind e (k.measured r f args i n q c at tk asked forced) = absurd (cc)
 function_only parts a kind e (k.handed r f args i n q kind2 c d tk forced) =
     let (g, ps, def, same) = function_only parts (parameter f.text q.text) kind e forced in absurd (cc)
 

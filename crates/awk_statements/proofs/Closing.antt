@@ -7,7 +7,7 @@ use Rattle.awk_tree.specs.declared.goals.Nested.{Nested}
 use Rattle.awk_tree.specs.declared.goals.Nested.TheVariants as nested
 use Rattle.awk_tree.specs.declared.terminals.Terminal.{Terminal}
 use Rattle.awk_tree.specs.declared.terminals.Terminal.TheVariants as w
-use Rattle.awk_tree.specs.Terminals.{look, ahead}
+use Rattle.awk_tree.specs.Terminals.{is, look, ahead}
 use Rattle.awk_tree.specs.Tree as t
 use Rattle.awk_tree.specs.Tree.{Tree, Statement, statements_of}
 use Rattle.awk_tree.specs.Input.{Outcome, Parser, and_then, ◌>>=◌, ◌>>◌, pure, deep, any, one, skip, past}
@@ -46,6 +46,10 @@ shut_closed : (o : Outcome Statement) → Shut o → Closed o
 shut_closed (Ok p) h = λ shown. let no : false ≡ true = sym h ∙ shown in absurd cc
 shut_closed (Err e) h = tt
 
+either_shut : (b : Bool) (p q : Parser Statement) (ts : List Token) → Shut (p ts) → Shut (q ts) → Shut ((if b then p else q) ts)
+either_shut true p q ts h k = h
+either_shut false p q ts h k = k
+
 -- ---- statements that hold no other
 
 ended_shut : (s : Statement) → is_open s ≡ false → (kind : Terminal) (ts : List Token) → Shut (st.ended_by s kind ts)
@@ -74,11 +78,15 @@ module _ (depth : ℕ) (inner : Goal → Parser Tree) where
   unfolding st.printf
   printf_shut ts = then_shut (one w.Printf ts) _ (λ token ts. then_shut (st.printed depth inner ts) _ (λ xs ts. then_shut (st.redirection depth inner ts) _ (λ _ _. refl)))
 
+  element_shut : (token : Token) (ts : List Token) → Shut ((one w.OpenBracket >> (list depth inner >>= λ xs. one w.CloseBracket >> pure (t.delete (name_of token) xs))) ts)
+  element_shut token ts =
+      then_shut (one w.OpenBracket ts) _ (λ _ ts. then_shut (list depth inner ts) _ (λ xs ts. then_shut (one w.CloseBracket ts) _ (λ _ _. refl)))
+
   delete_shut : (ts : List Token) → Shut (st.delete depth inner ts)
   unfolding st.delete
   delete_shut ts =
-      then_shut (one w.Delete ts) _ (λ _ ts. then_shut (one w.Name ts) _ (λ token ts. then_shut (one w.OpenBracket ts) _
-      (λ _ ts. then_shut (list depth inner ts) _ (λ xs ts. then_shut (one w.CloseBracket ts) _ (λ _ _. refl)))))
+      then_shut (one w.Delete ts) _ (λ _ ts. then_shut (one w.Name ts) _
+      (λ token ts. either_shut (is (ahead ts) w.OpenBracket) _ (pure (t.delete_all (name_of token))) ts (element_shut token ts) refl))
 
   simple_by_shut : (kind : Terminal) (ts : List Token) → Shut (st.simple_by depth inner kind ts)
   simple_by_shut w.Print ts = print_shut ts
@@ -87,6 +95,7 @@ module _ (depth : ℕ) (inner : Goal → Parser Tree) where
   simple_by_shut w.Break ts = then_shut (any ts) _ (λ _ _. refl)
   simple_by_shut w.Continue ts = then_shut (any ts) _ (λ _ _. refl)
   simple_by_shut w.Next ts = then_shut (any ts) _ (λ _ _. refl)
+  simple_by_shut w.NextFile ts = then_shut (any ts) _ (λ _ _. refl)
   simple_by_shut w.Exit ts = then_shut (any ts) _ (λ token ts. then_shut (st.perhaps_here depth inner ts) _ (λ _ _. refl))
   simple_by_shut w.Return ts = then_shut (any ts) _ (λ token ts. then_shut (st.perhaps_here depth inner ts) _ (λ _ _. refl))
   simple_by_shut _ ts = then_shut (expression depth inner false ts) _ (λ _ _. refl)

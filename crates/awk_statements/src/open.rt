@@ -21,8 +21,10 @@ fn is_open(statement: &Statement) -> bool
         Statement::For(_, _, _, body) => is_open(body.get()),
         Statement::ForIn(_, _, _, body) => is_open(body.get()),
         Statement::Empty | Statement::Expr(_) | Statement::Block(_) | Statement::Do(_, _) => false,
-        Statement::Print(_, _, _) | Statement::Printf(_, _, _) | Statement::Delete(_, _) => false,
-        Statement::Break(_) | Statement::Continue(_) | Statement::Next(_) => false,
+        Statement::Print(_, _, _) | Statement::Printf(_, _, _) => false,
+        Statement::Delete(_, _) | Statement::DeleteAll(_) => false,
+        Statement::Break(_) | Statement::Continue(_) => false,
+        Statement::Next(_) | Statement::NextFile(_) => false,
         Statement::Exit(_, _) | Statement::Return(_, _) => false,
     }
 }

@@ -49,13 +49,16 @@ fn perhaps_here(level: &Level, tokens: &mut Tokens<'_>) -> Result<Option<Expr>, 
     Ok(Some(level.expression(tokens, false)?.into_inner()))
 }
 
-/// `delete NAME [ list ]`
+/// `delete NAME | delete NAME [ list ]`
 #[tactic(auto, using(awk_tree::proofs::Views::statement_views), unfolding(awk_tree::specs::Statements::delete))]
 fn delete(level: &Level, tokens: &mut Tokens<'_>) -> Result<Statement, Fault>
     ensures { Reads view_statement (spec.delete level.now.depth (expr level.now.depth) tokens.old) result tokens.new }
 {
     tokens.one(Terminal::Delete)?;
     let token = tokens.one(Terminal::Name)?;
+    if !is(tokens.ahead(), Terminal::OpenBracket) {
+        return Ok(Statement::DeleteAll(name_of(level.alloc, token)?));
+    }
     tokens.one(Terminal::OpenBracket)?;
     let keys = level.list(tokens)?;
     tokens.one(Terminal::CloseBracket)?;
@@ -99,6 +102,7 @@ fn simple_by(level: &Level, tokens: &mut Tokens<'_>, kind: Terminal) -> Result<S
         Terminal::Break => Ok(Statement::Break(tokens.any()?.place)),
         Terminal::Continue => Ok(Statement::Continue(tokens.any()?.place)),
         Terminal::Next => Ok(Statement::Next(tokens.any()?.place)),
+        Terminal::NextFile => Ok(Statement::NextFile(tokens.any()?.place)),
         Terminal::Exit => exit(level, tokens),
         Terminal::Return => give_back(level, tokens),
         _ => plain(level, tokens),

@@ -16,7 +16,7 @@ use Rattle.awk_program.specs.Program.{Expression}
 use Rattle.awk_machine.specs.Advances.{held}
 use Rattle.awk_machine.specs.Pieces.{Piece, At, Doing, Goes, Faulted, ends, granted}
 use Rattle.awk_machine.specs.State.{State, Course, Given}
-use Rattle.awk_machine.specs.Statements.{next, unwound, after_exit, to_records}
+use Rattle.awk_machine.specs.Statements.{next, next_file, skipping, unwound, after_exit, to_records}
 use Rattle.awk_machine.specs.Streams.{seen}
 use Rattle.awk_store.specs.Changes as changes
 use Rattle.awk_store.specs.Kept.{Kept}
@@ -25,11 +25,12 @@ use Rattle.awk_store.specs.declared.phase.Phase.{Phase}
 use Rattle.awk_store.specs.declared.phase.Phase.TheVariants as phase
 use Rattle.awk_store.specs.Numbers.{exit_status}
 use Rattle.awk_streams.specs.declared.halt.Halt.{Halt}
+use Rattle.awk_streams.specs.declared.halt.Halt.TheVariants as halt
 use Rattle.awk_streams.specs.Tables.{Table}
 use Rattle.awk_store.specs.Wholes.{Agreeing, base}
 use Rattle.awk_streams.specs.Chains.{halt_at}
-use Rattle.awk_store.specs.Acts.{Passes}
-use Rattle.awk_store.proofs.Acting.{at_rest, moves, alters}
+use Rattle.awk_store.specs.Acts.{Acts, Passes}
+use Rattle.awk_store.proofs.Acting.{at_rest, moves, alters, done, closed}
 use Rattle.awk_store.specs.Jumps.{Jumps}
 
 abbrev status_ok : ℕ → Result ℕ Fault
@@ -54,6 +55,17 @@ module _ (g : Given) (old : Kept) (t : Table) where
 
   pub next_not : (place : Place) → old.phase ≢ phase.Ruling → Passes g (At (Doing (p.next place)) []) (old, t) (λ k. ends (Faulted fault.NextOutside place)) (old, t)
   next_not place not = moves (at_rest _ _) (λ k hid c a. ap (held g (seen (base g (old, t) hid) c)) (next_by old.phase place k (seen (base g (old, t) hid) c) not))
+
+  next_file_so : (place : Place) → old.phase ≡ phase.Ruling → Passes g (At (Doing (p.next_file place)) []) (old, t) (λ k. skipping old.main.current (to_records k)) (changes.unwound old, t)
+  next_file_so place is = alters refl (at_rest _ _) (λ k hid c a. (hid, unwinds g old t hid c a, ap (λ ph. held g (seen (base g (old, t) hid) c) (next_file (phase_of ph) place k (seen (base g (old, t) hid) c))) is))
+
+  next_file_by : (ph : Phase) (place : Place) (k : List Piece) (s : State) → ph ≢ phase.Ruling → next_file (phase_of ph) place k s ≡ Goes (ends (Faulted fault.NextOutside place)) s
+  next_file_by phase.Beginning place k s not = refl
+  next_file_by phase.Ruling place k s not = absurd (not refl)
+  next_file_by phase.Ending place k s not = refl
+
+  next_file_not : (place : Place) → old.phase ≢ phase.Ruling → Passes g (At (Doing (p.next_file place)) []) (old, t) (λ k. ends (Faulted fault.NextOutside place)) (old, t)
+  next_file_not place not = moves (at_rest _ _) (λ k hid c a. ap (held g (seen (base g (old, t) hid) c)) (next_file_by old.phase place k (seen (base g (old, t) hid) c) not))
 
   pub exit_so : (place : Place) → Passes g (At (Doing (p.exit place None)) []) (old, t) (λ k. after_exit (phase_of old.phase)) (changes.unwound old, t)
   exit_so place = alters refl (at_rest _ _) (λ k hid c a. (hid, unwinds g old t hid c a, refl))
@@ -91,6 +103,16 @@ module _ (g : Given) (old : Kept) (t : Table) where
 
   pub next_is_not : (place : Place) (ph : Phase) → ph ≡ old.phase → ph ≢ phase.Ruling → Passes g (At (Doing (p.next place)) []) (old, t) (λ k. ends (Faulted fault.NextOutside place)) (old, t)
   next_is_not place ph of not = next_not place (λ e. not (of ∙ e))
+
+  pub next_file_is : (place : Place) (ph : Phase) (new : Kept) → ph ≡ old.phase → ph ≡ phase.Ruling → new ≡ changes.unwound old →
+      Acts g (At (Doing (p.next_file place)) []) (λ (u : Unit {0}) k. skipping new.main.current (to_records k)) (old, t) (Ok tt) (new, t)
+  next_file_is place ph new of is same =
+      subst (λ (n : Kept). Acts g (At (Doing (p.next_file place)) []) (λ (u : Unit {0}) k. skipping n.main.current (to_records k)) (old, t) (Ok tt) (n, t)) (sym same)
+      (done {on = λ (u : Unit {0}) k. skipping old.main.current (to_records k)} (next_file_so place (sym of ∙ is)))
+
+  pub next_file_is_not : (place : Place) (ph : Phase) → ph ≡ old.phase → ph ≢ phase.Ruling →
+      Acts g (At (Doing (p.next_file place)) []) (λ (u : Unit {0}) k. skipping old.main.current (to_records k)) (old, t) (Err (halt.Fault fault.NextOutside place)) (old, t)
+  next_file_is_not place ph of not = closed (next_file_not place (λ e. not (of ∙ e)))
 
   pub exit_is : (place : Place) (new : Kept) → new ≡ changes.unwound old → Passes g (At (Doing (p.exit place None)) []) (old, t) (λ k. after_exit (phase_of new.phase)) (new, t)
   exit_is place new same = subst (λ (n : Kept). Passes g (At (Doing (p.exit place None)) []) (old, t) (λ k. after_exit (phase_of n.phase)) (n, t)) (sym same) (exit_so place)

@@ -1,5 +1,5 @@
 // Arrays.
-ghost use Rattle.std.specs.Prelude.{◌≡◌, ◌⊎◌, ◌≤◌, true, false, Ok, Some, slice_get, slice_set, unwrap_or, length, IfOk, IfErr, OnOk, IsOkUnless};
+ghost use Rattle.std.specs.Prelude.{[], ◌≡◌, ◌⊎◌, ◌≤◌, true, false, Ok, Some, slice_get, slice_set, unwrap_or, length, IfOk, IfErr, OnOk, IsOkUnless};
 ghost use Rattle.std.specs.Option.{option_copied};
 ghost use Rattle.awk_fields.specs.Rows.{IsValueAt};
 ghost use Rattle.awk_text.specs.Limits.{most_bytes};
@@ -181,6 +181,16 @@ impl Store {
         }
     }
 
+    /// How many elements there are. Takes no memory.
+    pub fn element_count(&self, name: Variable) -> usize
+        ensures { result ≡ length (array self.now name) }
+    {
+        match self.array_at(self.reference(name)) {
+            Some(elements) => elements.count(),
+            None => 0,
+        }
+    }
+
     /// Gives an element a value: in its place where it is there, and else last. Where the variable is no array nothing
     /// changes, and the answer is `Ok`.
     ///
@@ -240,6 +250,15 @@ impl Store {
         let mut elements = self.replace(at, Array::new(self.alloc));
         elements.remove(key);
         self.replace(at, elements);
+    }
+
+    /// Removes all elements. An empty array takes the place of the old one, so that this takes no longer than to let go of what
+    /// it holds. Takes no memory.
+    pub fn clear(&mut self, name: Variable)
+        ensures { self.new ≡ with_array (reference self.old name) [] self.old }
+    {
+        let at = self.reference(name);
+        self.replace(at, Array::new(self.alloc));
     }
 
     /// The keys, in the order in which they were added.

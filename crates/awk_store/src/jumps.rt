@@ -1,8 +1,10 @@
-// `next` and `exit`.
+// `next`, `nextfile` and `exit`.
 ghost use Rattle.awk_machine.specs.Pieces.{At, Doing};
 ghost use Rattle.awk_machine.specs.State.{Given};
+ghost use Rattle.awk_machine.specs.Statements.{skipping, to_records};
 ghost use Rattle.awk_program.specs.Program as p;
 ghost use Rattle.awk_program.specs.Program.{Expression};
+ghost use Rattle.awk_store.specs.Acts.{Acts};
 ghost use Rattle.awk_store.specs.Jumps.{Jumps};
 ghost use Rattle.awk_streams.specs.Tables.{Table};
 ghost use Rattle.std.specs.Prelude.{None, Some, [], ◌∷◌};
@@ -24,6 +26,20 @@ pub fn next(store: &mut Store, place: Place) -> Halt
             Halt::Next
         }
         _ => Halt::Fault(Fault::NextOutside, place),
+    }
+}
+
+/// `nextfile`: all calls end, and what the main input reads is to be done with before the next record. Outside the rules for
+/// records it is a fault. Takes no memory.
+pub fn next_file(store: &mut Store, place: Place) -> Result<(), Halt>
+    ensures { (g : Given) (t : Table) → Acts g (At (Doing (p.next_file place)) []) (λ u k. skipping store.new.main.current (to_records k)) (store.old, t) result (store.new, t) }
+{
+    match store.phase() {
+        Phase::Ruling => {
+            store.unwind();
+            Ok(())
+        }
+        _ => Err(Halt::Fault(Fault::NextOutside, place)),
     }
 }
 

@@ -4,6 +4,7 @@ ghost use Rattle.awk_fields.specs.Heads.{head, too_long};
 ghost use Rattle.awk_fields.specs.Takes.{Input, Takes};
 ghost use Rattle.awk_fields.specs.declared.reader.Taken.TheVariants as taken;
 ghost use Rattle.awk_machine.specs.Closing as spec;
+ghost use Rattle.awk_machine.specs.Flushing.{has_output};
 ghost use Rattle.box_world.specs.Events.{class_number, find_stream};
 ghost use Rattle.std.proofs.Common.{ap};
 ghost use Rattle.std.specs.Cmp as Cmp;
@@ -276,6 +277,21 @@ impl Streams {
             }
         }
         None
+    }
+
+    /// Whether an output file or an output command of this text is open. Takes no memory.
+    pub fn has_output(&self, text: &[u8]) -> bool
+        ensures { result ≡ has_output text.now (open_of self.now) }
+    {
+        let file = Name {
+            class: Class::OutputFile,
+            text,
+        };
+        let command = Name {
+            class: Class::OutputCommand,
+            text,
+        };
+        self.number(&file).is_some() || self.number(&command).is_some()
     }
 
     /// Takes the stream away that was opened first. Takes no memory.

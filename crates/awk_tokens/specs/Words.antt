@@ -11,18 +11,18 @@ use Rattle.awk_tokens.specs.declared.kinds.TokenKind.TheVariants.{Keyword, Built
 abbrev pub keywords : List Text
 keywords =
     codes "BEGIN" ∷ codes "END" ∷ codes "break" ∷ codes "continue" ∷ codes "delete" ∷ codes "do" ∷ codes "else" ∷ codes "exit" ∷ codes "for" ∷ codes "func"
-    ∷ codes "function" ∷ codes "getline" ∷ codes "if" ∷ codes "in" ∷ codes "next" ∷ codes "print" ∷ codes "printf" ∷ codes "return" ∷ codes "while" ∷ []
+    ∷ codes "function" ∷ codes "getline" ∷ codes "if" ∷ codes "in" ∷ codes "next" ∷ codes "nextfile" ∷ codes "print" ∷ codes "printf" ∷ codes "return" ∷ codes "while" ∷ []
 
 -- the words of the built-in functions
 abbrev pub builtins : List Text
 builtins =
-    codes "close" ∷ codes "gsub" ∷ codes "index" ∷ codes "int" ∷ codes "length" ∷ codes "match" ∷ codes "split" ∷ codes "sprintf" ∷ codes "sub" ∷ codes "substr"
+    codes "close" ∷ codes "fflush" ∷ codes "gsub" ∷ codes "index" ∷ codes "int" ∷ codes "length" ∷ codes "match" ∷ codes "split" ∷ codes "sprintf" ∷ codes "sub" ∷ codes "substr"
     ∷ codes "system" ∷ codes "tolower" ∷ codes "toupper" ∷ []
 
--- the words of functions and statements that the profile leaves out
+-- the words of functions that the profile leaves out
 abbrev pub refused : List Text
 refused =
-    codes "atan2" ∷ codes "cos" ∷ codes "exp" ∷ codes "fflush" ∷ codes "log" ∷ codes "nextfile" ∷ codes "rand" ∷ codes "sin" ∷ codes "sqrt" ∷ codes "srand" ∷ []
+    codes "atan2" ∷ codes "cos" ∷ codes "exp" ∷ codes "log" ∷ codes "rand" ∷ codes "sin" ∷ codes "sqrt" ∷ codes "srand" ∷ []
 
 abbrev pub is_among : List Text → Text → Bool
 is_among words word = list_any (λ w. bytes_eq w word) words

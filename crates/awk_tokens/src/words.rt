@@ -49,10 +49,10 @@ const SIX: [(&[u8], TokenKind); 7] = [
     (b"delete", Keyword),
     (b"printf", Keyword),
     (b"return", Keyword),
+    (b"fflush", Builtin),
     (b"length", Builtin),
     (b"substr", Builtin),
     (b"system", Builtin),
-    (b"fflush", Refused),
 ];
 
 const SEVEN: [(&[u8], TokenKind); 4] = [
@@ -65,7 +65,7 @@ const SEVEN: [(&[u8], TokenKind); 4] = [
 const EIGHT: [(&[u8], TokenKind); 3] = [
     (b"continue", Keyword),
     (b"function", Keyword),
-    (b"nextfile", Refused),
+    (b"nextfile", Keyword),
 ];
 
 fn lookup(mut table: &[(&[u8], TokenKind)], word: &[u8]) -> Option<TokenKind>
@@ -80,8 +80,8 @@ fn lookup(mut table: &[(&[u8], TokenKind)], word: &[u8]) -> Option<TokenKind>
     None
 }
 
-/// The kind of a word of the language: a keyword, a built-in function, or a function or statement
-/// that the profile leaves out ("Lexical Conventions", rules 7 and 8). No other text has one.
+/// The kind of a word of the language: a keyword, a built-in function, or a function that the
+/// profile leaves out ("Lexical Conventions", rules 7 and 8). No other text has one.
 pub fn reserved(word: &[u8]) -> Option<TokenKind>
     ensures { result ≡ spec.reserved word.now }
 {

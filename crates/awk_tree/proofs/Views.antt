@@ -194,6 +194,10 @@ pub statement-Delete : (n : Name) (xs : List Expr) → view_statement (s.Delete 
 unfolding statement_layer
 statement-Delete n xs = statement_opened _ _ (s.rolls-Delete n xs)
 
+pub statement-DeleteAll : (n : Name) → view_statement (s.DeleteAll n) ≡ t.delete_all n
+unfolding statement_layer
+statement-DeleteAll n = statement_opened _ _ (s.rolls-DeleteAll n)
+
 pub statement-Break : (p : Place) → view_statement (s.Break p) ≡ t.break p
 unfolding statement_layer
 statement-Break p = statement_opened _ _ (s.rolls-Break p)
@@ -205,6 +209,10 @@ statement-Continue p = statement_opened _ _ (s.rolls-Continue p)
 pub statement-Next : (p : Place) → view_statement (s.Next p) ≡ t.next p
 unfolding statement_layer
 statement-Next p = statement_opened _ _ (s.rolls-Next p)
+
+pub statement-NextFile : (p : Place) → view_statement (s.NextFile p) ≡ t.next_file p
+unfolding statement_layer
+statement-NextFile p = statement_opened _ _ (s.rolls-NextFile p)
 
 pub statement-Exit : (p : Place) (x : Option Expr) → view_statement (s.Exit p x) ≡ t.exit p (option_map view x)
 unfolding statement_layer
@@ -244,4 +252,4 @@ statement-ForIn p k a b = statement_opened _ _ (s.rolls-ForIn p k a b)
 
 pub ruleset views = (view-Number, view-Quoted, view-Pattern, view-Name, view-Element, view-Field, view-Paren, view-Call, view-Builtin, view-Length, view-Split, view-Substitute, view-Getline, view-Before, view-After, view-Signed, view-Power, view-Product, view-Sum, view-Concat, view-Pipe, view-Compare, view-Match, view-Group, view-In, view-And, view-Or, view-Choice, view-Assign)
 
-pub ruleset statement_views = (statement-Empty, statement-Expr, statement-Print, statement-Printf, statement-Delete, statement-Break, statement-Continue, statement-Next, statement-Exit, statement-Return, statement-Block, statement-If, statement-IfElse, statement-While, statement-Do, statement-For, statement-ForIn)
+pub ruleset statement_views = (statement-Empty, statement-Expr, statement-Print, statement-Printf, statement-Delete, statement-DeleteAll, statement-Break, statement-Continue, statement-Next, statement-NextFile, statement-Exit, statement-Return, statement-Block, statement-If, statement-IfElse, statement-While, statement-Do, statement-For, statement-ForIn)

@@ -168,9 +168,11 @@ abbrev mutual
   canon_statement (t.print p xs r) = keyword (codes "print") ∷ canon_printed xs ++ canon_redirection r ++ end
   canon_statement (t.printf p xs r) = keyword (codes "printf") ∷ canon_printed xs ++ canon_redirection r ++ end
   canon_statement (t.delete n xs) = keyword (codes "delete") ∷ word n ∷ sign (codes "[") ∷ canon_items xs ++ sign (codes "]") ∷ end
+  canon_statement (t.delete_all n) = keyword (codes "delete") ∷ word n ∷ end
   canon_statement (t.break p) = keyword (codes "break") ∷ end
   canon_statement (t.continue p) = keyword (codes "continue") ∷ end
   canon_statement (t.next p) = keyword (codes "next") ∷ end
+  canon_statement (t.next_file p) = keyword (codes "nextfile") ∷ end
   canon_statement (t.exit p x) = keyword (codes "exit") ∷ canon_perhaps x ++ end
   canon_statement (t.return p x) = keyword (codes "return") ∷ canon_perhaps x ++ end
   canon_statement (t.block xs) = sign (codes "{") ∷ canon_statements xs ++ sign (codes "}") ∷ []
@@ -286,9 +288,11 @@ abbrev mutual
   bare_statement (t.print p xs r) = t.print nowhere (bare_printed xs) (option_map bare_redirection r)
   bare_statement (t.printf p xs r) = t.printf nowhere (bare_printed xs) (option_map bare_redirection r)
   bare_statement (t.delete n xs) = t.delete (bare_name n) (map bare xs)
+  bare_statement (t.delete_all n) = t.delete_all (bare_name n)
   bare_statement (t.break p) = t.break nowhere
   bare_statement (t.continue p) = t.continue nowhere
   bare_statement (t.next p) = t.next nowhere
+  bare_statement (t.next_file p) = t.next_file nowhere
   bare_statement (t.exit p x) = t.exit nowhere (option_map bare x)
   bare_statement (t.return p x) = t.return nowhere (option_map bare x)
   bare_statement (t.block xs) = t.block (bare_statements xs)

@@ -242,9 +242,13 @@ module _ (depth : ℕ) (inner : Goal → Parser Tree) where
   unfoldable pub one_or_none : Parser (List Tree)
   one_or_none = choice (λ kind. if is kind w.CloseParen then pure [] else (whole >>= λ x. pure (x ∷ [])))
 
+  -- ( [ expr ] )
+  unfoldable pub of_one_or_none : Place → Builtin → Parser Tree
+  of_one_or_none place which = one w.OpenParen >> (opened depth one_or_none >>= λ xs. one w.CloseParen >> pure (t.builtin place which (trees_of xs)))
+
   -- length | length ( ) | length ( expr )
   unfoldable pub length_of : Place → Parser Tree
-  length_of place = choice (λ kind. if is kind w.OpenParen then (one w.OpenParen >> (opened depth one_or_none >>= λ xs. one w.CloseParen >> pure (t.builtin place b.Length (trees_of xs)))) else pure (t.bare_length place))
+  length_of place = choice (λ kind. if is kind w.OpenParen then of_one_or_none place b.Length else pure (t.bare_length place))
 
   -- ( expr , NAME [ , expr ] )
   unfoldable pub split_of : Place → Parser Tree
@@ -264,6 +268,7 @@ module _ (depth : ℕ) (inner : Goal → Parser Tree) where
 
   abbrev pub builtin_by : Place → Builtin → Parser Tree
   builtin_by place b.Close = of_one place b.Close
+  builtin_by place b.Fflush = of_one_or_none place b.Fflush
   builtin_by place b.Gsub = substitute_of place true
   builtin_by place b.Index = of_two place b.Index
   builtin_by place b.Int = of_one place b.Int

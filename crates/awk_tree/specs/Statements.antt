@@ -125,9 +125,11 @@ module _ (depth : ℕ) (inner : Goal → Parser Tree) where
 
   -- ---- the other simple statements
 
-  -- delete NAME [ list ]
+  -- delete NAME | delete NAME [ list ]
   unfoldable pub delete : Parser Statement
-  delete = one w.Delete >> (one w.Name >>= λ token. one w.OpenBracket >> (list depth inner >>= λ xs. one w.CloseBracket >> pure (t.delete (name_of token) xs)))
+  delete = one w.Delete >> (one w.Name >>= λ token. choice (λ kind.
+      if is kind w.OpenBracket then (one w.OpenBracket >> (list depth inner >>= λ xs. one w.CloseBracket >> pure (t.delete (name_of token) xs)))
+      else pure (t.delete_all (name_of token))))
 
   abbrev pub simple_by : Terminal → Parser Statement
   simple_by w.Print = print
@@ -136,6 +138,7 @@ module _ (depth : ℕ) (inner : Goal → Parser Tree) where
   simple_by w.Break = any >>= λ token. pure (t.break token.place)
   simple_by w.Continue = any >>= λ token. pure (t.continue token.place)
   simple_by w.Next = any >>= λ token. pure (t.next token.place)
+  simple_by w.NextFile = any >>= λ token. pure (t.next_file token.place)
   simple_by w.Exit = any >>= λ token. perhaps_here >>= λ x. pure (t.exit token.place x)
   simple_by w.Return = any >>= λ token. perhaps_here >>= λ x. pure (t.return token.place x)
   simple_by other = here false >>= λ x. pure (t.plain x)

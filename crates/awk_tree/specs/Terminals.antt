@@ -32,6 +32,7 @@ step_text step.Decrement = codes "--"
 
 abbrev pub builtin_text : Builtin → Text
 builtin_text b.Close = codes "close"
+builtin_text b.Fflush = codes "fflush"
 builtin_text b.Gsub = codes "gsub"
 builtin_text b.Index = codes "index"
 builtin_text b.Int = codes "int"
@@ -50,11 +51,11 @@ abbrev pub keywords : List (Text × Terminal)
 keywords =
     (codes "BEGIN", w.BeginWord) ∷ (codes "END", w.EndWord) ∷ (codes "break", w.Break) ∷ (codes "continue", w.Continue) ∷ (codes "delete", w.Delete) ∷ (codes "do", w.Do)
     ∷ (codes "else", w.Else) ∷ (codes "exit", w.Exit) ∷ (codes "for", w.For) ∷ (codes "func", w.Function) ∷ (codes "function", w.Function) ∷ (codes "getline", w.Getline)
-    ∷ (codes "if", w.If) ∷ (codes "in", w.In) ∷ (codes "next", w.Next) ∷ (codes "print", w.Print) ∷ (codes "printf", w.Printf) ∷ (codes "return", w.Return) ∷ (codes "while", w.While) ∷ []
+    ∷ (codes "if", w.If) ∷ (codes "in", w.In) ∷ (codes "next", w.Next) ∷ (codes "nextfile", w.NextFile) ∷ (codes "print", w.Print) ∷ (codes "printf", w.Printf) ∷ (codes "return", w.Return) ∷ (codes "while", w.While) ∷ []
 
 abbrev pub builtins : List (Text × Terminal)
 builtins =
-    (codes "close", w.Builtin b.Close) ∷ (codes "gsub", w.Builtin b.Gsub) ∷ (codes "index", w.Builtin b.Index) ∷ (codes "int", w.Builtin b.Int) ∷ (codes "length", w.Builtin b.Length)
+    (codes "close", w.Builtin b.Close) ∷ (codes "fflush", w.Builtin b.Fflush) ∷ (codes "gsub", w.Builtin b.Gsub) ∷ (codes "index", w.Builtin b.Index) ∷ (codes "int", w.Builtin b.Int) ∷ (codes "length", w.Builtin b.Length)
     ∷ (codes "match", w.Builtin b.Match) ∷ (codes "split", w.Builtin b.Split) ∷ (codes "sprintf", w.Builtin b.Sprintf) ∷ (codes "sub", w.Builtin b.Sub) ∷ (codes "substr", w.Builtin b.Substr)
     ∷ (codes "system", w.Builtin b.System) ∷ (codes "tolower", w.Builtin b.Tolower) ∷ (codes "toupper", w.Builtin b.Toupper) ∷ []
 
@@ -171,11 +172,12 @@ number_of w.Getline = 51
 number_of w.If = 52
 number_of w.In = 53
 number_of w.Next = 54
-number_of w.Print = 55
-number_of w.Printf = 56
-number_of w.Return = 57
-number_of w.While = 58
-number_of w.Refused = 59
+number_of w.NextFile = 55
+number_of w.Print = 56
+number_of w.Printf = 57
+number_of w.Return = 58
+number_of w.While = 59
+number_of w.Refused = 60
 
 -- the same form of terminal, whatever built-in, assignment or step it is
 abbrev pub is : Terminal → Terminal → Bool

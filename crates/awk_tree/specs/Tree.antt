@@ -94,9 +94,11 @@ mutual
     print : Place → Printed Tree → Option (Redirection Tree) → Statement
     printf : Place → Printed Tree → Option (Redirection Tree) → Statement
     delete : Name → List Tree → Statement
+    delete_all : Name → Statement
     break : Place → Statement
     continue : Place → Statement
     next : Place → Statement
+    next_file : Place → Statement
     exit : Place → Option Tree → Statement
     return : Place → Option Tree → Statement
     block : Statements → Statement

@@ -52,6 +52,7 @@ pub enum Comparison {
 #[derive(Clone, Copy, Debug, PartialEq, Eq, Drop)]
 pub enum Builtin {
     Close,
+    Fflush,
     Gsub,
     Index,
     Int,

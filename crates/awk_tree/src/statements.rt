@@ -34,9 +34,12 @@ pub enum Statement {
     Printf(Place, Printed<Expr>, Option<Redirection<Expr>>),
     /// `delete NAME [ list ]`
     Delete(Name, Items<Expr>),
+    /// `delete NAME`, of the whole array
+    DeleteAll(Name),
     Break(Place),
     Continue(Place),
     Next(Place),
+    NextFile(Place),
     Exit(Place, Option<Expr>),
     Return(Place, Option<Expr>),
     /// `{ }`

@@ -64,6 +64,7 @@ pub enum Terminal {
     If,
     In,
     Next,
+    NextFile,
     Print,
     Printf,
     Return,

@@ -5,3 +5,6 @@ pub mod OneAnswer
 pub mod Passing
 pub mod QuotedText
 pub mod TwoWorlds
+mod Foretold
+mod Turns
+mod TwoDrives

@@ -8,3 +8,6 @@ pub mod Messages
 pub mod OwnFiles
 pub mod Scripts
 pub mod Stack
+pub mod Foretold
+pub mod Turns
+pub mod TwoDrives

@@ -67,6 +67,7 @@ abbrev mutual
   value (p.getline_file place r x) = reading place (constant x) ++ (target r ++ value x)
   value (p.pipe x xs) = value x ++ pipes (constant x) xs
   value (p.measure how x) = value x
+  value (p.count array) = []
   value (p.int place x) = value x
   value (p.index x y) = value x ++ value y
   value (p.substr_from place x y) = value x ++ value y
@@ -76,6 +77,7 @@ abbrev mutual
   value (p.split place x at array y) = value x ++ ere y
   value (p.substitute place how x y r) = ere x ++ (value y ++ target r)
   value (p.close place x) = value x
+  value (p.flush x) = value x
   value (p.system place x) = site place Run (constant x) ++ value x
 
   pub target : Reference → List Found
@@ -133,9 +135,11 @@ abbrev mutual
   done (p.print place xs r) = all xs ++ redirection r
   done (p.printf place x xs r) = value x ++ (all xs ++ redirection r)
   done (p.delete place a xs) = all xs
+  done (p.delete_all a) = []
   done p.break = []
   done p.continue = []
   done (p.next place) = []
+  done (p.next_file place) = []
   done (p.exit place x) = optional x
   done (p.return x) = optional x
   done (p.block xs) = each_done xs

@@ -46,6 +46,7 @@ pub fn constant(e: &Expr) -> Option<&Octets>
         | Expr::GetlineFile(_, _, _)
         | Expr::Pipe(_, _)
         | Expr::Measure(_, _)
+        | Expr::Count(_)
         | Expr::Int(_, _)
         | Expr::Index(_, _)
         | Expr::SubstrFrom(_, _, _)
@@ -55,6 +56,7 @@ pub fn constant(e: &Expr) -> Option<&Octets>
         | Expr::Split(_, _, _, _, _)
         | Expr::Substitute(_, _, _, _, _)
         | Expr::Close(_, _)
+        | Expr::Flush(_)
         | Expr::System(_, _) => None,
     }
 }
@@ -167,6 +169,7 @@ fn expression(alloc: Global, e: &Expr, level: u64, out: &mut Vec<Found>) -> Resu
             pipes(alloc, constant(x.get()), xs.as_slice(), below, out)
         }
         Expr::Measure(_how, x) => expression(alloc, x.get(), below, out),
+        Expr::Count(_array) => Ok(()),
         Expr::Int(_place, x) => expression(alloc, x.get(), below, out),
         Expr::Index(x, y) => two(alloc, x.get(), y.get(), below, out),
         Expr::SubstrFrom(_place, x, y) => two(alloc, x.get(), y.get(), below, out),
@@ -179,6 +182,7 @@ fn expression(alloc: Global, e: &Expr, level: u64, out: &mut Vec<Found>) -> Resu
             value_and_target(alloc, y.get(), r, below, out)
         }
         Expr::Close(_place, x) => expression(alloc, x.get(), below, out),
+        Expr::Flush(x) => expression(alloc, x.get(), below, out),
         Expr::System(place, x) => {
             site(alloc, *place, Kind::Run, constant(x.get()), out)?;
             expression(alloc, x.get(), below, out)

@@ -355,3 +355,30 @@ fn refused_memory_changes_nothing(rt: HostRuntime) -> Result<(), Fail> {
     assert_eq!(rt; log.len, LINE.len());
     Ok(())
 }
+
+// Run with each allocation refused in turn: the world behind answers what is allowed, whatever memory the monitor had for its own.
+#[test]
+fn an_allowed_ask_needs_no_memory(rt: HostRuntime) -> Result<(), Fail> {
+    let alloc = rt.alloc();
+    let (Ok(policy), Ok(ask), Ok(put)) = (
+        Policy::read(alloc, TWO_WRITES),
+        denied(alloc),
+        put(alloc),
+    ) else {
+        return Ok(());
+    };
+    let log = ShortLog {
+        bytes: [0; 64],
+        len: 0,
+    };
+    let mut monitor = Monitor::new(alloc, policy, fake_world(None), log);
+    assert!(rt; matches!(monitor.ask(&put), Ok(Reply::Done)));
+    for _ in 0..2 {
+        assert!(rt; is_failed(monitor.ask(&ask)));
+    }
+    let (policy, world, log) = monitor.into_parts();
+    assert_eq!(rt; policy.used(1), 2);
+    assert_eq!(rt; world.asks, 3);
+    assert_eq!(rt; log.len, 0);
+    Ok(())
+}

@@ -11,8 +11,8 @@ use Rattle.awk_program.specs.Slots.{Text}
 use Rattle.awk_program.specs.Program.{Statement, Rule, Function, global}
 use Rattle.box_policy.specs.declared.policy.Kind.TheVariants.{Read, Env, Assign}
 use Rattle.box_world.specs.declared.ask.Reply.{Reply}
-use Rattle.box_world.specs.Events.{Named, Shuts, Want, Event, Stream, open_streams}
-use Rattle.box_monitor.specs.Subjects.{Subject}
+use Rattle.box_world.specs.Events.{Named, Wish, Opens, Reads, Writes, Shuts, Runs, Looks, Assigns, Want, Event, Stream, open_streams, request_of}
+use Rattle.box_monitor.specs.Subjects.{subject_of}
 use Rattle.awk_machine.specs.Advances.{known, asked_by, over_by, held}
 use Rattle.awk_machine.specs.Begins as b
 use Rattle.awk_machine.specs.Closing.{first_stream}
@@ -34,8 +34,8 @@ use Rattle.box_listing.specs.declared.site.Found.TheVariants as found
 use Rattle.box_listing.specs.Listings as l
 use Rattle.box_listing.specs.Listings.{IsListing, at_start, sites_of}
 use Rattle.box_listing.specs.Sites as s
-use Rattle.listing_laws.specs.Covers.{IsCoveredAt, IsCovered, AllCovered, subject_of_want}
-use Rattle.listing_laws.proofs.Standing.{Listed, Holds, Sub, Wanted, IsWanted, handed_by, done_by, Kept, Knows, Fit, EnvironFit, Stack, Ready, Keeps, Whole}
+use Rattle.listing_laws.specs.Covers.{IsCoveredAt, IsCovered, AllCovered}
+use Rattle.listing_laws.proofs.Standing.{Listed, Holds, Sub, WantedBy, IsWanted, handed_by, done_by, Kept, Knows, Fit, EnvironFit, Stack, Ready, Keeps, Whole}
 use Rattle.listing_laws.proofs.Steps.{front, back, both, hand, ended}
 use Rattle.listing_laws.proofs.Forms.{values, targets, patterns, terms, texts, ands, ors, members, pipes}
 use Rattle.listing_laws.proofs.Doing.{statements, tested, behind}
@@ -258,13 +258,18 @@ module _ (sites : List Site) where
   pub wanted : (g : Given) (order : List Sort) (events : List Event) (o : Outcome) (n : ℕ) (last : Option Want) → IsListing g.program order g.names_environ sites → Plays g events o n last → AllWanted Is events
   wanted g order events o n last listing x = all_wanted Is g events o n last (whole g order listing) x
 
-  plain : (place : Place) (given : Bool) (o : Option Subject) → Wanted Is place given o → IsCoveredAt sites place o
-  plain place given None h = tt
-  plain place given (Some subject) h = (h.0, h.1, h.2)
+  plain : (place : Place) (given : Bool) (wish : Wish) → WantedBy Is place given wish → IsCoveredAt sites place (subject_of (request_of wish []))
+  plain place given (Opens mode class text) h = (h.0, h.1, h.2)
+  plain place given (Reads key) h = tt
+  plain place given (Writes key bytes) h = tt
+  plain place given (Shuts key) h = tt
+  plain place given (Runs command) h = (h.0, h.1, h.2)
+  plain place given (Looks name) h = (h.0, h.1, h.2)
+  plain place given (Assigns name text) h = (h.0, h.1, h.2)
 
   each_covered : (es : List Event) → AllWanted Is es → All (IsCovered sites) es
   each_covered [] h = All-nil (IsCovered sites)
-  each_covered (e ∷ es) h = All-cons (IsCovered sites) e es (plain e.want.place e.want.given (subject_of_want e.want) h.0) (each_covered es h.1)
+  each_covered (e ∷ es) h = All-cons (IsCovered sites) e es (plain e.want.place e.want.given e.want.wish h.0) (each_covered es h.1)
 
 pub all_covered : AllCovered
 all_covered g order sites events o n last listing x = each_covered sites events (wanted sites g order events o n last listing x)

@@ -18,6 +18,7 @@ use Rattle.awk_program.specs.declared.operators.Redirect.{Redirect}
 use Rattle.awk_program.specs.declared.operators.Redirect.TheVariants as to
 use Rattle.awk_program.specs.declared.statements.Redirection.{Redirection}
 use Rattle.box_monitor.specs.Subjects.{kind_of}
+use Rattle.box_world.specs.Events.{Key}
 use Rattle.awk_machine.specs.Builtins.{first, formatted_by}
 use Rattle.awk_machine.specs.Forms.{value, each_by, if_true}
 use Rattle.awk_machine.specs.Operators.{limited}
@@ -177,6 +178,15 @@ module _ (S : Listed) where
   nexts Ruling place k t rest = to_records nothing k rest
   nexts Ending place k t rest = ended S (m.Faulted NextOutside place)
 
+  skipped : (current : Option Key) (k : List Piece) → Ready S k → Ready S (st.skipping current k)
+  skipped None k rest = rest
+  skipped (Some key) k rest = (tt, rest)
+
+  next_files : (phase : Phase) (place : Place) (k : List Piece) (t : State) → Ready S k → Keeps S (st.next_file phase place k t)
+  next_files Beginning place k t rest = ended S (m.Faulted NextOutside place)
+  next_files Ruling place k t rest = skipped t.main.current (st.to_records k) (to_records nothing k rest)
+  next_files Ending place k t rest = ended S (m.Faulted NextOutside place)
+
   exited : (place : Place) (o : Option Expression) (vs : List Value) (k : List Piece) (t : State) → Sub S (s.optional o) → Ready S k →
       Keeps S (st.exit place o (Doing (p.exit place o)) vs k t)
   exited place None vs k t h rest = exits t.phase
@@ -204,9 +214,11 @@ module _ (S : Listed) where
   statements (p.delete place a xs) vs k t h n rest =
       each S xs (Doing (p.delete place a xs)) _ vs k t (each_of_list S xs h) h (λ y. tt) rest
       (λ ws. through S place (limited (joined (own_text t (codes "SUBSEP")) ws)) (λ key k s. Goes k (with_array a (without (array s a) key) s)) k t (λ key. rest))
+  statements (p.delete_all a) vs k t h n rest = rest
   statements p.break vs k t h n rest = after_break k rest
   statements p.continue vs k t h n rest = after_continue k rest
   statements (p.next place) vs k t h n rest = nexts t.phase place k t rest
+  statements (p.next_file place) vs k t h n rest = next_files t.phase place k t rest
   statements (p.exit place x) vs k t h n rest = exited place x vs k t h rest
   statements (p.return x) vs k t h n rest = returned x vs k t h rest
   statements (p.block xs) vs k t h n rest = (in_order xs h, rest)

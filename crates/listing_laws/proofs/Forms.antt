@@ -230,6 +230,7 @@ module _ (S : Listed) where
   values (p.pipe x xs) vs k t h n rest =
       push_value S x (Pipes_of xs) [] k (front S (s.value x) (s.pipes (s.constant x) xs) h) tt (λ y says. (s.constant x, back S (s.value x) (s.pipes (s.constant x) xs) h, says)) rest
   values (p.measure how x) vs k t h n rest = one S (value x) _ _ vs k t (push_value S x (Value_of (p.measure how x)) [] k h h (λ y says. tt) rest) (λ y. hand S None _ k tt rest)
+  values (p.count a) vs k t h n rest = hand S None _ k tt rest
   values (p.int place x) vs k t h n rest =
       one S (value x) _ _ vs k t (push_value S x (Value_of (p.int place x)) [] k h h (λ y says. tt) rest) (λ y. delivered S place _ k t rest)
   values (p.index x y) vs k t h n rest =
@@ -255,4 +256,5 @@ module _ (S : Listed) where
       (λ z u. parted y place at a (text_of z) (text_of u) k rest)
   values (p.substitute place how x y r) vs k t h n rest = substituted place how x y r vs k t h rest
   values (p.close place x) vs k t h n rest = one S (value x) _ _ vs k t (push_value S x (Value_of (p.close place x)) [] k h h (λ y says. tt) rest) (λ y. (tt, rest))
+  values (p.flush x) vs k t h n rest = one S (value x) _ _ vs k t (push_value S x (Value_of (p.flush x)) [] k h h (λ y says. tt) rest) (λ y. hand S None _ k tt rest)
   values (p.system place x) vs k t h n rest = run place x vs k t h n rest

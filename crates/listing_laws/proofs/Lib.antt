@@ -5,3 +5,6 @@ pub mod Doing
 pub mod Tasks
 pub mod Coverage
 pub mod Refusals
+pub mod Standards
+pub mod Foretold
+pub mod Turns

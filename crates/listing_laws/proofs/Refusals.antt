@@ -20,7 +20,7 @@ use Rattle.box_listing.specs.Verdicts.{denies, is_denied, is_open, leaves_open, 
 use Rattle.box_listing.specs.declared.site.Site.{Site}
 use Rattle.box_listing.specs.declared.verdict.Verdict.TheVariants.{Clean, Refused}
 use Rattle.listing_laws.specs.Covers.{AllAllowed, IsText, NoneDenied, RefusedDenied, subject_of_want}
-use Rattle.listing_laws.proofs.Standing.{Wanted}
+use Rattle.listing_laws.proofs.Standing.{Listed, Wanted, WantedBy}
 use Rattle.listing_laws.proofs.Coverage.{Is, AllWanted, wanted}
 
 -- ---- lists that are filtered
@@ -122,6 +122,15 @@ subject-same (Runs command) = refl
 subject-same (Looks name) = refl
 subject-same (Assigns name text) = refl
 
+wanted-subject : (S : Listed) (place : Place) (given : Bool) (wish : Wish) → WantedBy S place given wish → Wanted S place given (subject_of (request_of wish []))
+wanted-subject S place given (Opens mode class text) h = h
+wanted-subject S place given (Reads key) h = tt
+wanted-subject S place given (Writes key bytes) h = tt
+wanted-subject S place given (Shuts key) h = tt
+wanted-subject S place given (Runs command) h = h
+wanted-subject S place given (Looks name) h = h
+wanted-subject S place given (Assigns name text) h = h
+
 module _ (book : Rulebook) (sites : List Site) where
   allowed : (es : List Event) (place : Place) (given : Bool) (o : Option Subject) → filter (is_denied book) sites ≡ [] → filter (is_open book) sites ≡ []
       → Wanted (Is sites) place given o → denial_at (after_events book es) place given o ≡ None
@@ -136,7 +145,7 @@ module _ (book : Rulebook) (sites : List Site) where
   each_allowed [] none known h = tt
   each_allowed (e ∷ es) none known h = (
     sym (ap (denial_at (after_events book es) e.want.place e.want.given) (subject-same e.want.wish))
-        ∙ allowed es e.want.place e.want.given (subject_of_want e.want) none known h.0,
+        ∙ allowed es e.want.place e.want.given (subject_of_want e.want) none known (wanted-subject (Is sites) e.want.place e.want.given e.want.wish h.0),
     each_allowed es none known h.1,
   )
 

@@ -11,7 +11,7 @@ use Rattle.awk_program.specs.Program.{Expression, Pipes, Statement}
 use Rattle.awk_program.specs.declared.statements.Redirection.{Redirection}
 use Rattle.box_policy.specs.declared.policy.Kind.TheVariants.{Read, Env, Assign}
 use Rattle.box_world.specs.declared.ask.Reply.{Reply}
-use Rattle.box_world.specs.Events.{Want, request_of}
+use Rattle.box_world.specs.Events.{Standard, Shuts, Want, Wish, request_of}
 use Rattle.box_monitor.specs.Subjects.{Subject, kind_of, subject_of}
 use Rattle.awk_machine.specs.Builtins.{first}
 use Rattle.awk_machine.specs.Getline.{input_mode}
@@ -46,8 +46,13 @@ abbrev pub Wanted : Listed → Place → Bool → Option Subject → Type 0
 Wanted S place given None = Unit {0}
 Wanted S place given (Some subject) = (site : Site) × S site × Covers site place subject × (given ≡ true → site.text ≡ None)
 
+-- besides, no standard stream is shut
+abbrev pub WantedBy : Listed → Place → Bool → Wish → Type 0
+WantedBy S place given (Shuts (Standard n)) = ⊥
+WantedBy S place given wish = Wanted S place given (subject_of (request_of wish []))
+
 abbrev pub IsWanted : Listed → Want → Type 0
-IsWanted S w = Wanted S w.place w.given (subject_of (request_of w.wish []))
+IsWanted S w = WantedBy S w.place w.given w.wish
 
 -- ---- values that are known
 

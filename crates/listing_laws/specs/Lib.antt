@@ -1,1 +1,4 @@
 pub mod Covers
+pub mod Standards
+pub mod Foretold
+pub mod Turns

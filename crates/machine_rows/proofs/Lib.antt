@@ -1,5 +1,6 @@
 mod Matching
 mod Playing
+mod Sound
 mod Scripts
 mod FormRows
 mod Replays

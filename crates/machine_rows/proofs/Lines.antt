@@ -103,6 +103,72 @@ last_exit_decides :
 unfolding rules
 last_exit_decides = refl
 
+-- ---- nextfile
+
+nextfile_shuts_the_operands_file :
+    replay (given [] [] false (codes "a" ∷ codes "b" ∷ []) [] [] None 1000 (codes "FNR == 1 { print FILENAME; nextfile } { print \"no\" }")) ((reply.Opened 3) ∷ (reply.Bytes (codes "1\n2\n")) ∷ reply.Done ∷ reply.Done ∷ (reply.Opened 4) ∷ (reply.Bytes (codes "3\n")) ∷ reply.Done ∷ reply.Done ∷ [])
+    ≡ Some ((Status 0), 8, call (at 0 0) true (r.Open mode.Read (codes "a")) (reply.Opened 3) ∷ call (at 0 0) false (r.Next 3) (reply.Bytes (codes "1\n2\n")) ∷ call (at 1 12) false (r.Put 1 (codes "a\n")) reply.Done ∷ call (at 0 0) false (r.Shut 3) reply.Done ∷ call (at 0 0) true (r.Open mode.Read (codes "b")) (reply.Opened 4) ∷ call (at 0 0) false (r.Next 4) (reply.Bytes (codes "3\n")) ∷ call (at 1 12) false (r.Put 1 (codes "b\n")) reply.Done ∷ call (at 0 0) false (r.Shut 4) reply.Done ∷ [])
+unfolding rules
+nextfile_shuts_the_operands_file = refl
+
+nextfile_leaves_the_standard_input_unread :
+    replay (given [] [] false (codes "-" ∷ codes "-" ∷ []) [] [] None 1000 (codes "{ print; nextfile }")) ((reply.Bytes (codes "a\nb\nc\n")) ∷ reply.Done ∷ reply.Done ∷ [])
+    ≡ Some ((Status 0), 8, call (at 0 0) false (r.Next 0) (reply.Bytes (codes "a\nb\nc\n")) ∷ call (at 1 3) false (r.Put 1 (codes "a\n")) reply.Done ∷ call (at 1 3) false (r.Put 1 (codes "b\n")) reply.Done ∷ [])
+unfolding rules
+nextfile_leaves_the_standard_input_unread = refl
+
+nextfile_without_operands :
+    replay (given [] [] false [] [] [] None 1000 (codes "function f() { nextfile } { print; f(); print \"no\" } END { print NR }")) ((reply.Bytes (codes "a\nb\n")) ∷ reply.Done ∷ reply.Done ∷ [])
+    ≡ Some ((Status 0), 6, call (at 0 0) false (r.Next 0) (reply.Bytes (codes "a\nb\n")) ∷ call (at 1 29) false (r.Put 1 (codes "a\n")) reply.Done ∷ call (at 1 60) false (r.Put 1 (codes "1\n")) reply.Done ∷ [])
+unfolding rules
+nextfile_without_operands = refl
+
+nextfile_once_all_is_read :
+    replay (given [] [] false [] [] [] None 1000 (codes "{ while (getline) n++; nextfile } END { print n }")) ((reply.Bytes (codes "a\nb\n")) ∷ reply.End ∷ reply.Done ∷ [])
+    ≡ Some ((Status 0), 5, call (at 0 0) false (r.Next 0) (reply.Bytes (codes "a\nb\n")) ∷ call (at 0 0) false (r.Next 0) reply.End ∷ call (at 1 41) false (r.Put 1 (codes "1\n")) reply.Done ∷ [])
+unfolding rules
+nextfile_once_all_is_read = refl
+
+nextfile_outside_the_rules :
+    replay (given [] [] false [] [] [] None 1000 (codes "function f() { nextfile } BEGIN { f() }")) []
+    ≡ Some ((Faulted f.NextOutside (at 1 16)), 3, [])
+unfolding rules
+nextfile_outside_the_rules = refl
+
+-- ---- whole arrays
+
+delete_of_an_array :
+    replay (given (((codes ""), (codes "a")) ∷ []) [] false [] [] [] None 1000 (codes "BEGIN { a[1]; a[2]; print length(a); delete a; print length(a) }")) (reply.Done ∷ reply.Done ∷ [])
+    ≡ Some ((Status 0), 5, call (at 1 21) false (r.Put 1 (codes "2\n")) reply.Done ∷ call (at 1 48) false (r.Put 1 (codes "0\n")) reply.Done ∷ [])
+unfolding rules
+delete_of_an_array = refl
+
+delete_in_a_loop_over_keys :
+    replay (given (((codes ""), (codes "a")) ∷ []) [] false [] [] [] None 1000 (codes "BEGIN { a[1]; a[2]; for (k in a) { delete a; n = n k } print n, length(a) }")) (reply.Done ∷ [])
+    ≡ Some ((Status 0), 8, call (at 1 56) false (r.Put 1 (codes "12 0\n")) reply.Done ∷ [])
+unfolding rules
+delete_in_a_loop_over_keys = refl
+
+length_of_a_parameter :
+    replay (given (((codes "f"), (codes "p")) ∷ []) [] false [] [] [] None 1000 (codes "function f(p) { return length(p) } BEGIN { x[\"k\"]; print f(x) }")) (reply.Done ∷ [])
+    ≡ Some ((Status 0), 4, call (at 1 52) false (r.Put 1 (codes "1\n")) reply.Done ∷ [])
+unfolding rules
+length_of_a_parameter = refl
+
+-- ---- fflush
+
+fflush_of_a_file :
+    replay (given [] [] false [] [] [] None 1000 (codes "BEGIN { print \"a\" > \"f\"; print fflush(\"f\"), fflush(\"g\"), fflush() }")) ((reply.Opened 3) ∷ reply.Done ∷ reply.Done ∷ reply.Done ∷ [])
+    ≡ Some ((Status 0), 2, call (at 1 19) false (r.Open mode.Write (codes "f")) (reply.Opened 3) ∷ call (at 1 19) false (r.Put 3 (codes "a\n")) reply.Done ∷ call (at 1 26) false (r.Put 1 (codes "0 -1 0\n")) reply.Done ∷ call (at 0 0) false (r.Shut 3) reply.Done ∷ [])
+unfolding rules
+fflush_of_a_file = refl
+
+fflush_of_a_command :
+    replay (given [] [] false [] [] [] None 1000 (codes "BEGIN { \"c\" | getline; print fflush(\"c\"); print \"a\" | \"c\"; print fflush(\"c\") }")) ((reply.Opened 3) ∷ (reply.Bytes (codes "x\n")) ∷ reply.Done ∷ (reply.Opened 4) ∷ reply.Done ∷ reply.Done ∷ reply.Done ∷ reply.Done ∷ [])
+    ≡ Some ((Status 0), 4, call (at 1 15) false (r.Open mode.RunIn (codes "c")) (reply.Opened 3) ∷ call (at 1 15) false (r.Next 3) (reply.Bytes (codes "x\n")) ∷ call (at 1 24) false (r.Put 1 (codes "-1\n")) reply.Done ∷ call (at 1 53) false (r.Open mode.RunOut (codes "c")) (reply.Opened 4) ∷ call (at 1 53) false (r.Put 4 (codes "a\n")) reply.Done ∷ call (at 1 60) false (r.Put 1 (codes "0\n")) reply.Done ∷ call (at 0 0) false (r.Shut 3) reply.Done ∷ call (at 0 0) false (r.Shut 4) reply.Done ∷ [])
+unfolding rules
+fflush_of_a_command = refl
+
 -- ---- what is evaluated first
 
 subscripts_before_the_right_side :

@@ -1,7 +1,7 @@
 use Rattle.awk_eval.proofs.Leading.{quietly}
 use Rattle.awk_eval.proofs.Turns.{text_given}
 use Rattle.awk_streams.proofs.Chain.{at_once, done, part, stop}
-use Rattle.awk_program.proofs.Views.{view-And, view-Assign, view-Change, view-Close, view-Compare, view-Concat, view-Getline, view-Group, view-In, view-Index, view-Int, view-Locate, view-Match, view-Measure, view-Not, view-Number, view-Or, view-Pattern, view-Read, view-Signed, view-Split, view-Sprintf, view-Step, view-Substitute, view-Substr, view-SubstrFrom, view-System, view-Text}
+use Rattle.awk_program.proofs.Views.{view-And, view-Assign, view-Change, view-Close, view-Compare, view-Concat, view-Count, view-Flush, view-Getline, view-Group, view-In, view-Index, view-Int, view-Locate, view-Match, view-Measure, view-Not, view-Number, view-Or, view-Pattern, view-Read, view-Signed, view-Split, view-Sprintf, view-Step, view-Substitute, view-Substr, view-SubstrFrom, view-System, view-Text}
 use Rattle.awk_store.proofs.Acting.{acted}
 use Rattle.std.proofs.Common.{refl, rules, w64}
 use Rattle.std.proofs.lemmas.Int.{to_z-of_z}
@@ -43,6 +43,10 @@ returns-in-Int g c =
 pub returns-in-Measure : goal.returns-in-Measure
 returns-in-Measure g c =
     record { plays = λ m is. rw (c.in-Measure.is, view-Measure) (rw c.get-in-Measure.ensures at (c.unary-in-Measure.ensures.plays m is)); owns = c.unary-in-Measure.ensures.owns }
+
+pub returns-in-Count : goal.returns-in-Count
+returns-in-Count g c =
+    record { plays = λ m is. rw (c.in-Count.is, view-Count) (acted (c.count.ensures m c.args.run.now.streams)); owns = c.requires.owns }
 
 pub returns-in-Compare : goal.returns-in-Compare
 returns-in-Compare g c =
@@ -107,6 +111,10 @@ returns-in-Getline g c =
 pub returns-in-Close : goal.returns-in-Close
 returns-in-Close g c =
     record { plays = λ m is. rw (c.in-Close.is, view-Close) (rw c.get-in-Close.ensures at (c.close.ensures.plays m is)); owns = c.close.ensures.owns }
+
+pub returns-in-Flush : goal.returns-in-Flush
+returns-in-Flush g c =
+    record { plays = λ m is. rw (c.in-Flush.is, view-Flush) (rw c.get-in-Flush.ensures at (c.flush.ensures.plays m is)); owns = c.flush.ensures.owns }
 
 pub returns-in-System : goal.returns-in-System
 returns-in-System g c =

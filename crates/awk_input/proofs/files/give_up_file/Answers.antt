@@ -1,6 +1,7 @@
-use Rattle.std.proofs.Common.{refl, ap, ◌∙◌}
+use Rattle.std.proofs.Common.{refl, ap, ◌∙◌, ◌∷◌}
 use Rattle.std.proofs.lemmas.Result.{err_from_is_err_and}
 use Rattle.box_world.specs.Events.{OperandFile}
+use Rattle.awk_machine.specs.Pieces.{Do, Take}
 use Rattle.awk_store.specs.Kept.{Kept}
 use Rattle.awk_streams.proofs.Chain.{lacking, part, stop}
 use Rattle.awk_store.proofs.Lifting.{lifted}
@@ -29,6 +30,6 @@ pub returns-clause-task : goal.returns-clause-task
 returns-clause-task g c = λ m text cur p old w lead.
     let named = c.in_ok-text.ensures text (ap (λ x. x.current) c.main.ensures ∙ cur) in
     let still = ap (λ (s : Kept). s.main.current) c.in_ok-report.ensures.failed ∙ cur in
-    c.pass_file.ensures.task m text still (forgotten OperandFile text c.args.streams.now) (but_forgotten OperandFile text c.args.streams.now) p old w
+    c.pass_file.ensures.task m text still (forgotten OperandFile text c.args.streams.now) (but_forgotten OperandFile text c.args.streams.now) (λ k. Do Take ∷ k) p old w
     (part tt (part tt lead (rw (c.as_slice.ensures, c.bytes.ensures, named) at (c.report.ensures.task m c.args.streams.now)) c.in_ok-report.was)
     (lifted m c.report.new.store (λ s. forgets_file _ m s OperandFile text c.args.streams.now c.report.new.world)) refl)

@@ -1,4 +1,4 @@
-use Rattle.std.proofs.Common.{refl, ap, ◌∙◌}
+use Rattle.std.proofs.Common.{refl, ap, ◌∙◌, ◌∷◌}
 use Rattle.std.specs.Prelude.{Ok}
 use Rattle.std.proofs.lemmas.Result.{err_from_is_err_and}
 use Rattle.box_world.specs.Events.{OperandFile, Named}
@@ -27,14 +27,14 @@ returns-in_err-pass_file-in-End-clause-task g c =
     let lead = turned (part found.End (at_once (Do Take) (c.args.store.now, c.args.streams.now) c.args.world.now) (c.read_file.ensures.task m e) (c.in_ok-text.was ∙ ap (λ x. Ok x) c.in-End.is))
     (λ k. ap (λ key. found_main key found.End k) (current_is c.args.store.now (Named OperandFile t.0) t.1)) in
     halts_whole m (Do Take) (c.args.store.now, c.args.streams.now) (c.pass_file.new.store, c.pass_file.new.streams) c.args.world.now c.pass_file.new.world _
-    (c.in_err-pass_file-in-End.ensures.task m t.0 t.1 c.read_file.new.streams (but_itself OperandFile t.0 c.read_file.new.streams) (Do Take) (c.args.store.now, c.args.streams.now) c.args.world.now lead))
+    (c.in_err-pass_file-in-End.ensures.task m t.0 t.1 c.read_file.new.streams (but_itself OperandFile t.0 c.read_file.new.streams) (λ k. Do Take ∷ k) (Do Take) (c.args.store.now, c.args.streams.now) c.args.world.now lead))
 
 pub returns-in_ok-pass_file-in-End-clause-task : goal.returns-in_ok-pass_file-in-End-clause-task
 returns-in_ok-pass_file-in-End-clause-task g c = λ m e.
     let t = c.in_ok-text.ensures.current in
     let lead = turned (part found.End (at_once (Do Take) (c.args.store.now, c.args.streams.now) c.args.world.now) (c.read_file.ensures.task m e) (c.in_ok-text.was ∙ ap (λ x. Ok x) c.in-End.is))
     (λ k. ap (λ key. found_main key found.End k) (current_is c.args.store.now (Named OperandFile t.0) t.1)) in
-    done (c.in_ok-pass_file-in-End.ensures.task m t.0 t.1 c.read_file.new.streams (but_itself OperandFile t.0 c.read_file.new.streams) (Do Take) (c.args.store.now, c.args.streams.now) c.args.world.now lead)
+    done (c.in_ok-pass_file-in-End.ensures.task m t.0 t.1 c.read_file.new.streams (but_itself OperandFile t.0 c.read_file.new.streams) (λ k. Do Take ∷ k) (Do Take) (c.args.store.now, c.args.streams.now) c.args.world.now lead)
 
 pub returns-in_err-give_up_file-in-Failed-clause-task : goal.returns-in_err-give_up_file-in-Failed-clause-task
 returns-in_err-give_up_file-in-Failed-clause-task g c =

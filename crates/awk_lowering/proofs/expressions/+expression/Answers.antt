@@ -206,6 +206,10 @@ pub builtin-returns-in-Close : goal.builtin-returns-in-Close
 builtin-returns-in-Close t c =
     rw c.in-Close.is c.called.ensures
 
+pub builtin-returns-in-Fflush : goal.builtin-returns-in-Fflush
+builtin-returns-in-Fflush t c =
+    rw c.in-Fflush.is c.called-in-Fflush.ensures
+
 pub builtin-returns-in-Index : goal.builtin-returns-in-Index
 builtin-returns-in-Index t c =
     rw c.in-Index.is c.called-in-Index.ensures
@@ -216,7 +220,14 @@ builtin-returns-in-Int t c =
 
 pub builtin-returns-in-Length : goal.builtin-returns-in-Length
 builtin-returns-in-Length t c =
-    rw c.in-Length.is c.called-in-Length.ensures
+    rw c.in-Length.is c.length.ensures
+
+pub length-returns-in-Some : goal.length-returns-in-Some
+length-returns-in-Some t c =
+    let v = rw c.bytes.ensures at c.variable.ensures in rw (← c.in-Some.ensures) (c.count_of.ensures _ _ v)
+
+pub length-returns-in-None : goal.length-returns-in-None
+length-returns-in-None t c = rw (← c.in-None.ensures) c.called.ensures
 
 pub builtin-returns-in-Substr : goal.builtin-returns-in-Substr
 builtin-returns-in-Substr t c =

@@ -79,6 +79,9 @@ decreases-located l = 3 + 16 * l.level
 abbrev pub decreases-formatted : goal.decreases-formatted
 decreases-formatted l = 3 + 16 * l.level
 
+abbrev pub decreases-length : goal.decreases-length
+decreases-length l = 3 + 16 * l.level
+
 abbrev pub decreases-builtin : goal.decreases-builtin
 decreases-builtin l = 4 + 16 * l.level
 

@@ -1,5 +1,5 @@
 use Rattle.std.proofs.Common.{rules, refl}
-use Rattle.awk_program.proofs.Views.{view-Close, view-Int, view-Measure, view-System}
+use Rattle.awk_program.proofs.Views.{view-Close, view-Flush, view-Int, view-Measure, view-System}
 use Rattle.awk_lowering.proofs.operators.of_one.Goals as goal
 
 pub returns-in_err-x : goal.returns-in_err-x
@@ -7,6 +7,9 @@ returns-in_err-x c = λ t a h. search rules
 
 pub returns-in-Close : goal.returns-in-Close
 returns-in-Close c = λ t a h. let p = rw c.in_ok-x.was at h in rw (c.in-Close.is, view-Close, p) refl
+
+pub returns-in-Fflush : goal.returns-in-Fflush
+returns-in-Fflush c = λ t a h. let p = rw c.in_ok-x.was at h in rw (c.in-Fflush.is, view-Flush, p) refl
 
 pub returns-in-Int : goal.returns-in-Int
 returns-in-Int c = λ t a h. let p = rw c.in_ok-x.was at h in rw (c.in-Int.is, view-Int, p) refl

@@ -1,6 +1,6 @@
 use Rattle.std.proofs.Common.{refl, arith}
 use Rattle.awk_tree.specs.View.{view_statement}
-use Rattle.awk_tree.proofs.Views.{statement-Empty, statement-Expr, statement-Print, statement-Printf, statement-Delete, statement-Break, statement-Continue, statement-Next, statement-Exit, statement-Return, statement-Block, statement-If, statement-IfElse, statement-While, statement-Do, statement-For, statement-ForIn}
+use Rattle.awk_tree.proofs.Views.{statement-Empty, statement-Expr, statement-Print, statement-Printf, statement-Delete, statement-DeleteAll, statement-Break, statement-Continue, statement-Next, statement-NextFile, statement-Exit, statement-Return, statement-Block, statement-If, statement-IfElse, statement-While, statement-Do, statement-For, statement-ForIn}
 use Rattle.awk_program.specs.View as code
 use Rattle.awk_lowering.specs.LoweredStatements.{statement}
 use Rattle.awk_lowering.specs.Made.{names_in, scope_in}
@@ -29,6 +29,10 @@ pub statement-returns-in-Delete : goal.statement-returns-in-Delete
 statement-returns-in-Delete t c =
     let v = rw c.bytes.ensures at c.variable-v.ensures in let xs = rw c.as_slice-in-Delete.ensures at c.list.ensures in rw (c.in-Delete.is, statement-Delete) (c.delete_of.ensures _ _ _ v xs)
 
+pub statement-returns-in-DeleteAll : goal.statement-returns-in-DeleteAll
+statement-returns-in-DeleteAll t c =
+    let v = rw c.bytes-in-DeleteAll.ensures at c.variable.ensures in rw (c.in-DeleteAll.is, statement-DeleteAll) (c.delete_all_of.ensures _ _ v)
+
 pub statement-returns-in-Break : goal.statement-returns-in-Break
 statement-returns-in-Break t c =
     rw (c.in-Break.is, statement-Break, program.statement-Break) refl
@@ -40,6 +44,10 @@ statement-returns-in-Continue t c =
 pub statement-returns-in-Next : goal.statement-returns-in-Next
 statement-returns-in-Next t c =
     rw (c.in-Next.is, statement-Next, program.statement-Next) refl
+
+pub statement-returns-in-NextFile : goal.statement-returns-in-NextFile
+statement-returns-in-NextFile t c =
+    rw (c.in-NextFile.is, statement-NextFile, program.statement-NextFile) refl
 
 pub statement-returns-in-Exit : goal.statement-returns-in-Exit
 statement-returns-in-Exit t c =

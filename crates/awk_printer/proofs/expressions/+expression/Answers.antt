@@ -1,7 +1,7 @@
 use Rattle.std.proofs.Common.{rules, arith, w64}
 use Rattle.std.proofs.lemmas.List.{append-nil, drop_all}
 use Rattle.std.proofs.lemmas.Int.{to_z-of_z}
-use Rattle.awk_program.proofs.Views.{view-Number, view-Text, view-Pattern, view-Read, view-Assign, view-Change, view-Step, view-Not, view-Signed, view-Chain, view-Concat, view-Compare, view-Match, view-In, view-Group, view-And, view-Or, view-Choice, view-Call, view-Getline, view-GetlineFile, view-Pipe, view-Measure, view-Int, view-Index, view-SubstrFrom, view-Substr, view-Sprintf, view-Locate, view-Split, view-Substitute, view-Close, view-System}
+use Rattle.awk_program.proofs.Views.{view-Number, view-Text, view-Pattern, view-Read, view-Assign, view-Change, view-Step, view-Not, view-Signed, view-Chain, view-Concat, view-Compare, view-Match, view-In, view-Group, view-And, view-Or, view-Choice, view-Call, view-Getline, view-GetlineFile, view-Pipe, view-Measure, view-Count, view-Int, view-Index, view-SubstrFrom, view-Substr, view-Sprintf, view-Locate, view-Split, view-Substitute, view-Close, view-Flush, view-System}
 use Rattle.awk_printer.proofs.Lists.{drop_here}
 use Rattle.awk_printer.proofs.Pages.{nothing, both, lost}
 use Rattle.awk_printer.proofs.expressions.+expression.Goals as goal
@@ -98,6 +98,10 @@ pub expression-returns-in-Measure : goal.expression-returns-in-Measure
 expression-returns-in-Measure t c =
     let h = rw (c.measure_text.ensures, c.get-in-Measure.ensures) at c.one-in-Measure.ensures in rw (c.in-Measure.is, view-Measure) h
 
+pub expression-returns-in-Count : goal.expression-returns-in-Count
+expression-returns-in-Count t c =
+    rw (c.in-Count.is, view-Count) c.of_variable.ensures
+
 pub expression-returns-in-Int : goal.expression-returns-in-Int
 expression-returns-in-Int t c =
     let h = rw (c.get-in-Int.ensures) at c.at_one-in-Int.ensures in rw (c.in-Int.is, view-Int) h
@@ -133,6 +137,10 @@ expression-returns-in-Substitute t c =
 pub expression-returns-in-Close : goal.expression-returns-in-Close
 expression-returns-in-Close t c =
     let h = rw (c.get-in-Close.ensures) at c.at_one-in-Close.ensures in rw (c.in-Close.is, view-Close) h
+
+pub expression-returns-in-Flush : goal.expression-returns-in-Flush
+expression-returns-in-Flush t c =
+    let h = rw (c.get-in-Flush.ensures) at c.one-in-Flush.ensures in rw (c.in-Flush.is, view-Flush) h
 
 pub expression-returns-in-System : goal.expression-returns-in-System
 expression-returns-in-System t c =

@@ -30,6 +30,9 @@ pub at_hand-returns : goal.at_hand-returns
 at_hand-returns t c = λ g u.
     rw (c.in-Chain.is, view-Chain, to_z-of_z w64 c.in_ok-number.number (search rules)) (rw (c.get.ensures, c.as_slice.ensures) at (c.in_ok-number.ensures g u))
 
+pub at_hand-returns-in_default-e-3 : goal.at_hand-returns-in_default-e-3
+at_hand-returns-in_default-e-3 t c = λ g u. rw (to_z-of_z w64 c.in_ok-count.count (search rules)) (c.in_ok-count.ensures g u)
+
 pub element_at_hand-returns : goal.element_at_hand-returns
 element_at_hand-returns t c = λ g u.
     rw (just_one c.args.keys.now c.one-item.result c.in-len1.len_at_least c.in-len1.len_below c.one-item.is, c.of.ensures)
@@ -51,6 +54,10 @@ number_at_hand-returns-in-Some t c =
 pub number_at_hand-returns-in-Number : goal.number_at_hand-returns-in-Number
 number_at_hand-returns-in-Number t c =
     rw (to_z-of_z w64 c.in-Number.number (search rules)) (record { val = v.Num c.in-Number.number; is = refl; there = λ g u. rw (c.in-Number.is, view-Number) (number_there g _ c.in-Number.number) })
+
+pub number_at_hand-returns-in_default-e-2 : goal.number_at_hand-returns-in_default-e-2
+number_at_hand-returns-in_default-e-2 t c =
+    some_for {P = λ n. IsThere (λ names. view names c.args.e.now) c.args.store.now (v.Num n)} c.count_at_hand.result (λ n h. record { val = v.Num n; is = refl; there = h }) c.count_at_hand.ensures
 
 pub number_of_target-returns-in-Some : goal.number_of_target-returns-in-Some
 number_of_target-returns-in-Some t c =

@@ -58,13 +58,19 @@ pub expression-returns-in_ok-call-in-Call : goal.expression-returns-in_ok-call-i
 expression-returns-in_ok-call-in-Call t c =
     let h = rw (c.as_slice-in-Call-2.ensures, c.in_ok-call-in-Call.ensures, c.as_slice-in-Call.ensures, append_assoc) at c.arguments.ensures in rw (c.in-Call.is, view-Call) h
 
-pub expression-each-requires-in-Builtin : goal.expression-each-requires-in-Builtin
-expression-each-requires-in-Builtin t c =
-    let smaller : 2 + 2 * weights (trees_of (map view c.as_slice-in-Builtin.result.now)) < 2 * weight (view c.args.e.now) = rw (c.as_slice-in-Builtin.ensures, c.in-Builtin.is, view-Builtin) (omega arith) in search rules
+pub expression-builtin-requires : goal.expression-builtin-requires
+expression-builtin-requires t c =
+    let smaller : 3 + 2 * weights (trees_of (map view c.as_slice-in-Builtin.result.now)) < 2 * weight (view c.args.e.now) = rw (c.as_slice-in-Builtin.ensures, c.in-Builtin.is, view-Builtin) (omega arith) in search rules
 
 pub expression-returns-in-Builtin : goal.expression-returns-in-Builtin
 expression-returns-in-Builtin t c =
-    let h = rw (c.as_slice-in-Builtin.ensures) at c.each-in-Builtin.ensures in rw (c.in-Builtin.is, view-Builtin) h
+    let h = rw (c.as_slice-in-Builtin.ensures) at c.builtin.ensures in rw (c.in-Builtin.is, view-Builtin) h
+
+pub builtin-returns-in-Some : goal.builtin-returns-in-Some
+builtin-returns-in-Some t c = rw (← c.in-Some.ensures) c.length.ensures
+
+pub builtin-returns-in-None : goal.builtin-returns-in-None
+builtin-returns-in-None t c = rw (← c.in-None.ensures) c.each.ensures
 
 pub expression-expression-requires-in-Split : goal.expression-expression-requires-in-Split
 expression-expression-requires-in-Split t c =

@@ -17,6 +17,9 @@ decreases-two l = 1 + 2 * (weight (view l.x.now) + weight (view l.y.now))
 abbrev pub decreases-first_and_each : goal.decreases-first_and_each
 decreases-first_and_each l = 3 + 2 * (weight (view l.x.now) + weights (trees_of (map view l.xs.now)))
 
+abbrev pub decreases-builtin : goal.decreases-builtin
+decreases-builtin l = 3 + 2 * weights (trees_of (map view l.args.now))
+
 abbrev pub decreases-each : goal.decreases-each
 decreases-each l = 2 + 2 * weights (trees_of (map view l.xs.now))
 

@@ -1,7 +1,7 @@
 use Rattle.std.proofs.Common.{rules, ◌+◌, ◌<◌, refl, arith, map, append-nil, append_assoc}
 use Rattle.awk_tree.specs.Tree.{statements_of}
 use Rattle.awk_tree.specs.View.{view_statement}
-use Rattle.awk_tree.proofs.Views.{statement-Empty, statement-Expr, statement-Print, statement-Printf, statement-Delete, statement-Break, statement-Continue, statement-Next, statement-Exit, statement-Return, statement-Block, statement-If, statement-IfElse, statement-While, statement-Do, statement-For, statement-ForIn}
+use Rattle.awk_tree.proofs.Views.{statement-Empty, statement-Expr, statement-Print, statement-Printf, statement-Delete, statement-DeleteAll, statement-Break, statement-Continue, statement-Next, statement-NextFile, statement-Exit, statement-Return, statement-Block, statement-If, statement-IfElse, statement-While, statement-Do, statement-For, statement-ForIn}
 use Rattle.awk_resolve.proofs.Weight.{statement_weight, statement_weights, statement_item_weight}
 use Rattle.awk_resolve.proofs.Lists.{drop_here}
 use Rattle.awk_resolve.proofs.statements.+statement.Goals as goal
@@ -26,6 +26,10 @@ pub statement-returns-in_ok-array-in-Delete : goal.statement-returns-in_ok-array
 statement-returns-in_ok-array-in-Delete t c =
     let h = rw (c.as_slice.ensures, c.in_ok-array-in-Delete.ensures, append_assoc) at c.each.ensures in rw (c.in-Delete.is, statement-Delete) h
 
+pub statement-returns-in-DeleteAll : goal.statement-returns-in-DeleteAll
+statement-returns-in-DeleteAll t c =
+    rw (c.in-DeleteAll.is, statement-DeleteAll) c.array-in-DeleteAll.ensures
+
 pub statement-returns-in-Break : goal.statement-returns-in-Break
 statement-returns-in-Break t c =
     rw (c.in-Break.is, statement-Break) c.leaving.ensures
@@ -37,6 +41,10 @@ statement-returns-in-Continue t c =
 pub statement-returns-in-Next : goal.statement-returns-in-Next
 statement-returns-in-Next t c =
     rw (c.in-Next.is, statement-Next) c.push.ensures.ok
+
+pub statement-returns-in-NextFile : goal.statement-returns-in-NextFile
+statement-returns-in-NextFile t c =
+    rw (c.in-NextFile.is, statement-NextFile) c.push-in-NextFile.ensures.ok
 
 pub statement-returns-in-Exit : goal.statement-returns-in-Exit
 statement-returns-in-Exit t c =

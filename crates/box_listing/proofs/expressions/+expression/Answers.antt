@@ -1,7 +1,7 @@
 use Rattle.std.proofs.Common.{◌++◌, [], ◌∷◌, option_copied, refl, arith, sym, ap, map, append-nil}
 use Rattle.awk_program.specs.Program.{expressions_of, terms_of, joins_of}
 use Rattle.awk_program.specs.View.{view, view_target, view_ere, view_term, view_joined, view_pipes, view_arguments}
-use Rattle.awk_program.proofs.Views.{view-Number, view-Text, view-Pattern, view-Read, view-Assign, view-Change, view-Step, view-Not, view-Signed, view-Chain, view-Concat, view-Compare, view-Match, view-In, view-Group, view-And, view-Or, view-Choice, view-Call, view-Getline, view-GetlineFile, view-Pipe, view-Measure, view-Int, view-Index, view-SubstrFrom, view-Substr, view-Sprintf, view-Locate, view-Split, view-Substitute, view-Close, view-System}
+use Rattle.awk_program.proofs.Views.{view-Number, view-Text, view-Pattern, view-Read, view-Assign, view-Change, view-Step, view-Not, view-Signed, view-Chain, view-Concat, view-Compare, view-Match, view-In, view-Group, view-And, view-Or, view-Choice, view-Call, view-Getline, view-GetlineFile, view-Pipe, view-Measure, view-Count, view-Int, view-Index, view-SubstrFrom, view-Substr, view-Sprintf, view-Locate, view-Split, view-Substitute, view-Close, view-Flush, view-System}
 use Rattle.box_policy.specs.declared.policy.Kind.TheVariants as kind
 use Rattle.box_listing.specs.Sites as spec
 use Rattle.box_listing.proofs.Finding.{same, then}
@@ -77,6 +77,9 @@ expression-returns-in_ok-expression-in-Pipe t c = then _ _ _ _ _ _ (λ n. spec.v
 pub expression-returns-in-Measure : goal.expression-returns-in-Measure
 expression-returns-in-Measure t c = same _ _ _ _ (λ n. spec.value (view n c.args.e.now)) c.expression-in-Measure.ensures (λ n. rw (c.get-in-Measure.ensures, c.in-Measure.is, view-Measure) refl)
 
+pub expression-returns-in-Count : goal.expression-returns-in-Count
+expression-returns-in-Count t c = λ n. rw (c.in-Count.is, view-Count, append-nil) refl
+
 pub expression-returns-in-Int : goal.expression-returns-in-Int
 expression-returns-in-Int t c = same _ _ _ _ (λ n. spec.value (view n c.args.e.now)) c.expression-in-Int.ensures (λ n. rw (c.get-in-Int.ensures, c.in-Int.is, view-Int) refl)
 
@@ -103,6 +106,9 @@ expression-returns-in_ok-ere-in-Substitute t c = then _ _ _ _ _ _ (λ n. spec.va
 
 pub expression-returns-in-Close : goal.expression-returns-in-Close
 expression-returns-in-Close t c = same _ _ _ _ (λ n. spec.value (view n c.args.e.now)) c.expression-in-Close.ensures (λ n. rw (c.get-in-Close.ensures, c.in-Close.is, view-Close) refl)
+
+pub expression-returns-in-Flush : goal.expression-returns-in-Flush
+expression-returns-in-Flush t c = same _ _ _ _ (λ n. spec.value (view n c.args.e.now)) c.expression-in-Flush.ensures (λ n. rw (c.get-in-Flush.ensures, c.in-Flush.is, view-Flush) refl)
 
 pub expression-returns-in_ok-site-in-System : goal.expression-returns-in_ok-site-in-System
 expression-returns-in_ok-site-in-System t c = then _ _ _ _ _ _ (λ n. spec.value (view n c.args.e.now)) (λ n. c.in_ok-site-in-System.ensures) c.expression-in-System.ensures (λ n. rw (c.constant-in-System.ensures n, c.get-in-System.ensures, c.get-in-System-2.ensures, c.in-System.is, view-System) refl)
