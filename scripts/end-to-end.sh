@@ -1033,6 +1033,55 @@ for example in hi/hi report-host/report teaching-server/exercise log-pipeline/st
     verdict "what the policy says of the example $example"
 done
 
+# A policy that explains itself.
+
+policy 'effect = "deny"
+kind = "write"
+match = "out/archive/**"' 'effect = "allow"
+kind = "write"
+match = "out/**"' 'effect = "allow"
+kind = "read"
+match = "**"
+from = "given"' 'effect = "allow"
+kind = "run"
+match = "mail *"'
+p=$work/policy.toml
+awkbox why --policy "$p" write ./out//archive/a
+told 0 "normal form: \"$base/out/archive/a\"
+rule 1 ($p:4): deny write \"out/archive/**\": fits
+rule 2 ($p:9): allow write \"out/**\": fits
+deny: rule 1 ($p:4)$line" ""
+verdict "why a path is denied"
+awkbox why --policy "$p" write out/a
+told 0 "normal form: \"$base/out/a\"
+rule 1 ($p:4): deny write \"out/archive/**\": does not fit
+rule 2 ($p:9): allow write \"out/**\": fits
+allow: rule 2 ($p:9)$line" ""
+verdict "why a path is allowed"
+awkbox why --policy "$p" write ../a
+told 0 "normal form: none
+rule 1 ($p:4): deny write \"out/archive/**\": does not fit
+rule 2 ($p:9): allow write \"out/**\": does not fit
+deny: no rule fits$line" ""
+verdict "why a path without a normal form is denied"
+awkbox why --policy "$p" --given read in/a
+told 0 "normal form: \"$base/in/a\"
+rule 3 ($p:14): allow read \"**\" given: fits
+allow: rule 3 ($p:14)$line" ""
+verdict "why an operand is allowed"
+awkbox why --policy "$p" read in/a
+told 0 "normal form: \"$base/in/a\"
+rule 3 ($p:14): allow read \"**\" given: does not fit
+deny: no rule fits$line" ""
+verdict "why a file that is no operand is denied"
+awkbox why --policy "$p" run "mail -s"
+told 0 "rule 4 ($p:20): allow run \"mail *\": fits
+allow: rule 4 ($p:20)$line" ""
+verdict "why a command is allowed"
+awkbox why --policy "$p" env HOME
+told 0 "deny: no rule fits$line" ""
+verdict "why a name is denied"
+
 script 'BEGIN { system("id") }'
 "$program" list -f "$work/script.awk" >/dev/full 2>"$work/errors"
 status=$?
@@ -1081,7 +1130,7 @@ awkbox --help
 [ "$status" -eq 0 ] && grep -q '^Usage: awkbox <COMMAND>' "$work/output" && [ ! -s "$work/errors" ]
 verdict "the help"
 
-for command in run list check; do
+for command in run list check why; do
     awkbox "$command" --help
     [ "$status" -eq 0 ] && grep -q "^Usage: awkbox $command " "$work/output" && [ ! -s "$work/errors" ]
     verdict "the help of $command"
@@ -1097,6 +1146,7 @@ flat() {
     "$program" run --help
     "$program" list --help
     "$program" check --help
+    "$program" why --help
 } >"$work/helps"
 facts=0
 differing=
@@ -1303,6 +1353,8 @@ fault "a folder of check" check --policy p -C a -f f
 fault "an operand of list" list -f f -- a
 fault "an operand of check" check --policy p -f f -- a
 fault "a policy of list" list --policy p -f f
+fault "a kind that is not known" why --policy p open a
+fault "a text that is missing" why --policy p read
 
 # Nests.
 

@@ -1,4 +1,5 @@
 // What the words ask for.
+use box_advice::{Kind, kind_named};
 use clap::error::ErrorKind;
 use clap::{Arg, ArgAction, ArgMatches, Command, Error};
 use std::alloc::{AllocError, Global};
@@ -23,12 +24,22 @@ pub struct Run<'a> {
     pub assigns: Vec<&'a str>,
 }
 
+/// What `awkbox why` is asked for: what the policy of this file decides of the text, and whether that counts as an operand.
+#[derive(Debug, Drop)]
+pub struct Why<'a> {
+    pub policy: &'a str,
+    pub kind: Kind,
+    pub text: &'a str,
+    pub given: bool,
+}
+
 /// What the program is asked for. Policy and script are names of files.
 #[derive(Debug, Drop)]
 pub enum Asked<'a> {
     Run(Run<'a>),
     List { script: &'a str },
     Check { policy: &'a str, script: &'a str },
+    Why(Why<'a>),
 }
 
 /// The name that users know the program by, whatever the file is called that runs.
@@ -48,7 +59,7 @@ Exit status:
 
 const TOLD_STATUSES: &str = "\
 Exit status:
-  0  The sites are listed, or a check found the script clean
+  0  The answer is printed; a check found the script clean
   1  A check found the script refused or open
   2  There was no memory for the answer
   3  The policy, the script or the command line was refused, or a file could not be read";
@@ -97,6 +108,28 @@ fn script<'a>(alloc: Global) -> Arg<'a> {
     option(alloc, "script", "FILE", "The awk script")
         .short('f')
         .required(true)
+}
+
+fn kind<'a>(alloc: Global) -> Arg<'a> {
+    Arg::new(alloc, "kind")
+        .required(true)
+        .value_name("KIND")
+        .help("What is asked for: read, write, append, run, env or assign")
+}
+
+fn text<'a>(alloc: Global) -> Arg<'a> {
+    Arg::new(alloc, "text")
+        .required(true)
+        .allow_hyphen_values(true)
+        .value_name("TEXT")
+        .help("The path, the command or the name that is asked for")
+}
+
+fn given<'a>(alloc: Global) -> Arg<'a> {
+    Arg::new(alloc, "given")
+        .action(ArgAction::SetTrue)
+        .long("given")
+        .help("It is an operand that the run was started with")
 }
 
 fn steps<'a>(alloc: Global) -> Arg<'a> {
@@ -158,6 +191,16 @@ fn check_command<'a>(alloc: Global) -> Result<Command<'a>, AllocError> {
         .arg(script(alloc))
 }
 
+fn why_command<'a>(alloc: Global) -> Result<Command<'a>, AllocError> {
+    Command::new(alloc, "why")
+        .about("Tells which rules of a policy speak of a request, and which one decides")
+        .after_help(TOLD_STATUSES)
+        .arg(policy(alloc))?
+        .arg(given(alloc))?
+        .arg(kind(alloc))?
+        .arg(text(alloc))
+}
+
 fn command<'a>(alloc: Global) -> Result<Command<'a>, AllocError> {
     Command::new(alloc, NAME)
         .bin_name(NAME)?
@@ -165,7 +208,8 @@ fn command<'a>(alloc: Global) -> Result<Command<'a>, AllocError> {
         .subcommand_required(true)
         .subcommand(run_command(alloc)?)?
         .subcommand(list_command(alloc)?)?
-        .subcommand(check_command(alloc)?)
+        .subcommand(check_command(alloc)?)?
+        .subcommand(why_command(alloc)?)
 }
 
 // Digits alone, where `parse` would take a sign too.
@@ -232,6 +276,21 @@ fn run_of<'a>(alloc: Global, matches: &ArgMatches<'a>) -> Result<Run<'a>, Error>
     })
 }
 
+fn why_of<'a>(alloc: Global, matches: &ArgMatches<'a>, policy: &'a str) -> Result<Why<'a>, Error> {
+    let Some(kind) = kind_named(value_of(alloc, matches, "kind")?) else {
+        return Err(fault(
+            alloc,
+            "KIND is none of read, write, append, run, env and assign",
+        ));
+    };
+    Ok(Why {
+        policy,
+        kind,
+        text: value_of(alloc, matches, "text")?,
+        given: matches.get_flag("given"),
+    })
+}
+
 fn asked_of<'a>(alloc: Global, matches: &ArgMatches<'a>) -> Result<Asked<'a>, Error> {
     let Some((name, matches)) = matches.subcommand() else {
         return Err(fault(alloc, "a command is missing"));
@@ -239,11 +298,15 @@ fn asked_of<'a>(alloc: Global, matches: &ArgMatches<'a>) -> Result<Asked<'a>, Er
     if name == "run" {
         return Ok(Asked::Run(run_of(alloc, matches)?));
     }
-    let script = value_of(alloc, matches, "script")?;
     if name == "list" {
+        let script = value_of(alloc, matches, "script")?;
         return Ok(Asked::List { script });
     }
     let policy = value_of(alloc, matches, "policy")?;
+    if name == "why" {
+        return Ok(Asked::Why(why_of(alloc, matches, policy)?));
+    }
+    let script = value_of(alloc, matches, "script")?;
     Ok(Asked::Check { policy, script })
 }
 

@@ -2,6 +2,7 @@
 // the script may ask for.
 #![tactic(auto)]
 
+mod advice;
 mod command_line;
 mod files;
 mod folders;

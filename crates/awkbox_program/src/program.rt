@@ -1,4 +1,5 @@
 // The program from its words to its exit status.
+use crate::advice::why_file;
 use crate::command_line::Asked;
 use crate::process::has_small_stack;
 use crate::runs::{read_source, run_script};
@@ -36,6 +37,7 @@ fn follow(rt: &HostRuntime, words: Words) -> u8 {
         }
         Ok(Asked::List { script }) => list_file(rt, script),
         Ok(Asked::Check { policy, script }) => check_files(rt, policy, script),
+        Ok(Asked::Why(why)) => why_file(rt, &why),
         Err(error) => return say_words(rt, &error),
     };
     say(rt, &ending.unwrap_or_else(Ending::Said))
