@@ -22,7 +22,7 @@ _awkbox() {
     --log-limit | --steps | -F | -v) return ;;
     esac
     if [ "$COMP_CWORD" -eq 1 ]; then
-        mapfile -t COMPREPLY < <(compgen -W 'run list check why --help' -- "$word")
+        mapfile -t COMPREPLY < <(compgen -W 'run list check why lint --help' -- "$word")
         return
     fi
     case " ${COMP_WORDS[*]:2:COMP_CWORD-2} " in
@@ -37,6 +37,7 @@ _awkbox() {
     list) options='-f --help' ;;
     check) options='--policy -f --help' ;;
     why) options='--policy --given read write append run env assign --help' ;;
+    lint) options='--policy --help' ;;
     *) options= ;;
     esac
     mapfile -t COMPREPLY < <(compgen -W "$options" -- "$word")

@@ -1082,6 +1082,66 @@ awkbox why --policy "$p" env HOME
 told 0 "deny: no rule fits$line" ""
 verdict "why a name is denied"
 
+awkbox lint --policy "$p"
+told 0 "" ""
+verdict "nothing is wrong with a policy"
+
+# lints NAME LINES STATUS: whether lint tells this of the policy file
+lints() {
+    awkbox lint --policy "$p"
+    told "$3" "$2" ""
+    verdict "$1"
+}
+top_of() { printf 'version = 1\nbase = "%s"\n%s\n' "$base" "$1" >"$p"; }
+top_of 'rules = 1'
+lints "a top key that is not known" "$p:3: P4: unknown key \"rules\" (did you mean \"rule\"?); a policy has version, base, rule$line" 3
+printf 'base = "/w"\nversion = 3\n' >"$p"
+lints "a version that is not known" "$p:2: P2: version is neither 1 nor 2$line" 3
+printf 'version = 1\nbase = "w"\n' >"$p"
+lints "a base that is not absolute" "$p:2: P3: base does not begin with /$line" 3
+top_of 'rule = 1'
+lints "rules that are no tables" "$p:3: P5: rule is no array of tables; write [[rule]] above each rule$line" 3
+policy 'effect = "allow"
+kind = "read"
+path = "a"'
+lints "a key that is not known" "$p:7: P4 rule 1: unknown key \"path\" (did you mean \"match\"?); a rule has effect, kind, match, from$line" 3
+policy 'effect = "allow"
+match = "a"'
+lints "a key that is missing" "$p:4: P4 rule 1: kind is missing; a rule has effect, kind, match, from$line" 3
+policy 'effect = "alow"
+kind = "read"
+match = "a"'
+lints "a value that is not known" "$p:5: P5 rule 1: unknown effect \"alow\" (did you mean \"allow\"?); it is allow or deny$line" 3
+policy 'effect = "allow"
+kind = "write"
+match = "a"
+from = "given"'
+lints "from beside another kind" "$p:8: P5 rule 1: from stands beside kind \"write\"; it is for read and assign$line" 3
+policy 'effect = "allow"
+kind = "read"
+match = "a/../b"'
+lints "a pattern that goes up" "$p:7: P6 rule 1: match \"a/../b\" is no pattern of kind read: it has a component .., which is never folded$line" 3
+policy "effect = \"allow\"
+kind = \"read\"
+match = \"$(head -c 4097 /dev/zero | tr '\0' a)\""
+lints "a pattern that is too long" "$p:7: P7 rule 1: match has more than 4096 bytes$line" 3
+printf 'version = 1\nbase = "/w"\n\n[[rule]\n' >"$p"
+awkbox lint --policy "$p"
+[ "$status" -eq 3 ] && grep -qxE "$p:[45]: P1: .+" "$work/output"
+verdict "a text that is no document"
+policy 'effect = "allow"
+kind = "read"
+match = "**"' 'effect = "deny"
+kind = "read"
+match = "secret/*"' 'effect = "allow"
+kind = "run"
+match = "sort -*"' 'effect = "allow"
+kind = "read"
+match = "/proc/**"'
+lints "warnings" "$p:9: warning: rule 2: no request reaches it: rule 1 decides all that it speaks of
+$p:19: warning: rule 4: allow read reaches /proc
+$p:14: warning: rule 3: * lets options of sort through, which write files or start commands$line" 0
+
 script 'BEGIN { system("id") }'
 "$program" list -f "$work/script.awk" >/dev/full 2>"$work/errors"
 status=$?
@@ -1130,7 +1190,7 @@ awkbox --help
 [ "$status" -eq 0 ] && grep -q '^Usage: awkbox <COMMAND>' "$work/output" && [ ! -s "$work/errors" ]
 verdict "the help"
 
-for command in run list check why; do
+for command in run list check why lint; do
     awkbox "$command" --help
     [ "$status" -eq 0 ] && grep -q "^Usage: awkbox $command " "$work/output" && [ ! -s "$work/errors" ]
     verdict "the help of $command"
@@ -1147,6 +1207,7 @@ flat() {
     "$program" list --help
     "$program" check --help
     "$program" why --help
+    "$program" lint --help
 } >"$work/helps"
 facts=0
 differing=
@@ -1355,6 +1416,7 @@ fault "an operand of check" check --policy p -f f -- a
 fault "a policy of list" list --policy p -f f
 fault "a kind that is not known" why --policy p open a
 fault "a text that is missing" why --policy p read
+fault "a script of lint" lint --policy p -f f
 
 # Nests.
 

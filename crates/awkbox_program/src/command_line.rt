@@ -40,6 +40,7 @@ pub enum Asked<'a> {
     List { script: &'a str },
     Check { policy: &'a str, script: &'a str },
     Why(Why<'a>),
+    Lint { policy: &'a str },
 }
 
 /// The name that users know the program by, whatever the file is called that runs.
@@ -201,6 +202,13 @@ fn why_command<'a>(alloc: Global) -> Result<Command<'a>, AllocError> {
         .arg(text(alloc))
 }
 
+fn lint_command<'a>(alloc: Global) -> Result<Command<'a>, AllocError> {
+    Command::new(alloc, "lint")
+        .about("Tells what is wrong with a policy, and what its rules may not mean")
+        .after_help(TOLD_STATUSES)
+        .arg(policy(alloc))
+}
+
 fn command<'a>(alloc: Global) -> Result<Command<'a>, AllocError> {
     Command::new(alloc, NAME)
         .bin_name(NAME)?
@@ -209,7 +217,8 @@ fn command<'a>(alloc: Global) -> Result<Command<'a>, AllocError> {
         .subcommand(run_command(alloc)?)?
         .subcommand(list_command(alloc)?)?
         .subcommand(check_command(alloc)?)?
-        .subcommand(why_command(alloc)?)
+        .subcommand(why_command(alloc)?)?
+        .subcommand(lint_command(alloc)?)
 }
 
 // Digits alone, where `parse` would take a sign too.
@@ -303,6 +312,9 @@ fn asked_of<'a>(alloc: Global, matches: &ArgMatches<'a>) -> Result<Asked<'a>, Er
         return Ok(Asked::List { script });
     }
     let policy = value_of(alloc, matches, "policy")?;
+    if name == "lint" {
+        return Ok(Asked::Lint { policy });
+    }
     if name == "why" {
         return Ok(Asked::Why(why_of(alloc, matches, policy)?));
     }

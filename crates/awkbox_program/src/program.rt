@@ -1,5 +1,5 @@
 // The program from its words to its exit status.
-use crate::advice::why_file;
+use crate::advice::{lint_file, why_file};
 use crate::command_line::Asked;
 use crate::process::has_small_stack;
 use crate::runs::{read_source, run_script};
@@ -38,6 +38,7 @@ fn follow(rt: &HostRuntime, words: Words) -> u8 {
         Ok(Asked::List { script }) => list_file(rt, script),
         Ok(Asked::Check { policy, script }) => check_files(rt, policy, script),
         Ok(Asked::Why(why)) => why_file(rt, &why),
+        Ok(Asked::Lint { policy }) => lint_file(rt, policy),
         Err(error) => return say_words(rt, &error),
     };
     say(rt, &ending.unwrap_or_else(Ending::Said))

@@ -43,3 +43,27 @@ impl Places {
         }
     }
 }
+
+/// Whether the line gives this key a value.
+fn gives(line: &[u8], key: &str) -> bool {
+    match line.trim_ascii_start().strip_prefix(key.as_bytes()) {
+        Some(rest) => rest.trim_ascii_start().starts_with(b"="),
+        None => false,
+    }
+}
+
+/// The line, counted from 1, that gives the key a value in the table that begins on this line; of the top table, which has no
+/// line of its own, it is 0.
+pub fn key_line(text: &[u8], table: usize, key: &str) -> Option<usize> {
+    for (at, line) in text.split(|byte| *byte == b'\n').enumerate() {
+        if at >= table {
+            if gives(line, key) {
+                return Some(at.saturating_add(1));
+            }
+            if line.trim_ascii_start().starts_with(b"[") {
+                return None;
+            }
+        }
+    }
+    None
+}

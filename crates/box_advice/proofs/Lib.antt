@@ -1,0 +1,2 @@
+pub mod CoversLemmas
+pub mod ExactLemmas

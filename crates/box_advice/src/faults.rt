@@ -1,0 +1,252 @@
+// What is wrong with a policy that is refused, in words. `Policy::read` says which code and which rule it is; here is looked up
+// what stands there.
+use crate::nearest::hint;
+use crate::words::quoted;
+use awk_text::Memory;
+use box_policy::error::PolicyError;
+use std::alloc::{AllocError, Global};
+use toml::{Table, Value};
+
+const TOP_KEYS: [&str; 3] = ["version", "base", "rule"];
+
+const RULE_KEYS: [&str; 4] = ["effect", "kind", "match", "from"];
+
+const LIMITED_KEYS: [&str; 5] = ["effect", "kind", "match", "from", "limit"];
+
+const NEEDED: [&str; 3] = ["effect", "kind", "match"];
+
+const EFFECTS: [&str; 2] = ["allow", "deny"];
+
+const KINDS: [&str; 6] = ["read", "write", "append", "run", "env", "assign"];
+
+const SOURCES: [&str; 2] = ["any", "given"];
+
+/// What is wrong, and the key that it stands at, where one does.
+#[derive(Drop)]
+pub struct Fault {
+    pub key: Option<String>,
+    pub words: String,
+}
+
+fn at(alloc: Global, key: &str, words: &str) -> Result<Fault, Memory> {
+    Ok(Fault {
+        key: Some(String::from_str(alloc, key)?),
+        words: String::from_str(alloc, words)?,
+    })
+}
+
+fn nowhere(alloc: Global, words: &str) -> Result<Fault, Memory> {
+    Ok(Fault {
+        key: None,
+        words: String::from_str(alloc, words)?,
+    })
+}
+
+// The first key that is none of these.
+fn unknown_key<'a>(table: &'a Table, known: &[&str]) -> Option<&'a str> {
+    for key in table.keys() {
+        if !(&*known).contains(&key.as_str()) {
+            return Some(key.as_str());
+        }
+    }
+    None
+}
+
+fn unknown(alloc: Global, key: &str, known: &[&str], those: &str) -> Result<Fault, Memory> {
+    let shown = quoted(alloc, key.as_bytes())?;
+    let hint = hint(alloc, key, known)?;
+    let words = format!(in alloc; "unknown key \"{shown}\"{hint}; {those}")?;
+    at(alloc, key, words.as_str())
+}
+
+fn has_limits(table: &Table) -> bool {
+    table.get("version").and_then(Value::as_integer) == Some(2)
+}
+
+fn base_fault(alloc: Global, table: &Table) -> Result<Fault, Memory> {
+    let Some(value) = table.get("base") else {
+        return nowhere(alloc, "base is missing; it is an absolute path");
+    };
+    let Some(base) = value.as_str() else {
+        return at(alloc, "base", "base is no text; it is an absolute path");
+    };
+    if !base.starts_with('/') {
+        return at(alloc, "base", "base does not begin with /");
+    }
+    if base.as_bytes().iter().any(|b| *b == b'*' || *b == b'?') {
+        return at(alloc, "base", "base holds * or ?");
+    }
+    at(alloc, "base", "base has a component .. or a NUL byte")
+}
+
+fn top_fault(alloc: Global, table: &Table, code: u8) -> Result<Fault, Memory> {
+    match code {
+        PolicyError::KEY => match unknown_key(table, TOP_KEYS.as_slice()) {
+            Some(key) => unknown(
+                alloc,
+                key,
+                TOP_KEYS.as_slice(),
+                "a policy has version, base, rule",
+            ),
+            None => nowhere(alloc, "unknown key"),
+        },
+        PolicyError::VERSION => match table.get("version") {
+            Some(_) => at(alloc, "version", "version is neither 1 nor 2"),
+            None => nowhere(
+                alloc,
+                "version is missing; it is 1, or 2 where rules have limits",
+            ),
+        },
+        PolicyError::BASE => base_fault(alloc, table),
+        PolicyError::VALUE => at(
+            alloc,
+            "rule",
+            "rule is no array of tables; write [[rule]] above each rule",
+        ),
+        _ => nowhere(alloc, "more than 1024 rules"),
+    }
+}
+
+fn rule_key_fault(alloc: Global, rule: &Table, limits: bool) -> Result<Fault, Memory> {
+    let (known, those) = if limits {
+        (
+            LIMITED_KEYS.as_slice(),
+            "a rule has effect, kind, match, from, limit",
+        )
+    } else {
+        (RULE_KEYS.as_slice(), "a rule has effect, kind, match, from")
+    };
+    match unknown_key(rule, known) {
+        Some("limit") => at(alloc, "limit", "a rule has a limit in version 2 alone"),
+        Some(key) => unknown(alloc, key, known, those),
+        None => {
+            for key in NEEDED {
+                if rule.get(key).is_none() {
+                    let words = format!(in alloc; "{key} is missing; {those}")?;
+                    return nowhere(alloc, words.as_str());
+                }
+            }
+            nowhere(alloc, those)
+        }
+    }
+}
+
+// What is wrong with a value that is to be one of these words, where it is none.
+fn word_fault(
+    alloc: Global,
+    rule: &Table,
+    key: &str,
+    words: &[&str],
+    those: &str,
+) -> Result<Option<Fault>, Memory> {
+    let Some(value) = rule.get(key) else {
+        return Ok(None);
+    };
+    let Some(word) = value.as_str() else {
+        let text = format!(in alloc; "{key} is no text; it is {those}")?;
+        return Ok(Some(at(alloc, key, text.as_str())?));
+    };
+    if (&*words).contains(&word) {
+        return Ok(None);
+    }
+    let shown = quoted(alloc, word.as_bytes())?;
+    let hint = hint(alloc, word, words)?;
+    let text = format!(in alloc; "unknown {key} \"{shown}\"{hint}; it is {those}")?;
+    Ok(Some(at(alloc, key, text.as_str())?))
+}
+
+fn limit_fault(alloc: Global, rule: &Table) -> Result<Fault, Memory> {
+    if rule.get("effect").and_then(Value::as_str) == Some("deny") {
+        return at(alloc, "limit", "limit stands beside an effect that denies");
+    }
+    at(alloc, "limit", "limit is no whole number from 1 to 1000000")
+}
+
+fn value_fault(alloc: Global, rule: &Table) -> Result<Fault, Memory> {
+    if let Some(fault) = word_fault(alloc, rule, "effect", EFFECTS.as_slice(), "allow or deny")? {
+        return Ok(fault);
+    }
+    let kinds = "read, write, append, run, env or assign";
+    if let Some(fault) = word_fault(alloc, rule, "kind", KINDS.as_slice(), kinds)? {
+        return Ok(fault);
+    }
+    if rule.get("match").and_then(Value::as_str).is_none() {
+        return at(alloc, "match", "match is no text");
+    }
+    let kind = rule.get("kind").and_then(Value::as_str).unwrap_or("");
+    if rule.get("from").is_some() && kind != "read" && kind != "assign" {
+        let words = format!(in alloc;
+            "from stands beside kind \"{kind}\"; it is for read and assign"
+        )?;
+        return at(alloc, "from", words.as_str());
+    }
+    if let Some(fault) = word_fault(alloc, rule, "from", SOURCES.as_slice(), "any or given")? {
+        return Ok(fault);
+    }
+    limit_fault(alloc, rule)
+}
+
+// The reason why this is no pattern of its kind.
+fn pattern_reason(kind: &str, pattern: &str) -> &'static str {
+    let bytes = pattern.as_bytes();
+    if bytes.is_empty() {
+        return "it is empty";
+    }
+    if bytes.contains(&0) {
+        return "it holds a NUL byte";
+    }
+    if kind == "run" {
+        return "it is no command";
+    }
+    if kind == "env" || kind == "assign" {
+        return "a name has letters, digits and _ alone, and * for any run of these";
+    }
+    if bytes
+        .split(|b| *b == b'/')
+        .any(|piece| piece == b"..".as_slice())
+    {
+        return "it has a component .., which is never folded";
+    }
+    "** stands inside a longer component; write it as a component of its own"
+}
+
+fn pattern_fault(alloc: Global, rule: &Table) -> Result<Fault, Memory> {
+    let kind = rule.get("kind").and_then(Value::as_str).unwrap_or("");
+    let pattern = rule.get("match").and_then(Value::as_str).unwrap_or("");
+    let shown = quoted(alloc, pattern.as_bytes())?;
+    let reason = pattern_reason(kind, pattern);
+    let words = format!(in alloc; "match \"{shown}\" is no pattern of kind {kind}: {reason}")?;
+    at(alloc, "match", words.as_str())
+}
+
+fn rule_fault(alloc: Global, rule: &Table, code: u8, limits: bool) -> Result<Fault, Memory> {
+    match code {
+        PolicyError::KEY => rule_key_fault(alloc, rule, limits),
+        PolicyError::VALUE => value_fault(alloc, rule),
+        PolicyError::LIMIT => at(alloc, "match", "match has more than 4096 bytes"),
+        _ => pattern_fault(alloc, rule),
+    }
+}
+
+// The table of the rule of this number, counted from 1.
+fn rule_at(table: &Table, number: u32) -> Option<&Table> {
+    let rules = table.get("rule")?.as_array()?;
+    rules
+        .as_slice()
+        .get((number as usize).saturating_sub(1))?
+        .as_table()
+}
+
+/// What is wrong in the table of a document that was refused for this.
+pub fn fault_in(alloc: Global, table: &Table, error: PolicyError) -> Result<Fault, Memory> {
+    if error.code == PolicyError::MEMORY {
+        return Err(AllocError);
+    }
+    if error.rule == 0 {
+        return top_fault(alloc, table, error.code);
+    }
+    match rule_at(table, error.rule) {
+        Some(rule) => rule_fault(alloc, rule, error.code, has_limits(table)),
+        None => nowhere(alloc, "the rule is refused"),
+    }
+}

@@ -1,0 +1,137 @@
+// What is wrong with a policy, in lines for its writer.
+ghost use Rattle.std.specs.Prelude.{IfOk};
+ghost use Rattle.box_advice.specs.Lints.{Lints};
+
+use crate::faults::{Fault, fault_in};
+use crate::places::{Places, key_line};
+use crate::warnings::push_warnings;
+use awk_text::Memory;
+use box_policy::error::PolicyError;
+use box_policy::policy::Policy;
+use std::alloc::{AllocError, Global};
+use toml::{Table, Value};
+
+/// What a policy's text is told: the lines, and why it is refused, where it is.
+#[derive(Drop)]
+pub struct Findings {
+    pub refusal: Option<PolicyError>,
+    pub lines: String,
+}
+
+fn line_at(text: &[u8], at: usize) -> usize {
+    let before = text.get(..at).unwrap_or(text);
+    before
+        .iter()
+        .filter(|byte| **byte == b'\n')
+        .count()
+        .saturating_add(1)
+}
+
+fn count_of(table: &Table) -> usize {
+    match table.get("rule").and_then(Value::as_array) {
+        Some(rules) => rules.len(),
+        None => 0,
+    }
+}
+
+// The line that a fault stands on, where it can be told.
+fn fault_line(
+    alloc: Global,
+    text: &[u8],
+    table: &Table,
+    rule: u32,
+    fault: &Fault,
+) -> Result<Option<usize>, Memory> {
+    let start = if rule == 0 {
+        Some(0)
+    } else {
+        Places::of(alloc, text, count_of(table))?.line(rule)
+    };
+    let Some(start) = start else {
+        return Ok(None);
+    };
+    let found = match &fault.key {
+        Some(key) => key_line(text, start, key.as_str()),
+        None => None,
+    };
+    match found {
+        Some(line) => Ok(Some(line)),
+        None if start > 0 => Ok(Some(start)),
+        None => Ok(None),
+    }
+}
+
+fn push_line(
+    alloc: Global,
+    name: &str,
+    line: Option<usize>,
+    error: PolicyError,
+    words: &str,
+    lines: &mut String,
+) -> Result<(), Memory> {
+    let text = match line {
+        Some(line) => format!(in alloc; "{name}:{line}: {error}: {words}\n")?,
+        None => format!(in alloc; "{name}: {error}: {words}\n")?,
+    };
+    lines.push_str(text.as_str())?;
+    Ok(())
+}
+
+// The text is no document.
+fn push_document(
+    alloc: Global,
+    name: &str,
+    text: &[u8],
+    refused: PolicyError,
+    error: &toml::de::Error,
+    lines: &mut String,
+) -> Result<(), Memory> {
+    let line = match error.span() {
+        Some(span) => Some(line_at(text, span.start)),
+        None => None,
+    };
+    push_line(alloc, name, line, refused, error.message(), lines)
+}
+
+fn push_refusal(
+    alloc: Global,
+    name: &str,
+    text: &[u8],
+    refused: PolicyError,
+    lines: &mut String,
+) -> Result<(), Memory> {
+    match toml::table_from_slice(alloc, text) {
+        Err(error) if error.is_memory() => Err(AllocError),
+        Err(error) => push_document(alloc, name, text, refused, &error, lines),
+        Ok(table) => {
+            let fault = fault_in(alloc, &table, refused)?;
+            let line = fault_line(alloc, text, &table, refused.rule, &fault)?;
+            push_line(alloc, name, line, refused, fault.words.as_str(), lines)
+        }
+    }
+}
+
+/// The lines for the policy of this text, which stands in the file of this name: nothing for one that is in order; why it is
+/// refused, with the line and what was meant; or what its rules say that may not be meant. `file` is the file's absolute name.
+/// `Memory` where memory is refused.
+pub fn lint(alloc: Global, name: &str, file: &str, text: &[u8]) -> Result<Findings, Memory>
+    ensures { IfOk result (Lints text.now) }
+{
+    let mut lines = String::new(alloc);
+    match Policy::read(alloc, text) {
+        Ok(policy) => {
+            push_warnings(alloc, name, file, text, &policy, &mut lines)?;
+            Ok(Findings {
+                refusal: None,
+                lines,
+            })
+        }
+        Err(error) => {
+            push_refusal(alloc, name, text, error, &mut lines)?;
+            Ok(Findings {
+                refusal: Some(error),
+                lines,
+            })
+        }
+    }
+}
