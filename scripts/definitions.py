@@ -22,8 +22,9 @@ SUBJECTS = [
     ("the form of a script that runs", ["awk_program"]),
     ("plain awk", ["awk_machine"]),
     ("what a run is given", ["awk_run"]),
-    ("tokens, the tree and the grammar", ["awk_tokens", "awk_tree", "awk_grammar_laws", "awk_statements"]),
-    ("names, and the program of a script", []),
+    ("tokens, the tree and the rules", ["awk_tokens", "awk_tree", "awk_statements"]),
+    ("names, and the program of a script", ["awk_resolve", "awk_lowering"]),
+    ("the grammar, and accepted scripts", ["awk_parse"]),
 ]
 BEGIN, END = "<!-- definitions: begin -->", "<!-- definitions: end -->"
 USE = re.compile(r"^\s*(?:pub )?use Rattle\.(\w+)\.specs\.([\w.]+?)(?:\.\{|\s|$)", re.M)

@@ -6,8 +6,8 @@ use Rattle.awk_tree.specs.declared.fault.Fault.TheVariants as fault
 use Rattle.awk_tree.specs.Tree.{Entry}
 use Rattle.awk_tree.specs.Statements as grammar
 use Rattle.awk_tree.specs.Canon.{canon_script, bare_entry}
-use Rattle.awk_grammar_laws.proofs.Law.{done_is}
-use Rattle.awk_grammar_laws.proofs.Laws.{scripts_are_read_again}
+use Rattle.awk_parse.proofs.Law.{done_is}
+use Rattle.awk_parse.proofs.Laws.{scripts_are_read_again}
 use Rattle.awk_statements.specs.Places as places
 use Rattle.awk_resolve.specs.Mentions.{part}
 use Rattle.awk_resolve.specs.Faultless.{Faultless}

@@ -7,7 +7,7 @@ use Rattle.awk_tree.specs.Tree.{Entry}
 use Rattle.awk_tree.specs.View.{view_item}
 use Rattle.awk_tree.specs.Statements as grammar
 use Rattle.awk_tree.specs.Canon.{bare_entry}
-use Rattle.awk_grammar_laws.specs.SpellsScripts.{SpellsScript}
+use Rattle.awk_parse.specs.SpellsScripts.{SpellsScript}
 use Rattle.awk_statements.specs.Places as places
 use Rattle.awk_resolve.specs.Mentions.{part}
 use Rattle.awk_resolve.specs.Faults as names

@@ -6,6 +6,7 @@
 #![tactic(auto)]
 
 mod flaw;
+pub mod grammar;
 mod parser;
 mod script;
 

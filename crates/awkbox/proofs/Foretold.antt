@@ -8,7 +8,7 @@ use Rattle.awk_tree.specs.Tree.{Entry}
 use Rattle.box_listing.specs.Scripts.{IsVerdictOf}
 use Rattle.box_listing.specs.declared.verdict.Verdict.TheVariants.{Clean, Refused}
 use Rattle.listing_laws.specs.Foretold.{IsOf, ScriptCovered, ScriptAllowed, ScriptDenied}
-use Rattle.text_laws.specs.OneText.{OnePolicy, OneProgram, SameScript}
+use Rattle.listing_laws.specs.OneText.{OnePolicy, OneProgram, SameScript}
 use Rattle.awkbox.specs.Accepted.{ReadsScript}
 use Rattle.awkbox.specs.Foretold.{TextCovered, TextAllowed, TextDenied}
 use Rattle.awkbox.specs.Scripts.{Spells}

@@ -1,6 +1,6 @@
 -- What tokens spell, the text spells that is read as them.
 use Rattle.std.proofs.Common.{ℕ, List, Result, Ok, Err, IfOk, IfErr, inr}
-use Rattle.awk_grammar_laws.proofs.Laws.{scripts_are_spelled}
+use Rattle.awk_parse.proofs.Laws.{scripts_are_spelled}
 use Rattle.awk_parse.specs.Scripts.{IsRead, IsRefused}
 use Rattle.awk_parse.specs.declared.script.Script.{Script}
 use Rattle.awk_tokens.specs.Reads.{Reads}

@@ -12,7 +12,7 @@ use Rattle.box_policy.specs.Rulebook.{Rulebook}
 use Rattle.box_world.specs.Calls.{Call}
 use Rattle.box_world.specs.Events.{Event, Want, calls}
 use Rattle.box_world.specs.declared.ask.Ask.{Ask}
-use Rattle.text_laws.specs.OneText.{OnePolicy, OneProgram, SameScript}
+use Rattle.listing_laws.specs.OneText.{OnePolicy, OneProgram, SameScript}
 use Rattle.awkbox.specs.Accepted.{ReadsScript}
 use Rattle.awkbox.specs.Drives.{PlaysUnder}
 use Rattle.awkbox.specs.Laws.{TwoWorlds}

@@ -1,6 +1,6 @@
 -- Which script a text spells, and why others are refused.
 use Rattle.std.specs.Prelude.{◌≡◌, ◌≢◌, ℕ, List, [], Ok, ◌⊎◌}
-use Rattle.awk_grammar_laws.specs.SpellsScripts.{SpellsScript}
+use Rattle.awk_parse.specs.SpellsScripts.{SpellsScript}
 use Rattle.awk_parse.specs.Scripts.{IsScriptOf, IsRefused}
 use Rattle.awk_parse.specs.declared.script.Script.{Script}
 use Rattle.awk_tokens.specs.Reads.{Reads, Refuses}

@@ -10,8 +10,8 @@ ghost use Rattle.listing_laws.specs.Turns.{NumbersShut};
 use awk_run::laws::one_run;
 use box_world::world::World;
 use listing_laws::laws as sites;
+use listing_laws::texts::{one_policy, one_program};
 use std::io::Write;
-use text_laws::{one_policy, one_program};
 
 /// Two runs of one script under one policy, with one setup and one bound, whose allowed requests got
 /// equal replies at each position that both have, ask the same, end the same and are logged the

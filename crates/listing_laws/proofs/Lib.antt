@@ -8,3 +8,4 @@ pub mod Refusals
 pub mod Standards
 pub mod Foretold
 pub mod Turns
+pub mod OneText

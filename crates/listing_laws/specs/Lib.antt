@@ -2,3 +2,4 @@ pub mod Covers
 pub mod Standards
 pub mod Foretold
 pub mod Turns
+pub mod OneText

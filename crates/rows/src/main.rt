@@ -3,8 +3,13 @@
 //! that does not hold and how many do. The tables begin with what a user needs to add one.
 #![tactic(auto)]
 
+mod asked;
+mod inputs;
 mod prefixes;
 mod report;
+mod run_log;
+mod runs;
+mod start;
 mod table;
 
 use report::Report;

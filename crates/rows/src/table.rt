@@ -1,5 +1,6 @@
 // The tables, and which calls stand in which.
 
+use crate::{inputs, runs};
 use awk_text::octets::Octets;
 use row_calls::problem::Problem;
 use row_calls::row::{Arg, Row};
@@ -8,7 +9,6 @@ use row_calls::{
     fields, formats, library, listings, monitors, parses, patterns, policies, programs, records,
     tokens, values, worlds,
 };
-use run_rows::{inputs, runs};
 use std::alloc::Global;
 
 /// A table: a file of rows about one subject.

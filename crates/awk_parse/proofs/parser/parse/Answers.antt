@@ -2,7 +2,7 @@ use Rattle.std.proofs.Common.{◌≡◌, ◌≢◌, [], map, Ok, Err}
 use Rattle.awk_tree.specs.declared.fault.Fault.TheVariants as fault
 use Rattle.awk_tree.specs.Statements as grammar
 use Rattle.awk_tree.specs.View.{view_item}
-use Rattle.awk_grammar_laws.proofs.Laws.{scripts_are_spelled}
+use Rattle.awk_parse.proofs.Laws.{scripts_are_spelled}
 use Rattle.awk_resolve.specs.Mentions.{part}
 use Rattle.awk_parse.specs.Flaws.{Flawed}
 use Rattle.awk_parse.specs.Scripts.{IsScriptOf, by_flaw}

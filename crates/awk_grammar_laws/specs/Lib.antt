@@ -1,4 +1,0 @@
-pub mod Rules
-pub mod Spells
-pub mod SpellsScripts
-pub mod Laws

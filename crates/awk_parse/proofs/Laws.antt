@@ -1,0 +1,42 @@
+-- The laws that the functions of this crate state.
+use Rattle.std.proofs.Common.{◌≡◌, List, [], map, Ok, refl, sym, subst, ◌∙◌}
+use Rattle.std.proofs.lemmas.List.{append-nil}
+use Rattle.std.specs.List.{flat_map}
+use Rattle.awk_tokens.specs.declared.token.Token.{Token}
+use Rattle.awk_tree.specs.Terminals.{terminal_of}
+use Rattle.awk_tree.specs.Expressions.{expr}
+use Rattle.awk_tree.specs.Statements.{simple, script}
+use Rattle.awk_tree.specs.Canon.{bare_statement, end, canon_entry, canon_script, bare_entry}
+use Rattle.awk_parse.specs.Laws.{ExpressionsAreSpelled, ExpressionsAreReadAgain, SimpleStatementsAreSpelled, SimpleStatementsAreReadAgain, ScriptsAreWhole, ScriptsAreSpelled, ScriptsAreReadAgain}
+use Rattle.awk_parse.specs.SpellsScripts.{SpellsScript}
+use Rattle.awk_parse.proofs.Depths.{expression_again, at_depth}
+use Rattle.awk_parse.proofs.EndLaws.{with_end}
+use Rattle.awk_parse.proofs.PrintLaws.{simple_law}
+use Rattle.awk_parse.proofs.ItemLaws.{script_law}
+
+pub expressions_are_spelled : ExpressionsAreSpelled
+expressions_are_spelled p ts x h = let q = expression_again p ts x h in q.0
+
+pub expressions_are_read_again : ExpressionsAreReadAgain
+expressions_are_read_again p ts x h = let q = expression_again p ts x h in q.1
+
+pub simple_statements_are_spelled : SimpleStatementsAreSpelled
+simple_statements_are_spelled ts r s h = let q = simple_law 0 200 (expr 200) (at_depth 0 200 refl) ts s r h in (q.used, q.parts, q.spelled)
+
+pub simple_statements_are_read_again : SimpleStatementsAreReadAgain
+unfolding terminal_of
+simple_statements_are_read_again ts rest s h ended =
+    let q = simple_law 0 200 (expr 200) (at_depth 0 200 refl) ts s rest h in
+    subst (λ (m : List Token). simple 200 (expr 200) m ≡ Ok (bare_statement s, end)) (sym (with_end 0 q.used s rest q.spelled)) (q.reads end ended)
+
+pub scripts_are_whole : ScriptsAreWhole
+scripts_are_whole ts rest items h = let q = script_law ts items rest h in let spelled = q.spelled in spelled.0
+
+pub scripts_are_spelled : ScriptsAreSpelled
+scripts_are_spelled ts items h = let q = script_law ts items [] h in let spelled = q.spelled in subst (λ (m : List Token). SpellsScript m items) (sym (q.parts ∙ append-nil q.used)) spelled.1
+
+pub scripts_are_read_again : ScriptsAreReadAgain
+unfolding canon_script
+scripts_are_read_again items (ts, h) =
+    let q = script_law ts items [] h in
+    subst (λ (m : List Token). script m ≡ Ok (map bare_entry items, [])) (append-nil (flat_map canon_entry items)) (q.reads [] (refl, refl))

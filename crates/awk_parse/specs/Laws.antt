@@ -1,0 +1,44 @@
+-- The laws that the functions of this crate state.
+use Rattle.std.specs.Prelude.{◌≡◌, Bool, List, [], ◌++◌, map, Ok}
+use Rattle.awk_tokens.specs.declared.token.Token.{Token}
+use Rattle.awk_tree.specs.declared.terminals.Terminal.TheVariants as w
+use Rattle.awk_tree.specs.Terminals.{ahead}
+use Rattle.awk_tree.specs.Tree.{Tree, Statement, Entry}
+use Rattle.awk_tree.specs.Expressions.{expression, expr}
+use Rattle.awk_tree.specs.Statements.{simple, script}
+use Rattle.awk_tree.specs.Canon.{canon, bare, canon_statement, bare_statement, end, canon_script, bare_entry}
+use Rattle.awk_parse.specs.Rules as rule
+use Rattle.awk_parse.specs.Spells.{Spells}
+use Rattle.awk_parse.specs.SpellsScripts.{Simple, SpellsScript}
+
+-- what is read as an expression is spelled so
+abbrev pub ExpressionsAreSpelled : Type 0
+ExpressionsAreSpelled = (in_print : Bool) (ts : List Token) (x : Tree) → expression 200 (expr 200) in_print ts ≡ Ok (x, []) → Spells 0 (rule.expr in_print) ts x []
+
+-- and its canonical spelling is read as the same tree, places aside
+abbrev pub ExpressionsAreReadAgain : Type 0
+ExpressionsAreReadAgain = (in_print : Bool) (ts : List Token) (x : Tree) → expression 200 (expr 200) in_print ts ≡ Ok (x, []) → expression 200 (expr 200) in_print (canon x) ≡ Ok (bare x, [])
+
+-- what is read as a simple statement is spelled so
+abbrev pub SimpleStatementsAreSpelled : Type 0
+SimpleStatementsAreSpelled = (ts r : List Token) (s : Statement) → simple 200 (expr 200) ts ≡ Ok (s, r) → (used : List Token) × (ts ≡ used ++ r) × Simple 0 used s r
+
+-- and where the statement ends there, its canonical spelling is read as the same tree, places aside, up to the `;`
+abbrev pub SimpleStatementsAreReadAgain : Type 0
+SimpleStatementsAreReadAgain = (ts r : List Token) (s : Statement) → simple 200 (expr 200) ts ≡ Ok (s, r) → ahead r ≡ w.End → simple 200 (expr 200) (canon_statement s) ≡ Ok (bare_statement s, end)
+
+-- the tree of a script: some tokens are read as it
+abbrev pub IsScript : List Entry → Type 0
+IsScript items = (ts : List Token) × (script ts ≡ Ok (items, []))
+
+-- a script is read to its end
+abbrev pub ScriptsAreWhole : Type 0
+ScriptsAreWhole = (ts rest : List Token) (items : List Entry) → script ts ≡ Ok (items, rest) → rest ≡ []
+
+-- what is read as a script is spelled so
+abbrev pub ScriptsAreSpelled : Type 0
+ScriptsAreSpelled = (ts : List Token) (items : List Entry) → script ts ≡ Ok (items, []) → SpellsScript ts items
+
+-- and its canonical spelling is read as the same tree, places aside
+abbrev pub ScriptsAreReadAgain : Type 0
+ScriptsAreReadAgain = (items : List Entry) → IsScript items → script (canon_script items) ≡ Ok (map bare_entry items, [])

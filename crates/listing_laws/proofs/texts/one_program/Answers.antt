@@ -1,0 +1,5 @@
+use Rattle.listing_laws.proofs.OneText as laws
+use Rattle.listing_laws.proofs.texts.one_program.Goals as goal
+
+pub returns : goal.returns
+returns c = laws.one_program
