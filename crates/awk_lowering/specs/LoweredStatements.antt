@@ -1,4 +1,5 @@
--- The program that statements stand for (POSIX.1-2017 XCU awk, "Actions").
+-- The program that statements stand for (POSIX.1-2017 XCU awk, "Actions"): each keeps its form, an `if` with `else` and
+-- one without too, but for `;` alone, which is an empty block. An action that is not there is `print` (Programs).
 use Rattle.std.specs.Prelude.{List, [], ◌∷◌, map, Option, option_map}
 use Rattle.awk_text.specs.declared.place.Place.{Place}
 use Rattle.awk_tree.specs.Tree as t

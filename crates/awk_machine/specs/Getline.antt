@@ -45,7 +45,8 @@ read_by place key need_more k s = Asks (want place (Reads key)) (λ r. read_on p
 read_by place key done k s = Goes (give (v.Num (pos 0)) k) s
 read_by place key too_long k s = fails TextTooLong place s
 
--- ---- the stream of a text: standard input, or one that is opened where it is not open
+-- ---- the stream of a text: standard input, or one that is opened where it is not open. Nothing here tells whether it is:
+-- `known` of Advances answers for one that stands open, and the world is not asked.
 
 abbrev pub input_mode : Class → Mode
 input_mode InputCommand = mode.RunIn

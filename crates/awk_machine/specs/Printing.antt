@@ -1,5 +1,5 @@
 -- print and printf (POSIX.1-2017 XCU awk, "Output Statements"): the items, the target, and then the text; one request
--- opens a stream that is not open, and one puts the text.
+-- opens a stream that is not open (`known` of Advances answers for one that is), and one puts the text.
 use Rattle.std.specs.Prelude.{List, [], ◌∷◌, ◌++◌, length, take, drop, codes, Option, Some, None, Result}
 use Rattle.awk_text.specs.declared.place.Place.{Place}
 use Rattle.awk_text.specs.declared.value.Value.{Value}
