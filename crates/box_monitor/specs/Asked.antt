@@ -16,7 +16,8 @@ after book (call ∷ calls) = after (after_ask book call.0) calls
 abbrev pub asked : Rulebook → List Call → List Call
 asked book [] = []
 asked book (call ∷ calls) =
-    if is_none (denial_of book call.0) then call ∷ asked (after_ask book call.0) calls else asked (after_ask book call.0) calls
+    if is_none (denial_of book call.0) then call ∷ asked (after_ask book call.0) calls
+    else asked (after_ask book call.0) calls
 
 -- what is told of the denied ones, in order
 abbrev pub told : Rulebook → List Call → List Told

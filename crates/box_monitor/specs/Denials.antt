@@ -15,7 +15,8 @@ use Rattle.box_monitor.specs.Told.{Told}
 -- what is told of a subject that this is decided on: nothing where it is allowed
 abbrev pub told_at : Place → Subject → Decision → Option Told
 told_at place subject (Allow n) = None
-told_at place subject (Deny n) = Some (record { place = place; kind = subject.kind; rule = Some n; text = subject.text })
+told_at place subject (Deny n) =
+    Some (record { place = place; kind = subject.kind; rule = Some n; text = subject.text })
 told_at place subject NoRule = Some (record { place = place; kind = subject.kind; rule = None; text = subject.text })
 
 -- What is told where the policy denies the subject. It speaks of no request, so it serves whatever

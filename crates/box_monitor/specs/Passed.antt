@@ -1,5 +1,5 @@
--- What of a list of events is passed on to the world behind, and what of it the log tells. The newest event comes first, and
--- each is judged after those before it.
+-- What of a list of events is passed on to the world behind, and what of it the log tells. The newest event comes
+-- first, and each is judged after those before it.
 use Rattle.std.specs.Prelude.{◌≡◌, List, [], ◌∷◌, ◌++◌, if◌then◌else◌, is_none, IsSome, Option, None, Some, option_to_list}
 use Rattle.box_policy.specs.Rulebook.{Rulebook}
 use Rattle.box_policy.specs.declared.policy.Kind.TheVariants.{Run, Env, Assign}
