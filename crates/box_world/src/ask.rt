@@ -5,6 +5,7 @@ use awk_text::Memory;
 use awk_text::octets::Octets;
 use awk_text::place::Place;
 use std::alloc::{AllocError, Global};
+use thiserror::Error;
 
 /// How a stream is opened. `RunIn` is a command whose output is read, `RunOut` one that is
 /// written to.
@@ -64,9 +65,11 @@ pub struct Ask {
 }
 
 /// Why a world did not answer: memory was refused, or the log of denials could not be written.
-#[derive(Clone, Copy, Debug, PartialEq, Eq, Drop)]
+#[derive(Clone, Copy, Debug, PartialEq, Eq, Drop, Error)]
 pub enum Stop {
+    #[error("out of memory")]
     Memory,
+    #[error("cannot write the denial log")]
     Log,
 }
 
