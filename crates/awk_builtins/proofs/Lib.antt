@@ -1,6 +1,6 @@
 pub mod Cached
+pub mod Called
 pub mod Filling
-pub mod Flushes
 pub mod Granted
 pub mod Lines
 pub mod Listed

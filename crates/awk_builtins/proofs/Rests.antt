@@ -1,5 +1,5 @@
 -- Lists, and what was made.
-use Rattle.std.proofs.Common.{◌≡◌, ◌==◌, false, refl, ap, sym, ℕ, zero, suc, ◌≤◌, ◌<◌, drop, List, [], ◌∷◌, length, arith}
+use Rattle.std.proofs.Common.{◌≡◌, ◌==◌, false, refl, ap, sym, ◌∙◌, ℕ, zero, suc, ◌≤◌, ◌<◌, drop, List, [], ◌∷◌, length, arith}
 use Rattle.std.specs.Prelude.{Option, Some, None, IfSome, Result, Ok, Err, IfOk, IfErr, get_or}
 use Rattle.std.specs.Result.{result_ok}
 use Rattle.awk_program.specs.Program.{Expression, expressions_of}
@@ -13,6 +13,19 @@ pub just_one : {X : Type 0} (xs : List X) (x : X) → 1 ≤ length xs → length
 just_one [] x some few is = absurd (omega (arith, some))
 just_one (y ∷ []) x some few is = ap (λ z. z ∷ []) (sym is)
 just_one (y ∷ z ∷ ys) x some few is = absurd (omega (arith, few))
+
+pub just_two : {X : Type 0} (xs : List X) (x y : X) → 2 ≤ length xs → length xs < 3 → x ≡ get_or xs 0 x → y ≡ get_or xs 1 y → xs ≡ x ∷ y ∷ []
+just_two [] x y some few e f = absurd (omega (arith, some))
+just_two (u ∷ []) x y some few e f = absurd (omega (arith, some))
+just_two (u ∷ v ∷ []) x y some few e f = ap (λ z. z ∷ v ∷ []) (sym e) ∙ ap (λ z. x ∷ z ∷ []) (sym f)
+just_two (u ∷ v ∷ w ∷ xs) x y some few e f = absurd (omega (arith, few))
+
+pub just_three : {X : Type 0} (xs : List X) (x y z : X) → 3 ≤ length xs → length xs < 4 → x ≡ get_or xs 0 x → y ≡ get_or xs 1 y → z ≡ get_or xs 2 z → xs ≡ x ∷ y ∷ z ∷ []
+just_three [] x y z some few e f h = absurd (omega (arith, some))
+just_three (u ∷ []) x y z some few e f h = absurd (omega (arith, some))
+just_three (u ∷ v ∷ []) x y z some few e f h = absurd (omega (arith, some))
+just_three (u ∷ v ∷ w ∷ []) x y z some few e f h = ap (λ a. a ∷ v ∷ w ∷ []) (sym e) ∙ ap (λ a. x ∷ a ∷ w ∷ []) (sym f) ∙ ap (λ a. x ∷ y ∷ a ∷ []) (sym h)
+just_three (u ∷ v ∷ w ∷ k ∷ xs) x y z some few e f h = absurd (omega (arith, few))
 
 pub ok_for : {X E : Type 0} {P Q : X → Type 0} (r : Result X E) → ((x : X) → P x → Q x) → IfOk r P → IfOk r Q
 ok_for (Ok x) f h = f x h

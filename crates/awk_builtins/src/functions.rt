@@ -1,196 +1,203 @@
-// What functions make of values: length, index, substr, int, tolower and toupper; and the forms of one operand, of two and of three.
-ghost use Rattle.awk_builtins.specs.Operands.{binary_of, unary_of};
-ghost use Rattle.awk_lib.specs.Texts.{to_case};
+// The built-in functions whose arguments are plain values, by `called`.
+ghost use Rattle.awk_lib.specs.Texts as texts;
 ghost use Rattle.awk_machine.specs.Builtins as spec;
-ghost use Rattle.awk_machine.specs.Pieces.{At, Value_of, give};
+ghost use Rattle.awk_machine.specs.Flushing as flushing;
+ghost use Rattle.awk_machine.specs.Forms.{listed};
+ghost use Rattle.awk_machine.specs.Operators.{of_count};
+ghost use Rattle.awk_machine.specs.Pieces.{At, Close, Do, Run, Value_of, give};
 ghost use Rattle.awk_machine.specs.State.{Given};
 ghost use Rattle.awk_program.specs.Program as p;
-ghost use Rattle.awk_program.specs.Program.{Expression};
-ghost use Rattle.awk_program.specs.declared.operators.Measure.TheVariants as m;
+ghost use Rattle.awk_program.specs.Program.{Expressions};
+ghost use Rattle.awk_program.specs.declared.builtins.Builtin.TheVariants as b;
 ghost use Rattle.awk_store.specs.Acts.{Acts};
-ghost use Rattle.awk_store.specs.Numbers.{as_value};
-ghost use Rattle.awk_store.specs.Wholes.{Whole};
+ghost use Rattle.awk_store.specs.Kept.{Kept};
+ghost use Rattle.awk_store.specs.Wholes.{Agreeing, Whole, base, used};
+ghost use Rattle.awk_streams.specs.Chains.{Meets};
+ghost use Rattle.awk_streams.specs.Tables.{Table, open_of};
+ghost use Rattle.awk_streams.specs.Tasks.{Owns};
+ghost use Rattle.awk_text.specs.Lents.{lent_value};
 ghost use Rattle.awk_text.specs.Values.{text_of};
-ghost use Rattle.std.specs.Prelude.{Err, IfErr, IfOk, IsOkUnless, Ok, [], ◌∷◌, ◌≡◌};
+ghost use Rattle.std.specs.Prelude.{Err, IfErr, IfOk, IfSome, IsOkUnless, None, Ok, drop, length, reverse, ◌≡◌};
 
 use crate::made::{number_at, owned};
-use crate::operators::{compared, signed, truth_value};
+use crate::printing::sprintf;
 use awk_lib::texts::{index, substr, to_case};
-use awk_program::{Comparison, Measure, Sign};
+use awk_program::Builtin;
 use awk_streams::halt::Halt;
+use awk_streams::streams::Streams;
+use awk_streams::{closing, requests};
 use awk_text::fault::Fault;
+use awk_text::lent::Lent;
 use awk_text::octets::Octets;
 use awk_text::place::Place;
-use awk_text::value::{Value, number_of, text_in, truth};
+use awk_text::value::{Value, number_of};
+use box_world::world::World;
 use itoa::Buffer;
 use std::alloc::Global;
 
 /// How many bytes the text of a value has. Takes no memory.
-pub fn text_length(value: &Value) -> i64
-    ensures { Value.Num result ≡ spec.measured m.Length value.now }
+pub fn text_length<'a>(value: Lent<'a>) -> i64
+    ensures { Value.Num result ≡ of_count (length (text_of (lent_value value.entry))) }
 {
     let mut buffer = Buffer::new();
-    text_in(value, &mut buffer).len() as i64
+    value.text(&mut buffer).len() as i64
 }
 
 /// The text of a value in upper case, or in lower case.
-fn cased(alloc: Global, value: &Value, upper: bool) -> Result<Value, Fault>
-    ensures ok { IfOk result (λ new. new ≡ Value.Text (to_case upper (text_of value.now))) }
+///
+/// Fails with `Fault::Memory` alone, where memory is refused.
+pub fn cased<'a>(alloc: Global, value: Lent<'a>, upper: bool) -> Result<Value, Fault>
+    ensures ok { IfOk result (λ new. new ≡ Value.Text (texts.to_case upper (text_of (lent_value value.entry)))) }
     ensures err { IsOkUnless result Fault.Memory }
 {
     let mut buffer = Buffer::new();
-    let new = to_case(alloc, text_in(value, &mut buffer), upper)?;
+    let new = to_case(alloc, value.text(&mut buffer), upper)?;
     Ok(Value::Text(Octets::new(new)))
 }
 
-/// What length, tolower and toupper give.
-///
-/// Fails with `Fault::Memory` alone, where memory is refused; length takes none.
-pub fn measured(alloc: Global, how: Measure, value: &Value) -> Result<Value, Fault>
-    ensures ok { IfOk result (λ new. new ≡ spec.measured how value.now) }
-    ensures err { IsOkUnless result Fault.Memory }
-{
-    match how {
-        Measure::Length => Ok(Value::Num(text_length(value))),
-        Measure::Tolower => cased(alloc, value, false),
-        Measure::Toupper => cased(alloc, value, true),
-    }
-}
-
-/// What int gives: the whole number of a value. Takes no memory.
-///
-/// Fails with `Fault::OutOfRange` where that is out of range.
-pub fn whole_number(value: &Value) -> Result<i64, Fault>
-    ensures { as_value result ≡ spec.whole_number value.now }
-{
-    number_of(value)
-}
-
 /// The first place of the second text in the first one, counted from 1, or 0. Takes no memory.
-pub fn index_of(value: &Value, part: &Value) -> i64
-    ensures { Value.Num result ≡ spec.index_of value.now part.now }
+pub fn index_of<'a>(value: Lent<'a>, part: Lent<'a>) -> i64
+    ensures { Value.Num result ≡ of_count (texts.index (text_of (lent_value value.entry)) (text_of (lent_value part.entry))) }
 {
     let (mut first, mut second) = (Buffer::new(), Buffer::new());
-    index(text_in(value, &mut first), text_in(part, &mut second))
+    index(value.text(&mut first), part.text(&mut second))
 }
 
-/// The text of a value from a place on, lent: a number's is written into the buffer. Takes no memory.
-///
-/// Fails with `Fault::OutOfRange` where the number of the place is out of range.
-pub fn substr_from<'a>(
-    value: &'a Value,
-    from: &Value,
-    buffer: &'a mut Buffer,
-) -> Result<&'a [u8], Fault>
-    ensures ok { IfOk result (λ text. spec.substr_from value.now from.now ≡ Ok (Value.Text text.now)) }
-    ensures err { IfErr result (λ e. spec.substr_from value.now from.now ≡ Err e) }
+/// The part of a text from a place on, of so many bytes where there is a count. A number has no text that can be lent.
+pub fn part_of<'a>(value: Lent<'a>, from: i64, count: Option<i64>) -> Option<Lent<'a>>
+    ensures { IfSome result (λ new. lent_value new ≡ Value.Text (texts.substr (text_of (lent_value value.entry)) from count)) }
 {
-    let from = number_of(from)?;
-    Ok(substr(text_in(value, buffer), from, None))
+    match value {
+        Lent::Text(text) | Lent::Input(text) => Some(Lent::Text(substr(text, from, count))),
+        Lent::Unset | Lent::Num(_) => None,
+    }
 }
 
-/// So many bytes of the text of a value from a place on, lent as in `substr_from`. Takes no memory.
+/// The argument at this index; it is unset where there is none.
+fn argument(args: &[Value], at: usize) -> Lent<'_>
+    ensures { lent_value result ≡ spec.argument args.now at }
+{
+    match args.get(at) {
+        Some(value) => Lent::of(value),
+        None => Lent::Unset,
+    }
+}
+
+/// The number of the third argument, where there is one. Takes no memory.
+///
+/// Fails with `Fault::OutOfRange` where that is out of range.
+fn count_of(args: &[Value]) -> Result<Option<i64>, Fault>
+    ensures { result ≡ spec.count_of (drop 2 args.now) }
+{
+    match args {
+        [_, _, count, ..] => Ok(Some(number_of(count)?)),
+        _ => Ok(None),
+    }
+}
+
+/// The part of a text that the arguments of substr tell, lent: a number's text is written into the buffer. Takes no memory.
 ///
 /// Fails with `Fault::OutOfRange` where a number, of the place or of the count, is out of range.
-pub fn substr_of<'a>(
-    value: &'a Value,
-    from: &Value,
-    count: &Value,
-    buffer: &'a mut Buffer,
-) -> Result<&'a [u8], Fault>
-    ensures ok { IfOk result (λ text. spec.substr_of value.now from.now count.now ≡ Ok (Value.Text text.now)) }
-    ensures err { IfErr result (λ e. spec.substr_of value.now from.now count.now ≡ Err e) }
+fn substr_of<'a>(args: &'a [Value], buffer: &'a mut Buffer) -> Result<&'a [u8], Fault>
+    ensures ok { IfOk result (λ text. spec.substr_of args.now ≡ Ok (Value.Text text.now)) }
+    ensures err { IfErr result (λ e. spec.substr_of args.now ≡ Err e) }
 {
-    let from = number_of(from)?;
-    let count = number_of(count)?;
-    Ok(substr(text_in(value, buffer), from, Some(count)))
+    let from = argument(args, 1).number()?;
+    let count = count_of(args)?;
+    Ok(substr(argument(args, 0).text(buffer), from, count))
 }
 
-/// A form of one operand.
-#[derive(Clone, Copy, Debug, PartialEq, Eq, Drop)]
-pub enum Unary {
-    /// `! operand`
-    Not,
-    /// `- operand`
-    Signed(Place, Sign),
-    /// `int ( operand )`
-    Int(Place),
-    /// `length ( operand )`, `tolower ( operand )`, `toupper ( operand )`
-    Measure(Measure),
-}
-
-/// A form of two operands.
-#[derive(Clone, Copy, Debug, PartialEq, Eq, Drop)]
-pub enum Binary {
-    /// `left < right`, and the other comparisons
-    Compare(Comparison),
-    /// `index ( text , part )`
-    Index,
-    /// `substr ( text , place )`
-    SubstrFrom(Place),
-}
-
-/// What length, tolower and toupper give.
-fn measure(alloc: Global, how: Measure, value: &Value) -> Result<Value, Halt>
-    ensures { (g : Given) (w : Whole) (x : Expression) → Acts g (At (Value_of (p.measure how x)) (value.now ∷ [])) give w result w }
-{
-    let Ok(made) = measured(alloc, how, value) else {
-        return Err(Halt::Memory);
-    };
-    Ok(made)
-}
-
-impl Unary {
-    /// What the form gives for this value.
-    pub fn give(self, alloc: Global, value: &Value) -> Result<Value, Halt>
-        ensures { (g : Given) (w : Whole) (x : Expression) → Acts g (At (Value_of (unary_of self x)) (value.now ∷ [])) give w result w }
-    {
-        match self {
-            Unary::Not => Ok(truth_value(!truth(value))),
-            Unary::Signed(place, how) => number_at(place, signed(how, value)),
-            Unary::Int(place) => number_at(place, whole_number(value)),
-            Unary::Measure(how) => measure(alloc, how, value),
-        }
-    }
-}
-
-/// What `substr ( text , place )` gives.
-fn rest_of(alloc: Global, place: Place, value: &Value, from: &Value) -> Result<Value, Halt>
-    ensures { (g : Given) (w : Whole) (x y : Expression) → Acts g (At (Value_of (p.substr_from place x y)) (from.now ∷ value.now ∷ [])) give w result w }
+/// What `substr ( text , place , count )` gives.
+fn substr_in(alloc: Global, place: Place, args: &[Value]) -> Result<Value, Halt>
+    ensures { (g : Given) (w : Whole) (xs : Expressions) → length (listed xs) ≡ length args.now
+        → Acts g (At (Value_of (p.builtin place b.Substr xs)) (reverse args.now)) give w result w }
 {
     let mut buffer = Buffer::new();
-    match substr_from(value, from, &mut buffer) {
+    match substr_of(args, &mut buffer) {
         Ok(text) => owned(alloc, text),
         Err(fault) => Err(Halt::at(place, fault)),
     }
 }
 
-impl Binary {
-    /// What the form gives for these values.
-    pub fn give(self, alloc: Global, left: &Value, right: &Value) -> Result<Value, Halt>
-        ensures { (g : Given) (w : Whole) (x y : Expression) → Acts g (At (Value_of (binary_of self x y)) (right.now ∷ left.now ∷ [])) give w result w }
-    {
-        match self {
-            Binary::Compare(how) => Ok(truth_value(compared(how, left, right))),
-            Binary::Index => Ok(Value::Num(index_of(left, right))),
-            Binary::SubstrFrom(place) => rest_of(alloc, place, left, right),
-        }
+/// What tolower and toupper give.
+fn in_case<'a>(alloc: Global, value: Lent<'a>, upper: bool) -> Result<Value, Halt>
+    ensures ok { IfOk result (λ new. new ≡ Value.Text (texts.to_case upper (text_of (lent_value value.entry)))) }
+    ensures err { IfErr result (λ h. h ≡ Halt.Memory) }
+{
+    match cased(alloc, value, upper) {
+        Ok(new) => Ok(new),
+        Err(_) => Err(Halt::Memory),
     }
 }
 
-/// What `substr ( text , place , length )` gives.
-pub fn part_of(
+/// What `fflush ( name )` gives: 0 where an output file or an output command of this name is open, and else -1. Each text was put as
+/// it was printed, so there is nothing to write. Takes no memory.
+fn flush<'a>(name: Lent<'a>, streams: &Streams) -> Value
+    ensures { result ≡ flushing.flush (text_of (lent_value name.entry)) (open_of streams.now) }
+{
+    let mut buffer = Buffer::new();
+    if streams.has_output(name.text(&mut buffer)) {
+        return Value::Num(0);
+    }
+    Value::Num(-1)
+}
+
+/// Shuts the streams of this name, and answers as `closing::close` does.
+fn close<'a, W: World>(
+    place: Place,
+    name: Lent<'a>,
+    streams: &mut Streams,
+    world: &mut W,
+) -> Result<Value, Halt>
+    requires { Owns (W.open_numbers world.old) streams.old }
+    ensures task { (g : Given) (k : Kept)
+        → Meets W.World (base g) (Agreeing g) used g (Do (Close place (text_of (lent_value name.entry)) None)) give (k, streams.old) world.old result (k, streams.new) world.new }
+    ensures owns { Owns (W.open_numbers world.new) streams.new }
+{
+    let mut buffer = Buffer::new();
+    closing::close(place, name.text(&mut buffer), streams, world)
+}
+
+/// Runs a command to its end, and answers as `requests::system` does.
+fn run<'a, W: World>(
     alloc: Global,
     place: Place,
-    value: &Value,
-    from: &Value,
-    count: &Value,
+    command: Lent<'a>,
+    world: &mut W,
 ) -> Result<Value, Halt>
-    ensures { (g : Given) (w : Whole) (x y z : Expression) → Acts g (At (Value_of (p.substr place x y z)) (count.now ∷ from.now ∷ value.now ∷ [])) give w result w }
+    ensures task { (g : Given) (k : Kept) (t : Table)
+        → Meets W.World (base g) (Agreeing g) used g (Do (Run place (text_of (lent_value command.entry)))) give (k, t) world.old result (k, t) world.new }
+    ensures numbers { W.open_numbers world.new ≡ W.open_numbers world.old }
 {
     let mut buffer = Buffer::new();
-    match substr_of(value, from, count, &mut buffer) {
-        Ok(text) => owned(alloc, text),
-        Err(fault) => Err(Halt::at(place, fault)),
+    let text = Vec::from_slice(alloc, command.text(&mut buffer))?;
+    requests::system(place, Octets::new(text), world)
+}
+
+/// What a built-in function gives for these arguments, of which those that are not there are unset.
+pub fn called<W: World>(
+    alloc: Global,
+    place: Place,
+    which: Builtin,
+    args: &[Value],
+    streams: &mut Streams,
+    world: &mut W,
+) -> Result<Value, Halt>
+    requires { Owns (W.open_numbers world.old) streams.old }
+    ensures task { (g : Given) (k : Kept) (xs : Expressions) → length (listed xs) ≡ length args.now
+        → Meets W.World (base g) (Agreeing g) used g (At (Value_of (p.builtin place which xs)) (reverse args.now)) give (k, streams.old) world.old result (k, streams.new) world.new }
+    ensures owns { Owns (W.open_numbers world.new) streams.new }
+{
+    match which {
+        Builtin::Close => close(place, argument(args, 0), streams, world),
+        Builtin::Fflush => Ok(flush(argument(args, 0), streams)),
+        Builtin::Index => Ok(Value::Num(index_of(argument(args, 0), argument(args, 1)))),
+        Builtin::Int => number_at(place, argument(args, 0).number()),
+        Builtin::Length => Ok(Value::Num(text_length(argument(args, 0)))),
+        Builtin::Sprintf => sprintf(alloc, place, args),
+        Builtin::Substr => substr_in(alloc, place, args),
+        Builtin::System => run(alloc, place, argument(args, 0), world),
+        Builtin::Tolower => in_case(alloc, argument(args, 0), false),
+        Builtin::Toupper => in_case(alloc, argument(args, 0), true),
     }
 }

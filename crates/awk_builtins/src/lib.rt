@@ -1,16 +1,16 @@
 //! What operators, built-in functions, patterns and print make of values that are there (POSIX.1-2017 XCU awk, "Expressions in
 //! awk", "Functions" and "Output Statements"). A module has one subject, from the values alone up to what the store then holds; no
-//! function evaluates a part, and none asks the world.
+//! function evaluates a part, and only the built-in functions of `functions` ask the world.
 #![tactic(auto)]
 
 pub mod arrays;
 pub mod cache;
 pub mod chains;
-pub mod flushing;
 pub mod functions;
 pub mod keys;
 pub mod line;
 pub mod made;
+pub mod operands;
 pub mod operators;
 pub mod patterns;
 pub mod printing;

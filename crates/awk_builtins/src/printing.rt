@@ -10,6 +10,7 @@ ghost use Rattle.awk_machine.specs.Pieces.{At, Doing, Value_of, give};
 ghost use Rattle.awk_machine.specs.State.{Given};
 ghost use Rattle.awk_program.specs.Program as p;
 ghost use Rattle.awk_program.specs.Program.{Expression, Expressions};
+ghost use Rattle.awk_program.specs.declared.builtins.Builtin.TheVariants as b;
 ghost use Rattle.awk_program.specs.declared.statements.Redirection.{Redirection};
 ghost use Rattle.awk_program.specs.declared.variables.Own.TheVariants as own;
 ghost use Rattle.awk_store.specs.Acts.{Acts};
@@ -119,8 +120,8 @@ fn text_of_format(alloc: Global, values: &[Value]) -> Result<Octets, Fault>
 
 /// What `sprintf ( format , list )` gives: the first value is the format.
 pub fn sprintf(alloc: Global, place: Place, values: &[Value]) -> Result<Value, Halt>
-    ensures { (g : Given) (w : Whole) (x : Expression) (xs : Expressions) → length (x ∷ listed xs) ≡ length values.now
-        → Acts g (At (Value_of (p.sprintf place x xs)) (reverse values.now)) give w result w }
+    ensures { (g : Given) (w : Whole) (xs : Expressions) → length (listed xs) ≡ length values.now
+        → Acts g (At (Value_of (p.builtin place b.Sprintf xs)) (reverse values.now)) give w result w }
 {
     text_at(place, text_of_format(alloc, values))
 }

@@ -1,4 +1,4 @@
--- print, printf, `delete array [ list ]` and `close`: the items, the target, and what is done with a value that no request answers.
+-- print, printf and `delete array [ list ]`: the items, the target, and what is done with a value that no request answers.
 use Rattle.std.proofs.Common.{◌≡◌, refl, sym, ap, ◌∙◌, ℕ, ◌+◌, zero, suc, List, [], ◌∷◌, ◌++◌, length, reverse, map, arith}
 use Rattle.std.specs.Prelude.{Err, Option, Some, None, slice_get}
 use Rattle.std.proofs.lemmas.List.{length-reverse, length-map}
@@ -74,9 +74,6 @@ count_items f xs had has none e = let a = length-map xs f in let b = rw none at 
 
 pub count_formatted : {X : Type 0} (f : X → Expression) (x : Expression) (xs : List X) (had has : List Value) (y : Value) → had ≡ y ∷ [] → length has ≡ length had + length xs → length (x ∷ map f xs) ≡ length has
 count_formatted f x xs had has y one e = let a = length-map xs f in let b = rw one at e in omega (arith, a, b)
-
-pub close_first : (g : Given) (place : Place) (x : Expression) (v : Value) (name : Text) (k : List Piece) (s : State) → name ≡ text_of v → advance g (At (Value_of (p.close place x)) (v ∷ []) ∷ k) s ≡ Goes (Do (Close place name None) ∷ k) s
-close_first g place x v name k s e = ap (λ y. held g s (Goes (Do (Close place y None) ∷ k) s)) (sym e)
 
 -- ---- what is halted is halted wherever its value would have gone
 

@@ -83,13 +83,6 @@ waits_listed g part ks f is passed = waits_each g part (listed (expressions_of k
     none_plus : (m : ℕ) → 0 + m ≡ m
     none_plus m = omega (arith)
 
-pub waits_behind : (g : Given) (part : Part) (x : Expression) (ks : List Expression) (f : List Value → Then) → ((vs : List Value) (k : List Piece) (s : State) → move g (At part vs ∷ k) s ≡ each_of (x ∷ listed (expressions_of ks)) part f vs k s) →
-    ((vs : List Value) (k : List Piece) → to_records (At part vs ∷ k) ≡ to_records k) → Waits g part 1 ks
-waits_behind g part x ks f is passed = waits_each g part (x ∷ listed (expressions_of ks)) ks 1 f is (λ m y got. ap (λ n. slice_get (x ∷ listed (expressions_of ks)) n) (one_plus m) ∙ ap (λ xs. slice_get xs m) (listed-of ks) ∙ got) passed
-  where
-    one_plus : (m : ℕ) → 1 + m ≡ suc m
-    one_plus m = omega (arith)
-
 pub count_listed : {X : Type 0} (f : X → Expression) (xs : List X) (had has : List Value) → had ≡ [] → length has ≡ length had + length xs → length (listed (expressions_of (map f xs))) ≡ length has
 count_listed f xs had has none e = let a = ap length (listed-of (map f xs)) ∙ length-map xs f in let b = rw none at e in omega (arith, a, b)
 
@@ -120,6 +113,3 @@ choose_so g x y z u b k s e = ap (λ c. held g s (if c then Goes (value y ∷ k)
 pub text_given : (g : Given) (w : Whole) (text : List ℕ) (made : Result Value Halt) → IfOk made (λ x. x ≡ v.Text text) → IfErr made (λ h. h ≡ halt.Memory) → Acts g (value (p.text text)) give w made w
 text_given g w text (Ok x) ok err = subst (λ y. Acts g (value (p.text text)) give w (Ok y) w) (sym ok) (acting.done (acting.moves (acting.at_rest _ w) (λ k hid c a. refl)))
 text_given g w text (Err h) ok err = subst (λ y. Acts g (value (p.text text)) give w (Err y) w) (sym err) (acting.lacking refl)
-
-pub count_behind : {X : Type 0} (f : X → Expression) (x : Expression) (xs : List X) (had has : List Value) (y : Value) → had ≡ y ∷ [] → length has ≡ length had + length xs → length (x ∷ listed (expressions_of (map f xs))) ≡ length has
-count_behind f x xs had has y one e = let a = ap length (listed-of (map f xs)) ∙ length-map xs f in let b = rw one at e in omega (arith, a, b)

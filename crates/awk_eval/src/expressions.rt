@@ -1,7 +1,6 @@
 // Expressions.
 ghost use Rattle.std.specs.Prelude.{map};
 ghost use Rattle.awk_streams.specs.Tasks.{Owns};
-ghost use Rattle.awk_builtins.specs.Operands.{binary_of, unary_of};
 ghost use Rattle.awk_machine.specs.Forms.{value};
 ghost use Rattle.awk_machine.specs.Pieces.{give};
 ghost use Rattle.awk_program.specs.Program as p;
@@ -13,16 +12,17 @@ ghost use Rattle.awk_machine.specs.Operators.{of_truth};
 
 use crate::context::{Context, Run};
 use crate::evaluates::Evaluates;
-use crate::inputs::{close, flush, getline, system};
-use crate::lists::{element_group, formatted};
+use crate::inputs::getline;
+use crate::lists::element_group;
+use crate::operands::{binary, builtin, unary};
 use crate::patterns::{locate, split, substitute};
 use crate::sources::matches;
 use crate::targets::{assign, change, increment, read_target};
 use crate::tests::{number, truth_of};
 use awk_builtins::arrays::count;
 use awk_builtins::chains::{join, members, operated};
-use awk_builtins::functions::{Binary, Unary, part_of};
 use awk_builtins::made::owned;
+use awk_builtins::operands::{Binary, Unary};
 use awk_builtins::operators::{compared, compared_lent, truth_value};
 use awk_builtins::patterns::matched_record;
 use awk_program::{Comparison, Expr, Joined, Term, Variable};
@@ -65,26 +65,12 @@ pub fn evaluate<W: World, E: Evaluates<W>>(
         Expr::Signed(place, how, x) => {
             unary(cx, Unary::Signed(*place, *how), x.get(), on, run, world)
         }
-        Expr::Int(place, x) => unary(cx, Unary::Int(*place), x.get(), on, run, world),
-        Expr::Measure(how, x) => unary(cx, Unary::Measure(*how), x.get(), on, run, world),
+        Expr::Builtin(place, which, args) => {
+            builtin(cx, *place, *which, args.as_slice(), on, run, world)
+        }
         Expr::Count(array) => count(&run.store, *array),
         Expr::Compare(how, x, y) => {
             binary(cx, Binary::Compare(*how), x.get(), y.get(), on, run, world)
-        }
-        Expr::Index(x, y) => binary(cx, Binary::Index, x.get(), y.get(), on, run, world),
-        Expr::SubstrFrom(place, x, y) => {
-            binary(
-                cx,
-                Binary::SubstrFrom(*place),
-                x.get(),
-                y.get(),
-                on,
-                run,
-                world,
-            )
-        }
-        Expr::Substr(place, x, y, z) => {
-            substr(cx, *place, x.get(), y.get(), z.get(), on, run, world)
         }
         // `value` has the ways of these.
         Expr::Chain(_, _)
@@ -100,9 +86,6 @@ pub fn evaluate<W: World, E: Evaluates<W>>(
         Expr::And(x, xs) => all(cx, x.get(), xs.as_slice(), on, run, world),
         Expr::Or(x, xs) => any(cx, x.get(), xs.as_slice(), on, run, world),
         Expr::Getline(place, target) => getline(cx, *place, target, on, run, world),
-        Expr::Close(place, x) => close(cx, *place, x.get(), on, run, world),
-        Expr::Flush(x) => flush(cx, x.get(), on, run, world),
-        Expr::System(place, x) => system(cx, *place, x.get(), on, run, world),
         Expr::Pattern(place, text) => {
             matched_record(
                 cx.alloc,
@@ -133,70 +116,7 @@ pub fn evaluate<W: World, E: Evaluates<W>>(
                 world,
             )
         }
-        Expr::Sprintf(place, x, xs) => {
-            formatted(cx, *place, x.get(), xs.as_slice(), on, run, world)
-        }
     }
-}
-
-/// A form of one operand.
-fn unary<W: World, E: Evaluates<W>>(
-    cx: &Context<'_>,
-    form: Unary,
-    x: &Expr,
-    on: E,
-    run: &mut Run,
-    world: &mut W,
-) -> Result<Value, Halt>
-    requires can { E.can on }
-    requires owns { Owns (W.open_numbers world.old) run.old.streams }
-    ensures { Does W.World cx.now (λ g. value (unary_of form (view (names_in g) x.now))) (λ g. give)
-        (whole_of run.old) world.old result (whole_of run.new) world.new }
-{
-    let operand = on.value(cx, x, run, world)?;
-    form.give(cx.alloc, &operand)
-}
-
-/// A form of two operands.
-fn binary<W: World, E: Evaluates<W>>(
-    cx: &Context<'_>,
-    form: Binary,
-    x: &Expr,
-    y: &Expr,
-    on: E,
-    run: &mut Run,
-    world: &mut W,
-) -> Result<Value, Halt>
-    requires can { E.can on }
-    requires owns { Owns (W.open_numbers world.old) run.old.streams }
-    ensures { Does W.World cx.now (λ g. value (binary_of form (view (names_in g) x.now) (view (names_in g) y.now))) (λ g. give)
-        (whole_of run.old) world.old result (whole_of run.new) world.new }
-{
-    let left = on.value(cx, x, run, world)?;
-    let right = on.value(cx, y, run, world)?;
-    form.give(cx.alloc, &left, &right)
-}
-
-/// `substr ( text , place , length )`
-fn substr<W: World, E: Evaluates<W>>(
-    cx: &Context<'_>,
-    place: Place,
-    x: &Expr,
-    y: &Expr,
-    z: &Expr,
-    on: E,
-    run: &mut Run,
-    world: &mut W,
-) -> Result<Value, Halt>
-    requires can { E.can on }
-    requires owns { Owns (W.open_numbers world.old) run.old.streams }
-    ensures { Does W.World cx.now (λ g. value (p.substr place (view (names_in g) x.now) (view (names_in g) y.now) (view (names_in g) z.now))) (λ g. give)
-        (whole_of run.old) world.old result (whole_of run.new) world.new }
-{
-    let text = on.value(cx, x, run, world)?;
-    let from = on.value(cx, y, run, world)?;
-    let count = on.value(cx, z, run, world)?;
-    part_of(cx.alloc, place, &text, &from, &count)
 }
 
 /// A chain of `+` and `-`, or of `*`, `/` and `%`; or one `^`.

@@ -1,4 +1,4 @@
-// getline in its forms, `close`, `fflush` and `system`.
+// getline in its forms.
 ghost use Rattle.awk_streams.specs.Tasks.{Owns};
 ghost use Rattle.awk_machine.specs.Forms.{value};
 ghost use Rattle.awk_machine.specs.Pieces.{give};
@@ -10,16 +10,13 @@ ghost use Rattle.awk_eval.specs.Runs.{Does, whole_of};
 use crate::context::{Context, Run};
 use crate::evaluates::Evaluates;
 use crate::targets::target_of;
-use awk_builtins::flushing;
 use awk_input::getline::{
     command_record, file_record, getline_pipe, set_from_command, set_from_file,
 };
 use awk_input::main_input::getline_main;
 use awk_program::{Expr, Piped, Target};
 use awk_quick::at_hand::{MOST_LEVELS, at_hand, spot_at_hand};
-use awk_store::values::into_text;
 use awk_streams::halt::Halt;
-use awk_streams::{closing, requests};
 use awk_text::lent::Lent;
 use awk_text::place::Place;
 use awk_text::value::Value;
@@ -152,63 +149,4 @@ pub fn from_commands<W: World, E: Evaluates<W>>(
         )?;
     }
     Ok(so_far)
-}
-
-/// `close ( name )`
-pub fn close<W: World, E: Evaluates<W>>(
-    cx: &Context<'_>,
-    place: Place,
-    x: &Expr,
-    on: E,
-    run: &mut Run,
-    world: &mut W,
-) -> Result<Value, Halt>
-    requires can { E.can on }
-    requires owns { Owns (W.open_numbers world.old) run.old.streams }
-    ensures { Does W.World cx.now (λ g. value (p.close place (view (names_in g) x.now))) (λ g. give)
-        (whole_of run.old) world.old result (whole_of run.new) world.new }
-{
-    let operand = on.value(cx, x, run, world)?;
-    let Ok(name) = into_text(cx.alloc, operand) else {
-        return Err(Halt::Memory);
-    };
-    closing::close(place, name.bytes(), &mut run.streams, world)
-}
-
-/// `fflush ( name )`
-pub fn flush<W: World, E: Evaluates<W>>(
-    cx: &Context<'_>,
-    x: &Expr,
-    on: E,
-    run: &mut Run,
-    world: &mut W,
-) -> Result<Value, Halt>
-    requires can { E.can on }
-    requires owns { Owns (W.open_numbers world.old) run.old.streams }
-    ensures { Does W.World cx.now (λ g. value (p.flush (view (names_in g) x.now))) (λ g. give)
-        (whole_of run.old) world.old result (whole_of run.new) world.new }
-{
-    let operand = on.value(cx, x, run, world)?;
-    Ok(flushing::flush(&operand, &run.streams))
-}
-
-/// `system ( command )`
-pub fn system<W: World, E: Evaluates<W>>(
-    cx: &Context<'_>,
-    place: Place,
-    x: &Expr,
-    on: E,
-    run: &mut Run,
-    world: &mut W,
-) -> Result<Value, Halt>
-    requires can { E.can on }
-    requires owns { Owns (W.open_numbers world.old) run.old.streams }
-    ensures { Does W.World cx.now (λ g. value (p.system place (view (names_in g) x.now))) (λ g. give)
-        (whole_of run.old) world.old result (whole_of run.new) world.new }
-{
-    let operand = on.value(cx, x, run, world)?;
-    let Ok(command) = into_text(cx.alloc, operand) else {
-        return Err(Halt::Memory);
-    };
-    requests::system(place, command, world)
 }

@@ -12,6 +12,7 @@ mod expressions;
 mod inputs;
 mod lists;
 mod loops;
+mod operands;
 mod output;
 mod patterns;
 mod sources;

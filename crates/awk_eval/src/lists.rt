@@ -15,7 +15,6 @@ use crate::evaluates::Evaluates;
 use awk_builtins::chains::members;
 use awk_builtins::keys::{element_key, group_key, one_key, only};
 use awk_builtins::made::append;
-use awk_builtins::printing::sprintf;
 use awk_program::{Expr, Variable};
 use awk_store::{Key, Spot};
 use awk_streams::halt::Halt;
@@ -103,26 +102,4 @@ pub fn element_group<W: World, E: Evaluates<W>>(
         values.as_slice(),
     )?;
     Ok(members(&run.store, arrays, Value::Text(key)))
-}
-
-/// `sprintf ( format , list )`
-pub fn formatted<W: World, E: Evaluates<W>>(
-    cx: &Context<'_>,
-    place: Place,
-    x: &Expr,
-    xs: &[Expr],
-    on: E,
-    run: &mut Run,
-    world: &mut W,
-) -> Result<Value, Halt>
-    requires can { E.can on }
-    requires owns { Owns (W.open_numbers world.old) run.old.streams }
-    ensures { Does W.World cx.now (λ g. value (p.sprintf place (view (names_in g) x.now) (expressions_of (map (view (names_in g)) xs.now)))) (λ g. give)
-        (whole_of run.old) world.old result (whole_of run.new) world.new }
-{
-    let format = on.value(cx, x, run, world)?;
-    let mut values = Vec::new(cx.alloc);
-    append(&mut values, format)?;
-    fill(cx, xs, &mut values, on, run, world)?;
-    sprintf(cx.alloc, place, values.as_slice())
 }

@@ -84,13 +84,6 @@ just_two (u ∷ []) x y n m e f = absurd (omega (arith, n))
 just_two (u ∷ v ∷ []) x y n m e f = ap (λ z. z ∷ v ∷ []) (sym e) ∙ ap (λ z. x ∷ z ∷ []) (sym f)
 just_two (u ∷ v ∷ w ∷ xs) x y n m e f = absurd (omega (arith, m))
 
-pub just_three : {A : Type 0} (xs : List A) (x y z : A) → 3 ≤ length xs → length xs < 4 → x ≡ get_or xs 0 x → y ≡ get_or xs 1 y → z ≡ get_or xs 2 z → xs ≡ x ∷ y ∷ z ∷ []
-just_three [] x y z n m e f g = absurd (omega (arith, n))
-just_three (u ∷ []) x y z n m e f g = absurd (omega (arith, n))
-just_three (u ∷ v ∷ []) x y z n m e f g = absurd (omega (arith, n))
-just_three (u ∷ v ∷ w ∷ []) x y z n m e f g = ap (λ a. a ∷ v ∷ w ∷ []) (sym e) ∙ ap (λ a. x ∷ a ∷ w ∷ []) (sym f) ∙ ap (λ a. x ∷ y ∷ a ∷ []) (sym g)
-just_three (u ∷ v ∷ w ∷ k ∷ xs) x y z n m e f g = absurd (omega (arith, m))
-
 pub take_all : {A : Type 0} (xs : List A) (n : ℕ) → n ≡ length xs → take n xs ≡ xs
 take_all [] zero e = refl
 take_all [] (suc n) e = refl

@@ -1,21 +1,25 @@
 -- Lists of trees, and lists of what is handed on and of getlines, one by one.
-use Rattle.std.proofs.Common.{◌≡◌, ◌∙◌, ℕ, ◌+◌, ◌-◌, ◌<◌, ◌≤◌, Bool, List, [], ◌∷◌, ◌++◌, map, Result, length, get_or, drop, take, option_map, ap, sym, refl, arith}
+use Rattle.std.proofs.Common.{◌≡◌, ◌∙◌, ℕ, ◌+◌, ◌-◌, ◌<◌, ◌≤◌, Bool, List, [], ◌∷◌, ◌++◌, map, Result, Some, length, get_or, drop, take, option_map, ap, sym, refl, arith}
 use Rattle.awk_tree.specs.Tree as t
-use Rattle.awk_tree.specs.Tree.{Tree, trees_of, perhaps_of, terms_of, pipes_of}
+use Rattle.awk_tree.specs.Tree.{Tree, Trees, trees_of, perhaps_of, terms_of, pipes_of}
 use Rattle.awk_tree.specs.View as tree
+use Rattle.awk_text.specs.declared.place.Place.{Place}
+use Rattle.awk_tree.specs.declared.operators.Builtin as tree_builtin
+use Rattle.awk_tree.specs.declared.operators.Builtin.TheVariants as b
 use Rattle.awk_tree.specs.declared.expressions.Expr as tree_expr
 use Rattle.awk_tree.specs.declared.expressions.Piped as tree_piped
 use Rattle.awk_tree.specs.declared.expressions.Term as tree_term
 use Rattle.awk_resolve.specs.Mentions.{bare}
+use Rattle.awk_program.specs.declared.builtins.Builtin.{Builtin}
 use Rattle.awk_program.specs.declared.expressions.Expr.{Expr}
 use Rattle.awk_program.specs.declared.expressions.Piped.{Piped}
 use Rattle.awk_program.specs.declared.expressions.Argument.{Argument}
 use Rattle.awk_program.specs.declared.expressions.Argument.TheVariants as argument_case
 use Rattle.awk_program.specs.Program as p
-use Rattle.awk_program.specs.Program.{Pipes, Arguments, expressions_of, joins_of}
+use Rattle.awk_program.specs.Program.{Expressions, Pipes, Arguments, expressions_of, joins_of}
 use Rattle.awk_program.specs.View.{Names, variable_of, view, view_target, view_pipes, view_arguments}
-use Rattle.awk_lowering.specs.Forms.{operator_of}
-use Rattle.awk_lowering.specs.Lowered.{lowered, lowered_list, lowered_terms, lowered_joins, lowered_pipes, target_or_record, arguments, argument, takes_array, later}
+use Rattle.awk_lowering.specs.Forms.{called, operator_of, plain_builtin}
+use Rattle.awk_lowering.specs.Lowered.{built, plain, lowered, lowered_list, lowered_terms, lowered_joins, lowered_pipes, target_or_record, arguments, argument, takes_array, later}
 use Rattle.awk_lowering.specs.LoweredStatements.{statement, statements}
 use Rattle.awk_lowering.specs.Made.{with_argument, IsArgument, IsPiped}
 use Rattle.awk_lowering.specs.OneByOne.{lowered_term, lowered_join, then_pipes, then_arguments}
@@ -26,6 +30,17 @@ use Rattle.awk_lowering.proofs.Carried.{Pushed, drop_here, take_all}
 pub list_is : (c : Scope) (xs : List Tree) → lowered_list c (trees_of xs) ≡ expressions_of (map (lowered c) xs)
 list_is c [] = refl
 list_is c (x ∷ xs) = ap (λ ys. p.more (lowered c x) ys) (list_is c xs)
+
+-- ---- built-in functions
+
+pub called_some : (c : Scope) (q : Place) (which : Builtin) (xs : List tree_expr.Expr) → 1 ≤ length xs →
+    called q which (lowered_list c (trees_of (map tree.view xs))) ≡ p.builtin q which (expressions_of (map (lowered c) (map tree.view xs)))
+called_some c q which [] some = absurd (omega (arith, some))
+called_some c q which (x ∷ xs) some = ap (λ ys. p.builtin q which (p.more (lowered c (tree.view x)) ys)) (list_is c (map tree.view xs))
+
+pub plainly : (c : Scope) (q : Place) (which : tree_builtin.Builtin) (runs : Builtin) (xs : Trees) (us : Expressions) → plain_builtin which ≡ Some runs → built c q which xs us ≡ plain c q (Some runs) xs us
+plainly c q b.Match runs xs us e = absurd (cc)
+plainly c q which runs xs us e = ap (λ o. plain c q o xs us) e
 
 pub terms_are : (c : Scope) (xs : List (tree_term.Term Tree)) → lowered_terms c (terms_of xs) ≡ p.terms_of (map (lowered_term c) xs)
 terms_are c [] = refl

@@ -1,5 +1,5 @@
 -- Forms of a program that no other form of the script is written as, and the operators.
-use Rattle.std.specs.Prelude.{ℕ, ◌-◌, ◌^◌, min, pos, Bool, true, false}
+use Rattle.std.specs.Prelude.{ℕ, ◌-◌, ◌^◌, min, pos, Bool, true, false, Option, Some, None}
 use Rattle.std.specs.List.{take_while}
 use Rattle.std.specs.Char.{is_ascii_digit}
 use Rattle.std.specs.Str.Parse.{digits_value}
@@ -19,20 +19,21 @@ use Rattle.awk_tree.specs.declared.operators.Redirect as tree_redirect
 use Rattle.awk_tree.specs.declared.operators.Redirect.TheVariants as tr
 use Rattle.awk_tree.specs.declared.operators.Builtin as tree_builtin
 use Rattle.awk_tree.specs.declared.operators.Builtin.TheVariants as b
+use Rattle.awk_program.specs.declared.builtins.Builtin.{Builtin}
+use Rattle.awk_program.specs.declared.builtins.Builtin.TheVariants as f
 use Rattle.awk_program.specs.declared.operators.Operator.{Operator}
 use Rattle.awk_program.specs.declared.operators.Operator.TheVariants as o
 use Rattle.awk_program.specs.declared.operators.Comparison.{Comparison}
 use Rattle.awk_program.specs.declared.operators.Comparison.TheVariants as c
 use Rattle.awk_program.specs.declared.operators.Extent.{Extent}
 use Rattle.awk_program.specs.declared.operators.Extent.TheVariants as extent
-use Rattle.awk_program.specs.declared.operators.Measure.TheVariants as m
 use Rattle.awk_program.specs.declared.operators.Redirect.{Redirect}
 use Rattle.awk_program.specs.declared.operators.Redirect.TheVariants as r
 use Rattle.awk_program.specs.declared.operators.Sign.TheVariants as g
 use Rattle.awk_program.specs.declared.operators.Step.{Step}
 use Rattle.awk_program.specs.declared.operators.Step.TheVariants as i
 use Rattle.awk_program.specs.Program as p
-use Rattle.awk_program.specs.Program.{Expression, Reference}
+use Rattle.awk_program.specs.Program.{Expression, Expressions, Reference}
 
 -- no token is a greater number
 abbrev pub number_of : Text → ℕ
@@ -98,29 +99,28 @@ abbrev pub negated : Bool → Expression → Expression
 negated false x = x
 negated true x = p.not x
 
--- ---- built-in functions other than match and sprintf, by the number of their arguments
+-- ---- built-in functions whose arguments are plain values
 
-abbrev pub of_none : Place → tree_builtin.Builtin → Expression
-of_none q b.Length = p.measure m.Length (p.read (whole_record q))
--- it asks for nothing that a run could see
-of_none q b.Fflush = p.number (pos 0)
-of_none q which = unwritten
+-- the function that runs
+abbrev pub plain_builtin : tree_builtin.Builtin → Option Builtin
+plain_builtin b.Close = Some f.Close
+plain_builtin b.Fflush = Some f.Fflush
+plain_builtin b.Index = Some f.Index
+plain_builtin b.Int = Some f.Int
+plain_builtin b.Length = Some f.Length
+plain_builtin b.Sprintf = Some f.Sprintf
+plain_builtin b.Substr = Some f.Substr
+plain_builtin b.System = Some f.System
+plain_builtin b.Tolower = Some f.Tolower
+plain_builtin b.Toupper = Some f.Toupper
+plain_builtin other = None
 
-abbrev pub of_one : Place → tree_builtin.Builtin → Expression → Expression
-of_one q b.Close x = p.close q x
-of_one q b.Fflush x = p.flush x
-of_one q b.Int x = p.int q x
-of_one q b.Length x = p.measure m.Length x
-of_one q b.System x = p.system q x
-of_one q b.Tolower x = p.measure m.Tolower x
-of_one q b.Toupper x = p.measure m.Toupper x
-of_one q which x = unwritten
+-- without an argument length is of the whole record, and fflush asks for nothing that a run could see
+abbrev pub without_arguments : Place → Builtin → Expression
+without_arguments q f.Length = p.builtin q f.Length (p.more (p.read (whole_record q)) p.none)
+without_arguments q f.Fflush = p.number (pos 0)
+without_arguments q which = p.builtin q which p.none
 
-abbrev pub of_two : Place → tree_builtin.Builtin → Expression → Expression → Expression
-of_two q b.Index x y = p.index x y
-of_two q b.Substr x y = p.substr_from q x y
-of_two q which x y = unwritten
-
-abbrev pub of_three : Place → tree_builtin.Builtin → Expression → Expression → Expression → Expression
-of_three q b.Substr x y z = p.substr q x y z
-of_three q which x y z = unwritten
+abbrev pub called : Place → Builtin → Expressions → Expression
+called q which p.none = without_arguments q which
+called q which (p.more x xs) = p.builtin q which (p.more x xs)

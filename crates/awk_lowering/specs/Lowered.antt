@@ -6,6 +6,7 @@
 --   getline, without a target      getline $0              sub(x, y), gsub(x, y)         sub(x, y, $0), gsub(x, y, $0)
 --   split(x, a)                    split(x, a, FS)         x + y - z                     one chain, and so are * / %, && and ||
 --   fflush()                       0                       length(a)                     the count of the array a
+--   length()                       length($0)
 use Rattle.std.specs.Prelude.{pos, Bool, true, false, if◌then◌else◌, List, [], ◌∷◌, map, get_or, codes, Option, Some, None}
 use Rattle.awk_text.specs.Escapes.{unescaped}
 use Rattle.awk_text.specs.declared.place.Place.{Place}
@@ -16,12 +17,13 @@ use Rattle.awk_tree.specs.declared.names.Member.{Member}
 use Rattle.awk_tree.specs.declared.operators.Builtin.{Builtin}
 use Rattle.awk_tree.specs.declared.operators.Builtin.TheVariants as b
 use Rattle.awk_resolve.specs.Mentions.{bare, alone}
-use Rattle.awk_program.specs.declared.operators.Measure.TheVariants as m
+use Rattle.awk_program.specs.declared.builtins.Builtin as running
+use Rattle.awk_program.specs.declared.builtins.Builtin.TheVariants as f
 use Rattle.awk_program.specs.declared.operators.Operator.TheVariants as o
 use Rattle.awk_program.specs.declared.operators.Taken.TheVariants as taken
 use Rattle.awk_program.specs.Program as p
 use Rattle.awk_program.specs.Program.{Variable, Expression, Reference, Ere, Expressions, Joins, Arguments}
-use Rattle.awk_lowering.specs.Forms.{number_of, whole_record, unwritten, unwritten_target, operator_of, comparison_of, step_of, extent_of, signed_of, assigned, negated, of_none, of_one, of_two, of_three}
+use Rattle.awk_lowering.specs.Forms.{number_of, whole_record, unwritten, unwritten_target, operator_of, comparison_of, step_of, extent_of, signed_of, assigned, negated, plain_builtin, without_arguments, called}
 use Rattle.awk_lowering.specs.Scopes.{Scope, variable, function, arrays_of, is_array}
 use Rattle.awk_lowering.specs.Starts.{start}
 
@@ -68,50 +70,33 @@ later (b ∷ bs) = bs
 
 -- ---- built-in functions, of arguments whose programs are there
 
--- by the number of its arguments
-abbrev pub called : Place → Builtin → Expressions → Expression
-called q which p.none = of_none q which
-called q which (p.more x p.none) = of_one q which x
-called q which (p.more x (p.more y p.none)) = of_two q which x y
-called q which (p.more x (p.more y (p.more z p.none))) = of_three q which x y z
-called q which (p.more x (p.more y (p.more z (p.more u xs)))) = unwritten
-
 -- `match ( text , pattern )`
 abbrev pub located : Place → Trees → Expressions → Expression
 located q (t.more x (t.more y t.none)) (p.more u (p.more v p.none)) = p.locate q u (ere_of (constant y) v)
 located q xs us = unwritten
-
--- `sprintf ( format , list )`
-abbrev pub formatted : Place → Expressions → Expression
-formatted q p.none = unwritten
-formatted q (p.more x xs) = p.sprintf q x xs
 
 -- the array that a name is
 abbrev pub array_among : Scope → Option Name → Option Name
 array_among c None = None
 array_among c (Some n) = if is_array c n.text then Some n else None
 
--- `length ( array )` counts its elements
-abbrev pub length_of : Scope → Option Name → Expression → Expression
-length_of c None x = x
-length_of c (Some n) x = p.count (variable c n.text)
+-- the array whose elements `length ( array )` counts
+abbrev pub counted : Scope → running.Builtin → Trees → Option Name
+counted c f.Length xs = array_among c (alone xs)
+counted c which xs = None
 
--- The three that are unwritten have forms of their own.
+abbrev pub count_or : Scope → Option Name → Expression → Expression
+count_or c None x = x
+count_or c (Some n) x = p.count (variable c n.text)
+
+abbrev pub plain : Scope → Place → Option running.Builtin → Trees → Expressions → Expression
+plain c q (Some which) xs us = count_or c (counted c which xs) (called q which us)
+-- sub, gsub and split have forms of their own
+plain c q None xs us = unwritten
+
 abbrev pub built : Scope → Place → Builtin → Trees → Expressions → Expression
 built c q b.Match xs us = located q xs us
-built c q b.Sprintf xs us = formatted q us
-built c q b.Close xs us = called q b.Close us
-built c q b.Fflush xs us = called q b.Fflush us
-built c q b.Gsub xs us = unwritten
-built c q b.Index xs us = called q b.Index us
-built c q b.Int xs us = called q b.Int us
-built c q b.Length xs us = length_of c (array_among c (alone xs)) (called q b.Length us)
-built c q b.Split xs us = unwritten
-built c q b.Sub xs us = unwritten
-built c q b.Substr xs us = called q b.Substr us
-built c q b.System xs us = called q b.System us
-built c q b.Tolower xs us = called q b.Tolower us
-built c q b.Toupper xs us = called q b.Toupper us
+built c q which xs us = plain c q (plain_builtin which) xs us
 
 -- a getline of the main input, or of a file
 abbrev pub got_by : Place → Reference → Option Expression → Expression
@@ -135,7 +120,7 @@ abbrev mutual
   lowered c (t.paren q x) = lowered c x
   lowered c (t.call n xs) = p.call n.place (function c n.text) (arguments c (arrays_of c n.text) xs)
   lowered c (t.builtin q which xs) = built c q which xs (lowered_list c xs)
-  lowered c (t.bare_length q) = p.measure m.Length (p.read (whole_record q))
+  lowered c (t.bare_length q) = without_arguments q f.Length
   lowered c (t.split q x n y) = p.split q (lowered c x) n.place (variable c n.text) (separator c y)
   lowered c (t.substitute q all x y z) = p.substitute q (extent_of all) (ere_of (constant x) (lowered c x)) (lowered c y) (target_or_record c q z)
   lowered c (t.getline q x y) = got_by q (target_or_record c q x) (lowered_perhaps c y)

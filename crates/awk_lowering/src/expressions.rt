@@ -1,14 +1,13 @@
 // Expressions. Each call counts down a level, which is more than any script has: a tree of that many
 // boxes has no room in memory.
 
-ghost use Rattle.std.specs.Prelude.{◌≡◌, ◌++◌, OnOk, map, option_map};
+ghost use Rattle.std.specs.Prelude.{◌≡◌, ◌++◌, OnOk, Some, map, option_map};
+ghost use Rattle.awk_lowering.specs.Forms as form;
 ghost use Rattle.awk_lowering.specs.Lowered as low;
 ghost use Rattle.awk_lowering.specs.Lowered.{lowered};
 ghost use Rattle.awk_lowering.specs.OneByOne.{lowered_term, lowered_join, then_arguments, then_pipes};
 ghost use Rattle.awk_lowering.specs.Made.{Is, AreAll, AreTerms, AreJoins, ArePipes, AreArguments, IsTarget, IsEre, IsPerhaps, names_in, scope_in};
 ghost use Rattle.awk_program.specs.View as code;
-ghost use Rattle.awk_resolve.specs.Mentions.{alone};
-ghost use Rattle.awk_tree.specs.declared.operators.Builtin.TheVariants as which_builtin;
 ghost use Rattle.awk_tree.specs.Tree.{trees_of, perhaps_of, pipes_of};
 ghost use Rattle.awk_tree.specs.View.{view, view_term, view_piped};
 
@@ -16,23 +15,23 @@ use crate::constants::{number, pattern, quoted};
 use crate::kept::{boxed, kept, push};
 use crate::names::{Context, arrays_in, arrays_of, function, variable};
 use crate::nodes::{
-    and_of, call_of, chain_of, choose_of, compare_of, concat_of, count_of, getline_file_of,
-    getline_of, group_of, locate_of, match_of, member_of, or_of, pipe_of, read_of, split_of,
-    sprintf_of, step_of, substitute_of,
+    and_of, builtin_of, call_of, chain_of, choose_of, compare_of, concat_of, count_of,
+    getline_file_of, getline_of, group_of, locate_of, match_of, member_of, or_of, pipe_of, read_of,
+    split_of, step_of, substitute_of,
 };
 use crate::operators::{
-    assign_of, comparison, extent, negated, of_none, of_one, of_three, of_two, record_length,
-    signed_of, step,
+    assign_of, comparison, extent, negated, plain_builtin, record_length, signed_of, step,
+    without_arguments,
 };
 use crate::parts::{argument_of, given, join_of, piped_of, power_of, term_of};
-use crate::shapes::{array_alone, bare, constant, first_in, later, start, takes_array};
+use crate::shapes::{bare, constant, counted, first_in, later, start, takes_array};
 use crate::targets::{
     computed_of, constant_of, element_of, field_of, field_separator, record_of, variable_of,
 };
-use awk_program::{Argument, Expr, Joined, Pattern, Piped, Taken, Target, Term};
+use awk_program::{Argument, Builtin, Expr, Joined, Pattern, Piped, Taken, Target, Term};
 use awk_text::Memory;
 use awk_text::place::Place;
-use awk_tree::{Builtin, Name};
+use awk_tree::Name;
 use sqlite_items::{Boxed, Items};
 use std::alloc::AllocError;
 
@@ -283,47 +282,39 @@ fn call(
 fn builtin(
     context: &Context<'_>,
     place: Place,
-    which: Builtin,
+    which: awk_tree::Builtin,
     args: &[awk_tree::Expr],
     level: u32,
 ) -> Result<Expr, Memory>
     ensures { Is (names_in context.now) result (low.built (scope_in context.now) place which (trees_of (map view args.now)) (low.lowered_list (scope_in context.now) (trees_of (map view args.now)))) }
 {
-    match which {
-        Builtin::Match => located(context, place, args, level),
-        Builtin::Sprintf => formatted(context, place, args, level),
-        Builtin::Close => called(context, place, Builtin::Close, args, level),
-        Builtin::Fflush => called(context, place, Builtin::Fflush, args, level),
-        Builtin::Gsub => Err(AllocError),
-        Builtin::Index => called(context, place, Builtin::Index, args, level),
-        Builtin::Int => called(context, place, Builtin::Int, args, level),
-        Builtin::Length => length(context, place, args, level),
-        Builtin::Split => Err(AllocError),
-        Builtin::Sub => Err(AllocError),
-        Builtin::Substr => called(context, place, Builtin::Substr, args, level),
-        Builtin::System => called(context, place, Builtin::System, args, level),
-        Builtin::Tolower => called(context, place, Builtin::Tolower, args, level),
-        Builtin::Toupper => called(context, place, Builtin::Toupper, args, level),
+    match plain_builtin(which) {
+        Some(function) => plain(context, place, function, args, level),
+        None => match which {
+            awk_tree::Builtin::Match => located(context, place, args, level),
+            _ => Err(AllocError),
+        },
     }
 }
 
-/// `length ( text )`, and `length ( array )`
+/// A built-in function whose arguments are plain values, and `length ( array )`.
 #[cycle(expression)]
-fn length(
+fn plain(
     context: &Context<'_>,
     place: Place,
+    which: Builtin,
     args: &[awk_tree::Expr],
     level: u32,
 ) -> Result<Expr, Memory>
-    ensures { Is (names_in context.now) result (low.length_of (scope_in context.now) (low.array_among (scope_in context.now) (alone (trees_of (map view args.now)))) (low.called place which_builtin.Length (low.lowered_list (scope_in context.now) (trees_of (map view args.now))))) }
+    ensures { Is (names_in context.now) result (low.plain (scope_in context.now) place (Some which) (trees_of (map view args.now)) (low.lowered_list (scope_in context.now) (trees_of (map view args.now)))) }
 {
-    match array_alone(context, args) {
+    match counted(context, which, args) {
         Some(name) => count_of(variable(context, name.text.bytes())),
-        None => called(context, place, Builtin::Length, args, level),
+        None => called(context, place, which, args, level),
     }
 }
 
-/// A built-in function, by the number of its arguments.
+/// A built-in function whose arguments are plain values.
 #[cycle(expression)]
 fn called(
     context: &Context<'_>,
@@ -332,21 +323,11 @@ fn called(
     args: &[awk_tree::Expr],
     level: u32,
 ) -> Result<Expr, Memory>
-    ensures { Is (names_in context.now) result (low.called place which (low.lowered_list (scope_in context.now) (trees_of (map view args.now)))) }
+    ensures { Is (names_in context.now) result (form.called place which (low.lowered_list (scope_in context.now) (trees_of (map view args.now)))) }
 {
     match args {
-        [] => of_none(context.alloc, place, which),
-        [x] => of_one(place, which, part(context, x, level)),
-        [x, y] => {
-            let x = part(context, x, level);
-            of_two(place, which, x, part(context, y, level))
-        }
-        [x, y, z] => {
-            let x = part(context, x, level);
-            let y = part(context, y, level);
-            of_three(place, which, x, y, part(context, z, level))
-        }
-        _ => Err(AllocError),
+        [] => without_arguments(context.alloc, place, which),
+        [_, ..] => builtin_of(place, which, list(context, args, level)),
     }
 }
 
@@ -366,25 +347,6 @@ fn located(
             locate_of(place, x, wanted(context, y, level))
         }
         _ => Err(AllocError),
-    }
-}
-
-/// `sprintf ( format , list )`
-#[cycle(expression)]
-fn formatted(
-    context: &Context<'_>,
-    place: Place,
-    args: &[awk_tree::Expr],
-    level: u32,
-) -> Result<Expr, Memory>
-    ensures { Is (names_in context.now) result (low.formatted place (low.lowered_list (scope_in context.now) (trees_of (map view args.now)))) }
-{
-    match args {
-        [] => Err(AllocError),
-        [x, rest @ ..] => {
-            let x = part(context, x, level);
-            sprintf_of(place, x, list(context, rest, level))
-        }
     }
 }
 

@@ -10,7 +10,7 @@ ghost use Rattle.awk_program.specs.declared.expressions.Joined as joined;
 
 use crate::kept::{both, three};
 use awk_program::{
-    Argument, Comparison, Expr, Extent, Joined, Measure, Pattern, Piped, Step, Taken, Target, Term,
+    Argument, Builtin, Comparison, Expr, Extent, Joined, Pattern, Piped, Step, Taken, Target, Term,
     Variable,
 };
 use awk_text::Memory;
@@ -224,12 +224,16 @@ pub fn pipe_of(
     }
 }
 
-/// A built-in function of one text
-pub fn measure_of(how: Measure, x: Result<Boxed<Expr>, Memory>) -> Result<Expr, Memory>
-    ensures { (t : Names) (a : Expression) → Is t x a → Is t result (p.measure how a) }
+/// A built-in function with its arguments
+pub fn builtin_of(
+    place: Place,
+    which: Builtin,
+    xs: Result<Items<Expr>, Memory>,
+) -> Result<Expr, Memory>
+    ensures { (t : Names) (a : List Expression) → AreAll t xs a → Is t result (p.builtin place which (expressions_of a)) }
 {
-    match x {
-        Ok(x) => Ok(Expr::Measure(how, x)),
+    match xs {
+        Ok(xs) => Ok(Expr::Builtin(place, which, xs)),
         Err(refused) => Err(refused),
     }
 }
@@ -240,20 +244,6 @@ pub fn count_of(v: Result<Variable, Memory>) -> Result<Expr, Memory>
 {
     match v {
         Ok(v) => Ok(Expr::Count(v)),
-        Err(refused) => Err(refused),
-    }
-}
-
-/// `sprintf ( format , list )`
-pub fn sprintf_of(
-    place: Place,
-    x: Result<Boxed<Expr>, Memory>,
-    xs: Result<Items<Expr>, Memory>,
-) -> Result<Expr, Memory>
-    ensures { (t : Names) (a : Expression) (b : List Expression) → Is t x a → AreAll t xs b → Is t result (p.sprintf place a (expressions_of b)) }
-{
-    match both(x, xs) {
-        Ok((x, xs)) => Ok(Expr::Sprintf(place, x, xs)),
         Err(refused) => Err(refused),
     }
 }

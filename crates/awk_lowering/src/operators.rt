@@ -3,20 +3,19 @@
 ghost use Rattle.std.specs.Prelude.{◌≡◌, IfOk};
 ghost use Rattle.awk_lowering.specs.Forms as spec;
 ghost use Rattle.awk_lowering.specs.Made.{Is, IsTarget};
-ghost use Rattle.awk_program.specs.Program as p;
 ghost use Rattle.awk_program.specs.Program.{Expression, Reference};
 ghost use Rattle.awk_program.specs.View.{Names};
-ghost use Rattle.awk_program.specs.declared.operators.Measure.TheVariants as m;
+ghost use Rattle.awk_program.specs.declared.builtins.Builtin.TheVariants as f;
 
-use crate::kept::{both, boxed, three};
-use crate::nodes::{measure_of, not_of, read_of};
+use crate::kept::{both, boxed, only};
+use crate::nodes::{builtin_of, not_of, read_of};
 use crate::targets::record_of;
-use awk_program::{Comparison, Expr, Extent, Measure, Operator, Redirect, Sign, Step, Target};
+use awk_program::{Builtin, Comparison, Expr, Extent, Operator, Redirect, Sign, Step, Target};
 use awk_text::Memory;
 use awk_text::place::Place;
-use awk_tree::{Arithmetic, Assignment, Builtin};
-use sqlite_items::Boxed;
-use std::alloc::{AllocError, Global};
+use awk_tree::{Arithmetic, Assignment};
+use sqlite_items::{Boxed, Items};
+use std::alloc::Global;
 
 pub fn operator(how: Arithmetic) -> Operator
     ensures { result ≡ spec.operator_of how }
@@ -113,72 +112,43 @@ pub fn assign_of(
     }
 }
 
+/// The function that runs, where a built-in function's arguments are plain values
+pub fn plain_builtin(which: awk_tree::Builtin) -> Option<Builtin>
+    ensures { result ≡ spec.plain_builtin which }
+{
+    match which {
+        awk_tree::Builtin::Close => Some(Builtin::Close),
+        awk_tree::Builtin::Fflush => Some(Builtin::Fflush),
+        awk_tree::Builtin::Index => Some(Builtin::Index),
+        awk_tree::Builtin::Int => Some(Builtin::Int),
+        awk_tree::Builtin::Length => Some(Builtin::Length),
+        awk_tree::Builtin::Sprintf => Some(Builtin::Sprintf),
+        awk_tree::Builtin::Substr => Some(Builtin::Substr),
+        awk_tree::Builtin::System => Some(Builtin::System),
+        awk_tree::Builtin::Tolower => Some(Builtin::Tolower),
+        awk_tree::Builtin::Toupper => Some(Builtin::Toupper),
+        awk_tree::Builtin::Gsub
+        | awk_tree::Builtin::Match
+        | awk_tree::Builtin::Split
+        | awk_tree::Builtin::Sub => None,
+    }
+}
+
 /// `length` of the whole record
 pub fn record_length(alloc: Global, place: Place) -> Result<Expr, Memory>
-    ensures { (t : Names) → Is t result (p.measure m.Length (p.read (spec.whole_record place))) }
+    ensures { (t : Names) → Is t result (spec.without_arguments place f.Length) }
 {
     let record = read_of(record_of(alloc, place));
-    measure_of(Measure::Length, boxed(alloc, record))
+    builtin_of(place, Builtin::Length, only(alloc, record))
 }
 
 /// A built-in function without arguments
-pub fn of_none(alloc: Global, place: Place, which: Builtin) -> Result<Expr, Memory>
-    ensures { (t : Names) → Is t result (spec.of_none place which) }
+pub fn without_arguments(alloc: Global, place: Place, which: Builtin) -> Result<Expr, Memory>
+    ensures { (t : Names) → Is t result (spec.without_arguments place which) }
 {
     match which {
         Builtin::Length => record_length(alloc, place),
         Builtin::Fflush => Ok(Expr::Number(0)),
-        _ => Err(AllocError),
-    }
-}
-
-/// A built-in function of one argument
-pub fn of_one(place: Place, which: Builtin, x: Result<Boxed<Expr>, Memory>) -> Result<Expr, Memory>
-    ensures { (t : Names) (a : Expression) → Is t x a → Is t result (spec.of_one place which a) }
-{
-    let x = x?;
-    match which {
-        Builtin::Close => Ok(Expr::Close(place, x)),
-        Builtin::Fflush => Ok(Expr::Flush(x)),
-        Builtin::Int => Ok(Expr::Int(place, x)),
-        Builtin::Length => Ok(Expr::Measure(Measure::Length, x)),
-        Builtin::System => Ok(Expr::System(place, x)),
-        Builtin::Tolower => Ok(Expr::Measure(Measure::Tolower, x)),
-        Builtin::Toupper => Ok(Expr::Measure(Measure::Toupper, x)),
-        _ => Err(AllocError),
-    }
-}
-
-/// A built-in function of two arguments
-pub fn of_two(
-    place: Place,
-    which: Builtin,
-    x: Result<Boxed<Expr>, Memory>,
-    y: Result<Boxed<Expr>, Memory>,
-) -> Result<Expr, Memory>
-    ensures { (t : Names) (a b : Expression) → Is t x a → Is t y b → Is t result (spec.of_two place which a b) }
-{
-    let (x, y) = both(x, y)?;
-    match which {
-        Builtin::Index => Ok(Expr::Index(x, y)),
-        Builtin::Substr => Ok(Expr::SubstrFrom(place, x, y)),
-        _ => Err(AllocError),
-    }
-}
-
-/// A built-in function of three arguments
-pub fn of_three(
-    place: Place,
-    which: Builtin,
-    x: Result<Boxed<Expr>, Memory>,
-    y: Result<Boxed<Expr>, Memory>,
-    z: Result<Boxed<Expr>, Memory>,
-) -> Result<Expr, Memory>
-    ensures { (t : Names) (a b d : Expression) → Is t x a → Is t y b → Is t z d → Is t result (spec.of_three place which a b d) }
-{
-    let (x, y, z) = three(x, y, z)?;
-    match which {
-        Builtin::Substr => Ok(Expr::Substr(place, x, y, z)),
-        _ => Err(AllocError),
+        _ => Ok(Expr::Builtin(place, which, Items::new(alloc))),
     }
 }

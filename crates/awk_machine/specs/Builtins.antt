@@ -1,6 +1,6 @@
 -- Calls of the built-in functions (POSIX.1-2017 XCU awk, "Functions"): the arguments from left to right, and then what
 -- the function gives.
-use Rattle.std.specs.Prelude.{ℕ, ◌+◌, ◌-◌, nat_le, Bool, true, false, if◌then◌else◌, negsuc, List, [], ◌∷◌, length, drop, codes, Some, None, Result, Ok}
+use Rattle.std.specs.Prelude.{ℕ, ℤ, ◌+◌, ◌-◌, nat_le, Bool, true, false, if◌then◌else◌, negsuc, List, [], ◌∷◌, length, drop, get_or, codes, Option, Some, None, Result, Ok}
 use Rattle.std.specs.Fmt.{decimal}
 use Rattle.awk_text.specs.declared.place.Place.{Place}
 use Rattle.awk_text.specs.declared.value.Value.{Value}
@@ -13,44 +13,46 @@ use Rattle.awk_format.specs.Directives.{◌>>=◌}
 use Rattle.awk_format.specs.Formatted.{formatted}
 use Rattle.box_world.specs.declared.ask.Reply.{Reply}
 use Rattle.box_world.specs.declared.ask.Reply.TheVariants as reply
-use Rattle.box_world.specs.Events.{Runs}
+use Rattle.box_world.specs.Events.{Runs, open_streams}
 use Rattle.awk_program.specs.Slots.{Text}
 use Rattle.awk_program.specs.Program as p
 use Rattle.awk_program.specs.Program.{Expression, Ere}
 use Rattle.awk_program.specs.declared.operators.Extent.{Extent}
 use Rattle.awk_program.specs.declared.operators.Extent.TheVariants as extent
-use Rattle.awk_program.specs.declared.operators.Measure.{Measure}
-use Rattle.awk_program.specs.declared.operators.Measure.TheVariants as m
-use Rattle.awk_machine.specs.Forms.{value, spot, source, binary, checked}
+use Rattle.awk_program.specs.declared.builtins.Builtin.{Builtin}
+use Rattle.awk_program.specs.declared.builtins.Builtin.TheVariants as b
+use Rattle.awk_machine.specs.Flushing.{flush}
+use Rattle.awk_machine.specs.Forms.{value, spot, source, binary, deliver, checked}
 use Rattle.awk_lib.specs.Arrays.{most_elements}
 use Rattle.awk_lib.specs.Replacing.{replaced}
 use Rattle.awk_lib.specs.Texts.{index, substr, to_case}
-use Rattle.awk_machine.specs.State.{Array}
+use Rattle.awk_machine.specs.State.{Array, State}
 use Rattle.awk_machine.specs.Operators.{of_count, limited}
-use Rattle.awk_machine.specs.Pieces.{Part, Piece, At, Do, Target, Get, Set, Give, Locate, Located, Substitute, Split, Then, Goes, Seeks, Asks, give, granted, fails}
+use Rattle.awk_machine.specs.Pieces.{Part, Task, Piece, At, Do, Target, Get, Set, Give, Locate, Located, Substitute, Split, Close, Run, Then, Goes, Seeks, Asks, give, granted, fails}
 use Rattle.awk_machine.specs.Questions.{Finds, places}
 use Rattle.awk_machine.specs.Streams.{want}
 use Rattle.awk_machine.specs.Targets.{target, check_separator}
 use Rattle.awk_machine.specs.Variables.{with_own, with_array}
 
--- ---- those that give what their arguments' values make
+-- ---- what the values of plain arguments make
 
-abbrev pub measured : Measure → Value → Value
-measured m.Length x = of_count (length (text_of x))
-measured m.Tolower x = v.Text (to_case false (text_of x))
-measured m.Toupper x = v.Text (to_case true (text_of x))
+-- the argument at this index, which is unset where there is none
+abbrev pub argument : List Value → ℕ → Value
+argument vs n = get_or vs n v.Unset
+
+abbrev pub text_at : List Value → ℕ → Text
+text_at vs n = text_of (argument vs n)
 
 abbrev pub whole_number : Value → Result Value Fault
 whole_number x = number_of x >>= λ n. Ok (v.Num n)
 
-abbrev pub index_of : Value → Value → Value
-index_of x y = of_count (index (text_of x) (text_of y))
+-- so many bytes, where a count is given
+abbrev pub count_of : List Value → Result (Option ℤ) Fault
+count_of [] = Ok None
+count_of (x ∷ vs) = number_of x >>= λ n. Ok (Some n)
 
-abbrev pub substr_from : Value → Value → Result Value Fault
-substr_from x from = number_of from >>= λ m. Ok (v.Text (substr (text_of x) m None))
-
-abbrev pub substr_of : Value → Value → Value → Result Value Fault
-substr_of x from count = number_of from >>= λ m. number_of count >>= λ n. Ok (v.Text (substr (text_of x) m (Some n)))
+abbrev pub substr_of : List Value → Result Value Fault
+substr_of vs = number_of (argument vs 1) >>= λ from. count_of (drop 2 vs) >>= λ count. Ok (v.Text (substr (text_at vs 0) from count))
 
 -- the text of a format, which is the first of these, and its values
 abbrev pub first : List Value → Value
@@ -60,14 +62,44 @@ first (x ∷ xs) = x
 abbrev pub formatted_by : List Value → Result Text Fault
 formatted_by vs = formatted (text_of (first vs)) (drop 1 vs)
 
--- ---- system
+abbrev pub formatted_text : List Value → Result Value Fault
+formatted_text vs = formatted_by vs >>= λ text. Ok (v.Text text)
 
+-- ---- what each function comes to, one line a function: a value or its fault, or a task that gives the value
+
+pub data Effect : Type 0 where
+  Gives : Result Value Fault → Effect
+  Leaves : Task → Effect
+
+abbrev pub gives : Value → Effect
+gives x = Gives (Ok x)
+
+abbrev pub effect : Place → Builtin → List Value → State → Effect
+effect place b.Close vs s = Leaves (Close place (text_at vs 0) None)
+effect place b.Fflush vs s = gives (flush (text_at vs 0) (open_streams s.course.events))
+effect place b.Index vs s = gives (of_count (index (text_at vs 0) (text_at vs 1)))
+effect place b.Int vs s = Gives (whole_number (argument vs 0))
+effect place b.Length vs s = gives (of_count (length (text_at vs 0)))
+effect place b.Sprintf vs s = Gives (formatted_text vs)
+effect place b.Substr vs s = Gives (substr_of vs)
+effect place b.System vs s = Leaves (Run place (text_at vs 0))
+effect place b.Tolower vs s = gives (v.Text (to_case false (text_at vs 0)))
+effect place b.Toupper vs s = gives (v.Text (to_case true (text_at vs 0)))
+
+abbrev pub taking : Place → Effect → Then
+taking place (Gives made) k s = deliver place made k s
+taking place (Leaves task) k s = Goes (Do task ∷ k) s
+
+abbrev pub called : Place → Builtin → List Value → Then
+called place which vs k s = taking place (effect place which vs s) k s
+
+-- a command is run to its end
 abbrev pub status_of : Reply → Value
 status_of (reply.Status n) = v.Num n
 status_of other = v.Num (negsuc 0)
 
-abbrev pub system : Place → Value → Then
-system place x k s = Asks (want place (Runs (text_of x))) (λ r. give (status_of r) k) s
+abbrev pub run : Place → Text → Then
+run place text k s = Asks (want place (Runs text)) (λ r. give (status_of r) k) s
 
 -- ---- match: the place and the length of the first match, 0 and -1 where there is none
 

@@ -1,24 +1,22 @@
 -- What each form of an expression does next, one line a form (POSIX.1-2017 XCU awk, "Expressions in awk").
-use Rattle.std.specs.Prelude.{ℤ, true, false, not, List, [], ◌∷◌, ◌++◌, length, None, Ok}
+use Rattle.std.specs.Prelude.{ℤ, true, false, not, List, [], ◌∷◌, ◌++◌, length}
 use Rattle.awk_text.specs.declared.place.Place.{Place}
 use Rattle.awk_text.specs.declared.value.Value.{Value}
 use Rattle.awk_text.specs.declared.value.Value.TheVariants as v
 use Rattle.awk_text.specs.Values.{text_of, number_of, truth}
-use Rattle.awk_format.specs.Directives.{◌>>=◌}
 use Rattle.awk_program.specs.Program as p
 use Rattle.awk_program.specs.Program.{Expression, Expressions, Ere, Terms, Joins}
 use Rattle.awk_program.specs.declared.operators.Operator.{Operator}
 use Rattle.awk_program.specs.declared.operators.Step.{Step}
 use Rattle.awk_program.specs.declared.operators.Taken.{Taken}
 use Rattle.awk_program.specs.declared.operators.Taken.TheVariants as taken
-use Rattle.awk_machine.specs.Builtins.{measured, whole_number, index_of, substr_from, substr_of, formatted_by, system, locate_in, substitute, split}
+use Rattle.awk_machine.specs.Builtins.{called, locate_in, substitute, split}
 use Rattle.awk_machine.specs.Calls.{call}
-use Rattle.awk_machine.specs.Flushing.{flush}
-use Rattle.awk_machine.specs.Forms.{value, spot, source, answer, deliver, if_true, unary, binary, ternary, listed, each_of, keyed, checked}
+use Rattle.awk_machine.specs.Forms.{value, spot, source, answer, deliver, if_true, unary, binary, listed, each_of, keyed, checked}
 use Rattle.awk_machine.specs.Getline.{getline, getline_file}
 use Rattle.awk_lib.specs.Arrays.{has}
 use Rattle.awk_machine.specs.Operators.{of_truth, of_count, computed, signed, stepped, compared, limited}
-use Rattle.awk_machine.specs.Pieces.{Part, Target_of, Terms_of, Texts_of, Ands_of, Ors_of, Members_of, Pipes_of, At, Do, Get, Set, Check, Match, Give, Close, Then, Goes, give, granted}
+use Rattle.awk_machine.specs.Pieces.{Part, Target_of, Terms_of, Texts_of, Ands_of, Ors_of, Members_of, Pipes_of, At, Do, Get, Set, Check, Match, Give, Then, Goes, give, granted}
 use Rattle.awk_machine.specs.Targets.{target, field_of, store}
 use Rattle.awk_machine.specs.Variables.{array}
 
@@ -112,16 +110,8 @@ step_value (p.call place f xs) part vs k s = call place f xs vs k s
 step_value (p.getline place r) part vs k s = getline place r part vs k s
 step_value (p.getline_file place r x) part vs k s = getline_file place r x part vs k s
 step_value (p.pipe x xs) part vs k s = Goes (value x ∷ At (Pipes_of xs) [] ∷ k) s
-step_value (p.measure how x) part vs k s = unary (value x) part (λ y. answer (measured how y)) vs k s
+step_value (p.builtin place which xs) part vs k s = each_of (listed xs) part (called place which) vs k s
 step_value (p.count a) part vs k s = answer (of_count (length (array s a))) k s
-step_value (p.int place x) part vs k s = unary (value x) part (λ y. deliver place (whole_number y)) vs k s
-step_value (p.index x y) part vs k s = binary (value x) (value y) part (λ z u. answer (index_of z u)) vs k s
-step_value (p.substr_from place x y) part vs k s = binary (value x) (value y) part (λ z u. deliver place (substr_from z u)) vs k s
-step_value (p.substr place x y z) part vs k s = ternary (value x) (value y) (value z) part (λ u from count. deliver place (substr_of u from count)) vs k s
-step_value (p.sprintf place x xs) part vs k s = each_of (x ∷ listed xs) part (λ vs. deliver place (formatted_by vs >>= λ text. Ok (v.Text text))) vs k s
 step_value (p.locate place x y) part vs k s = binary (value x) (source y) part (locate_in place y) vs k s
 step_value (p.split place x at a y) part vs k s = split place x at a y part vs k s
 step_value (p.substitute place how x y r) part vs k s = substitute place how x y r part vs k s
-step_value (p.close place x) part vs k s = unary (value x) part (λ y k s. Goes (Do (Close place (text_of y) None) ∷ k) s) vs k s
-step_value (p.flush x) part vs k s = unary (value x) part flush vs k s
-step_value (p.system place x) part vs k s = unary (value x) part (system place) vs k s

@@ -3,10 +3,8 @@
 use Rattle.std.specs.Prelude.{◌||◌, Bool, if◌then◌else◌, pos, negsuc, List, is_some}
 use Rattle.awk_text.specs.declared.value.Value.{Value}
 use Rattle.awk_text.specs.declared.value.Value.TheVariants as v
-use Rattle.awk_text.specs.Values.{text_of}
 use Rattle.awk_program.specs.Slots.{Text}
-use Rattle.box_world.specs.Events.{OutputFile, OutputCommand, Stream, find_stream, open_streams}
-use Rattle.awk_machine.specs.Pieces.{Then, Goes, give}
+use Rattle.box_world.specs.Events.{OutputFile, OutputCommand, Stream, find_stream}
 
 abbrev pub has_output : Text → List Stream → Bool
 has_output text streams = is_some (find_stream OutputFile text streams) || is_some (find_stream OutputCommand text streams)
@@ -14,5 +12,5 @@ has_output text streams = is_some (find_stream OutputFile text streams) || is_so
 abbrev pub flushed : Bool → Value
 flushed b = v.Num (if b then pos 0 else negsuc 0)
 
-abbrev pub flush : Value → Then
-flush x k s = Goes (give (flushed (has_output (text_of x) (open_streams s.course.events))) k) s
+abbrev pub flush : Text → List Stream → Value
+flush text streams = flushed (has_output text streams)

@@ -37,7 +37,7 @@ deliver place made k s = granted place made answer k s
 abbrev pub if_true : Value → List Piece → List Piece → State → Next
 if_true x k l s = if truth x then Goes k s else Goes l s
 
--- ---- one part, two, or three, from left to right
+-- ---- one part, or two, from left to right
 
 abbrev pub unary : Piece → Part → (Value → Then) → List Value → Then
 unary a part f [] k s = Goes (a ∷ At part [] ∷ k) s
@@ -47,12 +47,6 @@ abbrev pub binary : Piece → Piece → Part → (Value → Value → Then) → 
 binary a b part f [] k s = Goes (a ∷ At part [] ∷ k) s
 binary a b part f (x ∷ []) k s = Goes (b ∷ At part (x ∷ []) ∷ k) s
 binary a b part f (y ∷ x ∷ vs) k s = f x y k s
-
-abbrev pub ternary : Piece → Piece → Piece → Part → (Value → Value → Value → Then) → List Value → Then
-ternary a b c part f [] k s = Goes (a ∷ At part [] ∷ k) s
-ternary a b c part f (x ∷ []) k s = Goes (b ∷ At part (x ∷ []) ∷ k) s
-ternary a b c part f (y ∷ x ∷ []) k s = Goes (c ∷ At part (y ∷ x ∷ []) ∷ k) s
-ternary a b c part f (z ∷ y ∷ x ∷ vs) k s = f x y z k s
 
 -- ---- a list of expressions, from left to right
 

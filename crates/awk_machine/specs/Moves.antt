@@ -7,7 +7,7 @@ use Rattle.box_world.specs.declared.ask.Reply.TheVariants as reply
 use Rattle.box_world.specs.Events.{Looks}
 use Rattle.awk_program.specs.Slots.{Text}
 use Rattle.awk_program.specs.Program.{global}
-use Rattle.awk_machine.specs.Builtins.{locate, located, replace, fill}
+use Rattle.awk_machine.specs.Builtins.{run, locate, located, replace, fill}
 use Rattle.awk_machine.specs.Calls.{enter, leave}
 use Rattle.awk_machine.specs.Closing.{close}
 use Rattle.awk_machine.specs.Expressions.{step_value, step_target, terms, texts, ands, ors, members}
@@ -80,6 +80,7 @@ do_task g (p.Read place key) k s = read_by place key (first_record key s) k s
 do_task g (p.Fetch place class text) k s = fetch place class text k s
 do_task g (p.Count place name) k s = count place name k s
 do_task g (p.Close place text so_far) k s = close place text so_far k s
+do_task g (p.Run place text) k s = run place text k s
 do_task g p.Take k s = take_record k s
 do_task g p.Operand k s = operand k s
 do_task g p.Look k s = look g k s

@@ -105,6 +105,8 @@ pub data Task : Type 0 where
   Fetch : Place → Class → Text → Task
   Count : Place → Text → Task
   Close : Place → Text → Option Value → Task
+  -- a command is run to its end
+  Run : Place → Text → Task
   -- the next record of the main input; an operand; one that was opened; a message; the end of a stream of it
   Take : Task
   Operand : Task

@@ -5,10 +5,11 @@ use Rattle.std.specs.Fmt.{signed_decimal}
 use Rattle.std.specs.List.{flat_map}
 use Rattle.awk_program.specs.declared.statements.Redirection.{Redirection}
 use Rattle.awk_program.specs.declared.program.Name.{Name}
+use Rattle.awk_program.specs.Builtins.{word_of}
 use Rattle.awk_program.specs.Slots.{Text}
 use Rattle.awk_program.specs.Program as p
 use Rattle.awk_program.specs.Program.{Variable, Expression, Reference, Ere, Expressions, Terms, Joins, Pipes, Arguments, Statement, Statements, expressions_of, statements_of}
-use Rattle.awk_printer.specs.Words.{word, form, placed, quoted, operator_text, change_text, step_text, sign_text, comparison_text, measure_text, extent_text, redirect_text, flag, declared_name}
+use Rattle.awk_printer.specs.Words.{word, form, placed, quoted, operator_text, change_text, step_text, sign_text, comparison_text, extent_text, redirect_text, flag, declared_name}
 
 -- ---- expressions
 
@@ -44,19 +45,11 @@ abbrev mutual
   expression_text (p.getline q r) = form (codes "getline") (placed q ∷ reference_text r ∷ [])
   expression_text (p.getline_file q r x) = form (codes "getline<") (placed q ∷ reference_text r ∷ expression_text x ∷ [])
   expression_text (p.pipe x xs) = form (codes "|getline") (expression_text x ∷ pipes_text xs ∷ [])
-  expression_text (p.measure how x) = form (measure_text how) (expression_text x ∷ [])
+  expression_text (p.builtin q which xs) = form (word_of which) (placed q ∷ expressions_text xs ∷ [])
   expression_text (p.count v) = form (codes "count") (variable_text v ∷ [])
-  expression_text (p.int q x) = form (codes "int") (placed q ∷ expression_text x ∷ [])
-  expression_text (p.index x y) = form (codes "index") (expression_text x ∷ expression_text y ∷ [])
-  expression_text (p.substr_from q x y) = form (codes "substr/2") (placed q ∷ expression_text x ∷ expression_text y ∷ [])
-  expression_text (p.substr q x y z) = form (codes "substr/3") (placed q ∷ expression_text x ∷ expression_text y ∷ expression_text z ∷ [])
-  expression_text (p.sprintf q x xs) = form (codes "sprintf") (placed q ∷ expression_text x ∷ expressions_text xs ∷ [])
   expression_text (p.locate q x y) = form (codes "match") (placed q ∷ expression_text x ∷ ere_text y ∷ [])
   expression_text (p.split q x at v y) = form (codes "split") (placed q ∷ expression_text x ∷ placed at ∷ variable_text v ∷ ere_text y ∷ [])
   expression_text (p.substitute q all x y r) = form (extent_text all) (placed q ∷ ere_text x ∷ expression_text y ∷ reference_text r ∷ [])
-  expression_text (p.close q x) = form (codes "close") (placed q ∷ expression_text x ∷ [])
-  expression_text (p.flush x) = form (codes "fflush") (expression_text x ∷ [])
-  expression_text (p.system q x) = form (codes "system") (placed q ∷ expression_text x ∷ [])
 
   pub reference_text : Reference → Text
   reference_text (p.variable v) = variable_text v

@@ -7,8 +7,6 @@ use Rattle.awk_program.specs.declared.operators.Comparison.{Comparison}
 use Rattle.awk_program.specs.declared.operators.Comparison.TheVariants as c
 use Rattle.awk_program.specs.declared.operators.Extent.{Extent}
 use Rattle.awk_program.specs.declared.operators.Extent.TheVariants as extent
-use Rattle.awk_program.specs.declared.operators.Measure.{Measure}
-use Rattle.awk_program.specs.declared.operators.Measure.TheVariants as measure
 use Rattle.awk_program.specs.declared.operators.Operator.{Operator}
 use Rattle.awk_program.specs.declared.operators.Operator.TheVariants as operator
 use Rattle.awk_program.specs.declared.operators.Redirect.{Redirect}
@@ -91,11 +89,6 @@ comparison_text c.Equal = codes "=="
 comparison_text c.NotEqual = codes "!="
 comparison_text c.Greater = codes ">"
 comparison_text c.GreaterOrEqual = codes ">="
-
-abbrev pub measure_text : Measure → Text
-measure_text measure.Length = codes "length"
-measure_text measure.Tolower = codes "tolower"
-measure_text measure.Toupper = codes "toupper"
 
 abbrev pub extent_text : Extent → Text
 extent_text extent.First = codes "sub"

@@ -13,7 +13,7 @@ ghost use Rattle.awk_program.specs.View.{variable_of, view, view_target, view_er
 use crate::page::{Page, cut};
 use crate::pieces::{close, number, open, ordinal, place, quoted, text, variable, variables, word};
 use crate::words::{
-    change_text, comparison_text, extent_text, measure_text, operator_text, sign_text, step_text,
+    change_text, comparison_text, extent_text, operator_text, sign_text, step_text,
 };
 use awk_program::{Argument, Expr, Joined, Name, Pattern, Piped, Target, Term, Variable};
 use awk_text::place::Place;
@@ -61,23 +61,15 @@ pub fn expression(names: &[Name], e: &Expr, level: u32, out: &mut Page)
         Expr::Getline(q, r) => at_target(names, "getline", *q, r, below, out),
         Expr::GetlineFile(q, r, x) => setting(names, "getline<", *q, r, x.get(), below, out),
         Expr::Pipe(x, xs) => pipe(names, x.get(), xs.as_slice(), below, out),
-        Expr::Measure(how, x) => one(names, measure_text(*how), x.get(), below, out),
-        Expr::Count(v) => of_variable(names, "count", *v, out),
-        Expr::Int(q, x) => at_one(names, "int", *q, x.get(), below, out),
-        Expr::Index(x, y) => two(names, "index", x.get(), y.get(), below, out),
-        Expr::SubstrFrom(q, x, y) => at_two(names, "substr/2", *q, x.get(), y.get(), below, out),
-        Expr::Substr(q, x, y, z) => {
-            at_three(names, "substr/3", *q, x.get(), y.get(), z.get(), below, out)
+        Expr::Builtin(q, which, xs) => {
+            at_list(names, which.word(), *q, xs.as_slice(), below, out)
         }
-        Expr::Sprintf(q, x, xs) => sprintf(names, *q, x.get(), xs.as_slice(), below, out),
+        Expr::Count(v) => of_variable(names, "count", *v, out),
         Expr::Locate(q, x, y) => at_match(names, "match", *q, x.get(), y, below, out),
         Expr::Split(q, x, at, v, y) => split(names, *q, x.get(), *at, *v, y, below, out),
         Expr::Substitute(q, all, x, y, r) => {
             substitute(names, extent_text(*all), *q, x, y.get(), r, below, out)
         }
-        Expr::Close(q, x) => at_one(names, "close", *q, x.get(), below, out),
-        Expr::Flush(x) => one(names, "fflush", x.get(), below, out),
-        Expr::System(q, x) => at_one(names, "system", *q, x.get(), below, out),
     }
 }
 
@@ -144,37 +136,14 @@ pub fn at_one(names: &[Name], head: &str, q: Place, x: &Expr, level: u32, out: &
     close(out)
 }
 
-/// A form of a place and two expressions.
+/// A form of a place and a list.
 #[cycle(expression)]
-fn at_two(names: &[Name], head: &str, q: Place, x: &Expr, y: &Expr, level: u32, out: &mut Page)
-    ensures { Adds out.old out.new (spec.form head.now (spec.placed q ∷ expression_text (view (names_in names.now) x.now) ∷ expression_text (view (names_in names.now) y.now) ∷ [])) }
+fn at_list(names: &[Name], head: &str, q: Place, xs: &[Expr], level: u32, out: &mut Page)
+    ensures { Adds out.old out.new (spec.form head.now (spec.placed q ∷ list_text (map (view (names_in names.now)) xs.now) ∷ [])) }
 {
     open(head, out);
     place(q, out);
-    expression(names, x, level, out);
-    expression(names, y, level, out);
-    close(out)
-}
-
-/// A form of a place and three expressions.
-#[cycle(expression)]
-fn at_three(
-    names: &[Name],
-    head: &str,
-    q: Place,
-    x: &Expr,
-    y: &Expr,
-    z: &Expr,
-    level: u32,
-    out: &mut Page,
-)
-    ensures { Adds out.old out.new (spec.form head.now (spec.placed q ∷ expression_text (view (names_in names.now) x.now) ∷ expression_text (view (names_in names.now) y.now) ∷ expression_text (view (names_in names.now) z.now) ∷ [])) }
-{
-    open(head, out);
-    place(q, out);
-    expression(names, x, level, out);
-    expression(names, y, level, out);
-    expression(names, z, level, out);
+    list(names, xs, level, out);
     close(out)
 }
 
@@ -235,17 +204,6 @@ fn many(names: &[Name], head: &str, x: &Expr, xs: &[Expr], level: u32, out: &mut
     ensures { Adds out.old out.new (spec.form head.now (expression_text (view (names_in names.now) x.now) ∷ list_text (map (view (names_in names.now)) xs.now) ∷ [])) }
 {
     open(head, out);
-    expression(names, x, level, out);
-    list(names, xs, level, out);
-    close(out)
-}
-
-#[cycle(expression)]
-fn sprintf(names: &[Name], q: Place, x: &Expr, xs: &[Expr], level: u32, out: &mut Page)
-    ensures { Adds out.old out.new (spec.form (codes "sprintf") (spec.placed q ∷ expression_text (view (names_in names.now) x.now) ∷ list_text (map (view (names_in names.now)) xs.now) ∷ [])) }
-{
-    open("sprintf", out);
-    place(q, out);
     expression(names, x, level, out);
     list(names, xs, level, out);
     close(out)

@@ -27,8 +27,8 @@
 //! - `(call 1:1 0 x (array a) (nothing))`: a call of the function of that number, with a value, an
 //!   array, and an array that the function never reads.
 //! - `(getline< 1:1 x file)` and `(|getline command 1:1 x)`: a line of a file, and of a command.
-//! - `(substr/2 ..)` and `(substr/3 ..)`: without and with a length.
-//! - `(length x)` of a text, `(count a)` of an array, and `(delete-all a)` of all its elements.
+//! - `(substr 1:1 x i j)`: a built-in function of plain values, with its arguments; `(length 1:1 x)` is of a text,
+//!   `(count a)` of an array. `(delete-all a)` is of all its elements.
 //! - `(to> 1:1 file)`, `(to>> 1:1 file)` and `(to| 1:1 command)`: where a `print` goes.
 //! - `(for - - - body)` and `(exit 1:1 -)`: `-` stands where an expression is absent. In `for` these
 //!   are the start, the test and the step.

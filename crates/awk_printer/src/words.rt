@@ -3,7 +3,7 @@
 ghost use Rattle.std.specs.Prelude.{◌≡◌};
 ghost use Rattle.awk_printer.specs.Words as spec;
 
-use awk_program::{Comparison, Extent, Measure, Operator, Redirect, Sign, Step, Taken};
+use awk_program::{Comparison, Extent, Operator, Redirect, Sign, Step, Taken};
 
 pub fn operator_text(operator: Operator) -> &'static str
     ensures { result.now ≡ spec.operator_text operator }
@@ -61,16 +61,6 @@ pub fn comparison_text(comparison: Comparison) -> &'static str
         Comparison::NotEqual => "!=",
         Comparison::Greater => ">",
         Comparison::GreaterOrEqual => ">=",
-    }
-}
-
-pub fn measure_text(measure: Measure) -> &'static str
-    ensures { result.now ≡ spec.measure_text measure }
-{
-    match measure {
-        Measure::Length => "length",
-        Measure::Tolower => "tolower",
-        Measure::Toupper => "toupper",
     }
 }
 

@@ -2,9 +2,9 @@
 use Rattle.std.proofs.Common.{◌≡◌, ℕ, ℤ, List, [], ◌∷◌, map, Option, option_map, ap, sym, ◌∙◌, refl}
 use Rattle.awk_text.specs.declared.place.Place.{Place}
 use Rattle.awk_program.specs.declared.variables.Variable as code
+use Rattle.awk_program.specs.declared.builtins.Builtin.{Builtin}
 use Rattle.awk_program.specs.declared.operators.Comparison.{Comparison}
 use Rattle.awk_program.specs.declared.operators.Extent.{Extent}
-use Rattle.awk_program.specs.declared.operators.Measure.{Measure}
 use Rattle.awk_program.specs.declared.operators.Operator.{Operator}
 use Rattle.awk_program.specs.declared.operators.Sign.{Sign}
 use Rattle.awk_program.specs.declared.operators.Step.{Step}
@@ -165,33 +165,13 @@ pub view-Pipe : (t : Names) (x : Expr) (xs : List (Piped Expr)) → view t (e.Pi
 unfolding layer
 view-Pipe t x xs = opened t _ _ (e.rolls-Pipe x xs) ∙ ap (λ ys. p.pipe (view t x) ys) (pipes_layer t xs)
 
-pub view-Measure : (t : Names) (how : Measure) (x : Expr) → view t (e.Measure how x) ≡ p.measure how (view t x)
+pub view-Builtin : (t : Names) (q : Place) (which : Builtin) (xs : List Expr) → view t (e.Builtin q which xs) ≡ p.builtin q which (expressions_of (map (view t) xs))
 unfolding layer
-view-Measure t how x = opened t _ _ (e.rolls-Measure how x)
+view-Builtin t q which xs = opened t _ _ (e.rolls-Builtin q which xs)
 
 pub view-Count : (t : Names) (v : code.Variable) → view t (e.Count v) ≡ p.count (variable_of t v)
 unfolding layer
 view-Count t v = opened t _ _ (e.rolls-Count v)
-
-pub view-Int : (t : Names) (q : Place) (x : Expr) → view t (e.Int q x) ≡ p.int q (view t x)
-unfolding layer
-view-Int t q x = opened t _ _ (e.rolls-Int q x)
-
-pub view-Index : (t : Names) (x : Expr) (y : Expr) → view t (e.Index x y) ≡ p.index (view t x) (view t y)
-unfolding layer
-view-Index t x y = opened t _ _ (e.rolls-Index x y)
-
-pub view-SubstrFrom : (t : Names) (q : Place) (x : Expr) (y : Expr) → view t (e.SubstrFrom q x y) ≡ p.substr_from q (view t x) (view t y)
-unfolding layer
-view-SubstrFrom t q x y = opened t _ _ (e.rolls-SubstrFrom q x y)
-
-pub view-Substr : (t : Names) (q : Place) (x : Expr) (y : Expr) (z : Expr) → view t (e.Substr q x y z) ≡ p.substr q (view t x) (view t y) (view t z)
-unfolding layer
-view-Substr t q x y z = opened t _ _ (e.rolls-Substr q x y z)
-
-pub view-Sprintf : (t : Names) (q : Place) (x : Expr) (xs : List Expr) → view t (e.Sprintf q x xs) ≡ p.sprintf q (view t x) (expressions_of (map (view t) xs))
-unfolding layer
-view-Sprintf t q x xs = opened t _ _ (e.rolls-Sprintf q x xs)
 
 pub view-Locate : (t : Names) (q : Place) (x : Expr) (y : Pattern Expr) → view t (e.Locate q x y) ≡ p.locate q (view t x) (view_ere t y)
 unfolding layer
@@ -211,18 +191,6 @@ view-Substitute t q all (ere.Constant w1 x1) y (target.Field w0 x0) = opened t _
 view-Substitute t q all (ere.Computed x1) y (target.Variable v0) = opened t _ _ (e.rolls-Substitute q all (ere.Computed x1) y (target.Variable v0))
 view-Substitute t q all (ere.Computed x1) y (target.Element w0 v0 xs0) = opened t _ _ (e.rolls-Substitute q all (ere.Computed x1) y (target.Element w0 v0 xs0))
 view-Substitute t q all (ere.Computed x1) y (target.Field w0 x0) = opened t _ _ (e.rolls-Substitute q all (ere.Computed x1) y (target.Field w0 x0))
-
-pub view-Close : (t : Names) (q : Place) (x : Expr) → view t (e.Close q x) ≡ p.close q (view t x)
-unfolding layer
-view-Close t q x = opened t _ _ (e.rolls-Close q x)
-
-pub view-Flush : (t : Names) (x : Expr) → view t (e.Flush x) ≡ p.flush (view t x)
-unfolding layer
-view-Flush t x = opened t _ _ (e.rolls-Flush x)
-
-pub view-System : (t : Names) (q : Place) (x : Expr) → view t (e.System q x) ≡ p.system q (view t x)
-unfolding layer
-view-System t q x = opened t _ _ (e.rolls-System q x)
 
 -- ---- statements
 
@@ -305,6 +273,6 @@ pub statement-ForIn : (t : Names) (q : Place) (k : code.Variable) (a : code.Vari
 unfolding statement_layer
 statement-ForIn t q k a y = opened_statement t _ _ (s.rolls-ForIn q k a y)
 
-pub ruleset views = (view-Number, view-Text, view-Pattern, view-Read, view-Assign, view-Change, view-Step, view-Not, view-Signed, view-Chain, view-Concat, view-Compare, view-Match, view-In, view-Group, view-And, view-Or, view-Choice, view-Call, view-Getline, view-GetlineFile, view-Pipe, view-Measure, view-Count, view-Int, view-Index, view-SubstrFrom, view-Substr, view-Sprintf, view-Locate, view-Split, view-Substitute, view-Close, view-Flush, view-System)
+pub ruleset views = (view-Number, view-Text, view-Pattern, view-Read, view-Assign, view-Change, view-Step, view-Not, view-Signed, view-Chain, view-Concat, view-Compare, view-Match, view-In, view-Group, view-And, view-Or, view-Choice, view-Call, view-Getline, view-GetlineFile, view-Pipe, view-Builtin, view-Count, view-Locate, view-Split, view-Substitute)
 
 pub ruleset statement_views = (statement-Expr, statement-Print, statement-Printf, statement-Delete, statement-DeleteAll, statement-Break, statement-Continue, statement-Next, statement-NextFile, statement-Exit, statement-Return, statement-Block, statement-If, statement-IfElse, statement-While, statement-Do, statement-For, statement-ForIn)

@@ -1,3 +1,4 @@
 pub mod Slots
+pub mod Builtins
 pub mod Program
 pub mod View

@@ -2,9 +2,9 @@
 -- its function, a function its place among the functions, and a constant is what it stands for.
 use Rattle.std.specs.Prelude.{ℕ, ℤ, Bool, List, [], ◌∷◌, Option}
 use Rattle.awk_text.specs.declared.place.Place.{Place}
+use Rattle.awk_program.specs.declared.builtins.Builtin.{Builtin}
 use Rattle.awk_program.specs.declared.operators.Comparison.{Comparison}
 use Rattle.awk_program.specs.declared.operators.Extent.{Extent}
-use Rattle.awk_program.specs.declared.operators.Measure.{Measure}
 use Rattle.awk_program.specs.declared.operators.Operator.{Operator}
 use Rattle.awk_program.specs.declared.operators.Sign.{Sign}
 use Rattle.awk_program.specs.declared.operators.Step.{Step}
@@ -45,20 +45,12 @@ mutual
     getline : Place → Reference → Expression
     getline_file : Place → Reference → Expression → Expression
     pipe : Expression → Pipes → Expression
-    measure : Measure → Expression → Expression
+    builtin : Place → Builtin → Expressions → Expression
     -- how many elements an array has
     count : Variable → Expression
-    int : Place → Expression → Expression
-    index : Expression → Expression → Expression
-    substr_from : Place → Expression → Expression → Expression
-    substr : Place → Expression → Expression → Expression → Expression
-    sprintf : Place → Expression → Expressions → Expression
     locate : Place → Expression → Ere → Expression
     split : Place → Expression → Place → Variable → Ere → Expression
     substitute : Place → Extent → Ere → Expression → Reference → Expression
-    close : Place → Expression → Expression
-    flush : Expression → Expression
-    system : Place → Expression → Expression
 
   -- whatever is read or set
   pub data Reference : Type 0 where

@@ -80,19 +80,11 @@ view_step t (Expr-F.Call place f xs) = p.call place f (arguments_of t xs)
 view_step t (Expr-F.Getline place r) = p.getline place (reference_of t r)
 view_step t (Expr-F.GetlineFile place r x) = p.getline_file place (reference_of t r) x
 view_step t (Expr-F.Pipe x xs) = p.pipe x (pipes_of t xs)
-view_step t (Expr-F.Measure how x) = p.measure how x
+view_step t (Expr-F.Builtin place which xs) = p.builtin place which (expressions_of xs)
 view_step t (Expr-F.Count v) = p.count (variable_of t v)
-view_step t (Expr-F.Int place x) = p.int place x
-view_step t (Expr-F.Index x y) = p.index x y
-view_step t (Expr-F.SubstrFrom place x y) = p.substr_from place x y
-view_step t (Expr-F.Substr place x y z) = p.substr place x y z
-view_step t (Expr-F.Sprintf place x xs) = p.sprintf place x (expressions_of xs)
 view_step t (Expr-F.Locate place x y) = p.locate place x (ere_of y)
 view_step t (Expr-F.Split place x at v y) = p.split place x at (variable_of t v) (ere_of y)
 view_step t (Expr-F.Substitute place all x y r) = p.substitute place all (ere_of x) y (reference_of t r)
-view_step t (Expr-F.Close place x) = p.close place x
-view_step t (Expr-F.Flush x) = p.flush x
-view_step t (Expr-F.System place x) = p.system place x
 
 unfoldable pub view : Names → Expr → Expression
 view t = fold-Expr Expression (view_step t)

@@ -1,6 +1,7 @@
 // Expressions.
 
-use crate::operators::{Comparison, Extent, Measure, Operator, Sign, Step, Taken};
+use crate::builtins::Builtin;
+use crate::operators::{Comparison, Extent, Operator, Sign, Step, Taken};
 use crate::variables::Variable;
 use awk_text::octets::Octets;
 use awk_text::place::Place;
@@ -100,30 +101,14 @@ pub enum Expr {
     GetlineFile(Place, Target<Expr>, Boxed<Expr>),
     /// `command | getline target | getline target ..`
     Pipe(Boxed<Expr>, Items<Piped<Expr>>),
-    /// `length ( text )`, `tolower ( text )`, `toupper ( text )`
-    Measure(Measure, Boxed<Expr>),
+    /// A built-in function with its arguments, where they are plain values
+    Builtin(Place, Builtin, Items<Expr>),
     /// `length ( array )`
     Count(Variable),
-    /// `int ( number )`
-    Int(Place, Boxed<Expr>),
-    /// `index ( text , part )`
-    Index(Boxed<Expr>, Boxed<Expr>),
-    /// `substr ( text , place )`
-    SubstrFrom(Place, Boxed<Expr>, Boxed<Expr>),
-    /// `substr ( text , place , length )`
-    Substr(Place, Boxed<Expr>, Boxed<Expr>, Boxed<Expr>),
-    /// `sprintf ( format , list )`
-    Sprintf(Place, Boxed<Expr>, Items<Expr>),
     /// `match ( text , pattern )`
     Locate(Place, Boxed<Expr>, Pattern<Expr>),
     /// `split ( text , array , separator )`, with the places of the word and of the array
     Split(Place, Boxed<Expr>, Place, Variable, Pattern<Expr>),
     /// `sub ( pattern , with , target )` and `gsub ( pattern , with , target )`
     Substitute(Place, Extent, Pattern<Expr>, Boxed<Expr>, Target<Expr>),
-    /// `close ( name )`
-    Close(Place, Boxed<Expr>),
-    /// `fflush ( name )`
-    Flush(Boxed<Expr>),
-    /// `system ( command )`
-    System(Place, Boxed<Expr>),
 }

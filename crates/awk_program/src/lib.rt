@@ -6,14 +6,16 @@
 //! script is its name again. Places are kept only where a fault or a request names them.
 #![tactic(auto)]
 
+mod builtins;
 mod expressions;
 mod operators;
 mod program;
 mod statements;
 mod variables;
 
+pub use builtins::Builtin;
 pub use expressions::{Argument, Expr, Joined, Pattern, Piped, Target, Term};
-pub use operators::{Comparison, Extent, Measure, Operator, Redirect, Sign, Step, Taken};
+pub use operators::{Comparison, Extent, Operator, Redirect, Sign, Step, Taken};
 pub use program::{Function, Name, Program, Rule, When};
 pub use statements::{Redirection, Statement};
 pub use variables::{Own, Variable};

@@ -43,14 +43,6 @@ pub enum Taken {
     Behind,
 }
 
-/// The built-in functions of one text that meet no fault.
-#[derive(Clone, Copy, Debug, PartialEq, Eq, Drop)]
-pub enum Measure {
-    Length,
-    Tolower,
-    Toupper,
-}
-
 /// How many matches are replaced: the first one, as by sub, or all, as by gsub.
 #[derive(Clone, Copy, Debug, PartialEq, Eq, Drop)]
 pub enum Extent {

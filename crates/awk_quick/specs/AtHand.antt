@@ -1,5 +1,5 @@
 -- Expressions whose value is there: to evaluate them changes nothing and meets no fault; and assignments that are done at once.
-use Rattle.std.specs.Prelude.{◌≡◌, ◌≤◌, ℕ, ℤ, Bool, Ok, Some, List, [], ◌∷◌, Option, length, map}
+use Rattle.std.specs.Prelude.{◌≡◌, ◌≤◌, ℕ, ℤ, Bool, false, true, Ok, Some, List, [], ◌∷◌, Option, length, map}
 use Rattle.awk_fields.specs.Rows.{joined}
 use Rattle.awk_text.specs.Limits.{most_bytes}
 use Rattle.awk_text.specs.Values.{number_of, numeric, text_of, truth}
@@ -8,6 +8,8 @@ use Rattle.awk_text.specs.declared.place.Place.{Place}
 use Rattle.awk_text.specs.declared.value.Value.TheVariants as v
 use Rattle.awk_program.specs.Program as p
 use Rattle.awk_program.specs.Program.{Expression, expressions_of, joins_of}
+use Rattle.awk_program.specs.declared.builtins.Builtin.{Builtin}
+use Rattle.awk_program.specs.declared.builtins.Builtin.TheVariants as b
 use Rattle.awk_program.specs.declared.variables.Variable.{Variable}
 use Rattle.awk_program.specs.View.{Names, view, view_joined}
 use Rattle.awk_program.specs.declared.expressions.Expr.{Expr}
@@ -54,6 +56,11 @@ module _ (x : Names → Expression) where
   pub record IsDone (old new : Kept) : Type 0 where
     pub val : Value
     pub gives : Gives val old new
+
+-- the function that gives a text in upper case, or in lower case
+abbrev pub case_of : Bool → Builtin
+case_of false = b.Tolower
+case_of true = b.Toupper
 
 -- the values of a list of expressions are there
 abbrev pub AreThere : Kept → List Expr → List Value → Type 0

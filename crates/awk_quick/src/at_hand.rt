@@ -5,19 +5,21 @@ ghost use Rattle.awk_machine.specs.State.{Given};
 ghost use Rattle.awk_program.specs.Program as p;
 ghost use Rattle.awk_program.specs.Program.{expressions_of, terms_of};
 ghost use Rattle.awk_program.specs.View.{Names, variable_of, view, view_target, view_term};
-ghost use Rattle.awk_quick.specs.AtHand.{CountsAs, HasNumber, HasTruth, IsThere};
+ghost use Rattle.awk_program.specs.declared.builtins.Builtin.TheVariants as b;
+ghost use Rattle.awk_quick.specs.AtHand.{CountsAs, HasNumber, HasTruth, IsThere, case_of};
 ghost use Rattle.awk_store.specs.Acts.{Passes};
 ghost use Rattle.awk_store.specs.Kept as kept;
 ghost use Rattle.awk_store.specs.Spots.{IsSpotOf, value_of};
 ghost use Rattle.awk_store.specs.Wholes.{Whole, names_in};
 ghost use Rattle.awk_text.specs.Lents.{lent_value};
+ghost use Rattle.awk_text.specs.declared.place.Place as spot_of;
 ghost use Rattle.awk_text.specs.declared.value.Value.{Value as Val};
 ghost use Rattle.awk_text.specs.declared.value.Value.TheVariants as v;
 ghost use Rattle.std.specs.Prelude.{Err, IfSome, Ok, false, map, ◌≡◌};
 
-use crate::parts::{index_of, length_where, measured_of, part_of};
+use awk_builtins::functions::{cased, index_of, part_of, text_length};
 use awk_builtins::operators::{compared_lent, compared_numbers, operation};
-use awk_program::{Comparison, Expr, Measure, Target, Term, Variable};
+use awk_program::{Builtin, Comparison, Expr, Target, Term, Variable};
 use awk_store::{Spot, Store, is_nf};
 use awk_text::lent::{Lent, few_digits};
 use awk_text::octets::Octets;
@@ -217,39 +219,75 @@ fn number_of_target(store: &Store, target: &Target<Expr>, level: u32) -> Option<
     value.number().ok()
 }
 
-/// The value that length, index, substr or int gives for values that are there; the number of elements of an array. A part of a
-/// text is lent as the text is.
+/// The part of a text that substr gives for values that are there, lent as the text is.
+#[cycle(hand)]
+#[inline(always)]
+fn substr_at_hand<'a>(store: &'a Store, args: &'a [Expr], level: u32) -> Option<Lent<'a>>
+    ensures { IfSome result (λ v. (q : spot_of.Place) → IsThere (λ names. p.builtin q b.Substr (expressions_of (map (view names) args.now))) store.now (lent_value v)) }
+{
+    match args {
+        [x, y] => {
+            let text = at_hand(store, x, level)?;
+            let from = number_at_hand(store, y, level)?;
+            part_of(text, from, None)
+        }
+        [x, y, z] => {
+            let text = at_hand(store, x, level)?;
+            let from = number_at_hand(store, y, level)?;
+            let count = number_at_hand(store, z, level)?;
+            part_of(text, from, Some(count))
+        }
+        _ => None,
+    }
+}
+
+/// The value that length, index, substr or int gives for values that are there.
+#[cycle(hand)]
+#[inline(always)]
+fn called_at_hand<'a>(
+    store: &'a Store,
+    which: Builtin,
+    args: &'a [Expr],
+    level: u32,
+) -> Option<Lent<'a>>
+    ensures { IfSome result (λ v. (q : spot_of.Place) → IsThere (λ names. p.builtin q which (expressions_of (map (view names) args.now))) store.now (lent_value v)) }
+{
+    match which {
+        Builtin::Length => {
+            let [x] = args else {
+                return None;
+            };
+            let text = at_hand(store, x, level)?;
+            Some(Lent::Num(text_length(text)))
+        }
+        Builtin::Index => {
+            let [x, y] = args else {
+                return None;
+            };
+            let text = at_hand(store, x, level)?;
+            let part = at_hand(store, y, level)?;
+            Some(Lent::Num(index_of(text, part)))
+        }
+        Builtin::Int => {
+            let [x] = args else {
+                return None;
+            };
+            let number = number_at_hand(store, x, level)?;
+            Some(Lent::Num(number))
+        }
+        Builtin::Substr => substr_at_hand(store, args, level),
+        _ => None,
+    }
+}
+
+/// The value of such a function, or the number of elements of an array.
 #[cycle(hand)]
 #[inline(never)]
 fn made_at_hand<'a>(store: &'a Store, e: &'a Expr, level: u32) -> Option<Lent<'a>>
     ensures { IfSome result (λ v. IsThere (λ names. view names e.now) store.now (lent_value v)) }
 {
     match e {
-        Expr::Measure(how, x) => {
-            let text = at_hand(store, x.get(), level)?;
-            let length = length_where(*how, text)?;
-            Some(Lent::Num(length))
-        }
-        Expr::Index(x, y) => {
-            let text = at_hand(store, x.get(), level)?;
-            let part = at_hand(store, y.get(), level)?;
-            Some(Lent::Num(index_of(text, part)))
-        }
-        Expr::SubstrFrom(_, x, y) => {
-            let text = at_hand(store, x.get(), level)?;
-            let from = number_at_hand(store, y.get(), level)?;
-            part_of(text, from, None)
-        }
-        Expr::Substr(_, x, y, z) => {
-            let text = at_hand(store, x.get(), level)?;
-            let from = number_at_hand(store, y.get(), level)?;
-            let count = number_at_hand(store, z.get(), level)?;
-            part_of(text, from, Some(count))
-        }
-        Expr::Int(_, x) => {
-            let number = number_at_hand(store, x.get(), level)?;
-            Some(Lent::Num(number))
-        }
+        Expr::Builtin(_, which, args) => called_at_hand(store, *which, args.as_slice(), level),
         Expr::Count(_) => {
             let count = count_at_hand(store, e)?;
             Some(Lent::Num(count))
@@ -364,13 +402,30 @@ fn value_there(alloc: Global, store: &Store, e: &Expr) -> Option<Value>
     owned(alloc, value)
 }
 
-/// What length, tolower or toupper gives for a value that is there. `None` stands for refused memory too.
-#[inline(never)]
-fn measured_there(alloc: Global, store: &Store, how: Measure, x: &Expr) -> Option<Value>
-    ensures { IfSome result (λ v. IsThere (λ names. p.measure how (view names x.now)) store.now v) }
+/// The text in upper case, or in lower case, of the one argument, where that is there. `None` stands for refused memory too.
+fn cased_there(alloc: Global, store: &Store, args: &[Expr], upper: bool) -> Option<Value>
+    ensures { IfSome result (λ v. (q : spot_of.Place) → IsThere (λ names. p.builtin q (case_of upper) (expressions_of (map (view names) args.now))) store.now v) }
 {
-    let value = at_hand(store, x, MOST_LEVELS)?;
-    measured_of(alloc, how, value)
+    let [x] = args else {
+        return None;
+    };
+    let text = at_hand(store, x, MOST_LEVELS)?;
+    cased(alloc, text, upper).ok()
+}
+
+/// What a built-in function gives whose arguments are there, as a value of its own. `None` stands for refused memory too.
+#[inline(never)]
+fn called_there(alloc: Global, store: &Store, which: Builtin, args: &[Expr]) -> Option<Value>
+    ensures { IfSome result (λ v. (q : spot_of.Place) → IsThere (λ names. p.builtin q which (expressions_of (map (view names) args.now))) store.now v) }
+{
+    match which {
+        Builtin::Tolower => cased_there(alloc, store, args, false),
+        Builtin::Toupper => cased_there(alloc, store, args, true),
+        _ => {
+            let value = called_at_hand(store, which, args, MOST_LEVELS)?;
+            owned(alloc, value)
+        }
+    }
 }
 
 /// The same. What numbers make is a number, and is not copied on its way.
@@ -382,14 +437,8 @@ pub fn value_at_hand(alloc: Global, store: &Store, e: &Expr) -> Option<Value>
         return Some(Value::Num(number));
     }
     match e {
-        Expr::Measure(how, x) => measured_there(alloc, store, *how, x.get()),
-        Expr::Read(_)
-        | Expr::Text(_)
-        | Expr::Index(_, _)
-        | Expr::SubstrFrom(_, _, _)
-        | Expr::Substr(_, _, _, _)
-        | Expr::Int(_, _)
-        | Expr::Count(_) => value_there(alloc, store, e),
+        Expr::Builtin(_, which, args) => called_there(alloc, store, *which, args.as_slice()),
+        Expr::Read(_) | Expr::Text(_) | Expr::Count(_) => value_there(alloc, store, e),
         _ => None,
     }
 }
@@ -476,11 +525,7 @@ fn part_is_true(store: &Store, e: &Expr) -> Option<bool>
         | Expr::Number(_)
         | Expr::Text(_)
         | Expr::Chain(_, _)
-        | Expr::Measure(_, _)
-        | Expr::Index(_, _)
-        | Expr::SubstrFrom(_, _, _)
-        | Expr::Substr(_, _, _, _)
-        | Expr::Int(_, _)
+        | Expr::Builtin(_, _, _)
         | Expr::Count(_) => {
             let value = at_hand(store, e, MOST_LEVELS)?;
             Some(value.truth())

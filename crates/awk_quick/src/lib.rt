@@ -6,6 +6,5 @@ pub mod at_hand;
 pub mod done;
 pub mod growing;
 pub mod matching;
-mod parts;
 pub mod printing;
 pub mod splitting;

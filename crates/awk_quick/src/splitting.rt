@@ -64,17 +64,21 @@ pub fn split_for(store: &mut Store, e: &Expr) -> Result<(), Halt>
     split_where(store, is_field(e), is_whole(e))
 }
 
+/// Whether the first of these is a field.
+fn begins_with_field(xs: &[Expr]) -> bool {
+    match xs {
+        [x, ..] => is_field(x),
+        [] => false,
+    }
+}
+
 /// Whether an expression is a field or NF, or a chain or a call that begins with a field: such are at hand once the record is
 /// split.
 pub(crate) fn wants_split(e: &Expr) -> bool {
     match e {
         Expr::Read(Target::Variable(variable)) => is_nf(*variable),
-        Expr::Chain(x, _)
-        | Expr::Measure(_, x)
-        | Expr::Int(_, x)
-        | Expr::Index(x, _)
-        | Expr::SubstrFrom(_, x, _)
-        | Expr::Substr(_, x, _, _) => is_field(x.get()),
+        Expr::Chain(x, _) => is_field(x.get()),
+        Expr::Builtin(_, _, args) => begins_with_field(args.as_slice()),
         _ => is_field(e),
     }
 }

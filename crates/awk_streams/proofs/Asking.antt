@@ -12,13 +12,9 @@ use Rattle.box_world.specs.declared.ask.Request.TheVariants as request
 use Rattle.box_world.specs.Events.{Key, Standard, Named, Writes, Runs, Looks, calls, open_streams, number_of, find_stream}
 use Rattle.box_world.specs.declared.world.World.{Ghosts}
 use Rattle.awk_program.specs.Slots.{Text}
-use Rattle.awk_program.specs.Program as expression
-use Rattle.awk_program.specs.Program.{Expression}
-use Rattle.awk_text.specs.declared.value.Value.{Value}
-use Rattle.awk_text.specs.Values.{text_of}
 use Rattle.awk_machine.specs.Builtins.{status_of}
 use Rattle.awk_machine.specs.Advances.{advance}
-use Rattle.awk_machine.specs.Pieces.{nowhere, Piece, At, Do, Put, Environ, Value_of, Asks, Faulted, ends, give}
+use Rattle.awk_machine.specs.Pieces.{nowhere, Piece, Do, Put, Run, Environ, Asks, Faulted, ends, give}
 use Rattle.awk_machine.specs.Moves.{environ_by}
 use Rattle.awk_machine.specs.Printing.{unless_failed}
 use Rattle.awk_machine.specs.State.{State, Course, Given}
@@ -135,20 +131,20 @@ module _ {W : Type 0} {ghosts : Ghosts W} (laws : Laws ghosts) where
       x.memory x.log)
 
   -- a command was run, or not
-  pub runs : (g : Given) (s : State) (place : Place) (x : Expression) (v : Value) (text : Text) (table : Table) (r : Reply) (w w' : W) → text_of v ≡ text →
+  pub runs : (g : Given) (s : State) (place : Place) (text : Text) (table : Table) (r : Reply) (w w' : W) →
       Answered ghosts (record { place = place; given = false; request = request.System text }) w r w' →
-      Leads ghosts (beside s) Tells (λ t. s.course.used) g (At (Value_of (expression.system place x)) (v ∷ [])) table w (λ k. give (status_of r) k) table w'
-  runs g s place x v text table r w w' e y =
+      Leads ghosts (beside s) Tells (λ t. s.course.used) g (Do (Run place text)) table w (λ k. give (status_of r) k) table w'
+  runs g s place text table r w w' y =
       asked {then_ = λ k r. give (status_of r) k} (want place (Runs text)) (record { place = place; given = false; request = request.System text }) r laws refl (at_once _ table w)
-      (λ first k taken c led a. (taken, rw e refl, fits_here first w (calls c.events) (request.System text) r led y.fits, refl, tells_ran table taken c place text r a))
+      (λ first k taken c led a. (taken, refl, fits_here first w (calls c.events) (request.System text) r led y.fits, refl, tells_ran table taken c place text r a))
       y.call
 
-  pub run_refused : (g : Given) (s : State) (place : Place) (x : Expression) (v : Value) (text : Text) (table : Table) (h : Halt) (w w' : W) {A : Type 0} {on : A → List Piece → List Piece} → text_of v ≡ text →
+  pub run_refused : (g : Given) (s : State) (place : Place) (text : Text) (table : Table) (h : Halt) (w w' : W) {A : Type 0} {on : A → List Piece → List Piece} →
       Refused ghosts (record { place = place; given = false; request = request.System text }) w h w' →
-      Does ghosts g s (At (Value_of (expression.system place x)) (v ∷ [])) on table w (Err h) table w'
-  run_refused g s place x v text table h w w' e y =
+      Does ghosts g s (Do (Run place text)) on table w (Err h) table w'
+  run_refused g s place text table h w w' y =
       rw y.is (unanswered {then_ = λ k r. give (status_of r) k} (want place (Runs text)) (record { place = place; given = false; request = request.System text }) y.by laws (at_once _ table w)
-      (λ k taken c a. (seen (beside s table taken) c, rw e refl, refl))
+      (λ k taken c a. (seen (beside s table taken) c, refl, refl))
       y.memory y.log)
 
   -- a name of the environment was looked up, or not

@@ -1,13 +1,10 @@
 // Requests, and the tasks that are one request each.
-ghost use Rattle.std.specs.Prelude.{◌≡◌, List, [], ◌∷◌, IfOk};
-ghost use Rattle.awk_text.specs.Values.{text_of};
+ghost use Rattle.std.specs.Prelude.{◌≡◌, List, ◌∷◌, IfOk};
 ghost use Rattle.box_world.specs.Calls.{IsDuty, IsStream};
 ghost use Rattle.box_world.specs.Events.{Key};
 ghost use Rattle.awk_program.specs.Slots.{Text};
-ghost use Rattle.awk_program.specs.Program as expression;
-ghost use Rattle.awk_program.specs.Program.{Expression};
 ghost use Rattle.awk_machine.specs.Builtins.{status_of};
-ghost use Rattle.awk_machine.specs.Pieces.{At, Do, Put, Environ, Value_of, give};
+ghost use Rattle.awk_machine.specs.Pieces.{Do, Put, Run, Environ, give};
 ghost use Rattle.awk_machine.specs.State.{Given, State};
 ghost use Rattle.awk_streams.specs.Tables.{Table};
 ghost use Rattle.awk_streams.specs.Tasks.{Answers, Numbers, Does, IsNumber, goes_on, looked};
@@ -92,8 +89,8 @@ fn is_failed(reply: &Reply) -> bool
 
 /// Runs a command to its end, and answers its exit status, or -1 where the world does not run it.
 pub fn system<W: World>(place: Place, command: Octets, world: &mut W) -> Result<Value, Halt>
-    ensures task { (g : Given) (s : State) (table : Table) (x : Expression) (text : Value) → text_of text ≡ command
-        → Does W.World g s (At (Value_of (expression.system place x)) (text ∷ [])) give table world.old result table world.new }
+    ensures task { (g : Given) (s : State) (table : Table)
+        → Does W.World g s (Do (Run place command)) give table world.old result table world.new }
     ensures numbers { W.open_numbers world.new ≡ W.open_numbers world.old }
 {
     let reply = request(place, false, Request::System(command), world)?;

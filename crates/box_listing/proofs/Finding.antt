@@ -1,5 +1,5 @@
 -- How what is found is put together.
-use Rattle.std.proofs.Common.{◌≡◌, ◌∙◌, List, [], ◌++◌, Result, Ok, Err, ap, sym, append_assoc, append-nil}
+use Rattle.std.proofs.Common.{◌≡◌, ◌∙◌, List, [], ◌++◌, Result, Ok, Err, OnOk, ap, sym, append_assoc, append-nil}
 use Rattle.awk_program.specs.View.{Names}
 use Rattle.box_listing.specs.declared.site.Found.{Found}
 use Rattle.box_listing.specs.Walks.{Finds}
@@ -16,6 +16,11 @@ nothing old found e t = sym (ap (λ z. old ++ z) (e t) ∙ append-nil old)
 pub same : {A E : Type 0} (r : Result A E) (old new : List Found) (f g : Names → List Found) → Finds r old new f → ((t : Names) → f t ≡ g t) → Finds r old new g
 same (Ok x) old new f g h e = λ t. h t ∙ ap (λ z. old ++ z) (e t)
 same (Err x) old new f g h e = tt
+
+-- what is found whatever the variables are called
+pub told : {A E : Type 0} (r : Result A E) (old new found : List Found) (g : Names → List Found) → OnOk r (new ≡ old ++ found) → ((t : Names) → found ≡ g t) → Finds r old new g
+told (Ok x) old new found g h e = λ t. h ∙ ap (λ z. old ++ z) (e t)
+told (Err x) old new found g h e = tt
 
 -- one part and then the rest
 pub then : {A E : Type 0} (r : Result A E) (old mid new : List Found) (f g h : Names → List Found) →

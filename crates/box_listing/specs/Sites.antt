@@ -7,6 +7,8 @@ use Rattle.awk_text.specs.declared.place.Place.{Place}
 use Rattle.awk_program.specs.Slots.{Text}
 use Rattle.awk_program.specs.Program as p
 use Rattle.awk_program.specs.Program.{Expression, Reference, Ere, Expressions, Terms, Joins, Pipes, Arguments, Statement, Statements, When, Rule, Function, Program, expressions_of, statements_of}
+use Rattle.awk_program.specs.declared.builtins.Builtin.{Builtin}
+use Rattle.awk_program.specs.declared.builtins.Builtin.TheVariants as b
 use Rattle.awk_program.specs.declared.operators.Redirect.{Redirect}
 use Rattle.awk_program.specs.declared.operators.Redirect.TheVariants as to
 use Rattle.awk_program.specs.declared.statements.Redirection.{Redirection}
@@ -34,6 +36,15 @@ is_standard_input (Some x) = bytes_eq x (codes "-")
 
 abbrev pub reading : Place → Option Text → List Found
 reading place text = if is_standard_input text then [] else site place Read text
+
+-- what a built-in function asks for beside its arguments: system for the command
+abbrev pub first_constant : Expressions → Option Text
+first_constant p.none = None
+first_constant (p.more x xs) = constant x
+
+abbrev pub asked : Place → Builtin → Expressions → List Found
+asked place b.System xs = site place Run (first_constant xs)
+asked place which xs = []
 
 abbrev pub kind_of : Redirect → Kind
 kind_of to.Write = Write
@@ -66,19 +77,11 @@ abbrev mutual
   value (p.getline place r) = MainInput ∷ target r
   value (p.getline_file place r x) = reading place (constant x) ++ (target r ++ value x)
   value (p.pipe x xs) = value x ++ pipes (constant x) xs
-  value (p.measure how x) = value x
+  value (p.builtin place which xs) = asked place which xs ++ each xs
   value (p.count array) = []
-  value (p.int place x) = value x
-  value (p.index x y) = value x ++ value y
-  value (p.substr_from place x y) = value x ++ value y
-  value (p.substr place x y z) = value x ++ (value y ++ value z)
-  value (p.sprintf place x xs) = value x ++ each xs
   value (p.locate place x y) = value x ++ ere y
   value (p.split place x at array y) = value x ++ ere y
   value (p.substitute place how x y r) = ere x ++ (value y ++ target r)
-  value (p.close place x) = value x
-  value (p.flush x) = value x
-  value (p.system place x) = site place Run (constant x) ++ value x
 
   pub target : Reference → List Found
   target (p.variable a) = []

@@ -8,7 +8,7 @@ ghost use Rattle.box_listing.specs.Sites as spec;
 ghost use Rattle.box_listing.specs.Walks.{Finds};
 
 use crate::site::{Found, Site};
-use awk_program::{Argument, Expr, Joined, Pattern, Piped, Target, Term};
+use awk_program::{Argument, Builtin, Expr, Joined, Pattern, Piped, Target, Term};
 use awk_text::Memory;
 use awk_text::octets::Octets;
 use awk_text::place::Place;
@@ -45,19 +45,11 @@ pub fn constant(e: &Expr) -> Option<&Octets>
         | Expr::Getline(_, _)
         | Expr::GetlineFile(_, _, _)
         | Expr::Pipe(_, _)
-        | Expr::Measure(_, _)
+        | Expr::Builtin(_, _, _)
         | Expr::Count(_)
-        | Expr::Int(_, _)
-        | Expr::Index(_, _)
-        | Expr::SubstrFrom(_, _, _)
-        | Expr::Substr(_, _, _, _)
-        | Expr::Sprintf(_, _, _)
         | Expr::Locate(_, _, _)
         | Expr::Split(_, _, _, _, _)
-        | Expr::Substitute(_, _, _, _, _)
-        | Expr::Close(_, _)
-        | Expr::Flush(_)
-        | Expr::System(_, _) => None,
+        | Expr::Substitute(_, _, _, _, _) => None,
     }
 }
 
@@ -106,6 +98,32 @@ fn reading(
         return Ok(());
     }
     site(alloc, place, Kind::Read, text, out)
+}
+
+/// The text of the first one, where that is a string constant.
+fn first_constant(xs: &[Expr]) -> Option<&Octets>
+    ensures { (t : Names) → option_copied result ≡ spec.first_constant (expressions_of (map (view t) xs.now)) }
+{
+    match xs {
+        [] => None,
+        [x, ..] => constant(x),
+    }
+}
+
+/// Notes what a built-in function asks for beside its arguments: system for the command.
+fn asked(
+    alloc: Global,
+    place: Place,
+    which: Builtin,
+    xs: &[Expr],
+    out: &mut Vec<Found>,
+) -> Result<(), Memory>
+    ensures { Finds result out.old.items out.new.items (λ t. spec.asked place which (expressions_of (map (view t) xs.now))) }
+{
+    match which {
+        Builtin::System => site(alloc, place, Kind::Run, first_constant(xs), out),
+        _ => Ok(()),
+    }
 }
 
 /// Notes all that is found in an expression, or answers `Memory` where memory is refused.
@@ -168,26 +186,33 @@ fn expression(alloc: Global, e: &Expr, level: u64, out: &mut Vec<Found>) -> Resu
             expression(alloc, x.get(), below, out)?;
             pipes(alloc, constant(x.get()), xs.as_slice(), below, out)
         }
-        Expr::Measure(_how, x) => expression(alloc, x.get(), below, out),
+        Expr::Builtin(place, which, xs) => {
+            builtin(alloc, *place, *which, xs.as_slice(), below, out)
+        }
         Expr::Count(_array) => Ok(()),
-        Expr::Int(_place, x) => expression(alloc, x.get(), below, out),
-        Expr::Index(x, y) => two(alloc, x.get(), y.get(), below, out),
-        Expr::SubstrFrom(_place, x, y) => two(alloc, x.get(), y.get(), below, out),
-        Expr::Substr(_place, x, y, z) => three(alloc, x.get(), y.get(), z.get(), below, out),
-        Expr::Sprintf(_place, x, xs) => first_and_each(alloc, x.get(), xs.as_slice(), below, out),
         Expr::Locate(_place, x, y) => value_and_ere(alloc, x.get(), y, below, out),
         Expr::Split(_place, x, _at, _array, y) => value_and_ere(alloc, x.get(), y, below, out),
         Expr::Substitute(_place, _extent, x, y, r) => {
             ere(alloc, x, below, out)?;
             value_and_target(alloc, y.get(), r, below, out)
         }
-        Expr::Close(_place, x) => expression(alloc, x.get(), below, out),
-        Expr::Flush(x) => expression(alloc, x.get(), below, out),
-        Expr::System(place, x) => {
-            site(alloc, *place, Kind::Run, constant(x.get()), out)?;
-            expression(alloc, x.get(), below, out)
-        }
     }
+}
+
+/// A built-in function with its arguments.
+#[cycle(expression)]
+fn builtin(
+    alloc: Global,
+    place: Place,
+    which: Builtin,
+    xs: &[Expr],
+    level: u64,
+    out: &mut Vec<Found>,
+) -> Result<(), Memory>
+    ensures { Finds result out.old.items out.new.items (λ t. spec.asked place which (expressions_of (map (view t) xs.now)) ++ spec.each (expressions_of (map (view t) xs.now))) }
+{
+    asked(alloc, place, which, xs, out)?;
+    each(alloc, xs, level, out)
 }
 
 #[cycle(expression)]

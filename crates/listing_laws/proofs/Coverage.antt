@@ -16,7 +16,7 @@ use Rattle.box_monitor.specs.Subjects.{subject_of}
 use Rattle.awk_machine.specs.Advances.{known, asked_by, over_by, held}
 use Rattle.awk_machine.specs.Begins as b
 use Rattle.awk_machine.specs.Closing.{first_stream}
-use Rattle.awk_machine.specs.Builtins.{first}
+use Rattle.awk_machine.specs.Builtins.{first, status_of}
 use Rattle.awk_machine.specs.Getline.{first_record}
 use Rattle.awk_machine.specs.Moves.{do_part, do_task, move}
 use Rattle.awk_machine.specs.Operators.{of_truth}
@@ -86,6 +86,7 @@ module _ (S : Listed) where
   task_keeps g (m.Fetch place class text) k st w fit rest = t.fetches S place class text k st fit rest
   task_keeps g (m.Count place name) k st w fit rest = t.counts S place name k st rest
   task_keeps g (m.Close place text so_far) k st w fit rest = t.closes S place text so_far (first_stream text (open_streams st.course.events)) k st rest
+  task_keeps g (m.Run place text) k st w fit rest = (fit, λ r. hand S None (status_of r) k tt rest)
   task_keeps g m.Take k st w fit rest = t.takes S k st fit rest
   task_keeps g m.Operand k st w fit rest = t.operands S k st fit rest
   task_keeps g m.Look k st w fit rest = t.looks S g k st fit rest

@@ -1,6 +1,7 @@
 -- Expressions: each form keeps what is listed, and asks for what is covered.
-use Rattle.std.proofs.Common.{◌≡◌, ◌∙◌, ℕ, Bool, true, false, List, [], ◌∷◌, ◌++◌, length, refl, sym, ap, subst}
-use Rattle.std.specs.Prelude.{Option, Some, None, if◌then◌else◌, slice_get, codes, ℤ, nat_lt}
+use Rattle.std.proofs.Common.{◌≡◌, ◌∙◌, ℕ, Bool, true, false, List, [], ◌∷◌, ◌++◌, length, refl, sym, ap, subst, arith}
+use Rattle.std.specs.Prelude.{◌≤◌, Option, Some, None, if◌then◌else◌, slice_get, reverse, codes, ℤ, nat_lt}
+use Rattle.std.proofs.lemmas.List.{reverse-append, length-reverse}
 use Rattle.std.specs.Str.{bytes_eq}
 use Rattle.awk_text.specs.declared.place.Place.{Place}
 use Rattle.awk_text.specs.declared.value.Value.{Value}
@@ -9,6 +10,8 @@ use Rattle.awk_text.specs.Values.{text_of, number_of, truth}
 use Rattle.awk_program.specs.Slots.{Text}
 use Rattle.awk_program.specs.Program as p
 use Rattle.awk_program.specs.Program.{Expression, Expressions, Ere, Terms, Joins, Pipes, Arguments}
+use Rattle.awk_program.specs.declared.builtins.Builtin.{Builtin}
+use Rattle.awk_program.specs.declared.builtins.Builtin.TheVariants as b
 use Rattle.awk_program.specs.declared.operators.Operator.{Operator}
 use Rattle.awk_program.specs.declared.operators.Extent.{Extent}
 use Rattle.awk_program.specs.declared.operators.Step.{Step}
@@ -31,8 +34,20 @@ use Rattle.awk_machine.specs.Variables.{own_text}
 use Rattle.awk_fields.specs.Rows.{joined}
 use Rattle.awk_fields.specs.Separators.{separator}
 use Rattle.box_listing.specs.Sites as s
-use Rattle.listing_laws.proofs.Standing.{Listed, Sub, Says, hands, Knows, Stack, Ready, Keeps}
-use Rattle.listing_laws.proofs.Steps.{Each, Perhaps, at_index, has_text, front, back, each_listed, at_site, weaken, hand, push_value, push_target, push_pattern, through, delivered, one, two, three, each, either, ready_if, looked, came}
+use Rattle.listing_laws.proofs.Standing.{Listed, Sub, Says, hands, done_by, oldest, Fit, Knows, Stack, Ready, Keeps}
+use Rattle.listing_laws.proofs.Steps.{Each, Perhaps, at_index, has_text, front, back, each_listed, at_site, weaken, hand, push_value, push_target, push_pattern, through, delivered, one, two, each, either, ready_if, looked, came}
+
+-- ---- the first of the values that came
+
+first_of_both : (xs ys : List Value) → 1 ≤ length xs → built.argument (xs ++ ys) 0 ≡ built.argument xs 0
+first_of_both [] ys some = absurd (omega (arith, some))
+first_of_both (x ∷ xs) ys some = refl
+
+oldest_first : (v : Value) (vs : List Value) → built.argument (reverse (v ∷ vs)) 0 ≡ oldest v vs
+oldest_first v [] = refl
+oldest_first v (w ∷ vs) =
+    ap (λ z. built.argument z 0) (reverse-append (v ∷ []) (w ∷ vs))
+    ∙ first_of_both (reverse (w ∷ vs)) (v ∷ []) (let n = length-reverse (w ∷ vs) in omega (arith, n)) ∙ oldest_first w vs
 
 -- ---- arguments of a call
 
@@ -82,13 +97,39 @@ module _ (S : Listed) where
       (h, λ y says. tt, rest)
   from_file place r x (w ∷ name ∷ at ∷ vs) k t h n rest = came S place (target r at) [] w k t rest
 
-  -- ---- system
+  -- ---- built-in functions: an argument that comes next, and what is done once all are there
 
-  run : (place : Place) (x : Expression) (vs : List Value) (k : List Piece) (t : State) → Sub S (s.value (p.system place x)) → Knows S (Value_of (p.system place x)) vs →
-      Stack S (hands None) k → Keeps S (f.unary (value x) (Value_of (p.system place x)) (built.system place) vs k t)
-  run place x [] k t h n rest = push_value S x (Value_of (p.system place x)) [] k h.1 h (λ y says. says) rest
-  run place x (y ∷ vs) k t h n rest =
-      (at_site S place Run (s.constant x) (text_of y) (h.0, tt) (has_text (s.constant x) y n), λ r. hand S None (built.status_of r) k tt rest)
+  next_known : (xs : Expressions) (x : Expression) (y : Value) (place : Place) (which : Builtin) (vs : List Value) → slice_get (listed xs) (length vs) ≡ Some x →
+      Knows S (Value_of (p.builtin place which xs)) vs → Says (s.constant x) y → Says (s.first_constant xs) (oldest y vs)
+  next_known p.none x y place which [] e n says = absurd (cc)
+  next_known (p.more z xs) x y place which [] e n says = let same : x ≡ z = cc in subst (λ u. Says (s.constant u) y) same says
+  next_known xs x y place which (w ∷ vs) e n says = n
+
+  all_known : (xs : Expressions) (place : Place) (which : Builtin) (vs : List Value) → slice_get (listed xs) (length vs) ≡ None →
+      Knows S (Value_of (p.builtin place which xs)) vs → Says (s.first_constant xs) (built.argument (reverse vs) 0)
+  all_known p.none place which [] e n = tt
+  all_known (p.more z xs) place which [] e n = absurd (cc)
+  all_known xs place which (w ∷ vs) e n = subst (λ u. Says (s.first_constant xs) u) (sym (oldest_first w vs)) n
+
+  abbrev Fits : built.Effect → Type 0
+  Fits (built.Gives made) = Unit {0}
+  Fits (built.Leaves task) = Fit S task × (done_by task ≡ hands None)
+
+  fitting : (place : Place) (which : Builtin) (xs : Expressions) (vs : List Value) (t : State) → Sub S (s.asked place which xs) → Says (s.first_constant xs) (built.argument vs 0) → Fits (built.effect place which vs t)
+  fitting place b.Close xs vs t h says = (tt, refl)
+  fitting place b.System xs vs t h says = (at_site S place Run (s.first_constant xs) (built.text_at vs 0) h (has_text (s.first_constant xs) (built.argument vs 0) says), refl)
+  fitting place which xs vs t h says = tt
+
+  taken : (place : Place) (e : built.Effect) (k : List Piece) (t : State) → Fits e → Stack S (hands None) k → Keeps S (built.taking place e k t)
+  taken place (built.Gives made) k t h rest = delivered S place made k t rest
+  taken place (built.Leaves task) k t h rest = (h.0, subst (λ d. Stack S d k) (sym h.1) rest)
+
+  comes : (place : Place) (which : Builtin) (xs : Expressions) (o : Option Expression) (vs : List Value) (k : List Piece) (t : State) → slice_get (listed xs) (length vs) ≡ o → Perhaps (λ x. Sub S (s.value x)) o →
+      Sub S (s.value (p.builtin place which xs)) → Knows S (Value_of (p.builtin place which xs)) vs → Stack S (hands None) k →
+      Keeps S (f.each_by o (Value_of (p.builtin place which xs)) (built.called place which) vs k t)
+  comes place which xs (Some x) vs k t e h sub n rest = push_value S x (Value_of (p.builtin place which xs)) vs k h sub (λ y says. next_known xs x y place which vs e n says) rest
+  comes place which xs None vs k t e h sub n rest =
+      taken place (built.effect place which (reverse vs) t) k t (fitting place which xs (reverse vs) t (front S (s.asked place which xs) (s.each xs) sub) (all_known xs place which vs e n)) rest
 
   -- ---- chains
 
@@ -229,24 +270,9 @@ module _ (S : Listed) where
   values (p.getline_file place r x) vs k t h n rest = from_file place r x vs k t h n rest
   values (p.pipe x xs) vs k t h n rest =
       push_value S x (Pipes_of xs) [] k (front S (s.value x) (s.pipes (s.constant x) xs) h) tt (λ y says. (s.constant x, back S (s.value x) (s.pipes (s.constant x) xs) h, says)) rest
-  values (p.measure how x) vs k t h n rest = one S (value x) _ _ vs k t (push_value S x (Value_of (p.measure how x)) [] k h h (λ y says. tt) rest) (λ y. hand S None _ k tt rest)
+  values (p.builtin place which xs) vs k t h n rest =
+      comes place which xs (slice_get (listed xs) (length vs)) vs k t refl (at_index (λ x. Sub S (s.value x)) (listed xs) (length vs) (each_listed S xs (back S (s.asked place which xs) (s.each xs) h))) h n rest
   values (p.count a) vs k t h n rest = hand S None _ k tt rest
-  values (p.int place x) vs k t h n rest =
-      one S (value x) _ _ vs k t (push_value S x (Value_of (p.int place x)) [] k h h (λ y says. tt) rest) (λ y. delivered S place _ k t rest)
-  values (p.index x y) vs k t h n rest =
-      two S (value x) (value y) _ _ vs k t (push_value S x (Value_of (p.index x y)) [] k (front S (s.value x) (s.value y) h) h (λ y says. tt) rest)
-      (λ z. push_value S y (Value_of (p.index x y)) (z ∷ []) k (back S (s.value x) (s.value y) h) h (λ y says. tt) rest) (λ z u. hand S None _ k tt rest)
-  values (p.substr_from place x y) vs k t h n rest =
-      two S (value x) (value y) _ _ vs k t (push_value S x (Value_of (p.substr_from place x y)) [] k (front S (s.value x) (s.value y) h) h (λ y says. tt) rest)
-      (λ z. push_value S y (Value_of (p.substr_from place x y)) (z ∷ []) k (back S (s.value x) (s.value y) h) h (λ y says. tt) rest) (λ z u. delivered S place _ k t rest)
-  values (p.substr place x y z) vs k t h n rest =
-      let i = back S (s.value x) (s.value y ++ s.value z) h in
-      three S (value x) (value y) (value z) _ _ vs k t (push_value S x (Value_of (p.substr place x y z)) [] k (front S (s.value x) (s.value y ++ s.value z) h) h (λ y says. tt) rest)
-      (λ u. push_value S y (Value_of (p.substr place x y z)) (u ∷ []) k (front S (s.value y) (s.value z) i) h (λ y says. tt) rest)
-      (λ u w. push_value S z (Value_of (p.substr place x y z)) (w ∷ u ∷ []) k (back S (s.value y) (s.value z) i) h (λ y says. tt) rest) (λ u from count. delivered S place _ k t rest)
-  values (p.sprintf place x xs) vs k t h n rest =
-      each S (x ∷ listed xs) (Value_of (p.sprintf place x xs)) _ vs k t (front S (s.value x) (s.each xs) h, each_listed S xs (back S (s.value x) (s.each xs) h)) h (λ y. tt) rest
-      (λ ws. delivered S place _ k t rest)
   values (p.locate place x y) vs k t h n rest =
       two S (value x) (source y) _ _ vs k t (push_value S x (Value_of (p.locate place x y)) [] k (front S (s.value x) (s.ere y) h) h (λ y says. tt) rest)
       (λ z. push_pattern S y (Value_of (p.locate place x y)) (z ∷ []) k (back S (s.value x) (s.ere y) h) h (λ y says. tt) rest) (λ z u. looked S y place (text_of u) _ (tt, rest))
@@ -255,6 +281,3 @@ module _ (S : Listed) where
       (λ z. push_pattern S y (Value_of (p.split place x at a y)) (z ∷ []) k (back S (s.value x) (s.ere y) h) h (λ y says. tt) rest)
       (λ z u. parted y place at a (text_of z) (text_of u) k rest)
   values (p.substitute place how x y r) vs k t h n rest = substituted place how x y r vs k t h rest
-  values (p.close place x) vs k t h n rest = one S (value x) _ _ vs k t (push_value S x (Value_of (p.close place x)) [] k h h (λ y says. tt) rest) (λ y. (tt, rest))
-  values (p.flush x) vs k t h n rest = one S (value x) _ _ vs k t (push_value S x (Value_of (p.flush x)) [] k h h (λ y says. tt) rest) (λ y. hand S None _ k tt rest)
-  values (p.system place x) vs k t h n rest = run place x vs k t h n rest

@@ -9,7 +9,7 @@ use Rattle.awk_program.specs.Slots.{Text}
 use Rattle.awk_program.specs.Program as p
 use Rattle.awk_program.specs.Program.{Expression, Pipes, Statement}
 use Rattle.awk_program.specs.declared.statements.Redirection.{Redirection}
-use Rattle.box_policy.specs.declared.policy.Kind.TheVariants.{Read, Env, Assign}
+use Rattle.box_policy.specs.declared.policy.Kind.TheVariants.{Read, Run, Env, Assign}
 use Rattle.box_world.specs.declared.ask.Reply.{Reply}
 use Rattle.box_world.specs.Events.{Standard, Shuts, Want, Wish, request_of}
 use Rattle.box_monitor.specs.Subjects.{Subject, kind_of, subject_of}
@@ -107,6 +107,7 @@ done_by (m.Read place key) = hands None
 done_by (m.Fetch place class text) = hands None
 done_by (m.Count place name) = nothing
 done_by (m.Close place text so_far) = hands None
+done_by (m.Run place text) = hands None
 done_by m.Take = hands None
 done_by m.Operand = nothing
 done_by m.Look = nothing
@@ -150,9 +151,14 @@ Second c v [] = Unit {0}
 Second c v (at ∷ []) = Says c v
 Second c v (w ∷ at ∷ vs) = Unit {0}
 
+-- the first argument of a built-in function
+abbrev pub oldest : Value → List Value → Value
+oldest v [] = v
+oldest v (w ∷ vs) = oldest w vs
+
 abbrev pub Called : Expression → Value → List Value → Type 0
 Called (p.getline_file place r x) v vs = Second (s.constant x) v vs
-Called (p.system place x) v vs = Says (s.constant x) v
+Called (p.builtin place which xs) v vs = Says (s.first_constant xs) (oldest v vs)
 Called other v vs = Unit {0}
 
 -- the target of a redirection: the value behind those of the items
@@ -211,6 +217,7 @@ Fit S (m.Each xs) = Sub S (s.all_done xs)
 Fit S (m.Keys place a x rest) = Sub S (s.done x)
 Fit S (m.Open place mode class text) = Wanted S place false (Some (record { kind = kind_of mode; text = text }))
 Fit S (m.Fetch place class text) = Wanted S place false (Some (record { kind = kind_of (input_mode class); text = text }))
+Fit S (m.Run place text) = Wanted S place false (Some (record { kind = Run; text = text }))
 Fit S m.Take = Holds S found.MainInput
 Fit S m.Operand = Holds S found.MainInput
 Fit S m.Look = Holds S found.MainInput

@@ -10,7 +10,7 @@ use Rattle.awk_program.specs.Slots.{Text}
 use Rattle.awk_program.specs.Program as p
 use Rattle.awk_program.specs.Program.{Expression, Expressions, Ere, expressions_of}
 use Rattle.box_policy.specs.declared.policy.Kind.{Kind}
-use Rattle.awk_machine.specs.Forms.{unary, binary, ternary, listed, each_by, each_of, if_true, deliver, checked}
+use Rattle.awk_machine.specs.Forms.{unary, binary, listed, each_by, each_of, if_true, deliver, checked}
 use Rattle.awk_machine.specs.Getline.{counting, got}
 use Rattle.awk_machine.specs.Pieces as m
 use Rattle.awk_machine.specs.Pieces.{Part, Value_of, Target_of, Pattern_of, Piece, At, Do, Outcome, Next, Then, Goes, ends, give, granted}
@@ -119,14 +119,6 @@ module _ (S : Listed) where
   two a b part f [] k t h i j = h
   two a b part f (x ∷ []) k t h i j = i x
   two a b part f (y ∷ x ∷ vs) k t h i j = j x y
-
-  pub three : (a b c : Piece) (part : Part) (f : Value → Value → Value → Then) (vs : List Value) (k : List Piece) (t : State) → Ready S (a ∷ At part [] ∷ k) →
-      ((x : Value) → Ready S (b ∷ At part (x ∷ []) ∷ k)) → ((x y : Value) → Ready S (c ∷ At part (y ∷ x ∷ []) ∷ k)) →
-      ((x y z : Value) → Keeps S (f x y z k t)) → Keeps S (ternary a b c part f vs k t)
-  three a b c part f [] k t h i j l = h
-  three a b c part f (x ∷ []) k t h i j l = i x
-  three a b c part f (y ∷ x ∷ []) k t h i j l = j x y
-  three a b c part f (z ∷ y ∷ x ∷ vs) k t h i j l = l x y z
 
   next_by : (o : Option Expression) (part : Part) (f : List Value → Then) (vs : List Value) (k : List Piece) (t : State) → Perhaps (λ x. Sub S (s.value x)) o → Kept S part →
       ((x : Value) → Has S part x vs) → Stack S (handed_by part) k → ((ws : List Value) → Keeps S (f ws k t)) → Keeps S (each_by o part f vs k t)

@@ -1,7 +1,7 @@
 use Rattle.awk_eval.proofs.Leading.{quietly}
 use Rattle.awk_eval.proofs.Turns.{text_given}
 use Rattle.awk_streams.proofs.Chain.{at_once, done, part, stop}
-use Rattle.awk_program.proofs.Views.{view-And, view-Assign, view-Change, view-Close, view-Compare, view-Concat, view-Count, view-Flush, view-Getline, view-Group, view-In, view-Index, view-Int, view-Locate, view-Match, view-Measure, view-Not, view-Number, view-Or, view-Pattern, view-Read, view-Signed, view-Split, view-Sprintf, view-Step, view-Substitute, view-Substr, view-SubstrFrom, view-System, view-Text}
+use Rattle.awk_program.proofs.Views.{view-And, view-Assign, view-Builtin, view-Change, view-Compare, view-Concat, view-Count, view-Getline, view-Group, view-In, view-Locate, view-Match, view-Not, view-Number, view-Or, view-Pattern, view-Read, view-Signed, view-Split, view-Step, view-Substitute, view-Text}
 use Rattle.awk_store.proofs.Acting.{acted}
 use Rattle.std.proofs.Common.{refl, rules, w64}
 use Rattle.std.proofs.lemmas.Int.{to_z-of_z}
@@ -36,13 +36,9 @@ pub returns-in-Signed : goal.returns-in-Signed
 returns-in-Signed g c =
     record { plays = λ m is. rw (c.in-Signed.is, view-Signed) (rw c.get-in-Signed.ensures at (c.unary-in-Signed.ensures.plays m is)); owns = c.unary-in-Signed.ensures.owns }
 
-pub returns-in-Int : goal.returns-in-Int
-returns-in-Int g c =
-    record { plays = λ m is. rw (c.in-Int.is, view-Int) (rw c.get-in-Int.ensures at (c.unary-in-Int.ensures.plays m is)); owns = c.unary-in-Int.ensures.owns }
-
-pub returns-in-Measure : goal.returns-in-Measure
-returns-in-Measure g c =
-    record { plays = λ m is. rw (c.in-Measure.is, view-Measure) (rw c.get-in-Measure.ensures at (c.unary-in-Measure.ensures.plays m is)); owns = c.unary-in-Measure.ensures.owns }
+pub returns-in-Builtin : goal.returns-in-Builtin
+returns-in-Builtin g c =
+    record { plays = λ m is. rw (c.in-Builtin.is, view-Builtin) (rw c.as_slice.ensures at (c.builtin.ensures.plays m is)); owns = c.builtin.ensures.owns }
 
 pub returns-in-Count : goal.returns-in-Count
 returns-in-Count g c =
@@ -52,21 +48,9 @@ pub returns-in-Compare : goal.returns-in-Compare
 returns-in-Compare g c =
     record { plays = λ m is. rw (c.in-Compare.is, view-Compare) (rw (c.get-in-Compare.ensures, c.get-in-Compare-2.ensures) at (c.binary.ensures.plays m is)); owns = c.binary.ensures.owns }
 
-pub returns-in-Index : goal.returns-in-Index
-returns-in-Index g c =
-    record { plays = λ m is. rw (c.in-Index.is, view-Index) (rw (c.get-in-Index.ensures, c.get-in-Index-2.ensures) at (c.binary-in-Index.ensures.plays m is)); owns = c.binary-in-Index.ensures.owns }
-
-pub returns-in-SubstrFrom : goal.returns-in-SubstrFrom
-returns-in-SubstrFrom g c =
-    record { plays = λ m is. rw (c.in-SubstrFrom.is, view-SubstrFrom) (rw (c.get-in-SubstrFrom.ensures, c.get-in-SubstrFrom-2.ensures) at (c.binary-in-SubstrFrom.ensures.plays m is)); owns = c.binary-in-SubstrFrom.ensures.owns }
-
-pub returns-in-Substr : goal.returns-in-Substr
-returns-in-Substr g c =
-    record { plays = λ m is. rw (c.in-Substr.is, view-Substr) (rw (c.get-in-Substr.ensures, c.get-in-Substr-2.ensures, c.get-in-Substr-3.ensures) at (c.substr.ensures.plays m is)); owns = c.substr.ensures.owns }
-
 pub returns-in-Concat : goal.returns-in-Concat
 returns-in-Concat g c =
-    record { plays = λ m is. rw (c.in-Concat.is, view-Concat) (rw (c.get-in-Concat.ensures, c.as_slice.ensures) at (c.concat.ensures.plays m is)); owns = c.concat.ensures.owns }
+    record { plays = λ m is. rw (c.in-Concat.is, view-Concat) (rw (c.get-in-Concat.ensures, c.as_slice-in-Concat.ensures) at (c.concat.ensures.plays m is)); owns = c.concat.ensures.owns }
 
 pub returns-in-In : goal.returns-in-In
 returns-in-In g c =
@@ -83,10 +67,6 @@ returns-in-And g c =
 pub returns-in-Or : goal.returns-in-Or
 returns-in-Or g c =
     record { plays = λ m is. rw (c.in-Or.is, view-Or) (rw (c.get-in-Or.ensures, c.as_slice-in-Or.ensures) at (c.any.ensures.plays m is)); owns = c.any.ensures.owns }
-
-pub returns-in-Sprintf : goal.returns-in-Sprintf
-returns-in-Sprintf g c =
-    record { plays = λ m is. rw (c.in-Sprintf.is, view-Sprintf) (rw (c.get-in-Sprintf.ensures, c.as_slice-in-Sprintf.ensures) at (c.formatted.ensures.plays m is)); owns = c.formatted.ensures.owns }
 
 pub returns-in-Pattern : goal.returns-in-Pattern
 returns-in-Pattern g c =
@@ -107,18 +87,6 @@ returns-in-Substitute g c =
 pub returns-in-Getline : goal.returns-in-Getline
 returns-in-Getline g c =
     record { plays = λ m is. rw (c.in-Getline.is, view-Getline) (c.getline.ensures.plays m is); owns = c.getline.ensures.owns }
-
-pub returns-in-Close : goal.returns-in-Close
-returns-in-Close g c =
-    record { plays = λ m is. rw (c.in-Close.is, view-Close) (rw c.get-in-Close.ensures at (c.close.ensures.plays m is)); owns = c.close.ensures.owns }
-
-pub returns-in-Flush : goal.returns-in-Flush
-returns-in-Flush g c =
-    record { plays = λ m is. rw (c.in-Flush.is, view-Flush) (rw c.get-in-Flush.ensures at (c.flush.ensures.plays m is)); owns = c.flush.ensures.owns }
-
-pub returns-in-System : goal.returns-in-System
-returns-in-System g c =
-    record { plays = λ m is. rw (c.in-System.is, view-System) (rw c.get-in-System.ensures at (c.system.ensures.plays m is)); owns = c.system.ensures.owns }
 
 pub returns-in-Number : goal.returns-in-Number
 returns-in-Number g c =

@@ -1,13 +1,14 @@
 use Rattle.std.proofs.Common.{arith, ◌∙◌, ◌-◌, sym, map, length, take, drop}
 use Rattle.std.proofs.lemmas.List.{drop_all}
+use Rattle.awk_tree.specs.Tree.{trees_of}
 use Rattle.awk_tree.specs.View.{view, view_term}
 use Rattle.awk_tree.proofs.Views.{view-Number, view-Quoted, view-Pattern, view-Name, view-Element, view-Field, view-Paren, view-Call, view-Builtin, view-Length, view-Split, view-Substitute, view-Getline, view-Before, view-After, view-Signed, view-Power, view-Product, view-Sum, view-Concat, view-Pipe, view-Compare, view-Match, view-Group, view-In, view-And, view-Or, view-Choice, view-Assign}
 use Rattle.awk_program.specs.View as code
-use Rattle.awk_lowering.specs.Lowered.{lowered}
+use Rattle.awk_lowering.specs.Lowered.{lowered, lowered_list}
 use Rattle.awk_lowering.specs.OneByOne.{lowered_term, lowered_join}
 use Rattle.awk_lowering.specs.Made.{names_in, scope_in}
-use Rattle.awk_lowering.proofs.Carried.{boxed_is, turned, whole, whole_as, none_left, just_one, just_two, just_three, first_and_rest}
-use Rattle.awk_lowering.proofs.Lists.{list_is, terms_are, joins_are, pipes_end, pipes_turn, arguments_end, arguments_turn}
+use Rattle.awk_lowering.proofs.Carried.{boxed_is, turned, whole, whole_as, none_left, just_two}
+use Rattle.awk_lowering.proofs.Lists.{called_some, plainly, list_is, terms_are, joins_are, pipes_end, pipes_turn, arguments_end, arguments_turn}
 use Rattle.awk_lowering.proofs.expressions.+expression.Goals as goal
 
 pub expression-returns-in-Number : goal.expression-returns-in-Number
@@ -194,81 +195,32 @@ pub call-returns : goal.call-returns
 call-returns t c =
     let f = rw c.bytes.ensures at c.function-f.ensures in let are = rw c.bytes-2.ensures at c.arrays_of-arrays.ensures in let xs = rw are at c.arguments.ensures in c.call_of.ensures _ _ _ f xs
 
+pub builtin-returns-in-Some : goal.builtin-returns-in-Some
+builtin-returns-in-Some t c =
+    rw (plainly (scope_in c.args.context.now) c.args.place c.args.which c.in-Some.function (trees_of (map view c.args.args.now)) (lowered_list (scope_in c.args.context.now) (trees_of (map view c.args.args.now))) (sym c.plain_builtin.ensures ∙ c.in-Some.is)) c.plain.ensures
+
 pub builtin-returns-in-Match : goal.builtin-returns-in-Match
 builtin-returns-in-Match t c =
     rw c.in-Match.is c.located.ensures
 
-pub builtin-returns-in-Sprintf : goal.builtin-returns-in-Sprintf
-builtin-returns-in-Sprintf t c =
-    rw c.in-Sprintf.is c.formatted.ensures
+pub plain-returns-in-Some : goal.plain-returns-in-Some
+plain-returns-in-Some t c =
+    let v = rw c.bytes.ensures at c.variable.ensures in rw (← c.counted.ensures, c.in-Some.is) (c.count_of.ensures _ _ v)
 
-pub builtin-returns-in-Close : goal.builtin-returns-in-Close
-builtin-returns-in-Close t c =
-    rw c.in-Close.is c.called.ensures
-
-pub builtin-returns-in-Fflush : goal.builtin-returns-in-Fflush
-builtin-returns-in-Fflush t c =
-    rw c.in-Fflush.is c.called-in-Fflush.ensures
-
-pub builtin-returns-in-Index : goal.builtin-returns-in-Index
-builtin-returns-in-Index t c =
-    rw c.in-Index.is c.called-in-Index.ensures
-
-pub builtin-returns-in-Int : goal.builtin-returns-in-Int
-builtin-returns-in-Int t c =
-    rw c.in-Int.is c.called-in-Int.ensures
-
-pub builtin-returns-in-Length : goal.builtin-returns-in-Length
-builtin-returns-in-Length t c =
-    rw c.in-Length.is c.length.ensures
-
-pub length-returns-in-Some : goal.length-returns-in-Some
-length-returns-in-Some t c =
-    let v = rw c.bytes.ensures at c.variable.ensures in rw (← c.in-Some.ensures) (c.count_of.ensures _ _ v)
-
-pub length-returns-in-None : goal.length-returns-in-None
-length-returns-in-None t c = rw (← c.in-None.ensures) c.called.ensures
-
-pub builtin-returns-in-Substr : goal.builtin-returns-in-Substr
-builtin-returns-in-Substr t c =
-    rw c.in-Substr.is c.called-in-Substr.ensures
-
-pub builtin-returns-in-System : goal.builtin-returns-in-System
-builtin-returns-in-System t c =
-    rw c.in-System.is c.called-in-System.ensures
-
-pub builtin-returns-in-Tolower : goal.builtin-returns-in-Tolower
-builtin-returns-in-Tolower t c =
-    rw c.in-Tolower.is c.called-in-Tolower.ensures
-
-pub builtin-returns-in-Toupper : goal.builtin-returns-in-Toupper
-builtin-returns-in-Toupper t c =
-    rw c.in-Toupper.is c.called-in-Toupper.ensures
+pub plain-returns-in-None : goal.plain-returns-in-None
+plain-returns-in-None t c = rw (← c.counted.ensures, c.in-None.is) c.called.ensures
 
 pub called-returns-in-empty : goal.called-returns-in-empty
 called-returns-in-empty t c =
-    rw (none_left c.args.args.now c.in-empty.len_below) (c.of_none.ensures _)
+    rw (none_left c.args.args.now c.in-empty.len_below) (c.without_arguments.ensures _)
 
-pub called-returns-in-len1 : goal.called-returns-in-len1
-called-returns-in-len1 t c =
-    rw (just_one c.args.args.now c.x-item.result c.in-len1.len_at_least c.in-len1.len_below c.x-item.is) (c.of_one.ensures _ _ c.part.ensures)
-
-pub called-returns-in-len2 : goal.called-returns-in-len2
-called-returns-in-len2 t c =
-    rw (just_two c.args.args.now c.x-item-then-args-lt3.result c.y-item.result c.in-len2.len_at_least c.in-len2.len_below c.x-item-then-args-lt3.is c.y-item.is) (c.of_two.ensures _ _ _ c.part-x.ensures c.part-in-len2.ensures)
-
-pub called-returns-in-len3 : goal.called-returns-in-len3
-called-returns-in-len3 t c =
-    rw (just_three c.args.args.now c.x-item-then-args-lt4.result c.y-item-then-args-lt4.result c.z-item.result c.in-len3.len_at_least c.in-len3.len_below c.x-item-then-args-lt4.is c.y-item-then-args-lt4.is c.z-item.is) (c.of_three.ensures _ _ _ _ c.part-x-in-len3.ensures c.part-y.ensures c.part-in-len3.ensures)
+pub called-returns-in-len1-up : goal.called-returns-in-len1-up
+called-returns-in-len1-up t c =
+    rw (called_some (scope_in c.args.context.now) c.args.place c.args.which c.args.args.now c.in-len1-up.len_at_least) (c.builtin_of.ensures _ _ c.list.ensures)
 
 pub located-returns-in-len2 : goal.located-returns-in-len2
 located-returns-in-len2 t c =
     rw (just_two c.args.args.now c.x-item.result c.y-item.result c.in-len2.len_at_least c.in-len2.len_below c.x-item.is c.y-item.is) (c.locate_of.ensures _ _ _ c.part-x.ensures c.wanted.ensures)
-
-pub formatted-returns-in-len1-up : goal.formatted-returns-in-len1-up
-formatted-returns-in-len1-up t c =
-    let made = rw (← list_is (scope_in c.args.context.now) (map view (take (length c.args.args.now - 1) (drop 1 c.args.args.now)))) at (c.sprintf_of.ensures _ _ _ c.part-x.ensures c.list.ensures) in
-    rw (first_and_rest c.args.args.now c.x-item.result c.in-len1-up.len_at_least c.x-item.is) made
 
 pub fill-loop-x-preserved : goal.fill-loop-x-preserved
 fill-loop-x-preserved t c =

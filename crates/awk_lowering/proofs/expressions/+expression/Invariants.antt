@@ -71,19 +71,16 @@ abbrev pub decreases-call : goal.decreases-call
 decreases-call l = 4 + 16 * l.level
 
 abbrev pub decreases-called : goal.decreases-called
-decreases-called l = 2 + 16 * l.level
+decreases-called l = 3 + 16 * l.level
 
 abbrev pub decreases-located : goal.decreases-located
 decreases-located l = 3 + 16 * l.level
 
-abbrev pub decreases-formatted : goal.decreases-formatted
-decreases-formatted l = 3 + 16 * l.level
-
-abbrev pub decreases-length : goal.decreases-length
-decreases-length l = 3 + 16 * l.level
+abbrev pub decreases-plain : goal.decreases-plain
+decreases-plain l = 4 + 16 * l.level
 
 abbrev pub decreases-builtin : goal.decreases-builtin
-decreases-builtin l = 4 + 16 * l.level
+decreases-builtin l = 5 + 16 * l.level
 
 abbrev pub invariant-fill-loop-x : goal.invariant-fill-loop-x
 invariant-fill-loop-x l = map (code.view (names_in l.context)) l.initial.out ++ map (lowered (scope_in l.context)) (map view l.xs) ≡ map (code.view (names_in l.context)) l.out ++ map (lowered (scope_in l.context)) (map view (drop l.x-index l.xs))

@@ -1,7 +1,7 @@
 use Rattle.std.proofs.Common.{rules, arith, w64}
 use Rattle.std.proofs.lemmas.List.{append-nil, drop_all}
 use Rattle.std.proofs.lemmas.Int.{to_z-of_z}
-use Rattle.awk_program.proofs.Views.{view-Number, view-Text, view-Pattern, view-Read, view-Assign, view-Change, view-Step, view-Not, view-Signed, view-Chain, view-Concat, view-Compare, view-Match, view-In, view-Group, view-And, view-Or, view-Choice, view-Call, view-Getline, view-GetlineFile, view-Pipe, view-Measure, view-Count, view-Int, view-Index, view-SubstrFrom, view-Substr, view-Sprintf, view-Locate, view-Split, view-Substitute, view-Close, view-Flush, view-System}
+use Rattle.awk_program.proofs.Views.{view-Number, view-Text, view-Pattern, view-Read, view-Assign, view-Change, view-Step, view-Not, view-Signed, view-Chain, view-Concat, view-Compare, view-Match, view-In, view-Group, view-And, view-Or, view-Choice, view-Call, view-Getline, view-GetlineFile, view-Pipe, view-Builtin, view-Count, view-Locate, view-Split, view-Substitute}
 use Rattle.awk_printer.proofs.Lists.{drop_here}
 use Rattle.awk_printer.proofs.Pages.{nothing, both, lost}
 use Rattle.awk_printer.proofs.expressions.+expression.Goals as goal
@@ -94,33 +94,13 @@ pub expression-returns-in-Pipe : goal.expression-returns-in-Pipe
 expression-returns-in-Pipe t c =
     let h = rw (c.get-in-Pipe.ensures, c.as_slice-in-Pipe.ensures) at c.pipe.ensures in rw (c.in-Pipe.is, view-Pipe) h
 
-pub expression-returns-in-Measure : goal.expression-returns-in-Measure
-expression-returns-in-Measure t c =
-    let h = rw (c.measure_text.ensures, c.get-in-Measure.ensures) at c.one-in-Measure.ensures in rw (c.in-Measure.is, view-Measure) h
+pub expression-returns-in-Builtin : goal.expression-returns-in-Builtin
+expression-returns-in-Builtin t c =
+    let h = rw (c.word.ensures, c.as_slice-in-Builtin.ensures) at c.at_list.ensures in rw (c.in-Builtin.is, view-Builtin) h
 
 pub expression-returns-in-Count : goal.expression-returns-in-Count
 expression-returns-in-Count t c =
     rw (c.in-Count.is, view-Count) c.of_variable.ensures
-
-pub expression-returns-in-Int : goal.expression-returns-in-Int
-expression-returns-in-Int t c =
-    let h = rw (c.get-in-Int.ensures) at c.at_one-in-Int.ensures in rw (c.in-Int.is, view-Int) h
-
-pub expression-returns-in-Index : goal.expression-returns-in-Index
-expression-returns-in-Index t c =
-    let h = rw (c.get-in-Index.ensures, c.get-in-Index-2.ensures) at c.two-in-Index.ensures in rw (c.in-Index.is, view-Index) h
-
-pub expression-returns-in-SubstrFrom : goal.expression-returns-in-SubstrFrom
-expression-returns-in-SubstrFrom t c =
-    let h = rw (c.get-in-SubstrFrom.ensures, c.get-in-SubstrFrom-2.ensures) at c.at_two.ensures in rw (c.in-SubstrFrom.is, view-SubstrFrom) h
-
-pub expression-returns-in-Substr : goal.expression-returns-in-Substr
-expression-returns-in-Substr t c =
-    let h = rw (c.get-in-Substr.ensures, c.get-in-Substr-2.ensures, c.get-in-Substr-3.ensures) at c.at_three.ensures in rw (c.in-Substr.is, view-Substr) h
-
-pub expression-returns-in-Sprintf : goal.expression-returns-in-Sprintf
-expression-returns-in-Sprintf t c =
-    let h = rw (c.get-in-Sprintf.ensures, c.as_slice-in-Sprintf.ensures) at c.sprintf.ensures in rw (c.in-Sprintf.is, view-Sprintf) h
 
 pub expression-returns-in-Locate : goal.expression-returns-in-Locate
 expression-returns-in-Locate t c =
@@ -133,18 +113,6 @@ expression-returns-in-Split t c =
 pub expression-returns-in-Substitute : goal.expression-returns-in-Substitute
 expression-returns-in-Substitute t c =
     let h = rw (c.extent_text.ensures, c.get-in-Substitute.ensures) at c.substitute.ensures in rw (c.in-Substitute.is, view-Substitute) h
-
-pub expression-returns-in-Close : goal.expression-returns-in-Close
-expression-returns-in-Close t c =
-    let h = rw (c.get-in-Close.ensures) at c.at_one-in-Close.ensures in rw (c.in-Close.is, view-Close) h
-
-pub expression-returns-in-Flush : goal.expression-returns-in-Flush
-expression-returns-in-Flush t c =
-    let h = rw (c.get-in-Flush.ensures) at c.one-in-Flush.ensures in rw (c.in-Flush.is, view-Flush) h
-
-pub expression-returns-in-System : goal.expression-returns-in-System
-expression-returns-in-System t c =
-    let h = rw (c.get-in-System.ensures) at c.at_one-in-System.ensures in rw (c.in-System.is, view-System) h
 
 pub expression-returns-then-level-eq0 : goal.expression-returns-then-level-eq0
 expression-returns-then-level-eq0 t c = lost c.cut.ensures
@@ -173,12 +141,6 @@ choice-returns t c = both c.open.ensures (both c.expression.ensures (both c.expr
 pub at_one-returns : goal.at_one-returns
 at_one-returns t c = both c.open.ensures (both c.place.ensures (both c.expression.ensures c.close.ensures))
 
-pub at_two-returns : goal.at_two-returns
-at_two-returns t c = both c.open.ensures (both c.place.ensures (both c.expression.ensures (both c.expression-2.ensures c.close.ensures)))
-
-pub at_three-returns : goal.at_three-returns
-at_three-returns t c = both c.open.ensures (both c.place.ensures (both c.expression.ensures (both c.expression-2.ensures (both c.expression-3.ensures c.close.ensures))))
-
 pub at_target-returns : goal.at_target-returns
 at_target-returns t c = both c.open.ensures (both c.place.ensures (both c.target.ensures c.close.ensures))
 
@@ -191,8 +153,8 @@ at_match-returns t c = both c.open.ensures (both c.place.ensures (both c.express
 pub many-returns : goal.many-returns
 many-returns t c = both c.open.ensures (both c.expression.ensures (both c.list.ensures c.close.ensures))
 
-pub sprintf-returns : goal.sprintf-returns
-sprintf-returns t c = both c.open.ensures (both c.place.ensures (both c.expression.ensures (both c.list.ensures c.close.ensures)))
+pub at_list-returns : goal.at_list-returns
+at_list-returns t c = both c.open.ensures (both c.place.ensures (both c.list.ensures c.close.ensures))
 
 pub member-returns : goal.member-returns
 member-returns t c = both c.open.ensures (both c.expression.ensures (both c.variables.ensures c.close.ensures))

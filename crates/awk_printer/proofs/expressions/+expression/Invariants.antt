@@ -22,12 +22,6 @@ decreases-choice l = 1 + 16 * l.level
 abbrev pub decreases-at_one : goal.decreases-at_one
 decreases-at_one l = 1 + 16 * l.level
 
-abbrev pub decreases-at_two : goal.decreases-at_two
-decreases-at_two l = 1 + 16 * l.level
-
-abbrev pub decreases-at_three : goal.decreases-at_three
-decreases-at_three l = 1 + 16 * l.level
-
 abbrev pub decreases-ere : goal.decreases-ere
 decreases-ere l = 1 + 16 * l.level
 
@@ -52,8 +46,8 @@ decreases-element l = 2 + 16 * l.level
 abbrev pub decreases-many : goal.decreases-many
 decreases-many l = 2 + 16 * l.level
 
-abbrev pub decreases-sprintf : goal.decreases-sprintf
-decreases-sprintf l = 2 + 16 * l.level
+abbrev pub decreases-at_list : goal.decreases-at_list
+decreases-at_list l = 2 + 16 * l.level
 
 abbrev pub decreases-member : goal.decreases-member
 decreases-member l = 2 + 16 * l.level

@@ -3,10 +3,12 @@ use Rattle.std.specs.Prelude.{None, Ok, Some}
 use Rattle.std.specs.Result.{result_ok}
 use Rattle.std.proofs.lemmas.Int.{to_z-of_z}
 use Rattle.awk_text.specs.Lents.{lent_value}
+use Rattle.awk_text.specs.declared.place.Place.{Place}
 use Rattle.awk_program.specs.Program as p
 use Rattle.awk_program.specs.Program.{expressions_of, terms_of}
+use Rattle.awk_program.specs.declared.builtins.Builtin.TheVariants as b
 use Rattle.awk_program.specs.View.{variable_of, view, view_target, view_term}
-use Rattle.awk_program.proofs.Views.{view-Chain, view-Index, view-Int, view-Measure, view-Number, view-Read, view-Substr, view-SubstrFrom, view-Text}
+use Rattle.awk_program.proofs.Views.{view-Builtin, view-Chain, view-Number, view-Read, view-Text}
 use Rattle.awk_lib.specs.Texts.{substr}
 use Rattle.awk_fields.specs.Rows.{IsValueAt}
 use Rattle.awk_store.specs.Wholes.{names_in}
@@ -14,8 +16,8 @@ use Rattle.awk_text.specs.Values.{number_of, text_of}
 use Rattle.awk_text.specs.declared.value.Value.TheVariants as v
 use Rattle.awk_quick.specs.AtHand.{HasNumber, IsThere}
 use Rattle.awk_quick.proofs.AtHand.{chain_first, element_there, field_number_is, field_there, number_there, terms_at, terms_done, text_there}
-use Rattle.awk_quick.proofs.Made.{index_there, measured_there, part_there, rest_there, whole_there}
-use Rattle.awk_builtins.proofs.Rests.{just_one, ok_told, some_done, some_for}
+use Rattle.awk_quick.proofs.Made.{one_there, part_there, rest_there, two_there, whole_there}
+use Rattle.awk_builtins.proofs.Rests.{just_one, just_two, just_three, ok_told, some_done, some_for}
 use Rattle.awk_quick.proofs.at_hand.+hand.Goals as goal
 
 pub at_hand-returns-in-Number : goal.at_hand-returns-in-Number
@@ -121,41 +123,48 @@ chain_at_hand-returns t c = λ g u.
     let l = c.loop-next.invariant in
     rw (sym (l.exact (some_done c.args.xs.now c.loop-next.next-index c.loop-next-test.false c.if-is_empty.ensures))) (terms_done g (c.args.store.now, u) c.args.xs.now c.loop-next.next-index l.val c.loop-next-test.false (l.along g u))
 
-pub made_at_hand-returns-in_ok-length-in-Measure : goal.made_at_hand-returns-in_ok-length-in-Measure
-made_at_hand-returns-in_ok-length-in-Measure t c = λ g u.
-    rw (c.in-Measure.is, view-Measure, to_z-of_z w64 c.in_ok-length-in-Measure.length (search rules), c.in_ok-length-in-Measure.ensures)
-    (rw c.get.ensures at (measured_there g (c.args.store.now, u) c.in-Measure.how (view (names_in g) c.get.result.now) (lent_value c.in_ok-text-in-Measure.text) (c.in_ok-text-in-Measure.ensures g u)))
+pub substr_at_hand-returns-in_ok-from-in-len2 : goal.substr_at_hand-returns-in_ok-from-in-len2
+substr_at_hand-returns-in_ok-from-in-len2 t c =
+    let h = c.in_ok-from-in-len2.ensures in
+    let text = lent_value c.in_ok-text-in-len2.text in
+    rw (just_two c.args.args.now c.x-item.result c.y-item.result c.in-len2.len_at_least c.in-len2.len_below c.x-item.is c.y-item.is)
+    (some_for {P = λ new. lent_value new ≡ v.Text (substr (text_of text) c.in_ok-from-in-len2.from None)} c.part_of.result
+    (λ new is q g u. rw is (rest_there g (c.args.store.now, u) q (view (names_in g) c.x-item.result) (view (names_in g) c.y-item.result) text h.val c.in_ok-from-in-len2.from
+    (c.in_ok-text-in-len2.ensures g u) (h.there g u) h.is)) (rw (to_z-of_z w64 c.in_ok-from-in-len2.from (search rules)) at c.part_of.ensures))
 
-pub made_at_hand-returns-in_ok-part-in-Index : goal.made_at_hand-returns-in_ok-part-in-Index
-made_at_hand-returns-in_ok-part-in-Index t c = λ g u.
-    rw (c.in-Index.is, view-Index, to_z-of_z w64 c.index_of.result (search rules), c.index_of.ensures)
-    (rw (c.get-in-Index.ensures, c.get-in-Index-2.ensures) at (index_there g (c.args.store.now, u) (view (names_in g) c.get-in-Index.result.now) (view (names_in g) c.get-in-Index-2.result.now)
-    (lent_value c.in_ok-text-in-Index.text) (lent_value c.in_ok-part-in-Index.part) (c.in_ok-text-in-Index.ensures g u) (c.in_ok-part-in-Index.ensures g u)))
+pub substr_at_hand-returns-in_ok-count-in-len3 : goal.substr_at_hand-returns-in_ok-count-in-len3
+substr_at_hand-returns-in_ok-count-in-len3 t c =
+    let h = c.in_ok-from-in-len3.ensures in
+    let n = c.in_ok-count-in-len3.ensures in
+    let text = lent_value c.in_ok-text-in-len3.text in
+    rw (just_three c.args.args.now c.x-item-then-args-lt4.result c.y-item-then-args-lt4.result c.z-item.result c.in-len3.len_at_least c.in-len3.len_below c.x-item-then-args-lt4.is c.y-item-then-args-lt4.is c.z-item.is)
+    (some_for {P = λ new. lent_value new ≡ v.Text (substr (text_of text) c.in_ok-from-in-len3.from (Some c.in_ok-count-in-len3.count))} c.part_of-in-len3.result
+    (λ new is q g u. rw is (part_there g (c.args.store.now, u) q (view (names_in g) c.x-item-then-args-lt4.result) (view (names_in g) c.y-item-then-args-lt4.result) (view (names_in g) c.z-item.result) text h.val n.val
+    c.in_ok-from-in-len3.from c.in_ok-count-in-len3.count (c.in_ok-text-in-len3.ensures g u) (h.there g u) (n.there g u) h.is n.is)) (rw (to_z-of_z w64 c.in_ok-from-in-len3.from (search rules), to_z-of_z w64 c.in_ok-count-in-len3.count (search rules)) at c.part_of-in-len3.ensures))
 
-pub made_at_hand-returns-in_ok-from-in-SubstrFrom : goal.made_at_hand-returns-in_ok-from-in-SubstrFrom
-made_at_hand-returns-in_ok-from-in-SubstrFrom t c =
-    let h = c.in_ok-from-in-SubstrFrom.ensures in
-    let text = lent_value c.in_ok-text-in-SubstrFrom.text in
-    some_for {P = λ new. lent_value new ≡ v.Text (substr (text_of text) c.in_ok-from-in-SubstrFrom.from None)} c.part_of.result
-    (λ new is g u. rw (c.in-SubstrFrom.is, view-SubstrFrom, is) (rw (c.get-in-SubstrFrom.ensures, c.get-in-SubstrFrom-2.ensures) at
-    (rest_there g (c.args.store.now, u) c.in-SubstrFrom.field-0 (view (names_in g) c.get-in-SubstrFrom.result.now) (view (names_in g) c.get-in-SubstrFrom-2.result.now) text h.val c.in_ok-from-in-SubstrFrom.from
-    (c.in_ok-text-in-SubstrFrom.ensures g u) (h.there g u) h.is))) (rw (to_z-of_z w64 c.in_ok-from-in-SubstrFrom.from (search rules)) at c.part_of.ensures)
+pub called_at_hand-returns-in_ok-text-in-Length : goal.called_at_hand-returns-in_ok-text-in-Length
+called_at_hand-returns-in_ok-text-in-Length t c = λ q g u.
+    rw (c.in-Length.is, just_one c.args.args.now c.x-item.result c.in-len1.len_at_least c.in-len1.len_below c.x-item.is, to_z-of_z w64 c.text_length.result (search rules), c.text_length.ensures)
+    (one_there g (c.args.store.now, u) q b.Length (view (names_in g) c.x-item.result) (lent_value c.in_ok-text-in-Length.text) _ (c.in_ok-text-in-Length.ensures g u) (λ s. refl))
 
-pub made_at_hand-returns-in_ok-count-in-Substr : goal.made_at_hand-returns-in_ok-count-in-Substr
-made_at_hand-returns-in_ok-count-in-Substr t c =
-    let h = c.in_ok-from-in-Substr.ensures in
-    let n = c.in_ok-count-in-Substr.ensures in
-    let text = lent_value c.in_ok-text-in-Substr.text in
-    some_for {P = λ new. lent_value new ≡ v.Text (substr (text_of text) c.in_ok-from-in-Substr.from (Some c.in_ok-count-in-Substr.count))} c.part_of-in-Substr.result
-    (λ new is g u. rw (c.in-Substr.is, view-Substr, is) (rw (c.get-in-Substr.ensures, c.get-in-Substr-2.ensures, c.get-in-Substr-3.ensures) at
-    (part_there g (c.args.store.now, u) c.in-Substr.field-0 (view (names_in g) c.get-in-Substr.result.now) (view (names_in g) c.get-in-Substr-2.result.now) (view (names_in g) c.get-in-Substr-3.result.now) text h.val n.val
-    c.in_ok-from-in-Substr.from c.in_ok-count-in-Substr.count (c.in_ok-text-in-Substr.ensures g u) (h.there g u) (n.there g u) h.is n.is))) (rw (to_z-of_z w64 c.in_ok-from-in-Substr.from (search rules), to_z-of_z w64 c.in_ok-count-in-Substr.count (search rules)) at c.part_of-in-Substr.ensures)
+pub called_at_hand-returns-in_ok-part-in-Index : goal.called_at_hand-returns-in_ok-part-in-Index
+called_at_hand-returns-in_ok-part-in-Index t c = λ q g u.
+    rw (c.in-Index.is, just_two c.args.args.now c.x-item-then-args-lt3.result c.y-item.result c.in-len2.len_at_least c.in-len2.len_below c.x-item-then-args-lt3.is c.y-item.is, to_z-of_z w64 c.index_of.result (search rules), c.index_of.ensures)
+    (two_there g (c.args.store.now, u) q b.Index (view (names_in g) c.x-item-then-args-lt3.result) (view (names_in g) c.y-item.result) (lent_value c.in_ok-text-in-Index.text) (lent_value c.in_ok-part-in-Index.part) _ (c.in_ok-text-in-Index.ensures g u) (c.in_ok-part-in-Index.ensures g u) (λ s. refl))
 
-pub made_at_hand-returns-in_ok-number-in-Int : goal.made_at_hand-returns-in_ok-number-in-Int
-made_at_hand-returns-in_ok-number-in-Int t c = λ g u.
+pub called_at_hand-returns-in_ok-number-in-Int : goal.called_at_hand-returns-in_ok-number-in-Int
+called_at_hand-returns-in_ok-number-in-Int t c = λ q g u.
     let h = c.in_ok-number-in-Int.ensures in
-    rw (c.in-Int.is, view-Int, to_z-of_z w64 c.in_ok-number-in-Int.number (search rules))
-    (rw c.get-in-Int.ensures at (whole_there g (c.args.store.now, u) c.in-Int.field-0 (view (names_in g) c.get-in-Int.result.now) h.val c.in_ok-number-in-Int.number (h.there g u) h.is))
+    rw (c.in-Int.is, just_one c.args.args.now c.x-item-then-args-lt2-3.result c.in-len1-args.len_at_least c.in-len1-args.len_below c.x-item-then-args-lt2-3.is, to_z-of_z w64 c.in_ok-number-in-Int.number (search rules))
+    (whole_there g (c.args.store.now, u) q (view (names_in g) c.x-item-then-args-lt2-3.result) h.val c.in_ok-number-in-Int.number (h.there g u) h.is)
+
+pub called_at_hand-returns-in-Substr : goal.called_at_hand-returns-in-Substr
+called_at_hand-returns-in-Substr t c = rw c.in-Substr.is c.substr_at_hand.ensures
+
+pub made_at_hand-returns-in-Builtin : goal.made_at_hand-returns-in-Builtin
+made_at_hand-returns-in-Builtin t c =
+    some_for {P = λ x. (q : Place) → IsThere (λ names. p.builtin q c.in-Builtin.which (expressions_of (map (view names) c.as_slice.result.now))) c.args.store.now (lent_value x)} c.called_at_hand.result
+    (λ x h g u. rw (c.in-Builtin.is, view-Builtin) (rw c.as_slice.ensures at (h c.in-Builtin.field-0 g u))) c.called_at_hand.ensures
 
 pub made_at_hand-returns-in_ok-count-in-Count : goal.made_at_hand-returns-in_ok-count-in-Count
 made_at_hand-returns-in_ok-count-in-Count t c = λ g u. rw (to_z-of_z w64 c.in_ok-count-in-Count.count (search rules)) (c.in_ok-count-in-Count.ensures g u)

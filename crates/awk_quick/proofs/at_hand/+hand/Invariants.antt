@@ -44,7 +44,13 @@ abbrev pub decreases-chain_at_hand : goal.decreases-chain_at_hand
 decreases-chain_at_hand l = 3 + 5 * l.level
 
 abbrev pub decreases-made_at_hand : goal.decreases-made_at_hand
-decreases-made_at_hand l = 3 + 5 * l.level
+decreases-made_at_hand l = 5 + 5 * l.level
+
+abbrev pub decreases-called_at_hand : goal.decreases-called_at_hand
+decreases-called_at_hand l = 4 + 5 * l.level
+
+abbrev pub decreases-substr_at_hand : goal.decreases-substr_at_hand
+decreases-substr_at_hand l = 3 + 5 * l.level
 
 abbrev pub decreases-number_made : goal.decreases-number_made
-decreases-number_made l = 4 + 5 * l.level
+decreases-number_made l = 6 + 5 * l.level

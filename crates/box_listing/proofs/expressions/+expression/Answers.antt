@@ -1,7 +1,7 @@
 use Rattle.std.proofs.Common.{◌++◌, [], ◌∷◌, option_copied, refl, arith, sym, ap, map, append-nil}
 use Rattle.awk_program.specs.Program.{expressions_of, terms_of, joins_of}
 use Rattle.awk_program.specs.View.{view, view_target, view_ere, view_term, view_joined, view_pipes, view_arguments}
-use Rattle.awk_program.proofs.Views.{view-Number, view-Text, view-Pattern, view-Read, view-Assign, view-Change, view-Step, view-Not, view-Signed, view-Chain, view-Concat, view-Compare, view-Match, view-In, view-Group, view-And, view-Or, view-Choice, view-Call, view-Getline, view-GetlineFile, view-Pipe, view-Measure, view-Count, view-Int, view-Index, view-SubstrFrom, view-Substr, view-Sprintf, view-Locate, view-Split, view-Substitute, view-Close, view-Flush, view-System}
+use Rattle.awk_program.proofs.Views.{view-Number, view-Text, view-Pattern, view-Read, view-Assign, view-Change, view-Step, view-Not, view-Signed, view-Chain, view-Concat, view-Compare, view-Match, view-In, view-Group, view-And, view-Or, view-Choice, view-Call, view-Getline, view-GetlineFile, view-Pipe, view-Builtin, view-Count, view-Locate, view-Split, view-Substitute}
 use Rattle.box_policy.specs.declared.policy.Kind.TheVariants as kind
 use Rattle.box_listing.specs.Sites as spec
 use Rattle.box_listing.proofs.Finding.{same, then}
@@ -74,26 +74,11 @@ expression-returns-in_ok-reading-in-GetlineFile t c = then _ _ _ _ _ _ (λ n. sp
 pub expression-returns-in_ok-expression-in-Pipe : goal.expression-returns-in_ok-expression-in-Pipe
 expression-returns-in_ok-expression-in-Pipe t c = then _ _ _ _ _ _ (λ n. spec.value (view n c.args.e.now)) c.in_ok-expression-in-Pipe.ensures c.pipes.ensures (λ n. rw (c.constant-in-Pipe.ensures n, c.get-in-Pipe.ensures, c.get-in-Pipe-2.ensures, c.as_slice-in-Pipe.ensures, c.in-Pipe.is, view-Pipe) refl)
 
-pub expression-returns-in-Measure : goal.expression-returns-in-Measure
-expression-returns-in-Measure t c = same _ _ _ _ (λ n. spec.value (view n c.args.e.now)) c.expression-in-Measure.ensures (λ n. rw (c.get-in-Measure.ensures, c.in-Measure.is, view-Measure) refl)
+pub expression-returns-in-Builtin : goal.expression-returns-in-Builtin
+expression-returns-in-Builtin t c = same _ _ _ _ (λ n. spec.value (view n c.args.e.now)) c.builtin.ensures (λ n. rw (c.as_slice-in-Builtin.ensures, c.in-Builtin.is, view-Builtin) refl)
 
 pub expression-returns-in-Count : goal.expression-returns-in-Count
 expression-returns-in-Count t c = λ n. rw (c.in-Count.is, view-Count, append-nil) refl
-
-pub expression-returns-in-Int : goal.expression-returns-in-Int
-expression-returns-in-Int t c = same _ _ _ _ (λ n. spec.value (view n c.args.e.now)) c.expression-in-Int.ensures (λ n. rw (c.get-in-Int.ensures, c.in-Int.is, view-Int) refl)
-
-pub expression-returns-in-Index : goal.expression-returns-in-Index
-expression-returns-in-Index t c = same _ _ _ _ (λ n. spec.value (view n c.args.e.now)) c.two-in-Index.ensures (λ n. rw (c.get-in-Index.ensures, c.get-in-Index-2.ensures, c.in-Index.is, view-Index) refl)
-
-pub expression-returns-in-SubstrFrom : goal.expression-returns-in-SubstrFrom
-expression-returns-in-SubstrFrom t c = same _ _ _ _ (λ n. spec.value (view n c.args.e.now)) c.two-in-SubstrFrom.ensures (λ n. rw (c.get-in-SubstrFrom.ensures, c.get-in-SubstrFrom-2.ensures, c.in-SubstrFrom.is, view-SubstrFrom) refl)
-
-pub expression-returns-in-Substr : goal.expression-returns-in-Substr
-expression-returns-in-Substr t c = same _ _ _ _ (λ n. spec.value (view n c.args.e.now)) c.three-in-Substr.ensures (λ n. rw (c.get-in-Substr.ensures, c.get-in-Substr-2.ensures, c.get-in-Substr-3.ensures, c.in-Substr.is, view-Substr) refl)
-
-pub expression-returns-in-Sprintf : goal.expression-returns-in-Sprintf
-expression-returns-in-Sprintf t c = same _ _ _ _ (λ n. spec.value (view n c.args.e.now)) c.first_and_each-in-Sprintf.ensures (λ n. rw (c.get-in-Sprintf.ensures, c.as_slice-in-Sprintf.ensures, c.in-Sprintf.is, view-Sprintf) refl)
 
 pub expression-returns-in-Locate : goal.expression-returns-in-Locate
 expression-returns-in-Locate t c = same _ _ _ _ (λ n. spec.value (view n c.args.e.now)) c.value_and_ere-in-Locate.ensures (λ n. rw (c.get-in-Locate.ensures, c.in-Locate.is, view-Locate) refl)
@@ -104,14 +89,8 @@ expression-returns-in-Split t c = same _ _ _ _ (λ n. spec.value (view n c.args.
 pub expression-returns-in_ok-ere-in-Substitute : goal.expression-returns-in_ok-ere-in-Substitute
 expression-returns-in_ok-ere-in-Substitute t c = then _ _ _ _ _ _ (λ n. spec.value (view n c.args.e.now)) c.in_ok-ere-in-Substitute.ensures c.value_and_target.ensures (λ n. rw (c.get-in-Substitute.ensures, c.in-Substitute.is, view-Substitute) refl)
 
-pub expression-returns-in-Close : goal.expression-returns-in-Close
-expression-returns-in-Close t c = same _ _ _ _ (λ n. spec.value (view n c.args.e.now)) c.expression-in-Close.ensures (λ n. rw (c.get-in-Close.ensures, c.in-Close.is, view-Close) refl)
-
-pub expression-returns-in-Flush : goal.expression-returns-in-Flush
-expression-returns-in-Flush t c = same _ _ _ _ (λ n. spec.value (view n c.args.e.now)) c.expression-in-Flush.ensures (λ n. rw (c.get-in-Flush.ensures, c.in-Flush.is, view-Flush) refl)
-
-pub expression-returns-in_ok-site-in-System : goal.expression-returns-in_ok-site-in-System
-expression-returns-in_ok-site-in-System t c = then _ _ _ _ _ _ (λ n. spec.value (view n c.args.e.now)) (λ n. c.in_ok-site-in-System.ensures) c.expression-in-System.ensures (λ n. rw (c.constant-in-System.ensures n, c.get-in-System.ensures, c.get-in-System-2.ensures, c.in-System.is, view-System) refl)
+pub builtin-returns : goal.builtin-returns
+builtin-returns t c = then _ _ _ _ _ _ (λ n. spec.asked c.args.place c.args.which (expressions_of (map (view n) c.args.xs.now)) ++ spec.each (expressions_of (map (view n) c.args.xs.now))) c.in_ok-asked.ensures c.each.ensures (λ n. refl)
 
 pub two-returns : goal.two-returns
 two-returns t c = then _ _ _ _ _ _ (λ n. spec.value (view n c.args.x.now) ++ spec.value (view n c.args.y.now)) c.in_ok-expression.ensures c.expression-2.ensures (λ n. refl)

@@ -28,6 +28,9 @@ decreases-argument l = 1 + 16 * l.level
 abbrev pub decreases-arguments : goal.decreases-arguments
 decreases-arguments l = 2 + 16 * l.level
 
+abbrev pub decreases-builtin : goal.decreases-builtin
+decreases-builtin l = 2 + 16 * l.level
+
 abbrev pub decreases-two : goal.decreases-two
 decreases-two l = 1 + 16 * l.level
 

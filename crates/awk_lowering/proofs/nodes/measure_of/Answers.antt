@@ -1,6 +1,0 @@
-use Rattle.std.proofs.Common.{refl}
-use Rattle.awk_program.proofs.Views.{view-Measure}
-use Rattle.awk_lowering.proofs.nodes.measure_of.Goals as goal
-
-pub returns-in-Ok : goal.returns-in-Ok
-returns-in-Ok c = λ t a h0. let p0 = rw c.in-Ok.is at h0 in rw (view-Measure, p0) refl

@@ -1,6 +1,0 @@
-use Rattle.std.proofs.Common.{refl}
-use Rattle.awk_program.proofs.Views.{view-Sprintf}
-use Rattle.awk_lowering.proofs.nodes.sprintf_of.Goals as goal
-
-pub returns-in-Ok : goal.returns-in-Ok
-returns-in-Ok c = λ t a b h0 h1. let w = c.in-Ok.ensures in let p0 = rw w.0 at h0 in let p1 = rw w.1 at h1 in rw (view-Sprintf, p0, p1) refl

@@ -1,0 +1,39 @@
+// The built-in functions whose arguments are plain values.
+
+ghost use Rattle.std.specs.Prelude.{◌≡◌};
+ghost use Rattle.awk_program.specs.Builtins.{word_of};
+
+/// A built-in function whose arguments are plain values. Those that take a pattern or an array have forms of their own.
+#[derive(Clone, Copy, Debug, PartialEq, Eq, Drop)]
+pub enum Builtin {
+    Close,
+    Fflush,
+    Index,
+    Int,
+    Length,
+    Sprintf,
+    Substr,
+    System,
+    Tolower,
+    Toupper,
+}
+
+impl Builtin {
+    /// The word that a script calls it by.
+    pub fn word(self) -> &'static str
+        ensures { result.now ≡ word_of self }
+    {
+        match self {
+            Builtin::Close => "close",
+            Builtin::Fflush => "fflush",
+            Builtin::Index => "index",
+            Builtin::Int => "int",
+            Builtin::Length => "length",
+            Builtin::Sprintf => "sprintf",
+            Builtin::Substr => "substr",
+            Builtin::System => "system",
+            Builtin::Tolower => "tolower",
+            Builtin::Toupper => "toupper",
+        }
+    }
+}
