@@ -9,12 +9,12 @@ ghost use Rattle.awk_tree.specs.Tree.{trees_of, perhaps_of, terms_of, pipes_of};
 ghost use Rattle.awk_tree.specs.View.{view, view_term, view_piped};
 
 use crate::spelling::{
-    arithmetic_text, assignment_text, builtin_text, comparison_text, match_text, sign_text,
-    step_text, substitute_text,
+    arithmetic_text, assignment_text, comparison_text, match_text, sign_text, step_text,
+    substituting,
 };
 use crate::tokens::{push_builtin, push_kept, push_keyword, push_members, push_name, push_sign};
 use awk_text::Memory;
-use awk_tokens::{Token, TokenKind};
+use awk_tokens::{Builtin, Token, TokenKind};
 use awk_tree::{Expr, Name, Piped, Term};
 use sqlite_items::Boxed;
 use std::alloc::Global;
@@ -40,9 +40,9 @@ pub fn expression(alloc: Global, e: &Expr, out: &mut Vec<Token>) -> Result<(), M
             push_kept(alloc, TokenKind::CallName, &name.text, out)?;
             enclosed(alloc, "(", xs.as_slice(), ")", out)
         }
-        Expr::Length(_place) => push_builtin(alloc, "length", out),
+        Expr::Length(_place) => push_builtin(alloc, Builtin::Length, out),
         Expr::Builtin(_place, builtin, xs) => {
-            push_builtin(alloc, builtin_text(*builtin), out)?;
+            push_builtin(alloc, *builtin, out)?;
             enclosed(alloc, "(", xs.as_slice(), ")", out)
         }
         Expr::Split(_place, x, name, y) => split(alloc, x.get(), name, y, out),
@@ -293,7 +293,7 @@ fn split(
 ) -> Result<(), Memory>
     ensures { OnOk result (out.new.items ≡ out.old.items ++ spec.canon (t.split terminals.nowhere (view x.now) name.now (perhaps_of (option_map view y.now)))) }
 {
-    push_builtin(alloc, "split", out)?;
+    push_builtin(alloc, Builtin::Split, out)?;
     push_sign(alloc, "(", out)?;
     suffixed(alloc, x, ",", out)?;
     push_name(alloc, name, out)?;
@@ -314,7 +314,7 @@ fn substitute(
 ) -> Result<(), Memory>
     ensures { OnOk result (out.new.items ≡ out.old.items ++ spec.canon (t.substitute terminals.nowhere is_all (view x.now) (view y.now) (perhaps_of (option_map view z.now)))) }
 {
-    push_builtin(alloc, substitute_text(is_all), out)?;
+    push_builtin(alloc, substituting(is_all), out)?;
     push_sign(alloc, "(", out)?;
     between(alloc, x, ",", y, out)?;
     behind_one(alloc, ",", z, out)?;

@@ -80,29 +80,8 @@ pub fn redirect_text(redirect: Redirect) -> &'static str
     }
 }
 
-pub fn substitute_text(is_all: bool) -> &'static str
-    ensures { result.now ≡ spec.substitute_text is_all }
+pub fn substituting(is_all: bool) -> Builtin
+    ensures { result ≡ spec.substituting is_all }
 {
-    if is_all { "gsub" } else { "sub" }
-}
-
-pub fn builtin_text(builtin: Builtin) -> &'static str
-    ensures { result.now ≡ terminals.builtin_text builtin }
-{
-    match builtin {
-        Builtin::Close => "close",
-        Builtin::Fflush => "fflush",
-        Builtin::Gsub => "gsub",
-        Builtin::Index => "index",
-        Builtin::Int => "int",
-        Builtin::Length => "length",
-        Builtin::Match => "match",
-        Builtin::Split => "split",
-        Builtin::Sprintf => "sprintf",
-        Builtin::Sub => "sub",
-        Builtin::Substr => "substr",
-        Builtin::System => "system",
-        Builtin::Tolower => "tolower",
-        Builtin::Toupper => "toupper",
-    }
+    if is_all { Builtin::Gsub } else { Builtin::Sub }
 }

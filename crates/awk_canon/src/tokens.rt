@@ -1,6 +1,7 @@
 // Tokens of a spelling.
 
 ghost use Rattle.std.specs.Prelude.{◌≡◌, [], ◌∷◌, ◌++◌, IfOk, OnOk};
+ghost use Rattle.awk_tokens.specs.Words.{builtin_text};
 ghost use Rattle.awk_tokens.specs.declared.kinds.TokenKind.TheVariants as kinds;
 ghost use Rattle.awk_tree.specs.Canon as spec;
 ghost use Rattle.awk_tree.specs.Terminals as terminals;
@@ -8,7 +9,7 @@ ghost use Rattle.awk_tree.specs.Terminals as terminals;
 use awk_text::Memory;
 use awk_text::octets::Octets;
 use awk_text::place::Place;
-use awk_tokens::{Token, TokenKind};
+use awk_tokens::{Builtin, Token, TokenKind};
 use awk_tree::{Member, Name};
 use std::alloc::Global;
 
@@ -46,10 +47,10 @@ pub fn push_keyword(alloc: Global, text: &str, out: &mut Vec<Token>) -> Result<(
     push_text(alloc, TokenKind::Keyword, text, out)
 }
 
-pub fn push_builtin(alloc: Global, text: &str, out: &mut Vec<Token>) -> Result<(), Memory>
-    ensures { OnOk result (out.new.items ≡ out.old.items ++ spec.builtin_word text.now ∷ []) }
+pub fn push_builtin(alloc: Global, which: Builtin, out: &mut Vec<Token>) -> Result<(), Memory>
+    ensures { OnOk result (out.new.items ≡ out.old.items ++ spec.builtin_word (builtin_text which) ∷ []) }
 {
-    push_text(alloc, TokenKind::Builtin, text, out)
+    push_text(alloc, TokenKind::Builtin, which.text(), out)
 }
 
 /// A token of this kind, with a text that the tree keeps.

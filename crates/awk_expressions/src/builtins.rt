@@ -12,6 +12,7 @@ use crate::pairs::pair;
 use crate::terminals::is;
 use crate::tokens::Tokens;
 use awk_text::place::Place;
+use awk_tokens::Parameters;
 use awk_tree::{Builtin, Expr, Fault, Goal, Terminal};
 use sqlite_items::{Boxed, Items};
 use std::alloc::Global;
@@ -229,21 +230,15 @@ impl<F: Fn(Global, &mut Tokens<'_>, usize, Goal) -> Result<Boxed<Expr>, Fault>> 
         ensures { Reads view (spec.builtin self.now.depth (spec.expr self.now.depth) which tokens.old) result tokens.new }
     {
         let place = tokens.any()?.place;
-        match which {
-            Builtin::Close => self.of_one(tokens, place, which),
-            Builtin::Fflush => self.of_one_or_none(tokens, place, which),
-            Builtin::Gsub => self.substitute_of(tokens, place, true),
-            Builtin::Index => self.of_two(tokens, place, which),
-            Builtin::Int => self.of_one(tokens, place, which),
-            Builtin::Length => self.length_of(tokens, place),
-            Builtin::Match => self.of_two(tokens, place, which),
-            Builtin::Split => self.split_of(tokens, place),
-            Builtin::Sprintf => self.of_list(tokens, place, which),
-            Builtin::Sub => self.substitute_of(tokens, place, false),
-            Builtin::Substr => self.of_two_or_three(tokens, place, which),
-            Builtin::System => self.of_one(tokens, place, which),
-            Builtin::Tolower => self.of_one(tokens, place, which),
-            Builtin::Toupper => self.of_one(tokens, place, which),
+        match which.parameters() {
+            Parameters::One => self.of_one(tokens, place, which),
+            Parameters::AtMostOne => self.of_one_or_none(tokens, place, which),
+            Parameters::Two => self.of_two(tokens, place, which),
+            Parameters::TwoOrThree => self.of_two_or_three(tokens, place, which),
+            Parameters::OneOrMore => self.of_list(tokens, place, which),
+            Parameters::Measured => self.length_of(tokens, place),
+            Parameters::Pieces => self.split_of(tokens, place),
+            Parameters::Replaced(all) => self.substitute_of(tokens, place, all),
         }
     }
 }

@@ -1,9 +1,43 @@
 // What a terminal is to a rule of expressions.
 
 ghost use Rattle.std.specs.Prelude.{◌≡◌};
+ghost use Rattle.awk_expressions.specs.Stops as stops;
 ghost use Rattle.awk_tree.specs.Expressions as spec;
 
 use awk_tree::{Arithmetic, Assignment, Comparison, Sign, Step, Terminal};
+
+/// Whether no chain of operands, from `*` up to `in`, goes on with this token, as far as it is told
+/// at once.
+pub fn ends_chains(kind: Terminal) -> bool
+    ensures { result ≡ stops.ends_chains kind }
+{
+    matches!(
+        kind,
+        Terminal::End
+            | Terminal::CloseParen
+            | Terminal::CloseBracket
+            | Terminal::Comma
+            | Terminal::Assign(_)
+            | Terminal::And
+            | Terminal::Or
+            | Terminal::Question
+            | Terminal::Colon
+    )
+}
+
+/// Whether no expression goes on with this token, as far as it is told at once.
+pub fn ends_expression(kind: Terminal) -> bool
+    ensures { result ≡ stops.ends_expression kind }
+{
+    matches!(
+        kind,
+        Terminal::End
+            | Terminal::CloseParen
+            | Terminal::CloseBracket
+            | Terminal::Comma
+            | Terminal::Colon
+    )
+}
 
 pub fn sign(kind: Terminal) -> Option<Sign>
     ensures { result ≡ spec.sign kind }

@@ -6,7 +6,7 @@ ghost use Rattle.awk_tree.specs.Expressions as spec;
 ghost use Rattle.awk_tree.specs.Input.{Reads};
 ghost use Rattle.awk_tree.specs.View.{view};
 
-use crate::expression_signs::assignment;
+use crate::expression_signs::{assignment, ends_expression};
 use crate::grammar::Grammar;
 use crate::nodes::{and_of, assign, choose, is_lvalue, or_of};
 use crate::pairs::pair;
@@ -168,8 +168,25 @@ impl<F: Fn(Global, &mut Tokens<'_>, usize, Goal) -> Result<Boxed<Expr>, Fault>> 
     }
 
     /// From the first operand of all chains on, to the end of an expression.
-    #[tactic(auto, unfolding(awk_tree::specs::Expressions::expr_rest))]
+    #[tactic(auto, using(crate::proofs::Stops::expression_stops))]
     pub(crate) fn expr_rest(
+        &self,
+        tokens: &mut Tokens<'_>,
+        in_print: bool,
+        left: Boxed<Expr>,
+    ) -> Result<Boxed<Expr>, Fault>
+        requires { Nests self.now.depth (F.pre self.now.inner) (F.post self.now.inner) }
+        ensures { Reads view (spec.expr_rest self.now.depth (spec.expr self.now.depth) in_print (view left) tokens.old) result tokens.new }
+    {
+        if ends_expression(tokens.ahead()) {
+            return Ok(left);
+        }
+        self.operators(tokens, in_print, left)
+    }
+
+    /// The same, rule by rule.
+    #[tactic(auto, unfolding(awk_tree::specs::Expressions::expr_rest))]
+    fn operators(
         &self,
         tokens: &mut Tokens<'_>,
         in_print: bool,

@@ -30,11 +30,18 @@ pub fn name_of(alloc: Global, token: &Token) -> Result<Name, AllocError>
     })
 }
 
+/// An empty list with room for so many. A list that grows by itself takes room for four at once.
+fn room<T: Drop>(alloc: Global, count: usize) -> Result<Items<T>, AllocError>
+    ensures { IfOk result (λ all. all ≡ []) }
+{
+    Ok(Items::from_vec(Vec::with_capacity(alloc, count)?))
+}
+
 /// The first and the others.
 pub fn joined<T: Drop>(alloc: Global, first: T, more: Items<T>) -> Result<Items<T>, AllocError>
     ensures { IfOk result (λ all. all ≡ first ∷ more) }
 {
-    let mut all = Items::new(alloc);
+    let mut all = room(alloc, more.len().saturating_add(1))?;
     all.push(first)?;
     all.append(more)?;
     Ok(all)
@@ -206,7 +213,7 @@ pub fn substitute(
 pub fn only<T: Drop>(alloc: Global, x: Boxed<T>) -> Result<Items<T>, AllocError>
     ensures { IfOk result (λ all. all ≡ x ∷ []) }
 {
-    let mut all = Items::new(alloc);
+    let mut all = room(alloc, 1)?;
     all.push(x.into_inner())?;
     Ok(all)
 }
@@ -215,7 +222,8 @@ pub fn only<T: Drop>(alloc: Global, x: Boxed<T>) -> Result<Items<T>, AllocError>
 pub fn both<T: Drop>(alloc: Global, x: Boxed<T>, y: Boxed<T>) -> Result<Items<T>, AllocError>
     ensures { IfOk result (λ all. all ≡ x ∷ y ∷ []) }
 {
-    let mut all = only(alloc, x)?;
+    let mut all = room(alloc, 2)?;
+    all.push(x.into_inner())?;
     all.push(y.into_inner())?;
     Ok(all)
 }

@@ -8,7 +8,7 @@ ghost use Rattle.awk_tree.specs.Tree as tree;
 ghost use Rattle.awk_tree.specs.Tree.{trees_of};
 ghost use Rattle.awk_tree.specs.View.{view, view_piped};
 
-use crate::expression_signs::{comparison, matching};
+use crate::expression_signs::{comparison, ends_chains, matching};
 use crate::grammar::Grammar;
 use crate::members::{in_name, in_names, in_rest};
 use crate::nodes::{compare, joined, matched, paren, pipe_of, unboxed};
@@ -133,8 +133,25 @@ impl<F: Fn(Global, &mut Tokens<'_>, usize, Goal) -> Result<Boxed<Expr>, Fault>> 
     }
 
     /// From the first operand of all these chains on, up to `in`.
-    #[tactic(auto, unfolding(awk_tree::specs::Expressions::unary_rest))]
+    #[tactic(auto, using(crate::proofs::Stops::unary_stops))]
     fn unary_rest(
+        &self,
+        tokens: &mut Tokens<'_>,
+        in_print: bool,
+        left: Boxed<Expr>,
+    ) -> Result<Boxed<Expr>, Fault>
+        requires { Nests self.now.depth (F.pre self.now.inner) (F.post self.now.inner) }
+        ensures { Reads view (spec.unary_rest self.now.depth (spec.expr self.now.depth) in_print (view left) tokens.old) result tokens.new }
+    {
+        if ends_chains(tokens.ahead()) {
+            return Ok(left);
+        }
+        self.chains(tokens, in_print, left)
+    }
+
+    /// The same, rule by rule.
+    #[tactic(auto, unfolding(awk_tree::specs::Expressions::unary_rest))]
+    fn chains(
         &self,
         tokens: &mut Tokens<'_>,
         in_print: bool,

@@ -3,48 +3,7 @@
 ghost use Rattle.std.specs.Prelude.{◌≡◌, map};
 ghost use Rattle.awk_tree.specs.Terminals as spec;
 
-use awk_tokens::{Token, TokenKind};
-use awk_tree::{Assignment, Builtin, Step, Terminal};
-
-const KEYWORDS: [(&[u8], Terminal); 20] = [
-    (b"BEGIN", Terminal::BeginWord),
-    (b"END", Terminal::EndWord),
-    (b"break", Terminal::Break),
-    (b"continue", Terminal::Continue),
-    (b"delete", Terminal::Delete),
-    (b"do", Terminal::Do),
-    (b"else", Terminal::Else),
-    (b"exit", Terminal::Exit),
-    (b"for", Terminal::For),
-    (b"func", Terminal::Function),
-    (b"function", Terminal::Function),
-    (b"getline", Terminal::Getline),
-    (b"if", Terminal::If),
-    (b"in", Terminal::In),
-    (b"next", Terminal::Next),
-    (b"nextfile", Terminal::NextFile),
-    (b"print", Terminal::Print),
-    (b"printf", Terminal::Printf),
-    (b"return", Terminal::Return),
-    (b"while", Terminal::While),
-];
-
-const BUILTINS: [(&[u8], Terminal); 14] = [
-    (b"close", Terminal::Builtin(Builtin::Close)),
-    (b"fflush", Terminal::Builtin(Builtin::Fflush)),
-    (b"gsub", Terminal::Builtin(Builtin::Gsub)),
-    (b"index", Terminal::Builtin(Builtin::Index)),
-    (b"int", Terminal::Builtin(Builtin::Int)),
-    (b"length", Terminal::Builtin(Builtin::Length)),
-    (b"match", Terminal::Builtin(Builtin::Match)),
-    (b"split", Terminal::Builtin(Builtin::Split)),
-    (b"sprintf", Terminal::Builtin(Builtin::Sprintf)),
-    (b"sub", Terminal::Builtin(Builtin::Sub)),
-    (b"substr", Terminal::Builtin(Builtin::Substr)),
-    (b"system", Terminal::Builtin(Builtin::System)),
-    (b"tolower", Terminal::Builtin(Builtin::Tolower)),
-    (b"toupper", Terminal::Builtin(Builtin::Toupper)),
-];
+use awk_tokens::{Assignment, Step, Terminal, Token, TokenKind, as_builtin, as_keyword};
 
 fn word_in(mut table: &[(&[u8], Terminal)], text: &[u8]) -> Terminal
     ensures { result ≡ spec.word_in (map (λ entry. (entry.0.now, entry.1)) table.entry.now) text.now }
@@ -127,8 +86,8 @@ fn terminal_of(kind: TokenKind, text: &[u8]) -> Terminal
         TokenKind::Number => Terminal::Number,
         TokenKind::Quoted => Terminal::Quoted,
         TokenKind::Pattern => Terminal::Pattern,
-        TokenKind::Keyword => word_in(&KEYWORDS, text),
-        TokenKind::Builtin => word_in(&BUILTINS, text),
+        TokenKind::Keyword => as_keyword(text),
+        TokenKind::Builtin => as_builtin(text),
         TokenKind::Refused => Terminal::Refused,
         TokenKind::Name => Terminal::Name,
         TokenKind::CallName => Terminal::CallName,
@@ -190,24 +149,21 @@ fn number_of(one: Terminal) -> u8
         Terminal::Append => 40,
         Terminal::BeginWord => 41,
         Terminal::EndWord => 42,
-        Terminal::Break => 43,
-        Terminal::Continue => 44,
-        Terminal::Delete => 45,
-        Terminal::Do => 46,
-        Terminal::Else => 47,
-        Terminal::Exit => 48,
-        Terminal::For => 49,
-        Terminal::Function => 50,
-        Terminal::Getline => 51,
-        Terminal::If => 52,
-        Terminal::In => 53,
-        Terminal::Next => 54,
-        Terminal::NextFile => 55,
-        Terminal::Print => 56,
-        Terminal::Printf => 57,
-        Terminal::Return => 58,
-        Terminal::While => 59,
-        Terminal::Refused => 60,
+        Terminal::Jump(_) => 43,
+        Terminal::Delete => 44,
+        Terminal::Do => 45,
+        Terminal::Else => 46,
+        Terminal::Exit => 47,
+        Terminal::For => 48,
+        Terminal::Function => 49,
+        Terminal::Getline => 50,
+        Terminal::If => 51,
+        Terminal::In => 52,
+        Terminal::Print => 53,
+        Terminal::Printf => 54,
+        Terminal::Return => 55,
+        Terminal::While => 56,
+        Terminal::Refused => 57,
     }
 }
 
@@ -252,12 +208,13 @@ fn seen(first: Terminal, rest: &[Token]) -> Terminal
     }
 }
 
-/// The next token as an expression sees it.
-pub fn ahead(tokens: &[Token]) -> Terminal
+/// The next token as an expression sees it, where it is this one.
+pub fn ahead(next: Terminal, tokens: &[Token]) -> Terminal
+    requires { next ≡ spec.look tokens.now }
     ensures { result ≡ spec.ahead tokens.now }
 {
     match tokens {
         [] => Terminal::End,
-        [token, rest @ ..] => seen(terminal(token), rest),
+        [_, rest @ ..] => seen(next, rest),
     }
 }

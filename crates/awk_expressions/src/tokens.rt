@@ -10,10 +10,13 @@ use awk_tokens::Token;
 use awk_tree::{Fault, Terminal};
 use std::marker::Model;
 
-/// The tokens that are still to be read.
+/// The tokens that are still to be read, with what the first of them is, which is asked many times.
 #[derive(Drop)]
 pub struct Tokens<'a> {
     rest: &'a [Token],
+    next: Terminal,
+    /// The same as an expression sees it.
+    seen: Terminal,
 }
 
 impl<'a> Model for Tokens<'a> {
@@ -22,16 +25,50 @@ impl<'a> Model for Tokens<'a> {
 
     ghost Value = { List Token };
 
-    ghost use Rattle.awk_expressions.specs.Cursor.{tokens_of};
+    ghost use Rattle.awk_expressions.specs.Cursor.{tokens_of, IsCursor};
 
     ghost view = { tokens_of };
+
+    ghost invariant = { IsCursor };
+}
+
+/// What is left behind newlines.
+fn behind_lines(mut rest: &[Token]) -> &[Token]
+    ensures { result.now ≡ spec.skip rest.entry.now }
+{
+    while let Some((_, more)) = rest.split_first() {
+        if !is(look(rest), Terminal::Newline) {
+            return rest;
+        }
+        rest = more;
+    }
+    rest
+}
+
+/// What is left behind newlines and `;`.
+fn behind_ends(mut rest: &[Token]) -> &[Token]
+    ensures { result.now ≡ spec.past rest.entry.now }
+{
+    while let Some((_, more)) = rest.split_first() {
+        let next = look(rest);
+        if !is(next, Terminal::Newline) && !is(next, Terminal::Semicolon) {
+            return rest;
+        }
+        rest = more;
+    }
+    rest
 }
 
 impl<'a> Tokens<'a> {
     pub fn new(rest: &'a [Token]) -> Tokens<'a>
         ensures { result ≡ rest.now }
     {
-        Tokens { rest }
+        let next = look(rest);
+        Tokens {
+            rest,
+            next,
+            seen: ahead(next, rest),
+        }
     }
 
     /// How many tokens are left.
@@ -52,14 +89,14 @@ impl<'a> Tokens<'a> {
     pub fn look(&self) -> Terminal
         ensures { result ≡ terminals.look self.now }
     {
-        look(self.rest)
+        self.next
     }
 
     /// The next token as an expression sees it.
     pub fn ahead(&self) -> Terminal
         ensures { result ≡ terminals.ahead self.now }
     {
-        ahead(self.rest)
+        self.seen
     }
 
     /// S4 at the next token.
@@ -81,10 +118,11 @@ impl<'a> Tokens<'a> {
     pub fn any(&mut self) -> Result<&'a Token, Fault>
         ensures { Reads (λ t. t.now) (spec.any self.old) result self.new }
     {
-        let Some((first, rest)) = self.rest.split_first() else {
+        let tokens = self.rest();
+        let Some((first, rest)) = tokens.split_first() else {
             return Err(Fault::Unexpected(0));
         };
-        self.rest = rest;
+        *self = Tokens::new(rest);
         Ok(first)
     }
 
@@ -113,27 +151,23 @@ impl<'a> Tokens<'a> {
     }
 
     /// Newlines that mean nothing.
+    #[tactic(auto, using(crate::proofs::Stops::skip_none))]
     pub fn skip(&mut self)
         ensures { self.new ≡ spec.skip self.old }
     {
-        while let Some((_, rest)) = self.rest.split_first() {
-            if !is(look(self.rest), Terminal::Newline) {
-                return;
-            }
-            self.rest = rest;
+        if is(self.look(), Terminal::Newline) {
+            *self = Tokens::new(behind_lines(self.rest()));
         }
     }
 
     /// Newlines and `;` that mean nothing.
+    #[tactic(auto, using(crate::proofs::Stops::past_none))]
     pub fn past(&mut self)
         ensures { self.new ≡ spec.past self.old }
     {
-        while let Some((_, rest)) = self.rest.split_first() {
-            let next = look(self.rest);
-            if !is(next, Terminal::Newline) && !is(next, Terminal::Semicolon) {
-                return;
-            }
-            self.rest = rest;
+        let next = self.look();
+        if is(next, Terminal::Newline) || is(next, Terminal::Semicolon) {
+            *self = Tokens::new(behind_ends(self.rest()));
         }
     }
 }

@@ -5,9 +5,9 @@ use Rattle.awk_tree.specs.Tree as t
 use Rattle.awk_tree.specs.Tree.{Text}
 use Rattle.awk_tree.specs.declared.names.Name.{Name}
 use Rattle.awk_tree.specs.declared.operators.Arithmetic.TheVariants as arithmetic
-use Rattle.awk_tree.specs.declared.operators.Assignment.TheVariants as assignment
+use Rattle.awk_tokens.specs.declared.terminals.Assignment.TheVariants as assignment
 use Rattle.awk_tree.specs.declared.operators.Sign.TheVariants as tree_sign
-use Rattle.awk_tree.specs.declared.operators.Step.TheVariants as tree_step
+use Rattle.awk_tokens.specs.declared.terminals.Step.TheVariants as tree_step
 use Rattle.awk_program.specs.declared.operators.Operator.TheVariants as operator
 use Rattle.awk_program.specs.declared.operators.Sign.TheVariants as sign
 use Rattle.awk_program.specs.declared.operators.Step.TheVariants as step

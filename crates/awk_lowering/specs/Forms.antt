@@ -7,18 +7,18 @@ use Rattle.awk_text.specs.declared.place.Place.{Place}
 use Rattle.awk_tree.specs.Tree.{Text}
 use Rattle.awk_tree.specs.declared.operators.Arithmetic as tree_arithmetic
 use Rattle.awk_tree.specs.declared.operators.Arithmetic.TheVariants as a
-use Rattle.awk_tree.specs.declared.operators.Assignment as tree_assignment
-use Rattle.awk_tree.specs.declared.operators.Assignment.TheVariants as s
+use Rattle.awk_tokens.specs.declared.terminals.Assignment as tree_assignment
+use Rattle.awk_tokens.specs.declared.terminals.Assignment.TheVariants as s
 use Rattle.awk_tree.specs.declared.operators.Comparison as tree_comparison
 use Rattle.awk_tree.specs.declared.operators.Comparison.TheVariants as tc
 use Rattle.awk_tree.specs.declared.operators.Sign as tree_sign
 use Rattle.awk_tree.specs.declared.operators.Sign.TheVariants as ts
-use Rattle.awk_tree.specs.declared.operators.Step as tree_step
-use Rattle.awk_tree.specs.declared.operators.Step.TheVariants as tp
+use Rattle.awk_tokens.specs.declared.terminals.Step as tree_step
+use Rattle.awk_tokens.specs.declared.terminals.Step.TheVariants as tp
 use Rattle.awk_tree.specs.declared.operators.Redirect as tree_redirect
 use Rattle.awk_tree.specs.declared.operators.Redirect.TheVariants as tr
-use Rattle.awk_tree.specs.declared.operators.Builtin as tree_builtin
-use Rattle.awk_tree.specs.declared.operators.Builtin.TheVariants as b
+use Rattle.awk_tokens.specs.declared.words.Builtin as tree_builtin
+use Rattle.awk_tokens.specs.declared.words.Builtin.TheVariants as b
 use Rattle.awk_program.specs.declared.builtins.Builtin.{Builtin}
 use Rattle.awk_program.specs.declared.builtins.Builtin.TheVariants as f
 use Rattle.awk_program.specs.declared.operators.Operator.{Operator}

@@ -14,8 +14,8 @@ use Rattle.awk_tree.specs.Tree as t
 use Rattle.awk_tree.specs.Tree.{Text, Tree, Trees, Perhaps}
 use Rattle.awk_tree.specs.declared.names.Name.{Name}
 use Rattle.awk_tree.specs.declared.names.Member.{Member}
-use Rattle.awk_tree.specs.declared.operators.Builtin.{Builtin}
-use Rattle.awk_tree.specs.declared.operators.Builtin.TheVariants as b
+use Rattle.awk_tokens.specs.declared.words.Builtin.{Builtin}
+use Rattle.awk_tokens.specs.declared.words.Builtin.TheVariants as b
 use Rattle.awk_resolve.specs.Mentions.{bare, alone}
 use Rattle.awk_program.specs.declared.builtins.Builtin as running
 use Rattle.awk_program.specs.declared.builtins.Builtin.TheVariants as f

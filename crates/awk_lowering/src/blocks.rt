@@ -2,10 +2,11 @@
 
 ghost use Rattle.std.specs.Prelude.{◌≡◌, List, Option, Some};
 ghost use Rattle.awk_lowering.specs.Forms as forms;
+ghost use Rattle.awk_lowering.specs.LoweredStatements as low;
 ghost use Rattle.awk_lowering.specs.Made.{Is, IsPerhaps, AreAll, AreRedirected, AreStatements, IsStatement, IsVariable};
 ghost use Rattle.awk_program.specs.Program as p;
 ghost use Rattle.awk_program.specs.Program.{Expression, statements_of};
-ghost use Rattle.awk_program.specs.View.{Names};
+ghost use Rattle.awk_program.specs.View.{Names, view_statement};
 ghost use Rattle.awk_program.specs.declared.statements.Redirection as redirection;
 
 use crate::kept::{both, four, three, unboxed};
@@ -13,6 +14,7 @@ use crate::operators::redirect;
 use awk_program::{Expr, Redirection, Statement, Variable};
 use awk_text::Memory;
 use awk_text::place::Place;
+use awk_tree::Jump;
 use sqlite_items::{Boxed, Items};
 use std::alloc::Global;
 
@@ -76,6 +78,19 @@ pub fn delete_all_of(v: Result<Variable, Memory>) -> Result<Statement, Memory>
     match v {
         Ok(v) => Ok(Statement::DeleteAll(v)),
         Err(refused) => Err(refused),
+    }
+}
+
+/// A word alone
+#[tactic(auto, using(awk_program::proofs::Views::statement_views))]
+pub fn jump_of(place: Place, which: Jump) -> Statement
+    ensures { (t : Names) → view_statement t result ≡ low.jump_of place which }
+{
+    match which {
+        Jump::Break => Statement::Break,
+        Jump::Continue => Statement::Continue,
+        Jump::Next => Statement::Next(place),
+        Jump::NextFile => Statement::NextFile(place),
     }
 }
 

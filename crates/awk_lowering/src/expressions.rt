@@ -12,7 +12,7 @@ ghost use Rattle.awk_tree.specs.Tree.{trees_of, perhaps_of, pipes_of};
 ghost use Rattle.awk_tree.specs.View.{view, view_term, view_piped};
 
 use crate::constants::{number, pattern, quoted};
-use crate::kept::{boxed, kept, push};
+use crate::kept::{boxed, kept, push, room};
 use crate::names::{Context, arrays_in, arrays_of, function, variable};
 use crate::nodes::{
     and_of, builtin_of, call_of, chain_of, choose_of, compare_of, concat_of, count_of,
@@ -370,7 +370,7 @@ fn fill(
 pub fn list(context: &Context<'_>, xs: &[awk_tree::Expr], level: u32) -> Result<Items<Expr>, Memory>
     ensures { AreAll (names_in context.now) result (map (lowered (scope_in context.now)) (map view xs.now)) }
 {
-    let mut out = Items::new(context.alloc);
+    let mut out = room(context.alloc, xs.len());
     let filled = fill(context, xs, &mut out, level);
     kept(out, filled)
 }
@@ -400,7 +400,7 @@ fn terms(
 ) -> Result<Items<Term<Expr>>, Memory>
     ensures { AreTerms (names_in context.now) result (map (lowered_term (scope_in context.now)) (map view_term xs.now)) }
 {
-    let mut out = Items::new(context.alloc);
+    let mut out = room(context.alloc, xs.len());
     let filled = fill_terms(context, xs, &mut out, level);
     kept(out, filled)
 }
@@ -430,7 +430,7 @@ fn joins(
 ) -> Result<Items<Joined<Expr>>, Memory>
     ensures { AreJoins (names_in context.now) result (map (lowered_join (scope_in context.now)) (map view xs.now)) }
 {
-    let mut out = Items::new(context.alloc);
+    let mut out = room(context.alloc, xs.len());
     let filled = fill_joins(context, xs, &mut out, level);
     kept(out, filled)
 }
@@ -460,7 +460,7 @@ fn pipes(
 ) -> Result<Items<Piped<Expr>>, Memory>
     ensures { ArePipes (names_in context.now) result (low.lowered_pipes (scope_in context.now) (pipes_of (map view_piped xs.now))) }
 {
-    let mut out = Items::new(context.alloc);
+    let mut out = room(context.alloc, xs.len());
     let filled = fill_pipes(context, xs, &mut out, level);
     kept(out, filled)
 }
@@ -494,7 +494,7 @@ fn arguments(
 ) -> Result<Items<Argument<Expr>>, Memory>
     ensures { AreArguments (names_in context.now) result (low.arguments (scope_in context.now) arrays.now (trees_of (map view xs.now))) }
 {
-    let mut out = Items::new(context.alloc);
+    let mut out = room(context.alloc, xs.len());
     let filled = fill_arguments(context, arrays, xs, &mut out, level);
     kept(out, filled)
 }

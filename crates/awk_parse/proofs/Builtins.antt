@@ -2,15 +2,16 @@
 use Rattle.std.proofs.Common.{◌≡◌, ℕ, suc, true, false, cond, Option, Some, None, List, [], ◌∷◌, ◌++◌, option_map, codes, refl, sym, ap, ◌∙◌, append_assoc}
 use Rattle.std.proofs.lemmas.List.{append-nil}
 use Rattle.awk_tokens.specs.declared.token.Token.{Token}
-use Rattle.awk_tree.specs.declared.operators.Builtin.{Builtin}
-use Rattle.awk_tree.specs.declared.operators.Builtin.TheVariants as b
+use Rattle.awk_tokens.specs.declared.words.Builtin.{Builtin}
 use Rattle.awk_tree.specs.declared.goals.Goal.{Goal}
 use Rattle.awk_tree.specs.declared.goals.Goal.TheVariants as goal
-use Rattle.awk_tree.specs.declared.terminals.Terminal.{Terminal}
-use Rattle.awk_tree.specs.declared.terminals.Terminal.TheVariants as w
+use Rattle.awk_tokens.specs.declared.terminals.Terminal.{Terminal}
+use Rattle.awk_tokens.specs.declared.terminals.Terminal.TheVariants as w
 use Rattle.awk_tree.specs.Tree as tree
 use Rattle.awk_tree.specs.Tree.{Tree, Trees, trees_of, perhaps_of}
-use Rattle.awk_tree.specs.Terminals.{terminal, terminal_of, is, sign, keyword, ahead, nowhere, builtin_text}
+use Rattle.awk_tree.specs.Terminals.{terminal, terminal_of, is, sign, keyword, ahead, nowhere}
+use Rattle.awk_tokens.specs.Words.{builtin_text, parameters}
+use Rattle.awk_tokens.specs.declared.words.Parameters.TheVariants as takes
 use Rattle.awk_tree.specs.Input.{Parser, ◌>>=◌, one, pure}
 use Rattle.awk_tree.specs.Expressions as e
 use Rattle.awk_tree.specs.Expressions.{name_of, is_lvalue}
@@ -118,21 +119,21 @@ module _ (n depth : ℕ) (inner : Goal → Parser Tree) (deeper : Inner n depth 
   abbrev pub builtin_form : Builtin → Form Token
   builtin_form which = word (w.Builtin which) (λ _. builtin_word (builtin_text which))
 
-  one_spells : (which : Builtin) → g.takes_one which ≡ true → (us : List Token) (q : Token × Tree) (rest : List Token) → Both (builtin_form which) (parens (whole n false)) us q rest → Spells n rule.prim us (tree.builtin q.0.place which (trees_of (q.1 ∷ []))) rest
+  one_spells : (which : Builtin) → g.takes_one (parameters which) ≡ true → (us : List Token) (q : Token × Tree) (rest : List Token) → Both (builtin_form which) (parens (whole n false)) us q rest → Spells n rule.prim us (tree.builtin q.0.place which (trees_of (q.1 ∷ []))) rest
   one_spells which one _ _ _ (both _ _ rest _ _ (this t _ h) (enclosed o c us x _ i j (opens, k, _))) = g.a_call_of_one n which t o c us x rest one h i j opens k
 
-  pub of_one_law : (which : Builtin) → g.takes_one which ≡ true → LawOn Near Near (builtin_form which) (here n rule.prim) (λ t. e.of_one depth inner t.place which)
+  pub of_one_law : (which : Builtin) → g.takes_one (parameters which) ≡ true → LawOn Near Near (builtin_form which) (here n rule.prim) (λ t. e.of_one depth inner t.place which)
   unfolding e.of_one e.one_argument
   of_one_law which one t ts =
       seq_at Near Near Near (builtin_form which) (parens (whole n false)) (here n rule.prim) (e.one_argument depth inner) (λ t x. pure (tree.builtin t.place which (trees_of (x ∷ [])))) t ts (parens_law (whole n false) (inner (goal.Expr false)) (deeper.wholes false) ts)
       (pure_on Near (pair (builtin_form which) (parens (whole n false))) (here n rule.prim) (λ q. tree.builtin q.0.place which (trees_of (q.1 ∷ [])))
       (λ q. ap (λ (m : List Token). builtin_word (builtin_text which) ∷ sign (codes "(") ∷ m ++ sign (codes ")") ∷ []) (append-nil (canon q.1))) (λ q. refl) (one_spells which one))
 
-  two_spells : (which : Builtin) → g.takes_two which ≡ true → (us : List Token) (q : (((Token × Token) × Tree) × Tree) × Token) (rest : List Token) → Both (pair (pair (pair (builtin_form which) opening) (whole n false)) (nexts n depth inner deeper)) closing us q rest
+  two_spells : (which : Builtin) → parameters which ≡ takes.Two → (us : List Token) (q : (((Token × Token) × Tree) × Tree) × Token) (rest : List Token) → Both (pair (pair (pair (builtin_form which) opening) (whole n false)) (nexts n depth inner deeper)) closing us q rest
       → Spells n rule.prim us (tree.builtin q.0.0.0.0.place which (trees_of (q.0.0.1 ∷ q.0.1 ∷ []))) rest
   two_spells which two _ _ _ (both _ _ rest _ _ (both _ vs _ _ y (both _ us _ _ x (both _ _ _ _ _ (this t _ h) (this o _ i)) (opens, k, _)) (_, l)) (this c _ j)) = g.a_call_of_two n which t o c us vs x y rest two h i j opens k l
 
-  pub of_two_law : (which : Builtin) → g.takes_two which ≡ true → LawOn Near Near (builtin_form which) (here n rule.prim) (λ t. e.of_two depth inner t.place which)
+  pub of_two_law : (which : Builtin) → parameters which ≡ takes.Two → LawOn Near Near (builtin_form which) (here n rule.prim) (λ t. e.of_two depth inner t.place which)
   unfolding e.of_two
   of_two_law which two t ts =
       seq_at Near Near Near (builtin_form which) opening (here n rule.prim) (one w.OpenParen) (λ t _. inner (goal.Expr false) >>= λ x. e.next_in_list depth inner >>= λ y. one w.CloseParen >>= λ _. pure (tree.builtin t.place which (trees_of (x ∷ y ∷ [])))) t ts (opening_law Near ts)
@@ -167,24 +168,24 @@ module _ (n depth : ℕ) (inner : Goal → Parser Tree) (deeper : Inner n depth 
   unfolding e.last_next
   last_next_law = closes_law furthers (e.perhaps_next depth inner) further_law
 
-  abbrev substr_parts : Form ((((Token × Token) × Tree) × Tree) × Option Tree)
-  substr_parts = pair (pair (pair (pair (builtin_form b.Substr) opening) (whole n false)) (nexts n depth inner deeper)) (closes furthers)
+  abbrev longer_parts : Builtin → Form ((((Token × Token) × Tree) × Tree) × Option Tree)
+  longer_parts which = pair (pair (pair (pair (builtin_form which) opening) (whole n false)) (nexts n depth inner deeper)) (closes furthers)
 
-  substr_spells : (us : List Token) (q : (((Token × Token) × Tree) × Tree) × Option Tree) (rest : List Token) → Both (pair (pair (pair (builtin_form b.Substr) opening) (whole n false)) (nexts n depth inner deeper)) (closes furthers) us q rest
-      → Spells n rule.prim us (tree.builtin q.0.0.0.0.place b.Substr (trees_of (q.0.0.1 ∷ q.0.1 ∷ e.listed q.1))) rest
-  substr_spells _ _ _ (both _ _ rest _ _ (both _ vs _ _ y (both _ us _ _ x (both _ _ _ _ _ (this t _ h) (this o _ i)) (opens, k, _)) (_, l)) (closed c ws z _ j m)) =
+  longer_spells : (which : Builtin) → parameters which ≡ takes.TwoOrThree → (us : List Token) (q : (((Token × Token) × Tree) × Tree) × Option Tree) (rest : List Token) → Both (pair (pair (pair (builtin_form which) opening) (whole n false)) (nexts n depth inner deeper)) (closes furthers) us q rest
+      → Spells n rule.prim us (tree.builtin q.0.0.0.0.place which (trees_of (q.0.0.1 ∷ q.0.1 ∷ e.listed q.1))) rest
+  longer_spells which longer _ _ _ (both _ _ rest _ _ (both _ vs _ _ y (both _ us _ _ x (both _ _ _ _ _ (this t _ h) (this o _ i)) (opens, k, _)) (_, l)) (closed c ws z _ j m)) =
       let same : (ws ++ c ∷ []) ++ rest ≡ ws ++ c ∷ rest = append_assoc ws (c ∷ []) rest in
-      subst (λ (v : List Token). Spells n rule.prim v (tree.builtin t.place b.Substr (trees_of (x ∷ y ∷ e.listed z))) rest) (append_assoc ((t ∷ o ∷ us) ++ vs) ws (c ∷ []))
-      (g.a_substr n t o c us vs ws x y z rest h i j opens (subst (λ (v : List Token). Spells (suc n) (rule.expr false) us x (vs ++ v)) same k) (subst (λ (v : List Token). Next (suc n) vs y v) same l) m)
+      subst (λ (v : List Token). Spells n rule.prim v (tree.builtin t.place which (trees_of (x ∷ y ∷ e.listed z))) rest) (append_assoc ((t ∷ o ∷ us) ++ vs) ws (c ∷ []))
+      (g.a_call_of_two_or_three n which t o c us vs ws x y z rest longer h i j opens (subst (λ (v : List Token). Spells (suc n) (rule.expr false) us x (vs ++ v)) same k) (subst (λ (v : List Token). Next (suc n) vs y v) same l) m)
 
-  pub of_substr_law : LawOn Near Near (builtin_form b.Substr) (here n rule.prim) (λ t. e.of_two_or_three depth inner t.place b.Substr)
+  pub of_two_or_three_law : (which : Builtin) → parameters which ≡ takes.TwoOrThree → LawOn Near Near (builtin_form which) (here n rule.prim) (λ t. e.of_two_or_three depth inner t.place which)
   unfolding e.of_two_or_three
-  of_substr_law t ts =
-      seq_at Near Near Near (builtin_form b.Substr) opening (here n rule.prim) (one w.OpenParen) (λ t _. inner (goal.Expr false) >>= λ x. e.next_in_list depth inner >>= λ y. e.last_next depth inner >>= λ z. pure (tree.builtin t.place b.Substr (trees_of (x ∷ y ∷ e.listed z)))) t ts (opening_law Near ts)
-      (λ q ts. seq_at Near Near Near (pair (builtin_form b.Substr) opening) (whole n false) (here n rule.prim) (inner (goal.Expr false)) (λ q x. e.next_in_list depth inner >>= λ y. e.last_next depth inner >>= λ z. pure (tree.builtin q.0.place b.Substr (trees_of (x ∷ y ∷ e.listed z)))) q ts (deeper.wholes false ts)
-      (λ q ts. seq_at Near Near Near (pair (pair (builtin_form b.Substr) opening) (whole n false)) (nexts n depth inner deeper) (here n rule.prim) (e.next_in_list depth inner) (λ q y. e.last_next depth inner >>= λ z. pure (tree.builtin q.0.0.place b.Substr (trees_of (q.1 ∷ y ∷ e.listed z)))) q ts (next_law n depth inner deeper ts)
-      (λ q ts. seq_at Near Near Near (pair (pair (pair (builtin_form b.Substr) opening) (whole n false)) (nexts n depth inner deeper)) (closes furthers) (here n rule.prim) (e.last_next depth inner) (λ q z. pure (tree.builtin q.0.0.0.place b.Substr (trees_of (q.0.1 ∷ q.1 ∷ e.listed z)))) q ts (last_next_law ts)
-      (pure_on Near substr_parts (here n rule.prim) (λ q. tree.builtin q.0.0.0.0.place b.Substr (trees_of (q.0.0.1 ∷ q.0.1 ∷ e.listed q.1)))
-      (λ q. ap (λ (m : List Token). (builtin_word (codes "substr") ∷ sign (codes "(") ∷ m) ++ sign (codes ")") ∷ []) (ap (λ (m : List Token). canon q.0.0.1 ++ (plain_comma q.0.1 ++ m)) (listed-of q.1) ∙ sym (append_assoc (canon q.0.0.1) (plain_comma q.0.1) (canon_comma (perhaps_of q.1))))
-      ∙ append_assoc (builtin_word (codes "substr") ∷ sign (codes "(") ∷ (canon q.0.0.1 ++ plain_comma q.0.1)) (canon_comma (perhaps_of q.1)) (sign (codes ")") ∷ []))
-      (λ q. ap (tree.builtin nowhere b.Substr) (bare-listed q.0.0.1 q.0.1 q.1)) substr_spells))))
+  of_two_or_three_law which longer t ts =
+      seq_at Near Near Near (builtin_form which) opening (here n rule.prim) (one w.OpenParen) (λ t _. inner (goal.Expr false) >>= λ x. e.next_in_list depth inner >>= λ y. e.last_next depth inner >>= λ z. pure (tree.builtin t.place which (trees_of (x ∷ y ∷ e.listed z)))) t ts (opening_law Near ts)
+      (λ q ts. seq_at Near Near Near (pair (builtin_form which) opening) (whole n false) (here n rule.prim) (inner (goal.Expr false)) (λ q x. e.next_in_list depth inner >>= λ y. e.last_next depth inner >>= λ z. pure (tree.builtin q.0.place which (trees_of (x ∷ y ∷ e.listed z)))) q ts (deeper.wholes false ts)
+      (λ q ts. seq_at Near Near Near (pair (pair (builtin_form which) opening) (whole n false)) (nexts n depth inner deeper) (here n rule.prim) (e.next_in_list depth inner) (λ q y. e.last_next depth inner >>= λ z. pure (tree.builtin q.0.0.place which (trees_of (q.1 ∷ y ∷ e.listed z)))) q ts (next_law n depth inner deeper ts)
+      (λ q ts. seq_at Near Near Near (pair (pair (pair (builtin_form which) opening) (whole n false)) (nexts n depth inner deeper)) (closes furthers) (here n rule.prim) (e.last_next depth inner) (λ q z. pure (tree.builtin q.0.0.0.place which (trees_of (q.0.1 ∷ q.1 ∷ e.listed z)))) q ts (last_next_law ts)
+      (pure_on Near (longer_parts which) (here n rule.prim) (λ q. tree.builtin q.0.0.0.0.place which (trees_of (q.0.0.1 ∷ q.0.1 ∷ e.listed q.1)))
+      (λ q. ap (λ (m : List Token). (builtin_word (builtin_text which) ∷ sign (codes "(") ∷ m) ++ sign (codes ")") ∷ []) (ap (λ (m : List Token). canon q.0.0.1 ++ (plain_comma q.0.1 ++ m)) (listed-of q.1) ∙ sym (append_assoc (canon q.0.0.1) (plain_comma q.0.1) (canon_comma (perhaps_of q.1))))
+      ∙ append_assoc (builtin_word (builtin_text which) ∷ sign (codes "(") ∷ (canon q.0.0.1 ++ plain_comma q.0.1)) (canon_comma (perhaps_of q.1)) (sign (codes ")") ∷ []))
+      (λ q. ap (tree.builtin nowhere which) (bare-listed q.0.0.1 q.0.1 q.1)) (longer_spells which longer)))))

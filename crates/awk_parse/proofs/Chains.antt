@@ -4,8 +4,8 @@ use Rattle.std.proofs.lemmas.List.{append-nil}
 use Rattle.std.specs.List.{flat_map}
 use Rattle.awk_tokens.specs.declared.token.Token.{Token}
 use Rattle.awk_tree.specs.declared.goals.Goal.{Goal}
-use Rattle.awk_tree.specs.declared.terminals.Terminal.{Terminal}
-use Rattle.awk_tree.specs.declared.terminals.Terminal.TheVariants as w
+use Rattle.awk_tokens.specs.declared.terminals.Terminal.{Terminal}
+use Rattle.awk_tokens.specs.declared.terminals.Terminal.TheVariants as w
 use Rattle.awk_tree.specs.Tree as tree
 use Rattle.awk_tree.specs.Tree.{Tree, Trees, trees_of, perhaps_of}
 use Rattle.awk_tree.specs.Terminals.{terminal, terminal_of, is, sign, keyword, ahead, nowhere}
@@ -295,6 +295,7 @@ module _ (n depth : ℕ) (inner : Goal → Parser Tree) (deeper : Inner n depth 
           lone (w.Builtin which) h = absurd cc
           lone (w.Assign how) h = absurd cc
           lone (w.Step which) h = absurd cc
+          lone (w.Jump which) h = absurd cc
           lone _ h = refl
 
   pipes_spells : (us vs : List Token) (x : Piped Tree) (xs : List (Piped Tree)) (rest : List Token) → is w.BarGetline (ahead (us ++ (vs ++ rest))) ≡ true → Pipe us x (vs ++ rest) → g.Pipes n vs xs rest → g.Pipes n (us ++ vs) (x ∷ xs) rest

@@ -5,8 +5,8 @@ use Rattle.std.specs.List.{flat_map}
 use Rattle.awk_tokens.specs.declared.token.Token.{Token}
 use Rattle.awk_tree.specs.declared.goals.Goal.{Goal}
 use Rattle.awk_tree.specs.declared.goals.Goal.TheVariants as goal
-use Rattle.awk_tree.specs.declared.terminals.Terminal.{Terminal}
-use Rattle.awk_tree.specs.declared.terminals.Terminal.TheVariants as w
+use Rattle.awk_tokens.specs.declared.terminals.Terminal.{Terminal}
+use Rattle.awk_tokens.specs.declared.terminals.Terminal.TheVariants as w
 use Rattle.awk_tree.specs.Tree as tree
 use Rattle.awk_tree.specs.Tree.{Tree, Trees, trees_of, perhaps_of}
 use Rattle.awk_tree.specs.Terminals.{terminal, terminal_of, is, sign, ahead, nowhere}
@@ -22,7 +22,7 @@ use Rattle.awk_parse.proofs.Law.{Eye, Near, Behind, Form, Law, GoesAt, LawOn, th
 use Rattle.awk_parse.proofs.Many.{chain, many_law}
 use Rattle.awk_parse.proofs.Words.{a_sign, opening, closing, opening_law, closing_law}
 use Rattle.awk_tree.specs.declared.names.Member.{Member}
-use Rattle.awk_tree.specs.declared.operators.Assignment.{Assignment}
+use Rattle.awk_tokens.specs.declared.terminals.Assignment.{Assignment}
 use Rattle.awk_tree.specs.Terminals.{assignment_text}
 use Rattle.awk_tree.specs.Canon.{canon_ands, canon_ors, bare_member, canon_members}
 use Rattle.awk_parse.specs.Spells.{Names, Ands, Ors}

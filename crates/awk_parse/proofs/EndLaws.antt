@@ -2,8 +2,8 @@
 use Rattle.std.proofs.Common.{◌≡◌, ℕ, Bool, List, [], ◌∷◌, ◌++◌, Ok, codes, refl, sym, ap, subst, ◌∙◌, append_assoc}
 use Rattle.awk_tokens.specs.declared.token.Token.{Token}
 use Rattle.awk_tokens.specs.declared.kinds.TokenKind.TheVariants as kind
-use Rattle.awk_tree.specs.declared.terminals.Terminal.{Terminal}
-use Rattle.awk_tree.specs.declared.terminals.Terminal.TheVariants as w
+use Rattle.awk_tokens.specs.declared.terminals.Terminal.{Terminal}
+use Rattle.awk_tokens.specs.declared.terminals.Terminal.TheVariants as w
 use Rattle.awk_tree.specs.Tree.{Statement}
 use Rattle.awk_tree.specs.Terminals.{terminal_of, seen, is, look, ahead, sign, keyword, token}
 use Rattle.awk_tree.specs.Input.{any, pure}
@@ -26,10 +26,7 @@ with_end _ _ _ _ (r.a_print n t us vs xs z rest _ _ _) = refl
 with_end _ _ _ _ (r.a_printf n t us vs xs z rest _ _ _) = refl
 with_end _ _ _ _ (r.a_delete_all n t m rest _ _ _) = refl
 with_end _ _ _ _ (r.a_delete n t m o c us xs rest _ _ _ _ _ _) = sym (append_assoc (keyword (codes "delete") ∷ token kind.Name m.text ∷ sign (codes "[") ∷ canon_items xs) (sign (codes "]") ∷ []) end)
-with_end _ _ _ _ (r.a_break n t rest _) = refl
-with_end _ _ _ _ (r.a_continue n t rest _) = refl
-with_end _ _ _ _ (r.a_next n t rest _) = refl
-with_end _ _ _ _ (r.a_next_file n t rest _) = refl
+with_end _ _ _ _ (r.a_jump n which t rest _) = refl
 with_end _ _ _ _ (r.an_exit n t us x rest _ _) = refl
 with_end _ _ _ _ (r.a_return n t us x rest _ _) = refl
 

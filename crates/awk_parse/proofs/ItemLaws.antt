@@ -5,8 +5,8 @@ use Rattle.std.specs.List.{flat_map}
 use Rattle.awk_tokens.specs.declared.token.Token.{Token}
 use Rattle.awk_tokens.specs.declared.kinds.TokenKind.TheVariants as kind
 use Rattle.awk_tree.specs.declared.names.Name.{Name}
-use Rattle.awk_tree.specs.declared.terminals.Terminal.{Terminal}
-use Rattle.awk_tree.specs.declared.terminals.Terminal.TheVariants as w
+use Rattle.awk_tokens.specs.declared.terminals.Terminal.{Terminal}
+use Rattle.awk_tokens.specs.declared.terminals.Terminal.TheVariants as w
 use Rattle.awk_tree.specs.Tree as tree
 use Rattle.awk_tree.specs.Tree.{Tree, Statement, Condition, Entry}
 use Rattle.awk_tree.specs.Terminals.{terminal, terminal_of, is, ahead, sign, keyword, token}

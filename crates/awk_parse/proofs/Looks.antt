@@ -1,8 +1,8 @@
 -- What is told of tokens as they stand: what a statement begins with, and whether an `else` comes next.
 use Rattle.std.proofs.Common.{◌≡◌, ◌≢◌, ℕ, ◌≤◌, Bool, true, false, ◌||◌, List, [], ◌∷◌, ◌++◌, length, refl, sym, ap, ◌∙◌, ◌⊎◌, inl, inr, arith}
 use Rattle.awk_tokens.specs.declared.token.Token.{Token}
-use Rattle.awk_tree.specs.declared.terminals.Terminal.{Terminal}
-use Rattle.awk_tree.specs.declared.terminals.Terminal.TheVariants as w
+use Rattle.awk_tokens.specs.declared.terminals.Terminal.{Terminal}
+use Rattle.awk_tokens.specs.declared.terminals.Terminal.TheVariants as w
 use Rattle.awk_tree.specs.Tree as tree
 use Rattle.awk_tree.specs.Tree.{Tree, Statement}
 use Rattle.awk_tree.specs.Terminals.{terminal, terminal_of, is, look, ahead}
@@ -13,7 +13,7 @@ use Rattle.awk_parse.specs.SpellsScripts as r
 use Rattle.awk_parse.specs.SpellsScripts.{Simple, Gap, SpellsStatement}
 use Rattle.awk_parse.proofs.TerminalLemmas.{is-true, steady, terminal_is, ahead_is}
 use Rattle.awk_parse.proofs.Law.{Eye, decided}
-use Rattle.awk_parse.proofs.Starts.{begins_expression, Starts, starts}
+use Rattle.awk_parse.proofs.Starts.{begins_expression, Starts, starts, jump_is}
 
 -- ---- how two lists of tokens are alike
 
@@ -52,10 +52,7 @@ abbrev pub begins_simple : Terminal → Bool
 begins_simple w.Print = true
 begins_simple w.Printf = true
 begins_simple w.Delete = true
-begins_simple w.Break = true
-begins_simple w.Continue = true
-begins_simple w.Next = true
-begins_simple w.NextFile = true
+begins_simple (w.Jump which) = true
 begins_simple w.Exit = true
 begins_simple w.Return = true
 begins_simple other = begins_expression other
@@ -86,10 +83,7 @@ expression_begins : (k : Terminal) → begins_expression k ≡ true → begins_s
 expression_begins w.Print h = refl
 expression_begins w.Printf h = refl
 expression_begins w.Delete h = refl
-expression_begins w.Break h = refl
-expression_begins w.Continue h = refl
-expression_begins w.Next h = refl
-expression_begins w.NextFile h = refl
+expression_begins (w.Jump which) h = refl
 expression_begins w.Exit h = refl
 expression_begins w.Return h = refl
 expression_begins _ h = h
@@ -127,10 +121,7 @@ begins (tree.print p xs z) = refl
 begins (tree.printf p xs z) = refl
 begins (tree.delete n xs) = refl
 begins (tree.delete_all n) = refl
-begins (tree.break p) = refl
-begins (tree.continue p) = refl
-begins (tree.next p) = refl
-begins (tree.next_file p) = refl
+begins (tree.jump p which) = ap begins_statement (jump_is which)
 begins (tree.exit p x) = refl
 begins (tree.return p x) = refl
 begins (tree.block xs) = refl
@@ -169,10 +160,7 @@ simple_look _ _ _ _ s (r.a_print n t us vs xs z rest _ _ _) = refl
 simple_look _ _ _ _ s (r.a_printf n t us vs xs z rest _ _ _) = refl
 simple_look _ _ _ _ s (r.a_delete_all n t m rest _ _ _) = refl
 simple_look _ _ _ _ s (r.a_delete n t m o c us xs rest _ _ _ _ _ _) = refl
-simple_look _ _ _ _ s (r.a_break n t rest _) = refl
-simple_look _ _ _ _ s (r.a_continue n t rest _) = refl
-simple_look _ _ _ _ s (r.a_next n t rest _) = refl
-simple_look _ _ _ _ s (r.a_next_file n t rest _) = refl
+simple_look _ _ _ _ s (r.a_jump n which t rest _) = ap begins_simple (jump_is which)
 simple_look _ _ _ _ s (r.an_exit n t us x rest _ _) = refl
 simple_look _ _ _ _ s (r.a_return n t us x rest _ _) = refl
 
@@ -193,10 +181,7 @@ semicolon_or (tree.print p xs z) s = inr refl
 semicolon_or (tree.printf p xs z) s = inr refl
 semicolon_or (tree.delete n xs) s = inr refl
 semicolon_or (tree.delete_all n) s = inr refl
-semicolon_or (tree.break p) s = inr refl
-semicolon_or (tree.continue p) s = inr refl
-semicolon_or (tree.next p) s = inr refl
-semicolon_or (tree.next_file p) s = inr refl
+semicolon_or (tree.jump p which) s = inr (ap (λ (k : Terminal). is k w.Semicolon) (jump_is which))
 semicolon_or (tree.exit p x) s = inr refl
 semicolon_or (tree.return p x) s = inr refl
 semicolon_or (tree.block xs) s = inr refl
@@ -214,10 +199,7 @@ not_simple _ _ _ _ (r.a_print n t us vs xs z rest _ _ _) h = absurd cc
 not_simple _ _ _ _ (r.a_printf n t us vs xs z rest _ _ _) h = absurd cc
 not_simple _ _ _ _ (r.a_delete_all n t m rest _ _ _) h = absurd cc
 not_simple _ _ _ _ (r.a_delete n t m o c us xs rest _ _ _ _ _ _) h = absurd cc
-not_simple _ _ _ _ (r.a_break n t rest _) h = absurd cc
-not_simple _ _ _ _ (r.a_continue n t rest _) h = absurd cc
-not_simple _ _ _ _ (r.a_next n t rest _) h = absurd cc
-not_simple _ _ _ _ (r.a_next_file n t rest _) h = absurd cc
+not_simple _ _ _ _ (r.a_jump n which t rest _) h = absurd cc
 not_simple _ _ _ _ (r.an_exit n t us x rest _ _) h = absurd cc
 not_simple _ _ _ _ (r.a_return n t us x rest _ _) h = absurd cc
 

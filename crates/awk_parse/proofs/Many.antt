@@ -3,7 +3,7 @@ use Rattle.std.proofs.Common.{◌≡◌, ℕ, zero, suc, ◌≤◌, Bool, true, 
 use Rattle.std.proofs.lemmas.List.{length-append}
 use Rattle.std.specs.List.{flat_map}
 use Rattle.awk_tokens.specs.declared.token.Token.{Token}
-use Rattle.awk_tree.specs.declared.terminals.Terminal.{Terminal}
+use Rattle.awk_tokens.specs.declared.terminals.Terminal.{Terminal}
 use Rattle.awk_tree.specs.Terminals.{ahead}
 use Rattle.awk_tree.specs.Input.{Parser, ◌>>=◌, refuse, pure, many_from, many}
 use Rattle.awk_parse.proofs.Law.{Near, Form, Read, At, Law, bind_ok, chosen, done_is}

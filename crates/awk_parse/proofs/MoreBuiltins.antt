@@ -3,18 +3,21 @@ use Rattle.std.proofs.Common.{◌≡◌, ℕ, suc, Bool, true, false, cond, Opti
 use Rattle.std.proofs.lemmas.List.{append-nil}
 use Rattle.awk_tokens.specs.declared.token.Token.{Token}
 use Rattle.awk_tokens.specs.declared.kinds.TokenKind.TheVariants as kind
-use Rattle.awk_tree.specs.declared.operators.Builtin.{Builtin}
-use Rattle.awk_tree.specs.declared.operators.Builtin.TheVariants as b
+use Rattle.awk_tokens.specs.declared.words.Builtin.{Builtin}
+use Rattle.awk_tokens.specs.declared.words.Builtin.TheVariants as b
 use Rattle.awk_tree.specs.declared.goals.Goal.{Goal}
 use Rattle.awk_tree.specs.declared.goals.Goal.TheVariants as goal
-use Rattle.awk_tree.specs.declared.terminals.Terminal.TheVariants as w
+use Rattle.awk_tokens.specs.declared.terminals.Terminal.TheVariants as w
 use Rattle.awk_tree.specs.Tree as tree
 use Rattle.awk_tree.specs.Tree.{Tree, Trees, trees_of, perhaps_of}
-use Rattle.awk_tree.specs.Terminals.{terminal_of, is, sign, token, ahead, nowhere, builtin_text}
+use Rattle.awk_tree.specs.Terminals.{terminal_of, is, sign, token, ahead, nowhere}
+use Rattle.awk_tokens.specs.Words.{builtin_text, parameters}
+use Rattle.awk_tokens.specs.declared.words.Parameters.{Parameters}
+use Rattle.awk_tokens.specs.declared.words.Parameters.TheVariants as takes
 use Rattle.awk_tree.specs.Input.{Parser, ◌>>=◌, any, one, pure, opened, skip, skipped}
 use Rattle.awk_tree.specs.Expressions as e
 use Rattle.awk_tree.specs.Expressions.{name_of, is_lvalue}
-use Rattle.awk_tree.specs.Canon.{canon, bare, bare_name, canon_list, builtin_word}
+use Rattle.awk_tree.specs.Canon.{canon, bare, bare_name, canon_list, builtin_word, substituting}
 use Rattle.awk_parse.specs.Rules as rule
 use Rattle.awk_parse.specs.Rules.{Rule}
 use Rattle.awk_parse.specs.Spells as g
@@ -24,7 +27,7 @@ use Rattle.awk_parse.proofs.Starts.{builtin_is}
 use Rattle.awk_parse.proofs.Words.{a_name, opening, closing, comma, opening_law, closing_law, comma_law, name_law}
 use Rattle.awk_tree.specs.Canon.{canon_comma}
 use Rattle.awk_parse.proofs.Operands.{plain_comma, closes, closes_law, closed, tree_form, here, below, whole, Inner, bare_all-of, no_line, nexts, next_law, lists, list_law, opened_form, opened_law}
-use Rattle.awk_parse.proofs.Builtins.{bare_perhaps-of, builtin_form, furthers, last_next_law, of_one_law, of_two_law, of_substr_law}
+use Rattle.awk_parse.proofs.Builtins.{bare_perhaps-of, builtin_form, furthers, last_next_law, of_one_law, of_two_law, of_two_or_three_law}
 
 -- lists behind one another
 name_between : (us ns vs : List Token) (u m c : Token) → ((us ++ u ∷ []) ++ (ns ++ m ∷ [])) ++ (vs ++ c ∷ []) ≡ us ++ u ∷ ns ++ m ∷ vs ++ c ∷ []
@@ -36,20 +39,37 @@ name_after ns vs rest u m c = simp append_assoc
 plain_between : (us vs : List Token) (u m c : Token) → ((us ++ u ∷ []) ++ m ∷ []) ++ (vs ++ c ∷ []) ≡ us ++ u ∷ m ∷ vs ++ c ∷ []
 plain_between us vs u m c = simp append_assoc
 
+-- ---- the built-in functions whose parameters are no plain expressions
+
+measured_is : (which : Builtin) → parameters which ≡ takes.Measured → which ≡ b.Length
+measured_is b.Length h = refl
+measured_is _ h = absurd cc
+
+pieces_is : (which : Builtin) → parameters which ≡ takes.Pieces → which ≡ b.Split
+pieces_is b.Split h = refl
+pieces_is _ h = absurd cc
+
+replaced_is : (which : Builtin) (all : Bool) → parameters which ≡ takes.Replaced all → which ≡ substituting all
+replaced_is b.Gsub true h = refl
+replaced_is b.Gsub false h = absurd cc
+replaced_is b.Sub true h = absurd cc
+replaced_is b.Sub false h = refl
+replaced_is _ all h = absurd cc
+
 module _ (n depth : ℕ) (inner : Goal → Parser Tree) (deeper : Inner n depth inner) where
-  -- ---- sprintf, fflush and length
+  -- ---- of some arguments, of at most one, and length
 
-  list_spells : (us : List Token) (q : ((Token × Token) × List Tree) × Token) (rest : List Token) → Both (pair (pair (builtin_form n depth inner deeper b.Sprintf) opening) (lists n depth inner deeper)) closing us q rest → Spells n rule.prim us (tree.builtin q.0.0.0.place b.Sprintf (trees_of q.0.1)) rest
-  list_spells _ _ _ (both _ _ rest _ _ (both _ us _ _ xs (both _ _ _ _ _ (this t _ h) (this o _ i)) (opens, k)) (this c _ j)) = g.a_sprintf n t o c us xs rest h i j opens k
+  list_spells : (which : Builtin) → parameters which ≡ takes.OneOrMore → (us : List Token) (q : ((Token × Token) × List Tree) × Token) (rest : List Token) → Both (pair (pair (builtin_form n depth inner deeper which) opening) (lists n depth inner deeper)) closing us q rest → Spells n rule.prim us (tree.builtin q.0.0.0.place which (trees_of q.0.1)) rest
+  list_spells which some _ _ _ (both _ _ rest _ _ (both _ us _ _ xs (both _ _ _ _ _ (this t _ h) (this o _ i)) (opens, k)) (this c _ j)) = g.a_call_of_some n which t o c us xs rest some h i j opens k
 
-  of_list_law : LawOn Near Near (builtin_form n depth inner deeper b.Sprintf) (here n rule.prim) (λ t. e.of_list depth inner t.place b.Sprintf)
+  of_list_law : (which : Builtin) → parameters which ≡ takes.OneOrMore → LawOn Near Near (builtin_form n depth inner deeper which) (here n rule.prim) (λ t. e.of_list depth inner t.place which)
   unfolding e.of_list
-  of_list_law t ts =
-      seq_at Near Near Near (builtin_form n depth inner deeper b.Sprintf) opening (here n rule.prim) (one w.OpenParen) (λ t _. e.list depth inner >>= λ xs. one w.CloseParen >>= λ _. pure (tree.builtin t.place b.Sprintf (trees_of xs))) t ts (opening_law Near ts)
-      (λ q ts. seq_at Near Near Near (pair (builtin_form n depth inner deeper b.Sprintf) opening) (lists n depth inner deeper) (here n rule.prim) (e.list depth inner) (λ q xs. one w.CloseParen >>= λ _. pure (tree.builtin q.0.place b.Sprintf (trees_of xs))) q ts (list_law n depth inner deeper ts)
-      (λ q ts. seq_at Near Near Near (pair (pair (builtin_form n depth inner deeper b.Sprintf) opening) (lists n depth inner deeper)) closing (here n rule.prim) (one w.CloseParen) (λ q _. pure (tree.builtin q.0.0.place b.Sprintf (trees_of q.1))) q ts (closing_law Near ts)
-      (pure_on Near (pair (pair (pair (builtin_form n depth inner deeper b.Sprintf) opening) (lists n depth inner deeper)) closing) (here n rule.prim) (λ q. tree.builtin q.0.0.0.place b.Sprintf (trees_of q.0.1)) (λ q. refl)
-      (λ q. ap (tree.builtin nowhere b.Sprintf) (bare_all-of q.0.1)) list_spells)))
+  of_list_law which some t ts =
+      seq_at Near Near Near (builtin_form n depth inner deeper which) opening (here n rule.prim) (one w.OpenParen) (λ t _. e.list depth inner >>= λ xs. one w.CloseParen >>= λ _. pure (tree.builtin t.place which (trees_of xs))) t ts (opening_law Near ts)
+      (λ q ts. seq_at Near Near Near (pair (builtin_form n depth inner deeper which) opening) (lists n depth inner deeper) (here n rule.prim) (e.list depth inner) (λ q xs. one w.CloseParen >>= λ _. pure (tree.builtin q.0.place which (trees_of xs))) q ts (list_law n depth inner deeper ts)
+      (λ q ts. seq_at Near Near Near (pair (pair (builtin_form n depth inner deeper which) opening) (lists n depth inner deeper)) closing (here n rule.prim) (one w.CloseParen) (λ q _. pure (tree.builtin q.0.0.place which (trees_of q.1))) q ts (closing_law Near ts)
+      (pure_on Near (pair (pair (pair (builtin_form n depth inner deeper which) opening) (lists n depth inner deeper)) closing) (here n rule.prim) (λ q. tree.builtin q.0.0.0.place which (trees_of q.0.1)) (λ q. refl)
+      (λ q. ap (tree.builtin nowhere which) (bare_all-of q.0.1)) (list_spells which some))))
 
   -- [ expr ]
   data Single : List Token → List Tree → List Token → Type 0 where
@@ -68,14 +88,14 @@ module _ (n depth : ℕ) (inner : Goal → Parser Tree) (deeper : Inner n depth 
       (λ _. then_at Near Near Near (whole n false) singles (inner (goal.Expr false)) (λ x. pure (x ∷ [])) ts (deeper.wholes false ts)
       (pure_on Near (whole n false) singles (λ x. x ∷ []) (λ x. append-nil (canon x)) (λ x. refl) (λ us x rest h. one_argument us x rest h.1))))
 
-  perhaps_spells : (which : Builtin) → g.takes_none which ≡ true → g.takes_one which ≡ true → (us : List Token) (q : ((Token × Token) × List Tree) × Token) (rest : List Token)
+  perhaps_spells : (which : Builtin) → g.takes_none (parameters which) ≡ true → g.takes_one (parameters which) ≡ true → (us : List Token) (q : ((Token × Token) × List Tree) × Token) (rest : List Token)
       → Both (pair (pair (builtin_form n depth inner deeper which) opening) (opened_form n depth inner deeper singles)) closing us q rest → Spells n rule.prim us (tree.builtin q.0.0.0.place which (trees_of q.0.1)) rest
   perhaps_spells which empty single _ _ _ (both _ _ rest _ _ (both _ us _ _ xs (both _ _ _ _ _ (this t _ h) (this o _ i)) (opens, k)) (this c _ j)) = made us xs (c ∷ rest) k where
     made : (us : List Token) (xs : List Tree) (after : List Token) → Single us xs (c ∷ rest) → Spells n rule.prim (t ∷ o ∷ us ++ c ∷ []) (tree.builtin t.place which (trees_of xs)) rest
     made _ _ _ (no_argument _) = g.a_call_of_none n which t o c rest empty h i j opens
     made _ _ _ (one_argument us x _ l) = g.a_call_of_one n which t o c us x rest single h i j opens l
 
-  of_one_or_none_law : (which : Builtin) → g.takes_none which ≡ true → g.takes_one which ≡ true → LawOn Near Near (builtin_form n depth inner deeper which) (here n rule.prim) (λ t. e.of_one_or_none depth inner t.place which)
+  of_one_or_none_law : (which : Builtin) → g.takes_none (parameters which) ≡ true → g.takes_one (parameters which) ≡ true → LawOn Near Near (builtin_form n depth inner deeper which) (here n rule.prim) (λ t. e.of_one_or_none depth inner t.place which)
   unfolding e.of_one_or_none
   of_one_or_none_law which empty single t ts =
       seq_at Near Near Near (builtin_form n depth inner deeper which) opening (here n rule.prim) (one w.OpenParen) (λ t _. opened depth (e.one_or_none depth inner) >>= λ xs. one w.CloseParen >>= λ _. pure (tree.builtin t.place which (trees_of xs))) t ts (opening_law Near ts)
@@ -129,7 +149,7 @@ module _ (n depth : ℕ) (inner : Goal → Parser Tree) (deeper : Inner n depth 
       (λ q ts. seq_at Behind Near Near (pair (pair (pair split_word opening) (whole n false)) comma) (behind a_name) (here n rule.prim) (skipped (one w.Name)) (λ q m. e.last_next depth inner >>= λ y. pure (tree.split q.0.0.0.place q.0.1 (name_of m) (perhaps_of y))) q ts (skipped_law Near a_name (one w.Name) name_first (name_law Near) ts)
       (λ q ts. seq_at Near Near Near (pair (pair (pair (pair split_word opening) (whole n false)) comma) (behind a_name)) (closes (furthers n depth inner deeper)) (here n rule.prim) (e.last_next depth inner) (λ q y. pure (tree.split q.0.0.0.0.place q.0.0.1 (name_of q.1) (perhaps_of y))) q ts (last_next_law n depth inner deeper ts)
       (pure_on Near split_parts (here n rule.prim) (λ q. tree.split q.0.0.0.0.0.place q.0.0.0.1 (name_of q.0.1) (perhaps_of q.1))
-      (λ q. sym (plain_between (builtin_word (codes "split") ∷ sign (codes "(") ∷ canon q.0.0.0.1) (canon_comma (perhaps_of q.1)) (sign (codes ",")) (token kind.Name q.0.1.text) (sign (codes ")"))))
+      (λ q. sym (plain_between (builtin_word (builtin_text b.Split) ∷ sign (codes "(") ∷ canon q.0.0.0.1) (canon_comma (perhaps_of q.1)) (sign (codes ",")) (token kind.Name q.0.1.text) (sign (codes ")"))))
       (λ q. ap (tree.split nowhere (bare q.0.0.0.1) (bare_name (name_of q.0.1))) (bare_perhaps-of q.1)) split_spells)))))
 
   -- ---- sub and gsub
@@ -152,7 +172,7 @@ module _ (n depth : ℕ) (inner : Goal → Parser Tree) (deeper : Inner n depth 
       (λ _. pure_at Near intos None ts refl refl (g.no_into (suc n) ts)))
 
   abbrev sub_word : Bool → Form Token
-  sub_word all = builtin_form n depth inner deeper (g.substitute all)
+  sub_word all = builtin_form n depth inner deeper (substituting all)
 
   last_lvalue_law : Law Near Near (closes intos) (e.last_lvalue depth inner)
   unfolding e.last_lvalue
@@ -169,8 +189,8 @@ module _ (n depth : ℕ) (inner : Goal → Parser Tree) (deeper : Inner n depth 
       (g.a_substitute n all t o c us vs ws x y z rest h i j opens (subst (λ (v : List Token). Spells (suc n) (rule.expr false) us x (vs ++ v)) same k) (subst (λ (v : List Token). Next (suc n) vs y v) same l) m)
 
   sub_plain : (all : Bool) (q : (((Token × Token) × Tree) × Tree) × Option Tree) → canon (tree.substitute q.0.0.0.0.place all q.0.0.1 q.0.1 (perhaps_of q.1)) ≡ (sub_parts all).plain q
-  sub_plain true q = append_assoc (builtin_word (codes "gsub") ∷ sign (codes "(") ∷ (canon q.0.0.1 ++ plain_comma q.0.1)) (canon_comma (perhaps_of q.1)) (sign (codes ")") ∷ [])
-  sub_plain false q = append_assoc (builtin_word (codes "sub") ∷ sign (codes "(") ∷ (canon q.0.0.1 ++ plain_comma q.0.1)) (canon_comma (perhaps_of q.1)) (sign (codes ")") ∷ [])
+  sub_plain all q =
+      append_assoc (builtin_word (builtin_text (substituting all)) ∷ sign (codes "(") ∷ (canon q.0.0.1 ++ plain_comma q.0.1)) (canon_comma (perhaps_of q.1)) (sign (codes ")") ∷ [])
 
   of_substitute_law : (all : Bool) → LawOn Near Near (sub_word all) (here n rule.prim) (λ t. e.substitute_of depth inner t.place all)
   unfolding e.substitute_of
@@ -184,24 +204,18 @@ module _ (n depth : ℕ) (inner : Goal → Parser Tree) (deeper : Inner n depth 
 
   -- ---- all of them
 
-  builtin_by_law : (which : Builtin) → LawOn Near Near (builtin_form n depth inner deeper which) (here n rule.prim) (λ t. e.builtin_by depth inner t.place which)
-  builtin_by_law b.Close = of_one_law n depth inner deeper b.Close refl
-  builtin_by_law b.Fflush = of_one_or_none_law b.Fflush refl refl
-  builtin_by_law b.Gsub = of_substitute_law true
-  builtin_by_law b.Index = of_two_law n depth inner deeper b.Index refl
-  builtin_by_law b.Int = of_one_law n depth inner deeper b.Int refl
-  builtin_by_law b.Length = of_length_law
-  builtin_by_law b.Match = of_two_law n depth inner deeper b.Match refl
-  builtin_by_law b.Split = of_split_law
-  builtin_by_law b.Sprintf = of_list_law
-  builtin_by_law b.Sub = of_substitute_law false
-  builtin_by_law b.Substr = of_substr_law n depth inner deeper
-  builtin_by_law b.System = of_one_law n depth inner deeper b.System refl
-  builtin_by_law b.Tolower = of_one_law n depth inner deeper b.Tolower refl
-  builtin_by_law b.Toupper = of_one_law n depth inner deeper b.Toupper refl
+  parameters_law : (which : Builtin) (how : Parameters) → parameters which ≡ how → LawOn Near Near (builtin_form n depth inner deeper which) (here n rule.prim) (λ t. e.parameters_by depth inner t.place which how)
+  parameters_law which takes.One is = of_one_law n depth inner deeper which (ap g.takes_one is)
+  parameters_law which takes.AtMostOne is = of_one_or_none_law which (ap g.takes_none is) (ap g.takes_one is)
+  parameters_law which takes.Two is = of_two_law n depth inner deeper which is
+  parameters_law which takes.TwoOrThree is = of_two_or_three_law n depth inner deeper which is
+  parameters_law which takes.OneOrMore is = of_list_law which is
+  parameters_law which takes.Measured is = subst (λ (k : Builtin). LawOn Near Near (builtin_form n depth inner deeper k) (here n rule.prim) (λ t. e.length_of depth inner t.place)) (sym (measured_is which is)) of_length_law
+  parameters_law which takes.Pieces is = subst (λ (k : Builtin). LawOn Near Near (builtin_form n depth inner deeper k) (here n rule.prim) (λ t. e.split_of depth inner t.place)) (sym (pieces_is which is)) of_split_law
+  parameters_law which (takes.Replaced all) is = subst (λ (k : Builtin). LawOn Near Near (builtin_form n depth inner deeper k) (here n rule.prim) (λ t. e.substitute_of depth inner t.place all)) (sym (replaced_is which all is)) (of_substitute_law all)
 
   pub builtin_law : (which : Builtin) (ts : List Token) → ahead ts ≡ w.Builtin which → At Near Near (here n rule.prim) (e.builtin depth inner which) ts
   unfolding e.builtin
   builtin_law which ts sees =
       then_at Near Near Near (builtin_form n depth inner deeper which) (here n rule.prim) any (λ t. e.builtin_by depth inner t.place which) ts
-      (any_at (w.Builtin which) (λ _. builtin_word (builtin_text which)) refl (λ _ _. builtin_is which) Near ts sees) (builtin_by_law which)
+      (any_at (w.Builtin which) (λ _. builtin_word (builtin_text which)) refl (λ _ _. builtin_is which) Near ts sees) (parameters_law which (parameters which) refl)

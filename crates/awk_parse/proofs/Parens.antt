@@ -9,13 +9,14 @@ use Rattle.awk_tree.specs.declared.operators.Comparison.{Comparison}
 use Rattle.awk_tree.specs.declared.operators.Comparison.TheVariants as c
 use Rattle.awk_tree.specs.declared.operators.Sign.{Sign}
 use Rattle.awk_tree.specs.declared.operators.Sign.TheVariants as prefix
-use Rattle.awk_tree.specs.declared.terminals.Terminal.{Terminal}
-use Rattle.awk_tree.specs.declared.terminals.Terminal.TheVariants as w
+use Rattle.awk_tokens.specs.declared.terminals.Terminal.{Terminal}
+use Rattle.awk_tokens.specs.declared.terminals.Terminal.TheVariants as w
 use Rattle.awk_tree.specs.Tree as t
 use Rattle.awk_tree.specs.Tree.{Tree, Trees, Perhaps, Terms, Pipes}
 use Rattle.awk_tree.specs.Terminals.{terminal, terminal_of, is, sign}
 use Rattle.awk_tree.specs.Statements.{each_next}
-use Rattle.awk_tree.specs.Canon.{canon, canon_list, canon_commas, canon_comma, canon_target, canon_file, canon_parts, canon_ands, canon_ors, canon_terms, canon_pipes, canon_members, canon_perhaps, builtin_word, arithmetic_text, comparison_text, prefix_text, match_text, substitute_text}
+use Rattle.awk_tokens.specs.Words.{builtin_text}
+use Rattle.awk_tree.specs.Canon.{canon, canon_list, canon_commas, canon_comma, canon_target, canon_file, canon_parts, canon_ands, canon_ors, canon_terms, canon_pipes, canon_members, canon_perhaps, builtin_word, arithmetic_text, comparison_text, prefix_text, match_text, substituting}
 use Rattle.awk_parse.proofs.TerminalLemmas.{both_true, is-true}
 use Rattle.awk_parse.proofs.Law.{decided}
 use Rattle.awk_parse.proofs.Starts.{step_is, assignment_is, builtin_is}
@@ -95,7 +96,7 @@ unfolding terminal_of
 neutral_match true = refl
 neutral_match false = refl
 
-neutral_substitute : (all : Bool) → neutral (terminal (builtin_word (substitute_text all))) ≡ true
+neutral_substitute : (all : Bool) → neutral (terminal (builtin_word (builtin_text (substituting all)))) ≡ true
 unfolding terminal_of
 neutral_substitute true = refl
 neutral_substitute false = refl

@@ -3,11 +3,11 @@ use Rattle.std.proofs.Common.{◌≡◌, ℕ, suc, true, false, cond, Option, So
 use Rattle.awk_tokens.specs.declared.token.Token.{Token}
 use Rattle.awk_tokens.specs.declared.kinds.TokenKind.TheVariants as kind
 use Rattle.awk_tree.specs.declared.operators.Sign.{Sign}
-use Rattle.awk_tree.specs.declared.operators.Step.{Step}
+use Rattle.awk_tokens.specs.declared.terminals.Step.{Step}
 use Rattle.awk_tree.specs.declared.goals.Goal.{Goal}
 use Rattle.awk_tree.specs.declared.goals.Goal.TheVariants as goal
-use Rattle.awk_tree.specs.declared.terminals.Terminal.{Terminal}
-use Rattle.awk_tree.specs.declared.terminals.Terminal.TheVariants as w
+use Rattle.awk_tokens.specs.declared.terminals.Terminal.{Terminal}
+use Rattle.awk_tokens.specs.declared.terminals.Terminal.TheVariants as w
 use Rattle.awk_tree.specs.Tree as tree
 use Rattle.awk_tree.specs.Tree.{Tree, Trees, trees_of, perhaps_of}
 use Rattle.awk_tree.specs.Terminals.{terminal, terminal_of, is, sign, token, ahead}

@@ -3,8 +3,8 @@ use Rattle.std.proofs.Common.{◌≡◌, ℕ, suc, Bool, true, false, cond, Opti
 use Rattle.awk_tokens.specs.declared.token.Token.{Token}
 use Rattle.awk_tree.specs.declared.goals.Goal.{Goal}
 use Rattle.awk_tree.specs.declared.goals.Goal.TheVariants as goal
-use Rattle.awk_tree.specs.declared.terminals.Terminal.{Terminal}
-use Rattle.awk_tree.specs.declared.terminals.Terminal.TheVariants as w
+use Rattle.awk_tokens.specs.declared.terminals.Terminal.{Terminal}
+use Rattle.awk_tokens.specs.declared.terminals.Terminal.TheVariants as w
 use Rattle.awk_tree.specs.Tree as tree
 use Rattle.awk_tree.specs.Tree.{Tree, Trees, trees_of, perhaps_of}
 use Rattle.awk_tree.specs.Terminals.{terminal, terminal_of, is, sign, keyword, ahead}
@@ -36,7 +36,7 @@ use Rattle.awk_parse.proofs.Builtins.{prefixed}
 use Rattle.awk_parse.proofs.Primaries.{knowing, known}
 use Rattle.awk_parse.proofs.Chains.{cat_law}
 use Rattle.awk_parse.proofs.Depths.{full, expression_law, grouping, grouped_at, expr_rest_law}
-use Rattle.awk_parse.proofs.SimpleLaws.{simple_form, plain_law, delete_law, break_at, continue_at, next_at, next_file_at, exit_at, return_at, printed_form, more_printed_law}
+use Rattle.awk_parse.proofs.SimpleLaws.{simple_form, plain_law, delete_law, jump_at, exit_at, return_at, printed_form, more_printed_law}
 
 abbrev redirect_terminal : Redirect → Terminal
 redirect_terminal to.Write = w.Greater
@@ -231,10 +231,7 @@ module _ (n depth : ℕ) (inner : Goal → Parser Tree) (deeper : Inner n depth 
   simple_at w.Print ts sees = print_law ts
   simple_at w.Printf ts sees = printf_law ts
   simple_at w.Delete ts sees = delete_law n depth inner deeper ts
-  simple_at w.Break ts sees = break_at n depth inner deeper ts sees
-  simple_at w.Continue ts sees = continue_at n depth inner deeper ts sees
-  simple_at w.Next ts sees = next_at n depth inner deeper ts sees
-  simple_at w.NextFile ts sees = next_file_at n depth inner deeper ts sees
+  simple_at (w.Jump which) ts sees = jump_at n depth inner deeper which ts sees
   simple_at w.Exit ts sees = exit_at n depth inner deeper ts sees
   simple_at w.Return ts sees = return_at n depth inner deeper ts sees
   simple_at _ ts sees = plain_law n depth inner deeper ts

@@ -3,7 +3,9 @@ use Rattle.std.proofs.Common.{◌≡◌, ℕ, Bool, true, false, cond, Option, S
 use Rattle.awk_tokens.specs.declared.token.Token.{Token}
 use Rattle.awk_tokens.specs.declared.kinds.TokenKind.TheVariants as kind
 use Rattle.awk_tree.specs.declared.goals.Goal.{Goal}
-use Rattle.awk_tree.specs.declared.terminals.Terminal.TheVariants as w
+use Rattle.awk_tokens.specs.declared.terminals.Terminal.TheVariants as w
+use Rattle.awk_tokens.specs.declared.words.Jump.{Jump}
+use Rattle.awk_tokens.specs.Words.{jump_text}
 use Rattle.awk_tree.specs.Tree as tree
 use Rattle.awk_tree.specs.Tree.{Tree, Trees, trees_of, perhaps_of}
 use Rattle.awk_tree.specs.Terminals.{terminal, terminal_of, is, sign, keyword, token, ahead}
@@ -16,6 +18,7 @@ use Rattle.awk_parse.specs.Rules.{Rule}
 use Rattle.awk_parse.specs.Spells.{Spells, Newlines}
 use Rattle.awk_parse.proofs.Law.{Near, Behind, Form, At, Law, GoesAt, done_is, then_at, seq_at, last_at, Both, both, pair, pure_on, pure_at, choice_at, choice_on, if_at, if_on, This, this, any_at, one_law, Lines, lines, behind, skipped_law}
 use Rattle.awk_parse.proofs.Many.{chain, many_law}
+use Rattle.awk_parse.proofs.Starts.{jump_is}
 use Rattle.awk_parse.proofs.Words.{a_keyword, a_name, comma, comma_law, name_law}
 use Rattle.awk_tree.specs.Tree.{Statement}
 use Rattle.awk_tree.specs.Statements as st
@@ -33,10 +36,7 @@ without_end (tree.print p xs r) = keyword (codes "print") ∷ canon_printed xs +
 without_end (tree.printf p xs r) = keyword (codes "printf") ∷ canon_printed xs ++ canon_redirection r
 without_end (tree.delete m xs) = keyword (codes "delete") ∷ token kind.Name m.text ∷ sign (codes "[") ∷ canon_items xs ++ sign (codes "]") ∷ []
 without_end (tree.delete_all m) = keyword (codes "delete") ∷ token kind.Name m.text ∷ []
-without_end (tree.break p) = keyword (codes "break") ∷ []
-without_end (tree.continue p) = keyword (codes "continue") ∷ []
-without_end (tree.next p) = keyword (codes "next") ∷ []
-without_end (tree.next_file p) = keyword (codes "nextfile") ∷ []
+without_end (tree.jump p which) = keyword (jump_text which) ∷ []
 without_end (tree.exit p x) = keyword (codes "exit") ∷ canon_perhaps x
 without_end (tree.return p x) = keyword (codes "return") ∷ canon_perhaps x
 without_end (tree.do_while s x) = keyword (codes "do") ∷ canon_statement s ++ canon_test (codes "while") x
@@ -94,21 +94,10 @@ module _ (n depth : ℕ) (inner : Goal → Parser Tree) (deeper : Inner n depth 
   plain_law ts = then_at Near Near Near (here false) simple_form (e.expression depth inner false) (λ x. pure (tree.plain x)) ts (here_law false ts)
       (pure_on Near (here false) simple_form (λ x. tree.plain x) (λ x. refl) (λ x. refl) (λ us x rest h. r.an_expression n us x rest h.0))
 
-  pub break_at : (ts : List Token) → ahead ts ≡ w.Break → At Near Near simple_form (any >>= λ t. pure (tree.break t.place)) ts
-  unfolding terminal_of
-  break_at ts sees = leaf w.Break (λ _. keyword (codes "break")) any simple_form (λ t. tree.break t.place) (λ t. refl) (λ t. refl) (λ t rest h. r.a_break n t rest h) ts (any_at w.Break (λ _. keyword (codes "break")) refl (λ _ _. refl) Near ts sees)
-
-  pub continue_at : (ts : List Token) → ahead ts ≡ w.Continue → At Near Near simple_form (any >>= λ t. pure (tree.continue t.place)) ts
-  unfolding terminal_of
-  continue_at ts sees = leaf w.Continue (λ _. keyword (codes "continue")) any simple_form (λ t. tree.continue t.place) (λ t. refl) (λ t. refl) (λ t rest h. r.a_continue n t rest h) ts (any_at w.Continue (λ _. keyword (codes "continue")) refl (λ _ _. refl) Near ts sees)
-
-  pub next_at : (ts : List Token) → ahead ts ≡ w.Next → At Near Near simple_form (any >>= λ t. pure (tree.next t.place)) ts
-  unfolding terminal_of
-  next_at ts sees = leaf w.Next (λ _. keyword (codes "next")) any simple_form (λ t. tree.next t.place) (λ t. refl) (λ t. refl) (λ t rest h. r.a_next n t rest h) ts (any_at w.Next (λ _. keyword (codes "next")) refl (λ _ _. refl) Near ts sees)
-
-  pub next_file_at : (ts : List Token) → ahead ts ≡ w.NextFile → At Near Near simple_form (any >>= λ t. pure (tree.next_file t.place)) ts
-  unfolding terminal_of
-  next_file_at ts sees = leaf w.NextFile (λ _. keyword (codes "nextfile")) any simple_form (λ t. tree.next_file t.place) (λ t. refl) (λ t. refl) (λ t rest h. r.a_next_file n t rest h) ts (any_at w.NextFile (λ _. keyword (codes "nextfile")) refl (λ _ _. refl) Near ts sees)
+  pub jump_at : (which : Jump) (ts : List Token) → ahead ts ≡ w.Jump which → At Near Near simple_form (any >>= λ t. pure (tree.jump t.place which)) ts
+  jump_at which ts sees =
+      leaf (w.Jump which) (λ _. keyword (jump_text which)) any simple_form (λ t. tree.jump t.place which) (λ t. refl) (λ t. refl) (λ t rest h. r.a_jump n which t rest h) ts
+      (any_at (w.Jump which) (λ _. keyword (jump_text which)) refl (λ _ _. jump_is which) Near ts sees)
 
   pub exit_at : (ts : List Token) → ahead ts ≡ w.Exit → At Near Near simple_form (any >>= λ t. st.perhaps_here depth inner >>= λ x. pure (tree.exit t.place x)) ts
   unfolding terminal_of

@@ -1,20 +1,23 @@
 -- What a canonical spelling begins with.
 use Rattle.std.proofs.Common.{◌≡◌, ◌≤◌, Bool, true, false, Some, List, [], ◌∷◌, ◌++◌, length, codes, refl, ap, arith}
 use Rattle.awk_tokens.specs.declared.token.Token.{Token}
-use Rattle.awk_tree.specs.declared.operators.Assignment.{Assignment}
-use Rattle.awk_tree.specs.declared.operators.Assignment.TheVariants as set
-use Rattle.awk_tree.specs.declared.operators.Builtin.{Builtin}
-use Rattle.awk_tree.specs.declared.operators.Builtin.TheVariants as b
+use Rattle.awk_tokens.specs.declared.terminals.Assignment.{Assignment}
+use Rattle.awk_tokens.specs.declared.terminals.Assignment.TheVariants as set
+use Rattle.awk_tokens.specs.declared.words.Builtin.{Builtin}
+use Rattle.awk_tokens.specs.declared.words.Builtin.TheVariants as b
+use Rattle.awk_tokens.specs.declared.words.Jump.{Jump}
+use Rattle.awk_tokens.specs.declared.words.Jump.TheVariants as j
 use Rattle.awk_tree.specs.declared.operators.Sign.{Sign}
 use Rattle.awk_tree.specs.declared.operators.Sign.TheVariants as prefix
-use Rattle.awk_tree.specs.declared.operators.Step.{Step}
-use Rattle.awk_tree.specs.declared.operators.Step.TheVariants as by
-use Rattle.awk_tree.specs.declared.terminals.Terminal.{Terminal}
-use Rattle.awk_tree.specs.declared.terminals.Terminal.TheVariants as w
+use Rattle.awk_tokens.specs.declared.terminals.Step.{Step}
+use Rattle.awk_tokens.specs.declared.terminals.Step.TheVariants as by
+use Rattle.awk_tokens.specs.declared.terminals.Terminal.{Terminal}
+use Rattle.awk_tokens.specs.declared.terminals.Terminal.TheVariants as w
 use Rattle.awk_tree.specs.Tree as t
 use Rattle.awk_tree.specs.Tree.{Tree, Trees}
 use Rattle.awk_tree.specs.Terminals as terminals
-use Rattle.awk_tree.specs.Terminals.{terminal, terminal_of, is, step_text, assignment_text, builtin_text}
+use Rattle.awk_tokens.specs.Words.{builtin_text, jump_text}
+use Rattle.awk_tree.specs.Terminals.{terminal, terminal_of, is, step_text, assignment_text}
 use Rattle.awk_tree.specs.Input.{skip}
 use Rattle.awk_tree.specs.Expressions as e
 use Rattle.awk_tree.specs.Canon.{canon, prefix_text, builtin_word}
@@ -45,19 +48,12 @@ assignment_is set.Power = refl
 pub builtin_is : (which : Builtin) → terminal (builtin_word (builtin_text which)) ≡ w.Builtin which
 unfolding terminal_of
 builtin_is b.Close = refl
-builtin_is b.Fflush = refl
-builtin_is b.Gsub = refl
-builtin_is b.Index = refl
-builtin_is b.Int = refl
-builtin_is b.Length = refl
-builtin_is b.Match = refl
-builtin_is b.Split = refl
-builtin_is b.Sprintf = refl
-builtin_is b.Sub = refl
-builtin_is b.Substr = refl
-builtin_is b.System = refl
-builtin_is b.Tolower = refl
-builtin_is b.Toupper = refl
+builtin_is _ = refl
+
+pub jump_is : (which : Jump) → terminal (terminals.keyword (jump_text which)) ≡ w.Jump which
+unfolding terminal_of
+jump_is j.Break = refl
+jump_is _ = refl
 
 -- ---- the first token
 

@@ -7,8 +7,8 @@ use Rattle.awk_tree.specs.declared.goals.Goal.{Goal}
 use Rattle.awk_tree.specs.declared.goals.Goal.TheVariants as goal
 use Rattle.awk_tree.specs.declared.goals.Nested.{Nested}
 use Rattle.awk_tree.specs.declared.goals.Nested.TheVariants as nested
-use Rattle.awk_tree.specs.declared.terminals.Terminal.{Terminal}
-use Rattle.awk_tree.specs.declared.terminals.Terminal.TheVariants as w
+use Rattle.awk_tokens.specs.declared.terminals.Terminal.{Terminal}
+use Rattle.awk_tokens.specs.declared.terminals.Terminal.TheVariants as w
 use Rattle.awk_tree.specs.Tree as tree
 use Rattle.awk_tree.specs.Tree.{Tree, Statement, Statements, statements_of}
 use Rattle.awk_tree.specs.Terminals.{number_of, terminal, terminal_of, seen, is, look, ahead, sign, keyword}

@@ -1,7 +1,7 @@
 -- How the law goes through the steps that statements take besides those of expressions.
 use Rattle.std.proofs.Common.{◌≡◌, true, List, ◌∷◌, ◌++◌, Ok, sym, ap, subst, ◌∙◌, inl, inr, append_assoc}
 use Rattle.awk_tokens.specs.declared.token.Token.{Token}
-use Rattle.awk_tree.specs.declared.terminals.Terminal.{Terminal}
+use Rattle.awk_tokens.specs.declared.terminals.Terminal.{Terminal}
 use Rattle.awk_tree.specs.Terminals.{is, look, ahead, terminal}
 use Rattle.awk_tree.specs.Input.{Parser, any, one, exactly, refuse, by_look, skip, skipped}
 use Rattle.awk_parse.proofs.TerminalLemmas.{single, steady, is-true, terminal_is}

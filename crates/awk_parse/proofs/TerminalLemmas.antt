@@ -1,14 +1,15 @@
 -- What is told of terminals by their numbers, and what of a token by the look-ahead.
-use Rattle.std.proofs.Common.{◌≡◌, ℕ, Bool, true, false, cond, if◌then◌else◌, List, [], ◌∷◌, get_or, refl, sym, ap, ◌∙◌, ◌==◌, ◌&&◌}
+use Rattle.std.proofs.Common.{◌≡◌, ℕ, Bool, true, false, cond, if◌then◌else◌, List, [], ◌∷◌, get_or, refl, sym, ap, ◌∙◌, ◌==◌, ◌&&◌, not, Option, Some, None}
 use Rattle.std.proofs.lemmas.Bool.{eqb-true}
 use Rattle.std.specs.Str.{bytes_eq}
 use Rattle.awk_tokens.specs.declared.token.Token.{Token}
 use Rattle.awk_tokens.specs.declared.kinds.TokenKind.{TokenKind}
 use Rattle.awk_tokens.specs.declared.kinds.TokenKind.TheVariants as kind
 use Rattle.awk_tree.specs.Tree.{Text}
-use Rattle.awk_tree.specs.declared.terminals.Terminal.{Terminal}
-use Rattle.awk_tree.specs.declared.terminals.Terminal.TheVariants as w
-use Rattle.awk_tree.specs.Terminals.{number_of, is, seen, look, ahead, terminal, terminal_of, sign_of, word_in, byte_in, keywords, builtins, singles, doubles}
+use Rattle.awk_tokens.specs.declared.terminals.Terminal.{Terminal}
+use Rattle.awk_tokens.specs.declared.terminals.Terminal.TheVariants as w
+use Rattle.awk_tree.specs.Terminals.{number_of, is, seen, look, ahead, terminal, terminal_of, sign_of, word_in, byte_in, singles, doubles}
+use Rattle.awk_tokens.specs.Words.{words, lookup, keyword_of, builtin_of}
 
 pub both_true : (a b : Bool) → (a && b) ≡ true → (a ≡ true) × (b ≡ true)
 both_true true true h = (refl, refl)
@@ -16,7 +17,7 @@ both_true true false h = absurd cc
 both_true false b h = absurd cc
 
 abbrev terminals : List Terminal
-terminals = w.End ∷ w.Newline ∷ w.Semicolon ∷ w.CloseBrace ∷ w.OpenBrace ∷ w.OpenParen ∷ w.CloseParen ∷ w.OpenBracket ∷ w.CloseBracket ∷ w.Comma ∷ w.Number ∷ w.Quoted ∷ w.Pattern ∷ w.Name ∷ w.CallName ∷ w.Refused ∷ w.Plus ∷ w.Minus ∷ w.Star ∷ w.Slash ∷ w.Percent ∷ w.Caret ∷ w.Not ∷ w.Greater ∷ w.Less ∷ w.Bar ∷ w.BarGetline ∷ w.Question ∷ w.Colon ∷ w.Tilde ∷ w.Dollar ∷ w.Refused ∷ w.Equal ∷ w.LessOrEqual ∷ w.GreaterOrEqual ∷ w.NotEqual ∷ w.NotTilde ∷ w.Refused ∷ w.And ∷ w.Or ∷ w.Append ∷ w.BeginWord ∷ w.EndWord ∷ w.Break ∷ w.Continue ∷ w.Delete ∷ w.Do ∷ w.Else ∷ w.Exit ∷ w.For ∷ w.Function ∷ w.Getline ∷ w.If ∷ w.In ∷ w.Next ∷ w.NextFile ∷ w.Print ∷ w.Printf ∷ w.Return ∷ w.While ∷ w.Refused ∷ []
+terminals = w.End ∷ w.Newline ∷ w.Semicolon ∷ w.CloseBrace ∷ w.OpenBrace ∷ w.OpenParen ∷ w.CloseParen ∷ w.OpenBracket ∷ w.CloseBracket ∷ w.Comma ∷ w.Number ∷ w.Quoted ∷ w.Pattern ∷ w.Name ∷ w.CallName ∷ w.Refused ∷ w.Plus ∷ w.Minus ∷ w.Star ∷ w.Slash ∷ w.Percent ∷ w.Caret ∷ w.Not ∷ w.Greater ∷ w.Less ∷ w.Bar ∷ w.BarGetline ∷ w.Question ∷ w.Colon ∷ w.Tilde ∷ w.Dollar ∷ w.Refused ∷ w.Equal ∷ w.LessOrEqual ∷ w.GreaterOrEqual ∷ w.NotEqual ∷ w.NotTilde ∷ w.Refused ∷ w.And ∷ w.Or ∷ w.Append ∷ w.BeginWord ∷ w.EndWord ∷ w.Refused ∷ w.Delete ∷ w.Do ∷ w.Else ∷ w.Exit ∷ w.For ∷ w.Function ∷ w.Getline ∷ w.If ∷ w.In ∷ w.Print ∷ w.Printf ∷ w.Return ∷ w.While ∷ w.Refused ∷ []
 
 abbrev terminal_at : ℕ → Terminal
 terminal_at n = get_or terminals n w.End
@@ -26,12 +27,14 @@ abbrev pub single : Terminal → Bool
 single (w.Builtin which) = false
 single (w.Assign how) = false
 single (w.Step which) = false
+single (w.Jump which) = false
 single other = true
 
 number_again : (a : Terminal) → single a ≡ true → terminal_at (number_of a) ≡ a
 number_again (w.Builtin which) s = absurd cc
 number_again (w.Assign how) s = absurd cc
 number_again (w.Step which) s = absurd cc
+number_again (w.Jump which) s = absurd cc
 number_again _ s = refl
 
 same_number : (a b : Terminal) → is a b ≡ true → number_of a ≡ number_of b
@@ -45,6 +48,7 @@ pub is-true : (a b : Terminal) → single b ≡ true → is a b ≡ true → a �
 is-true (w.Builtin which) b s h = absurd (let e : w.Refused ≡ b = numbered (w.Builtin which) b s h in let f : false ≡ true = ap (is (w.Builtin which)) e ∙ h in cc)
 is-true (w.Assign which) b s h = absurd (let e : w.Refused ≡ b = numbered (w.Assign which) b s h in let f : false ≡ true = ap (is (w.Assign which)) e ∙ h in cc)
 is-true (w.Step which) b s h = absurd (let e : w.Refused ≡ b = numbered (w.Step which) b s h in let f : false ≡ true = ap (is (w.Step which)) e ∙ h in cc)
+is-true (w.Jump which) b s h = absurd (let e : w.Refused ≡ b = numbered (w.Jump which) b s h in let f : false ≡ true = ap (is (w.Jump which)) e ∙ h in cc)
 is-true a b s h = sym (number_again a refl) ∙ numbered a b s h
 
 -- ---- the token that is seen
@@ -100,6 +104,15 @@ either : (b : Bool) (x y : Terminal) → is x w.BarGetline ≡ false → is y w.
 either true x y h k = h
 either false x y h k = k
 
+-- what is found is no bar before getline
+abbrev found_plain : Option Terminal → Bool
+found_plain None = true
+found_plain (Some v) = not (is v w.BarGetline)
+
+either_found : (b : Bool) (v : Terminal) (found : Option Terminal) → is v w.BarGetline ≡ false → found_plain found ≡ true → found_plain (cond b (Some v) found) ≡ true
+either_found true v found h k = rw h refl
+either_found false v found h k = k
+
 word_plain : (entries : List (Text × Terminal)) (text : Text) → no_bar_getline entries ≡ true → is (word_in entries text) w.BarGetline ≡ false
 word_plain [] text h = refl
 word_plain (entry ∷ entries) text h = let k = not_both (is entry.1 w.BarGetline) (no_bar_getline entries) h in either (bytes_eq entry.0 text) entry.1 (word_in entries text) k.0 (word_plain entries text k.1)
@@ -113,13 +126,33 @@ sign_plain [] = word_plain doubles [] refl
 sign_plain (c ∷ []) = byte_plain singles c refl
 sign_plain (c ∷ d ∷ text) = word_plain doubles (c ∷ d ∷ text) refl
 
+words_plain : (entries : List (Text × Terminal)) (text : Text) → no_bar_getline entries ≡ true → found_plain (lookup entries text) ≡ true
+words_plain [] text h = refl
+words_plain (entry ∷ entries) text h =
+    let k = not_both (is entry.1 w.BarGetline) (no_bar_getline entries) h in
+    either_found (bytes_eq entry.0 text) entry.1 (lookup entries text) k.0 (words_plain entries text k.1)
+
+keyword_plain : (found : Option Terminal) → found_plain found ≡ true → is (keyword_of found) w.BarGetline ≡ false
+keyword_plain None h = refl
+keyword_plain (Some v) h = not_is v h where
+  not_is : (v : Terminal) → not (is v w.BarGetline) ≡ true → is (keyword_of (Some v)) w.BarGetline ≡ false
+  not_is w.BarGetline h = absurd cc
+  not_is _ h = refl
+
+builtin_plain : (found : Option Terminal) → is (builtin_of found) w.BarGetline ≡ false
+builtin_plain None = refl
+builtin_plain (Some v) = it v where
+  it : (v : Terminal) → is (builtin_of (Some v)) w.BarGetline ≡ false
+  it (w.Builtin which) = refl
+  it _ = refl
+
 terminal_plain : (k : TokenKind) (text : Text) → is (terminal_of k text) w.BarGetline ≡ false
 unfolding terminal_of
 terminal_plain kind.Number text = refl
 terminal_plain kind.Quoted text = refl
 terminal_plain kind.Pattern text = refl
-terminal_plain kind.Keyword text = word_plain keywords text refl
-terminal_plain kind.Builtin text = word_plain builtins text refl
+terminal_plain kind.Keyword text = keyword_plain (lookup words text) (words_plain words text refl)
+terminal_plain kind.Builtin text = builtin_plain (lookup words text)
 terminal_plain kind.Refused text = refl
 terminal_plain kind.Name text = refl
 terminal_plain kind.CallName text = refl

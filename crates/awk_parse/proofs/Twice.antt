@@ -84,10 +84,7 @@ mutual
   statement_twice (t.printf p xs r) = rw (printed_twice xs, perhaps bare_redirection redirection_twice r) refl
   statement_twice (t.delete n xs) = rw (each bare tree_twice xs) refl
   statement_twice (t.delete_all n) = refl
-  statement_twice (t.break p) = refl
-  statement_twice (t.continue p) = refl
-  statement_twice (t.next p) = refl
-  statement_twice (t.next_file p) = refl
+  statement_twice (t.jump p which) = refl
   statement_twice (t.exit p x) = rw (perhaps bare tree_twice x) refl
   statement_twice (t.return p x) = rw (perhaps bare tree_twice x) refl
   statement_twice (t.block xs) = rw (statements_twice xs) refl

@@ -1,7 +1,7 @@
 -- The laws that the functions of this crate state.
 use Rattle.std.specs.Prelude.{◌≡◌, Bool, List, [], ◌++◌, map, Ok}
 use Rattle.awk_tokens.specs.declared.token.Token.{Token}
-use Rattle.awk_tree.specs.declared.terminals.Terminal.TheVariants as w
+use Rattle.awk_tokens.specs.declared.terminals.Terminal.TheVariants as w
 use Rattle.awk_tree.specs.Terminals.{ahead}
 use Rattle.awk_tree.specs.Tree.{Tree, Statement, Entry}
 use Rattle.awk_tree.specs.Expressions.{expression, expr}

@@ -5,17 +5,21 @@
 use Rattle.std.specs.Prelude.{◌≡◌, ℕ, suc, ◌<◌, Bool, true, false, List, [], ◌∷◌, ◌++◌, Option, Some, None}
 use Rattle.awk_tokens.specs.declared.token.Token.{Token}
 use Rattle.awk_tree.specs.declared.names.Member.{Member}
-use Rattle.awk_tree.specs.declared.operators.Assignment.{Assignment}
-use Rattle.awk_tree.specs.declared.operators.Builtin.{Builtin}
-use Rattle.awk_tree.specs.declared.operators.Builtin.TheVariants as b
+use Rattle.awk_tokens.specs.declared.terminals.Assignment.{Assignment}
+use Rattle.awk_tokens.specs.Words.{parameters}
+use Rattle.awk_tokens.specs.declared.words.Parameters.{Parameters}
+use Rattle.awk_tokens.specs.declared.words.Parameters.TheVariants as takes
+use Rattle.awk_tokens.specs.declared.words.Builtin.{Builtin}
+use Rattle.awk_tokens.specs.declared.words.Builtin.TheVariants as b
 use Rattle.awk_tree.specs.declared.operators.Comparison.{Comparison}
 use Rattle.awk_tree.specs.declared.operators.Sign.{Sign}
-use Rattle.awk_tree.specs.declared.operators.Step.{Step}
+use Rattle.awk_tokens.specs.declared.terminals.Step.{Step}
 use Rattle.awk_tree.specs.declared.expressions.Term.{Term}
 use Rattle.awk_tree.specs.declared.expressions.Piped.{Piped}
-use Rattle.awk_tree.specs.declared.terminals.Terminal.TheVariants as w
+use Rattle.awk_tokens.specs.declared.terminals.Terminal.TheVariants as w
 use Rattle.awk_tree.specs.Tree as tree
 use Rattle.awk_tree.specs.Tree.{Tree, trees_of, perhaps_of}
+use Rattle.awk_tree.specs.Canon.{substituting}
 use Rattle.awk_tree.specs.Terminals.{terminal, is, ahead}
 use Rattle.awk_tree.specs.Expressions.{sign, step, is_factor_sign, is_term_sign, arithmetic_of, begins_part, comparison, matching, assignment, name_of, is_lvalue, listed, product_of, sum_of, concat_of, pipe_of, member_of, and_of, or_of}
 use Rattle.awk_parse.specs.Rules as rule
@@ -30,32 +34,17 @@ abbrev pub Newlines : List Token → Type 0
 Newlines [] = Unit {0}
 Newlines (t ∷ ts) = (terminal t ≡ w.Newline) × Newlines ts
 
--- the built-in functions that can be called with nothing in their parentheses, those with one argument,
--- and those with two
-abbrev pub takes_none : Builtin → Bool
-takes_none b.Fflush = true
-takes_none b.Length = true
+-- what can be called with nothing in its parentheses, and what with one argument
+abbrev pub takes_none : Parameters → Bool
+takes_none takes.AtMostOne = true
+takes_none takes.Measured = true
 takes_none other = false
 
-abbrev pub takes_one : Builtin → Bool
-takes_one b.Close = true
-takes_one b.Fflush = true
-takes_one b.Int = true
-takes_one b.Length = true
-takes_one b.System = true
-takes_one b.Tolower = true
-takes_one b.Toupper = true
+abbrev pub takes_one : Parameters → Bool
+takes_one takes.One = true
+takes_one takes.AtMostOne = true
+takes_one takes.Measured = true
 takes_one other = false
-
-abbrev pub takes_two : Builtin → Bool
-takes_two b.Index = true
-takes_two b.Match = true
-takes_two other = false
-
--- the word is that of sub, or with true of gsub
-abbrev pub substitute : Bool → Builtin
-substitute true = b.Gsub
-substitute false = b.Sub
 
 -- { in NAME }
 pub data Names : List Token → List Member → List Token → Type 0 where
@@ -76,28 +65,28 @@ mutual
         → Opens n → Arguments (suc n) us xs (c ∷ rest) → Spells n rule.prim (t ∷ o ∷ us ++ c ∷ []) (tree.call (name_of t) (trees_of xs)) rest
     -- | length, where no ( follows
     a_bare_length : (n : ℕ) (t : Token) (rest : List Token) → terminal t ≡ w.Builtin b.Length → is (ahead rest) w.OpenParen ≡ false → Spells n rule.prim (t ∷ []) (tree.bare_length t.place) rest
-    -- | length ( ), and so fflush
-    a_call_of_none : (n : ℕ) (which : Builtin) (t o c : Token) (rest : List Token) → takes_none which ≡ true → terminal t ≡ w.Builtin which → terminal o ≡ w.OpenParen → terminal c ≡ w.CloseParen
+    -- | a built-in function of at most one argument, as length ( )
+    a_call_of_none : (n : ℕ) (which : Builtin) (t o c : Token) (rest : List Token) → takes_none (parameters which) ≡ true → terminal t ≡ w.Builtin which → terminal o ≡ w.OpenParen → terminal c ≡ w.CloseParen
         → Opens n → Spells n rule.prim (t ∷ o ∷ c ∷ []) (tree.builtin t.place which (trees_of [])) rest
-    -- | close ( expr ), and so fflush, int, length, system, tolower, toupper
-    a_call_of_one : (n : ℕ) (which : Builtin) (t o c : Token) (us : List Token) (x : Tree) (rest : List Token) → takes_one which ≡ true → terminal t ≡ w.Builtin which → terminal o ≡ w.OpenParen → terminal c ≡ w.CloseParen
+    -- | one of one argument, as close ( expr )
+    a_call_of_one : (n : ℕ) (which : Builtin) (t o c : Token) (us : List Token) (x : Tree) (rest : List Token) → takes_one (parameters which) ≡ true → terminal t ≡ w.Builtin which → terminal o ≡ w.OpenParen → terminal c ≡ w.CloseParen
         → Opens n → Spells (suc n) (rule.expr false) us x (c ∷ rest) → Spells n rule.prim (t ∷ o ∷ us ++ c ∷ []) (tree.builtin t.place which (trees_of (x ∷ []))) rest
-    -- | index ( expr , expr ), and so match
-    a_call_of_two : (n : ℕ) (which : Builtin) (t o c : Token) (us vs : List Token) (x y : Tree) (rest : List Token) → takes_two which ≡ true → terminal t ≡ w.Builtin which → terminal o ≡ w.OpenParen → terminal c ≡ w.CloseParen
+    -- | one of two arguments, as index ( expr , expr )
+    a_call_of_two : (n : ℕ) (which : Builtin) (t o c : Token) (us vs : List Token) (x y : Tree) (rest : List Token) → parameters which ≡ takes.Two → terminal t ≡ w.Builtin which → terminal o ≡ w.OpenParen → terminal c ≡ w.CloseParen
         → Opens n → Spells (suc n) (rule.expr false) us x (vs ++ c ∷ rest) → Next (suc n) vs y (c ∷ rest) → Spells n rule.prim (t ∷ o ∷ us ++ vs ++ c ∷ []) (tree.builtin t.place which (trees_of (x ∷ y ∷ []))) rest
-    -- | substr ( expr , expr [ , expr ] )
-    a_substr : (n : ℕ) (t o c : Token) (us vs ws : List Token) (x y : Tree) (z : Option Tree) (rest : List Token) → terminal t ≡ w.Builtin b.Substr → terminal o ≡ w.OpenParen → terminal c ≡ w.CloseParen
+    -- | one of two or three, as substr ( expr , expr [ , expr ] )
+    a_call_of_two_or_three : (n : ℕ) (which : Builtin) (t o c : Token) (us vs ws : List Token) (x y : Tree) (z : Option Tree) (rest : List Token) → parameters which ≡ takes.TwoOrThree → terminal t ≡ w.Builtin which → terminal o ≡ w.OpenParen → terminal c ≡ w.CloseParen
         → Opens n → Spells (suc n) (rule.expr false) us x (vs ++ (ws ++ c ∷ rest)) → Next (suc n) vs y (ws ++ c ∷ rest) → Further (suc n) ws z (c ∷ rest)
-        → Spells n rule.prim (t ∷ o ∷ us ++ vs ++ ws ++ c ∷ []) (tree.builtin t.place b.Substr (trees_of (x ∷ y ∷ listed z))) rest
-    -- | sprintf ( list )
-    a_sprintf : (n : ℕ) (t o c : Token) (us : List Token) (xs : List Tree) (rest : List Token) → terminal t ≡ w.Builtin b.Sprintf → terminal o ≡ w.OpenParen → terminal c ≡ w.CloseParen
-        → Opens n → Listed (suc n) us xs (c ∷ rest) → Spells n rule.prim (t ∷ o ∷ us ++ c ∷ []) (tree.builtin t.place b.Sprintf (trees_of xs)) rest
+        → Spells n rule.prim (t ∷ o ∷ us ++ vs ++ ws ++ c ∷ []) (tree.builtin t.place which (trees_of (x ∷ y ∷ listed z))) rest
+    -- | one of one or more, as sprintf ( list )
+    a_call_of_some : (n : ℕ) (which : Builtin) (t o c : Token) (us : List Token) (xs : List Tree) (rest : List Token) → parameters which ≡ takes.OneOrMore → terminal t ≡ w.Builtin which → terminal o ≡ w.OpenParen → terminal c ≡ w.CloseParen
+        → Opens n → Listed (suc n) us xs (c ∷ rest) → Spells n rule.prim (t ∷ o ∷ us ++ c ∷ []) (tree.builtin t.place which (trees_of xs)) rest
     -- | split ( expr , NAME [ , expr ] )
     a_split : (n : ℕ) (t o u m c : Token) (us ns vs : List Token) (x : Tree) (y : Option Tree) (rest : List Token) → terminal t ≡ w.Builtin b.Split → terminal o ≡ w.OpenParen → terminal u ≡ w.Comma → Newlines ns → terminal m ≡ w.Name → terminal c ≡ w.CloseParen
         → Opens n → Spells (suc n) (rule.expr false) us x (u ∷ ns ++ m ∷ vs ++ c ∷ rest) → Further (suc n) vs y (c ∷ rest)
         → Spells n rule.prim (t ∷ o ∷ us ++ u ∷ ns ++ m ∷ vs ++ c ∷ []) (tree.split t.place x (name_of m) (perhaps_of y)) rest
     -- | sub ( expr , expr [ , lvalue ] ), and so gsub
-    a_substitute : (n : ℕ) (all : Bool) (t o c : Token) (us vs ws : List Token) (x y : Tree) (z : Option Tree) (rest : List Token) → terminal t ≡ w.Builtin (substitute all) → terminal o ≡ w.OpenParen → terminal c ≡ w.CloseParen
+    a_substitute : (n : ℕ) (all : Bool) (t o c : Token) (us vs ws : List Token) (x y : Tree) (z : Option Tree) (rest : List Token) → terminal t ≡ w.Builtin (substituting all) → terminal o ≡ w.OpenParen → terminal c ≡ w.CloseParen
         → Opens n → Spells (suc n) (rule.expr false) us x (vs ++ (ws ++ c ∷ rest)) → Next (suc n) vs y (ws ++ c ∷ rest) → Into (suc n) ws z (c ∷ rest)
         → Spells n rule.prim (t ∷ o ∷ us ++ vs ++ ws ++ c ∷ []) (tree.substitute t.place all x y (perhaps_of z)) rest
     -- | getline [ lvalue ] [ < inc ]

@@ -7,7 +7,8 @@ use Rattle.awk_tree.specs.declared.names.Name.{Name}
 use Rattle.awk_tree.specs.declared.operators.Redirect.{Redirect}
 use Rattle.awk_tree.specs.declared.statements.Printed.{Printed}
 use Rattle.awk_tree.specs.declared.statements.Redirection.{Redirection}
-use Rattle.awk_tree.specs.declared.terminals.Terminal.TheVariants as w
+use Rattle.awk_tokens.specs.declared.terminals.Terminal.TheVariants as w
+use Rattle.awk_tokens.specs.declared.words.Jump.{Jump}
 use Rattle.awk_tree.specs.Tree as tree
 use Rattle.awk_tree.specs.Tree.{Tree, Statement, statements_of, Condition, Entry}
 use Rattle.awk_tree.specs.Terminals.{terminal, is, look, ahead}
@@ -59,10 +60,8 @@ pub data Simple : ℕ → List Token → Statement → List Token → Type 0 whe
   a_delete_all : (n : ℕ) (t m : Token) (rest : List Token) → terminal t ≡ w.Delete → terminal m ≡ w.Name → is (ahead rest) w.OpenBracket ≡ false → Simple n (t ∷ m ∷ []) (tree.delete_all (name_of m)) rest
   a_delete : (n : ℕ) (t m o c : Token) (us : List Token) (xs : List Tree) (rest : List Token) → terminal t ≡ w.Delete → terminal m ≡ w.Name → terminal o ≡ w.OpenBracket → terminal c ≡ w.CloseBracket
       → Opens n → Listed (suc n) us xs (c ∷ rest) → Simple n (t ∷ m ∷ o ∷ us ++ c ∷ []) (tree.delete (name_of m) xs) rest
-  a_break : (n : ℕ) (t : Token) (rest : List Token) → terminal t ≡ w.Break → Simple n (t ∷ []) (tree.break t.place) rest
-  a_continue : (n : ℕ) (t : Token) (rest : List Token) → terminal t ≡ w.Continue → Simple n (t ∷ []) (tree.continue t.place) rest
-  a_next : (n : ℕ) (t : Token) (rest : List Token) → terminal t ≡ w.Next → Simple n (t ∷ []) (tree.next t.place) rest
-  a_next_file : (n : ℕ) (t : Token) (rest : List Token) → terminal t ≡ w.NextFile → Simple n (t ∷ []) (tree.next_file t.place) rest
+  -- a word alone, as break
+  a_jump : (n : ℕ) (which : Jump) (t : Token) (rest : List Token) → terminal t ≡ w.Jump which → Simple n (t ∷ []) (tree.jump t.place which) rest
   -- exit [ expr ], return [ expr ]
   an_exit : (n : ℕ) (t : Token) (us : List Token) (x : Option Tree) (rest : List Token) → terminal t ≡ w.Exit → Perhaps n us x rest → Simple n (t ∷ us) (tree.exit t.place x) rest
   a_return : (n : ℕ) (t : Token) (us : List Token) (x : Option Tree) (rest : List Token) → terminal t ≡ w.Return → Perhaps n us x rest → Simple n (t ∷ us) (tree.return t.place x) rest

@@ -8,8 +8,10 @@ use Rattle.awk_tree.specs.declared.statements.Redirection.{Redirection}
 use Rattle.awk_tree.specs.Tree as t
 use Rattle.awk_tree.specs.Tree.{Tree, Trees, Perhaps, Terms, Pipes, Statement, Statements, Condition, Entry, trees_of, perhaps_of, statements_of}
 use Rattle.awk_tree.specs.Terminals.{nowhere}
-use Rattle.awk_tree.specs.declared.operators.Builtin.{Builtin}
-use Rattle.awk_tree.specs.declared.operators.Builtin.TheVariants as b
+use Rattle.awk_tokens.specs.declared.words.Builtin.{Builtin}
+use Rattle.awk_tokens.specs.declared.words.Jump.{Jump}
+use Rattle.awk_tokens.specs.declared.words.Jump.TheVariants as j
+use Rattle.awk_tokens.specs.declared.words.Builtin.TheVariants as b
 use Rattle.awk_tree.specs.Canon.{bare, bare_all, bare_perhaps, bare_terms, bare_pipes, bare_name, bare_member, bare_redirection, bare_statement, bare_statements, bare_condition, bare_entry}
 use Rattle.awk_resolve.specs.declared.mention.Mention.{Mention}
 use Rattle.awk_resolve.specs.declared.mention.Mention.TheVariants.{Scalar, Array, Return}
@@ -126,6 +128,11 @@ bare_leaving : (inside : Bool) (p : Place) → m.leaving inside nowhere ≡ map 
 bare_leaving true p = refl
 bare_leaving false p = refl
 
+bare_jumped : (inside : Bool) (p : Place) (which : Jump) → m.jumped inside nowhere which ≡ map bare_mention (m.jumped inside p which)
+bare_jumped inside p j.Break = bare_leaving inside p
+bare_jumped inside p j.Continue = bare_leaving inside p
+bare_jumped inside p _ = refl
+
 mutual
   bare_said : (inside : Bool) (s : Statement) → said inside (bare_statement s) ≡ map bare_mention (said inside s)
   bare_said inside t.empty = refl
@@ -134,10 +141,7 @@ mutual
   bare_said inside (t.printf p x r) = both (m.all x.items) (m.target r) _ _ (bare_list x.items) (bare_target r)
   bare_said inside (t.delete n xs) = ap (λ l. Array (bare_name n) ∷ l) (bare_list xs)
   bare_said inside (t.delete_all n) = refl
-  bare_said inside (t.break p) = bare_leaving inside p
-  bare_said inside (t.continue p) = bare_leaving inside p
-  bare_said inside (t.next p) = refl
-  bare_said inside (t.next_file p) = refl
+  bare_said inside (t.jump p which) = bare_jumped inside p which
   bare_said inside (t.exit p x) = bare_perhaps_said x
   bare_said inside (t.return p x) = ap (λ l. Return nowhere ∷ l) (bare_perhaps_said x)
   bare_said inside (t.block xs) = bare_each_said inside xs

@@ -79,10 +79,7 @@ abbrev mutual
   statement_weight (t.printf p x r) = 1
   statement_weight (t.delete n xs) = 1
   statement_weight (t.delete_all n) = 1
-  statement_weight (t.break p) = 1
-  statement_weight (t.continue p) = 1
-  statement_weight (t.next p) = 1
-  statement_weight (t.next_file p) = 1
+  statement_weight (t.jump p which) = 1
   statement_weight (t.exit p x) = 1
   statement_weight (t.return p x) = 1
   statement_weight (t.block xs) = 2 + statement_weights xs

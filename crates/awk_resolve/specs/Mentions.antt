@@ -7,8 +7,10 @@ use Rattle.awk_tree.specs.declared.names.Member.{Member}
 use Rattle.awk_tree.specs.declared.statements.Redirection.{Redirection}
 use Rattle.awk_tree.specs.Tree as t
 use Rattle.awk_tree.specs.Tree.{Tree, Trees, Perhaps, Terms, Pipes, Statement, Statements, Condition, Entry, trees_of, perhaps_of, statements_of}
-use Rattle.awk_tree.specs.declared.operators.Builtin.{Builtin}
-use Rattle.awk_tree.specs.declared.operators.Builtin.TheVariants as b
+use Rattle.awk_tokens.specs.declared.words.Builtin.{Builtin}
+use Rattle.awk_tokens.specs.declared.words.Builtin.TheVariants as b
+use Rattle.awk_tokens.specs.declared.words.Jump.{Jump}
+use Rattle.awk_tokens.specs.declared.words.Jump.TheVariants as j
 use Rattle.awk_resolve.specs.declared.mention.Mention.{Mention}
 use Rattle.awk_resolve.specs.declared.mention.Mention.TheVariants.{Scalar, Array, Measured, Call, MainInput, Next, Return, Stray}
 use Rattle.awk_resolve.specs.declared.mention.Role.TheVariants as role
@@ -125,6 +127,13 @@ abbrev pub leaving : Bool → Place → List Mention
 leaving true place = []
 leaving false place = Stray place ∷ []
 
+-- a word alone
+abbrev pub jumped : Bool → Place → Jump → List Mention
+jumped inside place j.Break = leaving inside place
+jumped inside place j.Continue = leaving inside place
+jumped inside place j.Next = Next place ∷ []
+jumped inside place j.NextFile = Next place ∷ []
+
 -- what a statement says that stands in a loop, or, at false, in none
 abbrev mutual
   pub said : Bool → Statement → List Mention
@@ -134,10 +143,7 @@ abbrev mutual
   said inside (t.printf p x r) = all x.items ++ target r
   said inside (t.delete n xs) = Array n ∷ all xs
   said inside (t.delete_all n) = Array n ∷ []
-  said inside (t.break p) = leaving inside p
-  said inside (t.continue p) = leaving inside p
-  said inside (t.next p) = Next p ∷ []
-  said inside (t.next_file p) = Next p ∷ []
+  said inside (t.jump p which) = jumped inside p which
   said inside (t.exit p x) = optional x
   said inside (t.return p x) = Return p ∷ optional x
   said inside (t.block xs) = each_said inside xs

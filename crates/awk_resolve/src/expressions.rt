@@ -101,19 +101,7 @@ fn measured(which: Builtin, args: &[Expr]) -> Option<&Name>
 {
     match which {
         Builtin::Length => alone(args),
-        Builtin::Close
-        | Builtin::Fflush
-        | Builtin::Gsub
-        | Builtin::Index
-        | Builtin::Int
-        | Builtin::Match
-        | Builtin::Split
-        | Builtin::Sprintf
-        | Builtin::Sub
-        | Builtin::Substr
-        | Builtin::System
-        | Builtin::Tolower
-        | Builtin::Toupper => None,
+        _ => None,
     }
 }
 

@@ -10,7 +10,7 @@ use crate::expressions::{array, each, expression, optional, scalar};
 use crate::mention::Mention;
 use awk_text::Memory;
 use awk_text::place::Place;
-use awk_tree::{Expr, Name, Printed, Redirection, Statement};
+use awk_tree::{Expr, Jump, Name, Printed, Redirection, Statement};
 use sqlite_items::Items;
 use std::alloc::Global;
 
@@ -38,6 +38,16 @@ fn leaving(is_inside: bool, place: Place, out: &mut Items<Mention>) -> Result<()
         Ok(())
     } else {
         out.push(Mention::Stray(place))
+    }
+}
+
+/// Notes what a word alone says, which stands in a loop or not.
+fn jump(is_inside: bool, place: Place, which: Jump, out: &mut Items<Mention>) -> Result<(), Memory>
+    ensures { OnOk result (out.new ≡ out.old ++ spec.jumped is_inside place which) }
+{
+    match which {
+        Jump::Break | Jump::Continue => leaving(is_inside, place, out),
+        Jump::Next | Jump::NextFile => out.push(Mention::Next(place)),
     }
 }
 
@@ -84,10 +94,7 @@ fn statement(
             each(alloc, keys.as_slice(), out)
         }
         Statement::DeleteAll(name) => array(alloc, name, out),
-        Statement::Break(place) => leaving(is_inside, *place, out),
-        Statement::Continue(place) => leaving(is_inside, *place, out),
-        Statement::Next(place) => out.push(Mention::Next(*place)),
-        Statement::NextFile(place) => out.push(Mention::Next(*place)),
+        Statement::Jump(place, which) => jump(is_inside, *place, *which, out),
         Statement::Exit(_place, x) => optional(alloc, x, out),
         Statement::Return(place, x) => {
             out.push(Mention::Return(*place))?;

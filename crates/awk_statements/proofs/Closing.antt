@@ -5,8 +5,8 @@ use Rattle.awk_text.specs.declared.place.Place.{Place}
 use Rattle.awk_tree.specs.declared.goals.Goal.{Goal}
 use Rattle.awk_tree.specs.declared.goals.Nested.{Nested}
 use Rattle.awk_tree.specs.declared.goals.Nested.TheVariants as nested
-use Rattle.awk_tree.specs.declared.terminals.Terminal.{Terminal}
-use Rattle.awk_tree.specs.declared.terminals.Terminal.TheVariants as w
+use Rattle.awk_tokens.specs.declared.terminals.Terminal.{Terminal}
+use Rattle.awk_tokens.specs.declared.terminals.Terminal.TheVariants as w
 use Rattle.awk_tree.specs.Terminals.{is, look, ahead}
 use Rattle.awk_tree.specs.Tree as t
 use Rattle.awk_tree.specs.Tree.{Tree, Statement, statements_of}
@@ -92,10 +92,7 @@ module _ (depth : ℕ) (inner : Goal → Parser Tree) where
   simple_by_shut w.Print ts = print_shut ts
   simple_by_shut w.Printf ts = printf_shut ts
   simple_by_shut w.Delete ts = delete_shut ts
-  simple_by_shut w.Break ts = then_shut (any ts) _ (λ _ _. refl)
-  simple_by_shut w.Continue ts = then_shut (any ts) _ (λ _ _. refl)
-  simple_by_shut w.Next ts = then_shut (any ts) _ (λ _ _. refl)
-  simple_by_shut w.NextFile ts = then_shut (any ts) _ (λ _ _. refl)
+  simple_by_shut (w.Jump which) ts = then_shut (any ts) _ (λ _ _. refl)
   simple_by_shut w.Exit ts = then_shut (any ts) _ (λ token ts. then_shut (st.perhaps_here depth inner ts) _ (λ _ _. refl))
   simple_by_shut w.Return ts = then_shut (any ts) _ (λ token ts. then_shut (st.perhaps_here depth inner ts) _ (λ _ _. refl))
   simple_by_shut _ ts = then_shut (expression depth inner false ts) _ (λ _ _. refl)

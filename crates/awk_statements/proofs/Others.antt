@@ -3,8 +3,9 @@ use Rattle.std.proofs.Common.{◌≡◌, ◌≢◌, ℕ, false, List, refl}
 use Rattle.awk_tokens.specs.declared.token.Token.{Token}
 use Rattle.awk_tree.specs.declared.goals.Goal.{Goal}
 use Rattle.awk_tree.specs.declared.goals.Nested.{Nested}
-use Rattle.awk_tree.specs.declared.terminals.Terminal.{Terminal}
-use Rattle.awk_tree.specs.declared.terminals.Terminal.TheVariants as w
+use Rattle.awk_tokens.specs.declared.words.Jump.{Jump}
+use Rattle.awk_tokens.specs.declared.terminals.Terminal.{Terminal}
+use Rattle.awk_tokens.specs.declared.terminals.Terminal.TheVariants as w
 use Rattle.awk_tree.specs.Tree as t
 use Rattle.awk_tree.specs.Tree.{Tree, Statement}
 use Rattle.awk_tree.specs.Expressions.{expression}
@@ -18,18 +19,15 @@ ends_nowhere x w.CloseBrace ts a b c = absurd (c refl)
 ends_nowhere x _ ts a b c = refl
 
 pub simple_by-other : (depth : ℕ) (inner : Goal → Parser Tree) (kind : Terminal) (ts : List Token)
-    → kind ≢ w.Print → kind ≢ w.Printf → kind ≢ w.Delete → kind ≢ w.Break → kind ≢ w.Continue → kind ≢ w.Next → kind ≢ w.NextFile → kind ≢ w.Exit → kind ≢ w.Return
+    → kind ≢ w.Print → kind ≢ w.Printf → kind ≢ w.Delete → ((which : Jump) → kind ≢ w.Jump which) → kind ≢ w.Exit → kind ≢ w.Return
     → simple_by depth inner kind ts ≡ (expression depth inner false >>= λ x. pure (t.plain x)) ts
-simple_by-other depth inner w.Print ts a b c d e f g h i = absurd (a refl)
-simple_by-other depth inner w.Printf ts a b c d e f g h i = absurd (b refl)
-simple_by-other depth inner w.Delete ts a b c d e f g h i = absurd (c refl)
-simple_by-other depth inner w.Break ts a b c d e f g h i = absurd (d refl)
-simple_by-other depth inner w.Continue ts a b c d e f g h i = absurd (e refl)
-simple_by-other depth inner w.Next ts a b c d e f g h i = absurd (f refl)
-simple_by-other depth inner w.NextFile ts a b c d e f g h i = absurd (g refl)
-simple_by-other depth inner w.Exit ts a b c d e f g h i = absurd (h refl)
-simple_by-other depth inner w.Return ts a b c d e f g h i = absurd (i refl)
-simple_by-other depth inner _ ts a b c d e f g h i = refl
+simple_by-other depth inner w.Print ts a b c d e f = absurd (a refl)
+simple_by-other depth inner w.Printf ts a b c d e f = absurd (b refl)
+simple_by-other depth inner w.Delete ts a b c d e f = absurd (c refl)
+simple_by-other depth inner (w.Jump which) ts a b c d e f = absurd (d which refl)
+simple_by-other depth inner w.Exit ts a b c d e f = absurd (e refl)
+simple_by-other depth inner w.Return ts a b c d e f = absurd (f refl)
+simple_by-other depth inner _ ts a b c d e f = refl
 
 pub statement_by-other : (depth : ℕ) (inner : Goal → Parser Tree) (body : Nested → Parser Statement) (kind : Terminal) (ts : List Token)
     → kind ≢ w.Semicolon → kind ≢ w.OpenBrace → kind ≢ w.If → kind ≢ w.While → kind ≢ w.Do → kind ≢ w.For

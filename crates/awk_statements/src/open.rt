@@ -23,9 +23,7 @@ fn is_open(statement: &Statement) -> bool
         Statement::Empty | Statement::Expr(_) | Statement::Block(_) | Statement::Do(_, _) => false,
         Statement::Print(_, _, _) | Statement::Printf(_, _, _) => false,
         Statement::Delete(_, _) | Statement::DeleteAll(_) => false,
-        Statement::Break(_) | Statement::Continue(_) => false,
-        Statement::Next(_) | Statement::NextFile(_) => false,
-        Statement::Exit(_, _) | Statement::Return(_, _) => false,
+        Statement::Jump(_, _) | Statement::Exit(_, _) | Statement::Return(_, _) => false,
     }
 }
 

@@ -1,5 +1,5 @@
 -- The scan of a token finds the longest one that stands first, or a refusal that stands there.
-use Rattle.std.proofs.Common.{◌≡◌, ◌≢◌, ℕ, zero, suc, ◌+◌, ◌-◌, ◌<◌, ◌≤◌, Bool, true, false, not, ◌&&◌, ◌||◌, cond, eqb, List, [], ◌∷◌, ◌++◌, length, take, drop, get_or, slice_index, Option, Some, None, Result, Ok, Err, sym, ap, refl, subst, ◌∙◌, inl, inr, arith}
+use Rattle.std.proofs.Common.{◌≡◌, ◌≢◌, ℕ, zero, suc, ◌+◌, ◌-◌, ◌<◌, ◌≤◌, Bool, true, false, not, ◌&&◌, ◌||◌, cond, eqb, List, [], ◌∷◌, ◌++◌, length, take, drop, get_or, slice_index, Option, Some, None, option_map, Result, Ok, Err, sym, ap, refl, subst, ◌∙◌, inl, inr, arith}
 use Rattle.std.specs.Char.{is_ascii_digit, is_ascii_alphabetic}
 use Rattle.std.specs.List.{list_all, list_any, prefix_len}
 use Rattle.std.proofs.Math.Seq.{take-append_seam, drop-append_seam}
@@ -10,7 +10,9 @@ use Rattle.std.proofs.lemmas.List.Folds.{list_all-append}
 use Rattle.std.proofs.lemmas.List.Sums.{prefix_len-le-length}
 use Rattle.awk_tokens.specs.Bytes.{Text, begins_name, continues_name}
 use Rattle.awk_tokens.specs.Signs.{singles, doubles, is_single, is_double, is_sign, sign_len}
-use Rattle.awk_tokens.specs.Words.{is_name, word_kind, kind_or, is_among, keywords, builtins, refused}
+use Rattle.awk_tokens.specs.Words.{is_name, word_kind, kind_of, kind_or, lookup, words}
+use Rattle.awk_tokens.specs.declared.terminals.Terminal.{Terminal}
+use Rattle.awk_tokens.specs.declared.terminals.Terminal.TheVariants as listed
 use Rattle.awk_tokens.specs.Strings.{StringEnds}
 use Rattle.awk_tokens.specs.Patterns.{PatternEnds}
 use Rattle.awk_tokens.specs.Tokens.{is_number, IsToken, IsWord, NoLonger, is_whole, IsWhole, IsFirst}
@@ -274,15 +276,18 @@ number_refused operand b z code digit e =
 name_continues : (b : ℕ) → begins_name b ≡ true → continues_name b ≡ true
 name_continues b h = grind (arith, nat_tests)
 
-word_kinds : (a b c d : Bool) → family_of (kind_or (cond a (Some Keyword) (cond b (Some Builtin) (cond c (Some Refused) None))) (cond d CallName Name)) ≡ a_word
-word_kinds true b c d = refl
-word_kinds false true c d = refl
-word_kinds false false true d = refl
-word_kinds false false false true = refl
-word_kinds false false false false = refl
+word_kind_of : (t : Terminal) → family_of (kind_of t) ≡ a_word
+word_kind_of (listed.Builtin which) = refl
+word_kind_of listed.Refused = refl
+word_kind_of _ = refl
 
-word_family_of : (word rest : Text) → family_of (word_kind word rest) ≡ a_word
-word_family_of word rest = word_kinds (is_among keywords word) (is_among builtins word) (is_among refused word) (eqb (slice_index rest 0) 40)
+word_kinds : (found : Option Terminal) (call : Bool) → family_of (kind_or (option_map kind_of found) (cond call CallName Name)) ≡ a_word
+word_kinds None true = refl
+word_kinds None false = refl
+word_kinds (Some t) call = word_kind_of t
+
+word_family_of : (text rest : Text) → family_of (word_kind text rest) ≡ a_word
+word_family_of text rest = word_kinds (lookup words text) (eqb (slice_index rest 0) 40)
 
 -- a word of its kind is that token
 word_is : (operand : Bool) (kind : TokenKind) (text rest : Text) → family_of kind ≡ a_word → IsWord kind text rest → IsToken operand kind text rest × IsWhole kind text rest

@@ -1,25 +1,20 @@
 -- A listed word stands in the list of the words of its length.
-use Rattle.std.proofs.Common.{◌≡◌, ◌≢◌, ℕ, Bool, true, false, ◌||◌, ◌&&◌, cond, eqb, leb, ◌<◌, List, [], ◌∷◌, ◌++◌, length, map, Option, Some, None, sym, ap, refl, ◌∙◌, ◌⊎◌, inl, inr, arith}
-use Rattle.std.specs.List.{list_any, list_all}
+use Rattle.std.proofs.Common.{◌≡◌, ◌≢◌, ℕ, Bool, true, false, ◌&&◌, cond, eqb, leb, ◌<◌, List, [], ◌∷◌, length, None, Some, sym, ap, refl, ◌∙◌, ◌⊎◌, inl, inr, arith}
+use Rattle.std.specs.List.{list_all}
 use Rattle.std.specs.Str.{bytes_eq}
 use Rattle.std.proofs.lemmas.Bool.{cases_Bool, eqb-false, false_from_ne_true, and_parts, leb-true, ne_eqb, cases_lt}
 use Rattle.std.proofs.lemmas.Slice.Eq.{bytes_eq-Decides}
 use Rattle.awk_tokens.specs.Bytes.{Text}
-use Rattle.awk_tokens.specs.Words.{keywords, builtins, refused, is_among, lookup, reserved}
-use Rattle.awk_tokens.specs.declared.kinds.TokenKind.{TokenKind}
-use Rattle.awk_tokens.specs.declared.kinds.TokenKind.TheVariants.{Keyword, Builtin, Refused}
+use Rattle.awk_tokens.specs.Words.{lookup, words}
+use Rattle.awk_tokens.specs.declared.terminals.Terminal.{Terminal}
 
 abbrev pub Table : Type 0
-Table = List (Text × TokenKind)
+Table = List (Text × Terminal)
 
 -- the entries whose word has this length
 abbrev pub of_length : ℕ → Table → Table
 of_length n [] = []
 of_length n (entry ∷ entries) = cond (eqb (length entry.0) n) (entry ∷ of_length n entries) (of_length n entries)
-
--- every listed word with its kind
-abbrev pub all_words : Table
-all_words = map (λ w. (w, Keyword)) keywords ++ (map (λ w. (w, Builtin)) builtins ++ (map (λ w. (w, Refused)) refused ++ []))
 
 other_length : (w word : Text) → eqb (length w) (length word) ≡ false → bytes_eq w word ≡ false
 other_length w word e =
@@ -38,26 +33,9 @@ lookup-of_length (entry ∷ entries) word =
           ∙ same ∙ sym (ap (λ t. cond t (Some entry.1) (lookup entries word)) (other_length entry.0 word e))
     ]
 
-lookup-kind : (kind : TokenKind) (words : List Text) (more : Table) (word : Text) → lookup (map (λ w. (w, kind)) words ++ more) word ≡ cond (is_among words word) (Some kind) (lookup more word)
-lookup-kind kind [] more word = refl
-lookup-kind kind (w ∷ words) more word =
-    let same = lookup-kind kind words more word in
-    elim (bytes_eq w word) as (λ t. cond t (Some kind) (lookup (map (λ v. (v, kind)) words ++ more) word) ≡ cond (t || is_among words word) (Some kind) (lookup more word)) [
-      | true ↦ refl
-      | false ↦ same
-    ]
-
-reserved-lookup : (word : Text) → reserved word ≡ lookup all_words word
-reserved-lookup word =
-    let third = lookup-kind Refused refused [] word in
-    let second = lookup-kind Builtin builtins (map (λ w. (w, Refused)) refused ++ []) word in
-    let first = lookup-kind Keyword keywords (map (λ w. (w, Builtin)) builtins ++ (map (λ w. (w, Refused)) refused ++ [])) word in
-    sym (first ∙ ap (λ found. cond (is_among keywords word) (Some Keyword) found) (second ∙ ap (λ found. cond (is_among builtins word) (Some Builtin) found) third))
-
--- a word of this length has the kind that the list of its length gives
-pub reserved_at : (n : ℕ) (word : Text) → length word ≡ n → lookup (of_length n all_words) word ≡ reserved word
-reserved_at n word e =
-    ap (λ k. lookup (of_length k all_words) word) (sym e) ∙ lookup-of_length all_words word ∙ sym (reserved-lookup word)
+-- a word of this length is what the list of its length says
+pub listed_at : (n : ℕ) (word : Text) → length word ≡ n → lookup (of_length n words) word ≡ lookup words word
+listed_at n word e = ap (λ k. lookup (of_length k words) word) (sym e) ∙ lookup-of_length words word
 
 -- lists of words of 2 to 8 bytes
 of_length-none : (entries : Table) (n : ℕ) → list_all (λ entry. leb 2 (length entry.0) && leb (length entry.0) 8) entries ≡ true → (n < 2) ⊎ (8 < n) → of_length n entries ≡ []
@@ -71,11 +49,11 @@ of_length-none (entry ∷ entries) n short out =
     ap (λ t. cond t (entry ∷ of_length n entries) (of_length n entries)) differs ∙ of_length-none entries n parts.1 out
 
 -- no listed word has another length
-pub reserved_none : (word : Text) → length word ≢ 2 → length word ≢ 3 → length word ≢ 4 → length word ≢ 5 → length word ≢ 6 → length word ≢ 7 → length word ≢ 8 → None ≡ reserved word
-reserved_none word n2 n3 n4 n5 n6 n7 n8 =
+pub listed_none : (word : Text) → length word ≢ 2 → length word ≢ 3 → length word ≢ 4 → length word ≢ 5 → length word ≢ 6 → length word ≢ 7 → length word ≢ 8 → None ≡ lookup words word
+listed_none word n2 n3 n4 n5 n6 n7 n8 =
     let out : (length word < 2) ⊎ (8 < length word) =
     elim (cases_lt (length word) 2) [
       | inl h ↦ inl h
       | inr low ↦ elim (cases_lt 8 (length word)) [ inl h ↦ inr h | inr high ↦ absurd (omega arith) ]
     ] in
-    sym (ap (λ t. lookup t word) (of_length-none all_words (length word) refl out)) ∙ reserved_at (length word) word refl
+    sym (ap (λ t. lookup t word) (of_length-none words (length word) refl out)) ∙ listed_at (length word) word refl

@@ -3,19 +3,24 @@
 //! A script is cut into numbers, strings, extended regular expressions, words, names and signs, as
 //! "Lexical Conventions" of POSIX.1-2017 XCU awk has them, in the whole-number profile of this
 //! project. [`tokens`] is the call for that; the relation `Reads` of specs/Reads.antt says what it means.
-//! [`is_name`] and [`reserved`] tell of one text whether it is a name or a word of the language.
+//! [`is_name`] and [`reserved`] tell of one text whether it is a name or a word of the language;
+//! words.rt has the words, and what each is to the grammar.
 #![tactic(auto)]
 
 mod kinds;
+mod names;
 mod reading;
 mod scan;
 mod signs;
 mod syntax_error;
+mod terminals;
 mod token;
 mod words;
 
 pub use kinds::TokenKind;
+pub use names::is_name;
 pub use reading::tokens;
 pub use syntax_error::SyntaxError;
+pub use terminals::{Assignment, Step, Terminal};
 pub use token::Token;
-pub use words::{is_name, reserved};
+pub use words::{Builtin, Jump, Parameters, as_builtin, as_keyword, reserved};

@@ -9,9 +9,9 @@ ghost use Rattle.awk_tokens.specs.Scan as spec;
 ghost use Rattle.awk_tokens.specs.Tokens.{value_of, begins_exponent, is_whole};
 
 use crate::kinds::TokenKind;
+use crate::names::{begins_name, continues_name, word_kind};
 use crate::signs::sign_len;
 use crate::syntax_error::SyntaxError;
-use crate::words::{begins_name, continues_name, word_kind};
 
 /// Where in an extended regular expression a byte stands.
 #[derive(Clone, Copy, Debug)]

@@ -1,74 +1,171 @@
-// The words of the language.
+// The words of the language: how each is spelled, and what it is to the grammar.
 
 ghost use Rattle.std.specs.Prelude.{◌≡◌, map};
-ghost use Rattle.std.specs.List.{list_all};
-ghost use Rattle.awk_tokens.specs.Bytes as bytes;
 ghost use Rattle.awk_tokens.specs.Words as spec;
 
 use crate::kinds::TokenKind;
-use crate::kinds::TokenKind::{Builtin, CallName, Keyword, Name, Refused};
+use crate::terminals::Terminal;
+
+/// The statements that are a word alone.
+#[derive(Clone, Copy, Debug, PartialEq, Eq, Drop)]
+pub enum Jump {
+    Break,
+    Continue,
+    Next,
+    NextFile,
+}
+
+impl Jump {
+    /// How it is spelled.
+    pub fn text(self) -> &'static str
+        ensures { result.now ≡ spec.jump_text self }
+    {
+        match self {
+            Jump::Break => "break",
+            Jump::Continue => "continue",
+            Jump::Next => "next",
+            Jump::NextFile => "nextfile",
+        }
+    }
+}
+
+/// The functions that the language brings.
+#[derive(Clone, Copy, Debug, PartialEq, Eq, Drop)]
+pub enum Builtin {
+    Close,
+    Fflush,
+    Gsub,
+    Index,
+    Int,
+    Length,
+    Match,
+    Split,
+    Sprintf,
+    Sub,
+    Substr,
+    System,
+    Tolower,
+    Toupper,
+}
+
+/// The parameters of a built-in function. All but the last three forms are plain expressions.
+#[derive(Clone, Copy, Debug, PartialEq, Eq, Drop)]
+pub enum Parameters {
+    One,
+    AtMostOne,
+    Two,
+    TwoOrThree,
+    OneOrMore,
+    /// At most one, where the parentheses may be absent too, as at `length`.
+    Measured,
+    /// A text, an array and at most one separator, as at `split`.
+    Pieces,
+    /// A pattern, a text and at most one lvalue, as at `sub`, and with true at `gsub`.
+    Replaced(bool),
+}
+
+impl Builtin {
+    fn entry(self) -> (&'static str, Parameters)
+        ensures { (result.0.now, result.1) ≡ spec.builtin_entry self }
+    {
+        match self {
+            Builtin::Close => ("close", Parameters::One),
+            Builtin::Fflush => ("fflush", Parameters::AtMostOne),
+            Builtin::Gsub => ("gsub", Parameters::Replaced(true)),
+            Builtin::Index => ("index", Parameters::Two),
+            Builtin::Int => ("int", Parameters::One),
+            Builtin::Length => ("length", Parameters::Measured),
+            Builtin::Match => ("match", Parameters::Two),
+            Builtin::Split => ("split", Parameters::Pieces),
+            Builtin::Sprintf => ("sprintf", Parameters::OneOrMore),
+            Builtin::Sub => ("sub", Parameters::Replaced(false)),
+            Builtin::Substr => ("substr", Parameters::TwoOrThree),
+            Builtin::System => ("system", Parameters::One),
+            Builtin::Tolower => ("tolower", Parameters::One),
+            Builtin::Toupper => ("toupper", Parameters::One),
+        }
+    }
+
+    /// How it is spelled.
+    pub fn text(self) -> &'static str
+        ensures { result.now ≡ spec.builtin_text self }
+    {
+        self.entry().0
+    }
+
+    /// Its parameters.
+    pub fn parameters(self) -> Parameters
+        ensures { result ≡ spec.parameters self }
+    {
+        self.entry().1
+    }
+}
 
 /// The words of each length, so that a name is compared with few of them.
-const TWO: [(&[u8], TokenKind); 3] = [(b"do", Keyword), (b"if", Keyword), (b"in", Keyword)];
-
-const THREE: [(&[u8], TokenKind); 8] = [
-    (b"END", Keyword),
-    (b"for", Keyword),
-    (b"int", Builtin),
-    (b"sub", Builtin),
-    (b"cos", Refused),
-    (b"exp", Refused),
-    (b"log", Refused),
-    (b"sin", Refused),
+const TWO: [(&[u8], Terminal); 3] = [
+    (b"do", Terminal::Do),
+    (b"if", Terminal::If),
+    (b"in", Terminal::In),
 ];
 
-const FOUR: [(&[u8], TokenKind); 7] = [
-    (b"else", Keyword),
-    (b"exit", Keyword),
-    (b"func", Keyword),
-    (b"next", Keyword),
-    (b"gsub", Builtin),
-    (b"rand", Refused),
-    (b"sqrt", Refused),
+const THREE: [(&[u8], Terminal); 8] = [
+    (b"END", Terminal::EndWord),
+    (b"for", Terminal::For),
+    (b"int", Terminal::Builtin(Builtin::Int)),
+    (b"sub", Terminal::Builtin(Builtin::Sub)),
+    (b"cos", Terminal::Refused),
+    (b"exp", Terminal::Refused),
+    (b"log", Terminal::Refused),
+    (b"sin", Terminal::Refused),
 ];
 
-const FIVE: [(&[u8], TokenKind); 10] = [
-    (b"BEGIN", Keyword),
-    (b"break", Keyword),
-    (b"print", Keyword),
-    (b"while", Keyword),
-    (b"close", Builtin),
-    (b"index", Builtin),
-    (b"match", Builtin),
-    (b"split", Builtin),
-    (b"atan2", Refused),
-    (b"srand", Refused),
+const FOUR: [(&[u8], Terminal); 7] = [
+    (b"else", Terminal::Else),
+    (b"exit", Terminal::Exit),
+    (b"func", Terminal::Function),
+    (b"next", Terminal::Jump(Jump::Next)),
+    (b"gsub", Terminal::Builtin(Builtin::Gsub)),
+    (b"rand", Terminal::Refused),
+    (b"sqrt", Terminal::Refused),
 ];
 
-const SIX: [(&[u8], TokenKind); 7] = [
-    (b"delete", Keyword),
-    (b"printf", Keyword),
-    (b"return", Keyword),
-    (b"fflush", Builtin),
-    (b"length", Builtin),
-    (b"substr", Builtin),
-    (b"system", Builtin),
+const FIVE: [(&[u8], Terminal); 10] = [
+    (b"BEGIN", Terminal::BeginWord),
+    (b"print", Terminal::Print),
+    (b"while", Terminal::While),
+    (b"break", Terminal::Jump(Jump::Break)),
+    (b"close", Terminal::Builtin(Builtin::Close)),
+    (b"index", Terminal::Builtin(Builtin::Index)),
+    (b"match", Terminal::Builtin(Builtin::Match)),
+    (b"split", Terminal::Builtin(Builtin::Split)),
+    (b"atan2", Terminal::Refused),
+    (b"srand", Terminal::Refused),
 ];
 
-const SEVEN: [(&[u8], TokenKind); 4] = [
-    (b"getline", Keyword),
-    (b"sprintf", Builtin),
-    (b"tolower", Builtin),
-    (b"toupper", Builtin),
+const SIX: [(&[u8], Terminal); 7] = [
+    (b"delete", Terminal::Delete),
+    (b"printf", Terminal::Printf),
+    (b"return", Terminal::Return),
+    (b"fflush", Terminal::Builtin(Builtin::Fflush)),
+    (b"length", Terminal::Builtin(Builtin::Length)),
+    (b"substr", Terminal::Builtin(Builtin::Substr)),
+    (b"system", Terminal::Builtin(Builtin::System)),
 ];
 
-const EIGHT: [(&[u8], TokenKind); 3] = [
-    (b"continue", Keyword),
-    (b"function", Keyword),
-    (b"nextfile", Keyword),
+const SEVEN: [(&[u8], Terminal); 4] = [
+    (b"getline", Terminal::Getline),
+    (b"sprintf", Terminal::Builtin(Builtin::Sprintf)),
+    (b"tolower", Terminal::Builtin(Builtin::Tolower)),
+    (b"toupper", Terminal::Builtin(Builtin::Toupper)),
 ];
 
-fn lookup(mut table: &[(&[u8], TokenKind)], word: &[u8]) -> Option<TokenKind>
+const EIGHT: [(&[u8], Terminal); 3] = [
+    (b"function", Terminal::Function),
+    (b"continue", Terminal::Jump(Jump::Continue)),
+    (b"nextfile", Terminal::Jump(Jump::NextFile)),
+];
+
+fn lookup(mut table: &[(&[u8], Terminal)], word: &[u8]) -> Option<Terminal>
     ensures { result ≡ spec.lookup (map (λ entry. (entry.0.now, entry.1)) table.entry.now) word.now }
 {
     while let [entry, rest @ ..] = table {
@@ -80,10 +177,9 @@ fn lookup(mut table: &[(&[u8], TokenKind)], word: &[u8]) -> Option<TokenKind>
     None
 }
 
-/// The kind of a word of the language: a keyword, a built-in function, or a function that the
-/// profile leaves out ("Lexical Conventions", rules 7 and 8). No other text has one.
-pub fn reserved(word: &[u8]) -> Option<TokenKind>
-    ensures { result ≡ spec.reserved word.now }
+/// What a word of the language is to the grammar. No other text is one.
+fn listed(word: &[u8]) -> Option<Terminal>
+    ensures { result ≡ spec.lookup spec.words word.now }
 {
     match word.len() {
         2 => lookup(&TWO, word),
@@ -97,44 +193,55 @@ pub fn reserved(word: &[u8]) -> Option<TokenKind>
     }
 }
 
-/// Whether a byte begins a word or name: an ASCII letter or `_`.
-pub fn begins_name(b: u8) -> bool
-    ensures { result ≡ bytes.begins_name b }
+fn kind_of(word: Terminal) -> TokenKind
+    ensures { result ≡ spec.kind_of word }
 {
-    b.is_ascii_alphabetic() || b == b'_'
-}
-
-/// Whether a byte goes on in a word or name: an ASCII letter, a digit or `_`.
-pub fn continues_name(b: u8) -> bool
-    ensures { result ≡ bytes.continues_name b }
-{
-    b.is_ascii_alphanumeric() || b == b'_'
-}
-
-fn continues(text: &[u8]) -> bool
-    ensures { result ≡ list_all bytes.continues_name text.now }
-{
-    text.iter().all(|b| continues_name(*b))
-}
-
-/// Whether a text is spelled as a name: a letter or `_`, then letters, digits and `_`. Words of the
-/// language are spelled so too, and [`reserved`] tells them apart.
-pub fn is_name(text: &[u8]) -> bool
-    ensures { result ≡ spec.is_name text.now }
-{
-    match text {
-        [first, rest @ ..] => begins_name(*first) && continues(rest),
-        [] => false,
+    match word {
+        Terminal::Builtin(_) => TokenKind::Builtin,
+        Terminal::Refused => TokenKind::Refused,
+        _ => TokenKind::Keyword,
     }
 }
 
-/// The kind of a word or name, before this rest of the script.
-pub fn word_kind(word: &[u8], rest: &[u8]) -> TokenKind
-    ensures { result ≡ spec.word_kind word.now rest.now }
+/// The kind of a word of the language: a keyword, a built-in function, or a function that the
+/// profile leaves out ("Lexical Conventions", rules 7 and 8). No other text has one.
+pub fn reserved(word: &[u8]) -> Option<TokenKind>
+    ensures { result ≡ spec.reserved word.now }
 {
-    match reserved(word) {
-        Some(kind) => kind,
-        None if rest.first() == Some(&b'(') => CallName,
-        None => Name,
+    match listed(word) {
+        Some(found) => Some(kind_of(found)),
+        None => None,
     }
+}
+
+fn keyword_of(found: Option<Terminal>) -> Terminal
+    ensures { result ≡ spec.keyword_of found }
+{
+    match found {
+        Some(Terminal::Builtin(_)) | None => Terminal::Refused,
+        Some(word) => word,
+    }
+}
+
+fn builtin_of(found: Option<Terminal>) -> Terminal
+    ensures { result ≡ spec.builtin_of found }
+{
+    match found {
+        Some(Terminal::Builtin(which)) => Terminal::Builtin(which),
+        _ => Terminal::Refused,
+    }
+}
+
+/// What a token of this text is to the grammar whose kind is `Keyword`.
+pub fn as_keyword(text: &[u8]) -> Terminal
+    ensures { result ≡ spec.as_keyword text.now }
+{
+    keyword_of(listed(text))
+}
+
+/// What a token of this text is to the grammar whose kind is `Builtin`.
+pub fn as_builtin(text: &[u8]) -> Terminal
+    ensures { result ≡ spec.as_builtin text.now }
+{
+    builtin_of(listed(text))
 }

@@ -3,11 +3,12 @@ use Rattle.std.proofs.Common.{◌≡◌, Bool, List, [], ◌∷◌, map, Option,
 use Rattle.awk_text.specs.declared.place.Place.{Place}
 use Rattle.awk_tree.specs.declared.names.Name.{Name}
 use Rattle.awk_tree.specs.declared.names.Member.{Member}
-use Rattle.awk_tree.specs.declared.operators.Assignment.{Assignment}
-use Rattle.awk_tree.specs.declared.operators.Builtin.{Builtin}
+use Rattle.awk_tokens.specs.declared.terminals.Assignment.{Assignment}
+use Rattle.awk_tokens.specs.declared.words.Builtin.{Builtin}
+use Rattle.awk_tokens.specs.declared.words.Jump.{Jump}
 use Rattle.awk_tree.specs.declared.operators.Comparison.{Comparison}
 use Rattle.awk_tree.specs.declared.operators.Sign.{Sign}
-use Rattle.awk_tree.specs.declared.operators.Step.{Step}
+use Rattle.awk_tokens.specs.declared.terminals.Step.{Step}
 use Rattle.awk_tree.specs.declared.expressions.Term.{Term}
 use Rattle.awk_tree.specs.declared.expressions.Piped.{Piped}
 use Rattle.awk_tree.specs.declared.expressions.Expr.{Expr}
@@ -198,21 +199,9 @@ pub statement-DeleteAll : (n : Name) → view_statement (s.DeleteAll n) ≡ t.de
 unfolding statement_layer
 statement-DeleteAll n = statement_opened _ _ (s.rolls-DeleteAll n)
 
-pub statement-Break : (p : Place) → view_statement (s.Break p) ≡ t.break p
+pub statement-Jump : (p : Place) (which : Jump) → view_statement (s.Jump p which) ≡ t.jump p which
 unfolding statement_layer
-statement-Break p = statement_opened _ _ (s.rolls-Break p)
-
-pub statement-Continue : (p : Place) → view_statement (s.Continue p) ≡ t.continue p
-unfolding statement_layer
-statement-Continue p = statement_opened _ _ (s.rolls-Continue p)
-
-pub statement-Next : (p : Place) → view_statement (s.Next p) ≡ t.next p
-unfolding statement_layer
-statement-Next p = statement_opened _ _ (s.rolls-Next p)
-
-pub statement-NextFile : (p : Place) → view_statement (s.NextFile p) ≡ t.next_file p
-unfolding statement_layer
-statement-NextFile p = statement_opened _ _ (s.rolls-NextFile p)
+statement-Jump p which = statement_opened _ _ (s.rolls-Jump p which)
 
 pub statement-Exit : (p : Place) (x : Option Expr) → view_statement (s.Exit p x) ≡ t.exit p (option_map view x)
 unfolding statement_layer
@@ -252,4 +241,4 @@ statement-ForIn p k a b = statement_opened _ _ (s.rolls-ForIn p k a b)
 
 pub ruleset views = (view-Number, view-Quoted, view-Pattern, view-Name, view-Element, view-Field, view-Paren, view-Call, view-Builtin, view-Length, view-Split, view-Substitute, view-Getline, view-Before, view-After, view-Signed, view-Power, view-Product, view-Sum, view-Concat, view-Pipe, view-Compare, view-Match, view-Group, view-In, view-And, view-Or, view-Choice, view-Assign)
 
-pub ruleset statement_views = (statement-Empty, statement-Expr, statement-Print, statement-Printf, statement-Delete, statement-DeleteAll, statement-Break, statement-Continue, statement-Next, statement-NextFile, statement-Exit, statement-Return, statement-Block, statement-If, statement-IfElse, statement-While, statement-Do, statement-For, statement-ForIn)
+pub ruleset statement_views = (statement-Empty, statement-Expr, statement-Print, statement-Printf, statement-Delete, statement-DeleteAll, statement-Jump, statement-Exit, statement-Return, statement-Block, statement-If, statement-IfElse, statement-While, statement-Do, statement-For, statement-ForIn)

@@ -1,8 +1,11 @@
 -- The canonical spelling of a tree, and the tree without places.
-use Rattle.std.specs.Prelude.{Bool, if◌then◌else◌, List, [], ◌∷◌, ◌++◌, map, Option, Some, None, option_map, codes}
+use Rattle.std.specs.Prelude.{Bool, true, false, if◌then◌else◌, List, [], ◌∷◌, ◌++◌, map, Option, Some, None, option_map, codes}
 use Rattle.std.specs.List.{flat_map}
+use Rattle.awk_tokens.specs.Words.{builtin_text, jump_text}
 use Rattle.awk_tokens.specs.declared.token.Token.{Token}
 use Rattle.awk_tokens.specs.declared.kinds.TokenKind.TheVariants as kind
+use Rattle.awk_tokens.specs.declared.words.Builtin.{Builtin}
+use Rattle.awk_tokens.specs.declared.words.Builtin.TheVariants as b
 use Rattle.awk_tree.specs.declared.names.Name.{Name}
 use Rattle.awk_tree.specs.declared.names.Member.{Member}
 use Rattle.awk_tree.specs.declared.operators.Arithmetic.{Arithmetic}
@@ -17,7 +20,7 @@ use Rattle.awk_tree.specs.declared.statements.Printed.{Printed}
 use Rattle.awk_tree.specs.declared.statements.Redirection.{Redirection}
 use Rattle.awk_tree.specs.Tree as t
 use Rattle.awk_tree.specs.Tree.{Text, Tree, Trees, none, more, Perhaps, absent, present, Terms, no_terms, term, Pipes, no_pipes, piped, Statement, Statements, no_more, then_also, Condition, Entry}
-use Rattle.awk_tree.specs.Terminals.{assignment_text, step_text, builtin_text, nowhere, token, sign, keyword}
+use Rattle.awk_tree.specs.Terminals.{assignment_text, step_text, nowhere, token, sign, keyword}
 
 -- ---- how operators are spelled
 
@@ -49,8 +52,10 @@ redirect_text to.Write = codes ">"
 redirect_text to.Append = codes ">>"
 redirect_text to.Command = codes "|"
 
-abbrev pub substitute_text : Bool → Text
-substitute_text all = if all then codes "gsub" else codes "sub"
+-- `sub`, and with true `gsub`
+abbrev pub substituting : Bool → Builtin
+substituting true = b.Gsub
+substituting false = b.Sub
 
 abbrev pub word : Name → Token
 word n = token kind.Name n.text
@@ -76,9 +81,9 @@ abbrev mutual
   canon (t.paren p x) = sign (codes "(") ∷ canon x ++ sign (codes ")") ∷ []
   canon (t.call n xs) = token kind.CallName n.text ∷ sign (codes "(") ∷ canon_list xs ++ sign (codes ")") ∷ []
   canon (t.builtin p which xs) = builtin_word (builtin_text which) ∷ sign (codes "(") ∷ canon_list xs ++ sign (codes ")") ∷ []
-  canon (t.bare_length p) = builtin_word (codes "length") ∷ []
-  canon (t.split p x n y) = builtin_word (codes "split") ∷ sign (codes "(") ∷ canon x ++ sign (codes ",") ∷ word n ∷ canon_comma y ++ sign (codes ")") ∷ []
-  canon (t.substitute p all x y z) = builtin_word (substitute_text all) ∷ sign (codes "(") ∷ canon x ++ sign (codes ",") ∷ canon y ++ canon_comma z ++ sign (codes ")") ∷ []
+  canon (t.bare_length p) = builtin_word (builtin_text b.Length) ∷ []
+  canon (t.split p x n y) = builtin_word (builtin_text b.Split) ∷ sign (codes "(") ∷ canon x ++ sign (codes ",") ∷ word n ∷ canon_comma y ++ sign (codes ")") ∷ []
+  canon (t.substitute p all x y z) = builtin_word (builtin_text (substituting all)) ∷ sign (codes "(") ∷ canon x ++ sign (codes ",") ∷ canon y ++ canon_comma z ++ sign (codes ")") ∷ []
   canon (t.getline p x y) = keyword (codes "getline") ∷ canon_target x ++ canon_file y
   canon (t.before p which x) = sign (step_text which) ∷ canon x
   canon (t.after x p which) = canon x ++ sign (step_text which) ∷ []
@@ -169,10 +174,7 @@ abbrev mutual
   canon_statement (t.printf p xs r) = keyword (codes "printf") ∷ canon_printed xs ++ canon_redirection r ++ end
   canon_statement (t.delete n xs) = keyword (codes "delete") ∷ word n ∷ sign (codes "[") ∷ canon_items xs ++ sign (codes "]") ∷ end
   canon_statement (t.delete_all n) = keyword (codes "delete") ∷ word n ∷ end
-  canon_statement (t.break p) = keyword (codes "break") ∷ end
-  canon_statement (t.continue p) = keyword (codes "continue") ∷ end
-  canon_statement (t.next p) = keyword (codes "next") ∷ end
-  canon_statement (t.next_file p) = keyword (codes "nextfile") ∷ end
+  canon_statement (t.jump p which) = keyword (jump_text which) ∷ end
   canon_statement (t.exit p x) = keyword (codes "exit") ∷ canon_perhaps x ++ end
   canon_statement (t.return p x) = keyword (codes "return") ∷ canon_perhaps x ++ end
   canon_statement (t.block xs) = sign (codes "{") ∷ canon_statements xs ++ sign (codes "}") ∷ []
@@ -289,10 +291,7 @@ abbrev mutual
   bare_statement (t.printf p xs r) = t.printf nowhere (bare_printed xs) (option_map bare_redirection r)
   bare_statement (t.delete n xs) = t.delete (bare_name n) (map bare xs)
   bare_statement (t.delete_all n) = t.delete_all (bare_name n)
-  bare_statement (t.break p) = t.break nowhere
-  bare_statement (t.continue p) = t.continue nowhere
-  bare_statement (t.next p) = t.next nowhere
-  bare_statement (t.next_file p) = t.next_file nowhere
+  bare_statement (t.jump p which) = t.jump nowhere which
   bare_statement (t.exit p x) = t.exit nowhere (option_map bare x)
   bare_statement (t.return p x) = t.return nowhere (option_map bare x)
   bare_statement (t.block xs) = t.block (bare_statements xs)

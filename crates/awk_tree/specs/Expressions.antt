@@ -7,20 +7,23 @@ use Rattle.awk_tree.specs.declared.names.Name.{Name}
 use Rattle.awk_tree.specs.declared.names.Member.{Member}
 use Rattle.awk_tree.specs.declared.operators.Arithmetic.{Arithmetic}
 use Rattle.awk_tree.specs.declared.operators.Arithmetic.TheVariants as arithmetic
-use Rattle.awk_tree.specs.declared.operators.Assignment.{Assignment}
-use Rattle.awk_tree.specs.declared.operators.Builtin.{Builtin}
-use Rattle.awk_tree.specs.declared.operators.Builtin.TheVariants as b
+use Rattle.awk_tokens.specs.declared.terminals.Assignment.{Assignment}
+use Rattle.awk_tokens.specs.Words as words
+use Rattle.awk_tokens.specs.declared.words.Parameters.{Parameters}
+use Rattle.awk_tokens.specs.declared.words.Parameters.TheVariants as takes
+use Rattle.awk_tokens.specs.declared.words.Builtin.{Builtin}
+use Rattle.awk_tokens.specs.declared.words.Builtin.TheVariants as b
 use Rattle.awk_tree.specs.declared.operators.Comparison.{Comparison}
 use Rattle.awk_tree.specs.declared.operators.Comparison.TheVariants as c
 use Rattle.awk_tree.specs.declared.operators.Sign.{Sign}
 use Rattle.awk_tree.specs.declared.operators.Sign.TheVariants as prefix
-use Rattle.awk_tree.specs.declared.operators.Step.{Step}
+use Rattle.awk_tokens.specs.declared.terminals.Step.{Step}
 use Rattle.awk_tree.specs.declared.expressions.Term.{Term}
 use Rattle.awk_tree.specs.declared.expressions.Piped.{Piped}
 use Rattle.awk_tree.specs.declared.goals.Goal.{Goal}
 use Rattle.awk_tree.specs.declared.goals.Goal.TheVariants as goal
-use Rattle.awk_tree.specs.declared.terminals.Terminal.{Terminal}
-use Rattle.awk_tree.specs.declared.terminals.Terminal.TheVariants as w
+use Rattle.awk_tokens.specs.declared.terminals.Terminal.{Terminal}
+use Rattle.awk_tokens.specs.declared.terminals.Terminal.TheVariants as w
 use Rattle.awk_tree.specs.Tree as t
 use Rattle.awk_tree.specs.Tree.{Tree, trees_of, perhaps_of, terms_of, pipes_of}
 use Rattle.awk_tree.specs.Terminals.{terminal, is}
@@ -266,21 +269,18 @@ module _ (depth : ℕ) (inner : Goal → Parser Tree) where
   unfoldable pub substitute_of : Place → Bool → Parser Tree
   substitute_of place all = one w.OpenParen >> (whole >>= λ x. next_in_list >>= λ y. last_lvalue >>= λ z. pure (t.substitute place all x y (perhaps_of z)))
 
+  abbrev pub parameters_by : Place → Builtin → Parameters → Parser Tree
+  parameters_by place which takes.One = of_one place which
+  parameters_by place which takes.AtMostOne = of_one_or_none place which
+  parameters_by place which takes.Two = of_two place which
+  parameters_by place which takes.TwoOrThree = of_two_or_three place which
+  parameters_by place which takes.OneOrMore = of_list place which
+  parameters_by place which takes.Measured = length_of place
+  parameters_by place which takes.Pieces = split_of place
+  parameters_by place which (takes.Replaced all) = substitute_of place all
+
   abbrev pub builtin_by : Place → Builtin → Parser Tree
-  builtin_by place b.Close = of_one place b.Close
-  builtin_by place b.Fflush = of_one_or_none place b.Fflush
-  builtin_by place b.Gsub = substitute_of place true
-  builtin_by place b.Index = of_two place b.Index
-  builtin_by place b.Int = of_one place b.Int
-  builtin_by place b.Length = length_of place
-  builtin_by place b.Match = of_two place b.Match
-  builtin_by place b.Split = split_of place
-  builtin_by place b.Sprintf = of_list place b.Sprintf
-  builtin_by place b.Sub = substitute_of place false
-  builtin_by place b.Substr = of_two_or_three place b.Substr
-  builtin_by place b.System = of_one place b.System
-  builtin_by place b.Tolower = of_one place b.Tolower
-  builtin_by place b.Toupper = of_one place b.Toupper
+  builtin_by place which = parameters_by place which (words.parameters which)
 
   unfoldable pub builtin : Builtin → Parser Tree
   builtin which = any >>= λ token. builtin_by token.place which

@@ -12,8 +12,8 @@ use Rattle.awk_tree.specs.declared.goals.Goal.{Goal}
 use Rattle.awk_tree.specs.declared.goals.Goal.TheVariants as goal
 use Rattle.awk_tree.specs.declared.goals.Nested.{Nested}
 use Rattle.awk_tree.specs.declared.goals.Nested.TheVariants as nested
-use Rattle.awk_tree.specs.declared.terminals.Terminal.{Terminal}
-use Rattle.awk_tree.specs.declared.terminals.Terminal.TheVariants as w
+use Rattle.awk_tokens.specs.declared.terminals.Terminal.{Terminal}
+use Rattle.awk_tokens.specs.declared.terminals.Terminal.TheVariants as w
 use Rattle.awk_tree.specs.Tree as t
 use Rattle.awk_tree.specs.Tree.{Tree, Statement, statements_of, Condition, Entry}
 use Rattle.awk_tree.specs.Terminals.{terminal, is, look}
@@ -135,10 +135,7 @@ module _ (depth : ℕ) (inner : Goal → Parser Tree) where
   simple_by w.Print = print
   simple_by w.Printf = printf
   simple_by w.Delete = delete
-  simple_by w.Break = any >>= λ token. pure (t.break token.place)
-  simple_by w.Continue = any >>= λ token. pure (t.continue token.place)
-  simple_by w.Next = any >>= λ token. pure (t.next token.place)
-  simple_by w.NextFile = any >>= λ token. pure (t.next_file token.place)
+  simple_by (w.Jump which) = any >>= λ token. pure (t.jump token.place which)
   simple_by w.Exit = any >>= λ token. perhaps_here >>= λ x. pure (t.exit token.place x)
   simple_by w.Return = any >>= λ token. perhaps_here >>= λ x. pure (t.return token.place x)
   simple_by other = here false >>= λ x. pure (t.plain x)

@@ -2,20 +2,19 @@
 use Rattle.std.specs.Prelude.{ℕ, Bool, true, if◌then◌else◌, ◌==◌, List, [], ◌∷◌, codes}
 use Rattle.std.specs.Str.{bytes_eq}
 use Rattle.awk_text.specs.declared.place.Place.{Place}
+use Rattle.awk_tokens.specs.Words as words
 use Rattle.awk_tokens.specs.declared.token.Token.{Token}
 use Rattle.awk_tokens.specs.declared.kinds.TokenKind.{TokenKind}
 use Rattle.awk_tokens.specs.declared.kinds.TokenKind.TheVariants as kind
-use Rattle.awk_tree.specs.declared.operators.Assignment.{Assignment}
-use Rattle.awk_tree.specs.declared.operators.Assignment.TheVariants as set
-use Rattle.awk_tree.specs.declared.operators.Builtin.{Builtin}
-use Rattle.awk_tree.specs.declared.operators.Builtin.TheVariants as b
-use Rattle.awk_tree.specs.declared.operators.Step.{Step}
-use Rattle.awk_tree.specs.declared.operators.Step.TheVariants as step
-use Rattle.awk_tree.specs.declared.terminals.Terminal.{Terminal}
-use Rattle.awk_tree.specs.declared.terminals.Terminal.TheVariants as w
+use Rattle.awk_tokens.specs.declared.terminals.Assignment.{Assignment}
+use Rattle.awk_tokens.specs.declared.terminals.Assignment.TheVariants as set
+use Rattle.awk_tokens.specs.declared.terminals.Step.{Step}
+use Rattle.awk_tokens.specs.declared.terminals.Step.TheVariants as step
+use Rattle.awk_tokens.specs.declared.terminals.Terminal.{Terminal}
+use Rattle.awk_tokens.specs.declared.terminals.Terminal.TheVariants as w
 use Rattle.awk_tree.specs.Tree.{Text}
 
--- ---- how each sign and word is spelled
+-- ---- how each sign is spelled; awk_tokens has the words
 
 abbrev pub assignment_text : Assignment → Text
 assignment_text set.Set = codes "="
@@ -29,35 +28,6 @@ assignment_text set.Power = codes "^="
 abbrev pub step_text : Step → Text
 step_text step.Increment = codes "++"
 step_text step.Decrement = codes "--"
-
-abbrev pub builtin_text : Builtin → Text
-builtin_text b.Close = codes "close"
-builtin_text b.Fflush = codes "fflush"
-builtin_text b.Gsub = codes "gsub"
-builtin_text b.Index = codes "index"
-builtin_text b.Int = codes "int"
-builtin_text b.Length = codes "length"
-builtin_text b.Match = codes "match"
-builtin_text b.Split = codes "split"
-builtin_text b.Sprintf = codes "sprintf"
-builtin_text b.Sub = codes "sub"
-builtin_text b.Substr = codes "substr"
-builtin_text b.System = codes "system"
-builtin_text b.Tolower = codes "tolower"
-builtin_text b.Toupper = codes "toupper"
-
--- `func` is the same word as `function`
-abbrev pub keywords : List (Text × Terminal)
-keywords =
-    (codes "BEGIN", w.BeginWord) ∷ (codes "END", w.EndWord) ∷ (codes "break", w.Break) ∷ (codes "continue", w.Continue) ∷ (codes "delete", w.Delete) ∷ (codes "do", w.Do)
-    ∷ (codes "else", w.Else) ∷ (codes "exit", w.Exit) ∷ (codes "for", w.For) ∷ (codes "func", w.Function) ∷ (codes "function", w.Function) ∷ (codes "getline", w.Getline)
-    ∷ (codes "if", w.If) ∷ (codes "in", w.In) ∷ (codes "next", w.Next) ∷ (codes "nextfile", w.NextFile) ∷ (codes "print", w.Print) ∷ (codes "printf", w.Printf) ∷ (codes "return", w.Return) ∷ (codes "while", w.While) ∷ []
-
-abbrev pub builtins : List (Text × Terminal)
-builtins =
-    (codes "close", w.Builtin b.Close) ∷ (codes "fflush", w.Builtin b.Fflush) ∷ (codes "gsub", w.Builtin b.Gsub) ∷ (codes "index", w.Builtin b.Index) ∷ (codes "int", w.Builtin b.Int) ∷ (codes "length", w.Builtin b.Length)
-    ∷ (codes "match", w.Builtin b.Match) ∷ (codes "split", w.Builtin b.Split) ∷ (codes "sprintf", w.Builtin b.Sprintf) ∷ (codes "sub", w.Builtin b.Sub) ∷ (codes "substr", w.Builtin b.Substr)
-    ∷ (codes "system", w.Builtin b.System) ∷ (codes "tolower", w.Builtin b.Tolower) ∷ (codes "toupper", w.Builtin b.Toupper) ∷ []
 
 -- the signs of one byte, by their bytes; 10 is the newline
 abbrev pub singles : List (ℕ × Terminal)
@@ -90,8 +60,8 @@ unfoldable pub terminal_of : TokenKind → Text → Terminal
 terminal_of kind.Number text = w.Number
 terminal_of kind.Quoted text = w.Quoted
 terminal_of kind.Pattern text = w.Pattern
-terminal_of kind.Keyword text = word_in keywords text
-terminal_of kind.Builtin text = word_in builtins text
+terminal_of kind.Keyword text = words.as_keyword text
+terminal_of kind.Builtin text = words.as_builtin text
 terminal_of kind.Refused text = w.Refused
 terminal_of kind.Name text = w.Name
 terminal_of kind.CallName text = w.CallName
@@ -160,26 +130,23 @@ number_of w.Or = 39
 number_of w.Append = 40
 number_of w.BeginWord = 41
 number_of w.EndWord = 42
-number_of w.Break = 43
-number_of w.Continue = 44
-number_of w.Delete = 45
-number_of w.Do = 46
-number_of w.Else = 47
-number_of w.Exit = 48
-number_of w.For = 49
-number_of w.Function = 50
-number_of w.Getline = 51
-number_of w.If = 52
-number_of w.In = 53
-number_of w.Next = 54
-number_of w.NextFile = 55
-number_of w.Print = 56
-number_of w.Printf = 57
-number_of w.Return = 58
-number_of w.While = 59
-number_of w.Refused = 60
+number_of (w.Jump which) = 43
+number_of w.Delete = 44
+number_of w.Do = 45
+number_of w.Else = 46
+number_of w.Exit = 47
+number_of w.For = 48
+number_of w.Function = 49
+number_of w.Getline = 50
+number_of w.If = 51
+number_of w.In = 52
+number_of w.Print = 53
+number_of w.Printf = 54
+number_of w.Return = 55
+number_of w.While = 56
+number_of w.Refused = 57
 
--- the same form of terminal, whatever built-in, assignment or step it is
+-- the same form of terminal, whatever built-in, jump, assignment or step it is
 abbrev pub is : Terminal → Terminal → Bool
 is one other = number_of one == number_of other
 

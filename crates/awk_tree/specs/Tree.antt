@@ -5,11 +5,12 @@ use Rattle.awk_text.specs.declared.place.Place.{Place}
 use Rattle.awk_tree.specs.declared.names.Name.{Name}
 use Rattle.awk_tree.specs.declared.names.Member.{Member}
 use Rattle.awk_tree.specs.declared.operators.Arithmetic.{Arithmetic}
-use Rattle.awk_tree.specs.declared.operators.Assignment.{Assignment}
-use Rattle.awk_tree.specs.declared.operators.Builtin.{Builtin}
+use Rattle.awk_tokens.specs.declared.terminals.Assignment.{Assignment}
+use Rattle.awk_tokens.specs.declared.words.Builtin.{Builtin}
+use Rattle.awk_tokens.specs.declared.words.Jump.{Jump}
 use Rattle.awk_tree.specs.declared.operators.Comparison.{Comparison}
 use Rattle.awk_tree.specs.declared.operators.Sign.{Sign}
-use Rattle.awk_tree.specs.declared.operators.Step.{Step}
+use Rattle.awk_tokens.specs.declared.terminals.Step.{Step}
 use Rattle.awk_tree.specs.declared.expressions.Term.{Term}
 use Rattle.awk_tree.specs.declared.expressions.Piped.{Piped}
 use Rattle.awk_tree.specs.declared.statements.Printed.{Printed}
@@ -95,10 +96,7 @@ mutual
     printf : Place → Printed Tree → Option (Redirection Tree) → Statement
     delete : Name → List Tree → Statement
     delete_all : Name → Statement
-    break : Place → Statement
-    continue : Place → Statement
-    next : Place → Statement
-    next_file : Place → Statement
+    jump : Place → Jump → Statement
     exit : Place → Option Tree → Statement
     return : Place → Option Tree → Statement
     block : Statements → Statement

@@ -1,9 +1,10 @@
 // Expressions.
 
 use crate::names::{Member, Name};
-use crate::operators::{Arithmetic, Assignment, Builtin, Comparison, Sign, Step};
+use crate::operators::{Arithmetic, Comparison, Sign};
 use awk_text::octets::Octets;
 use awk_text::place::Place;
+use awk_tokens::{Assignment, Builtin, Step};
 use sqlite_items::{Boxed, Items};
 
 /// A later operand of a chain, with the sign before it.

@@ -13,13 +13,12 @@ mod items;
 mod names;
 mod operators;
 mod statements;
-mod terminals;
 
+pub use awk_tokens::{Assignment, Builtin, Jump, Step, Terminal};
 pub use expressions::{Expr, Piped, Term};
 pub use fault::Fault;
 pub use goals::{Goal, Nested};
 pub use items::{Function, Item, Pattern, Script};
 pub use names::{Member, Name};
-pub use operators::{Arithmetic, Assignment, Builtin, Comparison, Redirect, Sign, Step};
+pub use operators::{Arithmetic, Comparison, Redirect, Sign};
 pub use statements::{Printed, Redirection, Statement};
-pub use terminals::Terminal;

@@ -18,25 +18,6 @@ pub enum Sign {
     Minus,
 }
 
-/// `++` and `--`.
-#[derive(Clone, Copy, Debug, PartialEq, Eq, Drop)]
-pub enum Step {
-    Increment,
-    Decrement,
-}
-
-/// `=`, and the signs that compute with the old value first.
-#[derive(Clone, Copy, Debug, PartialEq, Eq, Drop)]
-pub enum Assignment {
-    Set,
-    Add,
-    Subtract,
-    Multiply,
-    Divide,
-    Remainder,
-    Power,
-}
-
 /// The six comparisons.
 #[derive(Clone, Copy, Debug, PartialEq, Eq, Drop)]
 pub enum Comparison {
@@ -46,25 +27,6 @@ pub enum Comparison {
     NotEqual,
     Greater,
     GreaterOrEqual,
-}
-
-/// The functions that the language brings.
-#[derive(Clone, Copy, Debug, PartialEq, Eq, Drop)]
-pub enum Builtin {
-    Close,
-    Fflush,
-    Gsub,
-    Index,
-    Int,
-    Length,
-    Match,
-    Split,
-    Sprintf,
-    Sub,
-    Substr,
-    System,
-    Tolower,
-    Toupper,
 }
 
 /// Where output goes.

@@ -4,6 +4,7 @@ use crate::expressions::Expr;
 use crate::names::Name;
 use crate::operators::Redirect;
 use awk_text::place::Place;
+use awk_tokens::Jump;
 use sqlite_items::{Boxed, Items};
 
 /// The list of `print` or `printf`.
@@ -36,10 +37,8 @@ pub enum Statement {
     Delete(Name, Items<Expr>),
     /// `delete NAME`, of the whole array
     DeleteAll(Name),
-    Break(Place),
-    Continue(Place),
-    Next(Place),
-    NextFile(Place),
+    /// A word alone, as `break`
+    Jump(Place, Jump),
     Exit(Place, Option<Expr>),
     Return(Place, Option<Expr>),
     /// `{ }`

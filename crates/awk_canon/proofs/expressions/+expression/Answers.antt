@@ -64,7 +64,7 @@ expression-enclosed-requires-in-Builtin t c =
 
 pub expression-returns-in_ok-push_builtin-in-Builtin : goal.expression-returns-in_ok-push_builtin-in-Builtin
 expression-returns-in_ok-push_builtin-in-Builtin t c =
-    let h = rw (c.as_slice-in-Builtin.ensures, c.in_ok-push_builtin-in-Builtin.ensures, c.builtin_text.ensures, append_assoc) at c.enclosed-in-Builtin.ensures in rw (c.in-Builtin.is, view-Builtin) h
+    let h = rw (c.as_slice-in-Builtin.ensures, c.in_ok-push_builtin-in-Builtin.ensures, append_assoc) at c.enclosed-in-Builtin.ensures in rw (c.in-Builtin.is, view-Builtin) h
 
 pub expression-split-requires : goal.expression-split-requires
 expression-split-requires t c =

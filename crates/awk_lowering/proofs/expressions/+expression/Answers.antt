@@ -228,7 +228,7 @@ fill-loop-x-preserved t c =
 
 pub list-returns : goal.list-returns
 list-returns t c =
-    whole (code.view (names_in c.args.context.now)) _ _ _ _ c.kept.ensures (rw c.new-out.ensures at c.fill-filled.ensures)
+    whole (code.view (names_in c.args.context.now)) _ _ _ _ c.kept.ensures (rw c.room-out.ensures at c.fill-filled.ensures)
 
 pub fill_terms-loop-x-preserved : goal.fill_terms-loop-x-preserved
 fill_terms-loop-x-preserved t c =
@@ -236,7 +236,7 @@ fill_terms-loop-x-preserved t c =
 
 pub terms-returns : goal.terms-returns
 terms-returns t c =
-    whole (code.view_term (names_in c.args.context.now)) _ _ _ _ c.kept.ensures (rw c.new-out.ensures at c.fill_terms-filled.ensures)
+    whole (code.view_term (names_in c.args.context.now)) _ _ _ _ c.kept.ensures (rw c.room-out.ensures at c.fill_terms-filled.ensures)
 
 pub fill_joins-loop-x-preserved : goal.fill_joins-loop-x-preserved
 fill_joins-loop-x-preserved t c =
@@ -244,7 +244,7 @@ fill_joins-loop-x-preserved t c =
 
 pub joins-returns : goal.joins-returns
 joins-returns t c =
-    whole (code.view_joined (names_in c.args.context.now)) _ _ _ _ c.kept.ensures (rw c.new-out.ensures at c.fill_joins-filled.ensures)
+    whole (code.view_joined (names_in c.args.context.now)) _ _ _ _ c.kept.ensures (rw c.room-out.ensures at c.fill_joins-filled.ensures)
 
 pub fill_pipes-loop-x-preserved : goal.fill_pipes-loop-x-preserved
 fill_pipes-loop-x-preserved t c =
@@ -256,7 +256,7 @@ fill_pipes-returns t c =
 
 pub pipes-returns : goal.pipes-returns
 pipes-returns t c =
-    whole_as (code.view_pipes (names_in c.args.context.now)) _ _ _ _ c.kept.ensures (rw c.new-out.ensures at c.fill_pipes-filled.ensures)
+    whole_as (code.view_pipes (names_in c.args.context.now)) _ _ _ _ c.kept.ensures (rw c.room-out.ensures at c.fill_pipes-filled.ensures)
 
 pub fill_arguments-loop-x-preserved : goal.fill_arguments-loop-x-preserved
 fill_arguments-loop-x-preserved t c =
@@ -268,4 +268,4 @@ fill_arguments-returns t c =
 
 pub arguments-returns : goal.arguments-returns
 arguments-returns t c =
-    whole_as (code.view_arguments (names_in c.args.context.now)) _ _ _ _ c.kept.ensures (rw c.new-out.ensures at c.fill_arguments-filled.ensures)
+    whole_as (code.view_arguments (names_in c.args.context.now)) _ _ _ _ c.kept.ensures (rw c.room-out.ensures at c.fill_arguments-filled.ensures)

@@ -1,6 +1,6 @@
 use Rattle.std.proofs.Common.{refl, arith}
 use Rattle.awk_tree.specs.View.{view_statement}
-use Rattle.awk_tree.proofs.Views.{statement-Empty, statement-Expr, statement-Print, statement-Printf, statement-Delete, statement-DeleteAll, statement-Break, statement-Continue, statement-Next, statement-NextFile, statement-Exit, statement-Return, statement-Block, statement-If, statement-IfElse, statement-While, statement-Do, statement-For, statement-ForIn}
+use Rattle.awk_tree.proofs.Views.{statement-Empty, statement-Expr, statement-Print, statement-Printf, statement-Delete, statement-DeleteAll, statement-Jump, statement-Exit, statement-Return, statement-Block, statement-If, statement-IfElse, statement-While, statement-Do, statement-For, statement-ForIn}
 use Rattle.awk_program.specs.View as code
 use Rattle.awk_lowering.specs.LoweredStatements.{statement}
 use Rattle.awk_lowering.specs.Made.{names_in, scope_in}
@@ -33,21 +33,9 @@ pub statement-returns-in-DeleteAll : goal.statement-returns-in-DeleteAll
 statement-returns-in-DeleteAll t c =
     let v = rw c.bytes-in-DeleteAll.ensures at c.variable.ensures in rw (c.in-DeleteAll.is, statement-DeleteAll) (c.delete_all_of.ensures _ _ v)
 
-pub statement-returns-in-Break : goal.statement-returns-in-Break
-statement-returns-in-Break t c =
-    rw (c.in-Break.is, statement-Break, program.statement-Break) refl
-
-pub statement-returns-in-Continue : goal.statement-returns-in-Continue
-statement-returns-in-Continue t c =
-    rw (c.in-Continue.is, statement-Continue, program.statement-Continue) refl
-
-pub statement-returns-in-Next : goal.statement-returns-in-Next
-statement-returns-in-Next t c =
-    rw (c.in-Next.is, statement-Next, program.statement-Next) refl
-
-pub statement-returns-in-NextFile : goal.statement-returns-in-NextFile
-statement-returns-in-NextFile t c =
-    rw (c.in-NextFile.is, statement-NextFile, program.statement-NextFile) refl
+pub statement-returns-in-Jump : goal.statement-returns-in-Jump
+statement-returns-in-Jump t c =
+    rw (c.in-Jump.is, statement-Jump) (c.jump_of.ensures _)
 
 pub statement-returns-in-Exit : goal.statement-returns-in-Exit
 statement-returns-in-Exit t c =
@@ -95,4 +83,4 @@ fill-loop-x-preserved t c =
 
 pub statements-returns : goal.statements-returns
 statements-returns t c =
-    whole (code.view_statement (names_in c.args.context.now)) _ _ _ _ c.kept.ensures (rw c.new-out.ensures at c.fill-filled.ensures)
+    whole (code.view_statement (names_in c.args.context.now)) _ _ _ _ c.kept.ensures (rw c.room-out.ensures at c.fill-filled.ensures)

@@ -1,7 +1,7 @@
 use Rattle.std.proofs.Common.{rules, ◌+◌, ◌<◌, refl, arith, map, append-nil, append_assoc}
 use Rattle.awk_tree.specs.Tree.{statements_of}
 use Rattle.awk_tree.specs.View.{view_statement}
-use Rattle.awk_tree.proofs.Views.{statement-Empty, statement-Expr, statement-Print, statement-Printf, statement-Delete, statement-DeleteAll, statement-Break, statement-Continue, statement-Next, statement-NextFile, statement-Exit, statement-Return, statement-Block, statement-If, statement-IfElse, statement-While, statement-Do, statement-For, statement-ForIn}
+use Rattle.awk_tree.proofs.Views.{statement-Empty, statement-Expr, statement-Print, statement-Printf, statement-Delete, statement-DeleteAll, statement-Jump, statement-Exit, statement-Return, statement-Block, statement-If, statement-IfElse, statement-While, statement-Do, statement-For, statement-ForIn}
 use Rattle.awk_resolve.proofs.Weight.{statement_weight, statement_weights, statement_item_weight}
 use Rattle.awk_resolve.proofs.Lists.{drop_here}
 use Rattle.awk_resolve.proofs.statements.+statement.Goals as goal
@@ -30,21 +30,9 @@ pub statement-returns-in-DeleteAll : goal.statement-returns-in-DeleteAll
 statement-returns-in-DeleteAll t c =
     rw (c.in-DeleteAll.is, statement-DeleteAll) c.array-in-DeleteAll.ensures
 
-pub statement-returns-in-Break : goal.statement-returns-in-Break
-statement-returns-in-Break t c =
-    rw (c.in-Break.is, statement-Break) c.leaving.ensures
-
-pub statement-returns-in-Continue : goal.statement-returns-in-Continue
-statement-returns-in-Continue t c =
-    rw (c.in-Continue.is, statement-Continue) c.leaving-in-Continue.ensures
-
-pub statement-returns-in-Next : goal.statement-returns-in-Next
-statement-returns-in-Next t c =
-    rw (c.in-Next.is, statement-Next) c.push.ensures.ok
-
-pub statement-returns-in-NextFile : goal.statement-returns-in-NextFile
-statement-returns-in-NextFile t c =
-    rw (c.in-NextFile.is, statement-NextFile) c.push-in-NextFile.ensures.ok
+pub statement-returns-in-Jump : goal.statement-returns-in-Jump
+statement-returns-in-Jump t c =
+    rw (c.in-Jump.is, statement-Jump) c.jump.ensures
 
 pub statement-returns-in-Exit : goal.statement-returns-in-Exit
 statement-returns-in-Exit t c =

@@ -1,6 +1,6 @@
 use Rattle.std.proofs.Common.{◌≡◌, true, false, rules, arith}
 use Rattle.std.proofs.lemmas.Grind.{common_steps}
-use Rattle.awk_tree.specs.declared.terminals.Terminal.TheVariants as w
+use Rattle.awk_tokens.specs.declared.terminals.Terminal.TheVariants as w
 use Rattle.awk_tree.specs.Terminals.{ahead, is}
 use Rattle.awk_expressions.proofs.Loops.{many_stops, many_ends, many_turn, many_goes}
 use Rattle.awk_statements.proofs.items.more_params.Goals as goal

@@ -1,7 +1,7 @@
 use Rattle.std.proofs.Common.{◌≡◌, Bool, true, false, List, rules, arith}
 use Rattle.std.proofs.lemmas.Grind.{common_steps}
 use Rattle.awk_tokens.specs.declared.token.Token.{Token}
-use Rattle.awk_tree.specs.declared.terminals.Terminal.TheVariants as w
+use Rattle.awk_tokens.specs.declared.terminals.Terminal.TheVariants as w
 use Rattle.awk_tree.specs.Terminals.{is, look}
 use Rattle.awk_tree.specs.Input.{skip}
 use Rattle.awk_tree.specs.View.{view_statement}

@@ -1,6 +1,6 @@
 use Rattle.std.proofs.Common.{◌≡◌, ◌-◌, map}
 use Rattle.awk_tree.specs.View.{view_statement}
-use Rattle.awk_tree.specs.declared.terminals.Terminal.TheVariants as w
+use Rattle.awk_tokens.specs.declared.terminals.Terminal.TheVariants as w
 use Rattle.awk_tree.specs.Terminals.{is, look}
 use Rattle.awk_tree.specs.Input.{skip}
 use Rattle.awk_tree.specs.Expressions.{expr}

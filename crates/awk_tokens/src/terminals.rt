@@ -1,6 +1,25 @@
 // Tokens as the grammar sees them.
 
-use crate::operators::{Assignment, Builtin, Step};
+use crate::words::{Builtin, Jump};
+
+/// `++` and `--`.
+#[derive(Clone, Copy, Debug, PartialEq, Eq, Drop)]
+pub enum Step {
+    Increment,
+    Decrement,
+}
+
+/// `=`, and the signs that compute with the old value first.
+#[derive(Clone, Copy, Debug, PartialEq, Eq, Drop)]
+pub enum Assignment {
+    Set,
+    Add,
+    Subtract,
+    Multiply,
+    Divide,
+    Remainder,
+    Power,
+}
 
 /// What a token is to the grammar.
 #[derive(Clone, Copy, Drop)]
@@ -52,8 +71,7 @@ pub enum Terminal {
     BeginWord,
     /// The word `END`.
     EndWord,
-    Break,
-    Continue,
+    Jump(Jump),
     Delete,
     Do,
     Else,
@@ -63,8 +81,6 @@ pub enum Terminal {
     Getline,
     If,
     In,
-    Next,
-    NextFile,
     Print,
     Printf,
     Return,

@@ -1,9 +1,0 @@
-use Rattle.std.proofs.Common.{◌≡◌, length}
-use Rattle.awk_tree.specs.Input.{past}
-use Rattle.awk_expressions.proofs.tokens.Tokens.past.Given as goal
-
-abbrev pub invariant-loop-rest : goal.invariant-loop-rest
-invariant-loop-rest l = past l.self-inside.rest.now ≡ past l.fn.self
-
-abbrev pub decreases-loop-rest : goal.decreases-loop-rest
-decreases-loop-rest l = length l.self-inside.rest.now
