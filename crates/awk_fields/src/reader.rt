@@ -61,7 +61,7 @@ fn compact(bytes: &mut Vec<u8>, start: usize) -> usize
     if start < left {
         return start;
     }
-    bytes.rotate_left(start);
+    bytes.copy_within(start.., 0);
     bytes.truncate(left);
     0
 }

@@ -16,13 +16,26 @@ fn are_four(x: &[u8; 4], y: &[u8; 4]) -> bool
     u32::from_le_bytes(*x) == u32::from_le_bytes(*y)
 }
 
+/// Whether the texts are the same, where fewer than four bytes are left.
+fn is_same_few(x: &[u8], y: &[u8]) -> bool
+    ensures { result ≡ bytes_eq x.now y.now }
+{
+    match (x, y) {
+        ([], []) => true,
+        ([a], [b]) => a == b,
+        ([a, c], [b, d]) => a == b && c == d,
+        ([a, c, e], [b, d, f]) => a == b && c == d && e == f,
+        _ => x == y,
+    }
+}
+
 /// Whether the texts are the same, where fewer than eight bytes are left.
 fn is_same_rest(x: &[u8], y: &[u8]) -> bool
     ensures { result ≡ bytes_eq x.now y.now }
 {
     match (x.split_first_chunk::<4>(), y.split_first_chunk::<4>()) {
-        (Some((p, x)), Some((q, y))) => are_four(p, q) && x == y,
-        _ => x == y,
+        (Some((p, x)), Some((q, y))) => are_four(p, q) && is_same_few(x, y),
+        _ => is_same_few(x, y),
     }
 }
 
