@@ -14,6 +14,7 @@ use crate::sources::matches;
 use crate::targets::{alter, put, step_target};
 use crate::units::units_of;
 use awk_builtins::operators::{compared, compared_lent};
+use awk_builtins::patterns::matches_record;
 use awk_program::{Comparison, Expr};
 use awk_quick::at_hand::{MOST_LEVELS, at_hand, number_at_hand, truth_at_hand};
 use awk_quick::done::done_at_once;
@@ -57,6 +58,15 @@ pub fn truth_of<W: World, E: Evaluates<W>>(
     ensures { Tells W.World cx.now (λ g. value (view (names_in g) e.now)) IsTruthOf
         (whole_of run.old) world.old result (whole_of run.new) world.new }
 {
+    if let Expr::Pattern(place, text) = e {
+        return matches_record(
+            cx.alloc,
+            &mut run.patterns,
+            &mut run.store,
+            *place,
+            text.bytes(),
+        );
+    }
     if let Some(known) = truth_at_hand(&run.store, e) {
         return Ok(known);
     }

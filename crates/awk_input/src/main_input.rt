@@ -146,7 +146,8 @@ fn take_on<W: World>(
 }
 
 /// Takes the next record of the main input: the record as input, or 0 where it has ended for good. It is
-/// written where the text of the record before the present one lay, so that few records need memory.
+/// written where the text lay that getline set before, so that few records need memory.
+#[inline(always)]
 pub fn take<W: World>(
     alloc: Global,
     host: &Host,
@@ -159,7 +160,11 @@ pub fn take<W: World>(
         → Performs W.World g (Do Take) give (store.old, streams.old) world.old result (store.new, streams.new) world.new }
     ensures owns { Owns (W.open_numbers world.new) streams.new }
 {
-    streams.keep_room(store.take_room());
+    let mut room = streams.take_room();
+    if takes_line(store, streams, &mut room) {
+        return Ok(Value::Input(Octets::new(room)));
+    }
+    streams.keep_room(room);
     take_on(alloc, host, store, streams, world)
 }
 

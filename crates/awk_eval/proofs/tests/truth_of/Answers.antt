@@ -1,3 +1,6 @@
+use Rattle.awk_eval.proofs.Leading.{as_truth}
+use Rattle.awk_program.proofs.Views.{view-Pattern}
+use Rattle.awk_program.specs.Program as p
 use Rattle.awk_streams.proofs.Chain.{at_once, done, part, passes, stop}
 use Rattle.awk_machine.specs.Forms.{value}
 use Rattle.awk_machine.specs.Pieces.{give}
@@ -9,6 +12,11 @@ use Rattle.std.proofs.lemmas.Result.{err_from_is_err_and}
 use Rattle.std.specs.Prelude.{Bool}
 use Rattle.awk_eval.proofs.tests.truth_of.Goals as goal
 use Rattle.awk_text.specs.declared.value.Value.TheVariants as v
+
+pub returns-in-Pattern : goal.returns-in-Pattern
+returns-in-Pattern g c =
+    let h = as_truth {ghosts = g.W.World} {cx = c.args.cx.now} {p = λ m. value (p.pattern c.in-Pattern.place c.in-Pattern.text)} {r = c.matches_record.result} (record { plays = λ m is. acted (rw c.bytes.ensures at (c.matches_record.ensures m c.args.run.now.streams)); owns = c.requires.owns }) in
+    record { val = h.val; is = h.is; does = record { plays = λ m is. rw (c.in-Pattern.is, view-Pattern) (h.does.plays m is); owns = h.does.owns } }
 
 pub returns-in-Some : goal.returns-in-Some
 returns-in-Some g c =
