@@ -149,7 +149,9 @@ pub(crate) fn is_plain(sort: Sort, pattern: &[u8]) -> bool
     true
 }
 
-/// As `text_fits`, with `N` words for the places of the pattern.
+/// As `text_fits`, with `N` words for the places of the pattern. It stands out of line, so that a short pattern takes little of the
+/// stack.
+#[inline(never)]
 fn text_fits_in<const N: usize>(sort: Sort, pattern: &[u8], text: &[u8]) -> bool
     requires few { N ≤ 97 }
     requires room { length pattern.now < 64 * N }
@@ -229,7 +231,9 @@ fn are_same(pattern: &[u8], subject: Names) -> bool
     }
 }
 
-/// As `names_fit`, with `N` words for the places of the pattern.
+/// As `names_fit`, with `N` words for the places of the pattern. It stands out of line, so that a short pattern takes little of the
+/// stack.
+#[inline(never)]
 fn names_fit_in<const N: usize>(pattern: &[u8], subject: Names) -> bool
     requires few { N ≤ 97 }
     requires room { 3 * length pattern.now + 3 < 128 * N }
