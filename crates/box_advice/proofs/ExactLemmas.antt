@@ -1,9 +1,9 @@
 -- A rule without wildcards fits one text alone.
 use Rattle.std.proofs.Common.{◌≡◌, ◌∙◌, ℕ, Bool, true, false, not, ◌&&◌, ◌||◌, List, [], ◌∷◌, ◌++◌, map, cond, sym, ap, refl}
 use Rattle.std.specs.Prelude.{Some, None, is_some, nat_eq, ◌==◌}
-use Rattle.std.specs.List.{list_all}
+use Rattle.std.specs.List.{list_all, list_any}
 use Rattle.std.specs.Str.{bytes_eq, is_utf8}
-use Rattle.std.proofs.lemmas.Bool.{true≢false, and_parts, not-true}
+use Rattle.std.proofs.lemmas.Bool.{true≢false, and_parts, and_from, not-true}
 use Rattle.std.proofs.lemmas.List.{map-append}
 use Rattle.std.proofs.lemmas.Slice.Eq.{bytes_eq-Decides}
 use Rattle.box_policy.specs.declared.policy.Kind.{Kind}
@@ -14,7 +14,7 @@ use Rattle.box_policy.specs.Exact.{is_exact, is_literal, Same}
 use Rattle.box_policy.specs.Fits.{pattern_fits, normal_fits}
 use Rattle.box_policy.specs.Paths.{is_absolute, is_text, names, names_under, can_resolve, normal}
 use Rattle.box_policy.specs.Patterns.{base_symbol, component_symbol, path_symbols, name_byte, command_byte, command_symbols, is_name_byte, is_word_byte, one, run}
-use Rattle.box_policy.specs.Wellformed.{is_pattern, is_component}
+use Rattle.box_policy.specs.Wellformed.{is_pattern, is_component, is_command_pattern}
 use Rattle.box_policy.proofs.DivisionLemmas.{symbol, fits-none, fits-more}
 use Rattle.box_policy.proofs.PlainLemmas.{component_plain}
 
@@ -131,6 +131,50 @@ exact_alone base Append text subject exact fit = let p = parts_of base Append te
 exact_alone base Run text subject exact fit = same_command text subject (parts_of base Run text exact).1 fit
 exact_alone base Env text subject exact fit = same_name text subject (parts_of base Env text exact).1 fit
 exact_alone base Assign text subject exact fit = same_name text subject (parts_of base Assign text exact).1 fit
+
+-- ---- an exact pattern fits its own text
+
+text_equal : (text : List ℕ) → bytes_eq text text ≡ true
+text_equal text = (bytes_eq-Decides text text).1 refl
+
+fits_own : (pieces : List (List ℕ)) → fits (map base_symbol pieces) pieces ≡ true
+fits_own [] = refl
+fits_own (p ∷ ps) =
+    fits-more false (λ name. bytes_eq p name) (map base_symbol ps) p ps ∙ and_from (bytes_eq p p) (fits (map base_symbol ps) ps) (text_equal p) (fits_own ps)
+
+own_form : (there : Bool) (path : List (Symbol (List ℕ))) (ns : List (List ℕ)) → path ≡ map base_symbol ns → is_some (cond there (Some ns) None) ≡ true
+    → normal_fits path (cond there (Some ns) None) ≡ true
+own_form false path ns is h = absurd (true≢false (sym h))
+own_form true path ns is h = ap (λ ss. fits ss ns) is ∙ fits_own ns
+
+own_path : (base text : List ℕ) → (is_some (normal base text) && list_all is_component (names text)) ≡ true → list_all is_plain_component (names text) ≡ true
+    → normal_fits (path_symbols base text) (normal base text) ≡ true
+own_path base text formed plain =
+    own_form (can_resolve base text) (path_symbols base text) (names_under base text) (path_is base text plain) (and_parts _ _ formed).0
+
+own_bytes : (symbols : List (Symbol ℕ)) (text : List ℕ) → symbols ≡ map itself text → fits symbols text ≡ true
+own_bytes symbols text is = ap (λ ss. fits ss text) is ∙ (fits-itself text text ∙ text_equal text)
+
+own_command : (text : List ℕ) → is_utf8 text ≡ true → is_command_pattern text ≡ true → has_no_star text ≡ true
+    → (is_text text && fits (command_symbols text) text) ≡ true
+own_command text valid formed plain =
+    and_from (is_text text) (fits (command_symbols text) text)
+    (and_from (is_utf8 text) (not (list_any (λ b. b == 0) text)) valid (and_parts (not (bytes_eq text [])) (not (list_any (λ b. b == 0) text)) formed).1)
+    (own_bytes (command_symbols text) text (command_symbols_itself text plain))
+
+own_name : (text : List ℕ) → has_no_star text ≡ true → fits (map name_byte text) text ≡ true
+own_name text plain = own_bytes (map name_byte text) text (name_symbols_itself text plain)
+
+valid_of : (base : List ℕ) (kind : Kind) (text : List ℕ) → is_exact base kind text ≡ true → is_utf8 text ≡ true
+valid_of base kind text exact = (and_parts (is_utf8 text) (is_pattern base kind text && is_literal kind text) (and_parts _ _ exact).1).0
+
+pub exact_fits : (base : List ℕ) (kind : Kind) (text : List ℕ) → is_exact base kind text ≡ true → pattern_fits base kind text text ≡ true
+exact_fits base Read text exact = let p = parts_of base Read text exact in own_path base text p.0 p.1
+exact_fits base Write text exact = let p = parts_of base Write text exact in own_path base text p.0 p.1
+exact_fits base Append text exact = let p = parts_of base Append text exact in own_path base text p.0 p.1
+exact_fits base Run text exact = let p = parts_of base Run text exact in own_command text (valid_of base Run text exact) p.0 p.1
+exact_fits base Env text exact = own_name text (parts_of base Env text exact).1
+exact_fits base Assign text exact = own_name text (parts_of base Assign text exact).1
 
 -- no pattern tells subjects apart that are the same
 pub same_fits : (base : List ℕ) (kind : Kind) (pattern one other : List ℕ) → Same base kind one other → pattern_fits base kind pattern one ≡ pattern_fits base kind pattern other

@@ -1,2 +1,5 @@
 pub mod CoversLemmas
 pub mod ExactLemmas
+pub mod GrantsLemmas
+pub mod ExtendsLemmas
+pub mod ProposingLemmas

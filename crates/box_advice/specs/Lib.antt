@@ -1,3 +1,6 @@
 pub mod Reasons
 pub mod Covers
 pub mod Lints
+pub mod Wishes
+pub mod Refused
+pub mod Proposals

@@ -1,19 +1,28 @@
 //! A policy explained to the person who writes it.
 //!
 //! [`why`] tells which rules of a policy speak of a request and which one decides, and [`explained`] tells it in lines. [`lint`]
-//! tells what is wrong with a policy that is refused, and what the rules of one that is in order may not mean.
+//! tells what is wrong with a policy that is refused, and what the rules of one that is in order may not mean. [`propose`] writes
+//! a policy that allows more.
 #![tactic(auto)]
 
 mod covers;
+mod denials;
 mod explaining;
 mod faults;
 mod linting;
 mod nearest;
 mod places;
+mod printing;
+mod proposing;
+mod wanting;
 mod warnings;
+mod wishes;
 mod words;
 
 pub use box_policy::policy::Kind;
+pub use denials::{LogError, read_log};
 pub use explaining::{Reasons, Wanted, explained, why};
 pub use linting::{Findings, lint};
+pub use proposing::{ProposalError, Start, propose};
+pub use wishes::{Origin, Wish};
 pub use words::kind_named;

@@ -1,0 +1,35 @@
+-- What is read of a proposal is what it was made of.
+use Rattle.std.proofs.Common.{◌≡◌, ◌∙◌, ℕ, ◌+◌, ◌<◌, ◌≤◌, true, Bool, List, [], ◌∷◌, ◌++◌, length, get_or, take, drop, sym, ap, arith, refl, Some}
+use Rattle.std.specs.Str.{bytes_eq}
+use Rattle.std.proofs.lemmas.Slice.Eq.{bytes_eq-Decides}
+use Rattle.std.proofs.lemmas.List.{take-append-drop, take_all, take_more_same}
+use Rattle.box_policy.specs.declared.policy.Rule.{Rule}
+use Rattle.box_policy.specs.Rulebook.{Rulebook}
+use Rattle.box_advice.specs.Proposals.{has_base}
+
+-- two lists that are the parts of a third
+pub joined : (rules first others front back : List Rule) (n : ℕ) → front ≡ take n rules → back ≡ drop n rules → front ≡ first → back ≡ others → rules ≡ first ++ others
+joined rules first others front back n front_is back_is same_front same_back =
+    sym (take-append-drop n rules)
+    ∙ (ap (λ xs. xs ++ drop n rules) (sym front_is ∙ same_front) ∙ ap (λ ys. first ++ ys) (sym back_is ∙ same_back))
+
+-- one more element of two lists is the same
+pub same_more : (xs ys : List Rule) (i : ℕ) (x y : Rule) → i < length xs → length xs ≡ length ys → x ≡ get_or xs i x → y ≡ get_or ys i y → x ≡ y
+    → take i xs ≡ take i ys → take (i + 1) xs ≡ take (i + 1) ys
+same_more xs ys i x y below same_length at_x at_y same so_far =
+    take_more_same xs ys i x below (omega arith) so_far (sym at_x ∙ (same ∙ (at_y ∙ ap (λ d. get_or ys i d) (sym same))))
+
+pub same_all : (xs ys : List Rule) (i : ℕ) → length xs ≤ i → length xs ≡ length ys → take i xs ≡ take i ys → xs ≡ ys
+same_all xs ys i past same_length so_far = sym (take_all i xs past) ∙ (so_far ∙ take_all i ys (omega arith))
+
+-- ---- a policy without rules
+
+no_rules : (rules : List Rule) → length rules ≡ 0 → rules ≡ []
+no_rules [] h = refl
+no_rules (rule ∷ rules) h = absurd (omega arith)
+
+pub bare : (book : Rulebook) (base : List ℕ) → has_base book.base (Some base) ≡ true → length book.rules ≡ 0 → book ≡ record { base = base; rules = [] }
+bare book base told none =
+    let same : book.base ≡ base = (bytes_eq-Decides book.base base).0 told in
+    let empty : book.rules ≡ [] = no_rules book.rules none in
+    λ i. record { base = same i; rules = empty i }

@@ -1,0 +1,11 @@
+use Rattle.std.proofs.Common.{◌≡◌, [], true, drop}
+use Rattle.box_policy.specs.Short.{are_short}
+use Rattle.box_advice.specs.Wishes.{grants_from}
+use Rattle.box_advice.proofs.wanting.Gains.of.Given as goal
+
+-- those that are left gain behind what was gained what all gain
+abbrev pub invariant-loop-wish : goal.invariant-loop-wish
+invariant-loop-wish l = record {
+  short : are_short l.gains.rules.items ≡ true;
+  rest : grants_from l.policy l.gains.rules.items (drop l.wish-index l.wishes) ≡ grants_from l.policy [] l.wishes;
+}

@@ -1,0 +1,279 @@
+// A policy that allows more.
+ghost use Rattle.std.specs.Prelude.{◌≡◌, ◌++◌, ◌+◌, ◌<◌, [], true, length, option_map, IfOk, IfErr, IfSome};
+ghost use Rattle.box_policy.specs.Rulebook.{Rulebook};
+ghost use Rattle.box_policy.specs.Written.{Written};
+ghost use Rattle.box_advice.specs.Proposals.{IsBaseRefused, IsGainRefused, IsProposalRefused, IsStartRefused, IsText, IsTextRefused, Proposes, Starts, has_base, with_gained};
+ghost use Rattle.box_advice.specs.Wishes.{grants_from};
+
+use crate::covers::{are_of_one_kind, are_one};
+use crate::printing::{head_of, policy_text};
+use crate::wanting::Gains;
+use crate::wishes::Wish;
+use awk_text::Memory;
+use box_policy::error::PolicyError;
+use box_policy::policy::{Effect, MAX_RULES, Policy, Quota, Rule};
+use std::alloc::{AllocError, Global};
+use std::error::Error;
+use std::fmt;
+
+/// The most bytes that a policy may have which the program reads.
+const MAX_TEXT: usize = 16_777_216;
+
+/// What a proposal begins with: a policy without rules, under this base, or the policy of this text, of which the base may be
+/// told once more.
+#[derive(Clone, Copy, Drop)]
+pub enum Start<'a> {
+    Base(&'a str),
+    Policy {
+        text: &'a [u8],
+        base: Option<&'a str>,
+    },
+}
+
+/// Why nothing is proposed.
+#[derive(Clone, Copy, Debug, PartialEq, Eq, Drop)]
+pub enum ProposalError {
+    /// The policy is refused, or the base is none.
+    Policy(PolicyError),
+    /// The policy has another base.
+    OtherBase,
+    /// The policy would have more than 1,024 rules.
+    TooManyRules,
+    /// The policy would have more bytes than are read.
+    TooLong,
+    /// What was written does not read as it was meant. It never comes while the printer and the reader agree.
+    Misprinted,
+    Memory,
+}
+
+impl fmt::Display for ProposalError {
+    fn fmt<W: fmt::Write>(&self, f: &mut fmt::Formatter<W>) -> fmt::Result {
+        match self {
+            ProposalError::Policy(error) => write!(f, "policy {error}"),
+            ProposalError::OtherBase => f.write_str("the policy has another base"),
+            ProposalError::TooManyRules => {
+                f.write_str("the policy would have more than 1024 rules")
+            }
+            ProposalError::TooLong => {
+                f.write_str("the policy would have more than 16777216 bytes")
+            }
+            ProposalError::Misprinted => f.write_str("the policy does not read as it is meant"),
+            ProposalError::Memory => f.write_str("memory was refused"),
+        }
+    }
+}
+
+impl Error for ProposalError {}
+
+impl From<AllocError> for ProposalError {
+    ghost use Rattle.std.specs.Prelude.{◌≡◌};
+    ghost use Rattle.box_advice.specs.declared.proposing.ProposalError.TheVariants.{Memory};
+
+    ghost from_gives = { λ _ error. error ≡ Memory };
+
+    fn from(_error: AllocError) -> ProposalError {
+        ProposalError::Memory
+    }
+}
+
+impl From<PolicyError> for ProposalError {
+    ghost use Rattle.std.specs.Prelude.{◌≡◌};
+    ghost use Rattle.box_advice.specs.Refused.{refused_by};
+
+    ghost from_gives = { λ error refusal. refusal ≡ refused_by error };
+
+    fn from(error: PolicyError) -> ProposalError {
+        if error.code == PolicyError::MEMORY {
+            ProposalError::Memory
+        } else {
+            ProposalError::Policy(error)
+        }
+    }
+}
+
+/// A policy and its text.
+#[derive(Drop)]
+struct Beginning {
+    text: Vec<u8>,
+    policy: Policy,
+}
+
+fn has_base(policy: &Policy, base: Option<&str>) -> bool
+    ensures { result ≡ has_base policy.now.base (option_map (λ s. s.now) base.entry) }
+{
+    match base {
+        Some(base) => policy.base() == base.as_bytes(),
+        None => true,
+    }
+}
+
+/// The policy without rules under this base.
+fn begun_under(alloc: Global, base: &str) -> Result<Beginning, ProposalError>
+    ensures ok { IfOk result (λ begun. begun.policy ≡ record { base = base.now; rules = [] }) }
+    ensures refused { IfErr result IsBaseRefused }
+{
+    let text = head_of(alloc, false, base)?.into_bytes();
+    let policy = Policy::read(alloc, text.as_slice())?;
+    if !has_base(&policy, Some(base)) {
+        return Err(ProposalError::Misprinted);
+    }
+    if policy.count() > 0 {
+        return Err(ProposalError::Misprinted);
+    }
+    Ok(Beginning { text, policy })
+}
+
+fn begun_with(alloc: Global, text: &[u8], base: Option<&str>) -> Result<Beginning, ProposalError>
+    ensures ok { IfOk result (λ begun. Written text.now begun.policy × (has_base begun.policy.base (option_map (λ s. s.now) base.entry) ≡ true)) }
+    ensures refused { IfErr result (IsTextRefused text.now (option_map (λ s. s.now) base.entry)) }
+{
+    let policy = Policy::read(alloc, text)?;
+    if !has_base(&policy, base) {
+        return Err(ProposalError::OtherBase);
+    }
+    let text = Vec::from_slice(alloc, text)?;
+    Ok(Beginning { text, policy })
+}
+
+fn begun(alloc: Global, start: Start<'_>) -> Result<Beginning, ProposalError>
+    ensures ok { IfOk result (λ begun. Starts start.entry begun.policy) }
+    ensures refused { IfErr result (IsStartRefused start.entry) }
+{
+    match start {
+        Start::Base(base) => begun_under(alloc, base),
+        Start::Policy { text, base } => begun_with(alloc, text, base),
+    }
+}
+
+/// The text with these lines behind it.
+fn joined(alloc: Global, text: &[u8], lines: &str) -> Result<Vec<u8>, Memory> {
+    let mut whole = Vec::from_slice(alloc, text)?;
+    if !text.is_empty() && !text.ends_with(b"\n".as_slice()) {
+        whole.push(b'\n')?;
+    }
+    whole.extend_from_slice(lines.as_bytes())?;
+    Ok(whole)
+}
+
+fn are_same_quotas(one: Quota, other: Quota) -> bool
+    ensures { result ≡ true → one ≡ other }
+{
+    one.limit == other.limit && one.used == other.used
+}
+
+fn are_same_effects(one: Effect, other: Effect) -> bool
+    ensures { result ≡ true → one ≡ other }
+{
+    match (one, other) {
+        (Effect::Allow(None), Effect::Allow(None)) | (Effect::Deny, Effect::Deny) => true,
+        (Effect::Allow(Some(one)), Effect::Allow(Some(other))) => are_same_quotas(one, other),
+        _ => false,
+    }
+}
+
+fn are_same(one: &Rule, other: &Rule) -> bool
+    ensures { result ≡ true → one.now ≡ other.now }
+{
+    are_same_effects(one.effect, other.effect)
+        && are_of_one_kind(one, other)
+        && one.only_given == other.only_given
+        && are_one(one, other)
+}
+
+/// Whether these are the same rules in the same order.
+fn are_all_same(ones: &[Rule], others: &[Rule]) -> bool
+    ensures { result ≡ true → ones.now ≡ others.now }
+{
+    if ones.len() != others.len() {
+        return false;
+    }
+    for i in 0..ones.len() {
+        if !are_same(&ones[i], &others[i]) {
+            return false;
+        }
+    }
+    true
+}
+
+/// Whether the rules are the first ones and then the others.
+fn are_joined(rules: &[Rule], first: &[Rule], others: &[Rule]) -> bool
+    ensures { result ≡ true → rules.now ≡ first.now ++ others.now }
+{
+    if rules.len() < first.len() {
+        return false;
+    }
+    let (front, back) = rules.split_at(first.len());
+    are_all_same(front, first) && are_all_same(back, others)
+}
+
+/// Whether the text reads as the first policy with these rules behind its own.
+fn reads(alloc: Global, text: &[u8], first: &Policy, gained: &[Rule]) -> Result<bool, Memory>
+    ensures { IfOk result (λ reads. reads ≡ true → Written text.now (with_gained first.now gained.now)) }
+{
+    match Policy::read(alloc, text) {
+        Ok(policy) => Ok(
+            policy.base() == first.base() && are_joined(policy.rules(), first.rules(), gained),
+        ),
+        Err(error) if error.code == PolicyError::MEMORY => Err(AllocError),
+        Err(_) => Ok(false),
+    }
+}
+
+/// The text of the first policy with these lines behind it, which write the rules that it gains. Where they cannot stand
+/// there, as behind rules that are an array in one value, its own rules are written anew. `None` where neither reads so.
+fn written(alloc: Global, beginning: &Beginning, gains: &Gains) -> Result<Option<Vec<u8>>, Memory>
+    ensures { IfOk result (λ found. IfSome found (λ text. Written text.items (with_gained beginning.now.policy gains.now.rules.items))) }
+{
+    let first = &beginning.policy;
+    let (rules, lines) = (gains.rules.as_slice(), gains.lines.as_str());
+    let text = joined(alloc, beginning.text.as_slice(), lines)?;
+    if reads(alloc, text.as_slice(), first, rules)? {
+        return Ok(Some(text));
+    }
+    let text = joined(alloc, policy_text(alloc, first)?.as_bytes(), lines)?;
+    if reads(alloc, text.as_slice(), first, rules)? {
+        return Ok(Some(text));
+    }
+    Ok(None)
+}
+
+/// Whether a policy may not have so many rules more.
+fn has_no_room(first: &Policy, gained: &[Rule]) -> bool
+    ensures { result ≡ true → 1024 < length first.now.rules + length gained.now }
+{
+    gained.len() > MAX_RULES - first.count()
+}
+
+/// The text of the policy that begins so and gains what is wished.
+fn proposed(alloc: Global, beginning: &Beginning, wishes: &[Wish]) -> Result<Vec<u8>, ProposalError>
+    ensures ok { IfOk result (λ text. IsText (with_gained beginning.now.policy (grants_from beginning.now.policy [] wishes.now)) text.items) }
+    ensures refused { IfErr result (IsGainRefused beginning.now.policy wishes.now) }
+{
+    let gains = Gains::of(alloc, &beginning.policy, wishes)?;
+    if has_no_room(&beginning.policy, gains.rules.as_slice()) {
+        return Err(ProposalError::TooManyRules);
+    }
+    let found = written(alloc, beginning, &gains)?;
+    let Some(text) = found else {
+        return Err(ProposalError::Misprinted);
+    };
+    if text.len() > MAX_TEXT {
+        return Err(ProposalError::TooLong);
+    }
+    Ok(text)
+}
+
+/// A policy that allows what is wished, in its text: the first policy as it stands, and below it a rule for each wish whose text
+/// a pattern can hold and of which no rule speaks, once each. What a rule of the first policy denies stays denied: a comment
+/// tells of it, and of a wish whose text is not known or that no pattern stands for alone.
+///
+/// The text is accepted; it allows each wish that got a rule; and where it decides otherwise than the first policy, that had no
+/// rule, and the request has the kind and the text of such a wish, for a path its normal form.
+pub fn propose(alloc: Global, start: Start<'_>, wishes: &[Wish]) -> Result<Vec<u8>, ProposalError>
+    ensures ok { IfOk result (λ text. (first : Rulebook) × Starts start.entry first × Proposes first wishes.now text.items) }
+    ensures refused { IfErr result (IsProposalRefused start.entry wishes.now) }
+{
+    let beginning = begun(alloc, start)?;
+    let text = proposed(alloc, &beginning, wishes)?;
+    Ok(text)
+}

@@ -1,0 +1,144 @@
+// Which rules a policy gains.
+ghost use Rattle.std.specs.Prelude.{◌≡◌, ◌++◌, [], true, IfOk, OnOk};
+ghost use Rattle.box_policy.specs.Short.{are_short};
+ghost use Rattle.box_advice.specs.Wishes.{answer, answer_by, fate_by, fate_of, grant, gained, grants_from, speak};
+
+use crate::printing::{push_fate, push_rule};
+use crate::wishes::Wish;
+use awk_text::Memory;
+use awk_text::octets::Octets;
+use box_policy::exact::is_exact;
+use box_policy::policy::{Decision, Effect, Kind, Policy, Rule};
+use std::alloc::Global;
+
+/// What becomes of a wish.
+#[derive(Clone, Copy, Debug, PartialEq, Eq, Drop)]
+pub(crate) enum Fate {
+    /// Its text is not known.
+    Unknown,
+    /// The policy's rule of this number denies it.
+    Denied(u32),
+    /// A rule of the policy allows it.
+    Allowed,
+    /// No pattern stands for its text alone.
+    Unfit,
+    /// A rule that another wish got allows it.
+    Met,
+    /// It gets a rule.
+    Gains,
+}
+
+/// What the policy answers: what it decides of a request that is no operand, or, where it has no rule for that, the rule that
+/// denies the operand.
+fn answer_by(plain: Decision, given: Decision) -> Decision
+    ensures { result ≡ answer_by plain given }
+{
+    match (plain, given) {
+        (Decision::NoRule, Decision::Deny(number)) => Decision::Deny(number),
+        _ => plain,
+    }
+}
+
+fn answer(policy: &Policy, kind: Kind, text: &[u8], may_be_given: bool) -> Decision
+    ensures { result ≡ answer policy.now kind text.now may_be_given }
+{
+    let plain = policy.decide(kind, text, false);
+    if !may_be_given {
+        return plain;
+    }
+    answer_by(plain, policy.decide(kind, text, true))
+}
+
+/// Whether one of these rules speaks of the text.
+fn speak(policy: &Policy, rules: &[Rule], kind: Kind, text: &[u8]) -> bool
+    requires short { are_short rules.now ≡ true }
+    ensures { result ≡ speak policy.now.base rules.now kind text.now }
+{
+    for rule in rules {
+        if policy.speaks(rule, kind, text, false) {
+            return true;
+        }
+    }
+    false
+}
+
+fn fate_by(answer: Decision, is_exact: bool, is_met: bool) -> Fate
+    ensures { result ≡ fate_by answer is_exact is_met }
+{
+    match answer {
+        Decision::Deny(number) => Fate::Denied(number),
+        Decision::Allow(_) => Fate::Allowed,
+        Decision::NoRule if !is_exact => Fate::Unfit,
+        Decision::NoRule if is_met => Fate::Met,
+        Decision::NoRule => Fate::Gains,
+    }
+}
+
+/// What becomes of the wish, where these rules were gained before.
+fn fate_of(policy: &Policy, gained: &[Rule], wish: &Wish) -> Fate
+    requires short { are_short gained.now ≡ true }
+    ensures { result ≡ fate_of policy.now gained.now wish.now }
+{
+    let Some(text) = &wish.text else {
+        return Fate::Unknown;
+    };
+    let text = text.bytes();
+    let answer = answer(policy, wish.kind, text, wish.may_be_given);
+    let is_exact = is_exact(policy.base(), wish.kind, text);
+    let is_met = speak(policy, gained, wish.kind, text);
+    fate_by(answer, is_exact, is_met)
+}
+
+/// The rule that allows what is asked for with just this text.
+fn grant(alloc: Global, kind: Kind, text: &Octets) -> Result<Rule, Memory>
+    ensures { IfOk result (λ rule. rule ≡ grant kind text.now) }
+{
+    Ok(Rule {
+        effect: Effect::Allow(None),
+        kind,
+        only_given: false,
+        pattern: text.copy(alloc)?,
+    })
+}
+
+/// The rules that a policy gains, and the lines that write them and tell of the other wishes.
+#[derive(Drop)]
+pub(crate) struct Gains {
+    pub(crate) rules: Vec<Rule>,
+    pub(crate) lines: String,
+}
+
+impl Gains {
+    /// What becomes of the wish, written and, where it gains a rule, done.
+    fn take(&mut self, alloc: Global, policy: &Policy, wish: &Wish) -> Result<(), Memory>
+        requires short { are_short self.old.rules.items ≡ true }
+        ensures gained { OnOk result (self.new.rules.items ≡ self.old.rules.items ++ gained policy.now self.old.rules.items wish.now) }
+        ensures short { OnOk result (are_short self.new.rules.items ≡ true) }
+    {
+        let fate = fate_of(policy, self.rules.as_slice(), wish);
+        push_fate(alloc, wish, fate, &mut self.lines)?;
+        match (fate, &wish.text) {
+            (Fate::Gains, Some(text)) => {
+                let rule = grant(alloc, wish.kind, text)?;
+                push_rule(alloc, &rule, &mut self.lines)?;
+                self.rules.push(rule)?;
+            }
+            _ => {}
+        }
+        Ok(())
+    }
+
+    /// What a policy gains by these wishes.
+    pub(crate) fn of(alloc: Global, policy: &Policy, wishes: &[Wish]) -> Result<Gains, Memory>
+        ensures { IfOk result (λ gains. gains.rules.items ≡ grants_from policy.now [] wishes.now) }
+    {
+        let mut gains = Gains {
+            rules: Vec::new(alloc),
+            lines: String::new(alloc),
+        };
+        for wish in wishes {
+            gains.take(alloc, policy, wish)?;
+        }
+        Ok(gains)
+    }
+}
