@@ -4,8 +4,8 @@ use Rattle.awk_tree.specs.Tree as t
 use Rattle.awk_tree.specs.Tree.{Tree, Trees, trees_of, perhaps_of, terms_of, pipes_of}
 use Rattle.awk_tree.specs.View as tree
 use Rattle.awk_text.specs.declared.place.Place.{Place}
-use Rattle.awk_tree.specs.declared.operators.Builtin as tree_builtin
-use Rattle.awk_tree.specs.declared.operators.Builtin.TheVariants as b
+use Rattle.awk_tokens.specs.declared.words.Builtin as tree_builtin
+use Rattle.awk_tokens.specs.declared.words.Builtin.TheVariants as b
 use Rattle.awk_tree.specs.declared.expressions.Expr as tree_expr
 use Rattle.awk_tree.specs.declared.expressions.Piped as tree_piped
 use Rattle.awk_tree.specs.declared.expressions.Term as tree_term
