@@ -9,12 +9,12 @@ _awkbox() {
         before=${COMP_WORDS[COMP_CWORD-2]}
     fi
     case $before in
-    -C)
+    -C | --base)
         compopt -o filenames 2>/dev/null
         mapfile -t COMPREPLY < <(compgen -d -- "$word")
         return
         ;;
-    --policy | --log | -f)
+    --policy | --log | --report | -f)
         compopt -o filenames 2>/dev/null
         mapfile -t COMPREPLY < <(compgen -f -- "$word")
         return
@@ -22,7 +22,7 @@ _awkbox() {
     --log-limit | --steps | -F | -v) return ;;
     esac
     if [ "$COMP_CWORD" -eq 1 ]; then
-        mapfile -t COMPREPLY < <(compgen -W 'run list check why lint --help' -- "$word")
+        mapfile -t COMPREPLY < <(compgen -W 'run list check why lint propose --help --version' -- "$word")
         return
     fi
     case " ${COMP_WORDS[*]:2:COMP_CWORD-2} " in
@@ -33,11 +33,12 @@ _awkbox() {
         ;;
     esac
     case ${COMP_WORDS[1]} in
-    run) options='--policy --log --log-append --log-limit -C --steps -F -v -f --help --' ;;
+    run) options='--policy --log --log-append --log-limit --report -C --steps -F -v -f --help --' ;;
     list) options='-f --help' ;;
     check) options='--policy -f --help' ;;
     why) options='--policy --given read write append run env assign --help' ;;
     lint) options='--policy --help' ;;
+    propose) options='--base --policy --log -f --help' ;;
     *) options= ;;
     esac
     mapfile -t COMPREPLY < <(compgen -W "$options" -- "$word")

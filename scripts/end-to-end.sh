@@ -679,6 +679,171 @@ is 0 "hi$line" "" ""
 verdict "a file in the folder of the start that has an allowed name in the base"
 cd "$base" || exit 2
 
+# The report of a run.
+
+# reports STATUS REPORT WORD..: whether a run with these words ended so, and its report is this line
+reports() {
+    local wanted=$1 report=$2
+    shift 2
+    echo "from another run" >"$work/report"
+    run --report "$work/report" "$@"
+    [ "$status" -eq "$wanted" ] && holds "$work/report" "$report$line"
+}
+# refused STATUS MESSAGE: the report of a run that was refused by this line
+refused() {
+    printf '{"denials":0,"exit_status":%s,"fault":null,"log":null,"outcome":"refused","refusal":"%s","steps":0}' "$1" \
+        "$(sed 's/[\\"]/\\&/g' <<<"$2")"
+}
+no_rules
+script 'BEGIN { exit 3 }'
+reports 3 '{"denials":0,"exit_status":3,"fault":null,"log":"whole","outcome":"status","refusal":null,"steps":1}'
+is 3 "" "" ""
+verdict "the report of a run that ended by itself"
+script 'BEGIN { system("a"); system("b"); print "c" > "d" }'
+reports 2 '{"denials":3,"exit_status":2,"fault":{"code":"F7","column":45,"line":1,"text":"cannot open or write output"},"log":"whole","outcome":"fault","refusal":null,"steps":3}'
+verdict "the report of a run that ended with a fault"
+script 'BEGIN { while (1) n++ }'
+reports 4 '{"denials":0,"exit_status":4,"fault":null,"log":"whole","outcome":"cut","refusal":null,"steps":7}' --steps 7
+verdict "the report of a run that took its steps"
+script 'BEGIN { system("a") }'
+reports 2 '{"denials":0,"exit_status":2,"fault":{"code":"F12","column":9,"line":1,"text":"cannot write the denial log"},"log":"part","outcome":"fault","refusal":null,"steps":1}' --log-limit 3
+verdict "the report of a run whose log is full"
+script 'BEGIN { @ }'
+reports 3 "$(refused 3 'awkbox: script 1:9 S1')"
+verdict "the report of a script that is refused"
+script 'BEGIN { x[1] = 1 }'
+reports 3 "$(refused 3 'awkbox: assignment 1 U3')" -v x=1
+verdict "the report of a variable that is an array"
+reports 3 "$(refused 3 'awkbox: assignment 1 U1')" -v 1=1
+verdict "the report of a variable without a name"
+reports 3 "$(refused 3 'awkbox: cannot enter "no \x22folder\x22"')" -C 'no "folder"'
+verdict "the report of a folder that is not there"
+echo 'version = 3' >"$work/policy.toml"
+reports 3 "$(refused 3 'awkbox: policy P2')"
+verdict "the report of a policy that is refused"
+no_rules
+awkbox run --policy "$work/none" --log "$work/log" -f "$work/script.awk" --report "$work/report"
+[ "$status" -eq 3 ] && holds "$work/report" "$(refused 3 "awkbox: cannot read \"$work/none\"")$line"
+verdict "the report of a policy that is not there"
+
+# not_report NAME WORD..: whether a run with this report and these words is refused, and all stays as it was
+not_report() {
+    local name=$1
+    shift
+    echo "from another run" >"$work/log"
+    awkbox run --policy "$work/policy.toml" --log "$work/log" -f "$work/script.awk" --report "$name" "$@"
+    [ "$status" -eq 3 ] && [ ! -s "$work/output" ] && holds "$work/errors" "awkbox: cannot write \"$name\"$line" &&
+        holds "$work/log" "from another run$line" && cmp -s "$work/policy.toml" "$work/kept.toml" &&
+        cmp -s "$work/script.awk" "$work/kept.awk"
+}
+script 'BEGIN { print "hi" }'
+cp "$work/policy.toml" "$work/kept.toml"
+cp "$work/script.awk" "$work/kept.awk"
+for name in log policy.toml script.awk policy.link script.link log.link; do
+    not_report "$work/$name"
+    verdict "a report that is the run's $name"
+done
+not_report "$work/kept.awk" -- "$work/kept.awk"
+verdict "a report that is an operand's file"
+not_report "$work/none/report"
+verdict "a report that cannot be made"
+rm -f "$work/new"
+awkbox run --policy "$work/policy.toml" --log "$work/new" -f "$work/script.awk" --report "$work/new"
+[ "$status" -eq 3 ] && holds "$work/errors" "awkbox: cannot write \"$work/new\"$line"
+verdict "a report that is the log, which was not there"
+"$program" run --policy "$work/policy.toml" --log "$work/log" -f "$work/script.awk" --report "$work/output" \
+    >"$work/output" 2>"$work/errors"
+status=$?
+: >"$work/log"
+is 3 "" "awkbox: cannot write \"$work/output\"$line" ""
+verdict "a report that is the standard output"
+run --report /dev/full
+is 2 "hi$line" "awkbox: cannot write the report \"/dev/full\"$line" ""
+verdict "a report that cannot be written"
+script 'BEGIN { print 1 / 0 }'
+run --report /dev/full
+is 2 "" "awkbox: 1:17 F2 division by zero$line" ""
+verdict "a fault is told where its report cannot be written"
+script 'BEGIN { print "hi" }'
+policy 'effect = "allow"
+kind = "write"
+match = "own.*"'
+run --report own.json
+is 0 "hi$line" "$(writable 1 report own.json)$line" ""
+verdict "a rule that allows writing to the report"
+rm -f own.json
+no_rules
+if command -v timeout >/dev/null; then
+    script 'BEGIN { while (1) n++ }'
+    timeout 1 "$program" run --policy "$work/policy.toml" --log "$work/log" --steps 1000000000000 \
+        -f "$work/script.awk" --report "$work/report" >"$work/output" 2>"$work/errors"
+    status=$?
+    [ "$status" -eq 124 ] && [ ! -s "$work/report" ]
+    verdict "a run that is ended leaves an empty report"
+fi
+
+# A policy or a script that is the standard input.
+
+script 'BEGIN { print "hi" }'
+awkbox run --policy "$work/policy.toml" --log "$work/log" -f - <"$work/script.awk"
+is 0 "hi$line" "" ""
+verdict "a script that is the standard input"
+awkbox run --policy - --log "$work/log" -f "$work/script.awk" <"$work/policy.toml"
+is 0 "hi$line" "" ""
+verdict "a policy that is the standard input"
+awkbox check --policy - -f "$work/script.awk" <"$work/policy.toml"
+is 0 "clean$line" "" ""
+verdict "a check of a policy that is the standard input"
+awkbox list -f - <<<'BEGIN { system("id") }'
+is 0 "1:9 run \"id\"$line" "" ""
+verdict "a listing of a script that is the standard input"
+awkbox lint --policy - <"$work/policy.toml"
+is 0 "" "" ""
+verdict "lint of a policy that is the standard input"
+awkbox run --policy "$work/policy.toml" --log "$work/log" -f - <&-
+is 3 "" "awkbox: cannot read \"-\"$line" ""
+verdict "a script that is the standard input, which is closed"
+script '{ print "read " $0 }'
+(cat "$work/script.awk" && echo more) >"$work/input"
+awkbox run --policy "$work/policy.toml" --log "$work/log" -f - <"$work/input"
+is 0 "" "" ""
+verdict "all of the standard input is the script, and then it has ended"
+cp "$work/script.awk" ./-
+policy 'effect = "allow"
+kind = "write"
+match = "-"'
+awkbox run --policy - --log "$work/log" -f "$work/kept.awk" <"$work/policy.toml"
+is 0 "hi$line" "" ""
+verdict "a file called - is not the policy"
+awkbox run --policy "$work/policy.toml" --log "$work/log" -f ./- -- - <<<"line"
+is 0 "read line$line" "$(writable 1 script ./-)$line" ""
+verdict "a script in a file that is called -"
+rm -f ./-
+
+# Operands behind the script's file.
+
+no_rules
+script 'BEGIN { for (i = 1; i < ARGC; i++) print ARGV[i] }'
+run a --steps -v x=1 -- b
+is 0 "a$line--steps$line-v${line}x=1$line--${line}b$line" "" ""
+verdict "words behind the script's file, from the first that is no option on"
+run --steps 100 -v x=1 - -f
+is 0 "-$line-f$line" "" ""
+verdict "options behind the script's file, and then operands, of which - is the first"
+run -- -a b
+is 0 "-a${line}b$line" "" ""
+verdict "operands behind --"
+ln -sf "$program" "$work/awkbox"
+(
+    echo '#!/usr/bin/env -S ./awkbox run --policy policy.toml --log log -f'
+    cat "$work/script.awk"
+) >"$work/executable"
+chmod +x "$work/executable"
+(cd "$work" && ./executable a "b c" -x >output 2>errors)
+status=$?
+is 0 "a${line}b c$line-x$line" "" ""
+verdict "a script with a first line that starts awkbox"
+
 # The words of run: variables, separator, steps and operands.
 
 no_rules
@@ -1142,6 +1307,154 @@ lints "warnings" "$p:9: warning: rule 2: no request reaches it: rule 1 decides a
 $p:19: warning: rule 4: allow read reaches /proc
 $p:14: warning: rule 3: * lets options of sort through, which write files or start commands$line" 0
 
+# Policies that are proposed.
+
+# proposed NAME LINES STATUS ERRORS WORD..: whether a proposal is this
+proposed() {
+    local name=$1 lines=$2 wanted=$3 errors=$4
+    shift 4
+    awkbox propose "$@"
+    told "$wanted" "$lines" "$errors"
+    verdict "$name"
+}
+# rule_of KIND MATCH: an allow rule as it is proposed
+rule_of() { printf '[[rule]]\neffect = "allow"\nkind = "%s"\nmatch = "%s"\n' "$1" "$2"; }
+script 'BEGIN {
+    print > "out/a"
+    print > "./out//a"
+    print >> "out/b*"
+    system("sort \"-n\"")
+    print | $1
+    while ((getline l < "../in") > 0) n++
+    print > "out/archive/c"
+}'
+f=$work/script.awk
+proposed "a policy for a script" "version = 1
+base = \"/w\"
+
+# 2:11
+$(rule_of write out/a)
+
+# 4:11 append \"out/b*\": a pattern has no escapes, so that * and ? stand for other bytes
+
+# 5:5
+$(rule_of run 'sort \"-n\"')
+
+# 6:11 run *: only a run can tell the text
+
+# 7:13 read \"../in\": a component .. is never folded
+
+# 8:11
+$(rule_of write out/archive/c)$line" 0 "" --base /w -f "$f"
+awkbox propose --base /w -f "$f"
+cp "$work/output" "$work/proposed.toml"
+awkbox lint --policy "$work/proposed.toml"
+told 0 "" ""
+verdict "a proposal is a policy"
+awkbox check --policy "$work/proposed.toml" -f "$f"
+told 1 "refused
+4:11 append \"out/b*\"
+7:13 read \"../in\"$line" ""
+verdict "a proposal allows what a pattern can hold"
+proposed "a proposal of a proposal adds comments alone" "$(cat "$work/proposed.toml")
+
+# 4:11 append \"out/b*\": a pattern has no escapes, so that * and ? stand for other bytes
+
+# 6:11 run *: only a run can tell the text
+
+# 7:13 read \"../in\": a component .. is never folded$line" 0 "" --policy "$work/proposed.toml" -f "$f"
+
+printf 'version = 2 # kept\nbase = "/w"\n\n[[rule]]\neffect = "deny"\nkind = "write"\nmatch = "out/archive/**"\n[[rule]]\neffect = "allow"\nkind = "run"\nmatch = "sort **"\nlimit = 3' >"$p"
+proposed "a policy for a script beside a policy" "$(cat "$p")
+
+# 2:11
+$(rule_of write out/a)
+
+# 4:11 append \"out/b*\": a pattern has no escapes, so that * and ? stand for other bytes
+
+# 6:11 run *: only a run can tell the text
+
+# 7:13 read \"../in\": a component .. is never folded
+
+# 8:11 write \"out/archive/c\": rule 1 denies it$line" 0 "" --base /w --policy "$p" -f "$f"
+proposed "a proposal under another base" "" 3 "awkbox: the policy has another base$line" --base /w/ --policy "$p" -f "$f"
+proposed "a proposal of nothing" "$(cat "$p")$line" 0 "" --policy "$p"
+
+cat >"$work/log" <<'END'
+0:0 read none "in/a"
+0:0 read 7 "in/a"
+3:1 run none "printf '\x5cn' \x22\x0a\xc3\xa4\x22"
+3:1 run none "\xff"
+0:0 env none "HOME"
+0:0 env none "A.B"
+9:9 run none "sort -n"
+4:4 write 1 "./out/archive/d"
+END
+proposed "a policy for a log" "$(cat "$p")
+
+# line 1 of the log
+$(rule_of read in/a)
+
+# line 3 of the log
+$(rule_of run "printf '\\\\n' \\\"\\nä\\\"")
+
+# line 4 of the log run \"\\xff\": it is not UTF-8
+
+# line 5 of the log
+$(rule_of env HOME)
+
+# line 6 of the log env \"A.B\": a name's pattern has letters, digits and _ alone
+
+# line 8 of the log write \"./out/archive/d\": rule 1 denies it$line" 0 "" --policy "$p" --log "$work/log"
+awkbox propose --policy "$p" --log "$work/log"
+cp "$work/output" "$work/proposed.toml"
+awkbox why --policy "$work/proposed.toml" run "$(printf 'printf '"'"'\\n'"'"' "\nä"')"
+[ "$status" -eq 0 ] && tail -n 1 "$work/output" | grep -q "^allow: rule 4 "
+verdict "a command of a log is allowed"
+
+printf 'version = 1\nbase = "/w"\n[[rule]]\neffect = "deny"\nkind = "read"\nmatch = "**"\nfrom = "given"\n' >"$p"
+printf '0:0 read none "a"\n1:1 read none "b"\n' >"$work/log"
+proposed "an operand may have been given" "$(cat "$p")
+
+# line 1 of the log read \"a\": rule 1 denies it
+
+# line 2 of the log
+$(rule_of read b)$line" 0 "" --policy "$p" --log "$work/log"
+
+printf 'version = 1\nbase = "/w"\nrule = [{ effect = "allow", kind = "env", match = "A" }] # in one value\n' >"$p"
+printf '0:0 env none "B"\n' >"$work/log"
+proposed "rules in one value are written anew" "version = 1
+base = \"/w\"
+
+$(rule_of env A)
+
+# line 1 of the log
+$(rule_of env B)$line" 0 "" --policy "$p" --log "$work/log"
+
+for wrong in 'a' '1:1 read none a' '1:1 read none "a' '1:1 read none "\x61"' '1:1 read none "\x2"' '1:1 reed none "a"' '1:x read none "a"' '1:1 read some "a"' '1:1 read none "a" '; do
+    printf '0:0 env none "B"\n%s\n' "$wrong" >"$work/log"
+    proposed "a log with the line $wrong" "" 3 "awkbox: line 2 of the log is none that a run writes$line" --base /w --log "$work/log"
+done
+: >"$work/log"
+proposed "an empty log" "version = 1
+base = \"/w\"$line" 0 "" --base /w --log "$work/log"
+proposed "a log that is not there" "" 3 "awkbox: cannot read \"$work/none\"$line" --base /w --log "$work/none"
+proposed "a base that is none" "" 3 "awkbox: policy P3$line" --base w
+printf 'version = 1\nbase = "/w"\nrules = 1\n' >"$p"
+proposed "a policy that is refused" "" 3 "awkbox: policy P4$line" --policy "$p"
+for number in {1..1025}; do
+    printf '0:0 env none "A%d"\n' "$number"
+done >"$work/log"
+proposed "a proposal of too many rules" "" 3 "awkbox: the policy would have more than 1024 rules$line" --base /w --log "$work/log"
+head -n 1024 "$work/log" >"$work/less"
+awkbox propose --base /w --log "$work/less"
+cp "$work/output" "$work/proposed.toml"
+awkbox lint --policy "$work/proposed.toml"
+[ "$status" -eq 0 ] && [ "$(grep -c '^\[\[rule\]\]$' "$work/proposed.toml")" -eq 1024 ]
+verdict "a proposal of as many rules as a policy may have"
+script 'BEGIN { print > }'
+proposed "a proposal for a script that is refused" "" 3 "awkbox: script 1:17 S4$line" --base /w -f "$f"
+
 script 'BEGIN { system("id") }'
 "$program" list -f "$work/script.awk" >/dev/full 2>"$work/errors"
 status=$?
@@ -1190,11 +1503,26 @@ awkbox --help
 [ "$status" -eq 0 ] && grep -q '^Usage: awkbox <COMMAND>' "$work/output" && [ ! -s "$work/errors" ]
 verdict "the help"
 
-for command in run list check why lint; do
+for command in run list check why lint propose; do
     awkbox "$command" --help
     [ "$status" -eq 0 ] && grep -q "^Usage: awkbox $command " "$work/output" && [ ! -s "$work/errors" ]
     verdict "the help of $command"
+    cp "$work/output" "$work/help"
+    awkbox help "$command"
+    [ "$status" -eq 0 ] && cmp -s "$work/output" "$work/help" && [ ! -s "$work/errors" ]
+    verdict "the same help, by help $command"
 done
+
+version=$(sed -n 's/^## \([0-9.]*\)$/\1/p' "$top/CHANGELOG.md" | head -n 1)
+awkbox --version
+: >"$work/log"
+is 0 "awkbox $version$line" "" ""
+verdict "the version is the newest of CHANGELOG.md"
+
+awkbox run --policy p --log l --steps x -f f
+[ "$status" -eq 3 ] && grep -q '^error: the value of --steps ' "$work/errors" &&
+    grep -q '^Usage: awkbox run ' "$work/errors"
+verdict "a bound of steps that is none is told with the usage of run"
 
 # flat FILE..: the files' words in one line, without marks of layout
 flat() {
@@ -1208,6 +1536,7 @@ flat() {
     "$program" check --help
     "$program" why --help
     "$program" lint --help
+    "$program" propose --help
 } >"$work/helps"
 facts=0
 differing=
@@ -1216,13 +1545,13 @@ while IFS=$'\t' read -r kind name value words; do
     facts=$((facts + 1))
     flat "$work/helps" | grep -qF -- "$words" || differing="$differing help:$name"
     flat "$top/man/awkbox.1" | grep -qF -- "$name${value:+ $value} $words" ||
-        [ "$name" = --help ] || differing="$differing manual:$name"
+        [[ $name = --help || $name = --version ]] || differing="$differing manual:$name"
     case $kind in operand | status | told) continue ;; esac
     grep -qF -- "$name" "$top/completions/awkbox.bash" || differing="$differing bash:$name"
     grep -qF -- "$words" "$top/completions/_awkbox" || differing="$differing zsh:$name"
 done <"$top/docs/options.txt"
 options() { grep -oE -- '(^|[ ,])--?[a-zA-Z][a-zA-Z-]*' | tr -d ' ,' | sort -u; }
-said=$(options <"$work/helps" | grep -vx -e '-h')
+said=$(options <"$work/helps" | grep -vx -e '-[hV]')
 known=$(cut -f 2 <"$top/docs/options.txt" | grep '^-' | sort -u)
 echo "differing:$differing; said:" $said "; known:" $known >"$work/output"
 [ "$facts" -ge 18 ] && [ -z "$differing" ] && [ "$said" = "$known" ]
@@ -1366,6 +1695,8 @@ for shell in bash zsh; do
         typed "$shell" "run --log pol" run --log policy.toml &&
         typed "$shell" "run -f pol" run -f policy.toml
     verdict "$shell finds the files of options"
+    typed "$shell" "run --report pol" run --report policy.toml
+    verdict "$shell finds the file of a report"
     typed "$shell" "run -f f -- pol" run -f f -- policy.toml && typed "$shell" "run -f f pol" run -f f pol
     verdict "$shell finds operands behind -- alone"
 done
@@ -1399,7 +1730,12 @@ fault "an unknown command" walk
 fault "an option that is missing" run --policy p --log l
 fault "an unknown option" run --policy p --log l -f f --more
 fault "an option twice" run --policy p --log l -f f -f g
-fault "a word too many" run --policy p --log l -f f g
+fault "a word too many" run --policy p g --log l -f f
+fault "an operand without --" list -f f g
+fault "a policy and a script that are the standard input" run --policy - --log l -f -
+fault "a check of a policy and a script that are the standard input" check --policy - -f -
+fault "a report twice" run --policy p --log l --report a --report b -f f
+fault "a report of check" check --policy p --report a -f f
 fault "a word that is not UTF-8" run --policy p --log l -f $'\xff'
 fault "a separator twice" run --policy p --log l -F a -F b -f f
 for steps in +5 -1 1e3 1000000000001 99999999999999999999 ''; do
@@ -1417,6 +1753,8 @@ fault "a policy of list" list --policy p -f f
 fault "a kind that is not known" why --policy p open a
 fault "a text that is missing" why --policy p read
 fault "a script of lint" lint --policy p -f f
+fault "a proposal under no base" propose -f f
+fault "an operand of a proposal" propose --base /w -- a
 
 # Nests.
 

@@ -1,9 +1,11 @@
 -- What a run is started with (POSIX.1-2017 XCU awk, "Options" and "Operands").
-use Rattle.std.specs.Prelude.{ℕ, ◌+◌, Bool, true, false, ◌&&◌, List, [], ◌∷◌, Option, Some, None, if◌then◌else◌}
+use Rattle.std.specs.Prelude.{ℕ, ◌+◌, ◌==◌, ◌++◌, Bool, true, false, ◌&&◌, List, [], ◌∷◌, Option, Some, None, codes, if◌then◌else◌}
 use Rattle.std.specs.Cmp.Lexicographic.{slice_cmp}
+use Rattle.std.specs.Fmt.{decimal}
 use Rattle.std.specs.Ordering.{nat_cmp}
 use Rattle.std.specs.declared.cmp.Ordering.{Ordering}
 use Rattle.std.specs.declared.cmp.Ordering.TheVariants.{Less, Equal, Greater}
+use Rattle.awk_run.specs.declared.setup.SetupError.{SetupError}
 use Rattle.awk_tokens.specs.Words.{is_name}
 
 -- the operand words, the names of the environment, the pairs of `-v`, and the text of `-F`
@@ -28,3 +30,11 @@ abbrev pub ascends : List (List ℕ) → Bool
 ascends [] = true
 ascends (x ∷ []) = true
 ascends (x ∷ y ∷ rest) = is_less (slice_cmp nat_cmp x y) && ascends (y ∷ rest)
+
+-- the pair of `-v` that words are refused for, where it is one
+abbrev pub pair_text : ℕ → List ℕ
+pair_text pair = if pair == 0 then [] else codes "assignment " ++ decimal pair ++ codes " "
+
+-- how a refusal of the words is shown
+abbrev pub setup_error_text : SetupError → List ℕ
+setup_error_text e = pair_text e.pair ++ codes "U" ++ decimal e.code

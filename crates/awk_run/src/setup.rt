@@ -1,11 +1,13 @@
 // What a run is started with.
-ghost use Rattle.awk_run.specs.SetupParts.{ascends, first_unspelled};
+ghost use Rattle.awk_run.specs.SetupParts.{ascends, first_unspelled, setup_error_text};
 ghost use Rattle.std.specs.Option.{option_copied};
-ghost use Rattle.std.specs.Prelude.{MatchBool, MatchOption, length, ◌<◌, ◌^◌, ◌≡◌};
+ghost use Rattle.std.specs.Prelude.{MatchBool, MatchOption, Some, length, ◌<◌, ◌^◌, ◌≡◌};
 
 use awk_text::octets::Octets;
 use awk_tokens::is_name;
 use std::cmp::Ordering;
+use std::error::Error;
+use std::fmt;
 use std::marker::Model;
 
 /// What a run is started with: the operand words, the names of the environment that it may ask for,
@@ -50,6 +52,20 @@ impl SetupError {
     /// U2: the names of the environment do not ascend byte by byte. `pair` is 0.
     pub const ORDER: u8 = 2;
 }
+
+impl fmt::Display for SetupError {
+    ghost output = { λ e. Some (setup_error_text e) };
+
+    fn fmt<W: fmt::Write>(&self, f: &mut fmt::Formatter<W>) -> fmt::Result {
+        let code = self.code;
+        match self.pair {
+            0 => write!(f, "U{code}"),
+            pair => write!(f, "assignment {pair} U{code}"),
+        }
+    }
+}
+
+impl Error for SetupError {}
 
 /// The number of the first pair whose name is none, counted from 1.
 fn first_unspelled(assigns: &[(Octets, Octets)]) -> Option<u32>

@@ -1,6 +1,6 @@
 -- A run over a monitor, as a run under its policy.
-use Rattle.std.proofs.Common.{◌≡◌, ℕ, Bool, List, refl, sym, ◌∙◌, ap, subst, Option, Some, None, inl, inr}
-use Rattle.std.specs.Prelude.{is_some, unwrap_or}
+use Rattle.std.proofs.Common.{◌≡◌, ℕ, ◌+◌, ◌-◌, ◌^◌, ◌≤◌, Bool, List, length, refl, sym, ◌∙◌, ap, subst, Option, Some, None, inl, inr, arith}
+use Rattle.std.specs.Prelude.{is_some, min, unwrap_or}
 use Rattle.std.specs.Io.KnownBytes.{Appends}
 use Rattle.awk_machine.specs.Laws.{EndsBy}
 use Rattle.awk_machine.specs.Pieces.{Outcome, Faulted, Piece}
@@ -20,7 +20,7 @@ use Rattle.box_monitor.specs.Stops.{LogEnds, Stops, StopsAtLog, StopsInside}
 use Rattle.box_monitor.specs.Watch.{Watch}
 use Rattle.box_monitor.specs.declared.log_end.LogEnd.{LogEnd}
 use Rattle.box_monitor.specs.declared.log_end.LogEnd.TheVariants.{Whole, Part, Unsure}
-use Rattle.awkbox.specs.Drives.{Drives, EndsAtLog, EndsInside, EndsWhole, LogStands}
+use Rattle.awkbox.specs.Drives.{Drives, DrivesCounted, EndsAtLog, EndsInside, EndsWhole, LogStands}
 use Rattle.awkbox.proofs.Passing.{asked-calls, denial-calls, denied-calls, told-calls}
 
 -- a monitor that did not stop
@@ -33,6 +33,12 @@ ended None old new text line h = absurd h
 ended (Some Whole) old new text line h = absurd h
 ended (Some Part) old new text line h = h
 ended (Some Unsure) old new text line h = h
+
+none_before : 0 ≤ 2 ^ 64 - 1
+none_before = omega arith
+
+one_count : (d n : ℕ) → d ≡ min (0 + n) (2 ^ 64 - 1) → d ≡ min n (2 ^ 64 - 1)
+one_count d n h = omega arith
 
 -- a monitor that was asked nothing yet
 abbrev pub fresh : {W L : Type 0} → Rulebook → W → L → Watch W L
@@ -91,16 +97,26 @@ module _ {W L : Type 0} (follows : W → List Call → W → Type 0) (has_stoppe
     stands outcome (Some want) at told h =
         subst (λ (o : Outcome). LogStands stops contents book world log es o (Some want) (unwrap_or m.stop Whole) m.world m.log) (sym (at_request at)) (at_last want.place want h)
 
-  pub drives : (book : Rulebook) (g : Given) (world : W) (log : L) (o : Outcome) (used : ℕ) (m : Watch W L)
+  -- the monitor counted what it told
+  counts : (book : Rulebook) (world : W) (log : L) (m : Watch W L) (es : List Event) → Leads follows has_stopped contents (fresh book world log) (calls es) m
+      → m.denials ≡ min (length (told_of book es)) (2 ^ 64 - 1)
+  counts book world log m es leads =
+      one_count m.denials (length (told_of book es))
+      (subst (λ t. m.denials ≡ min (0 + length t) (2 ^ 64 - 1)) (told-calls book es) (leads.denials none_before))
+
+  pub drives_counted : (book : Rulebook) (g : Given) (world : W) (log : L) (o : Outcome) (used : ℕ) (m : Watch W L)
       → Reported (Leads follows has_stopped contents) (λ (w : Watch W L). is_some w.stop) (Stops stops contents) g (fresh book world log) o used m
-      → Drives follows stops contents book g world log o used (unwrap_or m.stop Whole) m.world m.log
-  drives book g world log o used m r =
+      → DrivesCounted follows stops contents book g world log o used m.denials (unwrap_or m.stop Whole) m.world m.log
+  drives_counted book g world log o used m r =
       let y = r.played in
       let failed = denied-calls book y.events y.leads.failed in
       record {
-        events = y.events;
-        last = y.last;
-        plays = record { plays = y.plays; failed = failed };
-        passed = subst (λ z. follows world z m.world) (asked-calls book y.events failed) y.leads.inner;
-        stands = stands book world log m y.events y.leads failed o y.last y.plays.stands r.told y.ends;
+        drives = record {
+          events = y.events;
+          last = y.last;
+          plays = record { plays = y.plays; failed = failed };
+          passed = subst (λ z. follows world z m.world) (asked-calls book y.events failed) y.leads.inner;
+          stands = stands book world log m y.events y.leads failed o y.last y.plays.stands r.told y.ends;
+        };
+        counted = counts book world log m y.events y.leads;
       }

@@ -1,5 +1,5 @@
 -- What a run under a policy does: it is plain awk's, but for what the policy denies (POSIX.1-2017 XCU awk).
-use Rattle.std.specs.Prelude.{◌≡◌, ℕ, List, Option, None, Some, ◌⊎◌}
+use Rattle.std.specs.Prelude.{◌≡◌, ℕ, ◌-◌, ◌^◌, min, List, length, Option, None, Some, ◌⊎◌}
 use Rattle.std.specs.Io.KnownBytes.{Appends}
 use Rattle.awk_machine.specs.Pieces.{Outcome, Faulted}
 use Rattle.awk_machine.specs.Plays.{Plays}
@@ -60,6 +60,11 @@ module _ {W L : Type 0} (follows : W → List Call → W → Type 0) (stops : W 
     pub plays : PlaysUnder book g events o used last
     pub passed : follows world (calls (passed_on book events)) world'
     pub stands : LogStands stops contents book world log events o last end world' log'
+
+  -- the same, and so many lines were told; from 2^64 - 1 on no more are counted
+  pub record DrivesCounted (book : Rulebook) (g : Given) (world : W) (log : L) (o : Outcome) (used denials : ℕ) (end : LogEnd) (world' : W) (log' : L) : Type 0 where
+    pub drives : Drives book g world log o used end world' log'
+    pub counted : denials ≡ min (length (told_of book drives.events)) (2 ^ 64 - 1)
 
   -- the same of the texts of a policy and of a script
   pub record DrivesText (policy script : List ℕ) (setup : SetupParts) (steps : ℕ) (world : W) (log : L) (o : Outcome) (used : ℕ) (end : LogEnd) (world' : W) (log' : L) : Type 0 where

@@ -1,4 +1,5 @@
 pub mod Accepted
+pub mod Accounts
 pub mod Answers
 pub mod Drives
 pub mod Endings

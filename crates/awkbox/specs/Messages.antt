@@ -7,10 +7,10 @@ use Rattle.awk_text.specs.Quoted.{quoted}
 use Rattle.awk_text.specs.declared.fault.Fault.TheVariants.{StepBound as F11, Memory as F13}
 use Rattle.awk_tokens.specs.Refusals.{refusal_text}
 use Rattle.awkbox.specs.declared.messages.Message.{Message}
-use Rattle.awkbox.specs.declared.messages.Message.TheVariants.{Fault, StepBound, Policy, Script, Unspelled, Assignment, CannotRead, CannotWrite, CannotEnter, NotInBase, SmallStack, OutOfMemory}
+use Rattle.awkbox.specs.declared.messages.Message.TheVariants.{Fault, StepBound, Policy, Script, Unspelled, Assignment, CannotRead, CannotWrite, CannotReport, CannotEnter, NotInBase, SmallStack, OutOfMemory}
 use Rattle.awkbox.specs.declared.messages.Warning.{Warning}
 use Rattle.awkbox.specs.declared.messages.OwnFile.{OwnFile}
-use Rattle.awkbox.specs.declared.messages.OwnFile.TheVariants.{Log, Policy as PolicyFile, Script as ScriptFile}
+use Rattle.awkbox.specs.declared.messages.OwnFile.TheVariants.{Log, Report, Policy as PolicyFile, Script as ScriptFile}
 use Rattle.box_policy.specs.Refusals.{refusal_text as policy_text}
 
 -- the line, without its newline
@@ -23,12 +23,13 @@ message_text (Unspelled pair) = codes "awkbox: assignment " ++ decimal pair ++ c
 message_text (Assignment pair) = codes "awkbox: assignment " ++ decimal pair ++ codes " U3"
 message_text (CannotRead name) = codes "awkbox: cannot read \"" ++ string_bytes name ++ codes "\""
 message_text (CannotWrite name) = codes "awkbox: cannot write \"" ++ string_bytes name ++ codes "\""
+message_text (CannotReport name) = codes "awkbox: cannot write the report \"" ++ string_bytes name ++ codes "\""
 message_text (CannotEnter name) = codes "awkbox: cannot enter \"" ++ string_bytes name ++ codes "\""
 message_text (NotInBase base) = codes "awkbox: not started in the policy's base \"" ++ string_bytes base ++ codes "\""
 message_text SmallStack = codes "awkbox: the stack is smaller than 8 MiB"
 message_text OutOfMemory = codes "awkbox: F13 " ++ fault_text F13
 
--- 2 for a fault, 4 where the steps ran out, 3 where something was refused before the run
+-- 2 for a fault and a run without its report, 4 where the steps ran out, 3 where something was refused before the run
 abbrev pub message_status : Message → ℕ
 message_status (Fault fault place) = 2
 message_status StepBound = 4
@@ -38,6 +39,7 @@ message_status (Unspelled pair) = 3
 message_status (Assignment pair) = 3
 message_status (CannotRead name) = 3
 message_status (CannotWrite name) = 3
+message_status (CannotReport name) = 2
 message_status (CannotEnter name) = 3
 message_status (NotInBase base) = 3
 message_status SmallStack = 3
@@ -55,6 +57,12 @@ SaysCannotWrite name (CannotWrite shown) = string_bytes shown ≡ quoted name
 SaysCannotWrite name OutOfMemory = Unit {0}
 SaysCannotWrite name message = ⊥
 
+-- a message that the report of a run cannot be written to the file of this name, or that memory was refused
+abbrev pub SaysCannotReport : List ℕ → Message → Type 0
+SaysCannotReport name (CannotReport shown) = string_bytes shown ≡ quoted name
+SaysCannotReport name OutOfMemory = Unit {0}
+SaysCannotReport name message = ⊥
+
 -- a message that the folder of this name cannot be entered, or that memory was refused
 abbrev pub SaysCannotEnter : List ℕ → Message → Type 0
 SaysCannotEnter name (CannotEnter shown) = string_bytes shown ≡ quoted name
@@ -70,6 +78,7 @@ SaysNotInBase base message = ⊥
 -- the word for a file that a run is given
 abbrev pub own_word : OwnFile → List ℕ
 own_word Log = codes "log"
+own_word Report = codes "report"
 own_word PolicyFile = codes "policy"
 own_word ScriptFile = codes "script"
 

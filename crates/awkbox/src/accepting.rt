@@ -11,12 +11,16 @@ use awk_tokens::{SyntaxError, tokens};
 use box_policy::error::PolicyError;
 use box_policy::policy::Policy;
 use std::alloc::Global;
+use thiserror::Error;
 
 /// Why nothing was run: the policy, the script, or the `-v` pair of this number was refused.
-#[derive(Clone, Copy, Debug, PartialEq, Eq, Drop)]
+#[derive(Clone, Copy, Debug, PartialEq, Eq, Drop, Error)]
 pub enum Refusal {
+    #[error("policy {0}")]
     Policy(PolicyError),
+    #[error("script {0}")]
     Script(SyntaxError),
+    #[error("assignment {0} U3")]
     Assign(u32),
 }
 

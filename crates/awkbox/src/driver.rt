@@ -4,7 +4,7 @@ ghost use Rattle.awk_parse.specs.Scripts.{IsScript};
 ghost use Rattle.awk_run.specs.Outcomes.{view_outcome};
 ghost use Rattle.awkbox.specs.Accepted.{IsRefused};
 ghost use Rattle.awk_run.specs.Givens.{given_of};
-ghost use Rattle.awkbox.specs.Drives.{Drives, DrivesText};
+ghost use Rattle.awkbox.specs.Drives.{DrivesCounted, DrivesText};
 ghost use Rattle.box_monitor.specs.declared.log_end.LogEnd.TheVariants.{Whole};
 ghost use Rattle.box_policy.specs.Counts.{cleared};
 
@@ -25,10 +25,13 @@ pub struct Driven<W: World, L: Write> {
     pub log_end: LogEnd,
 }
 
-/// A run that is over: its report, and the world and the log given back, with how the log stands.
+/// A run that is over: its report, how many of its requests were denied, and the world and the log given back, with how the
+/// log stands.
 #[derive(Drop)]
 pub struct Ran<W: World, L: Write> {
     pub report: Report,
+    /// The lines that the log has of it; at most 2^64 - 1.
+    pub denials: u64,
     pub world: W,
     pub log: L,
     pub log_end: LogEnd,
@@ -46,18 +49,20 @@ impl Prepared {
         log: L,
     ) -> Ran<W, L>
         requires { IsScript self.script }
-        ensures { Drives W.follows W.stops L.contents
+        ensures { DrivesCounted W.follows W.stops L.contents
             (cleared self.policy) (given_of self.script setup.now steps) world log
-            (view_outcome result.report.outcome) result.report.used result.log_end result.world result.log }
+            (view_outcome result.report.outcome) result.report.used result.denials result.log_end result.world result.log }
     {
         let Prepared { policy, script } = self;
         let mut monitor = Monitor::new(alloc, policy, world, log);
         let report = run(alloc, &script, setup, steps, &mut monitor);
         script.release();
         let log_end = monitor.log_end();
+        let denials = monitor.denials();
         let (_, world, log) = monitor.into_parts();
         Ran {
             report,
+            denials,
             world,
             log,
             log_end,
@@ -103,6 +108,7 @@ pub fn drive<W: World, L: Write>(
         world,
         log,
         log_end,
+        ..
     } = prepared.drive(alloc, setup, steps, world, log);
     Driven {
         answer: Ok(report),

@@ -4,7 +4,7 @@
 //! A host gives [`drive`] the two texts, a [`Setup`], a bound of steps, a [`World`] and a log. One that looks at the policy
 //! before the run takes it from [`prepare`]. A [`LimitedLog`] grows to a limit and no further.
 //! [`OsWorld`] is the world of real files and commands, [`MemoryWorld`] one in memory, for tests.
-//! [`Ending`] is what the program `awkbox` says and ends with after an answer. specs/Drives.antt says
+//! [`Ending`] is what the program `awkbox` says and ends with after an answer, and [`Account`] what it reports for other programs. specs/Drives.antt says
 //! what a run is.
 //!
 //! Without a run, [`sites_of`] and [`verdict_of`] answer what a script may ask of the world and what a policy says of it;
@@ -13,6 +13,7 @@
 #![tactic(auto)]
 
 mod accepting;
+mod account;
 mod answers;
 mod driver;
 pub mod laws;
@@ -25,6 +26,7 @@ mod own_files;
 mod stack;
 
 pub use accepting::{Prepared, Refusal, prepare};
+pub use account::Account;
 pub use answers::{Answer, check, list};
 pub use awk_run::{Outcome, Report, Setup, SetupError};
 pub use awk_text::Memory;

@@ -4,15 +4,17 @@ ghost use Rattle.std.specs.Io.KnownBytes.{IsAtEnd};
 
 use std::alloc::Global;
 use std::io::Read;
+use thiserror::Error;
 
 /// Why a reader was not read to its end.
-#[derive(Clone, Copy, Debug, PartialEq, Eq, Drop)]
+#[derive(Clone, Copy, Debug, PartialEq, Eq, Drop, Error)]
 pub enum ReadError {
     /// A read failed, or was interrupted.
+    #[error("a read failed")]
     Failed,
-    /// It has more bytes than the limit.
+    #[error("more bytes than the limit")]
     TooLong,
-    /// Memory was refused.
+    #[error("out of memory")]
     Memory,
 }
 

@@ -4,12 +4,16 @@ ghost use Rattle.std.specs.Prelude.{◌≡◌};
 use awk_tokens::SyntaxError;
 use box_policy::error::PolicyError;
 use std::alloc::AllocError;
+use thiserror::Error;
 
 /// Why nothing is told: the policy or the script was refused, or memory was.
-#[derive(Clone, Copy, Debug, PartialEq, Eq, Drop)]
+#[derive(Clone, Copy, Debug, PartialEq, Eq, Drop, Error)]
 pub enum ListingRefusal {
+    #[error("policy {0}")]
     Policy(PolicyError),
+    #[error("script {0}")]
     Script(SyntaxError),
+    #[error("out of memory")]
     Memory,
 }
 

@@ -32,6 +32,8 @@ pub enum Message {
     CannotRead(String),
     /// A file could not be made or emptied, or may not be the log. The name is quoted, as the log of denials has it.
     CannotWrite(String),
+    /// A run is over, and its report could not be written. The name is quoted, as the log of denials has it.
+    CannotReport(String),
     /// A folder could not be entered. The name is quoted, as the log of denials has it.
     CannotEnter(String),
     /// The program runs in another folder than the base of the policy, though rules speak of files. The base is quoted, as
@@ -47,6 +49,7 @@ pub enum Message {
 #[derive(Clone, Copy, Debug, PartialEq, Eq, Drop)]
 pub enum OwnFile {
     Log,
+    Report,
     Policy,
     Script,
 }
@@ -81,6 +84,21 @@ impl From<AllocError> for Message {
     }
 }
 
+impl From<Refusal> for Message {
+    ghost use Rattle.std.specs.Prelude.{◌≡◌};
+    ghost use Rattle.awkbox.specs.Endings.{message_of_refusal};
+
+    ghost from_gives = { λ refusal message. message ≡ message_of_refusal refusal };
+
+    fn from(refusal: Refusal) -> Message {
+        match refusal {
+            Refusal::Policy(error) => Message::Policy(error),
+            Refusal::Script(error) => Message::Script(error),
+            Refusal::Assign(pair) => Message::Assignment(pair),
+        }
+    }
+}
+
 // The name as the log of denials has it.
 fn quoted_name(alloc: Global, name: &str) -> Result<String, Memory>
     ensures { IfOk result (λ text. string_bytes text ≡ quoted name.now) }
@@ -92,7 +110,7 @@ fn quoted_name(alloc: Global, name: &str) -> Result<String, Memory>
 }
 
 impl Message {
-    ghost use Rattle.awkbox.specs.Messages.{message_status, SaysCannotEnter, SaysCannotRead, SaysCannotWrite, SaysNotInBase};
+    ghost use Rattle.awkbox.specs.Messages.{message_status, SaysCannotEnter, SaysCannotRead, SaysCannotReport, SaysCannotWrite, SaysNotInBase};
 
     /// That the file of this name cannot be read; `OutOfMemory` where memory for that is refused.
     pub fn cannot_read(alloc: Global, name: &str) -> Message
@@ -111,6 +129,16 @@ impl Message {
     {
         match quoted_name(alloc, name) {
             Ok(name) => Message::CannotWrite(name),
+            Err(_) => Message::OutOfMemory,
+        }
+    }
+
+    /// That the report of a run cannot be written to the file of this name; `OutOfMemory` where memory for that is refused.
+    pub fn cannot_report(alloc: Global, name: &str) -> Message
+        ensures { SaysCannotReport name.now result }
+    {
+        match quoted_name(alloc, name) {
+            Ok(name) => Message::CannotReport(name),
             Err(_) => Message::OutOfMemory,
         }
     }
@@ -135,13 +163,13 @@ impl Message {
         }
     }
 
-    /// The exit status: 2 for a fault, 4 where the steps ran out, and 3 where something was refused
-    /// before the run.
+    /// The exit status: 2 for a fault and where a run has no report, 4 where the steps ran out, and 3 where something was
+    /// refused before the run.
     pub fn status(&self) -> u8
         ensures { result ≡ message_status self.now }
     {
         match self {
-            Message::Fault(_, _) | Message::OutOfMemory => 2,
+            Message::Fault(_, _) | Message::CannotReport(_) | Message::OutOfMemory => 2,
             Message::StepBound => 4,
             Message::Policy(_)
             | Message::Script(_)
@@ -177,6 +205,7 @@ impl fmt::Display for Message {
             Message::Assignment(pair) => write!(f, "awkbox: assignment {pair} U3"),
             Message::CannotRead(name) => write!(f, "awkbox: cannot read \"{name}\""),
             Message::CannotWrite(name) => write!(f, "awkbox: cannot write \"{name}\""),
+            Message::CannotReport(name) => write!(f, "awkbox: cannot write the report \"{name}\""),
             Message::CannotEnter(name) => write!(f, "awkbox: cannot enter \"{name}\""),
             Message::NotInBase(base) => {
                 write!(f, "awkbox: not started in the policy's base \"{base}\"")
@@ -199,6 +228,7 @@ impl OwnFile {
     {
         match self {
             OwnFile::Log => "log",
+            OwnFile::Report => "report",
             OwnFile::Policy => "policy",
             OwnFile::Script => "script",
         }
@@ -235,7 +265,7 @@ impl fmt::Display for Warning {
 }
 
 impl Ending {
-    ghost use Rattle.awkbox.specs.Endings.{ending_of, ending_status};
+    ghost use Rattle.awkbox.specs.Endings.{ending_of, ending_status, EndsUnreported};
 
     /// How the program ends after this answer.
     pub fn of(answer: Result<Report, Refusal>) -> Ending
@@ -247,9 +277,18 @@ impl Ending {
                 Outcome::Fault(fault, place) => Ending::Said(Message::Fault(fault, place)),
                 Outcome::Cut => Ending::Said(Message::StepBound),
             },
-            Err(Refusal::Policy(error)) => Ending::Said(Message::Policy(error)),
-            Err(Refusal::Script(error)) => Ending::Said(Message::Script(error)),
-            Err(Refusal::Assign(pair)) => Ending::Said(Message::Assignment(pair)),
+            Err(refusal) => Ending::Said(Message::from(refusal)),
+        }
+    }
+
+    /// The ending of a run whose report could not be written to the file of this name: one that says nothing says that, and any
+    /// other stays.
+    pub fn unreported(self, alloc: Global, name: &str) -> Ending
+        ensures { EndsUnreported name.now self result }
+    {
+        match self {
+            Ending::Quiet(_) => Ending::Said(Message::cannot_report(alloc, name)),
+            Ending::Said(message) => Ending::Said(message),
         }
     }
 

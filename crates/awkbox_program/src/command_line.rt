@@ -4,7 +4,8 @@ use clap::error::ErrorKind;
 use clap::{Arg, ArgAction, ArgMatches, Command, Error};
 use std::alloc::{AllocError, Global};
 
-/// What `awkbox run` is asked for, operands aside. Policy, log and script are names of files, and the folder that of a folder.
+/// What `awkbox run` is asked for, operands aside. Policy, log, report and script are names of files, and the folder that of a
+/// folder.
 #[derive(Debug, Drop)]
 pub struct Run<'a> {
     pub policy: &'a str,
@@ -13,6 +14,8 @@ pub struct Run<'a> {
     pub adds_to_log: bool,
     /// How many bytes the run may add to the log.
     pub log_limit: u64,
+    /// The file that the run is reported in.
+    pub report: Option<&'a str>,
     pub script: &'a str,
     /// The folder that is entered before the run.
     pub folder: Option<&'a str>,
@@ -33,6 +36,16 @@ pub struct Why<'a> {
     pub given: bool,
 }
 
+/// What `awkbox propose` is asked for: a policy that allows what this script may ask for and what this log tells of, under this
+/// base, or behind the rules of the policy of this file. One of base and policy is there.
+#[derive(Debug, Drop)]
+pub struct Propose<'a> {
+    pub base: Option<&'a str>,
+    pub policy: Option<&'a str>,
+    pub script: Option<&'a str>,
+    pub log: Option<&'a str>,
+}
+
 /// What the program is asked for. Policy and script are names of files.
 #[derive(Debug, Drop)]
 pub enum Asked<'a> {
@@ -41,10 +54,17 @@ pub enum Asked<'a> {
     Check { policy: &'a str, script: &'a str },
     Why(Why<'a>),
     Lint { policy: &'a str },
+    Propose(Propose<'a>),
 }
 
 /// The name that users know the program by, whatever the file is called that runs.
 pub const NAME: &str = "awkbox";
+
+/// The number of this version; CHANGELOG.md says what each has.
+const VERSION: &str = "0.9.0";
+
+/// The name of a policy or a script that is read from the standard input.
+pub const STANDARD_INPUT: &str = "-";
 
 /// The most steps that a run may take.
 const MOST_STEPS: u64 = 1_000_000_000_000;
@@ -54,7 +74,7 @@ const MOST_STEPS: u64 = 1_000_000_000_000;
 const RUN_STATUSES: &str = "\
 Exit status:
   The script's own, where it came to its end; else
-  2  A fault ended the run, or the log could not be written
+  2  A fault ended the run, or the log or the report could not be written
   3  Nothing was run: the policy, the script or the command line was refused, or a file could not be read or made
   4  The step bound ended the run";
 
@@ -100,6 +120,11 @@ fn log_limit<'a>(alloc: Global) -> Arg<'a> {
     option(alloc, "log-limit", "BYTES", help).long("log-limit")
 }
 
+fn report<'a>(alloc: Global) -> Arg<'a> {
+    let help = "Where the end of the run is told as a JSON object; made or emptied";
+    option(alloc, "report", "FILE", help).long("report")
+}
+
 fn folder<'a>(alloc: Global) -> Arg<'a> {
     let help = "The folder that is entered before the run, once policy, script and log are open";
     option(alloc, "folder", "DIR", help).short('C')
@@ -131,6 +156,16 @@ fn given<'a>(alloc: Global) -> Arg<'a> {
         .action(ArgAction::SetTrue)
         .long("given")
         .help("It is an operand that the run was started with")
+}
+
+fn base<'a>(alloc: Global) -> Arg<'a> {
+    let help = "What relative names stand under; it may be absent beside a policy, which has one";
+    option(alloc, "base", "DIR", help).long("base")
+}
+
+fn denials<'a>(alloc: Global) -> Arg<'a> {
+    let help = "A log of denials, which are to be allowed";
+    option(alloc, "log", "FILE", help).long("log")
 }
 
 fn steps<'a>(alloc: Global) -> Arg<'a> {
@@ -169,6 +204,7 @@ fn run_command<'a>(alloc: Global) -> Result<Command<'a>, AllocError> {
         .arg(log(alloc))?
         .arg(log_append(alloc))?
         .arg(log_limit(alloc))?
+        .arg(report(alloc))?
         .arg(folder(alloc))?
         .arg(steps(alloc))?
         .arg(separator(alloc))?
@@ -209,10 +245,21 @@ fn lint_command<'a>(alloc: Global) -> Result<Command<'a>, AllocError> {
         .arg(policy(alloc))
 }
 
+fn propose_command<'a>(alloc: Global) -> Result<Command<'a>, AllocError> {
+    Command::new(alloc, "propose")
+        .about("Writes a policy that allows what a script may ask for, or what a log tells of")
+        .after_help(TOLD_STATUSES)
+        .arg(base(alloc))?
+        .arg(policy(alloc).required(false))?
+        .arg(denials(alloc))?
+        .arg(script(alloc).required(false))
+}
+
 fn command<'a>(alloc: Global) -> Result<Command<'a>, AllocError> {
     Command::new(alloc, NAME)
         .bin_name(NAME)?
         .about("Runs awk scripts in a sandbox, under a written policy")
+        .version(VERSION)
         .subcommand_required(true)
         .subcommand(run_command(alloc)?)?
         .subcommand(list_command(alloc)?)?
@@ -235,7 +282,7 @@ fn count_of(text: &str, most: u64) -> Option<u64> {
 fn steps_of(alloc: Global, matches: &ArgMatches<'_>) -> Result<u64, Error> {
     match count_of(value_of(alloc, matches, "steps")?, MOST_STEPS) {
         Some(steps) => Ok(steps),
-        None => Err(fault(
+        None => Err(run_fault(
             alloc,
             "the value of --steps is not a whole number from 0 to 1000000000000",
         )),
@@ -248,7 +295,7 @@ fn log_limit_of(alloc: Global, matches: &ArgMatches<'_>) -> Result<u64, Error> {
     };
     match count_of(text, u64::MAX) {
         Some(limit) => Ok(limit),
-        None => Err(fault(
+        None => Err(run_fault(
             alloc,
             "the value of --log-limit is not a whole number from 0 to 18446744073709551615",
         )),
@@ -271,13 +318,25 @@ fn value_of<'a>(alloc: Global, matches: &ArgMatches<'a>, id: &str) -> Result<&'a
     }
 }
 
+// The policy and the script, of which one may be the standard input.
+fn sources_of<'a>(alloc: Global, matches: &ArgMatches<'a>) -> Result<(&'a str, &'a str), Error> {
+    let policy = value_of(alloc, matches, "policy")?;
+    let script = value_of(alloc, matches, "script")?;
+    if policy == STANDARD_INPUT && script == STANDARD_INPUT {
+        return Err(fault(alloc, "policy and script are not both the standard input"));
+    }
+    Ok((policy, script))
+}
+
 fn run_of<'a>(alloc: Global, matches: &ArgMatches<'a>) -> Result<Run<'a>, Error> {
+    let (policy, script) = sources_of(alloc, matches)?;
     Ok(Run {
-        policy: value_of(alloc, matches, "policy")?,
+        policy,
         log: value_of(alloc, matches, "log")?,
         adds_to_log: matches.get_flag("log-append"),
         log_limit: log_limit_of(alloc, matches)?,
-        script: value_of(alloc, matches, "script")?,
+        report: matches.get_str("report"),
+        script,
         folder: matches.get_str("folder"),
         steps: steps_of(alloc, matches)?,
         separator: matches.get_str("separator"),
@@ -300,6 +359,19 @@ fn why_of<'a>(alloc: Global, matches: &ArgMatches<'a>, policy: &'a str) -> Resul
     })
 }
 
+fn propose_of<'a>(alloc: Global, matches: &ArgMatches<'a>) -> Result<Propose<'a>, Error> {
+    let asked = Propose {
+        base: matches.get_str("base"),
+        policy: matches.get_str("policy"),
+        script: matches.get_str("script"),
+        log: matches.get_str("log"),
+    };
+    if asked.base.is_none() && asked.policy.is_none() {
+        return Err(fault(alloc, "one of --base and --policy is needed"));
+    }
+    Ok(asked)
+}
+
 fn asked_of<'a>(alloc: Global, matches: &ArgMatches<'a>) -> Result<Asked<'a>, Error> {
     let Some((name, matches)) = matches.subcommand() else {
         return Err(fault(alloc, "a command is missing"));
@@ -311,15 +383,18 @@ fn asked_of<'a>(alloc: Global, matches: &ArgMatches<'a>) -> Result<Asked<'a>, Er
         let script = value_of(alloc, matches, "script")?;
         return Ok(Asked::List { script });
     }
-    let policy = value_of(alloc, matches, "policy")?;
-    if name == "lint" {
-        return Ok(Asked::Lint { policy });
+    if name == "propose" {
+        return Ok(Asked::Propose(propose_of(alloc, matches)?));
     }
+    if name == "check" {
+        let (policy, script) = sources_of(alloc, matches)?;
+        return Ok(Asked::Check { policy, script });
+    }
+    let policy = value_of(alloc, matches, "policy")?;
     if name == "why" {
         return Ok(Asked::Why(why_of(alloc, matches, policy)?));
     }
-    let script = value_of(alloc, matches, "script")?;
-    Ok(Asked::Check { policy, script })
+    Ok(Asked::Lint { policy })
 }
 
 /// Reads the words before `--`, of which the first is the program's own name.
@@ -331,13 +406,26 @@ pub fn read<'a>(alloc: Global, words: &'a [String]) -> Result<Asked<'a>, Error> 
     asked_of(alloc, &matches)
 }
 
-/// A fault that is no one word's, with the usage.
-pub fn fault(alloc: Global, text: &str) -> Error {
-    match command(alloc) {
+fn fault_of(command: Result<Command<'_>, AllocError>, text: &str) -> Error {
+    match command {
         Ok(mut command) => match command.error(ErrorKind::Format, text) {
             Ok(error) => error,
             Err(refused) => Error::from(refused),
         },
         Err(refused) => Error::from(refused),
     }
+}
+
+/// A fault that is no one word's, with the usage.
+pub fn fault(alloc: Global, text: &str) -> Error {
+    fault_of(command(alloc), text)
+}
+
+fn named_run<'a>(alloc: Global) -> Result<Command<'a>, AllocError> {
+    run_command(alloc)?.bin_name("awkbox run")
+}
+
+/// A fault of the words of `run`, with its usage.
+fn run_fault(alloc: Global, text: &str) -> Error {
+    fault_of(named_run(alloc), text)
 }

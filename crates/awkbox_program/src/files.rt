@@ -1,4 +1,5 @@
 // The files that the program is given.
+use crate::command_line::STANDARD_INPUT;
 use awkbox::{Identity, ReadError, read_limited};
 use std::fs::{File, Metadata, OpenOptions, metadata};
 use std::io;
@@ -22,15 +23,23 @@ pub fn look(rt: &HostRuntime, name: &str) -> Option<Identity> {
     }
 }
 
-/// A file that was read: which one it is, and all of its bytes.
+/// A file that was read: which one it is, and all of its bytes. The standard input is looked at by its own names, as the other
+/// standard streams are.
 #[derive(Drop)]
 pub struct Source {
-    pub identity: Identity,
+    pub identity: Option<Identity>,
     pub bytes: Vec<u8>,
 }
 
-/// Reads the file, which may not be too long.
+/// Reads the file, or the standard input, which may not be too long.
 pub fn read(rt: &HostRuntime, name: &str) -> Result<Source, ReadError> {
+    if name == STANDARD_INPUT {
+        let bytes = read_limited(rt.alloc(), &mut rt.stdin(), MOST_BYTES)?;
+        return Ok(Source {
+            identity: None,
+            bytes,
+        });
+    }
     let Ok(mut file) = File::open(rt, name) else {
         return Err(ReadError::Failed);
     };
@@ -39,7 +48,7 @@ pub fn read(rt: &HostRuntime, name: &str) -> Result<Source, ReadError> {
     };
     let bytes = read_limited(rt.alloc(), &mut file, MOST_BYTES)?;
     Ok(Source {
-        identity: identity_of(&metadata),
+        identity: Some(identity_of(&metadata)),
         bytes,
     })
 }

@@ -1,14 +1,15 @@
 // The run of a script.
-use crate::command_line::Run;
+use crate::command_line::{Run, STANDARD_INPUT};
 use crate::files::{OpenLog, Source, look, read};
 use crate::folders::{Folders, enter, resolved};
 use crate::setup::setup_of;
 use crate::standard;
 use awkbox::{
-    Ending, Identity, LimitedLog, Memory, Message, Octets, OsWorld, OwnFile, Policy, Setup,
-    Warning, may_be_log, may_start, prepare, writing_rule,
+    Account, Ending, Identity, LimitedLog, Memory, Message, Octets, OsWorld, OwnFile, Policy,
+    Setup, Warning, may_be_log, may_start, prepare, writing_rule,
 };
 use std::fs::File;
+use std::io::Write;
 
 // The files that the words name, open or read before the folder is entered.
 #[derive(Drop)]
@@ -18,12 +19,80 @@ struct Files {
     log: OpenLog,
 }
 
-/// Runs a script under a policy, by the words of the command line.
+/// Runs a script under a policy, by the words of the command line, and reports it where they ask for that.
 pub fn run_script(
     rt: &HostRuntime,
     run: &Run<'_>,
     operands: Vec<Octets>,
 ) -> Result<Ending, Message> {
+    let Some(name) = run.report else {
+        return Ok(account_of(rt, run, operands, None).ending());
+    };
+    let opened = open_report(rt, run, name, operands.as_slice())?;
+    let identity = opened.identity;
+    let Ok(mut report) = opened.begin(false) else {
+        return Err(Message::cannot_write(rt.alloc(), name));
+    };
+    let account = account_of(rt, run, operands, Some(identity));
+    let is_written = write_report(rt, &mut report, &account);
+    let ending = account.ending();
+    match is_written {
+        true => Ok(ending),
+        false => Ok(ending.unreported(rt.alloc(), name)),
+    }
+}
+
+// The file for the report, which is none of the files that the words name and the standard streams lead to. It is open before
+// any of them is read, so that a refusal is reported too.
+fn open_report(
+    rt: &HostRuntime,
+    run: &Run<'_>,
+    name: &str,
+    operands: &[Octets],
+) -> Result<OpenLog, Message> {
+    let Ok(report) = OpenLog::open(rt, name) else {
+        return Err(Message::cannot_write(rt.alloc(), name));
+    };
+    let named = [
+        look_source(rt, run.policy),
+        look_source(rt, run.script),
+        look(rt, run.log),
+    ];
+    let others = others(rt, named, operands)?;
+    match may_be_log(report.identity, report.is_regular, others.as_slice()) {
+        true => Ok(report),
+        false => Err(Message::cannot_write(rt.alloc(), name)),
+    }
+}
+
+// Whether the account stands whole in the file.
+fn write_report(rt: &HostRuntime, report: &mut File, account: &Account) -> bool {
+    match account.json(rt.alloc()) {
+        Ok(mut text) => {
+            text.push('\n').is_ok() && report.write_all(text.as_str().as_bytes()).is_ok()
+        }
+        Err(_) => false,
+    }
+}
+
+fn account_of(
+    rt: &HostRuntime,
+    run: &Run<'_>,
+    operands: Vec<Octets>,
+    report: Option<Identity>,
+) -> Account {
+    match run_files(rt, run, operands, report) {
+        Ok(account) => account,
+        Err(message) => Account::Refused(message),
+    }
+}
+
+fn run_files(
+    rt: &HostRuntime,
+    run: &Run<'_>,
+    operands: Vec<Octets>,
+    report: Option<Identity>,
+) -> Result<Account, Message> {
     let alloc = rt.alloc();
     let setup = setup_of(rt, run, operands)?;
     let Files {
@@ -32,24 +101,29 @@ pub fn run_script(
         log,
     } = open_files(rt, run)?;
     let folders = enter(rt, run.folder)?;
-    let taken = others(rt, policy.identity, script.identity, &setup)?;
+    let taken = others(
+        rt,
+        [policy.identity, script.identity, report],
+        setup.operands(),
+    )?;
     let log = LimitedLog::new(begin_log(rt, run, log, taken.as_slice())?, run.log_limit);
     let world = OsWorld::new(rt.clone()?);
-    let prepared = match prepare(
+    let prepared = prepare(
         alloc,
         policy.bytes.as_slice(),
         script.bytes.as_slice(),
         &setup,
-    ) {
-        Ok(prepared) => prepared,
-        Err(refusal) => return Ok(Ending::of(Err(refusal))),
-    };
+    )?;
     if let Err(message) = begin(rt, run, prepared.policy(), &folders) {
         prepared.release();
         return Err(message);
     }
     let ran = prepared.drive(alloc, &setup, run.steps, world, log);
-    Ok(Ending::of(Ok(ran.report)))
+    Ok(Account::Ran {
+        report: ran.report,
+        denials: ran.denials,
+        log_end: ran.log_end,
+    })
 }
 
 fn open_files(rt: &HostRuntime, run: &Run<'_>) -> Result<Files, Message> {
@@ -73,23 +147,33 @@ pub fn read_source(rt: &HostRuntime, name: &str) -> Result<Source, Message> {
     }
 }
 
-// The files that are not to be the log: the policy, the script, those that the standard streams lead to and those that the
+// Which file a policy or a script of this name is; the standard input is looked at as a stream.
+fn look_source(rt: &HostRuntime, name: &str) -> Option<Identity> {
+    match name {
+        STANDARD_INPUT => None,
+        _ => look(rt, name),
+    }
+}
+
+// The files that are not to be the log or the report: these, those that the standard streams lead to and those that the
 // operands name. A word that may set a variable counts as the name of a file too.
 fn others(
     rt: &HostRuntime,
-    policy: Identity,
-    script: Identity,
-    setup: &Setup,
+    named: [Option<Identity>; 3],
+    operands: &[Octets],
 ) -> Result<Vec<Identity>, Memory> {
     let mut others = Vec::new(rt.alloc());
-    others.push(policy)?;
-    others.push(script)?;
+    for file in named {
+        if let Some(file) = file {
+            others.push(file)?;
+        }
+    }
     for stream in standard::STREAMS {
         if let Some(file) = look(rt, stream) {
             others.push(file)?;
         }
     }
-    for operand in setup.operands() {
+    for operand in operands {
         if let Some(file) = look_operand(rt, operand.bytes()) {
             others.push(file)?;
         }
@@ -134,8 +218,15 @@ fn begin(
         return Err(Message::not_in_base(rt.alloc(), base));
     }
     warn(rt, policy, folders, OwnFile::Log, run.log)?;
-    warn(rt, policy, folders, OwnFile::Policy, run.policy)?;
-    warn(rt, policy, folders, OwnFile::Script, run.script)?;
+    if let Some(report) = run.report {
+        warn(rt, policy, folders, OwnFile::Report, report)?;
+    }
+    if run.policy != STANDARD_INPUT {
+        warn(rt, policy, folders, OwnFile::Policy, run.policy)?;
+    }
+    if run.script != STANDARD_INPUT {
+        warn(rt, policy, folders, OwnFile::Script, run.script)?;
+    }
     Ok(())
 }
 
