@@ -265,7 +265,8 @@ fn command<'a>(alloc: Global) -> Result<Command<'a>, AllocError> {
         .subcommand(list_command(alloc)?)?
         .subcommand(check_command(alloc)?)?
         .subcommand(why_command(alloc)?)?
-        .subcommand(lint_command(alloc)?)
+        .subcommand(lint_command(alloc)?)?
+        .subcommand(propose_command(alloc)?)
 }
 
 // Digits alone, where `parse` would take a sign too.
