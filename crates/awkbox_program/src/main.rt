@@ -8,7 +8,6 @@ mod files;
 mod folders;
 mod process;
 mod program;
-mod propose;
 mod runs;
 mod setup;
 mod standard;
