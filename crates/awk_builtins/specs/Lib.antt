@@ -1,6 +1,8 @@
+pub mod AtHand
 pub mod Cached
 pub mod Checks
 pub mod Filled
+pub mod Growing
 pub mod Lines
 pub mod Made
 pub mod Operands

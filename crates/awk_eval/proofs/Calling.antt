@@ -25,14 +25,14 @@ use Rattle.awk_streams.specs.Tables.{Table}
 use Rattle.awk_streams.specs.Tasks.{Owns}
 use Rattle.awk_store.specs.Kept.{Kept}
 use Rattle.awk_store.proofs.Acting.{acted, done as there}
-use Rattle.awk_eval.proofs.Leading.{hands_on, quietly}
+use Rattle.awk_forms.proofs.Leading.{hands_on, quietly}
 use Rattle.awk_store.specs.Wholes.{Whole, Agreeing, base, names_in, used}
 use Rattle.awk_store.specs.Calls.{argument_of}
 use Rattle.awk_store.proofs.Framing.{one_longer, reverse_last}
-use Rattle.awk_eval.specs.Along.{Arguing}
+use Rattle.awk_forms.specs.Along.{Arguing}
 use Rattle.awk_eval.specs.Calls.{Argued, IsPassed}
-use Rattle.awk_eval.specs.Runs.{IsGiven}
-use Rattle.awk_eval.specs.declared.context.Context.{Context}
+use Rattle.awk_forms.specs.Runs.{IsGiven}
+use Rattle.awk_forms.specs.declared.context.Context.{Context}
 
 -- ---- the arguments of the code are those of the machine
 

@@ -19,8 +19,8 @@ use Rattle.awk_machine.specs.State.{State, Given}
 use Rattle.awk_streams.specs.declared.halt.Halt.{Halt}
 use Rattle.awk_streams.specs.Chains.{Meets}
 use Rattle.awk_store.specs.Wholes.{Whole, Agreeing, base, used}
-use Rattle.awk_eval.specs.Runs.{Waits}
-use Rattle.awk_eval.proofs.Turns.{waits_each}
+use Rattle.awk_forms.specs.Runs.{Waits}
+use Rattle.awk_forms.proofs.Turns.{waits_each}
 
 -- ---- the items
 

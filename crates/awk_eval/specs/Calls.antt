@@ -10,7 +10,7 @@ use Rattle.awk_program.specs.declared.expressions.Argument as code
 use Rattle.awk_program.specs.declared.expressions.Argument.TheVariants as argument
 use Rattle.awk_program.specs.declared.expressions.Expr.{Expr}
 use Rattle.awk_store.specs.Kept.{Kept}
-use Rattle.awk_quick.specs.AtHand.{IsThere}
+use Rattle.awk_builtins.specs.AtHand.{IsThere}
 use Rattle.awk_machine.specs.Calls.{Argument, arguments}
 use Rattle.awk_machine.specs.Forms.{value}
 use Rattle.awk_machine.specs.Pieces.{At, Value_of}
@@ -19,8 +19,8 @@ use Rattle.awk_streams.specs.declared.halt.Halt.{Halt}
 use Rattle.awk_streams.specs.Chains.{Meets}
 use Rattle.awk_streams.specs.Tasks.{Owns}
 use Rattle.awk_store.specs.Wholes.{Whole, Agreeing, base, used}
-use Rattle.awk_eval.specs.declared.context.Context.{Context}
-use Rattle.awk_eval.specs.Runs.{IsGiven}
+use Rattle.awk_forms.specs.declared.context.Context.{Context}
+use Rattle.awk_forms.specs.Runs.{IsGiven}
 
 -- the arguments are evaluated from left to right, whatever function is called, and wherever
 pub record Argues {W : Type 0} (ghosts : Ghosts W)

@@ -9,9 +9,9 @@ use Rattle.awk_store.specs.Flows.{flows}
 use Rattle.awk_store.specs.declared.flow.Flow.{Flow}
 use Rattle.awk_machine.specs.Forms.{value}
 use Rattle.awk_machine.specs.Pieces.{Do, Start, give}
-use Rattle.awk_eval.specs.Runs.{Does}
-use Rattle.awk_eval.specs.declared.context.Context.{Context}
-use Rattle.awk_eval.specs.declared.context.Run.{Run}
+use Rattle.awk_forms.specs.Runs.{Does}
+use Rattle.awk_forms.specs.declared.context.Context.{Context}
+use Rattle.awk_forms.specs.declared.context.Run.{Run}
 use Rattle.awk_program.specs.View.{view, view_statement}
 use Rattle.awk_program.specs.declared.expressions.Expr.{Expr}
 use Rattle.awk_program.specs.declared.statements.Statement.{Statement}

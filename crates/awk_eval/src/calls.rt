@@ -9,13 +9,13 @@ ghost use Rattle.awk_store.specs.Wholes.{names_in};
 ghost use Rattle.awk_store.specs.Calls.{argument_of};
 ghost use Rattle.awk_eval.specs.Calls.{Argued, Argues, IsPassed};
 ghost use Rattle.awk_text.specs.declared.value.Value.TheVariants as v;
-ghost use Rattle.awk_eval.specs.Runs.{Does, whole_of};
+ghost use Rattle.awk_forms.specs.Runs.{Does, whole_of};
 
-use crate::context::{Context, Run};
-use crate::evaluates::Evaluates;
 use crate::statements::body;
+use awk_builtins::at_hand::number_there;
+use awk_forms::context::{Context, Run};
+use awk_forms::evaluates::Evaluates;
 use awk_program::{Argument, Expr};
-use awk_quick::at_hand::number_there;
 use awk_store::frames::{begin, body_of, leave, pass, returned};
 use awk_store::steps::step;
 use awk_store::{Passed, Store};

@@ -7,11 +7,11 @@ ghost use Rattle.awk_program.specs.View.{view, view_statement, variable_of};
 ghost use Rattle.awk_store.specs.Wholes.{names_in};
 ghost use Rattle.awk_store.specs.Flows.{flows};
 ghost use Rattle.awk_eval.specs.Loops.{loop_of, tested, to_test};
-ghost use Rattle.awk_eval.specs.Runs.{Does, whole_of};
+ghost use Rattle.awk_forms.specs.Runs.{Does, whole_of};
 
-use crate::context::{Context, Run};
-use crate::evaluates::Evaluates;
-use crate::tests::{effect, truth_of};
+use awk_forms::context::{Context, Run};
+use awk_forms::evaluates::Evaluates;
+use awk_forms::tests::{effect, truth_of};
 use awk_lib::key::Key;
 use awk_program::{Expr, Statement, Variable};
 use awk_store::Flow;

@@ -23,9 +23,9 @@ use Rattle.awk_store.specs.Flows.{flows}
 use Rattle.awk_store.specs.declared.flow.Flow.{Flow}
 use Rattle.awk_store.specs.declared.flow.Flow.TheVariants as flow
 use Rattle.awk_store.specs.Wholes.{Whole, Agreeing, base, names_in, used}
-use Rattle.awk_eval.specs.Runs.{IsGiven}
+use Rattle.awk_forms.specs.Runs.{IsGiven}
 use Rattle.awk_eval.proofs.Going.{each_off}
-use Rattle.awk_eval.specs.declared.context.Context.{Context}
+use Rattle.awk_forms.specs.declared.context.Context.{Context}
 use Rattle.awk_run.specs.Outcomes.{own_status}
 use Rattle.awk_run.specs.Runs.{Reached}
 use Rattle.awk_run.proofs.Reaching.{then_move, then_part}

@@ -15,8 +15,8 @@ use Rattle.awk_machine.specs.Pieces.{Piece, At, Do, Choosing, Goes}
 use Rattle.awk_machine.specs.Rules.{action, with_on}
 use Rattle.awk_machine.specs.State.{State, Course, Given}
 use Rattle.awk_machine.specs.Streams.{seen}
-use Rattle.awk_eval.specs.Runs.{Does, IsGiven}
-use Rattle.awk_eval.specs.declared.context.Context.{Context}
+use Rattle.awk_forms.specs.Runs.{Does, IsGiven}
+use Rattle.awk_forms.specs.declared.context.Context.{Context}
 use Rattle.awk_streams.specs.declared.halt.Halt.{Halt}
 use Rattle.awk_streams.specs.declared.halt.Halt.TheVariants as halt
 use Rattle.awk_streams.specs.Chains.{Comes, Halted}

@@ -29,8 +29,8 @@ use Rattle.awk_streams.specs.Tasks.{Owns, Tells, IsRead, input_at}
 use Rattle.awk_streams.proofs.Chain.{join}
 use Rattle.awk_store.specs.Acts.{HaltsSo, Settles}
 use Rattle.awk_store.specs.Wholes.{Whole, Agreeing, base, names_in, used}
-use Rattle.awk_eval.specs.Runs.{IsGiven}
-use Rattle.awk_eval.specs.declared.context.Context.{Context}
+use Rattle.awk_forms.specs.Runs.{IsGiven}
+use Rattle.awk_forms.specs.declared.context.Context.{Context}
 use Rattle.awk_run.specs.Reports.{Reported}
 use Rattle.awk_run.specs.Runs.{Reached, Stopped}
 use Rattle.awk_run.specs.Starts.{Prepares, assigning}

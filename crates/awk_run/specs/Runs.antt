@@ -9,8 +9,8 @@ use Rattle.awk_streams.specs.Chains.{Comes, Halted, Lacks, Unlogged}
 use Rattle.awk_store.specs.Wholes.{Whole, Agreeing, base, used}
 use Rattle.awk_input.specs.Performs.{PerformsIn}
 use Rattle.awk_streams.specs.Tasks.{Owns}
-use Rattle.awk_eval.specs.Runs.{IsGiven}
-use Rattle.awk_eval.specs.declared.context.Context.{Context}
+use Rattle.awk_forms.specs.Runs.{IsGiven}
+use Rattle.awk_forms.specs.declared.context.Context.{Context}
 use Rattle.awk_run.specs.Outcomes.{view_outcome}
 use Rattle.awk_run.specs.declared.ends.End.{End}
 use Rattle.awk_run.specs.declared.ends.End.TheVariants.{Open, Memory, Log}

@@ -1,5 +1,5 @@
 // The actions of BEGIN and of END.
-ghost use Rattle.awk_eval.specs.Runs.{Does, whole_of};
+ghost use Rattle.awk_forms.specs.Runs.{Does, whole_of};
 ghost use Rattle.awk_machine.specs.Pieces.{Do, Each};
 ghost use Rattle.awk_machine.specs.Rules.{concatenated};
 ghost use Rattle.awk_machine.specs.State.{Given};
@@ -10,7 +10,8 @@ ghost use Rattle.awk_store.specs.Wholes.{names_in};
 ghost use Rattle.awk_streams.specs.Tasks.{Owns};
 ghost use Rattle.std.specs.Prelude.{List, map, ◌++◌, ◌∷◌};
 
-use awk_eval::{Context, MOST_UNITS, Run, statement};
+use awk_eval::statement;
+use awk_forms::{Context, MOST_UNITS, Run};
 use awk_program::Statement;
 use awk_store::Flow;
 use awk_store::flow::is_on;

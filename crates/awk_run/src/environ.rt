@@ -1,5 +1,5 @@
 // ENVIRON.
-ghost use Rattle.awk_eval.specs.Runs.{Does, whole_of};
+ghost use Rattle.awk_forms.specs.Runs.{Does, whole_of};
 ghost use Rattle.awk_machine.specs.Pieces as machine;
 ghost use Rattle.awk_machine.specs.Pieces.{Do, Set, nowhere};
 ghost use Rattle.awk_machine.specs.State.{Given};
@@ -10,7 +10,7 @@ ghost use Rattle.awk_streams.specs.Tables.{Table};
 ghost use Rattle.awk_streams.specs.Tasks.{Owns, goes_on};
 ghost use Rattle.std.specs.Prelude.{List, codes, ◌∷◌};
 
-use awk_eval::{Context, Run};
+use awk_forms::{Context, Run};
 use awk_program::{Own, Variable};
 use awk_store::Store;
 use awk_store::elements::set_element;

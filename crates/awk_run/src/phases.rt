@@ -1,5 +1,5 @@
 // BEGIN, the rules for records, and END, in their order.
-ghost use Rattle.awk_eval.specs.Runs.{Does, IsGiven, whole_of};
+ghost use Rattle.awk_forms.specs.Runs.{Does, IsGiven, whole_of};
 ghost use Rattle.awk_machine.specs.Pieces.{Do, Enter, Finish};
 ghost use Rattle.awk_machine.specs.State.{Beginning, Ending, Given, Ruling};
 ghost use Rattle.awk_run.specs.Runs.{Finished, Goes_on, Reached, Stopped};
@@ -10,7 +10,7 @@ ghost use Rattle.std.specs.Prelude.{[], ◌∷◌};
 use crate::actions::actions;
 use crate::ends::{End, done, goes_to_end, last};
 use crate::records::records;
-use awk_eval::{Context, Run};
+use awk_forms::{Context, Run};
 use awk_input::reads::reads;
 use awk_store::{Flow, Phase};
 use awk_streams::halt::Halt;

@@ -1,5 +1,5 @@
 // Whole runs.
-ghost use Rattle.awk_eval.specs.Runs.{IsGiven, whole_of};
+ghost use Rattle.awk_forms.specs.Runs.{IsGiven, whole_of};
 ghost use Rattle.awk_machine.specs.Begins.{first_pieces};
 ghost use Rattle.awk_machine.specs.Pieces.{Do, Enter};
 ghost use Rattle.awk_machine.specs.State.{Beginning, Ending, Given, Ruling};
@@ -19,7 +19,7 @@ use crate::report::{Outcome, Report};
 use crate::start::{Start, looked_up, prepare};
 use awk_builtins::cache::Patterns;
 use awk_builtins::line::Line;
-use awk_eval::{Context, Run};
+use awk_forms::{Context, Run};
 use awk_store::Store;
 use awk_streams::halt::Halt;
 use awk_streams::streams::Streams;

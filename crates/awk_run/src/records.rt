@@ -1,5 +1,5 @@
 // The records of the main input, and the rules for each.
-ghost use Rattle.awk_eval.specs.Runs.{Does, whole_of};
+ghost use Rattle.awk_forms.specs.Runs.{Does, whole_of};
 ghost use Rattle.awk_input.specs.Inputs.{at_records, more};
 ghost use Rattle.awk_machine.specs.Pieces.{At, Records};
 ghost use Rattle.awk_run.specs.Rules as spec;
@@ -8,7 +8,7 @@ ghost use Rattle.awk_streams.specs.Tasks.{Owns, goes_on};
 ghost use Rattle.std.specs.Prelude.{Err, [], ◌≡◌};
 
 use crate::rules::rules;
-use awk_eval::{Context, Run};
+use awk_forms::{Context, Run};
 use awk_input::main_input::next_record;
 use awk_store::steps::step;
 use awk_streams::halt::Halt;

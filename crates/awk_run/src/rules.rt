@@ -1,5 +1,5 @@
 // The rules for a record.
-ghost use Rattle.awk_eval.specs.Runs.{Does, whole_of};
+ghost use Rattle.awk_forms.specs.Runs.{Does, whole_of};
 ghost use Rattle.awk_machine.specs.Pieces as machine;
 ghost use Rattle.awk_machine.specs.Pieces.{At, Choosing, Do};
 ghost use Rattle.awk_program.specs.Program as p;
@@ -10,7 +10,8 @@ ghost use Rattle.awk_store.specs.Wholes.{names_in};
 ghost use Rattle.awk_streams.specs.Tasks.{Owns, goes_on};
 ghost use Rattle.std.specs.Prelude.{[], if◌then◌else◌, map, ◌≡◌};
 
-use awk_eval::{Context, MOST_UNITS, Run, body, truth_of, value};
+use awk_eval::{body, truth_of, value};
+use awk_forms::{Context, MOST_UNITS, Run};
 use awk_input::ranges::{begin_range, end_range};
 use awk_program::{Expr, Rule, Statement, When};
 use awk_store::Flow;

@@ -8,7 +8,7 @@ ghost use Rattle.awk_run.specs.Givens.{given_of};
 
 use crate::hosting::host;
 use crate::{Outcome, Report, Setup, Start, run_program};
-use awk_eval::Context;
+use awk_forms::Context;
 use awk_parse::Script;
 use awk_text::fault::Fault;
 use awk_text::place::Place;

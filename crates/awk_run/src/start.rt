@@ -16,7 +16,7 @@ ghost use Rattle.awk_text.specs.Escapes.{unescaped};
 ghost use Rattle.std.specs.Fmt.{decimal};
 ghost use Rattle.std.specs.Prelude.{List, [], codes, if◌then◌else◌, length, option_copied, pos, true, ◌++◌, ◌+◌, ◌∷◌, ◌≡◌};
 
-use awk_eval::Context;
+use awk_forms::Context;
 use awk_input::Host;
 use awk_program::{Own, Variable};
 use awk_store::Store;

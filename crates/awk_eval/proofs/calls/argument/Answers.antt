@@ -1,5 +1,5 @@
 use Rattle.awk_eval.proofs.Calling.{argue_name, argue_nothing, argue_value, some_of}
-use Rattle.awk_eval.proofs.Leading.{hands_on, quietly}
+use Rattle.awk_forms.proofs.Leading.{hands_on, quietly}
 use Rattle.awk_streams.proofs.Chain.{at_once, done}
 use Rattle.awk_store.specs.Calls.{argument_of}
 use Rattle.awk_machine.specs.Forms.{value}

@@ -1,5 +1,5 @@
 use Rattle.awk_eval.proofs.Calling.{argued_there, argue_stop, argue_turn, arguments_so}
-use Rattle.awk_eval.proofs.Turns.{got_of}
+use Rattle.awk_forms.proofs.Turns.{got_of}
 use Rattle.awk_streams.proofs.Chain.{at_once, done, lacking}
 use Rattle.awk_store.specs.Calls.{argument_of}
 use Rattle.awk_store.specs.Wholes.{names_in}

@@ -1,6 +1,6 @@
 use Rattle.awk_program.specs.View.{view_arguments}
 use Rattle.awk_store.specs.Wholes.{names_in}
-use Rattle.awk_eval.specs.Along.{Arguing}
+use Rattle.awk_forms.specs.Along.{Arguing}
 use Rattle.awk_eval.proofs.calls.arguments.Given as goal
 
 abbrev pub invariant-loop-x : goal.invariant-loop-x

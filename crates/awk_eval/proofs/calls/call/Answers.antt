@@ -1,5 +1,5 @@
 use Rattle.awk_eval.proofs.Calling.{body_so, called, counted}
-use Rattle.awk_eval.proofs.Leading.{quietly}
+use Rattle.awk_forms.proofs.Leading.{quietly}
 use Rattle.awk_streams.proofs.Chain.{at_once, done, part, stop, turned}
 use Rattle.awk_store.proofs.Ending.{answers, answers_so, returns_to}
 use Rattle.awk_store.proofs.Leading.{takes}

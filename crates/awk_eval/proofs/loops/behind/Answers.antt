@@ -1,5 +1,5 @@
 use Rattle.awk_eval.proofs.Going.{turn_first, turn_none, turn_then}
-use Rattle.awk_eval.proofs.Leading.{hands_on, quietly, rests}
+use Rattle.awk_forms.proofs.Leading.{hands_on, quietly, rests}
 use Rattle.awk_eval.specs.Loops.{loop_of}
 use Rattle.awk_streams.proofs.Chain.{at_once, done}
 use Rattle.awk_program.specs.View.{view}

@@ -1,5 +1,5 @@
 use Rattle.awk_eval.proofs.Going.{test_first, test_none, test_then}
-use Rattle.awk_eval.proofs.Leading.{hands_on, quietly, rests_told}
+use Rattle.awk_forms.proofs.Leading.{hands_on, quietly, rests_told}
 use Rattle.awk_eval.specs.Loops.{loop_of}
 use Rattle.awk_streams.proofs.Chain.{at_once, done}
 use Rattle.awk_program.specs.View.{view}

@@ -1,6 +1,6 @@
 use Rattle.awk_eval.proofs.Going.{keys_off, keys_on}
-use Rattle.awk_eval.proofs.Leading.{quietly}
-use Rattle.awk_eval.proofs.Turns.{next_of}
+use Rattle.awk_forms.proofs.Leading.{quietly}
+use Rattle.awk_forms.proofs.Turns.{next_of}
 use Rattle.awk_streams.proofs.Chain.{at_once, done, lacking, part, stop, turned}
 use Rattle.awk_builtins.proofs.Rests.{drop_all}
 use Rattle.awk_machine.specs.Pieces.{Do, Keys}

@@ -2,7 +2,7 @@ use Rattle.std.proofs.Common.{◌∷◌, drop}
 use Rattle.awk_program.specs.View.{view_statement, variable_of}
 use Rattle.awk_machine.specs.Pieces.{Do, Keys}
 use Rattle.awk_store.specs.Wholes.{names_in}
-use Rattle.awk_eval.specs.Along.{Along}
+use Rattle.awk_forms.specs.Along.{Along}
 use Rattle.awk_eval.proofs.loops.over.Given as goal
 
 abbrev pub invariant-loop-key : goal.invariant-loop-key

@@ -1,5 +1,5 @@
 use Rattle.awk_eval.proofs.Going.{keys_first}
-use Rattle.awk_eval.proofs.Leading.{quietly}
+use Rattle.awk_forms.proofs.Leading.{quietly}
 use Rattle.awk_streams.proofs.Chain.{at_once, lacking, passes}
 use Rattle.awk_machine.specs.Forms.{value}
 use Rattle.awk_machine.specs.Pieces.{Do, Keys}

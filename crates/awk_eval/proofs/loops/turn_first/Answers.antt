@@ -1,5 +1,5 @@
 use Rattle.awk_eval.proofs.Going.{turn_off, turn_on}
-use Rattle.awk_eval.proofs.Leading.{quietly}
+use Rattle.awk_forms.proofs.Leading.{quietly}
 use Rattle.awk_eval.specs.Loops.{loop_of}
 use Rattle.awk_streams.proofs.Chain.{at_once, done, part, passes, stop, turned}
 use Rattle.awk_store.specs.Wholes.{names_in}

@@ -2,7 +2,7 @@ use Rattle.std.proofs.Common.{[], ◌∷◌}
 use Rattle.std.specs.Prelude.{option_copied}
 use Rattle.awk_machine.specs.Pieces.{At, Test}
 use Rattle.awk_store.specs.Wholes.{names_in}
-use Rattle.awk_eval.specs.Along.{Along}
+use Rattle.awk_forms.specs.Along.{Along}
 use Rattle.awk_eval.specs.Loops.{loop_of}
 use Rattle.awk_eval.proofs.loops.turns.Given as goal
 

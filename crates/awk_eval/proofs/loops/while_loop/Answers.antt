@@ -1,4 +1,4 @@
-use Rattle.awk_eval.proofs.Leading.{quietly}
+use Rattle.awk_forms.proofs.Leading.{quietly}
 use Rattle.awk_streams.proofs.Chain.{at_once, passes}
 use Rattle.std.proofs.Common.{refl}
 use Rattle.awk_eval.proofs.loops.while_loop.Goals as goal

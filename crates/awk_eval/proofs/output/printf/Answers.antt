@@ -1,6 +1,6 @@
-use Rattle.awk_eval.proofs.Leading.{quietly}
+use Rattle.awk_forms.proofs.Leading.{quietly}
 use Rattle.awk_eval.proofs.Printing.{count_formatted, halts, printf_target, streamed, waits_formatted}
-use Rattle.awk_eval.proofs.Turns.{filled_from}
+use Rattle.awk_forms.proofs.Turns.{filled_from}
 use Rattle.awk_streams.proofs.Chain.{at_once, done, lacking, part, stop, turned}
 use Rattle.awk_text.specs.Lents.{lent_value}
 use Rattle.awk_text.specs.Values.{text_of}

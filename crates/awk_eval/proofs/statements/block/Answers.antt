@@ -1,5 +1,5 @@
 use Rattle.awk_eval.proofs.Going.{block_first}
-use Rattle.awk_eval.proofs.Leading.{quietly}
+use Rattle.awk_forms.proofs.Leading.{quietly}
 use Rattle.awk_streams.proofs.Chain.{at_once, passes}
 use Rattle.awk_machine.specs.Pieces.{Do, Each}
 use Rattle.awk_program.proofs.Views.{statement-Block}

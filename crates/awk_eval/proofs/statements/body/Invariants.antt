@@ -2,7 +2,7 @@ use Rattle.std.proofs.Common.{◌∷◌, drop, map}
 use Rattle.awk_program.specs.View.{view_statement}
 use Rattle.awk_machine.specs.Pieces.{Do, Each}
 use Rattle.awk_store.specs.Wholes.{names_in}
-use Rattle.awk_eval.specs.Along.{Along}
+use Rattle.awk_forms.specs.Along.{Along}
 use Rattle.awk_eval.proofs.statements.body.Given as goal
 
 abbrev pub invariant-loop-x : goal.invariant-loop-x

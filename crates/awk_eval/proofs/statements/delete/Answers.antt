@@ -1,5 +1,5 @@
 use Rattle.awk_eval.proofs.Printing.{count_items, waits_deleted}
-use Rattle.awk_eval.proofs.Turns.{filled_from}
+use Rattle.awk_forms.proofs.Turns.{filled_from}
 use Rattle.awk_streams.proofs.Chain.{at_once, done, part, stop}
 use Rattle.awk_machine.specs.Forms.{value}
 use Rattle.awk_machine.specs.Pieces.{Doing}

@@ -1,4 +1,4 @@
-use Rattle.awk_eval.proofs.Leading.{quietly}
+use Rattle.awk_forms.proofs.Leading.{quietly}
 use Rattle.awk_streams.proofs.Chain.{at_once, part, passes, stop}
 use Rattle.awk_store.proofs.Leading.{jumped}
 use Rattle.awk_machine.specs.Forms.{value}

@@ -1,5 +1,5 @@
 use Rattle.awk_eval.proofs.Going.{block_first, turn_first}
-use Rattle.awk_eval.proofs.Leading.{quietly}
+use Rattle.awk_forms.proofs.Leading.{quietly}
 use Rattle.awk_streams.proofs.Chain.{at_once, done, part, passes}
 use Rattle.awk_store.proofs.Acting.{acted}
 use Rattle.awk_store.proofs.Leading.{jumped}

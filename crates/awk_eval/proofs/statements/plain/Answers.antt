@@ -1,4 +1,4 @@
-use Rattle.awk_eval.proofs.Leading.{quietly}
+use Rattle.awk_forms.proofs.Leading.{quietly}
 use Rattle.awk_streams.proofs.Chain.{at_once, done, part, stop}
 use Rattle.std.proofs.Common.{refl}
 use Rattle.std.proofs.lemmas.Result.{err_from_is_err_and}

@@ -1,5 +1,5 @@
 use Rattle.awk_eval.proofs.Going.{if_off, if_on}
-use Rattle.awk_eval.proofs.Leading.{quietly, told_truth}
+use Rattle.awk_forms.proofs.Leading.{quietly, told_truth}
 use Rattle.awk_streams.proofs.Chain.{at_once, done, part, passes, stop}
 use Rattle.awk_program.specs.View.{view, view_statement}
 use Rattle.awk_store.specs.Wholes.{names_in}

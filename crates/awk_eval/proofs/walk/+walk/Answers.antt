@@ -1,5 +1,5 @@
 use Rattle.awk_eval.proofs.Going.{starts_at_once, starts_stepped}
-use Rattle.awk_eval.proofs.Leading.{quietly}
+use Rattle.awk_forms.proofs.Leading.{quietly}
 use Rattle.awk_streams.proofs.Chain.{at_once, lacking, part, passes, stop}
 use Rattle.awk_store.proofs.Leading.{takes}
 use Rattle.awk_machine.specs.Pieces.{At, Do, Doing, Step, give}

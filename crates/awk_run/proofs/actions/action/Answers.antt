@@ -4,8 +4,8 @@ use Rattle.awk_program.specs.View.{view_statement}
 use Rattle.awk_machine.specs.Pieces.{Do, Each}
 use Rattle.awk_store.specs.Wholes.{names_in}
 use Rattle.awk_streams.proofs.Chain.{at_once, done, part, stop, turned}
-use Rattle.awk_eval.proofs.Leading.{quietly}
-use Rattle.awk_eval.proofs.Turns.{next_of}
+use Rattle.awk_forms.proofs.Leading.{quietly}
+use Rattle.awk_forms.proofs.Turns.{next_of}
 use Rattle.awk_builtins.proofs.Rests.{drop_all}
 use Rattle.awk_eval.proofs.Going.{each_on}
 use Rattle.awk_run.proofs.PhaseSteps.{past_twice}

@@ -5,8 +5,8 @@ use Rattle.awk_machine.specs.Pieces.{Do, Each}
 use Rattle.awk_machine.specs.Rules.{concatenated}
 use Rattle.awk_store.specs.Wholes.{names_in}
 use Rattle.awk_streams.proofs.Chain.{at_once, done, part, stop, turned}
-use Rattle.awk_eval.proofs.Leading.{quietly}
-use Rattle.awk_eval.proofs.Turns.{next_of}
+use Rattle.awk_forms.proofs.Leading.{quietly}
+use Rattle.awk_forms.proofs.Turns.{next_of}
 use Rattle.awk_builtins.proofs.Rests.{drop_all}
 use Rattle.awk_eval.proofs.Going.{each_on, each_off}
 use Rattle.awk_run.proofs.actions.actions.Goals as goal

@@ -3,7 +3,7 @@ use Rattle.awk_program.specs.View.{view_statement}
 use Rattle.awk_machine.specs.Pieces.{Do, Each}
 use Rattle.awk_machine.specs.Rules.{concatenated}
 use Rattle.awk_store.specs.Wholes.{names_in}
-use Rattle.awk_eval.specs.Along.{Along}
+use Rattle.awk_forms.specs.Along.{Along}
 use Rattle.awk_run.proofs.actions.actions.Given as goal
 
 abbrev pub invariant-loop-x : goal.invariant-loop-x

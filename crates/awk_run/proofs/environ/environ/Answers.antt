@@ -2,8 +2,8 @@ use Rattle.std.proofs.Common.{refl, ap, ◌+◌, ◌∷◌, drop}
 use Rattle.std.proofs.lemmas.Result.{err_from_is_err_and}
 use Rattle.awk_machine.specs.Pieces.{Do, Environ}
 use Rattle.awk_streams.proofs.Chain.{at_once, done, part, stop, turned}
-use Rattle.awk_eval.proofs.Leading.{quietly}
-use Rattle.awk_eval.proofs.Turns.{next_of}
+use Rattle.awk_forms.proofs.Leading.{quietly}
+use Rattle.awk_forms.proofs.Turns.{next_of}
 use Rattle.awk_builtins.proofs.Rests.{drop_all}
 use Rattle.awk_run.proofs.environ.environ.Goals as goal
 

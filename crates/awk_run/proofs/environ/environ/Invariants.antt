@@ -1,6 +1,6 @@
 use Rattle.std.proofs.Common.{◌∷◌, drop}
 use Rattle.awk_machine.specs.Pieces.{Do, Environ}
-use Rattle.awk_eval.specs.Along.{Along}
+use Rattle.awk_forms.specs.Along.{Along}
 use Rattle.awk_run.proofs.environ.environ.Given as goal
 
 abbrev pub invariant-loop-name : goal.invariant-loop-name

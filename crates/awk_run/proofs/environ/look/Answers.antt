@@ -2,7 +2,7 @@ use Rattle.std.proofs.Common.{refl, ap, ◌∙◌}
 use Rattle.std.specs.Prelude.{Ok, Some, None}
 use Rattle.std.proofs.lemmas.Result.{err_from_is_err_and}
 use Rattle.awk_streams.proofs.Chain.{at_once, done, lacking, part, stop}
-use Rattle.awk_eval.proofs.Leading.{hands_on}
+use Rattle.awk_forms.proofs.Leading.{hands_on}
 use Rattle.awk_store.proofs.Acting.{acted}
 use Rattle.awk_store.proofs.Lifting.{lifted}
 use Rattle.awk_run.proofs.environ.look.Goals as goal

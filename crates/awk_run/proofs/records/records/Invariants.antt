@@ -1,6 +1,6 @@
 use Rattle.std.proofs.Common.{[], ◌∷◌}
 use Rattle.awk_machine.specs.Pieces.{At, Records}
-use Rattle.awk_eval.specs.Along.{Along}
+use Rattle.awk_forms.specs.Along.{Along}
 use Rattle.awk_run.proofs.records.records.Given as goal
 
 abbrev pub invariant-loop-record : goal.invariant-loop-record

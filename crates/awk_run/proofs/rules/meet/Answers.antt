@@ -6,7 +6,7 @@ use Rattle.awk_program.specs.Program as p
 use Rattle.awk_store.specs.Wholes.{names_in}
 use Rattle.awk_store.proofs.Acting.{acted}
 use Rattle.awk_streams.proofs.Chain.{at_once, done, part, stop}
-use Rattle.awk_eval.proofs.Leading.{quietly}
+use Rattle.awk_forms.proofs.Leading.{quietly}
 use Rattle.awk_run.proofs.RuleSteps.{pattern_first}
 use Rattle.awk_run.specs.Rules.{rule_of}
 use Rattle.awk_run.proofs.rules.meet.Goals as goal

@@ -1,6 +1,6 @@
 use Rattle.std.proofs.Common.{refl}
 use Rattle.awk_streams.proofs.Chain.{at_once, passes}
-use Rattle.awk_eval.proofs.Leading.{quietly}
+use Rattle.awk_forms.proofs.Leading.{quietly}
 use Rattle.awk_run.proofs.rules.rule.Goals as goal
 
 pub returns-in-Always : goal.returns-in-Always

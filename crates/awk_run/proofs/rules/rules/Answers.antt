@@ -4,8 +4,8 @@ use Rattle.awk_program.specs.View.{view_rule}
 use Rattle.awk_machine.specs.Pieces.{Do, Rules}
 use Rattle.awk_store.specs.Wholes.{names_in}
 use Rattle.awk_streams.proofs.Chain.{at_once, done, part, stop, turned}
-use Rattle.awk_eval.proofs.Leading.{quietly}
-use Rattle.awk_eval.proofs.Turns.{next_of}
+use Rattle.awk_forms.proofs.Leading.{quietly}
+use Rattle.awk_forms.proofs.Turns.{next_of}
 use Rattle.awk_builtins.proofs.Rests.{drop_all}
 use Rattle.awk_run.proofs.RuleSteps.{flows_on, rules_so}
 use Rattle.awk_run.proofs.rules.rules.Goals as goal

@@ -2,7 +2,7 @@ use Rattle.std.proofs.Common.{◌∷◌, drop, map}
 use Rattle.awk_program.specs.View.{view_rule}
 use Rattle.awk_machine.specs.Pieces.{Do, Rules}
 use Rattle.awk_store.specs.Wholes.{names_in}
-use Rattle.awk_eval.specs.Along.{Along}
+use Rattle.awk_forms.specs.Along.{Along}
 use Rattle.awk_run.proofs.rules.rules.Given as goal
 
 abbrev pub invariant-loop-n : goal.invariant-loop-n

@@ -3,7 +3,7 @@ use Rattle.std.proofs.lemmas.Result.{err_from_is_err_and}
 use Rattle.awk_program.specs.View.{view, view_statement}
 use Rattle.awk_store.specs.Wholes.{names_in}
 use Rattle.awk_streams.proofs.Chain.{at_once, done, part, passes, stop}
-use Rattle.awk_eval.proofs.Leading.{quietly, told_truth}
+use Rattle.awk_forms.proofs.Leading.{quietly, told_truth}
 use Rattle.awk_run.proofs.RuleSteps.{holds_off, holds_on}
 use Rattle.awk_run.proofs.rules.where_holds.Goals as goal
 

@@ -3,7 +3,7 @@ use Rattle.awk_program.specs.Program as p
 use Rattle.awk_program.specs.View.{view, view_statement}
 use Rattle.awk_machine.specs.Pieces.{At, Choosing}
 use Rattle.awk_store.specs.Wholes.{names_in}
-use Rattle.awk_eval.specs.Along.{Along}
+use Rattle.awk_forms.specs.Along.{Along}
 use Rattle.awk_run.specs.Rules.{rule_of}
 use Rattle.awk_run.proofs.rules.within.Given as goal
 

@@ -1,6 +1,6 @@
 use Rattle.std.proofs.Common.{◌+◌, drop}
 use Rattle.std.proofs.lemmas.Result.{err_from_is_err_and}
-use Rattle.awk_eval.proofs.Turns.{next_of}
+use Rattle.awk_forms.proofs.Turns.{next_of}
 use Rattle.awk_builtins.proofs.Rests.{drop_all}
 use Rattle.awk_run.proofs.Preparing.{prepared_all, prepares_none, ready, unprepared}
 use Rattle.awk_run.proofs.start.assign_all.Goals as goal

@@ -1,6 +1,6 @@
 use Rattle.std.proofs.Common.{◌≡◌, length, arith}
 use Rattle.std.proofs.lemmas.Result.{err_from_is_err_and}
-use Rattle.awk_eval.proofs.Turns.{next_of}
+use Rattle.awk_forms.proofs.Turns.{next_of}
 use Rattle.awk_builtins.proofs.Rests.{drop_all}
 use Rattle.awk_run.proofs.Preparing.{prepared, prepares_not, ready, unprepared}
 use Rattle.awk_run.proofs.start.set_operands.Goals as goal

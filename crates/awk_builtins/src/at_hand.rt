@@ -1,0 +1,639 @@
+// Values that are there without a move: constants, variables, elements, fields, and what arithmetic makes of them.
+ghost use Rattle.awk_machine.specs.Forms.{spot};
+ghost use Rattle.awk_machine.specs.Pieces.{give};
+ghost use Rattle.awk_machine.specs.State.{Given};
+ghost use Rattle.awk_program.specs.Program as p;
+ghost use Rattle.awk_program.specs.Program.{expressions_of, terms_of};
+ghost use Rattle.awk_program.specs.View.{Names, variable_of, view, view_target, view_term};
+ghost use Rattle.awk_program.specs.declared.builtins.Builtin.TheVariants as b;
+ghost use Rattle.awk_builtins.specs.AtHand.{CountsAs, HasNumber, HasTruth, IsThere, case_of};
+ghost use Rattle.awk_store.specs.Acts.{Passes};
+ghost use Rattle.awk_store.specs.Kept as kept;
+ghost use Rattle.awk_store.specs.Spots.{IsSpotOf, value_of};
+ghost use Rattle.awk_store.specs.Wholes.{Whole, names_in};
+ghost use Rattle.awk_text.specs.Lents.{lent_value};
+ghost use Rattle.awk_text.specs.declared.place.Place as spot_of;
+ghost use Rattle.awk_text.specs.declared.value.Value.{Value as Val};
+ghost use Rattle.awk_text.specs.declared.value.Value.TheVariants as v;
+ghost use Rattle.std.specs.Prelude.{Err, IfSome, Ok, false, map, ◌≡◌};
+
+use crate::functions::{cased, index_of, part_of, text_length};
+use crate::operators::{compared_lent, compared_numbers, operation};
+use awk_program::{Builtin, Comparison, Expr, Target, Term, Variable};
+use awk_store::{Spot, Store, is_nf};
+use awk_text::lent::{Lent, few_digits};
+use awk_text::octets::Octets;
+use awk_text::place::Place;
+use awk_text::texts::MOST_BYTES;
+use awk_text::value::Value;
+use itoa::Buffer;
+use std::alloc::Global;
+
+/// How many levels of arithmetic and of subscripts are looked into. What lies deeper is evaluated, level by level, and each level
+/// looks again: so this bounds how often a part is looked at.
+pub const MOST_LEVELS: u32 = 3;
+
+/// The value of a variable. NF has one where the record is split.
+#[inline(always)]
+fn variable_at_hand<'a>(store: &'a Store, variable: Variable) -> Option<Lent<'a>>
+    ensures { IfSome result (λ v. IsThere (λ names. p.read (p.variable (variable_of names variable))) store.now (lent_value v)) }
+{
+    if is_nf(variable) {
+        let count = store.known_field_count()?;
+        return Some(Lent::Num(count));
+    }
+    match store.value(variable) {
+        Some(value) => Some(Lent::of(value)),
+        None => Some(Lent::Unset),
+    }
+}
+
+/// The number that a variable holds that is not NF, if it holds one.
+#[inline(always)]
+pub fn number_kept(store: &Store, variable: Variable) -> Option<i64>
+    ensures nf { IfSome result (λ n. kept.is_nf variable ≡ false) }
+    ensures number { IfSome result (λ n. kept.value store.now variable ≡ v.Num n) }
+{
+    if is_nf(variable) {
+        return None;
+    }
+    let held = store.value(variable)?;
+    match held {
+        Value::Num(number) => Some(*number),
+        Value::Unset | Value::Text(_) | Value::Input(_) => None,
+    }
+}
+
+/// The number that a variable holds, if it holds one. NF does where the record is split.
+#[inline(always)]
+fn number_held(store: &Store, variable: Variable) -> Option<i64>
+    ensures { IfSome result (λ n. IsThere (λ names. p.read (p.variable (variable_of names variable))) store.now (v.Num n)) }
+{
+    if is_nf(variable) {
+        let count = store.known_field_count()?;
+        return Some(count);
+    }
+    number_kept(store, variable)
+}
+
+/// The number of what is read, where that is a variable that holds one.
+#[inline(always)]
+fn number_read(store: &Store, target: &Target<Expr>) -> Option<i64>
+    ensures { IfSome result (λ n. IsThere (λ names. p.read (view_target names target.now)) store.now (v.Num n)) }
+{
+    let Target::Variable(variable) = target else {
+        return None;
+    };
+    number_held(store, *variable)
+}
+
+/// The number of what is read, where that is a variable that holds a text from outside of a few digits.
+#[inline(always)]
+fn digits_held(store: &Store, target: &Target<Expr>) -> Option<i64>
+    ensures { IfSome result (λ n. CountsAs (λ names. p.read (view_target names target.now)) store.now n) }
+{
+    let Target::Variable(variable) = target else {
+        return None;
+    };
+    if is_nf(*variable) {
+        return None;
+    }
+    let held = store.value(*variable)?;
+    match held {
+        Value::Input(text) => few_digits(text.bytes()),
+        Value::Unset | Value::Num(_) | Value::Text(_) => None,
+    }
+}
+
+/// The value of an element that is there, by one subscript.
+#[cycle(hand)]
+#[inline(never)]
+fn element_at_hand<'a>(
+    store: &'a Store,
+    place: Place,
+    array: Variable,
+    keys: &'a [Expr],
+    level: u32,
+) -> Option<Lent<'a>>
+    ensures { IfSome result (λ v. IsThere (λ names. p.read (p.element place (variable_of names array) (expressions_of (map (view names) keys.now)))) store.now (lent_value v)) }
+{
+    let [one] = keys else {
+        return None;
+    };
+    let subscript = at_hand(store, one, level)?;
+    let mut digits = Buffer::new();
+    let key = subscript.text(&mut digits);
+    if MOST_BYTES < key.len() {
+        return None;
+    }
+    let value = store.element(array, key)?;
+    Some(Lent::of(value))
+}
+
+/// The value of a field: of the record as it is, or of one of its parts where it is split.
+#[cycle(hand)]
+#[inline(never)]
+fn field_at_hand<'a>(
+    store: &'a Store,
+    place: Place,
+    number: &'a Expr,
+    level: u32,
+) -> Option<Lent<'a>>
+    ensures { IfSome result (λ v. IsThere (λ names. p.read (p.field place (view names number.now))) store.now (lent_value v)) }
+{
+    let number = number_at_hand(store, number, level)?;
+    let Ok(number) = u16::try_from(number) else {
+        return None;
+    };
+    store.lent_field(number)
+}
+
+/// The number of elements of an array, where an expression asks for that.
+#[inline(never)]
+fn count_at_hand(store: &Store, e: &Expr) -> Option<i64>
+    ensures { IfSome result (λ n. IsThere (λ names. view names e.now) store.now (v.Num n)) }
+{
+    let Expr::Count(array) = e else {
+        return None;
+    };
+    match i64::try_from(store.element_count(*array)) {
+        Ok(count) => Some(count),
+        Err(_) => None,
+    }
+}
+
+/// The value of what is read, where to read it changes nothing.
+#[cycle(hand)]
+#[inline(always)]
+fn target_at_hand<'a>(store: &'a Store, target: &'a Target<Expr>, level: u32) -> Option<Lent<'a>>
+    ensures { IfSome result (λ v. IsThere (λ names. p.read (view_target names target.now)) store.now (lent_value v)) }
+{
+    match target {
+        Target::Variable(variable) => variable_at_hand(store, *variable),
+        Target::Element(place, array, keys) => {
+            if level == 0 {
+                return None;
+            }
+            element_at_hand(store, *place, *array, keys.as_slice(), level - 1)
+        }
+        Target::Field(place, number) => {
+            if level == 0 {
+                return None;
+            }
+            field_at_hand(store, *place, number.get(), level - 1)
+        }
+    }
+}
+
+/// The number of a chain of `+` and `-`, or of `*`, `/` and `%`, or of one `^`, whose operands are there and which meets no
+/// fault.
+#[cycle(hand)]
+#[inline(never)]
+fn chain_at_hand(store: &Store, x: &Expr, xs: &[Term<Expr>], level: u32) -> Option<i64>
+    ensures { IfSome result (λ n. IsThere (λ names. p.chain (view names x.now) (terms_of (map (view_term names) xs.now))) store.now (v.Num n)) }
+{
+    if xs.is_empty() {
+        return None;
+    }
+    let mut so_far = number_at_hand(store, x, level)?;
+    for next in xs {
+        let operand = number_at_hand(store, &next.operand, level)?;
+        let Ok(made) = operation(next.operator, so_far, operand) else {
+            return None;
+        };
+        so_far = made;
+    }
+    Some(so_far)
+}
+
+/// The number of what is read, where to read it changes nothing.
+#[cycle(hand)]
+#[inline(never)]
+fn number_of_target(store: &Store, target: &Target<Expr>, level: u32) -> Option<i64>
+    ensures { IfSome result (λ n. HasNumber (λ names. p.read (view_target names target.now)) store.now n) }
+{
+    if let Some(number) = digits_held(store, target) {
+        return Some(number);
+    }
+    let value = target_at_hand(store, target, level)?;
+    value.number().ok()
+}
+
+/// The part of a text that substr gives for values that are there, lent as the text is.
+#[cycle(hand)]
+#[inline(always)]
+fn substr_at_hand<'a>(store: &'a Store, args: &'a [Expr], level: u32) -> Option<Lent<'a>>
+    ensures { IfSome result (λ v. (q : spot_of.Place) → IsThere (λ names. p.builtin q b.Substr (expressions_of (map (view names) args.now))) store.now (lent_value v)) }
+{
+    match args {
+        [x, y] => {
+            let text = at_hand(store, x, level)?;
+            let from = number_at_hand(store, y, level)?;
+            part_of(text, from, None)
+        }
+        [x, y, z] => {
+            let text = at_hand(store, x, level)?;
+            let from = number_at_hand(store, y, level)?;
+            let count = number_at_hand(store, z, level)?;
+            part_of(text, from, Some(count))
+        }
+        _ => None,
+    }
+}
+
+/// The value that length, index, substr or int gives for values that are there.
+#[cycle(hand)]
+#[inline(always)]
+fn called_at_hand<'a>(
+    store: &'a Store,
+    which: Builtin,
+    args: &'a [Expr],
+    level: u32,
+) -> Option<Lent<'a>>
+    ensures { IfSome result (λ v. (q : spot_of.Place) → IsThere (λ names. p.builtin q which (expressions_of (map (view names) args.now))) store.now (lent_value v)) }
+{
+    match which {
+        Builtin::Length => {
+            let [x] = args else {
+                return None;
+            };
+            let text = at_hand(store, x, level)?;
+            Some(Lent::Num(text_length(text)))
+        }
+        Builtin::Index => {
+            let [x, y] = args else {
+                return None;
+            };
+            let text = at_hand(store, x, level)?;
+            let part = at_hand(store, y, level)?;
+            Some(Lent::Num(index_of(text, part)))
+        }
+        Builtin::Int => {
+            let [x] = args else {
+                return None;
+            };
+            let number = number_at_hand(store, x, level)?;
+            Some(Lent::Num(number))
+        }
+        Builtin::Substr => substr_at_hand(store, args, level),
+        _ => None,
+    }
+}
+
+/// The value of such a function, or the number of elements of an array.
+#[cycle(hand)]
+#[inline(never)]
+fn made_at_hand<'a>(store: &'a Store, e: &'a Expr, level: u32) -> Option<Lent<'a>>
+    ensures { IfSome result (λ v. IsThere (λ names. view names e.now) store.now (lent_value v)) }
+{
+    match e {
+        Expr::Builtin(_, which, args) => called_at_hand(store, *which, args.as_slice(), level),
+        Expr::Count(_) => {
+            let count = count_at_hand(store, e)?;
+            Some(Lent::Num(count))
+        }
+        _ => None,
+    }
+}
+
+/// The number of such a value.
+#[cycle(hand)]
+#[inline(never)]
+fn number_made(store: &Store, e: &Expr, level: u32) -> Option<i64>
+    ensures { IfSome result (λ n. HasNumber (λ names. view names e.now) store.now n) }
+{
+    let value = made_at_hand(store, e, level)?;
+    value.number().ok()
+}
+
+/// The number of an expression's value, where the value is there.
+#[cycle(hand)]
+#[inline(always)]
+pub fn number_at_hand(store: &Store, e: &Expr, level: u32) -> Option<i64>
+    ensures { IfSome result (λ n. HasNumber (λ names. view names e.now) store.now n) }
+{
+    if let Expr::Read(target) = e {
+        if let Some(number) = number_read(store, target) {
+            return Some(number);
+        }
+        return number_of_target(store, target, level);
+    }
+    if let Expr::Number(number) = e {
+        return Some(*number);
+    }
+    if level == 0 {
+        return None;
+    }
+    if let Expr::Chain(x, xs) = e {
+        return chain_at_hand(store, x.get(), xs.as_slice(), level - 1);
+    }
+    number_made(store, e, level - 1)
+}
+
+/// The value of an expression, where it is there: to evaluate it changes nothing and meets no fault.
+#[cycle(hand)]
+#[inline(always)]
+pub fn at_hand<'a>(store: &'a Store, e: &'a Expr, level: u32) -> Option<Lent<'a>>
+    ensures { IfSome result (λ v. IsThere (λ names. view names e.now) store.now (lent_value v)) }
+{
+    if let Expr::Read(target) = e {
+        return target_at_hand(store, target, level);
+    }
+    if let Expr::Text(text) = e {
+        return Some(Lent::Text(text.bytes()));
+    }
+    if let Expr::Number(number) = e {
+        return Some(Lent::Num(*number));
+    }
+    if level == 0 {
+        return None;
+    }
+    let Expr::Chain(x, xs) = e else {
+        return made_at_hand(store, e, level - 1);
+    };
+    let number = chain_at_hand(store, x.get(), xs.as_slice(), level - 1)?;
+    Some(Lent::Num(number))
+}
+
+/// The number of a constant, or of a variable that holds one: what loops read most.
+#[inline(always)]
+fn plain_number(store: &Store, e: &Expr) -> Option<i64>
+    ensures { IfSome result (λ n. IsThere (λ names. view names e.now) store.now (v.Num n)) }
+{
+    if let Expr::Read(target) = e {
+        return number_read(store, target);
+    }
+    if let Expr::Number(number) = e {
+        return Some(*number);
+    }
+    None
+}
+
+/// The number that an expression's value is, where that stands ready, or a chain makes it of what is there.
+#[inline(always)]
+pub fn number_there(store: &Store, e: &Expr) -> Option<i64>
+    ensures { IfSome result (λ n. IsThere (λ names. view names e.now) store.now (v.Num n)) }
+{
+    if let Expr::Chain(x, xs) = e {
+        return chain_at_hand(store, x.get(), xs.as_slice(), MOST_LEVELS);
+    }
+    plain_number(store, e)
+}
+
+/// A value of its own for what is lent.
+#[inline(always)]
+fn owned<'a>(alloc: Global, value: Lent<'a>) -> Option<Value>
+    ensures { IfSome result (λ v. v ≡ lent_value value.entry) }
+{
+    match value {
+        Lent::Unset => Some(Value::Unset),
+        Lent::Num(number) => Some(Value::Num(number)),
+        Lent::Text(text) => Some(Value::Text(Octets::new(Vec::from_slice(alloc, text).ok()?))),
+        Lent::Input(text) => Some(Value::Input(Octets::new(Vec::from_slice(alloc, text).ok()?))),
+    }
+}
+
+/// The value of an expression, where it is there, as one of its own. `None` stands for refused memory too.
+#[inline(never)]
+fn value_there(alloc: Global, store: &Store, e: &Expr) -> Option<Value>
+    ensures { IfSome result (λ v. IsThere (λ names. view names e.now) store.now v) }
+{
+    let value = at_hand(store, e, MOST_LEVELS)?;
+    owned(alloc, value)
+}
+
+/// The text in upper case, or in lower case, of the one argument, where that is there. `None` stands for refused memory too.
+fn cased_there(alloc: Global, store: &Store, args: &[Expr], upper: bool) -> Option<Value>
+    ensures { IfSome result (λ v. (q : spot_of.Place) → IsThere (λ names. p.builtin q (case_of upper) (expressions_of (map (view names) args.now))) store.now v) }
+{
+    let [x] = args else {
+        return None;
+    };
+    let text = at_hand(store, x, MOST_LEVELS)?;
+    cased(alloc, text, upper).ok()
+}
+
+/// What a built-in function gives whose arguments are there, as a value of its own. `None` stands for refused memory too.
+#[inline(never)]
+fn called_there(alloc: Global, store: &Store, which: Builtin, args: &[Expr]) -> Option<Value>
+    ensures { IfSome result (λ v. (q : spot_of.Place) → IsThere (λ names. p.builtin q which (expressions_of (map (view names) args.now))) store.now v) }
+{
+    match which {
+        Builtin::Tolower => cased_there(alloc, store, args, false),
+        Builtin::Toupper => cased_there(alloc, store, args, true),
+        _ => {
+            let value = called_at_hand(store, which, args, MOST_LEVELS)?;
+            owned(alloc, value)
+        }
+    }
+}
+
+/// The same. What numbers make is a number, and is not copied on its way.
+#[inline(always)]
+pub fn value_at_hand(alloc: Global, store: &Store, e: &Expr) -> Option<Value>
+    ensures { IfSome result (λ v. IsThere (λ names. view names e.now) store.now v) }
+{
+    if let Some(number) = number_there(store, e) {
+        return Some(Value::Num(number));
+    }
+    match e {
+        Expr::Builtin(_, which, args) => called_there(alloc, store, *which, args.as_slice()),
+        Expr::Read(_) | Expr::Text(_) | Expr::Count(_) => value_there(alloc, store, e),
+        _ => None,
+    }
+}
+
+/// The number that an expression is compared as, where a chain makes it, or a variable holds the digits.
+#[inline(always)]
+fn counted_there(store: &Store, e: &Expr) -> Option<i64>
+    ensures { IfSome result (λ n. CountsAs (λ names. view names e.now) store.now n) }
+{
+    if let Expr::Chain(x, xs) = e {
+        return chain_at_hand(store, x.get(), xs.as_slice(), MOST_LEVELS);
+    }
+    let Expr::Read(target) = e else {
+        return None;
+    };
+    digits_held(store, target)
+}
+
+/// Whether a comparison with a number holds, where the other side is there.
+#[inline(never)]
+fn compared_beside(store: &Store, how: Comparison, left: i64, y: &Expr) -> Option<bool>
+    ensures { IfSome result (λ b. (x : Names → p.Expression) → IsThere x store.now (v.Num left) → HasTruth (λ names. p.compare how (x names) (view names y.now)) store.now b) }
+{
+    let right = at_hand(store, y, MOST_LEVELS)?;
+    Some(compared_lent(how, Lent::Num(left), right))
+}
+
+/// The same. Two numbers are compared without a value between.
+#[inline(never)]
+fn compared_with(store: &Store, how: Comparison, left: i64, y: &Expr) -> Option<bool>
+    ensures { IfSome result (λ b. (x : Names → p.Expression) → IsThere x store.now (v.Num left) → HasTruth (λ names. p.compare how (x names) (view names y.now)) store.now b) }
+{
+    if let Some(right) = counted_there(store, y) {
+        return Some(compared_numbers(how, left, right));
+    }
+    compared_beside(store, how, left, y)
+}
+
+/// Whether a comparison holds, where both sides are there.
+#[inline(never)]
+fn compared_values(store: &Store, how: Comparison, x: &Expr, y: &Expr) -> Option<bool>
+    ensures { IfSome result (λ b. HasTruth (λ names. p.compare how (view names x.now) (view names y.now)) store.now b) }
+{
+    let left = at_hand(store, x, MOST_LEVELS)?;
+    let right = at_hand(store, y, MOST_LEVELS)?;
+    Some(compared_lent(how, left, right))
+}
+
+/// The same. Two numbers that stand ready are compared in line.
+#[inline(always)]
+fn compared_at_hand(store: &Store, how: Comparison, x: &Expr, y: &Expr) -> Option<bool>
+    ensures { IfSome result (λ b. HasTruth (λ names. p.compare how (view names x.now) (view names y.now)) store.now b) }
+{
+    let Some(left) = plain_number(store, x) else {
+        return compared_values(store, how, x, y);
+    };
+    match plain_number(store, y) {
+        Some(right) => Some(compared_numbers(how, left, right)),
+        None => compared_with(store, how, left, y),
+    }
+}
+
+/// Whether the key is in the array, where the key is there; in several arrays it is not looked for.
+fn member_at_hand(store: &Store, x: &Expr, arrays: &[Variable]) -> Option<bool>
+    ensures { IfSome result (λ b. HasTruth (λ names. p.member (view names x.now) (map (variable_of names) arrays.now)) store.now b) }
+{
+    let [array] = arrays else {
+        return None;
+    };
+    let key = at_hand(store, x, MOST_LEVELS)?;
+    let mut digits = Buffer::new();
+    Some(store.contains(*array, key.text(&mut digits)))
+}
+
+/// Whether an expression is true that is no chain of tests, where its value is there.
+#[inline(never)]
+fn part_is_true(store: &Store, e: &Expr) -> Option<bool>
+    ensures { IfSome result (λ b. HasTruth (λ names. view names e.now) store.now b) }
+{
+    match e {
+        Expr::Compare(how, x, y) => compared_at_hand(store, *how, x.get(), y.get()),
+        Expr::In(x, arrays) => member_at_hand(store, x.get(), arrays.as_slice()),
+        Expr::Read(_)
+        | Expr::Number(_)
+        | Expr::Text(_)
+        | Expr::Chain(_, _)
+        | Expr::Builtin(_, _, _)
+        | Expr::Count(_) => {
+            let value = at_hand(store, e, MOST_LEVELS)?;
+            Some(value.truth())
+        }
+        _ => None,
+    }
+}
+
+/// Whether a chain of `&&` is true, where its parts are there as far as they are wanted.
+fn all_are_true(store: &Store, x: &Expr, xs: &[Expr]) -> Option<bool>
+    ensures { IfSome result (λ b. HasTruth (λ names. p.and (view names x.now) (expressions_of (map (view names) xs.now))) store.now b) }
+{
+    let mut last = part_is_true(store, x)?;
+    for y in xs {
+        if !last {
+            return Some(false);
+        }
+        last = part_is_true(store, y)?;
+    }
+    Some(last)
+}
+
+/// Whether a chain of `||` is true, where its parts are there as far as they are wanted.
+fn one_is_true(store: &Store, x: &Expr, xs: &[Expr]) -> Option<bool>
+    ensures { IfSome result (λ b. HasTruth (λ names. p.or (view names x.now) (expressions_of (map (view names) xs.now))) store.now b) }
+{
+    let mut last = part_is_true(store, x)?;
+    for y in xs {
+        if last {
+            return Some(true);
+        }
+        last = part_is_true(store, y)?;
+    }
+    Some(last)
+}
+
+/// Whether `! operand` is true, where the operand is there.
+fn is_untrue(store: &Store, x: &Expr) -> Option<bool>
+    ensures { IfSome result (λ b. HasTruth (λ names. p.not (view names x.now)) store.now b) }
+{
+    let holds = part_is_true(store, x)?;
+    Some(!holds)
+}
+
+/// Whether an expression is true whose value is there, or whose parts' values are.
+#[inline(never)]
+fn truth_there(store: &Store, e: &Expr) -> Option<bool>
+    ensures { IfSome result (λ b. HasTruth (λ names. view names e.now) store.now b) }
+{
+    match e {
+        Expr::And(x, xs) => all_are_true(store, x.get(), xs.as_slice()),
+        Expr::Or(x, xs) => one_is_true(store, x.get(), xs.as_slice()),
+        Expr::Not(x) => is_untrue(store, x.get()),
+        _ => part_is_true(store, e),
+    }
+}
+
+/// Whether an expression is true, where its value is there, or it is a comparison of two such.
+#[inline(always)]
+pub fn truth_at_hand(store: &Store, e: &Expr) -> Option<bool>
+    ensures { IfSome result (λ b. HasTruth (λ names. view names e.now) store.now b) }
+{
+    if let Expr::Compare(how, x, y) = e {
+        return compared_at_hand(store, *how, x.get(), y.get());
+    }
+    truth_there(store, e)
+}
+
+/// `chosen`, of a choice.
+#[inline(never)]
+fn part_chosen<'a>(store: &Store, e: &'a Expr) -> &'a Expr
+    ensures { (val : Val) → IsThere (λ names. view names result.now) store.now val → IsThere (λ names. view names e.now) store.now val }
+{
+    let Expr::Choice(x, y, z) = e else {
+        return e;
+    };
+    let Some(holds) = truth_at_hand(store, x.get()) else {
+        return e;
+    };
+    if holds { y.get() } else { z.get() }
+}
+
+/// The part that a choice comes to, where the truth of its test is at hand; what else there is comes back as it is.
+#[inline(always)]
+pub fn chosen<'a>(store: &Store, e: &'a Expr) -> &'a Expr
+    ensures { (val : Val) → IsThere (λ names. view names result.now) store.now val → IsThere (λ names. view names e.now) store.now val }
+{
+    match e {
+        Expr::Choice(_, _, _) => part_chosen(store, e),
+        _ => e,
+    }
+}
+
+/// What is read or set, where it is a variable or a field by a constant: to evaluate it changes nothing and meets no fault.
+#[inline(always)]
+pub fn spot_at_hand(target: &Target<Expr>) -> Option<Spot>
+    ensures plays { IfSome result (λ s. (g : Given) (w : Whole) → Passes g (spot (view_target (names_in g) target.now)) w (give (value_of s)) w) }
+    ensures spot { IfSome result (λ s. (names : Names) → IsSpotOf names (view_target names target.now) s) }
+{
+    match target {
+        Target::Variable(variable) => Some(Spot::Variable(*variable)),
+        Target::Element(_, _, _) => None,
+        Target::Field(_, x) => match x.get() {
+            Expr::Number(number) => match u16::try_from(*number) {
+                Ok(number) => Some(Spot::Field(number)),
+                Err(_) => None,
+            },
+            _ => None,
+        },
+    }
+}

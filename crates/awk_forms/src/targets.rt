@@ -1,0 +1,232 @@
+// What is read or set.
+ghost use Rattle.std.specs.Prelude.{List, ℕ, IfOk};
+ghost use Rattle.awk_streams.specs.Tasks.{Owns};
+ghost use Rattle.awk_machine.specs.Forms.{value, spot};
+ghost use Rattle.awk_machine.specs.Pieces.{give};
+ghost use Rattle.awk_program.specs.Program as p;
+ghost use Rattle.awk_program.specs.View.{view, view_target};
+ghost use Rattle.awk_store.specs.Spots.{IsSpotOf, value_of};
+ghost use Rattle.awk_store.specs.Wholes.{names_in};
+ghost use Rattle.awk_forms.specs.Runs.{Does, Tells, IsUnwanted, whole_of};
+ghost use Rattle.awk_machine.specs.Expressions.{either};
+ghost use Rattle.awk_program.specs.declared.operators.Taken.{Taken as Which};
+
+use crate::context::{Context, Run};
+use crate::evaluates::Evaluates;
+use crate::lists::element;
+use awk_builtins::growing::assigned;
+use awk_builtins::keys::field_number;
+use awk_builtins::made::{computed_at, stepped_at};
+use awk_program::{Expr, Operator, Step, Taken, Target};
+use awk_store::Spot;
+use awk_store::targets::{read, set, stored};
+use awk_store::variables::read_variable;
+use awk_streams::halt::Halt;
+use awk_text::place::Place;
+use awk_text::value::Value;
+use box_world::world::World;
+
+/// `$ operand`
+fn field<W: World, E: Evaluates<W>>(
+    cx: &Context<'_>,
+    place: Place,
+    x: &Expr,
+    on: E,
+    run: &mut Run,
+    world: &mut W,
+) -> Result<Spot, Halt>
+    requires can { E.can on }
+    requires owns { Owns (W.open_numbers world.old) run.old.streams }
+    ensures plays { Does W.World cx.now (λ g. spot (p.field place (view (names_in g) x.now))) (λ g s. give (value_of s))
+        (whole_of run.old) world.old result (whole_of run.new) world.new }
+    ensures spot { IfOk result (λ s. (names : List (List ℕ)) → IsSpotOf names (p.field place (view names x.now)) s) }
+{
+    let operand = on.value(cx, x, run, world)?;
+    Ok(Spot::Field(field_number(place, &operand)?))
+}
+
+/// What is read or set: its subscripts or its number come first.
+pub fn target_of<W: World, E: Evaluates<W>>(
+    cx: &Context<'_>,
+    target: &Target<Expr>,
+    on: E,
+    run: &mut Run,
+    world: &mut W,
+) -> Result<Spot, Halt>
+    requires can { E.can on }
+    requires owns { Owns (W.open_numbers world.old) run.old.streams }
+    ensures plays { Does W.World cx.now (λ g. spot (view_target (names_in g) target.now)) (λ g s. give (value_of s))
+        (whole_of run.old) world.old result (whole_of run.new) world.new }
+    ensures spot { IfOk result (λ s. (names : List (List ℕ)) → IsSpotOf names (view_target names target.now) s) }
+{
+    match target {
+        Target::Variable(variable) => Ok(Spot::Variable(*variable)),
+        Target::Element(place, array, keys) => {
+            element(cx, *place, *array, keys.as_slice(), on, run, world)
+        }
+        Target::Field(place, x) => field(cx, *place, x.get(), on, run, world),
+    }
+}
+
+/// The value of a variable, of an element or of a field.
+pub fn read_target<W: World, E: Evaluates<W>>(
+    cx: &Context<'_>,
+    target: &Target<Expr>,
+    on: E,
+    run: &mut Run,
+    world: &mut W,
+) -> Result<Value, Halt>
+    requires can { E.can on }
+    requires owns { Owns (W.open_numbers world.old) run.old.streams }
+    ensures { Does W.World cx.now (λ g. value (p.read (view_target (names_in g) target.now))) (λ g. give)
+        (whole_of run.old) world.old result (whole_of run.new) world.new }
+{
+    if let Target::Variable(variable) = target {
+        return read_variable(cx.alloc, &mut run.store, *variable);
+    }
+    let from = target_of(cx, target, on, run, world)?;
+    read(cx.alloc, &mut run.store, &from)
+}
+
+/// `target = value`, whose value nothing wants: so nothing is copied, and a text grows in its place.
+pub fn put<W: World, E: Evaluates<W>>(
+    cx: &Context<'_>,
+    place: Place,
+    target: &Target<Expr>,
+    x: &Expr,
+    on: E,
+    run: &mut Run,
+    world: &mut W,
+) -> Result<(), Halt>
+    requires can { E.can on }
+    requires owns { Owns (W.open_numbers world.old) run.old.streams }
+    ensures { Tells W.World cx.now (λ g. value (p.assign place (view_target (names_in g) target.now) (view (names_in g) x.now))) IsUnwanted
+        (whole_of run.old) world.old result (whole_of run.new) world.new }
+{
+    let is_done = assigned(cx.alloc, &mut run.store, &mut run.texts, target, x)?;
+    if is_done {
+        return Ok(());
+    }
+    let to = target_of(cx, target, on, run, world)?;
+    let new = on.value(cx, x, run, world)?;
+    set(cx.alloc, &mut run.store, to, place, new)
+}
+
+/// `target += value`, and with the other operators, whose value nothing wants.
+pub fn alter<W: World, E: Evaluates<W>>(
+    cx: &Context<'_>,
+    place: Place,
+    how: Operator,
+    target: &Target<Expr>,
+    x: &Expr,
+    on: E,
+    run: &mut Run,
+    world: &mut W,
+) -> Result<(), Halt>
+    requires can { E.can on }
+    requires owns { Owns (W.open_numbers world.old) run.old.streams }
+    ensures { Tells W.World cx.now (λ g. value (p.change place how (view_target (names_in g) target.now) (view (names_in g) x.now))) IsUnwanted
+        (whole_of run.old) world.old result (whole_of run.new) world.new }
+{
+    let to = target_of(cx, target, on, run, world)?;
+    let operand = on.value(cx, x, run, world)?;
+    let old = read(cx.alloc, &mut run.store, &to)?;
+    let number = computed_at(place, how, &old, &operand)?;
+    set(cx.alloc, &mut run.store, to, place, Value::Num(number))
+}
+
+/// Sets a target to the next number, or to the one before, and answers the old number and the new one.
+pub fn step_target<W: World, E: Evaluates<W>>(
+    cx: &Context<'_>,
+    place: Place,
+    how: Step,
+    target: &Target<Expr>,
+    on: E,
+    run: &mut Run,
+    world: &mut W,
+) -> Result<(i64, i64), Halt>
+    requires can { E.can on }
+    requires owns { Owns (W.open_numbers world.old) run.old.streams }
+    ensures { (taken : Which) → Does W.World cx.now (λ g. value (p.step place how taken (view_target (names_in g) target.now))) (λ g n. give (either taken n.0 n.1))
+        (whole_of run.old) world.old result (whole_of run.new) world.new }
+{
+    let to = target_of(cx, target, on, run, world)?;
+    let old = read(cx.alloc, &mut run.store, &to)?;
+    let (before, behind) = stepped_at(place, how, &old)?;
+    set(cx.alloc, &mut run.store, to, place, Value::Num(behind))?;
+    Ok((before, behind))
+}
+
+/// `target = value`
+pub fn assign<W: World, E: Evaluates<W>>(
+    cx: &Context<'_>,
+    place: Place,
+    target: &Target<Expr>,
+    x: &Expr,
+    on: E,
+    run: &mut Run,
+    world: &mut W,
+) -> Result<Value, Halt>
+    requires can { E.can on }
+    requires owns { Owns (W.open_numbers world.old) run.old.streams }
+    ensures { Does W.World cx.now (λ g. value (p.assign place (view_target (names_in g) target.now) (view (names_in g) x.now))) (λ g. give)
+        (whole_of run.old) world.old result (whole_of run.new) world.new }
+{
+    let to = target_of(cx, target, on, run, world)?;
+    let new = on.value(cx, x, run, world)?;
+    let Ok(kept) = stored(cx.alloc, &to, &new) else {
+        return Err(Halt::Memory);
+    };
+    set(cx.alloc, &mut run.store, to, place, new)?;
+    Ok(kept)
+}
+
+/// `target += value`, and with the other operators.
+pub fn change<W: World, E: Evaluates<W>>(
+    cx: &Context<'_>,
+    place: Place,
+    how: Operator,
+    target: &Target<Expr>,
+    x: &Expr,
+    on: E,
+    run: &mut Run,
+    world: &mut W,
+) -> Result<Value, Halt>
+    requires can { E.can on }
+    requires owns { Owns (W.open_numbers world.old) run.old.streams }
+    ensures { Does W.World cx.now (λ g. value (p.change place how (view_target (names_in g) target.now) (view (names_in g) x.now))) (λ g. give)
+        (whole_of run.old) world.old result (whole_of run.new) world.new }
+{
+    let to = target_of(cx, target, on, run, world)?;
+    let operand = on.value(cx, x, run, world)?;
+    let old = read(cx.alloc, &mut run.store, &to)?;
+    let number = computed_at(place, how, &old, &operand)?;
+    let Ok(kept) = stored(cx.alloc, &to, &Value::Num(number)) else {
+        return Err(Halt::Memory);
+    };
+    set(cx.alloc, &mut run.store, to, place, Value::Num(number))?;
+    Ok(kept)
+}
+
+/// `target ++` and `target --`, before and behind.
+pub fn increment<W: World, E: Evaluates<W>>(
+    cx: &Context<'_>,
+    place: Place,
+    how: Step,
+    taken: Taken,
+    target: &Target<Expr>,
+    on: E,
+    run: &mut Run,
+    world: &mut W,
+) -> Result<Value, Halt>
+    requires can { E.can on }
+    requires owns { Owns (W.open_numbers world.old) run.old.streams }
+    ensures { Does W.World cx.now (λ g. value (p.step place how taken (view_target (names_in g) target.now))) (λ g. give)
+        (whole_of run.old) world.old result (whole_of run.new) world.new }
+{
+    let (before, behind) = step_target(cx, place, how, target, on, run, world)?;
+    match taken {
+        Taken::Before => Ok(Value::Num(before)),
+        Taken::Behind => Ok(Value::Num(behind)),
+    }
+}
