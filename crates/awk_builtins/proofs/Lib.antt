@@ -6,9 +6,9 @@ pub mod Granted
 pub mod Grown
 pub mod Lines
 pub mod Listed
-pub mod Made
+pub mod MadeThere
 pub mod Making
-pub mod Matching
+pub mod Matches
 pub mod PrintSteps
 pub mod Printed
 pub mod Replaced

@@ -16,7 +16,7 @@ use Rattle.awk_text.specs.Values.{number_of, text_of}
 use Rattle.awk_text.specs.declared.value.Value.TheVariants as v
 use Rattle.awk_builtins.specs.AtHand.{HasNumber, IsThere}
 use Rattle.awk_builtins.proofs.AtHand.{chain_first, element_there, field_number_is, field_there, number_there, terms_at, terms_done, text_there}
-use Rattle.awk_builtins.proofs.Made.{one_there, part_there, rest_there, two_there, whole_there}
+use Rattle.awk_builtins.proofs.MadeThere.{one_there, part_there, rest_there, two_there, whole_there}
 use Rattle.awk_builtins.proofs.Rests.{just_one, just_two, just_three, ok_told, some_done, some_for}
 use Rattle.awk_builtins.proofs.at_hand.+hand.Goals as goal
 

@@ -12,7 +12,7 @@ use Rattle.awk_machine.specs.State.{State}
 use Rattle.awk_store.specs.Wholes.{names_in}
 use Rattle.awk_builtins.specs.AtHand.{case_of}
 use Rattle.awk_builtins.proofs.Rests.{just_one, ok_some}
-use Rattle.awk_builtins.proofs.Made.{one_there}
+use Rattle.awk_builtins.proofs.MadeThere.{one_there}
 use Rattle.awk_builtins.proofs.at_hand.cased_there.Goals as goal
 
 case_is : (upper : Bool) (q : Place) (a : Value) (s : State) → effect q (case_of upper) (a ∷ []) s ≡ gives (v.Text (to_case upper (text_of a)))

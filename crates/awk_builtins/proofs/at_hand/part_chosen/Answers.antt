@@ -2,7 +2,7 @@ use Rattle.std.proofs.Common.{◌∙◌}
 use Rattle.awk_program.specs.View.{view}
 use Rattle.awk_program.proofs.Views.{view-Choice}
 use Rattle.awk_store.specs.Wholes.{names_in}
-use Rattle.awk_builtins.proofs.Made.{choice_else, choice_then}
+use Rattle.awk_builtins.proofs.MadeThere.{choice_else, choice_then}
 use Rattle.awk_builtins.proofs.at_hand.part_chosen.Goals as goal
 
 pub returns-then-holds : goal.returns-then-holds

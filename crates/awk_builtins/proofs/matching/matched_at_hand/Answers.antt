@@ -2,7 +2,7 @@ use Rattle.awk_text.specs.Lents.{lent_value}
 use Rattle.awk_program.specs.View.{view}
 use Rattle.awk_store.specs.Wholes.{Whole, names_in}
 use Rattle.awk_builtins.proofs.AtHand.{matches_there}
-use Rattle.awk_builtins.proofs.Matching.{then_so}
+use Rattle.awk_builtins.proofs.Matches.{then_so}
 use Rattle.awk_builtins.proofs.matching.matched_at_hand.Goals as goal
 
 pub returns : goal.returns

@@ -3,7 +3,7 @@ use Rattle.std.proofs.lemmas.Result.{err_from_is_err_and}
 use Rattle.awk_machine.specs.Pieces.{give}
 use Rattle.awk_text.specs.declared.value.Value.TheVariants as v
 use Rattle.awk_store.proofs.Acting.{done, reworded}
-use Rattle.awk_builtins.proofs.Matching.{then_so, else_so}
+use Rattle.awk_builtins.proofs.Matches.{then_so, else_so}
 use Rattle.awk_builtins.proofs.patterns.constant.Goals as goal
 
 pub returns-in_err-ere-clause-plays : goal.returns-in_err-ere-clause-plays

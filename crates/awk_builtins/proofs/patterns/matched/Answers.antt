@@ -5,7 +5,7 @@ use Rattle.awk_program.specs.Program as p
 use Rattle.awk_text.specs.Values.{text_of}
 use Rattle.awk_store.proofs.Acting.{at_rest, moves, passes}
 use Rattle.awk_builtins.specs.Patterns.{source_value}
-use Rattle.awk_builtins.proofs.Matching.{then_so, else_so}
+use Rattle.awk_builtins.proofs.Matches.{then_so, else_so}
 use Rattle.awk_builtins.proofs.patterns.matched.Goals as goal
 
 pub returns-in_err-ere : goal.returns-in_err-ere

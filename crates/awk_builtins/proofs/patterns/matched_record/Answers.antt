@@ -1,6 +1,6 @@
 use Rattle.std.proofs.lemmas.Result.{err_from_is_err_and}
 use Rattle.awk_store.proofs.Acting.{done}
-use Rattle.awk_builtins.proofs.Matching.{then_so, else_so}
+use Rattle.awk_builtins.proofs.Matches.{then_so, else_so}
 use Rattle.awk_builtins.proofs.patterns.matched_record.Goals as goal
 
 pub returns-in_err-found : goal.returns-in_err-found

@@ -1,5 +1,5 @@
 use Rattle.std.proofs.Common.{refl, ◌∙◌}
-use Rattle.awk_builtins.proofs.Matching.{passed_constant, passed_computed}
+use Rattle.awk_builtins.proofs.Matches.{passed_constant, passed_computed}
 use Rattle.awk_builtins.proofs.Rests.{ok_for}
 use Rattle.awk_builtins.proofs.patterns.used.Goals as goal
 

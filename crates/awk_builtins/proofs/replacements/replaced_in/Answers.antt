@@ -3,7 +3,7 @@ use Rattle.std.proofs.lemmas.Result.{err_from_is_err_and}
 use Rattle.awk_store.specs.Spots.{meant, value_of}
 use Rattle.awk_store.specs.Wholes.{names_in}
 use Rattle.awk_store.proofs.Acting.{doing, passes, stop}
-use Rattle.awk_builtins.proofs.Matching.{reads_old, replaces_in, replaces_lent}
+use Rattle.awk_builtins.proofs.Matches.{reads_old, replaces_in, replaces_lent}
 use Rattle.awk_builtins.proofs.replacements.replaced_in.Goals as goal
 
 pub returns-in-Some : goal.returns-in-Some

@@ -7,7 +7,7 @@ use Rattle.awk_store.specs.Spots.{meant, value_of}
 use Rattle.awk_store.specs.Wholes.{names_in}
 use Rattle.awk_store.proofs.Acting.{at_rest, moves, doing, done, stop}
 use Rattle.awk_builtins.specs.Patterns.{source_value, reading}
-use Rattle.awk_builtins.proofs.Matching.{then_so, else_so, made_none, made_some}
+use Rattle.awk_builtins.proofs.Matches.{then_so, else_so, made_none, made_some}
 use Rattle.awk_builtins.proofs.replacements.substitute.Goals as goal
 
 pub returns-in_err-ere : goal.returns-in_err-ere

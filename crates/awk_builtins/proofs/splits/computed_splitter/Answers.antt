@@ -1,6 +1,6 @@
 use Rattle.std.proofs.lemmas.Result.{err_from_is_err_and}
 use Rattle.awk_store.proofs.Acting.{doing, done, stop}
-use Rattle.awk_builtins.proofs.Matching.{long_first, short_so}
+use Rattle.awk_builtins.proofs.Matches.{long_first, short_so}
 use Rattle.awk_builtins.proofs.splits.computed_splitter.Goals as goal
 
 pub returns-in_err-ere : goal.returns-in_err-ere

@@ -8,7 +8,7 @@ use Rattle.awk_text.specs.Values.{text_of}
 use Rattle.awk_store.specs.Wholes.{names_in}
 use Rattle.awk_store.proofs.Acting.{at_rest, moves, doing, done, stop}
 use Rattle.awk_builtins.specs.Patterns.{source_value}
-use Rattle.awk_builtins.proofs.Matching.{then_so, else_so}
+use Rattle.awk_builtins.proofs.Matches.{then_so, else_so}
 use Rattle.awk_builtins.proofs.splits.split.Goals as goal
 
 pub returns-in_err-separator : goal.returns-in_err-separator

@@ -1,4 +1,4 @@
-use Rattle.awk_builtins.proofs.Matching.{split_constant, split_computed}
+use Rattle.awk_builtins.proofs.Matches.{split_constant, split_computed}
 use Rattle.awk_builtins.proofs.splits.splitter.Goals as goal
 
 pub returns-in-Constant : goal.returns-in-Constant

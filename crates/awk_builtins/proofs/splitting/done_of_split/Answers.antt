@@ -6,7 +6,7 @@ use Rattle.awk_store.specs.Wholes.{names_in}
 use Rattle.std.proofs.lemmas.Result.{err_from_is_err_and}
 use Rattle.awk_store.proofs.Acting.{done}
 use Rattle.awk_builtins.proofs.AtHand.{on}
-use Rattle.awk_builtins.proofs.Matching.{else_so, then_so}
+use Rattle.awk_builtins.proofs.Matches.{else_so, then_so}
 use Rattle.awk_builtins.proofs.splitting.done_of_split.Goals as goal
 
 pub returns-in_err-is_split-clause-not_done : goal.returns-in_err-is_split-clause-not_done

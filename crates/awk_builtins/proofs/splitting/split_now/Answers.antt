@@ -1,6 +1,6 @@
 use Rattle.std.proofs.lemmas.Result.{err_from_is_err_and}
 use Rattle.awk_store.proofs.Acting.{at_rest, done}
-use Rattle.awk_builtins.proofs.Matching.{else_so, then_so}
+use Rattle.awk_builtins.proofs.Matches.{else_so, then_so}
 use Rattle.awk_builtins.proofs.splitting.split_now.Goals as goal
 
 pub returns-then-is_some : goal.returns-then-is_some

@@ -1,7 +1,7 @@
 use Rattle.std.proofs.lemmas.Result.{err_from_is_err_and}
 use Rattle.awk_store.proofs.Acting.{at_rest, done}
 use Rattle.awk_builtins.proofs.AtHand.{splits}
-use Rattle.awk_builtins.proofs.Matching.{else_so}
+use Rattle.awk_builtins.proofs.Matches.{else_so}
 use Rattle.awk_builtins.proofs.splitting.split_where.Goals as goal
 
 pub returns-in_err-rebuild_where : goal.returns-in_err-rebuild_where

@@ -1,6 +1,6 @@
 use Rattle.std.proofs.lemmas.Result.{err_from_is_err_and}
 use Rattle.awk_store.proofs.Acting.{done}
-use Rattle.awk_builtins.proofs.Matching.{else_so, then_so}
+use Rattle.awk_builtins.proofs.Matches.{else_so, then_so}
 use Rattle.awk_builtins.proofs.splitting.truth_of_split.Goals as goal
 
 pub returns-in_err-is_split-clause-plays : goal.returns-in_err-is_split-clause-plays
