@@ -1,7 +1,9 @@
 // Statements.
 ghost use Rattle.std.specs.Prelude.{[], map, option_map};
 ghost use Rattle.awk_streams.specs.Tasks.{Owns};
+ghost use Rattle.awk_input.specs.Performs.{Performs};
 ghost use Rattle.awk_machine.specs.Pieces.{At, Do, Doing, Each, Start};
+ghost use Rattle.awk_machine.specs.State.{Given};
 ghost use Rattle.awk_program.specs.Program as p;
 ghost use Rattle.awk_program.specs.View.{view, view_statement, variable_of};
 ghost use Rattle.awk_store.specs.Wholes.{names_in};
@@ -17,7 +19,7 @@ use awk_forms::evaluates::Evaluates;
 use awk_forms::lists::fill;
 use awk_forms::tests::{effect, truth_of};
 use awk_input::skipping::next_file;
-use awk_program::{Expr, Statement, Variable};
+use awk_program::{Expr, Jump, Statement, Variable};
 use awk_store::Flow;
 use awk_store::flow::is_on;
 use awk_store::jumps::{exit, exit_with, next};
@@ -96,12 +98,7 @@ pub fn perform<W: World, E: Evaluates<W>>(
             remove_all(&mut run.store, *array);
             Ok(Flow::On)
         }
-        Statement::Break => Ok(Flow::Break),
-        Statement::Continue => Ok(Flow::Continue),
-        Statement::Next(place) => Err(next(&mut run.store, *place)),
-        Statement::NextFile(place) => {
-            Err(next_file(*place, &mut run.store, &mut run.streams, world))
-        }
+        Statement::Jump(which) => jump(*which, run, world),
         Statement::Exit(place, status) => leave_by(cx, *place, status, on, run, world),
         Statement::Return(x) => give_back(cx, x, on, run, world),
         Statement::Block(xs) => body(cx, xs.as_slice(), on, run, world),
@@ -163,6 +160,21 @@ fn delete<W: World, E: Evaluates<W>>(
         values.as_slice(),
     )?;
     Ok(Flow::On)
+}
+
+/// A word alone.
+fn jump<W: World>(which: Jump, run: &mut Run, world: &mut W) -> Result<Flow, Halt>
+    requires { Owns (W.open_numbers world.old) run.old.streams }
+    ensures task { (g : Given)
+        → Performs W.World g (At (Doing (p.jump which)) []) flows (whole_of run.old) world.old result (whole_of run.new) world.new }
+    ensures owns { Owns (W.open_numbers world.new) run.new.streams }
+{
+    match which {
+        Jump::Break => Ok(Flow::Break),
+        Jump::Continue => Ok(Flow::Continue),
+        Jump::Next(place) => Err(next(&mut run.store, place)),
+        Jump::NextFile(place) => Err(next_file(place, &mut run.store, &mut run.streams, world)),
+    }
 }
 
 /// `exit`

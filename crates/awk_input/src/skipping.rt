@@ -4,6 +4,7 @@ ghost use Rattle.awk_machine.specs.Pieces.{At, Doing, Piece};
 ghost use Rattle.awk_machine.specs.State.{Given};
 ghost use Rattle.awk_machine.specs.Statements.{skipping};
 ghost use Rattle.awk_program.specs.Program as p;
+ghost use Rattle.awk_program.specs.declared.jumps.Jump.TheVariants as j;
 ghost use Rattle.awk_store.specs.Flows.{flows};
 ghost use Rattle.awk_store.specs.Wholes.{Whole};
 ghost use Rattle.awk_streams.specs.Tasks.{Owns};
@@ -47,7 +48,7 @@ pub fn next_file<W: World>(
 ) -> Halt
     requires { Owns (W.open_numbers world.old) streams.old }
     ensures task { (g : Given)
-        → Performs W.World g (At (Doing (p.next_file place)) []) flows (store.old, streams.old) world.old (Err result) (store.new, streams.new) world.new }
+        → Performs W.World g (At (Doing (p.jump (j.NextFile place))) []) flows (store.old, streams.old) world.old (Err result) (store.new, streams.new) world.new }
     ensures owns { Owns (W.open_numbers world.new) streams.new }
 {
     if let Err(halt) = jumps::next_file(store, place) {

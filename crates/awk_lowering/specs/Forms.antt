@@ -19,8 +19,12 @@ use Rattle.awk_tree.specs.declared.operators.Redirect as tree_redirect
 use Rattle.awk_tree.specs.declared.operators.Redirect.TheVariants as tr
 use Rattle.awk_tokens.specs.declared.words.Builtin as tree_builtin
 use Rattle.awk_tokens.specs.declared.words.Builtin.TheVariants as b
+use Rattle.awk_tokens.specs.declared.words.Jump as tree_jump
+use Rattle.awk_tokens.specs.declared.words.Jump.TheVariants as tj
 use Rattle.awk_program.specs.declared.builtins.Builtin.{Builtin}
 use Rattle.awk_program.specs.declared.builtins.Builtin.TheVariants as f
+use Rattle.awk_program.specs.declared.jumps.Jump.{Jump}
+use Rattle.awk_program.specs.declared.jumps.Jump.TheVariants as j
 use Rattle.awk_program.specs.declared.operators.Operator.{Operator}
 use Rattle.awk_program.specs.declared.operators.Operator.TheVariants as o
 use Rattle.awk_program.specs.declared.operators.Comparison.{Comparison}
@@ -50,7 +54,7 @@ unwritten = p.number (pos 0)
 abbrev pub unwritten_target : Reference
 unwritten_target = whole_record (record { line = 0; column = 0 })
 
--- ---- operators
+-- ---- operators, and words alone
 
 abbrev pub operator_of : tree_arithmetic.Arithmetic → Operator
 operator_of a.Add = o.Add
@@ -75,6 +79,13 @@ abbrev pub redirect_of : tree_redirect.Redirect → Redirect
 redirect_of tr.Write = r.Write
 redirect_of tr.Append = r.Append
 redirect_of tr.Command = r.Command
+
+-- a word alone, with its place where a fault names it
+abbrev pub jump_of : Place → tree_jump.Jump → Jump
+jump_of q tj.Break = j.Break
+jump_of q tj.Continue = j.Continue
+jump_of q tj.Next = j.Next q
+jump_of q tj.NextFile = j.NextFile q
 
 abbrev pub extent_of : Bool → Extent
 extent_of false = extent.First

@@ -2,15 +2,13 @@
 -- one without too, but for `;` alone, which is an empty block. An action that is not there is `print` (Programs).
 use Rattle.std.specs.Prelude.{List, [], ◌∷◌, map, Option, option_map}
 use Rattle.awk_text.specs.declared.place.Place.{Place}
-use Rattle.awk_tokens.specs.declared.words.Jump.{Jump}
-use Rattle.awk_tokens.specs.declared.words.Jump.TheVariants as j
 use Rattle.awk_tree.specs.Tree as t
 use Rattle.awk_tree.specs.Tree.{Tree}
 use Rattle.awk_tree.specs.declared.statements.Redirection as tree_redirection
 use Rattle.awk_program.specs.declared.statements.Redirection.{Redirection}
 use Rattle.awk_program.specs.Program as p
 use Rattle.awk_program.specs.Program.{Expression, Statement, Statements}
-use Rattle.awk_lowering.specs.Forms.{redirect_of, unwritten}
+use Rattle.awk_lowering.specs.Forms.{jump_of, redirect_of, unwritten}
 use Rattle.awk_lowering.specs.Scopes.{Scope, variable}
 use Rattle.awk_lowering.specs.Lowered.{lowered}
 
@@ -22,13 +20,6 @@ abbrev pub printed : Scope → Place → List Tree → Option (Redirection Expre
 printed c q [] to = p.printf q unwritten [] to
 printed c q (x ∷ xs) to = p.printf q (lowered c x) (map (lowered c) xs) to
 
--- a word alone
-abbrev pub jump_of : Place → Jump → Statement
-jump_of q j.Break = p.break
-jump_of q j.Continue = p.continue
-jump_of q j.Next = p.next q
-jump_of q j.NextFile = p.next_file q
-
 abbrev mutual
   pub statement : Scope → t.Statement → Statement
   statement c t.empty = p.block p.no_more
@@ -37,7 +28,7 @@ abbrev mutual
   statement c (t.printf q xs to) = printed c q xs.items (option_map (redirected c) to)
   statement c (t.delete n xs) = p.delete n.place (variable c n.text) (map (lowered c) xs)
   statement c (t.delete_all n) = p.delete_all (variable c n.text)
-  statement c (t.jump q which) = jump_of q which
+  statement c (t.jump q which) = p.jump (jump_of q which)
   statement c (t.exit q x) = p.exit q (option_map (lowered c) x)
   statement c (t.return q x) = p.return (option_map (lowered c) x)
   statement c (t.block xs) = p.block (statements c xs)

@@ -14,7 +14,6 @@ use crate::operators::redirect;
 use awk_program::{Expr, Redirection, Statement, Variable};
 use awk_text::Memory;
 use awk_text::place::Place;
-use awk_tree::Jump;
 use sqlite_items::{Boxed, Items};
 use std::alloc::Global;
 
@@ -78,19 +77,6 @@ pub fn delete_all_of(v: Result<Variable, Memory>) -> Result<Statement, Memory>
     match v {
         Ok(v) => Ok(Statement::DeleteAll(v)),
         Err(refused) => Err(refused),
-    }
-}
-
-/// A word alone
-#[tactic(auto, using(awk_program::proofs::Views::statement_views))]
-pub fn jump_of(place: Place, which: Jump) -> Statement
-    ensures { (t : Names) → view_statement t result ≡ low.jump_of place which }
-{
-    match which {
-        Jump::Break => Statement::Break,
-        Jump::Continue => Statement::Continue,
-        Jump::Next => Statement::Next(place),
-        Jump::NextFile => Statement::NextFile(place),
     }
 }
 

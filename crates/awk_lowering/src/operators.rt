@@ -10,7 +10,7 @@ ghost use Rattle.awk_program.specs.declared.builtins.Builtin.TheVariants as f;
 use crate::kept::{both, boxed, only};
 use crate::nodes::{builtin_of, not_of, read_of};
 use crate::targets::record_of;
-use awk_program::{Builtin, Comparison, Expr, Extent, Operator, Redirect, Sign, Step, Target};
+use awk_program::{Builtin, Comparison, Expr, Extent, Jump, Operator, Redirect, Sign, Step, Target};
 use awk_text::Memory;
 use awk_text::place::Place;
 use awk_tree::{Arithmetic, Assignment};
@@ -58,6 +58,18 @@ pub fn redirect(how: awk_tree::Redirect) -> Redirect
         awk_tree::Redirect::Write => Redirect::Write,
         awk_tree::Redirect::Append => Redirect::Append,
         awk_tree::Redirect::Command => Redirect::Command,
+    }
+}
+
+/// A word alone, with its place where a fault names it
+pub fn jump(place: Place, which: awk_tree::Jump) -> Jump
+    ensures { result ≡ spec.jump_of place which }
+{
+    match which {
+        awk_tree::Jump::Break => Jump::Break,
+        awk_tree::Jump::Continue => Jump::Continue,
+        awk_tree::Jump::Next => Jump::Next(place),
+        awk_tree::Jump::NextFile => Jump::NextFile(place),
     }
 }
 

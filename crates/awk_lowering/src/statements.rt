@@ -10,11 +10,12 @@ ghost use Rattle.awk_tree.specs.View.{view, view_redirection, view_statement};
 
 use crate::blocks::{
     block_of, delete_all_of, delete_of, do_of, exit_of, for_in_of, for_of, if_else_of, if_of,
-    jump_of, nothing, plain_of, print_of, printf_of, redirection_of, return_of, while_of,
+    nothing, plain_of, print_of, printf_of, redirection_of, return_of, while_of,
 };
 use crate::expressions::{list, optional, part};
 use crate::kept::{boxed, kept, push, room};
 use crate::names::{Context, variable};
+use crate::operators::jump;
 use awk_program::{Expr, Redirection, Statement};
 use awk_text::Memory;
 use awk_text::place::Place;
@@ -95,7 +96,7 @@ fn statement(
             delete_of(n.place, v, list(context, keys.as_slice(), below))
         }
         awk_tree::Statement::DeleteAll(n) => delete_all_of(variable(context, n.text.bytes())),
-        awk_tree::Statement::Jump(place, which) => Ok(jump_of(*place, *which)),
+        awk_tree::Statement::Jump(place, which) => { Ok(Statement::Jump(jump(*place, *which))) }
         awk_tree::Statement::Exit(place, x) => exit_of(*place, optional(context, x, below)),
         awk_tree::Statement::Return(_, x) => return_of(optional(context, x, below)),
         awk_tree::Statement::Block(body) => block_of(statements(context, body.as_slice(), below)),

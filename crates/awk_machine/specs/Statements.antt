@@ -7,6 +7,8 @@ use Rattle.awk_text.specs.declared.value.Value.TheVariants as v
 use Rattle.awk_text.specs.declared.fault.Fault.TheVariants.{NextOutside}
 use Rattle.awk_text.specs.Values.{number_of}
 use Rattle.box_world.specs.Events.{Key}
+use Rattle.awk_program.specs.declared.jumps.Jump.{Jump}
+use Rattle.awk_program.specs.declared.jumps.Jump.TheVariants as j
 use Rattle.awk_program.specs.Slots.{Text}
 use Rattle.awk_program.specs.Program as p
 use Rattle.awk_program.specs.Program.{Expression, Statement, Statements}
@@ -108,6 +110,13 @@ abbrev pub next_file : Phase → Place → Then
 next_file Ruling place k s = Goes (skipping s.main.current (to_records k)) (unwound s)
 next_file other place k s = fails NextOutside place s
 
+-- the statements that are a word alone, one line a word
+abbrev pub jump : Jump → Then
+jump j.Break k s = Goes (after_break k) s
+jump j.Continue k s = Goes (after_continue k) s
+jump (j.Next place) k s = next s.phase place k s
+jump (j.NextFile place) k s = next_file s.phase place k s
+
 -- the actions of END, or the end
 abbrev pub after_exit : Phase → List Piece
 after_exit Ending = Do Finish ∷ []
@@ -137,10 +146,7 @@ do_statement (p.print place xs r) part vs k s = print_by printed place xs r part
 do_statement (p.printf place x xs r) part vs k s = print_by (λ s. formatted_by) place (x ∷ xs) r part vs k s
 do_statement (p.delete place a xs) part vs k s = delete place a xs part vs k s
 do_statement (p.delete_all a) part vs k s = delete_all a k s
-do_statement p.break part vs k s = Goes (after_break k) s
-do_statement p.continue part vs k s = Goes (after_continue k) s
-do_statement (p.next place) part vs k s = next s.phase place k s
-do_statement (p.next_file place) part vs k s = next_file s.phase place k s
+do_statement (p.jump which) part vs k s = jump which k s
 do_statement (p.exit place x) part vs k s = exit place x part vs k s
 do_statement (p.return x) part vs k s = return x part vs k s
 do_statement (p.block xs) part vs k s = Goes (Do (Each (in_order xs)) ∷ k) s

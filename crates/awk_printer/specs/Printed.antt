@@ -3,9 +3,11 @@
 use Rattle.std.specs.Prelude.{ℕ, ◌+◌, List, [], ◌∷◌, ◌++◌, Option, Some, None, codes, decimal, drop}
 use Rattle.std.specs.Fmt.{signed_decimal}
 use Rattle.std.specs.List.{flat_map}
+use Rattle.awk_text.specs.declared.place.Place.{Place}
 use Rattle.awk_program.specs.declared.statements.Redirection.{Redirection}
 use Rattle.awk_program.specs.declared.program.Name.{Name}
 use Rattle.awk_program.specs.Builtins.{word_of}
+use Rattle.awk_program.specs.Jumps as jumps
 use Rattle.awk_program.specs.Slots.{Text}
 use Rattle.awk_program.specs.Program as p
 use Rattle.awk_program.specs.Program.{Variable, Expression, Reference, Ere, Expressions, Terms, Joins, Pipes, Arguments, Statement, Statements, expressions_of, statements_of}
@@ -98,6 +100,10 @@ abbrev pub redirection_text : Option (Redirection Expression) → Text
 redirection_text None = []
 redirection_text (Some r) = form (redirect_text r.how) (placed r.place ∷ expression_text r.target ∷ [])
 
+abbrev pub perhaps_placed : Option Place → List Text
+perhaps_placed None = []
+perhaps_placed (Some q) = placed q ∷ []
+
 abbrev mutual
   pub statement_text : Statement → Text
   statement_text (p.plain x) = expression_text x
@@ -105,10 +111,7 @@ abbrev mutual
   statement_text (p.printf q x xs r) = form (codes "printf") (placed q ∷ expression_text x ∷ list_text xs ∷ redirection_text r ∷ [])
   statement_text (p.delete q v xs) = form (codes "delete") (placed q ∷ variable_text v ∷ list_text xs ∷ [])
   statement_text (p.delete_all v) = form (codes "delete-all") (variable_text v ∷ [])
-  statement_text p.break = form (codes "break") []
-  statement_text p.continue = form (codes "continue") []
-  statement_text (p.next q) = form (codes "next") (placed q ∷ [])
-  statement_text (p.next_file q) = form (codes "nextfile") (placed q ∷ [])
+  statement_text (p.jump which) = form (jumps.word_of which) (perhaps_placed (jumps.place_of which))
   statement_text (p.exit q x) = form (codes "exit") (placed q ∷ perhaps_text x ∷ [])
   statement_text (p.return x) = form (codes "return") (perhaps_text x ∷ [])
   statement_text (p.block xs) = form (codes "block") (statements_text xs ∷ [])

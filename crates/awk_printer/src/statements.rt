@@ -13,7 +13,7 @@ use crate::expressions::{at_one, element, expression, list, of_variable, perhaps
 use crate::page::{Page, cut};
 use crate::pieces::{close, open, place, text, variable};
 use crate::words::redirect_text;
-use awk_program::{Expr, Name, Redirection, Statement, Variable};
+use awk_program::{Expr, Jump, Name, Redirection, Statement, Variable};
 use awk_text::place::Place;
 
 /// More levels than any program has.
@@ -82,7 +82,7 @@ fn printf(
     close(out)
 }
 
-/// A word that is a statement by itself.
+/// A word alone.
 fn bare(head: &str, out: &mut Page)
     ensures { Adds out.old out.new (spec.form head.now []) }
 {
@@ -90,13 +90,22 @@ fn bare(head: &str, out: &mut Page)
     close(out)
 }
 
-/// A word that is a statement by itself, with its place.
+/// A word alone, with its place.
 fn bare_at(head: &str, q: Place, out: &mut Page)
     ensures { Adds out.old out.new (spec.form head.now (spec.placed q ∷ [])) }
 {
     open(head, out);
     place(q, out);
     close(out)
+}
+
+fn jump(which: Jump, out: &mut Page)
+    ensures { Adds out.old out.new (statement_text (p.jump which)) }
+{
+    match which.place() {
+        None => bare(which.word(), out),
+        Some(q) => bare_at(which.word(), q, out),
+    }
 }
 
 fn exit(names: &[Name], q: Place, x: &Option<Expr>, out: &mut Page)
@@ -153,10 +162,7 @@ fn statement(names: &[Name], s: &Statement, level: u32, out: &mut Page)
             element(names, "delete", *q, *v, xs.as_slice(), DEEPEST, out)
         }
         Statement::DeleteAll(v) => of_variable(names, "delete-all", *v, out),
-        Statement::Break => bare("break", out),
-        Statement::Continue => bare("continue", out),
-        Statement::Next(q) => bare_at("next", *q, out),
-        Statement::NextFile(q) => bare_at("nextfile", *q, out),
+        Statement::Jump(which) => jump(*which, out),
         Statement::Exit(q, x) => exit(names, *q, x, out),
         Statement::Return(x) => give(names, x, out),
         Statement::Block(xs) => block(names, xs.as_slice(), below, out),

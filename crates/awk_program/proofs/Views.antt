@@ -3,6 +3,7 @@ use Rattle.std.proofs.Common.{◌≡◌, ℕ, ℤ, List, [], ◌∷◌, map, Opt
 use Rattle.awk_text.specs.declared.place.Place.{Place}
 use Rattle.awk_program.specs.declared.variables.Variable as code
 use Rattle.awk_program.specs.declared.builtins.Builtin.{Builtin}
+use Rattle.awk_program.specs.declared.jumps.Jump.{Jump}
 use Rattle.awk_program.specs.declared.operators.Comparison.{Comparison}
 use Rattle.awk_program.specs.declared.operators.Extent.{Extent}
 use Rattle.awk_program.specs.declared.operators.Operator.{Operator}
@@ -221,21 +222,9 @@ pub statement-DeleteAll : (t : Names) (v : code.Variable) → view_statement t (
 unfolding statement_layer
 statement-DeleteAll t v = opened_statement t _ _ (s.rolls-DeleteAll v)
 
-pub statement-Break : (t : Names) → view_statement t s.Break ≡ p.break
+pub statement-Jump : (t : Names) (which : Jump) → view_statement t (s.Jump which) ≡ p.jump which
 unfolding statement_layer
-statement-Break t = opened_statement t _ _ s.rolls-Break
-
-pub statement-Continue : (t : Names) → view_statement t s.Continue ≡ p.continue
-unfolding statement_layer
-statement-Continue t = opened_statement t _ _ s.rolls-Continue
-
-pub statement-Next : (t : Names) (q : Place) → view_statement t (s.Next q) ≡ p.next q
-unfolding statement_layer
-statement-Next t q = opened_statement t _ _ (s.rolls-Next q)
-
-pub statement-NextFile : (t : Names) (q : Place) → view_statement t (s.NextFile q) ≡ p.next_file q
-unfolding statement_layer
-statement-NextFile t q = opened_statement t _ _ (s.rolls-NextFile q)
+statement-Jump t which = opened_statement t _ _ (s.rolls-Jump which)
 
 pub statement-Exit : (t : Names) (q : Place) (x : Option Expr) → view_statement t (s.Exit q x) ≡ p.exit q (option_map (view t) x)
 unfolding statement_layer
@@ -275,4 +264,4 @@ statement-ForIn t q k a y = opened_statement t _ _ (s.rolls-ForIn q k a y)
 
 pub ruleset views = (view-Number, view-Text, view-Pattern, view-Read, view-Assign, view-Change, view-Step, view-Not, view-Signed, view-Chain, view-Concat, view-Compare, view-Match, view-In, view-Group, view-And, view-Or, view-Choice, view-Call, view-Getline, view-GetlineFile, view-Pipe, view-Builtin, view-Count, view-Locate, view-Split, view-Substitute)
 
-pub ruleset statement_views = (statement-Expr, statement-Print, statement-Printf, statement-Delete, statement-DeleteAll, statement-Break, statement-Continue, statement-Next, statement-NextFile, statement-Exit, statement-Return, statement-Block, statement-If, statement-IfElse, statement-While, statement-Do, statement-For, statement-ForIn)
+pub ruleset statement_views = (statement-Expr, statement-Print, statement-Printf, statement-Delete, statement-DeleteAll, statement-Jump, statement-Exit, statement-Return, statement-Block, statement-If, statement-IfElse, statement-While, statement-Do, statement-For, statement-ForIn)

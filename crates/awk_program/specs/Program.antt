@@ -3,6 +3,7 @@
 use Rattle.std.specs.Prelude.{ℕ, ℤ, Bool, List, [], ◌∷◌, Option}
 use Rattle.awk_text.specs.declared.place.Place.{Place}
 use Rattle.awk_program.specs.declared.builtins.Builtin.{Builtin}
+use Rattle.awk_program.specs.declared.jumps.Jump.{Jump}
 use Rattle.awk_program.specs.declared.operators.Comparison.{Comparison}
 use Rattle.awk_program.specs.declared.operators.Extent.{Extent}
 use Rattle.awk_program.specs.declared.operators.Operator.{Operator}
@@ -106,10 +107,7 @@ mutual
     printf : Place → Expression → List Expression → Option (Redirection Expression) → Statement
     delete : Place → Variable → List Expression → Statement
     delete_all : Variable → Statement
-    break : Statement
-    continue : Statement
-    next : Place → Statement
-    next_file : Place → Statement
+    jump : Jump → Statement
     exit : Place → Option Expression → Statement
     return : Option Expression → Statement
     block : Statements → Statement

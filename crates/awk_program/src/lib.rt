@@ -8,6 +8,7 @@
 
 mod builtins;
 mod expressions;
+mod jumps;
 mod operators;
 mod program;
 mod statements;
@@ -15,6 +16,7 @@ mod variables;
 
 pub use builtins::Builtin;
 pub use expressions::{Argument, Expr, Joined, Pattern, Piped, Target, Term};
+pub use jumps::Jump;
 pub use operators::{Comparison, Extent, Operator, Redirect, Sign, Step, Taken};
 pub use program::{Function, Name, Program, Rule, When};
 pub use statements::{Redirection, Statement};

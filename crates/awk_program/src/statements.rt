@@ -1,6 +1,7 @@
 // Statements.
 
 use crate::expressions::Expr;
+use crate::jumps::Jump;
 use crate::operators::Redirect;
 use crate::variables::Variable;
 use awk_text::place::Place;
@@ -26,10 +27,8 @@ pub enum Statement {
     Delete(Place, Variable, Items<Expr>),
     /// `delete array`
     DeleteAll(Variable),
-    Break,
-    Continue,
-    Next(Place),
-    NextFile(Place),
+    /// A word alone, as `break`
+    Jump(Jump),
     Exit(Place, Option<Expr>),
     Return(Option<Expr>),
     /// `{ }`, and an empty one for the empty statement

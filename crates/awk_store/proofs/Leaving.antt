@@ -11,6 +11,7 @@ use Rattle.awk_text.specs.Arithmetic.{is_in_range}
 use Rattle.awk_text.specs.Numerals.{number}
 use Rattle.awk_text.specs.Values.{number_of}
 use Rattle.awk_format.specs.Directives.{◌>>=◌}
+use Rattle.awk_program.specs.declared.jumps.Jump.TheVariants as j
 use Rattle.awk_program.specs.Program as p
 use Rattle.awk_program.specs.Program.{Expression}
 use Rattle.awk_machine.specs.Advances.{held}
@@ -45,7 +46,7 @@ unwinds : (g : Given) (k : Kept) (t : Table) (hid : Hidden) (c : Course) → Agr
 unwinds g k t hid c a = record { tells = a.tells; row = a.row; cells = a.cells; sound = a.sound }
 
 module _ (g : Given) (old : Kept) (t : Table) where
-  pub next_so : (place : Place) → old.phase ≡ phase.Ruling → Passes g (At (Doing (p.next place)) []) (old, t) to_records (changes.unwound old, t)
+  pub next_so : (place : Place) → old.phase ≡ phase.Ruling → Passes g (At (Doing (p.jump (j.Next place))) []) (old, t) to_records (changes.unwound old, t)
   next_so place is = alters refl (at_rest _ _) (λ k hid c a. (hid, unwinds g old t hid c a, ap (λ ph. held g (seen (base g (old, t) hid) c) (next (phase_of ph) place k (seen (base g (old, t) hid) c))) is))
 
   next_by : (ph : Phase) (place : Place) (k : List Piece) (s : State) → ph ≢ phase.Ruling → next (phase_of ph) place k s ≡ Goes (ends (Faulted fault.NextOutside place)) s
@@ -53,10 +54,10 @@ module _ (g : Given) (old : Kept) (t : Table) where
   next_by phase.Ruling place k s not = absurd (not refl)
   next_by phase.Ending place k s not = refl
 
-  pub next_not : (place : Place) → old.phase ≢ phase.Ruling → Passes g (At (Doing (p.next place)) []) (old, t) (λ k. ends (Faulted fault.NextOutside place)) (old, t)
+  pub next_not : (place : Place) → old.phase ≢ phase.Ruling → Passes g (At (Doing (p.jump (j.Next place))) []) (old, t) (λ k. ends (Faulted fault.NextOutside place)) (old, t)
   next_not place not = moves (at_rest _ _) (λ k hid c a. ap (held g (seen (base g (old, t) hid) c)) (next_by old.phase place k (seen (base g (old, t) hid) c) not))
 
-  next_file_so : (place : Place) → old.phase ≡ phase.Ruling → Passes g (At (Doing (p.next_file place)) []) (old, t) (λ k. skipping old.main.current (to_records k)) (changes.unwound old, t)
+  next_file_so : (place : Place) → old.phase ≡ phase.Ruling → Passes g (At (Doing (p.jump (j.NextFile place))) []) (old, t) (λ k. skipping old.main.current (to_records k)) (changes.unwound old, t)
   next_file_so place is = alters refl (at_rest _ _) (λ k hid c a. (hid, unwinds g old t hid c a, ap (λ ph. held g (seen (base g (old, t) hid) c) (next_file (phase_of ph) place k (seen (base g (old, t) hid) c))) is))
 
   next_file_by : (ph : Phase) (place : Place) (k : List Piece) (s : State) → ph ≢ phase.Ruling → next_file (phase_of ph) place k s ≡ Goes (ends (Faulted fault.NextOutside place)) s
@@ -64,7 +65,7 @@ module _ (g : Given) (old : Kept) (t : Table) where
   next_file_by phase.Ruling place k s not = absurd (not refl)
   next_file_by phase.Ending place k s not = refl
 
-  next_file_not : (place : Place) → old.phase ≢ phase.Ruling → Passes g (At (Doing (p.next_file place)) []) (old, t) (λ k. ends (Faulted fault.NextOutside place)) (old, t)
+  next_file_not : (place : Place) → old.phase ≢ phase.Ruling → Passes g (At (Doing (p.jump (j.NextFile place))) []) (old, t) (λ k. ends (Faulted fault.NextOutside place)) (old, t)
   next_file_not place not = moves (at_rest _ _) (λ k hid c a. ap (held g (seen (base g (old, t) hid) c)) (next_file_by old.phase place k (seen (base g (old, t) hid) c) not))
 
   pub exit_so : (place : Place) → Passes g (At (Doing (p.exit place None)) []) (old, t) (λ k. after_exit (phase_of old.phase)) (changes.unwound old, t)
@@ -98,20 +99,20 @@ module _ (g : Given) (old : Kept) (t : Table) where
 
   -- ---- as the code has them
 
-  pub next_is : (place : Place) (ph : Phase) (new : Kept) → ph ≡ old.phase → ph ≡ phase.Ruling → new ≡ changes.unwound old → Passes g (At (Doing (p.next place)) []) (old, t) to_records (new, t)
-  next_is place ph new of is same = subst (λ (n : Kept). Passes g (At (Doing (p.next place)) []) (old, t) to_records (n, t)) (sym same) (next_so place (sym of ∙ is))
+  pub next_is : (place : Place) (ph : Phase) (new : Kept) → ph ≡ old.phase → ph ≡ phase.Ruling → new ≡ changes.unwound old → Passes g (At (Doing (p.jump (j.Next place))) []) (old, t) to_records (new, t)
+  next_is place ph new of is same = subst (λ (n : Kept). Passes g (At (Doing (p.jump (j.Next place))) []) (old, t) to_records (n, t)) (sym same) (next_so place (sym of ∙ is))
 
-  pub next_is_not : (place : Place) (ph : Phase) → ph ≡ old.phase → ph ≢ phase.Ruling → Passes g (At (Doing (p.next place)) []) (old, t) (λ k. ends (Faulted fault.NextOutside place)) (old, t)
+  pub next_is_not : (place : Place) (ph : Phase) → ph ≡ old.phase → ph ≢ phase.Ruling → Passes g (At (Doing (p.jump (j.Next place))) []) (old, t) (λ k. ends (Faulted fault.NextOutside place)) (old, t)
   next_is_not place ph of not = next_not place (λ e. not (of ∙ e))
 
   pub next_file_is : (place : Place) (ph : Phase) (new : Kept) → ph ≡ old.phase → ph ≡ phase.Ruling → new ≡ changes.unwound old →
-      Acts g (At (Doing (p.next_file place)) []) (λ (u : Unit {0}) k. skipping new.main.current (to_records k)) (old, t) (Ok tt) (new, t)
+      Acts g (At (Doing (p.jump (j.NextFile place))) []) (λ (u : Unit {0}) k. skipping new.main.current (to_records k)) (old, t) (Ok tt) (new, t)
   next_file_is place ph new of is same =
-      subst (λ (n : Kept). Acts g (At (Doing (p.next_file place)) []) (λ (u : Unit {0}) k. skipping n.main.current (to_records k)) (old, t) (Ok tt) (n, t)) (sym same)
+      subst (λ (n : Kept). Acts g (At (Doing (p.jump (j.NextFile place))) []) (λ (u : Unit {0}) k. skipping n.main.current (to_records k)) (old, t) (Ok tt) (n, t)) (sym same)
       (done {on = λ (u : Unit {0}) k. skipping old.main.current (to_records k)} (next_file_so place (sym of ∙ is)))
 
   pub next_file_is_not : (place : Place) (ph : Phase) → ph ≡ old.phase → ph ≢ phase.Ruling →
-      Acts g (At (Doing (p.next_file place)) []) (λ (u : Unit {0}) k. skipping old.main.current (to_records k)) (old, t) (Err (halt.Fault fault.NextOutside place)) (old, t)
+      Acts g (At (Doing (p.jump (j.NextFile place))) []) (λ (u : Unit {0}) k. skipping old.main.current (to_records k)) (old, t) (Err (halt.Fault fault.NextOutside place)) (old, t)
   next_file_is_not place ph of not = closed (next_file_not place (λ e. not (of ∙ e)))
 
   pub exit_is : (place : Place) (new : Kept) → new ≡ changes.unwound old → Passes g (At (Doing (p.exit place None)) []) (old, t) (λ k. after_exit (phase_of new.phase)) (new, t)

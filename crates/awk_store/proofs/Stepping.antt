@@ -58,10 +58,7 @@ module _ (names : Names) (k : List Piece) where
   by_form (Statement-F.Printf q a xs r) x e not = told x _ _ (e ∙ s.rolls-Printf q a xs r) (views.statement-Printf names q a xs r) refl
   by_form (Statement-F.Delete q a xs) x e not = told x _ _ (e ∙ s.rolls-Delete q a xs) (views.statement-Delete names q a xs) refl
   by_form (Statement-F.DeleteAll a) x e not = told x _ _ (e ∙ s.rolls-DeleteAll a) (views.statement-DeleteAll names a) refl
-  by_form Statement-F.Break x e not = told x _ _ (e ∙ s.rolls-Break) (views.statement-Break names) refl
-  by_form Statement-F.Continue x e not = told x _ _ (e ∙ s.rolls-Continue) (views.statement-Continue names) refl
-  by_form (Statement-F.Next q) x e not = told x _ _ (e ∙ s.rolls-Next q) (views.statement-Next names q) refl
-  by_form (Statement-F.NextFile q) x e not = told x _ _ (e ∙ s.rolls-NextFile q) (views.statement-NextFile names q) refl
+  by_form (Statement-F.Jump which) x e not = told x _ _ (e ∙ s.rolls-Jump which) (views.statement-Jump names which) refl
   by_form (Statement-F.Exit q a) x e not = told x _ _ (e ∙ s.rolls-Exit q a) (views.statement-Exit names q a) refl
   by_form (Statement-F.Return a) x e not = told x _ _ (e ∙ s.rolls-Return a) (views.statement-Return names a) refl
   by_form (Statement-F.Block xs) x e not = absurd (not xs (e ∙ s.rolls-Block xs))

@@ -4,6 +4,7 @@ ghost use Rattle.awk_machine.specs.State.{Given};
 ghost use Rattle.awk_machine.specs.Statements.{skipping, to_records};
 ghost use Rattle.awk_program.specs.Program as p;
 ghost use Rattle.awk_program.specs.Program.{Expression};
+ghost use Rattle.awk_program.specs.declared.jumps.Jump.TheVariants as j;
 ghost use Rattle.awk_store.specs.Acts.{Acts};
 ghost use Rattle.awk_store.specs.Jumps.{Jumps};
 ghost use Rattle.awk_streams.specs.Tables.{Table};
@@ -18,7 +19,7 @@ use awk_text::value::Value;
 
 /// `next`: all calls end, and the record is done with. Outside the rules for records it is a fault. Takes no memory.
 pub fn next(store: &mut Store, place: Place) -> Halt
-    ensures { (g : Given) (t : Table) → Jumps g (At (Doing (p.next place)) []) (store.old, t) result (store.new, t) }
+    ensures { (g : Given) (t : Table) → Jumps g (At (Doing (p.jump (j.Next place))) []) (store.old, t) result (store.new, t) }
 {
     match store.phase() {
         Phase::Ruling => {
@@ -32,7 +33,7 @@ pub fn next(store: &mut Store, place: Place) -> Halt
 /// `nextfile`: all calls end, and what the main input reads is to be done with before the next record. Outside the rules for
 /// records it is a fault. Takes no memory.
 pub fn next_file(store: &mut Store, place: Place) -> Result<(), Halt>
-    ensures { (g : Given) (t : Table) → Acts g (At (Doing (p.next_file place)) []) (λ u k. skipping store.new.main.current (to_records k)) (store.old, t) result (store.new, t) }
+    ensures { (g : Given) (t : Table) → Acts g (At (Doing (p.jump (j.NextFile place))) []) (λ u k. skipping store.new.main.current (to_records k)) (store.old, t) result (store.new, t) }
 {
     match store.phase() {
         Phase::Ruling => {

@@ -139,10 +139,7 @@ abbrev mutual
   done (p.printf place x xs r) = value x ++ (all xs ++ redirection r)
   done (p.delete place a xs) = all xs
   done (p.delete_all a) = []
-  done p.break = []
-  done p.continue = []
-  done (p.next place) = []
-  done (p.next_file place) = []
+  done (p.jump which) = []
   done (p.exit place x) = optional x
   done (p.return x) = optional x
   done (p.block xs) = each_done xs

@@ -14,6 +14,8 @@ use Rattle.awk_lib.specs.Arrays.{without}
 use Rattle.awk_program.specs.Slots.{Text}
 use Rattle.awk_program.specs.Program as p
 use Rattle.awk_program.specs.Program.{Expression, Statement, Statements, statements_of, expressions_of}
+use Rattle.awk_program.specs.declared.jumps.Jump.{Jump}
+use Rattle.awk_program.specs.declared.jumps.Jump.TheVariants as jump
 use Rattle.awk_program.specs.declared.operators.Redirect.{Redirect}
 use Rattle.awk_program.specs.declared.operators.Redirect.TheVariants as to
 use Rattle.awk_program.specs.declared.statements.Redirection.{Redirection}
@@ -187,6 +189,12 @@ module _ (S : Listed) where
   next_files Ruling place k t rest = skipped t.main.current (st.to_records k) (to_records nothing k rest)
   next_files Ending place k t rest = ended S (m.Faulted NextOutside place)
 
+  jumps : (which : Jump) (k : List Piece) (t : State) → Ready S k → Keeps S (st.jump which k t)
+  jumps jump.Break k t rest = after_break k rest
+  jumps jump.Continue k t rest = after_continue k rest
+  jumps (jump.Next place) k t rest = nexts t.phase place k t rest
+  jumps (jump.NextFile place) k t rest = next_files t.phase place k t rest
+
   exited : (place : Place) (o : Option Expression) (vs : List Value) (k : List Piece) (t : State) → Sub S (s.optional o) → Ready S k →
       Keeps S (st.exit place o (Doing (p.exit place o)) vs k t)
   exited place None vs k t h rest = exits t.phase
@@ -215,10 +223,7 @@ module _ (S : Listed) where
       each S xs (Doing (p.delete place a xs)) _ vs k t (each_of_list S xs h) h (λ y. tt) rest
       (λ ws. through S place (limited (joined (own_text t (codes "SUBSEP")) ws)) (λ key k s. Goes k (with_array a (without (array s a) key) s)) k t (λ key. rest))
   statements (p.delete_all a) vs k t h n rest = rest
-  statements p.break vs k t h n rest = after_break k rest
-  statements p.continue vs k t h n rest = after_continue k rest
-  statements (p.next place) vs k t h n rest = nexts t.phase place k t rest
-  statements (p.next_file place) vs k t h n rest = next_files t.phase place k t rest
+  statements (p.jump which) vs k t h n rest = jumps which k t rest
   statements (p.exit place x) vs k t h n rest = exited place x vs k t h rest
   statements (p.return x) vs k t h n rest = returned x vs k t h rest
   statements (p.block xs) vs k t h n rest = (in_order xs h, rest)

@@ -2,10 +2,9 @@ use Rattle.awk_eval.proofs.Going.{block_first, turn_first}
 use Rattle.awk_forms.proofs.Leading.{quietly}
 use Rattle.awk_streams.proofs.Chain.{at_once, done, part, passes}
 use Rattle.awk_store.proofs.Acting.{acted}
-use Rattle.awk_store.proofs.Leading.{jumped}
 use Rattle.awk_machine.specs.Expressions.{either}
 use Rattle.awk_machine.specs.Pieces.{Do, Each}
-use Rattle.awk_program.proofs.Views.{statement-Block, statement-Break, statement-Continue, statement-Delete, statement-DeleteAll, statement-Do, statement-Exit, statement-Expr, statement-For, statement-ForIn, statement-If, statement-IfElse, statement-Next, statement-NextFile, statement-Print, statement-Printf, statement-Return, statement-While}
+use Rattle.awk_program.proofs.Views.{statement-Block, statement-Delete, statement-DeleteAll, statement-Do, statement-Exit, statement-Expr, statement-For, statement-ForIn, statement-If, statement-IfElse, statement-Jump, statement-Print, statement-Printf, statement-Return, statement-While}
 use Rattle.awk_program.specs.View.{view_statement}
 use Rattle.awk_store.specs.Wholes.{names_in}
 use Rattle.std.proofs.Common.{map, refl, ◌∷◌}
@@ -31,21 +30,9 @@ pub returns-in-DeleteAll : goal.returns-in-DeleteAll
 returns-in-DeleteAll g c =
     record { plays = λ m is. rw (c.in-DeleteAll.is, statement-DeleteAll) (done (part tt (at_once _ _ _) (acted (c.remove_all.ensures m c.args.run.now.streams)) refl)); owns = c.requires.owns }
 
-pub returns-in-Break : goal.returns-in-Break
-returns-in-Break g c =
-    record { plays = λ m is. rw (c.in-Break.is, statement-Break) (done (quietly (at_once _ _ _) (λ k hid d a. refl))); owns = c.requires.owns }
-
-pub returns-in-Continue : goal.returns-in-Continue
-returns-in-Continue g c =
-    record { plays = λ m is. rw (c.in-Continue.is, statement-Continue) (done (quietly (at_once _ _ _) (λ k hid d a. refl))); owns = c.requires.owns }
-
-pub returns-in-Next : goal.returns-in-Next
-returns-in-Next g c =
-    record { plays = λ m is. rw (c.in-Next.is, statement-Next) (jumped _ (c.next.ensures m c.args.run.now.streams)); owns = c.requires.owns }
-
-pub returns-in-NextFile : goal.returns-in-NextFile
-returns-in-NextFile g c =
-    record { plays = λ m is. rw (c.in-NextFile.is, statement-NextFile) (c.next_file.ensures.task m); owns = c.next_file.ensures.owns }
+pub returns-in-Jump : goal.returns-in-Jump
+returns-in-Jump g c =
+    record { plays = λ m is. rw (c.in-Jump.is, statement-Jump) (c.jump.ensures.task m); owns = c.jump.ensures.owns }
 
 pub returns-in-Exit : goal.returns-in-Exit
 returns-in-Exit g c =

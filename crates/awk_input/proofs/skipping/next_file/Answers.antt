@@ -1,4 +1,5 @@
 use Rattle.std.proofs.Common.{[]}
+use Rattle.awk_program.specs.declared.jumps.Jump.TheVariants as j
 use Rattle.awk_program.specs.Program as p
 use Rattle.awk_machine.specs.Pieces.{At, Doing}
 use Rattle.awk_machine.specs.Statements.{to_records}
@@ -15,12 +16,12 @@ returns-in-Err-clause-task g c = λ m.
 pub returns-in-Err-skip-clause-task : goal.returns-in-Err-skip-clause-task
 returns-in-Err-skip-clause-task g c = λ m.
     let old : Whole = (c.args.store.now, c.args.streams.now) in
-    let q = At (Doing (p.next_file c.args.place)) [] in
+    let q = At (Doing (p.jump (j.NextFile c.args.place))) [] in
     halts_whole m q old (c.skip.new.store, c.skip.new.streams) c.args.world.now c.skip.new.world c.in-Err-skip.halt
     (c.in-Err-skip.ensures.task m to_records q old c.args.world.now (part _ (at_once q old c.args.world.now) (acted (c.next_file.ensures m c.args.streams.now)) c.in_default.is))
 
 pub returns-clause-task : goal.returns-clause-task
 returns-clause-task g c = λ m.
     let old : Whole = (c.args.store.now, c.args.streams.now) in
-    let q = At (Doing (p.next_file c.args.place)) [] in
+    let q = At (Doing (p.jump (j.NextFile c.args.place))) [] in
     nexts (c.in_default-skip.ensures.task m to_records q old c.args.world.now (part _ (at_once q old c.args.world.now) (acted (c.next_file.ensures m c.args.streams.now)) c.in_default.is))

@@ -35,7 +35,7 @@ statement-returns-in-DeleteAll t c =
 
 pub statement-returns-in-Jump : goal.statement-returns-in-Jump
 statement-returns-in-Jump t c =
-    rw (c.in-Jump.is, statement-Jump) (c.jump_of.ensures _)
+    rw (c.in-Jump.is, statement-Jump, program.statement-Jump, c.jump.ensures) refl
 
 pub statement-returns-in-Exit : goal.statement-returns-in-Exit
 statement-returns-in-Exit t c =

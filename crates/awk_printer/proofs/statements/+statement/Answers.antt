@@ -1,6 +1,6 @@
 use Rattle.std.proofs.Common.{arith, append_assoc}
 use Rattle.std.proofs.lemmas.List.{drop_all}
-use Rattle.awk_program.proofs.Views.{statement-Expr, statement-Print, statement-Printf, statement-Delete, statement-DeleteAll, statement-Break, statement-Continue, statement-Next, statement-NextFile, statement-Exit, statement-Return, statement-Block, statement-If, statement-IfElse, statement-While, statement-Do, statement-For, statement-ForIn}
+use Rattle.awk_program.proofs.Views.{statement-Expr, statement-Print, statement-Printf, statement-Delete, statement-DeleteAll, statement-Jump, statement-Exit, statement-Return, statement-Block, statement-If, statement-IfElse, statement-While, statement-Do, statement-For, statement-ForIn}
 use Rattle.awk_printer.proofs.Lists.{drop_here}
 use Rattle.awk_printer.proofs.Pages.{nothing, both, lost}
 use Rattle.awk_printer.proofs.statements.+statement.Goals as goal
@@ -25,21 +25,9 @@ pub statement-returns-in-DeleteAll : goal.statement-returns-in-DeleteAll
 statement-returns-in-DeleteAll t c =
     rw (c.in-DeleteAll.is, statement-DeleteAll) c.of_variable.ensures
 
-pub statement-returns-in-Break : goal.statement-returns-in-Break
-statement-returns-in-Break t c =
-    rw (c.in-Break.is, statement-Break) c.bare.ensures
-
-pub statement-returns-in-Continue : goal.statement-returns-in-Continue
-statement-returns-in-Continue t c =
-    rw (c.in-Continue.is, statement-Continue) c.bare-in-Continue.ensures
-
-pub statement-returns-in-Next : goal.statement-returns-in-Next
-statement-returns-in-Next t c =
-    rw (c.in-Next.is, statement-Next) c.bare_at.ensures
-
-pub statement-returns-in-NextFile : goal.statement-returns-in-NextFile
-statement-returns-in-NextFile t c =
-    rw (c.in-NextFile.is, statement-NextFile) c.bare_at-in-NextFile.ensures
+pub statement-returns-in-Jump : goal.statement-returns-in-Jump
+statement-returns-in-Jump t c =
+    rw (c.in-Jump.is, statement-Jump) c.jump.ensures
 
 pub statement-returns-in-Exit : goal.statement-returns-in-Exit
 statement-returns-in-Exit t c =

@@ -1,7 +1,7 @@
 use Rattle.std.proofs.Common.{◌++◌, refl, arith, map, append-nil}
 use Rattle.awk_program.specs.Program.{statements_of}
 use Rattle.awk_program.specs.View.{view_statement}
-use Rattle.awk_program.proofs.Views.{statement-Expr, statement-Print, statement-Printf, statement-Delete, statement-DeleteAll, statement-Break, statement-Continue, statement-Next, statement-NextFile, statement-Exit, statement-Return, statement-Block, statement-If, statement-IfElse, statement-While, statement-Do, statement-For, statement-ForIn}
+use Rattle.awk_program.proofs.Views.{statement-Expr, statement-Print, statement-Printf, statement-Delete, statement-DeleteAll, statement-Jump, statement-Exit, statement-Return, statement-Block, statement-If, statement-IfElse, statement-While, statement-Do, statement-For, statement-ForIn}
 use Rattle.box_listing.specs.Sites as spec
 use Rattle.box_listing.proofs.Finding.{same, then}
 use Rattle.box_listing.proofs.Walking.{all_found, turn}
@@ -22,17 +22,8 @@ statement-returns-in-Delete t c = same _ _ _ _ (λ n. spec.done (view_statement 
 pub statement-returns-in-DeleteAll : goal.statement-returns-in-DeleteAll
 statement-returns-in-DeleteAll t c = λ n. rw (c.in-DeleteAll.is, statement-DeleteAll, append-nil) refl
 
-pub statement-returns-in-Break : goal.statement-returns-in-Break
-statement-returns-in-Break t c = λ n. rw (c.in-Break.is, statement-Break, append-nil) refl
-
-pub statement-returns-in-Continue : goal.statement-returns-in-Continue
-statement-returns-in-Continue t c = λ n. rw (c.in-Continue.is, statement-Continue, append-nil) refl
-
-pub statement-returns-in-Next : goal.statement-returns-in-Next
-statement-returns-in-Next t c = λ n. rw (c.in-Next.is, statement-Next, append-nil) refl
-
-pub statement-returns-in-NextFile : goal.statement-returns-in-NextFile
-statement-returns-in-NextFile t c = λ n. rw (c.in-NextFile.is, statement-NextFile, append-nil) refl
+pub statement-returns-in-Jump : goal.statement-returns-in-Jump
+statement-returns-in-Jump t c = λ n. rw (c.in-Jump.is, statement-Jump, append-nil) refl
 
 pub statement-returns-in-Exit : goal.statement-returns-in-Exit
 statement-returns-in-Exit t c = same _ _ _ _ (λ n. spec.done (view_statement n c.args.s.now)) c.optional.ensures (λ n. rw (c.in-Exit.is, statement-Exit) refl)
