@@ -1,5 +1,6 @@
 -- What the proofs of the code cite.
 use Rattle.std.proofs.Common.{◌≡◌, ◌≢◌, ◌∙◌, ℕ, Bool, List, [], ◌∷◌, map, Result, Ok, Err, IfOk, ap, refl}
+use Rattle.awk_tree.specs.Looks.{and_of, concat_of, member_of, or_of, pipe_of, product_of, sum_of}
 use Rattle.awk_tree.specs.declared.names.Member.{Member}
 use Rattle.awk_tree.specs.declared.expressions.Expr.{Expr}
 use Rattle.awk_tree.specs.declared.expressions.Term.{Term}
@@ -10,7 +11,7 @@ use Rattle.awk_tree.specs.Input.{Parser, ◌>>=◌, pure}
 use Rattle.awk_tree.specs.Tree as t
 use Rattle.awk_tree.specs.Tree.{Tree, trees_of, terms_of, pipes_of}
 use Rattle.awk_tree.specs.View.{view, view_term, view_piped}
-use Rattle.awk_tree.specs.Expressions.{product_of, sum_of, concat_of, pipe_of, member_of, and_of, or_of, in_name, in_names, grouped}
+use Rattle.awk_tree.specs.Expressions.{in_name, in_names, grouped}
 
 -- what was boxed, by what it is seen as
 pub seen_as : {E : Type 0} (made : Result Expr E) (x : Expr) (y : Tree) → IfOk made (λ e. e ≡ x) → view x ≡ y → IfOk made (λ e. view e ≡ y)

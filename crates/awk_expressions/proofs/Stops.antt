@@ -4,6 +4,8 @@ use Rattle.awk_tokens.specs.declared.token.Token.{Token}
 use Rattle.awk_tokens.specs.declared.terminals.Assignment.{Assignment}
 use Rattle.awk_tokens.specs.declared.terminals.Terminal.{Terminal}
 use Rattle.awk_tokens.specs.declared.terminals.Terminal.TheVariants as w
+use Rattle.awk_tree.specs.Looks.{past, skip}
+use Rattle.awk_tree.specs.Looks as looks
 use Rattle.awk_tree.specs.declared.expressions.Piped.{Piped}
 use Rattle.awk_tree.specs.declared.expressions.Term.{Term}
 use Rattle.awk_tree.specs.declared.goals.Goal.{Goal}
@@ -11,7 +13,7 @@ use Rattle.awk_tree.specs.declared.names.Member.{Member}
 use Rattle.awk_tree.specs.declared.operators.Comparison.{Comparison}
 use Rattle.awk_tree.specs.Tree.{Tree}
 use Rattle.awk_tree.specs.Terminals.{is, ahead, look}
-use Rattle.awk_tree.specs.Input.{Outcome, Parser, and_then, pure, many, many_from, skip, past}
+use Rattle.awk_tree.specs.Input.{Outcome, Parser, and_then, pure, many, many_from}
 use Rattle.awk_tree.specs.Expressions as e
 use Rattle.awk_expressions.specs.Stops.{ends_chains, ends_expression}
 
@@ -40,15 +42,15 @@ on : (o : Outcome Tree) (left : Tree) (ts : List Token) (f : Tree → Parser Tre
 on o left ts f h k = ap (λ (o : Outcome Tree). and_then o f) h ∙ k
 
 pub record NoChain (k : Terminal) : Type 0 where
-  pub factor : e.is_factor_sign k ≡ false
-  pub addend : e.is_term_sign k ≡ false
-  pub part : e.begins_part k ≡ false
+  pub factor : looks.is_factor_sign k ≡ false
+  pub addend : looks.is_term_sign k ≡ false
+  pub part : looks.begins_part k ≡ false
   pub pipe : is w.BarGetline k ≡ false
-  pub compared : (p : Bool) → e.comparison p k ≡ None
-  pub matched : e.matching k ≡ None
+  pub compared : (p : Bool) → looks.comparison p k ≡ None
+  pub matched : looks.matching k ≡ None
   pub member : is w.In k ≡ false
 
-abbrev none_so : (k : Terminal) → e.is_factor_sign k ≡ false → e.is_term_sign k ≡ false → e.begins_part k ≡ false → is w.BarGetline k ≡ false → ((p : Bool) → e.comparison p k ≡ None) → e.matching k ≡ None → is w.In k ≡ false → NoChain k
+abbrev none_so : (k : Terminal) → looks.is_factor_sign k ≡ false → looks.is_term_sign k ≡ false → looks.begins_part k ≡ false → is w.BarGetline k ≡ false → ((p : Bool) → looks.comparison p k ≡ None) → looks.matching k ≡ None → is w.In k ≡ false → NoChain k
 none_so k a b c d f g h = record { factor = a; addend = b; part = c; pipe = d; compared = f; matched = g; member = h }
 
 no_chain : (k : Terminal) → ends_chains k ≡ true → NoChain k
@@ -64,12 +66,12 @@ no_chain w.Colon h = none_so w.Colon refl refl refl refl (λ _. refl) refl refl
 no_chain _ h = absurd cc
 
 pub record NoMore (k : Terminal) : Type 0 where
-  pub assigned : e.assignment k ≡ None
+  pub assigned : looks.assignment k ≡ None
   pub conjunct : is w.And k ≡ false
   pub disjunct : is w.Or k ≡ false
   pub choice : is k w.Question ≡ false
 
-abbrev no_more_so : (k : Terminal) → e.assignment k ≡ None → is w.And k ≡ false → is w.Or k ≡ false → is k w.Question ≡ false → NoMore k
+abbrev no_more_so : (k : Terminal) → looks.assignment k ≡ None → is w.And k ≡ false → is w.Or k ≡ false → is k w.Question ≡ false → NoMore k
 no_more_so k a b c d = record { assigned = a; conjunct = b; disjunct = c; choice = d }
 
 no_more : (k : Terminal) → ends_expression k ≡ true → NoMore k
@@ -81,33 +83,33 @@ no_more w.Colon h = no_more_so w.Colon refl refl refl refl
 no_more _ h = absurd cc
 
 module _ (depth : ℕ) (inner : Goal → Parser Tree) where
-  product_none : (left : Tree) (ts : List Token) → e.is_factor_sign (ahead ts) ≡ false → e.product_rest depth inner left ts ≡ Ok (left, ts)
+  product_none : (left : Tree) (ts : List Token) → looks.is_factor_sign (ahead ts) ≡ false → e.product_rest depth inner left ts ≡ Ok (left, ts)
   unfolding e.product_rest e.factors
-  product_none left ts h = chain_none e.is_factor_sign (e.factor depth inner) ts (e.product_of left) h
+  product_none left ts h = chain_none looks.is_factor_sign (e.factor depth inner) ts (looks.product_of left) h
 
-  sum_none : (left : Tree) (ts : List Token) → e.is_term_sign (ahead ts) ≡ false → e.sum_rest depth inner left ts ≡ Ok (left, ts)
+  sum_none : (left : Tree) (ts : List Token) → looks.is_term_sign (ahead ts) ≡ false → e.sum_rest depth inner left ts ≡ Ok (left, ts)
   unfolding e.sum_rest e.addends
-  sum_none left ts h = chain_none e.is_term_sign (e.addend depth inner) ts (e.sum_of left) h
+  sum_none left ts h = chain_none looks.is_term_sign (e.addend depth inner) ts (looks.sum_of left) h
 
-  concat_none : (left : Tree) (ts : List Token) → e.begins_part (ahead ts) ≡ false → e.concat_rest depth inner left ts ≡ Ok (left, ts)
+  concat_none : (left : Tree) (ts : List Token) → looks.begins_part (ahead ts) ≡ false → e.concat_rest depth inner left ts ≡ Ok (left, ts)
   unfolding e.concat_rest e.parts
-  concat_none left ts h = chain_none e.begins_part (e.part depth inner) ts (e.concat_of left) h
+  concat_none left ts h = chain_none looks.begins_part (e.part depth inner) ts (looks.concat_of left) h
 
   pipe_none : (left : Tree) (ts : List Token) → is w.BarGetline (ahead ts) ≡ false → e.pipe_rest depth inner left ts ≡ Ok (left, ts)
   unfolding e.pipe_rest e.pipes
-  pipe_none left ts h = chain_none (is w.BarGetline) (e.one_pipe depth inner) ts (e.pipe_of left) h
+  pipe_none left ts h = chain_none (is w.BarGetline) (e.one_pipe depth inner) ts (looks.pipe_of left) h
 
-  compare_none : (p : Bool) (left : Tree) (ts : List Token) → e.comparison p (ahead ts) ≡ None → e.compare_rest depth inner p left ts ≡ Ok (left, ts)
+  compare_none : (p : Bool) (left : Tree) (ts : List Token) → looks.comparison p (ahead ts) ≡ None → e.compare_rest depth inner p left ts ≡ Ok (left, ts)
   unfolding e.compare_rest
   compare_none p left ts h = ap (λ (o : Option Comparison). e.compare_by depth inner left o ts) h
 
-  match_none : (p : Bool) (left : Tree) (ts : List Token) → e.matching (ahead ts) ≡ None → e.match_rest depth inner p left ts ≡ Ok (left, ts)
+  match_none : (p : Bool) (left : Tree) (ts : List Token) → looks.matching (ahead ts) ≡ None → e.match_rest depth inner p left ts ≡ Ok (left, ts)
   unfolding e.match_rest
   match_none p left ts h = ap (λ (o : Option Bool). e.match_by depth inner p left o ts) h
 
   in_none : (left : Tree) (ts : List Token) → is w.In (ahead ts) ≡ false → e.in_rest left ts ≡ Ok (left, ts)
   unfolding e.in_rest e.in_names
-  in_none left ts h = chain_none (is w.In) e.in_name ts (e.member_of left) h
+  in_none left ts h = chain_none (is w.In) e.in_name ts (looks.member_of left) h
 
   pub unary_stops : (p : Bool) (left : Tree) (ts : List Token) → ends_chains (ahead ts) ≡ true → e.unary_rest depth inner p left ts ≡ Ok (left, ts)
   unfolding e.unary_rest
@@ -125,17 +127,17 @@ module _ (depth : ℕ) (inner : Goal → Parser Tree) where
       (match_none p left ts no.matched))
       (in_none left ts no.member)
 
-  assigned_none : (p : Bool) (left : Tree) (ts : List Token) → e.assignment (ahead ts) ≡ None → e.assigned depth inner p left ts ≡ Ok (left, ts)
+  assigned_none : (p : Bool) (left : Tree) (ts : List Token) → looks.assignment (ahead ts) ≡ None → e.assigned depth inner p left ts ≡ Ok (left, ts)
   unfolding e.assigned
   assigned_none p left ts h = ap (λ (o : Option Assignment). e.assigned_by depth inner p left o ts) h
 
   and_none : (p : Bool) (left : Tree) (ts : List Token) → is w.And (ahead ts) ≡ false → e.and_rest depth inner p left ts ≡ Ok (left, ts)
   unfolding e.and_rest e.conjuncts
-  and_none p left ts h = chain_none (is w.And) (e.next_conjunct depth inner p) ts (e.and_of left) h
+  and_none p left ts h = chain_none (is w.And) (e.next_conjunct depth inner p) ts (looks.and_of left) h
 
   or_none : (p : Bool) (left : Tree) (ts : List Token) → is w.Or (ahead ts) ≡ false → e.or_rest depth inner p left ts ≡ Ok (left, ts)
   unfolding e.or_rest e.disjuncts
-  or_none p left ts h = chain_none (is w.Or) (e.next_disjunct depth inner p) ts (e.or_of left) h
+  or_none p left ts h = chain_none (is w.Or) (e.next_disjunct depth inner p) ts (looks.or_of left) h
 
   choose_none : (p : Bool) (left : Tree) (ts : List Token) → is (ahead ts) w.Question ≡ false → e.choose_rest depth inner p left ts ≡ Ok (left, ts)
   unfolding e.choose_rest

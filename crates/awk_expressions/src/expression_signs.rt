@@ -2,6 +2,7 @@
 
 ghost use Rattle.std.specs.Prelude.{◌≡◌};
 ghost use Rattle.awk_expressions.specs.Stops as stops;
+ghost use Rattle.awk_tree.specs.Looks as looks;
 ghost use Rattle.awk_tree.specs.Expressions as spec;
 
 use awk_tree::{Arithmetic, Assignment, Comparison, Sign, Step, Terminal};
@@ -40,7 +41,7 @@ pub fn ends_expression(kind: Terminal) -> bool
 }
 
 pub fn sign(kind: Terminal) -> Option<Sign>
-    ensures { result ≡ spec.sign kind }
+    ensures { result ≡ looks.sign kind }
 {
     match kind {
         Terminal::Not => Some(Sign::Not),
@@ -51,7 +52,7 @@ pub fn sign(kind: Terminal) -> Option<Sign>
 }
 
 pub fn step(kind: Terminal) -> Option<Step>
-    ensures { result ≡ spec.step kind }
+    ensures { result ≡ looks.step kind }
 {
     match kind {
         Terminal::Step(which) => Some(which),
@@ -60,19 +61,19 @@ pub fn step(kind: Terminal) -> Option<Step>
 }
 
 pub fn is_factor_sign(kind: Terminal) -> bool
-    ensures { result ≡ spec.is_factor_sign kind }
+    ensures { result ≡ looks.is_factor_sign kind }
 {
     matches!(kind, Terminal::Star | Terminal::Slash | Terminal::Percent)
 }
 
 pub fn is_term_sign(kind: Terminal) -> bool
-    ensures { result ≡ spec.is_term_sign kind }
+    ensures { result ≡ looks.is_term_sign kind }
 {
     matches!(kind, Terminal::Plus | Terminal::Minus)
 }
 
 pub fn arithmetic_of(kind: Terminal) -> Arithmetic
-    ensures { result ≡ spec.arithmetic_of kind }
+    ensures { result ≡ looks.arithmetic_of kind }
 {
     match kind {
         Terminal::Star => Arithmetic::Multiply,
@@ -85,7 +86,7 @@ pub fn arithmetic_of(kind: Terminal) -> Arithmetic
 
 /// Whether a later operand of a concatenation begins so: with no `+` and no `-`.
 pub fn begins_part(kind: Terminal) -> bool
-    ensures { result ≡ spec.begins_part kind }
+    ensures { result ≡ looks.begins_part kind }
 {
     matches!(
         kind,
@@ -104,7 +105,7 @@ pub fn begins_part(kind: Terminal) -> bool
 }
 
 pub fn comparison(in_print: bool, kind: Terminal) -> Option<Comparison>
-    ensures { result ≡ spec.comparison in_print kind }
+    ensures { result ≡ looks.comparison in_print kind }
 {
     match kind {
         Terminal::Less => Some(Comparison::Less),
@@ -124,7 +125,7 @@ pub fn comparison(in_print: bool, kind: Terminal) -> Option<Comparison>
 }
 
 pub fn matching(kind: Terminal) -> Option<bool>
-    ensures { result ≡ spec.matching kind }
+    ensures { result ≡ looks.matching kind }
 {
     match kind {
         Terminal::Tilde => Some(false),
@@ -134,7 +135,7 @@ pub fn matching(kind: Terminal) -> Option<bool>
 }
 
 pub fn assignment(kind: Terminal) -> Option<Assignment>
-    ensures { result ≡ spec.assignment kind }
+    ensures { result ≡ looks.assignment kind }
 {
     match kind {
         Terminal::Assign(how) => Some(how),

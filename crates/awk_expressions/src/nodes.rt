@@ -1,6 +1,7 @@
 // Nodes of the tree.
 
 ghost use Rattle.std.specs.Prelude.{◌≡◌, [], ◌∷◌, map, IfOk, option_map};
+ghost use Rattle.awk_tree.specs.Looks as looks;
 ghost use Rattle.awk_tree.specs.Expressions as spec;
 ghost use Rattle.awk_tree.specs.Tree as tree;
 ghost use Rattle.awk_tree.specs.Tree.{perhaps_of};
@@ -22,7 +23,7 @@ pub fn text_of(alloc: Global, token: &Token) -> Result<Octets, AllocError>
 
 /// The name that stands there.
 pub fn name_of(alloc: Global, token: &Token) -> Result<Name, AllocError>
-    ensures { IfOk result (λ n. n ≡ spec.name_of token.now) }
+    ensures { IfOk result (λ n. n ≡ looks.name_of token.now) }
 {
     Ok(Name {
         text: token.text.copy(alloc)?,
@@ -235,7 +236,7 @@ pub fn up_to_three(
     y: Boxed<Expr>,
     z: Option<Boxed<Expr>>,
 ) -> Result<Items<Expr>, AllocError>
-    ensures { IfOk result (λ all. map view all ≡ view x ∷ view y ∷ spec.listed (option_map view z)) }
+    ensures { IfOk result (λ all. map view all ≡ view x ∷ view y ∷ looks.listed (option_map view z)) }
 {
     let mut all = both(alloc, x, y)?;
     match z {
@@ -255,7 +256,7 @@ pub fn product_of(
     left: Boxed<Expr>,
     more: Items<Term<Expr>>,
 ) -> Result<Boxed<Expr>, AllocError>
-    ensures { IfOk result (λ e. view e ≡ spec.product_of (view left) (map view_term more)) }
+    ensures { IfOk result (λ e. view e ≡ looks.product_of (view left) (map view_term more)) }
 {
     if more.is_empty() {
         return Ok(left);
@@ -269,7 +270,7 @@ pub fn sum_of(
     left: Boxed<Expr>,
     more: Items<Term<Expr>>,
 ) -> Result<Boxed<Expr>, AllocError>
-    ensures { IfOk result (λ e. view e ≡ spec.sum_of (view left) (map view_term more)) }
+    ensures { IfOk result (λ e. view e ≡ looks.sum_of (view left) (map view_term more)) }
 {
     if more.is_empty() {
         return Ok(left);
@@ -283,7 +284,7 @@ pub fn concat_of(
     left: Boxed<Expr>,
     more: Items<Expr>,
 ) -> Result<Boxed<Expr>, AllocError>
-    ensures { IfOk result (λ e. view e ≡ spec.concat_of (view left) (map view more)) }
+    ensures { IfOk result (λ e. view e ≡ looks.concat_of (view left) (map view more)) }
 {
     if more.is_empty() {
         return Ok(left);
@@ -297,7 +298,7 @@ pub fn pipe_of(
     left: Boxed<Expr>,
     more: Items<Piped<Expr>>,
 ) -> Result<Boxed<Expr>, AllocError>
-    ensures { IfOk result (λ e. view e ≡ spec.pipe_of (view left) (map view_piped more)) }
+    ensures { IfOk result (λ e. view e ≡ looks.pipe_of (view left) (map view_piped more)) }
 {
     if more.is_empty() {
         return Ok(left);
@@ -311,7 +312,7 @@ pub fn member_of(
     left: Boxed<Expr>,
     more: Items<Member>,
 ) -> Result<Boxed<Expr>, AllocError>
-    ensures { IfOk result (λ e. view e ≡ spec.member_of (view left) more) }
+    ensures { IfOk result (λ e. view e ≡ looks.member_of (view left) more) }
 {
     if more.is_empty() {
         return Ok(left);
@@ -325,7 +326,7 @@ pub fn and_of(
     left: Boxed<Expr>,
     more: Items<Expr>,
 ) -> Result<Boxed<Expr>, AllocError>
-    ensures { IfOk result (λ e. view e ≡ spec.and_of (view left) (map view more)) }
+    ensures { IfOk result (λ e. view e ≡ looks.and_of (view left) (map view more)) }
 {
     if more.is_empty() {
         return Ok(left);
@@ -335,7 +336,7 @@ pub fn and_of(
 
 #[tactic(auto, using(awk_tree::proofs::Views::views))]
 pub fn or_of(alloc: Global, left: Boxed<Expr>, more: Items<Expr>) -> Result<Boxed<Expr>, AllocError>
-    ensures { IfOk result (λ e. view e ≡ spec.or_of (view left) (map view more)) }
+    ensures { IfOk result (λ e. view e ≡ looks.or_of (view left) (map view more)) }
 {
     if more.is_empty() {
         return Ok(left);
@@ -346,7 +347,7 @@ pub fn or_of(alloc: Global, left: Boxed<Expr>, more: Items<Expr>) -> Result<Boxe
 /// Whether a value can be set there.
 #[tactic(auto, using(awk_tree::proofs::Views::views))]
 pub fn is_lvalue(x: &Expr) -> bool
-    ensures { result ≡ spec.is_lvalue (view x.now) }
+    ensures { result ≡ looks.is_lvalue (view x.now) }
 {
     match x {
         Expr::Name(_) | Expr::Element(_, _) | Expr::Field(_, _) => true,

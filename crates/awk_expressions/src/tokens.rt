@@ -1,6 +1,7 @@
 // A cursor over tokens.
 
 ghost use Rattle.std.specs.Prelude.{◌≡◌, length, suc};
+ghost use Rattle.awk_tree.specs.Looks as looks;
 ghost use Rattle.awk_tree.specs.Input as spec;
 ghost use Rattle.awk_tree.specs.Input.{Reads};
 ghost use Rattle.awk_tree.specs.Terminals as terminals;
@@ -34,7 +35,7 @@ impl<'a> Model for Tokens<'a> {
 
 /// What is left behind newlines.
 fn behind_lines(mut rest: &[Token]) -> &[Token]
-    ensures { result.now ≡ spec.skip rest.entry.now }
+    ensures { result.now ≡ looks.skip rest.entry.now }
 {
     while let Some((_, more)) = rest.split_first() {
         if !is(look(rest), Terminal::Newline) {
@@ -47,7 +48,7 @@ fn behind_lines(mut rest: &[Token]) -> &[Token]
 
 /// What is left behind newlines and `;`.
 fn behind_ends(mut rest: &[Token]) -> &[Token]
-    ensures { result.now ≡ spec.past rest.entry.now }
+    ensures { result.now ≡ looks.past rest.entry.now }
 {
     while let Some((_, more)) = rest.split_first() {
         let next = look(rest);
@@ -153,7 +154,7 @@ impl<'a> Tokens<'a> {
     /// Newlines that mean nothing.
     #[tactic(auto, using(crate::proofs::Stops::skip_none))]
     pub fn skip(&mut self)
-        ensures { self.new ≡ spec.skip self.old }
+        ensures { self.new ≡ looks.skip self.old }
     {
         if is(self.look(), Terminal::Newline) {
             *self = Tokens::new(behind_lines(self.rest()));
@@ -163,7 +164,7 @@ impl<'a> Tokens<'a> {
     /// Newlines and `;` that mean nothing.
     #[tactic(auto, using(crate::proofs::Stops::past_none))]
     pub fn past(&mut self)
-        ensures { self.new ≡ spec.past self.old }
+        ensures { self.new ≡ looks.past self.old }
     {
         let next = self.look();
         if is(next, Terminal::Newline) || is(next, Terminal::Semicolon) {

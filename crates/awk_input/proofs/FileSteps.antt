@@ -14,7 +14,7 @@ use Rattle.box_world.specs.declared.world.World.{Ghosts}
 use Rattle.awk_program.specs.Slots.{Text}
 use Rattle.awk_program.specs.declared.variables.Own.TheVariants as own
 use Rattle.awk_machine.specs.Advances.{advance, asked_by, held}
-use Rattle.awk_machine.specs.MainInput.{file, opened, operand_want}
+use Rattle.awk_machine.specs.MainInput.{file, begin_opened, operand_want}
 use Rattle.awk_machine.specs.Pieces as machine
 use Rattle.awk_machine.specs.Pieces.{nowhere, Piece, Begun, Do, Past, Goes, Asks}
 use Rattle.awk_machine.specs.State.{State, Course, Given}
@@ -65,7 +65,7 @@ begins g old key text new same =
 
 -- ---- a file is opened
 
-opened_so : (text : Text) (k : List Piece) (found : Option ℕ) (r : Reply) → number_opened r ≡ found → opened text k r ≡ begun_or text (is_some found) k
+opened_so : (text : Text) (k : List Piece) (found : Option ℕ) (r : Reply) → number_opened r ≡ found → begin_opened text k r ≡ begun_or text (is_some found) k
 opened_so text k found (reply.Opened n) e = ap (λ o. begun_or text (is_some o) k) e
 opened_so text k found (reply.Bytes b) e = ap (λ o. begun_or text (is_some o) k) e
 opened_so text k found reply.End e = ap (λ o. begun_or text (is_some o) k) e
@@ -80,10 +80,10 @@ module _ {W : Type 0} {ghosts : Ghosts W} (laws : Laws ghosts)
   open_want ss = ap (λ b. record { place = nowhere; given = b; request = request.Open mode.Read text }) (is.words text)
 
   open_at : (l : List Piece) (hid : Hidden) (c : Course) → Agreeing g old hid c → (o : Option ℕ) → find_stream OperandFile text (open_of t) ≡ o →
-      advance g (p ∷ l) (seen (base g old hid) c) ≡ asked_by (option_map reply.Opened o) (operand_want g text (Opens mode.Read OperandFile text)) (λ r. opened text l r) (seen (base g (k, t) hid) c)
+      advance g (p ∷ l) (seen (base g old hid) c) ≡ asked_by (option_map reply.Opened o) (operand_want g text (Opens mode.Read OperandFile text)) (λ r. begin_opened text l r) (seen (base g (k, t) hid) c)
   open_at l hid c a o e =
       ap (held g (seen (base g old hid) c)) (m.moves l hid c a)
-      ∙ ap (λ z. asked_by (option_map reply.Opened z) (operand_want g text (Opens mode.Read OperandFile text)) (λ r. opened text l r) (seen (base g (k, t) hid) c)) (ap (find_stream OperandFile text) (m.agrees hid c a).tells.streams ∙ e)
+      ∙ ap (λ z. asked_by (option_map reply.Opened z) (operand_want g text (Opens mode.Read OperandFile text)) (λ r. begin_opened text l r) (seen (base g (k, t) hid) c)) (ap (find_stream OperandFile text) (m.agrees hid c a).tells.streams ∙ e)
 
   -- it is open
   pub operand_known : (n : ℕ) (w : W) → find_stream OperandFile text (open_of t) ≡ Some n → Leads ghosts (base g) (Agreeing g) used g p old w (λ l. begun_or text true l) (k, t) w
@@ -94,7 +94,7 @@ module _ {W : Type 0} {ghosts : Ghosts W} (laws : Laws ghosts)
       Opening ghosts (record { place = nowhere; given = is_given h text; request = request.Open mode.Read text }) OperandFile text t w found new w' →
       Leads ghosts (base g) (Agreeing g) used g p old w (λ l. begun_or text (is_some found) l) (k, new) w'
   operand_asked found new w w' none x =
-      turned (asked {then_ = λ l r. opened text l r} (operand_want g text (Opens mode.Read OperandFile text)) (record { place = nowhere; given = is_given h text; request = request.Open mode.Read text }) x.reply laws (sym m.same) (at_once p old w)
+      turned (asked {then_ = λ l r. begin_opened text l r} (operand_want g text (Opens mode.Read OperandFile text)) (record { place = nowhere; given = is_given h text; request = request.Open mode.Read text }) x.reply laws (sym m.same) (at_once p old w)
       (λ first l hid c led a.
       let b = m.agrees hid c a in (
         record { taken = fresh OperandFile text hid.taken; row = hid.row },
@@ -115,7 +115,7 @@ module _ {W : Type 0} {ghosts : Ghosts W} (laws : Laws ghosts)
       Refused ghosts (record { place = nowhere; given = is_given h text; request = request.Open mode.Read text }) w halt w' →
       Meets ghosts (base g) (Agreeing g) used g p on old w (Err halt) (k, new) w'
   operand_refused halt new w w' none x =
-      rw x.is (restored nowhere x.by m.same (unanswered {then_ = λ l r. opened text l r} (operand_want g text (Opens mode.Read OperandFile text)) (record { place = nowhere; given = is_given h text; request = request.Open mode.Read text }) x.by laws (at_once p old w)
+      rw x.is (restored nowhere x.by m.same (unanswered {then_ = λ l r. begin_opened text l r} (operand_want g text (Opens mode.Read OperandFile text)) (record { place = nowhere; given = is_given h text; request = request.Open mode.Read text }) x.by laws (at_once p old w)
       (λ l hid c a. (seen (base g (k, t) (record { taken = fresh OperandFile text hid.taken; row = hid.row })) c, open_at l hid c a None none, open_want (open_streams c.events)))
       x.memory x.log))
 
@@ -280,10 +280,10 @@ current_is k key e = ap (λ o. unwrap_or o (Standard 0)) e
 -- ---- what an operand names
 
 pub file_standard : (g : Given) (text : Text) (k : List Piece) (s : State) → bytes_eq text (codes "-") ≡ true → file g text k s ≡ Goes (Do (Begun (Standard 0) text) ∷ k) s
-file_standard g text k s e = ap (λ b. if b then Goes (Do (Begun (Standard 0) text) ∷ k) s else Asks (operand_want g text (Opens mode.Read OperandFile text)) (λ r. opened text k r) s) e
+file_standard g text k s e = ap (λ b. if b then Goes (Do (Begun (Standard 0) text) ∷ k) s else Asks (operand_want g text (Opens mode.Read OperandFile text)) (λ r. begin_opened text k r) s) e
 
 pub file_named : (g : Given) (text : Text) (k : List Piece) (s : State) → bytes_eq text (codes "-") ≡ false → file g text k s ≡ opening_of g text k s
-file_named g text k s e = ap (λ b. if b then Goes (Do (Begun (Standard 0) text) ∷ k) s else Asks (operand_want g text (Opens mode.Read OperandFile text)) (λ r. opened text k r) s) e
+file_named g text k s e = ap (λ b. if b then Goes (Do (Begun (Standard 0) text) ∷ k) s else Asks (operand_want g text (Opens mode.Read OperandFile text)) (λ r. begin_opened text k r) s) e
 
 -- ---- options and results
 

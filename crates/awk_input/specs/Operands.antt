@@ -9,7 +9,7 @@ use Rattle.box_world.specs.declared.ask.Mode.TheVariants as mode
 use Rattle.box_world.specs.declared.ask.Reply.{Reply}
 use Rattle.box_world.specs.declared.ask.Reply.TheVariants as reply
 use Rattle.box_world.specs.Events.{Class, OperandFile, Key, Standard, Named, Opens}
-use Rattle.awk_machine.specs.MainInput.{is_equals, opened, operand_want}
+use Rattle.awk_machine.specs.MainInput.{is_equals, begin_opened, operand_want}
 use Rattle.awk_machine.specs.Moves.{move}
 use Rattle.awk_machine.specs.Pieces.{Piece, Do, Begun, Report, Then, Asks}
 use Rattle.awk_machine.specs.State.{Course, Given}
@@ -40,7 +40,7 @@ pub record Moves (g : Given) (p : Piece) (old : Whole) (then_ : Then) (new : Who
 
 -- the operand's file is opened
 abbrev pub opening_of : Given → Text → Then
-opening_of g text k s = Asks (operand_want g text (Opens mode.Read OperandFile text)) (λ r. opened text k r) s
+opening_of g text k s = Asks (operand_want g text (Opens mode.Read OperandFile text)) (λ r. begin_opened text k r) s
 
 -- what is left to be done once it is open, or can't be opened
 abbrev pub begun_or : Text → Bool → List Piece → List Piece

@@ -52,12 +52,12 @@ abbrev pub input_mode : Class → Mode
 input_mode InputCommand = mode.RunIn
 input_mode other = mode.Read
 
-abbrev pub opened : Place → Key → List Piece → Reply → List Piece
-opened place key k (reply.Opened n) = Do (Read place key) ∷ k
-opened place key k other = give failure k
+abbrev pub read_opened : Place → Key → List Piece → Reply → List Piece
+read_opened place key k (reply.Opened n) = Do (Read place key) ∷ k
+read_opened place key k other = give failure k
 
 abbrev pub fetch : Place → Class → Text → Then
-fetch place class text k s = Asks (want place (Opens (input_mode class) class text)) (λ r. opened place (Named class text) k r) s
+fetch place class text k s = Asks (want place (Opens (input_mode class) class text)) (λ r. read_opened place (Named class text) k r) s
 
 abbrev pub fetch_file : Place → Text → List Piece → List Piece
 fetch_file place text k = if bytes_eq text (codes "-") then Do (Read place (Standard 0)) ∷ k else Do (Fetch place InputFile text) ∷ k

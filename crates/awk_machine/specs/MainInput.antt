@@ -83,9 +83,9 @@ abbrev pub assigned : Text → Text → List Piece → Reply → List Piece
 assigned name text k reply.Done = Do (Set (Variable (global name)) nowhere (v.Input (unescaped text))) ∷ k
 assigned name text k other = k
 
-abbrev pub opened : Text → List Piece → Reply → List Piece
-opened text k (reply.Opened n) = Do (Begun (Named OperandFile text) text) ∷ k
-opened text k other = Do (Report (codes "open") text) ∷ k
+abbrev pub begin_opened : Text → List Piece → Reply → List Piece
+begin_opened text k (reply.Opened n) = Do (Begun (Named OperandFile text) text) ∷ k
+begin_opened text k other = Do (Report (codes "open") text) ∷ k
 
 abbrev pub is_equals : ℕ → Bool
 is_equals b = b == 61
@@ -94,7 +94,7 @@ abbrev pub is_assignment : Given → Text → Bool
 is_assignment g text = list_any is_equals text && g.can_assign (before_first is_equals text)
 
 abbrev pub file : Given → Text → Then
-file g text k s = if bytes_eq text (codes "-") then Goes (Do (Begun (Standard 0) text) ∷ k) s else Asks (operand_want g text (Opens mode.Read OperandFile text)) (λ r. opened text k r) s
+file g text k s = if bytes_eq text (codes "-") then Goes (Do (Begun (Standard 0) text) ∷ k) s else Asks (operand_want g text (Opens mode.Read OperandFile text)) (λ r. begin_opened text k r) s
 
 abbrev pub assignment : Given → Text → Text → Text → Then
 assignment g text name new k s = Asks (operand_want g text (Assigns name new)) (λ r. assigned name new k r) s

@@ -3,6 +3,8 @@ use Rattle.std.proofs.Common.{◌≡◌, ℕ, zero, suc, ◌+◌, Bool, true, fa
 use Rattle.std.proofs.lemmas.List.{append-nil}
 use Rattle.std.specs.List.{flat_map}
 use Rattle.awk_tokens.specs.declared.token.Token.{Token}
+use Rattle.awk_tree.specs.Looks.{skip}
+use Rattle.awk_tree.specs.Looks as looks
 use Rattle.awk_tree.specs.declared.goals.Goal.{Goal}
 use Rattle.awk_tree.specs.declared.goals.Nested.{Nested}
 use Rattle.awk_tree.specs.declared.goals.Nested.TheVariants as nested
@@ -11,7 +13,7 @@ use Rattle.awk_tokens.specs.declared.terminals.Terminal.TheVariants as w
 use Rattle.awk_tree.specs.Tree as tree
 use Rattle.awk_tree.specs.Tree.{Tree, Statement, Statements, statements_of}
 use Rattle.awk_tree.specs.Terminals.{terminal_of, is, look, sign}
-use Rattle.awk_tree.specs.Input.{Parser, ◌>>=◌, any, exactly, pure, skip, skipped}
+use Rattle.awk_tree.specs.Input.{Parser, ◌>>=◌, any, exactly, pure, skipped}
 use Rattle.awk_tree.specs.Expressions.{expr}
 use Rattle.awk_tree.specs.Statements as st
 use Rattle.awk_tree.specs.Canon.{canon_statement, canon_statements, bare_statement, bare_statements, end}
@@ -63,7 +65,7 @@ module _ (n : ℕ) where
   abbrev pub braces_form : Form (List Statement)
   braces_form = record { plain = λ xs. flat_map canon_statement xs ++ sign (codes "}") ∷ []; bare = map bare_statement; spells = Closed w.CloseBrace (Block n) }
 
-no_else_closes : (us : List Token) → closes us ≡ true → st.else_next us ≡ false
+no_else_closes : (us : List Token) → closes us ≡ true → looks.else_next us ≡ false
 no_else_closes us h = no_else_at w.CloseBrace us (is-true (look us) w.CloseBrace refl h) refl refl refl
 
 module _ (n depth : ℕ) (inner : Goal → Parser Tree) (deeper : Inner n depth inner) (body : Nested → Parser Statement) (within : Within n body) where

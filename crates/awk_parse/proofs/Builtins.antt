@@ -3,6 +3,8 @@ use Rattle.std.proofs.Common.{◌≡◌, ℕ, suc, true, false, cond, Option, So
 use Rattle.std.proofs.lemmas.List.{append-nil}
 use Rattle.awk_tokens.specs.declared.token.Token.{Token}
 use Rattle.awk_tokens.specs.declared.words.Builtin.{Builtin}
+use Rattle.awk_tree.specs.Looks.{is_lvalue, name_of}
+use Rattle.awk_tree.specs.Looks as looks
 use Rattle.awk_tree.specs.declared.goals.Goal.{Goal}
 use Rattle.awk_tree.specs.declared.goals.Goal.TheVariants as goal
 use Rattle.awk_tokens.specs.declared.terminals.Terminal.{Terminal}
@@ -14,7 +16,6 @@ use Rattle.awk_tokens.specs.Words.{builtin_text, parameters}
 use Rattle.awk_tokens.specs.declared.words.Parameters.TheVariants as takes
 use Rattle.awk_tree.specs.Input.{Parser, ◌>>=◌, one, pure}
 use Rattle.awk_tree.specs.Expressions as e
-use Rattle.awk_tree.specs.Expressions.{name_of, is_lvalue}
 use Rattle.awk_tree.specs.Canon.{canon, bare, bare_all, canon_commas, builtin_word}
 use Rattle.awk_parse.specs.Rules as rule
 use Rattle.awk_parse.specs.Rules.{Rule}
@@ -156,11 +157,11 @@ module _ (n depth : ℕ) (inner : Goal → Parser Tree) (deeper : Inner n depth 
       (pure_on Near (nexts n depth inner deeper) furthers (λ x. Some x) (λ x. refl) (λ x. refl) (λ us x rest h. g.further (suc n) us x rest h.1)))
       (λ _. pure_at Near furthers None ts refl refl (g.no_further (suc n) ts)))
 
-  listed-of : (z : Option Tree) → canon_commas (trees_of (e.listed z)) ≡ canon_comma (perhaps_of z)
+  listed-of : (z : Option Tree) → canon_commas (trees_of (looks.listed z)) ≡ canon_comma (perhaps_of z)
   listed-of None = refl
   listed-of (Some z) = append-nil (plain_comma z)
 
-  bare-listed : (x y : Tree) (z : Option Tree) → bare_all (trees_of (x ∷ y ∷ e.listed z)) ≡ trees_of (bare x ∷ bare y ∷ e.listed (option_map bare z))
+  bare-listed : (x y : Tree) (z : Option Tree) → bare_all (trees_of (x ∷ y ∷ looks.listed z)) ≡ trees_of (bare x ∷ bare y ∷ looks.listed (option_map bare z))
   bare-listed x y None = refl
   bare-listed x y (Some z) = refl
 
@@ -172,20 +173,20 @@ module _ (n depth : ℕ) (inner : Goal → Parser Tree) (deeper : Inner n depth 
   longer_parts which = pair (pair (pair (pair (builtin_form which) opening) (whole n false)) (nexts n depth inner deeper)) (closes furthers)
 
   longer_spells : (which : Builtin) → parameters which ≡ takes.TwoOrThree → (us : List Token) (q : (((Token × Token) × Tree) × Tree) × Option Tree) (rest : List Token) → Both (pair (pair (pair (builtin_form which) opening) (whole n false)) (nexts n depth inner deeper)) (closes furthers) us q rest
-      → Spells n rule.prim us (tree.builtin q.0.0.0.0.place which (trees_of (q.0.0.1 ∷ q.0.1 ∷ e.listed q.1))) rest
+      → Spells n rule.prim us (tree.builtin q.0.0.0.0.place which (trees_of (q.0.0.1 ∷ q.0.1 ∷ looks.listed q.1))) rest
   longer_spells which longer _ _ _ (both _ _ rest _ _ (both _ vs _ _ y (both _ us _ _ x (both _ _ _ _ _ (this t _ h) (this o _ i)) (opens, k, _)) (_, l)) (closed c ws z _ j m)) =
       let same : (ws ++ c ∷ []) ++ rest ≡ ws ++ c ∷ rest = append_assoc ws (c ∷ []) rest in
-      subst (λ (v : List Token). Spells n rule.prim v (tree.builtin t.place which (trees_of (x ∷ y ∷ e.listed z))) rest) (append_assoc ((t ∷ o ∷ us) ++ vs) ws (c ∷ []))
+      subst (λ (v : List Token). Spells n rule.prim v (tree.builtin t.place which (trees_of (x ∷ y ∷ looks.listed z))) rest) (append_assoc ((t ∷ o ∷ us) ++ vs) ws (c ∷ []))
       (g.a_call_of_two_or_three n which t o c us vs ws x y z rest longer h i j opens (subst (λ (v : List Token). Spells (suc n) (rule.expr false) us x (vs ++ v)) same k) (subst (λ (v : List Token). Next (suc n) vs y v) same l) m)
 
   pub of_two_or_three_law : (which : Builtin) → parameters which ≡ takes.TwoOrThree → LawOn Near Near (builtin_form which) (here n rule.prim) (λ t. e.of_two_or_three depth inner t.place which)
   unfolding e.of_two_or_three
   of_two_or_three_law which longer t ts =
-      seq_at Near Near Near (builtin_form which) opening (here n rule.prim) (one w.OpenParen) (λ t _. inner (goal.Expr false) >>= λ x. e.next_in_list depth inner >>= λ y. e.last_next depth inner >>= λ z. pure (tree.builtin t.place which (trees_of (x ∷ y ∷ e.listed z)))) t ts (opening_law Near ts)
-      (λ q ts. seq_at Near Near Near (pair (builtin_form which) opening) (whole n false) (here n rule.prim) (inner (goal.Expr false)) (λ q x. e.next_in_list depth inner >>= λ y. e.last_next depth inner >>= λ z. pure (tree.builtin q.0.place which (trees_of (x ∷ y ∷ e.listed z)))) q ts (deeper.wholes false ts)
-      (λ q ts. seq_at Near Near Near (pair (pair (builtin_form which) opening) (whole n false)) (nexts n depth inner deeper) (here n rule.prim) (e.next_in_list depth inner) (λ q y. e.last_next depth inner >>= λ z. pure (tree.builtin q.0.0.place which (trees_of (q.1 ∷ y ∷ e.listed z)))) q ts (next_law n depth inner deeper ts)
-      (λ q ts. seq_at Near Near Near (pair (pair (pair (builtin_form which) opening) (whole n false)) (nexts n depth inner deeper)) (closes furthers) (here n rule.prim) (e.last_next depth inner) (λ q z. pure (tree.builtin q.0.0.0.place which (trees_of (q.0.1 ∷ q.1 ∷ e.listed z)))) q ts (last_next_law ts)
-      (pure_on Near (longer_parts which) (here n rule.prim) (λ q. tree.builtin q.0.0.0.0.place which (trees_of (q.0.0.1 ∷ q.0.1 ∷ e.listed q.1)))
+      seq_at Near Near Near (builtin_form which) opening (here n rule.prim) (one w.OpenParen) (λ t _. inner (goal.Expr false) >>= λ x. e.next_in_list depth inner >>= λ y. e.last_next depth inner >>= λ z. pure (tree.builtin t.place which (trees_of (x ∷ y ∷ looks.listed z)))) t ts (opening_law Near ts)
+      (λ q ts. seq_at Near Near Near (pair (builtin_form which) opening) (whole n false) (here n rule.prim) (inner (goal.Expr false)) (λ q x. e.next_in_list depth inner >>= λ y. e.last_next depth inner >>= λ z. pure (tree.builtin q.0.place which (trees_of (x ∷ y ∷ looks.listed z)))) q ts (deeper.wholes false ts)
+      (λ q ts. seq_at Near Near Near (pair (pair (builtin_form which) opening) (whole n false)) (nexts n depth inner deeper) (here n rule.prim) (e.next_in_list depth inner) (λ q y. e.last_next depth inner >>= λ z. pure (tree.builtin q.0.0.place which (trees_of (q.1 ∷ y ∷ looks.listed z)))) q ts (next_law n depth inner deeper ts)
+      (λ q ts. seq_at Near Near Near (pair (pair (pair (builtin_form which) opening) (whole n false)) (nexts n depth inner deeper)) (closes furthers) (here n rule.prim) (e.last_next depth inner) (λ q z. pure (tree.builtin q.0.0.0.place which (trees_of (q.0.1 ∷ q.1 ∷ looks.listed z)))) q ts (last_next_law ts)
+      (pure_on Near (longer_parts which) (here n rule.prim) (λ q. tree.builtin q.0.0.0.0.place which (trees_of (q.0.0.1 ∷ q.0.1 ∷ looks.listed q.1)))
       (λ q. ap (λ (m : List Token). (builtin_word (builtin_text which) ∷ sign (codes "(") ∷ m) ++ sign (codes ")") ∷ []) (ap (λ (m : List Token). canon q.0.0.1 ++ (plain_comma q.0.1 ++ m)) (listed-of q.1) ∙ sym (append_assoc (canon q.0.0.1) (plain_comma q.0.1) (canon_comma (perhaps_of q.1))))
       ∙ append_assoc (builtin_word (builtin_text which) ∷ sign (codes "(") ∷ (canon q.0.0.1 ++ plain_comma q.0.1)) (canon_comma (perhaps_of q.1)) (sign (codes ")") ∷ []))
       (λ q. ap (tree.builtin nowhere which) (bare-listed q.0.0.1 q.0.1 q.1)) (longer_spells which longer)))))

@@ -3,6 +3,8 @@ use Rattle.std.proofs.Common.{◌≡◌, ℕ, Bool, true, false, Option, Some, N
 use Rattle.std.proofs.lemmas.List.{append-nil}
 use Rattle.std.specs.List.{flat_map}
 use Rattle.awk_tokens.specs.declared.token.Token.{Token}
+use Rattle.awk_tree.specs.Looks.{is_lvalue, name_of}
+use Rattle.awk_tree.specs.Looks as looks
 use Rattle.awk_tree.specs.declared.goals.Goal.{Goal}
 use Rattle.awk_tokens.specs.declared.terminals.Terminal.{Terminal}
 use Rattle.awk_tokens.specs.declared.terminals.Terminal.TheVariants as w
@@ -11,7 +13,6 @@ use Rattle.awk_tree.specs.Tree.{Tree, Trees, trees_of, perhaps_of}
 use Rattle.awk_tree.specs.Terminals.{terminal, terminal_of, is, sign, keyword, ahead, nowhere}
 use Rattle.awk_tree.specs.Input.{Parser, ◌>>=◌, any, one, pure}
 use Rattle.awk_tree.specs.Expressions as e
-use Rattle.awk_tree.specs.Expressions.{name_of, is_lvalue}
 use Rattle.awk_tree.specs.Canon.{canon, bare}
 use Rattle.awk_parse.specs.Rules as rule
 use Rattle.awk_parse.specs.Rules.{Rule}
@@ -39,7 +40,7 @@ use Rattle.awk_parse.proofs.Primaries.{infix_on, stays, unary_law}
 
 -- ---- signs of chains
 
-arithmetic_again : (o : Arithmetic) → e.arithmetic_of (terminal (sign (arithmetic_text o))) ≡ o
+arithmetic_again : (o : Arithmetic) → looks.arithmetic_of (terminal (sign (arithmetic_text o))) ≡ o
 unfolding terminal_of
 arithmetic_again a.Add = refl
 arithmetic_again a.Subtract = refl
@@ -48,16 +49,16 @@ arithmetic_again a.Divide = refl
 arithmetic_again a.Remainder = refl
 
 abbrev sign_again : Terminal → Terminal
-sign_again k = terminal (sign (arithmetic_text (e.arithmetic_of k)))
+sign_again k = terminal (sign (arithmetic_text (looks.arithmetic_of k)))
 
-factor_sign : (k : Terminal) → e.is_factor_sign k ≡ true → (sign_again k ≡ k) × (steady k ≡ true)
+factor_sign : (k : Terminal) → looks.is_factor_sign k ≡ true → (sign_again k ≡ k) × (steady k ≡ true)
 unfolding terminal_of
 factor_sign w.Star h = (refl, refl)
 factor_sign w.Slash h = (refl, refl)
 factor_sign w.Percent h = (refl, refl)
 factor_sign _ h = absurd cc
 
-term_sign : (k : Terminal) → e.is_term_sign k ≡ true → (sign_again k ≡ k) × (steady k ≡ true)
+term_sign : (k : Terminal) → looks.is_term_sign k ≡ true → (sign_again k ≡ k) × (steady k ≡ true)
 unfolding terminal_of
 term_sign w.Plus h = (refl, refl)
 term_sign w.Minus h = (refl, refl)
@@ -72,7 +73,7 @@ abbrev bare_term : Term Tree → Term Tree
 bare_term t = record { operator = t.operator; place = nowhere; operand = bare t.operand }
 
 abbrev term_of : Token → Tree → Term Tree
-term_of t x = record { operator = e.arithmetic_of (terminal t); place = t.place; operand = x }
+term_of t x = record { operator = looks.arithmetic_of (terminal t); place = t.place; operand = x }
 
 canon_terms-of : (ts : List (Term Tree)) → canon_terms (terms_of ts) ≡ flat_map plain_term ts
 canon_terms-of [] = refl
@@ -82,19 +83,19 @@ bare_terms-of : (ts : List (Term Tree)) → bare_terms (terms_of ts) ≡ terms_o
 bare_terms-of [] = refl
 bare_terms-of (t ∷ ts) = ap (tree.term t.operator nowhere (bare t.operand)) (bare_terms-of ts)
 
-canon-product_of : (l : Tree) (ts : List (Term Tree)) → canon (e.product_of l ts) ≡ canon l ++ flat_map plain_term ts
+canon-product_of : (l : Tree) (ts : List (Term Tree)) → canon (looks.product_of l ts) ≡ canon l ++ flat_map plain_term ts
 canon-product_of l [] = sym (append-nil (canon l))
 canon-product_of l (t ∷ ts) = ap (λ (m : List Token). canon l ++ m) (canon_terms-of (t ∷ ts))
 
-bare-product_of : (l : Tree) (ts : List (Term Tree)) → bare (e.product_of l ts) ≡ e.product_of (bare l) (map bare_term ts)
+bare-product_of : (l : Tree) (ts : List (Term Tree)) → bare (looks.product_of l ts) ≡ looks.product_of (bare l) (map bare_term ts)
 bare-product_of l [] = refl
 bare-product_of l (t ∷ ts) = ap (tree.product (bare l)) (bare_terms-of (t ∷ ts))
 
-canon-sum_of : (l : Tree) (ts : List (Term Tree)) → canon (e.sum_of l ts) ≡ canon l ++ flat_map plain_term ts
+canon-sum_of : (l : Tree) (ts : List (Term Tree)) → canon (looks.sum_of l ts) ≡ canon l ++ flat_map plain_term ts
 canon-sum_of l [] = sym (append-nil (canon l))
 canon-sum_of l (t ∷ ts) = ap (λ (m : List Token). canon l ++ m) (canon_terms-of (t ∷ ts))
 
-bare-sum_of : (l : Tree) (ts : List (Term Tree)) → bare (e.sum_of l ts) ≡ e.sum_of (bare l) (map bare_term ts)
+bare-sum_of : (l : Tree) (ts : List (Term Tree)) → bare (looks.sum_of l ts) ≡ looks.sum_of (bare l) (map bare_term ts)
 bare-sum_of l [] = refl
 bare-sum_of l (t ∷ ts) = ap (tree.sum (bare l)) (bare_terms-of (t ∷ ts))
 
@@ -102,11 +103,11 @@ canon_parts-of : (xs : List Tree) → canon_parts (trees_of xs) ≡ flat_map can
 canon_parts-of [] = refl
 canon_parts-of (x ∷ xs) = ap (λ (m : List Token). canon x ++ m) (canon_parts-of xs)
 
-canon-concat_of : (l : Tree) (xs : List Tree) → canon (e.concat_of l xs) ≡ canon l ++ flat_map canon xs
+canon-concat_of : (l : Tree) (xs : List Tree) → canon (looks.concat_of l xs) ≡ canon l ++ flat_map canon xs
 canon-concat_of l [] = sym (append-nil (canon l))
 canon-concat_of l (x ∷ xs) = ap (λ (m : List Token). canon l ++ m) (canon_parts-of (x ∷ xs))
 
-bare-concat_of : (l : Tree) (xs : List Tree) → bare (e.concat_of l xs) ≡ e.concat_of (bare l) (map bare xs)
+bare-concat_of : (l : Tree) (xs : List Tree) → bare (looks.concat_of l xs) ≡ looks.concat_of (bare l) (map bare xs)
 bare-concat_of l [] = refl
 bare-concat_of l (x ∷ xs) = ap (tree.concat (bare l)) (bare_all-of (x ∷ xs))
 
@@ -124,11 +125,11 @@ bare_pipes-of : (ps : List (Piped Tree)) → bare_pipes (pipes_of ps) ≡ pipes_
 bare_pipes-of [] = refl
 bare_pipes-of (p ∷ ps) = ap (λ (m : _). tree.piped nowhere m (bare_pipes (pipes_of ps))) (bare_perhaps-of p.target) ∙ ap (tree.piped nowhere (perhaps_of (option_map bare p.target))) (bare_pipes-of ps)
 
-canon-pipe_of : (l : Tree) (ps : List (Piped Tree)) → canon (e.pipe_of l ps) ≡ canon l ++ flat_map plain_pipe ps
+canon-pipe_of : (l : Tree) (ps : List (Piped Tree)) → canon (looks.pipe_of l ps) ≡ canon l ++ flat_map plain_pipe ps
 canon-pipe_of l [] = sym (append-nil (canon l))
 canon-pipe_of l (p ∷ ps) = ap (λ (m : List Token). canon l ++ m) (canon_pipes-of (p ∷ ps))
 
-bare-pipe_of : (l : Tree) (ps : List (Piped Tree)) → bare (e.pipe_of l ps) ≡ e.pipe_of (bare l) (map bare_pipe ps)
+bare-pipe_of : (l : Tree) (ps : List (Piped Tree)) → bare (looks.pipe_of l ps) ≡ looks.pipe_of (bare l) (map bare_pipe ps)
 bare-pipe_of l [] = refl
 bare-pipe_of l (p ∷ ps) = ap (tree.pipe (bare l)) (bare_pipes-of (p ∷ ps))
 
@@ -151,7 +152,7 @@ comparison_word c.NotEqual = (refl, refl)
 comparison_word c.Greater = (refl, refl)
 comparison_word c.GreaterOrEqual = (refl, refl)
 
-comparison_found : (p : Bool) (k : Terminal) (how : Comparison) → e.comparison p k ≡ Some how → k ≡ comparison_terminal how
+comparison_found : (p : Bool) (k : Terminal) (how : Comparison) → looks.comparison p k ≡ Some how → k ≡ comparison_terminal how
 comparison_found p w.Less c.Less h = refl
 comparison_found p w.LessOrEqual c.LessOrEqual h = refl
 comparison_found p w.Equal c.Equal h = refl
@@ -170,7 +171,7 @@ unfolding terminal_of
 match_word true = (refl, refl)
 match_word false = (refl, refl)
 
-match_found : (k : Terminal) (unlike : Bool) → e.matching k ≡ Some unlike → k ≡ match_terminal unlike
+match_found : (k : Terminal) (unlike : Bool) → looks.matching k ≡ Some unlike → k ≡ match_terminal unlike
 match_found w.Tilde false h = refl
 match_found w.NotTilde true h = refl
 match_found _ unlike h = absurd cc
@@ -200,40 +201,40 @@ module _ (n depth : ℕ) (inner : Goal → Parser Tree) (deeper : Inner n depth 
   term_law test r signs q law ts go =
       let k = ahead ts in
       let found = signs k go in
-      prefixed k (λ t. sign (arithmetic_text (e.arithmetic_of (terminal t)))) any (here n r) q (term_form test r) (λ t x. term_of t x) (λ t x. refl)
-      (λ t x. ap (λ (o : Arithmetic). record { operator = o; place = nowhere; operand = bare x }) (sym (arithmetic_again (e.arithmetic_of (terminal t)))))
+      prefixed k (λ t. sign (arithmetic_text (looks.arithmetic_of (terminal t)))) any (here n r) q (term_form test r) (λ t x. term_of t x) (λ t x. refl)
+      (λ t x. ap (λ (o : Arithmetic). record { operator = o; place = nowhere; operand = bare x }) (sym (arithmetic_again (looks.arithmetic_of (terminal t)))))
       (λ t us x rest h j. operand t us x rest (ap test h ∙ go) j) law ts
-      (any_at k (λ t. sign (arithmetic_text (e.arithmetic_of (terminal t)))) found.1 (λ t h. ap sign_again h ∙ found.0) Near ts refl)
+      (any_at k (λ t. sign (arithmetic_text (looks.arithmetic_of (terminal t)))) found.1 (λ t h. ap sign_again h ∙ found.0) Near ts refl)
 
   -- mul
-  factors_spells : (us vs : List Token) (x : Term Tree) (xs : List (Term Tree)) (rest : List Token) → e.is_factor_sign (ahead (us ++ (vs ++ rest))) ≡ true → Operand e.is_factor_sign rule.unary us x (vs ++ rest) → g.Factors n vs xs rest → g.Factors n (us ++ vs) (x ∷ xs) rest
+  factors_spells : (us vs : List Token) (x : Term Tree) (xs : List (Term Tree)) (rest : List Token) → looks.is_factor_sign (ahead (us ++ (vs ++ rest))) ≡ true → Operand looks.is_factor_sign rule.unary us x (vs ++ rest) → g.Factors n vs xs rest → g.Factors n (us ++ vs) (x ∷ xs) rest
   factors_spells _ vs _ xs rest _ (operand t us x _ h j) k = g.one_factor n t us vs x xs rest h j k
 
-  factors_law : Law Near Near (chain (term_form e.is_factor_sign rule.unary) (g.Factors n) e.is_factor_sign) (e.factors depth inner)
+  factors_law : Law Near Near (chain (term_form looks.is_factor_sign rule.unary) (g.Factors n) looks.is_factor_sign) (e.factors depth inner)
   unfolding e.factors e.factor
-  factors_law = many_law (term_form e.is_factor_sign rule.unary) (g.Factors n) e.is_factor_sign (λ rest. g.no_factor n rest) factors_spells (λ y. omega arith) (e.factor depth inner)
-      (λ ts go. term_law e.is_factor_sign rule.unary factor_sign (e.unary depth inner) (unary_law n depth inner deeper) ts go)
+  factors_law = many_law (term_form looks.is_factor_sign rule.unary) (g.Factors n) looks.is_factor_sign (λ rest. g.no_factor n rest) factors_spells (λ y. omega arith) (e.factor depth inner)
+      (λ ts go. term_law looks.is_factor_sign rule.unary factor_sign (e.unary depth inner) (unary_law n depth inner deeper) ts go)
 
   pub product_rest_law : LawOn Near Near (here n rule.unary) (here n rule.mul) (e.product_rest depth inner)
   unfolding e.product_rest
-  product_rest_law = chain_on (term_form e.is_factor_sign rule.unary) (g.Factors n) e.is_factor_sign (e.factors depth inner) (here n rule.unary) (here n rule.mul) e.product_of canon-product_of bare-product_of
+  product_rest_law = chain_on (term_form looks.is_factor_sign rule.unary) (g.Factors n) looks.is_factor_sign (e.factors depth inner) (here n rule.unary) (here n rule.mul) looks.product_of canon-product_of bare-product_of
       (λ us vs l ys rest h k _. g.a_product n us vs l ys rest h k) factors_law
 
   -- add
   mul_law : Law Near Near (here n rule.mul) (e.unary depth inner >>= e.product_rest depth inner)
   mul_law ts = then_at Near Near Near (here n rule.unary) (here n rule.mul) (e.unary depth inner) (e.product_rest depth inner) ts (unary_law n depth inner deeper ts) product_rest_law
 
-  addends_spells : (us vs : List Token) (x : Term Tree) (xs : List (Term Tree)) (rest : List Token) → e.is_term_sign (ahead (us ++ (vs ++ rest))) ≡ true → Operand e.is_term_sign rule.mul us x (vs ++ rest) → g.Addends n vs xs rest → g.Addends n (us ++ vs) (x ∷ xs) rest
+  addends_spells : (us vs : List Token) (x : Term Tree) (xs : List (Term Tree)) (rest : List Token) → looks.is_term_sign (ahead (us ++ (vs ++ rest))) ≡ true → Operand looks.is_term_sign rule.mul us x (vs ++ rest) → g.Addends n vs xs rest → g.Addends n (us ++ vs) (x ∷ xs) rest
   addends_spells _ vs _ xs rest _ (operand t us x _ h j) k = g.one_addend n t us vs x xs rest h j k
 
-  addends_law : Law Near Near (chain (term_form e.is_term_sign rule.mul) (g.Addends n) e.is_term_sign) (e.addends depth inner)
+  addends_law : Law Near Near (chain (term_form looks.is_term_sign rule.mul) (g.Addends n) looks.is_term_sign) (e.addends depth inner)
   unfolding e.addends e.addend
-  addends_law = many_law (term_form e.is_term_sign rule.mul) (g.Addends n) e.is_term_sign (λ rest. g.no_addend n rest) addends_spells (λ y. omega arith) (e.addend depth inner)
-      (λ ts go. term_law e.is_term_sign rule.mul term_sign (e.unary depth inner >>= e.product_rest depth inner) mul_law ts go)
+  addends_law = many_law (term_form looks.is_term_sign rule.mul) (g.Addends n) looks.is_term_sign (λ rest. g.no_addend n rest) addends_spells (λ y. omega arith) (e.addend depth inner)
+      (λ ts go. term_law looks.is_term_sign rule.mul term_sign (e.unary depth inner >>= e.product_rest depth inner) mul_law ts go)
 
   pub sum_rest_law : LawOn Near Near (here n rule.mul) (here n rule.add) (e.sum_rest depth inner)
   unfolding e.sum_rest
-  sum_rest_law = chain_on (term_form e.is_term_sign rule.mul) (g.Addends n) e.is_term_sign (e.addends depth inner) (here n rule.mul) (here n rule.add) e.sum_of canon-sum_of bare-sum_of
+  sum_rest_law = chain_on (term_form looks.is_term_sign rule.mul) (g.Addends n) looks.is_term_sign (e.addends depth inner) (here n rule.mul) (here n rule.add) looks.sum_of canon-sum_of bare-sum_of
       (λ us vs l ys rest h k _. g.a_sum n us vs l ys rest h k) addends_law
 
   -- cat
@@ -241,13 +242,13 @@ module _ (n depth : ℕ) (inner : Goal → Parser Tree) (deeper : Inner n depth 
   unfolding e.part
   part_law ts = then_at Near Near Near (here n rule.mul) (here n rule.add) (e.unary depth inner >>= e.product_rest depth inner) (e.sum_rest depth inner) ts (mul_law ts) sum_rest_law
 
-  parts_law : Law Near Near (chain (here n rule.add) (g.Parts n) e.begins_part) (e.parts depth inner)
+  parts_law : Law Near Near (chain (here n rule.add) (g.Parts n) looks.begins_part) (e.parts depth inner)
   unfolding e.parts
-  parts_law = many_law (here n rule.add) (g.Parts n) e.begins_part (λ rest. g.no_part n rest) (λ us vs x xs rest go h k. g.one_part n us vs x xs rest go h k) (λ y. starts_some (canon y) (starts y)) (e.part depth inner) (λ ts go. part_law ts)
+  parts_law = many_law (here n rule.add) (g.Parts n) looks.begins_part (λ rest. g.no_part n rest) (λ us vs x xs rest go h k. g.one_part n us vs x xs rest go h k) (λ y. starts_some (canon y) (starts y)) (e.part depth inner) (λ ts go. part_law ts)
 
   pub concat_rest_law : LawOn Near Near (here n rule.add) (here n rule.cat) (e.concat_rest depth inner)
   unfolding e.concat_rest
-  concat_rest_law = chain_on (here n rule.add) (g.Parts n) e.begins_part (e.parts depth inner) (here n rule.add) (here n rule.cat) e.concat_of canon-concat_of bare-concat_of
+  concat_rest_law = chain_on (here n rule.add) (g.Parts n) looks.begins_part (e.parts depth inner) (here n rule.add) (here n rule.cat) looks.concat_of canon-concat_of bare-concat_of
       (λ us vs l ys rest h k _. g.a_concat n us vs l ys rest h k) parts_law
 
   pub cat_law : Law Near Near (here n rule.cat) (e.cat depth inner)
@@ -307,7 +308,7 @@ module _ (n depth : ℕ) (inner : Goal → Parser Tree) (deeper : Inner n depth 
 
   pub pipe_rest_law : LawOn Near Near (here n rule.cat) (here n rule.pipe) (e.pipe_rest depth inner)
   unfolding e.pipe_rest
-  pipe_rest_law = chain_on pipe_form (g.Pipes n) (is w.BarGetline) (e.pipes depth inner) (here n rule.cat) (here n rule.pipe) e.pipe_of canon-pipe_of bare-pipe_of
+  pipe_rest_law = chain_on pipe_form (g.Pipes n) (is w.BarGetline) (e.pipes depth inner) (here n rule.cat) (here n rule.pipe) looks.pipe_of canon-pipe_of bare-pipe_of
       (λ us vs l ys rest h k _. g.a_pipe n us vs l ys rest h k) pipes_law
 
   pipe_law : Law Near Near (here n rule.pipe) (e.pipe depth inner)
@@ -315,39 +316,39 @@ module _ (n depth : ℕ) (inner : Goal → Parser Tree) (deeper : Inner n depth 
   pipe_law ts = then_at Near Near Near (here n rule.cat) (here n rule.pipe) (e.cat depth inner) (e.pipe_rest depth inner) ts (cat_law ts) pipe_rest_law
 
   -- cmp
-  compare_at : (p : Bool) (o : Option Comparison) (x : Tree) (ts : List Token) → e.comparison p (ahead ts) ≡ o → GoesAt Near Near (here n rule.pipe) (here n (rule.cmp p)) (λ x. e.compare_by depth inner x o) x ts
+  compare_at : (p : Bool) (o : Option Comparison) (x : Tree) (ts : List Token) → looks.comparison p (ahead ts) ≡ o → GoesAt Near Near (here n rule.pipe) (here n (rule.cmp p)) (λ x. e.compare_by depth inner x o) x ts
   compare_at p (Some how) x ts sees =
       let known = comparison_word how in
       let k_is = comparison_found p (ahead ts) how sees in
       infix_on (here n rule.pipe) (comparison_terminal how) (λ _. sign (comparison_text how)) any (here n rule.pipe) (e.pipe depth inner) (here n (rule.cmp p)) (λ x t y. tree.compare x t.place how y) (λ x t y. refl) (λ x t y. refl)
-      (λ t us vs x y rest h j i. g.a_comparison n p how t us vs x y rest (ap (e.comparison p) (h ∙ sym k_is) ∙ sees) j i) pipe_law x ts (any_at (comparison_terminal how) (λ _. sign (comparison_text how)) known.1 (λ _ _. known.0) Near ts k_is)
+      (λ t us vs x y rest h j i. g.a_comparison n p how t us vs x y rest (ap (looks.comparison p) (h ∙ sym k_is) ∙ sees) j i) pipe_law x ts (any_at (comparison_terminal how) (λ _. sign (comparison_text how)) known.1 (λ _ _. known.0) Near ts k_is)
   compare_at p None x ts sees = stays Near (here n rule.pipe) (here n (rule.cmp p)) x ts (λ _. refl) (λ _. refl) (λ us x rest h. g.only_pipe n p us x rest h)
 
   pub compare_rest_law : (p : Bool) → LawOn Near Near (here n rule.pipe) (here n (rule.cmp p)) (e.compare_rest depth inner p)
   unfolding e.compare_rest
-  compare_rest_law p x ts = choice_on Near (here n rule.pipe) (here n (rule.cmp p)) (λ x kind. e.compare_by depth inner x (e.comparison p kind)) x ts (compare_at p (e.comparison p (ahead ts)) x ts refl)
+  compare_rest_law p x ts = choice_on Near (here n rule.pipe) (here n (rule.cmp p)) (λ x kind. e.compare_by depth inner x (looks.comparison p kind)) x ts (compare_at p (looks.comparison p (ahead ts)) x ts refl)
 
   cmp_law : (p : Bool) → Law Near Near (here n (rule.cmp p)) (e.cmp depth inner p)
   unfolding e.cmp
   cmp_law p ts = then_at Near Near Near (here n rule.pipe) (here n (rule.cmp p)) (e.pipe depth inner) (e.compare_rest depth inner p) ts (pipe_law ts) (compare_rest_law p)
 
   -- match
-  match_at : (p : Bool) (o : Option Bool) (x : Tree) (ts : List Token) → e.matching (ahead ts) ≡ o → GoesAt Near Near (here n (rule.cmp p)) (here n (rule.match p)) (λ x. e.match_by depth inner p x o) x ts
+  match_at : (p : Bool) (o : Option Bool) (x : Tree) (ts : List Token) → looks.matching (ahead ts) ≡ o → GoesAt Near Near (here n (rule.cmp p)) (here n (rule.match p)) (λ x. e.match_by depth inner p x o) x ts
   match_at p (Some unlike) x ts sees =
       let known = match_word unlike in
       let k_is = match_found (ahead ts) unlike sees in
       infix_on (here n (rule.cmp p)) (match_terminal unlike) (λ _. sign (match_text unlike)) any (here n (rule.cmp p)) (e.cmp depth inner p) (here n (rule.match p)) (λ x t y. tree.matched x t.place unlike y) (λ x t y. refl) (λ x t y. refl)
-      (λ t us vs x y rest h j i. g.a_match n p unlike t us vs x y rest (ap e.matching (h ∙ sym k_is) ∙ sees) j i) (cmp_law p) x ts (any_at (match_terminal unlike) (λ _. sign (match_text unlike)) known.1 (λ _ _. known.0) Near ts k_is)
+      (λ t us vs x y rest h j i. g.a_match n p unlike t us vs x y rest (ap looks.matching (h ∙ sym k_is) ∙ sees) j i) (cmp_law p) x ts (any_at (match_terminal unlike) (λ _. sign (match_text unlike)) known.1 (λ _ _. known.0) Near ts k_is)
   match_at p None x ts sees = stays Near (here n (rule.cmp p)) (here n (rule.match p)) x ts (λ _. refl) (λ _. refl) (λ us x rest h. g.only_cmp n p us x rest h)
 
   pub match_rest_law : (p : Bool) → LawOn Near Near (here n (rule.cmp p)) (here n (rule.match p)) (e.match_rest depth inner p)
   unfolding e.match_rest
-  match_rest_law p x ts = choice_on Near (here n (rule.cmp p)) (here n (rule.match p)) (λ x kind. e.match_by depth inner p x (e.matching kind)) x ts (match_at p (e.matching (ahead ts)) x ts refl)
+  match_rest_law p x ts = choice_on Near (here n (rule.cmp p)) (here n (rule.match p)) (λ x kind. e.match_by depth inner p x (looks.matching kind)) x ts (match_at p (looks.matching (ahead ts)) x ts refl)
 
   -- in
   in_rest_law : (p : Bool) → LawOn Near Near (here n (rule.match p)) (here n (rule.isin p)) e.in_rest
   unfolding e.in_rest
-  in_rest_law p = chain_on in_form Names (is w.In) e.in_names (here n (rule.match p)) (here n (rule.isin p)) e.member_of canon-member_of bare-member_of (λ us vs l ys rest h k _. g.a_member n p us vs l ys rest h k) names_law
+  in_rest_law p = chain_on in_form Names (is w.In) e.in_names (here n (rule.match p)) (here n (rule.isin p)) looks.member_of canon-member_of bare-member_of (λ us vs l ys rest h k _. g.a_member n p us vs l ys rest h k) names_law
 
   pub unary_rest_law : (p : Bool) → LawOn Near Near (here n rule.unary) (here n (rule.isin p)) (e.unary_rest depth inner p)
   unfolding e.unary_rest

@@ -3,6 +3,8 @@ use Rattle.std.proofs.Common.{◌≡◌, ℕ, suc, ◌+◌, zero, Bool, true, fa
 use Rattle.std.proofs.lemmas.List.{append-nil}
 use Rattle.std.specs.List.{flat_map}
 use Rattle.awk_tokens.specs.declared.token.Token.{Token}
+use Rattle.awk_tree.specs.Looks.{is_lvalue, name_of}
+use Rattle.awk_tree.specs.Looks as looks
 use Rattle.awk_tree.specs.declared.goals.Goal.{Goal}
 use Rattle.awk_tree.specs.declared.goals.Goal.TheVariants as goal
 use Rattle.awk_tokens.specs.declared.terminals.Terminal.{Terminal}
@@ -12,7 +14,6 @@ use Rattle.awk_tree.specs.Tree.{Tree, Trees, trees_of, perhaps_of}
 use Rattle.awk_tree.specs.Terminals.{terminal, terminal_of, is, sign, ahead, nowhere}
 use Rattle.awk_tree.specs.Input.{Parser, ◌>>=◌, any, one, pure, skipped}
 use Rattle.awk_tree.specs.Expressions as e
-use Rattle.awk_tree.specs.Expressions.{name_of, is_lvalue}
 use Rattle.awk_tree.specs.Canon.{canon, bare}
 use Rattle.awk_parse.specs.Rules as rule
 use Rattle.awk_parse.specs.Rules.{Rule}
@@ -65,23 +66,23 @@ canon_ors-of : (xs : List Tree) → canon_ors (trees_of xs) ≡ flat_map plain_o
 canon_ors-of [] = refl
 canon_ors-of (x ∷ xs) = ap (λ (m : List Token). sign (codes "||") ∷ canon x ++ m) (canon_ors-of xs)
 
-canon-and_of : (l : Tree) (xs : List Tree) → canon (e.and_of l xs) ≡ canon l ++ flat_map plain_and xs
+canon-and_of : (l : Tree) (xs : List Tree) → canon (looks.and_of l xs) ≡ canon l ++ flat_map plain_and xs
 canon-and_of l [] = sym (append-nil (canon l))
 canon-and_of l (x ∷ xs) = ap (λ (m : List Token). canon l ++ m) (canon_ands-of (x ∷ xs))
 
-canon-or_of : (l : Tree) (xs : List Tree) → canon (e.or_of l xs) ≡ canon l ++ flat_map plain_or xs
+canon-or_of : (l : Tree) (xs : List Tree) → canon (looks.or_of l xs) ≡ canon l ++ flat_map plain_or xs
 canon-or_of l [] = sym (append-nil (canon l))
 canon-or_of l (x ∷ xs) = ap (λ (m : List Token). canon l ++ m) (canon_ors-of (x ∷ xs))
 
-bare-and_of : (l : Tree) (xs : List Tree) → bare (e.and_of l xs) ≡ e.and_of (bare l) (map bare xs)
+bare-and_of : (l : Tree) (xs : List Tree) → bare (looks.and_of l xs) ≡ looks.and_of (bare l) (map bare xs)
 bare-and_of l [] = refl
 bare-and_of l (x ∷ xs) = ap (tree.and (bare l)) (bare_all-of (x ∷ xs))
 
-bare-or_of : (l : Tree) (xs : List Tree) → bare (e.or_of l xs) ≡ e.or_of (bare l) (map bare xs)
+bare-or_of : (l : Tree) (xs : List Tree) → bare (looks.or_of l xs) ≡ looks.or_of (bare l) (map bare xs)
 bare-or_of l [] = refl
 bare-or_of l (x ∷ xs) = ap (tree.or (bare l)) (bare_all-of (x ∷ xs))
 
-assignment_found : (k : Terminal) (how : Assignment) → e.assignment k ≡ Some how → k ≡ w.Assign how
+assignment_found : (k : Terminal) (how : Assignment) → looks.assignment k ≡ Some how → k ≡ w.Assign how
 assignment_found (w.Assign a) how h = ap w.Assign cc
 assignment_found _ how h = absurd cc
 
@@ -198,19 +199,19 @@ module _ (n depth : ℕ) (inner : Goal → Parser Tree) (deeper : Inner n depth 
     plain_one : (us : List Token) (x : Tree) (rest : List Token) → Spells n (rule.isin p) us x rest → Conjunct us x rest
     set_one : (us : List Token) (x : Tree) (rest : List Token) → Spells n (rule.set p) us x rest → stops (ahead rest) ≡ true → Conjunct us x rest
 
-  assigned_at : (o : Option Assignment) (x : Tree) (ts : List Token) → e.assignment (ahead ts) ≡ o → GoesAt Near Near (here n (rule.isin p)) (tree_form Conjunct) (λ x. e.assigned_by depth inner p x o) x ts
+  assigned_at : (o : Option Assignment) (x : Tree) (ts : List Token) → looks.assignment (ahead ts) ≡ o → GoesAt Near Near (here n (rule.isin p)) (tree_form Conjunct) (λ x. e.assigned_by depth inner p x o) x ts
   assigned_at (Some how) x ts sees =
       if_left Near Near (here n (rule.isin p)) (tree_form Conjunct) is_lvalue (λ x. any >>= λ t. inner (goal.Expr p) >>= λ y. pure (tree.assign x t.place how y)) (λ x. pure x) x ts (is_lvalue-bare x)
       (λ l. known Near Near (here n (rule.isin p)) (tree_form Conjunct) (λ x _. is_lvalue x ≡ true) (λ x. any >>= λ t. inner (goal.Expr p) >>= λ y. pure (tree.assign x t.place how y)) x ts l
       (infix_on (knowing (here n (rule.isin p)) (λ x _. is_lvalue x ≡ true)) (w.Assign how) (λ _. sign (assignment_text how)) any (whole n p) (inner (goal.Expr p)) (tree_form Conjunct) (λ x t y. tree.assign x t.place how y) (λ x t y. refl) (λ x t y. refl)
-      (λ t us vs x y rest h j i. set_one (us ++ t ∷ vs) (tree.assign x t.place how y) rest (g.an_assignment n p how t us vs x y rest (ap e.assignment h) j.1 j.0 i.0 i.1) i.2) (deeper.wholes p) x ts
+      (λ t us vs x y rest h j i. set_one (us ++ t ∷ vs) (tree.assign x t.place how y) rest (g.an_assignment n p how t us vs x y rest (ap looks.assignment h) j.1 j.0 i.0 i.1) i.2) (deeper.wholes p) x ts
       (any_at (w.Assign how) (λ _. sign (assignment_text how)) refl (λ _ _. assignment_is how) Near ts (assignment_found (ahead ts) how sees))))
       (λ _. stays Near (here n (rule.isin p)) (tree_form Conjunct) x ts (λ _. refl) (λ _. refl) plain_one)
   assigned_at None x ts sees = stays Near (here n (rule.isin p)) (tree_form Conjunct) x ts (λ _. refl) (λ _. refl) plain_one
 
   assigned_law : LawOn Near Near (here n (rule.isin p)) (tree_form Conjunct) (e.assigned depth inner p)
   unfolding e.assigned
-  assigned_law x ts = choice_on Near (here n (rule.isin p)) (tree_form Conjunct) (λ x kind. e.assigned_by depth inner p x (e.assignment kind)) x ts (assigned_at (e.assignment (ahead ts)) x ts refl)
+  assigned_law x ts = choice_on Near (here n (rule.isin p)) (tree_form Conjunct) (λ x kind. e.assigned_by depth inner p x (looks.assignment kind)) x ts (assigned_at (looks.assignment (ahead ts)) x ts refl)
 
   conjunct_law : Law Near Near (tree_form Conjunct) (e.conjunct depth inner p)
   unfolding e.conjunct
@@ -259,19 +260,19 @@ module _ (n depth : ℕ) (inner : Goal → Parser Tree) (deeper : Inner n depth 
     plain_and_one : (us : List Token) (x : Tree) (rest : List Token) → Spells n (rule.and p false) us x rest → is w.And (ahead rest) ≡ false → Conjunction us x rest
     set_and_one : (us : List Token) (x : Tree) (rest : List Token) → Spells n (rule.and p true) us x rest → stops (ahead rest) ≡ true → Conjunction us x rest
 
-  and_spells : (us vs : List Token) (l : Tree) (ys : List Tree) (rest : List Token) → Conjunct us l (vs ++ rest) → AllAnds vs ys rest → is w.And (ahead rest) ≡ false → Conjunction (us ++ vs) (e.and_of l ys) rest
+  and_spells : (us vs : List Token) (l : Tree) (ys : List Tree) (rest : List Token) → Conjunct us l (vs ++ rest) → AllAnds vs ys rest → is w.And (ahead rest) ≡ false → Conjunction (us ++ vs) (looks.and_of l ys) rest
   unfolding AllAnds
-  and_spells _ vs _ ys rest (plain_one us l _ s) (inl a) ended = plain_and_one (us ++ vs) (e.and_of l ys) rest (g.an_and n p false us vs l ys rest s a) ended
-  and_spells _ vs _ ys rest (plain_one us l _ s) (inr a) ended = set_and_one (us ++ vs) (e.and_of l ys) rest (g.an_and n p true us vs l ys rest s a.0) a.1
+  and_spells _ vs _ ys rest (plain_one us l _ s) (inl a) ended = plain_and_one (us ++ vs) (looks.and_of l ys) rest (g.an_and n p false us vs l ys rest s a) ended
+  and_spells _ vs _ ys rest (plain_one us l _ s) (inr a) ended = set_and_one (us ++ vs) (looks.and_of l ys) rest (g.an_and n p true us vs l ys rest s a.0) a.1
   and_spells _ vs _ ys rest (set_one us l _ s stop) a ended =
       let none = ands_none vs ys rest a stop in
       let s' : Spells n (rule.set p) us l rest = subst (λ (m : List Token). Spells n (rule.set p) us l (m ++ rest)) none.0 s in
       let stop' : stops (ahead rest) ≡ true = subst (λ (m : List Token). stops (ahead (m ++ rest)) ≡ true) none.0 stop in
-      subst (λ (m : List Token). Conjunction m (e.and_of l ys) rest) (sym (append-nil us) ∙ ap (λ (m : List Token). us ++ m) (sym none.0)) (subst (λ (m : List Tree). Conjunction us (e.and_of l m) rest) (sym none.1) (set_and_one us l rest (g.only_set n p us l rest s') stop'))
+      subst (λ (m : List Token). Conjunction m (looks.and_of l ys) rest) (sym (append-nil us) ∙ ap (λ (m : List Token). us ++ m) (sym none.0)) (subst (λ (m : List Tree). Conjunction us (looks.and_of l m) rest) (sym none.1) (set_and_one us l rest (g.only_set n p us l rest s') stop'))
 
   and_rest_law : LawOn Near Near (tree_form Conjunct) (tree_form Conjunction) (e.and_rest depth inner p)
   unfolding e.and_rest
-  and_rest_law = chain_on and_form AllAnds (is w.And) (e.conjuncts depth inner p) (tree_form Conjunct) (tree_form Conjunction) e.and_of canon-and_of bare-and_of and_spells conjuncts_law
+  and_rest_law = chain_on and_form AllAnds (is w.And) (e.conjuncts depth inner p) (tree_form Conjunct) (tree_form Conjunction) looks.and_of canon-and_of bare-and_of and_spells conjuncts_law
 
   -- ---- or
 
@@ -324,19 +325,19 @@ module _ (n depth : ℕ) (inner : Goal → Parser Tree) (deeper : Inner n depth 
     plain_or_one : (us : List Token) (x : Tree) (rest : List Token) → Spells n (rule.or p false) us x rest → is w.And (ahead rest) ≡ false → is w.Or (ahead rest) ≡ false → Disjunction us x rest
     set_or_one : (us : List Token) (x : Tree) (rest : List Token) → Spells n (rule.or p true) us x rest → stops (ahead rest) ≡ true → Disjunction us x rest
 
-  or_spells : (us vs : List Token) (l : Tree) (ys : List Tree) (rest : List Token) → Conjunction us l (vs ++ rest) → AllOrs vs ys rest → is w.Or (ahead rest) ≡ false → Disjunction (us ++ vs) (e.or_of l ys) rest
+  or_spells : (us vs : List Token) (l : Tree) (ys : List Tree) (rest : List Token) → Conjunction us l (vs ++ rest) → AllOrs vs ys rest → is w.Or (ahead rest) ≡ false → Disjunction (us ++ vs) (looks.or_of l ys) rest
   unfolding AllOrs
-  or_spells _ vs _ ys rest (plain_and_one us l _ s other) (inl a) ended = plain_or_one (us ++ vs) (e.or_of l ys) rest (g.an_or n p false us vs l ys rest s a.0) (no_and_left vs rest a.1 other) ended
-  or_spells _ vs _ ys rest (plain_and_one us l _ s other) (inr a) ended = set_or_one (us ++ vs) (e.or_of l ys) rest (g.an_or n p true us vs l ys rest s a.0) a.1
+  or_spells _ vs _ ys rest (plain_and_one us l _ s other) (inl a) ended = plain_or_one (us ++ vs) (looks.or_of l ys) rest (g.an_or n p false us vs l ys rest s a.0) (no_and_left vs rest a.1 other) ended
+  or_spells _ vs _ ys rest (plain_and_one us l _ s other) (inr a) ended = set_or_one (us ++ vs) (looks.or_of l ys) rest (g.an_or n p true us vs l ys rest s a.0) a.1
   or_spells _ vs _ ys rest (set_and_one us l _ s stop) a ended =
       let none = ors_none vs ys rest a stop in
       let s' : Spells n (rule.and p true) us l rest = subst (λ (m : List Token). Spells n (rule.and p true) us l (m ++ rest)) none.0 s in
       let stop' : stops (ahead rest) ≡ true = subst (λ (m : List Token). stops (ahead (m ++ rest)) ≡ true) none.0 stop in
-      subst (λ (m : List Token). Disjunction m (e.or_of l ys) rest) (sym (append-nil us) ∙ ap (λ (m : List Token). us ++ m) (sym none.0)) (subst (λ (m : List Tree). Disjunction us (e.or_of l m) rest) (sym none.1) (set_or_one us l rest (g.only_and n p us l rest s') stop'))
+      subst (λ (m : List Token). Disjunction m (looks.or_of l ys) rest) (sym (append-nil us) ∙ ap (λ (m : List Token). us ++ m) (sym none.0)) (subst (λ (m : List Tree). Disjunction us (looks.or_of l m) rest) (sym none.1) (set_or_one us l rest (g.only_and n p us l rest s') stop'))
 
   or_rest_law : LawOn Near Near (tree_form Conjunction) (tree_form Disjunction) (e.or_rest depth inner p)
   unfolding e.or_rest
-  or_rest_law = chain_on or_form AllOrs (is w.Or) (e.disjuncts depth inner p) (tree_form Conjunction) (tree_form Disjunction) e.or_of canon-or_of bare-or_of or_spells disjuncts_law
+  or_rest_law = chain_on or_form AllOrs (is w.Or) (e.disjuncts depth inner p) (tree_form Conjunction) (tree_form Disjunction) looks.or_of canon-or_of bare-or_of or_spells disjuncts_law
 
   -- ---- choices
 

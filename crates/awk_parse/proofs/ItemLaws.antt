@@ -4,16 +4,17 @@ use Rattle.std.proofs.lemmas.List.{append-nil}
 use Rattle.std.specs.List.{flat_map}
 use Rattle.awk_tokens.specs.declared.token.Token.{Token}
 use Rattle.awk_tokens.specs.declared.kinds.TokenKind.TheVariants as kind
+use Rattle.awk_tree.specs.Looks.{ends_item, name_of, past, skip}
 use Rattle.awk_tree.specs.declared.names.Name.{Name}
 use Rattle.awk_tokens.specs.declared.terminals.Terminal.{Terminal}
 use Rattle.awk_tokens.specs.declared.terminals.Terminal.TheVariants as w
 use Rattle.awk_tree.specs.Tree as tree
 use Rattle.awk_tree.specs.Tree.{Tree, Statement, Condition, Entry}
 use Rattle.awk_tree.specs.Terminals.{terminal, terminal_of, is, ahead, sign, keyword, token}
-use Rattle.awk_tree.specs.Input.{◌>>=◌, any, one, pure, refuse, choice, skip, skipped, past}
-use Rattle.awk_tree.specs.Expressions.{name_of, expr}
+use Rattle.awk_tree.specs.Input.{◌>>=◌, any, one, pure, refuse, choice, skipped}
+use Rattle.awk_tree.specs.Expressions.{expr}
 use Rattle.awk_tree.specs.Statements as st
-use Rattle.awk_tree.specs.Statements.{ends_item, is_done}
+use Rattle.awk_tree.specs.Statements.{is_done}
 use Rattle.awk_tree.specs.Canon.{canon, word, canon_action, canon_condition, canon_names, canon_params, canon_entry, line_end, bare_name, bare_statement, bare_condition, bare_entry}
 use Rattle.awk_parse.specs.Spells.{Newlines}
 use Rattle.awk_parse.specs.SpellsScripts as r

@@ -6,8 +6,9 @@ use Rattle.std.proofs.lemmas.Bool.{eq-eqb}
 use Rattle.awk_tokens.specs.declared.token.Token.{Token}
 use Rattle.awk_tokens.specs.declared.terminals.Terminal.{Terminal}
 use Rattle.awk_tokens.specs.declared.terminals.Terminal.TheVariants as w
+use Rattle.awk_tree.specs.Looks.{skip}
 use Rattle.awk_tree.specs.Terminals.{number_of, is, ahead, terminal}
-use Rattle.awk_tree.specs.Input.{Outcome, Parser, and_then, ◌>>=◌, any, one, choice, refuse, pure, skip, skipped}
+use Rattle.awk_tree.specs.Input.{Outcome, Parser, and_then, ◌>>=◌, any, one, choice, refuse, pure, skipped}
 use Rattle.awk_parse.specs.Spells.{Newlines}
 use Rattle.awk_parse.proofs.TerminalLemmas.{single, steady, is-true, terminal_is, ahead_is}
 

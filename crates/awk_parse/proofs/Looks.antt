@@ -3,11 +3,10 @@ use Rattle.std.proofs.Common.{◌≡◌, ◌≢◌, ℕ, ◌≤◌, Bool, true, 
 use Rattle.awk_tokens.specs.declared.token.Token.{Token}
 use Rattle.awk_tokens.specs.declared.terminals.Terminal.{Terminal}
 use Rattle.awk_tokens.specs.declared.terminals.Terminal.TheVariants as w
+use Rattle.awk_tree.specs.Looks.{else_next, past, skip}
 use Rattle.awk_tree.specs.Tree as tree
 use Rattle.awk_tree.specs.Tree.{Tree, Statement}
 use Rattle.awk_tree.specs.Terminals.{terminal, terminal_of, is, look, ahead}
-use Rattle.awk_tree.specs.Input.{skip, past}
-use Rattle.awk_tree.specs.Statements.{else_next}
 use Rattle.awk_tree.specs.Canon.{canon, canon_statement}
 use Rattle.awk_parse.specs.SpellsScripts as r
 use Rattle.awk_parse.specs.SpellsScripts.{Simple, Gap, SpellsStatement}

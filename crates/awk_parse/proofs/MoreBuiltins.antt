@@ -5,6 +5,7 @@ use Rattle.awk_tokens.specs.declared.token.Token.{Token}
 use Rattle.awk_tokens.specs.declared.kinds.TokenKind.TheVariants as kind
 use Rattle.awk_tokens.specs.declared.words.Builtin.{Builtin}
 use Rattle.awk_tokens.specs.declared.words.Builtin.TheVariants as b
+use Rattle.awk_tree.specs.Looks.{is_lvalue, name_of, skip}
 use Rattle.awk_tree.specs.declared.goals.Goal.{Goal}
 use Rattle.awk_tree.specs.declared.goals.Goal.TheVariants as goal
 use Rattle.awk_tokens.specs.declared.terminals.Terminal.TheVariants as w
@@ -14,9 +15,8 @@ use Rattle.awk_tree.specs.Terminals.{terminal_of, is, sign, token, ahead, nowher
 use Rattle.awk_tokens.specs.Words.{builtin_text, parameters}
 use Rattle.awk_tokens.specs.declared.words.Parameters.{Parameters}
 use Rattle.awk_tokens.specs.declared.words.Parameters.TheVariants as takes
-use Rattle.awk_tree.specs.Input.{Parser, ◌>>=◌, any, one, pure, opened, skip, skipped}
+use Rattle.awk_tree.specs.Input.{Parser, ◌>>=◌, any, one, pure, inside, skipped}
 use Rattle.awk_tree.specs.Expressions as e
-use Rattle.awk_tree.specs.Expressions.{name_of, is_lvalue}
 use Rattle.awk_tree.specs.Canon.{canon, bare, bare_name, canon_list, builtin_word, substituting}
 use Rattle.awk_parse.specs.Rules as rule
 use Rattle.awk_parse.specs.Rules.{Rule}
@@ -98,8 +98,8 @@ module _ (n depth : ℕ) (inner : Goal → Parser Tree) (deeper : Inner n depth 
   of_one_or_none_law : (which : Builtin) → g.takes_none (parameters which) ≡ true → g.takes_one (parameters which) ≡ true → LawOn Near Near (builtin_form n depth inner deeper which) (here n rule.prim) (λ t. e.of_one_or_none depth inner t.place which)
   unfolding e.of_one_or_none
   of_one_or_none_law which empty single t ts =
-      seq_at Near Near Near (builtin_form n depth inner deeper which) opening (here n rule.prim) (one w.OpenParen) (λ t _. opened depth (e.one_or_none depth inner) >>= λ xs. one w.CloseParen >>= λ _. pure (tree.builtin t.place which (trees_of xs))) t ts (opening_law Near ts)
-      (λ q ts. seq_at Near Near Near (pair (builtin_form n depth inner deeper which) opening) (opened_form n depth inner deeper singles) (here n rule.prim) (opened depth (e.one_or_none depth inner)) (λ q xs. one w.CloseParen >>= λ _. pure (tree.builtin q.0.place which (trees_of xs))) q ts
+      seq_at Near Near Near (builtin_form n depth inner deeper which) opening (here n rule.prim) (one w.OpenParen) (λ t _. inside depth (e.one_or_none depth inner) >>= λ xs. one w.CloseParen >>= λ _. pure (tree.builtin t.place which (trees_of xs))) t ts (opening_law Near ts)
+      (λ q ts. seq_at Near Near Near (pair (builtin_form n depth inner deeper which) opening) (opened_form n depth inner deeper singles) (here n rule.prim) (inside depth (e.one_or_none depth inner)) (λ q xs. one w.CloseParen >>= λ _. pure (tree.builtin q.0.place which (trees_of xs))) q ts
       (opened_law n depth inner deeper Near singles (e.one_or_none depth inner) single_law ts)
       (λ q ts. seq_at Near Near Near (pair (pair (builtin_form n depth inner deeper which) opening) (opened_form n depth inner deeper singles)) closing (here n rule.prim) (one w.CloseParen) (λ q _. pure (tree.builtin q.0.0.place which (trees_of q.1))) q ts (closing_law Near ts)
       (pure_on Near (pair (pair (pair (builtin_form n depth inner deeper which) opening) (opened_form n depth inner deeper singles)) closing) (here n rule.prim) (λ q. tree.builtin q.0.0.0.place which (trees_of q.0.1)) (λ q. refl)

@@ -2,6 +2,7 @@
 use Rattle.std.proofs.Common.{◌≡◌, ℕ, suc, Bool, true, false, cond, List, [], ◌∷◌, ◌++◌, map, Ok, codes, refl, sym, ap, subst, ◌∙◌, inl, inr, arith, ◌==◌}
 use Rattle.std.specs.List.{flat_map}
 use Rattle.awk_tokens.specs.declared.token.Token.{Token}
+use Rattle.awk_tree.specs.Looks.{is_lvalue, name_of, skip}
 use Rattle.awk_tree.specs.declared.goals.Goal.{Goal}
 use Rattle.awk_tree.specs.declared.goals.Goal.TheVariants as goal
 use Rattle.awk_tokens.specs.declared.terminals.Terminal.{Terminal}
@@ -9,9 +10,8 @@ use Rattle.awk_tokens.specs.declared.terminals.Terminal.TheVariants as w
 use Rattle.awk_tree.specs.Tree as tree
 use Rattle.awk_tree.specs.Tree.{Tree, Trees, trees_of, perhaps_of}
 use Rattle.awk_tree.specs.Terminals.{terminal, terminal_of, is, sign, ahead}
-use Rattle.awk_tree.specs.Input.{Parser, ◌>>=◌, one, pure, opened, deep, skip, skipped}
+use Rattle.awk_tree.specs.Input.{Parser, ◌>>=◌, one, pure, inside, deep, skipped}
 use Rattle.awk_tree.specs.Expressions as e
-use Rattle.awk_tree.specs.Expressions.{name_of, is_lvalue}
 use Rattle.awk_tree.specs.Canon.{canon, bare, bare_all, bare_name, canon_list, canon_commas}
 use Rattle.awk_parse.specs.Rules as rule
 use Rattle.awk_parse.specs.Rules.{Rule}
@@ -169,11 +169,11 @@ module _ (n depth : ℕ) (inner : Goal → Parser Tree) (deeper : Inner n depth 
       (if_at Near Near perhaps_lists (is (ahead ts) w.CloseParen) (pure []) (e.list depth inner) ts (λ h. pure_at Near perhaps_lists [] ts refl refl (g.no_argument (suc n) ts))
       (λ h. weaker_at Near Near lists perhaps_lists (e.list depth inner) ts (λ _. refl) (λ _. refl) (λ us xs rest k. g.some_arguments (suc n) us xs rest k.1) (list_law ts)))
 
-  -- what a token before it opened
+  -- what a token before it inside
   abbrev pub opened_form : {A : Type 0} → Form A → Form A
   opened_form a = record { plain = a.plain; bare = a.bare; spells = λ us x rest. Opens n × a.spells us x rest }
 
-  pub opened_law : {A : Type 0} (o : Eye) (a : Form A) (p : Parser A) → Law Near o a p → Law Near o (opened_form a) (opened depth p)
+  pub opened_law : {A : Type 0} (o : Eye) (a : Form A) (p : Parser A) → Law Near o a p → Law Near o (opened_form a) (inside depth p)
   opened_law o a p law ts x r h =
       elim (chosen (depth == 0) (deep ts) (p ts) (Ok (x, r)) h) [
         | inl k ↦ absurd cc
@@ -187,7 +187,7 @@ module _ (n depth : ℕ) (inner : Goal → Parser Tree) (deeper : Inner n depth 
 
   pub arguments_law : Law Near Near (parens argument_form) (e.arguments depth inner)
   unfolding e.arguments
-  arguments_law = parens_law argument_form (opened depth (e.list_or_none depth inner)) (opened_law Near perhaps_lists (e.list_or_none depth inner) list_or_none_law)
+  arguments_law = parens_law argument_form (inside depth (e.list_or_none depth inner)) (opened_law Near perhaps_lists (e.list_or_none depth inner) list_or_none_law)
 
   -- ---- lvalues
 

@@ -2,6 +2,7 @@
 -- like the `NAME in NAME )` of a for.
 use Rattle.std.proofs.Common.{◌≡◌, Bool, true, false, ◌&&◌, if◌then◌else◌, Option, Some, None, List, [], ◌∷◌, ◌++◌, codes, refl, sym, ap, subst, ◌∙◌, inl, inr, append_assoc}
 use Rattle.awk_tokens.specs.declared.token.Token.{Token}
+use Rattle.awk_tree.specs.Looks.{each_next}
 use Rattle.awk_tree.specs.declared.names.Member.{Member}
 use Rattle.awk_tree.specs.declared.operators.Arithmetic.{Arithmetic}
 use Rattle.awk_tree.specs.declared.operators.Arithmetic.TheVariants as arithmetic
@@ -14,7 +15,6 @@ use Rattle.awk_tokens.specs.declared.terminals.Terminal.TheVariants as w
 use Rattle.awk_tree.specs.Tree as t
 use Rattle.awk_tree.specs.Tree.{Tree, Trees, Perhaps, Terms, Pipes}
 use Rattle.awk_tree.specs.Terminals.{terminal, terminal_of, is, sign}
-use Rattle.awk_tree.specs.Statements.{each_next}
 use Rattle.awk_tokens.specs.Words.{builtin_text}
 use Rattle.awk_tree.specs.Canon.{canon, canon_list, canon_commas, canon_comma, canon_target, canon_file, canon_parts, canon_ands, canon_ors, canon_terms, canon_pipes, canon_members, canon_perhaps, builtin_word, arithmetic_text, comparison_text, prefix_text, match_text, substituting}
 use Rattle.awk_parse.proofs.TerminalLemmas.{both_true, is-true}

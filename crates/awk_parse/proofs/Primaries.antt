@@ -2,6 +2,8 @@
 use Rattle.std.proofs.Common.{◌≡◌, ℕ, suc, true, false, cond, Option, Some, None, List, [], ◌∷◌, ◌++◌, codes, refl, sym, ap, subst, ◌∙◌, append_assoc}
 use Rattle.awk_tokens.specs.declared.token.Token.{Token}
 use Rattle.awk_tokens.specs.declared.kinds.TokenKind.TheVariants as kind
+use Rattle.awk_tree.specs.Looks.{is_lvalue, name_of}
+use Rattle.awk_tree.specs.Looks as looks
 use Rattle.awk_tree.specs.declared.operators.Sign.{Sign}
 use Rattle.awk_tokens.specs.declared.terminals.Step.{Step}
 use Rattle.awk_tree.specs.declared.goals.Goal.{Goal}
@@ -13,7 +15,6 @@ use Rattle.awk_tree.specs.Tree.{Tree, Trees, trees_of, perhaps_of}
 use Rattle.awk_tree.specs.Terminals.{terminal, terminal_of, is, sign, token, ahead}
 use Rattle.awk_tree.specs.Input.{Parser, ◌>>=◌, any, one, pure}
 use Rattle.awk_tree.specs.Expressions as e
-use Rattle.awk_tree.specs.Expressions.{name_of, is_lvalue}
 use Rattle.awk_tree.specs.Canon.{bare, bare_name}
 use Rattle.awk_parse.specs.Rules as rule
 use Rattle.awk_parse.specs.Rules.{Rule}
@@ -75,18 +76,18 @@ prefix_spelled prefix.Not = refl
 prefix_spelled prefix.Plus = refl
 prefix_spelled prefix.Minus = refl
 
-prefix_again : (which : Sign) → e.sign (prefix_terminal which) ≡ Some which
+prefix_again : (which : Sign) → looks.sign (prefix_terminal which) ≡ Some which
 prefix_again prefix.Not = refl
 prefix_again prefix.Plus = refl
 prefix_again prefix.Minus = refl
 
-prefix_found : (k : Terminal) (which : Sign) → e.sign k ≡ Some which → k ≡ prefix_terminal which
+prefix_found : (k : Terminal) (which : Sign) → looks.sign k ≡ Some which → k ≡ prefix_terminal which
 prefix_found w.Not prefix.Not h = refl
 prefix_found w.Plus prefix.Plus h = refl
 prefix_found w.Minus prefix.Minus h = refl
 prefix_found _ _ h = absurd cc
 
-step_found : (k : Terminal) (which : Step) → e.step k ≡ Some which → k ≡ w.Step which
+step_found : (k : Terminal) (which : Step) → looks.step k ≡ Some which → k ≡ w.Step which
 step_found (w.Step s) which h = ap w.Step cc
 step_found _ which h = absurd cc
 
@@ -139,38 +140,38 @@ module _ (n depth : ℕ) (inner : Goal → Parser Tree) (deeper : Inner n depth 
 
   -- ---- signs and steps before an operand
 
-  step_before_law : (r : Rule) → ((which : Step) (t : Token) (us : List Token) (x : Tree) (rest : List Token) → e.step (terminal t) ≡ Some which → Opens n → Spells (suc n) rule.lvalue us x rest → Spells n r (t ∷ us) (tree.before t.place which x) rest)
-      → (which : Step) (ts : List Token) → e.step (ahead ts) ≡ Some which → At Near Near (here n r) (e.step_before depth inner which) ts
+  step_before_law : (r : Rule) → ((which : Step) (t : Token) (us : List Token) (x : Tree) (rest : List Token) → looks.step (terminal t) ≡ Some which → Opens n → Spells (suc n) rule.lvalue us x rest → Spells n r (t ∷ us) (tree.before t.place which x) rest)
+      → (which : Step) (ts : List Token) → looks.step (ahead ts) ≡ Some which → At Near Near (here n r) (e.step_before depth inner which) ts
   unfolding e.step_before
   step_before_law r spells which ts sees =
       prefixed (w.Step which) (λ _. sign (step_text which)) any (below n rule.lvalue) (inner goal.Lvalue) (here n r) (λ t x. tree.before t.place which x) (λ t x. refl) (λ t x. refl)
-      (λ t us x rest h j. spells which t us x rest (ap e.step h) j.0 j.1) deeper.lvalues ts (any_at (w.Step which) (λ _. sign (step_text which)) refl (λ _ _. step_is which) Near ts (step_found (ahead ts) which sees))
+      (λ t us x rest h j. spells which t us x rest (ap looks.step h) j.0 j.1) deeper.lvalues ts (any_at (w.Step which) (λ _. sign (step_text which)) refl (λ _ _. step_is which) Near ts (step_found (ahead ts) which sees))
 
-  signed_law : (r : Rule) (rest : Goal) (deep_rule : Rule) → Law Near Near (below n deep_rule) (inner rest) → ((which : Sign) (t : Token) (us : List Token) (x : Tree) (rest : List Token) → e.sign (terminal t) ≡ Some which → Opens n → Spells (suc n) deep_rule us x rest → Spells n r (t ∷ us) (tree.signed t.place which x) rest)
-      → (which : Sign) (ts : List Token) → e.sign (ahead ts) ≡ Some which → At Near Near (here n r) (e.signed_by depth inner which rest) ts
+  signed_law : (r : Rule) (rest : Goal) (deep_rule : Rule) → Law Near Near (below n deep_rule) (inner rest) → ((which : Sign) (t : Token) (us : List Token) (x : Tree) (rest : List Token) → looks.sign (terminal t) ≡ Some which → Opens n → Spells (suc n) deep_rule us x rest → Spells n r (t ∷ us) (tree.signed t.place which x) rest)
+      → (which : Sign) (ts : List Token) → looks.sign (ahead ts) ≡ Some which → At Near Near (here n r) (e.signed_by depth inner which rest) ts
   unfolding e.signed_by
   signed_law r rest deep_rule law spells which ts sees =
       prefixed (prefix_terminal which) (λ _. sign (prefix_text which)) any (below n deep_rule) (inner rest) (here n r) (λ t x. tree.signed t.place which x) (λ t x. refl) (λ t x. refl)
-      (λ t us x rest h j. spells which t us x rest (ap e.sign h ∙ prefix_again which) j.0 j.1) law ts (any_at (prefix_terminal which) (λ _. sign (prefix_text which)) (prefix_steady which) (λ _ _. prefix_spelled which) Near ts (prefix_found (ahead ts) which sees))
+      (λ t us x rest h j. spells which t us x rest (ap looks.sign h ∙ prefix_again which) j.0 j.1) law ts (any_at (prefix_terminal which) (λ _. sign (prefix_text which)) (prefix_steady which) (λ _ _. prefix_spelled which) Near ts (prefix_found (ahead ts) which sees))
 
-  step_or_prim_at : (o : Option Step) (ts : List Token) → e.step (ahead ts) ≡ o → At Near Near (here n rule.dol) (e.step_or_prim depth inner o) ts
+  step_or_prim_at : (o : Option Step) (ts : List Token) → looks.step (ahead ts) ≡ o → At Near Near (here n rule.dol) (e.step_or_prim depth inner o) ts
   step_or_prim_at (Some which) ts sees = step_before_law rule.dol (λ which t us x rest h i j. g.a_step_dol n which t us x rest h i j) which ts sees
   step_or_prim_at None ts sees = weaker_at Near Near (here n rule.prim) (here n rule.dol) (e.prim depth inner) ts (λ _. refl) (λ _. refl) (λ us x rest h. g.only_prim n us x rest h) (prim_law ts)
 
-  operand_at : (o : Option Sign) (ts : List Token) → e.sign (ahead ts) ≡ o → At Near Near (here n rule.dol) (e.operand_by depth inner o (ahead ts)) ts
+  operand_at : (o : Option Sign) (ts : List Token) → looks.sign (ahead ts) ≡ o → At Near Near (here n rule.dol) (e.operand_by depth inner o (ahead ts)) ts
   operand_at (Some which) ts sees = signed_law rule.dol goal.Operand rule.dol deeper.operands (λ which t us x rest h i j. g.a_signed_dol n which t us x rest h i j) which ts sees
-  operand_at None ts sees = step_or_prim_at (e.step (ahead ts)) ts refl
+  operand_at None ts sees = step_or_prim_at (looks.step (ahead ts)) ts refl
 
   pub operand_law : Law Near Near (here n rule.dol) (e.operand depth inner)
   unfolding e.operand
-  operand_law ts = choice_at Near (here n rule.dol) (λ kind. e.operand_by depth inner (e.sign kind) kind) ts (operand_at (e.sign (ahead ts)) ts refl)
+  operand_law ts = choice_at Near (here n rule.dol) (λ kind. e.operand_by depth inner (looks.sign kind) kind) ts (operand_at (looks.sign (ahead ts)) ts refl)
 
   -- ---- steps behind an lvalue
 
   after_spells : (which : Step) (us : List Token) (q : Tree × Token) (rest : List Token) → Both (knowing (here n rule.prim) (λ x _. is_lvalue x ≡ true)) (word (w.Step which) (λ _. sign (step_text which))) us q rest → Spells n rule.inc us (tree.after q.0 q.1.place which) rest
-  after_spells which _ _ _ (both us _ rest x _ (h, l) (this t _ j)) = g.a_step_after n which t us x rest h l (ap e.step j)
+  after_spells which _ _ _ (both us _ rest x _ (h, l) (this t _ j)) = g.a_step_after n which t us x rest h l (ap looks.step j)
 
-  after_at : (o : Option Step) (x : Tree) (ts : List Token) → e.step (ahead ts) ≡ o → GoesAt Near Near (here n rule.prim) (here n rule.inc) (λ x. e.after_by depth inner x o) x ts
+  after_at : (o : Option Step) (x : Tree) (ts : List Token) → looks.step (ahead ts) ≡ o → GoesAt Near Near (here n rule.prim) (here n rule.inc) (λ x. e.after_by depth inner x o) x ts
   after_at (Some which) x ts sees =
       if_left Near Near (here n rule.prim) (here n rule.inc) is_lvalue (λ x. any >>= λ t. pure (tree.after x t.place which)) (λ x. pure x) x ts (is_lvalue-bare x)
       (λ l. known Near Near (here n rule.prim) (here n rule.inc) (λ x _. is_lvalue x ≡ true) (λ x. any >>= λ t. pure (tree.after x t.place which)) x ts l
@@ -180,20 +181,20 @@ module _ (n depth : ℕ) (inner : Goal → Parser Tree) (deeper : Inner n depth 
       (λ l. known Near Near (here n rule.prim) (here n rule.inc) (λ x _. is_lvalue x ≡ false) (λ x. pure x) x ts l
       (stays Near (knowing (here n rule.prim) (λ x _. is_lvalue x ≡ false)) (here n rule.inc) x ts (λ _. refl) (λ _. refl) (λ us x rest h. g.no_step n us x rest h.0 (λ t. absurd (let both : true ≡ false = sym t ∙ h.1 in cc)))))
   after_at None x ts sees =
-      known Near Near (here n rule.prim) (here n rule.inc) (λ x rest. e.step (ahead rest) ≡ None) (λ x. pure x) x ts sees
-      (stays Near (knowing (here n rule.prim) (λ x rest. e.step (ahead rest) ≡ None)) (here n rule.inc) x ts (λ _. refl) (λ _. refl) (λ us x rest h. g.no_step n us x rest h.0 (λ _. h.1)))
+      known Near Near (here n rule.prim) (here n rule.inc) (λ x rest. looks.step (ahead rest) ≡ None) (λ x. pure x) x ts sees
+      (stays Near (knowing (here n rule.prim) (λ x rest. looks.step (ahead rest) ≡ None)) (here n rule.inc) x ts (λ _. refl) (λ _. refl) (λ us x rest h. g.no_step n us x rest h.0 (λ _. h.1)))
 
   step_after_law : LawOn Near Near (here n rule.prim) (here n rule.inc) (e.step_after depth inner)
   unfolding e.step_after
-  step_after_law x ts = choice_on Near (here n rule.prim) (here n rule.inc) (λ x kind. e.after_by depth inner x (e.step kind)) x ts (after_at (e.step (ahead ts)) x ts refl)
+  step_after_law x ts = choice_on Near (here n rule.prim) (here n rule.inc) (λ x kind. e.after_by depth inner x (looks.step kind)) x ts (after_at (looks.step (ahead ts)) x ts refl)
 
-  inc_at : (o : Option Step) (ts : List Token) → e.step (ahead ts) ≡ o → At Near Near (here n rule.inc) (e.inc_by depth inner o) ts
+  inc_at : (o : Option Step) (ts : List Token) → looks.step (ahead ts) ≡ o → At Near Near (here n rule.inc) (e.inc_by depth inner o) ts
   inc_at (Some which) ts sees = step_before_law rule.inc (λ which t us x rest h i j. g.a_step_before n which t us x rest h i j) which ts sees
   inc_at None ts sees = then_at Near Near Near (here n rule.prim) (here n rule.inc) (e.prim depth inner) (e.step_after depth inner) ts (prim_law ts) step_after_law
 
   pub inc_law : Law Near Near (here n rule.inc) (e.inc depth inner)
   unfolding e.inc
-  inc_law ts = choice_at Near (here n rule.inc) (λ kind. e.inc_by depth inner (e.step kind)) ts (inc_at (e.step (ahead ts)) ts refl)
+  inc_law ts = choice_at Near (here n rule.inc) (λ kind. e.inc_by depth inner (looks.step kind)) ts (inc_at (looks.step (ahead ts)) ts refl)
 
   -- ---- powers
 
@@ -206,7 +207,7 @@ module _ (n depth : ℕ) (inner : Goal → Parser Tree) (deeper : Inner n depth 
       (λ t us vs x y rest h j i. g.a_power n t us vs x y rest h j i.0 i.1) deeper.unaries x ts (one_law w.Caret (λ _. sign (codes "^")) refl refl (λ _ _. refl) Near ts))
       (λ _. stays Near (here n rule.inc) (here n rule.pow) x ts (λ _. refl) (λ _. refl) (λ us x rest h. g.only_inc n us x rest h)))
 
-  unary_at : (o : Option Sign) (ts : List Token) → e.sign (ahead ts) ≡ o → At Near Near (here n rule.unary) (e.unary_by depth inner o) ts
+  unary_at : (o : Option Sign) (ts : List Token) → looks.sign (ahead ts) ≡ o → At Near Near (here n rule.unary) (e.unary_by depth inner o) ts
   unary_at (Some which) ts sees = signed_law rule.unary goal.Unary rule.unary deeper.unaries (λ which t us x rest h i j. g.a_signed n which t us x rest h i j) which ts sees
   unary_at None ts sees =
       weaker_at Near Near (here n rule.pow) (here n rule.unary) (e.inc depth inner >>= e.power_rest depth inner) ts (λ _. refl) (λ _. refl) (λ us x rest h. g.only_pow n us x rest h)
@@ -214,4 +215,4 @@ module _ (n depth : ℕ) (inner : Goal → Parser Tree) (deeper : Inner n depth 
 
   pub unary_law : Law Near Near (here n rule.unary) (e.unary depth inner)
   unfolding e.unary
-  unary_law ts = choice_at Near (here n rule.unary) (λ kind. e.unary_by depth inner (e.sign kind)) ts (unary_at (e.sign (ahead ts)) ts refl)
+  unary_law ts = choice_at Near (here n rule.unary) (λ kind. e.unary_by depth inner (looks.sign kind)) ts (unary_at (looks.sign (ahead ts)) ts refl)

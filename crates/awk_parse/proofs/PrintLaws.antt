@@ -1,6 +1,8 @@
 -- The laws of print and printf.
 use Rattle.std.proofs.Common.{◌≡◌, ℕ, suc, Bool, true, false, cond, Option, Some, None, List, [], ◌∷◌, ◌++◌, map, option_map, codes, refl, sym, ap, subst, ◌∙◌, ◌&&◌}
 use Rattle.awk_tokens.specs.declared.token.Token.{Token}
+use Rattle.awk_tree.specs.Looks.{is_lvalue, name_of}
+use Rattle.awk_tree.specs.Looks as looks
 use Rattle.awk_tree.specs.declared.goals.Goal.{Goal}
 use Rattle.awk_tree.specs.declared.goals.Goal.TheVariants as goal
 use Rattle.awk_tokens.specs.declared.terminals.Terminal.{Terminal}
@@ -10,7 +12,6 @@ use Rattle.awk_tree.specs.Tree.{Tree, Trees, trees_of, perhaps_of}
 use Rattle.awk_tree.specs.Terminals.{terminal, terminal_of, is, sign, keyword, ahead}
 use Rattle.awk_tree.specs.Input.{Parser, ◌>>=◌, any, one, pure}
 use Rattle.awk_tree.specs.Expressions as e
-use Rattle.awk_tree.specs.Expressions.{name_of, is_lvalue}
 use Rattle.awk_tree.specs.Canon.{canon, bare}
 use Rattle.awk_parse.specs.Rules as rule
 use Rattle.awk_parse.specs.Rules.{Rule}
@@ -43,7 +44,7 @@ redirect_terminal to.Write = w.Greater
 redirect_terminal to.Append = w.Append
 redirect_terminal to.Command = w.Bar
 
-redirect_found : (k : Terminal) (how : Redirect) → st.redirect k ≡ Some how → k ≡ redirect_terminal how
+redirect_found : (k : Terminal) (how : Redirect) → looks.redirect k ≡ Some how → k ≡ redirect_terminal how
 redirect_found w.Greater to.Write h = refl
 redirect_found w.Append to.Append h = refl
 redirect_found w.Bar to.Command h = refl
@@ -98,12 +99,12 @@ module _ (n depth : ℕ) (inner : Goal → Parser Tree) (deeper : Inner n depth 
   groups = grouping n depth inner deeper true
 
   Whole_list : (((Token × Tree) × List Tree) × Token) → List Token → Type 0
-  Whole_list q rest = (st.is_several q.0.1 && st.ends_print (ahead rest)) ≡ true
+  Whole_list q rest = (st.is_several q.0.1 && looks.ends_print (ahead rest)) ≡ true
 
   group_spells : (us : List Token) (q : ((Token × Tree) × List Tree) × Token) (rest : List Token) → (Both (pair (pair opening (whole n false)) (commas n depth inner deeper)) closing us q rest) × Whole_list q rest → PrintList n us (record { is_grouped = true; items = q.0.0.1 ∷ q.0.1 }) rest
   unfolding Whole_list
   group_spells _ _ _ (both _ _ rest _ _ (both _ vs _ _ xs (both _ us _ _ x (this o _ h) (opens, k, _)) (l, _)) (this c _ j), known_list) =
-      let two = both_true (st.is_several xs) (st.ends_print (ahead rest)) known_list in
+      let two = both_true (st.is_several xs) (looks.ends_print (ahead rest)) known_list in
       let found = several_is xs two.0 in
       let list : Listed (suc n) (us ++ vs) (x ∷ found.0 ∷ found.1) (c ∷ rest) = subst (λ (m : List Tree). Listed (suc n) (us ++ vs) (x ∷ m) (c ∷ rest)) found.2 (g.a_list (suc n) us vs x xs (c ∷ rest) k l) in
       subst (λ (m : List Tree). PrintList n (o ∷ (us ++ vs) ++ c ∷ []) (record { is_grouped = true; items = x ∷ m }) rest) (sym found.2) (r.grouped_list n o c (us ++ vs) x found.0 found.1 rest h j opens list two.1)
@@ -111,9 +112,9 @@ module _ (n depth : ℕ) (inner : Goal → Parser Tree) (deeper : Inner n depth 
   printed_from_law : LawOn Near Near groups list_form (λ q. st.printed_from depth inner q.0.0.0.place q.0.0.1 q.0.1)
   unfolding st.printed_from Whole_list
   printed_from_law q ts =
-      choice_on Near groups list_form (λ q kind. cond (st.is_several q.0.1 && st.ends_print kind) (pure (record { is_grouped = true; items = q.0.0.1 ∷ q.0.1 })) (e.grouped depth inner true q.0.0.0.place q.0.0.1 q.0.1 >>= e.expr_rest depth inner true >>= st.printed_rest depth inner)) q ts
-      (if_left Near Near groups list_form (λ q. st.is_several q.0.1 && st.ends_print (ahead ts)) (λ q. pure (record { is_grouped = true; items = q.0.0.1 ∷ q.0.1 })) (λ q. e.grouped depth inner true q.0.0.0.place q.0.0.1 q.0.1 >>= e.expr_rest depth inner true >>= st.printed_rest depth inner) q ts
-      (ap (λ (b : Bool). b && st.ends_print (ahead ts)) (several_bare q.0.1))
+      choice_on Near groups list_form (λ q kind. cond (st.is_several q.0.1 && looks.ends_print kind) (pure (record { is_grouped = true; items = q.0.0.1 ∷ q.0.1 })) (e.grouped depth inner true q.0.0.0.place q.0.0.1 q.0.1 >>= e.expr_rest depth inner true >>= st.printed_rest depth inner)) q ts
+      (if_left Near Near groups list_form (λ q. st.is_several q.0.1 && looks.ends_print (ahead ts)) (λ q. pure (record { is_grouped = true; items = q.0.0.1 ∷ q.0.1 })) (λ q. e.grouped depth inner true q.0.0.0.place q.0.0.1 q.0.1 >>= e.expr_rest depth inner true >>= st.printed_rest depth inner) q ts
+      (ap (λ (b : Bool). b && looks.ends_print (ahead ts)) (several_bare q.0.1))
       (λ h. known Near Near groups list_form Whole_list (λ q. pure (record { is_grouped = true; items = q.0.0.1 ∷ q.0.1 })) q ts h
       (pure_on Near (knowing groups Whole_list) list_form (λ q. record { is_grouped = true; items = q.0.0.1 ∷ q.0.1 }) (λ q. ap (λ (m : List Token). (sign (codes "(") ∷ (canon q.0.0.1 ++ m)) ++ sign (codes ")") ∷ []) (canon_commas-of q.0.1)) (λ q. refl) group_spells q ts))
       (λ _. on_on Near Near Near groups here list_form (λ q. e.grouped depth inner true q.0.0.0.place q.0.0.1 q.0.1 >>= e.expr_rest depth inner true) (st.printed_rest depth inner)
@@ -145,8 +146,8 @@ module _ (n depth : ℕ) (inner : Goal → Parser Tree) (deeper : Inner n depth 
   printed_or_none_law : Law Near Near maybe_form (st.printed_or_none depth inner)
   unfolding st.printed_or_none
   printed_or_none_law ts =
-      choice_at Near maybe_form (λ kind. cond (st.ends_print kind) (pure (record { is_grouped = false; items = [] })) (st.printed depth inner)) ts
-      (if_at Near Near maybe_form (st.ends_print (ahead ts)) (pure (record { is_grouped = false; items = [] })) (st.printed depth inner) ts (λ _. pure_at Near maybe_form (record { is_grouped = false; items = [] }) ts refl refl (no_list ts))
+      choice_at Near maybe_form (λ kind. cond (looks.ends_print kind) (pure (record { is_grouped = false; items = [] })) (st.printed depth inner)) ts
+      (if_at Near Near maybe_form (looks.ends_print (ahead ts)) (pure (record { is_grouped = false; items = [] })) (st.printed depth inner) ts (λ _. pure_at Near maybe_form (record { is_grouped = false; items = [] }) ts refl refl (no_list ts))
       (λ _. weaker_at Near Near list_form maybe_form (st.printed depth inner) ts (λ _. refl) (λ _. refl) some_list (printed_law ts)))
 
   -- ---- redirections
@@ -157,10 +158,10 @@ module _ (n depth : ℕ) (inner : Goal → Parser Tree) (deeper : Inner n depth 
   abbrev cat_form : Form Tree
   cat_form = tree_form (λ us x rest. Spells n rule.cat us x rest)
 
-  steady_to : (how : Redirect) (k : Terminal) → steady k ≡ true → st.redirect k ≡ Some how → terminal (sign (redirect_text how)) ≡ k → (ts : List Token) → ahead ts ≡ k → At Near Near to_form (any >>= λ t. e.cat depth inner >>= λ x. pure (Some (record { how = how; place = t.place; target = x }))) ts
+  steady_to : (how : Redirect) (k : Terminal) → steady k ≡ true → looks.redirect k ≡ Some how → terminal (sign (redirect_text how)) ≡ k → (ts : List Token) → ahead ts ≡ k → At Near Near to_form (any >>= λ t. e.cat depth inner >>= λ x. pure (Some (record { how = how; place = t.place; target = x }))) ts
   steady_to how k fixed is_redirect spelled ts sees =
       prefixed k (λ _. sign (redirect_text how)) any cat_form (e.cat depth inner) to_form (λ t x. Some (record { how = how; place = t.place; target = x })) (λ t x. refl) (λ t x. refl)
-      (λ t us x rest h j. r.redirected n how t us x rest (ap st.redirect (ahead_is k t (us ++ rest) fixed h) ∙ is_redirect) j) (cat_law n depth inner deeper) ts (any_at k (λ _. sign (redirect_text how)) fixed (λ _ _. spelled) Near ts sees)
+      (λ t us x rest h j. r.redirected n how t us x rest (ap looks.redirect (ahead_is k t (us ++ rest) fixed h) ∙ is_redirect) j) (cat_law n depth inner deeper) ts (any_at k (λ _. sign (redirect_text how)) fixed (λ _ _. spelled) Near ts sees)
 
   to_command : (ts : List Token) → ahead ts ≡ w.Bar → At Near Near to_form (any >>= λ t. e.cat depth inner >>= λ x. pure (Some (record { how = to.Command; place = t.place; target = x }))) ts
   unfolding any terminal_of
@@ -178,12 +179,12 @@ module _ (n depth : ℕ) (inner : Goal → Parser Tree) (deeper : Inner n depth 
       (subst (λ (v : List Token). Read Near Near to_form (any >>= λ t. e.cat depth inner >>= λ x. pure (Some (record { how = to.Command; place = t.place; target = x }))) ts (Some (record { how = to.Command; place = t.place; target = x })) v) d.1 (record {
         used = t ∷ q.used;
         parts = p ∙ ap (λ (v : List Token). t ∷ v) q.parts;
-        spelled = r.redirected n to.Command t q.used x a.1 (ap (λ (v : List Token). st.redirect (ahead v)) (sym (p ∙ ap (λ (v : List Token). t ∷ v) q.parts)) ∙ ap st.redirect sees) q.spelled;
+        spelled = r.redirected n to.Command t q.used x a.1 (ap (λ (v : List Token). looks.redirect (ahead v)) (sym (p ∙ ap (λ (v : List Token). t ∷ v) q.parts)) ∙ ap looks.redirect sees) q.spelled;
         seen = λ u like. sees ∙ sym (ap (seen w.Bar) (sym (getline_ahead (canon x ++ u)) ∙ ap (λ (k : Terminal). is k w.Getline) (sym (q.seen u like)) ∙ getline_ahead m ∙ alone.1));
         reads = λ u like. rw (q.reads u like) refl;
       }))
 
-  to_at : (o : Option Redirect) (ts : List Token) → st.redirect (ahead ts) ≡ o → At Near Near to_form (st.redirection_by depth inner o) ts
+  to_at : (o : Option Redirect) (ts : List Token) → looks.redirect (ahead ts) ≡ o → At Near Near to_form (st.redirection_by depth inner o) ts
   unfolding terminal_of
   to_at (Some to.Write) ts sees = steady_to to.Write w.Greater refl refl refl ts (redirect_found (ahead ts) to.Write sees)
   to_at (Some to.Append) ts sees = steady_to to.Append w.Append refl refl refl ts (redirect_found (ahead ts) to.Append sees)
@@ -192,7 +193,7 @@ module _ (n depth : ℕ) (inner : Goal → Parser Tree) (deeper : Inner n depth 
 
   redirection_law : Law Near Near to_form (st.redirection depth inner)
   unfolding st.redirection
-  redirection_law ts = choice_at Near to_form (λ kind. st.redirection_by depth inner (st.redirect kind)) ts (to_at (st.redirect (ahead ts)) ts refl)
+  redirection_law ts = choice_at Near to_form (λ kind. st.redirection_by depth inner (looks.redirect kind)) ts (to_at (looks.redirect (ahead ts)) ts refl)
 
   -- ---- print and printf
 

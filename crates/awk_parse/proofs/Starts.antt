@@ -7,6 +7,8 @@ use Rattle.awk_tokens.specs.declared.words.Builtin.{Builtin}
 use Rattle.awk_tokens.specs.declared.words.Builtin.TheVariants as b
 use Rattle.awk_tokens.specs.declared.words.Jump.{Jump}
 use Rattle.awk_tokens.specs.declared.words.Jump.TheVariants as j
+use Rattle.awk_tree.specs.Looks.{skip}
+use Rattle.awk_tree.specs.Looks as looks
 use Rattle.awk_tree.specs.declared.operators.Sign.{Sign}
 use Rattle.awk_tree.specs.declared.operators.Sign.TheVariants as prefix
 use Rattle.awk_tokens.specs.declared.terminals.Step.{Step}
@@ -18,13 +20,12 @@ use Rattle.awk_tree.specs.Tree.{Tree, Trees}
 use Rattle.awk_tree.specs.Terminals as terminals
 use Rattle.awk_tokens.specs.Words.{builtin_text, jump_text}
 use Rattle.awk_tree.specs.Terminals.{terminal, terminal_of, is, step_text, assignment_text}
-use Rattle.awk_tree.specs.Input.{skip}
 use Rattle.awk_tree.specs.Expressions as e
 use Rattle.awk_tree.specs.Canon.{canon, prefix_text, builtin_word}
 
 -- ---- the texts of words are those of their terminals
 
-pub prefix_is : (which : Sign) → e.sign (terminal (terminals.sign (prefix_text which))) ≡ Some which
+pub prefix_is : (which : Sign) → looks.sign (terminal (terminals.sign (prefix_text which))) ≡ Some which
 unfolding terminal_of
 prefix_is prefix.Not = refl
 prefix_is prefix.Plus = refl

@@ -3,6 +3,7 @@ use Rattle.std.proofs.Common.{◌≡◌, ℕ, suc, Bool, true, false, cond, Opti
 use Rattle.std.proofs.lemmas.List.{append-nil}
 use Rattle.std.proofs.lemmas.Bool.{eq-eqb}
 use Rattle.awk_tokens.specs.declared.token.Token.{Token}
+use Rattle.awk_tree.specs.Looks.{each_next, else_next, name_of, past, skip}
 use Rattle.awk_tree.specs.declared.goals.Goal.{Goal}
 use Rattle.awk_tree.specs.declared.goals.Goal.TheVariants as goal
 use Rattle.awk_tree.specs.declared.goals.Nested.{Nested}
@@ -12,10 +13,8 @@ use Rattle.awk_tokens.specs.declared.terminals.Terminal.TheVariants as w
 use Rattle.awk_tree.specs.Tree as tree
 use Rattle.awk_tree.specs.Tree.{Tree, Statement, Statements, statements_of}
 use Rattle.awk_tree.specs.Terminals.{number_of, terminal, terminal_of, seen, is, look, ahead, sign, keyword}
-use Rattle.awk_tree.specs.Input.{Outcome, Parser, ◌>>=◌, any, one, exactly, pure, deep, opened, skip, skipped, past}
-use Rattle.awk_tree.specs.Expressions.{name_of}
+use Rattle.awk_tree.specs.Input.{Outcome, Parser, ◌>>=◌, any, one, exactly, pure, deep, inside, skipped}
 use Rattle.awk_tree.specs.Statements as st
-use Rattle.awk_tree.specs.Statements.{else_next, each_next}
 use Rattle.awk_tree.specs.Canon.{canon, bare, word, canon_perhaps, canon_statement, canon_statements, bare_statement, end}
 use Rattle.awk_parse.specs.Spells.{Opens, Newlines}
 use Rattle.awk_parse.specs.SpellsScripts as r
@@ -383,7 +382,7 @@ module _ (n depth : ℕ) (inner : Goal → Parser Tree) (deeper : Inner n depth 
   each_from _ bs _ k i a c s rest (both _ _ _ _ _ (this t _ h) (this o _ j)) opens hk hi ha hc b = r.a_for_in n t o k i a c bs s rest h j hk hi ha hc opens b
 
   abbrev for_parser : (Token × Token) → Parser Statement
-  for_parser q = opened depth (st.for_rest depth inner body q.0.place)
+  for_parser q = inside depth (st.for_rest depth inner body q.0.place)
 
   loop_on : (q : Token × Token) (ts : List Token) (y : Statement) (rest : List Token) → (depth == 0) ≡ false → st.loop_rest depth inner body ts ≡ Ok (y, rest) → Goes Blind Elses for_head (statement_form n) for_parser q ts y rest
   unfolding st.for_rest
@@ -441,5 +440,5 @@ module _ (n depth : ℕ) (inner : Goal → Parser Tree) (deeper : Inner n depth 
   pub for_law : Law Near Elses (statement_form n) (st.for_of depth inner body)
   unfolding st.for_of
   for_law ts =
-      then_at Near Near Elses for_word (statement_form n) (one w.For) (λ t. one w.OpenParen >>= λ _. opened depth (st.for_rest depth inner body t.place)) ts (for_word_law Near ts)
-      (λ t ts. seq_at Near Blind Elses for_word opening (statement_form n) (one w.OpenParen) (λ t _. opened depth (st.for_rest depth inner body t.place)) t ts (opening_law Blind ts) for_rest_law)
+      then_at Near Near Elses for_word (statement_form n) (one w.For) (λ t. one w.OpenParen >>= λ _. inside depth (st.for_rest depth inner body t.place)) ts (for_word_law Near ts)
+      (λ t ts. seq_at Near Blind Elses for_word opening (statement_form n) (one w.OpenParen) (λ t _. inside depth (st.for_rest depth inner body t.place)) t ts (opening_law Blind ts) for_rest_law)

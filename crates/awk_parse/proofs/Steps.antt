@@ -2,8 +2,9 @@
 use Rattle.std.proofs.Common.{◌≡◌, true, List, ◌∷◌, ◌++◌, Ok, sym, ap, subst, ◌∙◌, inl, inr, append_assoc}
 use Rattle.awk_tokens.specs.declared.token.Token.{Token}
 use Rattle.awk_tokens.specs.declared.terminals.Terminal.{Terminal}
+use Rattle.awk_tree.specs.Looks.{skip}
 use Rattle.awk_tree.specs.Terminals.{is, look, ahead, terminal}
-use Rattle.awk_tree.specs.Input.{Parser, any, one, exactly, refuse, by_look, skip, skipped}
+use Rattle.awk_tree.specs.Input.{Parser, any, one, exactly, refuse, by_look, skipped}
 use Rattle.awk_parse.proofs.TerminalLemmas.{single, steady, is-true, terminal_is}
 use Rattle.awk_parse.proofs.Law.{Eye, Near, Form, Law, At, GoesAt, chosen, any_is, lines, behind, skip_parts}
 use Rattle.awk_parse.proofs.Looks.{Looks, Blind, near_same}

@@ -4,13 +4,14 @@ use Rattle.std.proofs.lemmas.List.{append-nil}
 use Rattle.std.specs.List.{flat_map}
 use Rattle.awk_tokens.specs.declared.token.Token.{Token}
 use Rattle.awk_tokens.specs.declared.kinds.TokenKind.TheVariants as kind
+use Rattle.awk_tree.specs.Looks.{member_of, name_of}
 use Rattle.awk_tree.specs.declared.names.Member.{Member}
 use Rattle.awk_tokens.specs.declared.terminals.Terminal.{Terminal}
 use Rattle.awk_tokens.specs.declared.terminals.Terminal.TheVariants as w
 use Rattle.awk_tree.specs.Tree.{Tree}
 use Rattle.awk_tree.specs.Terminals.{terminal, terminal_of, is, sign, keyword, token, ahead}
 use Rattle.awk_tree.specs.Input.{one, pure}
-use Rattle.awk_tree.specs.Expressions.{name_of, in_name, in_names, member_of}
+use Rattle.awk_tree.specs.Expressions.{in_name, in_names}
 use Rattle.awk_tree.specs.Canon.{canon, bare, bare_member, canon_members}
 use Rattle.awk_parse.specs.Spells.{Names, no_name, one_name}
 use Rattle.awk_parse.proofs.Law.{Eye, Near, Form, Law, then_at, seq_at, Both, both, pair, pure_on, this, word, one_law}

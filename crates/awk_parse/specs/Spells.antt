@@ -4,6 +4,7 @@
 -- where the grammar says whose a sign is.
 use Rattle.std.specs.Prelude.{◌≡◌, ℕ, suc, ◌<◌, Bool, true, false, List, [], ◌∷◌, ◌++◌, Option, Some, None}
 use Rattle.awk_tokens.specs.declared.token.Token.{Token}
+use Rattle.awk_tree.specs.Looks.{and_of, arithmetic_of, assignment, begins_part, comparison, concat_of, is_factor_sign, is_lvalue, is_term_sign, listed, matching, member_of, name_of, or_of, pipe_of, product_of, sign, step, sum_of}
 use Rattle.awk_tree.specs.declared.names.Member.{Member}
 use Rattle.awk_tokens.specs.declared.terminals.Assignment.{Assignment}
 use Rattle.awk_tokens.specs.Words.{parameters}
@@ -21,7 +22,6 @@ use Rattle.awk_tree.specs.Tree as tree
 use Rattle.awk_tree.specs.Tree.{Tree, trees_of, perhaps_of}
 use Rattle.awk_tree.specs.Canon.{substituting}
 use Rattle.awk_tree.specs.Terminals.{terminal, is, ahead}
-use Rattle.awk_tree.specs.Expressions.{sign, step, is_factor_sign, is_term_sign, arithmetic_of, begins_part, comparison, matching, assignment, name_of, is_lvalue, listed, product_of, sum_of, concat_of, pipe_of, member_of, and_of, or_of}
 use Rattle.awk_parse.specs.Rules as rule
 use Rattle.awk_parse.specs.Rules.{Rule}
 

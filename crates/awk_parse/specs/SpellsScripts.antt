@@ -3,6 +3,7 @@
 -- the tokens rest follow, spell something n levels deep.
 use Rattle.std.specs.Prelude.{◌≡◌, ℕ, zero, suc, true, false, List, [], ◌∷◌, ◌++◌, Option, Some, None, ◌⊎◌}
 use Rattle.awk_tokens.specs.declared.token.Token.{Token}
+use Rattle.awk_tree.specs.Looks.{else_next, ends_item, ends_print, name_of, redirect}
 use Rattle.awk_tree.specs.declared.names.Name.{Name}
 use Rattle.awk_tree.specs.declared.operators.Redirect.{Redirect}
 use Rattle.awk_tree.specs.declared.statements.Printed.{Printed}
@@ -12,8 +13,6 @@ use Rattle.awk_tokens.specs.declared.words.Jump.{Jump}
 use Rattle.awk_tree.specs.Tree as tree
 use Rattle.awk_tree.specs.Tree.{Tree, Statement, statements_of, Condition, Entry}
 use Rattle.awk_tree.specs.Terminals.{terminal, is, look, ahead}
-use Rattle.awk_tree.specs.Expressions.{name_of}
-use Rattle.awk_tree.specs.Statements.{ends_print, redirect, else_next, ends_item}
 use Rattle.awk_parse.specs.Rules as rule
 use Rattle.awk_parse.specs.Spells.{Opens, Newlines, Spells, Listed}
 

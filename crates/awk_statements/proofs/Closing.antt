@@ -2,6 +2,7 @@
 use Rattle.std.proofs.Common.{◌≡◌, ◌∙◌, sym, ℕ, zero, suc, ◌+◌, ◌==◌, Bool, true, false, if◌then◌else◌, List, Ok, Err, refl, subst}
 use Rattle.awk_tokens.specs.declared.token.Token.{Token}
 use Rattle.awk_text.specs.declared.place.Place.{Place}
+use Rattle.awk_tree.specs.Looks.{each_next, else_next, name_of, past, skip}
 use Rattle.awk_tree.specs.declared.goals.Goal.{Goal}
 use Rattle.awk_tree.specs.declared.goals.Nested.{Nested}
 use Rattle.awk_tree.specs.declared.goals.Nested.TheVariants as nested
@@ -10,10 +11,9 @@ use Rattle.awk_tokens.specs.declared.terminals.Terminal.TheVariants as w
 use Rattle.awk_tree.specs.Terminals.{is, look, ahead}
 use Rattle.awk_tree.specs.Tree as t
 use Rattle.awk_tree.specs.Tree.{Tree, Statement, statements_of}
-use Rattle.awk_tree.specs.Input.{Outcome, Parser, and_then, ◌>>=◌, ◌>>◌, pure, deep, any, one, skip, past}
-use Rattle.awk_tree.specs.Expressions.{expr, expression, list, name_of}
+use Rattle.awk_tree.specs.Input.{Outcome, Parser, and_then, ◌>>=◌, ◌>>◌, pure, deep, any, one}
+use Rattle.awk_tree.specs.Expressions.{expr, expression, list}
 use Rattle.awk_tree.specs.Statements as st
-use Rattle.awk_tree.specs.Statements.{else_next, each_next}
 use Rattle.awk_statements.specs.Open.{is_open}
 
 -- how many statements stand one in another at the end

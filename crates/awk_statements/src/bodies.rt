@@ -3,6 +3,7 @@
 ghost use Rattle.std.specs.Prelude.{◌≡◌, map, true, false};
 ghost use Rattle.awk_statements.specs.NestsStatements.{NestsStatements};
 ghost use Rattle.awk_statements.specs.Open.{is_open};
+ghost use Rattle.awk_tree.specs.Looks as looks;
 ghost use Rattle.awk_tree.specs.Expressions.{expr};
 ghost use Rattle.awk_tree.specs.Input.{Reads, and_then};
 ghost use Rattle.awk_tree.specs.Statements as spec;
@@ -51,7 +52,7 @@ impl<B: Fn(Global, &mut Tokens<'_>, usize, Nested) -> Result<Statement, Fault>> 
         body: Boxed<Statement>,
     ) -> Result<Statement, Fault>
         requires nests { NestsStatements self.now.level.depth (B.pre self.now.body) (B.post self.now.body) }
-        requires closed { is_open (view_statement body) ≡ true → spec.else_next tokens.old ≡ false }
+        requires closed { is_open (view_statement body) ≡ true → looks.else_next tokens.old ≡ false }
         ensures { Reads view_statement (spec.else_rest self.now.level.depth (expr self.now.level.depth) (spec.statement self.now.level.depth) (view test) (view_statement body) tokens.old) result tokens.new }
     {
         if !has_else(body.get(), tokens.rest()) {

@@ -2,6 +2,7 @@
 
 ghost use Rattle.std.specs.Prelude.{◌≡◌, true, false};
 ghost use Rattle.awk_statements.specs.Open as spec;
+ghost use Rattle.awk_tree.specs.Looks as looks;
 ghost use Rattle.awk_tree.specs.Statements as grammar;
 ghost use Rattle.awk_tree.specs.View.{view_statement};
 
@@ -30,8 +31,8 @@ fn is_open(statement: &Statement) -> bool
 /// Whether an `else` comes next to an `if` that has this body. Behind an open body an inner `if`
 /// has looked for it, so what stands there is looked over once.
 pub fn has_else(body: &Statement, tokens: &[Token]) -> bool
-    requires { spec.is_open (view_statement body.now) ≡ true → grammar.else_next tokens.now ≡ false }
-    ensures { result ≡ grammar.else_next tokens.now }
+    requires { spec.is_open (view_statement body.now) ≡ true → looks.else_next tokens.now ≡ false }
+    ensures { result ≡ looks.else_next tokens.now }
 {
     !is_open(body) && else_next(tokens)
 }

@@ -1,6 +1,7 @@
 // What stands next, to a rule of statements.
 
 ghost use Rattle.std.specs.Prelude.{◌≡◌};
+ghost use Rattle.awk_tree.specs.Looks as looks;
 ghost use Rattle.awk_tree.specs.Statements as spec;
 
 use awk_expressions::{Tokens, is, terminal};
@@ -9,7 +10,7 @@ use awk_tree::{Redirect, Terminal};
 
 /// Whether the list of a print ends here.
 pub fn ends_print(kind: Terminal) -> bool
-    ensures { result ≡ spec.ends_print kind }
+    ensures { result ≡ looks.ends_print kind }
 {
     matches!(
         kind,
@@ -19,7 +20,7 @@ pub fn ends_print(kind: Terminal) -> bool
 
 /// How a redirection that begins so writes.
 pub fn redirect(kind: Terminal) -> Option<Redirect>
-    ensures { result ≡ spec.redirect kind }
+    ensures { result ≡ looks.redirect kind }
 {
     match kind {
         Terminal::Greater => Some(Redirect::Write),
@@ -31,7 +32,7 @@ pub fn redirect(kind: Terminal) -> Option<Redirect>
 
 /// Whether `else` comes next, behind newlines and `;`.
 pub fn else_next(tokens: &[Token]) -> bool
-    ensures { result ≡ spec.else_next tokens.now }
+    ensures { result ≡ looks.else_next tokens.now }
 {
     let mut ahead = Tokens::new(tokens);
     ahead.past();
@@ -40,7 +41,7 @@ pub fn else_next(tokens: &[Token]) -> bool
 
 /// Whether `NAME in NAME )` comes next.
 pub fn each_next(tokens: &[Token]) -> bool
-    ensures { result ≡ spec.each_next tokens.now }
+    ensures { result ≡ looks.each_next tokens.now }
 {
     match tokens {
         [key, word, array, close, ..] => {
@@ -55,7 +56,7 @@ pub fn each_next(tokens: &[Token]) -> bool
 
 /// Whether an item without a `}` may end here.
 pub fn ends_item(tokens: &[Token]) -> bool
-    ensures { result ≡ spec.ends_item tokens.now }
+    ensures { result ≡ looks.ends_item tokens.now }
 {
     match tokens {
         [] => true,

@@ -14,7 +14,7 @@ use Rattle.box_world.specs.declared.world.World.{Ghosts}
 use Rattle.awk_program.specs.Slots.{Text}
 use Rattle.awk_machine.specs.Advances.{advance, asked_by, held}
 use Rattle.awk_machine.specs.Moves.{move}
-use Rattle.awk_machine.specs.Getline.{input_mode, opened}
+use Rattle.awk_machine.specs.Getline.{input_mode, read_opened}
 use Rattle.awk_machine.specs.Pieces.{Piece, Do, Fetch, Asks, Goes, Faulted, ends}
 use Rattle.awk_machine.specs.Printing.{unless_failed}
 use Rattle.awk_machine.specs.State.{State, Course, Given}
@@ -127,7 +127,7 @@ output_opens place k n (reply.Status z) e = absurd (cc)
 output_opens place k n (reply.Value b) e = absurd (cc)
 output_opens place k n reply.Failed e = absurd (cc)
 
-pub input_opens : (place : Place) (key : Key) (k : List Piece) (found : Option ℕ) (r : Reply) → number_opened r ≡ found → opened place key k r ≡ fetched place key found k
+pub input_opens : (place : Place) (key : Key) (k : List Piece) (found : Option ℕ) (r : Reply) → number_opened r ≡ found → read_opened place key k r ≡ fetched place key found k
 input_opens place key k found (reply.Opened n) e = ap (λ o. fetched place key o k) e
 input_opens place key k found (reply.Bytes b) e = ap (λ o. fetched place key o k) e
 input_opens place key k found reply.End e = ap (λ o. fetched place key o k) e
@@ -142,10 +142,10 @@ module _ {W : Type 0} {ghosts : Ghosts W} (laws : Laws ghosts) where
       Opens ghosts (record { place = place; given = false; request = request.Open (input_mode c) text }) c text table w r new w' →
       Does ghosts g s (Do (Fetch place c text)) (fetched place (Named c text)) table w r new w'
   input_asked g s place c text table new w w' (Ok found) none x =
-      done (turned (open_asked g (Do (Fetch place c text)) place false (input_mode c) c text (opened place (Named c text)) (λ k t. refl) s laws found table new w w' none x)
+      done (turned (open_asked g (Do (Fetch place c text)) place false (input_mode c) c text (read_opened place (Named c text)) (λ k t. refl) s laws found table new w w' none x)
       (λ k. input_opens place (Named c text) k found x.reply x.number))
   input_asked g s place c text table new w w' (Err h) none x =
-      open_refused g (Do (Fetch place c text)) place false (input_mode c) c text (opened place (Named c text)) (λ k t. refl) s laws h table new w w' none x.1 x.0
+      open_refused g (Do (Fetch place c text)) place false (input_mode c) c text (read_opened place (Named c text)) (λ k t. refl) s laws h table new w w' none x.1 x.0
 
 input_found : (c : Class) (text : Text) (old new : Table) (found : Option ℕ) → find_stream c text (open_of old) ≡ None → new.entries ≡ entries_opened c text found old.entries →
     IfSome found (λ n. find_stream c text (open_of new) ≡ Some n)

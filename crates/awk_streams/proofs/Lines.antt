@@ -6,7 +6,7 @@ use Rattle.awk_text.specs.declared.value.Value.TheVariants as v
 use Rattle.box_world.specs.Events.{Class, Named, Standard, find_stream}
 use Rattle.box_world.specs.declared.world.World.{Ghosts}
 use Rattle.awk_program.specs.Slots.{Text}
-use Rattle.awk_machine.specs.Getline.{input_mode, opened}
+use Rattle.awk_machine.specs.Getline.{input_mode, read_opened}
 use Rattle.awk_machine.specs.Pieces.{Do, Fetch, Read, give}
 use Rattle.awk_machine.specs.State.{State, Given}
 use Rattle.awk_machine.specs.Variables.{own_text}
@@ -29,7 +29,7 @@ line_fetched {ghosts = ghosts} laws g s place class name text rs is old new w x 
     let key = Named class name in
     let number = some_at (find_stream class name (open_of old)) (number_live class name old (x.before, x.live)) in
     let to_read : Leads ghosts (beside s) Tells (λ t. s.course.used) g (Do (Fetch place class name)) old w (λ k. Do (Read place key) ∷ k) old w =
-    open_known g (Do (Fetch place class name)) place false (input_mode class) class name (opened place key) (λ k t. refl) s laws number.0 old w number.1 in
+    open_known g (Do (Fetch place class name)) place false (input_mode class) class name (read_opened place key) (λ k t. refl) s laws number.0 old w number.1 in
     let read = gives ghosts g s place key rs is old new x.before x.live (reads_so g s place key) to_read (found.Record text) x.first in
     record { plays = λ first k hid c a. read.plays first k hid c a }
 

@@ -1,10 +1,10 @@
 -- What a parser reads from, and the steps that every rule is made of.
-use Rattle.std.specs.Prelude.{◌≡◌, ◌≢◌, ℕ, zero, suc, Bool, ◌||◌, if◌then◌else◌, ◌==◌, List, [], ◌∷◌, length, Result, Ok, Err}
+use Rattle.std.specs.Prelude.{◌≡◌, ◌≢◌, ℕ, zero, suc, Bool, if◌then◌else◌, ◌==◌, List, [], ◌∷◌, length, Result, Ok, Err}
 use Rattle.awk_tokens.specs.declared.token.Token.{Token}
+use Rattle.awk_tree.specs.Looks.{skip}
 use Rattle.awk_tree.specs.declared.fault.Fault.{Fault}
 use Rattle.awk_tree.specs.declared.fault.Fault.TheVariants.{Memory, Unexpected, TooDeep}
 use Rattle.awk_tokens.specs.declared.terminals.Terminal.{Terminal}
-use Rattle.awk_tokens.specs.declared.terminals.Terminal.TheVariants as w
 use Rattle.awk_tree.specs.Terminals.{is, look, ahead}
 
 -- ---- parsers. A fault tells its token by how many were left.
@@ -38,9 +38,9 @@ refuse = λ ts. Err (Unexpected (length ts))
 abbrev pub deep : {A : Type 0} → Parser A
 deep = λ ts. Err (TooDeep (suc (length ts)))
 
--- what the token before opened, where levels are left
-abbrev pub opened : {A : Type 0} → ℕ → Parser A → Parser A
-opened depth p = λ ts. if depth == 0 then deep ts else p ts
+-- what stands inside what the token before opened, where levels are left
+abbrev pub inside : {A : Type 0} → ℕ → Parser A → Parser A
+inside depth p = λ ts. if depth == 0 then deep ts else p ts
 
 -- takes the next token, whatever it is
 unfoldable pub any : Parser Token
@@ -63,18 +63,8 @@ one kind = λ ts. if is (ahead ts) kind then any ts else refuse ts
 unfoldable pub exactly : Terminal → Parser Token
 exactly kind = λ ts. if is (look ts) kind then any ts else refuse ts
 
--- newlines that mean nothing
-abbrev pub skip : List Token → List Token
-skip [] = []
-skip (t ∷ ts) = if is (look (t ∷ ts)) w.Newline then skip ts else t ∷ ts
-
 abbrev pub skipped : {A : Type 0} → Parser A → Parser A
 skipped p = λ ts. p (skip ts)
-
--- newlines and `;` that mean nothing
-abbrev pub past : List Token → List Token
-past [] = []
-past (t ∷ ts) = if is (look (t ∷ ts)) w.Newline || is (look (t ∷ ts)) w.Semicolon then past ts else t ∷ ts
 
 -- as many as the test finds; the number bounds the turns
 unfoldable pub many_from : {A : Type 0} → (Terminal → Bool) → Parser A → ℕ → Parser (List A)

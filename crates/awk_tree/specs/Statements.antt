@@ -1,11 +1,11 @@
 -- How statements, items and scripts are read: one rule of the grammar after the other
 -- (POSIX.1-2017 XCU awk, "Grammar" and "Actions").
-use Rattle.std.specs.Prelude.{ℕ, zero, suc, Bool, true, false, ◌&&◌, ◌||◌, if◌then◌else◌, List, [], ◌∷◌, length, Option, Some, None, Ok}
+use Rattle.std.specs.Prelude.{ℕ, zero, suc, Bool, true, false, ◌&&◌, if◌then◌else◌, List, [], ◌∷◌, length, Option, Some, None, Ok}
 use Rattle.awk_text.specs.declared.place.Place.{Place}
 use Rattle.awk_tokens.specs.declared.token.Token.{Token}
+use Rattle.awk_tree.specs.Looks.{each_next, else_next, ends_item, ends_print, name_of, past, redirect, skip}
 use Rattle.awk_tree.specs.declared.names.Name.{Name}
 use Rattle.awk_tree.specs.declared.operators.Redirect.{Redirect}
-use Rattle.awk_tree.specs.declared.operators.Redirect.TheVariants as to
 use Rattle.awk_tree.specs.declared.statements.Printed.{Printed}
 use Rattle.awk_tree.specs.declared.statements.Redirection.{Redirection}
 use Rattle.awk_tree.specs.declared.goals.Goal.{Goal}
@@ -16,34 +16,11 @@ use Rattle.awk_tokens.specs.declared.terminals.Terminal.{Terminal}
 use Rattle.awk_tokens.specs.declared.terminals.Terminal.TheVariants as w
 use Rattle.awk_tree.specs.Tree as t
 use Rattle.awk_tree.specs.Tree.{Tree, Statement, statements_of, Condition, Entry}
-use Rattle.awk_tree.specs.Terminals.{terminal, is, look}
-use Rattle.awk_tree.specs.Input.{Parser, ◌>>=◌, ◌>>◌, pure, refuse, deep, opened, any, choice, by_look, one, exactly, skip, skipped, past, many}
-use Rattle.awk_tree.specs.Expressions.{name_of, commas, list, expression, grouped, expr_rest, cat, expr}
+use Rattle.awk_tree.specs.Terminals.{is, look}
+use Rattle.awk_tree.specs.Input.{Parser, ◌>>=◌, ◌>>◌, pure, refuse, deep, inside, any, choice, by_look, one, exactly, skipped, many}
+use Rattle.awk_tree.specs.Expressions.{commas, list, expression, grouped, expr_rest, cat, expr}
 
--- ---- what stands next
-
--- whether the list of a print ends here
-abbrev pub ends_print : Terminal → Bool
-ends_print w.End = true
-ends_print w.Greater = true
-ends_print w.Append = true
-ends_print w.Bar = true
-ends_print other = false
-
-abbrev pub redirect : Terminal → Option Redirect
-redirect w.Greater = Some to.Write
-redirect w.Append = Some to.Append
-redirect w.Bar = Some to.Command
-redirect other = None
-
--- whether `else` comes next, behind newlines and `;`
-abbrev pub else_next : List Token → Bool
-else_next ts = is (look (past ts)) w.Else
-
--- NAME in NAME ) comes next
-abbrev pub each_next : List Token → Bool
-each_next (a ∷ b ∷ c ∷ d ∷ ts) = is (terminal a) w.Name && (is (terminal b) w.In && (is (terminal c) w.Name && is (terminal d) w.CloseParen))
-each_next other = false
+-- ---- lists
 
 abbrev pub is_several : {A : Type 0} → List A → Bool
 is_several [] = false
@@ -186,7 +163,7 @@ module _ (depth : ℕ) (inner : Goal → Parser Tree) (body : Nested → Parser 
 
   -- for ( NAME in NAME ) body | for ( [ expr ] ; [ expr ] ; [ expr ] ) body
   unfoldable pub for_of : Parser Statement
-  for_of = one w.For >>= λ token. one w.OpenParen >> opened depth (for_rest token.place)
+  for_of = one w.For >>= λ token. one w.OpenParen >> inside depth (for_rest token.place)
 
   abbrev pub statement_by : Terminal → Parser Statement
   statement_by w.Semicolon = any >> pure t.empty
@@ -235,11 +212,6 @@ whole_expr = expression levels (expr levels) false
 -- expr | expr , expr
 unfoldable pub pattern : Parser Condition
 pattern = whole_expr >>= λ x. choice (λ kind. if is kind w.Comma then (one w.Comma >> (skipped whole_expr >>= λ y. pure (t.range x y))) else pure (t.single x))
-
--- whether an item without a `}` may end here
-abbrev pub ends_item : List Token → Bool
-ends_item [] = true
-ends_item (u ∷ ts) = is (look (u ∷ ts)) w.Newline || is (look (u ∷ ts)) w.Semicolon
 
 unfoldable pub shown : Condition → Parser Entry
 shown c = λ ts. if ends_item ts then Ok (t.shown c, ts) else refuse ts

@@ -1,5 +1,5 @@
+use Rattle.awk_tree.specs.Looks.{past}
 use Rattle.std.proofs.Common.{◌≡◌, length}
-use Rattle.awk_tree.specs.Input.{past}
 use Rattle.awk_expressions.proofs.tokens.behind_ends.Given as goal
 
 abbrev pub invariant-loop-more : goal.invariant-loop-more

@@ -1,5 +1,5 @@
+use Rattle.awk_tree.specs.Looks.{skip}
 use Rattle.std.proofs.Common.{◌≡◌, length}
-use Rattle.awk_tree.specs.Input.{skip}
 use Rattle.awk_expressions.proofs.tokens.behind_lines.Given as goal
 
 abbrev pub invariant-loop-more : goal.invariant-loop-more

@@ -1,7 +1,7 @@
 use Rattle.std.proofs.Common.{◌≡◌, true, false, rules, arith}
 use Rattle.std.proofs.lemmas.Grind.{common_steps}
+use Rattle.awk_tree.specs.Looks.{past}
 use Rattle.awk_tree.specs.Statements.{is_done}
-use Rattle.awk_tree.specs.Input.{past}
 use Rattle.awk_tree.specs.View.{view_item}
 use Rattle.awk_statements.proofs.Loops.{until_stops, until_refuses, until_turn, viewed_until}
 use Rattle.awk_statements.proofs.Whole.{nothing_left}

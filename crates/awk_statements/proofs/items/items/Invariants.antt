@@ -1,6 +1,6 @@
 use Rattle.std.proofs.Common.{◌≡◌, ◌-◌, map}
+use Rattle.awk_tree.specs.Looks.{past}
 use Rattle.awk_tree.specs.View.{view_item}
-use Rattle.awk_tree.specs.Input.{past}
 use Rattle.awk_tree.specs.Statements.{until_from, is_done, item, script}
 use Rattle.awk_expressions.proofs.Loops.{with_front}
 use Rattle.awk_statements.proofs.items.items.Given as goal

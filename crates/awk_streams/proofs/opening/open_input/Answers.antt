@@ -1,6 +1,6 @@
 use Rattle.std.proofs.Common.{false, refl, sym, ◌∙◌}
 use Rattle.box_world.specs.Events.{Named}
-use Rattle.awk_machine.specs.Getline.{opened}
+use Rattle.awk_machine.specs.Getline.{read_opened}
 use Rattle.awk_machine.specs.Getline as getline
 use Rattle.awk_machine.specs.Pieces.{Do, Fetch}
 use Rattle.awk_streams.specs.Tables.{kind}
@@ -13,7 +13,7 @@ pub returns-in-Some-clause-task : goal.returns-in-Some-clause-task
 returns-in-Some-clause-task g c = λ m s.
     let a = c.args in
     let n = a.name.now in
-    done (open_known m (Do (Fetch a.place (kind n.class) n.text.now)) a.place false (getline.input_mode (kind n.class)) (kind n.class) n.text.now (opened a.place (Named (kind n.class) n.text.now)) (λ k t. refl) s
+    done (open_known m (Do (Fetch a.place (kind n.class) n.text.now)) a.place false (getline.input_mode (kind n.class)) (kind n.class) n.text.now (read_opened a.place (Named (kind n.class) n.text.now)) (λ k t. refl) s
     (laws_of g.met.W.World.follows_append g.met.W.World.stops_later g.met.W.World.follows_open) c.in-Some.number a.streams.now a.world.now (sym c.number.ensures ∙ c.in-Some.is))
 
 pub returns-clause-task : goal.returns-clause-task

@@ -1,8 +1,8 @@
 use Rattle.std.proofs.Common.{◌≡◌, true, false, rules, arith}
 use Rattle.std.proofs.lemmas.Grind.{common_steps}
+use Rattle.awk_tree.specs.Looks.{is_term_sign}
 use Rattle.awk_tree.specs.Terminals.{ahead}
 use Rattle.awk_tree.specs.View.{view_term}
-use Rattle.awk_tree.specs.Expressions.{is_term_sign}
 use Rattle.awk_expressions.proofs.Loops.{many_stops, many_ends, many_turn, viewed_goes}
 use Rattle.awk_expressions.proofs.grammar.Grammar.addends.Goals as goal
 

@@ -1,7 +1,8 @@
 use Rattle.std.proofs.Common.{◌≡◌, ◌-◌, map}
+use Rattle.awk_tree.specs.Looks.{is_factor_sign}
 use Rattle.awk_tree.specs.View.{view_term}
 use Rattle.awk_tree.specs.Input.{many_from}
-use Rattle.awk_tree.specs.Expressions.{expr, factor, factors, is_factor_sign}
+use Rattle.awk_tree.specs.Expressions.{expr, factor, factors}
 use Rattle.awk_expressions.proofs.Loops.{with_front}
 use Rattle.awk_expressions.proofs.grammar.Grammar.factors.Given as goal
 

@@ -1,7 +1,8 @@
 use Rattle.std.proofs.Common.{◌≡◌, ◌-◌, map}
+use Rattle.awk_tree.specs.Looks.{begins_part}
 use Rattle.awk_tree.specs.View.{view}
 use Rattle.awk_tree.specs.Input.{many_from}
-use Rattle.awk_tree.specs.Expressions.{begins_part, expr, part, parts}
+use Rattle.awk_tree.specs.Expressions.{expr, part, parts}
 use Rattle.awk_expressions.proofs.Loops.{with_front}
 use Rattle.awk_expressions.proofs.grammar.Grammar.parts.Given as goal
 

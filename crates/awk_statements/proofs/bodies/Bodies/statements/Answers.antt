@@ -2,8 +2,8 @@ use Rattle.std.proofs.Common.{◌≡◌, Bool, true, false, List, rules, arith}
 use Rattle.std.proofs.lemmas.Grind.{common_steps}
 use Rattle.awk_tokens.specs.declared.token.Token.{Token}
 use Rattle.awk_tokens.specs.declared.terminals.Terminal.TheVariants as w
+use Rattle.awk_tree.specs.Looks.{skip}
 use Rattle.awk_tree.specs.Terminals.{is, look}
-use Rattle.awk_tree.specs.Input.{skip}
 use Rattle.awk_tree.specs.View.{view_statement}
 use Rattle.awk_statements.proofs.Loops.{until_stops, until_refuses, until_turn, viewed_until}
 use Rattle.awk_statements.proofs.bodies.Bodies.statements.Goals as goal

@@ -1,8 +1,8 @@
 use Rattle.std.proofs.Common.{◌≡◌, ◌-◌, map}
+use Rattle.awk_tree.specs.Looks.{skip}
 use Rattle.awk_tree.specs.View.{view_statement}
 use Rattle.awk_tokens.specs.declared.terminals.Terminal.TheVariants as w
 use Rattle.awk_tree.specs.Terminals.{is, look}
-use Rattle.awk_tree.specs.Input.{skip}
 use Rattle.awk_tree.specs.Expressions.{expr}
 use Rattle.awk_tree.specs.Statements.{until_from, statement, statement_here, statements}
 use Rattle.awk_expressions.proofs.Loops.{with_front}
