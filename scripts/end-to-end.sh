@@ -1699,6 +1699,8 @@ for shell in bash zsh; do
     verdict "$shell finds the file of a report"
     typed "$shell" "run -f f -- pol" run -f f -- policy.toml && typed "$shell" "run -f f pol" run -f f pol
     verdict "$shell finds operands behind -- alone"
+    typed "$shell" "help pro" help propose
+    verdict "$shell finds the commands behind help"
 done
 
 script 'BEGIN { print "hi" }'
