@@ -329,6 +329,20 @@ fn sources_of<'a>(alloc: Global, matches: &ArgMatches<'a>) -> Result<(&'a str, &
     Ok((policy, script))
 }
 
+// Whether more than one of these files is the standard input.
+fn share_input(files: [Option<&str>; 3]) -> bool {
+    let mut is_taken = false;
+    for file in files {
+        if file == Some(STANDARD_INPUT) {
+            if is_taken {
+                return true;
+            }
+            is_taken = true;
+        }
+    }
+    false
+}
+
 fn run_of<'a>(alloc: Global, matches: &ArgMatches<'a>) -> Result<Run<'a>, Error> {
     let (policy, script) = sources_of(alloc, matches)?;
     Ok(Run {
@@ -369,6 +383,9 @@ fn propose_of<'a>(alloc: Global, matches: &ArgMatches<'a>) -> Result<Propose<'a>
     };
     if asked.base.is_none() && asked.policy.is_none() {
         return Err(fault(alloc, "one of --base and --policy is needed"));
+    }
+    if share_input([asked.policy, asked.script, asked.log]) {
+        return Err(fault(alloc, "only one file is the standard input"));
     }
     Ok(asked)
 }
