@@ -1455,6 +1455,31 @@ verdict "a proposal of as many rules as a policy may have"
 script 'BEGIN { print > }'
 proposed "a proposal for a script that is refused" "" 3 "awkbox: script 1:17 S4$line" --base /w -f "$f"
 
+# The examples of docs/POLICY.md, over its first policy.
+page=$work/page
+mkdir "$page"
+sed -n '/^```toml$/,/^```$/{/^```toml/d;/^```/q;p}' "$top/docs/POLICY.md" >"$page/reports.toml"
+cat >"$page/report.awk" <<'END'
+BEGIN {
+	while ((getline < "rates.txt") > 0) rate[$1] = $2
+	print "total 12" > "out/totals.txt"
+	print "total 13" > "out/archive/2025.txt"
+	"date -d " month | getline day
+}
+END
+echo '7:3 read none "in/*.csv"' >"$page/denials.log"
+# shown COMMAND: what the page shows of it
+shown() { sed -n "/^\\$ awkbox $1 /,/^\`\`\`/{/^[\$\`]/!p}" "$top/docs/POLICY.md"; }
+: >"$work/errors"
+(
+    cd "$page" || exit 1
+    "$program" why --policy reports.toml write ./out//archive/2025.txt >"$work/output" 2>&1
+    holds "$work/output" "$(shown why)$line" || exit 1
+    "$program" propose --policy reports.toml -f report.awk --log denials.log 2>&1 | tail -n 11 >"$work/output"
+    holds "$work/output" "$(shown propose)$line"
+)
+verdict "the examples of docs/POLICY.md"
+
 script 'BEGIN { system("id") }'
 "$program" list -f "$work/script.awk" >/dev/full 2>"$work/errors"
 status=$?
@@ -1757,6 +1782,8 @@ fault "a text that is missing" why --policy p read
 fault "a script of lint" lint --policy p -f f
 fault "a proposal under no base" propose -f f
 fault "an operand of a proposal" propose --base /w -- a
+fault "a policy and a script of a proposal that are the standard input" propose --policy - -f -
+fault "a script and a log of a proposal that are the standard input" propose --base /w --log - -f -
 
 # Nests.
 
