@@ -1,4 +1,5 @@
--- Expressions whose value is there: to evaluate them changes nothing and meets no fault; and assignments that are done at once.
+-- Expressions whose value is there: to evaluate them changes nothing and meets no fault; and assignments that are done
+-- at once.
 use Rattle.std.specs.Prelude.{◌≡◌, ◌≤◌, ℕ, ℤ, Bool, false, true, Ok, Some, List, [], ◌∷◌, Option, length, map}
 use Rattle.awk_fields.specs.Rows.{joined}
 use Rattle.awk_text.specs.Limits.{most_bytes}
@@ -70,20 +71,26 @@ AreThere kept (x ∷ xs) [] = ⊥
 AreThere kept (x ∷ xs) (val ∷ vals) = IsThere (λ names. view names x) kept val × AreThere kept xs vals
 
 -- a line is the texts of a value and of those behind it, with a separator between
-pub record HoldsJoined (kept : Kept) (xs : List Expr) (separator : List ℕ) (first : Value) (line : Option (List ℕ)) : Type 0 where
+pub record HoldsJoined (kept : Kept) (xs : List Expr) (separator : List ℕ) (first : Value) (line : Option (List ℕ)) :
+    Type 0 where
   pub vals : List Value
   pub there : AreThere kept xs vals
   pub line_is : line ≡ held (joined separator (first ∷ vals))
 
--- a line is the text of a value, which is that of operands one after the other, and is there where that text is within the limit
-pub record HoldsOperands (kept : Kept) (first : Expr) (rest : List (Joined Expr)) (line : Option (List ℕ)) : Type 0 where
-  pub val : Value
-  pub line_is : line ≡ held (text_of val)
-  pub there : length (text_of val) ≤ most_bytes → IsThere (λ names. p.concat (view names first) (joins_of (map (view_joined names) rest))) kept val
+-- a line is the text of a value, which is that of operands one after the other, and is there where that text is within
+-- the limit
+pub record HoldsOperands (kept : Kept) (first : Expr) (rest : List (Joined Expr)) (line : Option (List ℕ)) : Type 0
+  where
+    pub val : Value
+    pub line_is : line ≡ held (text_of val)
+    pub there : length (text_of val) ≤ most_bytes →
+        IsThere (λ names. p.concat (view names first) (joins_of (map (view_joined names) rest))) kept val
 
 -- subscripts are this key, of whichever array
 abbrev pub IsKey : List Expr → Kept → List ℕ → Type 0
-IsKey keys kept key = (g : Given) (t : Table) (place : Place) (of_ : p.Variable) → Passes g (spot (p.element place of_ (expressions_of (map (view (names_in g)) keys)))) (kept, t) (give (v.Text key)) (kept, t)
+IsKey keys kept key = (g : Given) (t : Table) (place : Place) (of_ : p.Variable) →
+    Passes g (spot (p.element place of_ (expressions_of (map (view (names_in g)) keys)))) (kept, t) (give (v.Text key))
+    (kept, t)
 
 -- the element with these subscripts holds a number, and is given the sum of that and another one
 pub record AddsAt (of_ : Variable) (keys : List Expr) (by_ : ℤ) (old new : Kept) : Type 0 where

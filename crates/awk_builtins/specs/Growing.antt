@@ -21,4 +21,5 @@ module _ (g : Given) (w : Whole) where
 
   -- behind a text that leaves this much room these operands are this one
   abbrev pub Follows : Joins → ℕ → Text → Type 0
-  Follows xs room more = (text : Text) → length text + room ≤ most_bytes → Passes g (At (Texts_of xs) (v.Text text ∷ [])) w (give (v.Text (text ++ more))) w
+  Follows xs room more = (text : Text) → length text + room ≤ most_bytes →
+      Passes g (At (Texts_of xs) (v.Text text ∷ [])) w (give (v.Text (text ++ more))) w

@@ -14,4 +14,5 @@ abbrev pub to_standard : Place → Text → List Piece → List Piece
 to_standard place text k = Do (Put place (Standard 1) text) ∷ k
 
 abbrev pub to_stream : Redirection Expression → Value → Text → List Piece → List Piece
-to_stream r name text k = Do (Open r.place (mode_of r.how) (class_of r.how) (text_of name)) ∷ Do (Put r.place (Named (class_of r.how) (text_of name)) text) ∷ k
+to_stream r name text k = Do (Open r.place (mode_of r.how) (class_of r.how) (text_of name))
+    ∷ Do (Put r.place (Named (class_of r.how) (text_of name)) text) ∷ k

@@ -24,4 +24,5 @@ IsSourceOf x y = ⊥
 
 -- what is left to be done once the pattern of sub or gsub was checked: the old text is read
 abbrev pub reading : Place → Extent → Ere → Expression → Reference → (at new pattern : Value) → List Piece → List Piece
-reading place how x y r at new pattern k = Do (Get (target r at)) ∷ At (Value_of (p.substitute place how x y r)) (at ∷ new ∷ pattern ∷ []) ∷ k
+reading place how x y r at new pattern k =
+    Do (Get (target r at)) ∷ At (Value_of (p.substitute place how x y r)) (at ∷ new ∷ pattern ∷ []) ∷ k

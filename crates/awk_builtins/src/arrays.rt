@@ -16,7 +16,8 @@ use awk_text::value::Value;
 
 /// `length ( array )`: how many elements there are. Takes no memory; `Halt::Memory` stands for more than memory holds.
 pub fn count(store: &Store, array: Variable) -> Result<Value, Halt>
-    ensures { (g : Given) (t : Table) → Acts g (At (Value_of (p.count (variable_of (names_in g) array))) []) give (store.now, t) result (store.now, t) }
+    ensures { (g : Given) (t : Table) →
+        Acts g (At (Value_of (p.count (variable_of (names_in g) array))) []) give (store.now, t) result (store.now, t) }
 {
     match i64::try_from(store.element_count(array)) {
         Ok(count) => Ok(Value::Num(count)),
@@ -26,7 +27,9 @@ pub fn count(store: &Store, array: Variable) -> Result<Value, Halt>
 
 /// `delete array`: removes all elements. Takes no memory.
 pub fn remove_all(store: &mut Store, array: Variable)
-    ensures { (g : Given) (t : Table) → Acts g (At (Doing (p.delete_all (variable_of (names_in g) array))) []) goes_on (store.old, t) (Ok (tt {0})) (store.new, t) }
+    ensures { (g : Given) (t : Table) →
+        Acts g (At (Doing (p.delete_all (variable_of (names_in g) array))) []) goes_on (store.old, t) (Ok (tt {0}))
+        (store.new, t) }
 {
     store.clear(array);
 }

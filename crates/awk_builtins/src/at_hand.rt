@@ -29,14 +29,15 @@ use awk_text::value::Value;
 use itoa::Buffer;
 use std::alloc::Global;
 
-/// How many levels of arithmetic and of subscripts are looked into. What lies deeper is evaluated, level by level, and each level
-/// looks again: so this bounds how often a part is looked at.
+/// How many levels of arithmetic and of subscripts are looked into. What lies deeper is evaluated, level by level, and
+/// each level looks again: so this bounds how often a part is looked at.
 pub const MOST_LEVELS: u32 = 3;
 
 /// The value of a variable. NF has one where the record is split.
 #[inline(always)]
 fn variable_at_hand<'a>(store: &'a Store, variable: Variable) -> Option<Lent<'a>>
-    ensures { IfSome result (λ v. IsThere (λ names. p.read (p.variable (variable_of names variable))) store.now (lent_value v)) }
+    ensures { IfSome result
+        (λ v. IsThere (λ names. p.read (p.variable (variable_of names variable))) store.now (lent_value v)) }
 {
     if is_nf(variable) {
         let count = store.known_field_count()?;
@@ -67,7 +68,8 @@ pub fn number_kept(store: &Store, variable: Variable) -> Option<i64>
 /// The number that a variable holds, if it holds one. NF does where the record is split.
 #[inline(always)]
 fn number_held(store: &Store, variable: Variable) -> Option<i64>
-    ensures { IfSome result (λ n. IsThere (λ names. p.read (p.variable (variable_of names variable))) store.now (v.Num n)) }
+    ensures { IfSome result
+        (λ n. IsThere (λ names. p.read (p.variable (variable_of names variable))) store.now (v.Num n)) }
 {
     if is_nf(variable) {
         let count = store.known_field_count()?;
@@ -115,7 +117,10 @@ fn element_at_hand<'a>(
     keys: &'a [Expr],
     level: u32,
 ) -> Option<Lent<'a>>
-    ensures { IfSome result (λ v. IsThere (λ names. p.read (p.element place (variable_of names array) (expressions_of (map (view names) keys.now)))) store.now (lent_value v)) }
+    ensures { IfSome result
+        (λ v. IsThere (λ names.
+        p.read (p.element place (variable_of names array) (expressions_of (map (view names) keys.now)))) store.now
+        (lent_value v)) }
 {
     let [one] = keys else {
         return None;
@@ -139,7 +144,8 @@ fn field_at_hand<'a>(
     number: &'a Expr,
     level: u32,
 ) -> Option<Lent<'a>>
-    ensures { IfSome result (λ v. IsThere (λ names. p.read (p.field place (view names number.now))) store.now (lent_value v)) }
+    ensures { IfSome result
+        (λ v. IsThere (λ names. p.read (p.field place (view names number.now))) store.now (lent_value v)) }
 {
     let number = number_at_hand(store, number, level)?;
     let Ok(number) = u16::try_from(number) else {
@@ -185,12 +191,14 @@ fn target_at_hand<'a>(store: &'a Store, target: &'a Target<Expr>, level: u32) ->
     }
 }
 
-/// The number of a chain of `+` and `-`, or of `*`, `/` and `%`, or of one `^`, whose operands are there and which meets no
-/// fault.
+/// The number of a chain of `+` and `-`, or of `*`, `/` and `%`, or of one `^`, whose operands are there and which
+/// meets no fault.
 #[cycle(hand)]
 #[inline(never)]
 fn chain_at_hand(store: &Store, x: &Expr, xs: &[Term<Expr>], level: u32) -> Option<i64>
-    ensures { IfSome result (λ n. IsThere (λ names. p.chain (view names x.now) (terms_of (map (view_term names) xs.now))) store.now (v.Num n)) }
+    ensures { IfSome result
+        (λ n. IsThere (λ names. p.chain (view names x.now) (terms_of (map (view_term names) xs.now))) store.now
+        (v.Num n)) }
 {
     if xs.is_empty() {
         return None;
@@ -223,7 +231,9 @@ fn number_of_target(store: &Store, target: &Target<Expr>, level: u32) -> Option<
 #[cycle(hand)]
 #[inline(always)]
 fn substr_at_hand<'a>(store: &'a Store, args: &'a [Expr], level: u32) -> Option<Lent<'a>>
-    ensures { IfSome result (λ v. (q : spot_of.Place) → IsThere (λ names. p.builtin q b.Substr (expressions_of (map (view names) args.now))) store.now (lent_value v)) }
+    ensures { IfSome result
+        (λ v. (q : spot_of.Place) →
+        IsThere (λ names. p.builtin q b.Substr (expressions_of (map (view names) args.now))) store.now (lent_value v)) }
 {
     match args {
         [x, y] => {
@@ -250,7 +260,9 @@ fn called_at_hand<'a>(
     args: &'a [Expr],
     level: u32,
 ) -> Option<Lent<'a>>
-    ensures { IfSome result (λ v. (q : spot_of.Place) → IsThere (λ names. p.builtin q which (expressions_of (map (view names) args.now))) store.now (lent_value v)) }
+    ensures { IfSome result
+        (λ v. (q : spot_of.Place) →
+        IsThere (λ names. p.builtin q which (expressions_of (map (view names) args.now))) store.now (lent_value v)) }
 {
     match which {
         Builtin::Length => {
@@ -402,9 +414,12 @@ fn value_there(alloc: Global, store: &Store, e: &Expr) -> Option<Value>
     owned(alloc, value)
 }
 
-/// The text in upper case, or in lower case, of the one argument, where that is there. `None` stands for refused memory too.
+/// The text in upper case, or in lower case, of the one argument, where that is there. `None` stands for refused memory
+/// too.
 fn cased_there(alloc: Global, store: &Store, args: &[Expr], upper: bool) -> Option<Value>
-    ensures { IfSome result (λ v. (q : spot_of.Place) → IsThere (λ names. p.builtin q (case_of upper) (expressions_of (map (view names) args.now))) store.now v) }
+    ensures { IfSome result
+        (λ v. (q : spot_of.Place) →
+        IsThere (λ names. p.builtin q (case_of upper) (expressions_of (map (view names) args.now))) store.now v) }
 {
     let [x] = args else {
         return None;
@@ -413,10 +428,13 @@ fn cased_there(alloc: Global, store: &Store, args: &[Expr], upper: bool) -> Opti
     cased(alloc, text, upper).ok()
 }
 
-/// What a built-in function gives whose arguments are there, as a value of its own. `None` stands for refused memory too.
+/// What a built-in function gives whose arguments are there, as a value of its own. `None` stands for refused memory
+/// too.
 #[inline(never)]
 fn called_there(alloc: Global, store: &Store, which: Builtin, args: &[Expr]) -> Option<Value>
-    ensures { IfSome result (λ v. (q : spot_of.Place) → IsThere (λ names. p.builtin q which (expressions_of (map (view names) args.now))) store.now v) }
+    ensures { IfSome result
+        (λ v. (q : spot_of.Place) →
+        IsThere (λ names. p.builtin q which (expressions_of (map (view names) args.now))) store.now v) }
 {
     match which {
         Builtin::Tolower => cased_there(alloc, store, args, false),
@@ -460,7 +478,9 @@ fn counted_there(store: &Store, e: &Expr) -> Option<i64>
 /// Whether a comparison with a number holds, where the other side is there.
 #[inline(never)]
 fn compared_beside(store: &Store, how: Comparison, left: i64, y: &Expr) -> Option<bool>
-    ensures { IfSome result (λ b. (x : Names → p.Expression) → IsThere x store.now (v.Num left) → HasTruth (λ names. p.compare how (x names) (view names y.now)) store.now b) }
+    ensures { IfSome result
+        (λ b. (x : Names → p.Expression) → IsThere x store.now (v.Num left) →
+        HasTruth (λ names. p.compare how (x names) (view names y.now)) store.now b) }
 {
     let right = at_hand(store, y, MOST_LEVELS)?;
     Some(compared_lent(how, Lent::Num(left), right))
@@ -469,7 +489,9 @@ fn compared_beside(store: &Store, how: Comparison, left: i64, y: &Expr) -> Optio
 /// The same. Two numbers are compared without a value between.
 #[inline(never)]
 fn compared_with(store: &Store, how: Comparison, left: i64, y: &Expr) -> Option<bool>
-    ensures { IfSome result (λ b. (x : Names → p.Expression) → IsThere x store.now (v.Num left) → HasTruth (λ names. p.compare how (x names) (view names y.now)) store.now b) }
+    ensures { IfSome result
+        (λ b. (x : Names → p.Expression) → IsThere x store.now (v.Num left) →
+        HasTruth (λ names. p.compare how (x names) (view names y.now)) store.now b) }
 {
     if let Some(right) = counted_there(store, y) {
         return Some(compared_numbers(how, left, right));
@@ -503,7 +525,8 @@ fn compared_at_hand(store: &Store, how: Comparison, x: &Expr, y: &Expr) -> Optio
 
 /// Whether the key is in the array, where the key is there; in several arrays it is not looked for.
 fn member_at_hand(store: &Store, x: &Expr, arrays: &[Variable]) -> Option<bool>
-    ensures { IfSome result (λ b. HasTruth (λ names. p.member (view names x.now) (map (variable_of names) arrays.now)) store.now b) }
+    ensures { IfSome result
+        (λ b. HasTruth (λ names. p.member (view names x.now) (map (variable_of names) arrays.now)) store.now b) }
 {
     let [array] = arrays else {
         return None;
@@ -536,7 +559,8 @@ fn part_is_true(store: &Store, e: &Expr) -> Option<bool>
 
 /// Whether a chain of `&&` is true, where its parts are there as far as they are wanted.
 fn all_are_true(store: &Store, x: &Expr, xs: &[Expr]) -> Option<bool>
-    ensures { IfSome result (λ b. HasTruth (λ names. p.and (view names x.now) (expressions_of (map (view names) xs.now))) store.now b) }
+    ensures { IfSome result
+        (λ b. HasTruth (λ names. p.and (view names x.now) (expressions_of (map (view names) xs.now))) store.now b) }
 {
     let mut last = part_is_true(store, x)?;
     for y in xs {
@@ -550,7 +574,8 @@ fn all_are_true(store: &Store, x: &Expr, xs: &[Expr]) -> Option<bool>
 
 /// Whether a chain of `||` is true, where its parts are there as far as they are wanted.
 fn one_is_true(store: &Store, x: &Expr, xs: &[Expr]) -> Option<bool>
-    ensures { IfSome result (λ b. HasTruth (λ names. p.or (view names x.now) (expressions_of (map (view names) xs.now))) store.now b) }
+    ensures { IfSome result
+        (λ b. HasTruth (λ names. p.or (view names x.now) (expressions_of (map (view names) xs.now))) store.now b) }
 {
     let mut last = part_is_true(store, x)?;
     for y in xs {
@@ -597,7 +622,8 @@ pub fn truth_at_hand(store: &Store, e: &Expr) -> Option<bool>
 /// `chosen`, of a choice.
 #[inline(never)]
 fn part_chosen<'a>(store: &Store, e: &'a Expr) -> &'a Expr
-    ensures { (val : Val) → IsThere (λ names. view names result.now) store.now val → IsThere (λ names. view names e.now) store.now val }
+    ensures { (val : Val) → IsThere (λ names. view names result.now) store.now val →
+        IsThere (λ names. view names e.now) store.now val }
 {
     let Expr::Choice(x, y, z) = e else {
         return e;
@@ -611,7 +637,8 @@ fn part_chosen<'a>(store: &Store, e: &'a Expr) -> &'a Expr
 /// The part that a choice comes to, where the truth of its test is at hand; what else there is comes back as it is.
 #[inline(always)]
 pub fn chosen<'a>(store: &Store, e: &'a Expr) -> &'a Expr
-    ensures { (val : Val) → IsThere (λ names. view names result.now) store.now val → IsThere (λ names. view names e.now) store.now val }
+    ensures { (val : Val) → IsThere (λ names. view names result.now) store.now val →
+        IsThere (λ names. view names e.now) store.now val }
 {
     match e {
         Expr::Choice(_, _, _) => part_chosen(store, e),
@@ -619,10 +646,12 @@ pub fn chosen<'a>(store: &Store, e: &'a Expr) -> &'a Expr
     }
 }
 
-/// What is read or set, where it is a variable or a field by a constant: to evaluate it changes nothing and meets no fault.
+/// What is read or set, where it is a variable or a field by a constant: to evaluate it changes nothing and meets no
+/// fault.
 #[inline(always)]
 pub fn spot_at_hand(target: &Target<Expr>) -> Option<Spot>
-    ensures plays { IfSome result (λ s. (g : Given) (w : Whole) → Passes g (spot (view_target (names_in g) target.now)) w (give (value_of s)) w) }
+    ensures plays { IfSome result
+        (λ s. (g : Given) (w : Whole) → Passes g (spot (view_target (names_in g) target.now)) w (give (value_of s)) w) }
     ensures spot { IfSome result (λ s. (names : Names) → IsSpotOf names (view_target names target.now) s) }
 {
     match target {

@@ -29,8 +29,8 @@ struct Near {
 /// The patterns that were used last, by their texts.
 type Cache = LruCache<Vec<u8>, Rc<Ere>>;
 
-/// The patterns of a run. The first few are kept, as compiled, and of the others those that were used last; which ones never
-/// shows.
+/// The patterns of a run. The first few are kept, as compiled, and of the others those that were used last; which ones
+/// never shows.
 #[derive(Drop)]
 pub struct Patterns {
     near: Vec<Near>,
@@ -46,7 +46,8 @@ impl Model for Patterns {
 
     ghost view = { λ _. tt };
 
-    ghost invariant = { λ p. All IsNear p.near.items × MatchOption p.cache (Unit {0}) (λ c. AreEres (λ k. k.items) (λ e. e.value) c.entries) };
+    ghost invariant = { λ p. All IsNear p.near.items
+        × MatchOption p.cache (Unit {0}) (λ c. AreEres (λ k. k.items) (λ e. e.value) c.entries) };
 }
 
 /// The ERE that the text spells.
@@ -87,7 +88,8 @@ fn add_near(alloc: Global, kept: &mut Vec<Near>, source: &[u8], ere: &Rc<Ere>) -
     Ok(())
 }
 
-/// Notes that the pattern of this text is the one used last, where the cache is full, so that the next one takes another's place.
+/// Notes that the pattern of this text is the one used last, where the cache is full, so that the next one takes
+/// another's place.
 fn note_use(cache: &mut Cache, source: &[u8])
     requires { AreEres (λ k. k.items) (λ e. e.value) cache.old.entries }
     ensures { AreEres (λ k. k.items) (λ e. e.value) cache.new.entries }

@@ -77,21 +77,26 @@ pub fn operated(
     right: Result<i64, Fault>,
 ) -> Result<Value, Halt>
     ensures { (g : Given) (w : Whole) (x : Expression) (xs : Terms) (r : Val) → right ≡ number_of r
-        → Acts g (At (Terms_of (p.term how place x xs)) (r ∷ left.now ∷ [])) (λ v k. At (Terms_of xs) (v ∷ []) ∷ k) w result w }
+        → Acts g (At (Terms_of (p.term how place x xs)) (r ∷ left.now ∷ [])) (λ v k. At (Terms_of xs) (v ∷ []) ∷ k) w
+        result w }
 {
     number_at(place, both(how, number_of(left), right))
 }
 
 /// One operand more of a concatenation.
 pub fn join(alloc: Global, place: Place, left: Value, right: &Value) -> Result<Value, Halt>
-    ensures { (g : Given) (w : Whole) (x : Expression) (xs : Joins) → Acts g (At (Texts_of (p.join place x xs)) (right.now ∷ left ∷ [])) (λ v k. At (Texts_of xs) (v ∷ []) ∷ k) w result w }
+    ensures { (g : Given) (w : Whole) (x : Expression) (xs : Joins) →
+        Acts g (At (Texts_of (p.join place x xs)) (right.now ∷ left ∷ [])) (λ v k. At (Texts_of xs) (v ∷ []) ∷ k) w
+        result w }
 {
     text_at(place, concatenated(alloc, left, right))
 }
 
 /// One array more of `key in array in array ..`: whether it has the key.
 fn member(store: &Store, array: Variable, key: &Value) -> Value
-    ensures { (g : Given) (t : Table) (rest : List p.Variable) → Acts g (At (Members_of (variable_of (names_in g) array ∷ rest)) (key.now ∷ [])) (λ v k. At (Members_of rest) (v ∷ []) ∷ k) (store.now, t) (Ok result) (store.now, t) }
+    ensures { (g : Given) (t : Table) (rest : List p.Variable) →
+        Acts g (At (Members_of (variable_of (names_in g) array ∷ rest)) (key.now ∷ []))
+        (λ v k. At (Members_of rest) (v ∷ []) ∷ k) (store.now, t) (Ok result) (store.now, t) }
 {
     let mut buffer = Buffer::new();
     truth_value(store.contains(array, text_in(key, &mut buffer)))
@@ -99,7 +104,9 @@ fn member(store: &Store, array: Variable, key: &Value) -> Value
 
 /// Whether the last array of `key in array in array ..` has the key that the ones before it make. Takes no memory.
 pub fn members(store: &Store, arrays: &[Variable], key: Value) -> Value
-    ensures { (g : Given) (t : Table) → Acts g (At (Members_of (map (variable_of (names_in g)) arrays.now)) (key ∷ [])) give (store.now, t) (Ok result) (store.now, t) }
+    ensures { (g : Given) (t : Table) →
+        Acts g (At (Members_of (map (variable_of (names_in g)) arrays.now)) (key ∷ [])) give (store.now, t) (Ok result)
+        (store.now, t) }
 {
     let mut found = key;
     for array in arrays {

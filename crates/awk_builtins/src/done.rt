@@ -70,7 +70,8 @@ fn key_at_hand<'a>(store: &Store, line: &'a mut Line, keys: &[Expr]) -> Option<&
 /// The number that is the only subscript, where it is at hand: its digits are the key.
 #[inline(always)]
 fn number_of_key(store: &Store, keys: &[Expr]) -> Option<i64>
-    ensures { IfSome result (λ n. length (text_of (v.Num n)) ≤ most_bytes → IsKey keys.now store.now (text_of (v.Num n))) }
+    ensures { IfSome result
+        (λ n. length (text_of (v.Num n)) ≤ most_bytes → IsKey keys.now store.now (text_of (v.Num n))) }
 {
     let [one] = keys else {
         return None;
@@ -80,7 +81,9 @@ fn number_of_key(store: &Store, keys: &[Expr]) -> Option<i64>
 
 /// The number of the field that is the only subscript, where that number is at hand.
 fn field_of_key(store: &Store, keys: &[Expr]) -> Option<u16>
-    ensures { IfSome result (λ n. (val : Val) → IsValueAt store.now.row n val → length (text_of val) ≤ most_bytes → IsKey keys.now store.now (text_of val)) }
+    ensures { IfSome result
+        (λ n. (val : Val) → IsValueAt store.now.row n val → length (text_of val) ≤ most_bytes →
+        IsKey keys.now store.now (text_of val)) }
 {
     let [one] = keys else {
         return None;
@@ -100,7 +103,9 @@ fn field_of_key(store: &Store, keys: &[Expr]) -> Option<u16>
 
 /// Gives the element whose key is a number's digits a value, and answers whether it did. The digits are not copied.
 fn put_at_number(store: &mut Store, array: Variable, number: i64, value: Value) -> bool
-    ensures done { result ≡ true → (length (text_of (v.Num number)) ≤ most_bytes) × Puts (Some (kept.array store.old array)) (text_of (v.Num number)) value (λ new. store.new ≡ with_array (kept.reference store.old array) new store.old) }
+    ensures done { result ≡ true → (length (text_of (v.Num number)) ≤ most_bytes)
+        × Puts (Some (kept.array store.old array)) (text_of (v.Num number)) value
+        (λ new. store.new ≡ with_array (kept.reference store.old array) new store.old) }
     ensures not_done { result ≡ false → store.new ≡ store.old }
 {
     let mut digits = Buffer::new();
@@ -116,7 +121,9 @@ fn put_at_number(store: &mut Store, array: Variable, number: i64, value: Value) 
 
 /// Adds to the number that the element holds whose key is a number's digits, and answers whether it did.
 fn add_at_number(store: &mut Store, array: Variable, number: i64, by: i64) -> bool
-    ensures done { result ≡ true → (length (text_of (v.Num number)) ≤ most_bytes) × Adds (Some (kept.array store.old array)) (text_of (v.Num number)) by (λ new. store.new ≡ with_array (kept.reference store.old array) new store.old) }
+    ensures done { result ≡ true → (length (text_of (v.Num number)) ≤ most_bytes)
+        × Adds (Some (kept.array store.old array)) (text_of (v.Num number)) by
+        (λ new. store.new ≡ with_array (kept.reference store.old array) new store.old) }
     ensures not_done { result ≡ false → store.new ≡ store.old }
 {
     let mut digits = Buffer::new();
@@ -127,8 +134,8 @@ fn add_at_number(store: &mut Store, array: Variable, number: i64, by: i64) -> bo
     store.add_to(array, key, by)
 }
 
-/// Adds to the number that the element with one subscript holds, and answers whether it did: the subscript is at hand, and
-/// there is such a number. A number or a field as the subscript is not copied.
+/// Adds to the number that the element with one subscript holds, and answers whether it did: the subscript is at hand,
+/// and there is such a number. A number or a field as the subscript is not copied.
 fn added_at(store: &mut Store, line: &mut Line, array: Variable, keys: &[Expr], by: i64) -> bool
     ensures done { result ≡ true → AddsAt array keys.now by store.old store.new }
     ensures not_done { result ≡ false → store.new ≡ store.old }
@@ -148,7 +155,9 @@ fn added_at(store: &mut Store, line: &mut Line, array: Variable, keys: &[Expr], 
 /// `variable = value`
 #[inline(always)]
 fn assigned_variable(alloc: Global, store: &mut Store, variable: Variable, x: &Expr) -> bool
-    ensures done { result ≡ true → (place : Place) → IsDone (λ names. p.assign place (p.variable (variable_of names variable)) (view names x.now)) store.old store.new }
+    ensures done { result ≡ true → (place : Place) →
+        IsDone (λ names. p.assign place (p.variable (variable_of names variable)) (view names x.now)) store.old
+        store.new }
     ensures not_done { result ≡ false → store.new ≡ store.old }
 {
     if is_nf(variable) {
@@ -171,7 +180,10 @@ fn assigned_element(
     keys: &[Expr],
     x: &Expr,
 ) -> bool
-    ensures done { result ≡ true → (place at_name : Place) → IsDone (λ names. p.assign place (p.element at_name (variable_of names array) (expressions_of (map (view names) keys.now))) (view names x.now)) store.old store.new }
+    ensures done { result ≡ true → (place at_name : Place) →
+        IsDone (λ names. p.assign place
+        (p.element at_name (variable_of names array) (expressions_of (map (view names) keys.now))) (view names x.now))
+        store.old store.new }
     ensures not_done { result ≡ false → store.new ≡ store.old }
 {
     let Some(value) = value_at_hand(alloc, store, chosen(store, x)) else {
@@ -198,7 +210,8 @@ fn assigned(
     target: &Target<Expr>,
     x: &Expr,
 ) -> bool
-    ensures done { result ≡ true → (place : Place) → IsDone (λ names. p.assign place (view_target names target.now) (view names x.now)) store.old store.new }
+    ensures done { result ≡ true → (place : Place) →
+        IsDone (λ names. p.assign place (view_target names target.now) (view names x.now)) store.old store.new }
     ensures not_done { result ≡ false → store.new ≡ store.old }
 {
     if let Target::Variable(variable) = target {
@@ -213,7 +226,9 @@ fn assigned(
 /// `variable += number`, and with the other operators.
 #[inline(always)]
 fn changed_variable(store: &mut Store, how: Operator, variable: Variable, x: &Expr) -> bool
-    ensures done { result ≡ true → (place : Place) → IsDone (λ names. p.change place how (p.variable (variable_of names variable)) (view names x.now)) store.old store.new }
+    ensures done { result ≡ true → (place : Place) →
+        IsDone (λ names. p.change place how (p.variable (variable_of names variable)) (view names x.now)) store.old
+        store.new }
     ensures not_done { result ≡ false → store.new ≡ store.old }
 {
     let Some(operand) = number_at_hand(store, x, MOST_LEVELS) else {
@@ -238,7 +253,10 @@ fn added_to_element(
     keys: &[Expr],
     x: &Expr,
 ) -> bool
-    ensures done { result ≡ true → (place at_name : Place) → IsDone (λ names. p.change place Operator.Add (p.element at_name (variable_of names array) (expressions_of (map (view names) keys.now))) (view names x.now)) store.old store.new }
+    ensures done { result ≡ true → (place at_name : Place) →
+        IsDone (λ names. p.change place Operator.Add
+        (p.element at_name (variable_of names array) (expressions_of (map (view names) keys.now))) (view names x.now))
+        store.old store.new }
     ensures not_done { result ≡ false → store.new ≡ store.old }
 {
     let Some(operand) = number_at_hand(store, x, MOST_LEVELS) else {
@@ -256,7 +274,10 @@ fn added_by(
     keys: &[Expr],
     x: &Expr,
 ) -> bool
-    ensures done { result ≡ true → (place at_name : Place) → IsDone (λ names. p.change place how (p.element at_name (variable_of names array) (expressions_of (map (view names) keys.now))) (view names x.now)) store.old store.new }
+    ensures done { result ≡ true → (place at_name : Place) →
+        IsDone (λ names. p.change place how
+        (p.element at_name (variable_of names array) (expressions_of (map (view names) keys.now))) (view names x.now))
+        store.old store.new }
     ensures not_done { result ≡ false → store.new ≡ store.old }
 {
     match how {
@@ -273,7 +294,8 @@ fn changed(
     target: &Target<Expr>,
     x: &Expr,
 ) -> bool
-    ensures done { result ≡ true → (place : Place) → IsDone (λ names. p.change place how (view_target names target.now) (view names x.now)) store.old store.new }
+    ensures done { result ≡ true → (place : Place) →
+        IsDone (λ names. p.change place how (view_target names target.now) (view names x.now)) store.old store.new }
     ensures not_done { result ≡ false → store.new ≡ store.old }
 {
     if let Target::Variable(variable) = target {
@@ -288,7 +310,8 @@ fn changed(
 /// `variable ++` and `variable --`
 #[inline(always)]
 fn stepped_variable(store: &mut Store, how: Step, variable: Variable) -> bool
-    ensures done { result ≡ true → (place : Place) (taken : Which) → IsDone (λ names. p.step place how taken (p.variable (variable_of names variable))) store.old store.new }
+    ensures done { result ≡ true → (place : Place) (taken : Which) →
+        IsDone (λ names. p.step place how taken (p.variable (variable_of names variable))) store.old store.new }
     ensures not_done { result ≡ false → store.new ≡ store.old }
 {
     let Some(old) = number_kept(store, variable) else {
@@ -320,7 +343,10 @@ fn stepped_element(
     array: Variable,
     keys: &[Expr],
 ) -> bool
-    ensures done { result ≡ true → (place at_name : Place) (taken : Which) → IsDone (λ names. p.step place how taken (p.element at_name (variable_of names array) (expressions_of (map (view names) keys.now)))) store.old store.new }
+    ensures done { result ≡ true → (place at_name : Place) (taken : Which) →
+        IsDone (λ names. p.step place how taken
+        (p.element at_name (variable_of names array) (expressions_of (map (view names) keys.now)))) store.old
+        store.new }
     ensures not_done { result ≡ false → store.new ≡ store.old }
 {
     added_at(store, line, array, keys, step_by(how))
@@ -329,7 +355,8 @@ fn stepped_element(
 /// `target ++` and `target --`
 #[inline(always)]
 fn stepped_target(store: &mut Store, line: &mut Line, how: Step, target: &Target<Expr>) -> bool
-    ensures done { result ≡ true → (place : Place) (taken : Which) → IsDone (λ names. p.step place how taken (view_target names target.now)) store.old store.new }
+    ensures done { result ≡ true → (place : Place) (taken : Which) →
+        IsDone (λ names. p.step place how taken (view_target names target.now)) store.old store.new }
     ensures not_done { result ≡ false → store.new ≡ store.old }
 {
     if let Target::Variable(variable) = target {

@@ -57,7 +57,8 @@ pub fn cased<'a>(alloc: Global, value: Lent<'a>, upper: bool) -> Result<Value, F
 
 /// The first place of the second text in the first one, counted from 1, or 0. Takes no memory.
 pub fn index_of<'a>(value: Lent<'a>, part: Lent<'a>) -> i64
-    ensures { Value.Num result ≡ of_count (texts.index (text_of (lent_value value.entry)) (text_of (lent_value part.entry))) }
+    ensures { Value.Num result
+        ≡ of_count (texts.index (text_of (lent_value value.entry)) (text_of (lent_value part.entry))) }
 {
     let (mut first, mut second) = (Buffer::new(), Buffer::new());
     index(value.text(&mut first), part.text(&mut second))
@@ -65,7 +66,8 @@ pub fn index_of<'a>(value: Lent<'a>, part: Lent<'a>) -> i64
 
 /// The part of a text from a place on, of so many bytes where there is a count. A number has no text that can be lent.
 pub fn part_of<'a>(value: Lent<'a>, from: i64, count: Option<i64>) -> Option<Lent<'a>>
-    ensures { IfSome result (λ new. lent_value new ≡ Value.Text (texts.substr (text_of (lent_value value.entry)) from count)) }
+    ensures { IfSome result
+        (λ new. lent_value new ≡ Value.Text (texts.substr (text_of (lent_value value.entry)) from count)) }
 {
     match value {
         Lent::Text(text) | Lent::Input(text) => Some(Lent::Text(substr(text, from, count))),
@@ -95,7 +97,8 @@ fn count_of(args: &[Value]) -> Result<Option<i64>, Fault>
     }
 }
 
-/// The part of a text that the arguments of substr tell, lent: a number's text is written into the buffer. Takes no memory.
+/// The part of a text that the arguments of substr tell, lent: a number's text is written into the buffer. Takes no
+/// memory.
 ///
 /// Fails with `Fault::OutOfRange` where a number, of the place or of the count, is out of range.
 fn substr_of<'a>(args: &'a [Value], buffer: &'a mut Buffer) -> Result<&'a [u8], Fault>
@@ -130,8 +133,8 @@ fn in_case<'a>(alloc: Global, value: Lent<'a>, upper: bool) -> Result<Value, Hal
     }
 }
 
-/// What `fflush ( name )` gives: 0 where an output file or an output command of this name is open, and else -1. Each text was put as
-/// it was printed, so there is nothing to write. Takes no memory.
+/// What `fflush ( name )` gives: 0 where an output file or an output command of this name is open, and else -1. Each
+/// text was put as it was printed, so there is nothing to write. Takes no memory.
 fn flush<'a>(name: Lent<'a>, streams: &Streams) -> Value
     ensures { result ≡ flushing.flush (text_of (lent_value name.entry)) (open_of streams.now) }
 {
@@ -151,7 +154,8 @@ fn close<'a, W: World>(
 ) -> Result<Value, Halt>
     requires { Owns (W.open_numbers world.old) streams.old }
     ensures task { (g : Given) (k : Kept)
-        → Meets W.World (base g) (Agreeing g) used g (Do (Close place (text_of (lent_value name.entry)) None)) give (k, streams.old) world.old result (k, streams.new) world.new }
+        → Meets W.World (base g) (Agreeing g) used g (Do (Close place (text_of (lent_value name.entry)) None)) give
+        (k, streams.old) world.old result (k, streams.new) world.new }
     ensures owns { Owns (W.open_numbers world.new) streams.new }
 {
     let mut buffer = Buffer::new();
@@ -166,7 +170,8 @@ fn run<'a, W: World>(
     world: &mut W,
 ) -> Result<Value, Halt>
     ensures task { (g : Given) (k : Kept) (t : Table)
-        → Meets W.World (base g) (Agreeing g) used g (Do (Run place (text_of (lent_value command.entry)))) give (k, t) world.old result (k, t) world.new }
+        → Meets W.World (base g) (Agreeing g) used g (Do (Run place (text_of (lent_value command.entry)))) give (k, t)
+        world.old result (k, t) world.new }
     ensures numbers { W.open_numbers world.new ≡ W.open_numbers world.old }
 {
     let mut buffer = Buffer::new();
@@ -185,7 +190,8 @@ pub fn called<W: World>(
 ) -> Result<Value, Halt>
     requires { Owns (W.open_numbers world.old) streams.old }
     ensures task { (g : Given) (k : Kept) (xs : Expressions) → length (listed xs) ≡ length args.now
-        → Meets W.World (base g) (Agreeing g) used g (At (Value_of (p.builtin place which xs)) (reverse args.now)) give (k, streams.old) world.old result (k, streams.new) world.new }
+        → Meets W.World (base g) (Agreeing g) used g (At (Value_of (p.builtin place which xs)) (reverse args.now)) give
+        (k, streams.old) world.old result (k, streams.new) world.new }
     ensures owns { Owns (W.open_numbers world.new) streams.new }
 {
     match which {

@@ -34,7 +34,9 @@ use std::alloc::Global;
 /// Adds the text of an operand behind the others, and answers whether it did: it is at hand, and there is room.
 fn add_text(store: &Store, e: &Expr, room: usize, texts: &mut Vec<u8>) -> Result<bool, Memory>
     ensures room { IfOk result (λ added. added ≡ true → length texts.new.items ≤ room) }
-    ensures text { IfOk result (λ added. added ≡ true → (text : List ℕ) × (texts.new.items ≡ texts.old.items ++ text) × ((g : Given) (t : Table) → Lends g (store.now, t) (view (names_in g) e.now) text)) }
+    ensures text { IfOk result
+        (λ added. added ≡ true → (text : List ℕ) × (texts.new.items ≡ texts.old.items ++ text)
+        × ((g : Given) (t : Table) → Lends g (store.now, t) (view (names_in g) e.now) text)) }
 {
     let Some(value) = at_hand(store, chosen(store, e), MOST_LEVELS) else {
         return Ok(false);
@@ -48,15 +50,17 @@ fn add_text(store: &Store, e: &Expr, room: usize, texts: &mut Vec<u8>) -> Result
     Ok(true)
 }
 
-/// Makes it the texts of the operands, one after the other, and answers whether it did: each is at hand, and there is room for
-/// all.
+/// Makes it the texts of the operands, one after the other, and answers whether it did: each is at hand, and there is
+/// room for all.
 fn gathered(
     store: &Store,
     rest: &[Joined<Expr>],
     room: usize,
     texts: &mut Vec<u8>,
 ) -> Result<bool, Memory>
-    ensures { IfOk result (λ is. is ≡ true → (g : Given) (t : Table) → Follows g (store.now, t) (joins_of (map (view_joined (names_in g)) rest.now)) room texts.new.items) }
+    ensures { IfOk result
+        (λ is. is ≡ true → (g : Given) (t : Table) →
+        Follows g (store.now, t) (joins_of (map (view_joined (names_in g)) rest.now)) room texts.new.items) }
 {
     texts.clear();
     for next in rest {
@@ -69,7 +73,9 @@ fn gathered(
 
 /// The text of the only operand, where it is a constant.
 fn constant(rest: &[Joined<Expr>]) -> Option<&[u8]>
-    ensures { IfSome result (λ text. (g : Given) (t : Table) (k : Kept) (room : ℕ) → length text.now ≤ room → Follows g (k, t) (joins_of (map (view_joined (names_in g)) rest.now)) room text.now) }
+    ensures { IfSome result
+        (λ text. (g : Given) (t : Table) (k : Kept) (room : ℕ) → length text.now ≤ room →
+        Follows g (k, t) (joins_of (map (view_joined (names_in g)) rest.now)) room text.now) }
 {
     let [one] = rest else {
         return None;
@@ -103,7 +109,8 @@ fn reads_variable(e: &Expr, variable: Variable) -> bool
 /// How many bytes may stand behind the text that a variable holds. NF holds none.
 fn room_behind(store: &Store, variable: Variable) -> Option<usize>
     ensures nf { IfSome result (λ room. kept.is_nf variable ≡ false) }
-    ensures room { IfSome result (λ room. (text : List ℕ) × (kept.value store.now variable ≡ v.Text text) × (length text + room ≤ most_bytes)) }
+    ensures room { IfSome result
+        (λ room. (text : List ℕ) × (kept.value store.now variable ≡ v.Text text) × (length text + room ≤ most_bytes)) }
 {
     if is_nf(variable) {
         return None;
@@ -116,7 +123,8 @@ fn room_behind(store: &Store, variable: Variable) -> Option<usize>
 
 /// Adds bytes behind the text of a variable, in its place. It holds a text from now on.
 fn grow(alloc: Global, store: &mut Store, to: Variable, more: &[u8]) -> Result<(), Halt>
-    ensures ok { OnOk result (store.new ≡ with_value to (v.Text (text_of (kept.value store.old to) ++ more.now)) store.old) }
+    ensures ok { OnOk result
+        (store.new ≡ with_value to (v.Text (text_of (kept.value store.old to) ++ more.now)) store.old) }
     ensures err { IfErr result (λ h. h ≡ Halt.Memory) }
     ensures used { store.new.used ≡ store.old.used }
 {
@@ -129,9 +137,10 @@ fn grow(alloc: Global, store: &mut Store, to: Variable, more: &[u8]) -> Result<(
     Ok(())
 }
 
-/// Does the whole of `to = first rest..` where `first` reads `to` too, which holds a text, and each of the others is at hand:
-/// then the text grows in its place, so that many such assignments take time as what they add. Else it does nothing, and
-/// answers `false`; so also where the text would be too long, for the fault has its place in the general way.
+/// Does the whole of `to = first rest..` where `first` reads `to` too, which holds a text, and each of the others is at
+/// hand: then the text grows in its place, so that many such assignments take time as what they add. Else it does
+/// nothing, and answers `false`; so also where the text would be too long, for the fault has its place in the general
+/// way.
 ///
 /// Fails with `Halt::Memory` alone, where memory is refused.
 fn grown(
@@ -143,7 +152,8 @@ fn grown(
     rest: &[Joined<Expr>],
 ) -> Result<bool, Halt>
     ensures done { IfOk result (λ is. is ≡ true → (x : Val) × ((g : Given) (t : Table) (place : Place) → Passes g
-        (value (p.assign place (p.variable (variable_of (names_in g) to)) (p.concat (view (names_in g) first.now) (joins_of (map (view_joined (names_in g)) rest.now)))))
+        (value (p.assign place (p.variable (variable_of (names_in g) to))
+        (p.concat (view (names_in g) first.now) (joins_of (map (view_joined (names_in g)) rest.now)))))
         (store.old, t) (give x) (store.new, t))) }
     ensures not_done { IfOk result (λ is. is ≡ false → store.new ≡ store.old) }
     ensures err { IfErr result (λ h. h ≡ Halt.Memory) }
@@ -170,9 +180,9 @@ fn grown(
     Ok(true)
 }
 
-/// Does the whole of `target = value` where the value is the text of the target with more behind it, all at hand: then that
-/// text grows in its place, so that many such assignments take time as what they add. Else it does nothing, and answers
-/// `false`. What is to come behind it is gathered in `texts`, a buffer that is kept.
+/// Does the whole of `target = value` where the value is the text of the target with more behind it, all at hand: then
+/// that text grows in its place, so that many such assignments take time as what they add. Else it does nothing, and
+/// answers `false`. What is to come behind it is gathered in `texts`, a buffer that is kept.
 ///
 /// Fails with `Halt::Memory` alone, where memory is refused.
 pub fn assigned(
@@ -183,7 +193,8 @@ pub fn assigned(
     x: &Expr,
 ) -> Result<bool, Halt>
     ensures done { IfOk result (λ is. is ≡ true → (val : Val) × ((g : Given) (t : Table) (place : Place) → Passes g
-        (value (p.assign place (view_target (names_in g) target.now) (view (names_in g) x.now))) (store.old, t) (give val) (store.new, t))) }
+        (value (p.assign place (view_target (names_in g) target.now) (view (names_in g) x.now))) (store.old, t)
+        (give val) (store.new, t))) }
     ensures not_done { IfOk result (λ is. is ≡ false → store.new ≡ store.old) }
     ensures err { IfErr result (λ h. h ≡ Halt.Memory) }
     ensures used { store.new.used ≡ store.old.used }

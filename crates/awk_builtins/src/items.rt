@@ -34,7 +34,8 @@ use itoa::Buffer;
 
 /// Adds the text of an item that is at hand, and answers whether it did.
 pub(crate) fn add_item(line: &mut Line, store: &Store, x: &Expr) -> bool
-    ensures { result ≡ true → (val : Val) × (line.new ≡ written line.old (text_of val)) × IsThere (λ names. view names x.now) store.now val }
+    ensures { result ≡ true → (val : Val) × (line.new ≡ written line.old (text_of val))
+        × IsThere (λ names. view names x.now) store.now val }
 {
     let Some(value) = at_hand(store, chosen(store, x), MOST_LEVELS) else {
         return false;
@@ -48,7 +49,8 @@ pub(crate) fn add_item(line: &mut Line, store: &Store, x: &Expr) -> bool
 
 /// Adds the separator, and behind it the text of an item that is at hand, and answers whether it did.
 fn add_next(line: &mut Line, store: &Store, x: &Expr, separator: &[u8]) -> bool
-    ensures { result ≡ true → (val : Val) × (line.new ≡ written (written line.old separator.now) (text_of val)) × IsThere (λ names. view names x.now) store.now val }
+    ensures { result ≡ true → (val : Val) × (line.new ≡ written (written line.old separator.now) (text_of val))
+        × IsThere (λ names. view names x.now) store.now val }
 {
     let Ok(()) = line.push(separator) else {
         return false;
@@ -58,7 +60,8 @@ fn add_next(line: &mut Line, store: &Store, x: &Expr, separator: &[u8]) -> bool
 
 /// Adds the texts of items that are at hand, each behind the separator, and answers whether it did.
 fn add_others(line: &mut Line, store: &Store, xs: &[Expr], separator: &[u8]) -> bool
-    ensures { result ≡ true → (first : Val) → line.old ≡ held (joined separator.now (first ∷ [])) → HoldsJoined store.now xs.now separator.now first line.new }
+    ensures { result ≡ true → (first : Val) → line.old ≡ held (joined separator.now (first ∷ [])) →
+        HoldsJoined store.now xs.now separator.now first line.new }
 {
     for x in xs {
         if !add_next(line, store, x, separator) {
@@ -70,7 +73,8 @@ fn add_others(line: &mut Line, store: &Store, xs: &[Expr], separator: &[u8]) -> 
 
 /// Makes the line the texts of items that are at hand with OFS between, and ORS, and answers whether it did.
 fn join_at_hand(line: &mut Line, store: &Store, xs: &[Expr]) -> bool
-    ensures { result ≡ true → (vals : List Val) × AreThere store.now xs.now vals × (line.new ≡ held (joined (own_text store.now own.Ofs) (items store.now vals) ++ own_text store.now own.Ors)) }
+    ensures { result ≡ true → (vals : List Val) × AreThere store.now xs.now vals
+        × (line.new ≡ held (joined (own_text store.now own.Ofs) (items store.now vals) ++ own_text store.now own.Ors)) }
 {
     let [first, others @ ..] = xs else {
         return false;
@@ -103,7 +107,8 @@ fn record_at_hand(line: &mut Line, store: &Store) -> Option<Octets>
 
 /// The text of items that are at hand, or of the whole record where there are none.
 fn text_at_hand(line: &mut Line, store: &Store, xs: &[Expr]) -> Option<Octets>
-    ensures { IfSome result (λ text. (vals : List Val) × AreThere store.now xs.now vals × (printed store.now vals ≡ Ok text)) }
+    ensures { IfSome result
+        (λ text. (vals : List Val) × AreThere store.now xs.now vals × (printed store.now vals ≡ Ok text)) }
 {
     if xs.is_empty() {
         return record_at_hand(line, store);
@@ -114,16 +119,18 @@ fn text_at_hand(line: &mut Line, store: &Store, xs: &[Expr]) -> Option<Octets>
     line.take().ok()
 }
 
-/// The text that print puts to the standard output, where each item is at hand: so none is copied but into that text. `None`
-/// stands for refused memory and for a text that is too long, too.
+/// The text that print puts to the standard output, where each item is at hand: so none is copied but into that text.
+/// `None` stands for refused memory and for a text that is too long, too.
 pub fn printed_at_hand(line: &mut Line, store: &Store, xs: &[Expr]) -> Option<Octets>
     ensures { IfSome result (λ text. (g : Given) (t : Table) (place : Place)
-        → Passes g (At (Doing (p.print place (map (view (names_in g)) xs.now) None)) []) (store.now, t) (to_standard place text) (store.now, t)) }
+        → Passes g (At (Doing (p.print place (map (view (names_in g)) xs.now) None)) []) (store.now, t)
+        (to_standard place text) (store.now, t)) }
 {
     text_at_hand(line, store, xs)
 }
 
-/// The name of the stream that print puts to, and the text, where the name and each item are at hand; see `printed_at_hand`.
+/// The name of the stream that print puts to, and the text, where the name and each item are at hand; see
+/// `printed_at_hand`.
 pub fn redirected_at_hand<'a>(
     line: &mut Line,
     store: &'a Store,
@@ -131,15 +138,18 @@ pub fn redirected_at_hand<'a>(
     to: &'a Redirection<Expr>,
 ) -> Option<(Lent<'a>, Octets)>
     ensures { IfSome result (λ made. (g : Given) (t : Table) (place : Place)
-        → Passes g (At (Doing (p.print place (map (view (names_in g)) xs.now) (Some (view_redirection (names_in g) to.now)))) []) (store.now, t) (to_stream (view_redirection (names_in g) to.now) (lent_value made.0) made.1) (store.now, t)) }
+        → Passes g (At (Doing
+        (p.print place (map (view (names_in g)) xs.now) (Some (view_redirection (names_in g) to.now)))) [])
+        (store.now, t) (to_stream (view_redirection (names_in g) to.now) (lent_value made.0) made.1)
+        (store.now, t)) }
 {
     let name = at_hand(store, &to.target, MOST_LEVELS)?;
     let text = text_at_hand(line, store, xs)?;
     Some((name, text))
 }
 
-/// Splits the record where one of the expressions wants a field, and rebuilds it where one is `$0`, or where there is none, so
-/// that they are at hand.
+/// Splits the record where one of the expressions wants a field, and rebuilds it where one is `$0`, or where there is
+/// none, so that they are at hand.
 pub fn split_for_items(store: &mut Store, xs: &[Expr]) -> Result<(), Halt>
     ensures { (g : Given) (t : Table) (q : Piece) → Acts g q (λ u k. q ∷ k) (store.old, t) result (store.new, t) }
 {

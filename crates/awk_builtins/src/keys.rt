@@ -30,8 +30,8 @@ use awk_text::value::{Value, text_in};
 use itoa::Buffer;
 use std::alloc::Global;
 
-/// The text of several subscripts: their texts with SUBSEP between. It is lent from the line, and stands there until the next
-/// one is made.
+/// The text of several subscripts: their texts with SUBSEP between. It is lent from the line, and stands there until
+/// the next one is made.
 ///
 /// Fails as `printed` does.
 pub fn joined_subscripts<'a>(
@@ -68,7 +68,8 @@ fn joined_key(
     subscripts: &[Value],
 ) -> Result<Octets, Fault>
     ensures ok { IfOk result (λ text. limited (joined (own_text store.now own.Subsep) subscripts.now) ≡ Ok text) }
-    ensures err { IfErr result (λ e. (e ≡ Fault.Memory) ⊎ (limited (joined (own_text store.now own.Subsep) subscripts.now) ≡ Err e)) }
+    ensures err { IfErr result
+        (λ e. (e ≡ Fault.Memory) ⊎ (limited (joined (own_text store.now own.Subsep) subscripts.now) ≡ Err e)) }
 {
     let mut buffer = Buffer::new();
     let subsep = store.own_text(Own::Subsep, &mut buffer);
@@ -79,7 +80,8 @@ fn joined_key(
 /// The text of one subscript.
 fn single_key(alloc: Global, subscript: &Value) -> Result<Octets, Fault>
     ensures ok { IfOk result (λ text. (subsep : List ℕ) → limited (joined subsep (subscript.now ∷ [])) ≡ Ok text) }
-    ensures err { IfErr result (λ e. (e ≡ Fault.Memory) ⊎ ((subsep : List ℕ) → limited (joined subsep (subscript.now ∷ [])) ≡ Err e)) }
+    ensures err { IfErr result
+        (λ e. (e ≡ Fault.Memory) ⊎ ((subsep : List ℕ) → limited (joined subsep (subscript.now ∷ [])) ≡ Err e)) }
 {
     let mut buffer = Buffer::new();
     let text = key_of_one(subscript, &mut buffer)?;
@@ -88,8 +90,8 @@ fn single_key(alloc: Global, subscript: &Value) -> Result<Octets, Fault>
 
 /// The key that the subscripts are.
 ///
-/// Fails with `Fault::TextTooLong` exactly where it has more than `MOST_BYTES` bytes, and with `Fault::Memory` where memory is
-/// refused.
+/// Fails with `Fault::TextTooLong` exactly where it has more than `MOST_BYTES` bytes, and with `Fault::Memory` where
+/// memory is refused.
 pub fn key(
     alloc: Global,
     line: &mut Line,
@@ -97,7 +99,8 @@ pub fn key(
     subscripts: &[Value],
 ) -> Result<Octets, Fault>
     ensures ok { IfOk result (λ text. limited (joined (own_text store.now own.Subsep) subscripts.now) ≡ Ok text) }
-    ensures err { IfErr result (λ e. (e ≡ Fault.Memory) ⊎ (limited (joined (own_text store.now own.Subsep) subscripts.now) ≡ Err e)) }
+    ensures err { IfErr result
+        (λ e. (e ≡ Fault.Memory) ⊎ (limited (joined (own_text store.now own.Subsep) subscripts.now) ≡ Err e)) }
 {
     match subscripts {
         [one] => single_key(alloc, one),
@@ -114,7 +117,8 @@ pub fn element_key(
     subscripts: &[Value],
 ) -> Result<Octets, Halt>
     ensures { (g : Given) (t : Table) (a : p.Variable) (xs : Expressions) → length (listed xs) ≡ length subscripts.now
-        → Acts g (At (Target_of (p.element place a xs)) (reverse subscripts.now)) (λ text. give (v.Text text)) (store.now, t) result (store.now, t) }
+        → Acts g (At (Target_of (p.element place a xs)) (reverse subscripts.now)) (λ text. give (v.Text text))
+        (store.now, t) result (store.now, t) }
 {
     at(place, key(alloc, line, store, subscripts))
 }
@@ -131,7 +135,9 @@ pub fn only(subscripts: &[Expr]) -> Option<&Expr>
 
 /// The key of an element by one subscript. Takes no memory.
 pub fn one_key(place: Place, subscript: Value) -> Result<Key, Halt>
-    ensures { (g : Given) (w : Whole) (a : p.Variable) (x : Expression) → Acts g (At (Target_of (p.element place a (p.more x p.none))) (subscript ∷ [])) (λ key. give (v.Text key)) w result w }
+    ensures { (g : Given) (w : Whole) (a : p.Variable) (x : Expression) →
+        Acts g (At (Target_of (p.element place a (p.more x p.none))) (subscript ∷ [])) (λ key. give (v.Text key)) w
+        result w }
 {
     let mut buffer = Buffer::new();
     at(place, key_of_one(&subscript, &mut buffer))?;
@@ -146,15 +152,18 @@ pub fn group_key(
     place: Place,
     subscripts: &[Value],
 ) -> Result<Octets, Halt>
-    ensures { (g : Given) (t : Table) (xs : Expressions) (arrays : List p.Variable) → length (listed xs) ≡ length subscripts.now
-        → Acts g (At (Value_of (p.group place xs arrays)) (reverse subscripts.now)) (λ text k. At (Members_of arrays) (v.Text text ∷ []) ∷ k) (store.now, t) result (store.now, t) }
+    ensures { (g : Given) (t : Table) (xs : Expressions) (arrays : List p.Variable) → length (listed xs)
+        ≡ length subscripts.now
+        → Acts g (At (Value_of (p.group place xs arrays)) (reverse subscripts.now))
+        (λ text k. At (Members_of arrays) (v.Text text ∷ []) ∷ k) (store.now, t) result (store.now, t) }
 {
     at(place, key(alloc, line, store, subscripts))
 }
 
 /// The number of a field that is read or set.
 pub fn field_number(place: Place, value: &Value) -> Result<u16, Halt>
-    ensures { (g : Given) (w : Whole) (x : Expression) → Acts g (At (Target_of (p.field place x)) (value.now ∷ [])) (λ n. give (of_count n)) w result w }
+    ensures { (g : Given) (w : Whole) (x : Expression) →
+        Acts g (At (Target_of (p.field place x)) (value.now ∷ [])) (λ n. give (of_count n)) w result w }
 {
     match field_of(value) {
         Ok(number) => match u16::try_from(number) {
@@ -175,7 +184,8 @@ pub fn remove(
     subscripts: &[Value],
 ) -> Result<(), Halt>
     ensures { (g : Given) (t : Table) (xs : List Expression) → length xs ≡ length subscripts.now
-        → Acts g (At (Doing (p.delete place (variable_of (names_in g) array) xs)) (reverse subscripts.now)) goes_on (store.old, t) result (store.new, t) }
+        → Acts g (At (Doing (p.delete place (variable_of (names_in g) array) xs)) (reverse subscripts.now)) goes_on
+        (store.old, t) result (store.new, t) }
 {
     let key = at(place, key(alloc, line, store, subscripts))?;
     store.remove(array, key.bytes());

@@ -1,9 +1,10 @@
-//! What operators, built-in functions, patterns and print make of values that are there (POSIX.1-2017 XCU awk, "Expressions in
-//! awk", "Functions" and "Output Statements"). A module has one subject, from the values alone up to what the store then holds; no
-//! function evaluates a part, and only the built-in functions of `functions` ask the world.
+//! What operators, built-in functions, patterns and print make of values that are there (POSIX.1-2017 XCU awk,
+//! "Expressions in awk", "Functions" and "Output Statements"). A module has one subject, from the values alone up to
+//! what the store then holds; no function evaluates a part, and only the built-in functions of `functions` ask the
+//! world.
 //!
-//! Forms whose parts are at hand, as variables, fields and constants are, are done without a move of the machine of plain awk for
-//! each part: `at_hand`, `done`, `growing`, `items`, `matching` and `splitting`.
+//! Forms whose parts are at hand, as variables, fields and constants are, are done without a move of the machine of
+//! plain awk for each part: `at_hand`, `done`, `growing`, `items`, `matching` and `splitting`.
 #![tactic(auto)]
 
 pub mod arrays;

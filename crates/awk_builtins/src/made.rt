@@ -61,14 +61,17 @@ fn steps_of(how: Step, value: &Value) -> Result<(i64, i64), Fault>
 
 /// The old number and the new one of `target ++` and `target --`, once the target was read. Takes no memory.
 pub fn stepped_at(place: Place, how: Step, value: &Value) -> Result<(i64, i64), Halt>
-    ensures { (g : Given) (w : Whole) (taken : Taken) (r : Reference) (at : Value) → Acts g (At (Value_of (p.step place how taken r)) (value.now ∷ at ∷ [])) (stepping place taken r at) w result w }
+    ensures { (g : Given) (w : Whole) (taken : Taken) (r : Reference) (at : Value) →
+        Acts g (At (Value_of (p.step place how taken r)) (value.now ∷ at ∷ [])) (stepping place taken r at) w result w }
 {
     at(place, steps_of(how, value))
 }
 
 /// The new number of `target += value`, and with the other operators, once the target was read. Takes no memory.
 pub fn computed_at(place: Place, how: Operator, old: &Value, operand: &Value) -> Result<i64, Halt>
-    ensures { (g : Given) (w : Whole) (r : Reference) (x : Expression) (at : Value) → Acts g (At (Value_of (p.change place how r x)) (old.now ∷ operand.now ∷ at ∷ [])) (storing place r at) w result w }
+    ensures { (g : Given) (w : Whole) (r : Reference) (x : Expression) (at : Value) →
+        Acts g (At (Value_of (p.change place how r x)) (old.now ∷ operand.now ∷ at ∷ [])) (storing place r at) w result
+        w }
 {
     at(place, computed(how, old, operand))
 }

@@ -16,8 +16,8 @@ use awk_text::place::Place;
 use itoa::Buffer;
 use std::alloc::Global;
 
-/// Whether `text ~ pattern` holds, where the pattern is a constant and the text is at hand. `None` stands for a fault too, which
-/// has its place in the general way.
+/// Whether `text ~ pattern` holds, where the pattern is a constant and the text is at hand. `None` stands for a fault
+/// too, which has its place in the general way.
 pub fn matched_at_hand(
     alloc: Global,
     patterns: &mut Patterns,
@@ -25,7 +25,9 @@ pub fn matched_at_hand(
     x: &Expr,
     pattern: &Pattern<Expr>,
 ) -> Option<bool>
-    ensures { IfSome result (λ b. (place : Place) → IsThere (λ names. p.matched place (view names x.now) (view_ere names pattern.now)) store.now (of_truth b)) }
+    ensures { IfSome result
+        (λ b. (place : Place) →
+        IsThere (λ names. p.matched place (view names x.now) (view_ere names pattern.now)) store.now (of_truth b)) }
 {
     let Pattern::Constant(at, source) = pattern else {
         return None;

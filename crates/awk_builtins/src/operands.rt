@@ -51,7 +51,8 @@ impl Unary {
     ) -> Result<Value, Halt>
         requires { Owns (W.open_numbers world.old) streams.old }
         ensures task { (g : Given) (k : Kept) (x : Expression)
-            → Meets W.World (base g) (Agreeing g) used g (At (Value_of (unary_of self x)) (value ∷ [])) give (k, streams.old) world.old result (k, streams.new) world.new }
+            → Meets W.World (base g) (Agreeing g) used g (At (Value_of (unary_of self x)) (value ∷ [])) give
+            (k, streams.old) world.old result (k, streams.new) world.new }
         ensures owns { Owns (W.open_numbers world.new) streams.new }
     {
         match self {
@@ -74,7 +75,8 @@ impl Binary {
     ) -> Result<Value, Halt>
         requires { Owns (W.open_numbers world.old) streams.old }
         ensures task { (g : Given) (k : Kept) (x y : Expression)
-            → Meets W.World (base g) (Agreeing g) used g (At (Value_of (binary_of self x y)) (right ∷ left ∷ [])) give (k, streams.old) world.old result (k, streams.new) world.new }
+            → Meets W.World (base g) (Agreeing g) used g (At (Value_of (binary_of self x y)) (right ∷ left ∷ [])) give
+            (k, streams.old) world.old result (k, streams.new) world.new }
         ensures owns { Owns (W.open_numbers world.new) streams.new }
     {
         match self {

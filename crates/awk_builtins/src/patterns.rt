@@ -34,7 +34,8 @@ pub fn check(
     source: &[u8],
 ) -> Result<Rc<Ere>, Halt>
     ensures check { (g : Given) (w : Whole) → Acts g (Do (Check place source.now)) goes_on w result w }
-    ensures constant { (g : Given) (w : Whole) → Acts g (At (Pattern_of (p.constant place source.now)) []) (gives_text source.now) w result w }
+    ensures constant { (g : Given) (w : Whole) →
+        Acts g (At (Pattern_of (p.constant place source.now)) []) (gives_text source.now) w result w }
     ensures ere { IfOk result (λ e. (e.value ≡ source.now) × IsEre source.now) }
 {
     at(place, patterns.find(alloc, source))
@@ -55,7 +56,9 @@ pub fn matches_record(
     place: Place,
     source: &[u8],
 ) -> Result<bool, Halt>
-    ensures { (g : Given) (t : Table) → Acts g (At (Value_of (p.pattern place source.now)) []) (λ b. give (of_truth b)) (store.old, t) result (store.new, t) }
+    ensures { (g : Given) (t : Table) →
+        Acts g (At (Value_of (p.pattern place source.now)) []) (λ b. give (of_truth b)) (store.old, t) result
+        (store.new, t) }
 {
     let ere = check(alloc, patterns, place, source)?;
     store.rebuild()?;
@@ -82,7 +85,8 @@ pub fn matched_record(
     place: Place,
     text: &[u8],
 ) -> Result<Value, Halt>
-    ensures { (g : Given) (t : Table) → Acts g (value (p.pattern place text.now)) give (store.old, t) result (store.new, t) }
+    ensures { (g : Given) (t : Table) →
+        Acts g (value (p.pattern place text.now)) give (store.old, t) result (store.new, t) }
 {
     let found = matches_record(alloc, patterns, store, place, text)?;
     Ok(truth_value(found))
@@ -95,7 +99,8 @@ pub fn constant(
     place: Place,
     text: &[u8],
 ) -> Result<Source, Halt>
-    ensures plays { (g : Given) (w : Whole) → Acts g (source (p.constant place text.now)) (λ s. give (source_value s)) w result w }
+    ensures plays { (g : Given) (w : Whole) →
+        Acts g (source (p.constant place text.now)) (λ s. give (source_value s)) w result w }
     ensures kind { IfOk result (λ s. IsSourceOf (p.constant place text.now) s) }
 {
     let ere = check(alloc, patterns, place, text)?;
@@ -109,8 +114,10 @@ pub fn used(
     place: Place,
     pattern: Source,
 ) -> Result<Rc<Ere>, Halt>
-    ensures check { (g : Given) (w : Whole) (y : p.Ere) → IsSourceOf y pattern → (from : Piece) (to : List Piece → List Piece)
-        → Passes g from w (λ k. checked y place (text_of (source_value pattern)) (to k)) w → Acts g from (λ e. to) w result w }
+    ensures check { (g : Given) (w : Whole) (y : p.Ere) → IsSourceOf y pattern →
+        (from : Piece) (to : List Piece → List Piece)
+        → Passes g from w (λ k. checked y place (text_of (source_value pattern)) (to k)) w →
+        Acts g from (λ e. to) w result w }
     ensures ere { IfOk result (λ e. e.value ≡ text_of (source_value pattern)) }
 {
     match pattern {
@@ -131,7 +138,8 @@ pub fn matched(
     pattern: Source,
 ) -> Result<bool, Halt>
     ensures { (g : Given) (w : Whole) (x : Expression) (y : p.Ere) → IsSourceOf y pattern
-        → Acts g (At (Value_of (p.matched place x y)) (source_value pattern ∷ text.now ∷ [])) (λ b. give (of_truth b)) w result w }
+        → Acts g (At (Value_of (p.matched place x y)) (source_value pattern ∷ text.now ∷ [])) (λ b. give (of_truth b)) w
+        result w }
 {
     let ere = used(alloc, patterns, place, pattern)?;
     let mut buffer = Buffer::new();

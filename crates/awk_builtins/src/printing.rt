@@ -47,7 +47,8 @@ pub fn formatted_by(alloc: Global, values: &[Value]) -> Result<Vec<u8>, Fault>
     }
 }
 
-/// The text that print makes of its items: their texts with OFS between, and ORS. It is made in the line, and taken out of it.
+/// The text that print makes of its items: their texts with OFS between, and ORS. It is made in the line, and taken out
+/// of it.
 ///
 /// Fails with `Fault::TextTooLong` exactly where the text has more than `MOST_BYTES` bytes, and with
 /// `Fault::Memory` where memory is refused.
@@ -59,8 +60,8 @@ pub fn printed(line: &mut Line, items: &[Value], ofs: &[u8], ors: &[u8]) -> Resu
     line.take()
 }
 
-/// The texts of the items with OFS between, or of the whole record where there are none, and then ORS. It is made in the line,
-/// and taken out of it; its room serves the next one once `Line::reuse` gives it back.
+/// The texts of the items with OFS between, or of the whole record where there are none, and then ORS. It is made in
+/// the line, and taken out of it; its room serves the next one once `Line::reuse` gives it back.
 pub fn text_of_items(line: &mut Line, store: &mut Store, items: &[Value]) -> Result<Octets, Fault>
     ensures ok { IfOk result (λ text. line_spec.printed store.old items.now ≡ Ok text) }
     ensures err { IfErr result (λ e. (e ≡ Fault.Memory) ⊎ (line_spec.printed store.old items.now ≡ Err e)) }
@@ -75,8 +76,11 @@ pub fn text_of_items(line: &mut Line, store: &mut Store, items: &[Value]) -> Res
 
 /// The texts of some items with OFS between, and what ends them.
 fn text_of_values(line: &mut Line, store: &Store, items: &[Value]) -> Result<Octets, Fault>
-    ensures ok { IfOk result (λ text. limited (joined (own_text store.now own.Ofs) items.now ++ own_text store.now own.Ors) ≡ Ok text) }
-    ensures err { IfErr result (λ e. (e ≡ Fault.Memory) ⊎ (limited (joined (own_text store.now own.Ofs) items.now ++ own_text store.now own.Ors) ≡ Err e)) }
+    ensures ok { IfOk result
+        (λ text. limited (joined (own_text store.now own.Ofs) items.now ++ own_text store.now own.Ors) ≡ Ok text) }
+    ensures err { IfErr result
+        (λ e. (e ≡ Fault.Memory)
+        ⊎ (limited (joined (own_text store.now own.Ofs) items.now ++ own_text store.now own.Ors) ≡ Err e)) }
 {
     let (mut first, mut second) = (Buffer::new(), Buffer::new());
     let ofs = store.own_text(Own::Ofs, &mut first);
@@ -87,7 +91,8 @@ fn text_of_values(line: &mut Line, store: &Store, items: &[Value]) -> Result<Oct
 /// The whole record and what ends it.
 fn text_of_record(line: &mut Line, store: &mut Store) -> Result<Octets, Fault>
     ensures ok { IfOk result (λ text. limited (store.old.row.whole ++ own_text store.old own.Ors) ≡ Ok text) }
-    ensures err { IfErr result (λ e. (e ≡ Fault.Memory) ⊎ (limited (store.old.row.whole ++ own_text store.old own.Ors) ≡ Err e)) }
+    ensures err { IfErr result
+        (λ e. (e ≡ Fault.Memory) ⊎ (limited (store.old.row.whole ++ own_text store.old own.Ors) ≡ Err e)) }
     ensures same { store.new ≡ store.old }
 {
     store.rebuild()?;
@@ -134,7 +139,8 @@ pub fn printed_line(
     items: &[Value],
 ) -> Result<Octets, Halt>
     ensures { (g : Given) (t : Table) (xs : List Expression) → length xs ≡ length items.now
-        → Acts g (At (Doing (p.print place xs None)) (reverse items.now)) (to_standard place) (store.old, t) result (store.new, t) }
+        → Acts g (At (Doing (p.print place xs None)) (reverse items.now)) (to_standard place) (store.old, t) result
+        (store.new, t) }
 {
     at(place, text_of_items(line, store, items))
 }
@@ -156,7 +162,8 @@ pub fn printed_for(
     name: &Value,
 ) -> Result<Octets, Halt>
     ensures { (g : Given) (t : Table) (xs : List Expression) (r : Redirection Expression) → length xs ≡ length items.now
-        → Acts g (At (Doing (p.print place xs (Some r))) (name.now ∷ reverse items.now)) (to_stream r name.now) (store.old, t) result (store.new, t) }
+        → Acts g (At (Doing (p.print place xs (Some r))) (name.now ∷ reverse items.now)) (to_stream r name.now)
+        (store.old, t) result (store.new, t) }
 {
     at(place, text_of_items(line, store, items))
 }
@@ -168,8 +175,10 @@ pub fn formatted_for(
     values: &[Value],
     name: &Value,
 ) -> Result<Octets, Halt>
-    ensures { (g : Given) (w : Whole) (x : Expression) (xs : List Expression) (r : Redirection Expression) → length (x ∷ xs) ≡ length values.now
-        → Acts g (At (Doing (p.printf place x xs (Some r))) (name.now ∷ reverse values.now)) (to_stream r name.now) w result w }
+    ensures { (g : Given) (w : Whole) (x : Expression) (xs : List Expression) (r : Redirection Expression) →
+        length (x ∷ xs) ≡ length values.now
+        → Acts g (At (Doing (p.printf place x xs (Some r))) (name.now ∷ reverse values.now)) (to_stream r name.now) w
+        result w }
 {
     at(place, text_of_format(alloc, values))
 }

@@ -65,7 +65,8 @@ pub fn replaced(
     old: &[u8],
     all: bool,
 ) -> Result<Option<(Octets, i64)>, Halt>
-    ensures { (g : Given) (w : Whole) (to : Target) → Acts g (Do (Substitute place to ere.now (text_of new.now) old.now all)) (then_set place to) w result w }
+    ensures { (g : Given) (w : Whole) (to : Target) →
+        Acts g (Do (Substitute place to ere.now (text_of new.now) old.now all)) (then_set place to) w result w }
 {
     at(place, replaced_text(alloc, ere, new, old, all))
 }
@@ -90,8 +91,10 @@ fn replaced_in(
     new: &Value,
     target: &Spot,
 ) -> Result<Option<(Octets, i64)>, Halt>
-    ensures { (g : Given) (t : Table) (x : p.Ere) (y : Expression) (r : Reference) (pattern : Value) → IsSpotOf (names_in g) r target.now → text_of pattern ≡ ere.now
-        → (from : Piece) → Passes g from (store.old, t) (reading place extent x y r (value_of target.now) new.now pattern) (store.old, t)
+    ensures { (g : Given) (t : Table) (x : p.Ere) (y : Expression) (r : Reference) (pattern : Value) →
+        IsSpotOf (names_in g) r target.now → text_of pattern ≡ ere.now
+        → (from : Piece) → Passes g from (store.old, t)
+        (reading place extent x y r (value_of target.now) new.now pattern) (store.old, t)
         → Acts g from (then_set place (meant (names_in g) target.now)) (store.old, t) result (store.new, t) }
 {
     let mut buffer = Buffer::new();
@@ -110,7 +113,8 @@ fn replaced_in(
     )
 }
 
-/// What `sub ( pattern , new , target )` and gsub give: how many matches were replaced. The target is set where there was one.
+/// What `sub ( pattern , new , target )` and gsub give: how many matches were replaced. The target is set where there
+/// was one.
 pub fn substitute(
     alloc: Global,
     patterns: &mut Patterns,
@@ -121,8 +125,10 @@ pub fn substitute(
     new: &Value,
     target: Spot,
 ) -> Result<Value, Halt>
-    ensures { (g : Given) (t : Table) (x : p.Ere) (y : Expression) (r : Reference) → IsSourceOf x pattern → IsSpotOf (names_in g) r target
-        → Acts g (At (Value_of (p.substitute place extent x y r)) (value_of target ∷ new.now ∷ source_value pattern ∷ [])) give (store.old, t) result (store.new, t) }
+    ensures { (g : Given) (t : Table) (x : p.Ere) (y : Expression) (r : Reference) → IsSourceOf x pattern →
+        IsSpotOf (names_in g) r target
+        → Acts g (At (Value_of (p.substitute place extent x y r))
+        (value_of target ∷ new.now ∷ source_value pattern ∷ [])) give (store.old, t) result (store.new, t) }
 {
     let ere = used(alloc, patterns, place, pattern)?;
     let made = replaced_in(alloc, store, place, extent, &ere, new, &target)?;

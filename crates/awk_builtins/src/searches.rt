@@ -77,7 +77,8 @@ fn locate_in(ere: &Ere, text: &[u8]) -> Result<Location, Fault>
 ///
 /// Fails with `Fault::Memory` alone, where memory is refused.
 pub fn location_in(ere: &Ere, value: &Value) -> Result<Location, Fault>
-    ensures ok { IfOk result (λ r. (ms : List (ℕ × ℕ)) × Found ere.now (text_of value.now) false ms × (r ≡ location ms)) }
+    ensures ok { IfOk result
+        (λ r. (ms : List (ℕ × ℕ)) × Found ere.now (text_of value.now) false ms × (r ≡ location ms)) }
     ensures err { IfErr result (λ e. e ≡ Fault.Memory) }
 {
     let mut buffer = Buffer::new();
@@ -86,7 +87,8 @@ pub fn location_in(ere: &Ere, value: &Value) -> Result<Location, Fault>
 
 /// Where the first match is, which is counted from 1, or 0; sets RSTART and RLENGTH.
 pub fn locate(store: &mut Store, ere: &Ere, text: &Value) -> Result<i64, Halt>
-    ensures { (g : Given) (t : Table) → Acts g (Do (Locate ere.now (text_of text.now))) (λ n. give (Value.Num n)) (store.old, t) result (store.new, t) }
+    ensures { (g : Given) (t : Table) →
+        Acts g (Do (Locate ere.now (text_of text.now))) (λ n. give (Value.Num n)) (store.old, t) result (store.new, t) }
 {
     let Ok(found) = location_in(ere, text) else {
         return Err(Halt::Memory);
@@ -106,7 +108,8 @@ pub fn located(
     pattern: Source,
 ) -> Result<Value, Halt>
     ensures { (g : Given) (t : Table) (x : Expression) (y : p.Ere) → IsSourceOf y pattern
-        → Acts g (At (Value_of (p.locate place x y)) (source_value pattern ∷ text.now ∷ [])) give (store.old, t) result (store.new, t) }
+        → Acts g (At (Value_of (p.locate place x y)) (source_value pattern ∷ text.now ∷ [])) give (store.old, t) result
+        (store.new, t) }
 {
     let ere = used(alloc, patterns, place, pattern)?;
     let start = locate(store, &ere, text)?;

@@ -76,8 +76,8 @@ pub fn fill_with(array: &mut Array<Value>, parts: Vec<Octets>) -> Result<i64, Fa
     Ok(count as i64)
 }
 
-/// Fills an array with the parts, in place of what it holds, and answers how many there are. Too many are a fault at the place
-/// of the array's name.
+/// Fills an array with the parts, in place of what it holds, and answers how many there are. Too many are a fault at
+/// the place of the array's name.
 fn fill(
     alloc: Global,
     store: &mut Store,
@@ -85,7 +85,9 @@ fn fill(
     array: Variable,
     parts: Vec<Octets>,
 ) -> Result<i64, Halt>
-    ensures { (g : Given) (t : Table) → Acts g (Do (Fill at_name (variable_of (names_in g) array) parts.items)) (λ n. give (Value.Num n)) (store.old, t) result (store.new, t) }
+    ensures { (g : Given) (t : Table) →
+        Acts g (Do (Fill at_name (variable_of (names_in g) array) parts.items)) (λ n. give (Value.Num n)) (store.old, t)
+        result (store.new, t) }
 {
     let reference = store.reference(array);
     let mut elements = store.replace(reference, Array::new(alloc));
@@ -94,8 +96,8 @@ fn fill(
     at(at_name, filled)
 }
 
-/// Splits the text of a value into an array, in place of what it holds, and answers how many parts there are. Too many are a
-/// fault at the place of the array's name.
+/// Splits the text of a value into an array, in place of what it holds, and answers how many parts there are. Too many
+/// are a fault at the place of the array's name.
 pub fn split_into(
     alloc: Global,
     store: &mut Store,
@@ -104,7 +106,9 @@ pub fn split_into(
     splitter: &Splitter,
     text: &Value,
 ) -> Result<i64, Halt>
-    ensures { (g : Given) (t : Table) → Acts g (Do (Split at_name (variable_of (names_in g) array) splitter.now (text_of text.now))) (λ n. give (Value.Num n)) (store.old, t) result (store.new, t) }
+    ensures { (g : Given) (t : Table) →
+        Acts g (Do (Split at_name (variable_of (names_in g) array) splitter.now (text_of text.now)))
+        (λ n. give (Value.Num n)) (store.old, t) result (store.new, t) }
 {
     let Ok(parts) = split_text(alloc, splitter, text) else {
         return Err(Halt::Memory);
@@ -120,7 +124,8 @@ fn computed_splitter(
     by: &[u8],
 ) -> Result<Splitter, Halt>
     ensures { (g : Given) (w : Whole) (at : Place) (a : p.Variable) (text : List ℕ) (from : Piece)
-        → Passes g from w (λ k. check_separator place by.now (Do (Split at a (separators.separator by.now false) text) ∷ k)) w
+        → Passes g from w (λ k.
+        check_separator place by.now (Do (Split at a (separators.separator by.now false) text) ∷ k)) w
         → Acts g from (λ s k. Do (Split at a s text) ∷ k) w result w }
 {
     if by.len() > 1 {
@@ -137,8 +142,10 @@ fn splitter(
     place: Place,
     by: Source,
 ) -> Result<Splitter, Halt>
-    ensures { (g : Given) (w : Whole) (y : p.Ere) → IsSourceOf y by → (at : Place) (a : p.Variable) (text : List ℕ) (from : Piece)
-        → Passes g from w (split_by y place at a text (text_of (source_value by))) w → Acts g from (λ s k. Do (Split at a s text) ∷ k) w result w }
+    ensures { (g : Given) (w : Whole) (y : p.Ere) → IsSourceOf y by →
+        (at : Place) (a : p.Variable) (text : List ℕ) (from : Piece)
+        → Passes g from w (split_by y place at a text (text_of (source_value by))) w →
+        Acts g from (λ s k. Do (Split at a s text) ∷ k) w result w }
 {
     match by {
         Source::Constant(ere) => Ok(Splitter::by_compiled(ere)),
@@ -149,7 +156,8 @@ fn splitter(
     }
 }
 
-/// What `split ( text , array , separator )` gives: how many parts there are. The array holds them, in place of what it held.
+/// What `split ( text , array , separator )` gives: how many parts there are. The array holds them, in place of what it
+/// held.
 pub fn split(
     alloc: Global,
     patterns: &mut Patterns,
@@ -161,7 +169,8 @@ pub fn split(
     by: Source,
 ) -> Result<Value, Halt>
     ensures { (g : Given) (t : Table) (x : Expression) (y : p.Ere) → IsSourceOf y by
-        → Acts g (At (Value_of (p.split place x at_name (variable_of (names_in g) array) y)) (source_value by ∷ text.now ∷ [])) give (store.old, t) result (store.new, t) }
+        → Acts g (At (Value_of (p.split place x at_name (variable_of (names_in g) array) y))
+        (source_value by ∷ text.now ∷ [])) give (store.old, t) result (store.new, t) }
 {
     let separator = splitter(alloc, patterns, place, by)?;
     let count = split_into(alloc, store, at_name, array, &separator, text)?;

@@ -72,8 +72,8 @@ fn begins_with_field(xs: &[Expr]) -> bool {
     }
 }
 
-/// Whether an expression is a field or NF, or a chain or a call that begins with a field: such are at hand once the record is
-/// split.
+/// Whether an expression is a field or NF, or a chain or a call that begins with a field: such are at hand once the
+/// record is split.
 pub(crate) fn wants_split(e: &Expr) -> bool {
     match e {
         Expr::Read(Target::Variable(variable)) => is_nf(*variable),
@@ -146,7 +146,8 @@ pub fn truth_once_split(store: &mut Store, e: &Expr) -> Result<Option<bool>, Hal
 #[inline(never)]
 fn done_of_split(alloc: Global, store: &mut Store, line: &mut Line, e: &Expr) -> Result<bool, Halt>
     ensures done { result ≡ Ok true → IsDone (λ names. view names e.now) store.old store.new }
-    ensures not_done { ¬ (result ≡ Ok true) → (g : Given) (t : Table) (q : Piece) → Acts g q (λ u k. q ∷ k) (store.old, t) result (store.new, t) }
+    ensures not_done { ¬ (result ≡ Ok true) → (g : Given) (t : Table) (q : Piece) →
+        Acts g q (λ u k. q ∷ k) (store.old, t) result (store.new, t) }
 {
     let is_split = split_now(store)?;
     if !is_split {
@@ -164,7 +165,8 @@ pub fn done_once_split(
     e: &Expr,
 ) -> Result<bool, Halt>
     ensures done { result ≡ Ok true → IsDone (λ names. view names e.now) store.old store.new }
-    ensures not_done { ¬ (result ≡ Ok true) → (g : Given) (t : Table) (q : Piece) → Acts g q (λ u k. q ∷ k) (store.old, t) result (store.new, t) }
+    ensures not_done { ¬ (result ≡ Ok true) → (g : Given) (t : Table) (q : Piece) →
+        Acts g q (λ u k. q ∷ k) (store.old, t) result (store.new, t) }
 {
     if !has_parts_to_split(e) {
         return Ok(false);

@@ -120,7 +120,9 @@ pub fn between(
     y: &Expr,
     out: &mut Vec<Token>,
 ) -> Result<(), Memory>
-    ensures { OnOk result (out.new.items ≡ out.old.items ++ (spec.canon (view x.now) ++ terminals.sign text.now ∷ spec.canon (view y.now))) }
+    ensures { OnOk result
+        (out.new.items ≡ out.old.items
+        ++ (spec.canon (view x.now) ++ terminals.sign text.now ∷ spec.canon (view y.now))) }
 {
     expression(alloc, x, out)?;
     prefixed(alloc, text, y, out)
@@ -129,7 +131,8 @@ pub fn between(
 /// `test ? then : else`
 #[cycle(expression)]
 fn choice(alloc: Global, x: &Expr, y: &Expr, z: &Expr, out: &mut Vec<Token>) -> Result<(), Memory>
-    ensures { OnOk result (out.new.items ≡ out.old.items ++ spec.canon (t.choose (view x.now) (view y.now) (view z.now))) }
+    ensures { OnOk result
+        (out.new.items ≡ out.old.items ++ spec.canon (t.choose (view x.now) (view y.now) (view z.now))) }
 {
     between(alloc, x, "?", y, out)?;
     prefixed(alloc, ":", z, out)
@@ -138,7 +141,9 @@ fn choice(alloc: Global, x: &Expr, y: &Expr, z: &Expr, out: &mut Vec<Token>) -> 
 /// `( expr )`
 #[cycle(expression)]
 pub fn paren(alloc: Global, x: &Expr, out: &mut Vec<Token>) -> Result<(), Memory>
-    ensures { OnOk result (out.new.items ≡ out.old.items ++ terminals.sign (codes "(") ∷ (spec.canon (view x.now) ++ terminals.sign (codes ")") ∷ [])) }
+    ensures { OnOk result
+        (out.new.items ≡ out.old.items ++ terminals.sign (codes "(")
+        ∷ (spec.canon (view x.now) ++ terminals.sign (codes ")") ∷ [])) }
 {
     push_sign(alloc, "(", out)?;
     suffixed(alloc, x, ")", out)
@@ -153,7 +158,9 @@ pub fn enclosed(
     closing: &str,
     out: &mut Vec<Token>,
 ) -> Result<(), Memory>
-    ensures { OnOk result (out.new.items ≡ out.old.items ++ terminals.sign opening.now ∷ (spec.canon_list (trees_of (map view xs.now)) ++ terminals.sign closing.now ∷ [])) }
+    ensures { OnOk result
+        (out.new.items ≡ out.old.items ++ terminals.sign opening.now
+        ∷ (spec.canon_list (trees_of (map view xs.now)) ++ terminals.sign closing.now ∷ [])) }
 {
     push_sign(alloc, opening, out)?;
     list(alloc, xs, out)?;
@@ -200,7 +207,9 @@ fn parts(alloc: Global, xs: &[Expr], out: &mut Vec<Token>) -> Result<(), Memory>
 /// A chain of one level.
 #[cycle(expression)]
 fn chain(alloc: Global, x: &Expr, ts: &[Term<Expr>], out: &mut Vec<Token>) -> Result<(), Memory>
-    ensures { OnOk result (out.new.items ≡ out.old.items ++ (spec.canon (view x.now) ++ spec.canon_terms (terms_of (map view_term ts.now)))) }
+    ensures { OnOk result
+        (out.new.items ≡ out.old.items
+        ++ (spec.canon (view x.now) ++ spec.canon_terms (terms_of (map view_term ts.now)))) }
 {
     expression(alloc, x, out)?;
     terms(alloc, ts, out)
@@ -218,7 +227,9 @@ fn terms(alloc: Global, ts: &[Term<Expr>], out: &mut Vec<Token>) -> Result<(), M
 
 #[cycle(expression)]
 fn term(alloc: Global, x: &Term<Expr>, out: &mut Vec<Token>) -> Result<(), Memory>
-    ensures { OnOk result (out.new.items ≡ out.old.items ++ terminals.sign (spec.arithmetic_text x.now.operator) ∷ spec.canon (view x.now.operand)) }
+    ensures { OnOk result
+        (out.new.items ≡ out.old.items ++ terminals.sign (spec.arithmetic_text x.now.operator)
+        ∷ spec.canon (view x.now.operand)) }
 {
     prefixed(alloc, arithmetic_text(x.operator), &x.operand, out)
 }
@@ -236,7 +247,9 @@ fn pipes(alloc: Global, ps: &[Piped<Expr>], out: &mut Vec<Token>) -> Result<(), 
 /// `| getline lvalue`
 #[cycle(expression)]
 fn piped(alloc: Global, x: &Piped<Expr>, out: &mut Vec<Token>) -> Result<(), Memory>
-    ensures { OnOk result (out.new.items ≡ out.old.items ++ terminals.sign (codes "|") ∷ (terminals.keyword (codes "getline") ∷ spec.canon_target (perhaps_of (option_map view x.now.target)))) }
+    ensures { OnOk result
+        (out.new.items ≡ out.old.items ++ terminals.sign (codes "|")
+        ∷ (terminals.keyword (codes "getline") ∷ spec.canon_target (perhaps_of (option_map view x.now.target)))) }
 {
     push_sign(alloc, "|", out)?;
     push_keyword(alloc, "getline", out)?;
@@ -273,7 +286,8 @@ fn behind_one(
     x: &Option<Boxed<Expr>>,
     out: &mut Vec<Token>,
 ) -> Result<(), Memory>
-    ensures { OnOk result (out.new.items ≡ out.old.items ++ canon_behind_one text.now (perhaps_of (option_map view x.now))) }
+    ensures { OnOk result
+        (out.new.items ≡ out.old.items ++ canon_behind_one text.now (perhaps_of (option_map view x.now))) }
 {
     match x {
         None => Ok(()),
@@ -291,7 +305,9 @@ fn split(
     y: &Option<Boxed<Expr>>,
     out: &mut Vec<Token>,
 ) -> Result<(), Memory>
-    ensures { OnOk result (out.new.items ≡ out.old.items ++ spec.canon (t.split terminals.nowhere (view x.now) name.now (perhaps_of (option_map view y.now)))) }
+    ensures { OnOk result
+        (out.new.items ≡ out.old.items
+        ++ spec.canon (t.split terminals.nowhere (view x.now) name.now (perhaps_of (option_map view y.now)))) }
 {
     push_builtin(alloc, Builtin::Split, out)?;
     push_sign(alloc, "(", out)?;
@@ -312,7 +328,10 @@ fn substitute(
     z: &Option<Boxed<Expr>>,
     out: &mut Vec<Token>,
 ) -> Result<(), Memory>
-    ensures { OnOk result (out.new.items ≡ out.old.items ++ spec.canon (t.substitute terminals.nowhere is_all (view x.now) (view y.now) (perhaps_of (option_map view z.now)))) }
+    ensures { OnOk result
+        (out.new.items ≡ out.old.items
+        ++ spec.canon (t.substitute terminals.nowhere is_all (view x.now) (view y.now)
+        (perhaps_of (option_map view z.now)))) }
 {
     push_builtin(alloc, substituting(is_all), out)?;
     push_sign(alloc, "(", out)?;
@@ -330,7 +349,10 @@ fn getline(
     y: &Option<Boxed<Expr>>,
     out: &mut Vec<Token>,
 ) -> Result<(), Memory>
-    ensures { OnOk result (out.new.items ≡ out.old.items ++ spec.canon (t.getline terminals.nowhere (perhaps_of (option_map view x.now)) (perhaps_of (option_map view y.now)))) }
+    ensures { OnOk result
+        (out.new.items ≡ out.old.items
+        ++ spec.canon (t.getline terminals.nowhere (perhaps_of (option_map view x.now))
+        (perhaps_of (option_map view y.now)))) }
 {
     push_keyword(alloc, "getline", out)?;
     target(alloc, x, out)?;

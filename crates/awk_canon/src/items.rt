@@ -62,7 +62,8 @@ fn push_line_end(alloc: Global, out: &mut Vec<Token>) -> Result<(), Memory>
 
 /// An action at the end of an item.
 fn last_action(alloc: Global, body: &[Statement], out: &mut Vec<Token>) -> Result<(), Memory>
-    ensures { OnOk result (out.new.items ≡ out.old.items ++ (spec.canon_action (map view_statement body.now) ++ spec.line_end)) }
+    ensures { OnOk result
+        (out.new.items ≡ out.old.items ++ (spec.canon_action (map view_statement body.now) ++ spec.line_end)) }
 {
     action(alloc, body, out)?;
     push_line_end(alloc, out)
@@ -75,14 +76,17 @@ fn special(
     body: &[Statement],
     out: &mut Vec<Token>,
 ) -> Result<(), Memory>
-    ensures { OnOk result (out.new.items ≡ out.old.items ++ terminals.keyword text.now ∷ (spec.canon_action (map view_statement body.now) ++ spec.line_end)) }
+    ensures { OnOk result
+        (out.new.items ≡ out.old.items ++ terminals.keyword text.now
+        ∷ (spec.canon_action (map view_statement body.now) ++ spec.line_end)) }
 {
     push_keyword(alloc, text, out)?;
     last_action(alloc, body, out)
 }
 
 fn shown(alloc: Global, pattern: &Pattern, out: &mut Vec<Token>) -> Result<(), Memory>
-    ensures { OnOk result (out.new.items ≡ out.old.items ++ (spec.canon_condition (view_pattern pattern.now) ++ spec.line_end)) }
+    ensures { OnOk result
+        (out.new.items ≡ out.old.items ++ (spec.canon_condition (view_pattern pattern.now) ++ spec.line_end)) }
 {
     condition(alloc, pattern, out)?;
     push_line_end(alloc, out)
@@ -94,7 +98,10 @@ fn rule(
     body: &[Statement],
     out: &mut Vec<Token>,
 ) -> Result<(), Memory>
-    ensures { OnOk result (out.new.items ≡ out.old.items ++ (spec.canon_condition (view_pattern pattern.now) ++ (spec.canon_action (map view_statement body.now) ++ spec.line_end))) }
+    ensures { OnOk result
+        (out.new.items ≡ out.old.items
+        ++ (spec.canon_condition (view_pattern pattern.now)
+        ++ (spec.canon_action (map view_statement body.now) ++ spec.line_end))) }
 {
     condition(alloc, pattern, out)?;
     last_action(alloc, body, out)
@@ -102,7 +109,10 @@ fn rule(
 
 /// `function NAME ( params )`
 fn heading(alloc: Global, name: &Name, ns: &[Name], out: &mut Vec<Token>) -> Result<(), Memory>
-    ensures { OnOk result (out.new.items ≡ out.old.items ++ terminals.keyword (codes "function") ∷ (spec.word name.now ∷ (terminals.sign (codes "(") ∷ (spec.canon_params ns.now ++ terminals.sign (codes ")") ∷ [])))) }
+    ensures { OnOk result
+        (out.new.items ≡ out.old.items ++ terminals.keyword (codes "function")
+        ∷ (spec.word name.now
+        ∷ (terminals.sign (codes "(") ∷ (spec.canon_params ns.now ++ terminals.sign (codes ")") ∷ [])))) }
 {
     push_keyword(alloc, "function", out)?;
     push_name(alloc, name, out)?;
@@ -112,7 +122,12 @@ fn heading(alloc: Global, name: &Name, ns: &[Name], out: &mut Vec<Token>) -> Res
 }
 
 fn function(alloc: Global, f: &Function, out: &mut Vec<Token>) -> Result<(), Memory>
-    ensures { OnOk result (out.new.items ≡ out.old.items ++ terminals.keyword (codes "function") ∷ (spec.word f.now.name ∷ (terminals.sign (codes "(") ∷ (spec.canon_params f.now.params ++ terminals.sign (codes ")") ∷ (spec.canon_action (map view_statement f.now.body) ++ spec.line_end))))) }
+    ensures { OnOk result
+        (out.new.items ≡ out.old.items ++ terminals.keyword (codes "function")
+        ∷ (spec.word f.now.name
+        ∷ (terminals.sign (codes "(")
+        ∷ (spec.canon_params f.now.params ++ terminals.sign (codes ")")
+        ∷ (spec.canon_action (map view_statement f.now.body) ++ spec.line_end))))) }
 {
     heading(alloc, &f.name, f.params.as_slice(), out)?;
     last_action(alloc, f.body.as_slice(), out)

@@ -30,7 +30,8 @@ fn redirection(
     x: &Option<Redirection<Expr>>,
     out: &mut Vec<Token>,
 ) -> Result<(), Memory>
-    ensures { OnOk result (out.new.items ≡ out.old.items ++ spec.canon_redirection (option_map view_redirection x.now)) }
+    ensures { OnOk result
+        (out.new.items ≡ out.old.items ++ spec.canon_redirection (option_map view_redirection x.now)) }
 {
     match x {
         None => Ok(()),
@@ -46,7 +47,10 @@ fn output(
     target: &Option<Redirection<Expr>>,
     out: &mut Vec<Token>,
 ) -> Result<(), Memory>
-    ensures { OnOk result (out.new.items ≡ out.old.items ++ (terminals.keyword text.now ∷ spec.canon_printed (view_printed xs.now) ++ spec.canon_redirection (option_map view_redirection target.now) ++ spec.end)) }
+    ensures { OnOk result
+        (out.new.items ≡ out.old.items
+        ++ (terminals.keyword text.now ∷ spec.canon_printed (view_printed xs.now)
+        ++ spec.canon_redirection (option_map view_redirection target.now) ++ spec.end)) }
 {
     push_keyword(alloc, text, out)?;
     printed(alloc, xs, out)?;
@@ -63,7 +67,8 @@ fn plain(alloc: Global, x: &Expr, out: &mut Vec<Token>) -> Result<(), Memory>
 
 /// `delete NAME [ list ]`
 fn delete(alloc: Global, name: &Name, xs: &[Expr], out: &mut Vec<Token>) -> Result<(), Memory>
-    ensures { OnOk result (out.new.items ≡ out.old.items ++ spec.canon_statement (t.delete name.now (map view xs.now))) }
+    ensures { OnOk result
+        (out.new.items ≡ out.old.items ++ spec.canon_statement (t.delete name.now (map view xs.now))) }
 {
     push_keyword(alloc, "delete", out)?;
     push_name(alloc, name, out)?;
@@ -98,7 +103,9 @@ fn ended(alloc: Global, x: &Option<Expr>, out: &mut Vec<Token>) -> Result<(), Me
 
 /// `exit` or `return`, with the expression behind it.
 fn leave(alloc: Global, text: &str, x: &Option<Expr>, out: &mut Vec<Token>) -> Result<(), Memory>
-    ensures { OnOk result (out.new.items ≡ out.old.items ++ terminals.keyword text.now ∷ (spec.canon_perhaps (option_map view x.now) ++ spec.end)) }
+    ensures { OnOk result
+        (out.new.items ≡ out.old.items ++ terminals.keyword text.now
+        ∷ (spec.canon_perhaps (option_map view x.now) ++ spec.end)) }
 {
     push_keyword(alloc, text, out)?;
     ended(alloc, x, out)
@@ -114,7 +121,8 @@ fn test(alloc: Global, text: &str, x: &Expr, out: &mut Vec<Token>) -> Result<(),
 
 /// The end of a `do`.
 fn until(alloc: Global, x: &Expr, out: &mut Vec<Token>) -> Result<(), Memory>
-    ensures { OnOk result (out.new.items ≡ out.old.items ++ (spec.canon_test (codes "while") (view x.now) ++ spec.end)) }
+    ensures { OnOk result
+        (out.new.items ≡ out.old.items ++ (spec.canon_test (codes "while") (view x.now) ++ spec.end)) }
 {
     test(alloc, "while", x, out)?;
     push_end(alloc, out)
@@ -128,7 +136,12 @@ fn header(
     z: &Option<Expr>,
     out: &mut Vec<Token>,
 ) -> Result<(), Memory>
-    ensures { OnOk result (out.new.items ≡ out.old.items ++ terminals.keyword (codes "for") ∷ (terminals.sign (codes "(") ∷ (spec.canon_perhaps (option_map view x.now) ++ (spec.end ++ (spec.canon_perhaps (option_map view y.now) ++ (spec.end ++ (spec.canon_perhaps (option_map view z.now) ++ terminals.sign (codes ")") ∷ []))))))) }
+    ensures { OnOk result
+        (out.new.items ≡ out.old.items ++ terminals.keyword (codes "for")
+        ∷ (terminals.sign (codes "(")
+        ∷ (spec.canon_perhaps (option_map view x.now)
+        ++ (spec.end ++ (spec.canon_perhaps (option_map view y.now)
+        ++ (spec.end ++ (spec.canon_perhaps (option_map view z.now) ++ terminals.sign (codes ")") ∷ []))))))) }
 {
     push_keyword(alloc, "for", out)?;
     push_sign(alloc, "(", out)?;
@@ -140,7 +153,11 @@ fn header(
 
 /// `for ( key in array )`
 fn each_header(alloc: Global, key: &Name, array: &Name, out: &mut Vec<Token>) -> Result<(), Memory>
-    ensures { OnOk result (out.new.items ≡ out.old.items ++ terminals.keyword (codes "for") ∷ (terminals.sign (codes "(") ∷ (spec.word key.now ∷ (terminals.keyword (codes "in") ∷ (spec.word array.now ∷ (terminals.sign (codes ")") ∷ [])))))) }
+    ensures { OnOk result
+        (out.new.items ≡ out.old.items ++ terminals.keyword (codes "for")
+        ∷ (terminals.sign (codes "(")
+        ∷ (spec.word key.now ∷
+        (terminals.keyword (codes "in") ∷ (spec.word array.now ∷ (terminals.sign (codes ")") ∷ [])))))) }
 {
     push_keyword(alloc, "for", out)?;
     push_sign(alloc, "(", out)?;
@@ -194,7 +211,9 @@ fn if_else(
     other: &Statement,
     out: &mut Vec<Token>,
 ) -> Result<(), Memory>
-    ensures { OnOk result (out.new.items ≡ out.old.items ++ spec.canon_statement (t.if_else (view x.now) (view_statement body.now) (view_statement other.now))) }
+    ensures { OnOk result
+        (out.new.items ≡ out.old.items
+        ++ spec.canon_statement (t.if_else (view x.now) (view_statement body.now) (view_statement other.now))) }
 {
     test(alloc, "if", x, out)?;
     statement(alloc, body, out)?;
@@ -205,7 +224,8 @@ fn if_else(
 /// `do body while ( test )`
 #[cycle(statement)]
 fn do_while(alloc: Global, body: &Statement, x: &Expr, out: &mut Vec<Token>) -> Result<(), Memory>
-    ensures { OnOk result (out.new.items ≡ out.old.items ++ spec.canon_statement (t.do_while (view_statement body.now) (view x.now))) }
+    ensures { OnOk result
+        (out.new.items ≡ out.old.items ++ spec.canon_statement (t.do_while (view_statement body.now) (view x.now))) }
 {
     push_keyword(alloc, "do", out)?;
     statement(alloc, body, out)?;
@@ -222,7 +242,11 @@ fn for_loop(
     body: &Statement,
     out: &mut Vec<Token>,
 ) -> Result<(), Memory>
-    ensures { OnOk result (out.new.items ≡ out.old.items ++ spec.canon_statement (t.for_loop (option_map view x.now) (option_map view y.now) (option_map view z.now) (view_statement body.now))) }
+    ensures { OnOk result
+        (out.new.items ≡ out.old.items
+        ++ spec.canon_statement
+        (t.for_loop (option_map view x.now) (option_map view y.now) (option_map view z.now)
+        (view_statement body.now))) }
 {
     header(alloc, x, y, z, out)?;
     statement(alloc, body, out)
@@ -240,7 +264,8 @@ pub fn action(alloc: Global, xs: &[Statement], out: &mut Vec<Token>) -> Result<(
 
 #[cycle(statement)]
 fn statements(alloc: Global, xs: &[Statement], out: &mut Vec<Token>) -> Result<(), Memory>
-    ensures { OnOk result (out.new.items ≡ out.old.items ++ spec.canon_statements (statements_of (map view_statement xs.now))) }
+    ensures { OnOk result
+        (out.new.items ≡ out.old.items ++ spec.canon_statements (statements_of (map view_statement xs.now))) }
 {
     for s in xs {
         statement(alloc, s, out)?;

@@ -1,5 +1,6 @@
 -- Bracket expressions (POSIX.1-2017 XBD 9.3.5), in the POSIX locale: the bytes between `[` and its `]`.
-use Rattle.std.specs.Prelude.{ℕ, zero, suc, Bool, true, false, not, ◌&&◌, ◌||◌, ◌==◌, nat_le, nat_lt, if◌then◌else◌, List, [], ◌∷◌, ◌++◌, take, drop, length, Option, Some, None, codes}
+use Rattle.std.specs.Prelude.{ℕ, zero, suc, Bool, true, false, not, ◌&&◌, ◌||◌, ◌==◌, nat_le, nat_lt, if◌then◌else◌}
+use Rattle.std.specs.Prelude.{List, [], ◌∷◌, ◌++◌, take, drop, length, Option, Some, None, codes}
 use Rattle.std.specs.List.{list_any, prefix_len}
 use Rattle.std.specs.Char.{is_ascii_lowercase}
 use Rattle.std.specs.Str.{bytes_eq}
@@ -14,7 +15,8 @@ in_range b r = nat_le r.0 b && nat_le b r.1
 
 -- the test of a bracket expression; `^` takes every byte that is not listed
 abbrev pub in_set : Bool → List Range → ℕ → Bool
-in_set negated ranges b = nat_lt b 256 && (if negated then not (list_any (in_range b) ranges) else list_any (in_range b) ranges)
+in_set negated ranges b =
+    nat_lt b 256 && (if negated then not (list_any (in_range b) ranges) else list_any (in_range b) ranges)
 
 -- the bytes of each class, as in ASCII
 unfoldable pub class_ranges : List ℕ → Option (List Range)
@@ -57,7 +59,8 @@ ended low (Some (high, s)) = if nat_lt high low then None else Some ((low, high)
 
 -- the byte `low` and what stands after it: a range where `-` and another end than `]` follow
 unfoldable pub range_from : ℕ → List ℕ → Option (List Range × List ℕ)
-range_from low (c ∷ d ∷ s) = if c == 45 && not (d == 93) then ended low (point (d ∷ s)) else Some ((low, low) ∷ [], c ∷ d ∷ s)
+range_from low (c ∷ d ∷ s) =
+    if c == 45 && not (d == 93) then ended low (point (d ∷ s)) else Some ((low, low) ∷ [], c ∷ d ∷ s)
 range_from low s = Some ((low, low) ∷ [], s)
 
 abbrev pub ranged : Option (ℕ × List ℕ) → Option (List Range × List ℕ)
@@ -87,7 +90,8 @@ abbrev pub with_front : List Range → Option (List Range × List ℕ) → Optio
 with_front front None = None
 with_front front (Some (ranges, s)) = Some (front ++ ranges, s)
 
-abbrev pub then_items : Option (List Range × List ℕ) → (List ℕ → Option (List Range × List ℕ)) → Option (List Range × List ℕ)
+abbrev pub then_items : Option (List Range × List ℕ) → (List ℕ → Option (List Range × List ℕ)) →
+    Option (List Range × List ℕ)
 then_items None more = None
 then_items (Some (ranges, s)) more = with_front ranges (more s)
 

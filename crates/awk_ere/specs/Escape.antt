@@ -1,5 +1,6 @@
 -- Escapes: what may follow a `\` in a pattern (POSIX.1-2017 XCU awk, "Escape Sequences in awk").
-use Rattle.std.specs.Prelude.{ℕ, zero, suc, ◌+◌, ◌-◌, ◌*◌, ◌%◌, Bool, ◌&&◌, ◌==◌, nat_le, if◌then◌else◌, List, [], ◌∷◌, Option, Some, None}
+use Rattle.std.specs.Prelude.{ℕ, zero, suc, ◌+◌, ◌-◌, ◌*◌, ◌%◌, Bool, ◌&&◌, ◌==◌, nat_le, if◌then◌else◌, List, [], ◌∷◌}
+use Rattle.std.specs.Prelude.{Option, Some, None}
 
 abbrev pub is_octal : ℕ → Bool
 is_octal c = nat_le 48 c && nat_le c 55

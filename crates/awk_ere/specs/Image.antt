@@ -1,5 +1,6 @@
 -- Sets of places in a text, and where a pattern leads from them.
-use Rattle.std.specs.Prelude.{◌≡◌, ◌↔◌, ℕ, ◌≤◌, ◌⊎◌, Bool, true, false, List, length, Option, Some, None, slice_index_or}
+use Rattle.std.specs.Prelude.{◌≡◌, ◌↔◌, ℕ, ◌≤◌, ◌⊎◌, Bool, true, false, List, length, Option, Some, None}
+use Rattle.std.specs.Prelude.{slice_index_or}
 use Rattle.awk_ere.specs.Pattern.{Pattern, Chain, AtMost, Matches}
 
 -- the place is in the set

@@ -18,7 +18,8 @@ OneMatch = (s : List ℕ) (p : Pattern) (from : ℕ) (a b : Option (ℕ × ℕ))
 
 -- so a search for what a text spells answers one thing alone
 abbrev pub OneFinding : Type 0
-OneFinding = (source s : List ℕ) (from : ℕ) (a b : Option (ℕ × ℕ)) → Finds source s from a → Finds source s from b → a ≡ b
+OneFinding =
+    (source s : List ℕ) (from : ℕ) (a b : Option (ℕ × ℕ)) → Finds source s from a → Finds source s from b → a ≡ b
 
 -- and so does a test
 abbrev pub OneTest : Type 0

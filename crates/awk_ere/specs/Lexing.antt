@@ -1,5 +1,6 @@
 -- What the reader of tokens gives, beside what the text says.
-use Rattle.std.specs.Prelude.{◌≡◌, ℕ, ◌+◌, ◌<◌, min, Bool, true, false, not, ◌||◌, List, ◌++◌, Option, Some, option_map, slice_index_or}
+use Rattle.std.specs.Prelude.{◌≡◌, ℕ, ◌+◌, ◌<◌, min, Bool, true, false, not, ◌||◌, List, ◌++◌, Option, Some, option_map}
+use Rattle.std.specs.Prelude.{slice_index_or}
 use Rattle.std.specs.List.{list_any}
 use Rattle.awk_ere.specs.Pattern.{bytes, start, finish}
 use Rattle.awk_ere.specs.Interval.{Times, factor}
@@ -44,7 +45,8 @@ IsNegated old new = (b : ℕ) → b < 256 → has new b ≡ not (has old b)
 
 -- a bracket expression was read, and the set has its bytes
 abbrev pub IsSet : Option (Bool × List Range × List ℕ) → List Bool → List ℕ → Type 0
-IsSet read set rest = (negated : Bool) × (ranges : List Range) × (read ≡ Some (negated, ranges, rest)) × ((b : ℕ) → has set b ≡ in_set negated ranges b)
+IsSet read set rest = (negated : Bool) × (ranges : List Range) × (read ≡ Some (negated, ranges, rest))
+    × ((b : ℕ) → has set b ≡ in_set negated ranges b)
 
 -- later sets, which keep the numbers of these
 abbrev pub Later : List (List Bool) → List (List Bool) → Type 0
@@ -54,7 +56,8 @@ Later sets all = (more : List (List Bool)) × (all ≡ sets ++ more)
 abbrev pub IsAtom : List (List Bool) → Class → spec.Token → Type 0
 IsAtom sets (One c) t = t ≡ spec.byte c
 IsAtom sets Any t = t ≡ spec.atom (bytes (λ b. true))
-IsAtom sets (In k) t = (test : ℕ → Bool) × (t ≡ spec.atom (bytes test)) × ((all : List (List Bool)) → Later sets all → (b : ℕ) → holds all (In k) b ≡ test b)
+IsAtom sets (In k) t = (test : ℕ → Bool) × (t ≡ spec.atom (bytes test))
+    × ((all : List (List Bool)) → Later sets all → (b : ℕ) → holds all (In k) b ≡ test b)
 
 -- the code's token stands for this one
 abbrev pub IsToken : List (List Bool) → Token → spec.Token → Type 0

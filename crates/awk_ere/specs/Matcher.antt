@@ -10,7 +10,8 @@ use Rattle.awk_ere.specs.declared.table.Sought.{Sought}
 use Rattle.awk_ere.specs.declared.table.Sought.TheVariants.{Match, NoMatch, Left}
 
 abbrev pub matcher_of : Inside → Matcher
-matcher_of m = record { sets = m.sets.items; program = m.program.items; table = m.table; entry = m.entry; scan = m.scan }
+matcher_of m =
+    record { sets = m.sets.items; program = m.program.items; table = m.table; entry = m.entry; scan = m.scan }
 
 -- the matches of the program are the pattern's
 abbrev pub StandsFor : Matcher → Pattern → Type 0
@@ -26,7 +27,8 @@ IsLater m from = 0 < from ⊎ m.table.entry.first ≡ m.table.entry.later
 
 -- a search from the step e at the place i begins in this state, whatever the text is
 abbrev pub BeginsIn : Matcher → ℕ → ℕ → ℕ → Type 0
-BeginsIn m e i state = (s : List ℕ) → table.IsAt m.sets m.program s m.table.cells.items m.table.accepts.items m.table.ends.items e i i state
+BeginsIn m e i state = (s : List ℕ) →
+    table.IsAt m.sets m.program s m.table.cells.items m.table.accepts.items m.table.ends.items e i i state
 
 module _ (m : Matcher) (s : List ℕ) where
   -- a match that begins at the step e and the place i ends somewhere

@@ -1,5 +1,6 @@
 -- What a pattern matches (POSIX.1-2017 XBD 9.1 and 9.4).
-use Rattle.std.specs.Prelude.{◌≡◌, ℕ, zero, suc, ◌+◌, ◌<◌, ◌≤◌, ◌⊎◌, Bool, true, List, length, Option, Some, None, slice_index}
+use Rattle.std.specs.Prelude.{◌≡◌, ℕ, zero, suc, ◌+◌, ◌<◌, ◌≤◌, ◌⊎◌, Bool, true, List, length, Option, Some, None}
+use Rattle.std.specs.Prelude.{slice_index}
 
 pub data Pattern : Type 0 where
   -- the empty text

@@ -1,5 +1,6 @@
 -- A pattern's program: what its steps do, and what it means for a part of it to stand for a pattern.
-use Rattle.std.specs.Prelude.{◌≡◌, ◌==◌, ℕ, zero, suc, ◌+◌, ◌<◌, ◌≤◌, ◌⊎◌, Bool, true, false, List, [], length, Some, slice_get, slice_index, slice_index_or}
+use Rattle.std.specs.Prelude.{◌≡◌, ◌==◌, ℕ, zero, suc, ◌+◌, ◌<◌, ◌≤◌, ◌⊎◌, Bool, true, false, List, [], length, Some}
+use Rattle.std.specs.Prelude.{slice_get, slice_index, slice_index_or}
 use Rattle.awk_ere.specs.Pattern.{Pattern, cat, alt, Matches}
 use Rattle.awk_ere.specs.declared.token.Class.{Class}
 use Rattle.awk_ere.specs.declared.token.Class.TheVariants.{One, Any, In}
@@ -56,8 +57,10 @@ Extends program full = (q : ℕ) (x : Step) → IsReal x → slice_get program q
 
 -- however the program goes on: a path from e to the end is a match of p and a path from `next` that is no longer
 pub record Means (sets : List (List Bool)) (program : List Step) (e : ℕ) (p : Pattern) (next : ℕ) : Type 0 where
-  pub into : (full : List Step) (s : List ℕ) (n i j : ℕ) → Extends program full → slice_get full 0 ≡ Some Done → Path sets full s n e i 0 j → (k : ℕ) × (m : ℕ) × (m ≤ n) × Matches s p i k × Path sets full s m next k 0 j
-  pub back : (full : List Step) (s : List ℕ) (k n i j : ℕ) → Extends program full → Matches s p i k → Path sets full s n next k 0 j → (m : ℕ) × Path sets full s m e i 0 j
+  pub into : (full : List Step) (s : List ℕ) (n i j : ℕ) → Extends program full → slice_get full 0 ≡ Some Done →
+      Path sets full s n e i 0 j → (k : ℕ) × (m : ℕ) × (m ≤ n) × Matches s p i k × Path sets full s m next k 0 j
+  pub back : (full : List Step) (s : List ℕ) (k n i j : ℕ) → Extends program full → Matches s p i k →
+      Path sets full s n next k 0 j → (m : ℕ) × Path sets full s m e i 0 j
 
 -- each step that this one names is below n
 abbrev pub NamesBelow : ℕ → Step → Type 0
@@ -88,14 +91,16 @@ pub record Copies (old new : List Step) (e : ℕ) (p : List (List Bool) → Patt
   pub sound : IsSound new
   pub grows : Grows old new
   pub below : e < length new
-  pub means : (sets : List (List Bool)) (q : Pattern) (last : ℕ) → Means sets old next q last → Means sets new e (times count (p sets) q) last
+  pub means : (sets : List (List Bool)) (q : Pattern) (last : ℕ) → Means sets old next q last →
+      Means sets new e (times count (p sets) q) last
 
 -- the same for p or what stands at `others`, which goes on at `next` too
 pub record Joins (old new : List Step) (e : ℕ) (p : List (List Bool) → Pattern) (others next : ℕ) : Type 0 where
   pub sound : IsSound new
   pub grows : Grows old new
   pub below : e < length new
-  pub means : (sets : List (List Bool)) (q : Pattern) → Means sets old others q next → Means sets new e (alt (p sets) q) next
+  pub means : (sets : List (List Bool)) (q : Pattern) → Means sets old others q next →
+      Means sets new e (alt (p sets) q) next
 
 -- a part may be added before `next`
 pub record IsReady (program : List Step) (next : ℕ) : Type 0 where

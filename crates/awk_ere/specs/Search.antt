@@ -1,5 +1,6 @@
 -- What the search keeps: for each step of the program the least start from which a place is reached there.
-use Rattle.std.specs.Prelude.{◌≡◌, ◌==◌, ℕ, ◌+◌, ◌<◌, ◌≤◌, ◌⊎◌, Bool, true, List, [], ◌∷◌, length, Option, Some, None, slice_get, slice_index_or, Contains, if◌then◌else◌}
+use Rattle.std.specs.Prelude.{◌≡◌, ◌==◌, ℕ, ◌+◌, ◌<◌, ◌≤◌, ◌⊎◌, Bool, true, List, [], ◌∷◌, length, Option, Some, None}
+use Rattle.std.specs.Prelude.{slice_get, slice_index_or, Contains, if◌then◌else◌}
 use Rattle.awk_ere.specs.Pattern.{Pattern}
 use Rattle.awk_ere.specs.Program.{holds, Skips, SkipPath, Path, IsSound, Means}
 use Rattle.awk_ere.specs.declared.program.Step.{Step}
@@ -49,9 +50,11 @@ pub record Takes (sets : List (List Bool)) (program : List Step) (b q r : ℕ) :
   pub taken : holds sets class b ≡ true
 
 -- new marks what starts of at most cap reach over the byte b
-pub record Advances (sets : List (List Bool)) (program : List Step) (b : ℕ) (first last : Bool) (cap : ℕ) (starts new : List ℕ) : Type 0 where
+pub record Advances (sets : List (List Bool)) (program : List Step) (b : ℕ) (first last : Bool) (cap : ℕ)
+    (starts new : List ℕ) : Type 0 where
   pub closed : IsClosed program first last new
-  pub sound : (q : ℕ) → mark new q < NONE → (p : ℕ) × (r : ℕ) × Takes sets program b p r × LeadsTo program first last r q × (mark starts p ≡ mark new q)
+  pub sound : (q : ℕ) → mark new q < NONE → (p : ℕ) × (r : ℕ) × Takes sets program b p r
+      × LeadsTo program first last r q × (mark starts p ≡ mark new q)
   pub complete : (p r : ℕ) → mark starts p ≤ cap → Takes sets program b p r → mark new r ≤ mark starts p
 
 -- where a step goes over the byte
@@ -70,11 +73,13 @@ module _ (sets : List (List Bool)) (program : List Step) (s : List ℕ) where
 
   -- at this place each step is marked with the least start below `limit` that reaches it from e
   pub record Marks (e from limit place : ℕ) (starts : List ℕ) : Type 0 where
-    pub sound : (q : ℕ) → mark starts q < NONE → (from ≤ mark starts q) × (mark starts q ≤ place) × Goes e (mark starts q) q place
+    pub sound : (q : ℕ) → mark starts q < NONE → (from ≤ mark starts q) × (mark starts q ≤ place)
+        × Goes e (mark starts q) q place
     pub cover : (i q : ℕ) → from ≤ i → i < limit → Goes e i q place → mark starts q ≤ i
     pub closed : IsClosed program (place == 0) (place == length s) starts
 
--- of the pairs that R relates, whose second is below `bound` and whose first is at least `from`, this has the least first, and then the greatest second
+-- of the pairs that R relates, whose second is below `bound` and whose first is at least `from`, this has the least
+-- first, and then the greatest second
 pub record IsBestOf (R : ℕ → ℕ → Type 0) (bound from i j : ℕ) : Type 0 where
   pub after : from ≤ i
   pub within : j < bound

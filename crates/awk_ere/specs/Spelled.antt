@@ -41,7 +41,8 @@ IsRefused s code =
     ((code ≡ 3) × (most_pattern_bytes < length s))
     ⊎ ((code ≡ 1) × (length s ≤ most_pattern_bytes) × HasFault s Syntax)
     ⊎ ((code ≡ 2) × (length s ≤ most_pattern_bytes) × HasFault s Interval)
-    ⊎ ((code ≡ 3) × (length s ≤ most_pattern_bytes) × ((p : Pattern) × (size : ℕ) × Spelled s p size × (most_size < size)))
+    ⊎ ((code ≡ 3) × (length s ≤ most_pattern_bytes)
+    × ((p : Pattern) × (size : ℕ) × Spelled s p size × (most_size < size)))
     ⊎ (code ≡ 4)
 
 -- the best match of the pattern that the source spells
@@ -54,4 +55,5 @@ IsAccepted s e = (e ≡ s) × ((p : Pattern) × IsPattern s p)
 
 -- whether the source's pattern matches somewhere
 abbrev pub HasMatch : List ℕ → List ℕ → Bool → Type 0
-HasMatch source s b = (p : Pattern) × IsPattern source p × (IsTrue b ↔ ((i : ℕ) × (j : ℕ) × (j ≤ length s) × Matches s p i j))
+HasMatch source s b =
+    (p : Pattern) × IsPattern source p × (IsTrue b ↔ ((i : ℕ) × (j : ℕ) × (j ≤ length s) × Matches s p i j))

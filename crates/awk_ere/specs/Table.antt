@@ -1,5 +1,6 @@
 -- A table over sets of steps: a state is the steps that a place is reached at, and a cell the state after a byte.
-use Rattle.std.specs.Prelude.{◌≡◌, ◌==◌, ◌↔◌, ℕ, ◌+◌, ◌<◌, ◌≤◌, ◌⊎◌, Bool, true, false, List, [], ◌∷◌, ◌++◌, ◌&&◌, length, replicate, Option, Some, None, slice_index, slice_index_or, Contains}
+use Rattle.std.specs.Prelude.{◌≡◌, ◌==◌, ◌↔◌, ℕ, ◌+◌, ◌<◌, ◌≤◌, ◌⊎◌, Bool, true, false, List, [], ◌∷◌, ◌++◌, ◌&&◌}
+use Rattle.std.specs.Prelude.{length, replicate, Option, Some, None, slice_index, slice_index_or, Contains}
 use Rattle.std.specs.Simd.Lanes.{zip2, chunk}
 use Rattle.awk_ere.specs.Program.{Eats}
 use Rattle.awk_ere.specs.Search.{mark, IsClosed, Takes, LeadsTo, Goes, IsMachine}
@@ -42,7 +43,8 @@ pub record AreTargets (sets : List (List Bool)) (program : List Step) (b : ℕ) 
 
 -- over the byte b the steps S lead to the steps T
 pub record IsCell (sets : List (List Bool)) (program : List Step) (b : ℕ) (S T : List ℕ) : Type 0 where
-  pub sound : (p : ℕ) → Contains T p → (x : ℕ) × (t : ℕ) × Contains S x × Takes sets program b x t × LeadsTo program false false t p
+  pub sound : (p : ℕ) → Contains T p → (x : ℕ) × (t : ℕ) × Contains S x × Takes sets program b x t
+      × LeadsTo program false false t p
   pub complete : (x t p : ℕ) → Contains S x → Takes sets program b x t → LeadsTo program false false t p → Contains T p
 
 -- new has what old has, and what passes P
@@ -72,11 +74,13 @@ IsKnown sets program b S lists n = n < UNKNOWN → (n < length lists) × IsCell 
 abbrev pub AreEdges : List (List Bool) → List Step → List Bool → Type 0
 AreEdges sets program edges =
     (slice_index_or edges 0 false ≡ true)
-    × ((b q r : ℕ) → b + 1 < 256 → slice_index_or edges (b + 1) false ≡ false → Takes sets program (b + 1) q r ↔ Takes sets program b q r)
+    × ((b q r : ℕ) → b + 1 < 256 → slice_index_or edges (b + 1) false ≡ false → Takes sets program (b + 1) q r ↔
+    Takes sets program b q r)
 
 -- the rows so far are right
 abbrev pub AreRows : List (List Bool) → List Step → List (List ℕ) → List (List ℕ) → Type 0
-AreRows sets program lists cells = (q b : ℕ) → q < length cells → b < 256 → IsKnown sets program b (steps_of lists q) lists (cell cells q b)
+AreRows sets program lists cells =
+    (q b : ℕ) → q < length cells → b < 256 → IsKnown sets program b (steps_of lists q) lists (cell cells q b)
 
 -- from the steps S a match ends here, or would at the end of the text
 abbrev pub EndsAtLast : List Step → List ℕ → Type 0
@@ -88,8 +92,10 @@ pub record AreFlags (P : ℕ → Type 0) (count : ℕ) (flags : List Bool) : Typ
   pub each : (q : ℕ) → q < count → (slice_index_or flags q false ≡ true) ↔ P q
 
 -- each known cell is right, and the flags say where a match ends
-pub record IsTable (sets : List (List Bool)) (program : List Step) (lists cells : List (List ℕ)) (accepts ends : List Bool) : Type 0 where
-  pub right : (q b : ℕ) → q < length cells → b < 256 → cell cells q b < length cells → IsCell sets program b (steps_of lists q) (steps_of lists (cell cells q b))
+pub record IsTable (sets : List (List Bool)) (program : List Step) (lists cells : List (List ℕ))
+    (accepts ends : List Bool) : Type 0 where
+  pub right : (q b : ℕ) → q < length cells → b < 256 → cell cells q b < length cells →
+      IsCell sets program b (steps_of lists q) (steps_of lists (cell cells q b))
   pub few : length cells ≤ UNKNOWN
   pub accept : AreFlags (λ q. Contains (steps_of lists q) 0) (length cells) accepts
   pub end : AreFlags (λ q. EndsAtLast program (steps_of lists q)) (length cells) ends
@@ -97,7 +103,8 @@ pub record IsTable (sets : List (List Bool)) (program : List Step) (lists cells 
 
 -- where the number is that of a state, a search begins there
 abbrev pub IsFirst : List Step → Bool → ℕ → List (List ℕ) → ℕ → Type 0
-IsFirst program first entry lists n = n < UNKNOWN → (n < length lists) × IsLed program first false (entry ∷ []) (steps_of lists n)
+IsFirst program first entry lists n =
+    n < UNKNOWN → (n < length lists) × IsLed program first false (entry ∷ []) (steps_of lists n)
 
 -- from `from` up to `to` each byte leads to the state q
 abbrev pub AllLead : List ℕ → List ℕ → ℕ → ℕ → ℕ → Type 0
@@ -127,11 +134,13 @@ AreSpread h = IsSpread h.first h.first_spread × IsSpread h.second h.second_spre
 
 -- from the state q the byte leads to no match, and none ends there
 abbrev pub Stops : List (List ℕ) → List Bool → ℕ → ℕ → Type 0
-Stops cells accepts q c = (q ≡ 0) ⊎ ((q < length cells) × (slice_index_or accepts q false ≡ false) × (cell cells q c ≡ 0))
+Stops cells accepts q c =
+    (q ≡ 0) ⊎ ((q < length cells) × (slice_index_or accepts q false ≡ false) × (cell cells q c ≡ 0))
 
 -- a match that begins in the state q, with two bytes or more, begins with two of the ranges
 abbrev pub AreHeads : List (List ℕ) → List Bool → ℕ → Heads → Type 0
-AreHeads cells accepts q h = (b c : ℕ) → b < 256 → c < 256 → (begins h b c ≡ true) ⊎ ((q < length cells) × (slice_index_or accepts q false ≡ false) × Stops cells accepts (cell cells q b) c)
+AreHeads cells accepts q h = (b c : ℕ) → b < 256 → c < 256 → (begins h b c ≡ true)
+    ⊎ ((q < length cells) × (slice_index_or accepts q false ≡ false) × Stops cells accepts (cell cells q b) c)
 
 -- at which of the sixteen places from k on a match may begin
 abbrev pub marks_of : Heads → List ℕ → ℕ → List Bool
@@ -139,7 +148,8 @@ marks_of h s k = zip2 (begins h) (chunk k 16 s) (chunk (k + 1) 16 s)
 
 -- up to `to` a match may begin with no byte and the one behind it
 abbrev pub NoneBegin : Heads → List ℕ → ℕ → ℕ → Type 0
-NoneBegin h s from to = (k : ℕ) → from ≤ k → k < to → (k + 1 < length s) × (begins h (slice_index s k) (slice_index s (k + 1)) ≡ false)
+NoneBegin h s from to =
+    (k : ℕ) → from ≤ k → k < to → (k + 1 < length s) × (begins h (slice_index s k) (slice_index s (k + 1)) ≡ false)
 
 -- the table of a program, for searches from two of its steps
 pub record IsBuilt (sets : List (List Bool)) (program : List Step) (entry scan : ℕ) (t : Table) : Type 0 where
@@ -155,7 +165,8 @@ module _ (sets : List (List Bool)) (program : List Step) (s : List ℕ) where
   abbrev pub Arrives : ℕ → ℕ → ℕ → ℕ → Type 0
   Arrives e i k p =
       ((k ≡ i) × LeadsTo program (i == 0) false e p)
-      ⊎ ((x : ℕ) × (t : ℕ) × (l : ℕ) × (k ≡ l + 1) × Goes sets program s e i x l × Eats sets program s x l t × LeadsTo program false false t p)
+      ⊎ ((x : ℕ) × (t : ℕ) × (l : ℕ) × (k ≡ l + 1) × Goes sets program s e i x l × Eats sets program s x l t
+      × LeadsTo program false false t p)
 
   -- the steps S are those that are reached at k from e at i
   pub record IsFront (e i k : ℕ) (S : List ℕ) : Type 0 where
@@ -165,7 +176,8 @@ module _ (sets : List (List Bool)) (program : List Step) (s : List ℕ) where
   -- the longest match from i among those that end below the bound
   abbrev pub IsLongest : ℕ → ℕ → ℕ → Option ℕ → Type 0
   IsLongest e i bound None = (j : ℕ) → j < bound → Goes sets program s e i 0 j → ⊥
-  IsLongest e i bound (Some j) = (j < bound) × Goes sets program s e i 0 j × ((l : ℕ) → l < bound → Goes sets program s e i 0 l → l ≤ j)
+  IsLongest e i bound (Some j) =
+      (j < bound) × Goes sets program s e i 0 j × ((l : ℕ) → l < bound → Goes sets program s e i 0 l → l ≤ j)
 
   -- a match from i ends somewhere
   abbrev pub EndsSomewhere : ℕ → ℕ → Type 0
@@ -174,7 +186,8 @@ module _ (sets : List (List Bool)) (program : List Step) (s : List ℕ) where
   -- at the place k a search from e at i is in this state
   abbrev pub IsAt : List (List ℕ) → List Bool → List Bool → ℕ → ℕ → ℕ → ℕ → Type 0
   IsAt cells accepts ends e i k state =
-      (lists : List (List ℕ)) × IsTable sets program lists cells accepts ends × (state < length cells) × IsFront e i k (steps_of lists state)
+      (lists : List (List ℕ)) × IsTable sets program lists cells accepts ends × (state < length cells)
+      × IsFront e i k (steps_of lists state)
 
 -- p after any bytes
 abbrev pub anywhere : Pattern → Pattern

@@ -56,7 +56,8 @@ sign is_open may_repeat c =
 
 -- what a byte leads
 unfoldable pub lead : Bool → ℕ → Lead
-lead may_repeat c = if c == 91 then Bracket else (if c == 92 then Escape else (if c == 123 && may_repeat then Brace else Sign))
+lead may_repeat c =
+    if c == 91 then Bracket else (if c == 92 then Escape else (if c == 123 && may_repeat then Brace else Sign))
 
 abbrev pub led : Lead → Bool → Bool → ℕ → List ℕ → Front
 led Bracket is_open may_repeat c s = bracketed (bracket s)

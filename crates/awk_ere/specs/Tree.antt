@@ -1,5 +1,6 @@
 -- Reading tokens from the left with a stack of the open groups, and the code's trees for it.
-use Rattle.std.specs.Prelude.{◌≡◌, ℕ, ◌+◌, ◌*◌, ◌==◌, min, nat_le, ◌&&◌, Bool, false, List, [], ◌∷◌, ◌++◌, Option, Some, None, if◌then◌else◌}
+use Rattle.std.specs.Prelude.{◌≡◌, ℕ, ◌+◌, ◌*◌, ◌==◌, min, nat_le, ◌&&◌, Bool, false, List, [], ◌∷◌, ◌++◌, Option, Some}
+use Rattle.std.specs.Prelude.{None, if◌then◌else◌}
 use Rattle.awk_ere.specs.Pattern.{Pattern, empty, cat, alt, repeat}
 use Rattle.awk_ere.specs.Token.{Token, atom, anchor, times, opening, closing, bar}
 use Rattle.awk_ere.specs.Reading.{IsRead}
@@ -117,7 +118,8 @@ IsFrame sets f (frame b p l) = StandsAny sets f.before b × Stands sets f.pieces
 -- the code's stack has the innermost group last
 abbrev pub AreFrames : List (List Bool) → List code_frame.Frame → List Frame → Type 0
 AreFrames sets items [] = items ≡ []
-AreFrames sets items (o ∷ os) = (front : List code_frame.Frame) × (f : code_frame.Frame) × (items ≡ front ++ f ∷ []) × IsFrame sets f o × AreFrames sets front os
+AreFrames sets items (o ∷ os) = (front : List code_frame.Frame) × (f : code_frame.Frame) × (items ≡ front ++ f ∷ [])
+    × IsFrame sets f o × AreFrames sets front os
 
 -- the code's stack and innermost frame are these, where there are any
 abbrev pub IsStack : List (List Bool) → List code_frame.Frame → code_frame.Frame → Option Stack → Type 0
@@ -126,7 +128,8 @@ IsStack sets groups f (Some stack) = AreFrames sets groups stack.0 × IsFrame se
 
 -- the part stands for the pattern that the whole text spells
 abbrev pub IsWhole : List ℕ → List (List Bool) → code_part.Part → Type 0
-IsWhole text sets part = (ts : List Token) × (p : Pattern) × (n : ℕ) × IsRead text ts × Spells ere ts p n × Stands sets part (p, n)
+IsWhole text sets part =
+    (ts : List Token) × (p : Pattern) × (n : ℕ) × IsRead text ts × Spells ere ts p n × Stands sets part (p, n)
 
 -- the tree stands for the pattern that the text spells within the limits
 abbrev pub IsTree : List ℕ → List (List Bool) → Node → Type 0

@@ -65,7 +65,8 @@ fn letters_len(text: &[u8]) -> usize
 #[tactic(auto, unfolding(crate::specs::Bracket::class))]
 fn class(text: &[u8]) -> Option<(&'static [Range], &[u8])>
     ensures within { IfSome result (λ p. length p.1.now < length text.now) }
-    ensures value { MatchOption result (spec.class text.now ≡ None) (λ p. spec.class text.now ≡ Some (p.0.now, p.1.now)) }
+    ensures value { MatchOption result (spec.class text.now ≡ None)
+        (λ p. spec.class text.now ≡ Some (p.0.now, p.1.now)) }
 {
     let (name, after) = text.split_at(letters_len(text));
     let ranges = class_ranges(name)?;
@@ -93,7 +94,8 @@ fn point(text: &[u8]) -> Option<(u8, &[u8])>
 #[tactic(auto, unfolding(crate::specs::Bracket::range_from))]
 fn range_from(low: u8, text: &[u8]) -> Option<(Range, &[u8])>
     ensures within { IfSome result (λ p. length p.1.now ≤ length text.now) }
-    ensures value { MatchOption result (spec.range_from low text.now ≡ None) (λ p. spec.range_from low text.now ≡ Some (p.0 ∷ [], p.1.now)) }
+    ensures value { MatchOption result (spec.range_from low text.now ≡ None)
+        (λ p. spec.range_from low text.now ≡ Some (p.0 ∷ [], p.1.now)) }
 {
     match text {
         [b'-', end, ..] if *end != b']' => {
@@ -151,7 +153,8 @@ fn is_stray(first: bool, text: &[u8]) -> bool
 /// Puts the bytes of the item at the front into the set, and gives what follows the item.
 fn item<'a>(text: &'a [u8], first: bool, set: &mut Set) -> Option<&'a [u8]>
     ensures within { IfSome result (λ rest. length rest.now < length text.now) }
-    ensures value { MatchOption result (spec.item first text.now ≡ None) (λ rest. IsItem (spec.item first text.now) set.old set.new rest.now) }
+    ensures value { MatchOption result (spec.item first text.now ≡ None)
+        (λ rest. IsItem (spec.item first text.now) set.old set.new rest.now) }
 {
     if let Some(name) = class_name(text) {
         let (ranges, rest) = class(name)?;
@@ -177,7 +180,8 @@ fn closes(first: bool, byte: u8) -> bool
 /// Puts the bytes of the items up to the closing `]` into the set, and gives what follows it.
 fn items<'a>(text: &'a [u8], set: &mut Set) -> Option<&'a [u8]>
     ensures within { IfSome result (λ rest. length rest.now < length text.now) }
-    ensures value { MatchOption result (spec.items (length text.now) true text.now ≡ None) (λ rest. IsItem (spec.items (length text.now) true text.now) set.old set.new rest.now) }
+    ensures value { MatchOption result (spec.items (length text.now) true text.now ≡ None)
+        (λ rest. IsItem (spec.items (length text.now) true text.now) set.old set.new rest.now) }
 {
     let mut left = text;
     let mut first = true;
@@ -215,7 +219,8 @@ fn after_hat(text: &[u8]) -> Option<&[u8]>
 pub fn bracket<'a>(text: &'a [u8], set: &mut Set) -> Option<&'a [u8]>
     requires { IsEmptySet set.old }
     ensures within { IfSome result (λ rest. length rest.now < length text.now) }
-    ensures value { MatchOption result (spec.bracket text.now ≡ None) (λ rest. IsSet (spec.bracket text.now) set.new rest.now) }
+    ensures value { MatchOption result (spec.bracket text.now ≡ None)
+        (λ rest. IsSet (spec.bracket text.now) set.new rest.now) }
 {
     match after_hat(text) {
         Some(after) => {

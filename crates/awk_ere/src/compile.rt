@@ -72,7 +72,8 @@ fn compile_before(
 ) -> Result<usize, Memory>
     requires ready { IsReady program.old.items next }
     requires inside { others < length program.old.items }
-    ensures { IfOk result (λ e. Joins program.old.items program.new.items e (λ sets. pattern sets node.now) others next) }
+    ensures { IfOk result
+        (λ e. Joins program.old.items program.new.items e (λ sets. pattern sets node.now) others next) }
 {
     let mut rest = node;
     let mut at = others;
@@ -95,7 +96,9 @@ fn compile_repeat(
     program: &mut Vec<Step>,
 ) -> Result<usize, Memory>
     requires { IsReady program.old.items next }
-    ensures { IfOk result (λ e. Compiles program.old.items program.new.items e (λ sets. repeat (pattern sets node.now) least (option_map (λ m. least + m) more)) next) }
+    ensures { IfOk result
+        (λ e. Compiles program.old.items program.new.items e
+        (λ sets. repeat (pattern sets node.now) least (option_map (λ m. least + m) more)) next) }
 {
     match more {
         None => {
@@ -120,7 +123,8 @@ fn compile_repeat(
 #[inline(never)]
 fn compile_star(node: &Node, next: usize, program: &mut Vec<Step>) -> Result<usize, Memory>
     requires { IsReady program.old.items next }
-    ensures { IfOk result (λ e. Compiles program.old.items program.new.items e (λ sets. repeat (pattern sets node.now) 0 None) next) }
+    ensures { IfOk result
+        (λ e. Compiles program.old.items program.new.items e (λ sets. repeat (pattern sets node.now) 0 None) next) }
 {
     let fork = add(program, Step::Hole)?;
     let inner = compile(node, fork, program)?;
@@ -133,7 +137,9 @@ fn compile_star(node: &Node, next: usize, program: &mut Vec<Step>) -> Result<usi
 #[inline(never)]
 fn compile_plus(node: &Node, next: usize, program: &mut Vec<Step>) -> Result<usize, Memory>
     requires { IsReady program.old.items next }
-    ensures { IfOk result (λ e. Compiles program.old.items program.new.items e (λ sets. cat (pattern sets node.now) (repeat (pattern sets node.now) 0 None)) next) }
+    ensures { IfOk result
+        (λ e. Compiles program.old.items program.new.items e
+        (λ sets. cat (pattern sets node.now) (repeat (pattern sets node.now) 0 None)) next) }
 {
     let fork = add(program, Step::Hole)?;
     let inner = compile(node, fork, program)?;
@@ -144,7 +150,8 @@ fn compile_plus(node: &Node, next: usize, program: &mut Vec<Step>) -> Result<usi
 /// Adds the part of the program that goes over any bytes and then on at `next`.
 pub fn compile_scan(next: usize, program: &mut Vec<Step>) -> Result<usize, Memory>
     requires { IsReady program.old.items next }
-    ensures { IfOk result (λ e. Compiles program.old.items program.new.items e (λ _. repeat (bytes (λ b. true)) 0 None) next) }
+    ensures { IfOk result
+        (λ e. Compiles program.old.items program.new.items e (λ _. repeat (bytes (λ b. true)) 0 None) next) }
 {
     let scan = compile_star(&Node::Bytes(Class::Any), next, program)?;
     Ok(scan)
@@ -159,7 +166,9 @@ fn compile_options(
     program: &mut Vec<Step>,
 ) -> Result<usize, Memory>
     requires { IsReady program.old.items next }
-    ensures { IfOk result (λ e. Compiles program.old.items program.new.items e (λ sets. repeat (pattern sets node.now) 0 (Some count)) next) }
+    ensures { IfOk result
+        (λ e. Compiles program.old.items program.new.items e (λ sets. repeat (pattern sets node.now) 0 (Some count))
+        next) }
 {
     let mut at = next;
     for i in 0..count {
@@ -178,7 +187,8 @@ fn compile_copies(
     program: &mut Vec<Step>,
 ) -> Result<usize, Memory>
     requires { IsReady program.old.items next }
-    ensures { IfOk result (λ e. Copies program.old.items program.new.items e (λ sets. pattern sets node.now) count next) }
+    ensures { IfOk result
+        (λ e. Copies program.old.items program.new.items e (λ sets. pattern sets node.now) count next) }
 {
     let mut at = next;
     for i in 0..count {

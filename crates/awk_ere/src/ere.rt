@@ -33,7 +33,8 @@ impl Model for Ere {
 
     ghost view = { λ e. e.source.items };
 
-    ghost invariant = { λ e. (p : Pattern) × IsPattern e.source.items p × StandsFor e.matcher p × IfSome e.literal (λ f. (f ≡ e.source.items) × IsLiteral e.source.items) };
+    ghost invariant = { λ e. (p : Pattern) × IsPattern e.source.items p × StandsFor e.matcher p
+        × IfSome e.literal (λ f. (f ≡ e.source.items) × IsLiteral e.source.items) };
 }
 
 impl Ere {
@@ -101,9 +102,9 @@ impl Ere {
     }
 }
 
-/// Searches of one text by one pattern, one after the other. What they read past the matches that they find is bounded for all
-/// together, so that they take time linear in the text (by design; time is not proved). Contracts see the pattern's text and the
-/// text that is searched.
+/// Searches of one text by one pattern, one after the other. What they read past the matches that they find is bounded
+/// for all together, so that they take time linear in the text (by design; time is not proved). Contracts see the
+/// pattern's text and the text that is searched.
 #[derive(Drop)]
 pub struct Searches<'a> {
     ere: &'a Ere,
@@ -125,7 +126,8 @@ impl<'a> Model for Searches<'a> {
 
     ghost view = { λ s. (s.ere.now, s.text.now) };
 
-    ghost invariant = { λ s. (p : Pattern) × IsPattern s.ere.now p × StandsFor s.matcher.now p × AreHopes s.matcher.now.table s.text.now s.hopes };
+    ghost invariant = { λ s. (p : Pattern) × IsPattern s.ere.now p × StandsFor s.matcher.now p
+        × AreHopes s.matcher.now.table s.text.now s.hopes };
 }
 
 impl<'a> Searches<'a> {

@@ -120,7 +120,9 @@ pub fn front<'a>(
     sets: &mut Vec<Set>,
 ) -> Result<Option<(Token, &'a [u8])>, Fault>
     ensures within { IfOk result (λ o. IfSome o (λ p. length p.1.now < length text.now)) }
-    ensures ok { IfOk result (λ o. MatchOption o (spec.front is_open may_repeat text.now ≡ spec.finished) (λ p. IsFront sets.new.items (spec.front is_open may_repeat text.now) p.0 p.1.now)) }
+    ensures ok { IfOk result
+        (λ o. MatchOption o (spec.front is_open may_repeat text.now ≡ spec.finished)
+        (λ p. IsFront sets.new.items (spec.front is_open may_repeat text.now) p.0 p.1.now)) }
     ensures err { IfErr result (λ f. f ≢ Fault.Memory → spec.front is_open may_repeat text.now ≡ spec.wrong f) }
     ensures sets { Later sets.old.items sets.new.items }
 {

@@ -1,5 +1,6 @@
 // The bytes that a match may begin with. They are looked for in sixteen places at a time.
-ghost use Rattle.std.specs.Prelude.{◌≡◌, ◌≢◌, ◌⊎◌, ◌+◌, ◌<◌, ◌≤◌, ℕ, true, false, length, IsTrue, slice_index, slice_index_or};
+ghost use Rattle.std.specs.Prelude.{◌≡◌, ◌≢◌, ◌⊎◌, ◌+◌, ◌<◌, ◌≤◌, ℕ, true, false, length, IsTrue, slice_index};
+ghost use Rattle.std.specs.Prelude.{slice_index_or};
 ghost use Rattle.std.specs.Simd.Lanes.{mask_l, zip2};
 ghost use Rattle.awk_ere.specs.Table.{IsIn, IsSpread, AreSpread, begins, marks_of, Stops, AreHeads, NoneBegin};
 

@@ -1,5 +1,5 @@
-// In which states of a table a match may still end, for each place of a text. A text is read backwards for it once, so that
-// no search after that reads past the end of what it finds.
+// In which states of a table a match may still end, for each place of a text. A text is read backwards for it once, so
+// that no search after that reads past the end of what it finds.
 ghost use Rattle.std.specs.Prelude.{◌≡◌, ◌+◌, ◌<◌, ◌≤◌, ℕ, List, [], true, false, length, IfOk, slice_index_or};
 ghost use Rattle.awk_ere.specs.declared.states.Table.{Table};
 ghost use Rattle.awk_ere.specs.Hopes.{IsLastRow, IsRowBefore, IsHopeless, IsRow, AreRows, AreKept, AreHopes};
@@ -11,8 +11,8 @@ use std::mem;
 /// For each state whether a match may still end.
 pub type Row = [bool; 256];
 
-/// Of so many places one has its row kept, and those between have theirs made where they are needed, so that a long text
-/// takes little memory.
+/// Of so many places one has its row kept, and those between have theirs made where they are needed, so that a long
+/// text takes little memory.
 const BLOCK: usize = 64;
 
 /// What is known of a text. A place is told by the bytes that are left there.
@@ -178,7 +178,8 @@ pub fn is_hopeless(
 
 /// Whether the row where so many bytes are left is there, and leaves the state out.
 fn is_left_out(rows: &[Row], first: usize, left: usize, state: usize) -> bool
-    ensures { result ≡ true → (i : ℕ) × (left ≡ first + i) × (i < length rows.now) × (state < 256) × (slice_index_or (slice_index_or rows.now i []) state false ≡ false) }
+    ensures { result ≡ true → (i : ℕ) × (left ≡ first + i) × (i < length rows.now) × (state < 256)
+        × (slice_index_or (slice_index_or rows.now i []) state false ≡ false) }
 {
     if left < first || state >= 256 {
         return false;

@@ -35,7 +35,9 @@ fn decimal(digits: &[u8]) -> u16
 /// The number at the front, and what follows it; `None` where there is none.
 fn number(text: &[u8]) -> Option<(u16, &[u8])>
     ensures within { IfSome result (λ p. length p.1.now ≤ length text.now) }
-    ensures value { MatchOption result (spec.digits_len text.now ≡ 0) (λ p. (0 < spec.digits_len text.now) × (p.0 ≡ min 256 (spec.front_number text.now)) × (p.1.now ≡ spec.after_number text.now)) }
+    ensures value { MatchOption result (spec.digits_len text.now ≡ 0)
+        (λ p. (0 < spec.digits_len text.now) × (p.0 ≡ min 256 (spec.front_number text.now))
+        × (p.1.now ≡ spec.after_number text.now)) }
 {
     let len = digits_len(text);
     if len == 0 {
@@ -48,7 +50,8 @@ fn number(text: &[u8]) -> Option<(u16, &[u8])>
 /// What follows `{m,` up to the `}`, where `least` is the `m`.
 fn upper(least: u16, text: &[u8]) -> Option<(u16, Option<u16>, &[u8])>
     ensures within { IfSome result (λ p. length p.2.now < length text.now) }
-    ensures value { (m : ℕ) → least ≡ min 256 m → MatchOption result (spec.upper m text.now ≡ None) (λ p. IsInterval (spec.upper m text.now) p.0 p.1 p.2.now) }
+    ensures value { (m : ℕ) → least ≡ min 256 m →
+        MatchOption result (spec.upper m text.now ≡ None) (λ p. IsInterval (spec.upper m text.now) p.0 p.1 p.2.now) }
 {
     match number(text) {
         None => match text {
@@ -65,7 +68,8 @@ fn upper(least: u16, text: &[u8]) -> Option<(u16, Option<u16>, &[u8])>
 /// The interval that the text after a `{` spells, and what follows it; `None` where the `{` is itself.
 pub fn interval(text: &[u8]) -> Option<(u16, Option<u16>, &[u8])>
     ensures within { IfSome result (λ p. length p.2.now < length text.now) }
-    ensures value { MatchOption result (spec.interval text.now ≡ None) (λ p. IsInterval (spec.interval text.now) p.0 p.1 p.2.now) }
+    ensures value { MatchOption result (spec.interval text.now ≡ None)
+        (λ p. IsInterval (spec.interval text.now) p.0 p.1 p.2.now) }
 {
     let (least, after) = number(text)?;
     match after {
@@ -77,7 +81,8 @@ pub fn interval(text: &[u8]) -> Option<(u16, Option<u16>, &[u8])>
 
 /// The repetition with these bounds; `None` where one is over 255 or they are not in order.
 pub fn repetition(least: u16, most: Option<u16>) -> Option<Times>
-    ensures { (t : spec.Times) → IsCapped t least most → MatchOption result (spec.is_allowed t ≡ false) (λ r. (spec.is_allowed t ≡ true) × IsTimes t r) }
+    ensures { (t : spec.Times) → IsCapped t least most →
+        MatchOption result (spec.is_allowed t ≡ false) (λ r. (spec.is_allowed t ≡ true) × IsTimes t r) }
 {
     match most {
         None if least < LIMIT => Some(Times {

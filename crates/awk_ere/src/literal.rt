@@ -35,8 +35,8 @@ fn is_literal(text: &[u8]) -> bool
     true
 }
 
-/// What finds the pattern's text, where each byte of the pattern stands for itself. Made once for all searches, since a short text
-/// is searched in less time than it takes to make.
+/// What finds the pattern's text, where each byte of the pattern stands for itself. Made once for all searches, since a
+/// short text is searched in less time than it takes to make.
 pub fn finder_of(alloc: Global, text: &[u8]) -> Result<Option<Finder<'static>>, AllocError>
     ensures { IfOk result (λ r. IfSome r (λ f. (f ≡ text.now) × spec.IsLiteral text.now)) }
 {

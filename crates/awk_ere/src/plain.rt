@@ -103,7 +103,9 @@ fn repeated(
     from: &[bool],
 ) -> Result<Vec<bool>, Memory>
     requires { length from.now ≡ length text.now + 1 }
-    ensures { IfOk result (λ to. IsImage (Matches text.now (repeat (pattern sets.now node.now) least (option_map (λ m. least + m) more))) from.now to.items) }
+    ensures { IfOk result
+        (λ to. IsImage (Matches text.now (repeat (pattern sets.now node.now) least (option_map (λ m. least + m) more)))
+        from.now to.items) }
 {
     let first = copies(alloc, sets, node, least, text, from)?;
     match more {
@@ -123,7 +125,8 @@ fn copies(
     from: &[bool],
 ) -> Result<Vec<bool>, Memory>
     requires { length from.now ≡ length text.now + 1 }
-    ensures { IfOk result (λ to. IsImage (Chain (Matches text.now (pattern sets.now node.now)) count) from.now to.items) }
+    ensures { IfOk result
+        (λ to. IsImage (Chain (Matches text.now (pattern sets.now node.now)) count) from.now to.items) }
 {
     let mut to = Vec::from_slice(alloc, from)?;
     for i in 0..count {
@@ -143,7 +146,8 @@ fn options(
     from: &[bool],
 ) -> Result<Vec<bool>, Memory>
     requires { length from.now ≡ length text.now + 1 }
-    ensures { IfOk result (λ to. IsImage (Within (Matches text.now (pattern sets.now node.now)) (Some count)) from.now to.items) }
+    ensures { IfOk result
+        (λ to. IsImage (Within (Matches text.now (pattern sets.now node.now)) (Some count)) from.now to.items) }
 {
     let mut to = Vec::from_slice(alloc, from)?;
     for i in 0..count {
@@ -162,7 +166,8 @@ fn closure(
     from: &[bool],
 ) -> Result<Vec<bool>, Memory>
     requires { length from.now ≡ length text.now + 1 }
-    ensures { IfOk result (λ to. IsImage (Within (Matches text.now (pattern sets.now node.now)) None) from.now to.items) }
+    ensures { IfOk result
+        (λ to. IsImage (Within (Matches text.now (pattern sets.now node.now)) None) from.now to.items) }
 {
     let mut to = Vec::from_slice(alloc, from)?;
     'turns: loop {

@@ -1,7 +1,8 @@
 // The search for the best match.
 ghost use Rattle.std.specs.Prelude.{◌≡◌, ◌++◌, ◌+◌, ◌<◌, ◌≤◌, ℕ, [], ◌∷◌, Some, None, length, IfOk, OnOk, slice_set};
 ghost use Rattle.awk_ere.specs.Program.{IsSound, holds};
-ghost use Rattle.awk_ere.specs.Search.{targets, target_of, IsListed, IsBlank, IsClosed, Reaches, Advances, Marks, BestOf, Goes, Finds, limit_of, cap_of};
+ghost use Rattle.awk_ere.specs.Search.{targets, target_of, IsListed, IsBlank, IsClosed, Reaches, Advances, Marks};
+ghost use Rattle.awk_ere.specs.Search.{BestOf, Goes, Finds, limit_of, cap_of};
 
 use crate::bracket::Set;
 use crate::program::Step;
@@ -165,8 +166,10 @@ fn arrive(
     requires was_listed { IsListed starts.old active.old.items }
     requires marks { Marks sets.now program.now text.now entry from (limit_of place best) place starts.old }
     requires best { BestOf (λ i j. Goes sets.now program.now text.now entry i 0 j) place from best }
-    ensures marks { IfOk result (λ found. Marks sets.now program.now text.now entry from (limit_of (place + 1) found) place starts.new) }
-    ensures best { IfOk result (λ found. BestOf (λ i j. Goes sets.now program.now text.now entry i 0 j) (place + 1) from found) }
+    ensures marks { IfOk result
+        (λ found. Marks sets.now program.now text.now entry from (limit_of (place + 1) found) place starts.new) }
+    ensures best { IfOk result
+        (λ found. BestOf (λ i j. Goes sets.now program.now text.now entry i 0 j) (place + 1) from found) }
     ensures listed { OnOk result (IsListed starts.new active.new.items) }
 {
     match best {
@@ -234,8 +237,10 @@ fn turn(
     requires blank { IsBlank ahead.old }
     requires marks { Marks sets.now program.now text.now entry from (limit_of place best) place here.old }
     requires best { BestOf (λ i j. Goes sets.now program.now text.now entry i 0 j) place from best }
-    ensures marks { IfOk result (λ found. Marks sets.now program.now text.now entry from (limit_of (place + 1) found) (place + 1) ahead.new) }
-    ensures best { IfOk result (λ found. BestOf (λ i j. Goes sets.now program.now text.now entry i 0 j) (place + 1) from found) }
+    ensures marks { IfOk result
+        (λ found. Marks sets.now program.now text.now entry from (limit_of (place + 1) found) (place + 1) ahead.new) }
+    ensures best { IfOk result
+        (λ found. BestOf (λ i j. Goes sets.now program.now text.now entry i 0 j) (place + 1) from found) }
     ensures here_listed { OnOk result (IsListed here.new here_active.new.items) }
     ensures ahead_listed { OnOk result (IsListed ahead.new ahead_active.new.items) }
     ensures blank { OnOk result (IsBlank here.new) }

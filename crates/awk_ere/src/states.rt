@@ -1,9 +1,12 @@
 // The states of a table: sets of steps, with their cells.
-ghost use Rattle.std.specs.Prelude.{◌≡◌, ◌↔◌, ◌+◌, ◌-◌, ◌<◌, ◌≤◌, ℕ, [], true, false, length, map, slice_index, Contains, IfOk, OnOk, IfSome};
+ghost use Rattle.std.specs.Prelude.{◌≡◌, ◌↔◌, ◌+◌, ◌-◌, ◌<◌, ◌≤◌, ℕ, [], true, false, length, map, slice_index};
+ghost use Rattle.std.specs.Prelude.{Contains, IfOk, OnOk, IfSome};
 ghost use Rattle.awk_ere.specs.Lexing.{has};
 ghost use Rattle.awk_ere.specs.Program.{IsSound};
 ghost use Rattle.awk_ere.specs.Search.{mark, target_of, IsListed, IsBlank, IsClosed, Takes};
-ghost use Rattle.awk_ere.specs.Table.{steps_of, Gains, LeadsMore, IsLed, AreLed, AreMarked, AreTargets, Later, IsNumber, IsKnown, AreEdges, AreRows, AreFlags, EndsAtLast, IsFirst, IsBegin, IsDead, IsBuilt};
+ghost use Rattle.awk_ere.specs.Table.{steps_of, Gains, LeadsMore, IsLed, AreLed, AreMarked, AreTargets, Later};
+ghost use Rattle.awk_ere.specs.Table.{IsNumber, IsKnown, AreEdges, AreRows, AreFlags, EndsAtLast, IsFirst, IsBegin};
+ghost use Rattle.awk_ere.specs.Table.{IsDead, IsBuilt};
 
 use crate::bracket::Set;
 use crate::heads::{Heads, any_heads, make_heads};
@@ -218,7 +221,8 @@ fn cell(
 ) -> Result<u8, AllocError>
     requires { IsSound program.now }
     ensures later { OnOk result (Later (map (λ v. v.items) lists.old.items) (map (λ v. v.items) lists.new.items)) }
-    ensures known { IfOk result (λ n. IsKnown sets.now program.now byte list.now (map (λ v. v.items) lists.new.items) n) }
+    ensures known { IfOk result
+        (λ n. IsKnown sets.now program.now byte list.now (map (λ v. v.items) lists.new.items) n) }
 {
     let targets = targets(alloc, sets, program, list, byte)?;
     let steps = led(alloc, program, false, false, &targets)?;
@@ -238,9 +242,11 @@ fn cell_after(
     lists: &mut Vec<Vec<usize>>,
 ) -> Result<u8, AllocError>
     requires sound { IsSound program.now }
-    requires same { is_edge ≡ false → IsKnown sets.now program.now byte list.now (map (λ v. v.items) lists.old.items) before }
+    requires same { is_edge ≡ false →
+        IsKnown sets.now program.now byte list.now (map (λ v. v.items) lists.old.items) before }
     ensures later { OnOk result (Later (map (λ v. v.items) lists.old.items) (map (λ v. v.items) lists.new.items)) }
-    ensures known { IfOk result (λ n. IsKnown sets.now program.now byte list.now (map (λ v. v.items) lists.new.items) n) }
+    ensures known { IfOk result
+        (λ n. IsKnown sets.now program.now byte list.now (map (λ v. v.items) lists.new.items) n) }
 {
     if is_edge {
         let at = cell(alloc, sets, program, list, byte, lists)?;
@@ -262,7 +268,9 @@ fn row(
     requires sound { IsSound program.now }
     requires edges { AreEdges sets.now program.now edges.now }
     ensures later { OnOk result (Later (map (λ v. v.items) lists.old.items) (map (λ v. v.items) lists.new.items)) }
-    ensures known { IfOk result (λ row. (b : ℕ) → b < 256 → IsKnown sets.now program.now b list.now (map (λ v. v.items) lists.new.items) (slice_index row b)) }
+    ensures known { IfOk result
+        (λ row. (b : ℕ) → b < 256 →
+        IsKnown sets.now program.now b list.now (map (λ v. v.items) lists.new.items) (slice_index row b)) }
 {
     let mut row = [UNKNOWN; 256];
     let mut before = UNKNOWN;
@@ -333,7 +341,8 @@ fn rows(
     ensures later { OnOk result (Later (map (λ v. v.items) lists.old.items) (map (λ v. v.items) lists.new.items)) }
     ensures inside { IfOk result (λ cells. length cells.items ≤ length lists.new.items) }
     ensures few { IfOk result (λ cells. length cells.items ≤ count) }
-    ensures rows { IfOk result (λ cells. AreRows sets.now program.now (map (λ v. v.items) lists.new.items) cells.items) }
+    ensures rows { IfOk result
+        (λ cells. AreRows sets.now program.now (map (λ v. v.items) lists.new.items) cells.items) }
 {
     let mut cells = Vec::new(alloc);
     for i in 0..count {
@@ -351,7 +360,8 @@ fn has_done(list: &[usize]) -> bool
 /// In which of the first states a match ends.
 fn accepting(alloc: Global, lists: &[Vec<usize>], count: usize) -> Result<Vec<bool>, AllocError>
     requires { count ≤ length lists.now }
-    ensures { IfOk result (λ flags. AreFlags (λ q. Contains (steps_of (map (λ v. v.items) lists.now) q) 0) count flags.items) }
+    ensures { IfOk result
+        (λ flags. AreFlags (λ q. Contains (steps_of (map (λ v. v.items) lists.now) q) 0) count flags.items) }
 {
     let mut flags = Vec::new(alloc);
     for at in 0..count {
@@ -380,7 +390,9 @@ fn ending(
     requires sound { IsSound program.now }
     requires some { 0 < length program.now }
     requires inside { count ≤ length lists.now }
-    ensures { IfOk result (λ flags. AreFlags (λ q. EndsAtLast program.now (steps_of (map (λ v. v.items) lists.now) q)) count flags.items) }
+    ensures { IfOk result
+        (λ flags. AreFlags (λ q. EndsAtLast program.now (steps_of (map (λ v. v.items) lists.now) q)) count
+        flags.items) }
 {
     let mut flags = Vec::new(alloc);
     for at in 0..count {
@@ -429,7 +441,8 @@ fn add_edge(sets: &[Set], step: Step, byte: u8, edges: &mut [bool; 256])
 /// Makes each byte an edge over which the step goes on otherwise than over the one before it.
 fn add_edges(sets: &[Set], step: Step, edges: &mut [bool; 256])
     ensures kept { (b : ℕ) → has edges.new b ≡ false → has edges.old b ≡ false }
-    ensures edges { (b : ℕ) → b + 1 < 256 → has edges.new (b + 1) ≡ false → target_of sets.now (b + 1) step ≡ target_of sets.now b step }
+    ensures edges { (b : ℕ) → b + 1 < 256 → has edges.new (b + 1) ≡ false → target_of sets.now (b + 1) step
+        ≡ target_of sets.now b step }
 {
     for byte in 1..256usize {
         add_edge(sets, step, byte as u8, edges);

@@ -1,7 +1,9 @@
 // The search by a table.
-ghost use Rattle.std.specs.Prelude.{◌≡◌, ◌≢◌, ◌==◌, ◌↔◌, ◌<◌, ◌≤◌, length, IfOk, IfSome, IsTrue, slice_index, if◌then◌else◌};
+ghost use Rattle.std.specs.Prelude.{◌≡◌, ◌≢◌, ◌==◌, ◌↔◌, ◌<◌, ◌≤◌, length, IfOk, IfSome, IsTrue, slice_index};
+ghost use Rattle.std.specs.Prelude.{if◌then◌else◌};
 ghost use Rattle.awk_ere.specs.Hopes.{AreHopes};
-ghost use Rattle.awk_ere.specs.Matcher.{BeginsIn, EndsFrom, Finds, IsAnchored, IsLater, IsLongest, IsSought, NoneTo, StandsFor, StartsAt, StartsFrom};
+ghost use Rattle.awk_ere.specs.Matcher.{BeginsIn, EndsFrom, Finds, IsAnchored, IsLater, IsLongest, IsSought, NoneTo};
+ghost use Rattle.awk_ere.specs.Matcher.{StandsFor, StartsAt, StartsFrom};
 ghost use Rattle.awk_ere.specs.Table.{AllLead};
 ghost use Rattle.awk_ere.specs.View.{pattern};
 
@@ -57,8 +59,8 @@ fn stays_one_by_one(row: &[u8; 256], state: u8, text: &[u8], from: usize) -> usi
     text.len()
 }
 
-/// The same, with four bytes in each turn: most searches read nearly all of a text so, and the turns would cost as much as
-/// the looks at the row.
+/// The same, with four bytes in each turn: most searches read nearly all of a text so, and the turns would cost as much
+/// as the looks at the row.
 fn stays_to(row: &[u8; 256], state: u8, text: &[u8], from: usize) -> usize
     requires { from ≤ length text.now }
     ensures inside { (from ≤ result) × (result ≤ length text.now) }
@@ -106,8 +108,8 @@ fn state_at(begin: Begin, place: usize) -> usize
     }
 }
 
-/// What finds the matches of a pattern: its program, and the table of states that is made of it. That they belong together
-/// is its invariant, so that no search has to ask for it.
+/// What finds the matches of a pattern: its program, and the table of states that is made of it. That they belong
+/// together is its invariant, so that no search has to ask for it.
 #[derive(Drop)]
 pub struct Matcher {
     sets: Vec<Set>,
@@ -176,8 +178,8 @@ impl Matcher {
         }
     }
 
-    /// The end of the longest match from the place, if there is one; `None` where the table does not say. What is read costs of
-    /// the budget, also where it is read to the text's end.
+    /// The end of the longest match from the place, if there is one; `None` where the table does not say. What is read
+    /// costs of the budget, also where it is read to the text's end.
     fn longest(&self, text: &[u8], from: usize, budget: &mut usize) -> Option<Option<usize>>
         requires { from < length text.now }
         ensures { IfSome result (λ found. IsLongest self.now text.now from found) }
@@ -202,8 +204,9 @@ impl Matcher {
         Some(noted(ends[state], text.len(), best))
     }
 
-    /// Whether a match from the place ends anywhere, where it begins at this step and in this state; `None` where the table
-    /// does not say. Most bytes leave a search where it is, and then the next look at the table need not wait for this one.
+    /// Whether a match from the place ends anywhere, where it begins at this step and in this state; `None` where the
+    /// table does not say. Most bytes leave a search where it is, and then the next look at the table need not wait for
+    /// this one.
     fn ends_somewhere(&self, step: usize, first: usize, text: &[u8], from: usize) -> Option<bool>
         requires from { from < length text.now }
         requires begin { BeginsIn self.now step from first }
@@ -393,7 +396,8 @@ impl Matcher {
         }
     }
 
-    /// The best match from the place on, where it is asked first whether there is any. That reads no further than the match.
+    /// The best match from the place on, where it is asked first whether there is any. That reads no further than the
+    /// match.
     #[inline(never)]
     fn find_on(&self, text: &[u8], from: usize, budget: &mut usize) -> Sought
         requires { from ≤ length text.now }
@@ -418,8 +422,8 @@ impl Matcher {
         }
     }
 
-    /// The best match from the place on, as far as the budget lasts, of which what is read costs. The first start mostly is a
-    /// match, and then nothing else is needed.
+    /// The best match from the place on, as far as the budget lasts, of which what is read costs. The first start
+    /// mostly is a match, and then nothing else is needed.
     pub fn find(&self, text: &[u8], from: usize, budget: &mut usize) -> Sought
         requires { from ≤ length text.now }
         ensures { IsSought self.now text.now from result }
@@ -441,8 +445,8 @@ impl Matcher {
         }
     }
 
-    /// The end of the longest match from the place, if there is one, where nothing is read past it; `None` where the table does
-    /// not say.
+    /// The end of the longest match from the place, if there is one, where nothing is read past it; `None` where the
+    /// table does not say.
     fn longest_by(
         &self,
         text: &[u8],
@@ -518,8 +522,8 @@ impl Matcher {
         }
     }
 
-    /// The best match from the place on, where the table says no more, or not within the budget, of which this is left. What the
-    /// text read backwards shows is kept in `hopes`.
+    /// The best match from the place on, where the table says no more, or not within the budget, of which this is left.
+    /// What the text read backwards shows is kept in `hopes`.
     ///
     /// Errors: `Memory` where memory is refused.
     #[inline(never)]

@@ -33,7 +33,8 @@ pub struct Frame {
 }
 
 fn cat_node(alloc: Global, left: Node, right: Node) -> Result<Node, Memory>
-    ensures { IfOk result (λ n. (sets : List (List Bool)) → IsSame (pattern sets n) (cat (pattern sets left) (pattern sets right))) }
+    ensures { IfOk result
+        (λ n. (sets : List (List Bool)) → IsSame (pattern sets n) (cat (pattern sets left) (pattern sets right))) }
 {
     match left {
         Node::Empty => Ok(right),
@@ -45,7 +46,8 @@ fn cat_node(alloc: Global, left: Node, right: Node) -> Result<Node, Memory>
 }
 
 fn alt_node(alloc: Global, left: Node, right: Node) -> Result<Node, Memory>
-    ensures { IfOk result (λ n. (sets : List (List Bool)) → IsSame (pattern sets n) (alt (pattern sets left) (pattern sets right))) }
+    ensures { IfOk result
+        (λ n. (sets : List (List Bool)) → IsSame (pattern sets n) (alt (pattern sets left) (pattern sets right))) }
 {
     match left {
         Node::Empty => {
@@ -102,7 +104,9 @@ fn repeat_other(
     least: usize,
     more: Option<usize>,
 ) -> Result<Node, Memory>
-    ensures { IfOk result (λ n. (sets : List (List Bool)) → IsSame (pattern sets n) (repeat (pattern sets node) least (option_map (λ m. least + m) more))) }
+    ensures { IfOk result
+        (λ n. (sets : List (List Bool)) →
+        IsSame (pattern sets n) (repeat (pattern sets node) least (option_map (λ m. least + m) more))) }
 {
     if is_exactly(0, least, more) {
         Ok(Node::Empty)
@@ -116,7 +120,9 @@ fn repeat_other(
 /// The node repeated. The tree stays small: what is empty stays empty, and of `*`, `+` and `?` on one
 /// another one is left. So no text of a few bytes makes a large program.
 fn repeat_node(alloc: Global, node: Node, least: usize, more: Option<usize>) -> Result<Node, Memory>
-    ensures { IfOk result (λ n. (sets : List (List Bool)) → IsSame (pattern sets n) (repeat (pattern sets node) least (option_map (λ m. least + m) more))) }
+    ensures { IfOk result
+        (λ n. (sets : List (List Bool)) →
+        IsSame (pattern sets n) (repeat (pattern sets node) least (option_map (λ m. least + m) more))) }
 {
     match node {
         Node::Empty => Ok(Node::Empty),
@@ -137,7 +143,9 @@ fn repeat_node(alloc: Global, node: Node, least: usize, more: Option<usize>) -> 
 }
 
 fn cat_parts(alloc: Global, left: Part, right: Part) -> Result<Part, Memory>
-    ensures { IfOk result (λ r. (sets : List (List Bool)) (p q : spec.Meant) → spec.Stands sets left p → spec.Stands sets right q → spec.Stands sets r (spec.cats p q)) }
+    ensures { IfOk result
+        (λ r. (sets : List (List Bool)) (p q : spec.Meant) → spec.Stands sets left p → spec.Stands sets right q →
+        spec.Stands sets r (spec.cats p q)) }
 {
     let Part { node, size } = left;
     let size = size.saturating_add(right.size).min(TOO_LARGE);
@@ -146,7 +154,9 @@ fn cat_parts(alloc: Global, left: Part, right: Part) -> Result<Part, Memory>
 }
 
 fn alt_parts(alloc: Global, left: Part, right: Part) -> Result<Part, Memory>
-    ensures { IfOk result (λ r. (sets : List (List Bool)) (p q : spec.Meant) → spec.Stands sets left p → spec.Stands sets right q → spec.Stands sets r (spec.alts p q)) }
+    ensures { IfOk result
+        (λ r. (sets : List (List Bool)) (p q : spec.Meant) → spec.Stands sets left p → spec.Stands sets right q →
+        spec.Stands sets r (spec.alts p q)) }
 {
     let Part { node, size } = left;
     let size = size.saturating_add(right.size).min(TOO_LARGE);
@@ -164,7 +174,9 @@ fn widened(more: Option<u16>) -> Option<usize>
 }
 
 fn repeat_part(alloc: Global, part: Part, times: Times) -> Result<Part, Memory>
-    ensures { IfOk result (λ r. (sets : List (List Bool)) (p : spec.Meant) → spec.Stands sets part p → spec.Stands sets r (spec.repeats p times.least (option_map (λ m. times.least + m) times.more) times.factor)) }
+    ensures { IfOk result
+        (λ r. (sets : List (List Bool)) (p : spec.Meant) → spec.Stands sets part p →
+        spec.Stands sets r (spec.repeats p times.least (option_map (λ m. times.least + m) times.more) times.factor)) }
 {
     let Part { node, size } = part;
     let size = size.saturating_mul(times.factor as usize).min(TOO_LARGE);
@@ -174,7 +186,9 @@ fn repeat_part(alloc: Global, part: Part, times: Times) -> Result<Part, Memory>
 }
 
 fn flush(alloc: Global, pieces: Part, last: Option<Part>) -> Result<Part, Memory>
-    ensures { IfOk result (λ r. (sets : List (List Bool)) (p : spec.Meant) (l : Option spec.Meant) → spec.Stands sets pieces p → spec.StandsAny sets last l → spec.Stands sets r (spec.flush p l)) }
+    ensures { IfOk result
+        (λ r. (sets : List (List Bool)) (p : spec.Meant) (l : Option spec.Meant) → spec.Stands sets pieces p →
+        spec.StandsAny sets last l → spec.Stands sets r (spec.flush p l)) }
 {
     match last {
         None => Ok(pieces),
@@ -187,7 +201,9 @@ fn flush(alloc: Global, pieces: Part, last: Option<Part>) -> Result<Part, Memory
 
 /// The pattern of the frame as a whole.
 pub fn finish(alloc: Global, frame: Frame) -> Result<Part, Memory>
-    ensures { IfOk result (λ r. (sets : List (List Bool)) (f : spec.Frame) → spec.IsFrame sets frame f → spec.Stands sets r (spec.finished f)) }
+    ensures { IfOk result
+        (λ r. (sets : List (List Bool)) (f : spec.Frame) → spec.IsFrame sets frame f →
+        spec.Stands sets r (spec.finished f)) }
 {
     let Frame {
         before,
@@ -205,7 +221,9 @@ pub fn finish(alloc: Global, frame: Frame) -> Result<Part, Memory>
 }
 
 fn with_item(alloc: Global, frame: Frame, item: Part) -> Result<Frame, Memory>
-    ensures { IfOk result (λ r. (sets : List (List Bool)) (f : spec.Frame) (p : spec.Meant) → spec.IsFrame sets frame f → spec.Stands sets item p → spec.IsFrame sets r (spec.with_last f p)) }
+    ensures { IfOk result
+        (λ r. (sets : List (List Bool)) (f : spec.Frame) (p : spec.Meant) → spec.IsFrame sets frame f →
+        spec.Stands sets item p → spec.IsFrame sets r (spec.with_last f p)) }
 {
     let Frame {
         before,
@@ -221,7 +239,9 @@ fn with_item(alloc: Global, frame: Frame, item: Part) -> Result<Frame, Memory>
 }
 
 fn with_anchor(alloc: Global, frame: Frame, node: Node) -> Result<Frame, Memory>
-    ensures { IfOk result (λ r. (sets : List (List Bool)) (f : spec.Frame) (p : Pattern) → spec.IsFrame sets frame f → ((all : List (List Bool)) → IsSame (pattern all node) p) → spec.IsFrame sets r (spec.with_anchor f p)) }
+    ensures { IfOk result
+        (λ r. (sets : List (List Bool)) (f : spec.Frame) (p : Pattern) → spec.IsFrame sets frame f →
+        ((all : List (List Bool)) → IsSame (pattern all node) p) → spec.IsFrame sets r (spec.with_anchor f p)) }
 {
     let Frame {
         before,
@@ -239,7 +259,11 @@ fn with_anchor(alloc: Global, frame: Frame, node: Node) -> Result<Frame, Memory>
 
 /// The frame with its last item repeated.
 fn with_times(alloc: Global, frame: Frame, times: Times) -> Result<Frame, Memory>
-    ensures { IfOk result (λ r. (sets : List (List Bool)) (b : Option spec.Meant) (p q : spec.Meant) → spec.IsFrame sets frame (spec.frame b p (Some q)) → spec.IsFrame sets r (spec.frame b p (Some (spec.repeats q times.least (option_map (λ m. times.least + m) times.more) times.factor)))) }
+    ensures { IfOk result
+        (λ r. (sets : List (List Bool)) (b : Option spec.Meant) (p q : spec.Meant) →
+        spec.IsFrame sets frame (spec.frame b p (Some q)) →
+        spec.IsFrame sets r (spec.frame b p
+        (Some (spec.repeats q times.least (option_map (λ m. times.least + m) times.more) times.factor)))) }
 {
     let Frame {
         before,
@@ -278,7 +302,9 @@ pub fn fresh() -> Frame
 }
 
 fn with_bar(alloc: Global, frame: Frame) -> Result<Frame, Memory>
-    ensures { IfOk result (λ r. (sets : List (List Bool)) (f : spec.Frame) → spec.IsFrame sets frame f → spec.IsFrame sets r (spec.with_bar f)) }
+    ensures { IfOk result
+        (λ r. (sets : List (List Bool)) (f : spec.Frame) → spec.IsFrame sets frame f →
+        spec.IsFrame sets r (spec.with_bar f)) }
 {
     let branches = finish(alloc, frame)?;
     Ok(Frame {
@@ -298,7 +324,10 @@ pub fn take(
     top: Frame,
     groups: &mut Vec<Frame>,
 ) -> Result<Frame, Memory>
-    ensures { IfOk result (λ r. (sets : List (List Bool)) (t : spec_token.Token) (os : List spec.Frame) (f : spec.Frame) → IsToken sets token t → spec.AreFrames sets groups.old.items os → spec.IsFrame sets top f → spec.IsStack sets groups.new.items r (spec.taken t os f)) }
+    ensures { IfOk result
+        (λ r. (sets : List (List Bool)) (t : spec_token.Token) (os : List spec.Frame) (f : spec.Frame) →
+        IsToken sets token t → spec.AreFrames sets groups.old.items os → spec.IsFrame sets top f →
+        spec.IsStack sets groups.new.items r (spec.taken t os f)) }
 {
     match token {
         Token::Atom(class) => {

@@ -24,16 +24,21 @@ use Rattle.awk_forms.specs.Runs.{IsGiven}
 
 -- the arguments are evaluated from left to right, whatever function is called, and wherever
 pub record Argues {W : Type 0} (ghosts : Ghosts W)
-    (cx : Context) (xs : Given → Arguments) (old : Whole) (w : W) (result : Result (List Value) Halt) (new : Whole) (w' : W) : Type 0 where
+    (cx : Context) (xs : Given → Arguments) (old : Whole) (w : W) (result : Result (List Value) Halt) (new : Whole)
+    (w' : W) : Type 0 where
   pub plays : (g : Given) → IsGiven cx g → (place : Place) (f : ℕ) →
-      Meets ghosts (base g) (Agreeing g) used g (value (p.call place f (xs g))) (λ vs k. At (Value_of (p.call place f (xs g))) (reverse vs) ∷ k) old w result new w'
+      Meets ghosts (base g) (Agreeing g) used g (value (p.call place f (xs g)))
+      (λ vs k. At (Value_of (p.call place f (xs g))) (reverse vs) ∷ k) old w result new w'
   pub owns : Owns (ghosts.open_numbers w') new.1
 
 -- the next argument is evaluated, where it is evaluated, whatever stands before it
 pub record Argued {W : Type 0} (ghosts : Ghosts W)
-    (cx : Context) (x : Given → Argument) (old : Whole) (w : W) (result : Result Value Halt) (new : Whole) (w' : W) : Type 0 where
-  pub plays : (g : Given) → IsGiven cx g → (place : Place) (f : ℕ) (xs : Arguments) (vs : List Value) → slice_get (arguments xs) (length vs) ≡ Some (x g) →
-      Meets ghosts (base g) (Agreeing g) used g (At (Value_of (p.call place f xs)) vs) (λ v k. At (Value_of (p.call place f xs)) (v ∷ vs) ∷ k) old w result new w'
+    (cx : Context) (x : Given → Argument) (old : Whole) (w : W) (result : Result Value Halt) (new : Whole) (w' : W) :
+    Type 0 where
+  pub plays : (g : Given) → IsGiven cx g → (place : Place) (f : ℕ) (xs : Arguments) (vs : List Value) →
+      slice_get (arguments xs) (length vs) ≡ Some (x g) →
+      Meets ghosts (base g) (Agreeing g) used g (At (Value_of (p.call place f xs)) vs)
+      (λ v k. At (Value_of (p.call place f xs)) (v ∷ vs) ∷ k) old w result new w'
   pub owns : Owns (ghosts.open_numbers w') new.1
 
 -- an argument is an expression whose value is there, and is this one

@@ -20,12 +20,22 @@ use Rattle.awk_store.specs.Wholes.{names_in}
 pub record Nests {W : Type 0} (ghosts : Ghosts W)
     (level : ℕ)
     (value_pre : Bor Context → Bor Expr → ℕ → MutBor Run → MutBor W → Type 0)
-    (value_post : Bor Context → Bor Expr → ℕ → MutBor Run → MutBor W → Result Value Halt → MutBor Run → MutBor W → Type 0)
+    (value_post : Bor Context → Bor Expr → ℕ → MutBor Run → MutBor W → Result Value Halt → MutBor Run → MutBor W →
+    Type 0)
     (statement_pre : Bor Context → Bor Statement → ℕ → MutBor Run → MutBor W → Type 0)
-    (statement_post : Bor Context → Bor Statement → ℕ → MutBor Run → MutBor W → Result Flow Halt → MutBor Run → MutBor W → Type 0) : Type 0 where
-  pub value_callable : (cx : Bor Context) (e : Bor Expr) (n : ℕ) → n ≤ level → (run : MutBor Run) (w : MutBor W) → Owns (ghosts.open_numbers w.now) run.now.streams → value_pre cx e n run w
-  pub value_does : (cx : Bor Context) (e : Bor Expr) (n : ℕ) → n ≤ level → (run : MutBor Run) (w : MutBor W) (r : Result Value Halt) (run' : MutBor Run) (w' : MutBor W) → value_post cx e n run w r run' w' →
-      Does ghosts cx.now (λ g. value (view (names_in g) e.now)) (λ g. give) (run.now.store, run.now.streams) w.now r (run'.now.store, run'.now.streams) w'.now
-  pub statement_callable : (cx : Bor Context) (x : Bor Statement) (n : ℕ) → n ≤ level → (run : MutBor Run) (w : MutBor W) → Owns (ghosts.open_numbers w.now) run.now.streams → statement_pre cx x n run w
-  pub statement_does : (cx : Bor Context) (x : Bor Statement) (n : ℕ) → n ≤ level → (run : MutBor Run) (w : MutBor W) (r : Result Flow Halt) (run' : MutBor Run) (w' : MutBor W) → statement_post cx x n run w r run' w' →
-      Does ghosts cx.now (λ g. Do (Start (view_statement (names_in g) x.now))) (λ g. flows) (run.now.store, run.now.streams) w.now r (run'.now.store, run'.now.streams) w'.now
+    (statement_post : Bor Context → Bor Statement → ℕ → MutBor Run → MutBor W → Result Flow Halt → MutBor Run →
+    MutBor W → Type 0) : Type 0 where
+  pub value_callable : (cx : Bor Context) (e : Bor Expr) (n : ℕ) → n ≤ level → (run : MutBor Run) (w : MutBor W) →
+      Owns (ghosts.open_numbers w.now) run.now.streams → value_pre cx e n run w
+  pub value_does : (cx : Bor Context) (e : Bor Expr) (n : ℕ) → n ≤ level →
+      (run : MutBor Run) (w : MutBor W) (r : Result Value Halt) (run' : MutBor Run) (w' : MutBor W) →
+      value_post cx e n run w r run' w' →
+      Does ghosts cx.now (λ g. value (view (names_in g) e.now)) (λ g. give) (run.now.store, run.now.streams) w.now r
+      (run'.now.store, run'.now.streams) w'.now
+  pub statement_callable : (cx : Bor Context) (x : Bor Statement) (n : ℕ) → n ≤ level →
+      (run : MutBor Run) (w : MutBor W) → Owns (ghosts.open_numbers w.now) run.now.streams → statement_pre cx x n run w
+  pub statement_does : (cx : Bor Context) (x : Bor Statement) (n : ℕ) → n ≤ level →
+      (run : MutBor Run) (w : MutBor W) (r : Result Flow Halt) (run' : MutBor Run) (w' : MutBor W) →
+      statement_post cx x n run w r run' w' →
+      Does ghosts cx.now (λ g. Do (Start (view_statement (names_in g) x.now))) (λ g. flows)
+      (run.now.store, run.now.streams) w.now r (run'.now.store, run'.now.streams) w'.now

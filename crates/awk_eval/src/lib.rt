@@ -1,7 +1,8 @@
-//! Statements of awk scripts are carried out over any world, as plain awk does ("Actions" of POSIX.1-2017 XCU awk), with the calls of
-//! the script's functions.
+//! Statements of awk scripts are carried out over any world, as plain awk does ("Actions" of POSIX.1-2017 XCU awk),
+//! with the calls of the script's functions.
 //!
-//! The forms of statements, as those of expressions in awk_forms, do not call themselves: the recursion of both stands in `walk` alone.
+//! The forms of statements, as those of expressions in awk_forms, do not call themselves: the recursion of both stands
+//! in `walk` alone.
 #![tactic(auto)]
 
 mod calls;

@@ -1,4 +1,5 @@
-// Loops. A turn takes at least one step, and so does the loop before its first one: no loop has more tests than the run has steps.
+// Loops. A turn takes at least one step, and so does the loop before its first one: no loop has more tests than the run
+// has steps.
 ghost use Rattle.std.specs.Prelude.{[], option_map, option_copied};
 ghost use Rattle.awk_streams.specs.Tasks.{Owns};
 ghost use Rattle.awk_machine.specs.Pieces.{At, Do, Doing, Keys, Test, Turn};
@@ -34,7 +35,9 @@ fn holds<W: World, E: Evaluates<W>>(
 ) -> Result<bool, Halt>
     requires can { E.can on }
     requires owns { Owns (W.open_numbers world.old) run.old.streams }
-    ensures { Does W.World cx.now (λ g. At (Test (loop_of (names_in g) (option_copied test.entry) inner.now (option_copied after.entry))) []) (λ g. tested (loop_of (names_in g) (option_copied test.entry) inner.now (option_copied after.entry)))
+    ensures { Does W.World cx.now
+        (λ g. At (Test (loop_of (names_in g) (option_copied test.entry) inner.now (option_copied after.entry))) [])
+        (λ g. tested (loop_of (names_in g) (option_copied test.entry) inner.now (option_copied after.entry)))
         (whole_of run.old) world.old result (whole_of run.new) world.new }
 {
     match test {
@@ -55,7 +58,9 @@ fn behind<W: World, E: Evaluates<W>>(
 ) -> Result<(), Halt>
     requires can { E.can on }
     requires owns { Owns (W.open_numbers world.old) run.old.streams }
-    ensures { Does W.World cx.now (λ g. At (Turn (loop_of (names_in g) (option_copied test.entry) inner.now (option_copied after.entry))) []) (λ g. λ u. to_test (loop_of (names_in g) (option_copied test.entry) inner.now (option_copied after.entry)))
+    ensures { Does W.World cx.now
+        (λ g. At (Turn (loop_of (names_in g) (option_copied test.entry) inner.now (option_copied after.entry))) [])
+        (λ g. λ u. to_test (loop_of (names_in g) (option_copied test.entry) inner.now (option_copied after.entry)))
         (whole_of run.old) world.old result (whole_of run.new) world.new }
 {
     let Some(after) = after else {
@@ -76,7 +81,9 @@ fn turns<W: World, E: Evaluates<W>>(
 ) -> Result<Flow, Halt>
     requires can { E.can on }
     requires owns { Owns (W.open_numbers world.old) run.old.streams }
-    ensures { Does W.World cx.now (λ g. At (Test (loop_of (names_in g) (option_copied test.entry) inner.now (option_copied after.entry))) []) (λ g. flows)
+    ensures { Does W.World cx.now
+        (λ g. At (Test (loop_of (names_in g) (option_copied test.entry) inner.now (option_copied after.entry))) [])
+        (λ g. flows)
         (whole_of run.old) world.old result (whole_of run.new) world.new }
 {
     for _turn in 0..cx.host.bound() {
@@ -104,7 +111,9 @@ pub fn turn_first<W: World, E: Evaluates<W>>(
 ) -> Result<Flow, Halt>
     requires can { E.can on }
     requires owns { Owns (W.open_numbers world.old) run.old.streams }
-    ensures { Does W.World cx.now (λ g. At (Doing (p.do_while (view_statement (names_in g) inner.now) (view (names_in g) test.now))) []) (λ g. flows)
+    ensures { Does W.World cx.now
+        (λ g. At (Doing (p.do_while (view_statement (names_in g) inner.now) (view (names_in g) test.now))) [])
+        (λ g. flows)
         (whole_of run.old) world.old result (whole_of run.new) world.new }
 {
     let flow = on.statement(cx, inner, run, world)?;
@@ -126,7 +135,9 @@ pub fn while_loop<W: World, E: Evaluates<W>>(
 ) -> Result<Flow, Halt>
     requires can { E.can on }
     requires owns { Owns (W.open_numbers world.old) run.old.streams }
-    ensures { Does W.World cx.now (λ g. At (Doing (p.while_do (view (names_in g) test.now) (view_statement (names_in g) inner.now))) []) (λ g. flows)
+    ensures { Does W.World cx.now
+        (λ g. At (Doing (p.while_do (view (names_in g) test.now) (view_statement (names_in g) inner.now))) [])
+        (λ g. flows)
         (whole_of run.old) world.old result (whole_of run.new) world.new }
 {
     turns(cx, Some(test), inner, None, on, run, world)
@@ -145,7 +156,9 @@ pub fn first_then<W: World, E: Evaluates<W>>(
 ) -> Result<Flow, Halt>
     requires can { E.can on }
     requires owns { Owns (W.open_numbers world.old) run.old.streams }
-    ensures { Does W.World cx.now (λ g. At (Doing (p.for_loop (option_map (view (names_in g)) first.now) (option_map (view (names_in g)) test.now) (option_map (view (names_in g)) after.now) (view_statement (names_in g) inner.now))) []) (λ g. flows)
+    ensures { Does W.World cx.now
+        (λ g. At (Doing (p.for_loop (option_map (view (names_in g)) first.now) (option_map (view (names_in g)) test.now)
+        (option_map (view (names_in g)) after.now) (view_statement (names_in g) inner.now))) []) (λ g. flows)
         (whole_of run.old) world.old result (whole_of run.new) world.new }
 {
     let test = test.as_ref();
@@ -170,7 +183,9 @@ fn over<W: World, E: Evaluates<W>>(
 ) -> Result<Flow, Halt>
     requires can { E.can on }
     requires owns { Owns (W.open_numbers world.old) run.old.streams }
-    ensures { Does W.World cx.now (λ g. Do (Keys place (variable_of (names_in g) variable) (view_statement (names_in g) inner.now) keys.now)) (λ g. flows)
+    ensures { Does W.World cx.now
+        (λ g. Do (Keys place (variable_of (names_in g) variable) (view_statement (names_in g) inner.now) keys.now))
+        (λ g. flows)
         (whole_of run.old) world.old result (whole_of run.new) world.new }
 {
     for key in keys {
@@ -199,7 +214,9 @@ pub fn over_keys<W: World, E: Evaluates<W>>(
 ) -> Result<Flow, Halt>
     requires can { E.can on }
     requires owns { Owns (W.open_numbers world.old) run.old.streams }
-    ensures { Does W.World cx.now (λ g. At (Doing (p.for_each place (variable_of (names_in g) variable) (variable_of (names_in g) array) (view_statement (names_in g) inner.now))) []) (λ g. flows)
+    ensures { Does W.World cx.now
+        (λ g. At (Doing (p.for_each place (variable_of (names_in g) variable) (variable_of (names_in g) array)
+        (view_statement (names_in g) inner.now))) []) (λ g. flows)
         (whole_of run.old) world.old result (whole_of run.new) world.new }
 {
     let Ok(keys) = run.store.keys(array) else {

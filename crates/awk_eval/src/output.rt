@@ -39,7 +39,9 @@ pub fn print<W: World, E: Evaluates<W>>(
 ) -> Result<Flow, Halt>
     requires can { E.can on }
     requires owns { Owns (W.open_numbers world.old) run.old.streams }
-    ensures { Does W.World cx.now (λ g. At (Doing (p.print place (map (view (names_in g)) xs.now) (option_map (view_redirection (names_in g)) to.now))) []) (λ g. flows)
+    ensures { Does W.World cx.now
+        (λ g. At (Doing (p.print place (map (view (names_in g)) xs.now)
+        (option_map (view_redirection (names_in g)) to.now))) []) (λ g. flows)
         (whole_of run.old) world.old result (whole_of run.new) world.new }
 {
     split_for_items(&mut run.store, xs)?;
@@ -67,7 +69,9 @@ fn redirect<W: World, E: Evaluates<W>>(
 ) -> Result<Flow, Halt>
     requires can { E.can on }
     requires owns { Owns (W.open_numbers world.old) run.old.streams }
-    ensures { Does W.World cx.now (λ g. At (Doing (p.print place (map (view (names_in g)) xs.now) (Some (view_redirection (names_in g) to.now)))) []) (λ g. flows)
+    ensures { Does W.World cx.now
+        (λ g. At (Doing (p.print place (map (view (names_in g)) xs.now) (Some (view_redirection (names_in g) to.now))))
+        []) (λ g. flows)
         (whole_of run.old) world.old result (whole_of run.new) world.new }
 {
     split_for(&mut run.store, &to.target)?;
@@ -99,7 +103,8 @@ fn general_print<W: World, E: Evaluates<W>>(
 ) -> Result<Flow, Halt>
     requires can { E.can on }
     requires owns { Owns (W.open_numbers world.old) run.old.streams }
-    ensures { Does W.World cx.now (λ g. At (Doing (p.print place (map (view (names_in g)) xs.now) None)) []) (λ g. flows)
+    ensures { Does W.World cx.now (λ g. At (Doing (p.print place (map (view (names_in g)) xs.now) None)) [])
+        (λ g. flows)
         (whole_of run.old) world.old result (whole_of run.new) world.new }
 {
     let mut values = Vec::new(cx.alloc);
@@ -122,7 +127,9 @@ fn general_redirect<W: World, E: Evaluates<W>>(
 ) -> Result<Flow, Halt>
     requires can { E.can on }
     requires owns { Owns (W.open_numbers world.old) run.old.streams }
-    ensures { Does W.World cx.now (λ g. At (Doing (p.print place (map (view (names_in g)) xs.now) (Some (view_redirection (names_in g) to.now)))) []) (λ g. flows)
+    ensures { Does W.World cx.now
+        (λ g. At (Doing (p.print place (map (view (names_in g)) xs.now) (Some (view_redirection (names_in g) to.now))))
+        []) (λ g. flows)
         (whole_of run.old) world.old result (whole_of run.new) world.new }
 {
     let mut values = Vec::new(cx.alloc);
@@ -161,7 +168,9 @@ pub fn printf<W: World, E: Evaluates<W>>(
 ) -> Result<Flow, Halt>
     requires can { E.can on }
     requires owns { Owns (W.open_numbers world.old) run.old.streams }
-    ensures { Does W.World cx.now (λ g. At (Doing (p.printf place (view (names_in g) x.now) (map (view (names_in g)) xs.now) (option_map (view_redirection (names_in g)) to.now))) []) (λ g. flows)
+    ensures { Does W.World cx.now
+        (λ g. At (Doing (p.printf place (view (names_in g) x.now) (map (view (names_in g)) xs.now)
+        (option_map (view_redirection (names_in g)) to.now))) []) (λ g. flows)
         (whole_of run.old) world.old result (whole_of run.new) world.new }
 {
     let format = on.value(cx, x, run, world)?;

@@ -49,7 +49,8 @@ pub fn body<W: World, E: Evaluates<W>>(
     Ok(Flow::On)
 }
 
-/// What a block does. It stands by itself, and so does what a test chooses: they nest most, and take the least of the stack so.
+/// What a block does. It stands by itself, and so does what a test chooses: they nest most, and take the least of the
+/// stack so.
 #[inline(never)]
 pub fn block<W: World, E: Evaluates<W>>(
     cx: &Context<'_>,
@@ -146,7 +147,9 @@ fn delete<W: World, E: Evaluates<W>>(
 ) -> Result<Flow, Halt>
     requires can { E.can on }
     requires owns { Owns (W.open_numbers world.old) run.old.streams }
-    ensures { Does W.World cx.now (λ g. At (Doing (p.delete place (variable_of (names_in g) array) (map (view (names_in g)) keys.now))) []) (λ g. flows)
+    ensures { Does W.World cx.now
+        (λ g. At (Doing (p.delete place (variable_of (names_in g) array) (map (view (names_in g)) keys.now))) [])
+        (λ g. flows)
         (whole_of run.old) world.old result (whole_of run.new) world.new }
 {
     let mut values = Vec::new(cx.alloc);
@@ -166,7 +169,8 @@ fn delete<W: World, E: Evaluates<W>>(
 fn jump<W: World>(which: Jump, run: &mut Run, world: &mut W) -> Result<Flow, Halt>
     requires { Owns (W.open_numbers world.old) run.old.streams }
     ensures task { (g : Given)
-        → Performs W.World g (At (Doing (p.jump which)) []) flows (whole_of run.old) world.old result (whole_of run.new) world.new }
+        → Performs W.World g (At (Doing (p.jump which)) []) flows (whole_of run.old) world.old result (whole_of run.new)
+        world.new }
     ensures owns { Owns (W.open_numbers world.new) run.new.streams }
 {
     match which {
@@ -188,7 +192,8 @@ fn leave_by<W: World, E: Evaluates<W>>(
 ) -> Result<Flow, Halt>
     requires can { E.can on }
     requires owns { Owns (W.open_numbers world.old) run.old.streams }
-    ensures { Does W.World cx.now (λ g. At (Doing (p.exit place (option_map (view (names_in g)) x.now))) []) (λ g. flows)
+    ensures { Does W.World cx.now (λ g. At (Doing (p.exit place (option_map (view (names_in g)) x.now))) [])
+        (λ g. flows)
         (whole_of run.old) world.old result (whole_of run.new) world.new }
 {
     match x {
@@ -234,7 +239,9 @@ pub fn when<W: World, E: Evaluates<W>>(
 ) -> Result<Flow, Halt>
     requires can { E.can on }
     requires owns { Owns (W.open_numbers world.old) run.old.streams }
-    ensures { Does W.World cx.now (λ g. At (Doing (p.if_then (view (names_in g) test.now) (view_statement (names_in g) then.now))) []) (λ g. flows)
+    ensures { Does W.World cx.now
+        (λ g. At (Doing (p.if_then (view (names_in g) test.now) (view_statement (names_in g) then.now))) [])
+        (λ g. flows)
         (whole_of run.old) world.old result (whole_of run.new) world.new }
 {
     let holds = truth_of(cx, test, on, run, world)?;
@@ -258,7 +265,9 @@ pub fn either<W: World, E: Evaluates<W>>(
 ) -> Result<Flow, Halt>
     requires can { E.can on }
     requires owns { Owns (W.open_numbers world.old) run.old.streams }
-    ensures { Does W.World cx.now (λ g. At (Doing (p.if_else (view (names_in g) test.now) (view_statement (names_in g) then.now) (view_statement (names_in g) other.now))) []) (λ g. flows)
+    ensures { Does W.World cx.now
+        (λ g. At (Doing (p.if_else (view (names_in g) test.now) (view_statement (names_in g) then.now)
+        (view_statement (names_in g) other.now))) []) (λ g. flows)
         (whole_of run.old) world.old result (whole_of run.new) world.new }
 {
     let holds = truth_of(cx, test, on, run, world)?;

@@ -76,8 +76,8 @@ impl<
     }
 }
 
-/// The value of an expression. Its parts are evaluated within what it leaves of the stack; where that is too little, memory for them
-/// is refused.
+/// The value of an expression. Its parts are evaluated within what it leaves of the stack; where that is too little,
+/// memory for them is refused.
 #[cycle(walk)]
 pub fn value<W: World>(
     cx: &Context<'_>,

@@ -13,5 +13,6 @@ use Rattle.awk_tree.specs.Expressions.{expr}
 pub record Nests (depth : ℕ) (pre : Global → MutBor (List Token) → ℕ → Goal → Type 0)
     (post : Global → MutBor (List Token) → ℕ → Goal → Result Expr Fault → MutBor (List Token) → Type 0) : Type 0 where
   pub callable : (alloc : Global) (old : MutBor (List Token)) (goal : Goal) → pre alloc old depth goal
-  pub reads : (alloc : Global) (old new : MutBor (List Token)) (goal : Goal) (r : Result Expr Fault) → post alloc old depth goal r new
+  pub reads : (alloc : Global) (old new : MutBor (List Token)) (goal : Goal) (r : Result Expr Fault) →
+      post alloc old depth goal r new
       → Reads view (expr depth goal old.now) r new.now

@@ -34,7 +34,8 @@ impl<F: Fn(Global, &mut Tokens<'_>, usize, Goal) -> Result<Boxed<Expr>, Fault>> 
     #[tactic(auto, unfolding(awk_tree::specs::Expressions::factors))]
     fn factors(&self, tokens: &mut Tokens<'_>) -> Result<Items<Term<Expr>>, Fault>
         requires { Nests self.now.depth (F.pre self.now.inner) (F.post self.now.inner) }
-        ensures { Reads (map view_term) (spec.factors self.now.depth (spec.expr self.now.depth) tokens.old) result tokens.new }
+        ensures { Reads (map view_term) (spec.factors self.now.depth (spec.expr self.now.depth) tokens.old) result
+            tokens.new }
     {
         let mut found = Items::new(self.alloc);
         for _turn in 0..tokens.left() {
@@ -58,7 +59,8 @@ impl<F: Fn(Global, &mut Tokens<'_>, usize, Goal) -> Result<Boxed<Expr>, Fault>> 
         left: Boxed<Expr>,
     ) -> Result<Boxed<Expr>, Fault>
         requires { Nests self.now.depth (F.pre self.now.inner) (F.post self.now.inner) }
-        ensures { Reads view (spec.product_rest self.now.depth (spec.expr self.now.depth) (view left) tokens.old) result tokens.new }
+        ensures { Reads view (spec.product_rest self.now.depth (spec.expr self.now.depth) (view left) tokens.old) result
+            tokens.new }
     {
         let (left, factors) = pair(left, self.factors(tokens))?;
         Ok(product_of(self.alloc, left, factors)?)
@@ -82,7 +84,8 @@ impl<F: Fn(Global, &mut Tokens<'_>, usize, Goal) -> Result<Boxed<Expr>, Fault>> 
     #[tactic(auto, unfolding(awk_tree::specs::Expressions::addends))]
     fn addends(&self, tokens: &mut Tokens<'_>) -> Result<Items<Term<Expr>>, Fault>
         requires { Nests self.now.depth (F.pre self.now.inner) (F.post self.now.inner) }
-        ensures { Reads (map view_term) (spec.addends self.now.depth (spec.expr self.now.depth) tokens.old) result tokens.new }
+        ensures { Reads (map view_term) (spec.addends self.now.depth (spec.expr self.now.depth) tokens.old) result
+            tokens.new }
     {
         let mut found = Items::new(self.alloc);
         for _turn in 0..tokens.left() {
@@ -106,7 +109,8 @@ impl<F: Fn(Global, &mut Tokens<'_>, usize, Goal) -> Result<Boxed<Expr>, Fault>> 
         left: Boxed<Expr>,
     ) -> Result<Boxed<Expr>, Fault>
         requires { Nests self.now.depth (F.pre self.now.inner) (F.post self.now.inner) }
-        ensures { Reads view (spec.sum_rest self.now.depth (spec.expr self.now.depth) (view left) tokens.old) result tokens.new }
+        ensures { Reads view (spec.sum_rest self.now.depth (spec.expr self.now.depth) (view left) tokens.old) result
+            tokens.new }
     {
         let (left, addends) = pair(left, self.addends(tokens))?;
         Ok(sum_of(self.alloc, left, addends)?)
@@ -149,7 +153,8 @@ impl<F: Fn(Global, &mut Tokens<'_>, usize, Goal) -> Result<Boxed<Expr>, Fault>> 
         left: Boxed<Expr>,
     ) -> Result<Boxed<Expr>, Fault>
         requires { Nests self.now.depth (F.pre self.now.inner) (F.post self.now.inner) }
-        ensures { Reads view (spec.concat_rest self.now.depth (spec.expr self.now.depth) (view left) tokens.old) result tokens.new }
+        ensures { Reads view (spec.concat_rest self.now.depth (spec.expr self.now.depth) (view left) tokens.old) result
+            tokens.new }
     {
         let (left, parts) = pair(left, self.parts(tokens))?;
         Ok(concat_of(self.alloc, left, parts)?)

@@ -22,7 +22,8 @@ impl<F: Fn(Global, &mut Tokens<'_>, usize, Goal) -> Result<Boxed<Expr>, Fault>> 
     #[tactic(auto, using(awk_tree::proofs::Views::views), unfolding(awk_tree::specs::Expressions::one_argument))]
     fn one_argument(&self, tokens: &mut Tokens<'_>) -> Result<Boxed<Expr>, Fault>
         requires { Nests self.now.depth (F.pre self.now.inner) (F.post self.now.inner) }
-        ensures { Reads view (spec.one_argument self.now.depth (spec.expr self.now.depth) tokens.old) result tokens.new }
+        ensures { Reads view (spec.one_argument self.now.depth (spec.expr self.now.depth) tokens.old) result
+            tokens.new }
     {
         tokens.one(Terminal::OpenParen)?;
         let x = self.nested(tokens, Goal::Expr(false))?;
@@ -39,7 +40,8 @@ impl<F: Fn(Global, &mut Tokens<'_>, usize, Goal) -> Result<Boxed<Expr>, Fault>> 
         which: Builtin,
     ) -> Result<Boxed<Expr>, Fault>
         requires { Nests self.now.depth (F.pre self.now.inner) (F.post self.now.inner) }
-        ensures { Reads view (spec.of_one self.now.depth (spec.expr self.now.depth) place which tokens.old) result tokens.new }
+        ensures { Reads view (spec.of_one self.now.depth (spec.expr self.now.depth) place which tokens.old) result
+            tokens.new }
     {
         let x = self.one_argument(tokens)?;
         Ok(Boxed::new(
@@ -57,7 +59,8 @@ impl<F: Fn(Global, &mut Tokens<'_>, usize, Goal) -> Result<Boxed<Expr>, Fault>> 
         which: Builtin,
     ) -> Result<Boxed<Expr>, Fault>
         requires { Nests self.now.depth (F.pre self.now.inner) (F.post self.now.inner) }
-        ensures { Reads view (spec.of_two self.now.depth (spec.expr self.now.depth) place which tokens.old) result tokens.new }
+        ensures { Reads view (spec.of_two self.now.depth (spec.expr self.now.depth) place which tokens.old) result
+            tokens.new }
     {
         tokens.one(Terminal::OpenParen)?;
         let mut all = only(self.alloc, self.nested(tokens, Goal::Expr(false))?)?;
@@ -70,7 +73,8 @@ impl<F: Fn(Global, &mut Tokens<'_>, usize, Goal) -> Result<Boxed<Expr>, Fault>> 
     #[tactic(auto, using(awk_tree::proofs::Views::views), unfolding(awk_tree::specs::Expressions::last_next))]
     fn last_next(&self, tokens: &mut Tokens<'_>) -> Result<Option<Boxed<Expr>>, Fault>
         requires { Nests self.now.depth (F.pre self.now.inner) (F.post self.now.inner) }
-        ensures { Reads (option_map view) (spec.last_next self.now.depth (spec.expr self.now.depth) tokens.old) result tokens.new }
+        ensures { Reads (option_map view) (spec.last_next self.now.depth (spec.expr self.now.depth) tokens.old) result
+            tokens.new }
     {
         let x = self.perhaps_next(tokens)?;
         tokens.one(Terminal::CloseParen)?;
@@ -86,7 +90,8 @@ impl<F: Fn(Global, &mut Tokens<'_>, usize, Goal) -> Result<Boxed<Expr>, Fault>> 
         which: Builtin,
     ) -> Result<Boxed<Expr>, Fault>
         requires { Nests self.now.depth (F.pre self.now.inner) (F.post self.now.inner) }
-        ensures { Reads view (spec.of_two_or_three self.now.depth (spec.expr self.now.depth) place which tokens.old) result tokens.new }
+        ensures { Reads view (spec.of_two_or_three self.now.depth (spec.expr self.now.depth) place which tokens.old)
+            result tokens.new }
     {
         tokens.one(Terminal::OpenParen)?;
         let x = self.nested(tokens, Goal::Expr(false))?;
@@ -107,7 +112,8 @@ impl<F: Fn(Global, &mut Tokens<'_>, usize, Goal) -> Result<Boxed<Expr>, Fault>> 
         which: Builtin,
     ) -> Result<Boxed<Expr>, Fault>
         requires { Nests self.now.depth (F.pre self.now.inner) (F.post self.now.inner) }
-        ensures { Reads view (spec.of_list self.now.depth (spec.expr self.now.depth) place which tokens.old) result tokens.new }
+        ensures { Reads view (spec.of_list self.now.depth (spec.expr self.now.depth) place which tokens.old) result
+            tokens.new }
     {
         tokens.one(Terminal::OpenParen)?;
         let all = self.list(tokens)?;
@@ -119,7 +125,8 @@ impl<F: Fn(Global, &mut Tokens<'_>, usize, Goal) -> Result<Boxed<Expr>, Fault>> 
     #[tactic(auto, using(awk_tree::proofs::Views::views), unfolding(awk_tree::specs::Expressions::one_or_none))]
     fn one_or_none(&self, tokens: &mut Tokens<'_>) -> Result<Items<Expr>, Fault>
         requires { Nests self.now.depth (F.pre self.now.inner) (F.post self.now.inner) }
-        ensures { Reads (map view) (spec.one_or_none self.now.depth (spec.expr self.now.depth) tokens.old) result tokens.new }
+        ensures { Reads (map view) (spec.one_or_none self.now.depth (spec.expr self.now.depth) tokens.old) result
+            tokens.new }
     {
         if is(tokens.ahead(), Terminal::CloseParen) {
             return Ok(Items::new(self.alloc));
@@ -137,7 +144,8 @@ impl<F: Fn(Global, &mut Tokens<'_>, usize, Goal) -> Result<Boxed<Expr>, Fault>> 
         which: Builtin,
     ) -> Result<Boxed<Expr>, Fault>
         requires { Nests self.now.depth (F.pre self.now.inner) (F.post self.now.inner) }
-        ensures { Reads view (spec.of_one_or_none self.now.depth (spec.expr self.now.depth) place which tokens.old) result tokens.new }
+        ensures { Reads view (spec.of_one_or_none self.now.depth (spec.expr self.now.depth) place which tokens.old)
+            result tokens.new }
     {
         tokens.one(Terminal::OpenParen)?;
         if self.depth == 0 {
@@ -152,7 +160,8 @@ impl<F: Fn(Global, &mut Tokens<'_>, usize, Goal) -> Result<Boxed<Expr>, Fault>> 
     #[tactic(auto, using(awk_tree::proofs::Views::views), unfolding(awk_tree::specs::Expressions::length_of))]
     fn length_of(&self, tokens: &mut Tokens<'_>, place: Place) -> Result<Boxed<Expr>, Fault>
         requires { Nests self.now.depth (F.pre self.now.inner) (F.post self.now.inner) }
-        ensures { Reads view (spec.length_of self.now.depth (spec.expr self.now.depth) place tokens.old) result tokens.new }
+        ensures { Reads view (spec.length_of self.now.depth (spec.expr self.now.depth) place tokens.old) result
+            tokens.new }
     {
         if !is(tokens.ahead(), Terminal::OpenParen) {
             return Ok(Boxed::new(self.alloc, Expr::Length(place))?);
@@ -164,7 +173,8 @@ impl<F: Fn(Global, &mut Tokens<'_>, usize, Goal) -> Result<Boxed<Expr>, Fault>> 
     #[tactic(auto, using(awk_tree::proofs::Views::views), unfolding(awk_tree::specs::Expressions::split_of))]
     fn split_of(&self, tokens: &mut Tokens<'_>, place: Place) -> Result<Boxed<Expr>, Fault>
         requires { Nests self.now.depth (F.pre self.now.inner) (F.post self.now.inner) }
-        ensures { Reads view (spec.split_of self.now.depth (spec.expr self.now.depth) place tokens.old) result tokens.new }
+        ensures { Reads view (spec.split_of self.now.depth (spec.expr self.now.depth) place tokens.old) result
+            tokens.new }
     {
         tokens.one(Terminal::OpenParen)?;
         let x = self.nested(tokens, Goal::Expr(false))?;
@@ -180,7 +190,8 @@ impl<F: Fn(Global, &mut Tokens<'_>, usize, Goal) -> Result<Boxed<Expr>, Fault>> 
     #[tactic(auto, using(awk_tree::proofs::Views::views), unfolding(awk_tree::specs::Expressions::perhaps_lvalue))]
     fn perhaps_lvalue(&self, tokens: &mut Tokens<'_>) -> Result<Option<Boxed<Expr>>, Fault>
         requires { Nests self.now.depth (F.pre self.now.inner) (F.post self.now.inner) }
-        ensures { Reads (option_map view) (spec.perhaps_lvalue self.now.depth (spec.expr self.now.depth) tokens.old) result tokens.new }
+        ensures { Reads (option_map view) (spec.perhaps_lvalue self.now.depth (spec.expr self.now.depth) tokens.old)
+            result tokens.new }
     {
         if !is(tokens.ahead(), Terminal::Comma) {
             return Ok(None);
@@ -194,7 +205,8 @@ impl<F: Fn(Global, &mut Tokens<'_>, usize, Goal) -> Result<Boxed<Expr>, Fault>> 
     #[tactic(auto, using(awk_tree::proofs::Views::views), unfolding(awk_tree::specs::Expressions::last_lvalue))]
     fn last_lvalue(&self, tokens: &mut Tokens<'_>) -> Result<Option<Boxed<Expr>>, Fault>
         requires { Nests self.now.depth (F.pre self.now.inner) (F.post self.now.inner) }
-        ensures { Reads (option_map view) (spec.last_lvalue self.now.depth (spec.expr self.now.depth) tokens.old) result tokens.new }
+        ensures { Reads (option_map view) (spec.last_lvalue self.now.depth (spec.expr self.now.depth) tokens.old) result
+            tokens.new }
     {
         let x = self.perhaps_lvalue(tokens)?;
         tokens.one(Terminal::CloseParen)?;
@@ -210,7 +222,8 @@ impl<F: Fn(Global, &mut Tokens<'_>, usize, Goal) -> Result<Boxed<Expr>, Fault>> 
         all: bool,
     ) -> Result<Boxed<Expr>, Fault>
         requires { Nests self.now.depth (F.pre self.now.inner) (F.post self.now.inner) }
-        ensures { Reads view (spec.substitute_of self.now.depth (spec.expr self.now.depth) place all tokens.old) result tokens.new }
+        ensures { Reads view (spec.substitute_of self.now.depth (spec.expr self.now.depth) place all tokens.old) result
+            tokens.new }
     {
         tokens.one(Terminal::OpenParen)?;
         let x = self.nested(tokens, Goal::Expr(false))?;
@@ -227,7 +240,8 @@ impl<F: Fn(Global, &mut Tokens<'_>, usize, Goal) -> Result<Boxed<Expr>, Fault>> 
         which: Builtin,
     ) -> Result<Boxed<Expr>, Fault>
         requires { Nests self.now.depth (F.pre self.now.inner) (F.post self.now.inner) }
-        ensures { Reads view (spec.builtin self.now.depth (spec.expr self.now.depth) which tokens.old) result tokens.new }
+        ensures { Reads view (spec.builtin self.now.depth (spec.expr self.now.depth) which tokens.old) result
+            tokens.new }
     {
         let place = tokens.any()?.place;
         match which.parameters() {

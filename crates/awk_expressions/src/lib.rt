@@ -1,4 +1,5 @@
-//! The expressions of awk are read from tokens: a cursor over them, what a token is to the grammar, the nodes of the tree, and the rules.
+//! The expressions of awk are read from tokens: a cursor over them, what a token is to the grammar, the nodes of the
+//! tree, and the rules.
 //!
 //! Each function is equal to its rule, or to its part of one, in the specs of `awk_tree`, which follow "Grammar" in
 //! POSIX.1-2017 XCU awk line by line. Only `expr` calls itself, once for each level of nesting: it

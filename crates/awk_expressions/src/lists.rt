@@ -19,7 +19,8 @@ impl<F: Fn(Global, &mut Tokens<'_>, usize, Goal) -> Result<Boxed<Expr>, Fault>> 
     #[tactic(auto, using(awk_tree::proofs::Views::views), unfolding(awk_tree::specs::Expressions::next_in_list))]
     pub(crate) fn next_in_list(&self, tokens: &mut Tokens<'_>) -> Result<Boxed<Expr>, Fault>
         requires { Nests self.now.depth (F.pre self.now.inner) (F.post self.now.inner) }
-        ensures { Reads view (spec.next_in_list self.now.depth (spec.expr self.now.depth) tokens.old) result tokens.new }
+        ensures { Reads view (spec.next_in_list self.now.depth (spec.expr self.now.depth) tokens.old) result
+            tokens.new }
     {
         tokens.one(Terminal::Comma)?;
         tokens.skip();
@@ -30,7 +31,8 @@ impl<F: Fn(Global, &mut Tokens<'_>, usize, Goal) -> Result<Boxed<Expr>, Fault>> 
     #[tactic(auto, using(awk_tree::proofs::Views::views), unfolding(awk_tree::specs::Expressions::commas))]
     pub(crate) fn commas(&self, tokens: &mut Tokens<'_>) -> Result<Items<Expr>, Fault>
         requires { Nests self.now.depth (F.pre self.now.inner) (F.post self.now.inner) }
-        ensures { Reads (map view) (spec.commas self.now.depth (spec.expr self.now.depth) tokens.old) result tokens.new }
+        ensures { Reads (map view) (spec.commas self.now.depth (spec.expr self.now.depth) tokens.old) result
+            tokens.new }
     {
         let mut found = Items::new(self.alloc);
         for _turn in 0..tokens.left() {
@@ -61,7 +63,8 @@ impl<F: Fn(Global, &mut Tokens<'_>, usize, Goal) -> Result<Boxed<Expr>, Fault>> 
     #[tactic(auto, using(awk_tree::proofs::Views::views), unfolding(awk_tree::specs::Expressions::perhaps_next))]
     pub(crate) fn perhaps_next(&self, tokens: &mut Tokens<'_>) -> Result<Option<Boxed<Expr>>, Fault>
         requires { Nests self.now.depth (F.pre self.now.inner) (F.post self.now.inner) }
-        ensures { Reads (option_map view) (spec.perhaps_next self.now.depth (spec.expr self.now.depth) tokens.old) result tokens.new }
+        ensures { Reads (option_map view) (spec.perhaps_next self.now.depth (spec.expr self.now.depth) tokens.old)
+            result tokens.new }
     {
         if is(tokens.ahead(), Terminal::Comma) {
             Ok(Some(self.next_in_list(tokens)?))
@@ -74,7 +77,8 @@ impl<F: Fn(Global, &mut Tokens<'_>, usize, Goal) -> Result<Boxed<Expr>, Fault>> 
     #[tactic(auto, using(awk_tree::proofs::Views::views), unfolding(awk_tree::specs::Expressions::list_or_none))]
     fn list_or_none(&self, tokens: &mut Tokens<'_>) -> Result<Items<Expr>, Fault>
         requires { Nests self.now.depth (F.pre self.now.inner) (F.post self.now.inner) }
-        ensures { Reads (map view) (spec.list_or_none self.now.depth (spec.expr self.now.depth) tokens.old) result tokens.new }
+        ensures { Reads (map view) (spec.list_or_none self.now.depth (spec.expr self.now.depth) tokens.old) result
+            tokens.new }
     {
         if is(tokens.ahead(), Terminal::CloseParen) {
             Ok(Items::new(self.alloc))
@@ -87,7 +91,8 @@ impl<F: Fn(Global, &mut Tokens<'_>, usize, Goal) -> Result<Boxed<Expr>, Fault>> 
     #[tactic(auto, using(awk_tree::proofs::Views::views), unfolding(awk_tree::specs::Expressions::arguments))]
     pub(crate) fn arguments(&self, tokens: &mut Tokens<'_>) -> Result<Items<Expr>, Fault>
         requires { Nests self.now.depth (F.pre self.now.inner) (F.post self.now.inner) }
-        ensures { Reads (map view) (spec.arguments self.now.depth (spec.expr self.now.depth) tokens.old) result tokens.new }
+        ensures { Reads (map view) (spec.arguments self.now.depth (spec.expr self.now.depth) tokens.old) result
+            tokens.new }
     {
         tokens.one(Terminal::OpenParen)?;
         if self.depth == 0 {

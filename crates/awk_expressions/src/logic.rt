@@ -26,7 +26,8 @@ impl<F: Fn(Global, &mut Tokens<'_>, usize, Goal) -> Result<Boxed<Expr>, Fault>> 
         left: Boxed<Expr>,
     ) -> Result<Boxed<Expr>, Fault>
         requires { Nests self.now.depth (F.pre self.now.inner) (F.post self.now.inner) }
-        ensures { Reads view (spec.assigned self.now.depth (spec.expr self.now.depth) in_print (view left) tokens.old) result tokens.new }
+        ensures { Reads view (spec.assigned self.now.depth (spec.expr self.now.depth) in_print (view left) tokens.old)
+            result tokens.new }
     {
         let Some(how) = assignment(tokens.ahead()) else {
             return Ok(left);
@@ -42,7 +43,8 @@ impl<F: Fn(Global, &mut Tokens<'_>, usize, Goal) -> Result<Boxed<Expr>, Fault>> 
     #[tactic(auto, unfolding(awk_tree::specs::Expressions::conjunct))]
     fn conjunct(&self, tokens: &mut Tokens<'_>, in_print: bool) -> Result<Boxed<Expr>, Fault>
         requires { Nests self.now.depth (F.pre self.now.inner) (F.post self.now.inner) }
-        ensures { Reads view (spec.conjunct self.now.depth (spec.expr self.now.depth) in_print tokens.old) result tokens.new }
+        ensures { Reads view (spec.conjunct self.now.depth (spec.expr self.now.depth) in_print tokens.old) result
+            tokens.new }
     {
         let left = self.isin(tokens, in_print)?;
         self.assigned(tokens, in_print, left)
@@ -51,7 +53,8 @@ impl<F: Fn(Global, &mut Tokens<'_>, usize, Goal) -> Result<Boxed<Expr>, Fault>> 
     #[tactic(auto, unfolding(awk_tree::specs::Expressions::next_conjunct))]
     fn next_conjunct(&self, tokens: &mut Tokens<'_>, in_print: bool) -> Result<Boxed<Expr>, Fault>
         requires { Nests self.now.depth (F.pre self.now.inner) (F.post self.now.inner) }
-        ensures { Reads view (spec.next_conjunct self.now.depth (spec.expr self.now.depth) in_print tokens.old) result tokens.new }
+        ensures { Reads view (spec.next_conjunct self.now.depth (spec.expr self.now.depth) in_print tokens.old) result
+            tokens.new }
     {
         tokens.one(Terminal::And)?;
         tokens.skip();
@@ -61,7 +64,8 @@ impl<F: Fn(Global, &mut Tokens<'_>, usize, Goal) -> Result<Boxed<Expr>, Fault>> 
     #[tactic(auto, unfolding(awk_tree::specs::Expressions::conjuncts))]
     fn conjuncts(&self, tokens: &mut Tokens<'_>, in_print: bool) -> Result<Items<Expr>, Fault>
         requires { Nests self.now.depth (F.pre self.now.inner) (F.post self.now.inner) }
-        ensures { Reads (map view) (spec.conjuncts self.now.depth (spec.expr self.now.depth) in_print tokens.old) result tokens.new }
+        ensures { Reads (map view) (spec.conjuncts self.now.depth (spec.expr self.now.depth) in_print tokens.old) result
+            tokens.new }
     {
         let mut found = Items::new(self.alloc);
         for _turn in 0..tokens.left() {
@@ -86,7 +90,8 @@ impl<F: Fn(Global, &mut Tokens<'_>, usize, Goal) -> Result<Boxed<Expr>, Fault>> 
         left: Boxed<Expr>,
     ) -> Result<Boxed<Expr>, Fault>
         requires { Nests self.now.depth (F.pre self.now.inner) (F.post self.now.inner) }
-        ensures { Reads view (spec.and_rest self.now.depth (spec.expr self.now.depth) in_print (view left) tokens.old) result tokens.new }
+        ensures { Reads view (spec.and_rest self.now.depth (spec.expr self.now.depth) in_print (view left) tokens.old)
+            result tokens.new }
     {
         let (left, conjuncts) = pair(left, self.conjuncts(tokens, in_print))?;
         Ok(and_of(self.alloc, left, conjuncts)?)
@@ -95,7 +100,8 @@ impl<F: Fn(Global, &mut Tokens<'_>, usize, Goal) -> Result<Boxed<Expr>, Fault>> 
     #[tactic(auto, unfolding(awk_tree::specs::Expressions::next_disjunct))]
     fn next_disjunct(&self, tokens: &mut Tokens<'_>, in_print: bool) -> Result<Boxed<Expr>, Fault>
         requires { Nests self.now.depth (F.pre self.now.inner) (F.post self.now.inner) }
-        ensures { Reads view (spec.next_disjunct self.now.depth (spec.expr self.now.depth) in_print tokens.old) result tokens.new }
+        ensures { Reads view (spec.next_disjunct self.now.depth (spec.expr self.now.depth) in_print tokens.old) result
+            tokens.new }
     {
         tokens.one(Terminal::Or)?;
         tokens.skip();
@@ -106,7 +112,8 @@ impl<F: Fn(Global, &mut Tokens<'_>, usize, Goal) -> Result<Boxed<Expr>, Fault>> 
     #[tactic(auto, unfolding(awk_tree::specs::Expressions::disjuncts))]
     fn disjuncts(&self, tokens: &mut Tokens<'_>, in_print: bool) -> Result<Items<Expr>, Fault>
         requires { Nests self.now.depth (F.pre self.now.inner) (F.post self.now.inner) }
-        ensures { Reads (map view) (spec.disjuncts self.now.depth (spec.expr self.now.depth) in_print tokens.old) result tokens.new }
+        ensures { Reads (map view) (spec.disjuncts self.now.depth (spec.expr self.now.depth) in_print tokens.old) result
+            tokens.new }
     {
         let mut found = Items::new(self.alloc);
         for _turn in 0..tokens.left() {
@@ -131,7 +138,8 @@ impl<F: Fn(Global, &mut Tokens<'_>, usize, Goal) -> Result<Boxed<Expr>, Fault>> 
         left: Boxed<Expr>,
     ) -> Result<Boxed<Expr>, Fault>
         requires { Nests self.now.depth (F.pre self.now.inner) (F.post self.now.inner) }
-        ensures { Reads view (spec.or_rest self.now.depth (spec.expr self.now.depth) in_print (view left) tokens.old) result tokens.new }
+        ensures { Reads view (spec.or_rest self.now.depth (spec.expr self.now.depth) in_print (view left) tokens.old)
+            result tokens.new }
     {
         let (left, disjuncts) = pair(left, self.disjuncts(tokens, in_print))?;
         Ok(or_of(self.alloc, left, disjuncts)?)
@@ -140,7 +148,8 @@ impl<F: Fn(Global, &mut Tokens<'_>, usize, Goal) -> Result<Boxed<Expr>, Fault>> 
     #[tactic(auto, unfolding(awk_tree::specs::Expressions::then_branch))]
     fn then_branch(&self, tokens: &mut Tokens<'_>, in_print: bool) -> Result<Boxed<Expr>, Fault>
         requires { Nests self.now.depth (F.pre self.now.inner) (F.post self.now.inner) }
-        ensures { Reads view (spec.then_branch self.now.depth (spec.expr self.now.depth) in_print tokens.old) result tokens.new }
+        ensures { Reads view (spec.then_branch self.now.depth (spec.expr self.now.depth) in_print tokens.old) result
+            tokens.new }
     {
         tokens.one(Terminal::Question)?;
         let then = self.nested(tokens, Goal::Expr(in_print))?;
@@ -157,7 +166,8 @@ impl<F: Fn(Global, &mut Tokens<'_>, usize, Goal) -> Result<Boxed<Expr>, Fault>> 
         left: Boxed<Expr>,
     ) -> Result<Boxed<Expr>, Fault>
         requires { Nests self.now.depth (F.pre self.now.inner) (F.post self.now.inner) }
-        ensures { Reads view (spec.choose_rest self.now.depth (spec.expr self.now.depth) in_print (view left) tokens.old) result tokens.new }
+        ensures { Reads view (spec.choose_rest self.now.depth (spec.expr self.now.depth) in_print (view left)
+            tokens.old) result tokens.new }
     {
         if !is(tokens.ahead(), Terminal::Question) {
             return Ok(left);
@@ -176,7 +186,8 @@ impl<F: Fn(Global, &mut Tokens<'_>, usize, Goal) -> Result<Boxed<Expr>, Fault>> 
         left: Boxed<Expr>,
     ) -> Result<Boxed<Expr>, Fault>
         requires { Nests self.now.depth (F.pre self.now.inner) (F.post self.now.inner) }
-        ensures { Reads view (spec.expr_rest self.now.depth (spec.expr self.now.depth) in_print (view left) tokens.old) result tokens.new }
+        ensures { Reads view (spec.expr_rest self.now.depth (spec.expr self.now.depth) in_print (view left) tokens.old)
+            result tokens.new }
     {
         if ends_expression(tokens.ahead()) {
             return Ok(left);
@@ -193,7 +204,8 @@ impl<F: Fn(Global, &mut Tokens<'_>, usize, Goal) -> Result<Boxed<Expr>, Fault>> 
         left: Boxed<Expr>,
     ) -> Result<Boxed<Expr>, Fault>
         requires { Nests self.now.depth (F.pre self.now.inner) (F.post self.now.inner) }
-        ensures { Reads view (spec.expr_rest self.now.depth (spec.expr self.now.depth) in_print (view left) tokens.old) result tokens.new }
+        ensures { Reads view (spec.expr_rest self.now.depth (spec.expr self.now.depth) in_print (view left) tokens.old)
+            result tokens.new }
     {
         let left = self.assigned(tokens, in_print, left)?;
         let left = self.and_rest(tokens, in_print, left)?;
@@ -209,7 +221,8 @@ impl<F: Fn(Global, &mut Tokens<'_>, usize, Goal) -> Result<Boxed<Expr>, Fault>> 
         in_print: bool,
     ) -> Result<Boxed<Expr>, Fault>
         requires { Nests self.now.depth (F.pre self.now.inner) (F.post self.now.inner) }
-        ensures { Reads view (spec.expression self.now.depth (spec.expr self.now.depth) in_print tokens.old) result tokens.new }
+        ensures { Reads view (spec.expression self.now.depth (spec.expr self.now.depth) in_print tokens.old) result
+            tokens.new }
     {
         let left = self.isin(tokens, in_print)?;
         self.expr_rest(tokens, in_print, left)

@@ -63,7 +63,8 @@ impl<F: Fn(Global, &mut Tokens<'_>, usize, Goal) -> Result<Boxed<Expr>, Fault>> 
     #[tactic(auto, using(awk_tree::proofs::Views::views), unfolding(awk_tree::specs::Expressions::target))]
     pub(crate) fn target(&self, tokens: &mut Tokens<'_>) -> Result<Option<Boxed<Expr>>, Fault>
         requires { Nests self.now.depth (F.pre self.now.inner) (F.post self.now.inner) }
-        ensures { Reads (option_map view) (spec.target self.now.depth (spec.expr self.now.depth) tokens.old) result tokens.new }
+        ensures { Reads (option_map view) (spec.target self.now.depth (spec.expr self.now.depth) tokens.old) result
+            tokens.new }
     {
         match tokens.ahead() {
             Terminal::Name => Ok(Some(self.named(tokens)?)),
@@ -76,7 +77,8 @@ impl<F: Fn(Global, &mut Tokens<'_>, usize, Goal) -> Result<Boxed<Expr>, Fault>> 
     #[tactic(auto, using(awk_tree::proofs::Views::views), unfolding(awk_tree::specs::Expressions::source))]
     fn source(&self, tokens: &mut Tokens<'_>) -> Result<Option<Boxed<Expr>>, Fault>
         requires { Nests self.now.depth (F.pre self.now.inner) (F.post self.now.inner) }
-        ensures { Reads (option_map view) (spec.source self.now.depth (spec.expr self.now.depth) tokens.old) result tokens.new }
+        ensures { Reads (option_map view) (spec.source self.now.depth (spec.expr self.now.depth) tokens.old) result
+            tokens.new }
     {
         if !is(tokens.ahead(), Terminal::Less) {
             return Ok(None);

@@ -55,7 +55,8 @@ impl Level {
 
     /// An expression. With the flag, `>` outside parentheses is a redirection.
     pub fn expression(&self, tokens: &mut Tokens<'_>, in_print: bool) -> Result<Boxed<Expr>, Fault>
-        ensures { Reads view (spec.expression self.now.depth (spec.expr self.now.depth) in_print tokens.old) result tokens.new }
+        ensures { Reads view (spec.expression self.now.depth (spec.expr self.now.depth) in_print tokens.old) result
+            tokens.new }
     {
         rules(self.alloc, self.depth, expr).expression(tokens, in_print)
     }
@@ -67,7 +68,8 @@ impl Level {
         in_print: bool,
         left: Boxed<Expr>,
     ) -> Result<Boxed<Expr>, Fault>
-        ensures { Reads view (spec.expr_rest self.now.depth (spec.expr self.now.depth) in_print (view left) tokens.old) result tokens.new }
+        ensures { Reads view (spec.expr_rest self.now.depth (spec.expr self.now.depth) in_print (view left) tokens.old)
+            result tokens.new }
     {
         rules(self.alloc, self.depth, expr).expr_rest(tokens, in_print, left)
     }
@@ -81,7 +83,8 @@ impl Level {
         first: Boxed<Expr>,
         more: Items<Expr>,
     ) -> Result<Boxed<Expr>, Fault>
-        ensures { Reads view (spec.grouped self.now.depth (spec.expr self.now.depth) in_print place (view first) (map view more) tokens.old) result tokens.new }
+        ensures { Reads view (spec.grouped self.now.depth (spec.expr self.now.depth) in_print place (view first)
+            (map view more) tokens.old) result tokens.new }
     {
         rules(self.alloc, self.depth, expr).grouped(tokens, in_print, place, first, more)
     }
@@ -102,7 +105,8 @@ impl Level {
 
     /// `{ , expr }`
     pub fn commas(&self, tokens: &mut Tokens<'_>) -> Result<Items<Expr>, Fault>
-        ensures { Reads (map view) (spec.commas self.now.depth (spec.expr self.now.depth) tokens.old) result tokens.new }
+        ensures { Reads (map view) (spec.commas self.now.depth (spec.expr self.now.depth) tokens.old) result
+            tokens.new }
     {
         rules(self.alloc, self.depth, expr).commas(tokens)
     }

@@ -178,7 +178,8 @@ pub fn getline(
     target: Option<Boxed<Expr>>,
     source: Option<Boxed<Expr>>,
 ) -> Result<Boxed<Expr>, AllocError>
-    ensures { IfOk result (λ e. view e ≡ tree.getline place (perhaps_of (option_map view target)) (perhaps_of (option_map view source))) }
+    ensures { IfOk result
+        (λ e. view e ≡ tree.getline place (perhaps_of (option_map view target)) (perhaps_of (option_map view source))) }
 {
     Boxed::new(alloc, Expr::Getline(place, target, source))
 }

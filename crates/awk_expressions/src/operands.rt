@@ -83,7 +83,8 @@ impl<F: Fn(Global, &mut Tokens<'_>, usize, Goal) -> Result<Boxed<Expr>, Fault>> 
     #[tactic(auto, using(awk_tree::proofs::Views::views), unfolding(awk_tree::specs::Expressions::step_before))]
     fn step_before(&self, tokens: &mut Tokens<'_>, which: Step) -> Result<Boxed<Expr>, Fault>
         requires { Nests self.now.depth (F.pre self.now.inner) (F.post self.now.inner) }
-        ensures { Reads view (spec.step_before self.now.depth (spec.expr self.now.depth) which tokens.old) result tokens.new }
+        ensures { Reads view (spec.step_before self.now.depth (spec.expr self.now.depth) which tokens.old) result
+            tokens.new }
     {
         let place = tokens.any()?.place;
         let x = self.nested(tokens, Goal::Lvalue)?;
@@ -99,7 +100,8 @@ impl<F: Fn(Global, &mut Tokens<'_>, usize, Goal) -> Result<Boxed<Expr>, Fault>> 
         rest: Goal,
     ) -> Result<Boxed<Expr>, Fault>
         requires { Nests self.now.depth (F.pre self.now.inner) (F.post self.now.inner) }
-        ensures { Reads view (spec.signed_by self.now.depth (spec.expr self.now.depth) which rest tokens.old) result tokens.new }
+        ensures { Reads view (spec.signed_by self.now.depth (spec.expr self.now.depth) which rest tokens.old) result
+            tokens.new }
     {
         let place = tokens.any()?.place;
         let x = self.nested(tokens, rest)?;
@@ -126,7 +128,8 @@ impl<F: Fn(Global, &mut Tokens<'_>, usize, Goal) -> Result<Boxed<Expr>, Fault>> 
     #[tactic(auto, using(awk_tree::proofs::Views::views), unfolding(awk_tree::specs::Expressions::step_after))]
     fn step_after(&self, tokens: &mut Tokens<'_>, left: Boxed<Expr>) -> Result<Boxed<Expr>, Fault>
         requires { Nests self.now.depth (F.pre self.now.inner) (F.post self.now.inner) }
-        ensures { Reads view (spec.step_after self.now.depth (spec.expr self.now.depth) (view left) tokens.old) result tokens.new }
+        ensures { Reads view (spec.step_after self.now.depth (spec.expr self.now.depth) (view left) tokens.old) result
+            tokens.new }
     {
         match step(tokens.ahead()) {
             Some(which) if is_lvalue(left.get()) => {
@@ -160,7 +163,8 @@ impl<F: Fn(Global, &mut Tokens<'_>, usize, Goal) -> Result<Boxed<Expr>, Fault>> 
         left: Boxed<Expr>,
     ) -> Result<Boxed<Expr>, Fault>
         requires { Nests self.now.depth (F.pre self.now.inner) (F.post self.now.inner) }
-        ensures { Reads view (spec.power_rest self.now.depth (spec.expr self.now.depth) (view left) tokens.old) result tokens.new }
+        ensures { Reads view (spec.power_rest self.now.depth (spec.expr self.now.depth) (view left) tokens.old) result
+            tokens.new }
     {
         if !is(tokens.ahead(), Terminal::Caret) {
             return Ok(left);

@@ -36,7 +36,8 @@ impl<F: Fn(Global, &mut Tokens<'_>, usize, Goal) -> Result<Boxed<Expr>, Fault>> 
     #[tactic(auto, unfolding(awk_tree::specs::Expressions::one_pipe))]
     fn one_pipe(&self, tokens: &mut Tokens<'_>) -> Result<Piped<Expr>, Fault>
         requires { Nests self.now.depth (F.pre self.now.inner) (F.post self.now.inner) }
-        ensures { Reads view_piped (spec.one_pipe self.now.depth (spec.expr self.now.depth) tokens.old) result tokens.new }
+        ensures { Reads view_piped (spec.one_pipe self.now.depth (spec.expr self.now.depth) tokens.old) result
+            tokens.new }
     {
         tokens.any()?;
         let token = tokens.one(Terminal::Getline)?;
@@ -50,7 +51,8 @@ impl<F: Fn(Global, &mut Tokens<'_>, usize, Goal) -> Result<Boxed<Expr>, Fault>> 
     #[tactic(auto, unfolding(awk_tree::specs::Expressions::pipes))]
     fn pipes(&self, tokens: &mut Tokens<'_>) -> Result<Items<Piped<Expr>>, Fault>
         requires { Nests self.now.depth (F.pre self.now.inner) (F.post self.now.inner) }
-        ensures { Reads (map view_piped) (spec.pipes self.now.depth (spec.expr self.now.depth) tokens.old) result tokens.new }
+        ensures { Reads (map view_piped) (spec.pipes self.now.depth (spec.expr self.now.depth) tokens.old) result
+            tokens.new }
     {
         let mut found = Items::new(self.alloc);
         for _turn in 0..tokens.left() {
@@ -70,7 +72,8 @@ impl<F: Fn(Global, &mut Tokens<'_>, usize, Goal) -> Result<Boxed<Expr>, Fault>> 
     #[tactic(auto, unfolding(awk_tree::specs::Expressions::pipe_rest))]
     fn pipe_rest(&self, tokens: &mut Tokens<'_>, left: Boxed<Expr>) -> Result<Boxed<Expr>, Fault>
         requires { Nests self.now.depth (F.pre self.now.inner) (F.post self.now.inner) }
-        ensures { Reads view (spec.pipe_rest self.now.depth (spec.expr self.now.depth) (view left) tokens.old) result tokens.new }
+        ensures { Reads view (spec.pipe_rest self.now.depth (spec.expr self.now.depth) (view left) tokens.old) result
+            tokens.new }
     {
         let (left, pipes) = pair(left, self.pipes(tokens))?;
         Ok(pipe_of(self.alloc, left, pipes)?)
@@ -94,7 +97,8 @@ impl<F: Fn(Global, &mut Tokens<'_>, usize, Goal) -> Result<Boxed<Expr>, Fault>> 
         left: Boxed<Expr>,
     ) -> Result<Boxed<Expr>, Fault>
         requires { Nests self.now.depth (F.pre self.now.inner) (F.post self.now.inner) }
-        ensures { Reads view (spec.compare_rest self.now.depth (spec.expr self.now.depth) in_print (view left) tokens.old) result tokens.new }
+        ensures { Reads view (spec.compare_rest self.now.depth (spec.expr self.now.depth) in_print (view left)
+            tokens.old) result tokens.new }
     {
         let Some(how) = comparison(in_print, tokens.ahead()) else {
             return Ok(left);
@@ -107,7 +111,8 @@ impl<F: Fn(Global, &mut Tokens<'_>, usize, Goal) -> Result<Boxed<Expr>, Fault>> 
     #[tactic(auto, unfolding(awk_tree::specs::Expressions::cmp))]
     fn cmp(&self, tokens: &mut Tokens<'_>, in_print: bool) -> Result<Boxed<Expr>, Fault>
         requires { Nests self.now.depth (F.pre self.now.inner) (F.post self.now.inner) }
-        ensures { Reads view (spec.cmp self.now.depth (spec.expr self.now.depth) in_print tokens.old) result tokens.new }
+        ensures { Reads view (spec.cmp self.now.depth (spec.expr self.now.depth) in_print tokens.old) result
+            tokens.new }
     {
         let left = self.pipe(tokens)?;
         self.compare_rest(tokens, in_print, left)
@@ -122,7 +127,8 @@ impl<F: Fn(Global, &mut Tokens<'_>, usize, Goal) -> Result<Boxed<Expr>, Fault>> 
         left: Boxed<Expr>,
     ) -> Result<Boxed<Expr>, Fault>
         requires { Nests self.now.depth (F.pre self.now.inner) (F.post self.now.inner) }
-        ensures { Reads view (spec.match_rest self.now.depth (spec.expr self.now.depth) in_print (view left) tokens.old) result tokens.new }
+        ensures { Reads view (spec.match_rest self.now.depth (spec.expr self.now.depth) in_print (view left) tokens.old)
+            result tokens.new }
     {
         let Some(unlike) = matching(tokens.ahead()) else {
             return Ok(left);
@@ -141,7 +147,8 @@ impl<F: Fn(Global, &mut Tokens<'_>, usize, Goal) -> Result<Boxed<Expr>, Fault>> 
         left: Boxed<Expr>,
     ) -> Result<Boxed<Expr>, Fault>
         requires { Nests self.now.depth (F.pre self.now.inner) (F.post self.now.inner) }
-        ensures { Reads view (spec.unary_rest self.now.depth (spec.expr self.now.depth) in_print (view left) tokens.old) result tokens.new }
+        ensures { Reads view (spec.unary_rest self.now.depth (spec.expr self.now.depth) in_print (view left) tokens.old)
+            result tokens.new }
     {
         if ends_chains(tokens.ahead()) {
             return Ok(left);
@@ -158,7 +165,8 @@ impl<F: Fn(Global, &mut Tokens<'_>, usize, Goal) -> Result<Boxed<Expr>, Fault>> 
         left: Boxed<Expr>,
     ) -> Result<Boxed<Expr>, Fault>
         requires { Nests self.now.depth (F.pre self.now.inner) (F.post self.now.inner) }
-        ensures { Reads view (spec.unary_rest self.now.depth (spec.expr self.now.depth) in_print (view left) tokens.old) result tokens.new }
+        ensures { Reads view (spec.unary_rest self.now.depth (spec.expr self.now.depth) in_print (view left) tokens.old)
+            result tokens.new }
     {
         let left = self.product_rest(tokens, left)?;
         let left = self.sum_rest(tokens, left)?;
@@ -179,7 +187,8 @@ impl<F: Fn(Global, &mut Tokens<'_>, usize, Goal) -> Result<Boxed<Expr>, Fault>> 
         more: Items<Expr>,
     ) -> Result<Boxed<Expr>, Fault>
         requires { Nests self.now.depth (F.pre self.now.inner) (F.post self.now.inner) }
-        ensures { Reads view (spec.grouped self.now.depth (spec.expr self.now.depth) in_print place (view first) (map view more) tokens.old) result tokens.new }
+        ensures { Reads view (spec.grouped self.now.depth (spec.expr self.now.depth) in_print place (view first)
+            (map view more) tokens.old) result tokens.new }
     {
         if more.is_empty() {
             let inside = paren(self.alloc, place, first)?;
@@ -196,7 +205,8 @@ impl<F: Fn(Global, &mut Tokens<'_>, usize, Goal) -> Result<Boxed<Expr>, Fault>> 
     #[tactic(auto, unfolding(awk_tree::specs::Expressions::from_paren))]
     fn from_paren(&self, tokens: &mut Tokens<'_>, in_print: bool) -> Result<Boxed<Expr>, Fault>
         requires { Nests self.now.depth (F.pre self.now.inner) (F.post self.now.inner) }
-        ensures { Reads view (spec.from_paren self.now.depth (spec.expr self.now.depth) in_print tokens.old) result tokens.new }
+        ensures { Reads view (spec.from_paren self.now.depth (spec.expr self.now.depth) in_print tokens.old) result
+            tokens.new }
     {
         let token = tokens.one(Terminal::OpenParen)?;
         let first = self.nested(tokens, Goal::Expr(false))?;
@@ -209,7 +219,8 @@ impl<F: Fn(Global, &mut Tokens<'_>, usize, Goal) -> Result<Boxed<Expr>, Fault>> 
     #[tactic(auto, unfolding(awk_tree::specs::Expressions::isin))]
     pub(crate) fn isin(&self, tokens: &mut Tokens<'_>, in_print: bool) -> Result<Boxed<Expr>, Fault>
         requires { Nests self.now.depth (F.pre self.now.inner) (F.post self.now.inner) }
-        ensures { Reads view (spec.isin self.now.depth (spec.expr self.now.depth) in_print tokens.old) result tokens.new }
+        ensures { Reads view (spec.isin self.now.depth (spec.expr self.now.depth) in_print tokens.old) result
+            tokens.new }
     {
         if is(tokens.ahead(), Terminal::OpenParen) {
             return self.from_paren(tokens, in_print);

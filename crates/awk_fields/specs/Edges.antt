@@ -1,5 +1,6 @@
 -- The parts of a text that are found up to a place, and where words begin and end, as bits.
-use Rattle.std.specs.Prelude.{◌≡◌, ℕ, zero, suc, ◌+◌, ◌-◌, ◌*◌, ◌^◌, ◌≤◌, Bool, true, false, not, List, [], ◌∷◌, ◌++◌, length, drop}
+use Rattle.std.specs.Prelude.{◌≡◌, ℕ, zero, suc, ◌+◌, ◌-◌, ◌*◌, ◌^◌, ◌≤◌, Bool, true, false, not, List, [], ◌∷◌, ◌++◌}
+use Rattle.std.specs.Prelude.{length, drop}
 use Rattle.std.specs.List.{position_or_len, slice_split}
 use Rattle.std.specs.Simd.Lanes.{mask_l}
 use Rattle.awk_fields.specs.Fields.{is_blank, words}
@@ -10,7 +11,8 @@ use Rattle.awk_fields.specs.declared.spans.Span.{Span}
 
 -- `cut` says which parts a text has. Those that end before a place are found: the bytes from `start`
 -- up to the place belong to none of them, and none of these bytes separates.
-pub record FoundTo (p : ℕ → Bool) (cut : List ℕ → List (List ℕ)) (s : List ℕ) (at start : ℕ) (spans : List Span) : Type 0 where
+pub record FoundTo (p : ℕ → Bool) (cut : List ℕ → List (List ℕ)) (s : List ℕ) (at start : ℕ) (spans : List Span) : Type
+    0 where
   pub ordered : start ≤ at
   pub inside : at ≤ length s
   pub found : List (List ℕ)

@@ -38,7 +38,8 @@ whole_at Built text built joined = built
 whole_at Stale text built joined = joined
 
 abbrev pub edited_whole : List ℕ → Edited → List ℕ
-edited_whole text edited = whole_at edited.whole text edited.built.items (joined edited.ofs.items (edited_values text edited))
+edited_whole text edited =
+    whole_at edited.whole text edited.built.items (joined edited.ofs.items (edited_values text edited))
 
 pub record IsSoundEdited (text : List ℕ) (edited : Edited) : Type 0 where
   pub within : All (IsPartOf text) edited.parts.items

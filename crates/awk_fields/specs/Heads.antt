@@ -1,6 +1,7 @@
 -- The first record of what is unread (POSIX.1-2017 XCU awk, "Variables and Special Variables", RS).
 -- Here a value of RS of more than one byte stands for its first byte.
-use Rattle.std.specs.Prelude.{◌≡◌, ◌==◌, ℕ, ◌+◌, ◌-◌, Bool, true, false, nat_lt, ◌&&◌, if◌then◌else◌, List, [], ◌∷◌, length, take, drop, Option, Some, None, option_map, slice_index}
+use Rattle.std.specs.Prelude.{◌≡◌, ◌==◌, ℕ, ◌+◌, ◌-◌, Bool, true, false, nat_lt, ◌&&◌, if◌then◌else◌, List, [], ◌∷◌}
+use Rattle.std.specs.Prelude.{length, take, drop, Option, Some, None, option_map, slice_index}
 use Rattle.std.specs.List.{prefix_len, position_or_len, before_first, after_first}
 use Rattle.awk_text.specs.Limits.{most_bytes}
 
@@ -45,8 +46,10 @@ trimmed s = if slice_index s (length s - 1) == 10 then take (length s - 1) s els
 -- Two newlines end the record. Newlines in front of it are passed over, and count with it for the
 -- limit; a newline that stands last in what is held doesn't count, so the cut makes no difference.
 abbrev pub ended_by : Option ℕ → ℕ → List ℕ → List ℕ → Bool → Head
-ended_by (Some k) passed body unread ended = if nat_lt most_bytes (passed + k) then too_long else taken (take k body) (drop (k + 2) body)
-ended_by None passed body unread ended = if nat_lt most_bytes (length (trimmed unread)) then too_long else last (trimmed body) ended
+ended_by (Some k) passed body unread ended =
+    if nat_lt most_bytes (passed + k) then too_long else taken (take k body) (drop (k + 2) body)
+ended_by None passed body unread ended =
+    if nat_lt most_bytes (length (trimmed unread)) then too_long else last (trimmed body) ended
 
 -- RS empty
 abbrev pub paragraph : List ℕ → Bool → Head
@@ -62,7 +65,8 @@ head (c ∷ rs) unread ended = line c unread ended
 -- these texts are the records that stand first, one behind the other, and this is left behind them
 abbrev pub FirstRecords : List ℕ → Bool → List ℕ → List (List ℕ) → List ℕ → Type 0
 FirstRecords rs ended unread [] rest = unread ≡ rest
-FirstRecords rs ended unread (text ∷ texts) rest = (after : List ℕ) × (head rs unread ended ≡ taken text after) × FirstRecords rs ended after texts rest
+FirstRecords rs ended unread (text ∷ texts) rest =
+    (after : List ℕ) × (head rs unread ended ≡ taken text after) × FirstRecords rs ended after texts rest
 
 -- the records of a whole stream: the first of what is left again and again, up to the end
 abbrev pub Records : List ℕ → List ℕ → List (List ℕ) → Type 0
@@ -77,4 +81,5 @@ IsStopped too_long = ⊥
 
 -- behind so many records stands one that is too long
 abbrev pub IsTooLong : List ℕ → Bool → List ℕ → Type 0
-IsTooLong rs ended unread = (texts : List (List ℕ)) × (rest : List ℕ) × FirstRecords rs ended unread texts rest × (head rs rest ended ≡ too_long)
+IsTooLong rs ended unread = (texts : List (List ℕ)) × (rest : List ℕ) × FirstRecords rs ended unread texts rest
+    × (head rs rest ended ≡ too_long)

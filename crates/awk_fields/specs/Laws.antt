@@ -7,7 +7,8 @@ use Rattle.awk_fields.specs.Rows.{Row, HasFields, IsKept}
 
 -- a text has one list of fields
 abbrev pub OneList : Type 0
-OneList = (separator : Separator) (s : List ℕ) (xs ys : List (List ℕ)) → Fields separator s xs → Fields separator s ys → xs ≡ ys
+OneList = (separator : Separator) (s : List ℕ) (xs ys : List (List ℕ)) → Fields separator s xs → Fields separator s ys →
+    xs ≡ ys
 
 -- and so has a record
 abbrev pub OneRow : Type 0

@@ -1,6 +1,7 @@
 -- A record: its whole text and its fields (POSIX.1-2017 XCU awk, "Expressions in awk" and "Input
 -- Files").
-use Rattle.std.specs.Prelude.{◌≡◌, ◌⊎◌, ℕ, zero, suc, ◌+◌, ◌-◌, ◌<◌, ◌≤◌, nat_le, if◌then◌else◌, ℤ, pos, negsuc, List, [], ◌∷◌, ◌++◌, length, map, replicate, take, Result, Ok, Err, slice_index_or, slice_set}
+use Rattle.std.specs.Prelude.{◌≡◌, ◌⊎◌, ℕ, zero, suc, ◌+◌, ◌-◌, ◌<◌, ◌≤◌, nat_le, if◌then◌else◌, ℤ, pos, negsuc, List}
+use Rattle.std.specs.Prelude.{[], ◌∷◌, ◌++◌, length, map, replicate, take, Result, Ok, Err, slice_index_or, slice_set}
 use Rattle.std.specs.List.{flat_map}
 use Rattle.awk_text.specs.Limits.{most_bytes}
 use Rattle.awk_text.specs.Values.{text_of}
@@ -22,7 +23,8 @@ pub record Row : Type 0 where
 
 -- these values are the fields: a text's own are input
 abbrev pub AreHeld : List ℕ → Held → List Value → Type 0
-AreHeld whole (unsplit separator) values = (texts : List (List ℕ)) × Fields separator whole texts × (values ≡ map Input texts)
+AreHeld whole (unsplit separator) values =
+    (texts : List (List ℕ)) × Fields separator whole texts × (values ≡ map Input texts)
 AreHeld whole (known found) values = values ≡ found
 
 abbrev pub HasFields : Row → List Value → Type 0
@@ -30,7 +32,8 @@ HasFields row values = AreHeld row.whole row.fields values
 
 -- the same record, or the same once its fields are known
 abbrev pub IsKept : Row → Row → Type 0
-IsKept old new = (new ≡ old) ⊎ ((values : List Value) × HasFields old values × (new ≡ record { whole = old.whole; fields = known values }))
+IsKept old new = (new ≡ old)
+    ⊎ ((values : List Value) × HasFields old values × (new ≡ record { whole = old.whole; fields = known values }))
 
 -- ---- numbers of fields
 
@@ -97,10 +100,14 @@ abbrev pub SetsNoField : Row → ℤ → Value → List ℕ → Fault → Type 0
 SetsNoField old n value ofs fault =
     (fault ≡ Memory)
     ⊎ ((fault ≡ FieldNumber) × (field_place n ≡ Err FieldNumber))
-    ⊎ ((fault ≡ TextTooLong) × ((place : ℕ) × (values : List Value) × (field_place n ≡ Ok place) × HasFields old values × (most_bytes < length (joined ofs (with_field values place value)))))
+    ⊎ ((fault ≡ TextTooLong)
+    × ((place : ℕ) × (values : List Value) × (field_place n ≡ Ok place) × HasFields old values
+    × (most_bytes < length (joined ofs (with_field values place value)))))
 
 abbrev pub SetsNoCount : Row → ℤ → List ℕ → Fault → Type 0
 SetsNoCount old n ofs fault =
     (fault ≡ Memory)
     ⊎ ((fault ≡ FieldNumber) × (place_of n ≡ Err FieldNumber))
-    ⊎ ((fault ≡ TextTooLong) × ((count : ℕ) × (values : List Value) × (place_of n ≡ Ok count) × HasFields old values × (most_bytes < length (joined ofs (with_count values count)))))
+    ⊎ ((fault ≡ TextTooLong)
+    × ((count : ℕ) × (values : List Value) × (place_of n ≡ Ok count) × HasFields old values
+    × (most_bytes < length (joined ofs (with_count values count)))))

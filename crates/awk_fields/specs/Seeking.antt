@@ -12,7 +12,8 @@ pub record IsNext (source : List ℕ) (newline : Bool) (s : List ℕ) (from star
   pub after : from ≤ start
   pub some : start < end
   pub within : end ≤ length s
-  pub leads : (rest : List (ℕ × ℕ)) → Separators source newline s end rest → Separators source newline s from ((start, end) ∷ rest)
+  pub leads : (rest : List (ℕ × ℕ)) → Separators source newline s end rest →
+      Separators source newline s from ((start, end) ∷ rest)
 
 abbrev pub IsNextSeparator : List ℕ → Bool → List ℕ → ℕ → Option (ℕ × ℕ) → Type 0
 IsNextSeparator source newline s from None = Separators source newline s from []

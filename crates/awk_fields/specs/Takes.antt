@@ -14,7 +14,8 @@ pub record Window : Type 0 where
   pub input : Input
   pub held : ℕ
 
--- how many of the bytes in a window are left where the taken ones are dropped once they are at least as many as the unread ones
+-- how many of the bytes in a window are left where the taken ones are dropped once they are at least as many as the
+-- unread ones
 abbrev pub kept : ℕ → ℕ → ℕ
 kept unread held = if nat_le unread (held - unread) then unread else held
 

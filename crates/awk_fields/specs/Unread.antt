@@ -33,4 +33,5 @@ IsInside s TooLong = Unit {0}
 
 -- the record of what is held from `start` on with no end seen
 abbrev pub last_of : ℕ → ℕ → ℕ → Searched → Bool → Front
-last_of start end next searched ended = if ended then (if start == end then Done else Record start end next) else NeedMore searched
+last_of start end next searched ended =
+    if ended then (if start == end then Done else Record start end next) else NeedMore searched

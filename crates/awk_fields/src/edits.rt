@@ -1,8 +1,10 @@
 // The fields of a record of which some are set. The whole text is joined of them when it is asked
 // for.
-ghost use Rattle.std.specs.Prelude.{◌≡◌, ◌++◌, ◌+◌, ◌-◌, ◌<◌, ◌≤◌, ◌^◌, ◌⊎◌, All, length, map, replicate, IfOk, OnOk, OnErr, IfErr, IfSome, slice_index_or};
+ghost use Rattle.std.specs.Prelude.{◌≡◌, ◌++◌, ◌+◌, ◌-◌, ◌<◌, ◌≤◌, ◌^◌, ◌⊎◌, All, length, map, replicate, IfOk, OnOk};
+ghost use Rattle.std.specs.Prelude.{OnErr, IfErr, IfSome, slice_index_or};
 ghost use Rattle.std.specs.List.{sum_by};
-ghost use Rattle.awk_fields.specs.Edits.{AreSet, IsPartOf, IsSame, IsSoundEdited, edited_values, edited_whole, part_bytes};
+ghost use Rattle.awk_fields.specs.Edits.{AreSet, IsPartOf, IsSame, IsSoundEdited, edited_values, edited_whole};
+ghost use Rattle.awk_fields.specs.Edits.{part_bytes};
 ghost use Rattle.awk_fields.specs.Rows.{joined, with_count, with_field};
 ghost use Rattle.awk_fields.specs.Spans.{IsWithin};
 ghost use Rattle.awk_text.specs.Limits.{most_bytes};
@@ -69,7 +71,8 @@ pub fn cut(parts: &mut Vec<Part>, spans: &[Span], text: &[u8]) -> Result<u128, M
 
 /// Puts unset parts behind the others, up to this count.
 fn pad(parts: &mut Vec<Part>, count: usize) -> Result<(), Memory>
-    ensures ok { OnOk result (parts.new.items ≡ parts.old.items ++ replicate (count - length parts.old.items) (Part.Own Value.Unset)) }
+    ensures ok { OnOk result
+        (parts.new.items ≡ parts.old.items ++ replicate (count - length parts.old.items) (Part.Own Value.Unset)) }
     ensures err { OnErr result (parts.new.items ≡ parts.old.items) }
 {
     let len = parts.len();
@@ -101,7 +104,8 @@ fn prepare(
     kept: &mut Vec<u8>,
     ofs: &[u8],
 ) -> Result<(), Memory>
-    ensures parts { OnOk result (parts.new.items ≡ parts.old.items ++ replicate (count - length parts.old.items) (Part.Own Value.Unset)) }
+    ensures parts { OnOk result
+        (parts.new.items ≡ parts.old.items ++ replicate (count - length parts.old.items) (Part.Own Value.Unset)) }
     ensures ofs { OnOk result (kept.new.items ≡ ofs.now) }
     ensures same_parts { OnErr result (parts.new.items ≡ parts.old.items) }
     ensures same_ofs { OnErr result (kept.new.items ≡ kept.old.items) }
@@ -149,11 +153,13 @@ pub fn put(
 ) -> Result<(), Fault>
     requires small { at < 65535 }
     requires sound { IsSoundEdited text.now edited.old }
-    ensures ok { OnOk result (AreSet text.now ofs.now (with_field (edited_values text.now edited.old) at value) edited.new) }
+    ensures ok { OnOk result
+        (AreSet text.now ofs.now (with_field (edited_values text.now edited.old) at value) edited.new) }
     ensures err { OnErr result (IsSame text.now edited.old edited.new) }
     ensures sound { IsSoundEdited text.now edited.new }
     ensures fault { IfErr result (λ e. (e ≡ Fault.Memory)
-        ⊎ ((e ≡ Fault.TextTooLong) × (most_bytes < length (joined ofs.now (with_field (edited_values text.now edited.old) at value))))) }
+        ⊎ ((e ≡ Fault.TextTooLong)
+        × (most_bytes < length (joined ofs.now (with_field (edited_values text.now edited.old) at value))))) }
 {
     let count = edited.parts.len().max(at + 1);
     let others = edited.bytes - len_at(edited.parts.as_slice(), text, at) as u128;
@@ -169,11 +175,13 @@ pub fn put(
 /// Sets how many parts there are.
 pub fn set_len(edited: &mut Edited, text: &[u8], count: usize, ofs: &[u8]) -> Result<(), Fault>
     requires sound { IsSoundEdited text.now edited.old }
-    ensures ok { OnOk result (AreSet text.now ofs.now (with_count (edited_values text.now edited.old) count) edited.new) }
+    ensures ok { OnOk result
+        (AreSet text.now ofs.now (with_count (edited_values text.now edited.old) count) edited.new) }
     ensures err { OnErr result (IsSame text.now edited.old edited.new) }
     ensures sound { IsSoundEdited text.now edited.new }
     ensures fault { IfErr result (λ e. (e ≡ Fault.Memory)
-        ⊎ ((e ≡ Fault.TextTooLong) × (most_bytes < length (joined ofs.now (with_count (edited_values text.now edited.old) count))))) }
+        ⊎ ((e ≡ Fault.TextTooLong)
+        × (most_bytes < length (joined ofs.now (with_count (edited_values text.now edited.old) count))))) }
 {
     let stay = count.min(edited.parts.len());
     let bytes = edited.bytes - total_len(&edited.parts[stay..], text);

@@ -7,11 +7,12 @@ ghost use Rattle.awk_fields.specs.declared.front.Front.TheVariants as front;
 use crate::front::{Searched, mark_place};
 use awk_text::texts::MOST_BYTES;
 
-/// How many bytes the first record has, where RS is one byte that is held, the record is no longer than a text may be, and
-/// nothing was searched in vain. Takes no memory.
+/// How many bytes the first record has, where RS is one byte that is held, the record is no longer than a text may be,
+/// and nothing was searched in vain. Takes no memory.
 #[inline(always)]
 pub fn line_len(unread: &[u8], rs: &[u8], searched: Searched) -> Option<usize>
-    ensures front { IfSome result (λ len. (ended : Bool) → head_of unread.now (front.Record 0 len (len + 1)) ≡ head rs.now unread.now ended) }
+    ensures front { IfSome result
+        (λ len. (ended : Bool) → head_of unread.now (front.Record 0 len (len + 1)) ≡ head rs.now unread.now ended) }
     ensures inside { IfSome result (λ len. len < length unread.now) }
     ensures searched { IfSome result (λ len. (rest : List ℕ) → IsSearched rest searched) }
 {

@@ -1,5 +1,6 @@
 // An input that comes in pieces, and its records.
-ghost use Rattle.std.specs.Prelude.{◌≡◌, ◌++◌, ◌+◌, ◌-◌, ◌*◌, ◌≤◌, ◌⊎◌, length, [], true, false, drop, IfOk, OnOk, OnErr, IfErr, IsOkUnless};
+ghost use Rattle.std.specs.Prelude.{◌≡◌, ◌++◌, ◌+◌, ◌-◌, ◌*◌, ◌≤◌, ◌⊎◌, length, [], true, false, drop, IfOk, OnOk};
+ghost use Rattle.std.specs.Prelude.{OnErr, IfErr, IsOkUnless};
 ghost use Rattle.awk_fields.specs.Heads.{head, too_long};
 ghost use Rattle.awk_fields.specs.Takes.{Takes, kept};
 ghost use Rattle.awk_fields.specs.declared.reader.Taken.TheVariants as taken;
@@ -23,9 +24,9 @@ pub enum Taken {
     Done,
 }
 
-/// The bytes of an input that are not taken yet, and whether it has ended. They lie in one window, with taken ones in front
-/// until a `push` finds these to be at least as many as the others, and drops them. So what moves is paid for by what was
-/// taken, and after each `push` the window holds at most twice what is unread.
+/// The bytes of an input that are not taken yet, and whether it has ended. They lie in one window, with taken ones in
+/// front until a `push` finds these to be at least as many as the others, and drops them. So what moves is paid for by
+/// what was taken, and after each `push` the window holds at most twice what is unread.
 #[derive(Drop)]
 pub struct Reader {
     bytes: Vec<u8>,
@@ -85,10 +86,12 @@ impl Reader {
     /// than before.
     pub fn push(&mut self, bytes: &[u8]) -> Result<(), Fault>
         requires { self.old.input.ended ≡ false }
-        ensures ok { OnOk result (self.new.input ≡ record { unread = self.old.input.unread ++ bytes.now; ended = false }) }
+        ensures ok { OnOk result
+            (self.new.input ≡ record { unread = self.old.input.unread ++ bytes.now; ended = false }) }
         ensures err { OnErr result (self.new.input ≡ self.old.input) }
         ensures memory { IsOkUnless result Fault.Memory }
-        ensures dropped { OnOk result (self.new.held ≡ kept (length self.old.input.unread) self.old.held + length bytes.now) }
+        ensures dropped { OnOk result
+            (self.new.held ≡ kept (length self.old.input.unread) self.old.held + length bytes.now) }
         ensures within { OnOk result (self.new.held ≤ 2 * length self.new.input.unread) }
         ensures not_more { OnErr result (self.new.held ≤ self.old.held) }
     {
@@ -114,12 +117,14 @@ impl Reader {
         self.bytes.len()
     }
 
-    /// Takes the first record, where RS is one byte that is held and the record needs no other look. Its text is written in place of
-    /// what lies in the room. Answers whether it did; where it did not, which may be for want of memory, nothing was taken, and
-    /// `take` says what there is.
+    /// Takes the first record, where RS is one byte that is held and the record needs no other look. Its text is
+    /// written in place of what lies in the room. Answers whether it did; where it did not, which may be for want of
+    /// memory, nothing was taken, and `take` says what there is.
     #[inline(always)]
     pub fn take_line(&mut self, rs: &[u8], room: &mut Vec<u8>) -> bool
-        ensures taken { result ≡ true → Takes (head rs.now self.old.input.unread self.old.input.ended) (taken.Record room.new.items) self.old.input self.new.input }
+        ensures taken { result ≡ true →
+            Takes (head rs.now self.old.input.unread self.old.input.ended) (taken.Record room.new.items) self.old.input
+            self.new.input }
         ensures not_taken { result ≡ false → self.new ≡ self.old }
         ensures held { self.new.held ≡ self.old.held }
     {
@@ -144,7 +149,9 @@ impl Reader {
     /// refused; then nothing was taken.
     #[inline(always)]
     pub fn take(&mut self, rs: &[u8], room: &mut Vec<u8>) -> Result<Taken, Fault>
-        ensures ok { IfOk result (λ taken. Takes (head rs.now self.old.input.unread self.old.input.ended) taken self.old.input self.new.input) }
+        ensures ok { IfOk result
+            (λ taken. Takes (head rs.now self.old.input.unread self.old.input.ended) taken self.old.input
+            self.new.input) }
         ensures err { OnErr result (self.new ≡ self.old) }
         ensures held { self.new.held ≡ self.old.held }
         ensures ended { self.new.input.ended ≡ self.old.input.ended }
@@ -161,7 +168,9 @@ impl Reader {
     /// As `take`. It stands out of line, since few records need it.
     #[inline(never)]
     fn take_any(&mut self, rs: &[u8], room: &mut Vec<u8>) -> Result<Taken, Fault>
-        ensures ok { IfOk result (λ taken. Takes (head rs.now self.old.input.unread self.old.input.ended) taken self.old.input self.new.input) }
+        ensures ok { IfOk result
+            (λ taken. Takes (head rs.now self.old.input.unread self.old.input.ended) taken self.old.input
+            self.new.input) }
         ensures err { OnErr result (self.new ≡ self.old) }
         ensures held { self.new.held ≡ self.old.held }
         ensures ended { self.new.input.ended ≡ self.old.input.ended }

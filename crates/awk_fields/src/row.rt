@@ -1,8 +1,10 @@
 // A record: its whole text, and its fields by number.
-ghost use Rattle.std.specs.Prelude.{◌≡◌, ◌<◌, ◌≤◌, ◌⊎◌, ℕ, List, [], Ok, Err, pos, length, IfOk, OnOk, OnErr, IfErr, IfSome};
+ghost use Rattle.std.specs.Prelude.{◌≡◌, ◌<◌, ◌≤◌, ◌⊎◌, ℕ, List, [], Ok, Err, pos, length, IfOk, OnOk, OnErr, IfErr};
+ghost use Rattle.std.specs.Prelude.{IfSome};
 ghost use Rattle.awk_text.specs.Limits.{most_bytes};
 ghost use Rattle.awk_text.specs.Lents.{lent_value};
-ghost use Rattle.awk_fields.specs.Rows.{known, unsplit, place_of, field_place, HasFields, IsKept, IsValueAt, SetsField, SetsCount, SetsNoField, SetsNoCount};
+ghost use Rattle.awk_fields.specs.Rows.{known, unsplit, place_of, field_place, HasFields, IsKept, IsValueAt, SetsField};
+ghost use Rattle.awk_fields.specs.Rows.{SetsCount, SetsNoField, SetsNoCount};
 
 use crate::edits::{Edited, put, set_len};
 use crate::parts::{
@@ -211,8 +213,8 @@ impl Record {
         Ok(field_count(&self.parts) as i64)
     }
 
-    /// The value of a field by its number, lent, where that is there without a change: 0 is the whole text, which is there
-    /// unless it is to be rebuilt, and the others are there once the text is split. Takes no memory.
+    /// The value of a field by its number, lent, where that is there without a change: 0 is the whole text, which is
+    /// there unless it is to be rebuilt, and the others are there once the text is split. Takes no memory.
     pub fn lent(&self, n: u16) -> Option<Lent<'_>>
         ensures { IfSome result (λ v. IsValueAt self.now n (lent_value v)) }
     {

@@ -1,5 +1,6 @@
 // Fields as parts of a text.
-ghost use Rattle.std.specs.Prelude.{◌≡◌, ◌+◌, ◌≤◌, List, ℕ, [], true, length, map, min, All, IfOk, IfSome, vec_len, vec_capacity};
+ghost use Rattle.std.specs.Prelude.{◌≡◌, ◌+◌, ◌≤◌, List, ℕ, [], true, length, map, min, All, IfOk, IfSome, vec_len};
+ghost use Rattle.std.specs.Prelude.{vec_capacity};
 ghost use Rattle.awk_ere.specs.Best.{Best};
 ghost use Rattle.awk_ere.specs.Pattern.{Pattern};
 ghost use Rattle.awk_ere.specs.Spelled.{Finds};
@@ -41,7 +42,8 @@ pub fn texts(alloc: Global, text: &[u8], spans: &[Span]) -> Result<Vec<Octets>, 
 /// Each byte of the text.
 pub fn single_spans(text: &[u8], mut spans: Vec<Span>) -> Result<Vec<Span>, Memory>
     requires { spans.items ≡ [] }
-    ensures { IfOk result (λ found. (fields : List (List ℕ)) × Parts nothing text.now fields × AreSpans text.now found.items fields) }
+    ensures { IfOk result
+        (λ found. (fields : List (List ℕ)) × Parts nothing text.now fields × AreSpans text.now found.items fields) }
 {
     for start in 0..text.len() {
         spans.push(Span {
@@ -96,7 +98,9 @@ pub fn byte_spans(
     mut spans: Vec<Span>,
 ) -> Result<Vec<Span>, Memory>
     requires { spans.items ≡ [] }
-    ensures { IfOk result (λ found. (fields : List (List ℕ)) × Parts (byte mark newline) text.now fields × AreSpans text.now found.items fields) }
+    ensures { IfOk result
+        (λ found. (fields : List (List ℕ)) × Parts (byte mark newline) text.now fields
+        × AreSpans text.now found.items fields) }
 {
     let marks = separators(mark, newline);
     let mut start = 0;
@@ -208,7 +212,9 @@ pub fn ere_spans(
     mut spans: Vec<Span>,
 ) -> Result<Vec<Span>, Memory>
     requires { spans.items ≡ [] }
-    ensures { IfOk result (λ found. (fields : List (List ℕ)) × Parts (ere pattern.now newline) text.now fields × AreSpans text.now found.items fields) }
+    ensures { IfOk result
+        (λ found. (fields : List (List ℕ)) × Parts (ere pattern.now newline) text.now fields
+        × AreSpans text.now found.items fields) }
 {
     let mut searches = Searches::new(pattern, text);
     let known = searches.find(0)?;

@@ -133,7 +133,9 @@ impl Splitter {
 
     /// The fields of the text, put into this vector in place of what it holds.
     pub(crate) fn spans(&self, text: &[u8], mut spans: Vec<Span>) -> Result<Vec<Span>, Memory>
-        ensures { IfOk result (λ spans. (fields : List (List ℕ)) × Fields self.now text.now fields × AreSpans text.now spans.items fields) }
+        ensures { IfOk result
+            (λ spans. (fields : List (List ℕ)) × Fields self.now text.now fields
+            × AreSpans text.now spans.items fields) }
     {
         spans.clear();
         if text.is_empty() {

@@ -10,7 +10,9 @@ use std::alloc::Global;
 
 /// Takes what records there are.
 fn take_all(reader: &mut Reader, rs: &[u8], found: &mut Vec<Octets>) -> Result<(), Fault>
-    ensures taken { OnOk result ((texts : List (List ℕ)) × (found.new.items ≡ found.old.items ++ texts) × FirstRecords rs.now reader.old.input.ended reader.old.input.unread texts reader.new.input.unread) }
+    ensures taken { OnOk result
+        ((texts : List (List ℕ)) × (found.new.items ≡ found.old.items ++ texts)
+        × FirstRecords rs.now reader.old.input.ended reader.old.input.unread texts reader.new.input.unread) }
     ensures stopped { OnOk result (IsStopped (head rs.now reader.new.input.unread reader.new.input.ended)) }
     ensures ended { OnOk result (reader.new.input.ended ≡ reader.old.input.ended) }
     ensures fault { IfErr result (λ e. (e ≡ Fault.Memory)

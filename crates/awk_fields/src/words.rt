@@ -1,5 +1,6 @@
 // The words of a text, which blanks separate.
-ghost use Rattle.std.specs.Prelude.{◌≡◌, ◌==◌, ◌+◌, ◌≤◌, ◌<◌, List, ℕ, [], length, drop, min, IfOk, vec_len, vec_capacity};
+ghost use Rattle.std.specs.Prelude.{◌≡◌, ◌==◌, ◌+◌, ◌≤◌, ◌<◌, List, ℕ, [], length, drop, min, IfOk, vec_len};
+ghost use Rattle.std.specs.Prelude.{vec_capacity};
 ghost use Rattle.std.specs.Simd.Lanes.{mask_l};
 ghost use Rattle.awk_fields.specs.Edges.{IsBetween, WordsTo, changes};
 ghost use Rattle.awk_fields.specs.Fields.{Parts, is_blank};
@@ -90,7 +91,8 @@ fn block_words(text: &[u8], from: usize, end: usize, start: usize, spans: &mut V
 /// The words of the text.
 pub fn blank_spans(text: &[u8], mut spans: Vec<Span>) -> Result<Vec<Span>, Memory>
     requires { spans.items ≡ [] }
-    ensures { IfOk result (λ found. (fields : List (List ℕ)) × Parts blanks text.now fields × AreSpans text.now found.items fields) }
+    ensures { IfOk result
+        (λ found. (fields : List (List ℕ)) × Parts blanks text.now fields × AreSpans text.now found.items fields) }
 {
     let mut start = 0;
     let mut at = 0;

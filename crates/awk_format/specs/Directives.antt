@@ -1,6 +1,7 @@
 -- The conversion specifications of a format. POSIX.1-2017, XBD 5, "File Format Notation": after the `%` stand flags in
 -- any order, then an optional width, then an optional precision after a `.`, and then the conversion specifier.
-use Rattle.std.specs.Prelude.{ℕ, Bool, ◌||◌, ◌==◌, nat_le, List, [], ◌∷◌, Option, Some, None, Result, Ok, Err, if◌then◌else◌}
+use Rattle.std.specs.Prelude.{ℕ, Bool, ◌||◌, ◌==◌, nat_le, List, [], ◌∷◌, Option, Some, None, Result, Ok, Err}
+use Rattle.std.specs.Prelude.{if◌then◌else◌}
 use Rattle.std.specs.Char.{is_ascii_digit}
 use Rattle.std.specs.List.{list_any, take_while}
 use Rattle.std.specs.Str.Parse.{digits_value}
@@ -8,7 +9,8 @@ use Rattle.awk_text.specs.Numerals.{drop_while}
 use Rattle.awk_text.specs.declared.fault.Fault.{Fault}
 use Rattle.awk_text.specs.declared.fault.Fault.TheVariants.{Format}
 use Rattle.awk_format.specs.declared.directive.Conversion.{Conversion}
-use Rattle.awk_format.specs.declared.directive.Conversion.TheVariants.{Signed, Unsigned, Octal, LowerHex, UpperHex, Text, Byte}
+use Rattle.awk_format.specs.declared.directive.Conversion.TheVariants.{Signed, Unsigned, Octal, LowerHex, UpperHex}
+use Rattle.awk_format.specs.declared.directive.Conversion.TheVariants.{Text, Byte}
 use Rattle.awk_format.specs.declared.directive.Directive.{Directive}
 use Rattle.awk_format.specs.declared.directive.Flags.{Flags}
 
@@ -26,11 +28,13 @@ abbrev pub has : ℕ → List ℕ → Bool
 has b text = list_any (λ x. x == b) text
 
 abbrev pub flags_of : List ℕ → Flags
-flags_of run = record { left = has 0x2D run; plus = has 0x2B run; space = has 0x20 run; alternate = has 0x23 run; zero = has 0x30 run }
+flags_of run = record
+    { left = has 0x2D run; plus = has 0x2B run; space = has 0x20 run; alternate = has 0x23 run; zero = has 0x30 run }
 
 -- a width or a precision: the digits that the text begins with, which may be none; over 65,535 is F4
 abbrev pub columns_of : List ℕ → Result ℕ Fault
-columns_of text = let n = digits_value 10 (take_while is_ascii_digit text) in if nat_le n 65535 then Ok n else Err Format
+columns_of text =
+    let n = digits_value 10 (take_while is_ascii_digit text) in if nat_le n 65535 then Ok n else Err Format
 
 -- the precision that the text begins with, where a `.` stands there, and what follows it
 abbrev pub precision_of : List ℕ → Result (Option ℕ) Fault
@@ -68,4 +72,10 @@ directive_of text = do
   width ← columns_of (after_flags text)
   precision ← precision_of (after_width text)
   conversion ← specifier_of (tail_of text)
-  Ok (record { flags = flags_of (take_while is_flag text); width = width; precision = precision; conversion = conversion })
+  Ok (record {
+    flags = flags_of (take_while is_flag text);
+    width = width;
+    precision = precision;
+    conversion =
+        conversion;
+  })

@@ -1,6 +1,8 @@
 -- What a conversion specification makes of its value. POSIX.1-2017, XBD 5, "File Format Notation", and XCU awk,
 -- "Formatted Output"; a number that is shown without a sign is its 64 bits.
-use Rattle.std.specs.Prelude.{ℕ, ◌+◌, ◌-◌, ◌==◌, Bool, true, false, ◌&&◌, max, ℤ, pos, List, [], ◌∷◌, ◌++◌, length, take, replicate, Option, Some, None, Result, Ok, unwrap_or, is_none, unsigned_abs, int_lt, if◌then◌else◌}
+use Rattle.std.specs.Prelude.{ℕ, ◌+◌, ◌-◌, ◌==◌, Bool, true, false, ◌&&◌, max, ℤ, pos, List, [], ◌∷◌, ◌++◌, length}
+use Rattle.std.specs.Prelude.{take, replicate, Option, Some, None, Result, Ok, unwrap_or, is_none, unsigned_abs, int_lt}
+use Rattle.std.specs.Prelude.{if◌then◌else◌}
 use Rattle.std.specs.Int.{w64, cast_unsigned, int_rem_euclid}
 use Rattle.std.specs.Fmt.{decimal, digits}
 use Rattle.awk_text.specs.Numerals.{looks_numeric}
@@ -36,17 +38,20 @@ numeral least n shown = let own = if n == 0 then [] else shown in replicate (lea
 
 -- the sign of `d` and `i`
 abbrev pub sign : Flags → ℤ → List ℕ
-sign flags n = if int_lt n (pos 0) then 45 ∷ [] else (if flags.plus then 43 ∷ [] else (if flags.space then 32 ∷ [] else []))
+sign flags n =
+    if int_lt n (pos 0) then 45 ∷ [] else (if flags.plus then 43 ∷ [] else (if flags.space then 32 ∷ [] else []))
 
 abbrev pub signed_field : Directive → ℤ → List ℕ
-signed_field d n = number_field d (sign d.flags n) (numeral (least_digits d) (unsigned_abs n) (decimal (unsigned_abs n)))
+signed_field d n =
+    number_field d (sign d.flags n) (numeral (least_digits d) (unsigned_abs n) (decimal (unsigned_abs n)))
 
 abbrev pub unsigned_field : Directive → ℕ → List ℕ
 unsigned_field d n = number_field d [] (numeral (least_digits d) n (decimal n))
 
 -- `#` increases the precision so that the first digit is a zero
 abbrev pub octal_least : Directive → ℕ → ℕ
-octal_least d n = if d.flags.alternate then max (least_digits d) ((if n == 0 then 0 else length (digits 8 false n)) + 1) else least_digits d
+octal_least d n = if d.flags.alternate then max (least_digits d) ((if n == 0 then 0 else length (digits 8 false n)) + 1)
+    else least_digits d
 
 abbrev pub octal_field : Directive → ℕ → List ℕ
 octal_field d n = number_field d [] (numeral (octal_least d n) n (digits 8 false n))

@@ -1,5 +1,6 @@
 -- The text that a format makes of values. POSIX.1-2017, XCU awk, "Formatted Output".
-use Rattle.std.specs.Prelude.{ℕ, zero, suc, ◌+◌, ◌-◌, ◌==◌, List, [], ◌∷◌, ◌++◌, length, Option, Some, None, Result, Ok, Err, if◌then◌else◌}
+use Rattle.std.specs.Prelude.{ℕ, zero, suc, ◌+◌, ◌-◌, ◌==◌, List, [], ◌∷◌, ◌++◌, length, Option, Some, None, Result, Ok}
+use Rattle.std.specs.Prelude.{Err, if◌then◌else◌}
 use Rattle.awk_text.specs.declared.fault.Fault.{Fault}
 use Rattle.awk_text.specs.declared.fault.Fault.TheVariants.{Format, TextTooLong}
 use Rattle.awk_text.specs.declared.value.Value.{Value}
@@ -26,12 +27,14 @@ piece_length (b ∷ bs) = if b == 0x25 then 1 else length (b ∷ bs) - length (t
 abbrev pub pieces_after : ℕ → List ℕ → List Piece
 pieces_after taken [] = []
 pieces_after (suc taken) (b ∷ bs) = pieces_after taken bs
-pieces_after zero (b ∷ bs) = if b == 0x25 then piece_of bs ∷ pieces_after (piece_length bs) bs else plain b ∷ pieces_after 0 bs
+pieces_after zero (b ∷ bs) =
+    if b == 0x25 then piece_of bs ∷ pieces_after (piece_length bs) bs else plain b ∷ pieces_after 0 bs
 
 abbrev pub pieces : List ℕ → List Piece
 pieces format = pieces_after 0 format
 
--- the text of the pieces, or the first fault: each conversion specification takes one value, and F4 is that none is left
+-- the text of the pieces, or the first fault: each conversion specification takes one value, and F4 is that none is
+-- left
 abbrev pub made : List Piece → List Value → Result (List ℕ) Fault
 made [] values = Ok []
 made (plain b ∷ ps) values = made ps values >>= λ text. Ok (b ∷ text)

@@ -1,5 +1,6 @@
 -- A text that is made piece by piece, while it is within the limit on texts.
-use Rattle.std.specs.Prelude.{◌≡◌, ℕ, ◌+◌, nat_le, List, ◌++◌, length, Option, Some, None, Result, Ok, Err, if◌then◌else◌}
+use Rattle.std.specs.Prelude.{◌≡◌, ℕ, ◌+◌, nat_le, List, ◌++◌, length, Option, Some, None, Result, Ok, Err}
+use Rattle.std.specs.Prelude.{if◌then◌else◌}
 use Rattle.awk_text.specs.declared.fault.Fault.{Fault}
 use Rattle.awk_text.specs.Limits.{most_bytes}
 

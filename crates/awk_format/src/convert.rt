@@ -1,6 +1,7 @@
 // Values as conversion specifications show them.
 ghost use Rattle.std.specs.Prelude.{◌≡◌, ◌++◌, ◌-◌, ◌⊎◌, [], false, length, replicate, OnOk, IfErr};
-ghost use Rattle.awk_format.specs.Fields.{character, code_of, converted, cut, field, hex_field, number_field, octal_field, signed_field, unsigned_field};
+ghost use Rattle.awk_format.specs.Fields.{character, code_of, converted, cut, field, hex_field, number_field};
+ghost use Rattle.awk_format.specs.Fields.{octal_field, signed_field, unsigned_field};
 ghost use Rattle.awk_format.specs.Written.{written, Writes};
 
 use crate::digits::{MOST_DIGITS, digits};

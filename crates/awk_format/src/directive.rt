@@ -3,7 +3,8 @@ ghost use Rattle.std.specs.Prelude.{◌≡◌, ◌≤◌, drop, length, IfOk, If
 ghost use Rattle.std.specs.Char.{is_ascii_digit};
 ghost use Rattle.std.specs.List.{prefix_len};
 ghost use Rattle.awk_text.specs.Numerals.{drop_while};
-ghost use Rattle.awk_format.specs.Directives.{columns_of, conversion_of, directive_of, flags_of, is_flag, precision_of, tail_of, after_precision};
+ghost use Rattle.awk_format.specs.Directives.{columns_of, conversion_of, directive_of, flags_of, is_flag, precision_of};
+ghost use Rattle.awk_format.specs.Directives.{tail_of, after_precision};
 
 use awk_text::fault::Fault;
 use awk_text::numeral::leading_digits;

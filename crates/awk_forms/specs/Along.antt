@@ -16,20 +16,24 @@ use Rattle.awk_forms.specs.Runs.{IsGiven, Waits}
 
 module _ {W : Type 0} (ghosts : Ghosts W) (cx : Context) where
   -- from its piece the machine has come to where `to` says
-  pub record Along (p : Given → Piece) (to : Given → List Piece → List Piece) (old : Whole) (w : W) (mid : Whole) (w' : W) : Type 0 where
+  pub record Along (p : Given → Piece) (to : Given → List Piece → List Piece) (old : Whole) (w : W) (mid : Whole)
+      (w' : W) : Type 0 where
     pub leads : (g : Given) → IsGiven cx g → Leads ghosts (base g) (Agreeing g) used g (p g) old w (to g) mid w'
     pub owns : Owns (ghosts.open_numbers w') mid.1
 
   -- so many of a list of parts are evaluated
-  pub record Filling (xs : Given → List Expression) (had has : List Value) (n : ℕ) (old : Whole) (w : W) (mid : Whole) (w' : W) : Type 0 where
+  pub record Filling (xs : Given → List Expression) (had has : List Value) (n : ℕ) (old : Whole) (w : W) (mid : Whole)
+      (w' : W) : Type 0 where
     pub leads : (g : Given) → IsGiven cx g → (part : Part) → Waits g part (length had) (xs g) →
         Leads ghosts (base g) (Agreeing g) used g (At part (reverse had)) old w (λ k. At part (reverse has) ∷ k) mid w'
     pub owns : Owns (ghosts.open_numbers w') mid.1
     pub count : length has ≡ length had + n
 
   -- so many arguments are evaluated
-  pub record Arguing (xs : Given → Arguments) (has : List Value) (n : ℕ) (old : Whole) (w : W) (mid : Whole) (w' : W) : Type 0 where
+  pub record Arguing (xs : Given → Arguments) (has : List Value) (n : ℕ) (old : Whole) (w : W) (mid : Whole) (w' : W) :
+      Type 0 where
     pub leads : (g : Given) → IsGiven cx g → (place : Place) (f : ℕ) →
-        Leads ghosts (base g) (Agreeing g) used g (value (p.call place f (xs g))) old w (λ k. At (Value_of (p.call place f (xs g))) (reverse has) ∷ k) mid w'
+        Leads ghosts (base g) (Agreeing g) used g (value (p.call place f (xs g))) old w
+        (λ k. At (Value_of (p.call place f (xs g))) (reverse has) ∷ k) mid w'
     pub owns : Owns (ghosts.open_numbers w') mid.1
     pub count : length has ≡ n

@@ -28,16 +28,18 @@ pub record IsGiven (cx : Context) (g : Given) : Type 0 where
 abbrev pub whole_of : Run → Whole
 whole_of run = (run.store, run.streams)
 
--- from its piece the machine leads on, or the part is halted, whatever else the run is given; and the open streams are the
--- world's
+-- from its piece the machine leads on, or the part is halted, whatever else the run is given; and the open streams are
+-- the world's
 pub record Does {W A : Type 0} (ghosts : Ghosts W)
-    (cx : Context) (p : Given → Piece) (to : Given → A → List Piece → List Piece) (old : Whole) (w : W) (result : Result A Halt) (new : Whole) (w' : W) : Type 0 where
+    (cx : Context) (p : Given → Piece) (to : Given → A → List Piece → List Piece) (old : Whole) (w : W)
+    (result : Result A Halt) (new : Whole) (w' : W) : Type 0 where
   pub plays : (g : Given) → IsGiven cx g → Meets ghosts (base g) (Agreeing g) used g (p g) (to g) old w result new w'
   pub owns : Owns (ghosts.open_numbers w') new.1
 
 -- the same of an answer that is no value, but tells of the value that is given what is wanted of it
 pub record Tells {W A : Type 0} (ghosts : Ghosts W)
-    (cx : Context) (p : Given → Piece) (Is : A → Value → Type 0) (old : Whole) (w : W) (result : Result A Halt) (new : Whole) (w' : W) : Type 0 where
+    (cx : Context) (p : Given → Piece) (Is : A → Value → Type 0) (old : Whole) (w : W) (result : Result A Halt)
+    (new : Whole) (w' : W) : Type 0 where
   pub val : Value
   pub is : IfOk result (λ x. Is x val)
   pub does : Does ghosts cx p (λ g x. give val) old w result new w'
@@ -56,12 +58,15 @@ IsUnwanted x val = Unit {0}
 
 -- the part evaluates these from its n-th one on, as each is wanted; it is not the one that reads records
 pub record Waits (g : Given) (part : Part) (n : ℕ) (xs : List Expression) : Type 0 where
-  pub next : (m : ℕ) (x : Expression) → slice_get xs m ≡ Some x → (vs : List Value) → length vs ≡ n + m → (k : List Piece) (s : State) → advance g (At part vs ∷ k) s ≡ Goes (value x ∷ At part vs ∷ k) s
+  pub next : (m : ℕ) (x : Expression) → slice_get xs m ≡ Some x → (vs : List Value) → length vs ≡ n + m →
+      (k : List Piece) (s : State) → advance g (At part vs ∷ k) s ≡ Goes (value x ∷ At part vs ∷ k) s
   pub passed : (vs : List Value) (k : List Piece) → to_records (At part vs ∷ k) ≡ to_records k
 
 -- a list of parts is evaluated from left to right, for whatever part waits for them behind the values that it has
 pub record Fills {W A : Type 0} (ghosts : Ghosts W)
-    (cx : Context) (xs : Given → List Expression) (had has : List Value) (old : Whole) (w : W) (result : Result A Halt) (new : Whole) (w' : W) : Type 0 where
+    (cx : Context) (xs : Given → List Expression) (had has : List Value) (old : Whole) (w : W) (result : Result A Halt)
+    (new : Whole) (w' : W) : Type 0 where
   pub plays : (g : Given) → IsGiven cx g → (part : Part) → Waits g part (length had) (xs g) →
-      Meets ghosts (base g) (Agreeing g) used g (At part (reverse had)) (λ (x : A) k. At part (reverse has) ∷ k) old w result new w'
+      Meets ghosts (base g) (Agreeing g) used g (At part (reverse had)) (λ (x : A) k. At part (reverse has) ∷ k) old w
+      result new w'
   pub owns : Owns (ghosts.open_numbers w') new.1

@@ -130,7 +130,8 @@ pub fn chain<W: World, E: Evaluates<W>>(
 ) -> Result<Value, Halt>
     requires can { E.can on }
     requires owns { Owns (W.open_numbers world.old) run.old.streams }
-    ensures { Does W.World cx.now (λ g. value (p.chain (view (names_in g) x.now) (terms_of (map (view_term (names_in g)) xs.now)))) (λ g. give)
+    ensures { Does W.World cx.now
+        (λ g. value (p.chain (view (names_in g) x.now) (terms_of (map (view_term (names_in g)) xs.now)))) (λ g. give)
         (whole_of run.old) world.old result (whole_of run.new) world.new }
 {
     let mut so_far = on.value(cx, x, run, world)?;
@@ -152,7 +153,8 @@ fn concat<W: World, E: Evaluates<W>>(
 ) -> Result<Value, Halt>
     requires can { E.can on }
     requires owns { Owns (W.open_numbers world.old) run.old.streams }
-    ensures { Does W.World cx.now (λ g. value (p.concat (view (names_in g) x.now) (joins_of (map (view_joined (names_in g)) xs.now)))) (λ g. give)
+    ensures { Does W.World cx.now
+        (λ g. value (p.concat (view (names_in g) x.now) (joins_of (map (view_joined (names_in g)) xs.now)))) (λ g. give)
         (whole_of run.old) world.old result (whole_of run.new) world.new }
 {
     let mut so_far = on.value(cx, x, run, world)?;
@@ -174,7 +176,8 @@ fn within<W: World, E: Evaluates<W>>(
 ) -> Result<Value, Halt>
     requires can { E.can on }
     requires owns { Owns (W.open_numbers world.old) run.old.streams }
-    ensures { Does W.World cx.now (λ g. value (p.member (view (names_in g) x.now) (map (variable_of (names_in g)) arrays.now))) (λ g. give)
+    ensures { Does W.World cx.now
+        (λ g. value (p.member (view (names_in g) x.now) (map (variable_of (names_in g)) arrays.now))) (λ g. give)
         (whole_of run.old) world.old result (whole_of run.new) world.new }
 {
     let key = on.value(cx, x, run, world)?;
@@ -192,7 +195,8 @@ fn all<W: World, E: Evaluates<W>>(
 ) -> Result<Value, Halt>
     requires can { E.can on }
     requires owns { Owns (W.open_numbers world.old) run.old.streams }
-    ensures { Does W.World cx.now (λ g. value (p.and (view (names_in g) x.now) (expressions_of (map (view (names_in g)) xs.now)))) (λ g. give)
+    ensures { Does W.World cx.now
+        (λ g. value (p.and (view (names_in g) x.now) (expressions_of (map (view (names_in g)) xs.now)))) (λ g. give)
         (whole_of run.old) world.old result (whole_of run.new) world.new }
 {
     let mut last = on.value(cx, x, run, world)?;
@@ -216,7 +220,8 @@ fn any<W: World, E: Evaluates<W>>(
 ) -> Result<Value, Halt>
     requires can { E.can on }
     requires owns { Owns (W.open_numbers world.old) run.old.streams }
-    ensures { Does W.World cx.now (λ g. value (p.or (view (names_in g) x.now) (expressions_of (map (view (names_in g)) xs.now)))) (λ g. give)
+    ensures { Does W.World cx.now
+        (λ g. value (p.or (view (names_in g) x.now) (expressions_of (map (view (names_in g)) xs.now)))) (λ g. give)
         (whole_of run.old) world.old result (whole_of run.new) world.new }
 {
     let mut last = on.value(cx, x, run, world)?;
@@ -242,7 +247,9 @@ pub fn choose<W: World, E: Evaluates<W>>(
 ) -> Result<Value, Halt>
     requires can { E.can on }
     requires owns { Owns (W.open_numbers world.old) run.old.streams }
-    ensures { Does W.World cx.now (λ g. value (p.choose (view (names_in g) x.now) (view (names_in g) y.now) (view (names_in g) z.now))) (λ g. give)
+    ensures { Does W.World cx.now
+        (λ g. value (p.choose (view (names_in g) x.now) (view (names_in g) y.now) (view (names_in g) z.now)))
+        (λ g. give)
         (whole_of run.old) world.old result (whole_of run.new) world.new }
 {
     let holds = truth_of(cx, x, on, run, world)?;

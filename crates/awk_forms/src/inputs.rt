@@ -48,7 +48,8 @@ pub fn getline<W: World, E: Evaluates<W>>(
     )
 }
 
-/// `getline target < file`. Where the file's name is at hand, and what is set needs no evaluation, the name is not copied.
+/// `getline target < file`. Where the file's name is at hand, and what is set needs no evaluation, the name is not
+/// copied.
 #[inline(never)]
 pub fn from_file<W: World, E: Evaluates<W>>(
     cx: &Context<'_>,
@@ -61,7 +62,8 @@ pub fn from_file<W: World, E: Evaluates<W>>(
 ) -> Result<Value, Halt>
     requires can { E.can on }
     requires owns { Owns (W.open_numbers world.old) run.old.streams }
-    ensures { Does W.World cx.now (λ g. value (p.getline_file place (view_target (names_in g) target.now) (view (names_in g) x.now))) (λ g. give)
+    ensures { Does W.World cx.now
+        (λ g. value (p.getline_file place (view_target (names_in g) target.now) (view (names_in g) x.now))) (λ g. give)
         (whole_of run.old) world.old result (whole_of run.new) world.new }
 {
     if let Some(to) = spot_at_hand(target) {
@@ -110,7 +112,8 @@ pub fn from_commands<W: World, E: Evaluates<W>>(
 ) -> Result<Value, Halt>
     requires can { E.can on }
     requires owns { Owns (W.open_numbers world.old) run.old.streams }
-    ensures { Does W.World cx.now (λ g. value (p.pipe (view (names_in g) x.now) (view_pipes (names_in g) xs.now))) (λ g. give)
+    ensures { Does W.World cx.now (λ g. value (p.pipe (view (names_in g) x.now) (view_pipes (names_in g) xs.now)))
+        (λ g. give)
         (whole_of run.old) world.old result (whole_of run.new) world.new }
 {
     if let [only] = xs {

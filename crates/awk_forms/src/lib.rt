@@ -1,7 +1,8 @@
-//! The forms of expressions: how each is evaluated over any world, as plain awk does ("Expressions in awk" of POSIX.1-2017 XCU awk).
+//! The forms of expressions: how each is evaluated over any world, as plain awk does ("Expressions in awk" of
+//! POSIX.1-2017 XCU awk).
 //!
-//! A form is generic over what evaluates its parts ([`evaluates::Evaluates`]), and does not call itself: the recursion stands in
-//! awk_eval. So a form is proved by itself, and an edit of it makes no other one anew.
+//! A form is generic over what evaluates its parts ([`evaluates::Evaluates`]), and does not call itself: the recursion
+//! stands in awk_eval. So a form is proved by itself, and an edit of it makes no other one anew.
 #![tactic(auto)]
 
 pub mod context;

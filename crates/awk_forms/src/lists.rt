@@ -56,9 +56,13 @@ pub fn element<W: World, E: Evaluates<W>>(
 ) -> Result<Spot, Halt>
     requires can { E.can on }
     requires owns { Owns (W.open_numbers world.old) run.old.streams }
-    ensures plays { Does W.World cx.now (λ g. spot (p.element place (variable_of (names_in g) array) (expressions_of (map (view (names_in g)) keys.now)))) (λ g s. give (value_of s))
+    ensures plays { Does W.World cx.now
+        (λ g. spot (p.element place (variable_of (names_in g) array)
+        (expressions_of (map (view (names_in g)) keys.now)))) (λ g s. give (value_of s))
         (whole_of run.old) world.old result (whole_of run.new) world.new }
-    ensures spot { IfOk result (λ s. (names : List (List ℕ)) → IsSpotOf names (p.element place (variable_of names array) (expressions_of (map (view names) keys.now))) s) }
+    ensures spot { IfOk result
+        (λ s. (names : List (List ℕ)) →
+        IsSpotOf names (p.element place (variable_of names array) (expressions_of (map (view names) keys.now))) s) }
 {
     if let Some(one) = only(keys) {
         let subscript = on.value(cx, one, run, world)?;
@@ -89,7 +93,9 @@ pub fn element_group<W: World, E: Evaluates<W>>(
 ) -> Result<Value, Halt>
     requires can { E.can on }
     requires owns { Owns (W.open_numbers world.old) run.old.streams }
-    ensures { Does W.World cx.now (λ g. value (p.group place (expressions_of (map (view (names_in g)) xs.now)) (map (variable_of (names_in g)) arrays.now))) (λ g. give)
+    ensures { Does W.World cx.now
+        (λ g. value (p.group place (expressions_of (map (view (names_in g)) xs.now))
+        (map (variable_of (names_in g)) arrays.now))) (λ g. give)
         (whole_of run.old) world.old result (whole_of run.new) world.new }
 {
     let mut values = Vec::new(cx.alloc);

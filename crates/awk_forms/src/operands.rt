@@ -51,7 +51,8 @@ pub fn binary<W: World, E: Evaluates<W>>(
 ) -> Result<Value, Halt>
     requires can { E.can on }
     requires owns { Owns (W.open_numbers world.old) run.old.streams }
-    ensures { Does W.World cx.now (λ g. value (binary_of form (view (names_in g) x.now) (view (names_in g) y.now))) (λ g. give)
+    ensures { Does W.World cx.now (λ g. value (binary_of form (view (names_in g) x.now) (view (names_in g) y.now)))
+        (λ g. give)
         (whole_of run.old) world.old result (whole_of run.new) world.new }
 {
     let left = on.value(cx, x, run, world)?;
@@ -73,7 +74,10 @@ fn ternary<W: World, E: Evaluates<W>>(
 ) -> Result<Value, Halt>
     requires can { E.can on }
     requires owns { Owns (W.open_numbers world.old) run.old.streams }
-    ensures { Does W.World cx.now (λ g. value (p.builtin place which (p.more (view (names_in g) x.now) (p.more (view (names_in g) y.now) (p.more (view (names_in g) z.now) p.none))))) (λ g. give)
+    ensures { Does W.World cx.now
+        (λ g. value (p.builtin place which
+        (p.more (view (names_in g) x.now)
+        (p.more (view (names_in g) y.now) (p.more (view (names_in g) z.now) p.none))))) (λ g. give)
         (whole_of run.old) world.old result (whole_of run.new) world.new }
 {
     let first = on.value(cx, x, run, world)?;
@@ -101,7 +105,8 @@ fn several<W: World, E: Evaluates<W>>(
 ) -> Result<Value, Halt>
     requires can { E.can on }
     requires owns { Owns (W.open_numbers world.old) run.old.streams }
-    ensures { Does W.World cx.now (λ g. value (p.builtin place which (expressions_of (map (view (names_in g)) args.now)))) (λ g. give)
+    ensures { Does W.World cx.now
+        (λ g. value (p.builtin place which (expressions_of (map (view (names_in g)) args.now)))) (λ g. give)
         (whole_of run.old) world.old result (whole_of run.new) world.new }
 {
     let mut values = Vec::new(cx.alloc);
@@ -128,7 +133,8 @@ pub fn builtin<W: World, E: Evaluates<W>>(
 ) -> Result<Value, Halt>
     requires can { E.can on }
     requires owns { Owns (W.open_numbers world.old) run.old.streams }
-    ensures { Does W.World cx.now (λ g. value (p.builtin place which (expressions_of (map (view (names_in g)) args.now)))) (λ g. give)
+    ensures { Does W.World cx.now
+        (λ g. value (p.builtin place which (expressions_of (map (view (names_in g)) args.now)))) (λ g. give)
         (whole_of run.old) world.old result (whole_of run.new) world.new }
 {
     match args {

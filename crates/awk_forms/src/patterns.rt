@@ -30,7 +30,8 @@ pub fn locate<W: World, E: Evaluates<W>>(
 ) -> Result<Value, Halt>
     requires can { E.can on }
     requires owns { Owns (W.open_numbers world.old) run.old.streams }
-    ensures { Does W.World cx.now (λ g. value (p.locate place (view (names_in g) x.now) (view_ere (names_in g) pattern.now))) (λ g. give)
+    ensures { Does W.World cx.now
+        (λ g. value (p.locate place (view (names_in g) x.now) (view_ere (names_in g) pattern.now))) (λ g. give)
         (whole_of run.old) world.old result (whole_of run.new) world.new }
 {
     let text = on.value(cx, x, run, world)?;
@@ -59,7 +60,9 @@ pub fn split<W: World, E: Evaluates<W>>(
 ) -> Result<Value, Halt>
     requires can { E.can on }
     requires owns { Owns (W.open_numbers world.old) run.old.streams }
-    ensures { Does W.World cx.now (λ g. value (p.split place (view (names_in g) x.now) at_name (variable_of (names_in g) array) (view_ere (names_in g) separator.now))) (λ g. give)
+    ensures { Does W.World cx.now
+        (λ g. value (p.split place (view (names_in g) x.now) at_name (variable_of (names_in g) array)
+        (view_ere (names_in g) separator.now))) (λ g. give)
         (whole_of run.old) world.old result (whole_of run.new) world.new }
 {
     let text = on.value(cx, x, run, world)?;
@@ -90,7 +93,9 @@ pub fn substitute<W: World, E: Evaluates<W>>(
 ) -> Result<Value, Halt>
     requires can { E.can on }
     requires owns { Owns (W.open_numbers world.old) run.old.streams }
-    ensures { Does W.World cx.now (λ g. value (p.substitute place extent (view_ere (names_in g) pattern.now) (view (names_in g) x.now) (view_target (names_in g) target.now))) (λ g. give)
+    ensures { Does W.World cx.now
+        (λ g. value (p.substitute place extent (view_ere (names_in g) pattern.now) (view (names_in g) x.now)
+        (view_target (names_in g) target.now))) (λ g. give)
         (whole_of run.old) world.old result (whole_of run.new) world.new }
 {
     let from = source_of(cx, pattern, on, run, world)?;

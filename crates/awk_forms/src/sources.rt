@@ -58,7 +58,9 @@ pub fn matches<W: World, E: Evaluates<W>>(
 ) -> Result<bool, Halt>
     requires can { E.can on }
     requires owns { Owns (W.open_numbers world.old) run.old.streams }
-    ensures { Does W.World cx.now (λ g. value (p.matched place (view (names_in g) x.now) (view_ere (names_in g) pattern.now))) (λ g b. give (of_truth b))
+    ensures { Does W.World cx.now
+        (λ g. value (p.matched place (view (names_in g) x.now) (view_ere (names_in g) pattern.now)))
+        (λ g b. give (of_truth b))
         (whole_of run.old) world.old result (whole_of run.new) world.new }
 {
     split_for(&mut run.store, x)?;

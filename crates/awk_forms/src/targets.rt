@@ -100,7 +100,8 @@ pub fn put<W: World, E: Evaluates<W>>(
 ) -> Result<(), Halt>
     requires can { E.can on }
     requires owns { Owns (W.open_numbers world.old) run.old.streams }
-    ensures { Tells W.World cx.now (λ g. value (p.assign place (view_target (names_in g) target.now) (view (names_in g) x.now))) IsUnwanted
+    ensures { Tells W.World cx.now
+        (λ g. value (p.assign place (view_target (names_in g) target.now) (view (names_in g) x.now))) IsUnwanted
         (whole_of run.old) world.old result (whole_of run.new) world.new }
 {
     let is_done = assigned(cx.alloc, &mut run.store, &mut run.texts, target, x)?;
@@ -125,7 +126,8 @@ pub fn alter<W: World, E: Evaluates<W>>(
 ) -> Result<(), Halt>
     requires can { E.can on }
     requires owns { Owns (W.open_numbers world.old) run.old.streams }
-    ensures { Tells W.World cx.now (λ g. value (p.change place how (view_target (names_in g) target.now) (view (names_in g) x.now))) IsUnwanted
+    ensures { Tells W.World cx.now
+        (λ g. value (p.change place how (view_target (names_in g) target.now) (view (names_in g) x.now))) IsUnwanted
         (whole_of run.old) world.old result (whole_of run.new) world.new }
 {
     let to = target_of(cx, target, on, run, world)?;
@@ -147,7 +149,9 @@ pub fn step_target<W: World, E: Evaluates<W>>(
 ) -> Result<(i64, i64), Halt>
     requires can { E.can on }
     requires owns { Owns (W.open_numbers world.old) run.old.streams }
-    ensures { (taken : Which) → Does W.World cx.now (λ g. value (p.step place how taken (view_target (names_in g) target.now))) (λ g n. give (either taken n.0 n.1))
+    ensures { (taken : Which) →
+        Does W.World cx.now (λ g. value (p.step place how taken (view_target (names_in g) target.now)))
+        (λ g n. give (either taken n.0 n.1))
         (whole_of run.old) world.old result (whole_of run.new) world.new }
 {
     let to = target_of(cx, target, on, run, world)?;
@@ -169,7 +173,8 @@ pub fn assign<W: World, E: Evaluates<W>>(
 ) -> Result<Value, Halt>
     requires can { E.can on }
     requires owns { Owns (W.open_numbers world.old) run.old.streams }
-    ensures { Does W.World cx.now (λ g. value (p.assign place (view_target (names_in g) target.now) (view (names_in g) x.now))) (λ g. give)
+    ensures { Does W.World cx.now
+        (λ g. value (p.assign place (view_target (names_in g) target.now) (view (names_in g) x.now))) (λ g. give)
         (whole_of run.old) world.old result (whole_of run.new) world.new }
 {
     let to = target_of(cx, target, on, run, world)?;
@@ -194,7 +199,8 @@ pub fn change<W: World, E: Evaluates<W>>(
 ) -> Result<Value, Halt>
     requires can { E.can on }
     requires owns { Owns (W.open_numbers world.old) run.old.streams }
-    ensures { Does W.World cx.now (λ g. value (p.change place how (view_target (names_in g) target.now) (view (names_in g) x.now))) (λ g. give)
+    ensures { Does W.World cx.now
+        (λ g. value (p.change place how (view_target (names_in g) target.now) (view (names_in g) x.now))) (λ g. give)
         (whole_of run.old) world.old result (whole_of run.new) world.new }
 {
     let to = target_of(cx, target, on, run, world)?;
@@ -221,7 +227,8 @@ pub fn increment<W: World, E: Evaluates<W>>(
 ) -> Result<Value, Halt>
     requires can { E.can on }
     requires owns { Owns (W.open_numbers world.old) run.old.streams }
-    ensures { Does W.World cx.now (λ g. value (p.step place how taken (view_target (names_in g) target.now))) (λ g. give)
+    ensures { Does W.World cx.now (λ g. value (p.step place how taken (view_target (names_in g) target.now)))
+        (λ g. give)
         (whole_of run.old) world.old result (whole_of run.new) world.new }
 {
     let (before, behind) = step_target(cx, place, how, target, on, run, world)?;

@@ -116,7 +116,8 @@ fn compare<W: World, E: Evaluates<W>>(
 ) -> Result<bool, Halt>
     requires can { E.can on }
     requires owns { Owns (W.open_numbers world.old) run.old.streams }
-    ensures { Does W.World cx.now (λ g. value (p.compare how (view (names_in g) x.now) (view (names_in g) y.now))) (λ g b. give (of_truth b))
+    ensures { Does W.World cx.now (λ g. value (p.compare how (view (names_in g) x.now) (view (names_in g) y.now)))
+        (λ g b. give (of_truth b))
         (whole_of run.old) world.old result (whole_of run.new) world.new }
 {
     let one = on.value(cx, x, run, world)?;

@@ -32,14 +32,16 @@ is_record other = false
 
 -- the piece p has a record for this target, or what came in its place; behind it `to` is left to be done
 abbrev pub IsGot : Given → Piece → Place → Target → List Text → Value → (List Piece → List Piece) → Type 0
-IsGot g p place target names record_ to = (k : List Piece) (s : State) → move g (p ∷ k) s ≡ got place target names record_ (to k) s
+IsGot g p place target names record_ to =
+    (k : List Piece) (s : State) → move g (p ∷ k) s ≡ got place target names record_ (to k) s
 
 -- the counters have grown, behind whatever was done; or the whole is halted
 abbrev pub Counts : Given → Piece → Whole → (List Piece → List Piece) → Result (Unit {0}) Halt → Whole → Type 0
 Counts g p old to (Ok u) new = Passes g p old to new
 Counts g p old to (Err h) new = Acts g p (goes_on {A = Unit {0}}) old (Err h) new
 
--- what is left of `getline target < file` once a record was read, or something came in its place: all its values are there
+-- what is left of `getline target < file` once a record was read, or something came in its place: all its values are
+-- there
 abbrev pub read_of : Place → p.Reference → Expression → Value → Value → Value → List Piece → List Piece
 read_of place r x name target answer k = At (Value_of (p.getline_file place r x)) (answer ∷ name ∷ target ∷ []) ∷ k
 

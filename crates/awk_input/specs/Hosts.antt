@@ -1,5 +1,6 @@
 -- What the host of a run gave (POSIX.1-2017 XCU awk, "OPERANDS", "OPTIONS").
-use Rattle.std.specs.Prelude.{◌≡◌, ℕ, ◌&&◌, Bool, true, false, if◌then◌else◌, List, [], ◌∷◌, ◌++◌, get_or, Option, Some, None, is_none}
+use Rattle.std.specs.Prelude.{◌≡◌, ℕ, ◌&&◌, Bool, true, false, if◌then◌else◌, List, [], ◌∷◌, ◌++◌, get_or, Option, Some}
+use Rattle.std.specs.Prelude.{None, is_none}
 use Rattle.std.specs.List.{list_any}
 use Rattle.std.specs.Map.{lookup}
 use Rattle.std.specs.Str.{bytes_eq}
@@ -66,8 +67,8 @@ abbrev pub IsSlotIn : List Text → Text → Option ℕ → Type 0
 IsSlotIn names name (Some k) = get_or names k [] ≡ name
 IsSlotIn names name None = list_any (bytes_eq name) names ≡ false
 
--- What a run is given is what the host gave. A name that it may set is the variable of its slot, or no variable of the script:
--- then to set it changes nothing.
+-- What a run is given is what the host gave. A name that it may set is the variable of its slot, or no variable of the
+-- script: then to set it changes nothing.
 pub record IsHost (h : Hosted) (g : Given) : Type 0 where
   pub bound : g.bound ≡ h.bound
   pub words : (text : Text) → list_any (bytes_eq text) g.operands ≡ is_given h text

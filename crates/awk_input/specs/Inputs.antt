@@ -1,5 +1,6 @@
 -- The main input (POSIX.1-2017 XCU awk, "STDIN" and "Input Files").
-use Rattle.std.specs.Prelude.{◌≡◌, Bool, true, false, if◌then◌else◌, List, [], ◌∷◌, ◌++◌, codes, Option, Some, None, Result, Ok, Err}
+use Rattle.std.specs.Prelude.{◌≡◌, Bool, true, false, if◌then◌else◌, List, [], ◌∷◌, ◌++◌, codes, Option, Some, None}
+use Rattle.std.specs.Prelude.{Result, Ok, Err}
 use Rattle.awk_text.specs.Quoted.{quoted}
 use Rattle.awk_text.specs.declared.value.Value.{Value}
 use Rattle.awk_text.specs.declared.value.Value.TheVariants as v
@@ -53,7 +54,8 @@ more false k = k
 abbrev pub found_main : Key → Found → List Piece → List Piece
 found_main key (found.Record text) k = give (v.Input text) k
 found_main key found.End k = Do (Past key) ∷ Do Take ∷ k
-found_main key found.Failed k = Do (Report (codes "read") (own_name key)) ∷ Do (Forget key) ∷ Do (Past key) ∷ Do Take ∷ k
+found_main key found.Failed k =
+    Do (Report (codes "read") (own_name key)) ∷ Do (Forget key) ∷ Do (Past key) ∷ Do Take ∷ k
 
 -- once a record is there, or the end; or there is more to do
 abbrev pub taken : Option Value → List Piece → List Piece
@@ -73,6 +75,7 @@ abbrev pub at_records : List Piece → List Piece
 at_records k = At Records [] ∷ k
 
 -- behind whatever was done the machine leads on, or the whole is halted
-abbrev pub Onward : {W A : Type 0} → Ghosts W → Given → Piece → Whole → W → (List Piece → List Piece) → Result A Halt → Whole → W → Type 0
+abbrev pub Onward : {W A : Type 0} → Ghosts W → Given → Piece → Whole → W → (List Piece → List Piece) → Result A Halt →
+    Whole → W → Type 0
 Onward ghosts g p old w to (Ok x) new w' = LeadsOn ghosts g p old w to new w'
 Onward ghosts g p old w to (Err h) new w' = Performs ghosts g p (goes_on {A = Unit {0}}) old w (Err h) new w'

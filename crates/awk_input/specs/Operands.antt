@@ -32,11 +32,13 @@ abbrev pub is_done : Reply → Bool
 is_done reply.Done = true
 is_done other = false
 
--- the move of the piece is what this does for the state of the other whole, which differs in how far the main input is read
+-- the move of the piece is what this does for the state of the other whole, which differs in how far the main input is
+-- read
 pub record Moves (g : Given) (p : Piece) (old : Whole) (then_ : Then) (new : Whole) : Type 0 where
   pub same : used new ≡ used old
   pub agrees : (hid : Hidden) (c : Course) → Agreeing g old hid c → Agreeing g new hid c
-  pub moves : (k : List Piece) (hid : Hidden) (c : Course) → Agreeing g old hid c → move g (p ∷ k) (seen (base g old hid) c) ≡ then_ k (seen (base g new hid) c)
+  pub moves : (k : List Piece) (hid : Hidden) (c : Course) → Agreeing g old hid c →
+      move g (p ∷ k) (seen (base g old hid) c) ≡ then_ k (seen (base g new hid) c)
 
 -- the operand's file is opened
 abbrev pub opening_of : Given → Text → Then

@@ -40,7 +40,9 @@ pub fn set_named(
     store: &mut Store,
 ) -> Result<(), Halt>
     requires { can_set host.now name.now ≡ true }
-    ensures { (g : Given) → IsHost host.now g → (t : Table) → Acts g (Do (Set (machine.Variable (global name.now)) nowhere value)) goes_on (store.old, t) result (store.new, t) }
+    ensures { (g : Given) → IsHost host.now g → (t : Table) →
+        Acts g (Do (Set (machine.Variable (global name.now)) nowhere value)) goes_on (store.old, t) result
+        (store.new, t) }
 {
     let place = Place { line: 0, column: 0 };
     match host.slot_of(name) {
@@ -94,7 +96,8 @@ pub fn assign<W: World>(
     world: &mut W,
 ) -> Result<(), Halt>
     requires { can_set host.now name.now ≡ true }
-    ensures task { (g : Given) → IsHost host.now g → (t : Table) (p : Piece) (old : Whole) → Moves g p old (assignment g operand.now name.now text.now) (store.old, t)
+    ensures task { (g : Given) → IsHost host.now g → (t : Table) (p : Piece) (old : Whole) →
+        Moves g p old (assignment g operand.now name.now text.now) (store.old, t)
         → Performs W.World g p goes_on old world.old result (store.new, t) world.new }
     ensures numbers { W.open_numbers world.new ≡ W.open_numbers world.old }
 {

@@ -31,7 +31,8 @@ pub enum Counted {
 /// Adds 1 to NR and to FNR.
 #[inline(always)]
 pub fn count_both(store: &mut Store, place: Place) -> Result<(), Halt>
-    ensures { (g : Given) (t : Table) (p : Piece) (old : Whole) (to : List Piece → List Piece) → Passes g p old (λ k. counting place (names_of spec.both) (to k)) (store.old, t)
+    ensures { (g : Given) (t : Table) (p : Piece) (old : Whole) (to : List Piece → List Piece) →
+        Passes g p old (λ k. counting place (names_of spec.both) (to k)) (store.old, t)
         → Counts g p old to result (store.new, t) }
 {
     count(store, place, Own::Nr)?;
@@ -40,7 +41,8 @@ pub fn count_both(store: &mut Store, place: Place) -> Result<(), Halt>
 
 /// Adds 1 to each of these variables, NR first.
 pub fn count_all(store: &mut Store, place: Place, counters: Counted) -> Result<(), Halt>
-    ensures { (g : Given) (t : Table) (p : Piece) (old : Whole) (to : List Piece → List Piece) → Passes g p old (λ k. counting place (names_of counters) (to k)) (store.old, t)
+    ensures { (g : Given) (t : Table) (p : Piece) (old : Whole) (to : List Piece → List Piece) →
+        Passes g p old (λ k. counting place (names_of counters) (to k)) (store.old, t)
         → Counts g p old to result (store.new, t) }
 {
     match counters {
@@ -56,8 +58,8 @@ fn is_record(value: &Value) -> bool
     matches!(value, Value::Input(_))
 }
 
-/// Sets the target to a record that was read, and adds 1 to each of these variables; answers 1. What
-/// came in place of a record is the answer itself. The next record is written where the text lay that the target held before.
+/// Sets the target to a record that was read, and adds 1 to each of these variables; answers 1. What came in place of a
+/// record is the answer itself. The next record is written where the text lay that the target held before.
 #[inline(always)]
 pub fn set_record(
     alloc: Global,
@@ -68,7 +70,8 @@ pub fn set_record(
     counters: Counted,
     answer: Value,
 ) -> Result<Value, Halt>
-    ensures task { (g : Given) (p : Piece) (to : List Piece → List Piece) → IsGot g p place (meant (names_in g) target) (names_of counters) answer to
+    ensures task { (g : Given) (p : Piece) (to : List Piece → List Piece) →
+        IsGot g p place (meant (names_in g) target) (names_of counters) answer to
         → Acts g p (λ v k. give v (to k)) (store.old, streams.old) result (store.new, streams.new) }
     ensures same { streams.new ≡ streams.old }
 {

@@ -41,7 +41,8 @@ use std::alloc::Global;
 
 /// The main input is read from here on, as an operand of this text names it.
 fn begin(store: &mut Store, source: Source, text: Octets)
-    ensures { (g : Given) (t : Table) (key : Key) → store_inputs.key_of source ≡ Some key → Acts g (Do (Begun key text)) goes_on (store.old, t) (Ok (tt {0})) (store.new, t) }
+    ensures { (g : Given) (t : Table) (key : Key) → store_inputs.key_of source ≡ Some key →
+        Acts g (Do (Begun key text)) goes_on (store.old, t) (Ok (tt {0})) (store.new, t) }
 {
     let mut main = store.replace_main(MainInput::new());
     main.current = source;
@@ -59,7 +60,8 @@ fn open_file<W: World>(
     world: &mut W,
 ) -> Result<bool, Halt>
     requires { Owns (W.open_numbers world.old) streams.old }
-    ensures task { (g : Given) → IsHost host.now g → (k : Kept) (p : Piece) (old : Whole) → Moves g p old (opening_of g text.now) (k, streams.old)
+    ensures task { (g : Given) → IsHost host.now g → (k : Kept) (p : Piece) (old : Whole) →
+        Moves g p old (opening_of g text.now) (k, streams.old)
         → Performs W.World g p (begun_or text.now) old world.old result (k, streams.new) world.new }
     ensures owns { Owns (W.open_numbers world.new) streams.new }
 {
@@ -86,7 +88,8 @@ fn begin_named<W: World>(
     world: &mut W,
 ) -> Result<(), Halt>
     requires { Owns (W.open_numbers world.old) streams.old }
-    ensures task { (g : Given) → IsHost host.now g → (p : Piece) (old : Whole) → Moves g p old (opening_of g text) (store.old, streams.old)
+    ensures task { (g : Given) → IsHost host.now g → (p : Piece) (old : Whole) →
+        Moves g p old (opening_of g text) (store.old, streams.old)
         → Performs W.World g p goes_on old world.old result (store.new, streams.new) world.new }
     ensures owns { Owns (W.open_numbers world.new) streams.new }
 {
@@ -109,7 +112,8 @@ pub fn begin_input<W: World>(
     world: &mut W,
 ) -> Result<(), Halt>
     requires { Owns (W.open_numbers world.old) streams.old }
-    ensures task { (g : Given) → IsHost host.now g → (p : Piece) (old : Whole) → Moves g p old (file g text) (store.old, streams.old)
+    ensures task { (g : Given) → IsHost host.now g → (p : Piece) (old : Whole) →
+        Moves g p old (file g text) (store.old, streams.old)
         → Performs W.World g p goes_on old world.old result (store.new, streams.new) world.new }
     ensures owns { Owns (W.open_numbers world.new) streams.new }
 {
@@ -122,12 +126,13 @@ pub fn begin_input<W: World>(
 
 // ---- its records
 
-/// Reads a record of the operand's file. That file stands open; the test of it is there since no contract carries this from one
-/// record to the next.
+/// Reads a record of the operand's file. That file stands open; the test of it is there since no contract carries this
+/// from one record to the next.
 fn read_file<W: World>(store: &Store, streams: &mut Streams, world: &mut W) -> Result<Found, Halt>
     requires { Owns (W.open_numbers world.old) streams.old }
     ensures task { (g : Given) → store.now.main.ended ≡ false
-        → Performs W.World g (Do Take) (found_main (current_key store.now)) (store.now, streams.old) world.old result (store.now, streams.new) world.new }
+        → Performs W.World g (Do Take) (found_main (current_key store.now)) (store.now, streams.old) world.old result
+        (store.now, streams.new) world.new }
     ensures current { OnOk result ((text : Text) × (store.now.main.current ≡ Some (Named event.OperandFile text))) }
     ensures owns { Owns (W.open_numbers world.new) streams.new }
 {
@@ -156,7 +161,8 @@ pub fn pass_file<W: World>(
     world: &mut W,
 ) -> Result<(), Halt>
     requires { Owns (W.open_numbers world.old) streams.old }
-    ensures task { (g : Given) (text : Text) → store.old.main.current ≡ Some (Named event.OperandFile text) → (t : Table) → IsBut event.OperandFile text t streams.old
+    ensures task { (g : Given) (text : Text) → store.old.main.current ≡ Some (Named event.OperandFile text) →
+        (t : Table) → IsBut event.OperandFile text t streams.old
         → (rest : List Piece → List Piece) (p : Piece) (old : Whole) (w : W)
         → LeadsOn W.World g p old w (λ k. Do (Past (Named event.OperandFile text)) ∷ rest k) (store.old, t) world.old
         → Onward W.World g p old w rest result (store.new, streams.new) world.new }
@@ -180,7 +186,9 @@ pub fn pass_file<W: World>(
 
 /// The text of the operand whose file is read.
 fn current_text(alloc: Global, main: &MainInput) -> Result<Octets, Memory>
-    ensures { IfOk result (λ x. (text : Text) → (store_inputs.main_of main.now).current ≡ Some (Named event.OperandFile text) → x ≡ text) }
+    ensures { IfOk result
+        (λ x. (text : Text) → (store_inputs.main_of main.now).current ≡ Some (Named event.OperandFile text) → x
+        ≡ text) }
 {
     match &main.current {
         Source::Operand(text) => text.copy(alloc),
@@ -197,7 +205,9 @@ fn give_up_file<W: World>(
 ) -> Result<(), Halt>
     requires { Owns (W.open_numbers world.old) streams.old }
     ensures task { (g : Given) (text : Text) → store.old.main.current ≡ Some (Named event.OperandFile text)
-        → (p : Piece) (old : Whole) (w : W) → LeadsOn W.World g p old w (found_main (Named event.OperandFile text) Found.Failed) (store.old, streams.old) world.old
+        → (p : Piece) (old : Whole) (w : W) →
+        LeadsOn W.World g p old w (found_main (Named event.OperandFile text) Found.Failed) (store.old, streams.old)
+        world.old
         → Onward W.World g p old w (λ k. Do Take ∷ k) result (store.new, streams.new) world.new }
     ensures owns { Owns (W.open_numbers world.new) streams.new }
 {
@@ -215,7 +225,8 @@ pub fn take_file<W: World>(
 ) -> Result<Option<Value>, Halt>
     requires { Owns (W.open_numbers world.old) streams.old }
     ensures task { (g : Given) → store.old.main.ended ≡ false
-        → Performs W.World g (Do Take) taken (store.old, streams.old) world.old result (store.new, streams.new) world.new }
+        → Performs W.World g (Do Take) taken (store.old, streams.old) world.old result (store.new, streams.new)
+        world.new }
     ensures owns { Owns (W.open_numbers world.new) streams.new }
 {
     match read_file(store, streams, world)? {

@@ -31,7 +31,8 @@ use std::alloc::Global;
 
 /// The stream of a file of this name: `-` is the standard input.
 fn file_source(name: &[u8]) -> Source<'_>
-    ensures { (place : Place) (k : List Piece) → machine.fetch_file place name.now k ≡ Do (fetching place (key_of result)) ∷ k }
+    ensures { (place : Place) (k : List Piece) → machine.fetch_file place name.now k
+        ≡ Do (fetching place (key_of result)) ∷ k }
 {
     if name == b"-".as_slice() {
         return Source::Standard;
@@ -53,7 +54,9 @@ fn fetch_record<W: World>(
     world: &mut W,
 ) -> Result<Value, Halt>
     requires { Owns (W.open_numbers world.old) streams.old }
-    ensures task { (g : Given) → Performs W.World g (Do (fetching place (key_of source.now))) give (store.now, streams.old) world.old result (store.now, streams.new) world.new }
+    ensures task { (g : Given) →
+        Performs W.World g (Do (fetching place (key_of source.now))) give (store.now, streams.old) world.old result
+        (store.now, streams.new) world.new }
     ensures owns { Owns (W.open_numbers world.new) streams.new }
 {
     let mut buffer = Buffer::new();
@@ -61,8 +64,8 @@ fn fetch_record<W: World>(
     fetch(alloc, place, source, rs, streams, world)
 }
 
-/// Reads a record for `getline target < file`, once the file's name is known: the record as input, 0 at its end, or -1 where it
-/// can't be read. `set_from_file` sets it.
+/// Reads a record for `getline target < file`, once the file's name is known: the record as input, 0 at its end, or -1
+/// where it can't be read. `set_from_file` sets it.
 pub fn file_record<W: World>(
     alloc: Global,
     place: Place,
@@ -73,7 +76,9 @@ pub fn file_record<W: World>(
 ) -> Result<Value, Halt>
     requires { Owns (W.open_numbers world.old) streams.old }
     ensures task { (g : Given) (r : p.Reference) (x : Expression) (target : Value)
-        → Performs W.World g (At (Value_of (p.getline_file place r x)) (lent_value name.entry ∷ target ∷ [])) (read_of place r x (lent_value name.entry) target) (store.now, streams.old) world.old result (store.now, streams.new) world.new }
+        → Performs W.World g (At (Value_of (p.getline_file place r x)) (lent_value name.entry ∷ target ∷ []))
+        (read_of place r x (lent_value name.entry) target) (store.now, streams.old) world.old result
+        (store.now, streams.new) world.new }
     ensures owns { Owns (W.open_numbers world.new) streams.new }
 {
     let mut buffer = Buffer::new();
@@ -81,7 +86,8 @@ pub fn file_record<W: World>(
     fetch_record(alloc, place, &source, store, streams, world)
 }
 
-/// Sets what `getline target < file` sets to the record that was read, and answers 1; or answers what came in its place.
+/// Sets what `getline target < file` sets to the record that was read, and answers 1; or answers what came in its
+/// place.
 #[inline(always)]
 pub fn set_from_file(
     alloc: Global,
@@ -92,7 +98,8 @@ pub fn set_from_file(
     streams: &mut Streams,
 ) -> Result<Value, Halt>
     ensures task { (g : Given) (r : p.Reference) (x : Expression) (name : Value) → IsSpotOf (names_in g) r target
-        → Acts g (At (Value_of (p.getline_file place r x)) (answer ∷ name ∷ value_of target ∷ [])) give (store.old, streams.old) result (store.new, streams.new) }
+        → Acts g (At (Value_of (p.getline_file place r x)) (answer ∷ name ∷ value_of target ∷ [])) give
+        (store.old, streams.old) result (store.new, streams.new) }
     ensures same { streams.new ≡ streams.old }
 {
     set_record(
@@ -106,8 +113,8 @@ pub fn set_from_file(
     )
 }
 
-/// Reads a record for `command | getline target`, once the command and what is set are known: the record as input, 0 at its end,
-/// or -1 where it can't be read. `set_from_command` sets it.
+/// Reads a record for `command | getline target`, once the command and what is set are known: the record as input, 0 at
+/// its end, or -1 where it can't be read. `set_from_command` sets it.
 pub fn command_record<W: World>(
     alloc: Global,
     place: Place,
@@ -118,7 +125,9 @@ pub fn command_record<W: World>(
 ) -> Result<Value, Halt>
     requires { Owns (W.open_numbers world.old) streams.old }
     ensures task { (g : Given) (r : p.Reference) (xs : Pipes) (target : Value)
-        → Performs W.World g (At (Pipes_of (p.piped place r xs)) (target ∷ lent_value command.entry ∷ [])) (piped_of place r xs (lent_value command.entry) target) (store.now, streams.old) world.old result (store.now, streams.new) world.new }
+        → Performs W.World g (At (Pipes_of (p.piped place r xs)) (target ∷ lent_value command.entry ∷ []))
+        (piped_of place r xs (lent_value command.entry) target) (store.now, streams.old) world.old result
+        (store.now, streams.new) world.new }
     ensures owns { Owns (W.open_numbers world.new) streams.new }
 {
     let mut buffer = Buffer::new();
@@ -129,8 +138,8 @@ pub fn command_record<W: World>(
     fetch_record(alloc, place, &source, store, streams, world)
 }
 
-/// Sets what `command | getline target` sets to the record that was read, adds 1 to NR, and answers 1; or answers what came in its
-/// place.
+/// Sets what `command | getline target` sets to the record that was read, adds 1 to NR, and answers 1; or answers what
+/// came in its place.
 #[inline(always)]
 pub fn set_from_command(
     alloc: Global,
@@ -141,7 +150,8 @@ pub fn set_from_command(
     streams: &mut Streams,
 ) -> Result<Value, Halt>
     ensures task { (g : Given) (r : p.Reference) (xs : Pipes) (command : Value) → IsSpotOf (names_in g) r target
-        → Acts g (At (Pipes_of (p.piped place r xs)) (answer ∷ value_of target ∷ command ∷ [])) (λ v k. give v (At (Pipes_of xs) [] ∷ k)) (store.old, streams.old) result (store.new, streams.new) }
+        → Acts g (At (Pipes_of (p.piped place r xs)) (answer ∷ value_of target ∷ command ∷ []))
+        (λ v k. give v (At (Pipes_of xs) [] ∷ k)) (store.old, streams.old) result (store.new, streams.new) }
     ensures same { streams.new ≡ streams.old }
 {
     set_record(alloc, store, streams, place, target, Counted::Nr, answer)
@@ -159,7 +169,9 @@ pub fn getline_pipe<W: World>(
 ) -> Result<Value, Halt>
     requires { Owns (W.open_numbers world.old) streams.old }
     ensures task { (g : Given) (r : p.Reference) (xs : Pipes) → IsSpotOf (names_in g) r target
-        → Performs W.World g (At (Pipes_of (p.piped place r xs)) (value_of target ∷ lent_value command.entry ∷ [])) (λ v k. give v (At (Pipes_of xs) [] ∷ k)) (store.old, streams.old) world.old result (store.new, streams.new) world.new }
+        → Performs W.World g (At (Pipes_of (p.piped place r xs)) (value_of target ∷ lent_value command.entry ∷ []))
+        (λ v k. give v (At (Pipes_of xs) [] ∷ k)) (store.old, streams.old) world.old result (store.new, streams.new)
+        world.new }
     ensures owns { Owns (W.open_numbers world.new) streams.new }
 {
     let answer = command_record(alloc, place, command, store, streams, world)?;

@@ -33,7 +33,12 @@ impl Model for Host {
 
     ghost Value = { Hosted };
 
-    ghost view = { λ h. record { bound = h.bound; words = map (λ t. t.items) h.words.keys; names = map (λ e. (e.0.items, e.1)) h.names.entries } };
+    ghost view = { λ h. record {
+      bound = h.bound;
+      words = map (λ t. t.items) h.words.keys;
+      names =
+          map (λ e. (e.0.items, e.1)) h.names.entries;
+    } };
 }
 
 impl Host {

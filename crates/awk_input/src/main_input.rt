@@ -43,7 +43,9 @@ fn read_standard<W: World>(
     requires owns { Owns (W.open_numbers world.old) streams.old }
     requires ended { store.now.main.ended ≡ false }
     requires current { store.now.main.current ≡ Some (Standard 0) }
-    ensures task { (g : Given) → Performs W.World g (Do Take) (found_main (Standard 0)) (store.now, streams.old) world.old result (store.now, streams.new) world.new }
+    ensures task { (g : Given) →
+        Performs W.World g (Do Take) (found_main (Standard 0)) (store.now, streams.old) world.old result
+        (store.now, streams.new) world.new }
     ensures failed { IfOk result (λ x. FailsOpen (Standard 0) x streams.new) }
     ensures owns { Owns (W.open_numbers world.new) streams.new }
 {
@@ -62,7 +64,8 @@ fn give_up<W: World>(
 ) -> Result<(), Halt>
     requires owns { Owns (W.open_numbers world.old) streams.old }
     requires open { GoesOn (Standard 0) streams.old }
-    ensures task { (g : Given) (p : Piece) (old : Whole) (w : W) → LeadsOn W.World g p old w (found_main (Standard 0) Found.Failed) (store.old, streams.old) world.old
+    ensures task { (g : Given) (p : Piece) (old : Whole) (w : W) →
+        LeadsOn W.World g p old w (found_main (Standard 0) Found.Failed) (store.old, streams.old) world.old
         → Onward W.World g p old w (λ k. Do Take ∷ k) result (store.new, streams.new) world.new }
     ensures owns { Owns (W.open_numbers world.new) streams.new }
 {
@@ -82,7 +85,9 @@ fn take_standard<W: World>(
     requires owns { Owns (W.open_numbers world.old) streams.old }
     requires ended { store.old.main.ended ≡ false }
     requires current { store.old.main.current ≡ Some (Standard 0) }
-    ensures task { (g : Given) → Performs W.World g (Do Take) taken (store.old, streams.old) world.old result (store.new, streams.new) world.new }
+    ensures task { (g : Given) →
+        Performs W.World g (Do Take) taken (store.old, streams.old) world.old result (store.new, streams.new)
+        world.new }
     ensures owns { Owns (W.open_numbers world.new) streams.new }
 {
     match read_standard(store, streams, world)? {
@@ -108,7 +113,8 @@ fn turn<W: World>(
 ) -> Result<Option<Value>, Halt>
     requires { Owns (W.open_numbers world.old) streams.old }
     ensures task { (g : Given) → IsHost host.now g
-        → Performs W.World g (Do Take) taken (store.old, streams.old) world.old result (store.new, streams.new) world.new }
+        → Performs W.World g (Do Take) taken (store.old, streams.old) world.old result (store.new, streams.new)
+        world.new }
     ensures owns { Owns (W.open_numbers world.new) streams.new }
 {
     if store.main().ended {
@@ -134,7 +140,8 @@ fn take_on<W: World>(
 ) -> Result<Value, Halt>
     requires { Owns (W.open_numbers world.old) streams.old }
     ensures task { (g : Given) → IsHost host.now g
-        → Performs W.World g (Do Take) give (store.old, streams.old) world.old result (store.new, streams.new) world.new }
+        → Performs W.World g (Do Take) give (store.old, streams.old) world.old result (store.new, streams.new)
+        world.new }
     ensures owns { Owns (W.open_numbers world.new) streams.new }
 {
     for _ in 0..u64::MAX {
@@ -157,7 +164,8 @@ pub fn take<W: World>(
 ) -> Result<Value, Halt>
     requires { Owns (W.open_numbers world.old) streams.old }
     ensures task { (g : Given) → IsHost host.now g
-        → Performs W.World g (Do Take) give (store.old, streams.old) world.old result (store.new, streams.new) world.new }
+        → Performs W.World g (Do Take) give (store.old, streams.old) world.old result (store.new, streams.new)
+        world.new }
     ensures owns { Owns (W.open_numbers world.new) streams.new }
 {
     let mut room = streams.take_room();
@@ -180,7 +188,8 @@ pub fn getline_main<W: World>(
 ) -> Result<Value, Halt>
     requires { Owns (W.open_numbers world.old) streams.old }
     ensures task { (g : Given) → IsHost host.now g → (r : p.Reference) → IsSpotOf (names_in g) r target
-        → Performs W.World g (At (Value_of (p.getline place r)) (value_of target ∷ [])) give (store.old, streams.old) world.old result (store.new, streams.new) world.new }
+        → Performs W.World g (At (Value_of (p.getline place r)) (value_of target ∷ [])) give (store.old, streams.old)
+        world.old result (store.new, streams.new) world.new }
     ensures owns { Owns (W.open_numbers world.new) streams.new }
 {
     let answer = take(alloc, host, store, streams, world)?;
@@ -198,15 +207,16 @@ pub fn getline_main<W: World>(
 /// Sets `$0` to a record of the main input and counts it, before the rules meet it.
 #[inline(always)]
 pub fn begin_record(store: &mut Store, text: Octets) -> Result<(), Halt>
-    ensures { (g : Given) (t : Table) (vs : List Value) → Acts g (At Records (Value.Input text ∷ vs)) (counted_on g) (store.old, t) result (store.new, t) }
+    ensures { (g : Given) (t : Table) (vs : List Value) →
+        Acts g (At Records (Value.Input text ∷ vs)) (counted_on g) (store.old, t) result (store.new, t) }
 {
     let place = Place { line: 0, column: 0 };
     fields::set_record(store, place, text)?;
     count_both(store, place)
 }
 
-/// Takes the first record of what is held unread of the main input, where it needs no other look, and writes it into the room;
-/// answers whether it did.
+/// Takes the first record of what is held unread of the main input, where it needs no other look, and writes it into
+/// the room; answers whether it did.
 #[inline(always)]
 fn takes_line(store: &Store, streams: &mut Streams, room: &mut Vec<u8>) -> bool
     ensures taken { result ≡ true → IsMainLine store.now streams.old room.new.items streams.new }
@@ -232,8 +242,8 @@ fn takes_line(store: &Store, streams: &mut Streams, room: &mut Vec<u8>) -> bool
     }
 }
 
-/// The next record of the main input is set and counted, wherever it comes from; answers whether there was one. It stands out
-/// of line, since most records are there as lines.
+/// The next record of the main input is set and counted, wherever it comes from; answers whether there was one. It
+/// stands out of line, since most records are there as lines.
 #[inline(never)]
 fn next_any<W: World>(
     alloc: Global,
@@ -244,7 +254,8 @@ fn next_any<W: World>(
 ) -> Result<bool, Halt>
     requires { Owns (W.open_numbers world.old) streams.old }
     ensures task { (g : Given) → IsHost host.now g
-        → PerformsIn W.World g (At Records []) (meeting g) at_records (store.old, streams.old) world.old result (store.new, streams.new) world.new }
+        → PerformsIn W.World g (At Records []) (meeting g) at_records (store.old, streams.old) world.old result
+        (store.new, streams.new) world.new }
     ensures owns { Owns (W.open_numbers world.new) streams.new }
 {
     match take_on(alloc, host, store, streams, world)? {
@@ -256,8 +267,8 @@ fn next_any<W: World>(
     }
 }
 
-/// The next record of the main input is set and counted, for the rules to meet it; answers whether
-/// there was one. It is written where the text of the record before the present one lay, so that few records need memory.
+/// The next record of the main input is set and counted, for the rules to meet it; answers whether there was one. It is
+/// written where the text of the record before the present one lay, so that few records need memory.
 #[inline(never)]
 pub fn next_record<W: World>(
     alloc: Global,
@@ -268,7 +279,8 @@ pub fn next_record<W: World>(
 ) -> Result<bool, Halt>
     requires { Owns (W.open_numbers world.old) streams.old }
     ensures task { (g : Given) → IsHost host.now g
-        → PerformsIn W.World g (At Records []) (meeting g) at_records (store.old, streams.old) world.old result (store.new, streams.new) world.new }
+        → PerformsIn W.World g (At Records []) (meeting g) at_records (store.old, streams.old) world.old result
+        (store.new, streams.new) world.new }
     ensures owns { Owns (W.open_numbers world.new) streams.new }
 {
     let mut room = store.take_room();

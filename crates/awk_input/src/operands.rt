@@ -44,7 +44,8 @@ fn argument_count(store: &Store) -> Result<i64, Fault>
 
 /// The place behind this one in ARGV, where this is the place of an operand.
 fn place_behind(position: u64, count: i64) -> Option<u64>
-    ensures { MatchOption result (int_lt (pos position) count ≡ false) (λ next. (int_lt (pos position) count ≡ true) × (next ≡ position + 1)) }
+    ensures { MatchOption result (int_lt (pos position) count ≡ false)
+        (λ next. (int_lt (pos position) count ≡ true) × (next ≡ position + 1)) }
 {
     match u64::try_from(count) {
         Ok(count) => {
@@ -86,7 +87,8 @@ fn name_length(text: &[u8]) -> usize
 /// Where `=` stands in an operand that is an assignment to the host.
 fn assignment_sign(host: &Host, text: &[u8]) -> Option<usize>
     ensures { MatchOption result (is_assigning host.now text.now ≡ false)
-        (λ sign. (is_assigning host.now text.now ≡ true) × (sign ≡ position_or_len is_equals text.now) × (sign < length text.now)) }
+        (λ sign. (is_assigning host.now text.now ≡ true) × (sign ≡ position_or_len is_equals text.now)
+        × (sign < length text.now)) }
 {
     let sign = name_length(text);
     if sign < text.len() && host.can_assign(&text[..sign]) {
@@ -106,7 +108,8 @@ fn begin_operand<W: World>(
     world: &mut W,
 ) -> Result<(), Halt>
     requires { Owns (W.open_numbers world.old) streams.old }
-    ensures task { (g : Given) → IsHost host.now g → (p : Piece) (old : Whole) → Moves g p old (operand_of g text) (store.old, streams.old)
+    ensures task { (g : Given) → IsHost host.now g → (p : Piece) (old : Whole) →
+        Moves g p old (operand_of g text) (store.old, streams.old)
         → Performs W.World g p goes_on old world.old result (store.new, streams.new) world.new }
     ensures owns { Owns (W.open_numbers world.new) streams.new }
 {
@@ -135,7 +138,8 @@ fn look<W: World>(
     requires owns { Owns (W.open_numbers world.old) streams.old }
     requires next { next ≡ store.old.main.position + 1 }
     ensures task { (g : Given) → IsHost host.now g
-        → Performs W.World g (Do machine.Look) goes_on (store.old, streams.old) world.old result (store.new, streams.new) world.new }
+        → Performs W.World g (Do machine.Look) goes_on (store.old, streams.old) world.old result
+        (store.new, streams.new) world.new }
     ensures owns { Owns (W.open_numbers world.new) streams.new }
 {
     let Ok(text) = operand_text(alloc, store) else {
@@ -156,7 +160,8 @@ pub fn operand<W: World>(
 ) -> Result<(), Halt>
     requires { Owns (W.open_numbers world.old) streams.old }
     ensures task { (g : Given) → IsHost host.now g
-        → Performs W.World g (Do machine.Operand) goes_on (store.old, streams.old) world.old result (store.new, streams.new) world.new }
+        → Performs W.World g (Do machine.Operand) goes_on (store.old, streams.old) world.old result
+        (store.new, streams.new) world.new }
     ensures owns { Owns (W.open_numbers world.new) streams.new }
 {
     let place = Place { line: 0, column: 0 };

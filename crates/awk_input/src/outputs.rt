@@ -47,8 +47,8 @@ fn mode_of(how: Redirect) -> Mode
     }
 }
 
-/// Puts a text to the stream of this name, which is opened before where it is not open. Answers the text, whose room can serve
-/// the next one.
+/// Puts a text to the stream of this name, which is opened before where it is not open. Answers the text, whose room
+/// can serve the next one.
 pub fn put_to<W: World>(
     alloc: Global,
     place: Place,
@@ -60,7 +60,11 @@ pub fn put_to<W: World>(
 ) -> Result<Octets, Halt>
     requires { Owns (W.open_numbers world.old) streams.old }
     ensures task { (g : Given) (k : Kept) (p : Piece) (old : Whole) (w : W)
-        → LeadsOn W.World g p old w (λ l. Do (machine.Open place (printing.mode_of how) (printing.class_of how) (text_of (lent_value name.entry))) ∷ Do (machine.Put place (Named (printing.class_of how) (text_of (lent_value name.entry))) text) ∷ l) (k, streams.old) world.old
+        → LeadsOn W.World g p old w
+        (λ l. Do (machine.Open place (printing.mode_of how) (printing.class_of how)
+        (text_of (lent_value name.entry)))
+        ∷ Do (machine.Put place (Named (printing.class_of how) (text_of (lent_value name.entry))) text) ∷ l)
+        (k, streams.old) world.old
         → Onward W.World g p old w (λ l. l) result (k, streams.new) world.new }
     ensures text { IfOk result (λ same. same ≡ text) }
     ensures owns { Owns (W.open_numbers world.new) streams.new }

@@ -93,7 +93,8 @@ pub fn name_input(store: &mut Store)
 /// Takes the text of the operand whose file is read out of the store, if one is; nothing is read then.
 pub fn take_out(store: &mut Store) -> Option<Octets>
     ensures { MatchOption result (store.new ≡ store.old)
-        (λ text. (store.old.main.current ≡ Some (Named event.OperandFile text)) × (store.new ≡ with_main (record store.old.main { current = None }) store.old)) }
+        (λ text. (store.old.main.current ≡ Some (Named event.OperandFile text))
+        × (store.new ≡ with_main (record store.old.main { current = None }) store.old)) }
 {
     let mut main = store.replace_main(MainInput::new());
     match mem::replace(&mut main.current, Source::Nothing) {

@@ -16,7 +16,8 @@ use awk_text::value::{Value, truth};
 /// is on.
 pub fn begin_range(store: &mut Store, rule: usize, first: &Value) -> Result<bool, Halt>
     requires { get_or store.old.on rule false ≡ false }
-    ensures { (g : Given) (t : Table) (x : Rule) (y z : Expression) → x.when ≡ p.range y z → Acts g (At (Choosing rule x) (first.now ∷ [])) (turned_on rule x) (store.old, t) result (store.new, t) }
+    ensures { (g : Given) (t : Table) (x : Rule) (y z : Expression) → x.when ≡ p.range y z →
+        Acts g (At (Choosing rule x) (first.now ∷ [])) (turned_on rule x) (store.old, t) result (store.new, t) }
 {
     if !truth(first) {
         return Ok(false);
@@ -29,7 +30,8 @@ pub fn begin_range(store: &mut Store, rule: usize, first: &Value) -> Result<bool
 /// the record.
 pub fn end_range(store: &mut Store, rule: usize, last: &Value) -> Result<(), Halt>
     requires { get_or store.old.on rule false ≡ true }
-    ensures { (g : Given) (t : Table) (x : Rule) (y z : Expression) → x.when ≡ p.range y z → Acts g (At (Choosing rule x) (last.now ∷ [])) (acting x) (store.old, t) result (store.new, t) }
+    ensures { (g : Given) (t : Table) (x : Rule) (y z : Expression) → x.when ≡ p.range y z →
+        Acts g (At (Choosing rule x) (last.now ∷ [])) (acting x) (store.old, t) result (store.new, t) }
 {
     if !truth(last) {
         return Ok(());

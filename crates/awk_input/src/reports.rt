@@ -41,7 +41,9 @@ pub fn report<W: World>(
     store: &mut Store,
     world: &mut W,
 ) -> Result<(), Halt>
-    ensures task { (g : Given) (t : Table) → Performs W.World g (Do (Report what.now name.now)) goes_on (store.old, t) world.old result (store.new, t) world.new }
+    ensures task { (g : Given) (t : Table) →
+        Performs W.World g (Do (Report what.now name.now)) goes_on (store.old, t) world.old result (store.new, t)
+        world.new }
     ensures numbers { W.open_numbers world.new ≡ W.open_numbers world.old }
     ensures failed { OnOk result (store.new ≡ with_main (record store.old.main { failed = true }) store.old) }
 {

@@ -19,8 +19,8 @@ use awk_streams::streams::Streams;
 use awk_text::place::Place;
 use box_world::world::World;
 
-/// The main input is done with the stream that it reads, if it reads one. A file is shut; what is unread of the standard input
-/// stays for others.
+/// The main input is done with the stream that it reads, if it reads one. A file is shut; what is unread of the
+/// standard input stays for others.
 fn skip<W: World>(store: &mut Store, streams: &mut Streams, world: &mut W) -> Result<(), Halt>
     requires { Owns (W.open_numbers world.old) streams.old }
     ensures task { (g : Given) (rest : List Piece → List Piece) (p : Piece) (old : Whole) (w : W)
@@ -38,8 +38,8 @@ fn skip<W: World>(store: &mut Store, streams: &mut Streams, world: &mut W) -> Re
     }
 }
 
-/// `nextfile`: all calls end, and the main input is done with the record and with what it came from. Outside the rules for records
-/// it is a fault.
+/// `nextfile`: all calls end, and the main input is done with the record and with what it came from. Outside the rules
+/// for records it is a fault.
 pub fn next_file<W: World>(
     place: Place,
     store: &mut Store,
@@ -48,7 +48,8 @@ pub fn next_file<W: World>(
 ) -> Halt
     requires { Owns (W.open_numbers world.old) streams.old }
     ensures task { (g : Given)
-        → Performs W.World g (At (Doing (p.jump (j.NextFile place))) []) flows (store.old, streams.old) world.old (Err result) (store.new, streams.new) world.new }
+        → Performs W.World g (At (Doing (p.jump (j.NextFile place))) []) flows (store.old, streams.old) world.old
+        (Err result) (store.new, streams.new) world.new }
     ensures owns { Owns (W.open_numbers world.new) streams.new }
 {
     if let Err(halt) = jumps::next_file(store, place) {

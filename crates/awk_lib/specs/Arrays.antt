@@ -1,6 +1,7 @@
 -- Arrays: lists of pairs of a key and a value, no two with one key, in the order in which the keys were added
 -- (POSIX.1-2017 XCU awk, "Expressions in awk": subscripts are texts; the order of `for (k in a)` is this one).
-use Rattle.std.specs.Prelude.{ℕ, nat_lt, ◌||◌, not, Bool, if◌then◌else◌, List, [], ◌∷◌, ◌++◌, length, map, filter, Option, is_some, Result, Ok, Err}
+use Rattle.std.specs.Prelude.{ℕ, nat_lt, ◌||◌, not, Bool, if◌then◌else◌, List, [], ◌∷◌, ◌++◌, length, map, filter}
+use Rattle.std.specs.Prelude.{Option, is_some, Result, Ok, Err}
 use Rattle.std.specs.Map.{lookup}
 use Rattle.std.specs.Str.{bytes_eq}
 use Rattle.awk_text.specs.declared.fault.Fault.{Fault}

@@ -23,7 +23,8 @@ module _ {V : Type 0} where
 
   -- the row lies at the place
   abbrev pub Lies : Elements V → Place → ℕ × (List ℕ × V) → Type 0
-  Lies es (Dense k) r = (r.1.0 ≡ decimal k) × (slice_get es.dense.places.items k ≡ Some (Some (record { number = r.0; value = r.1.1 })))
+  Lies es (Dense k) r =
+      (r.1.0 ≡ decimal k) × (slice_get es.dense.places.items k ≡ Some (Some (record { number = r.0; value = r.1.1 })))
   Lies es (Mapped i) r = slice_get es.map.entries i ≡ Some (r.1.0, Some (record { number = r.0; value = r.1.1 }))
 
   -- what holds of an array's elements

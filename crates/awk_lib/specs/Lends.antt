@@ -14,7 +14,8 @@ use Rattle.awk_lib.specs.contracts.array.Array as array
 -- the elements, with the value at the place changed
 abbrev pub with_value : {V : Type 0} → Elements V → Place → V → Elements V
 with_value es (Dense k) w = record es { dense = with_place es.dense k w }
-with_value es (Mapped i) w = record es { map = with_value_at es.map i (Some (record { number = number_at es.map.entries i; value = w })) }
+with_value es (Mapped i) w =
+    record es { map = with_value_at es.map i (Some (record { number = number_at es.map.entries i; value = w })) }
 
 module _ (V : RattleType) where
   abbrev pub lends_value : MutBor (Elements V.Denot) → Place → MutBor V.Denot → Fml

@@ -1,6 +1,7 @@
--- How an array is kept: each value with the number of its element, in any order. Elements are numbered as they are added,
--- so that the list which contracts see is that of the elements in the order of their numbers.
-use Rattle.std.specs.Prelude.{◌≡◌, ℕ, ◌<◌, nat_lt, nat_eq, Bool, true, if◌then◌else◌, List, [], ◌∷◌, ◌++◌, Option, map, ⊤, slice_get}
+-- How an array is kept: each value with the number of its element, in any order. Elements are numbered as they are
+-- added, so that the list which contracts see is that of the elements in the order of their numbers.
+use Rattle.std.specs.Prelude.{◌≡◌, ℕ, ◌<◌, nat_lt, nat_eq, Bool, true, if◌then◌else◌, List, [], ◌∷◌, ◌++◌, Option, map}
+use Rattle.std.specs.Prelude.{⊤, slice_get}
 use Rattle.std.specs.Map.{values_of}
 use Rattle.std.specs.Str.{bytes_eq}
 use Rattle.std.specs.List.{AllByRecursion, IsDistinct}
@@ -34,7 +35,8 @@ module _ {V : Type 0} where
   abbrev pub shown : List (ℕ × (List ℕ × V)) → Array V
   shown rows = map (λ r. r.1) (in_order rows)
 
-  -- the numbers differ and are below the next one, no two keys are the same, and where the rows are settled they stand in order
+  -- the numbers differ and are below the next one, no two keys are the same, and where the rows are settled they stand
+  -- in order
   pub record AreNumbered (settled : Bool) (next : ℕ) (rows : List (ℕ × (List ℕ × V))) : Type 0 where
     pub below : AllByRecursion (λ r. r.0 < next) rows
     pub distinct : IsDistinct nat_eq (numbers rows)

@@ -8,7 +8,8 @@ use Rattle.awk_lib.specs.contracts.dense.Dense as dense
 
 -- the dense part, with the value at place k changed
 abbrev pub with_place : {V : Type 0} → Dense V → ℕ → V → Dense V
-with_place d k w = record d { places = with_item d.places k (Some (record { number = number_in (slice_get d.places.items k); value = w })) }
+with_place d k w = record d
+    { places = with_item d.places k (Some (record { number = number_in (slice_get d.places.items k); value = w })) }
 
 module _ (V : RattleType) where
   abbrev pub lends_place : MutBor (Dense V.Denot) → ℕ → MutBor V.Denot → Fml

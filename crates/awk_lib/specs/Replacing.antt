@@ -1,6 +1,7 @@
 -- The matches that sub and gsub replace, and the text that is then made (POSIX.1-2017 XCU awk, "String
 -- Functions").
-use Rattle.std.specs.Prelude.{◌≡◌, ℕ, ◌+◌, ◌<◌, ◌==◌, ◌&&◌, ◌||◌, Bool, true, false, if◌then◌else◌, ℤ, pos, List, [], ◌∷◌, ◌++◌, length, drop, Option, Some, None, option_to_list}
+use Rattle.std.specs.Prelude.{◌≡◌, ℕ, ◌+◌, ◌<◌, ◌==◌, ◌&&◌, ◌||◌, Bool, true, false, if◌then◌else◌, ℤ, pos, List, []}
+use Rattle.std.specs.Prelude.{◌∷◌, ◌++◌, length, drop, Option, Some, None, option_to_list}
 use Rattle.std.specs.List.{slice_range}
 use Rattle.awk_ere.specs.Spelled.{Finds}
 use Rattle.awk_text.specs.Limits.{most_bytes}
@@ -21,9 +22,11 @@ is_passed (Some end) m = m.0 == m.1 && m.0 == end
 pub data AllFrom (source text : List ℕ) : ℕ → Option ℕ → List (ℕ × ℕ) → Type 0 where
   behind : (from : ℕ) (last : Option ℕ) → length text < from → AllFrom source text from last []
   no_more : (from : ℕ) (last : Option ℕ) → Finds source text from None → AllFrom source text from last []
-  passed : (from : ℕ) (last : Option ℕ) (m : ℕ × ℕ) (rest : List (ℕ × ℕ)) → Finds source text from (Some m) → is_passed last m ≡ true
+  passed : (from : ℕ) (last : Option ℕ) (m : ℕ × ℕ) (rest : List (ℕ × ℕ)) → Finds source text from (Some m) →
+      is_passed last m ≡ true
       → AllFrom source text (next_from m) last rest → AllFrom source text from last rest
-  then_one : (from : ℕ) (last : Option ℕ) (m : ℕ × ℕ) (rest : List (ℕ × ℕ)) → Finds source text from (Some m) → is_passed last m ≡ false
+  then_one : (from : ℕ) (last : Option ℕ) (m : ℕ × ℕ) (rest : List (ℕ × ℕ)) → Finds source text from (Some m) →
+      is_passed last m ≡ false
       → AllFrom source text (next_from m) (Some m.1) rest → AllFrom source text from last (m ∷ rest)
 
 -- the matches that are replaced: all of them, or the first alone
@@ -38,16 +41,20 @@ Found source text false ms = (found : Option (ℕ × ℕ)) × Finds source text 
 abbrev pub filled : List ℕ → Bool → List ℕ → List ℕ
 filled matched false [] = []
 filled matched true [] = 92 ∷ []
-filled matched false (b ∷ with) = if b == 92 then filled matched true with else (if b == 38 then matched else b ∷ []) ++ filled matched false with
-filled matched true (b ∷ with) = if b == 38 || b == 92 then b ∷ filled matched false with else 92 ∷ b ∷ filled matched false with
+filled matched false (b ∷ with) =
+    if b == 92 then filled matched true with else (if b == 38 then matched else b ∷ []) ++ filled matched false with
+filled matched true (b ∷ with) =
+    if b == 38 || b == 92 then b ∷ filled matched false with else 92 ∷ b ∷ filled matched false with
 
 -- the text from a place on, with what stands for each of these matches in its place
 abbrev pub replaced : List ℕ → List ℕ → ℕ → List (ℕ × ℕ) → List ℕ
 replaced with text from [] = drop from text
-replaced with text from (m ∷ ms) = slice_range text from m.0 ++ filled (slice_range text m.0 m.1) false with ++ replaced with text m.1 ms
+replaced with text from (m ∷ ms) =
+    slice_range text from m.0 ++ filled (slice_range text m.0 m.1) false with ++ replaced with text m.1 ms
 
 -- these matches are replaced, and this is the new text with their count
-pub record IsReplaced (source with text : List ℕ) (all : Bool) (matches : List (ℕ × ℕ)) (new : List ℕ) (count : ℤ) : Type 0 where
+pub record IsReplaced (source with text : List ℕ) (all : Bool) (matches : List (ℕ × ℕ)) (new : List ℕ) (count : ℤ) :
+    Type 0 where
   pub found : Found source text all matches
   pub text_is : new ≡ replaced with text 0 matches
   pub count_is : count ≡ pos (length matches)

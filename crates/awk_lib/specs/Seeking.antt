@@ -7,7 +7,8 @@ pub record IsNext (source text : List ℕ) (from : ℕ) (last : Option ℕ) (m :
   pub after : from ≤ m.0
   pub ordered : m.0 ≤ m.1
   pub inside : m.1 ≤ length text
-  pub leads : (rest : List (ℕ × ℕ)) → AllFrom source text (next_from m) (Some m.1) rest → AllFrom source text from last (m ∷ rest)
+  pub leads : (rest : List (ℕ × ℕ)) → AllFrom source text (next_from m) (Some m.1) rest →
+      AllFrom source text from last (m ∷ rest)
 
 abbrev pub IsNextMatch : List ℕ → List ℕ → ℕ → Option ℕ → Option (ℕ × ℕ) → Type 0
 IsNextMatch source text from last None = AllFrom source text from last []

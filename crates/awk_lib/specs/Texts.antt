@@ -1,6 +1,7 @@
 -- The built-in functions on texts (POSIX.1-2017 XCU awk, "String Functions"). Bytes are characters,
 -- places count from 1, and numbers are whole.
-use Rattle.std.specs.Prelude.{ℕ, zero, suc, ◌+◌, nat_eq, Bool, true, false, if◌then◌else◌, ℤ, pos, negsuc, ◌+ℤ◌, List, [], ◌∷◌, take, drop, map, Option, Some, None}
+use Rattle.std.specs.Prelude.{ℕ, zero, suc, ◌+◌, nat_eq, Bool, true, false, if◌then◌else◌, ℤ, pos, negsuc, ◌+ℤ◌, List}
+use Rattle.std.specs.Prelude.{[], ◌∷◌, take, drop, map, Option, Some, None}
 use Rattle.std.specs.Char.{to_ascii_lowercase, to_ascii_uppercase}
 use Rattle.std.specs.List.{starts_with}
 

@@ -93,7 +93,8 @@ impl<V: Drop> Array<V> {
     /// already, and with `Fault::Memory` where memory is refused; then nothing has changed.
     pub fn put(&mut self, key: Vec<u8>, value: V) -> Result<(), Fault>
         ensures ok { OnOk result (put self.old key.items value ≡ Ok self.new) }
-        ensures err { IfErr result (λ e. (self.new ≡ self.old) × ((e ≡ Fault.Memory) ⊎ (put self.old key.items value ≡ Err e))) }
+        ensures err { IfErr result
+            (λ e. (self.new ≡ self.old) × ((e ≡ Fault.Memory) ⊎ (put self.old key.items value ≡ Err e))) }
     {
         self.set(key.as_slice(), value)
     }
@@ -103,7 +104,8 @@ impl<V: Drop> Array<V> {
     /// Fails as `put` does. Takes no memory where the key is there.
     pub fn set(&mut self, key: &[u8], value: V) -> Result<(), Fault>
         ensures ok { OnOk result (put self.old key.now value ≡ Ok self.new) }
-        ensures err { IfErr result (λ e. (self.new ≡ self.old) × ((e ≡ Fault.Memory) ⊎ (put self.old key.now value ≡ Err e))) }
+        ensures err { IfErr result
+            (λ e. (self.new ≡ self.old) × ((e ≡ Fault.Memory) ⊎ (put self.old key.now value ≡ Err e))) }
     {
         if let Some(old) = self.get_mut(key) {
             *old = value;
@@ -116,7 +118,8 @@ impl<V: Drop> Array<V> {
     fn insert(&mut self, key: &[u8], value: V) -> Result<(), Fault>
         requires { element self.old key.now ≡ None }
         ensures ok { OnOk result (put self.old key.now value ≡ Ok self.new) }
-        ensures err { IfErr result (λ e. (self.new ≡ self.old) × ((e ≡ Fault.Memory) ⊎ (put self.old key.now value ≡ Err e))) }
+        ensures err { IfErr result
+            (λ e. (self.new ≡ self.old) × ((e ≡ Fault.Memory) ⊎ (put self.old key.now value ≡ Err e))) }
     {
         if self.elements.count >= MOST_ELEMENTS {
             return Err(Fault::TooManyElements);

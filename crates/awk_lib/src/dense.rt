@@ -1,5 +1,6 @@
 // The part of an array whose keys are small whole numbers.
-ghost use Rattle.std.specs.Prelude.{◌≡◌, ℕ, ◌+◌, ◌<◌, ◌≤◌, [], ◌∷◌, ◌++◌, length, is_some, slice_get, slice_set, vec_len, Some, None, IfSome, OnOk, OnErr, IsOkUnless};
+ghost use Rattle.std.specs.Prelude.{◌≡◌, ℕ, ◌+◌, ◌<◌, ◌≤◌, [], ◌∷◌, ◌++◌, length, is_some, slice_get, slice_set};
+ghost use Rattle.std.specs.Prelude.{vec_len, Some, None, IfSome, OnOk, OnErr, IsOkUnless};
 ghost use Rattle.std.specs.Fmt.{decimal};
 ghost use Rattle.awk_lib.specs.Dense.{most_places, dense_rows, IsOutside};
 ghost use Rattle.awk_lib.specs.Numbering.{keyed, listed, texts};
@@ -111,7 +112,8 @@ impl<V> Dense<V> {
     pub(crate) fn push(&mut self, number: u64, value: V) -> Result<(), Fault>
     where
         V: Drop,
-        ensures ok { OnOk result (self.new.places.items ≡ self.old.places.items ++ Some (record { number = number; value = value }) ∷ []) }
+        ensures ok { OnOk result
+            (self.new.places.items ≡ self.old.places.items ++ Some (record { number = number; value = value }) ∷ []) }
         ensures err { OnErr result (self.new.places.items ≡ self.old.places.items) }
         ensures memory { IsOkUnless result Fault.Memory }
     {
@@ -145,7 +147,8 @@ impl<V> Dense<V> {
         alloc: Global,
         keys: &mut Vec<Numbered<Key>>,
     ) -> Result<(), Fault>
-        ensures ok { OnOk result (listed keys.new.items ≡ listed keys.old.items ++ keyed (dense_rows 0 self.now.places.items)) }
+        ensures ok { OnOk result
+            (listed keys.new.items ≡ listed keys.old.items ++ keyed (dense_rows 0 self.now.places.items)) }
         ensures err { IsOkUnless result Fault.Memory }
     {
         let mut buffer = Buffer::new();
@@ -167,7 +170,8 @@ impl<V: Drop> Dense<V> {
     /// Puts a value at a place. Takes no memory.
     pub(crate) fn fill(&mut self, k: usize, number: u64, value: V)
         requires { k < vec_len self.old.places }
-        ensures { self.new.places.items ≡ slice_set self.old.places.items k (Some (record { number = number; value = value })) }
+        ensures { self.new.places.items
+            ≡ slice_set self.old.places.items k (Some (record { number = number; value = value })) }
     {
         self.places[k] = Some(Numbered { number, value });
     }

@@ -1,5 +1,7 @@
 // The elements of an array.
-ghost use Rattle.std.specs.Prelude.{◌≡◌, ℕ, ◌+◌, ◌<◌, ◌≤◌, ◌⊎◌, true, List, [], ◌∷◌, ◌++◌, map, length, is_ok, is_some, if◌then◌else◌, None, Some, IfSome, IfOk, OnOk, OnErr, IsOkUnless, IsPermutation, nat_eq, slice_get};
+ghost use Rattle.std.specs.Prelude.{◌≡◌, ℕ, ◌+◌, ◌<◌, ◌≤◌, ◌⊎◌, true, List, [], ◌∷◌, ◌++◌, map, length, is_ok, is_some};
+ghost use Rattle.std.specs.Prelude.{if◌then◌else◌, None, Some, IfSome, IfOk, OnOk, OnErr, IsOkUnless, IsPermutation};
+ghost use Rattle.std.specs.Prelude.{nat_eq, slice_get};
 ghost use Rattle.std.specs.Fmt.{decimal};
 ghost use Rattle.std.specs.List.{AllByRecursion, IsDistinct};
 ghost use Rattle.std.specs.Map.{keys_of, lookup};
@@ -72,7 +74,8 @@ impl<V> Elements<V> {
 
     /// Whether the key has the place in the map, which may be empty. Takes no memory.
     fn is_at(&self, i: usize, key: &[u8]) -> bool
-        ensures { result ≡ true → (k : _) × (p : _) × (slice_get self.now.map.entries i ≡ Some (k, p)) × (bytes_eq key.now k ≡ true) }
+        ensures { result ≡ true → (k : _) × (p : _) × (slice_get self.now.map.entries i ≡ Some (k, p))
+            × (bytes_eq key.now k ≡ true) }
     {
         match self.map.get_index(i) {
             Some((there, _)) => is_same(key, there.bytes()),
@@ -82,7 +85,8 @@ impl<V> Elements<V> {
 
     /// The place of the key in the map, which may be empty. Takes no memory.
     fn find_mapped(&self, key: &[u8]) -> Option<usize>
-        ensures some { IfSome result (λ i. (k : _) × (p : _) × (slice_get self.now.map.entries i ≡ Some (k, p)) × (bytes_eq key.now k ≡ true)) }
+        ensures some { IfSome result
+            (λ i. (k : _) × (p : _) × (slice_get self.now.map.entries i ≡ Some (k, p)) × (bytes_eq key.now k ≡ true)) }
         ensures none { result ≡ None → lookup (bytes_eq key.now) self.now.map.entries ≡ None }
         ensures unique { IsDistinct bytes_eq (keys_of self.now.map.entries) }
     {
@@ -102,7 +106,8 @@ impl<V> Elements<V> {
     /// Where the key lies. Takes no memory.
     pub(crate) fn find(&self, key: &[u8]) -> Option<Place>
         requires { AreApart self.now }
-        ensures some { IfSome result (λ p. (r : ℕ × (List ℕ × V)) × Lies self.now p r × (bytes_eq key.now r.1.0 ≡ true)) }
+        ensures some { IfSome result
+            (λ p. (r : ℕ × (List ℕ × V)) × Lies self.now p r × (bytes_eq key.now r.1.0 ≡ true)) }
         ensures none { result ≡ None → lookup (bytes_eq key.now) (map (λ r. r.1) (rows_of self.now)) ≡ None }
     {
         match self.dense.slot(key) {
@@ -157,7 +162,10 @@ impl<V> Elements<V> {
     /// The place in the dense part that a new key takes, if it takes one there.
     fn spot(&self, key: &[u8]) -> Option<usize>
         requires { AreApart self.now }
-        ensures some { IfSome result (λ k. (key.now ≡ decimal k) × (k < most_places) × (length self.now.dense.places.items ≤ k → (length self.now.map.entries ≡ 0) ⊎ (k ≡ length self.now.dense.places.items))) }
+        ensures some { IfSome result
+            (λ k. (key.now ≡ decimal k) × (k < most_places)
+            × (length self.now.dense.places.items ≤ k → (length self.now.map.entries ≡ 0)
+            ⊎ (k ≡ length self.now.dense.places.items))) }
         ensures none { result ≡ None → IsOutside (length self.now.dense.places.items) key.now }
     {
         let k = slot_of(key)?;
@@ -284,7 +292,8 @@ impl<V: Drop> Elements<V> {
     /// Brings the elements of the map into the order of their numbers, or answers `Memory`.
     pub(crate) fn settle(&mut self) -> Result<(), Memory>
         ensures same { IsPermutation (mapped_rows self.old) (mapped_rows self.new) }
-        ensures ok { OnOk result (IsDistinct nat_eq (numbers (mapped_rows self.old)) → AreRising (mapped_rows self.new)) }
+        ensures ok { OnOk result
+            (IsDistinct nat_eq (numbers (mapped_rows self.old)) → AreRising (mapped_rows self.new)) }
         ensures others { (self.new.dense ≡ self.old.dense) × (self.new.count ≡ self.old.count) }
     {
         self.compact();
@@ -309,8 +318,10 @@ impl<V: Drop> Elements<V> {
         requires absent { lookup (bytes_eq key.now) (map (λ r. r.1) (rows_of self.old)) ≡ None }
         requires room { self.old.count < most_elements }
         ensures place { IfOk result (λ a. Lies self.new a.place (number, (key.now, value))) }
-        ensures added { OnOk result (IsPermutation (rows_of self.old ++ (number, (key.now, value)) ∷ []) (rows_of self.new)) }
-        ensures last { IfOk result (λ a. a.is_last ≡ true → rows_of self.new ≡ rows_of self.old ++ (number, (key.now, value)) ∷ []) }
+        ensures added { OnOk result
+            (IsPermutation (rows_of self.old ++ (number, (key.now, value)) ∷ []) (rows_of self.new)) }
+        ensures last { IfOk result
+            (λ a. a.is_last ≡ true → rows_of self.new ≡ rows_of self.old ++ (number, (key.now, value)) ∷ []) }
         ensures count { self.new.count ≡ (if is_ok result then self.old.count + 1 else self.old.count) }
         ensures apart { AreApart self.new }
         ensures err { OnErr result (rows_of self.new ≡ rows_of self.old) }
@@ -328,10 +339,13 @@ impl<V: Drop> Elements<V> {
         requires absent { lookup (bytes_eq (decimal k)) (map (λ r. r.1) (rows_of self.old)) ≡ None }
         requires room { self.old.count < most_elements }
         requires small { k < most_places }
-        requires near { length self.old.dense.places.items ≤ k → (length self.old.map.entries ≡ 0) ⊎ (k ≡ length self.old.dense.places.items) }
+        requires near { length self.old.dense.places.items ≤ k → (length self.old.map.entries ≡ 0)
+            ⊎ (k ≡ length self.old.dense.places.items) }
         ensures place { IfOk result (λ a. Lies self.new a.place (number, (decimal k, value))) }
-        ensures added { OnOk result (IsPermutation (rows_of self.old ++ (number, (decimal k, value)) ∷ []) (rows_of self.new)) }
-        ensures last { IfOk result (λ a. a.is_last ≡ true → rows_of self.new ≡ rows_of self.old ++ (number, (decimal k, value)) ∷ []) }
+        ensures added { OnOk result
+            (IsPermutation (rows_of self.old ++ (number, (decimal k, value)) ∷ []) (rows_of self.new)) }
+        ensures last { IfOk result
+            (λ a. a.is_last ≡ true → rows_of self.new ≡ rows_of self.old ++ (number, (decimal k, value)) ∷ []) }
         ensures count { self.new.count ≡ (if is_ok result then self.old.count + 1 else self.old.count) }
         ensures apart { AreApart self.new }
         ensures err { OnErr result (rows_of self.new ≡ rows_of self.old) }
@@ -362,8 +376,10 @@ impl<V: Drop> Elements<V> {
         requires room { self.old.count < most_elements }
         requires outside { IsOutside (length self.old.dense.places.items) key.now }
         ensures place { IfOk result (λ a. Lies self.new a.place (number, (key.now, value))) }
-        ensures added { OnOk result (IsPermutation (rows_of self.old ++ (number, (key.now, value)) ∷ []) (rows_of self.new)) }
-        ensures last { IfOk result (λ a. a.is_last ≡ true → rows_of self.new ≡ rows_of self.old ++ (number, (key.now, value)) ∷ []) }
+        ensures added { OnOk result
+            (IsPermutation (rows_of self.old ++ (number, (key.now, value)) ∷ []) (rows_of self.new)) }
+        ensures last { IfOk result
+            (λ a. a.is_last ≡ true → rows_of self.new ≡ rows_of self.old ++ (number, (key.now, value)) ∷ []) }
         ensures count { self.new.count ≡ (if is_ok result then self.old.count + 1 else self.old.count) }
         ensures apart { AreApart self.new }
         ensures err { OnErr result (rows_of self.new ≡ rows_of self.old) }
@@ -398,7 +414,8 @@ impl<V: Drop> Elements<V> {
         requires apart { AreApart self.old }
         requires there { (r : ℕ × (List ℕ × V)) × Lies self.old place r }
         requires some { 0 < self.old.count }
-        ensures gone { (r : ℕ × (List ℕ × V)) → Lies self.old place r → IsPermutation (rows_of self.old) (r ∷ rows_of self.new) }
+        ensures gone { (r : ℕ × (List ℕ × V)) → Lies self.old place r →
+            IsPermutation (rows_of self.old) (r ∷ rows_of self.new) }
         ensures rising { AreRising (rows_of self.old) → AreRising (rows_of self.new) }
         ensures count { self.new.count + 1 ≡ self.old.count }
         ensures apart { AreApart self.new }

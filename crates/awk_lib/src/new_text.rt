@@ -59,7 +59,8 @@ impl NewText {
     pub fn finish(mut self, piece: &[u8]) -> Result<Octets, Fault>
         ensures ok { IfOk result (λ text. written self piece.now ≡ Some text) }
         ensures fits { IfOk result (λ text. length text ≤ most_bytes) }
-        ensures err { IfErr result (λ e. (e ≡ Fault.Memory) ⊎ ((e ≡ Fault.TextTooLong) × (written self piece.now ≡ None))) }
+        ensures err { IfErr result
+            (λ e. (e ≡ Fault.Memory) ⊎ ((e ≡ Fault.TextTooLong) × (written self piece.now ≡ None))) }
     {
         self.push(piece)?;
         if self.is_too_long {

@@ -1,5 +1,6 @@
 // Matches replaced in a text, as sub and gsub do it.
-ghost use Rattle.std.specs.Prelude.{◌≡◌, ◌+◌, ◌-◌, ◌≤◌, ◌<◌, ◌++◌, ◌∷◌, ◌⊎◌, ◌^◌, ℕ, List, [], true, false, length, take, drop, MatchOption, IfSome, OnOk, IfOk, IfErr};
+ghost use Rattle.std.specs.Prelude.{◌≡◌, ◌+◌, ◌-◌, ◌≤◌, ◌<◌, ◌++◌, ◌∷◌, ◌⊎◌, ◌^◌, ℕ, List, [], true, false, length};
+ghost use Rattle.std.specs.Prelude.{take, drop, MatchOption, IfSome, OnOk, IfOk, IfErr};
 ghost use Rattle.std.specs.List.{slice_range};
 ghost use Rattle.awk_lib.specs.Replacing as spec;
 ghost use Rattle.awk_lib.specs.Replacing.{filled, Found, IsReplaced, IsTooLong};
@@ -18,8 +19,10 @@ use std::alloc::Global;
 
 /// The place of the first `&` or `\`; the bytes before it stand for themselves.
 fn sign_place(with: &[u8]) -> Option<usize>
-    ensures { MatchOption result ((matched : List ℕ) → filled matched false with.now ≡ with.now) (λ at. (at < length with.now)
-        × ((matched : List ℕ) → filled matched false with.now ≡ take at with.now ++ filled matched false (drop at with.now))) }
+    ensures { MatchOption result ((matched : List ℕ) → filled matched false with.now ≡ with.now)
+        (λ at. (at < length with.now)
+        × ((matched : List ℕ) → filled matched false with.now ≡ take at with.now
+        ++ filled matched false (drop at with.now))) }
 {
     memchr2(b'&', b'\\', with)
 }
@@ -63,7 +66,8 @@ fn push_filled(out: &mut NewText, with: &[u8], matched: &[u8]) -> Result<(), Mem
     out.push(rest)
 }
 
-/// Adds the text from one place up to a match, and what stands for the match; `plain` tells that all of `with` stands for itself.
+/// Adds the text from one place up to a match, and what stands for the match; `plain` tells that all of `with` stands
+/// for itself.
 fn push_match(
     out: &mut NewText,
     with: &[u8],
@@ -141,7 +145,8 @@ fn replace_first(
         (λ n. (m : ℕ × ℕ) × (ms : List (ℕ × ℕ)) × IsReplaced ere.now with.now text.now false (m ∷ ms) n.0 n.1)) }
     ensures fits { IfOk result (λ r. IfSome r (λ n. length n.0 ≤ most_bytes)) }
     ensures fault { IfErr result (λ e. (e ≡ Fault.Memory)
-        ⊎ ((e ≡ Fault.TextTooLong) × ((m : ℕ × ℕ) × (ms : List (ℕ × ℕ)) × IsTooLong ere.now with.now text.now false (m ∷ ms)))) }
+        ⊎ ((e ≡ Fault.TextTooLong)
+        × ((m : ℕ × ℕ) × (ms : List (ℕ × ℕ)) × IsTooLong ere.now with.now text.now false (m ∷ ms)))) }
 {
     let Some((start, end)) = ere.find(text, 0)? else {
         return Ok(None);
@@ -163,7 +168,8 @@ fn replace_all(
         (λ n. (m : ℕ × ℕ) × (ms : List (ℕ × ℕ)) × IsReplaced ere.now with.now text.now true (m ∷ ms) n.0 n.1)) }
     ensures fits { IfOk result (λ r. IfSome r (λ n. length n.0 ≤ most_bytes)) }
     ensures fault { IfErr result (λ e. (e ≡ Fault.Memory)
-        ⊎ ((e ≡ Fault.TextTooLong) × ((m : ℕ × ℕ) × (ms : List (ℕ × ℕ)) × IsTooLong ere.now with.now text.now true (m ∷ ms)))) }
+        ⊎ ((e ≡ Fault.TextTooLong)
+        × ((m : ℕ × ℕ) × (ms : List (ℕ × ℕ)) × IsTooLong ere.now with.now text.now true (m ∷ ms)))) }
 {
     let mut searches = Searches::new(ere, text);
     let mut next = next_match(&mut searches, text, 0, None)?;
@@ -202,7 +208,8 @@ pub fn replace_any(
         (λ n. (m : ℕ × ℕ) × (ms : List (ℕ × ℕ)) × IsReplaced ere.now with.now text.now all (m ∷ ms) n.0 n.1)) }
     ensures fits { IfOk result (λ r. IfSome r (λ n. length n.0 ≤ most_bytes)) }
     ensures fault { IfErr result (λ e. (e ≡ Fault.Memory)
-        ⊎ ((e ≡ Fault.TextTooLong) × ((m : ℕ × ℕ) × (ms : List (ℕ × ℕ)) × IsTooLong ere.now with.now text.now all (m ∷ ms)))) }
+        ⊎ ((e ≡ Fault.TextTooLong)
+        × ((m : ℕ × ℕ) × (ms : List (ℕ × ℕ)) × IsTooLong ere.now with.now text.now all (m ∷ ms)))) }
 {
     if all {
         replace_all(alloc, ere, with, text)

@@ -4,10 +4,12 @@
 --   ( x )                          x                       x !~ y                        ! (x ~ y)
 --   an ERE by itself               $0 ~ that ERE           length, without parentheses   length($0)
 --   getline, without a target      getline $0              sub(x, y), gsub(x, y)         sub(x, y, $0), gsub(x, y, $0)
---   split(x, a)                    split(x, a, FS)         x + y - z                     one chain, and so are * / %, && and ||
+--   split(x, a)                    split(x, a, FS)         x + y - z                     one chain, and so are * / %,
+--   && and ||
 --   fflush()                       0                       length(a)                     the count of the array a
 --   length()                       length($0)
-use Rattle.std.specs.Prelude.{pos, Bool, true, false, if◌then◌else◌, List, [], ◌∷◌, map, get_or, codes, Option, Some, None}
+use Rattle.std.specs.Prelude.{pos, Bool, true, false, if◌then◌else◌, List, [], ◌∷◌, map, get_or, codes, Option, Some}
+use Rattle.std.specs.Prelude.{None}
 use Rattle.awk_text.specs.Escapes.{unescaped}
 use Rattle.awk_text.specs.declared.place.Place.{Place}
 use Rattle.awk_tree.specs.Tree as t
@@ -23,7 +25,9 @@ use Rattle.awk_program.specs.declared.operators.Operator.TheVariants as o
 use Rattle.awk_program.specs.declared.operators.Taken.TheVariants as taken
 use Rattle.awk_program.specs.Program as p
 use Rattle.awk_program.specs.Program.{Variable, Expression, Reference, Ere, Expressions, Joins, Arguments}
-use Rattle.awk_lowering.specs.Forms.{number_of, whole_record, unwritten, unwritten_target, operator_of, comparison_of, step_of, extent_of, signed_of, assigned, negated, plain_builtin, without_arguments, called}
+use Rattle.awk_lowering.specs.Forms.{number_of, whole_record, unwritten, unwritten_target, operator_of, comparison_of}
+use Rattle.awk_lowering.specs.Forms.{step_of, extent_of, signed_of, assigned, negated, plain_builtin, without_arguments}
+use Rattle.awk_lowering.specs.Forms.{called}
 use Rattle.awk_lowering.specs.Scopes.{Scope, variable, function, arrays_of, is_array}
 use Rattle.awk_lowering.specs.Starts.{start}
 
@@ -122,7 +126,8 @@ abbrev mutual
   lowered c (t.builtin q which xs) = built c q which xs (lowered_list c xs)
   lowered c (t.bare_length q) = without_arguments q f.Length
   lowered c (t.split q x n y) = p.split q (lowered c x) n.place (variable c n.text) (separator c y)
-  lowered c (t.substitute q all x y z) = p.substitute q (extent_of all) (ere_of (constant x) (lowered c x)) (lowered c y) (target_or_record c q z)
+  lowered c (t.substitute q all x y z) =
+      p.substitute q (extent_of all) (ere_of (constant x) (lowered c x)) (lowered c y) (target_or_record c q z)
   lowered c (t.getline q x y) = got_by q (target_or_record c q x) (lowered_perhaps c y)
   lowered c (t.before q how x) = p.step q (step_of how) taken.Behind (target c x)
   lowered c (t.after x q how) = p.step q (step_of how) taken.Before (target c x)

@@ -37,7 +37,8 @@ abbrev mutual
   statement c (t.while_do x y) = p.while_do (lowered c x) (statement c y)
   statement c (t.do_while y x) = p.do_while (statement c y) (lowered c x)
   statement c (t.for_each q key array y) = p.for_each q (variable c key.text) (variable c array.text) (statement c y)
-  statement c (t.for_loop x y z u) = p.for_loop (option_map (lowered c) x) (option_map (lowered c) y) (option_map (lowered c) z) (statement c u)
+  statement c (t.for_loop x y z u) =
+      p.for_loop (option_map (lowered c) x) (option_map (lowered c) y) (option_map (lowered c) z) (statement c u)
 
   pub statements : Scope → t.Statements → Statements
   statements c t.no_more = p.no_more

@@ -14,7 +14,8 @@ use Rattle.awk_program.specs.declared.variables.Variable as code
 use Rattle.awk_program.specs.declared.statements.Statement as code_statement
 use Rattle.awk_program.specs.Program as p
 use Rattle.awk_program.specs.Program.{Variable, Expression, Reference, Ere, Arguments, Statement}
-use Rattle.awk_program.specs.View.{Names, variable_of, view, view_target, view_ere, view_term, view_joined, view_pipes, view_arguments, view_redirection, view_statement}
+use Rattle.awk_program.specs.View.{Names, variable_of, view, view_target, view_ere, view_term, view_joined, view_pipes}
+use Rattle.awk_program.specs.View.{view_arguments, view_redirection, view_statement}
 use Rattle.awk_lowering.specs.Scopes.{Scope}
 use Rattle.awk_lowering.specs.declared.names.Context.{Context}
 
@@ -89,5 +90,6 @@ IsStatement t made x = IfOk made (λ s. view_statement t s ≡ x)
 abbrev pub AreStatements : {E : Type 0} → Names → Result (List code_statement.Statement) E → List Statement → Type 0
 AreStatements t made xs = IfOk made (λ ss. map (view_statement t) ss ≡ xs)
 
-abbrev pub AreRedirected : {E : Type 0} → Names → Result (Option (Redirection Expr)) E → Option (Redirection Expression) → Type 0
+abbrev pub AreRedirected : {E : Type 0} → Names → Result (Option (Redirection Expr)) E →
+    Option (Redirection Expression) → Type 0
 AreRedirected t made x = IfOk made (λ r. option_map (view_redirection t) r ≡ x)

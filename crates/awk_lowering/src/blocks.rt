@@ -32,7 +32,8 @@ pub fn print_of(
     xs: Result<Items<Expr>, Memory>,
     to: Result<Option<Redirection<Expr>>, Memory>,
 ) -> Result<Statement, Memory>
-    ensures { (t : Names) (a : List Expression) (b : Option (redirection.Redirection Expression)) → AreAll t xs a → AreRedirected t to b → IsStatement t result (p.print place a b) }
+    ensures { (t : Names) (a : List Expression) (b : Option (redirection.Redirection Expression)) → AreAll t xs a →
+        AreRedirected t to b → IsStatement t result (p.print place a b) }
 {
     match both(xs, to) {
         Ok((xs, to)) => Ok(Statement::Print(place, xs, to)),
@@ -47,7 +48,8 @@ pub fn printf_of(
     xs: Result<Items<Expr>, Memory>,
     to: Result<Option<Redirection<Expr>>, Memory>,
 ) -> Result<Statement, Memory>
-    ensures { (t : Names) (a : Expression) (b : List Expression) (d : Option (redirection.Redirection Expression)) → Is t x a → AreAll t xs b → AreRedirected t to d → IsStatement t result (p.printf place a b d) }
+    ensures { (t : Names) (a : Expression) (b : List Expression) (d : Option (redirection.Redirection Expression)) →
+        Is t x a → AreAll t xs b → AreRedirected t to d → IsStatement t result (p.printf place a b d) }
 {
     match three(x, xs, to) {
         Ok((x, xs, to)) => Ok(Statement::Printf(place, x.into_inner(), xs, to)),
@@ -61,7 +63,8 @@ pub fn delete_of(
     v: Result<Variable, Memory>,
     xs: Result<Items<Expr>, Memory>,
 ) -> Result<Statement, Memory>
-    ensures { (t : Names) (a : p.Variable) (b : List Expression) → IsVariable t v a → AreAll t xs b → IsStatement t result (p.delete place a b) }
+    ensures { (t : Names) (a : p.Variable) (b : List Expression) → IsVariable t v a → AreAll t xs b →
+        IsStatement t result (p.delete place a b) }
 {
     match both(v, xs) {
         Ok((v, xs)) => Ok(Statement::Delete(place, v, xs)),
@@ -101,7 +104,8 @@ pub fn return_of(x: Result<Option<Boxed<Expr>>, Memory>) -> Result<Statement, Me
 
 /// `{ }`
 pub fn block_of(body: Result<Items<Statement>, Memory>) -> Result<Statement, Memory>
-    ensures { (t : Names) (a : List p.Statement) → AreStatements t body a → IsStatement t result (p.block (statements_of a)) }
+    ensures { (t : Names) (a : List p.Statement) → AreStatements t body a →
+        IsStatement t result (p.block (statements_of a)) }
 {
     match body {
         Ok(body) => Ok(Statement::Block(body)),
@@ -114,7 +118,8 @@ pub fn if_of(
     x: Result<Boxed<Expr>, Memory>,
     body: Result<Boxed<Statement>, Memory>,
 ) -> Result<Statement, Memory>
-    ensures { (t : Names) (a : Expression) (b : p.Statement) → Is t x a → IsStatement t body b → IsStatement t result (p.if_then a b) }
+    ensures { (t : Names) (a : Expression) (b : p.Statement) → Is t x a → IsStatement t body b →
+        IsStatement t result (p.if_then a b) }
 {
     match both(x, body) {
         Ok((x, body)) => Ok(Statement::If(x.into_inner(), body)),
@@ -128,7 +133,8 @@ pub fn if_else_of(
     body: Result<Boxed<Statement>, Memory>,
     other: Result<Boxed<Statement>, Memory>,
 ) -> Result<Statement, Memory>
-    ensures { (t : Names) (a : Expression) (b : p.Statement) (d : p.Statement) → Is t x a → IsStatement t body b → IsStatement t other d → IsStatement t result (p.if_else a b d) }
+    ensures { (t : Names) (a : Expression) (b : p.Statement) (d : p.Statement) → Is t x a → IsStatement t body b →
+        IsStatement t other d → IsStatement t result (p.if_else a b d) }
 {
     match three(x, body, other) {
         Ok((x, body, other)) => Ok(Statement::IfElse(x.into_inner(), body, other)),
@@ -141,7 +147,8 @@ pub fn while_of(
     x: Result<Boxed<Expr>, Memory>,
     body: Result<Boxed<Statement>, Memory>,
 ) -> Result<Statement, Memory>
-    ensures { (t : Names) (a : Expression) (b : p.Statement) → Is t x a → IsStatement t body b → IsStatement t result (p.while_do a b) }
+    ensures { (t : Names) (a : Expression) (b : p.Statement) → Is t x a → IsStatement t body b →
+        IsStatement t result (p.while_do a b) }
 {
     match both(x, body) {
         Ok((x, body)) => Ok(Statement::While(x.into_inner(), body)),
@@ -154,7 +161,8 @@ pub fn do_of(
     body: Result<Boxed<Statement>, Memory>,
     x: Result<Boxed<Expr>, Memory>,
 ) -> Result<Statement, Memory>
-    ensures { (t : Names) (a : p.Statement) (b : Expression) → IsStatement t body a → Is t x b → IsStatement t result (p.do_while a b) }
+    ensures { (t : Names) (a : p.Statement) (b : Expression) → IsStatement t body a → Is t x b →
+        IsStatement t result (p.do_while a b) }
 {
     match both(body, x) {
         Ok((body, x)) => Ok(Statement::Do(body, x.into_inner())),
@@ -169,7 +177,9 @@ pub fn for_of(
     z: Result<Option<Boxed<Expr>>, Memory>,
     body: Result<Boxed<Statement>, Memory>,
 ) -> Result<Statement, Memory>
-    ensures { (t : Names) (a : Option Expression) (b : Option Expression) (d : Option Expression) (e : p.Statement) → IsPerhaps t x a → IsPerhaps t y b → IsPerhaps t z d → IsStatement t body e → IsStatement t result (p.for_loop a b d e) }
+    ensures { (t : Names) (a : Option Expression) (b : Option Expression) (d : Option Expression) (e : p.Statement) →
+        IsPerhaps t x a → IsPerhaps t y b → IsPerhaps t z d → IsStatement t body e →
+        IsStatement t result (p.for_loop a b d e) }
 {
     match four(x, y, z, body) {
         Ok((x, y, z, body)) => Ok(Statement::For(unboxed(x), unboxed(y), unboxed(z), body)),
@@ -184,7 +194,8 @@ pub fn for_in_of(
     array: Result<Variable, Memory>,
     body: Result<Boxed<Statement>, Memory>,
 ) -> Result<Statement, Memory>
-    ensures { (t : Names) (a : p.Variable) (b : p.Variable) (d : p.Statement) → IsVariable t key a → IsVariable t array b → IsStatement t body d → IsStatement t result (p.for_each place a b d) }
+    ensures { (t : Names) (a : p.Variable) (b : p.Variable) (d : p.Statement) → IsVariable t key a →
+        IsVariable t array b → IsStatement t body d → IsStatement t result (p.for_each place a b d) }
 {
     match three(key, array, body) {
         Ok((key, array, body)) => Ok(Statement::ForIn(place, key, array, body)),
@@ -207,7 +218,8 @@ pub fn redirection_of(
     place: Place,
     target: Result<Boxed<Expr>, Memory>,
 ) -> Result<Option<Redirection<Expr>>, Memory>
-    ensures { (t : Names) (a : Expression) → Is t target a → AreRedirected t result (Some (record { how = forms.redirect_of how; place = place; target = a })) }
+    ensures { (t : Names) (a : Expression) → Is t target a →
+        AreRedirected t result (Some (record { how = forms.redirect_of how; place = place; target = a })) }
 {
     let how = redirect(how);
     match target {

@@ -6,7 +6,8 @@ ghost use Rattle.awk_lowering.specs.Forms as form;
 ghost use Rattle.awk_lowering.specs.Lowered as low;
 ghost use Rattle.awk_lowering.specs.Lowered.{lowered};
 ghost use Rattle.awk_lowering.specs.OneByOne.{lowered_term, lowered_join, then_arguments, then_pipes};
-ghost use Rattle.awk_lowering.specs.Made.{Is, AreAll, AreTerms, AreJoins, ArePipes, AreArguments, IsTarget, IsEre, IsPerhaps, names_in, scope_in};
+ghost use Rattle.awk_lowering.specs.Made.{Is, AreAll, AreTerms, AreJoins, ArePipes, AreArguments, IsTarget, IsEre};
+ghost use Rattle.awk_lowering.specs.Made.{IsPerhaps, names_in, scope_in};
 ghost use Rattle.awk_program.specs.View as code;
 ghost use Rattle.awk_tree.specs.Tree.{trees_of, perhaps_of, pipes_of};
 ghost use Rattle.awk_tree.specs.View.{view, view_term, view_piped};
@@ -152,7 +153,8 @@ fn element(
     keys: &[awk_tree::Expr],
     level: u32,
 ) -> Result<Target<Expr>, Memory>
-    ensures { IsTarget (names_in context.now) result (low.element (scope_in context.now) n.now (trees_of (map view keys.now))) }
+    ensures { IsTarget (names_in context.now) result
+        (low.element (scope_in context.now) n.now (trees_of (map view keys.now))) }
 {
     let v = variable(context, n.text.bytes());
     element_of(n.place, v, list(context, keys, level))
@@ -179,7 +181,8 @@ fn target_or_record(
     x: &Option<Boxed<awk_tree::Expr>>,
     level: u32,
 ) -> Result<Target<Expr>, Memory>
-    ensures { IsTarget (names_in context.now) result (low.target_or_record (scope_in context.now) place (perhaps_of (option_map view x.now))) }
+    ensures { IsTarget (names_in context.now) result
+        (low.target_or_record (scope_in context.now) place (perhaps_of (option_map view x.now))) }
 {
     match x {
         None => record_of(context.alloc, place),
@@ -194,7 +197,8 @@ fn piped_target(
     x: &Option<awk_tree::Expr>,
     level: u32,
 ) -> Result<Target<Expr>, Memory>
-    ensures { IsTarget (names_in context.now) result (low.target_or_record (scope_in context.now) place (perhaps_of (option_map view x.now))) }
+    ensures { IsTarget (names_in context.now) result
+        (low.target_or_record (scope_in context.now) place (perhaps_of (option_map view x.now))) }
 {
     match x {
         None => record_of(context.alloc, place),
@@ -219,7 +223,8 @@ fn separator(
     y: &Option<Boxed<awk_tree::Expr>>,
     level: u32,
 ) -> Result<Pattern<Expr>, Memory>
-    ensures { IsEre (names_in context.now) result (low.separator (scope_in context.now) (perhaps_of (option_map view y.now))) }
+    ensures { IsEre (names_in context.now) result
+        (low.separator (scope_in context.now) (perhaps_of (option_map view y.now))) }
 {
     match y {
         None => field_separator(context),
@@ -237,7 +242,8 @@ fn split(
     y: &Option<Boxed<awk_tree::Expr>>,
     level: u32,
 ) -> Result<Expr, Memory>
-    ensures { Is (names_in context.now) result (low.divided (scope_in context.now) place (view x.now) n.now (perhaps_of (option_map view y.now))) }
+    ensures { Is (names_in context.now) result
+        (low.divided (scope_in context.now) place (view x.now) n.now (perhaps_of (option_map view y.now))) }
 {
     let x = part(context, x, level);
     let v = variable(context, n.text.bytes());
@@ -253,7 +259,9 @@ fn getline(
     y: &Option<Boxed<awk_tree::Expr>>,
     level: u32,
 ) -> Result<Expr, Memory>
-    ensures { Is (names_in context.now) result (low.got (scope_in context.now) place (perhaps_of (option_map view x.now)) (perhaps_of (option_map view y.now))) }
+    ensures { Is (names_in context.now) result
+        (low.got (scope_in context.now) place (perhaps_of (option_map view x.now))
+        (perhaps_of (option_map view y.now))) }
 {
     let x = target_or_record(context, place, x, level);
     match y {
@@ -286,7 +294,9 @@ fn builtin(
     args: &[awk_tree::Expr],
     level: u32,
 ) -> Result<Expr, Memory>
-    ensures { Is (names_in context.now) result (low.built (scope_in context.now) place which (trees_of (map view args.now)) (low.lowered_list (scope_in context.now) (trees_of (map view args.now)))) }
+    ensures { Is (names_in context.now) result
+        (low.built (scope_in context.now) place which (trees_of (map view args.now))
+        (low.lowered_list (scope_in context.now) (trees_of (map view args.now)))) }
 {
     match plain_builtin(which) {
         Some(function) => plain(context, place, function, args, level),
@@ -306,7 +316,9 @@ fn plain(
     args: &[awk_tree::Expr],
     level: u32,
 ) -> Result<Expr, Memory>
-    ensures { Is (names_in context.now) result (low.plain (scope_in context.now) place (Some which) (trees_of (map view args.now)) (low.lowered_list (scope_in context.now) (trees_of (map view args.now)))) }
+    ensures { Is (names_in context.now) result
+        (low.plain (scope_in context.now) place (Some which) (trees_of (map view args.now))
+        (low.lowered_list (scope_in context.now) (trees_of (map view args.now)))) }
 {
     match counted(context, which, args) {
         Some(name) => count_of(variable(context, name.text.bytes())),
@@ -323,7 +335,8 @@ fn called(
     args: &[awk_tree::Expr],
     level: u32,
 ) -> Result<Expr, Memory>
-    ensures { Is (names_in context.now) result (form.called place which (low.lowered_list (scope_in context.now) (trees_of (map view args.now)))) }
+    ensures { Is (names_in context.now) result
+        (form.called place which (low.lowered_list (scope_in context.now) (trees_of (map view args.now)))) }
 {
     match args {
         [] => without_arguments(context.alloc, place, which),
@@ -339,7 +352,9 @@ fn located(
     args: &[awk_tree::Expr],
     level: u32,
 ) -> Result<Expr, Memory>
-    ensures { Is (names_in context.now) result (low.located place (trees_of (map view args.now)) (low.lowered_list (scope_in context.now) (trees_of (map view args.now)))) }
+    ensures { Is (names_in context.now) result
+        (low.located place (trees_of (map view args.now))
+        (low.lowered_list (scope_in context.now) (trees_of (map view args.now)))) }
 {
     match args {
         [x, y] => {
@@ -357,7 +372,9 @@ fn fill(
     out: &mut Items<Expr>,
     level: u32,
 ) -> Result<(), Memory>
-    ensures { OnOk result (map (code.view (names_in context.now)) out.new ≡ map (code.view (names_in context.now)) out.old ++ map (lowered (scope_in context.now)) (map view xs.now)) }
+    ensures { OnOk result
+        (map (code.view (names_in context.now)) out.new ≡ map (code.view (names_in context.now)) out.old
+        ++ map (lowered (scope_in context.now)) (map view xs.now)) }
 {
     for x in xs {
         push(out, expression(context, x, level))?;
@@ -382,7 +399,9 @@ fn fill_terms(
     out: &mut Items<Term<Expr>>,
     level: u32,
 ) -> Result<(), Memory>
-    ensures { OnOk result (map (code.view_term (names_in context.now)) out.new ≡ map (code.view_term (names_in context.now)) out.old ++ map (lowered_term (scope_in context.now)) (map view_term xs.now)) }
+    ensures { OnOk result
+        (map (code.view_term (names_in context.now)) out.new ≡ map (code.view_term (names_in context.now)) out.old
+        ++ map (lowered_term (scope_in context.now)) (map view_term xs.now)) }
 {
     for x in xs {
         let operand = part(context, &x.operand, level);
@@ -398,7 +417,8 @@ fn terms(
     xs: &[awk_tree::Term<awk_tree::Expr>],
     level: u32,
 ) -> Result<Items<Term<Expr>>, Memory>
-    ensures { AreTerms (names_in context.now) result (map (lowered_term (scope_in context.now)) (map view_term xs.now)) }
+    ensures { AreTerms (names_in context.now) result
+        (map (lowered_term (scope_in context.now)) (map view_term xs.now)) }
 {
     let mut out = room(context.alloc, xs.len());
     let filled = fill_terms(context, xs, &mut out, level);
@@ -412,7 +432,9 @@ fn fill_joins(
     out: &mut Items<Joined<Expr>>,
     level: u32,
 ) -> Result<(), Memory>
-    ensures { OnOk result (map (code.view_joined (names_in context.now)) out.new ≡ map (code.view_joined (names_in context.now)) out.old ++ map (lowered_join (scope_in context.now)) (map view xs.now)) }
+    ensures { OnOk result
+        (map (code.view_joined (names_in context.now)) out.new ≡ map (code.view_joined (names_in context.now)) out.old
+        ++ map (lowered_join (scope_in context.now)) (map view xs.now)) }
 {
     for x in xs {
         let operand = part(context, x, level);
@@ -442,7 +464,10 @@ fn fill_pipes(
     out: &mut Items<Piped<Expr>>,
     level: u32,
 ) -> Result<(), Memory>
-    ensures { OnOk result (code.view_pipes (names_in context.now) out.new ≡ then_pipes (code.view_pipes (names_in context.now) out.old) (low.lowered_pipes (scope_in context.now) (pipes_of (map view_piped xs.now)))) }
+    ensures { OnOk result
+        (code.view_pipes (names_in context.now) out.new
+        ≡ then_pipes (code.view_pipes (names_in context.now) out.old)
+        (low.lowered_pipes (scope_in context.now) (pipes_of (map view_piped xs.now)))) }
 {
     for x in xs {
         let target = piped_target(context, x.place, &x.target, level);
@@ -458,7 +483,8 @@ fn pipes(
     xs: &[awk_tree::Piped<awk_tree::Expr>],
     level: u32,
 ) -> Result<Items<Piped<Expr>>, Memory>
-    ensures { ArePipes (names_in context.now) result (low.lowered_pipes (scope_in context.now) (pipes_of (map view_piped xs.now))) }
+    ensures { ArePipes (names_in context.now) result
+        (low.lowered_pipes (scope_in context.now) (pipes_of (map view_piped xs.now))) }
 {
     let mut out = room(context.alloc, xs.len());
     let filled = fill_pipes(context, xs, &mut out, level);
@@ -473,7 +499,10 @@ fn fill_arguments(
     out: &mut Items<Argument<Expr>>,
     level: u32,
 ) -> Result<(), Memory>
-    ensures { OnOk result (code.view_arguments (names_in context.now) out.new ≡ then_arguments (code.view_arguments (names_in context.now) out.old) (low.arguments (scope_in context.now) arrays.now (trees_of (map view xs.now)))) }
+    ensures { OnOk result
+        (code.view_arguments (names_in context.now) out.new
+        ≡ then_arguments (code.view_arguments (names_in context.now) out.old)
+        (low.arguments (scope_in context.now) arrays.now (trees_of (map view xs.now)))) }
 {
     let mut rest = arrays;
     for x in xs {
@@ -492,7 +521,8 @@ fn arguments(
     xs: &[awk_tree::Expr],
     level: u32,
 ) -> Result<Items<Argument<Expr>>, Memory>
-    ensures { AreArguments (names_in context.now) result (low.arguments (scope_in context.now) arrays.now (trees_of (map view xs.now))) }
+    ensures { AreArguments (names_in context.now) result
+        (low.arguments (scope_in context.now) arrays.now (trees_of (map view xs.now))) }
 {
     let mut out = room(context.alloc, xs.len());
     let filled = fill_arguments(context, arrays, xs, &mut out, level);
@@ -505,7 +535,8 @@ pub fn optional(
     x: &Option<awk_tree::Expr>,
     level: u32,
 ) -> Result<Option<Boxed<Expr>>, Memory>
-    ensures { IsPerhaps (names_in context.now) result (option_map (lowered (scope_in context.now)) (option_map view x.now)) }
+    ensures { IsPerhaps (names_in context.now) result
+        (option_map (lowered (scope_in context.now)) (option_map view x.now)) }
 {
     match x {
         None => Ok(None),

@@ -63,7 +63,8 @@ fn flags<'a>(tables: &'a Tables, name: &[u8]) -> &'a [bool]
 }
 
 fn action(context: &Context<'_>, body: &[awk_tree::Statement]) -> Result<Items<Statement>, Memory>
-    ensures { AreStatements (names_in context.now) result (spec.body (scope_in context.now) (map view_statement body.now)) }
+    ensures { AreStatements (names_in context.now) result
+        (spec.body (scope_in context.now) (map view_statement body.now)) }
 {
     statements(context, body, DEEPEST)
 }
@@ -90,14 +91,16 @@ fn when(context: &Context<'_>, pattern: &Pattern) -> Result<When, Memory>
 
 /// `action` by itself
 fn always(context: &Context<'_>, body: &[awk_tree::Statement]) -> Result<Rule, Memory>
-    ensures { IsRule (names_in context.now) result (spec.rule_of p.always (spec.body (scope_in context.now) (map view_statement body.now))) }
+    ensures { IsRule (names_in context.now) result
+        (spec.rule_of p.always (spec.body (scope_in context.now) (map view_statement body.now))) }
 {
     rule_of(Ok(When::Always), action(context, body))
 }
 
 /// `pattern` by itself
 fn shown(context: &Context<'_>, pattern: &Pattern) -> Result<Rule, Memory>
-    ensures { IsRule (names_in context.now) result (spec.rule_of (spec.when_of (scope_in context.now) (view_pattern pattern.now)) spec.printed) }
+    ensures { IsRule (names_in context.now) result
+        (spec.rule_of (spec.when_of (scope_in context.now) (view_pattern pattern.now)) spec.printed) }
 {
     let when = when(context, pattern);
     rule_of(when, printed(context.alloc))
@@ -109,14 +112,17 @@ fn rule(
     pattern: &Pattern,
     body: &[awk_tree::Statement],
 ) -> Result<Rule, Memory>
-    ensures { IsRule (names_in context.now) result (spec.rule_of (spec.when_of (scope_in context.now) (view_pattern pattern.now)) (spec.body (scope_in context.now) (map view_statement body.now))) }
+    ensures { IsRule (names_in context.now) result
+        (spec.rule_of (spec.when_of (scope_in context.now) (view_pattern pattern.now))
+        (spec.body (scope_in context.now) (map view_statement body.now))) }
 {
     let when = when(context, pattern);
     rule_of(when, action(context, body))
 }
 
 fn function(alloc: Global, tables: &Tables, f: &awk_tree::Function) -> Result<Function, Memory>
-    ensures { IsFunction tables.now.variables result (spec.function_of (tables_in tables.now) f.now.name.text (texts f.now.params) (map view_statement f.now.body)) }
+    ensures { IsFunction tables.now.variables result
+        (spec.function_of (tables_in tables.now) f.now.name.text (texts f.now.params) (map view_statement f.now.body)) }
 {
     let parameters = Roll::of_names(alloc, f.params.as_slice())?;
     let flags = flags(tables, f.name.text.bytes());
@@ -133,7 +139,9 @@ fn function(alloc: Global, tables: &Tables, f: &awk_tree::Function) -> Result<Fu
 fn add(context: &Context<'_>, tables: &Tables, item: &Item, out: &mut Program) -> Result<(), Memory>
     requires names { names_in context.now ≡ tables.now.variables }
     requires scope { scope_in context.now ≡ spec.scope_with (tables_in tables.now) [] [] }
-    ensures { OnOk result (code.view_by tables.now.variables out.new ≡ spec.with_entry (tables_in tables.now) (view_item item.now) (code.view_by tables.now.variables out.old)) }
+    ensures { OnOk result
+        (code.view_by tables.now.variables out.new
+        ≡ spec.with_entry (tables_in tables.now) (view_item item.now) (code.view_by tables.now.variables out.old)) }
 {
     match item {
         Item::Begin(body) => push(&mut out.begin, action(context, body.as_slice())),
@@ -153,7 +161,10 @@ fn add_all(
 ) -> Result<(), Memory>
     requires names { names_in context.now ≡ tables.now.variables }
     requires scope { scope_in context.now ≡ spec.scope_with (tables_in tables.now) [] [] }
-    ensures { OnOk result (code.view_by tables.now.variables out.new ≡ spec.with_entries (tables_in tables.now) (map view_item items.now) (code.view_by tables.now.variables out.old)) }
+    ensures { OnOk result
+        (code.view_by tables.now.variables out.new
+        ≡ spec.with_entries (tables_in tables.now) (map view_item items.now)
+        (code.view_by tables.now.variables out.old)) }
 {
     for item in items {
         add(context, tables, item, out)?;
@@ -188,7 +199,8 @@ fn empty(alloc: Global, variables: Items<Name>) -> Program
 
 /// The program of these items, or `Memory` where memory is refused.
 pub fn program(alloc: Global, tables: &Tables, items: &[Item]) -> Result<Program, Memory>
-    ensures { IfOk result (λ made. code.view_program made ≡ spec.program (tables_in tables.now) (map view_item items.now)) }
+    ensures { IfOk result
+        (λ made. code.view_program made ≡ spec.program (tables_in tables.now) (map view_item items.now)) }
 {
     let texts = tables.variables.texts();
     let variables = named(alloc, texts, tables.script_arrays.as_slice())?;

@@ -117,7 +117,8 @@ pub fn is_array(context: &Context<'_>, text: &[u8]) -> bool
 
 /// The arrays behind `in`.
 pub fn arrays_in(context: &Context<'_>, members: &[Member]) -> Result<Items<Variable>, Memory>
-    ensures { IfOk result (λ vs. map (variable_of (names_in context.now)) vs ≡ low.arrays_in (scope_in context.now) members.now) }
+    ensures { IfOk result
+        (λ vs. map (variable_of (names_in context.now)) vs ≡ low.arrays_in (scope_in context.now) members.now) }
 {
     let mut out = Items::new(context.alloc);
     for member in members {

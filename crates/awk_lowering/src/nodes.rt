@@ -1,7 +1,8 @@
 // Expressions of parts that are made already. A part that was refused refuses the whole.
 
 ghost use Rattle.std.specs.Prelude.{◌≡◌, ℕ, IfOk, List};
-ghost use Rattle.awk_lowering.specs.Made.{Is, AreAll, AreTerms, AreJoins, ArePipes, AreArguments, AreVariables, IsTarget, IsEre, IsVariable};
+ghost use Rattle.awk_lowering.specs.Made.{Is, AreAll, AreTerms, AreJoins, ArePipes, AreArguments, AreVariables};
+ghost use Rattle.awk_lowering.specs.Made.{IsTarget, IsEre, IsVariable};
 ghost use Rattle.awk_program.specs.Program as p;
 ghost use Rattle.awk_program.specs.Program.{Expression, Reference, Ere, Arguments, expressions_of, terms_of, joins_of};
 ghost use Rattle.awk_program.specs.View.{Names};
@@ -57,7 +58,8 @@ pub fn chain_of(
     x: Result<Boxed<Expr>, Memory>,
     xs: Result<Items<Term<Expr>>, Memory>,
 ) -> Result<Expr, Memory>
-    ensures { (t : Names) (a : Expression) (b : List (term.Term Expression)) → Is t x a → AreTerms t xs b → Is t result (p.chain a (terms_of b)) }
+    ensures { (t : Names) (a : Expression) (b : List (term.Term Expression)) → Is t x a → AreTerms t xs b →
+        Is t result (p.chain a (terms_of b)) }
 {
     match both(x, xs) {
         Ok((x, xs)) => Ok(Expr::Chain(x, xs)),
@@ -70,7 +72,8 @@ pub fn concat_of(
     x: Result<Boxed<Expr>, Memory>,
     xs: Result<Items<Joined<Expr>>, Memory>,
 ) -> Result<Expr, Memory>
-    ensures { (t : Names) (a : Expression) (b : List (joined.Joined Expression)) → Is t x a → AreJoins t xs b → Is t result (p.concat a (joins_of b)) }
+    ensures { (t : Names) (a : Expression) (b : List (joined.Joined Expression)) → Is t x a → AreJoins t xs b →
+        Is t result (p.concat a (joins_of b)) }
 {
     match both(x, xs) {
         Ok((x, xs)) => Ok(Expr::Concat(x, xs)),
@@ -111,7 +114,8 @@ pub fn member_of(
     x: Result<Boxed<Expr>, Memory>,
     vs: Result<Items<Variable>, Memory>,
 ) -> Result<Expr, Memory>
-    ensures { (t : Names) (a : Expression) (b : List p.Variable) → Is t x a → AreVariables t vs b → Is t result (p.member a b) }
+    ensures { (t : Names) (a : Expression) (b : List p.Variable) → Is t x a → AreVariables t vs b →
+        Is t result (p.member a b) }
 {
     match both(x, vs) {
         Ok((x, vs)) => Ok(Expr::In(x, vs)),
@@ -125,7 +129,8 @@ pub fn group_of(
     xs: Result<Items<Expr>, Memory>,
     vs: Result<Items<Variable>, Memory>,
 ) -> Result<Expr, Memory>
-    ensures { (t : Names) (a : List Expression) (b : List p.Variable) → AreAll t xs a → AreVariables t vs b → Is t result (p.group place (expressions_of a) b) }
+    ensures { (t : Names) (a : List Expression) (b : List p.Variable) → AreAll t xs a → AreVariables t vs b →
+        Is t result (p.group place (expressions_of a) b) }
 {
     match both(xs, vs) {
         Ok((xs, vs)) => Ok(Expr::Group(place, xs, vs)),
@@ -138,7 +143,8 @@ pub fn and_of(
     x: Result<Boxed<Expr>, Memory>,
     xs: Result<Items<Expr>, Memory>,
 ) -> Result<Expr, Memory>
-    ensures { (t : Names) (a : Expression) (b : List Expression) → Is t x a → AreAll t xs b → Is t result (p.and a (expressions_of b)) }
+    ensures { (t : Names) (a : Expression) (b : List Expression) → Is t x a → AreAll t xs b →
+        Is t result (p.and a (expressions_of b)) }
 {
     match both(x, xs) {
         Ok((x, xs)) => Ok(Expr::And(x, xs)),
@@ -151,7 +157,8 @@ pub fn or_of(
     x: Result<Boxed<Expr>, Memory>,
     xs: Result<Items<Expr>, Memory>,
 ) -> Result<Expr, Memory>
-    ensures { (t : Names) (a : Expression) (b : List Expression) → Is t x a → AreAll t xs b → Is t result (p.or a (expressions_of b)) }
+    ensures { (t : Names) (a : Expression) (b : List Expression) → Is t x a → AreAll t xs b →
+        Is t result (p.or a (expressions_of b)) }
 {
     match both(x, xs) {
         Ok((x, xs)) => Ok(Expr::Or(x, xs)),
@@ -165,7 +172,8 @@ pub fn choose_of(
     y: Result<Boxed<Expr>, Memory>,
     z: Result<Boxed<Expr>, Memory>,
 ) -> Result<Expr, Memory>
-    ensures { (t : Names) (a : Expression) (b : Expression) (d : Expression) → Is t x a → Is t y b → Is t z d → Is t result (p.choose a b d) }
+    ensures { (t : Names) (a : Expression) (b : Expression) (d : Expression) → Is t x a → Is t y b → Is t z d →
+        Is t result (p.choose a b d) }
 {
     match three(x, y, z) {
         Ok((x, y, z)) => Ok(Expr::Choice(x, y, z)),
@@ -179,7 +187,8 @@ pub fn call_of(
     f: Result<u32, Memory>,
     xs: Result<Items<Argument<Expr>>, Memory>,
 ) -> Result<Expr, Memory>
-    ensures { (t : Names) (a : ℕ) (b : Arguments) → IfOk f (λ n. n ≡ a) → AreArguments t xs b → Is t result (p.call place a b) }
+    ensures { (t : Names) (a : ℕ) (b : Arguments) → IfOk f (λ n. n ≡ a) → AreArguments t xs b →
+        Is t result (p.call place a b) }
 {
     match both(f, xs) {
         Ok((f, xs)) => Ok(Expr::Call(place, f, xs)),
@@ -203,7 +212,8 @@ pub fn getline_file_of(
     target: Result<Target<Expr>, Memory>,
     x: Result<Boxed<Expr>, Memory>,
 ) -> Result<Expr, Memory>
-    ensures { (t : Names) (a : Reference) (b : Expression) → IsTarget t target a → Is t x b → Is t result (p.getline_file place a b) }
+    ensures { (t : Names) (a : Reference) (b : Expression) → IsTarget t target a → Is t x b →
+        Is t result (p.getline_file place a b) }
 {
     match both(target, x) {
         Ok((target, x)) => Ok(Expr::GetlineFile(place, target, x)),
@@ -230,7 +240,8 @@ pub fn builtin_of(
     which: Builtin,
     xs: Result<Items<Expr>, Memory>,
 ) -> Result<Expr, Memory>
-    ensures { (t : Names) (a : List Expression) → AreAll t xs a → Is t result (p.builtin place which (expressions_of a)) }
+    ensures { (t : Names) (a : List Expression) → AreAll t xs a →
+        Is t result (p.builtin place which (expressions_of a)) }
 {
     match xs {
         Ok(xs) => Ok(Expr::Builtin(place, which, xs)),
@@ -270,7 +281,8 @@ pub fn split_of(
     v: Result<Variable, Memory>,
     y: Result<Pattern<Expr>, Memory>,
 ) -> Result<Expr, Memory>
-    ensures { (t : Names) (a : Expression) (b : p.Variable) (d : Ere) → Is t x a → IsVariable t v b → IsEre t y d → Is t result (p.split place a at b d) }
+    ensures { (t : Names) (a : Expression) (b : p.Variable) (d : Ere) → Is t x a → IsVariable t v b → IsEre t y d →
+        Is t result (p.split place a at b d) }
 {
     match three(x, v, y) {
         Ok((x, v, y)) => Ok(Expr::Split(place, x, at, v, y)),
@@ -286,7 +298,8 @@ pub fn substitute_of(
     y: Result<Boxed<Expr>, Memory>,
     target: Result<Target<Expr>, Memory>,
 ) -> Result<Expr, Memory>
-    ensures { (t : Names) (a : Ere) (b : Expression) (d : Reference) → IsEre t x a → Is t y b → IsTarget t target d → Is t result (p.substitute place extent a b d) }
+    ensures { (t : Names) (a : Ere) (b : Expression) (d : Reference) → IsEre t x a → Is t y b → IsTarget t target d →
+        Is t result (p.substitute place extent a b d) }
 {
     match three(x, y, target) {
         Ok((x, y, target)) => Ok(Expr::Substitute(place, extent, x, y, target)),

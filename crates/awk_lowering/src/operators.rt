@@ -112,7 +112,8 @@ pub fn assign_of(
     target: Result<Target<Expr>, Memory>,
     x: Result<Boxed<Expr>, Memory>,
 ) -> Result<Expr, Memory>
-    ensures { (t : Names) (a : Reference) (b : Expression) → IsTarget t target a → Is t x b → Is t result (spec.assigned place how a b) }
+    ensures { (t : Names) (a : Reference) (b : Expression) → IsTarget t target a → Is t x b →
+        Is t result (spec.assigned place how a b) }
 {
     let (target, x) = both(target, x)?;
     match how {

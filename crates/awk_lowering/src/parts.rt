@@ -27,7 +27,9 @@ pub fn term_of(
     place: Place,
     operand: Result<Boxed<Expr>, Memory>,
 ) -> Result<Term<Expr>, Memory>
-    ensures { (t : Names) (a : Expression) → Is t operand a → IfOk result (λ made. view_term t made ≡ record { operator = spec.operator_of how; place = place; operand = a }) }
+    ensures { (t : Names) (a : Expression) → Is t operand a →
+        IfOk result (λ made. view_term t made
+        ≡ record { operator = spec.operator_of how; place = place; operand = a }) }
 {
     match operand {
         Ok(operand) => Ok(Term {
@@ -40,7 +42,8 @@ pub fn term_of(
 }
 
 fn power(place: Place, operand: Result<Boxed<Expr>, Memory>) -> Result<Term<Expr>, Memory>
-    ensures { (t : Names) (a : Expression) → Is t operand a → IfOk result (λ made. view_term t made ≡ record { operator = o.Power; place = place; operand = a }) }
+    ensures { (t : Names) (a : Expression) → Is t operand a →
+        IfOk result (λ made. view_term t made ≡ record { operator = o.Power; place = place; operand = a }) }
 {
     match operand {
         Ok(operand) => Ok(Term {
@@ -59,7 +62,8 @@ pub fn power_of(
     x: Result<Boxed<Expr>, Memory>,
     y: Result<Boxed<Expr>, Memory>,
 ) -> Result<Expr, Memory>
-    ensures { (t : Names) (a b : Expression) → Is t x a → Is t y b → Is t result (p.chain a (p.term o.Power place b p.no_terms)) }
+    ensures { (t : Names) (a b : Expression) → Is t x a → Is t y b →
+        Is t result (p.chain a (p.term o.Power place b p.no_terms)) }
 {
     chain_of(x, only(alloc, power(place, y)))
 }
@@ -69,7 +73,8 @@ pub fn join_of(
     place: Result<Place, Memory>,
     operand: Result<Boxed<Expr>, Memory>,
 ) -> Result<Joined<Expr>, Memory>
-    ensures { (t : Names) (q : spot.Place) (a : Expression) → IfOk place (λ made. made ≡ q) → Is t operand a → IfOk result (λ made. view_joined t made ≡ record { place = q; operand = a }) }
+    ensures { (t : Names) (q : spot.Place) (a : Expression) → IfOk place (λ made. made ≡ q) → Is t operand a →
+        IfOk result (λ made. view_joined t made ≡ record { place = q; operand = a }) }
 {
     match both(place, operand) {
         Ok((place, operand)) => Ok(Joined {
@@ -106,7 +111,9 @@ fn by_name(
     takes_array: bool,
     n: &Name,
 ) -> Result<Option<Argument<Expr>>, Memory>
-    ensures { IfOk result (λ found. (a : Expression) (rest : Arguments) → or_value (names_in context.now) found a rest ≡ low.argument (scope_in context.now) takes_array (Some n.now) a rest) }
+    ensures { IfOk result
+        (λ found. (a : Expression) (rest : Arguments) → or_value (names_in context.now) found a rest
+        ≡ low.argument (scope_in context.now) takes_array (Some n.now) a rest) }
 {
     let text = n.text.bytes();
     if takes_array {
@@ -126,7 +133,9 @@ pub fn argument_of(
     name: Option<&Name>,
     value: Result<Boxed<Expr>, Memory>,
 ) -> Result<Argument<Expr>, Memory>
-    ensures { (a : Expression) → Is (names_in context.now) value a → IsArgument (names_in context.now) result (low.argument (scope_in context.now) takes_array (option_copied name.entry) a) }
+    ensures { (a : Expression) → Is (names_in context.now) value a →
+        IsArgument (names_in context.now) result
+        (low.argument (scope_in context.now) takes_array (option_copied name.entry) a) }
 {
     match name {
         None => value_of(value),

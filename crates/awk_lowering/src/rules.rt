@@ -40,7 +40,8 @@ pub fn rule_of(
     when: Result<When, Memory>,
     action: Result<Items<Statement>, Memory>,
 ) -> Result<Rule, Memory>
-    ensures { (t : Names) (a : p.When) (b : List p.Statement) → IsWhen t when a → AreStatements t action b → IsRule t result (spec.rule_of a b) }
+    ensures { (t : Names) (a : p.When) (b : List p.Statement) → IsWhen t when a → AreStatements t action b →
+        IsRule t result (spec.rule_of a b) }
 {
     match both(when, action) {
         Ok((when, action)) => Ok(Rule { when, action }),
@@ -54,7 +55,9 @@ pub fn function_of(
     parameters: Result<Items<bool>, Memory>,
     body: Result<Items<Statement>, Memory>,
 ) -> Result<Function, Memory>
-    ensures { (t : Names) (n : Text) (are : List Bool) (b : List p.Statement) → IfOk name (λ m. m ≡ n) → IfOk parameters (λ m. m ≡ are) → AreStatements t body b → IsFunction t result (record { name = n; parameters = are; body = b }) }
+    ensures { (t : Names) (n : Text) (are : List Bool) (b : List p.Statement) → IfOk name (λ m. m ≡ n) →
+        IfOk parameters (λ m. m ≡ are) → AreStatements t body b →
+        IsFunction t result (record { name = n; parameters = are; body = b }) }
 {
     match three(name, parameters, body) {
         Ok((name, parameters, body)) => Ok(Function {

@@ -22,7 +22,8 @@ pub fn lower(
     parts: &[Part],
     items: &[Item],
 ) -> Result<Program, Memory>
-    ensures program { IfOk result (λ made. view_program made ≡ programs.program (spec.tables kinds.now parts.now) (map view_item items.now)) }
+    ensures program { IfOk result
+        (λ made. view_program made ≡ programs.program (spec.tables kinds.now parts.now) (map view_item items.now)) }
     ensures sound { IfOk result (λ made. Sound (names_of made)) }
 {
     let tables = tables_of(alloc, kinds, parts)?;

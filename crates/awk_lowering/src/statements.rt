@@ -28,7 +28,8 @@ fn redirected(
     to: &Option<awk_tree::Redirection<awk_tree::Expr>>,
     level: u32,
 ) -> Result<Option<Redirection<Expr>>, Memory>
-    ensures { AreRedirected (names_in context.now) result (option_map (low.redirected (scope_in context.now)) (option_map view_redirection to.now)) }
+    ensures { AreRedirected (names_in context.now) result
+        (option_map (low.redirected (scope_in context.now)) (option_map view_redirection to.now)) }
 {
     match to {
         None => Ok(None),
@@ -43,7 +44,9 @@ fn printf(
     to: &Option<awk_tree::Redirection<awk_tree::Expr>>,
     level: u32,
 ) -> Result<Statement, Memory>
-    ensures { IsStatement (names_in context.now) result (low.printed (scope_in context.now) place (map view xs.now) (option_map (low.redirected (scope_in context.now)) (option_map view_redirection to.now))) }
+    ensures { IsStatement (names_in context.now) result
+        (low.printed (scope_in context.now) place (map view xs.now)
+        (option_map (low.redirected (scope_in context.now)) (option_map view_redirection to.now))) }
 {
     match xs {
         [] => Err(AllocError),
@@ -62,7 +65,10 @@ fn for_in(
     array: &Name,
     body: Result<Boxed<Statement>, Memory>,
 ) -> Result<Statement, Memory>
-    ensures { (a : p.Statement) → IsStatement (names_in context.now) body a → IsStatement (names_in context.now) result (p.for_each place (scopes.variable (scope_in context.now) key.now.text) (scopes.variable (scope_in context.now) array.now.text) a) }
+    ensures { (a : p.Statement) → IsStatement (names_in context.now) body a →
+        IsStatement (names_in context.now) result
+        (p.for_each place (scopes.variable (scope_in context.now) key.now.text)
+        (scopes.variable (scope_in context.now) array.now.text) a) }
 {
     let key = variable(context, key.text.bytes());
     for_in_of(place, key, variable(context, array.text.bytes()), body)
@@ -148,7 +154,10 @@ fn fill(
     out: &mut Items<Statement>,
     level: u32,
 ) -> Result<(), Memory>
-    ensures { OnOk result (map (code.view_statement (names_in context.now)) out.new ≡ map (code.view_statement (names_in context.now)) out.old ++ map (low.statement (scope_in context.now)) (map view_statement xs.now)) }
+    ensures { OnOk result
+        (map (code.view_statement (names_in context.now)) out.new
+        ≡ map (code.view_statement (names_in context.now)) out.old
+        ++ map (low.statement (scope_in context.now)) (map view_statement xs.now)) }
 {
     for x in xs {
         push(out, statement(context, x, level))?;
@@ -163,7 +172,8 @@ pub fn statements(
     xs: &[awk_tree::Statement],
     level: u32,
 ) -> Result<Items<Statement>, Memory>
-    ensures { AreStatements (names_in context.now) result (map (low.statement (scope_in context.now)) (map view_statement xs.now)) }
+    ensures { AreStatements (names_in context.now) result
+        (map (low.statement (scope_in context.now)) (map view_statement xs.now)) }
 {
     let mut out = room(context.alloc, xs.len());
     let filled = fill(context, xs, &mut out, level);

@@ -33,7 +33,8 @@ pub fn element_of(
     v: Result<Variable, Memory>,
     xs: Result<Items<Expr>, Memory>,
 ) -> Result<Target<Expr>, Memory>
-    ensures { (t : Names) (a : p.Variable) (b : List Expression) → IsVariable t v a → AreAll t xs b → IsTarget t result (p.element place a (expressions_of b)) }
+    ensures { (t : Names) (a : p.Variable) (b : List Expression) → IsVariable t v a → AreAll t xs b →
+        IsTarget t result (p.element place a (expressions_of b)) }
 {
     match both(v, xs) {
         Ok((v, xs)) => Ok(Target::Element(place, v, xs)),

@@ -3,7 +3,8 @@
 use Rattle.std.specs.Prelude.{Option, Some, None, option_map, nat_lt, if◌then◌else◌, List, [], ◌∷◌}
 use Rattle.box_world.specs.declared.ask.Reply.{Reply}
 use Rattle.box_world.specs.declared.ask.Reply.TheVariants.{Opened, Failed}
-use Rattle.box_world.specs.Events.{Key, Named, Wish, Opens, Reads, Writes, Shuts, Want, Event, Stream, find_stream, open_streams}
+use Rattle.box_world.specs.Events.{Key, Named, Wish, Opens, Reads, Writes, Shuts, Want, Event, Stream, find_stream}
+use Rattle.box_world.specs.Events.{open_streams}
 use Rattle.awk_machine.specs.Moves.{move}
 use Rattle.awk_machine.specs.Pieces.{nowhere, Piece, Outcome, Cut, Next, Goes, Steps, Asks, Seeks, Over, ends}
 use Rattle.awk_machine.specs.State.{State, Given}

@@ -1,5 +1,6 @@
 -- How a run begins (POSIX.1-2017 XCU awk, "OPTIONS", "OPERANDS", "Variables and Special Variables").
-use Rattle.std.specs.Prelude.{ℕ, ◌+◌, ◌&&◌, not, Bool, false, if◌then◌else◌, negsuc, List, [], ◌∷◌, ◌++◌, map, codes, Option, Some, None, unwrap_or}
+use Rattle.std.specs.Prelude.{ℕ, ◌+◌, ◌&&◌, not, Bool, false, if◌then◌else◌, negsuc, List, [], ◌∷◌, ◌++◌, map, codes}
+use Rattle.std.specs.Prelude.{Option, Some, None, unwrap_or}
 use Rattle.std.specs.Fmt.{decimal}
 use Rattle.std.specs.List.{filter, list_any}
 use Rattle.std.specs.Map.{lookup}
@@ -20,9 +21,12 @@ use Rattle.awk_machine.specs.State.{Array, State, Course, Given, Beginning, Ruli
 -- those that awk sets
 abbrev pub first_values : List (Text × Value)
 first_values =
-    (codes "CONVFMT", v.Text (codes "%.6g")) ∷ (codes "FILENAME", v.Input []) ∷ (codes "FNR", of_count 0) ∷ (codes "FS", v.Text (codes " "))
-    ∷ (codes "NR", of_count 0) ∷ (codes "OFMT", v.Text (codes "%.6g")) ∷ (codes "OFS", v.Text (codes " ")) ∷ (codes "ORS", v.Text (10 ∷ []))
-    ∷ (codes "RLENGTH", v.Num (negsuc 0)) ∷ (codes "RS", v.Text (10 ∷ [])) ∷ (codes "RSTART", of_count 0) ∷ (codes "SUBSEP", v.Text (28 ∷ [])) ∷ []
+    (codes "CONVFMT", v.Text (codes "%.6g")) ∷ (codes "FILENAME", v.Input []) ∷ (codes "FNR", of_count 0)
+    ∷ (codes "FS", v.Text (codes " "))
+    ∷ (codes "NR", of_count 0) ∷ (codes "OFMT", v.Text (codes "%.6g")) ∷ (codes "OFS", v.Text (codes " "))
+    ∷ (codes "ORS", v.Text (10 ∷ []))
+    ∷ (codes "RLENGTH", v.Num (negsuc 0)) ∷ (codes "RS", v.Text (10 ∷ [])) ∷ (codes "RSTART", of_count 0)
+    ∷ (codes "SUBSEP", v.Text (28 ∷ [])) ∷ []
 
 abbrev pub first_value : Text → Value
 first_value name = unwrap_or (lookup (bytes_eq name) first_values) v.Unset
@@ -65,16 +69,19 @@ set_at_start to x = Do (Set to nowhere x)
 
 abbrev pub operands : ℕ → List Text → List Piece
 operands n [] = set_at_start (Variable (global (codes "ARGC"))) (of_count n) ∷ []
-operands n (x ∷ xs) = set_at_start (Element (global (codes "ARGV")) (decimal n) nowhere) (v.Input x) ∷ operands (n + 1) xs
+operands n (x ∷ xs) =
+    set_at_start (Element (global (codes "ARGV")) (decimal n) nowhere) (v.Input x) ∷ operands (n + 1) xs
 
 abbrev pub separators : Option Text → List Piece
 separators None = []
 separators (Some text) = set_at_start (Variable (global (codes "FS"))) (v.Input (unescaped text)) ∷ []
 
 abbrev pub assigns : Given → List Piece
-assigns g = map (λ a. set_at_start (Variable (global a.0)) (v.Input (unescaped a.1))) (filter (λ a. g.can_assign a.0) g.assigns)
+assigns g =
+    map (λ a. set_at_start (Variable (global a.0)) (v.Input (unescaped a.1))) (filter (λ a. g.can_assign a.0) g.assigns)
 
 abbrev pub first_pieces : Given → List Piece
 first_pieces g =
     operands 0 (codes "awk" ∷ g.operands) ++ separators g.separator ++ assigns g
-    ++ Do (Environ (if g.names_environ then g.environment else [])) ∷ Do (Enter Beginning) ∷ Do (Enter Ruling) ∷ Do (Enter Ending) ∷ []
+    ++ Do (Environ (if g.names_environ then g.environment else [])) ∷ Do (Enter Beginning) ∷ Do (Enter Ruling)
+    ∷ Do (Enter Ending) ∷ []

@@ -1,6 +1,7 @@
 -- Calls of the built-in functions (POSIX.1-2017 XCU awk, "Functions"): the arguments from left to right, and then what
 -- the function gives.
-use Rattle.std.specs.Prelude.{ℕ, ℤ, ◌+◌, ◌-◌, nat_le, Bool, true, false, if◌then◌else◌, negsuc, List, [], ◌∷◌, length, drop, get_or, codes, Option, Some, None, Result, Ok}
+use Rattle.std.specs.Prelude.{ℕ, ℤ, ◌+◌, ◌-◌, nat_le, Bool, true, false, if◌then◌else◌, negsuc, List, [], ◌∷◌, length}
+use Rattle.std.specs.Prelude.{drop, get_or, codes, Option, Some, None, Result, Ok}
 use Rattle.std.specs.Fmt.{decimal}
 use Rattle.awk_text.specs.declared.place.Place.{Place}
 use Rattle.awk_text.specs.declared.value.Value.{Value}
@@ -28,7 +29,8 @@ use Rattle.awk_lib.specs.Replacing.{replaced}
 use Rattle.awk_lib.specs.Texts.{index, substr, to_case}
 use Rattle.awk_machine.specs.State.{Array, State}
 use Rattle.awk_machine.specs.Operators.{of_count, limited}
-use Rattle.awk_machine.specs.Pieces.{Part, Task, Piece, At, Do, Target, Get, Set, Give, Locate, Located, Substitute, Split, Close, Run, Then, Goes, Seeks, Asks, give, granted, fails}
+use Rattle.awk_machine.specs.Pieces.{Part, Task, Piece, At, Do, Target, Get, Set, Give, Locate, Located, Substitute}
+use Rattle.awk_machine.specs.Pieces.{Split, Close, Run, Then, Goes, Seeks, Asks, give, granted, fails}
 use Rattle.awk_machine.specs.Questions.{Finds, places}
 use Rattle.awk_machine.specs.Streams.{want}
 use Rattle.awk_machine.specs.Targets.{target, check_separator}
@@ -52,7 +54,8 @@ count_of [] = Ok None
 count_of (x ∷ vs) = number_of x >>= λ n. Ok (Some n)
 
 abbrev pub substr_of : List Value → Result Value Fault
-substr_of vs = number_of (argument vs 1) >>= λ from. count_of (drop 2 vs) >>= λ count. Ok (v.Text (substr (text_at vs 0) from count))
+substr_of vs = number_of (argument vs 1) >>= λ from. count_of (drop 2 vs)
+    >>= λ count. Ok (v.Text (substr (text_at vs 0) from count))
 
 -- the text of a format, which is the first of these, and its values
 abbrev pub first : List Value → Value
@@ -104,14 +107,18 @@ run place text k s = Asks (want place (Runs text)) (λ r. give (status_of r) k) 
 -- ---- match: the place and the length of the first match, 0 and -1 where there is none
 
 abbrev pub located : List (ℕ × ℕ) → Then
-located [] k s = Goes (give (of_count 0) k) (with_own (codes "RLENGTH") (v.Num (negsuc 0)) (with_own (codes "RSTART") (of_count 0) s))
-located (m ∷ ms) k s = Goes (give (of_count (m.0 + 1)) k) (with_own (codes "RLENGTH") (of_count (m.1 - m.0)) (with_own (codes "RSTART") (of_count (m.0 + 1)) s))
+located [] k s = Goes (give (of_count 0) k)
+    (with_own (codes "RLENGTH") (v.Num (negsuc 0)) (with_own (codes "RSTART") (of_count 0) s))
+located (m ∷ ms) k s =
+    Goes (give (of_count (m.0 + 1)) k)
+    (with_own (codes "RLENGTH") (of_count (m.1 - m.0)) (with_own (codes "RSTART") (of_count (m.0 + 1)) s))
 
 abbrev pub locate : (source text : Text) → Then
 locate source text k s = Seeks (Finds source text false) (λ a. Do (Located (places a)) ∷ k) s
 
 abbrev pub locate_in : Place → Ere → Value → Value → Then
-locate_in place y text pattern k s = Goes (checked y place (text_of pattern) (Do (Locate (text_of pattern) (text_of text)) ∷ k)) s
+locate_in place y text pattern k s =
+    Goes (checked y place (text_of pattern) (Do (Locate (text_of pattern) (text_of text)) ∷ k)) s
 
 -- ---- sub and gsub: the pattern, the new text, the target, and then the old text
 
@@ -143,7 +150,9 @@ split_by (p.constant q x) place at a text by k = Do (Split at a (ere by false) t
 split_by (p.computed x) place at a text by k = check_separator place by (Do (Split at a (separator by false) text) ∷ k)
 
 abbrev pub split : Place → Expression → Place → p.Variable → Ere → Part → List Value → Then
-split place x at a y part vs k s = binary (value x) (source y) part (λ text by k s. Goes (split_by y place at a (text_of text) (text_of by) k) s) vs k s
+split place x at a y part vs k s =
+    binary (value x) (source y) part (λ text by k s. Goes (split_by y place at a (text_of text) (text_of by) k) s) vs k
+    s
 
 abbrev pub numbered : ℕ → List Text → Array
 numbered n [] = []
@@ -151,5 +160,6 @@ numbered n (x ∷ xs) = (decimal n, v.Input x) ∷ numbered (n + 1) xs
 
 abbrev pub fill : Place → p.Variable → List Text → Then
 fill at a parts k s =
-    if nat_le (length parts) most_elements then Goes (give (of_count (length parts)) k) (with_array a (numbered 1 parts) s)
+    if nat_le (length parts) most_elements
+    then Goes (give (of_count (length parts)) k) (with_array a (numbered 1 parts) s)
     else fails TooManyElements at s

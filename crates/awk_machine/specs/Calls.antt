@@ -1,6 +1,7 @@
 -- Calls of a script's functions (POSIX.1-2017 XCU awk, "User-Defined Functions"): values are handed as they are, arrays
 -- by reference; a parameter without an argument is unset, or a new array.
-use Rattle.std.specs.Prelude.{ℕ, ◌+◌, ◌-◌, nat_lt, Bool, true, false, if◌then◌else◌, List, [], ◌∷◌, ◌++◌, length, reverse, take, drop, slice_get, slice_index_or, Option, Some, None}
+use Rattle.std.specs.Prelude.{ℕ, ◌+◌, ◌-◌, nat_lt, Bool, true, false, if◌then◌else◌, List, [], ◌∷◌, ◌++◌, length}
+use Rattle.std.specs.Prelude.{reverse, take, drop, slice_get, slice_index_or, Option, Some, None}
 use Rattle.awk_text.specs.declared.place.Place.{Place}
 use Rattle.awk_text.specs.declared.value.Value.{Value}
 use Rattle.awk_text.specs.declared.value.Value.TheVariants as v
@@ -71,14 +72,21 @@ new_arrays (false ∷ are_arrays) = new_arrays are_arrays
 abbrev pub entered : Function → Frame → List Bool → Then
 entered f given others k s =
     Goes (Do (Each f.body) ∷ At (Leave s.locals (length s.made)) [] ∷ k)
-    (record s { locals = given ++ missing (length s.made) others; depth = s.depth + 1; made = s.made ++ new_arrays others })
+    (record s {
+      locals = given ++ missing (length s.made) others;
+      depth = s.depth + 1;
+      made = s.made
+          ++ new_arrays others;
+    })
 
 abbrev pub enter : Given → Place → ℕ → Arguments → List Value → Then
 enter g place n xs vs k s =
     if nat_lt s.depth most_depth then
-    entered (function g.program n) (all_handed s (arguments xs) vs) (drop (length vs) (function g.program n).parameters) k s
+    entered (function g.program n) (all_handed s (arguments xs) vs) (drop (length vs) (function g.program n).parameters)
+    k s
     else fails CallDepth place s
 
 -- a call ends: the caller's parameters are back, with the value that was returned or none
 abbrev pub leave : Frame → ℕ → List Value → Then
-leave locals n vs k s = Goes (give (first vs) k) (record s { locals = locals; depth = s.depth - 1; made = take n s.made })
+leave locals n vs k s =
+    Goes (give (first vs) k) (record s { locals = locals; depth = s.depth - 1; made = take n s.made })

@@ -38,7 +38,8 @@ answer_or (Some x) = x
 abbrev pub close_by : Place → Text → Option Value → Option Stream → Then
 close_by place text so_far None k s = Goes (give (answer_or so_far) k) s
 close_by place text so_far (Some x) k s =
-    Asks (want place (Shuts (Named x.class x.text))) (λ r. Do (Close place text (Some (first_answer so_far (shut_answer r)))) ∷ k) s
+    Asks (want place (Shuts (Named x.class x.text)))
+    (λ r. Do (Close place text (Some (first_answer so_far (shut_answer r)))) ∷ k) s
 
 abbrev pub close : Place → Text → Option Value → Then
 close place text so_far k s = close_by place text so_far (first_stream text (open_streams s.course.events)) k s

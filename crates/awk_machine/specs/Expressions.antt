@@ -12,11 +12,13 @@ use Rattle.awk_program.specs.declared.operators.Taken.{Taken}
 use Rattle.awk_program.specs.declared.operators.Taken.TheVariants as taken
 use Rattle.awk_machine.specs.Builtins.{called, locate_in, substitute, split}
 use Rattle.awk_machine.specs.Calls.{call}
-use Rattle.awk_machine.specs.Forms.{value, spot, source, answer, deliver, if_true, unary, binary, listed, each_of, keyed, checked}
+use Rattle.awk_machine.specs.Forms.{value, spot, source, answer, deliver, if_true, unary, binary, listed, each_of}
+use Rattle.awk_machine.specs.Forms.{keyed, checked}
 use Rattle.awk_machine.specs.Getline.{getline, getline_file}
 use Rattle.awk_lib.specs.Arrays.{has}
 use Rattle.awk_machine.specs.Operators.{of_truth, of_count, computed, signed, stepped, compared, limited}
-use Rattle.awk_machine.specs.Pieces.{Part, Target_of, Terms_of, Texts_of, Ands_of, Ors_of, Members_of, Pipes_of, At, Do, Get, Set, Check, Match, Give, Then, Goes, give, granted}
+use Rattle.awk_machine.specs.Pieces.{Part, Target_of, Terms_of, Texts_of, Ands_of, Ors_of, Members_of, Pipes_of, At, Do}
+use Rattle.awk_machine.specs.Pieces.{Get, Set, Check, Match, Give, Then, Goes, give, granted}
 use Rattle.awk_machine.specs.Targets.{target, field_of, store}
 use Rattle.awk_machine.specs.Variables.{array}
 
@@ -25,8 +27,10 @@ use Rattle.awk_machine.specs.Variables.{array}
 -- what comes first: its subscripts as one text, or the number of the field
 abbrev pub step_target : p.Reference → List Value → Then
 step_target (p.variable a) vs k s = answer v.Unset k s
-step_target (p.element place a xs) vs k s = each_of (listed xs) (Target_of (p.element place a xs)) (λ vs. keyed place vs (λ text. answer (v.Text text))) vs k s
-step_target (p.field place x) vs k s = unary (value x) (Target_of (p.field place x)) (λ n. deliver place (field_of n)) vs k s
+step_target (p.element place a xs) vs k s =
+    each_of (listed xs) (Target_of (p.element place a xs)) (λ vs. keyed place vs (λ text. answer (v.Text text))) vs k s
+step_target (p.field place x) vs k s =
+    unary (value x) (Target_of (p.field place x)) (λ n. deliver place (field_of n)) vs k s
 
 -- `target = value`: the target, and then the value
 abbrev pub assign : Place → p.Reference → Expression → Part → List Value → Then
@@ -57,13 +61,15 @@ abbrev pub terms : Terms → List Value → Then
 terms xs [] k s = Goes k s
 terms p.no_terms (x ∷ vs) k s = Goes (give x k) s
 terms (p.term how place y xs) (x ∷ []) k s = Goes (value y ∷ At (Terms_of (p.term how place y xs)) (x ∷ []) ∷ k) s
-terms (p.term how place y xs) (z ∷ x ∷ vs) k s = granted place (computed how x z) (λ made k s. Goes (At (Terms_of xs) (made ∷ []) ∷ k) s) k s
+terms (p.term how place y xs) (z ∷ x ∷ vs) k s =
+    granted place (computed how x z) (λ made k s. Goes (At (Terms_of xs) (made ∷ []) ∷ k) s) k s
 
 abbrev pub texts : Joins → List Value → Then
 texts xs [] k s = Goes k s
 texts p.no_joins (x ∷ vs) k s = Goes (give x k) s
 texts (p.join place y xs) (x ∷ []) k s = Goes (value y ∷ At (Texts_of (p.join place y xs)) (x ∷ []) ∷ k) s
-texts (p.join place y xs) (z ∷ x ∷ vs) k s = granted place (limited (text_of x ++ text_of z)) (λ text k s. Goes (At (Texts_of xs) (v.Text text ∷ []) ∷ k) s) k s
+texts (p.join place y xs) (z ∷ x ∷ vs) k s =
+    granted place (limited (text_of x ++ text_of z)) (λ text k s. Goes (At (Texts_of xs) (v.Text text ∷ []) ∷ k) s) k s
 
 abbrev pub ands : Expressions → List Value → Then
 ands xs [] k s = Goes k s
@@ -83,7 +89,8 @@ members (a ∷ as_) (x ∷ vs) k s = Goes (At (Members_of as_) (of_truth (has (a
 -- ---- `text ~ pattern`
 
 abbrev pub matched : Place → Ere → Value → Value → Then
-matched place y text pattern k s = Goes (checked y place (text_of pattern) (Do (Match (text_of pattern) (text_of text)) ∷ k)) s
+matched place y text pattern k s =
+    Goes (checked y place (text_of pattern) (Do (Match (text_of pattern) (text_of text)) ∷ k)) s
 
 -- ---- all forms
 
@@ -102,7 +109,9 @@ step_value (p.concat x xs) part vs k s = Goes (value x ∷ At (Texts_of xs) [] �
 step_value (p.compare how x y) part vs k s = binary (value x) (value y) part (λ z u. answer (compared how z u)) vs k s
 step_value (p.matched place x y) part vs k s = binary (value x) (source y) part (matched place y) vs k s
 step_value (p.member x as_) part vs k s = Goes (value x ∷ At (Members_of as_) [] ∷ k) s
-step_value (p.group place xs as_) part vs k s = each_of (listed xs) part (λ vs. keyed place vs (λ key k s. Goes (At (Members_of as_) (v.Text key ∷ []) ∷ k) s)) vs k s
+step_value (p.group place xs as_) part vs k s =
+    each_of (listed xs) part (λ vs. keyed place vs (λ key k s. Goes (At (Members_of as_) (v.Text key ∷ []) ∷ k) s)) vs k
+    s
 step_value (p.and x xs) part vs k s = Goes (value x ∷ At (Ands_of xs) [] ∷ k) s
 step_value (p.or x xs) part vs k s = Goes (value x ∷ At (Ors_of xs) [] ∷ k) s
 step_value (p.choose x y z) part vs k s = unary (value x) part (λ u k s. if_true u (value y ∷ k) (value z ∷ k) s) vs k s

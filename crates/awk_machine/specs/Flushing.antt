@@ -7,7 +7,8 @@ use Rattle.awk_program.specs.Slots.{Text}
 use Rattle.box_world.specs.Events.{OutputFile, OutputCommand, Stream, find_stream}
 
 abbrev pub has_output : Text → List Stream → Bool
-has_output text streams = is_some (find_stream OutputFile text streams) || is_some (find_stream OutputCommand text streams)
+has_output text streams =
+    is_some (find_stream OutputFile text streams) || is_some (find_stream OutputCommand text streams)
 
 abbrev pub flushed : Bool → Value
 flushed b = v.Num (if b then pos 0 else negsuc 0)

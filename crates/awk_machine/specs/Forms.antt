@@ -1,5 +1,6 @@
 -- What forms of expressions share: parts one after the other, and then what is done with their values.
-use Rattle.std.specs.Prelude.{if◌then◌else◌, List, [], ◌∷◌, reverse, length, codes, Option, Some, None, slice_get, Result}
+use Rattle.std.specs.Prelude.{if◌then◌else◌, List, [], ◌∷◌, reverse, length, codes, Option, Some, None, slice_get}
+use Rattle.std.specs.Prelude.{Result}
 use Rattle.awk_text.specs.declared.place.Place.{Place}
 use Rattle.awk_text.specs.declared.value.Value.{Value}
 use Rattle.awk_text.specs.declared.value.Value.TheVariants as v
@@ -10,7 +11,8 @@ use Rattle.awk_program.specs.Slots.{Text}
 use Rattle.awk_program.specs.Program as p
 use Rattle.awk_program.specs.Program.{Expression, Expressions, Ere}
 use Rattle.awk_machine.specs.Operators.{limited}
-use Rattle.awk_machine.specs.Pieces.{Part, Value_of, Target_of, Pattern_of, Piece, At, Do, Check, Give, Next, Then, Goes, give, granted}
+use Rattle.awk_machine.specs.Pieces.{Part, Value_of, Target_of, Pattern_of, Piece, At, Do, Check, Give, Next, Then}
+use Rattle.awk_machine.specs.Pieces.{Goes, give, granted}
 use Rattle.awk_machine.specs.State.{State}
 use Rattle.awk_machine.specs.Variables.{own_text}
 

@@ -19,7 +19,8 @@ use Rattle.awk_program.specs.Slots.{Text}
 use Rattle.awk_program.specs.Program as p
 use Rattle.awk_program.specs.Program.{Expression, Pipes}
 use Rattle.awk_machine.specs.Forms.{value, spot}
-use Rattle.awk_machine.specs.Pieces.{Part, Pipes_of, Piece, At, Do, Give, Set, Target, Read, Fetch, Take, Count, Then, Goes, Asks, give, granted, fails}
+use Rattle.awk_machine.specs.Pieces.{Part, Pipes_of, Piece, At, Do, Give, Set, Target, Read, Fetch, Take, Count, Then}
+use Rattle.awk_machine.specs.Pieces.{Goes, Asks, give, granted, fails}
 use Rattle.awk_machine.specs.State.{State}
 use Rattle.awk_machine.specs.Streams.{want, unread, has_ended, left}
 use Rattle.awk_machine.specs.Targets.{target}
@@ -45,8 +46,8 @@ read_by place key need_more k s = Asks (want place (Reads key)) (λ r. read_on p
 read_by place key done k s = Goes (give (v.Num (pos 0)) k) s
 read_by place key too_long k s = fails TextTooLong place s
 
--- ---- the stream of a text: standard input, or one that is opened where it is not open. Nothing here tells whether it is:
--- `known` of Advances answers for one that stands open, and the world is not asked.
+-- ---- the stream of a text: standard input, or one that is opened where it is not open. Nothing here tells whether it
+-- is: `known` of Advances answers for one that stands open, and the world is not asked.
 
 abbrev pub input_mode : Class → Mode
 input_mode InputCommand = mode.RunIn
@@ -57,16 +58,20 @@ read_opened place key k (reply.Opened n) = Do (Read place key) ∷ k
 read_opened place key k other = give failure k
 
 abbrev pub fetch : Place → Class → Text → Then
-fetch place class text k s = Asks (want place (Opens (input_mode class) class text)) (λ r. read_opened place (Named class text) k r) s
+fetch place class text k s =
+    Asks (want place (Opens (input_mode class) class text)) (λ r. read_opened place (Named class text) k r) s
 
 abbrev pub fetch_file : Place → Text → List Piece → List Piece
-fetch_file place text k = if bytes_eq text (codes "-") then Do (Read place (Standard 0)) ∷ k else Do (Fetch place InputFile text) ∷ k
+fetch_file place text k =
+    if bytes_eq text (codes "-") then Do (Read place (Standard 0)) ∷ k else Do (Fetch place InputFile text) ∷ k
 
 -- ---- what is done with it
 
 -- a counter becomes its number plus 1
 abbrev pub count : Place → Text → Then
-count place name k s = granted place (number_of (own_value s name) >>= λ n. on.add n (pos 1)) (λ n k s. Goes k (with_own name (v.Num n) s)) k s
+count place name k s =
+    granted place (number_of (own_value s name) >>= λ n. on.add n (pos 1)) (λ n k s. Goes k (with_own name (v.Num n) s))
+    k s
 
 abbrev pub counting : Place → List Text → List Piece → List Piece
 counting place [] k = k
@@ -74,7 +79,8 @@ counting place (name ∷ names) k = Do (Count place name) ∷ counting place nam
 
 -- the record is set, and the counters grow; or the answer is what came in its place
 abbrev pub got : Place → Target → List Text → Value → Then
-got place to counters (v.Input text) k s = Goes (Do (Set to place (v.Input text)) ∷ counting place counters (Do (Give (v.Num (pos 1))) ∷ k)) s
+got place to counters (v.Input text) k s =
+    Goes (Do (Set to place (v.Input text)) ∷ counting place counters (Do (Give (v.Num (pos 1))) ∷ k)) s
 got place to counters other k s = Goes (give other k) s
 
 abbrev pub main_counters : List Text
@@ -91,7 +97,8 @@ getline place r part (record_ ∷ at ∷ vs) k s = got place (target r at) main_
 abbrev pub getline_file : Place → p.Reference → Expression → Part → List Value → Then
 getline_file place r x part [] k s = Goes (spot r ∷ At part [] ∷ k) s
 getline_file place r x part (at ∷ []) k s = Goes (value x ∷ At part (at ∷ []) ∷ k) s
-getline_file place r x part (name ∷ at ∷ []) k s = Goes (fetch_file place (text_of name) (At part (name ∷ at ∷ []) ∷ k)) s
+getline_file place r x part (name ∷ at ∷ []) k s =
+    Goes (fetch_file place (text_of name) (At part (name ∷ at ∷ []) ∷ k)) s
 getline_file place r x part (record_ ∷ name ∷ at ∷ vs) k s = got place (target r at) [] record_ k s
 
 -- a chain of `| getline`: the value so far is the command
@@ -99,5 +106,7 @@ abbrev pub pipe : Pipes → List Value → Then
 pipe xs [] k s = Goes k s
 pipe p.no_pipes (x ∷ vs) k s = Goes (give x k) s
 pipe (p.piped place r xs) (x ∷ []) k s = Goes (spot r ∷ At (Pipes_of (p.piped place r xs)) (x ∷ []) ∷ k) s
-pipe (p.piped place r xs) (at ∷ x ∷ []) k s = Goes (Do (Fetch place InputCommand (text_of x)) ∷ At (Pipes_of (p.piped place r xs)) (at ∷ x ∷ []) ∷ k) s
-pipe (p.piped place r xs) (record_ ∷ at ∷ x ∷ vs) k s = got place (target r at) (codes "NR" ∷ []) record_ (At (Pipes_of xs) [] ∷ k) s
+pipe (p.piped place r xs) (at ∷ x ∷ []) k s =
+    Goes (Do (Fetch place InputCommand (text_of x)) ∷ At (Pipes_of (p.piped place r xs)) (at ∷ x ∷ []) ∷ k) s
+pipe (p.piped place r xs) (record_ ∷ at ∷ x ∷ vs) k s =
+    got place (target r at) (codes "NR" ∷ []) record_ (At (Pipes_of xs) [] ∷ k) s

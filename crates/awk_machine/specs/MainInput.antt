@@ -1,6 +1,7 @@
 -- The main input: the operands in turn, or standard input (POSIX.1-2017 XCU awk, "OPERANDS", "STDIN" and
 -- "Input Files"). All requests are at 0:0.
-use Rattle.std.specs.Prelude.{ℕ, ◌+◌, ◌&&◌, ◌==◌, Bool, true, false, if◌then◌else◌, ℤ, pos, int_lt, List, [], ◌∷◌, ◌++◌, length, codes, Option, Some, None}
+use Rattle.std.specs.Prelude.{ℕ, ◌+◌, ◌&&◌, ◌==◌, Bool, true, false, if◌then◌else◌, ℤ, pos, int_lt, List, [], ◌∷◌, ◌++◌}
+use Rattle.std.specs.Prelude.{length, codes, Option, Some, None}
 use Rattle.std.specs.Fmt.{decimal}
 use Rattle.std.specs.List.{before_first, after_first, list_any}
 use Rattle.std.specs.Str.{bytes_eq}
@@ -19,7 +20,8 @@ use Rattle.box_world.specs.declared.ask.Reply.TheVariants as reply
 use Rattle.box_world.specs.Events.{OperandFile, Key, Standard, Named, Wish, Opens, Reads, Writes, Shuts, Assigns, Want}
 use Rattle.awk_lib.specs.Arrays.{element}
 use Rattle.awk_machine.specs.Getline.{first_record}
-use Rattle.awk_machine.specs.Pieces.{nowhere, Piece, Do, Set, Variable, Step, Take, Operand, Look, Begun, Report, Forget, Past, Then, Goes, Asks, give, granted, fails}
+use Rattle.awk_machine.specs.Pieces.{nowhere, Piece, Do, Set, Variable, Step, Take, Operand, Look, Begun, Report}
+use Rattle.awk_machine.specs.Pieces.{Forget, Past, Then, Goes, Asks, give, granted, fails}
 use Rattle.awk_machine.specs.State.{State, Given, Main, Shared}
 use Rattle.awk_machine.specs.Streams.{want, came, left, with_taken}
 use Rattle.awk_machine.specs.Variables.{own_value, with_own, array_at}
@@ -52,8 +54,10 @@ take_record k s = if s.main.ended then Goes (give (v.Num (pos 0)) k) s else take
 
 -- the stream is done with: a file is shut; standard input that no operand named was all there is
 abbrev pub past : Key → Then
-past (Standard n) k s = Goes k (with_main (record s.main { current = None; ended = if s.main.named then false else true }) s)
-past (Named class text) k s = Asks (want nowhere (Shuts (Named class text))) (λ r. k) (with_main (record s.main { current = None }) s)
+past (Standard n) k s =
+    Goes k (with_main (record s.main { current = None; ended = if s.main.named then false else true }) s)
+past (Named class text) k s =
+    Asks (want nowhere (Shuts (Named class text))) (λ r. k) (with_main (record s.main { current = None }) s)
 
 abbrev pub forget : Key → Then
 forget key k s = Goes k (with_taken key (length (came key s.course.events)) s)
@@ -61,7 +65,8 @@ forget key k s = Goes k (with_taken key (length (came key s.course.events)) s)
 -- a message to the standard error output; its reply changes nothing
 abbrev pub report : Text → Text → Then
 report what name k s =
-    Asks (want nowhere (Writes (Standard 2) (codes "awkbox: cannot " ++ what ++ codes " \"" ++ quoted name ++ codes "\"\n"))) (λ r. k)
+    Asks (want nowhere (Writes (Standard 2)
+    (codes "awkbox: cannot " ++ what ++ codes " \"" ++ quoted name ++ codes "\"\n"))) (λ r. k)
     (with_main (record s.main { failed = true }) s)
 
 -- ---- operands
@@ -74,7 +79,8 @@ operand_want g text wish = record { place = nowhere; given = list_any (bytes_eq 
 abbrev pub next_operand : ℤ → Then
 next_operand count k s =
     if int_lt (pos s.main.position) count then Goes (Do Step ∷ Do Look ∷ k) s
-    else (if s.main.named then Goes k (with_main (record s.main { ended = true }) s) else Goes k (with_main (record s.main { current = Some (Standard 0) }) s))
+    else (if s.main.named then Goes k (with_main (record s.main { ended = true }) s)
+    else Goes k (with_main (record s.main { current = Some (Standard 0) }) s))
 
 abbrev pub operand : Then
 operand k s = granted nowhere (number_of (own_value s (codes "ARGC"))) next_operand k s
@@ -94,7 +100,8 @@ abbrev pub is_assignment : Given → Text → Bool
 is_assignment g text = list_any is_equals text && g.can_assign (before_first is_equals text)
 
 abbrev pub file : Given → Text → Then
-file g text k s = if bytes_eq text (codes "-") then Goes (Do (Begun (Standard 0) text) ∷ k) s else Asks (operand_want g text (Opens mode.Read OperandFile text)) (λ r. begin_opened text k r) s
+file g text k s = if bytes_eq text (codes "-") then Goes (Do (Begun (Standard 0) text) ∷ k) s
+    else Asks (operand_want g text (Opens mode.Read OperandFile text)) (λ r. begin_opened text k r) s
 
 abbrev pub assignment : Given → Text → Text → Text → Then
 assignment g text name new k s = Asks (operand_want g text (Assigns name new)) (λ r. assigned name new k r) s
@@ -102,7 +109,8 @@ assignment g text name new k s = Asks (operand_want g text (Assigns name new)) (
 abbrev pub operand_of : Given → Text → Then
 operand_of g [] k s = Goes k s
 operand_of g (b ∷ bs) k s =
-    if is_assignment g (b ∷ bs) then assignment g (b ∷ bs) (before_first is_equals (b ∷ bs)) (after_first is_equals (b ∷ bs)) k s
+    if is_assignment g (b ∷ bs)
+    then assignment g (b ∷ bs) (before_first is_equals (b ∷ bs)) (after_first is_equals (b ∷ bs)) k s
     else file g (b ∷ bs) k (with_main (record s.main { named = true }) s)
 
 abbrev pub text_in : Option Value → Text
@@ -111,8 +119,10 @@ text_in (Some x) = text_of x
 
 abbrev pub look : Given → Then
 look g k s =
-    operand_of g (text_in (element (array_at s (Shared (codes "ARGV"))) (decimal s.main.position))) k (with_main (record s.main { position = s.main.position + 1 }) s)
+    operand_of g (text_in (element (array_at s (Shared (codes "ARGV"))) (decimal s.main.position))) k
+    (with_main (record s.main { position = s.main.position + 1 }) s)
 
 abbrev pub begun : Key → Text → Then
 begun key text k s =
-    Goes k (with_own (codes "FNR") (v.Num (pos 0)) (with_own (codes "FILENAME") (v.Input text) (with_main (record s.main { current = Some key }) s)))
+    Goes k (with_own (codes "FNR") (v.Num (pos 0))
+    (with_own (codes "FILENAME") (v.Input text) (with_main (record s.main { current = Some key }) s)))

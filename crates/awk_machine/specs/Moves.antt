@@ -16,7 +16,8 @@ use Rattle.awk_machine.specs.Getline.{pipe, read_by, first_record, fetch, count}
 use Rattle.awk_machine.specs.MainInput.{take_record, operand, look, begun, report, forget, past}
 use Rattle.awk_machine.specs.Operators.{of_truth}
 use Rattle.awk_machine.specs.Pieces as p
-use Rattle.awk_machine.specs.Pieces.{nowhere, Part, Task, Piece, At, Do, Next, Then, Goes, Steps, Asks, Seeks, Over, give}
+use Rattle.awk_machine.specs.Pieces.{nowhere, Part, Task, Piece, At, Do, Next, Then, Goes, Steps, Asks, Seeks, Over}
+use Rattle.awk_machine.specs.Pieces.{give}
 use Rattle.awk_machine.specs.Printing.{open_output, put}
 use Rattle.awk_machine.specs.Questions as q
 use Rattle.awk_machine.specs.Rules as phases
@@ -29,7 +30,8 @@ use Rattle.awk_machine.specs.Targets.{get, set, whole, rebuild, check}
 -- ---- the environment, name by name
 
 abbrev pub environ_by : Text → List Piece → Reply → List Piece
-environ_by name k (reply.Value text) = Do (p.Set (p.Element (global (codes "ENVIRON")) name nowhere) nowhere (v.Input text)) ∷ k
+environ_by name k (reply.Value text) =
+    Do (p.Set (p.Element (global (codes "ENVIRON")) name nowhere) nowhere (v.Input text)) ∷ k
 environ_by name k other = k
 
 abbrev pub environ : List Text → Then
@@ -65,7 +67,8 @@ do_task g (p.Check place source) k s = check place source k s
 do_task g (p.Match source text) k s = Seeks (q.Matches source text) (λ a. give (of_truth (q.yes a)) k) s
 do_task g (p.Locate source text) k s = locate source text k s
 do_task g (p.Located ms) k s = located ms k s
-do_task g (p.Substitute place to source new old all) k s = Seeks (q.Finds source old all) (λ a. Do (p.Replace place to new old (q.places a)) ∷ k) s
+do_task g (p.Substitute place to source new old all) k s =
+    Seeks (q.Finds source old all) (λ a. Do (p.Replace place to new old (q.places a)) ∷ k) s
 do_task g (p.Replace place to new old ms) k s = replace place to new old ms k s
 do_task g (p.Split at a by text) k s = Seeks (q.Divides by text) (λ parts. Do (p.Fill at a (q.texts parts)) ∷ k) s
 do_task g (p.Fill at a parts) k s = fill at a parts k s

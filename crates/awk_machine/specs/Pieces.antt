@@ -1,7 +1,8 @@
 -- What is still to be done, and what a move leads to.
 --
--- An example: how `1 + x` comes to its value, where x holds 2. What is still to be done is a list of pieces, the first one first; here
--- a piece is its part with the values that came to it, the newest first. Each line is one move behind the one above it.
+-- An example: how `1 + x` comes to its value, where x holds 2. What is still to be done is a list of pieces, the first
+-- one first; here a piece is its part with the values that came to it, the newest first. Each line is one move behind
+-- the one above it.
 --
 --   Value_of (1 + x) []
 --   Value_of (1) []        then  Terms_of (+ x) []           a chain begins with its first operand
@@ -46,7 +47,8 @@ pub record Loop : Type 0 where
 
 -- a part of the program
 pub data Part : Type 0 where
-  -- an expression's value; of what is read or set the subscript as one text, or the number of the field; the text of an ERE
+  -- an expression's value; of what is read or set the subscript as one text, or the number of the field; the text of an
+  -- ERE
   Value_of : Expression → Part
   Target_of : p.Reference → Part
   Pattern_of : Ere → Part

@@ -19,19 +19,25 @@ Fits es w reply = IsFitting (open_after (calls es) []) (ask_of w (open_streams e
 -- The machine comes from these pieces, this state and this course to those.
 pub data Reaches (g : Given) : List Piece → State → Course → List Piece → State → Course → Type 0 where
   here : {k : List Piece} {s : State} {c : Course} → Reaches g k s c k s c
-  goes : {k l m : List Piece} {s t u : State} {c d : Course} → advance g k (seen s c) ≡ Goes l t → Reaches g l (seen t c) c m u d → Reaches g k s c m u d
-  steps : {k l m : List Piece} {s t u : State} {c d : Course} → advance g k (seen s c) ≡ Steps l t → Reaches g l (seen t (with_step c)) (with_step c) m u d → Reaches g k s c m u d
+  goes : {k l m : List Piece} {s t u : State} {c d : Course} → advance g k (seen s c) ≡ Goes l t →
+      Reaches g l (seen t c) c m u d → Reaches g k s c m u d
+  steps : {k l m : List Piece} {s t u : State} {c d : Course} → advance g k (seen s c) ≡ Steps l t →
+      Reaches g l (seen t (with_step c)) (with_step c) m u d → Reaches g k s c m u d
   asks : {k m : List Piece} {s t u : State} {c d : Course} {w : Want} {then_ : Reply → List Piece} (reply : Reply) →
       advance g k (seen s c) ≡ Asks w then_ t → Fits c.events w reply →
       Reaches g (then_ reply) (seen t (with_event w reply c)) (with_event w reply c) m u d → Reaches g k s c m u d
-  seeks : {k m : List Piece} {s t u : State} {c d : Course} {q : Question} {then_ : Answer → List Piece} (answer : Answer) →
-      advance g k (seen s c) ≡ Seeks q then_ t → Right q answer → Reaches g (then_ answer) (seen t c) c m u d → Reaches g k s c m u d
+  seeks : {k m : List Piece} {s t u : State} {c d : Course} {q : Question} {then_ : Answer → List Piece}
+      (answer : Answer) →
+      advance g k (seen s c) ≡ Seeks q then_ t → Right q answer → Reaches g (then_ answer) (seen t c) c m u d →
+      Reaches g k s c m u d
 
 -- Where a run may end with this outcome: at the end; for want of memory, wherever something is left to do;
 -- or at a request whose denial could not be logged, which is no event.
 pub data Stands (g : Given) : List Piece → State → Course → Outcome → Option Want → Type 0 where
-  over : {k : List Piece} {s : State} {c : Course} {o : Outcome} → advance g k (seen s c) ≡ Over o → Stands g k s c o None
-  lacks : {p : Piece} {k : List Piece} {s : State} {c : Course} {place : Place} → Stands g (p ∷ k) s c (Faulted Memory place) None
+  over : {k : List Piece} {s : State} {c : Course} {o : Outcome} → advance g k (seen s c) ≡ Over o →
+      Stands g k s c o None
+  lacks : {p : Piece} {k : List Piece} {s : State} {c : Course} {place : Place} →
+      Stands g (p ∷ k) s c (Faulted Memory place) None
   unlogged : {k : List Piece} {s t : State} {c : Course} {w : Want} {then_ : Reply → List Piece} →
       advance g k (seen s c) ≡ Asks w then_ t → Stands g k s c (Faulted Log w.place) (Some w)
 

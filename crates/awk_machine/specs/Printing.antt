@@ -68,9 +68,13 @@ target_of (Some r) = r.target ∷ []
 abbrev pub output : Place → Option (Redirection Expression) → Value → Text → Then
 output place None name text k s = Goes (Do (Put place (Standard 1) text) ∷ k) s
 output place (Some r) name text k s =
-    Goes (Do (Open r.place (mode_of r.how) (class_of r.how) (text_of name)) ∷ Do (Put r.place (Named (class_of r.how) (text_of name)) text) ∷ k) s
+    Goes (Do (Open r.place (mode_of r.how) (class_of r.how) (text_of name))
+    ∷ Do (Put r.place (Named (class_of r.how) (text_of name)) text) ∷ k) s
 
 -- the items and the target are evaluated, and then the text is made of the items' values
-abbrev pub print_by : (State → List Value → Result Text Fault) → Place → List Expression → Option (Redirection Expression) → Part → List Value → Then
+abbrev pub print_by : (State → List Value → Result Text Fault) → Place → List Expression →
+    Option (Redirection Expression) → Part → List Value → Then
 print_by text place xs r part vs k s =
-    each_of (xs ++ target_of r) part (λ vs k s. granted place (text s (take (length xs) vs)) (output place r (first (drop (length xs) vs))) k s) vs k s
+    each_of (xs ++ target_of r) part
+    (λ vs k s. granted place (text s (take (length xs) vs)) (output place r (first (drop (length xs) vs))) k s) vs k
+    s

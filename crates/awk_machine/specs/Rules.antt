@@ -8,7 +8,8 @@ use Rattle.awk_program.specs.Program as p
 use Rattle.awk_program.specs.Program.{Expression, Statement, When, Rule, Program}
 use Rattle.awk_machine.specs.Forms.{value, unary, if_true}
 use Rattle.awk_machine.specs.Getline.{main_counters, counting}
-use Rattle.awk_machine.specs.Pieces.{nowhere, Part, Records, Choosing, Piece, At, Do, Set, Field, Step, Each, Take, Rules, Finish, Status, Then, Goes, ends}
+use Rattle.awk_machine.specs.Pieces.{nowhere, Part, Records, Choosing, Piece, At, Do, Set, Field, Step, Each, Take}
+use Rattle.awk_machine.specs.Pieces.{Rules, Finish, Status, Then, Goes, ends}
 use Rattle.awk_machine.specs.State.{State, Given, Phase, Beginning, Ruling, Ending}
 
 -- ---- BEGIN, the records, and END
@@ -34,7 +35,8 @@ enter g Ending k s = Goes (Do (Each (concatenated g.program.end)) ∷ Do Finish 
 abbrev pub read_records : Given → List Value → Then
 read_records g [] k s = Goes (Do Take ∷ At Records [] ∷ k) s
 read_records g (v.Input text ∷ vs) k s =
-    Goes (Do (Set (Field 0) nowhere (v.Input text)) ∷ counting nowhere main_counters (Do Step ∷ Do (Rules 0 g.program.rules) ∷ At Records [] ∷ k)) s
+    Goes (Do (Set (Field 0) nowhere (v.Input text))
+    ∷ counting nowhere main_counters (Do Step ∷ Do (Rules 0 g.program.rules) ∷ At Records [] ∷ k)) s
 read_records g (other ∷ vs) k s = Goes k s
 
 -- ---- rules
@@ -52,8 +54,10 @@ with_on n b s = record s { on = λ m. if m == n then b else s.on m }
 -- a range is on from a record where the first holds, to one where the last does
 abbrev pub range : ℕ → Rule → Expression → Expression → Part → List Value → Then
 range n x first last part vs k s =
-    if s.on n then unary (value last) part (λ v k s. Goes (action x k) (if truth v then with_on n false s else s)) vs k s
-    else unary (value first) part (λ v k s. if truth v then Goes (At (Choosing n x) [] ∷ k) (with_on n true s) else Goes k s) vs k s
+    if s.on n then unary (value last) part (λ v k s. Goes (action x k) (if truth v then with_on n false s else s)) vs k
+    s
+    else unary (value first) part
+    (λ v k s. if truth v then Goes (At (Choosing n x) [] ∷ k) (with_on n true s) else Goes k s) vs k s
 
 abbrev pub choose_by : When → ℕ → Rule → Part → List Value → Then
 choose_by p.always n x part vs k s = Goes (action x k) s

@@ -15,7 +15,8 @@ use Rattle.awk_program.specs.Program.{Expression, Statement, Statements}
 use Rattle.awk_machine.specs.Builtins.{formatted_by}
 use Rattle.awk_machine.specs.Forms.{value, unary, each_of, keyed, if_true}
 use Rattle.awk_lib.specs.Arrays.{keys, without}
-use Rattle.awk_machine.specs.Pieces.{Loop, Part, Test, Turn, Leave, Records, Doing, Piece, At, Do, Set, Variable, Step, Start, Each, Keys, Past, Enter, Finish, Then, Goes, granted, fails}
+use Rattle.awk_machine.specs.Pieces.{Loop, Part, Test, Turn, Leave, Records, Doing, Piece, At, Do, Set, Variable, Step}
+use Rattle.awk_machine.specs.Pieces.{Start, Each, Keys, Past, Enter, Finish, Then, Goes, granted, fails}
 use Rattle.awk_machine.specs.Printing.{print_by, printed}
 use Rattle.awk_machine.specs.State.{State, Phase, Ruling, Ending}
 use Rattle.awk_machine.specs.Variables.{array, with_array}
@@ -63,9 +64,11 @@ for y z u = record { test = y; body = u; step = z }
 -- the turns of a loop over the keys of an array
 abbrev pub turns : Place → p.Variable → Statement → List Text → Then
 turns place a x [] k s = Goes k s
-turns place a x (key ∷ rest) k s = Goes (Do (Set (Variable a) place (v.Text key)) ∷ Do (Start x) ∷ Do (Keys place a x rest) ∷ k) s
+turns place a x (key ∷ rest) k s =
+    Goes (Do (Set (Variable a) place (v.Text key)) ∷ Do (Start x) ∷ Do (Keys place a x rest) ∷ k) s
 
--- ---- jumps: what is left to be done after them. A jump leaves the statements that it stands in, up to its loop or its call
+-- ---- jumps: what is left to be done after them. A jump leaves the statements that it stands in, up to its loop or its
+-- call
 
 abbrev pub after_break : List Piece → List Piece
 after_break (Do (Each xs) ∷ k) = after_break k
@@ -126,14 +129,16 @@ abbrev pub exit : Place → Option Expression → Part → List Value → Then
 exit place None part vs k s = Goes (after_exit s.phase) (unwound s)
 exit place (Some x) part vs k s =
     unary (value x) part (λ v. granted place (number_of v) (λ n k s.
-    Goes (after_exit s.phase) (record (unwound s) { status = Some (unsigned_abs (int_rem_euclid n (pos 256))) }))) vs k s
+    Goes (after_exit s.phase) (record (unwound s) { status = Some (unsigned_abs (int_rem_euclid n (pos 256))) }))) vs k
+    s
 
 abbrev pub return : Option Expression → Part → List Value → Then
 return None part vs k s = Goes (to_leave k) s
 return (Some x) part vs k s = unary (value x) part (λ v k s. Goes (leave_with v (to_leave k)) s) vs k s
 
 abbrev pub delete : Place → p.Variable → List Expression → Part → List Value → Then
-delete place a xs part vs k s = each_of xs part (λ vs. keyed place vs (λ key k s. Goes k (with_array a (without (array s a) key) s))) vs k s
+delete place a xs part vs k s =
+    each_of xs part (λ vs. keyed place vs (λ key k s. Goes k (with_array a (without (array s a) key) s))) vs k s
 
 abbrev pub delete_all : p.Variable → Then
 delete_all a k s = Goes k (with_array a [] s)
@@ -151,7 +156,8 @@ do_statement (p.exit place x) part vs k s = exit place x part vs k s
 do_statement (p.return x) part vs k s = return x part vs k s
 do_statement (p.block xs) part vs k s = Goes (Do (Each (in_order xs)) ∷ k) s
 do_statement (p.if_then x y) part vs k s = unary (value x) part (λ v k s. if_true v (Do (Start y) ∷ k) k s) vs k s
-do_statement (p.if_else x y z) part vs k s = unary (value x) part (λ v k s. if_true v (Do (Start y) ∷ k) (Do (Start z) ∷ k) s) vs k s
+do_statement (p.if_else x y z) part vs k s =
+    unary (value x) part (λ v k s. if_true v (Do (Start y) ∷ k) (Do (Start z) ∷ k) s) vs k s
 do_statement (p.while_do x y) part vs k s = Goes (At (Test (while x y)) [] ∷ k) s
 do_statement (p.do_while y x) part vs k s = Goes (body (while x y) k) s
 do_statement (p.for_loop x y z u) part vs k s = then_test x (for y z u) part vs k s

@@ -1,12 +1,14 @@
 -- Streams, read off what was asked and answered; the newest event comes first
 -- (POSIX.1-2017 XCU awk, "Input/Output and General Functions").
-use Rattle.std.specs.Prelude.{ℕ, ◌+◌, ◌-◌, Bool, true, false, if◌then◌else◌, ◌&&◌, ◌==◌, List, [], ◌∷◌, ◌++◌, drop, length, is_some}
+use Rattle.std.specs.Prelude.{ℕ, ◌+◌, ◌-◌, Bool, true, false, if◌then◌else◌, ◌&&◌, ◌==◌, List, [], ◌∷◌, ◌++◌, drop}
+use Rattle.std.specs.Prelude.{length, is_some}
 use Rattle.std.specs.Str.{bytes_eq}
 use Rattle.awk_text.specs.declared.place.Place.{Place}
 use Rattle.awk_program.specs.Slots.{Text}
 use Rattle.box_world.specs.declared.ask.Reply.{Reply}
 use Rattle.box_world.specs.declared.ask.Reply.TheVariants.{Opened, Bytes, End}
-use Rattle.box_world.specs.Events.{Key, Standard, Named, class_number, Wish, Opens, Reads, Want, Event, find_stream, open_streams}
+use Rattle.box_world.specs.Events.{Key, Standard, Named, class_number, Wish, Opens, Reads, Want, Event, find_stream}
+use Rattle.box_world.specs.Events.{open_streams}
 use Rattle.awk_machine.specs.State.{State, Course}
 
 abbrev pub same_key : Key → Key → Bool

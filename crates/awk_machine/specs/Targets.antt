@@ -1,6 +1,7 @@
 -- How variables, elements and fields are read and set
 -- (POSIX.1-2017 XCU awk, "Expressions in awk", "Variables and Special Variables").
-use Rattle.std.specs.Prelude.{ℕ, zero, suc, nat_lt, Bool, true, false, if◌then◌else◌, ℤ, pos, List, [], ◌∷◌, length, codes, slice_index_or, Option, Some, None, Result, Ok, Err}
+use Rattle.std.specs.Prelude.{ℕ, zero, suc, nat_lt, Bool, true, false, if◌then◌else◌, ℤ, pos, List, [], ◌∷◌, length}
+use Rattle.std.specs.Prelude.{codes, slice_index_or, Option, Some, None, Result, Ok, Err}
 use Rattle.awk_text.specs.declared.place.Place.{Place}
 use Rattle.awk_text.specs.declared.value.Value.{Value}
 use Rattle.awk_text.specs.declared.value.Value.TheVariants as v
@@ -14,7 +15,8 @@ use Rattle.awk_program.specs.Slots.{Text}
 use Rattle.awk_program.specs.Program as p
 use Rattle.awk_lib.specs.Arrays.{element, put}
 use Rattle.awk_machine.specs.Operators.{of_count, limited}
-use Rattle.awk_machine.specs.Pieces.{Piece, Do, Target, Variable, Element, Field, Give, Set, Whole, Rebuild, Check, Then, Goes, Seeks, give, granted, ends, Faulted}
+use Rattle.awk_machine.specs.Pieces.{Piece, Do, Target, Variable, Element, Field, Give, Set, Whole, Rebuild, Check}
+use Rattle.awk_machine.specs.Pieces.{Then, Goes, Seeks, give, granted, ends, Faulted}
 use Rattle.awk_machine.specs.Questions.{Spells, Fields, yes, values}
 use Rattle.awk_machine.specs.Variables.{is_nf, own_text, variable, with_variable, array, with_array}
 
@@ -50,7 +52,8 @@ get_variable a k s =
 -- an element that is not there is made
 abbrev pub get_element : Option Value → p.Variable → Text → Place → Then
 get_element (Some x) a key place k s = Goes (give x k) s
-get_element None a key place k s = granted place (put (array s a) key v.Unset) (λ new k s. Goes (give v.Unset k) (with_array a new s)) k s
+get_element None a key place k s =
+    granted place (put (array s a) key v.Unset) (λ new k s. Goes (give v.Unset k) (with_array a new s)) k s
 
 abbrev pub get : Target → Then
 get (Variable a) k s = get_variable a k s
@@ -72,7 +75,8 @@ check_separator place by k = if nat_lt 1 (length by) then Do (Check place by) �
 -- the fields' texts with OFS between are the record's text
 abbrev pub rebuild : Place → List Value → Then
 rebuild place vs k s =
-    granted place (limited (joined (own_text s (codes "OFS")) vs)) (λ text k s. Goes k (record s { row = record { whole = text; fields = known vs } })) k s
+    granted place (limited (joined (own_text s (codes "OFS")) vs))
+    (λ text k s. Goes k (record s { row = record { whole = text; fields = known vs } })) k s
 
 -- to set `$0`, FS is looked at first
 abbrev pub set_field : ℕ → Place → Value → Then
@@ -81,7 +85,8 @@ set_field (suc n) place x k s = Seeks (Fields s.row) (λ a. Do (Rebuild place (w
 
 abbrev pub set_nf : Place → Value → Then
 set_nf place x k s =
-    granted place (number_of x >>= place_of) (λ n k s. Seeks (Fields s.row) (λ a. Do (Rebuild place (with_count (values a) n)) ∷ k) s) k s
+    granted place (number_of x >>= place_of)
+    (λ n k s. Seeks (Fields s.row) (λ a. Do (Rebuild place (with_count (values a) n)) ∷ k) s) k s
 
 abbrev pub set : Target → Place → Value → Then
 set (Variable a) place x k s = if is_nf a then set_nf place x k s else Goes k (with_variable a x s)
@@ -113,4 +118,11 @@ is_empty (b ∷ bs) = false
 abbrev pub whole : Place → Text → Then
 whole place text k s =
     granted place (limited text) (λ text k s.
-    Goes k (record s { row = record { whole = text; fields = unsplit (separator (own_text s (codes "FS")) (is_empty (own_text s (codes "RS")))) } })) k s
+    Goes k (record s {
+      row =
+          record {
+            whole = text;
+            fields =
+                unsplit (separator (own_text s (codes "FS")) (is_empty (own_text s (codes "RS"))));
+          };
+    })) k s

@@ -1,6 +1,7 @@
 -- What variables hold: those of the whole script go by their names, and parameters by their places
 -- (POSIX.1-2017 XCU awk, "User-Defined Functions", "Variables and Special Variables").
-use Rattle.std.specs.Prelude.{Bool, false, if◌then◌else◌, [], codes, slice_get, slice_index_or, slice_set, Option, Some, None, unwrap_or, option_map}
+use Rattle.std.specs.Prelude.{Bool, false, if◌then◌else◌, [], codes, slice_get, slice_index_or, slice_set, Option, Some}
+use Rattle.std.specs.Prelude.{None, unwrap_or, option_map}
 use Rattle.std.specs.Str.{bytes_eq}
 use Rattle.awk_text.specs.declared.value.Value.{Value}
 use Rattle.awk_text.specs.declared.value.Value.TheVariants as v

@@ -23,7 +23,8 @@ pub data Flawed (parts : List Part) : Flaw → Type 0 where
   word : (place : Place) → Misplaced parts place → Flawed parts (flaw.Word place)
   function : (place : Place) → ArePlaced parts → Misdefined parts place → Flawed parts (flaw.Function place)
   kind :
-      (place : Place) → ArePlaced parts → AreDefined parts → Clashes parts place → ((other : Place) → Clashes parts other → NotAfter place other) →
+      (place : Place) → ArePlaced parts → AreDefined parts → Clashes parts place →
+      ((other : Place) → Clashes parts other → NotAfter place other) →
       Flawed parts (flaw.Kind place)
 
 abbrev pub refusal : Flaw → SyntaxError

@@ -13,19 +13,23 @@ use Rattle.awk_parse.specs.SpellsScripts.{Simple, SpellsScript}
 
 -- what is read as an expression is spelled so
 abbrev pub ExpressionsAreSpelled : Type 0
-ExpressionsAreSpelled = (in_print : Bool) (ts : List Token) (x : Tree) → expression 200 (expr 200) in_print ts ≡ Ok (x, []) → Spells 0 (rule.expr in_print) ts x []
+ExpressionsAreSpelled = (in_print : Bool) (ts : List Token) (x : Tree) → expression 200 (expr 200) in_print ts
+    ≡ Ok (x, []) → Spells 0 (rule.expr in_print) ts x []
 
 -- and its canonical spelling is read as the same tree, places aside
 abbrev pub ExpressionsAreReadAgain : Type 0
-ExpressionsAreReadAgain = (in_print : Bool) (ts : List Token) (x : Tree) → expression 200 (expr 200) in_print ts ≡ Ok (x, []) → expression 200 (expr 200) in_print (canon x) ≡ Ok (bare x, [])
+ExpressionsAreReadAgain = (in_print : Bool) (ts : List Token) (x : Tree) → expression 200 (expr 200) in_print ts
+    ≡ Ok (x, []) → expression 200 (expr 200) in_print (canon x) ≡ Ok (bare x, [])
 
 -- what is read as a simple statement is spelled so
 abbrev pub SimpleStatementsAreSpelled : Type 0
-SimpleStatementsAreSpelled = (ts r : List Token) (s : Statement) → simple 200 (expr 200) ts ≡ Ok (s, r) → (used : List Token) × (ts ≡ used ++ r) × Simple 0 used s r
+SimpleStatementsAreSpelled = (ts r : List Token) (s : Statement) → simple 200 (expr 200) ts ≡ Ok (s, r) →
+    (used : List Token) × (ts ≡ used ++ r) × Simple 0 used s r
 
 -- and where the statement ends there, its canonical spelling is read as the same tree, places aside, up to the `;`
 abbrev pub SimpleStatementsAreReadAgain : Type 0
-SimpleStatementsAreReadAgain = (ts r : List Token) (s : Statement) → simple 200 (expr 200) ts ≡ Ok (s, r) → ahead r ≡ w.End → simple 200 (expr 200) (canon_statement s) ≡ Ok (bare_statement s, end)
+SimpleStatementsAreReadAgain = (ts r : List Token) (s : Statement) → simple 200 (expr 200) ts ≡ Ok (s, r) → ahead r
+    ≡ w.End → simple 200 (expr 200) (canon_statement s) ≡ Ok (bare_statement s, end)
 
 -- the tree of a script: some tokens are read as it
 abbrev pub IsScript : List Entry → Type 0
@@ -41,4 +45,5 @@ ScriptsAreSpelled = (ts : List Token) (items : List Entry) → script ts ≡ Ok 
 
 -- and its canonical spelling is read as the same tree, places aside
 abbrev pub ScriptsAreReadAgain : Type 0
-ScriptsAreReadAgain = (items : List Entry) → IsScript items → script (canon_script items) ≡ Ok (map bare_entry items, [])
+ScriptsAreReadAgain =
+    (items : List Entry) → IsScript items → script (canon_script items) ≡ Ok (map bare_entry items, [])

@@ -54,7 +54,8 @@ IsScript s = (tokens : List Token) × IsRead tokens s
 -- a token that cannot stand there, or a level too much; or else a flaw of the items
 pub data IsRefused (tokens : List Token) : SyntaxError → Type 0 where
   by_grammar : (fault : Fault) → grammar.script tokens ≡ Err fault → IsRefused tokens (places.refusal tokens fault)
-  by_flaw : (items : List Entry) (flaw : Flaw) → grammar.script tokens ≡ Ok (items, []) → Flawed (map part items) flaw → IsRefused tokens (flaws.refusal flaw)
+  by_flaw : (items : List Entry) (flaw : Flaw) → grammar.script tokens ≡ Ok (items, []) → Flawed (map part items) flaw →
+      IsRefused tokens (flaws.refusal flaw)
   by_memory : IsRefused tokens (record { code = 9; place = record { line = 0; column = 0 } })
 
 -- the same tree, places aside, or want of memory

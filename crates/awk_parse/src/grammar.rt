@@ -4,7 +4,9 @@
 //! specs/Spells.antt is the grammar of POSIX.1-2017 XCU awk ("Grammar"), a case for each form of each of its lines.
 //! The functions do nothing: each has a law as its contract.
 
-ghost use Rattle.awk_parse.specs.Laws.{ExpressionsAreSpelled, ExpressionsAreReadAgain, SimpleStatementsAreSpelled, SimpleStatementsAreReadAgain, ScriptsAreWhole, ScriptsAreSpelled, ScriptsAreReadAgain};
+ghost use Rattle.awk_parse.specs.Laws.{ExpressionsAreSpelled, ExpressionsAreReadAgain, SimpleStatementsAreSpelled};
+ghost use Rattle.awk_parse.specs.Laws.{SimpleStatementsAreReadAgain, ScriptsAreWhole, ScriptsAreSpelled};
+ghost use Rattle.awk_parse.specs.Laws.{ScriptsAreReadAgain};
 
 /// Each list of tokens that the rules read as an expression is an expression by the grammar, with
 /// at most 200 levels of nesting, and its tree is the one that they spell. The canonical spelling

@@ -1,4 +1,5 @@
-//! Awk scripts: tokens are parsed as a tree in which every name has one kind, and made into the program that it stands for.
+//! Awk scripts: tokens are parsed as a tree in which every name has one kind, and made into the program that it stands
+//! for.
 //!
 //! The grammar is that of POSIX.1-2017 XCU awk, "Grammar", in the whole-number profile of this
 //! project; what names are used as follows its "Variables and Special Variables" and "User-Defined

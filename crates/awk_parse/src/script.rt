@@ -102,7 +102,8 @@ impl Script {
     /// it is spelled as a name, is no word of the language, and no array and no function of the
     /// script. Takes no memory.
     pub fn can_assign(&self, name: &[u8]) -> bool
-        ensures { (items : List t.Entry) → IsScriptOf items self.now → (result ≡ true) ↔ CanAssign (map part items) name.now }
+        ensures { (items : List t.Entry) → IsScriptOf items self.now → (result ≡ true) ↔
+            CanAssign (map part items) name.now }
     {
         self.kinds.can_assign(name)
     }
@@ -122,7 +123,8 @@ impl Script {
         self.reads_main
     }
 
-    /// Lets the script go. That each part of it is dropped is proved here once: a crate that drops one itself proves it again.
+    /// Lets the script go. That each part of it is dropped is proved here once: a crate that drops one itself proves it
+    /// again.
     pub fn release(self) {}
 }
 

@@ -10,8 +10,10 @@ use Rattle.awk_program.specs.Builtins.{word_of}
 use Rattle.awk_program.specs.Jumps as jumps
 use Rattle.awk_program.specs.Slots.{Text}
 use Rattle.awk_program.specs.Program as p
-use Rattle.awk_program.specs.Program.{Variable, Expression, Reference, Ere, Expressions, Terms, Joins, Pipes, Arguments, Statement, Statements, expressions_of, statements_of}
-use Rattle.awk_printer.specs.Words.{word, form, placed, quoted, operator_text, change_text, step_text, sign_text, comparison_text, extent_text, redirect_text, flag, declared_name}
+use Rattle.awk_program.specs.Program.{Variable, Expression, Reference, Ere, Expressions, Terms, Joins, Pipes, Arguments}
+use Rattle.awk_program.specs.Program.{Statement, Statements, expressions_of, statements_of}
+use Rattle.awk_printer.specs.Words.{word, form, placed, quoted, operator_text, change_text, step_text, sign_text}
+use Rattle.awk_printer.specs.Words.{comparison_text, extent_text, redirect_text, flag, declared_name}
 
 -- ---- expressions
 
@@ -39,19 +41,23 @@ abbrev mutual
   expression_text (p.compare how x y) = form (comparison_text how) (expression_text x ∷ expression_text y ∷ [])
   expression_text (p.matched q x y) = form (codes "~") (placed q ∷ expression_text x ∷ ere_text y ∷ [])
   expression_text (p.member x vs) = form (codes "in") (expression_text x ∷ variables_text vs ∷ [])
-  expression_text (p.group q xs vs) = form (codes "in") (placed q ∷ form (codes "list") (expressions_text xs ∷ []) ∷ variables_text vs ∷ [])
+  expression_text (p.group q xs vs) =
+      form (codes "in") (placed q ∷ form (codes "list") (expressions_text xs ∷ []) ∷ variables_text vs ∷ [])
   expression_text (p.and x xs) = form (codes "&&") (expression_text x ∷ expressions_text xs ∷ [])
   expression_text (p.or x xs) = form (codes "||") (expression_text x ∷ expressions_text xs ∷ [])
   expression_text (p.choose x y z) = form (codes "?") (expression_text x ∷ expression_text y ∷ expression_text z ∷ [])
   expression_text (p.call q f xs) = form (codes "call") (placed q ∷ word (decimal f) ∷ arguments_text xs ∷ [])
   expression_text (p.getline q r) = form (codes "getline") (placed q ∷ reference_text r ∷ [])
-  expression_text (p.getline_file q r x) = form (codes "getline<") (placed q ∷ reference_text r ∷ expression_text x ∷ [])
+  expression_text (p.getline_file q r x) =
+      form (codes "getline<") (placed q ∷ reference_text r ∷ expression_text x ∷ [])
   expression_text (p.pipe x xs) = form (codes "|getline") (expression_text x ∷ pipes_text xs ∷ [])
   expression_text (p.builtin q which xs) = form (word_of which) (placed q ∷ expressions_text xs ∷ [])
   expression_text (p.count v) = form (codes "count") (variable_text v ∷ [])
   expression_text (p.locate q x y) = form (codes "match") (placed q ∷ expression_text x ∷ ere_text y ∷ [])
-  expression_text (p.split q x at v y) = form (codes "split") (placed q ∷ expression_text x ∷ placed at ∷ variable_text v ∷ ere_text y ∷ [])
-  expression_text (p.substitute q all x y r) = form (extent_text all) (placed q ∷ ere_text x ∷ expression_text y ∷ reference_text r ∷ [])
+  expression_text (p.split q x at v y) =
+      form (codes "split") (placed q ∷ expression_text x ∷ placed at ∷ variable_text v ∷ ere_text y ∷ [])
+  expression_text (p.substitute q all x y r) =
+      form (extent_text all) (placed q ∷ ere_text x ∷ expression_text y ∷ reference_text r ∷ [])
 
   pub reference_text : Reference → Text
   reference_text (p.variable v) = variable_text v
@@ -108,7 +114,8 @@ abbrev mutual
   pub statement_text : Statement → Text
   statement_text (p.plain x) = expression_text x
   statement_text (p.print q xs r) = form (codes "print") (placed q ∷ list_text xs ∷ redirection_text r ∷ [])
-  statement_text (p.printf q x xs r) = form (codes "printf") (placed q ∷ expression_text x ∷ list_text xs ∷ redirection_text r ∷ [])
+  statement_text (p.printf q x xs r) =
+      form (codes "printf") (placed q ∷ expression_text x ∷ list_text xs ∷ redirection_text r ∷ [])
   statement_text (p.delete q v xs) = form (codes "delete") (placed q ∷ variable_text v ∷ list_text xs ∷ [])
   statement_text (p.delete_all v) = form (codes "delete-all") (variable_text v ∷ [])
   statement_text (p.jump which) = form (jumps.word_of which) (perhaps_placed (jumps.place_of which))
@@ -119,8 +126,10 @@ abbrev mutual
   statement_text (p.if_else x s u) = form (codes "if") (expression_text x ∷ statement_text s ∷ statement_text u ∷ [])
   statement_text (p.while_do x s) = form (codes "while") (expression_text x ∷ statement_text s ∷ [])
   statement_text (p.do_while s x) = form (codes "do") (statement_text s ∷ expression_text x ∷ [])
-  statement_text (p.for_loop x y z s) = form (codes "for") (perhaps_text x ∷ perhaps_text y ∷ perhaps_text z ∷ statement_text s ∷ [])
-  statement_text (p.for_each q k a s) = form (codes "for-in") (placed q ∷ variable_text k ∷ variable_text a ∷ statement_text s ∷ [])
+  statement_text (p.for_loop x y z s) =
+      form (codes "for") (perhaps_text x ∷ perhaps_text y ∷ perhaps_text z ∷ statement_text s ∷ [])
+  statement_text (p.for_each q k a s) =
+      form (codes "for-in") (placed q ∷ variable_text k ∷ variable_text a ∷ statement_text s ∷ [])
 
   pub statements_text : Statements → Text
   statements_text p.no_more = []
@@ -136,7 +145,9 @@ abbrev pub variables_line : List Name → Text
 variables_line names = codes "variables" ++ (flat_map declared_name (drop 16 names) ++ codes "\n")
 
 abbrev pub function_line : ℕ → p.Function → Text
-function_line n f = codes "function" ++ (word (decimal n) ++ (word f.name ++ (form (codes "parameters") (flat_map flag f.parameters ∷ []) ++ action_text f.body)))
+function_line n f = codes "function"
+    ++ (word (decimal n) ++
+    (word f.name ++ (form (codes "parameters") (flat_map flag f.parameters ∷ []) ++ action_text f.body)))
 
 -- from this number on
 abbrev pub functions_text : ℕ → List p.Function → Text
@@ -158,4 +169,6 @@ abbrev pub rule_line : p.Rule → Text
 rule_line r = codes "rule" ++ (when_text r.when ++ action_text r.action)
 
 unfoldable pub program_text : p.Program → Text
-program_text x = variables_line x.variables ++ (functions_text 0 x.functions ++ (flat_map begin_line x.begin ++ (flat_map rule_line x.rules ++ flat_map end_line x.end)))
+program_text x = variables_line x.variables
+    ++ (functions_text 0 x.functions
+    ++ (flat_map begin_line x.begin ++ (flat_map rule_line x.rules ++ flat_map end_line x.end)))

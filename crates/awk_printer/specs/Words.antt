@@ -45,7 +45,8 @@ placed place = word (place_text place)
 -- `\` before the mark that the text stands between, and in a text before `\` too, where a newline is
 -- `\n`: an ERE is as a script spells it, which has `\/` for `/` and keeps every other escape
 abbrev pub escaped_octet : ℕ → ℕ → Text
-escaped_octet mark b = if b == mark || (b == 92 && mark == 34) then 92 ∷ b ∷ [] else if b == 10 then codes "\\n" else b ∷ []
+escaped_octet mark b =
+    if b == mark || (b == 92 && mark == 34) then 92 ∷ b ∷ [] else if b == 10 then codes "\\n" else b ∷ []
 
 abbrev pub escaped : ℕ → Text → Text
 escaped mark text = flat_map (escaped_octet mark) text

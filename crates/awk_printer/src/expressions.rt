@@ -3,12 +3,15 @@
 
 ghost use Rattle.std.specs.Prelude.{[], ◌∷◌, ◌++◌, codes, map, option_map};
 ghost use Rattle.awk_printer.specs.Pages.{Adds};
-ghost use Rattle.awk_printer.specs.Printed.{variable_text, expression_text, reference_text, ere_text, expressions_text, list_text, perhaps_text, terms_text, joins_text, pipes_text, arguments_text};
+ghost use Rattle.awk_printer.specs.Printed.{variable_text, expression_text, reference_text, ere_text, expressions_text};
+ghost use Rattle.awk_printer.specs.Printed.{list_text, perhaps_text, terms_text, joins_text, pipes_text};
+ghost use Rattle.awk_printer.specs.Printed.{arguments_text};
 ghost use Rattle.awk_printer.specs.Words as spec;
 ghost use Rattle.awk_printer.specs.Words.{names_in};
 ghost use Rattle.awk_program.specs.Program as p;
 ghost use Rattle.awk_program.specs.Program.{terms_of, joins_of, expressions_of};
-ghost use Rattle.awk_program.specs.View.{variable_of, view, view_target, view_ere, view_term, view_joined, view_pipes, view_arguments};
+ghost use Rattle.awk_program.specs.View.{variable_of, view, view_target, view_ere, view_term, view_joined, view_pipes};
+ghost use Rattle.awk_program.specs.View.{view_arguments};
 
 use crate::page::{Page, cut};
 use crate::pieces::{close, number, open, ordinal, place, quoted, text, variable, variables, word};
@@ -105,7 +108,9 @@ fn one(names: &[Name], head: &str, x: &Expr, level: u32, out: &mut Page)
 /// A form of two expressions.
 #[cycle(expression)]
 fn two(names: &[Name], head: &str, x: &Expr, y: &Expr, level: u32, out: &mut Page)
-    ensures { Adds out.old out.new (spec.form head.now (expression_text (view (names_in names.now) x.now) ∷ expression_text (view (names_in names.now) y.now) ∷ [])) }
+    ensures { Adds out.old out.new
+        (spec.form head.now (expression_text (view (names_in names.now) x.now)
+        ∷ expression_text (view (names_in names.now) y.now) ∷ [])) }
 {
     open(head, out);
     expression(names, x, level, out);
@@ -116,7 +121,10 @@ fn two(names: &[Name], head: &str, x: &Expr, y: &Expr, level: u32, out: &mut Pag
 /// `test ? then : else`
 #[cycle(expression)]
 fn choice(names: &[Name], x: &Expr, y: &Expr, z: &Expr, level: u32, out: &mut Page)
-    ensures { Adds out.old out.new (spec.form (codes "?") (expression_text (view (names_in names.now) x.now) ∷ expression_text (view (names_in names.now) y.now) ∷ expression_text (view (names_in names.now) z.now) ∷ [])) }
+    ensures { Adds out.old out.new
+        (spec.form (codes "?")
+        (expression_text (view (names_in names.now) x.now) ∷ expression_text (view (names_in names.now) y.now)
+        ∷ expression_text (view (names_in names.now) z.now) ∷ [])) }
 {
     open("?", out);
     expression(names, x, level, out);
@@ -128,7 +136,8 @@ fn choice(names: &[Name], x: &Expr, y: &Expr, z: &Expr, level: u32, out: &mut Pa
 /// A form of a place and an expression.
 #[cycle(expression)]
 pub fn at_one(names: &[Name], head: &str, q: Place, x: &Expr, level: u32, out: &mut Page)
-    ensures { Adds out.old out.new (spec.form head.now (spec.placed q ∷ expression_text (view (names_in names.now) x.now) ∷ [])) }
+    ensures { Adds out.old out.new
+        (spec.form head.now (spec.placed q ∷ expression_text (view (names_in names.now) x.now) ∷ [])) }
 {
     open(head, out);
     place(q, out);
@@ -139,7 +148,8 @@ pub fn at_one(names: &[Name], head: &str, q: Place, x: &Expr, level: u32, out: &
 /// A form of a place and a list.
 #[cycle(expression)]
 fn at_list(names: &[Name], head: &str, q: Place, xs: &[Expr], level: u32, out: &mut Page)
-    ensures { Adds out.old out.new (spec.form head.now (spec.placed q ∷ list_text (map (view (names_in names.now)) xs.now) ∷ [])) }
+    ensures { Adds out.old out.new
+        (spec.form head.now (spec.placed q ∷ list_text (map (view (names_in names.now)) xs.now) ∷ [])) }
 {
     open(head, out);
     place(q, out);
@@ -150,7 +160,8 @@ fn at_list(names: &[Name], head: &str, q: Place, xs: &[Expr], level: u32, out: &
 /// A form of a place and what is set.
 #[cycle(expression)]
 fn at_target(names: &[Name], head: &str, q: Place, r: &Target<Expr>, level: u32, out: &mut Page)
-    ensures { Adds out.old out.new (spec.form head.now (spec.placed q ∷ reference_text (view_target (names_in names.now) r.now) ∷ [])) }
+    ensures { Adds out.old out.new
+        (spec.form head.now (spec.placed q ∷ reference_text (view_target (names_in names.now) r.now) ∷ [])) }
 {
     open(head, out);
     place(q, out);
@@ -169,7 +180,9 @@ fn setting(
     level: u32,
     out: &mut Page,
 )
-    ensures { Adds out.old out.new (spec.form head.now (spec.placed q ∷ reference_text (view_target (names_in names.now) r.now) ∷ expression_text (view (names_in names.now) x.now) ∷ [])) }
+    ensures { Adds out.old out.new
+        (spec.form head.now (spec.placed q ∷ reference_text (view_target (names_in names.now) r.now)
+        ∷ expression_text (view (names_in names.now) x.now) ∷ [])) }
 {
     open(head, out);
     place(q, out);
@@ -189,7 +202,9 @@ fn at_match(
     level: u32,
     out: &mut Page,
 )
-    ensures { Adds out.old out.new (spec.form head.now (spec.placed q ∷ expression_text (view (names_in names.now) x.now) ∷ ere_text (view_ere (names_in names.now) y.now) ∷ [])) }
+    ensures { Adds out.old out.new
+        (spec.form head.now (spec.placed q ∷ expression_text (view (names_in names.now) x.now)
+        ∷ ere_text (view_ere (names_in names.now) y.now) ∷ [])) }
 {
     open(head, out);
     place(q, out);
@@ -201,7 +216,9 @@ fn at_match(
 /// A form of an expression and a list.
 #[cycle(expression)]
 fn many(names: &[Name], head: &str, x: &Expr, xs: &[Expr], level: u32, out: &mut Page)
-    ensures { Adds out.old out.new (spec.form head.now (expression_text (view (names_in names.now) x.now) ∷ list_text (map (view (names_in names.now)) xs.now) ∷ [])) }
+    ensures { Adds out.old out.new
+        (spec.form head.now (expression_text (view (names_in names.now) x.now)
+        ∷ list_text (map (view (names_in names.now)) xs.now) ∷ [])) }
 {
     open(head, out);
     expression(names, x, level, out);
@@ -211,7 +228,8 @@ fn many(names: &[Name], head: &str, x: &Expr, xs: &[Expr], level: u32, out: &mut
 
 #[cycle(expression)]
 fn member(names: &[Name], x: &Expr, vs: &[Variable], level: u32, out: &mut Page)
-    ensures { Adds out.old out.new (expression_text (p.member (view (names_in names.now) x.now) (map (variable_of (names_in names.now)) vs.now))) }
+    ensures { Adds out.old out.new
+        (expression_text (p.member (view (names_in names.now) x.now) (map (variable_of (names_in names.now)) vs.now))) }
 {
     open("in", out);
     expression(names, x, level, out);
@@ -221,7 +239,9 @@ fn member(names: &[Name], x: &Expr, vs: &[Variable], level: u32, out: &mut Page)
 
 #[cycle(expression)]
 fn group(names: &[Name], q: Place, xs: &[Expr], vs: &[Variable], level: u32, out: &mut Page)
-    ensures { Adds out.old out.new (expression_text (p.group q (expressions_of (map (view (names_in names.now)) xs.now)) (map (variable_of (names_in names.now)) vs.now))) }
+    ensures { Adds out.old out.new
+        (expression_text (p.group q (expressions_of (map (view (names_in names.now)) xs.now))
+        (map (variable_of (names_in names.now)) vs.now))) }
 {
     open("in", out);
     place(q, out);
@@ -243,7 +263,9 @@ fn split(
     level: u32,
     out: &mut Page,
 )
-    ensures { Adds out.old out.new (expression_text (p.split q (view (names_in names.now) x.now) at (variable_of (names_in names.now) v) (view_ere (names_in names.now) y.now))) }
+    ensures { Adds out.old out.new
+        (expression_text (p.split q (view (names_in names.now) x.now) at (variable_of (names_in names.now) v)
+        (view_ere (names_in names.now) y.now))) }
 {
     open("split", out);
     place(q, out);
@@ -265,7 +287,10 @@ fn substitute(
     level: u32,
     out: &mut Page,
 )
-    ensures { Adds out.old out.new (spec.form head.now (spec.placed q ∷ ere_text (view_ere (names_in names.now) x.now) ∷ expression_text (view (names_in names.now) y.now) ∷ reference_text (view_target (names_in names.now) r.now) ∷ [])) }
+    ensures { Adds out.old out.new
+        (spec.form head.now (spec.placed q ∷ ere_text (view_ere (names_in names.now) x.now)
+        ∷ expression_text (view (names_in names.now) y.now) ∷ reference_text (view_target (names_in names.now) r.now)
+        ∷ [])) }
 {
     open(head, out);
     place(q, out);
@@ -298,7 +323,9 @@ pub fn element(
     level: u32,
     out: &mut Page,
 )
-    ensures { Adds out.old out.new (spec.form head.now (spec.placed q ∷ variable_text (variable_of (names_in names.now) v) ∷ list_text (map (view (names_in names.now)) xs.now) ∷ [])) }
+    ensures { Adds out.old out.new
+        (spec.form head.now (spec.placed q ∷ variable_text (variable_of (names_in names.now) v)
+        ∷ list_text (map (view (names_in names.now)) xs.now) ∷ [])) }
 {
     open(head, out);
     place(q, out);
@@ -342,7 +369,9 @@ pub fn perhaps(names: &[Name], x: &Option<Expr>, level: u32, out: &mut Page)
 
 #[cycle(expression)]
 fn chain(names: &[Name], x: &Expr, xs: &[Term<Expr>], level: u32, out: &mut Page)
-    ensures { Adds out.old out.new (expression_text (p.chain (view (names_in names.now) x.now) (terms_of (map (view_term (names_in names.now)) xs.now)))) }
+    ensures { Adds out.old out.new
+        (expression_text (p.chain (view (names_in names.now) x.now)
+        (terms_of (map (view_term (names_in names.now)) xs.now)))) }
 {
     open("chain", out);
     expression(names, x, level, out);
@@ -361,7 +390,9 @@ fn terms(names: &[Name], xs: &[Term<Expr>], level: u32, out: &mut Page)
 
 #[cycle(expression)]
 fn term(names: &[Name], x: &Term<Expr>, level: u32, out: &mut Page)
-    ensures { Adds out.old out.new (spec.word (spec.operator_text x.now.operator) ++ (spec.placed x.now.place ++ expression_text (view (names_in names.now) x.now.operand))) }
+    ensures { Adds out.old out.new
+        (spec.word (spec.operator_text x.now.operator)
+        ++ (spec.placed x.now.place ++ expression_text (view (names_in names.now) x.now.operand))) }
 {
     word(operator_text(x.operator).as_bytes(), out);
     place(x.place, out);
@@ -370,7 +401,9 @@ fn term(names: &[Name], x: &Term<Expr>, level: u32, out: &mut Page)
 
 #[cycle(expression)]
 fn concat(names: &[Name], x: &Expr, xs: &[Joined<Expr>], level: u32, out: &mut Page)
-    ensures { Adds out.old out.new (expression_text (p.concat (view (names_in names.now) x.now) (joins_of (map (view_joined (names_in names.now)) xs.now)))) }
+    ensures { Adds out.old out.new
+        (expression_text (p.concat (view (names_in names.now) x.now)
+        (joins_of (map (view_joined (names_in names.now)) xs.now)))) }
 {
     open("concat", out);
     expression(names, x, level, out);
@@ -389,7 +422,8 @@ fn joins(names: &[Name], xs: &[Joined<Expr>], level: u32, out: &mut Page)
 
 #[cycle(expression)]
 fn join(names: &[Name], x: &Joined<Expr>, level: u32, out: &mut Page)
-    ensures { Adds out.old out.new (spec.placed x.now.place ++ expression_text (view (names_in names.now) x.now.operand)) }
+    ensures { Adds out.old out.new
+        (spec.placed x.now.place ++ expression_text (view (names_in names.now) x.now.operand)) }
 {
     place(x.place, out);
     expression(names, &x.operand, level, out)
@@ -397,7 +431,8 @@ fn join(names: &[Name], x: &Joined<Expr>, level: u32, out: &mut Page)
 
 #[cycle(expression)]
 fn pipe(names: &[Name], x: &Expr, xs: &[Piped<Expr>], level: u32, out: &mut Page)
-    ensures { Adds out.old out.new (expression_text (p.pipe (view (names_in names.now) x.now) (view_pipes (names_in names.now) xs.now))) }
+    ensures { Adds out.old out.new
+        (expression_text (p.pipe (view (names_in names.now) x.now) (view_pipes (names_in names.now) xs.now))) }
 {
     open("|getline", out);
     expression(names, x, level, out);
@@ -416,7 +451,8 @@ fn pipes(names: &[Name], xs: &[Piped<Expr>], level: u32, out: &mut Page)
 
 #[cycle(expression)]
 fn piped(names: &[Name], x: &Piped<Expr>, level: u32, out: &mut Page)
-    ensures { Adds out.old out.new (spec.placed x.now.place ++ reference_text (view_target (names_in names.now) x.now.target)) }
+    ensures { Adds out.old out.new
+        (spec.placed x.now.place ++ reference_text (view_target (names_in names.now) x.now.target)) }
 {
     place(x.place, out);
     target(names, &x.target, level, out)

@@ -92,7 +92,8 @@ fn begin(names: &[Name], xs: &[Statement], out: &mut Page)
 }
 
 fn begins(names: &[Name], bodies: &[Items<Statement>], out: &mut Page)
-    ensures { Adds out.old out.new (flat_map spec.begin_line (map (map (view_statement (names_in names.now))) bodies.now)) }
+    ensures { Adds out.old out.new
+        (flat_map spec.begin_line (map (map (view_statement (names_in names.now))) bodies.now)) }
 {
     for xs in bodies {
         begin(names, xs.as_slice(), out);
@@ -107,7 +108,8 @@ fn end(names: &[Name], xs: &[Statement], out: &mut Page)
 }
 
 fn ends(names: &[Name], bodies: &[Items<Statement>], out: &mut Page)
-    ensures { Adds out.old out.new (flat_map spec.end_line (map (map (view_statement (names_in names.now))) bodies.now)) }
+    ensures { Adds out.old out.new
+        (flat_map spec.end_line (map (map (view_statement (names_in names.now))) bodies.now)) }
 {
     for xs in bodies {
         end(names, xs.as_slice(), out);

@@ -2,7 +2,8 @@
 
 ghost use Rattle.std.specs.Prelude.{[], ◌∷◌, ◌++◌, codes, map, option_map};
 ghost use Rattle.awk_printer.specs.Pages.{Adds};
-ghost use Rattle.awk_printer.specs.Printed.{variable_text, expression_text, list_text, perhaps_text, redirection_text, statement_text, statements_text, action_text};
+ghost use Rattle.awk_printer.specs.Printed.{variable_text, expression_text, list_text, perhaps_text, redirection_text};
+ghost use Rattle.awk_printer.specs.Printed.{statement_text, statements_text, action_text};
 ghost use Rattle.awk_printer.specs.Words as spec;
 ghost use Rattle.awk_printer.specs.Words.{names_in};
 ghost use Rattle.awk_program.specs.Program as p;
@@ -55,7 +56,9 @@ fn redirection(names: &[Name], x: &Option<Redirection<Expr>>, out: &mut Page)
 }
 
 fn print(names: &[Name], q: Place, xs: &[Expr], target: &Option<Redirection<Expr>>, out: &mut Page)
-    ensures { Adds out.old out.new (statement_text (p.print q (map (view (names_in names.now)) xs.now) (option_map (view_redirection (names_in names.now)) target.now))) }
+    ensures { Adds out.old out.new
+        (statement_text (p.print q (map (view (names_in names.now)) xs.now)
+        (option_map (view_redirection (names_in names.now)) target.now))) }
 {
     open("print", out);
     place(q, out);
@@ -72,7 +75,9 @@ fn printf(
     target: &Option<Redirection<Expr>>,
     out: &mut Page,
 )
-    ensures { Adds out.old out.new (statement_text (p.printf q (view (names_in names.now) x.now) (map (view (names_in names.now)) xs.now) (option_map (view_redirection (names_in names.now)) target.now))) }
+    ensures { Adds out.old out.new
+        (statement_text (p.printf q (view (names_in names.now) x.now) (map (view (names_in names.now)) xs.now)
+        (option_map (view_redirection (names_in names.now)) target.now))) }
 {
     open("printf", out);
     place(q, out);
@@ -127,7 +132,11 @@ fn give(names: &[Name], x: &Option<Expr>, out: &mut Page)
 
 /// `first ; test ; step`
 fn header(names: &[Name], x: &Option<Expr>, y: &Option<Expr>, z: &Option<Expr>, out: &mut Page)
-    ensures { Adds out.old out.new (spec.opening (codes "for") ++ (perhaps_text (option_map (view (names_in names.now)) x.now) ++ (perhaps_text (option_map (view (names_in names.now)) y.now) ++ perhaps_text (option_map (view (names_in names.now)) z.now)))) }
+    ensures { Adds out.old out.new
+        (spec.opening (codes "for")
+        ++ (perhaps_text (option_map (view (names_in names.now)) x.now)
+        ++ (perhaps_text (option_map (view (names_in names.now)) y.now)
+        ++ perhaps_text (option_map (view (names_in names.now)) z.now)))) }
 {
     open("for", out);
     optional(names, x, out);
@@ -137,7 +146,10 @@ fn header(names: &[Name], x: &Option<Expr>, y: &Option<Expr>, z: &Option<Expr>, 
 
 /// `key in array`
 fn each_header(names: &[Name], q: Place, key: Variable, array: Variable, out: &mut Page)
-    ensures { Adds out.old out.new (spec.opening (codes "for-in") ++ (spec.placed q ++ (variable_text (variable_of (names_in names.now) key) ++ variable_text (variable_of (names_in names.now) array)))) }
+    ensures { Adds out.old out.new
+        (spec.opening (codes "for-in")
+        ++ (spec.placed q ++ (variable_text (variable_of (names_in names.now) key)
+        ++ variable_text (variable_of (names_in names.now) array)))) }
 {
     open("for-in", out);
     place(q, out);
@@ -181,7 +193,8 @@ fn statement(names: &[Name], s: &Statement, level: u32, out: &mut Page)
 
 #[cycle(statement)]
 fn block(names: &[Name], xs: &[Statement], level: u32, out: &mut Page)
-    ensures { Adds out.old out.new (statement_text (p.block (statements_of (map (view_statement (names_in names.now)) xs.now)))) }
+    ensures { Adds out.old out.new
+        (statement_text (p.block (statements_of (map (view_statement (names_in names.now)) xs.now)))) }
 {
     open("block", out);
     statements(names, xs, level, out);
@@ -191,7 +204,9 @@ fn block(names: &[Name], xs: &[Statement], level: u32, out: &mut Page)
 /// A test and a statement.
 #[cycle(statement)]
 fn test(names: &[Name], head: &str, x: &Expr, body: &Statement, level: u32, out: &mut Page)
-    ensures { Adds out.old out.new (spec.form head.now (expression_text (view (names_in names.now) x.now) ∷ statement_text (view_statement (names_in names.now) body.now) ∷ [])) }
+    ensures { Adds out.old out.new
+        (spec.form head.now (expression_text (view (names_in names.now) x.now)
+        ∷ statement_text (view_statement (names_in names.now) body.now) ∷ [])) }
 {
     open(head, out);
     whole(names, x, out);
@@ -208,7 +223,9 @@ fn if_else(
     level: u32,
     out: &mut Page,
 )
-    ensures { Adds out.old out.new (statement_text (p.if_else (view (names_in names.now) x.now) (view_statement (names_in names.now) body.now) (view_statement (names_in names.now) other.now))) }
+    ensures { Adds out.old out.new
+        (statement_text (p.if_else (view (names_in names.now) x.now) (view_statement (names_in names.now) body.now)
+        (view_statement (names_in names.now) other.now))) }
 {
     open("if", out);
     whole(names, x, out);
@@ -219,7 +236,8 @@ fn if_else(
 
 #[cycle(statement)]
 fn do_while(names: &[Name], body: &Statement, x: &Expr, level: u32, out: &mut Page)
-    ensures { Adds out.old out.new (statement_text (p.do_while (view_statement (names_in names.now) body.now) (view (names_in names.now) x.now))) }
+    ensures { Adds out.old out.new
+        (statement_text (p.do_while (view_statement (names_in names.now) body.now) (view (names_in names.now) x.now))) }
 {
     open("do", out);
     statement(names, body, level, out);
@@ -237,7 +255,10 @@ fn for_loop(
     level: u32,
     out: &mut Page,
 )
-    ensures { Adds out.old out.new (statement_text (p.for_loop (option_map (view (names_in names.now)) x.now) (option_map (view (names_in names.now)) y.now) (option_map (view (names_in names.now)) z.now) (view_statement (names_in names.now) body.now))) }
+    ensures { Adds out.old out.new
+        (statement_text (p.for_loop (option_map (view (names_in names.now)) x.now)
+        (option_map (view (names_in names.now)) y.now) (option_map (view (names_in names.now)) z.now)
+        (view_statement (names_in names.now) body.now))) }
 {
     header(names, x, y, z, out);
     statement(names, body, level, out);
@@ -254,7 +275,9 @@ fn for_each(
     level: u32,
     out: &mut Page,
 )
-    ensures { Adds out.old out.new (statement_text (p.for_each q (variable_of (names_in names.now) key) (variable_of (names_in names.now) array) (view_statement (names_in names.now) body.now))) }
+    ensures { Adds out.old out.new
+        (statement_text (p.for_each q (variable_of (names_in names.now) key) (variable_of (names_in names.now) array)
+        (view_statement (names_in names.now) body.now))) }
 {
     each_header(names, q, key, array, out);
     statement(names, body, level, out);
@@ -263,7 +286,8 @@ fn for_each(
 
 #[cycle(statement)]
 fn statements(names: &[Name], xs: &[Statement], level: u32, out: &mut Page)
-    ensures { Adds out.old out.new (statements_text (statements_of (map (view_statement (names_in names.now)) xs.now))) }
+    ensures { Adds out.old out.new
+        (statements_text (statements_of (map (view_statement (names_in names.now)) xs.now))) }
 {
     for s in xs {
         statement(names, s, level, out);

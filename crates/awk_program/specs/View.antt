@@ -25,7 +25,8 @@ use Rattle.awk_program.specs.declared.program.Function as code_function
 use Rattle.awk_program.specs.declared.program.Program as code_program
 use Rattle.awk_program.specs.Slots.{Text}
 use Rattle.awk_program.specs.Program as p
-use Rattle.awk_program.specs.Program.{Expression, Reference, Ere, Pipes, Arguments, Statement, When, Rule, Function, Program, expressions_of, terms_of, joins_of, statements_of}
+use Rattle.awk_program.specs.Program.{Expression, Reference, Ere, Pipes, Arguments, Statement, When, Rule, Function}
+use Rattle.awk_program.specs.Program.{Program, expressions_of, terms_of, joins_of, statements_of}
 
 -- the names of the variables, by their slots
 abbrev pub Names : Type 0
@@ -124,7 +125,8 @@ view_redirection t x = record { how = x.how; place = x.place; target = view t x.
 abbrev pub statement_step : Names → Statement-F Statement → Statement
 statement_step t (Statement-F.Expr x) = p.plain (view t x)
 statement_step t (Statement-F.Print place xs r) = p.print place (map (view t) xs) (option_map (view_redirection t) r)
-statement_step t (Statement-F.Printf place x xs r) = p.printf place (view t x) (map (view t) xs) (option_map (view_redirection t) r)
+statement_step t (Statement-F.Printf place x xs r) =
+    p.printf place (view t x) (map (view t) xs) (option_map (view_redirection t) r)
 statement_step t (Statement-F.Delete place v xs) = p.delete place (variable_of t v) (map (view t) xs)
 statement_step t (Statement-F.DeleteAll v) = p.delete_all (variable_of t v)
 statement_step t (Statement-F.Jump which) = p.jump which
@@ -135,7 +137,8 @@ statement_step t (Statement-F.If x y) = p.if_then (view t x) y
 statement_step t (Statement-F.IfElse x y z) = p.if_else (view t x) y z
 statement_step t (Statement-F.While x y) = p.while_do (view t x) y
 statement_step t (Statement-F.Do y x) = p.do_while y (view t x)
-statement_step t (Statement-F.For x y z u) = p.for_loop (option_map (view t) x) (option_map (view t) y) (option_map (view t) z) u
+statement_step t (Statement-F.For x y z u) =
+    p.for_loop (option_map (view t) x) (option_map (view t) y) (option_map (view t) z) u
 statement_step t (Statement-F.ForIn place k a y) = p.for_each place (variable_of t k) (variable_of t a) y
 
 unfoldable pub view_statement : Names → code_statement.Statement → Statement

@@ -10,7 +10,9 @@ use Rattle.awk_resolve.specs.declared.kinds.Kinds.{Kinds}
 
 -- A name that is no word of the language, and no array and no function of the script.
 abbrev pub CanAssign : List Part → Text → Type 0
-CanAssign parts x = (is_name x ≡ true) × (reserved x ≡ None) × (Forced parts (global x) k.array → ⊥) × (Forced parts (global x) k.function → ⊥)
+CanAssign parts x = (is_name x ≡ true) × (reserved x ≡ None) × (Forced parts (global x) k.array → ⊥)
+    × (Forced parts (global x) k.function → ⊥)
 
 abbrev pub can_assign : Kinds → Text → Bool
-can_assign c x = is_name x && (is_none (reserved x) && (not (has c (global x) k.array) && not (has c (global x) k.function)))
+can_assign c x =
+    is_name x && (is_none (reserved x) && (not (has c (global x) k.array) && not (has c (global x) k.function)))

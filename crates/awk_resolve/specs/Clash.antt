@@ -1,5 +1,6 @@
 -- How the first place of a clash is found: the least of all places where one stands.
-use Rattle.std.specs.Prelude.{ℕ, ◌+◌, Bool, true, false, ◌&&◌, ◌||◌, if◌then◌else◌, nat_lt, nat_le, ◌==◌, List, [], ◌∷◌, slice_get, Option, Some, None, is_none}
+use Rattle.std.specs.Prelude.{ℕ, ◌+◌, Bool, true, false, ◌&&◌, ◌||◌, if◌then◌else◌, nat_lt, nat_le, ◌==◌, List, [], ◌∷◌}
+use Rattle.std.specs.Prelude.{slice_get, Option, Some, None, is_none}
 use Rattle.awk_text.specs.declared.place.Place.{Place}
 use Rattle.awk_tree.specs.Tree.{Text}
 use Rattle.awk_tree.specs.declared.names.Name.{Name}
@@ -32,7 +33,8 @@ abbrev pub two_of : Bool → Bool → Bool → Bool
 two_of function scalar array = if function then scalar || array else scalar && array
 
 abbrev pub has_two : Kinds → Role → Text → Bool
-has_two c r x = two_of (is_function c.numbers x) (is_marked c.scalars (number_in c.numbers r x)) (is_marked c.arrays (number_in c.numbers r x))
+has_two c r x = two_of (is_function c.numbers x) (is_marked c.scalars (number_in c.numbers r x))
+    (is_marked c.arrays (number_in c.numbers r x))
 
 abbrev pub where_true : Bool → Place → Step
 where_true true place least = earlier least place

@@ -13,7 +13,8 @@ use Rattle.awk_tree.specs.Canon.{bare_entry}
 -- no expression is given for an array
 abbrev pub GivesArrays : List Part → Type 0
 GivesArrays parts =
-    (r : Role) (f : Name) (args : List (Option Name)) (i : ℕ) (q : Name) → Calls parts r f args → slice_get args i ≡ Some None → Takes parts f.text i q →
+    (r : Role) (f : Name) (args : List (Option Name)) (i : ℕ) (q : Name) → Calls parts r f args → slice_get args i
+    ≡ Some None → Takes parts f.text i q →
     Forced parts (parameter f.text q.text) array → ⊥
 
 pub record Faultless (parts : List Part) : Type 0 where

@@ -34,4 +34,5 @@ Marks seeds links marks = (n : ℕ) → (slice_get marks n ≡ Some true) ↔ Re
 
 -- The marks of the arrays: from each of them along the links, and back to those numbers whose length is asked.
 abbrev pub AreArrays : List Use → List (List ℕ) → List Bool → Type 0
-AreArrays us links marks = (measured : List Bool) × Marks (u.measures us) links measured × Marks (u.arrays us) (u.with_back_links measured us links) marks
+AreArrays us links marks = (measured : List Bool) × Marks (u.measures us) links measured
+    × Marks (u.arrays us) (u.with_back_links measured us links) marks

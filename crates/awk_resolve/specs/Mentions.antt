@@ -6,13 +6,15 @@ use Rattle.awk_tree.specs.declared.names.Name.{Name}
 use Rattle.awk_tree.specs.declared.names.Member.{Member}
 use Rattle.awk_tree.specs.declared.statements.Redirection.{Redirection}
 use Rattle.awk_tree.specs.Tree as t
-use Rattle.awk_tree.specs.Tree.{Tree, Trees, Perhaps, Terms, Pipes, Statement, Statements, Condition, Entry, trees_of, perhaps_of, statements_of}
+use Rattle.awk_tree.specs.Tree.{Tree, Trees, Perhaps, Terms, Pipes, Statement, Statements, Condition, Entry, trees_of}
+use Rattle.awk_tree.specs.Tree.{perhaps_of, statements_of}
 use Rattle.awk_tokens.specs.declared.words.Builtin.{Builtin}
 use Rattle.awk_tokens.specs.declared.words.Builtin.TheVariants as b
 use Rattle.awk_tokens.specs.declared.words.Jump.{Jump}
 use Rattle.awk_tokens.specs.declared.words.Jump.TheVariants as j
 use Rattle.awk_resolve.specs.declared.mention.Mention.{Mention}
-use Rattle.awk_resolve.specs.declared.mention.Mention.TheVariants.{Scalar, Array, Measured, Call, MainInput, Next, Return, Stray}
+use Rattle.awk_resolve.specs.declared.mention.Mention.TheVariants.{Scalar, Array, Measured, Call, MainInput, Next}
+use Rattle.awk_resolve.specs.declared.mention.Mention.TheVariants.{Return, Stray}
 use Rattle.awk_resolve.specs.declared.mention.Role.TheVariants as role
 use Rattle.awk_resolve.specs.declared.mention.Part.{Part}
 

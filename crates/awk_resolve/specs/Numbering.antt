@@ -66,7 +66,12 @@ with_function role.Begin t = t
 with_function role.End t = t
 with_function role.Rule t = t
 with_function (role.Function f ps) t =
-    record { functions = with_text f.text (scope t.count no_parameters ps) t.functions; globals = t.globals; count = t.count + length ps }
+    record {
+      functions = with_text f.text (scope t.count no_parameters ps) t.functions;
+      globals = t.globals;
+      count =
+          t.count + length ps;
+    }
 
 abbrev pub with_functions : List Part → Numbers → Numbers
 with_functions [] t = t

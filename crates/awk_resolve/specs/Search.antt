@@ -1,5 +1,6 @@
 -- How faults are looked for: the first that is found, one part after the other.
-use Rattle.std.specs.Prelude.{ℕ, Bool, true, false, if◌then◌else◌, nat_lt, ◌||◌, is_some, List, [], ◌∷◌, ◌++◌, length, Option, Some, None}
+use Rattle.std.specs.Prelude.{ℕ, Bool, true, false, if◌then◌else◌, nat_lt, ◌||◌, is_some, List, [], ◌∷◌, ◌++◌, length}
+use Rattle.std.specs.Prelude.{Option, Some, None}
 use Rattle.std.specs.Option.{option_or}
 use Rattle.std.specs.Map.{lookup}
 use Rattle.std.specs.Str.{bytes_eq}
@@ -92,11 +93,13 @@ abbrev pub Seen : Type 0
 Seen = List (Text × Place)
 
 abbrev pub is_misnamed : Counts → Seen → Name → Bool
-is_misnamed known seen q = is_some (lookup (bytes_eq q.text) seen) || (is_some (lookup (bytes_eq q.text) known) || is_among (scalars ++ arrays) q.text)
+is_misnamed known seen q = is_some (lookup (bytes_eq q.text) seen)
+    || (is_some (lookup (bytes_eq q.text) known) || is_among (scalars ++ arrays) q.text)
 
 abbrev pub misnamed_in : Counts → Seen → List Name → Option Place
 misnamed_in known seen [] = None
-misnamed_in known seen (q ∷ qs) = if is_misnamed known seen q then Some q.place else misnamed_in known (with_text q.text q.place seen) qs
+misnamed_in known seen (q ∷ qs) =
+    if is_misnamed known seen q then Some q.place else misnamed_in known (with_text q.text q.place seen) qs
 
 abbrev pub misnamed_role : Counts → Role → Option Place
 misnamed_role known role.Begin = None

@@ -1,5 +1,6 @@
 -- What the items of a script make of the numbers of its names.
-use Rattle.std.specs.Prelude.{ℕ, zero, suc, ◌+◌, Bool, true, false, if◌then◌else◌, List, [], ◌∷◌, ◌++◌, slice_get, Option, Some, None, is_some}
+use Rattle.std.specs.Prelude.{ℕ, zero, suc, ◌+◌, Bool, true, false, if◌then◌else◌, List, [], ◌∷◌, ◌++◌, slice_get}
+use Rattle.std.specs.Prelude.{Option, Some, None, is_some}
 use Rattle.std.specs.Map.{lookup}
 use Rattle.std.specs.Str.{bytes_eq}
 use Rattle.awk_tree.specs.Tree.{Text}
@@ -140,4 +141,5 @@ with_back_links measured [] table = table
 with_back_links measured (Scalar n ∷ us) table = with_back_links measured us table
 with_back_links measured (Array n ∷ us) table = with_back_links measured us table
 with_back_links measured (Measured n ∷ us) table = with_back_links measured us table
-with_back_links measured (Handed p n ∷ us) table = with_back_links measured us (back_link (slice_get measured p) p n table)
+with_back_links measured (Handed p n ∷ us) table =
+    with_back_links measured us (back_link (slice_get measured p) p n table)

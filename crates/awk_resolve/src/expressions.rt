@@ -107,7 +107,8 @@ fn measured(which: Builtin, args: &[Expr]) -> Option<&Name>
 
 /// Notes a call of a function of the script, with the arguments that are names by themselves.
 fn call(alloc: Global, name: &Name, args: &[Expr], out: &mut Items<Mention>) -> Result<(), Memory>
-    ensures { OnOk result (out.new ≡ out.old ++ mention.Call name.now (spec.bares (trees_of (map view args.now))) ∷ []) }
+    ensures { OnOk result
+        (out.new ≡ out.old ++ mention.Call name.now (spec.bares (trees_of (map view args.now))) ∷ []) }
 {
     let name = copy_name(alloc, name)?;
     let names = bares(alloc, args)?;
@@ -225,7 +226,9 @@ fn builtin(
     args: &[Expr],
     out: &mut Items<Mention>,
 ) -> Result<(), Memory>
-    ensures { OnOk result (out.new ≡ out.old ++ spec.built (spec.measured which (trees_of (map view args.now))) (spec.each (trees_of (map view args.now)))) }
+    ensures { OnOk result
+        (out.new ≡ out.old ++ spec.built (spec.measured which (trees_of (map view args.now)))
+        (spec.each (trees_of (map view args.now)))) }
 {
     match measured(which, args) {
         Some(name) => length(alloc, name, out),
@@ -248,7 +251,8 @@ fn first_and_each(
     xs: &[Expr],
     out: &mut Items<Mention>,
 ) -> Result<(), Memory>
-    ensures { OnOk result (out.new ≡ out.old ++ (spec.mentions (view x.now) ++ spec.each (trees_of (map view xs.now)))) }
+    ensures { OnOk result
+        (out.new ≡ out.old ++ (spec.mentions (view x.now) ++ spec.each (trees_of (map view xs.now)))) }
 {
     expression(alloc, x, out)?;
     each(alloc, xs, out)

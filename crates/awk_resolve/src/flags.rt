@@ -33,7 +33,8 @@ fn parameter_flags(
     function: &[u8],
     params: &[Name],
 ) -> Result<Items<bool>, Memory>
-    ensures { IfOk result (λ are. are ≡ map (λ q. spec.arrays_by kinds.now (parameter function.now q.text)) params.now) }
+    ensures { IfOk result
+        (λ are. are ≡ map (λ q. spec.arrays_by kinds.now (parameter function.now q.text)) params.now) }
 {
     let mut are = Items::new(alloc);
     for param in params {

@@ -84,7 +84,8 @@ impl Kinds {
         ensures none { IfOk result (λ found. OnOk found ((place : places.Place) → Clashes parts.now place → ⊥)) }
         ensures gives { IfOk result (λ found. OnOk found (GivesArrays parts.now)) }
         ensures clash { IfOk result (λ found. IfErr found (λ place. Clashes parts.now place)) }
-        ensures first { IfOk result (λ found. IfErr found (λ place. (other : places.Place) → Clashes parts.now other → NotAfter place other)) }
+        ensures first { IfOk result
+            (λ found. IfErr found (λ place. (other : places.Place) → Clashes parts.now other → NotAfter place other)) }
     {
         let kinds = Kinds::marked(alloc, parts)?;
         match first_clash(&kinds, parts) {

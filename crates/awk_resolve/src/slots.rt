@@ -120,7 +120,8 @@ fn parameters(alloc: Global, role: &Role) -> Result<Roll, Memory>
 }
 
 fn add_part(alloc: Global, part: &Part, out: &mut Roll) -> Result<(), Memory>
-    ensures { OnOk result (out.new ≡ spec.behind out.old (spec.outside (spec.own_of part.now.role) (spec.all_used part.now.mentions))) }
+    ensures { OnOk result
+        (out.new ≡ spec.behind out.old (spec.outside (spec.own_of part.now.role) (spec.all_used part.now.mentions))) }
 {
     let parameters = parameters(alloc, &part.role)?;
     add_mentions(alloc, &parameters, part.mentions.as_slice(), out)

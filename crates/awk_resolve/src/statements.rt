@@ -21,7 +21,9 @@ fn output(
     redirection: &Option<Redirection<Expr>>,
     out: &mut Items<Mention>,
 ) -> Result<(), Memory>
-    ensures { OnOk result (out.new ≡ out.old ++ (spec.all (view_printed printed.now).items ++ spec.target (option_map view_redirection redirection.now))) }
+    ensures { OnOk result
+        (out.new ≡ out.old ++
+        (spec.all (view_printed printed.now).items ++ spec.target (option_map view_redirection redirection.now))) }
 {
     each(alloc, printed.items.as_slice(), out)?;
     match redirection {
@@ -67,7 +69,10 @@ fn header(
     step: &Option<Expr>,
     out: &mut Items<Mention>,
 ) -> Result<(), Memory>
-    ensures { OnOk result (out.new ≡ out.old ++ (spec.optional (option_map view first.now) ++ (spec.optional (option_map view test.now) ++ spec.optional (option_map view step.now)))) }
+    ensures { OnOk result
+        (out.new ≡ out.old ++
+        (spec.optional (option_map view first.now)
+        ++ (spec.optional (option_map view test.now) ++ spec.optional (option_map view step.now)))) }
 {
     optional(alloc, first, out)?;
     optional(alloc, test, out)?;

@@ -42,7 +42,8 @@ fn shown(alloc: Global, condition: &Pattern) -> Result<Items<Mention>, Memory>
 }
 
 fn rule(alloc: Global, condition: &Pattern, body: &[Statement]) -> Result<Items<Mention>, Memory>
-    ensures { IfOk result (λ said. said ≡ spec.conditions (view_pattern condition.now) ++ spec.all_said (map view_statement body.now)) }
+    ensures { IfOk result
+        (λ said. said ≡ spec.conditions (view_pattern condition.now) ++ spec.all_said (map view_statement body.now)) }
 {
     let mut said = shown(alloc, condition)?;
     statements(alloc, false, body, &mut said)?;

@@ -267,7 +267,8 @@ fn link_back(
     parameter: usize,
     number: usize,
 ) -> Result<(), Memory>
-    ensures { OnOk result (table.new.items ≡ spec.back_link (slice_get measured.now parameter) parameter number table.old.items) }
+    ensures { OnOk result
+        (table.new.items ≡ spec.back_link (slice_get measured.now parameter) parameter number table.old.items) }
 {
     match measured.get(parameter) {
         Some(true) => link(table, number, parameter),

@@ -1,5 +1,5 @@
--- What plain awk is given by a script, and by what its run is started with (POSIX.1-2017 XCU awk, "OPTIONS", "OPERANDS",
--- "ENVIRONMENT VARIABLES").
+-- What plain awk is given by a script, and by what its run is started with (POSIX.1-2017 XCU awk, "OPTIONS",
+-- "OPERANDS", "ENVIRONMENT VARIABLES").
 use Rattle.std.specs.Prelude.{ℕ}
 use Rattle.awk_resolve.specs.Assigns.{can_assign}
 use Rattle.awk_machine.specs.State.{Given}

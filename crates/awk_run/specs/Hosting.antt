@@ -16,7 +16,8 @@ with_words (x ∷ xs) h = with_words xs (with_word x h)
 -- the variables of the script by their slots, from this one on, of which the host may set some
 abbrev pub with_variables : (Text → Bool) → ℕ → List Text → Hosted → Hosted
 with_variables free n [] h = h
-with_variables free n (x ∷ xs) h = with_variables free (n + 1) xs (with_name x (if free x then Variable n else Barred) h)
+with_variables free n (x ∷ xs) h =
+    with_variables free (n + 1) xs (with_name x (if free x then Variable n else Barred) h)
 
 -- the functions of the script, which it may not set
 abbrev pub with_functions : List Text → Hosted → Hosted
@@ -28,4 +29,5 @@ nothing_told steps = record { bound = steps; words = []; names = [] }
 
 abbrev pub host_of : Script → SetupParts → ℕ → Hosted
 host_of s setup steps =
-    with_functions (map (λ f. f.name) s.program.functions) (with_variables (can_assign s.kinds) 0 (names_of s.program) (with_words setup.operands (nothing_told steps)))
+    with_functions (map (λ f. f.name) s.program.functions)
+    (with_variables (can_assign s.kinds) 0 (names_of s.program) (with_words setup.operands (nothing_told steps)))

@@ -14,6 +14,7 @@ IsTold (Faulted Log place) None = ⊥
 IsTold o last = Unit {0}
 
 -- The report is plain awk's over some events, and the world follows by the calls that they are.
-pub record Reported {W : Type 0} (follows : W → List Call → W → Type 0) (has_stopped : W → Bool) (stops : W → List Call → Ask → W → Type 0) (g : Given) (old : W) (o : Outcome) (used : ℕ) (new : W) : Type 0 where
+pub record Reported {W : Type 0} (follows : W → List Call → W → Type 0) (has_stopped : W → Bool)
+    (stops : W → List Call → Ask → W → Type 0) (g : Given) (old : W) (o : Outcome) (used : ℕ) (new : W) : Type 0 where
   pub played : Played follows has_stopped stops g old o used new
   pub told : IsTold o played.last

@@ -19,7 +19,8 @@ use Rattle.awk_run.specs.declared.ends.End.TheVariants.{Open, Memory, Log}
 
 -- what a piece in the midst of the records owes: `next` comes back to what `rest` leaves to be done
 pub record DoesIn {W A : Type 0} (ghosts : Ghosts W)
-    (cx : Context) (p : Given → Piece) (to : Given → A → List Piece → List Piece) (rest : List Piece → List Piece) (old : Whole) (w : W) (result : Result A Halt) (new : Whole) (w' : W) : Type 0 where
+    (cx : Context) (p : Given → Piece) (to : Given → A → List Piece → List Piece) (rest : List Piece → List Piece)
+    (old : Whole) (w : W) (result : Result A Halt) (new : Whole) (w' : W) : Type 0 where
   pub plays : (g : Given) → IsGiven cx g → PerformsIn ghosts g (p g) (to g) rest old w result new w'
   pub owns : Owns (ghosts.open_numbers w') new.1
 
@@ -41,4 +42,5 @@ module _ {W : Type 0} (ghosts : Ghosts W) (g : Given) (first : W) where
   abbrev pub Finished : End → Whole → W → Type 0
   Finished (Open outcome) now w = Reached (ends (view_outcome outcome)) now w
   Finished Memory now w = Lacks ghosts (base g) (Agreeing g) used g first (first_pieces g) (first_state g) nothing now w
-  Finished (Log place) now w = Unlogged ghosts (base g) (Agreeing g) used g first (first_pieces g) (first_state g) nothing place now w
+  Finished (Log place) now w =
+      Unlogged ghosts (base g) (Agreeing g) used g first (first_pieces g) (first_state g) nothing place now w

@@ -24,7 +24,8 @@ pub record IsStart (start : Start) (g : Given) : Type 0 where
 
 -- the host's own assignments, of which those to some names are passed over
 abbrev pub assigning : (Text → Bool) → List (Text × Text) → List Piece
-assigning can_assign pairs = map (λ a. set_at_start (Variable (global a.0)) (v.Input (unescaped a.1))) (filter (λ a. can_assign a.0) pairs)
+assigning can_assign pairs =
+    map (λ a. set_at_start (Variable (global a.0)) (v.Input (unescaped a.1))) (filter (λ a. can_assign a.0) pairs)
 
 -- ---- several pieces, one after the other
 
@@ -35,6 +36,8 @@ module _ (g : Given) where
     pub settles : (hid : Hidden) (c : Course) → Agreeing g old hid c → Settles g from old hid c to new
 
   -- or the run is halted
-  pub record Prepares (from to : List Piece) (old : Whole) (result : Result (Unit {0}) Halt) (new : Whole) : Type 0 where
-    pub same : used new ≡ used old
-    pub settles : (hid : Hidden) (c : Course) → Agreeing g old hid c → MatchResult result (λ u. Settles g from old hid c to new) (λ h. HaltsSo g from old hid c new h)
+  pub record Prepares (from to : List Piece) (old : Whole) (result : Result (Unit {0}) Halt) (new : Whole) : Type 0
+    where
+      pub same : used new ≡ used old
+      pub settles : (hid : Hidden) (c : Course) → Agreeing g old hid c →
+          MatchResult result (λ u. Settles g from old hid c to new) (λ h. HaltsSo g from old hid c new h)

@@ -28,7 +28,8 @@ fn action<W: World>(
 ) -> Result<Flow, Halt>
     requires { Owns (W.open_numbers world.old) run.old.streams }
     ensures { (rest : Given → List p.Statement) → Does W.World cx.now
-        (λ g. Do (Each (map (view_statement (names_in g)) xs.now ++ rest g))) (λ g f k. flows f (Do (Each (rest g)) ∷ k))
+        (λ g. Do (Each (map (view_statement (names_in g)) xs.now ++ rest g)))
+        (λ g f k. flows f (Do (Each (rest g)) ∷ k))
         (whole_of run.old) world.old result (whole_of run.new) world.new }
 {
     for x in xs {

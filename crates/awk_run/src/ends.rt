@@ -28,7 +28,8 @@ pub enum End {
     Log(Place),
 }
 
-/// The status of a run that is done: the one that an `exit` gave, or 2 where an operand could not be read. Takes no memory.
+/// The status of a run that is done: the one that an `exit` gave, or 2 where an operand could not be read. Takes no
+/// memory.
 fn status(store: &Store) -> u8
     ensures { result ≡ own_status store.now }
 {
@@ -45,8 +46,8 @@ pub fn done(store: &Store) -> End
     End::Open(Outcome::Status(status(store)))
 }
 
-/// Whether the actions of END are left to be done after a halt in this part of the program: an `exit` in END itself ends the
-/// run. Takes no memory.
+/// Whether the actions of END are left to be done after a halt in this part of the program: an `exit` in END itself
+/// ends the run. Takes no memory.
 pub fn goes_to_end(halt: Halt, phase: Phase) -> bool
     ensures { result ≡ spec.goes_to_end halt phase }
 {
@@ -65,8 +66,8 @@ fn is_before_end(phase: Phase) -> bool
     }
 }
 
-/// What an `exit` comes to at the end of a run. Outside of END it is none: the run ends there as it stands, though no `exit`
-/// leads to that. Takes no memory.
+/// What an `exit` comes to at the end of a run. Outside of END it is none: the run ends there as it stands, though no
+/// `exit` leads to that. Takes no memory.
 fn last_exit(store: &Store) -> End
     ensures { result ≡ spec.last_exit store.now.phase store.now }
 {
@@ -110,8 +111,8 @@ fn own_fault(fault: Fault, place: Place) -> Outcome
     }
 }
 
-/// The outcome of a run whose streams are shut. The fault of the log is that of a request which was not answered: a run's own
-/// work never ends with it, and is answered as want of memory if it did. Takes no memory.
+/// The outcome of a run whose streams are shut. The fault of the log is that of a request which was not answered: a
+/// run's own work never ends with it, and is answered as want of memory if it did. Takes no memory.
 fn own(outcome: Outcome) -> Outcome
     ensures { result ≡ spec.own outcome }
 {
@@ -137,7 +138,8 @@ pub fn close<W: World>(end: End, streams: &mut Streams, world: &mut W) -> Outcom
 /// Shuts the streams at the end of a run.
 fn shut<W: World>(outcome: Outcome, streams: &mut Streams, world: &mut W) -> Outcome
     requires { Owns (W.open_numbers world.old) streams.old }
-    ensures { (g : Given) (kept : Kept) (first : W) → Finished W.World g first (End.Open outcome) (kept, streams.old) world.old
+    ensures { (g : Given) (kept : Kept) (first : W) →
+        Finished W.World g first (End.Open outcome) (kept, streams.old) world.old
         → Reported W.follows W.has_stopped W.stops g first (view_outcome result) kept.used world.new }
 {
     match shut_all(streams, world) {

@@ -23,7 +23,9 @@ use box_world::world::World;
 
 /// Sets the element of ENVIRON for this name.
 fn set_environ(store: &mut Store, name: &[u8], text: Octets) -> Result<(), Halt>
-    ensures { (g : Given) (t : Table) → Acts g (Do (Set (machine.Element (global (codes "ENVIRON")) name.now nowhere) nowhere (Value.Input text))) goes_on (store.old, t) result (store.new, t) }
+    ensures { (g : Given) (t : Table) →
+        Acts g (Do (Set (machine.Element (global (codes "ENVIRON")) name.now nowhere) nowhere (Value.Input text)))
+        goes_on (store.old, t) result (store.new, t) }
 {
     let place = Place { line: 0, column: 0 };
     let array = Variable::Global(Own::Environ.slot());
@@ -33,7 +35,8 @@ fn set_environ(store: &mut Store, name: &[u8], text: Octets) -> Result<(), Halt>
 /// Looks a name of the environment up, and sets its element of ENVIRON where it has a value.
 fn look<W: World>(cx: &Context<'_>, name: &Octets, run: &mut Run, world: &mut W) -> Result<(), Halt>
     requires { Owns (W.open_numbers world.old) run.old.streams }
-    ensures { (names : List Text) → Does W.World cx.now (λ g. Do (machine.Environ (name.now ∷ names))) (λ g u k. Do (machine.Environ names) ∷ k)
+    ensures { (names : List Text) →
+        Does W.World cx.now (λ g. Do (machine.Environ (name.now ∷ names))) (λ g u k. Do (machine.Environ names) ∷ k)
         (whole_of run.old) world.old result (whole_of run.new) world.new }
 {
     let sent = name.copy(cx.alloc)?;

@@ -48,7 +48,8 @@ fn use_of(script: &Script, slot: u32, name: &[u8]) -> Use
 /// Says what the variables of a script are, by their slots.
 fn add_variables(alloc: Global, host: &mut Host, script: &Script) -> Result<(), Memory>
     requires { IsScript script.now }
-    ensures { OnOk result (host.new ≡ with_variables (kinds.can_assign script.now.kinds) 0 (names_of script.now.program) host.old) }
+    ensures { OnOk result
+        (host.new ≡ with_variables (kinds.can_assign script.now.kinds) 0 (names_of script.now.program) host.old) }
 {
     let variables = script.program().variables.as_slice();
     for i in 0..variables.len() {

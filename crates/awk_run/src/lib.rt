@@ -1,6 +1,6 @@
-//! Awk scripts run over any world: BEGIN, the rules for each record, and END ("Overall Program Structure", "OPTIONS" and
-//! "OPERANDS" of POSIX.1-2017 XCU awk). [`run`] asks the world for what plain awk asks for, and reports plain awk's outcome and
-//! steps; specs/Givens.antt says what plain awk is given.
+//! Awk scripts run over any world: BEGIN, the rules for each record, and END ("Overall Program Structure", "OPTIONS"
+//! and "OPERANDS" of POSIX.1-2017 XCU awk). [`run`] asks the world for what plain awk asks for, and reports plain awk's
+//! outcome and steps; specs/Givens.antt says what plain awk is given.
 #![tactic(auto)]
 
 mod actions;

@@ -43,7 +43,8 @@ fn read<W: World>(cx: &Context<'_>, run: &mut Run, world: &mut W) -> Result<(), 
 fn before_end<W: World>(cx: &Context<'_>, run: &mut Run, world: &mut W) -> Result<(), Halt>
     requires { Owns (W.open_numbers world.old) run.old.streams }
     ensures plays { (g : Given) → IsGiven cx.now g → (first : W)
-        → Reached W.World g first (Do (Enter Beginning) ∷ Do (Enter Ruling) ∷ Do (Enter Ending) ∷ []) (whole_of run.old) world.old
+        → Reached W.World g first (Do (Enter Beginning) ∷ Do (Enter Ruling) ∷ Do (Enter Ending) ∷ []) (whole_of run.old)
+        world.old
         → Goes_on W.World g first (λ u. Do (Enter Ending) ∷ []) result (whole_of run.new) world.new }
     ensures owns { Owns (W.open_numbers world.new) run.new.streams }
 {
@@ -54,7 +55,8 @@ fn before_end<W: World>(cx: &Context<'_>, run: &mut Run, world: &mut W) -> Resul
 /// The actions of END.
 fn end_actions<W: World>(cx: &Context<'_>, run: &mut Run, world: &mut W) -> Result<(), Halt>
     requires { Owns (W.open_numbers world.old) run.old.streams }
-    ensures plays { (g : Given) → IsGiven cx.now g → (first : W) → Reached W.World g first (Do (Enter Ending) ∷ []) (whole_of run.old) world.old
+    ensures plays { (g : Given) → IsGiven cx.now g → (first : W) →
+        Reached W.World g first (Do (Enter Ending) ∷ []) (whole_of run.old) world.old
         → Goes_on W.World g first (λ u. Do Finish ∷ []) result (whole_of run.new) world.new }
     ensures owns { Owns (W.open_numbers world.new) run.new.streams }
 {
@@ -66,7 +68,8 @@ fn end_actions<W: World>(cx: &Context<'_>, run: &mut Run, world: &mut W) -> Resu
 /// END.
 fn end<W: World>(cx: &Context<'_>, run: &mut Run, world: &mut W) -> End
     requires { Owns (W.open_numbers world.old) run.old.streams }
-    ensures plays { (g : Given) → IsGiven cx.now g → (first : W) → Reached W.World g first (Do (Enter Ending) ∷ []) (whole_of run.old) world.old
+    ensures plays { (g : Given) → IsGiven cx.now g → (first : W) →
+        Reached W.World g first (Do (Enter Ending) ∷ []) (whole_of run.old) world.old
         → Finished W.World g first result (whole_of run.new) world.new }
     ensures owns { Owns (W.open_numbers world.new) run.new.streams }
 {
@@ -79,7 +82,8 @@ fn end<W: World>(cx: &Context<'_>, run: &mut Run, world: &mut W) -> End
 /// What is left to be done after a halt: END, or nothing.
 fn after<W: World>(cx: &Context<'_>, halt: Halt, run: &mut Run, world: &mut W) -> End
     requires { Owns (W.open_numbers world.old) run.old.streams }
-    ensures plays { (g : Given) → IsGiven cx.now g → (first : W) → Stopped W.World g first halt (whole_of run.old) world.old
+    ensures plays { (g : Given) → IsGiven cx.now g → (first : W) →
+        Stopped W.World g first halt (whole_of run.old) world.old
         → Finished W.World g first result (whole_of run.new) world.new }
     ensures owns { Owns (W.open_numbers world.new) run.new.streams }
 {
@@ -93,7 +97,8 @@ fn after<W: World>(cx: &Context<'_>, halt: Halt, run: &mut Run, world: &mut W) -
 pub fn play<W: World>(cx: &Context<'_>, run: &mut Run, world: &mut W) -> End
     requires { Owns (W.open_numbers world.old) run.old.streams }
     ensures plays { (g : Given) → IsGiven cx.now g → (first : W)
-        → Reached W.World g first (Do (Enter Beginning) ∷ Do (Enter Ruling) ∷ Do (Enter Ending) ∷ []) (whole_of run.old) world.old
+        → Reached W.World g first (Do (Enter Beginning) ∷ Do (Enter Ruling) ∷ Do (Enter Ending) ∷ []) (whole_of run.old)
+        world.old
         → Finished W.World g first result (whole_of run.new) world.new }
     ensures owns { Owns (W.open_numbers world.new) run.new.streams }
 {

@@ -37,7 +37,8 @@ fn begin<W: World>(
     requires { Owns (W.open_numbers world.old) run.old.streams }
     ensures plays { (g : Given) → IsGiven cx.now g → IsStart start.now g → (first : W)
         → Reached W.World g first (first_pieces g) (whole_of run.old) world.old
-        → Goes_on W.World g first (λ u. Do (Enter Beginning) ∷ Do (Enter Ruling) ∷ Do (Enter Ending) ∷ []) result (whole_of run.new) world.new }
+        → Goes_on W.World g first (λ u. Do (Enter Beginning) ∷ Do (Enter Ruling) ∷ Do (Enter Ending) ∷ []) result
+        (whole_of run.new) world.new }
     ensures owns { Owns (W.open_numbers world.new) run.new.streams }
 {
     prepare(cx, start, &mut run.store)?;
@@ -58,7 +59,8 @@ fn work<W: World>(cx: &Context<'_>, start: &Start<'_>, run: &mut Run, world: &mu
     }
 }
 
-/// Runs a program, started so, over a world. In the program no two variables have one name, and awk's own have their slots.
+/// Runs a program, started so, over a world. In the program no two variables have one name, and awk's own have their
+/// slots.
 pub fn run_program<W: World>(cx: &Context<'_>, start: &Start<'_>, world: &mut W) -> Report
     requires { Sound (names_of cx.now.program.now) }
     ensures { (g : Given) → IsGiven cx.now g → IsStart start.now g

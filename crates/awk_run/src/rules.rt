@@ -29,7 +29,8 @@ fn where_holds<W: World>(
 ) -> Result<Flow, Halt>
     requires { Owns (W.open_numbers world.old) run.old.streams }
     ensures { Does W.World cx.now
-        (λ g. At (Choosing n (rule_of (p.holds (view (names_in g) pattern.now)) (map (view_statement (names_in g)) action.now))) []) (λ g. flows)
+        (λ g. At (Choosing n (rule_of (p.holds (view (names_in g) pattern.now))
+        (map (view_statement (names_in g)) action.now))) []) (λ g. flows)
         (whole_of run.old) world.old result (whole_of run.new) world.new }
 {
     let holds = truth_of(cx, pattern, MOST_UNITS, run, world)?;
@@ -46,8 +47,8 @@ fn next_pattern<'a>(is_on: bool, first: &'a Expr, last: &'a Expr) -> &'a Expr
     if is_on { last } else { first }
 }
 
-/// Meets one pattern of a range, and answers whether the action is done; `None` where the range has just begun, and its last
-/// pattern is still to be met.
+/// Meets one pattern of a range, and answers whether the action is done; `None` where the range has just begun, and its
+/// last pattern is still to be met.
 fn meet<W: World>(
     cx: &Context<'_>,
     n: usize,
@@ -59,8 +60,10 @@ fn meet<W: World>(
 ) -> Result<Option<bool>, Halt>
     requires { Owns (W.open_numbers world.old) run.old.streams }
     ensures { Does W.World cx.now
-        (λ g. At (Choosing n (rule_of (p.range (view (names_in g) first.now) (view (names_in g) last.now)) (map (view_statement (names_in g)) action.now))) [])
-        (λ g. met n (rule_of (p.range (view (names_in g) first.now) (view (names_in g) last.now)) (map (view_statement (names_in g)) action.now)))
+        (λ g. At (Choosing n (rule_of (p.range (view (names_in g) first.now) (view (names_in g) last.now))
+        (map (view_statement (names_in g)) action.now))) [])
+        (λ g. met n (rule_of (p.range (view (names_in g) first.now) (view (names_in g) last.now))
+        (map (view_statement (names_in g)) action.now)))
         (whole_of run.old) world.old result (whole_of run.new) world.new }
 {
     let pattern = next_pattern(run.store.is_on(n), first, last);
@@ -88,7 +91,8 @@ fn within<W: World>(
 ) -> Result<Flow, Halt>
     requires { Owns (W.open_numbers world.old) run.old.streams }
     ensures { Does W.World cx.now
-        (λ g. At (Choosing n (rule_of (p.range (view (names_in g) first.now) (view (names_in g) last.now)) (map (view_statement (names_in g)) action.now))) []) (λ g. flows)
+        (λ g. At (Choosing n (rule_of (p.range (view (names_in g) first.now) (view (names_in g) last.now))
+        (map (view_statement (names_in g)) action.now))) []) (λ g. flows)
         (whole_of run.old) world.old result (whole_of run.new) world.new }
 {
     for _pattern in 0..2 {

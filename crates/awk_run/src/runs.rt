@@ -31,8 +31,9 @@ fn start<'a>(script: &Script, setup: &'a Setup) -> Start<'a>
 
 /// Runs a script over a world, for at most this many steps.
 ///
-/// The world is asked for what plain awk asks for, and the report has plain awk's outcome and steps. A fault of the run is its
-/// outcome: F12 where the world could not log a denial, at the place of the request; F13 where memory was refused.
+/// The world is asked for what plain awk asks for, and the report has plain awk's outcome and steps. A fault of the run
+/// is its outcome: F12 where the world could not log a denial, at the place of the request; F13 where memory was
+/// refused.
 pub fn run<W: World>(
     alloc: Global,
     script: &Script,
@@ -41,7 +42,8 @@ pub fn run<W: World>(
     world: &mut W,
 ) -> Report
     requires { IsScript script.now }
-    ensures { Reported W.follows W.has_stopped W.stops (given_of script.now setup.now steps) world.old (view_outcome result.outcome) result.used world.new }
+    ensures { Reported W.follows W.has_stopped W.stops (given_of script.now setup.now steps) world.old
+        (view_outcome result.outcome) result.used world.new }
 {
     let Ok(host) = host(alloc, script, setup, steps) else {
         return Report {

@@ -14,7 +14,8 @@ ghost use Rattle.awk_streams.specs.Tables.{Table};
 ghost use Rattle.awk_streams.specs.Tasks.{goes_on};
 ghost use Rattle.awk_text.specs.Escapes.{unescaped};
 ghost use Rattle.std.specs.Fmt.{decimal};
-ghost use Rattle.std.specs.Prelude.{List, [], codes, if◌then◌else◌, length, option_copied, pos, true, ◌++◌, ◌+◌, ◌∷◌, ◌≡◌};
+ghost use Rattle.std.specs.Prelude.{List, [], codes, if◌then◌else◌, length, option_copied, pos, true, ◌++◌, ◌+◌, ◌∷◌};
+ghost use Rattle.std.specs.Prelude.{◌≡◌};
 
 use awk_forms::Context;
 use awk_input::Host;
@@ -47,7 +48,9 @@ pub struct Start<'a> {
 
 /// Sets the element of ARGV with this number.
 fn set_argument(alloc: Global, store: &mut Store, n: u64, text: &[u8]) -> Result<(), Halt>
-    ensures { (g : Given) (t : Table) → Acts g (set_at_start (target.Element (global (codes "ARGV")) (decimal n) nowhere) (Value.Input text.now)) goes_on (store.old, t) result (store.new, t) }
+    ensures { (g : Given) (t : Table) →
+        Acts g (set_at_start (target.Element (global (codes "ARGV")) (decimal n) nowhere) (Value.Input text.now))
+        goes_on (store.old, t) result (store.new, t) }
 {
     let copy = Vec::from_slice(alloc, text)?;
     let place = Place { line: 0, column: 0 };
@@ -59,7 +62,9 @@ fn set_argument(alloc: Global, store: &mut Store, n: u64, text: &[u8]) -> Result
 
 /// Sets one of awk's own variables to a number or a text.
 fn set_own(store: &mut Store, name: Own, value: Value) -> Result<(), Halt>
-    ensures { (g : Given) (t : Table) → Acts g (set_at_start (target.Variable (global (name_of name))) value) goes_on (store.old, t) result (store.new, t) }
+    ensures { (g : Given) (t : Table) →
+        Acts g (set_at_start (target.Variable (global (name_of name))) value) goes_on (store.old, t) result
+        (store.new, t) }
 {
     let place = Place { line: 0, column: 0 };
     set_variable(store, Variable::Global(name.slot()), place, value)
@@ -68,7 +73,9 @@ fn set_own(store: &mut Store, name: Own, value: Value) -> Result<(), Halt>
 /// Sets the elements of ARGV for the operands, from 1 on.
 fn set_operands(alloc: Global, store: &mut Store, operands: &[Octets]) -> Result<(), Halt>
     ensures { (g : Given) (t : Table) (k : List Piece)
-        → Prepares g (machine.operands 1 operands.now ++ k) (set_at_start (target.Variable (global (codes "ARGC"))) (of_count (length operands.now + 1)) ∷ k) (store.old, t) result (store.new, t) }
+        → Prepares g (machine.operands 1 operands.now ++ k)
+        (set_at_start (target.Variable (global (codes "ARGC"))) (of_count (length operands.now + 1)) ∷ k)
+        (store.old, t) result (store.new, t) }
 {
     for n in 0..operands.len() {
         set_argument(alloc, store, n as u64 + 1, operands[n].bytes())?;
@@ -85,7 +92,8 @@ fn argument_count(operands: &[Octets]) -> i64
 
 /// Sets ARGV and ARGC.
 fn set_arguments(alloc: Global, store: &mut Store, operands: &[Octets]) -> Result<(), Halt>
-    ensures { (g : Given) (t : Table) (k : List Piece) → Prepares g (machine.operands 0 (codes "awk" ∷ operands.now) ++ k) k (store.old, t) result (store.new, t) }
+    ensures { (g : Given) (t : Table) (k : List Piece) →
+        Prepares g (machine.operands 0 (codes "awk" ∷ operands.now) ++ k) k (store.old, t) result (store.new, t) }
 {
     set_argument(alloc, store, 0, b"awk".as_slice())?;
     set_operands(alloc, store, operands)?;
@@ -94,7 +102,8 @@ fn set_arguments(alloc: Global, store: &mut Store, operands: &[Octets]) -> Resul
 
 /// Sets FS to the separator that the host gives, if it does.
 fn set_separator(alloc: Global, store: &mut Store, separator: Option<&Octets>) -> Result<(), Halt>
-    ensures { (g : Given) (t : Table) (k : List Piece) → Prepares g (separators (option_copied separator.entry) ++ k) k (store.old, t) result (store.new, t) }
+    ensures { (g : Given) (t : Table) (k : List Piece) →
+        Prepares g (separators (option_copied separator.entry) ++ k) k (store.old, t) result (store.new, t) }
 {
     let Some(text) = separator else {
         return Ok(());
@@ -105,7 +114,8 @@ fn set_separator(alloc: Global, store: &mut Store, separator: Option<&Octets>) -
     set_own(store, Own::Fs, Value::Input(Octets::new(made)))
 }
 
-/// Sets the variable of this name, which the host may set. Where no variable of the script has the name, nothing changes.
+/// Sets the variable of this name, which the host may set. Where no variable of the script has the name, nothing
+/// changes.
 fn assign(
     alloc: Global,
     host: &Host,
@@ -114,7 +124,9 @@ fn assign(
     text: &[u8],
 ) -> Result<(), Halt>
     requires { can_set host.now name.now ≡ true }
-    ensures { (g : Given) (t : Table) → IsHost host.now g → Acts g (set_at_start (target.Variable (global name.now)) (Value.Input (unescaped text.now))) goes_on (store.old, t) result (store.new, t) }
+    ensures { (g : Given) (t : Table) → IsHost host.now g →
+        Acts g (set_at_start (target.Variable (global name.now)) (Value.Input (unescaped text.now))) goes_on
+        (store.old, t) result (store.new, t) }
 {
     let Some(slot) = host.slot_of(name) else {
         return Ok(());
@@ -139,7 +151,8 @@ fn assign_pair(
     pair: &(Octets, Octets),
 ) -> Result<(), Halt>
     ensures { (g : Given) (t : Table) (k : List Piece) (rest : List (Text × Text)) → IsHost host.now g
-        → Prepares g (assigning g.can_assign (pair.now ∷ rest) ++ k) (assigning g.can_assign rest ++ k) (store.old, t) result (store.new, t) }
+        → Prepares g (assigning g.can_assign (pair.now ∷ rest) ++ k) (assigning g.can_assign rest ++ k) (store.old, t)
+        result (store.new, t) }
 {
     if !host.can_assign(pair.0.bytes()) {
         return Ok(());
@@ -154,7 +167,8 @@ fn assign_all(
     store: &mut Store,
     pairs: &[(Octets, Octets)],
 ) -> Result<(), Halt>
-    ensures { (g : Given) (t : Table) (k : List Piece) → IsHost host.now g → Prepares g (assigning g.can_assign pairs.now ++ k) k (store.old, t) result (store.new, t) }
+    ensures { (g : Given) (t : Table) (k : List Piece) → IsHost host.now g →
+        Prepares g (assigning g.can_assign pairs.now ++ k) k (store.old, t) result (store.new, t) }
 {
     for pair in pairs {
         assign_pair(alloc, host, store, pair)?;
@@ -165,7 +179,8 @@ fn assign_all(
 /// Does all that is done before the environment is looked at.
 pub fn prepare(cx: &Context<'_>, start: &Start<'_>, store: &mut Store) -> Result<(), Halt>
     ensures { (g : Given) (t : Table) (k : List Piece) → IsHost cx.now.host.now g → IsStart start.now g
-        → Prepares g (machine.operands 0 (codes "awk" ∷ g.operands) ++ separators g.separator ++ machine.assigns g ++ k) k (store.old, t) result (store.new, t) }
+        → Prepares g (machine.operands 0 (codes "awk" ∷ g.operands) ++ separators g.separator ++ machine.assigns g ++ k)
+        k (store.old, t) result (store.new, t) }
 {
     set_arguments(cx.alloc, store, start.operands)?;
     set_separator(cx.alloc, store, start.separator)?;

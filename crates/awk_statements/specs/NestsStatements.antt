@@ -11,7 +11,9 @@ use Rattle.awk_tree.specs.Input.{Reads}
 use Rattle.awk_tree.specs.Statements.{statement}
 
 pub record NestsStatements (depth : ℕ) (pre : Global → MutBor (List Token) → ℕ → Nested → Type 0)
-    (post : Global → MutBor (List Token) → ℕ → Nested → Result Statement Fault → MutBor (List Token) → Type 0) : Type 0 where
-  pub callable : (alloc : Global) (old : MutBor (List Token)) (which : Nested) → pre alloc old depth which
-  pub reads : (alloc : Global) (old new : MutBor (List Token)) (which : Nested) (r : Result Statement Fault) → post alloc old depth which r new
-      → Reads view_statement (statement depth which old.now) r new.now
+    (post : Global → MutBor (List Token) → ℕ → Nested → Result Statement Fault → MutBor (List Token) → Type 0) : Type 0
+  where
+    pub callable : (alloc : Global) (old : MutBor (List Token)) (which : Nested) → pre alloc old depth which
+    pub reads : (alloc : Global) (old new : MutBor (List Token)) (which : Nested) (r : Result Statement Fault) →
+        post alloc old depth which r new
+        → Reads view_statement (statement depth which old.now) r new.now

@@ -53,7 +53,9 @@ impl<B: Fn(Global, &mut Tokens<'_>, usize, Nested) -> Result<Statement, Fault>> 
     ) -> Result<Statement, Fault>
         requires nests { NestsStatements self.now.level.depth (B.pre self.now.body) (B.post self.now.body) }
         requires closed { is_open (view_statement body) ≡ true → looks.else_next tokens.old ≡ false }
-        ensures { Reads view_statement (spec.else_rest self.now.level.depth (expr self.now.level.depth) (spec.statement self.now.level.depth) (view test) (view_statement body) tokens.old) result tokens.new }
+        ensures { Reads view_statement
+            (spec.else_rest self.now.level.depth (expr self.now.level.depth) (spec.statement self.now.level.depth)
+            (view test) (view_statement body) tokens.old) result tokens.new }
     {
         if !has_else(body.get(), tokens.rest()) {
             return Ok(Statement::If(test.into_inner(), body));
@@ -68,7 +70,9 @@ impl<B: Fn(Global, &mut Tokens<'_>, usize, Nested) -> Result<Statement, Fault>> 
     #[tactic(auto, using(awk_tree::proofs::Views::statement_views), unfolding(awk_tree::specs::Statements::if_of))]
     fn if_of(&self, tokens: &mut Tokens<'_>) -> Result<Statement, Fault>
         requires { NestsStatements self.now.level.depth (B.pre self.now.body) (B.post self.now.body) }
-        ensures { Reads view_statement (spec.if_of self.now.level.depth (expr self.now.level.depth) (spec.statement self.now.level.depth) tokens.old) result tokens.new }
+        ensures { Reads view_statement
+            (spec.if_of self.now.level.depth (expr self.now.level.depth) (spec.statement self.now.level.depth)
+            tokens.old) result tokens.new }
     {
         tokens.one(Terminal::If)?;
         let test = condition(&self.level, tokens)?;
@@ -80,7 +84,9 @@ impl<B: Fn(Global, &mut Tokens<'_>, usize, Nested) -> Result<Statement, Fault>> 
     #[tactic(auto, using(awk_tree::proofs::Views::statement_views), unfolding(awk_tree::specs::Statements::while_of))]
     fn while_of(&self, tokens: &mut Tokens<'_>) -> Result<Statement, Fault>
         requires { NestsStatements self.now.level.depth (B.pre self.now.body) (B.post self.now.body) }
-        ensures { Reads view_statement (spec.while_of self.now.level.depth (expr self.now.level.depth) (spec.statement self.now.level.depth) tokens.old) result tokens.new }
+        ensures { Reads view_statement
+            (spec.while_of self.now.level.depth (expr self.now.level.depth) (spec.statement self.now.level.depth)
+            tokens.old) result tokens.new }
     {
         tokens.one(Terminal::While)?;
         let test = condition(&self.level, tokens)?;
@@ -92,7 +98,9 @@ impl<B: Fn(Global, &mut Tokens<'_>, usize, Nested) -> Result<Statement, Fault>> 
     #[tactic(auto, using(awk_tree::proofs::Views::statement_views), unfolding(awk_tree::specs::Statements::do_of))]
     fn do_of(&self, tokens: &mut Tokens<'_>) -> Result<Statement, Fault>
         requires { NestsStatements self.now.level.depth (B.pre self.now.body) (B.post self.now.body) }
-        ensures { Reads view_statement (spec.do_of self.now.level.depth (expr self.now.level.depth) (spec.statement self.now.level.depth) tokens.old) result tokens.new }
+        ensures { Reads view_statement
+            (spec.do_of self.now.level.depth (expr self.now.level.depth) (spec.statement self.now.level.depth)
+            tokens.old) result tokens.new }
     {
         tokens.one(Terminal::Do)?;
         let body = self.body(tokens)?;
@@ -106,7 +114,9 @@ impl<B: Fn(Global, &mut Tokens<'_>, usize, Nested) -> Result<Statement, Fault>> 
     #[tactic(auto, using(awk_tree::proofs::Views::statement_views), unfolding(awk_tree::specs::Statements::loop_rest))]
     fn loop_rest(&self, tokens: &mut Tokens<'_>) -> Result<Statement, Fault>
         requires { NestsStatements self.now.level.depth (B.pre self.now.body) (B.post self.now.body) }
-        ensures { Reads view_statement (spec.loop_rest self.now.level.depth (expr self.now.level.depth) (spec.statement self.now.level.depth) tokens.old) result tokens.new }
+        ensures { Reads view_statement
+            (spec.loop_rest self.now.level.depth (expr self.now.level.depth) (spec.statement self.now.level.depth)
+            tokens.old) result tokens.new }
     {
         let first = perhaps_until(&self.level, tokens, Terminal::Semicolon)?;
         let tests = pair(
@@ -125,7 +135,9 @@ impl<B: Fn(Global, &mut Tokens<'_>, usize, Nested) -> Result<Statement, Fault>> 
     #[tactic(auto, using(awk_tree::proofs::Views::statement_views), unfolding(awk_tree::specs::Statements::each_rest))]
     fn each_rest(&self, tokens: &mut Tokens<'_>, place: Place) -> Result<Statement, Fault>
         requires { NestsStatements self.now.level.depth (B.pre self.now.body) (B.post self.now.body) }
-        ensures { Reads view_statement (spec.each_rest self.now.level.depth (expr self.now.level.depth) (spec.statement self.now.level.depth) place tokens.old) result tokens.new }
+        ensures { Reads view_statement
+            (spec.each_rest self.now.level.depth (expr self.now.level.depth) (spec.statement self.now.level.depth) place
+            tokens.old) result tokens.new }
     {
         let key = tokens.one(Terminal::Name)?;
         tokens.one(Terminal::In)?;
@@ -141,7 +153,9 @@ impl<B: Fn(Global, &mut Tokens<'_>, usize, Nested) -> Result<Statement, Fault>> 
     #[tactic(auto, using(awk_tree::proofs::Views::statement_views), unfolding(awk_tree::specs::Statements::for_rest))]
     fn for_rest(&self, tokens: &mut Tokens<'_>, place: Place) -> Result<Statement, Fault>
         requires { NestsStatements self.now.level.depth (B.pre self.now.body) (B.post self.now.body) }
-        ensures { Reads view_statement (spec.for_rest self.now.level.depth (expr self.now.level.depth) (spec.statement self.now.level.depth) place tokens.old) result tokens.new }
+        ensures { Reads view_statement
+            (spec.for_rest self.now.level.depth (expr self.now.level.depth) (spec.statement self.now.level.depth) place
+            tokens.old) result tokens.new }
     {
         if each_next(tokens.rest()) {
             self.each_rest(tokens, place)
@@ -154,7 +168,9 @@ impl<B: Fn(Global, &mut Tokens<'_>, usize, Nested) -> Result<Statement, Fault>> 
     #[tactic(auto, using(awk_tree::proofs::Views::statement_views), unfolding(awk_tree::specs::Statements::for_of))]
     fn for_of(&self, tokens: &mut Tokens<'_>) -> Result<Statement, Fault>
         requires { NestsStatements self.now.level.depth (B.pre self.now.body) (B.post self.now.body) }
-        ensures { Reads view_statement (spec.for_of self.now.level.depth (expr self.now.level.depth) (spec.statement self.now.level.depth) tokens.old) result tokens.new }
+        ensures { Reads view_statement
+            (spec.for_of self.now.level.depth (expr self.now.level.depth) (spec.statement self.now.level.depth)
+            tokens.old) result tokens.new }
     {
         let token = tokens.one(Terminal::For)?;
         tokens.one(Terminal::OpenParen)?;
@@ -167,7 +183,9 @@ impl<B: Fn(Global, &mut Tokens<'_>, usize, Nested) -> Result<Statement, Fault>> 
     /// A statement that holds no other, and what ends it.
     fn simple(&self, tokens: &mut Tokens<'_>) -> Result<Statement, Fault>
         requires { NestsStatements self.now.level.depth (B.pre self.now.body) (B.post self.now.body) }
-        ensures { Reads view_statement (and_then (spec.simple self.now.level.depth (expr self.now.level.depth) tokens.old) spec.ended) result tokens.new }
+        ensures { Reads view_statement
+            (and_then (spec.simple self.now.level.depth (expr self.now.level.depth) tokens.old) spec.ended) result
+            tokens.new }
     {
         let statement = simple(&self.level, tokens)?;
         ended(tokens, statement)
@@ -176,7 +194,9 @@ impl<B: Fn(Global, &mut Tokens<'_>, usize, Nested) -> Result<Statement, Fault>> 
     #[tactic(auto, using(awk_tree::proofs::Views::statement_views))]
     fn statement_by(&self, tokens: &mut Tokens<'_>, kind: Terminal) -> Result<Statement, Fault>
         requires { NestsStatements self.now.level.depth (B.pre self.now.body) (B.post self.now.body) }
-        ensures { Reads view_statement (spec.statement_by self.now.level.depth (expr self.now.level.depth) (spec.statement self.now.level.depth) kind tokens.old) result tokens.new }
+        ensures { Reads view_statement
+            (spec.statement_by self.now.level.depth (expr self.now.level.depth) (spec.statement self.now.level.depth)
+            kind tokens.old) result tokens.new }
     {
         match kind {
             Terminal::Semicolon => {
@@ -199,7 +219,9 @@ impl<B: Fn(Global, &mut Tokens<'_>, usize, Nested) -> Result<Statement, Fault>> 
     #[tactic(auto, unfolding(awk_tree::specs::Statements::statement_here))]
     fn statement_here(&self, tokens: &mut Tokens<'_>) -> Result<Statement, Fault>
         requires { NestsStatements self.now.level.depth (B.pre self.now.body) (B.post self.now.body) }
-        ensures { Reads view_statement (spec.statement_here self.now.level.depth (expr self.now.level.depth) (spec.statement self.now.level.depth) tokens.old) result tokens.new }
+        ensures { Reads view_statement
+            (spec.statement_here self.now.level.depth (expr self.now.level.depth) (spec.statement self.now.level.depth)
+            tokens.old) result tokens.new }
     {
         let kind = tokens.look();
         self.statement_by(tokens, kind)
@@ -209,7 +231,9 @@ impl<B: Fn(Global, &mut Tokens<'_>, usize, Nested) -> Result<Statement, Fault>> 
     #[tactic(auto, unfolding(awk_tree::specs::Statements::statements))]
     fn statements(&self, tokens: &mut Tokens<'_>) -> Result<Items<Statement>, Fault>
         requires { NestsStatements self.now.level.depth (B.pre self.now.body) (B.post self.now.body) }
-        ensures { Reads (map view_statement) (spec.statements self.now.level.depth (expr self.now.level.depth) (spec.statement self.now.level.depth) tokens.old) result tokens.new }
+        ensures { Reads (map view_statement)
+            (spec.statements self.now.level.depth (expr self.now.level.depth) (spec.statement self.now.level.depth)
+            tokens.old) result tokens.new }
     {
         let mut found = Items::new(self.level.alloc);
         for _turn in 0..tokens.left() {
@@ -230,7 +254,9 @@ impl<B: Fn(Global, &mut Tokens<'_>, usize, Nested) -> Result<Statement, Fault>> 
     #[tactic(auto, unfolding(awk_tree::specs::Statements::braces))]
     pub fn braces(&self, tokens: &mut Tokens<'_>) -> Result<Items<Statement>, Fault>
         requires { NestsStatements self.now.level.depth (B.pre self.now.body) (B.post self.now.body) }
-        ensures { Reads (map view_statement) (spec.braces self.now.level.depth (expr self.now.level.depth) (spec.statement self.now.level.depth) tokens.old) result tokens.new }
+        ensures { Reads (map view_statement)
+            (spec.braces self.now.level.depth (expr self.now.level.depth) (spec.statement self.now.level.depth)
+            tokens.old) result tokens.new }
     {
         let found = self.statements(tokens)?;
         tokens.exactly(Terminal::CloseBrace)?;
@@ -241,7 +267,9 @@ impl<B: Fn(Global, &mut Tokens<'_>, usize, Nested) -> Result<Statement, Fault>> 
     #[tactic(auto, using(awk_tree::proofs::Views::statement_views))]
     pub fn nested_in(&self, tokens: &mut Tokens<'_>, which: Nested) -> Result<Statement, Fault>
         requires { NestsStatements self.now.level.depth (B.pre self.now.body) (B.post self.now.body) }
-        ensures { Reads view_statement (spec.nested_in self.now.level.depth (expr self.now.level.depth) (spec.statement self.now.level.depth) which tokens.old) result tokens.new }
+        ensures { Reads view_statement
+            (spec.nested_in self.now.level.depth (expr self.now.level.depth) (spec.statement self.now.level.depth) which
+            tokens.old) result tokens.new }
     {
         match which {
             Nested::Braces => Ok(Statement::Block(self.braces(tokens)?)),

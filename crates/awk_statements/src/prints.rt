@@ -56,7 +56,8 @@ fn printed_rest(
     tokens: &mut Tokens<'_>,
     first: Boxed<Expr>,
 ) -> Result<Printed<Expr>, Fault>
-    ensures { Reads view_printed (spec.printed_rest level.now.depth (expr level.now.depth) (view first) tokens.old) result tokens.new }
+    ensures { Reads view_printed (spec.printed_rest level.now.depth (expr level.now.depth) (view first) tokens.old)
+        result tokens.new }
 {
     let (first, more) = pair(first, more_printed(level, tokens))?;
     Ok(Printed {
@@ -75,7 +76,9 @@ fn printed_from(
     first: Boxed<Expr>,
     more: Items<Expr>,
 ) -> Result<Printed<Expr>, Fault>
-    ensures { Reads view_printed (spec.printed_from level.now.depth (expr level.now.depth) place (view first) (map view more) tokens.old) result tokens.new }
+    ensures { Reads view_printed
+        (spec.printed_from level.now.depth (expr level.now.depth) place (view first) (map view more) tokens.old) result
+        tokens.new }
 {
     if is_several(&more) && ends_print(tokens.ahead()) {
         return Ok(Printed {
@@ -91,7 +94,8 @@ fn printed_from(
 /// A list that begins with `(`.
 #[tactic(auto, unfolding(awk_tree::specs::Statements::printed_paren))]
 fn printed_paren(level: &Level, tokens: &mut Tokens<'_>) -> Result<Printed<Expr>, Fault>
-    ensures { Reads view_printed (spec.printed_paren level.now.depth (expr level.now.depth) tokens.old) result tokens.new }
+    ensures { Reads view_printed (spec.printed_paren level.now.depth (expr level.now.depth) tokens.old) result
+        tokens.new }
 {
     let token = tokens.one(Terminal::OpenParen)?;
     let first = level.nested(tokens, Goal::Expr(false))?;
@@ -114,7 +118,8 @@ fn printed(level: &Level, tokens: &mut Tokens<'_>) -> Result<Printed<Expr>, Faul
 
 #[tactic(auto, unfolding(awk_tree::specs::Statements::printed_or_none))]
 fn printed_or_none(level: &Level, tokens: &mut Tokens<'_>) -> Result<Printed<Expr>, Fault>
-    ensures { Reads view_printed (spec.printed_or_none level.now.depth (expr level.now.depth) tokens.old) result tokens.new }
+    ensures { Reads view_printed (spec.printed_or_none level.now.depth (expr level.now.depth) tokens.old) result
+        tokens.new }
 {
     if ends_print(tokens.ahead()) {
         return Ok(Printed {
@@ -128,7 +133,8 @@ fn printed_or_none(level: &Level, tokens: &mut Tokens<'_>) -> Result<Printed<Exp
 /// `[ (> | >> | |) cat ]`
 #[tactic(auto, unfolding(awk_tree::specs::Statements::redirection))]
 fn redirection(level: &Level, tokens: &mut Tokens<'_>) -> Result<Option<Redirection<Expr>>, Fault>
-    ensures { Reads (option_map view_redirection) (spec.redirection level.now.depth (expr level.now.depth) tokens.old) result tokens.new }
+    ensures { Reads (option_map view_redirection) (spec.redirection level.now.depth (expr level.now.depth) tokens.old)
+        result tokens.new }
 {
     let Some(how) = redirect(tokens.ahead()) else {
         return Ok(None);

@@ -41,7 +41,8 @@ fn ended_by(
 /// `[ expr ]`, where the statement ends behind it.
 #[tactic(auto, unfolding(awk_tree::specs::Statements::perhaps_here))]
 fn perhaps_here(level: &Level, tokens: &mut Tokens<'_>) -> Result<Option<Expr>, Fault>
-    ensures { Reads (option_map view) (spec.perhaps_here level.now.depth (expr level.now.depth) tokens.old) result tokens.new }
+    ensures { Reads (option_map view) (spec.perhaps_here level.now.depth (expr level.now.depth) tokens.old) result
+        tokens.new }
 {
     if is(tokens.ahead(), Terminal::End) {
         return Ok(None);
@@ -68,7 +69,9 @@ fn delete(level: &Level, tokens: &mut Tokens<'_>) -> Result<Statement, Fault>
 /// An expression as a statement.
 #[tactic(auto, using(awk_tree::proofs::Views::statement_views))]
 fn plain(level: &Level, tokens: &mut Tokens<'_>) -> Result<Statement, Fault>
-    ensures { Reads view_statement (and_then (expression level.now.depth (expr level.now.depth) false tokens.old) (λ x ts. Ok (tree.plain x, ts))) result tokens.new }
+    ensures { Reads view_statement
+        (and_then (expression level.now.depth (expr level.now.depth) false tokens.old) (λ x ts. Ok (tree.plain x, ts)))
+        result tokens.new }
 {
     Ok(Statement::Expr(level.expression(tokens, false)?.into_inner()))
 }
@@ -76,7 +79,8 @@ fn plain(level: &Level, tokens: &mut Tokens<'_>) -> Result<Statement, Fault>
 /// `exit [ expr ]`
 #[tactic(auto, using(awk_tree::proofs::Views::statement_views))]
 fn exit(level: &Level, tokens: &mut Tokens<'_>) -> Result<Statement, Fault>
-    ensures { Reads view_statement (spec.simple_by level.now.depth (expr level.now.depth) Terminal.Exit tokens.old) result tokens.new }
+    ensures { Reads view_statement (spec.simple_by level.now.depth (expr level.now.depth) Terminal.Exit tokens.old)
+        result tokens.new }
 {
     let token = tokens.any()?;
     Ok(Statement::Exit(token.place, perhaps_here(level, tokens)?))
@@ -85,7 +89,8 @@ fn exit(level: &Level, tokens: &mut Tokens<'_>) -> Result<Statement, Fault>
 /// `return [ expr ]`
 #[tactic(auto, using(awk_tree::proofs::Views::statement_views))]
 fn give_back(level: &Level, tokens: &mut Tokens<'_>) -> Result<Statement, Fault>
-    ensures { Reads view_statement (spec.simple_by level.now.depth (expr level.now.depth) Terminal.Return tokens.old) result tokens.new }
+    ensures { Reads view_statement (spec.simple_by level.now.depth (expr level.now.depth) Terminal.Return tokens.old)
+        result tokens.new }
 {
     let token = tokens.any()?;
     Ok(Statement::Return(token.place, perhaps_here(level, tokens)?))
@@ -93,7 +98,8 @@ fn give_back(level: &Level, tokens: &mut Tokens<'_>) -> Result<Statement, Fault>
 
 #[tactic(auto, using(awk_tree::proofs::Views::statement_views))]
 fn simple_by(level: &Level, tokens: &mut Tokens<'_>, kind: Terminal) -> Result<Statement, Fault>
-    ensures { Reads view_statement (spec.simple_by level.now.depth (expr level.now.depth) kind tokens.old) result tokens.new }
+    ensures { Reads view_statement (spec.simple_by level.now.depth (expr level.now.depth) kind tokens.old) result
+        tokens.new }
 {
     match kind {
         Terminal::Print => print(level, tokens),
@@ -133,7 +139,8 @@ pub fn perhaps_until(
     tokens: &mut Tokens<'_>,
     end: Terminal,
 ) -> Result<Option<Expr>, Fault>
-    ensures { Reads (option_map view) (spec.perhaps_until level.now.depth (expr level.now.depth) end tokens.old) result tokens.new }
+    ensures { Reads (option_map view) (spec.perhaps_until level.now.depth (expr level.now.depth) end tokens.old) result
+        tokens.new }
 {
     if is(tokens.look(), end) {
         tokens.any()?;

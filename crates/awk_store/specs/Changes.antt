@@ -1,5 +1,7 @@
 -- How what a store holds changes, one definition for each call that changes it.
-use Rattle.std.specs.Prelude.{◌≡◌, ◌⊎◌, Option, Ok, Err, unwrap_or, ℕ, zero, suc, ◌+◌, ◌-◌, Bool, true, false, if◌then◌else◌, ℤ, pos, List, [], ◌∷◌, ◌++◌, length, take, map, replicate, slice_set, Some, None, Result}
+use Rattle.std.specs.Prelude.{◌≡◌, ◌⊎◌, Option, Ok, Err, unwrap_or, ℕ, zero, suc, ◌+◌, ◌-◌, Bool, true, false}
+use Rattle.std.specs.Prelude.{if◌then◌else◌, ℤ, pos, List, [], ◌∷◌, ◌++◌, length, take, map, replicate, slice_set, Some}
+use Rattle.std.specs.Prelude.{None, Result}
 use Rattle.awk_text.specs.declared.value.Value.{Value}
 use Rattle.awk_text.specs.declared.value.Value.TheVariants as v
 use Rattle.awk_text.specs.declared.fault.Fault.{Fault}
@@ -94,7 +96,8 @@ PutsNot at key x e = (e ≡ NoMemory) ⊎ (put (unwrap_or at []) key x ≡ Err e
 
 -- an element that holds a number is given the sum of that and another one
 abbrev pub Adds : Option Array → Text → ℤ → (Array → Type 0) → Type 0
-Adds at key by Holds = (n : ℤ) × (m : ℤ) × (element (unwrap_or at []) key ≡ Some (v.Num n)) × (add n by ≡ Ok m) × Puts at key (v.Num m) Holds
+Adds at key by Holds = (n : ℤ) × (m : ℤ) × (element (unwrap_or at []) key ≡ Some (v.Num n)) × (add n by ≡ Ok m)
+    × Puts at key (v.Num m) Holds
 
 -- ---- calls
 
@@ -132,7 +135,8 @@ with_row row kept = record kept { row = row }
 
 -- a record of this text, whose fields go by FS and RS as they are
 abbrev pub row_of : Kept → Text → Row
-row_of kept text = record { whole = text; fields = unsplit (separator (own_text kept own.Fs) (is_empty (own_text kept own.Rs))) }
+row_of kept text =
+    record { whole = text; fields = unsplit (separator (own_text kept own.Fs) (is_empty (own_text kept own.Rs))) }
 
 -- ---- the run
 

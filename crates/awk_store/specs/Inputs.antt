@@ -13,4 +13,5 @@ key_of source.Standard = Some (Standard 0)
 key_of (source.Operand text) = Some (Named OperandFile text)
 
 abbrev pub main_of : MainInput → Main
-main_of x = record { position = x.position; current = key_of x.current; named = x.named; ended = x.ended; failed = x.failed }
+main_of x =
+    record { position = x.position; current = key_of x.current; named = x.named; ended = x.ended; failed = x.failed }

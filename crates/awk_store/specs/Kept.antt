@@ -1,5 +1,5 @@
--- What a store holds, as plain data: the variables of the whole script by their slots, the parameters of the present call
--- by their places, the record, and how far the run is.
+-- What a store holds, as plain data: the variables of the whole script by their slots, the parameters of the present
+-- call by their places, the record, and how far the run is.
 use Rattle.std.specs.Prelude.{ℕ, ◌==◌, Bool, false, List, [], Option, Some, None, unwrap_or, slice_get}
 use Rattle.awk_text.specs.declared.value.Value.{Value}
 use Rattle.awk_text.specs.declared.value.Value.TheVariants as v

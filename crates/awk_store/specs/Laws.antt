@@ -1,5 +1,5 @@
--- What a store does is what the machine does: what is read of it is what the machine reads of its state, and each change of
--- it is the machine's own.
+-- What a store does is what the machine does: what is read of it is what the machine reads of its state, and each
+-- change of it is the machine's own.
 use Rattle.std.specs.Prelude.{◌≡◌, ◌+◌, ◌-◌, ℕ, Bool, List, [], ◌++◌, length, map, take, Some}
 use Rattle.awk_text.specs.declared.value.Value.{Value}
 use Rattle.awk_fields.specs.Rows.{Row, known}
@@ -42,32 +42,39 @@ module _ (names : List Text) (k : Kept) (hidden : Hidden) where
   ReadsText = (x : Own) → variables.own_text (state names k hidden) (name_of x) ≡ kept.own_text k x
 
   abbrev pub ReadsReference : Type 0
-  ReadsReference = (a : Variable) → variables.reference (state names k hidden) (variable_of names a) ≡ reference_of names (kept.reference k a)
+  ReadsReference = (a : Variable) → variables.reference (state names k hidden) (variable_of names a)
+      ≡ reference_of names (kept.reference k a)
 
   abbrev pub ReadsArrayAt : Type 0
-  ReadsArrayAt = (at : Reference) → variables.array_at (state names k hidden) (reference_of names at) ≡ kept.array_at k at
+  ReadsArrayAt =
+      (at : Reference) → variables.array_at (state names k hidden) (reference_of names at) ≡ kept.array_at k at
 
   abbrev pub ReadsArray : Type 0
   ReadsArray = (a : Variable) → variables.array (state names k hidden) (variable_of names a) ≡ kept.array k a
 
 -- of a store with a cell for each name
 abbrev pub Reads : ((names : List Text) (k : Kept) (hidden : Hidden) → Type 0) → Type 0
-Reads Law = (names : List Text) (k : Kept) (hidden : Hidden) → Sound names → length k.cells ≡ length names → Law names k hidden
+Reads Law =
+    (names : List Text) (k : Kept) (hidden : Hidden) → Sound names → length k.cells ≡ length names → Law names k hidden
 
 -- ---- what is changed
 
 module _ (names : List Text) (k : Kept) (hidden : Hidden) where
   abbrev pub SetsVariable : Type 0
-  SetsVariable = (x : Variable) (v : Value) → variables.with_variable (variable_of names x) v (state names k hidden) ≡ state names (changes.with_value x v k) hidden
+  SetsVariable = (x : Variable) (v : Value) → variables.with_variable (variable_of names x) v (state names k hidden)
+      ≡ state names (changes.with_value x v k) hidden
 
   abbrev pub SetsOwn : Type 0
-  SetsOwn = (x : Own) (v : Value) → variables.with_own (name_of x) v (state names k hidden) ≡ state names (changes.with_own x v k) hidden
+  SetsOwn = (x : Own) (v : Value) → variables.with_own (name_of x) v (state names k hidden)
+      ≡ state names (changes.with_own x v k) hidden
 
   abbrev pub SetsArrayAt : Type 0
-  SetsArrayAt = (at : Reference) (a : Array) → variables.array_set (reference_of names at) a (state names k hidden) ≡ state names (changes.with_array at a k) hidden
+  SetsArrayAt = (at : Reference) (a : Array) → variables.array_set (reference_of names at) a (state names k hidden)
+      ≡ state names (changes.with_array at a k) hidden
 
   abbrev pub SetsArray : Type 0
-  SetsArray = (x : Variable) (a : Array) → variables.with_array (variable_of names x) a (state names k hidden) ≡ state names (changes.with_array (kept.reference k x) a k) hidden
+  SetsArray = (x : Variable) (a : Array) → variables.with_array (variable_of names x) a (state names k hidden)
+      ≡ state names (changes.with_array (kept.reference k x) a k) hidden
 
 abbrev pub Changes : ((names : List Text) (k : Kept) (hidden : Hidden) → Type 0) → Type 0
 Changes Law = (names : List Text) (k : Kept) (hidden : Hidden) → Sound names → Law names k hidden
@@ -87,27 +94,34 @@ Enters = (names : List Text) (k : Kept) (hidden : Hidden) (given : List Bound) (
 
 abbrev pub Leaves : Type 0
 Leaves = (names : List Text) (k : Kept) (hidden : Hidden) (frame : List Bound) (n : ℕ) →
-    record (state names k hidden) { locals = map (bound_of names) frame; depth = k.depth - 1; made = take n k.made } ≡ state names (changes.left frame n k) hidden
+    record (state names k hidden) { locals = map (bound_of names) frame; depth = k.depth - 1; made = take n k.made }
+    ≡ state names (changes.left frame n k) hidden
 
 abbrev pub Unwinds : Type 0
-Unwinds = (names : List Text) (k : Kept) (hidden : Hidden) → statements.unwound (state names k hidden) ≡ state names (changes.unwound k) hidden
+Unwinds = (names : List Text) (k : Kept) (hidden : Hidden) → statements.unwound (state names k hidden)
+    ≡ state names (changes.unwound k) hidden
 
 abbrev pub TurnsOn : Type 0
-TurnsOn = (names : List Text) (k : Kept) (hidden : Hidden) (n : ℕ) (b : Bool) → rules.with_on n b (state names k hidden) ≡ state names (changes.with_on n b k) hidden
+TurnsOn = (names : List Text) (k : Kept) (hidden : Hidden) (n : ℕ) (b : Bool) → rules.with_on n b (state names k hidden)
+    ≡ state names (changes.with_on n b k) hidden
 
 abbrev pub SetsMain : Type 0
-SetsMain = (names : List Text) (k : Kept) (hidden : Hidden) (main : Main) → main_input.with_main main (state names k hidden) ≡ state names (changes.with_main main k) hidden
+SetsMain = (names : List Text) (k : Kept) (hidden : Hidden) (main : Main) →
+    main_input.with_main main (state names k hidden) ≡ state names (changes.with_main main k) hidden
 
 abbrev pub SetsPhase : Type 0
-SetsPhase = (names : List Text) (k : Kept) (hidden : Hidden) (phase : Phase) → record (state names k hidden) { phase = phase_of phase } ≡ state names (changes.with_phase phase k) hidden
+SetsPhase = (names : List Text) (k : Kept) (hidden : Hidden) (phase : Phase) →
+    record (state names k hidden) { phase = phase_of phase } ≡ state names (changes.with_phase phase k) hidden
 
 abbrev pub SetsStatus : Type 0
-SetsStatus = (names : List Text) (k : Kept) (hidden : Hidden) (n : ℕ) → record (state names k hidden) { status = Some n } ≡ state names (changes.with_status n k) hidden
+SetsStatus = (names : List Text) (k : Kept) (hidden : Hidden) (n : ℕ) →
+    record (state names k hidden) { status = Some n } ≡ state names (changes.with_status n k) hidden
 
 -- the record of the store and the steps are no part of the state: the one is hidden, the other is the run's
 abbrev pub KeepsState : Type 0
 KeepsState = (names : List Text) (k : Kept) (hidden : Hidden) (row : Row) →
-    (state names k hidden ≡ state names (changes.with_row row k) hidden) × (state names k hidden ≡ state names (changes.stepped k) hidden)
+    (state names k hidden ≡ state names (changes.with_row row k) hidden)
+    × (state names k hidden ≡ state names (changes.stepped k) hidden)
 
 -- ---- at first
 
@@ -118,4 +132,5 @@ abbrev pub texts_of : List Name → List Text
 texts_of names = map (λ n. n.text) names
 
 abbrev pub BeginsSo : Type 0
-BeginsSo = (g : Given) → IsOnce (texts_of g.program.variables) → state (texts_of g.program.variables) (changes.first_kept g.program.variables) first_hidden ≡ first_state g
+BeginsSo = (g : Given) → IsOnce (texts_of g.program.variables) →
+    state (texts_of g.program.variables) (changes.first_kept g.program.variables) first_hidden ≡ first_state g

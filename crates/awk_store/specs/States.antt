@@ -45,7 +45,8 @@ phase_of Beginning = m.Beginning
 phase_of Ruling = m.Ruling
 phase_of Ending = m.Ending
 
--- what a store does not hold: how much of each stream was taken, and the machine's record, which the store may have split
+-- what a store does not hold: how much of each stream was taken, and the machine's record, which the store may have
+-- split
 pub record Hidden : Type 0 where
   pub taken : Key → ℕ
   pub row : Row

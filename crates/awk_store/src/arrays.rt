@@ -1,5 +1,6 @@
 // Arrays.
-ghost use Rattle.std.specs.Prelude.{[], ◌≡◌, ◌⊎◌, ◌≤◌, true, false, Ok, Some, slice_get, slice_set, unwrap_or, length, IfOk, IfErr, OnOk, IsOkUnless};
+ghost use Rattle.std.specs.Prelude.{[], ◌≡◌, ◌⊎◌, ◌≤◌, true, false, Ok, Some, slice_get, slice_set, unwrap_or, length};
+ghost use Rattle.std.specs.Prelude.{IfOk, IfErr, OnOk, IsOkUnless};
 ghost use Rattle.std.specs.Option.{option_copied};
 ghost use Rattle.awk_fields.specs.Rows.{IsValueAt};
 ghost use Rattle.awk_text.specs.Limits.{most_bytes};
@@ -73,8 +74,11 @@ fn replace_made(
 
 /// Gives an element of the array at a slot a value. Where there is no array nothing changes.
 fn put_in_cells(cells: &mut Vec<Cell>, slot: usize, key: &[u8], value: Value) -> Result<(), Fault>
-    ensures ok { OnOk result (Puts (listed (slice_get cells.old.items slot)) key.now value (λ new. cells.new.items ≡ change_at (given_array new) cells.old.items slot)) }
-    ensures err { IfErr result (λ e. (cells.new.items ≡ cells.old.items) × PutsNot (listed (slice_get cells.old.items slot)) key.now value e) }
+    ensures ok { OnOk result
+        (Puts (listed (slice_get cells.old.items slot)) key.now value
+        (λ new. cells.new.items ≡ change_at (given_array new) cells.old.items slot)) }
+    ensures err { IfErr result
+        (λ e. (cells.new.items ≡ cells.old.items) × PutsNot (listed (slice_get cells.old.items slot)) key.now value e) }
 {
     match cells.get_mut(slot) {
         Some(cell) => cell.put(key, value),
@@ -84,7 +88,9 @@ fn put_in_cells(cells: &mut Vec<Cell>, slot: usize, key: &[u8], value: Value) ->
 
 /// Adds to the number that an element of the array at a slot holds, where it holds one, and answers whether it did.
 fn add_in_cells(cells: &mut Vec<Cell>, slot: usize, key: &[u8], by: i64) -> bool
-    ensures done { result ≡ true → Adds (listed (slice_get cells.old.items slot)) key.now by (λ new. cells.new.items ≡ change_at (given_array new) cells.old.items slot) }
+    ensures done { result ≡ true →
+        Adds (listed (slice_get cells.old.items slot)) key.now by
+        (λ new. cells.new.items ≡ change_at (given_array new) cells.old.items slot) }
     ensures not_done { result ≡ false → cells.new.items ≡ cells.old.items }
 {
     match cells.get_mut(slot) {
@@ -95,7 +101,8 @@ fn add_in_cells(cells: &mut Vec<Cell>, slot: usize, key: &[u8], by: i64) -> bool
 
 /// The same among the arrays that calls have made.
 fn add_in_made(made: &mut Vec<Array<Value>>, place: usize, key: &[u8], by: i64) -> bool
-    ensures done { result ≡ true → Adds (slice_get made.old.items place) key.now by (λ new. made.new.items ≡ slice_set made.old.items place new) }
+    ensures done { result ≡ true →
+        Adds (slice_get made.old.items place) key.now by (λ new. made.new.items ≡ slice_set made.old.items place new) }
     ensures not_done { result ≡ false → made.new.items ≡ made.old.items }
 {
     match made.get_mut(place) {
@@ -111,8 +118,11 @@ fn put_made(
     key: &[u8],
     value: Value,
 ) -> Result<(), Fault>
-    ensures ok { OnOk result (Puts (slice_get made.old.items place) key.now value (λ new. made.new.items ≡ slice_set made.old.items place new)) }
-    ensures err { IfErr result (λ e. (made.new.items ≡ made.old.items) × PutsNot (slice_get made.old.items place) key.now value e) }
+    ensures ok { OnOk result
+        (Puts (slice_get made.old.items place) key.now value
+        (λ new. made.new.items ≡ slice_set made.old.items place new)) }
+    ensures err { IfErr result
+        (λ e. (made.new.items ≡ made.old.items) × PutsNot (slice_get made.old.items place) key.now value e) }
 {
     match made.get_mut(place) {
         Some(array) => array.set(key, value),
@@ -198,8 +208,11 @@ impl Store {
     /// is refused; then nothing has changed.
     #[inline(always)]
     pub fn put(&mut self, name: Variable, key: &[u8], value: Value) -> Result<(), Fault>
-        ensures ok { OnOk result ((new : state.Array) × (put (array self.old name) key.now value ≡ Ok new) × (self.new ≡ with_array (reference self.old name) new self.old)) }
-        ensures err { IfErr result (λ e. (self.new ≡ self.old) × ((e ≡ Fault.Memory) ⊎ (put (array self.old name) key.now value ≡ Err e))) }
+        ensures ok { OnOk result
+            ((new : state.Array) × (put (array self.old name) key.now value ≡ Ok new)
+            × (self.new ≡ with_array (reference self.old name) new self.old)) }
+        ensures err { IfErr result
+            (λ e. (self.new ≡ self.old) × ((e ≡ Fault.Memory) ⊎ (put (array self.old name) key.now value ≡ Err e))) }
     {
         match self.reference(name) {
             Reference::Shared(slot) => put_in_cells(&mut self.cells, slot as usize, key, value),
@@ -211,7 +224,9 @@ impl Store {
     /// Adds to the number that an element holds, and answers whether it did. Where the element is not there or holds no
     /// number, or the sum is out of range, nothing changes. Takes no memory.
     pub fn add_to(&mut self, name: Variable, key: &[u8], by: i64) -> bool
-        ensures done { result ≡ true → Adds (Some (array self.old name)) key.now by (λ new. self.new ≡ with_array (reference self.old name) new self.old) }
+        ensures done { result ≡ true →
+            Adds (Some (array self.old name)) key.now by
+            (λ new. self.new ≡ with_array (reference self.old name) new self.old) }
         ensures not_done { result ≡ false → self.new ≡ self.old }
     {
         match self.reference(name) {
@@ -221,9 +236,13 @@ impl Store {
         }
     }
 
-    /// The same, where the key is the text of a field by its number, and the field is there without a change; see `lent_field`.
+    /// The same, where the key is the text of a field by its number, and the field is there without a change; see
+    /// `lent_field`.
     pub fn add_at_field(&mut self, name: Variable, n: u16, by: i64) -> bool
-        ensures done { result ≡ true → (key : Value) × IsValueAt self.old.row n key × (length (text_of key) ≤ most_bytes) × Adds (Some (array self.old name)) (text_of key) by (λ new. self.new ≡ with_array (reference self.old name) new self.old) }
+        ensures done { result ≡ true → (key : Value) × IsValueAt self.old.row n key
+            × (length (text_of key) ≤ most_bytes)
+            × Adds (Some (array self.old name)) (text_of key) by
+            (λ new. self.new ≡ with_array (reference self.old name) new self.old) }
         ensures not_done { result ≡ false → self.new ≡ self.old }
     {
         let at = self.reference(name);
@@ -252,8 +271,8 @@ impl Store {
         self.replace(at, elements);
     }
 
-    /// Removes all elements. An empty array takes the place of the old one, so that this takes no longer than to let go of what
-    /// it holds. Takes no memory.
+    /// Removes all elements. An empty array takes the place of the old one, so that this takes no longer than to let go
+    /// of what it holds. Takes no memory.
     pub fn clear(&mut self, name: Variable)
         ensures { self.new ≡ with_array (reference self.old name) [] self.old }
     {

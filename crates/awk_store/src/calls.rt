@@ -68,7 +68,8 @@ fn emptied(alloc: Global, list: Option<Vec<Bound>>) -> Vec<Bound>
 }
 
 impl Store {
-    /// No values yet of a call's arguments, in what an ended call kept its parameters in where there is some. Takes no memory.
+    /// No values yet of a call's arguments, in what an ended call kept its parameters in where there is some. Takes no
+    /// memory.
     pub fn spare_values(&mut self) -> Passed
         ensures empty { result ≡ [] }
         ensures same { self.new ≡ self.old }
@@ -76,17 +77,19 @@ impl Store {
         Passed::of(emptied(self.alloc, self.spare.pop()))
     }
 
-    /// Begins a call: these are what its first parameters hold, and the kinds of those behind them, that have no argument.
-    /// Answers what the caller waits with.
+    /// Begins a call: these are what its first parameters hold, and the kinds of those behind them, that have no
+    /// argument. Answers what the caller waits with.
     ///
-    /// Fails with `Fault::CallDepth` exactly where calls are as deep as they may be, and with `Fault::Memory` where memory
-    /// is refused; then nothing has changed.
+    /// Fails with `Fault::CallDepth` exactly where calls are as deep as they may be, and with `Fault::Memory` where
+    /// memory is refused; then nothing has changed.
     pub fn enter(&mut self, given: Vec<Bound>, others: &[bool]) -> Result<Caller, Fault>
         ensures depth { OnOk result (self.old.depth < most_depth) }
-        ensures caller { IfOk result (λ caller. (caller.frame.items ≡ self.old.frame) × (caller.made ≡ length self.old.made)) }
+        ensures caller { IfOk result
+            (λ caller. (caller.frame.items ≡ self.old.frame) × (caller.made ≡ length self.old.made)) }
         ensures ok { OnOk result (self.new ≡ entered given.items others.now self.old) }
         ensures err { OnErr result (self.new ≡ self.old) }
-        ensures fault { IfErr result (λ e. (e ≡ Fault.Memory) ⊎ ((e ≡ Fault.CallDepth) × (most_depth ≤ self.old.depth))) }
+        ensures fault { IfErr result
+            (λ e. (e ≡ Fault.Memory) ⊎ ((e ≡ Fault.CallDepth) × (most_depth ≤ self.old.depth))) }
     {
         if self.depth >= MOST_DEPTH {
             return Err(Fault::CallDepth);

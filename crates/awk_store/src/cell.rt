@@ -72,7 +72,8 @@ impl Cell {
     /// Adds 1 to the number that it holds, where it holds one and the sum is in range, and answers whether it did.
     #[inline(always)]
     pub(crate) fn add_one(&mut self) -> bool
-        ensures done { result ≡ true → (n : ℤ) × (m : ℤ) × (scalar (Some self.old) ≡ Some (Value.Num n)) × (add n (pos 1) ≡ Ok m) × (self.new ≡ given_value (Value.Num m) self.old) }
+        ensures done { result ≡ true → (n : ℤ) × (m : ℤ) × (scalar (Some self.old) ≡ Some (Value.Num n))
+            × (add n (pos 1) ≡ Ok m) × (self.new ≡ given_value (Value.Num m) self.old) }
         ensures not_done { result ≡ false → self.new ≡ self.old }
     {
         match self {
@@ -97,7 +98,8 @@ impl Cell {
     ///
     /// Fails as `Array::set` does; then nothing has changed.
     pub(crate) fn put(&mut self, key: &[u8], value: Value) -> Result<(), Fault>
-        ensures ok { OnOk result (Puts (listed (Some self.old)) key.now value (λ new. self.new ≡ given_array new self.old)) }
+        ensures ok { OnOk result
+            (Puts (listed (Some self.old)) key.now value (λ new. self.new ≡ given_array new self.old)) }
         ensures err { IfErr result (λ e. (self.new ≡ self.old) × PutsNot (listed (Some self.old)) key.now value e) }
     {
         match self {
@@ -108,7 +110,8 @@ impl Cell {
 
     /// Adds to the number that an element of the array holds, and answers whether it did.
     pub(crate) fn add_to(&mut self, key: &[u8], by: i64) -> bool
-        ensures done { result ≡ true → Adds (listed (Some self.old)) key.now by (λ new. self.new ≡ given_array new self.old) }
+        ensures done { result ≡ true →
+            Adds (listed (Some self.old)) key.now by (λ new. self.new ≡ given_array new self.old) }
         ensures not_done { result ≡ false → self.new ≡ self.old }
     {
         match self {
@@ -143,7 +146,8 @@ pub(crate) fn add_in(elements: &mut Array<Value>, key: &[u8], by: i64) -> bool
 /// Adds to the number that a value is, where it is one, and answers whether it did.
 #[inline(always)]
 fn add_value(value: &mut Value, by: i64) -> bool
-    ensures done { result ≡ true → (n : ℤ) × (m : ℤ) × (value.old ≡ Value.Num n) × (add n by ≡ Ok m) × (value.new ≡ Value.Num m) }
+    ensures done { result ≡ true → (n : ℤ) × (m : ℤ) × (value.old ≡ Value.Num n) × (add n by ≡ Ok m)
+        × (value.new ≡ Value.Num m) }
     ensures not_done { result ≡ false → value.new ≡ value.old }
 {
     let Value::Num(number) = value else {

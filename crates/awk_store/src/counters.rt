@@ -14,7 +14,8 @@ use awk_text::place::Place;
 /// Adds 1 to the number of one of awk's own variables.
 #[inline(always)]
 pub fn count(store: &mut Store, place: Place, name: Own) -> Result<(), Halt>
-    ensures { (g : Given) (t : Table) → Acts g (Do (Count place (name_of name))) goes_on (store.old, t) result (store.new, t) }
+    ensures { (g : Given) (t : Table) →
+        Acts g (Do (Count place (name_of name))) goes_on (store.old, t) result (store.new, t) }
 {
     at(place, store.count(name))
 }

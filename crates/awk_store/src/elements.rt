@@ -24,7 +24,9 @@ pub fn read_element(
     array: Variable,
     key: &[u8],
 ) -> Result<Value, Halt>
-    ensures { (g : Given) (t : Table) → Acts g (Do (Get (machine.Element (variable_of (names_in g) array) key.now place))) give (store.old, t) result (store.new, t) }
+    ensures { (g : Given) (t : Table) →
+        Acts g (Do (Get (machine.Element (variable_of (names_in g) array) key.now place))) give (store.old, t) result
+        (store.new, t) }
 {
     let Ok(found) = copied(alloc, store.element(array, key)) else {
         return Err(Halt::Memory);
@@ -44,7 +46,9 @@ pub fn set_element(
     key: &[u8],
     value: Value,
 ) -> Result<(), Halt>
-    ensures { (g : Given) (t : Table) (place : Place) → Acts g (Do (Set (machine.Element (variable_of (names_in g) array) key.now at_name) place value)) goes_on (store.old, t) result (store.new, t) }
+    ensures { (g : Given) (t : Table) (place : Place) →
+        Acts g (Do (Set (machine.Element (variable_of (names_in g) array) key.now at_name) place value)) goes_on
+        (store.old, t) result (store.new, t) }
 {
     at(at_name, store.put(array, key, value))
 }

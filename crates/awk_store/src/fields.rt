@@ -18,7 +18,8 @@ use std::alloc::Global;
 
 /// Reads a field by its number: 0 is the whole record. The record is split where it was not.
 pub fn read_field(store: &mut Store, number: u16) -> Result<Value, Halt>
-    ensures { (g : Given) (t : Table) → Acts g (Do (Get (machine.Field number))) give (store.old, t) result (store.new, t) }
+    ensures { (g : Given) (t : Table) →
+        Acts g (Do (Get (machine.Field number))) give (store.old, t) result (store.new, t) }
 {
     let Ok(value) = store.field(i64::from(number)) else {
         return Err(Halt::Memory);
@@ -29,14 +30,16 @@ pub fn read_field(store: &mut Store, number: u16) -> Result<Value, Halt>
 /// Sets the whole record to the text of a value; its fields go by FS and RS as they are now.
 #[inline(always)]
 pub fn set_record(store: &mut Store, place: Place, text: Octets) -> Result<(), Halt>
-    ensures { (g : Given) (t : Table) (x : Value) → text_of x ≡ text → Acts g (Do (Set (machine.Field 0) place x)) goes_on (store.old, t) result (store.new, t) }
+    ensures { (g : Given) (t : Table) (x : Value) → text_of x ≡ text →
+        Acts g (Do (Set (machine.Field 0) place x)) goes_on (store.old, t) result (store.new, t) }
 {
     at(place, store.set_whole(text))
 }
 
 /// Sets the whole record to a value.
 fn set_whole(alloc: Global, store: &mut Store, place: Place, value: Value) -> Result<(), Halt>
-    ensures { (g : Given) (t : Table) → Acts g (Do (Set (machine.Field 0) place value)) goes_on (store.old, t) result (store.new, t) }
+    ensures { (g : Given) (t : Table) →
+        Acts g (Do (Set (machine.Field 0) place value)) goes_on (store.old, t) result (store.new, t) }
 {
     let Ok(text) = into_text(alloc, value) else {
         return Err(Halt::Memory);
@@ -52,7 +55,8 @@ pub fn set_field(
     place: Place,
     value: Value,
 ) -> Result<(), Halt>
-    ensures { (g : Given) (t : Table) → Acts g (Do (Set (machine.Field number) place value)) goes_on (store.old, t) result (store.new, t) }
+    ensures { (g : Given) (t : Table) →
+        Acts g (Do (Set (machine.Field number) place value)) goes_on (store.old, t) result (store.new, t) }
 {
     if number == 0 {
         return set_whole(alloc, store, place, value);

@@ -15,7 +15,8 @@ ghost use Rattle.awk_store.specs.Wholes.{base, names_in};
 ghost use Rattle.awk_store.specs.declared.frame.Bound.TheVariants as bound;
 ghost use Rattle.awk_streams.specs.Tables.{Table};
 ghost use Rattle.awk_text.specs.declared.value.Value.{Value, Value as Val};
-ghost use Rattle.std.specs.Prelude.{IfErr, IfSome, List, None, Ok, OnOk, [], drop, length, map, slice_set, ℕ, ◌++◌, ◌∷◌, ◌≡◌};
+ghost use Rattle.std.specs.Prelude.{IfErr, IfSome, List, None, Ok, OnOk, [], drop, length, map, slice_set, ℕ, ◌++◌};
+ghost use Rattle.std.specs.Prelude.{◌∷◌, ◌≡◌};
 
 use crate::flow::Flow;
 use crate::{Bound, Caller, Passed, Reference, Store};
@@ -24,16 +25,18 @@ use awk_streams::halt::{Halt, at};
 use awk_text::place::Place;
 use awk_text::value::Value;
 
-/// Begins a call: these are what its first parameters hold, and the kinds of those that have no argument. Answers what the
-/// caller waits with.
+/// Begins a call: these are what its first parameters hold, and the kinds of those that have no argument. Answers what
+/// the caller waits with.
 pub fn enter(
     store: &mut Store,
     place: Place,
     given: Vec<Bound>,
     others: &[bool],
 ) -> Result<Caller, Halt>
-    ensures { (g : Given) (t : Table) (n : ℕ) (xs : Arguments) (vs : List Value) → others.now ≡ drop (length vs) (function g.program n).parameters
-        → ((hid : Hidden) → all_handed (base g (store.old, t) hid) (arguments xs) vs ≡ map (bound_of (names_in g)) given.items)
+    ensures { (g : Given) (t : Table) (n : ℕ) (xs : Arguments) (vs : List Value) → others.now
+        ≡ drop (length vs) (function g.program n).parameters
+        → ((hid : Hidden) → all_handed (base g (store.old, t) hid) (arguments xs) vs
+        ≡ map (bound_of (names_in g)) given.items)
         → Acts g (Do (Call place n xs vs)) (begun g n) (store.old, t) result (store.new, t) }
 {
     at(place, store.enter(given, others))
@@ -41,7 +44,9 @@ pub fn enter(
 
 /// Ends a call, with what its caller waited with.
 pub fn leave(store: &mut Store, caller: Caller)
-    ensures { (g : Given) (t : Table) (vs : List Value) → Acts g (At (Leave (map (bound_of (names_in g)) caller.frame.items) caller.made) vs) (λ (u : Unit {0}). give (first vs)) (store.old, t) (Ok (tt {0})) (store.new, t) }
+    ensures { (g : Given) (t : Table) (vs : List Value) →
+        Acts g (At (Leave (map (bound_of (names_in g)) caller.frame.items) caller.made) vs)
+        (λ (u : Unit {0}). give (first vs)) (store.old, t) (Ok (tt {0})) (store.new, t) }
 {
     store.leave(caller);
 }
@@ -57,7 +62,8 @@ fn hand(bounds: &mut Vec<Bound>, at: usize, array: Reference)
 
 /// Hands the argument at this place, if it is an array, in place of what lies there.
 fn hand_one(store: &Store, x: &Argument<Expr>, bounds: &mut Vec<Bound>, at: usize)
-    ensures array { IfSome (calls.array_of x.now) (λ a. bounds.new.items ≡ slice_set bounds.old.items at (bound.Handed (reference store.now a))) }
+    ensures array { IfSome (calls.array_of x.now)
+        (λ a. bounds.new.items ≡ slice_set bounds.old.items at (bound.Handed (reference store.now a))) }
     ensures others { calls.array_of x.now ≡ None → bounds.new.items ≡ bounds.old.items }
 {
     match x {
@@ -69,7 +75,8 @@ fn hand_one(store: &Store, x: &Argument<Expr>, bounds: &mut Vec<Bound>, at: usiz
 /// Hands the arrays among the arguments, in place of what lies there; what lies behind the last argument goes.
 fn hand_arrays(store: &Store, xs: &[Argument<Expr>], bounds: &mut Vec<Bound>)
     ensures { (g : Given) (t : Table) (hid : Hidden) (vs : List Val) → bounds.old.items ≡ map as_scalar vs
-        → machine.all_handed (base g (store.now, t) hid) (machine.arguments (view_arguments (names_in g) xs.now)) vs ≡ map (bound_of (names_in g)) bounds.new.items }
+        → machine.all_handed (base g (store.now, t) hid) (machine.arguments (view_arguments (names_in g) xs.now)) vs
+        ≡ map (bound_of (names_in g)) bounds.new.items }
 {
     bounds.truncate(xs.len());
     let mut at = 0;
@@ -90,7 +97,8 @@ pub fn pass(values: &mut Passed, value: Value) -> Result<(), Halt>
 
 /// The statements of the function with this number.
 pub fn body_of(program: &Program, f: u32) -> &[Statement]
-    ensures { map (view_statement (names_of program.now)) result.now ≡ (machine.function (view_program program.now) f).body }
+    ensures { map (view_statement (names_of program.now)) result.now
+        ≡ (machine.function (view_program program.now) f).body }
 {
     match program.functions.get(f as usize) {
         Some(function) => function.body.as_slice(),
@@ -117,7 +125,9 @@ pub fn begin(
     values: Passed,
     store: &mut Store,
 ) -> Result<Caller, Halt>
-    ensures { (g : Given) (t : Table) → g.program ≡ view_program program.now → Acts g (Do (Call place f (view_arguments (names_in g) xs.now) values)) (begun g f) (store.old, t) result (store.new, t) }
+    ensures { (g : Given) (t : Table) → g.program ≡ view_program program.now →
+        Acts g (Do (Call place f (view_arguments (names_in g) xs.now) values)) (begun g f) (store.old, t) result
+        (store.new, t) }
 {
     let count = values.len();
     let mut given = values.into_bounds();

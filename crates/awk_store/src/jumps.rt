@@ -19,7 +19,8 @@ use awk_text::value::Value;
 
 /// `next`: all calls end, and the record is done with. Outside the rules for records it is a fault. Takes no memory.
 pub fn next(store: &mut Store, place: Place) -> Halt
-    ensures { (g : Given) (t : Table) → Jumps g (At (Doing (p.jump (j.Next place))) []) (store.old, t) result (store.new, t) }
+    ensures { (g : Given) (t : Table) →
+        Jumps g (At (Doing (p.jump (j.Next place))) []) (store.old, t) result (store.new, t) }
 {
     match store.phase() {
         Phase::Ruling => {
@@ -30,10 +31,12 @@ pub fn next(store: &mut Store, place: Place) -> Halt
     }
 }
 
-/// `nextfile`: all calls end, and what the main input reads is to be done with before the next record. Outside the rules for
-/// records it is a fault. Takes no memory.
+/// `nextfile`: all calls end, and what the main input reads is to be done with before the next record. Outside the
+/// rules for records it is a fault. Takes no memory.
 pub fn next_file(store: &mut Store, place: Place) -> Result<(), Halt>
-    ensures { (g : Given) (t : Table) → Acts g (At (Doing (p.jump (j.NextFile place))) []) (λ u k. skipping store.new.main.current (to_records k)) (store.old, t) result (store.new, t) }
+    ensures { (g : Given) (t : Table) →
+        Acts g (At (Doing (p.jump (j.NextFile place))) []) (λ u k. skipping store.new.main.current (to_records k))
+        (store.old, t) result (store.new, t) }
 {
     match store.phase() {
         Phase::Ruling => {
@@ -46,7 +49,8 @@ pub fn next_file(store: &mut Store, place: Place) -> Result<(), Halt>
 
 /// `exit` without a status: all calls end, and what is left are the actions of END. Takes no memory.
 pub fn exit(store: &mut Store) -> Halt
-    ensures { (g : Given) (t : Table) (place : Place) → Jumps g (At (Doing (p.exit place None)) []) (store.old, t) result (store.new, t) }
+    ensures { (g : Given) (t : Table) (place : Place) →
+        Jumps g (At (Doing (p.exit place None)) []) (store.old, t) result (store.new, t) }
 {
     store.unwind();
     Halt::Exit
@@ -54,7 +58,8 @@ pub fn exit(store: &mut Store) -> Halt
 
 /// `exit` with a status. Takes no memory.
 pub fn exit_with(store: &mut Store, place: Place, value: &Value) -> Halt
-    ensures { (g : Given) (t : Table) (x : Expression) → Jumps g (At (Doing (p.exit place (Some x))) (value.now ∷ [])) (store.old, t) result (store.new, t) }
+    ensures { (g : Given) (t : Table) (x : Expression) →
+        Jumps g (At (Doing (p.exit place (Some x))) (value.now ∷ [])) (store.old, t) result (store.new, t) }
 {
     match exit_status(value) {
         Ok(status) => {

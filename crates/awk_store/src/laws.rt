@@ -1,5 +1,8 @@
 // Laws of the definitions. The functions do nothing: each has a law as its contract.
-ghost use Rattle.awk_store.specs.Laws.{BeginsSo, Changes, Enters, KeepsCount, KeepsState, Leaves, Reads, ReadsArray, ReadsArrayAt, ReadsOwn, ReadsReference, ReadsText, ReadsVariable, SetsArray, SetsArrayAt, SetsMain, SetsOwn, SetsPhase, SetsStatus, SetsVariable, TellsNf, TurnsOn, Unwinds};
+ghost use Rattle.awk_store.specs.Laws.{BeginsSo, Changes, Enters, KeepsCount, KeepsState, Leaves, Reads, ReadsArray};
+ghost use Rattle.awk_store.specs.Laws.{ReadsArrayAt, ReadsOwn, ReadsReference, ReadsText, ReadsVariable, SetsArray};
+ghost use Rattle.awk_store.specs.Laws.{SetsArrayAt, SetsMain, SetsOwn, SetsPhase, SetsStatus, SetsVariable, TellsNf};
+ghost use Rattle.awk_store.specs.Laws.{TurnsOn, Unwinds};
 
 /// What is read of a store is what the machine reads of its state.
 pub fn reads()

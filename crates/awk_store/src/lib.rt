@@ -1,11 +1,11 @@
 //! What a run of an awk script holds, apart from the script itself and the world: variables, arrays, the calls that are
-//! under way, the record, and how far the run is ("Variables and Special Variables", "Actions" and "User-Defined Functions" of
-//! POSIX.1-2017 XCU awk).
+//! under way, the record, and how far the run is ("Variables and Special Variables", "Actions" and "User-Defined
+//! Functions" of POSIX.1-2017 XCU awk).
 //!
 //! Contracts see a store as the plain record of specs/Kept.antt, and each call that changes it is one definition of
 //! specs/Changes.antt. specs/States.antt says which state of the machine a store stands for, and laws.rt that each such
-//! change is the machine's own. What the machine does with a variable, an element, a field, a call or a jump is said by `Acts`
-//! (specs/Acts.antt), for the store and the streams together.
+//! change is the machine's own. What the machine does with a variable, an element, a field, a call or a jump is said by
+//! `Acts` (specs/Acts.antt), for the store and the streams together.
 #![tactic(auto)]
 
 mod arrays;

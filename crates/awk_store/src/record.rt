@@ -1,11 +1,13 @@
 // The record.
-ghost use Rattle.std.specs.Prelude.{◌≡◌, ◌⊎◌, ◌<◌, ◌≤◌, ℕ, List, Ok, Err, pos, length, IfOk, IfErr, IfSome, OnOk, OnErr};
+ghost use Rattle.std.specs.Prelude.{◌≡◌, ◌⊎◌, ◌<◌, ◌≤◌, ℕ, List, Ok, Err, pos, length, IfOk, IfErr, IfSome, OnOk};
+ghost use Rattle.std.specs.Prelude.{OnErr};
 ghost use Rattle.awk_text.specs.Lents.{lent_value};
 ghost use Rattle.awk_text.specs.Limits.{most_bytes};
 ghost use Rattle.awk_text.specs.Values.{text_of};
 ghost use Rattle.awk_machine.specs.Targets.{is_empty};
 ghost use Rattle.awk_program.specs.Slots.{slot_of};
-ghost use Rattle.awk_fields.specs.Rows.{place_of, HasFields, IsKept, IsValueAt, SetsCount, SetsField, SetsNoCount, SetsNoField};
+ghost use Rattle.awk_fields.specs.Rows.{place_of, HasFields, IsKept, IsValueAt, SetsCount, SetsField, SetsNoCount};
+ghost use Rattle.awk_fields.specs.Rows.{SetsNoField};
 ghost use Rattle.awk_fields.specs.Separators.{IsEre, IsNoEre, separator};
 ghost use Rattle.awk_program.specs.declared.variables.Own.TheVariants as own;
 ghost use Rattle.awk_store.specs.Kept.{own_text, value_at};
@@ -36,10 +38,15 @@ fn is_empty(cells: &[Cell], name: Own) -> bool
 /// What separates the fields of a record, by FS and RS as they are.
 #[inline(never)]
 fn splitter(alloc: Global, cells: &[Cell], separators: &mut Separators) -> Result<Splitter, Fault>
-    ensures ok { IfOk result (λ s. s ≡ separator (text_of (value_at cells.now (slot_of own.Fs))) (is_empty (text_of (value_at cells.now (slot_of own.Rs))))) }
-    ensures pattern { OnOk result (1 < length (text_of (value_at cells.now (slot_of own.Fs))) → IsEre (text_of (value_at cells.now (slot_of own.Fs)))) }
+    ensures ok { IfOk result
+        (λ s. s ≡ separator (text_of (value_at cells.now (slot_of own.Fs)))
+        (is_empty (text_of (value_at cells.now (slot_of own.Rs))))) }
+    ensures pattern { OnOk result
+        (1 < length (text_of (value_at cells.now (slot_of own.Fs))) →
+        IsEre (text_of (value_at cells.now (slot_of own.Fs)))) }
     ensures err { IfErr result (λ e. (e ≡ Fault.Memory)
-        ⊎ ((e ≡ Fault.Pattern) × (1 < length (text_of (value_at cells.now (slot_of own.Fs)))) × IsNoEre (text_of (value_at cells.now (slot_of own.Fs))))) }
+        ⊎ ((e ≡ Fault.Pattern) × (1 < length (text_of (value_at cells.now (slot_of own.Fs))))
+        × IsNoEre (text_of (value_at cells.now (slot_of own.Fs))))) }
 {
     let rs_empty = is_empty(cells, Own::Rs);
     let mut buffer = Buffer::new();
@@ -47,11 +54,13 @@ fn splitter(alloc: Global, cells: &[Cell], separators: &mut Separators) -> Resul
     separators.splitter(alloc, fs, rs_empty)
 }
 
-/// What separates the fields of a record, by FS and RS as they are, where both hold texts and that of FS has at most one byte.
-/// Takes no memory.
+/// What separates the fields of a record, by FS and RS as they are, where both hold texts and that of FS has at most
+/// one byte. Takes no memory.
 #[inline(always)]
 fn short_splitter(cells: &[Cell]) -> Option<Splitter>
-    ensures splitter { IfSome result (λ s. s ≡ separator (text_of (value_at cells.now (slot_of own.Fs))) (is_empty (text_of (value_at cells.now (slot_of own.Rs))))) }
+    ensures splitter { IfSome result
+        (λ s. s ≡ separator (text_of (value_at cells.now (slot_of own.Fs)))
+        (is_empty (text_of (value_at cells.now (slot_of own.Rs))))) }
     ensures short { IfSome result (λ s. length (text_of (value_at cells.now (slot_of own.Fs))) ≤ 1) }
 {
     let rs = own_bytes(cells, Own::Rs)?;
@@ -60,8 +69,8 @@ fn short_splitter(cells: &[Cell]) -> Option<Splitter>
 }
 
 impl Store {
-    /// Rebuilds the whole text of the record where a field or NF was set since it was last there. What a run holds stays the
-    /// same, and `known_whole` and `lent_field` have the text from then on until the next set.
+    /// Rebuilds the whole text of the record where a field or NF was set since it was last there. What a run holds
+    /// stays the same, and `known_whole` and `lent_field` have the text from then on until the next set.
     ///
     /// Fails where memory is refused.
     pub fn rebuild(&mut self) -> Result<(), Memory>
@@ -80,8 +89,8 @@ impl Store {
     /// Sets `$0`. Its fields go by FS and RS as they are now.
     ///
     /// Fails with `Fault::Pattern` exactly where FS is longer than one byte and no ERE within the limits, then with
-    /// `Fault::TextTooLong` exactly where the text has too many bytes, and with `Fault::Memory` where memory is refused;
-    /// then nothing has changed.
+    /// `Fault::TextTooLong` exactly where the text has too many bytes, and with `Fault::Memory` where memory is
+    /// refused; then nothing has changed.
     #[inline(always)]
     pub fn set_whole(&mut self, text: Octets) -> Result<(), Fault>
         ensures ok { OnOk result (self.new ≡ with_row (row_of self.old text) self.old) }
@@ -90,7 +99,8 @@ impl Store {
         ensures err { OnErr result (self.new ≡ self.old) }
         ensures fault { IfErr result (λ e. (e ≡ Fault.Memory)
             ⊎ ((e ≡ Fault.Pattern) × (1 < length (own_text self.old own.Fs)) × IsNoEre (own_text self.old own.Fs))
-            ⊎ ((e ≡ Fault.TextTooLong) × (1 < length (own_text self.old own.Fs) → IsEre (own_text self.old own.Fs)) × (most_bytes < length text))) }
+            ⊎ ((e ≡ Fault.TextTooLong) × (1 < length (own_text self.old own.Fs) → IsEre (own_text self.old own.Fs))
+            × (most_bytes < length text))) }
     {
         let splitter = match short_splitter(self.cells.as_slice()) {
             Some(splitter) => splitter,
@@ -99,7 +109,8 @@ impl Store {
         self.row.set_whole(text, splitter)
     }
 
-    /// What the text of the record before lay in, for the next one to be written there. What a run holds stays the same.
+    /// What the text of the record before lay in, for the next one to be written there. What a run holds stays the
+    /// same.
     #[inline(always)]
     pub fn take_room(&mut self) -> Vec<u8>
         ensures { self.new ≡ self.old }
@@ -107,11 +118,11 @@ impl Store {
         self.row.take_room()
     }
 
-    /// The value of a field by its number: 0 is the whole text, and a field above the last one is unset. The record stays
-    /// the same.
+    /// The value of a field by its number: 0 is the whole text, and a field above the last one is unset. The record
+    /// stays the same.
     ///
-    /// Fails with `Fault::FieldNumber` exactly where the number is not 0 to 65,535, and with `Fault::Memory` where memory
-    /// is refused.
+    /// Fails with `Fault::FieldNumber` exactly where the number is not 0 to 65,535, and with `Fault::Memory` where
+    /// memory is refused.
     pub fn field(&mut self, n: i64) -> Result<Value, Fault>
         ensures ok { IfOk result (λ v. (k : ℕ) × (place_of n ≡ Ok k) × IsValueAt self.new.row k v) }
         ensures kept { IsKept self.old.row self.new.row }
@@ -124,9 +135,9 @@ impl Store {
 
     /// Sets a field by its number, which is not 0. The whole text is rebuilt with OFS between the fields.
     ///
-    /// Fails with `Fault::FieldNumber` exactly where the number is not 1 to 65,535, with `Fault::TextTooLong` exactly where
-    /// the whole text would have too many bytes, and with `Fault::Memory` where memory is refused; then the record is as it
-    /// was.
+    /// Fails with `Fault::FieldNumber` exactly where the number is not 1 to 65,535, with `Fault::TextTooLong` exactly
+    /// where the whole text would have too many bytes, and with `Fault::Memory` where memory is refused; then the
+    /// record is as it was.
     pub fn set_field(&mut self, n: i64, value: Value) -> Result<(), Fault>
         ensures ok { OnOk result (SetsField self.old.row n value (own_text self.old own.Ofs) self.new.row) }
         ensures err { OnErr result (IsKept self.old.row self.new.row) }
@@ -142,7 +153,8 @@ impl Store {
     ///
     /// Fails with `Fault::Memory` alone, where memory is refused.
     pub fn field_count(&mut self) -> Result<i64, Fault>
-        ensures ok { IfOk result (λ n. (values : List Value) × HasFields self.new.row values × (n ≡ pos (length values))) }
+        ensures ok { IfOk result
+            (λ n. (values : List Value) × HasFields self.new.row values × (n ≡ pos (length values))) }
         ensures kept { IsKept self.old.row self.new.row }
         ensures others { self.new ≡ with_row self.new.row self.old }
         ensures fault { IfErr result (λ e. e ≡ Fault.Memory) }
@@ -152,9 +164,9 @@ impl Store {
 
     /// Sets NF, the number of fields. The whole text is rebuilt with OFS between them.
     ///
-    /// Fails with `Fault::FieldNumber` exactly where the number is not 0 to 65,535, with `Fault::TextTooLong` exactly where
-    /// the whole text would have too many bytes, and with `Fault::Memory` where memory is refused; then the record is as it
-    /// was.
+    /// Fails with `Fault::FieldNumber` exactly where the number is not 0 to 65,535, with `Fault::TextTooLong` exactly
+    /// where the whole text would have too many bytes, and with `Fault::Memory` where memory is refused; then the
+    /// record is as it was.
     pub fn set_field_count(&mut self, n: i64) -> Result<(), Fault>
         ensures ok { OnOk result (SetsCount self.old.row n (own_text self.old own.Ofs) self.new.row) }
         ensures err { OnErr result (IsKept self.old.row self.new.row) }
@@ -166,8 +178,8 @@ impl Store {
         self.row.set_count(n, ofs)
     }
 
-    /// The value of a field by its number, lent, where it is there without a change: 0 is the whole text, which is there unless
-    /// it is to be rebuilt, and the others are there once the record is split. Takes no memory.
+    /// The value of a field by its number, lent, where it is there without a change: 0 is the whole text, which is
+    /// there unless it is to be rebuilt, and the others are there once the record is split. Takes no memory.
     pub fn lent_field(&self, n: u16) -> Option<Lent<'_>>
         ensures { IfSome result (λ v. IsValueAt self.now.row n (lent_value v)) }
     {
@@ -176,7 +188,8 @@ impl Store {
 
     /// NF, where the record is split. Takes no memory.
     pub fn known_field_count(&self) -> Option<i64>
-        ensures { IfSome result (λ n. (values : List Value) × HasFields self.now.row values × (n ≡ pos (length values))) }
+        ensures { IfSome result
+            (λ n. (values : List Value) × HasFields self.now.row values × (n ≡ pos (length values))) }
     {
         self.row.known_count()
     }

@@ -23,7 +23,8 @@ pub fn step(bound: u64, store: &mut Store) -> Result<(), Halt>
 
 /// Whether a step is taken before the statement: before each that is no block, and before an empty block.
 pub fn is_one(x: &Statement) -> bool
-    ensures { (names : Names) (k : List Piece) → stepping (view_statement names x.now) k ≡ (if result then Do Step ∷ k else k) }
+    ensures { (names : Names) (k : List Piece) → stepping (view_statement names x.now) k
+        ≡ (if result then Do Step ∷ k else k) }
 {
     match x {
         Statement::Block(xs) => xs.as_slice().is_empty(),

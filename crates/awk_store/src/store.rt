@@ -1,6 +1,7 @@
 // What a run holds.
 ghost use Rattle.std.specs.Prelude.{◌≡◌, nat_lt, get_or, false, map, if◌then◌else◌, IfOk, OnOk, OnErr, IsOkUnless};
-ghost use Rattle.awk_store.specs.Changes.{first_cell, first_kept, stepped, turned, with_main, with_on, with_phase, with_status};
+ghost use Rattle.awk_store.specs.Changes.{first_cell, first_kept, stepped, turned, with_main, with_on, with_phase};
+ghost use Rattle.awk_store.specs.Changes.{with_status};
 ghost use Rattle.awk_store.specs.Inputs.{main_of};
 
 use crate::cell::Cell;
@@ -47,7 +48,19 @@ impl Model for Store {
 
     ghost use Rattle.awk_store.specs.Inputs.{main_of};
 
-    ghost view = { λ s. record { cells = s.cells.items; frame = s.frame.items; depth = s.depth; made = s.made.items; row = s.row; phase = s.phase; on = s.on.items; main = main_of s.main; status = s.status; used = s.used } };
+    ghost view = { λ s. record {
+      cells = s.cells.items;
+      frame = s.frame.items;
+      depth = s.depth;
+      made = s.made.items;
+      row = s.row;
+      phase =
+          s.phase;
+      on = s.on.items;
+      main = main_of s.main;
+      status = s.status;
+      used = s.used;
+    } };
 }
 
 impl Store {
@@ -115,7 +128,8 @@ impl Store {
         &self.main
     }
 
-    /// Puts this in place of how far the main input is read, and answers that: so a part of it is changed outside the store.
+    /// Puts this in place of how far the main input is read, and answers that: so a part of it is changed outside the
+    /// store.
     pub fn replace_main(&mut self, main: MainInput) -> MainInput
         ensures value { main_of result ≡ self.old.main }
         ensures after { self.new ≡ with_main (main_of main) self.old }

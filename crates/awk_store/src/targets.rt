@@ -26,7 +26,8 @@ use std::alloc::Global;
 
 /// Reads it.
 pub fn read(alloc: Global, store: &mut Store, target: &Spot) -> Result<Value, Halt>
-    ensures { (g : Given) (t : Table) → Acts g (Do (Get (meant (names_in g) target.now))) give (store.old, t) result (store.new, t) }
+    ensures { (g : Given) (t : Table) →
+        Acts g (Do (Get (meant (names_in g) target.now))) give (store.old, t) result (store.new, t) }
 {
     match target {
         Spot::Variable(variable) => read_variable(alloc, store, *variable),
@@ -38,10 +39,12 @@ pub fn read(alloc: Global, store: &mut Store, target: &Spot) -> Result<Value, Ha
     }
 }
 
-/// The text that it holds, lent, where that is there and reading it changes nothing: of `$0` unless it is to be rebuilt, of an
-/// element, and of a variable that is not NF. Takes no memory.
+/// The text that it holds, lent, where that is there and reading it changes nothing: of `$0` unless it is to be
+/// rebuilt, of an element, and of a variable that is not NF. Takes no memory.
 pub fn lent<'a>(store: &'a Store, target: &Spot, buffer: &'a mut Buffer) -> Option<&'a [u8]>
-    ensures { IfSome result (λ text. (g : Given) (t : Table) → (x : Value) × (values.text_of x ≡ text.now) × Passes g (Do (Get (meant (names_in g) target.now))) (store.now, t) (give x) (store.now, t)) }
+    ensures { IfSome result
+        (λ text. (g : Given) (t : Table) → (x : Value) × (values.text_of x ≡ text.now)
+        × Passes g (Do (Get (meant (names_in g) target.now))) (store.now, t) (give x) (store.now, t)) }
 {
     match target {
         Spot::Variable(variable) => {
@@ -71,7 +74,8 @@ pub fn set(
     place: Place,
     value: Value,
 ) -> Result<(), Halt>
-    ensures { (g : Given) (t : Table) → Acts g (Do (Set (meant (names_in g) target) place value)) goes_on (store.old, t) result (store.new, t) }
+    ensures { (g : Given) (t : Table) →
+        Acts g (Do (Set (meant (names_in g) target) place value)) goes_on (store.old, t) result (store.new, t) }
 {
     match target {
         Spot::Variable(variable) => set_variable(store, variable, place, value),
@@ -92,7 +96,8 @@ pub fn replace(
     place: Place,
     value: Value,
 ) -> Result<Vec<u8>, Halt>
-    ensures { (g : Given) (t : Table) → Acts g (Do (Set (meant (names_in g) target) place value)) goes_on (store.old, t) result (store.new, t) }
+    ensures { (g : Given) (t : Table) →
+        Acts g (Do (Set (meant (names_in g) target) place value)) goes_on (store.old, t) result (store.new, t) }
 {
     if let Spot::Variable(variable) = target {
         return replace_variable(alloc, store, variable, place, value);

@@ -14,7 +14,8 @@ ghost use Rattle.awk_streams.specs.Tasks.{goes_on};
 ghost use Rattle.awk_text.specs.Arithmetic.{add as sum};
 ghost use Rattle.awk_text.specs.Values.{text_of};
 ghost use Rattle.std.specs.Option.{option_copied};
-ghost use Rattle.std.specs.Prelude.{Err, IfErr, IfSome, Ok, OnOk, false, pos, slice_get, slice_set, true, unwrap_or, ℤ, ◌≡◌};
+ghost use Rattle.std.specs.Prelude.{Err, IfErr, IfSome, Ok, OnOk, false, pos, slice_get, slice_set, true, unwrap_or, ℤ};
+ghost use Rattle.std.specs.Prelude.{◌≡◌};
 
 use crate::cell::Cell;
 use crate::frame::Bound;
@@ -73,7 +74,8 @@ pub(crate) fn own_bytes(cells: &[Cell], name: Own) -> Option<&[u8]>
 /// Adds 1 to the number at a slot, where one is there and the sum is in range, and answers whether it did.
 #[inline(always)]
 fn add_one(cells: &mut Vec<Cell>, slot: usize) -> bool
-    ensures done { result ≡ true → (n : ℤ) × (m : ℤ) × (value_at cells.old.items slot ≡ Value.Num n) × (sum n (pos 1) ≡ Ok m) × (cells.new.items ≡ change_at (given_value (Value.Num m)) cells.old.items slot) }
+    ensures done { result ≡ true → (n : ℤ) × (m : ℤ) × (value_at cells.old.items slot ≡ Value.Num n)
+        × (sum n (pos 1) ≡ Ok m) × (cells.new.items ≡ change_at (given_value (Value.Num m)) cells.old.items slot) }
     ensures not_done { result ≡ false → cells.new.items ≡ cells.old.items }
 {
     match cells.get_mut(slot) {
@@ -149,8 +151,8 @@ impl Store {
         }
     }
 
-    /// Sets a variable to a value. A variable that is an array, or none, stays as it is, but a parameter holds the value
-    /// from now on. Takes no memory.
+    /// Sets a variable to a value. A variable that is an array, or none, stays as it is, but a parameter holds the
+    /// value from now on. Takes no memory.
     #[inline(always)]
     pub fn set(&mut self, variable: Variable, value: Value)
         ensures { self.new ≡ with_value variable value self.old }
@@ -163,8 +165,8 @@ impl Store {
 
     /// Sets a variable to a value, as `set` does, and answers the value before. Takes no memory.
     ///
-    /// So the room of a text that goes can be used again, and a value can be changed outside the store: taken out with an unset
-    /// one in its place, and set again.
+    /// So the room of a text that goes can be used again, and a value can be changed outside the store: taken out with
+    /// an unset one in its place, and set again.
     #[inline(always)]
     pub fn replace_value(&mut self, variable: Variable, new: Value) -> Value
         ensures value { result ≡ value self.old variable }
@@ -212,7 +214,8 @@ impl Store {
     /// Fails with `Fault::OutOfRange` exactly where the number or the sum is out of range; then nothing has changed.
     #[inline(always)]
     pub fn count(&mut self, name: Own) -> Result<(), Fault>
-        ensures ok { OnOk result ((n : ℤ) × (counted (own_value self.old name) ≡ Ok n) × (self.new ≡ with_own name (Value.Num n) self.old)) }
+        ensures ok { OnOk result
+            ((n : ℤ) × (counted (own_value self.old name) ≡ Ok n) × (self.new ≡ with_own name (Value.Num n) self.old)) }
         ensures err { IfErr result (λ e. (counted (own_value self.old name) ≡ Err e) × (self.new ≡ self.old)) }
     {
         if add_one(&mut self.cells, name.slot() as usize) {
@@ -224,7 +227,8 @@ impl Store {
     /// As `count`. It stands out of line, since a counter mostly holds a number.
     #[inline(never)]
     fn count_any(&mut self, name: Own) -> Result<(), Fault>
-        ensures ok { OnOk result ((n : ℤ) × (counted (own_value self.old name) ≡ Ok n) × (self.new ≡ with_own name (Value.Num n) self.old)) }
+        ensures ok { OnOk result
+            ((n : ℤ) × (counted (own_value self.old name) ≡ Ok n) × (self.new ≡ with_own name (Value.Num n) self.old)) }
         ensures err { IfErr result (λ e. (counted (own_value self.old name) ≡ Err e) × (self.new ≡ self.old)) }
     {
         let number = match self.own(name) {
@@ -239,7 +243,8 @@ impl Store {
 
 /// NF, as a value.
 fn count_fields(store: &mut Store) -> Result<Value, Halt>
-    ensures { (g : Given) (t : Table) (x : Variable) → kept.is_nf x ≡ true → Acts g (Do (Get (machine.Variable (variable_of (names_in g) x)))) give (store.old, t) result (store.new, t) }
+    ensures { (g : Given) (t : Table) (x : Variable) → kept.is_nf x ≡ true →
+        Acts g (Do (Get (machine.Variable (variable_of (names_in g) x)))) give (store.old, t) result (store.new, t) }
 {
     let Ok(count) = store.field_count() else {
         return Err(Halt::Memory);
@@ -249,7 +254,9 @@ fn count_fields(store: &mut Store) -> Result<Value, Halt>
 
 /// Reads a variable. Of NF the fields are counted, so the record is split where it was not.
 pub fn read_variable(alloc: Global, store: &mut Store, variable: Variable) -> Result<Value, Halt>
-    ensures { (g : Given) (t : Table) → Acts g (Do (Get (machine.Variable (variable_of (names_in g) variable)))) give (store.old, t) result (store.new, t) }
+    ensures { (g : Given) (t : Table) →
+        Acts g (Do (Get (machine.Variable (variable_of (names_in g) variable)))) give (store.old, t) result
+        (store.new, t) }
 {
     if is_nf(variable) {
         return count_fields(store);
@@ -262,7 +269,9 @@ pub fn read_variable(alloc: Global, store: &mut Store, variable: Variable) -> Re
 
 /// Sets NF to the number of a value.
 fn set_count(store: &mut Store, place: Place, value: &Value) -> Result<(), Halt>
-    ensures { (g : Given) (t : Table) (x : Variable) → kept.is_nf x ≡ true → Acts g (Do (Set (machine.Variable (variable_of (names_in g) x)) place value.now)) goes_on (store.old, t) result (store.new, t) }
+    ensures { (g : Given) (t : Table) (x : Variable) → kept.is_nf x ≡ true →
+        Acts g (Do (Set (machine.Variable (variable_of (names_in g) x)) place value.now)) goes_on (store.old, t) result
+        (store.new, t) }
 {
     let count = at(place, number_of(value))?;
     at(place, store.set_field_count(count))
@@ -285,7 +294,9 @@ pub fn replace_variable(
     place: Place,
     value: Value,
 ) -> Result<Vec<u8>, Halt>
-    ensures { (g : Given) (t : Table) → Acts g (Do (Set (machine.Variable (variable_of (names_in g) variable)) place value)) goes_on (store.old, t) result (store.new, t) }
+    ensures { (g : Given) (t : Table) →
+        Acts g (Do (Set (machine.Variable (variable_of (names_in g) variable)) place value)) goes_on (store.old, t)
+        result (store.new, t) }
 {
     if is_nf(variable) {
         set_count(store, place, &value)?;
@@ -302,7 +313,9 @@ pub fn set_variable(
     place: Place,
     value: Value,
 ) -> Result<(), Halt>
-    ensures { (g : Given) (t : Table) → Acts g (Do (Set (machine.Variable (variable_of (names_in g) variable)) place value)) goes_on (store.old, t) result (store.new, t) }
+    ensures { (g : Given) (t : Table) →
+        Acts g (Do (Set (machine.Variable (variable_of (names_in g) variable)) place value)) goes_on (store.old, t)
+        result (store.new, t) }
 {
     if is_nf(variable) {
         return set_count(store, place, &value);

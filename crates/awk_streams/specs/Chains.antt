@@ -46,10 +46,10 @@ result_at place (Err fault) = Err (halt_at place fault)
 
 -- ---- parts
 
--- W is the world.
--- St is what the code holds and H what it does not: `base` is the machine's state, less the course; `Agreeing` says what of the
--- three agrees, and `used` how many steps were taken.
-module _ {W St H : Type 0} (ghosts : Ghosts W) (base : St → H → State) (Agreeing : St → H → Course → Type 0) (used : St → ℕ) where
+-- W is the world. St is what the code holds and H what it does not: `base` is the machine's state, less the course;
+-- `Agreeing` says what of the three agrees, and `used` how many steps were taken.
+module _ {W St H : Type 0} (ghosts : Ghosts W) (base : St → H → State) (Agreeing : St → H → Course → Type 0)
+    (used : St → ℕ) where
   abbrev pub at : St → H → Course → State
   at store hid c = seen (base store hid) c
 
@@ -59,8 +59,10 @@ module _ {W St H : Type 0} (ghosts : Ghosts W) (base : St → H → State) (Agre
     pub spent : c.used ≡ used store
 
   module _ (g : Given) where
-    -- from these pieces, this state and this course the machine came to the pieces k with this store, and the world by its calls
-    pub record Comes (first : W) (from : List Piece) (s : State) (c : Course) (k : List Piece) (store : St) (world : W) : Type 0 where
+    -- from these pieces, this state and this course the machine came to the pieces k with this store, and the world by
+    -- its calls
+    pub record Comes (first : W) (from : List Piece) (s : State) (c : Course) (k : List Piece) (store : St) (world : W)
+        : Type 0 where
       pub course : Course
       pub hidden : H
       pub knows : Knows first store hidden course world
@@ -77,7 +79,8 @@ module _ {W St H : Type 0} (ghosts : Ghosts W) (base : St → H → State) (Agre
       pub stands : (place : Place) → Stands g todo last course (Faulted NoMemory place) None
 
     -- it came to a request at this place, and the world ended at it
-    pub record Unlogged (first : W) (from : List Piece) (s : State) (c : Course) (place : Place) (store : St) (world : W) : Type 0 where
+    pub record Unlogged (first : W) (from : List Piece) (s : State) (c : Course) (place : Place) (store : St)
+        (world : W) : Type 0 where
       pub todo : List Piece
       pub last : State
       pub course : Course
@@ -95,7 +98,8 @@ module _ {W St H : Type 0} (ghosts : Ghosts W) (base : St → H → State) (Agre
 
     -- a part is halted, where k is left to be done
     abbrev pub Halted : W → List Piece → State → Course → List Piece → St → W → Halt → Type 0
-    Halted first from s c k store world (halt.Fault fault place) = Comes first from s c (ends (Faulted fault place)) store world
+    Halted first from s c k store world (halt.Fault fault place) =
+        Comes first from s c (ends (Faulted fault place)) store world
     Halted first from s c k store world halt.Cut = Comes first from s c (ends Cut) store world
     Halted first from s c k store world halt.Next = Comes first from s c (to_records k) store world
     Halted first from s c k store world halt.Exit = Exits first from s c store world
@@ -103,10 +107,14 @@ module _ {W St H : Type 0} (ghosts : Ghosts W) (base : St → H → State) (Agre
     Halted first from s c k store world (halt.Log place) = Unlogged first from s c place store world
 
     -- from the piece p the machine leads on to other pieces, whatever is left to be done
-    pub record Leads (p : Piece) (old : St) (world : W) (to : List Piece → List Piece) (new : St) (world' : W) : Type 0 where
-      pub plays : (first : W) (k : List Piece) (hid : H) (c : Course) → Knows first old hid c world → Comes first (p ∷ k) (at old hid c) c (to k) new world'
+    pub record Leads (p : Piece) (old : St) (world : W) (to : List Piece → List Piece) (new : St) (world' : W) : Type 0
+      where
+        pub plays : (first : W) (k : List Piece) (hid : H) (c : Course) → Knows first old hid c world →
+            Comes first (p ∷ k) (at old hid c) c (to k) new world'
 
     -- what the doing of a piece owes: with a value it leads on to where `to` says, and else the part is halted
-    pub record Meets {A : Type 0} (p : Piece) (to : A → List Piece → List Piece) (old : St) (world : W) (result : Result A Halt) (new : St) (world' : W) : Type 0 where
+    pub record Meets {A : Type 0} (p : Piece) (to : A → List Piece → List Piece) (old : St) (world : W)
+        (result : Result A Halt) (new : St) (world' : W) : Type 0 where
       pub plays : (first : W) (k : List Piece) (hid : H) (c : Course) → Knows first old hid c world →
-          MatchResult result (λ x. Comes first (p ∷ k) (at old hid c) c (to x k) new world') (λ h. Halted first (p ∷ k) (at old hid c) c k new world' h)
+          MatchResult result (λ x. Comes first (p ∷ k) (at old hid c) c (to x k) new world')
+          (λ h. Halted first (p ∷ k) (at old hid c) c k new world' h)

@@ -1,5 +1,6 @@
 -- The streams of a text (POSIX.1-2017 XCU awk, "Input/Output and General Functions", close).
-use Rattle.std.specs.Prelude.{◌≡◌, ℕ, ℤ, pos, negsuc, ◌&&◌, if◌then◌else◌, List, [], ◌∷◌, Option, Some, None, Result, Ok, Err}
+use Rattle.std.specs.Prelude.{◌≡◌, ℕ, ℤ, pos, negsuc, ◌&&◌, if◌then◌else◌, List, [], ◌∷◌, Option, Some, None, Result}
+use Rattle.std.specs.Prelude.{Ok, Err}
 use Rattle.std.specs.Str.{bytes_eq}
 use Rattle.awk_text.specs.Values.{truth}
 use Rattle.awk_text.specs.declared.value.Value.TheVariants.{Num}
@@ -17,7 +18,8 @@ use Rattle.awk_streams.specs.Tasks.{Answered, Refused}
 -- the class and the number of the first open stream of this text that is no operand's
 abbrev pub first_of : Text → List Entry → Option (Class × ℕ)
 first_of text [] = None
-first_of text (e ∷ es) = if is_closed e.stream.class && bytes_eq text e.stream.text then Some (e.stream.class, e.stream.number) else first_of text es
+first_of text (e ∷ es) = if is_closed e.stream.class && bytes_eq text e.stream.text
+    then Some (e.stream.class, e.stream.number) else first_of text es
 
 -- what a shutting has answered, as a status: -1 is a failure
 abbrev pub shut_status : Reply → ℤ

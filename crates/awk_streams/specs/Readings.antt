@@ -56,7 +56,8 @@ read_taken taking.Done = Some found.End
 
 -- the answer, where this is what stands first: the record, which is taken, the end, or none yet
 abbrev pub FirstIs : Key → Table → Table → Input → Head → Option declared.Found → Type 0
-FirstIs key old new i (taken text rest) (Some x) = (x ≡ found.Record text) × IsReadAt key (record { unread = rest; ended = i.ended }) old new
+FirstIs key old new i (taken text rest) (Some x) =
+    (x ≡ found.Record text) × IsReadAt key (record { unread = rest; ended = i.ended }) old new
 FirstIs key old new i done (Some x) = (x ≡ found.End) × IsReadAt key i old new
 FirstIs key old new i need_more None = IsReadAt key i old new
 FirstIs key old new i first answer = ⊥
@@ -75,7 +76,8 @@ FailsFirst place first h = (h ≡ halt.Memory) ⊎ ((h ≡ halt.Fault TextTooLon
 
 -- what came is held, and whether the reading goes on
 abbrev pub Received : Key → Table → Table → Input → Reply → Bool → Type 0
-Received key old new i (Bytes bytes) on = (on ≡ true) × IsReadAt key (record { unread = i.unread ++ bytes; ended = false }) old new
+Received key old new i (Bytes bytes) on =
+    (on ≡ true) × IsReadAt key (record { unread = i.unread ++ bytes; ended = false }) old new
 Received key old new i End on = (on ≡ true) × IsReadAt key (record { unread = i.unread; ended = true }) old new
 Received key old new i reply on = (on ≡ false) × IsSame old new
 
@@ -87,12 +89,15 @@ HasCome reply = ⊥
 -- ---- the machine reads
 
 -- the piece p reads a record of the stream, and goes on by what was read; requests are made at this place
-pub record IsReading (g : Given) (s : State) (p : Piece) (place : Place) (key : Key) (to : declared.Found → List Piece → List Piece) : Type 0 where
+pub record IsReading (g : Given) (s : State) (p : Piece) (place : Place) (key : Key)
+    (to : declared.Found → List Piece → List Piece) : Type 0 where
   -- what it does by what stands first, and by the reply to a request for more
   pub by_head : Head → Then
   pub then_ : List Piece → Reply → List Piece
-  pub moves : (k : List Piece) (table : Table) (t : Key → ℕ) (c : Course) → move g (p ∷ k) (seen (beside s table t) c) ≡ by_head (first_record key (seen (beside s table t) c)) k (seen (beside s table t) c)
-  pub takes : (text rest : Text) (k : List Piece) (t : State) → by_head (taken text rest) k t ≡ Goes (to (found.Record text) k) (left key rest t)
+  pub moves : (k : List Piece) (table : Table) (t : Key → ℕ) (c : Course) → move g (p ∷ k) (seen (beside s table t) c)
+      ≡ by_head (first_record key (seen (beside s table t) c)) k (seen (beside s table t) c)
+  pub takes : (text rest : Text) (k : List Piece) (t : State) → by_head (taken text rest) k t
+      ≡ Goes (to (found.Record text) k) (left key rest t)
   pub ends : (k : List Piece) (t : State) → by_head done k t ≡ Goes (to found.End k) t
   pub faults : (k : List Piece) (t : State) → by_head too_long k t ≡ fails TextTooLong place t
   pub asks : (k : List Piece) (t : State) → by_head need_more k t ≡ Asks (want place (Reads key)) (then_ k) t

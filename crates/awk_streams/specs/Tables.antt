@@ -4,7 +4,8 @@ use Rattle.awk_fields.specs.declared.reader.Taken.{Taken}
 use Rattle.awk_fields.specs.declared.reader.Taken.TheVariants.{Record}
 use Rattle.awk_fields.specs.Heads.{head}
 use Rattle.awk_fields.specs.Takes.{Input, Takes}
-use Rattle.box_world.specs.Events.{Class, OperandFile, InputFile, InputCommand, OutputFile, OutputCommand, Stream, class_number, is_named}
+use Rattle.box_world.specs.Events.{Class, OperandFile, InputFile, InputCommand, OutputFile, OutputCommand, Stream}
+use Rattle.box_world.specs.Events.{class_number, is_named}
 use Rattle.std.specs.Str.{bytes_eq}
 use Rattle.awk_streams.specs.declared.streams.Class as code
 use Rattle.awk_streams.specs.declared.streams.Class.TheVariants as class
@@ -31,7 +32,11 @@ pub record Table : Type 0 where
   pub room : ℕ
 
 abbrev pub entry_of : KeptName × Open → Entry
-entry_of e = record { stream = record { class = kind e.0.class; text = e.0.text.items; number = e.1.number }; input = e.1.reader.input }
+entry_of e = record {
+  stream = record { class = kind e.0.class; text = e.0.text.items; number = e.1.number };
+  input =
+      e.1.reader.input;
+}
 
 abbrev pub open_of : Table → List Stream
 open_of table = map (λ e. e.stream) table.entries
@@ -53,12 +58,15 @@ entries_without c text (e ∷ es) = if is_named c text e.stream then es else e �
 -- the entries once what is held unread of the first of this class and text is changed
 abbrev pub with_input : Class → List ℕ → (Input → Input) → List Entry → List Entry
 with_input c text change [] = []
-with_input c text change (e ∷ es) = if is_named c text e.stream then record e { input = change e.input } ∷ es else e ∷ with_input c text change es
+with_input c text change (e ∷ es) =
+    if is_named c text e.stream then record e { input = change e.input } ∷ es else e ∷ with_input c text change es
 
 -- what was answered is the first record of what an open input held unread, and the rest is left there
 abbrev pub TakesOf : Class → List ℕ → List ℕ → List Entry → Taken → List Entry → Type 0
-TakesOf c text rs old answer new = (i : Input) → find_input c text old ≡ Some i → (j : Input) × Takes (head rs i.unread i.ended) answer i j × (new ≡ with_input c text (λ x. j) old)
+TakesOf c text rs old answer new = (i : Input) → find_input c text old ≡ Some i → (j : Input)
+    × Takes (head rs i.unread i.ended) answer i j × (new ≡ with_input c text (λ x. j) old)
 
 -- this is the first record of what an input held unread that is open, and the rest is left there
 abbrev pub TakesLine : Class → List ℕ → List ℕ → List Entry → List ℕ → List Entry → Type 0
-TakesLine c text rs old line new = (i : Input) × (find_input c text old ≡ Some i) × (j : Input) × Takes (head rs i.unread i.ended) (Record line) i j × (new ≡ with_input c text (λ x. j) old)
+TakesLine c text rs old line new = (i : Input) × (find_input c text old ≡ Some i) × (j : Input)
+    × Takes (head rs i.unread i.ended) (Record line) i j × (new ≡ with_input c text (λ x. j) old)

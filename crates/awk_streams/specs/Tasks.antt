@@ -1,5 +1,6 @@
 -- What the tasks of streams owe, whatever else the machine holds: they change what is open, and what was taken of it.
-use Rattle.std.specs.Prelude.{◌≡◌, ◌≤◌, ◌+◌, ◌==◌, Bool, true, false, ℕ, nat_eq, if◌then◌else◌, List, [], ◌∷◌, ◌++◌, map, length, drop, codes, is_some, Option, Some, None, Result, Ok, Err}
+use Rattle.std.specs.Prelude.{◌≡◌, ◌≤◌, ◌+◌, ◌==◌, Bool, true, false, ℕ, nat_eq, if◌then◌else◌, List, [], ◌∷◌, ◌++◌}
+use Rattle.std.specs.Prelude.{map, length, drop, codes, is_some, Option, Some, None, Result, Ok, Err}
 use Rattle.awk_text.specs.declared.place.Place.{Place}
 use Rattle.awk_text.specs.declared.value.Value.TheVariants.{Input as InputText}
 use Rattle.awk_fields.specs.Rows.{Row}
@@ -83,8 +84,10 @@ abbrev pub beside : State → Table → (Key → ℕ) → State
 beside s table taken = record s { taken = taken }
 
 -- what a task owes, for a table, and whatever else the machine holds
-abbrev pub Does : {W A : Type 0} → Ghosts W → Given → State → Piece → (A → List Piece → List Piece) → Table → W → Result A Halt → Table → W → Type 0
-Does ghosts g s p to old w result new w' = Meets ghosts (beside s) Tells (λ table. s.course.used) g p to old w result new w'
+abbrev pub Does : {W A : Type 0} → Ghosts W → Given → State → Piece → (A → List Piece → List Piece) → Table → W →
+    Result A Halt → Table → W → Type 0
+Does ghosts g s p to old w result new w' =
+    Meets ghosts (beside s) Tells (λ table. s.course.used) g p to old w result new w'
 
 abbrev pub goes_on : {A : Type 0} → A → List Piece → List Piece
 goes_on x k = k
@@ -114,7 +117,12 @@ number_opened reply = None
 
 -- the entries once a stream has this number, of which nothing is read
 abbrev pub entries_opened : Class → Text → Option ℕ → List Entry → List Entry
-entries_opened c text (Some n) es = es ++ (record { stream = record { class = c; text = text; number = n }; input = record { unread = []; ended = false } }) ∷ []
+entries_opened c text (Some n) es = es
+    ++ (record {
+      stream = record { class = c; text = text; number = n };
+      input =
+          record { unread = []; ended = false };
+    }) ∷ []
 entries_opened c text None es = es
 
 -- but for the room that there is, the tables are one
@@ -123,14 +131,16 @@ pub record IsSame (old new : Table) : Type 0 where
   pub input : new.input ≡ old.input
 
 -- the world was asked, and the table has what it opened
-pub record Opening {W : Type 0} (ghosts : Ghosts W) (ask : Ask) (c : Class) (text : Text) (table : Table) (old : W) (found : Option ℕ) (after : Table) (new : W) : Type 0 where
+pub record Opening {W : Type 0} (ghosts : Ghosts W) (ask : Ask) (c : Class) (text : Text) (table : Table) (old : W)
+    (found : Option ℕ) (after : Table) (new : W) : Type 0 where
   pub reply : Reply
   pub answer : Answered ghosts ask old reply new
   pub number : number_opened reply ≡ found
   pub entries : after.entries ≡ entries_opened c text found table.entries
   pub input : after.input ≡ table.input
 
-abbrev pub Opens : {W : Type 0} → Ghosts W → Ask → Class → Text → Table → W → Result (Option ℕ) Halt → Table → W → Type 0
+abbrev pub Opens : {W : Type 0} → Ghosts W → Ask → Class → Text → Table → W → Result (Option ℕ) Halt → Table → W →
+    Type 0
 Opens ghosts ask c text table old (Ok found) after new = Opening ghosts ask c text table old found after new
 Opens ghosts ask c text table old (Err h) after new = Refused ghosts ask old h new × IsSame table after
 
@@ -177,7 +187,8 @@ value_given reply = None
 
 -- what is done once the value of a name is known, or it has none
 abbrev pub looked : Text → List Text → Option Text → List Piece → List Piece
-looked name names (Some text) k = Do (Set (Element (global (codes "ENVIRON")) name nowhere) nowhere (InputText text)) ∷ Do (Environ names) ∷ k
+looked name names (Some text) k =
+    Do (Set (Element (global (codes "ENVIRON")) name nowhere) nowhere (InputText text)) ∷ Do (Environ names) ∷ k
 looked name names None k = Do (Environ names) ∷ k
 
 -- ---- reading

@@ -68,8 +68,10 @@ fn answer_or(so_far: Option<i64>) -> Value
 /// Shuts a stream by its number, and answers its status.
 fn shut<W: World>(place: Place, number: u32, world: &mut W) -> Result<i64, Halt>
     requires { IsStream (W.open_numbers world.old) number }
-    ensures answer { Shuts W.World (record { place = place; given = false; request = Shut number }) world.old result world.new }
-    ensures numbers { MatchResult result (λ n. W.open_numbers world.new ≡ without number (W.open_numbers world.old)) (λ h. W.open_numbers world.new ≡ W.open_numbers world.old) }
+    ensures answer { Shuts W.World (record { place = place; given = false; request = Shut number }) world.old result
+        world.new }
+    ensures numbers { MatchResult result (λ n. W.open_numbers world.new ≡ without number (W.open_numbers world.old))
+        (λ h. W.open_numbers world.new ≡ W.open_numbers world.old) }
 {
     let reply = request(place, false, Request::Shut(number), world)?;
     Ok(shut_status(&reply))

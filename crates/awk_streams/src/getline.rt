@@ -7,7 +7,8 @@ ghost use Rattle.awk_machine.specs.State.{Given, State};
 ghost use Rattle.awk_machine.specs.Variables.{own_text};
 ghost use Rattle.box_world.specs.Events.{Named, Standard};
 ghost use Rattle.awk_streams.specs.Readings as spec;
-ghost use Rattle.awk_streams.specs.Readings.{FailsFirst, FailsOpen, FirstIs, GoesOn, HasCome, Holds, IsLine, IsLive, IsReading, Received, Waits, fetching, further, key_of, read_further};
+ghost use Rattle.awk_streams.specs.Readings.{FailsFirst, FailsOpen, FirstIs, GoesOn, HasCome, Holds, IsLine, IsLive};
+ghost use Rattle.awk_streams.specs.Readings.{IsReading, Received, Waits, fetching, further, key_of, read_further};
 ghost use Rattle.awk_streams.specs.Tables.{kind};
 ghost use Rattle.awk_streams.specs.Tasks.{Does, IsSame, Owns};
 
@@ -55,7 +56,8 @@ fn first(
     ensures ok { IfOk result (λ answer. Holds (key_of source.now) streams.old
         (λ i. FirstIs (key_of source.now) streams.old streams.new i (head rs.now i.unread i.ended) answer)) }
     ensures same { OnErr result (IsSame streams.old streams.new) }
-    ensures err { IfErr result (λ h. Holds (key_of source.now) streams.old (λ i. FailsFirst place (head rs.now i.unread i.ended) h)) }
+    ensures err { IfErr result
+        (λ h. Holds (key_of source.now) streams.old (λ i. FailsFirst place (head rs.now i.unread i.ended) h)) }
 {
     match take(streams, source, rs) {
         Ok(taken) => Ok(read_taken(taken)),
@@ -63,8 +65,8 @@ fn first(
     }
 }
 
-/// Takes the first record of what is held unread of the standard input, where it needs no other look, and writes it into the
-/// room; answers whether it did. Where it did not, `record` says what there is.
+/// Takes the first record of what is held unread of the standard input, where it needs no other look, and writes it
+/// into the room; answers whether it did. Where it did not, `record` says what there is.
 #[inline(always)]
 pub fn take_standard_line(rs: &[u8], streams: &mut Streams, room: &mut Vec<u8>) -> bool
     ensures taken { result ≡ true → IsLine (Standard 0) rs.now streams.old room.new.items streams.new }
@@ -76,14 +78,15 @@ pub fn take_standard_line(rs: &[u8], streams: &mut Streams, room: &mut Vec<u8>) 
 /// The same of a stream that is opened. It stands out of line, so that reading the standard input stays short.
 #[inline(never)]
 pub fn take_line(name: &Name<'_>, rs: &[u8], streams: &mut Streams, room: &mut Vec<u8>) -> bool
-    ensures taken { result ≡ true → IsLine (Named (kind name.now.class) name.now.text.now) rs.now streams.old room.new.items streams.new }
+    ensures taken { result ≡ true →
+        IsLine (Named (kind name.now.class) name.now.text.now) rs.now streams.old room.new.items streams.new }
     ensures not_taken { result ≡ false → streams.new ≡ streams.old }
 {
     streams.take_line(name, rs, room)
 }
 
-/// The first record of what is held unread, where it needs no other look; `None` where it does, or where the stream is not open.
-/// Of the standard input `record` says what there is.
+/// The first record of what is held unread, where it needs no other look; `None` where it does, or where the stream is
+/// not open. Of the standard input `record` says what there is.
 fn held_line(source: &Source<'_>, rs: &[u8], streams: &mut Streams) -> Option<Octets>
     ensures some { IfSome result (λ text. IsLine (key_of source.now) rs.now streams.old text streams.new) }
     ensures none { result ≡ None → streams.new ≡ streams.old }
@@ -102,7 +105,9 @@ fn held_line(source: &Source<'_>, rs: &[u8], streams: &mut Streams) -> Option<Oc
 /// Keeps what came, and answers whether the reading goes on: it does not where it has failed.
 fn receive(streams: &mut Streams, source: &Source<'_>, reply: &Reply) -> Result<bool, Memory>
     requires { GoesOn (key_of source.now) streams.old }
-    ensures ok { IfOk result (λ on. Holds (key_of source.now) streams.old (λ i. Received (key_of source.now) streams.old streams.new i reply.now on)) }
+    ensures ok { IfOk result
+        (λ on. Holds (key_of source.now) streams.old
+        (λ i. Received (key_of source.now) streams.old streams.new i reply.now on)) }
     ensures same { OnErr result (IsSame streams.old streams.new) }
     ensures err { OnErr result (HasCome reply.now) }
 {
@@ -129,7 +134,8 @@ fn more<W: World>(
     requires owns { Owns (W.open_numbers world.old) streams.old }
     requires live { IsLive (key_of source.now) streams.old }
     requires open { GoesOn (key_of source.now) streams.old }
-    ensures task { (g : Given) (s : State) (p : Piece) (to : Found → List Piece → List Piece) → IsReading g s p place (key_of source.now) to → Waits (own_text s (codes "RS")) (key_of source.now) streams.old
+    ensures task { (g : Given) (s : State) (p : Piece) (to : Found → List Piece → List Piece) →
+        IsReading g s p place (key_of source.now) to → Waits (own_text s (codes "RS")) (key_of source.now) streams.old
         → Does W.World g s p (further p to) streams.old world.old result streams.new world.new }
     ensures failed { IfOk result (λ on. on ≡ false → GoesOn (key_of source.now) streams.new) }
     ensures live { OnOk result (IsLive (key_of source.now) streams.new) }
@@ -151,7 +157,8 @@ pub fn record<W: World>(
 ) -> Result<Found, Halt>
     requires owns { Owns (W.open_numbers world.old) streams.old }
     requires live { IsLive (key_of source.now) streams.old }
-    ensures task { (g : Given) (s : State) (p : Piece) (to : Found → List Piece → List Piece) → IsReading g s p place (key_of source.now) to → own_text s (codes "RS") ≡ rs.now
+    ensures task { (g : Given) (s : State) (p : Piece) (to : Found → List Piece → List Piece) →
+        IsReading g s p place (key_of source.now) to → own_text s (codes "RS") ≡ rs.now
         → Does W.World g s p to streams.old world.old result streams.new world.new }
     ensures failed { IfOk result (λ x. FailsOpen (key_of source.now) x streams.new) }
     ensures owns { Owns (W.open_numbers world.new) streams.new }
@@ -189,7 +196,8 @@ pub fn read<W: World>(
     requires owns { Owns (W.open_numbers world.old) streams.old }
     requires live { IsLive (key_of source.now) streams.old }
     ensures task { (g : Given) (s : State) → own_text s (codes "RS") ≡ rs.now
-        → Does W.World g s (Do (machine.Read place (key_of source.now))) give streams.old world.old result streams.new world.new }
+        → Does W.World g s (Do (machine.Read place (key_of source.now))) give streams.old world.old result streams.new
+        world.new }
     ensures owns { Owns (W.open_numbers world.new) streams.new }
 {
     let found = record(place, source, rs, streams, world)?;
@@ -206,7 +214,9 @@ fn open_named<W: World>(
 ) -> Result<bool, Halt>
     requires { Owns (W.open_numbers world.old) streams.old }
     ensures task { (g : Given) (s : State) → Does W.World g s
-        (Do (machine.Fetch place (kind name.now.class) name.now.text.now)) (read_further place (Named (kind name.now.class) name.now.text.now)) streams.old world.old result streams.new world.new }
+        (Do (machine.Fetch place (kind name.now.class) name.now.text.now))
+        (read_further place (Named (kind name.now.class) name.now.text.now)) streams.old world.old result
+        streams.new world.new }
     ensures live { IfOk result (λ on. on ≡ true → IsLive (Named (kind name.now.class) name.now.text.now) streams.new) }
     ensures owns { Owns (W.open_numbers world.new) streams.new }
 {
@@ -223,7 +233,8 @@ fn open_source<W: World>(
 ) -> Result<bool, Halt>
     requires { Owns (W.open_numbers world.old) streams.old }
     ensures task { (g : Given) (s : State) → Does W.World g s
-        (Do (fetching place (key_of source.now))) (read_further place (key_of source.now)) streams.old world.old result streams.new world.new }
+        (Do (fetching place (key_of source.now))) (read_further place (key_of source.now)) streams.old world.old result
+        streams.new world.new }
     ensures live { IfOk result (λ on. on ≡ true → IsLive (key_of source.now) streams.new) }
     ensures owns { Owns (W.open_numbers world.new) streams.new }
 {
@@ -244,7 +255,8 @@ pub fn fetch<W: World>(
 ) -> Result<Value, Halt>
     requires { Owns (W.open_numbers world.old) streams.old }
     ensures task { (g : Given) (s : State) → own_text s (codes "RS") ≡ rs.now
-        → Does W.World g s (Do (fetching place (key_of source.now))) give streams.old world.old result streams.new world.new }
+        → Does W.World g s (Do (fetching place (key_of source.now))) give streams.old world.old result streams.new
+        world.new }
     ensures owns { Owns (W.open_numbers world.new) streams.new }
 {
     if let Some(text) = held_line(source, rs, streams) {

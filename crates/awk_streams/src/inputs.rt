@@ -31,7 +31,8 @@ pub fn number(streams: &Streams, source: &Source<'_>) -> u32
 pub fn push(streams: &mut Streams, source: &Source<'_>, bytes: &[u8]) -> Result<(), Fault>
     requires { GoesOn (key_of source.now) streams.old }
     ensures ok { OnOk result (Holds (key_of source.now) streams.old
-        (λ i. IsReadAt (key_of source.now) (record { unread = i.unread ++ bytes.now; ended = false }) streams.old streams.new)) }
+        (λ i. IsReadAt (key_of source.now) (record { unread = i.unread ++ bytes.now; ended = false }) streams.old
+        streams.new)) }
     ensures err { OnErr result (IsSame streams.old streams.new) }
     ensures memory { IsOkUnless result Fault.Memory }
 {
@@ -45,7 +46,8 @@ pub fn push(streams: &mut Streams, source: &Source<'_>, bytes: &[u8]) -> Result<
 /// nothing was taken.
 pub fn take(streams: &mut Streams, source: &Source<'_>, rs: &[u8]) -> Result<Taken, Fault>
     ensures ok { IfOk result (λ taken. Holds (key_of source.now) streams.old
-        (λ i. (j : Input) × Takes (head rs.now i.unread i.ended) taken i j × IsReadAt (key_of source.now) j streams.old streams.new)) }
+        (λ i. (j : Input) × Takes (head rs.now i.unread i.ended) taken i j
+        × IsReadAt (key_of source.now) j streams.old streams.new)) }
     ensures err { OnErr result (IsSame streams.old streams.new) }
     ensures fault { IfErr result (λ e. Holds (key_of source.now) streams.old
         (λ i. (e ≡ Fault.Memory) ⊎ ((e ≡ Fault.TextTooLong) × (head rs.now i.unread i.ended ≡ too_long)))) }

@@ -42,7 +42,8 @@ pub fn open<W: World>(
     requires owns { Owns (W.open_numbers world.old) streams.old }
     requires new { find_stream (kind name.now.class) name.now.text.now (open_of streams.old) ≡ None }
     ensures opens { Opens W.World
-        (record { place = place; given = given; request = Open mode name.now.text.now }) (kind name.now.class) name.now.text.now streams.old world.old result streams.new world.new }
+        (record { place = place; given = given; request = Open mode name.now.text.now }) (kind name.now.class)
+        name.now.text.now streams.old world.old result streams.new world.new }
     ensures owns { Owns (W.open_numbers world.new) streams.new }
 {
     let kept = name.kept(alloc)?;
@@ -70,8 +71,10 @@ pub fn open_output<W: World>(
 ) -> Result<u32, Halt>
     requires { Owns (W.open_numbers world.old) streams.old }
     ensures task { (g : Given) (s : State) → Does W.World g s
-        (Do (machine.Open place mode (kind name.now.class) name.now.text.now)) goes_on streams.old world.old result streams.new world.new }
-    ensures found { IfOk result (λ n. find_stream (kind name.now.class) name.now.text.now (open_of streams.new) ≡ Some n) }
+        (Do (machine.Open place mode (kind name.now.class) name.now.text.now)) goes_on streams.old world.old result
+        streams.new world.new }
+    ensures found { IfOk result
+        (λ n. find_stream (kind name.now.class) name.now.text.now (open_of streams.new) ≡ Some n) }
     ensures owns { Owns (W.open_numbers world.new) streams.new }
 {
     if let Some(number) = streams.number(name) {
@@ -94,8 +97,11 @@ pub fn open_input<W: World>(
 ) -> Result<Option<u32>, Halt>
     requires { Owns (W.open_numbers world.old) streams.old }
     ensures task { (g : Given) (s : State) → Does W.World g s
-        (Do (machine.Fetch place (kind name.now.class) name.now.text.now)) (fetched place (Named (kind name.now.class) name.now.text.now)) streams.old world.old result streams.new world.new }
-    ensures found { IfOk result (λ o. IfSome o (λ n. find_stream (kind name.now.class) name.now.text.now (open_of streams.new) ≡ Some n)) }
+        (Do (machine.Fetch place (kind name.now.class) name.now.text.now))
+        (fetched place (Named (kind name.now.class) name.now.text.now)) streams.old world.old result streams.new
+        world.new }
+    ensures found { IfOk result
+        (λ o. IfSome o (λ n. find_stream (kind name.now.class) name.now.text.now (open_of streams.new) ≡ Some n)) }
     ensures owns { Owns (W.open_numbers world.new) streams.new }
 {
     if let Some(number) = streams.number(name) {

@@ -37,7 +37,8 @@ pub fn request<W: World>(
     world: &mut W,
 ) -> Result<Reply, Halt>
     requires { IsDuty (W.open_numbers world.old) request }
-    ensures answer { Answers W.World (record { place = place; given = given; request = request }) world.old result world.new }
+    ensures answer { Answers W.World (record { place = place; given = given; request = request }) world.old result
+        world.new }
     ensures numbers { Numbers request (W.open_numbers world.old) result (W.open_numbers world.new) }
 {
     let ask = Ask {
@@ -48,8 +49,8 @@ pub fn request<W: World>(
     answer(&ask, world)
 }
 
-/// Puts a text to a stream, by its number; a failure is a fault of the script. Answers the text, whose room can serve the next
-/// one.
+/// Puts a text to a stream, by its number; a failure is a fault of the script. Answers the text, whose room can serve
+/// the next one.
 pub fn put<W: World>(place: Place, number: u32, text: Octets, world: &mut W) -> Result<Octets, Halt>
     requires { IsStream (W.open_numbers world.old) number }
     ensures task { (g : Given) (s : State) (table : Table) (key : Key) → IsNumber key number table

@@ -1,5 +1,6 @@
 // The streams that a run has open.
-ghost use Rattle.std.specs.Prelude.{◌≡◌, ◌<◌, [], ◌∷◌, ◌++◌, ◌&&◌, nat_eq, true, false, None, Some, OnOk, OnErr, IfOk, IfErr, IfSome, IsOkUnless, ◌⊎◌, drop, slice_get, option_map};
+ghost use Rattle.std.specs.Prelude.{◌≡◌, ◌<◌, [], ◌∷◌, ◌++◌, ◌&&◌, nat_eq, true, false, None, Some, OnOk, OnErr, IfOk};
+ghost use Rattle.std.specs.Prelude.{IfErr, IfSome, IsOkUnless, ◌⊎◌, drop, slice_get, option_map};
 ghost use Rattle.awk_fields.specs.Heads.{head, too_long};
 ghost use Rattle.awk_fields.specs.Takes.{Input, Takes};
 ghost use Rattle.awk_fields.specs.declared.reader.Taken.TheVariants as taken;
@@ -15,7 +16,8 @@ ghost use Rattle.std.specs.Str.{bytes_eq};
 ghost use Rattle.awk_streams.specs.Closings.{first_of};
 ghost use Rattle.awk_streams.specs.declared.streams.KeptName.{KeptName};
 ghost use Rattle.awk_streams.specs.declared.streams.Open.{Open};
-ghost use Rattle.awk_streams.specs.Tables.{kind, has_name, open_of, entries_without, find_input, with_input, TakesLine, TakesOf};
+ghost use Rattle.awk_streams.specs.Tables.{kind, has_name, open_of, entries_without, find_input, with_input, TakesLine};
+ghost use Rattle.awk_streams.specs.Tables.{TakesOf};
 
 use awk_fields::reader::{Reader, Taken};
 use awk_lib::is_same;
@@ -45,8 +47,8 @@ pub struct Name<'a> {
     pub text: &'a [u8],
 }
 
-/// The name of an open stream. It is looked up for each record that is read and each text that is put, so it is hashed at once and
-/// compared by words, as a derived `Hash` and `PartialEq` would not do.
+/// The name of an open stream. It is looked up for each record that is read and each text that is put, so it is hashed
+/// at once and compared by words, as a derived `Hash` and `PartialEq` would not do.
 #[derive(Drop)]
 pub(crate) struct KeptName {
     class: Class,
@@ -67,7 +69,8 @@ impl Name<'_> {
 }
 
 impl PartialEq for KeptName {
-    ghost eq = { λ x y. nat_eq (class_number (kind x.class)) (class_number (kind y.class)) && bytes_eq x.text.items y.text.items };
+    ghost eq = { λ x y. nat_eq (class_number (kind x.class)) (class_number (kind y.class))
+        && bytes_eq x.text.items y.text.items };
 
     ghost laws = { on_per (λ n. class_number (kind n.class) ∷ n.text.items) (Cmp.partial_equiv_from_equiv nat_list_eq_equiv) };
 
@@ -83,7 +86,10 @@ impl Eq for KeptName {
 impl Hash for KeptName {
     ghost hash_input = { λ n. n.text.items ∷ [] };
 
-    ghost respects_eq = { λ x y h. ap (λ l. drop 1 l ∷ []) ((bytes_decides (class_number (kind x.class) ∷ x.text.items) (class_number (kind y.class) ∷ y.text.items)).0 h) };
+    ghost respects_eq = { λ x y h.
+        ap (λ l. drop 1 l ∷ [])
+        ((bytes_decides (class_number (kind x.class) ∷ x.text.items) (class_number (kind y.class) ∷ y.text.items)).0
+        h) };
 
     fn hash<H: Hasher>(&self, state: &mut H) {
         state.write(self.text.as_slice());
@@ -107,7 +113,9 @@ impl Eq for Name<'_> {
 impl Hash for Name<'_> {
     ghost hash_input = { λ n. n.text.now ∷ [] };
 
-    ghost respects_eq = { λ x y h. ap (λ l. drop 1 l ∷ []) ((bytes_decides (class_number (kind x.class) ∷ x.text.now) (class_number (kind y.class) ∷ y.text.now)).0 h) };
+    ghost respects_eq = { λ x y h.
+        ap (λ l. drop 1 l ∷ [])
+        ((bytes_decides (class_number (kind x.class) ∷ x.text.now) (class_number (kind y.class) ∷ y.text.now)).0 h) };
 
     fn hash<H: Hasher>(&self, state: &mut H) {
         state.write(self.text);
@@ -115,11 +123,15 @@ impl Hash for Name<'_> {
 }
 
 impl Equivalent<KeptName> for Name<'_> {
-    ghost equivalent = { λ q n. nat_eq (class_number (kind q.class)) (class_number (kind n.class)) && bytes_eq q.text.now n.text.items };
+    ghost equivalent = { λ q n. nat_eq (class_number (kind q.class)) (class_number (kind n.class))
+        && bytes_eq q.text.now n.text.items };
 
-    ghost respects_hash = { λ q n h. ap (λ l. drop 1 l ∷ []) ((bytes_decides (class_number (kind q.class) ∷ q.text.now) (class_number (kind n.class) ∷ n.text.items)).0 h) };
+    ghost respects_hash = { λ q n h. ap (λ l. drop 1 l ∷ [])
+        ((bytes_decides (class_number (kind q.class) ∷ q.text.now) (class_number (kind n.class) ∷ n.text.items)).0 h) };
 
-    ghost respects_eq = { λ q x y. nat_list_eq_equiv.congr (class_number (kind q.class) ∷ q.text.now) (class_number (kind x.class) ∷ x.text.items) (class_number (kind y.class) ∷ y.text.items) };
+    ghost respects_eq = { λ q x y.
+        nat_list_eq_equiv.congr (class_number (kind q.class) ∷ q.text.now) (class_number (kind x.class) ∷ x.text.items)
+        (class_number (kind y.class) ∷ y.text.items) };
 
     #[inline(always)]
     fn equivalent(&self, name: &KeptName) -> bool {
@@ -164,11 +176,13 @@ fn is_closed(class: Class) -> bool
     class != Class::OperandFile
 }
 
-/// Where the stream of this name lies, if it is open. Most often it is the one that was looked for last, so that one is tried
-/// before the name is hashed.
+/// Where the stream of this name lies, if it is open. Most often it is the one that was looked for last, so that one is
+/// tried before the name is hashed.
 #[inline(always)]
 fn place_of(table: &IndexMap<KeptName, Open>, last: usize, name: &Name<'_>) -> Option<usize>
-    ensures some { IfSome result (λ i. (k : KeptName) × (o : Open) × (slice_get table.now.entries i ≡ Some (k, o)) × (has_name (kind name.now.class) name.now.text.now k ≡ true)) }
+    ensures some { IfSome result
+        (λ i. (k : KeptName) × (o : Open) × (slice_get table.now.entries i ≡ Some (k, o))
+        × (has_name (kind name.now.class) name.now.text.now k ≡ true)) }
     ensures none { result ≡ None → lookup (has_name (kind name.now.class) name.now.text.now) table.now.entries ≡ None }
 {
     if let Some((held, _)) = table.get_index(last) {
@@ -215,7 +229,8 @@ impl Streams {
         self.table.reserve(1)
     }
 
-    /// The next record that is read is written into this room, so that it needs no memory where it fits in. No stream changes.
+    /// The next record that is read is written into this room, so that it needs no memory where it fits in. No stream
+    /// changes.
     #[inline(always)]
     pub fn keep_room(&mut self, room: Vec<u8>)
         ensures { self.new ≡ self.old }
@@ -304,8 +319,11 @@ impl Streams {
 
     /// Adds the next bytes of an input that has not ended, if it is open. `Memory` changes nothing.
     pub fn push(&mut self, name: &Name<'_>, bytes: &[u8]) -> Result<(), Fault>
-        requires { (i : Input) → find_input (kind name.now.class) name.now.text.now self.old.entries ≡ Some i → i.ended ≡ false }
-        ensures ok { OnOk result (self.new.entries ≡ with_input (kind name.now.class) name.now.text.now (λ i. record { unread = i.unread ++ bytes.now; ended = false }) self.old.entries) }
+        requires { (i : Input) → find_input (kind name.now.class) name.now.text.now self.old.entries ≡ Some i → i.ended
+            ≡ false }
+        ensures ok { OnOk result
+            (self.new.entries ≡ with_input (kind name.now.class) name.now.text.now
+            (λ i. record { unread = i.unread ++ bytes.now; ended = false }) self.old.entries) }
         ensures err { OnErr result (self.new.entries ≡ self.old.entries) }
         ensures memory { IsOkUnless result Fault.Memory }
         ensures input { self.new.input ≡ self.old.input }
@@ -322,9 +340,11 @@ impl Streams {
     /// The first record of what is held unread of an input, which is taken; see `Reader::take`. A
     /// stream that is not open has none. Where it fails, nothing was taken.
     pub fn take(&mut self, name: &Name<'_>, rs: &[u8]) -> Result<Taken, Fault>
-        ensures ok { IfOk result (λ taken. TakesOf (kind name.now.class) name.now.text.now rs.now self.old.entries taken self.new.entries) }
+        ensures ok { IfOk result
+            (λ taken. TakesOf (kind name.now.class) name.now.text.now rs.now self.old.entries taken self.new.entries) }
         ensures err { OnErr result (self.new.entries ≡ self.old.entries) }
-        ensures fault { IfErr result (λ e. (i : Input) → find_input (kind name.now.class) name.now.text.now self.old.entries ≡ Some i
+        ensures fault { IfErr result
+            (λ e. (i : Input) → find_input (kind name.now.class) name.now.text.now self.old.entries ≡ Some i
             → (e ≡ Fault.Memory) ⊎ ((e ≡ Fault.TextTooLong) × (head rs.now i.unread i.ended ≡ too_long))) }
         ensures input { self.new.input ≡ self.old.input }
     {
@@ -341,7 +361,8 @@ impl Streams {
     /// Takes the first record of what is held unread of an input, if it is open, and writes it into the room; see
     /// `Reader::take_line`.
     pub fn take_line(&mut self, name: &Name<'_>, rs: &[u8], room: &mut Vec<u8>) -> bool
-        ensures taken { result ≡ true → TakesLine (kind name.now.class) name.now.text.now rs.now self.old.entries room.new.items self.new.entries }
+        ensures taken { result ≡ true →
+            TakesLine (kind name.now.class) name.now.text.now rs.now self.old.entries room.new.items self.new.entries }
         ensures not_taken { result ≡ false → self.new ≡ self.old }
         ensures input { self.new.input ≡ self.old.input }
     {
@@ -357,7 +378,9 @@ impl Streams {
 
     /// Says that an input has ended, if it is open. Takes no memory.
     pub fn finish(&mut self, name: &Name<'_>)
-        ensures entries { self.new.entries ≡ with_input (kind name.now.class) name.now.text.now (λ i. record { unread = i.unread; ended = true }) self.old.entries }
+        ensures entries { self.new.entries
+            ≡ with_input (kind name.now.class) name.now.text.now (λ i. record { unread = i.unread; ended = true })
+            self.old.entries }
         ensures input { self.new.input ≡ self.old.input }
     {
         if let Some(open) = self.table.get_mut(*name) {
@@ -368,7 +391,8 @@ impl Streams {
     /// Adds the next bytes of the standard input, which has not ended. `Memory` changes nothing.
     pub fn push_standard(&mut self, bytes: &[u8]) -> Result<(), Fault>
         requires { self.old.input.ended ≡ false }
-        ensures ok { OnOk result (self.new.input ≡ record { unread = self.old.input.unread ++ bytes.now; ended = false }) }
+        ensures ok { OnOk result
+            (self.new.input ≡ record { unread = self.old.input.unread ++ bytes.now; ended = false }) }
         ensures err { OnErr result (self.new.input ≡ self.old.input) }
         ensures memory { IsOkUnless result Fault.Memory }
         ensures entries { self.new.entries ≡ self.old.entries }
@@ -376,10 +400,13 @@ impl Streams {
         self.input.push(bytes)
     }
 
-    /// Takes the first record of what is held unread of the standard input, and writes it into the room; see `Reader::take_line`.
+    /// Takes the first record of what is held unread of the standard input, and writes it into the room; see
+    /// `Reader::take_line`.
     #[inline(always)]
     pub fn take_standard_line(&mut self, rs: &[u8], room: &mut Vec<u8>) -> bool
-        ensures taken { result ≡ true → Takes (head rs.now self.old.input.unread self.old.input.ended) (taken.Record room.new.items) self.old.input self.new.input }
+        ensures taken { result ≡ true →
+            Takes (head rs.now self.old.input.unread self.old.input.ended) (taken.Record room.new.items) self.old.input
+            self.new.input }
         ensures not_taken { result ≡ false → self.new ≡ self.old }
         ensures entries { self.new.entries ≡ self.old.entries }
     {
@@ -389,7 +416,9 @@ impl Streams {
     /// The first record of what is held unread of the standard input, which is taken; see
     /// `Reader::take`. Where it fails, nothing was taken.
     pub fn take_standard(&mut self, rs: &[u8]) -> Result<Taken, Fault>
-        ensures ok { IfOk result (λ taken. Takes (head rs.now self.old.input.unread self.old.input.ended) taken self.old.input self.new.input) }
+        ensures ok { IfOk result
+            (λ taken. Takes (head rs.now self.old.input.unread self.old.input.ended) taken self.old.input
+            self.new.input) }
         ensures err { OnErr result (self.new.input ≡ self.old.input) }
         ensures fault { IfErr result (λ e. (e ≡ Fault.Memory)
             ⊎ ((e ≡ Fault.TextTooLong) × (head rs.now self.old.input.unread self.old.input.ended ≡ too_long))) }

@@ -1,6 +1,7 @@
 -- Arithmetic on whole numbers from -2^63 to 2^63 - 1. POSIX.1-2017, XCU awk, "Expressions in awk", has the operators
 -- on floating point; here a result is exact, or it is F1, and a quotient is truncated toward zero.
-use Rattle.std.specs.Prelude.{suc, ◌^◌, Bool, false, ◌==◌, nat_lt, ℤ, pos, negsuc, ◌+ℤ◌, ◌-ℤ◌, ◌*ℤ◌, neg_ℤ, int_div, int_rem, Result, Ok, Err, if◌then◌else◌}
+use Rattle.std.specs.Prelude.{suc, ◌^◌, Bool, false, ◌==◌, nat_lt, ℤ, pos, negsuc, ◌+ℤ◌, ◌-ℤ◌, ◌*ℤ◌, neg_ℤ, int_div}
+use Rattle.std.specs.Prelude.{int_rem, Result, Ok, Err, if◌then◌else◌}
 use Rattle.std.specs.Int.{int_pow}
 use Rattle.awk_text.specs.declared.fault.Fault.{Fault}
 use Rattle.awk_text.specs.declared.fault.Fault.TheVariants.{OutOfRange, ZeroDivisor}

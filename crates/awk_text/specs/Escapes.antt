@@ -1,5 +1,6 @@
 -- Escapes in strings. POSIX.1-2017, XCU awk, table "Escape Sequences in awk", and the STRING token.
-use Rattle.std.specs.Prelude.{ℕ, zero, suc, ◌+◌, ◌-◌, ◌*◌, ◌%◌, Bool, ◌&&◌, ◌==◌, nat_le, List, [], ◌∷◌, ◌++◌, length, take, Option, Some, None, if◌then◌else◌}
+use Rattle.std.specs.Prelude.{ℕ, zero, suc, ◌+◌, ◌-◌, ◌*◌, ◌%◌, Bool, ◌&&◌, ◌==◌, nat_le, List, [], ◌∷◌, ◌++◌, length}
+use Rattle.std.specs.Prelude.{take, Option, Some, None, if◌then◌else◌}
 use Rattle.std.specs.List.{take_while, fold}
 
 -- what an escape stands for, and how many bytes after its `\` belong to it
@@ -34,14 +35,16 @@ one_byte b None = record { text = 0x5C ∷ b ∷ []; taken = 1 }
 abbrev pub escape_of : List ℕ → Escape
 escape_of [] = record { text = 0x5C ∷ []; taken = 0 }
 escape_of (b ∷ bs) =
-    if is_octal b then record { text = octal_value (octal_digits (b ∷ bs)) % 256 ∷ []; taken = length (octal_digits (b ∷ bs)) } else (
+    if is_octal b then record
+    { text = octal_value (octal_digits (b ∷ bs)) % 256 ∷ []; taken = length (octal_digits (b ∷ bs)) } else (
     if b == 10 then record { text = []; taken = 1 } else one_byte b (escaped_byte b))
 
 -- the text with each escape as what it stands for, after the bytes that the escape before it has taken
 abbrev pub unescaped_after : ℕ → List ℕ → List ℕ
 unescaped_after taken [] = []
 unescaped_after (suc taken) (b ∷ bs) = unescaped_after taken bs
-unescaped_after zero (b ∷ bs) = if b == 0x5C then (escape_of bs).text ++ unescaped_after (escape_of bs).taken bs else b ∷ unescaped_after 0 bs
+unescaped_after zero (b ∷ bs) =
+    if b == 0x5C then (escape_of bs).text ++ unescaped_after (escape_of bs).taken bs else b ∷ unescaped_after 0 bs
 
 abbrev pub unescaped : List ℕ → List ℕ
 unescaped text = unescaped_after 0 text

@@ -1,7 +1,9 @@
 -- The codes of the faults, F1 to F13, and their texts.
 use Rattle.std.specs.Prelude.{ℕ, List, codes}
 use Rattle.awk_text.specs.declared.fault.Fault.{Fault}
-use Rattle.awk_text.specs.declared.fault.Fault.TheVariants.{OutOfRange, ZeroDivisor, Pattern, Format, CallDepth, TextTooLong, Output, NextOutside, FieldNumber, TooManyElements, StepBound, Log, Memory}
+use Rattle.awk_text.specs.declared.fault.Fault.TheVariants.{OutOfRange, ZeroDivisor, Pattern, Format, CallDepth}
+use Rattle.awk_text.specs.declared.fault.Fault.TheVariants.{TextTooLong, Output, NextOutside, FieldNumber}
+use Rattle.awk_text.specs.declared.fault.Fault.TheVariants.{TooManyElements, StepBound, Log, Memory}
 
 -- the number in the code
 abbrev pub code_of : Fault → ℕ

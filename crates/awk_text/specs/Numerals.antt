@@ -1,6 +1,7 @@
 -- Numbers that texts begin with. POSIX.1-2017, XCU awk, "Expressions in awk": the initial portion of a string is
 -- blanks and a numeric constant; here a whole one in base ten.
-use Rattle.std.specs.Prelude.{ℕ, Bool, false, ◌&&◌, ◌||◌, ◌==◌, nat_lt, nat_le, ℤ, pos, neg_ℤ, List, [], ◌∷◌, drop, Option, Some, None, if◌then◌else◌}
+use Rattle.std.specs.Prelude.{ℕ, Bool, false, ◌&&◌, ◌||◌, ◌==◌, nat_lt, nat_le, ℤ, pos, neg_ℤ, List, [], ◌∷◌, drop}
+use Rattle.std.specs.Prelude.{Option, Some, None, if◌then◌else◌}
 use Rattle.std.specs.List.{prefix_len, take_while, list_all}
 use Rattle.std.specs.Char.{is_ascii_digit}
 use Rattle.std.specs.Str.Parse.{digits_value}
@@ -28,7 +29,8 @@ signed minus n = if minus then neg_ℤ (pos n) else pos n
 
 -- the number of the longest prefix that is blanks, an optional sign and digits, and 0 where that has no digit
 abbrev pub number : List ℕ → ℤ
-number text = let body = drop_while is_blank text in signed (has_minus body) (digits_value 10 (take_while is_ascii_digit (after_sign body)))
+number text = let body =
+    drop_while is_blank text in signed (has_minus body) (digits_value 10 (take_while is_ascii_digit (after_sign body)))
 
 -- one or more digits, and then blanks to the end
 abbrev pub is_numeral : List ℕ → Bool
@@ -36,4 +38,5 @@ is_numeral text = nat_lt 0 (prefix_len is_ascii_digit text) && list_all is_blank
 
 -- the number of a text that is blanks, an optional sign, one or more digits, and blanks, and in range
 abbrev pub looks_numeric : List ℕ → Option ℤ
-looks_numeric text = if is_numeral (after_sign (drop_while is_blank text)) && is_in_range (number text) then Some (number text) else None
+looks_numeric text =
+    if is_numeral (after_sign (drop_while is_blank text)) && is_in_range (number text) then Some (number text) else None

@@ -18,12 +18,15 @@ use std::cmp::Ordering;
 /// The most digits of a number that is read without a look at its range.
 const FEW_DIGITS: usize = 18;
 
-/// The number that the text is where it is 1 to 18 digits and nothing else; `None` exactly where it is not. Takes no memory.
+/// The number that the text is where it is 1 to 18 digits and nothing else; `None` exactly where it is not. Takes no
+/// memory.
 pub fn few_digits(text: &[u8]) -> Option<i64>
     ensures number { IfSome result (λ n. ranged (number text.now) ≡ Ok n) }
     ensures looks { IfSome result (λ n. looks_numeric text.now ≡ Some n) }
-    ensures few { IfSome result (λ n. (0 < length text.now) × (length text.now ≤ 18) × (list_all is_ascii_digit text.now ≡ true)) }
-    ensures only { IfNone result ((length text.now ≡ 0) ⊎ (18 < length text.now) ⊎ (list_all is_ascii_digit text.now ≡ false)) }
+    ensures few { IfSome result
+        (λ n. (0 < length text.now) × (length text.now ≤ 18) × (list_all is_ascii_digit text.now ≡ true)) }
+    ensures only { IfNone result
+        ((length text.now ≡ 0) ⊎ (18 < length text.now) ⊎ (list_all is_ascii_digit text.now ≡ false)) }
 {
     if text.is_empty() || text.len() > FEW_DIGITS {
         return None;
@@ -104,8 +107,8 @@ impl<'a> Lent<'a> {
         }
     }
 
-    /// Whether it is true: a number that is not 0, or a text that is not empty. A text from outside that looks numeric is
-    /// a number here.
+    /// Whether it is true: a number that is not 0, or a text that is not empty. A text from outside that looks numeric
+    /// is a number here.
     pub fn truth(self) -> bool
         ensures { result ≡ truth (lent_value self.entry) }
     {
@@ -127,8 +130,8 @@ impl<'a> Lent<'a> {
         self.text(&mut first).cmp(other.text(&mut second))
     }
 
-    /// The order of two values: of their numbers where each is a number, unset, or a text from outside that looks numeric,
-    /// and else of their texts, byte by byte.
+    /// The order of two values: of their numbers where each is a number, unset, or a text from outside that looks
+    /// numeric, and else of their texts, byte by byte.
     #[inline(always)]
     pub fn compare(self, other: Lent<'a>) -> Ordering
         ensures { result ≡ order (lent_value self.entry) (lent_value other.entry) }

@@ -15,4 +15,5 @@ pub record IsNext (operand : Bool) (z : Text) (start : ℕ) (place : Place) (tok
   pub len_is : len ≡ length text
   pub moves : 0 < len
   pub first : IsFirst operand token.kind text rest
-  pub token_is : (front : Text) → start ≡ length front → place ≡ place_after front → token ≡ token_of front token.kind text
+  pub token_is : (front : Text) → start ≡ length front → place ≡ place_after front → token
+      ≡ token_of front token.kind text

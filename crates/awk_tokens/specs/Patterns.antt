@@ -19,7 +19,8 @@ BeginsClass z left = (name : Text) × (list_all is_ascii_alphabetic name ≡ tru
 pub data PatternEnds : Part → Text → Text → Type 0 where
   ends : (rest : Text) → PatternEnds Outside (47 ∷ rest) rest
   escaped : (b : ℕ) (z rest : Text) → PatternEnds Outside z rest → PatternEnds Outside (92 ∷ b ∷ z) rest
-  plain : (b : ℕ) (z rest : Text) → b ≢ 47 → b ≢ 92 → b ≢ 91 → b ≢ 10 → PatternEnds Outside z rest → PatternEnds Outside (b ∷ z) rest
+  plain : (b : ℕ) (z rest : Text) → b ≢ 47 → b ≢ 92 → b ≢ 91 → b ≢ 10 → PatternEnds Outside z rest →
+      PatternEnds Outside (b ∷ z) rest
   opens : (z rest : Text) → slice_index z 0 ≢ 94 → PatternEnds Opened z rest → PatternEnds Outside (91 ∷ z) rest
   opens_not : (z rest : Text) → PatternEnds Opened z rest → PatternEnds Outside (91 ∷ 94 ∷ z) rest
   -- a `]` that comes first stands for itself
@@ -27,5 +28,6 @@ pub data PatternEnds : Part → Text → Text → Type 0 where
   no_first : (z rest : Text) → slice_index z 0 ≢ 93 → PatternEnds Inside z rest → PatternEnds Opened z rest
   closes : (z rest : Text) → PatternEnds Outside z rest → PatternEnds Inside (93 ∷ z) rest
   member_escaped : (b : ℕ) (z rest : Text) → PatternEnds Inside z rest → PatternEnds Inside (92 ∷ b ∷ z) rest
-  member : (b : ℕ) (z rest : Text) → b ≢ 93 → b ≢ 92 → b ≢ 10 → (b ≡ 91 → (left : Text) → BeginsClass z left → ⊥) → PatternEnds Inside z rest → PatternEnds Inside (b ∷ z) rest
+  member : (b : ℕ) (z rest : Text) → b ≢ 93 → b ≢ 92 → b ≢ 10 → (b ≡ 91 → (left : Text) → BeginsClass z left → ⊥) →
+      PatternEnds Inside z rest → PatternEnds Inside (b ∷ z) rest
   class : (z left rest : Text) → BeginsClass z left → PatternEnds Inside left rest → PatternEnds Inside (91 ∷ z) rest

@@ -11,9 +11,11 @@ capped n = min n 4294967295
 -- the place directly after this front of a script: its line is one more than the newlines of the
 -- front, its column one more than the bytes behind the last newline
 abbrev pub place_after : Text → Place
-place_after front = record { line = capped (count_by (λ b. b == 10) front + 1); column = capped (suffix_len (λ b. not (b == 10)) front + 1) }
+place_after front = record
+    { line = capped (count_by (λ b. b == 10) front + 1); column = capped (suffix_len (λ b. not (b == 10)) front + 1) }
 
 -- the place one byte further on
 abbrev pub next_place : Place → ℕ → Place
 next_place place b =
-    if b == 10 then record { line = capped (place.line + 1); column = 1 } else record { line = place.line; column = capped (place.column + 1) }
+    if b == 10 then record { line = capped (place.line + 1); column = 1 }
+    else record { line = place.line; column = capped (place.column + 1) }

@@ -1,6 +1,7 @@
 -- The lexical rule: how a script is read as tokens
 -- (POSIX.1-2017 XCU awk, "Lexical Conventions").
-use Rattle.std.specs.Prelude.{◌≡◌, ◌≢◌, ℕ, Bool, true, false, not, ◌||◌, ◌==◌, List, [], ◌∷◌, ◌++◌, length, slice_index, codes, fold}
+use Rattle.std.specs.Prelude.{◌≡◌, ◌≢◌, ℕ, Bool, true, false, not, ◌||◌, ◌==◌, List, [], ◌∷◌, ◌++◌, length, slice_index}
+use Rattle.std.specs.Prelude.{codes, fold}
 use Rattle.std.specs.Char.{is_ascii_digit}
 use Rattle.std.specs.List.{list_all}
 use Rattle.std.specs.Str.{bytes_eq}
@@ -14,14 +15,16 @@ use Rattle.awk_tokens.specs.Tokens.{IsToken, NoLonger, IsFirst, is_whole, text_o
 use Rattle.awk_tokens.specs.declared.scan.Part.TheVariants.{Outside}
 use Rattle.awk_tokens.specs.declared.token.Token.{Token}
 use Rattle.awk_tokens.specs.declared.kinds.TokenKind.{TokenKind}
-use Rattle.awk_tokens.specs.declared.kinds.TokenKind.TheVariants.{Number, Quoted, Pattern, Keyword, Builtin, Refused, Name, CallName, Sign}
+use Rattle.awk_tokens.specs.declared.kinds.TokenKind.TheVariants.{Number, Quoted, Pattern, Keyword, Builtin, Refused}
+use Rattle.awk_tokens.specs.declared.kinds.TokenKind.TheVariants.{Name, CallName, Sign}
 
 -- What separates tokens, before this rest: a blank, a `\` with a newline, or a comment, which goes
 -- up to a newline or the end. 92 is `\`, 10 is the newline, 35 is `#`.
 pub data IsGap : Text → Text → Type 0 where
   blank : (b : ℕ) (rest : Text) → is_blank b ≡ true → IsGap (b ∷ []) rest
   joined : (rest : Text) → IsGap (92 ∷ 10 ∷ []) rest
-  comment : (line rest : Text) → list_all (λ b. not (b == 10)) line ≡ true → (rest ≢ [] → slice_index rest 0 ≡ 10) → IsGap (35 ∷ line) rest
+  comment : (line rest : Text) → list_all (λ b. not (b == 10)) line ≡ true → (rest ≢ [] → slice_index rest 0 ≡ 10) →
+      IsGap (35 ∷ line) rest
 
 -- whether a token ends an operand, so that no operand may begin directly after it
 abbrev pub ends_operand : TokenKind → Text → Bool
@@ -33,7 +36,8 @@ ends_operand Builtin text = true
 ends_operand Refused text = false
 ends_operand Name text = true
 ends_operand CallName text = true
-ends_operand Sign text = bytes_eq text (codes ")") || (bytes_eq text (codes "]") || (bytes_eq text (codes "++") || bytes_eq text (codes "--")))
+ends_operand Sign text = bytes_eq text (codes ")")
+    || (bytes_eq text (codes "]") || (bytes_eq text (codes "++") || bytes_eq text (codes "--")))
 
 -- whether an operand may begin after these tokens: the last one decides
 abbrev pub operand_after : List Token → Bool
@@ -41,14 +45,24 @@ operand_after tokens = fold (λ before token. not (ends_operand token.kind token
 
 -- the token of this kind and these bytes that stands behind this front of a script
 abbrev pub token_of : Text → TokenKind → Text → Token
-token_of front kind text = record { kind = kind; text = text_of kind text; start = length front; place = place_after front; end = place_after (front ++ text) }
+token_of front kind text =
+    record {
+      kind = kind;
+      text = text_of kind text;
+      start = length front;
+      place = place_after front;
+      end =
+          place_after (front ++ text);
+    }
 
 -- The front of a script is read as these tokens, and this rest of it is left: slices in order, each
 -- the longest token at its place, with separators between them.
 pub data ReadsTo : Text → List Token → Text → Type 0 where
   begun : (script : Text) → ReadsTo [] [] script
-  a_gap : (front gap rest : Text) (tokens : List Token) → ReadsTo front tokens (gap ++ rest) → IsGap gap rest → ReadsTo (front ++ gap) tokens rest
-  a_token : (front text rest : Text) (tokens : List Token) (kind : TokenKind) → ReadsTo front tokens (text ++ rest) → IsFirst (operand_after tokens) kind text rest
+  a_gap : (front gap rest : Text) (tokens : List Token) → ReadsTo front tokens (gap ++ rest) → IsGap gap rest →
+      ReadsTo (front ++ gap) tokens rest
+  a_token : (front text rest : Text) (tokens : List Token) (kind : TokenKind) → ReadsTo front tokens (text ++ rest) →
+      IsFirst (operand_after tokens) kind text rest
       → ReadsTo (front ++ text) (tokens ++ token_of front kind text ∷ []) rest
 
 -- the whole script is read as these tokens
@@ -81,7 +95,8 @@ pub data Stands : Bool → ℕ → Text → Type 0 where
   stray : (operand : Bool) (z : Text) → IsStray z → Stands operand 1 z
   open_string : (operand : Bool) (z : Text) → ((rest : Text) → StringEnds z rest → ⊥) → Stands operand 2 (34 ∷ z)
   open_pattern : (z : Text) → ((rest : Text) → PatternEnds Outside z rest → ⊥) → Stands true 2 (47 ∷ z)
-  no_whole : (operand : Bool) (text rest : Text) → IsToken operand Number text rest → NoLonger operand text rest → is_whole text rest ≡ false → Stands operand 3 (text ++ rest)
+  no_whole : (operand : Bool) (text rest : Text) → IsToken operand Number text rest → NoLonger operand text rest →
+      is_whole text rest ≡ false → Stands operand 3 (text ++ rest)
   point : (operand : Bool) (b : ℕ) (z : Text) → is_ascii_digit b ≡ true → Stands operand 3 (46 ∷ b ∷ z)
 
 -- the script is refused by this code at this place, and all before it is read

@@ -1,6 +1,7 @@
 -- What the scanning functions answer, as functions of lists. The lexical rule does not stand on
 -- them: it is proved of them.
-use Rattle.std.specs.Prelude.{◌≡◌, ℕ, zero, suc, ◌+◌, ◌-◌, Bool, true, false, min, not, ◌&&◌, ◌||◌, if◌then◌else◌, ◌==◌, List, [], ◌∷◌, take, drop, length, slice_index, Option, Some, None, Result, Ok, Err}
+use Rattle.std.specs.Prelude.{◌≡◌, ℕ, zero, suc, ◌+◌, ◌-◌, Bool, true, false, min, not, ◌&&◌, ◌||◌, if◌then◌else◌, ◌==◌}
+use Rattle.std.specs.Prelude.{List, [], ◌∷◌, take, drop, length, slice_index, Option, Some, None, Result, Ok, Err}
 use Rattle.std.specs.Char.{is_ascii_digit, is_ascii_alphabetic}
 use Rattle.std.specs.List.{prefix_len}
 use Rattle.awk_tokens.specs.Bytes.{Text, is_blank, begins_name, continues_name}
@@ -43,7 +44,9 @@ string_rest false (b ∷ z) = if b == 34 then Some z else (if b == 10 then None 
 -- how long the class at the front is, behind its `[`, 0 where there is none
 unfoldable pub class_len : Text → ℕ
 class_len z =
-    if slice_index z 0 == 58 then (let n = letters_len (drop 1 z) in if slice_index z (n + 1) == 58 && slice_index z (n + 2) == 93 then n + 3 else 0)
+    if slice_index z 0 == 58
+    then (let n = letters_len (drop 1 z) in if slice_index z (n + 1) == 58 && slice_index z (n + 2) == 93 then n + 3
+    else 0)
     else 0
 
 abbrev pub outside_step : ℕ → Text → Step

@@ -11,7 +11,8 @@ singles = 10 ∷ codes "{}()[];,+-*/%^!><|?:~$="
 -- the signs of two bytes
 abbrev pub doubles : List Text
 doubles =
-    codes "+=" ∷ codes "-=" ∷ codes "*=" ∷ codes "/=" ∷ codes "%=" ∷ codes "^=" ∷ codes "==" ∷ codes "<=" ∷ codes ">=" ∷ codes "!=" ∷ codes "!~" ∷ codes "++"
+    codes "+=" ∷ codes "-=" ∷ codes "*=" ∷ codes "/=" ∷ codes "%=" ∷ codes "^=" ∷ codes "==" ∷ codes "<=" ∷ codes ">="
+    ∷ codes "!=" ∷ codes "!~" ∷ codes "++"
     ∷ codes "--" ∷ codes "&&" ∷ codes "||" ∷ codes ">>" ∷ []
 
 abbrev pub is_single : ℕ → Bool

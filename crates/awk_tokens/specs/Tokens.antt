@@ -1,6 +1,7 @@
 -- What a token is, and which one stands first in a text
 -- (POSIX.1-2017 XCU awk, "Lexical Conventions": the longest token at each place is taken).
-use Rattle.std.specs.Prelude.{◌≡◌, ◌≢◌, ℕ, ◌+◌, ◌-◌, ◌*◌, Bool, true, false, not, ◌&&◌, ◌||◌, if◌then◌else◌, ◌==◌, nat_le, List, [], ◌∷◌, ◌++◌, length, slice_index, slice_range, fold}
+use Rattle.std.specs.Prelude.{◌≡◌, ◌≢◌, ℕ, ◌+◌, ◌-◌, ◌*◌, Bool, true, false, not, ◌&&◌, ◌||◌, if◌then◌else◌, ◌==◌}
+use Rattle.std.specs.Prelude.{nat_le, List, [], ◌∷◌, ◌++◌, length, slice_index, slice_range, fold}
 use Rattle.std.specs.Char.{is_ascii_digit}
 use Rattle.std.specs.List.{list_all}
 use Rattle.awk_tokens.specs.Bytes.{Text}
@@ -10,7 +11,8 @@ use Rattle.awk_tokens.specs.Strings.{StringEnds}
 use Rattle.awk_tokens.specs.Patterns.{PatternEnds}
 use Rattle.awk_tokens.specs.declared.scan.Part.TheVariants.{Outside}
 use Rattle.awk_tokens.specs.declared.kinds.TokenKind.{TokenKind}
-use Rattle.awk_tokens.specs.declared.kinds.TokenKind.TheVariants.{Number, Quoted, Pattern, Keyword, Builtin, Refused, Name, CallName, Sign}
+use Rattle.awk_tokens.specs.declared.kinds.TokenKind.TheVariants.{Number, Quoted, Pattern, Keyword, Builtin, Refused}
+use Rattle.awk_tokens.specs.declared.kinds.TokenKind.TheVariants.{Name, CallName, Sign}
 
 -- one or more digits
 abbrev pub is_number : Text → Bool
@@ -26,7 +28,8 @@ IsWord kind text rest = (is_name text ≡ true) × (word_kind text rest ≡ kind
 abbrev pub IsToken : Bool → TokenKind → Text → Text → Type 0
 IsToken operand Number text rest = is_number text ≡ true
 IsToken operand Quoted text rest = (body : Text) × (text ≡ 34 ∷ body) × StringEnds (body ++ rest) rest
-IsToken operand Pattern text rest = (body : Text) × (text ≡ 47 ∷ body) × (operand ≡ true) × PatternEnds Outside (body ++ rest) rest
+IsToken operand Pattern text rest =
+    (body : Text) × (text ≡ 47 ∷ body) × (operand ≡ true) × PatternEnds Outside (body ++ rest) rest
 IsToken operand Sign text rest = (is_sign text ≡ true) × (operand ≡ true → slice_index text 0 ≢ 47)
 IsToken operand Keyword text rest = IsWord Keyword text rest
 IsToken operand Builtin text rest = IsWord Builtin text rest
@@ -36,7 +39,8 @@ IsToken operand CallName text rest = IsWord CallName text rest
 
 -- no longer front of what stands there is a token of any kind
 abbrev pub NoLonger : Bool → Text → Text → Type 0
-NoLonger operand text rest = (kind : TokenKind) (more left : Text) → rest ≡ more ++ left → IsToken operand kind (text ++ more) left → more ≡ []
+NoLonger operand text rest =
+    (kind : TokenKind) (more left : Text) → rest ≡ more ++ left → IsToken operand kind (text ++ more) left → more ≡ []
 
 -- ---- numbers of the whole-number profile
 
@@ -52,7 +56,8 @@ begins_exponent z =
 
 -- the digits are a number of the profile before this rest: no point and no exponent follows
 abbrev pub is_whole : Text → Text → Bool
-is_whole digits rest = nat_le (value_of digits) 9223372036854775807 && (not (slice_index rest 0 == 46) && not (begins_exponent rest))
+is_whole digits rest =
+    nat_le (value_of digits) 9223372036854775807 && (not (slice_index rest 0 == 46) && not (begins_exponent rest))
 
 abbrev pub IsWhole : TokenKind → Text → Text → Type 0
 IsWhole Number text rest = is_whole text rest ≡ true

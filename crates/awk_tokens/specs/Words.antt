@@ -1,6 +1,7 @@
 -- The words of the language, and the kinds of words and names
 -- (POSIX.1-2017 XCU awk, "Lexical Conventions", rules 7 to 9).
-use Rattle.std.specs.Prelude.{ℕ, Bool, true, false, ◌&&◌, if◌then◌else◌, ◌==◌, List, [], ◌∷◌, ◌++◌, map, codes, slice_index, Option, Some, None, option_map}
+use Rattle.std.specs.Prelude.{ℕ, Bool, true, false, ◌&&◌, if◌then◌else◌, ◌==◌, List, [], ◌∷◌, ◌++◌, map, codes}
+use Rattle.std.specs.Prelude.{slice_index, Option, Some, None, option_map}
 use Rattle.std.specs.List.{list_any, list_all}
 use Rattle.std.specs.Str.{bytes_eq}
 use Rattle.awk_tokens.specs.Bytes.{Text, begins_name, continues_name}
@@ -20,8 +21,10 @@ use Rattle.awk_tokens.specs.declared.words.Jump.TheVariants as j
 -- the words of the grammar but the ones below; `func` is the same word as `function`
 abbrev pub keywords : List (Text × Terminal)
 keywords =
-    (codes "BEGIN", w.BeginWord) ∷ (codes "END", w.EndWord) ∷ (codes "delete", w.Delete) ∷ (codes "do", w.Do) ∷ (codes "else", w.Else) ∷ (codes "exit", w.Exit)
-    ∷ (codes "for", w.For) ∷ (codes "func", w.Function) ∷ (codes "function", w.Function) ∷ (codes "getline", w.Getline) ∷ (codes "if", w.If) ∷ (codes "in", w.In)
+    (codes "BEGIN", w.BeginWord) ∷ (codes "END", w.EndWord) ∷ (codes "delete", w.Delete) ∷ (codes "do", w.Do)
+    ∷ (codes "else", w.Else) ∷ (codes "exit", w.Exit)
+    ∷ (codes "for", w.For) ∷ (codes "func", w.Function) ∷ (codes "function", w.Function) ∷ (codes "getline", w.Getline)
+    ∷ (codes "if", w.If) ∷ (codes "in", w.In)
     ∷ (codes "print", w.Print) ∷ (codes "printf", w.Printf) ∷ (codes "return", w.Return) ∷ (codes "while", w.While) ∷ []
 
 -- the words that are a statement alone
@@ -53,12 +56,14 @@ builtin_entry b.Toupper = (codes "toupper", takes.One)
 
 abbrev pub builtins : List Builtin
 builtins =
-    b.Close ∷ b.Fflush ∷ b.Gsub ∷ b.Index ∷ b.Int ∷ b.Length ∷ b.Match ∷ b.Split ∷ b.Sprintf ∷ b.Sub ∷ b.Substr ∷ b.System ∷ b.Tolower ∷ b.Toupper ∷ []
+    b.Close ∷ b.Fflush ∷ b.Gsub ∷ b.Index ∷ b.Int ∷ b.Length ∷ b.Match ∷ b.Split ∷ b.Sprintf ∷ b.Sub ∷ b.Substr
+    ∷ b.System ∷ b.Tolower ∷ b.Toupper ∷ []
 
 -- the words of functions that the profile leaves out
 abbrev pub refused : List Text
 refused =
-    codes "atan2" ∷ codes "cos" ∷ codes "exp" ∷ codes "log" ∷ codes "rand" ∷ codes "sin" ∷ codes "sqrt" ∷ codes "srand" ∷ []
+    codes "atan2" ∷ codes "cos" ∷ codes "exp" ∷ codes "log" ∷ codes "rand" ∷ codes "sin" ∷ codes "sqrt" ∷ codes "srand"
+    ∷ []
 
 abbrev pub builtin_text : Builtin → Text
 builtin_text which = (builtin_entry which).0
@@ -67,7 +72,8 @@ abbrev pub parameters : Builtin → Parameters
 parameters which = (builtin_entry which).1
 
 abbrev pub words : List (Text × Terminal)
-words = keywords ++ (map (λ which. (jump_text which, w.Jump which)) jumps ++ (map (λ which. (builtin_text which, w.Builtin which)) builtins ++ map (λ text. (text, w.Refused)) refused))
+words = keywords ++ (map (λ which. (jump_text which, w.Jump which)) jumps
+    ++ (map (λ which. (builtin_text which, w.Builtin which)) builtins ++ map (λ text. (text, w.Refused)) refused))
 
 -- ---- what is told by the table
 

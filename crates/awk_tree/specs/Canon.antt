@@ -1,5 +1,6 @@
 -- The canonical spelling of a tree, and the tree without places.
-use Rattle.std.specs.Prelude.{Bool, true, false, if◌then◌else◌, List, [], ◌∷◌, ◌++◌, map, Option, Some, None, option_map, codes}
+use Rattle.std.specs.Prelude.{Bool, true, false, if◌then◌else◌, List, [], ◌∷◌, ◌++◌, map, Option, Some, None}
+use Rattle.std.specs.Prelude.{option_map, codes}
 use Rattle.std.specs.List.{flat_map}
 use Rattle.awk_tokens.specs.Words.{builtin_text, jump_text}
 use Rattle.awk_tokens.specs.declared.token.Token.{Token}
@@ -19,7 +20,8 @@ use Rattle.awk_tree.specs.declared.operators.Sign.TheVariants as prefix
 use Rattle.awk_tree.specs.declared.statements.Printed.{Printed}
 use Rattle.awk_tree.specs.declared.statements.Redirection.{Redirection}
 use Rattle.awk_tree.specs.Tree as t
-use Rattle.awk_tree.specs.Tree.{Text, Tree, Trees, none, more, Perhaps, absent, present, Terms, no_terms, term, Pipes, no_pipes, piped, Statement, Statements, no_more, then_also, Condition, Entry}
+use Rattle.awk_tree.specs.Tree.{Text, Tree, Trees, none, more, Perhaps, absent, present, Terms, no_terms, term, Pipes}
+use Rattle.awk_tree.specs.Tree.{no_pipes, piped, Statement, Statements, no_more, then_also, Condition, Entry}
 use Rattle.awk_tree.specs.Terminals.{assignment_text, step_text, nowhere, token, sign, keyword}
 
 -- ---- how operators are spelled
@@ -80,10 +82,13 @@ abbrev mutual
   canon (t.field p x) = sign (codes "$") ∷ canon x
   canon (t.paren p x) = sign (codes "(") ∷ canon x ++ sign (codes ")") ∷ []
   canon (t.call n xs) = token kind.CallName n.text ∷ sign (codes "(") ∷ canon_list xs ++ sign (codes ")") ∷ []
-  canon (t.builtin p which xs) = builtin_word (builtin_text which) ∷ sign (codes "(") ∷ canon_list xs ++ sign (codes ")") ∷ []
+  canon (t.builtin p which xs) =
+      builtin_word (builtin_text which) ∷ sign (codes "(") ∷ canon_list xs ++ sign (codes ")") ∷ []
   canon (t.bare_length p) = builtin_word (builtin_text b.Length) ∷ []
-  canon (t.split p x n y) = builtin_word (builtin_text b.Split) ∷ sign (codes "(") ∷ canon x ++ sign (codes ",") ∷ word n ∷ canon_comma y ++ sign (codes ")") ∷ []
-  canon (t.substitute p all x y z) = builtin_word (builtin_text (substituting all)) ∷ sign (codes "(") ∷ canon x ++ sign (codes ",") ∷ canon y ++ canon_comma z ++ sign (codes ")") ∷ []
+  canon (t.split p x n y) = builtin_word (builtin_text b.Split) ∷ sign (codes "(") ∷ canon x ++ sign (codes ",")
+      ∷ word n ∷ canon_comma y ++ sign (codes ")") ∷ []
+  canon (t.substitute p all x y z) = builtin_word (builtin_text (substituting all)) ∷ sign (codes "(") ∷ canon x
+      ++ sign (codes ",") ∷ canon y ++ canon_comma z ++ sign (codes ")") ∷ []
   canon (t.getline p x y) = keyword (codes "getline") ∷ canon_target x ++ canon_file y
   canon (t.before p which x) = sign (step_text which) ∷ canon x
   canon (t.after x p which) = canon x ++ sign (step_text which) ∷ []
@@ -153,7 +158,8 @@ abbrev pub canon_perhaps : Option Tree → List Token
 canon_perhaps x = canon_target (t.perhaps_of x)
 
 abbrev pub canon_printed : Printed Tree → List Token
-canon_printed x = if x.is_grouped then sign (codes "(") ∷ canon_items x.items ++ sign (codes ")") ∷ [] else canon_items x.items
+canon_printed x =
+    if x.is_grouped then sign (codes "(") ∷ canon_items x.items ++ sign (codes ")") ∷ [] else canon_items x.items
 
 abbrev pub canon_redirection : Option (Redirection Tree) → List Token
 canon_redirection None = []
@@ -172,18 +178,22 @@ abbrev mutual
   canon_statement (t.plain x) = canon x ++ end
   canon_statement (t.print p xs r) = keyword (codes "print") ∷ canon_printed xs ++ canon_redirection r ++ end
   canon_statement (t.printf p xs r) = keyword (codes "printf") ∷ canon_printed xs ++ canon_redirection r ++ end
-  canon_statement (t.delete n xs) = keyword (codes "delete") ∷ word n ∷ sign (codes "[") ∷ canon_items xs ++ sign (codes "]") ∷ end
+  canon_statement (t.delete n xs) =
+      keyword (codes "delete") ∷ word n ∷ sign (codes "[") ∷ canon_items xs ++ sign (codes "]") ∷ end
   canon_statement (t.delete_all n) = keyword (codes "delete") ∷ word n ∷ end
   canon_statement (t.jump p which) = keyword (jump_text which) ∷ end
   canon_statement (t.exit p x) = keyword (codes "exit") ∷ canon_perhaps x ++ end
   canon_statement (t.return p x) = keyword (codes "return") ∷ canon_perhaps x ++ end
   canon_statement (t.block xs) = sign (codes "{") ∷ canon_statements xs ++ sign (codes "}") ∷ []
   canon_statement (t.if_then x s) = canon_test (codes "if") x ++ canon_statement s
-  canon_statement (t.if_else x s u) = canon_test (codes "if") x ++ canon_statement s ++ keyword (codes "else") ∷ canon_statement u
+  canon_statement (t.if_else x s u) =
+      canon_test (codes "if") x ++ canon_statement s ++ keyword (codes "else") ∷ canon_statement u
   canon_statement (t.while_do x s) = canon_test (codes "while") x ++ canon_statement s
   canon_statement (t.do_while s x) = keyword (codes "do") ∷ canon_statement s ++ canon_test (codes "while") x ++ end
-  canon_statement (t.for_each p key array s) = keyword (codes "for") ∷ sign (codes "(") ∷ word key ∷ keyword (codes "in") ∷ word array ∷ sign (codes ")") ∷ canon_statement s
-  canon_statement (t.for_loop x y z s) = keyword (codes "for") ∷ sign (codes "(") ∷ canon_perhaps x ++ end ++ canon_perhaps y ++ end ++ canon_perhaps z ++ sign (codes ")") ∷ canon_statement s
+  canon_statement (t.for_each p key array s) = keyword (codes "for") ∷ sign (codes "(") ∷ word key
+      ∷ keyword (codes "in") ∷ word array ∷ sign (codes ")") ∷ canon_statement s
+  canon_statement (t.for_loop x y z s) = keyword (codes "for") ∷ sign (codes "(") ∷ canon_perhaps x ++ end
+      ++ canon_perhaps y ++ end ++ canon_perhaps z ++ sign (codes ")") ∷ canon_statement s
 
   pub canon_statements : Statements → List Token
   canon_statements no_more = []
@@ -215,7 +225,8 @@ canon_entry (t.at_end xs) = keyword (codes "END") ∷ canon_action xs ++ line_en
 canon_entry (t.always xs) = canon_action xs ++ line_end
 canon_entry (t.shown c) = canon_condition c ++ line_end
 canon_entry (t.rule c xs) = canon_condition c ++ canon_action xs ++ line_end
-canon_entry (t.function f ps xs) = keyword (codes "function") ∷ word f ∷ sign (codes "(") ∷ canon_params ps ++ sign (codes ")") ∷ canon_action xs ++ line_end
+canon_entry (t.function f ps xs) = keyword (codes "function") ∷ word f ∷ sign (codes "(") ∷ canon_params ps
+    ++ sign (codes ")") ∷ canon_action xs ++ line_end
 
 -- a whole script
 unfoldable pub canon_script : List Entry → List Token
@@ -300,7 +311,8 @@ abbrev mutual
   bare_statement (t.while_do x s) = t.while_do (bare x) (bare_statement s)
   bare_statement (t.do_while s x) = t.do_while (bare_statement s) (bare x)
   bare_statement (t.for_each p key array s) = t.for_each nowhere (bare_name key) (bare_name array) (bare_statement s)
-  bare_statement (t.for_loop x y z s) = t.for_loop (option_map bare x) (option_map bare y) (option_map bare z) (bare_statement s)
+  bare_statement (t.for_loop x y z s) =
+      t.for_loop (option_map bare x) (option_map bare y) (option_map bare z) (bare_statement s)
 
   pub bare_statements : Statements → Statements
   bare_statements no_more = no_more

@@ -2,7 +2,9 @@
 -- (POSIX.1-2017 XCU awk, "Grammar" and "Expressions in awk", whose table of precedence the levels follow).
 use Rattle.std.specs.Prelude.{ℕ, zero, suc, Bool, false, if◌then◌else◌, List, [], ◌∷◌, Option, Some, None}
 use Rattle.awk_text.specs.declared.place.Place.{Place}
-use Rattle.awk_tree.specs.Looks.{and_of, arithmetic_of, assignment, begins_part, comparison, concat_of, is_factor_sign, is_lvalue, is_term_sign, listed, matching, member_of, name_of, or_of, pipe_of, product_of, sign, step, sum_of}
+use Rattle.awk_tree.specs.Looks.{and_of, arithmetic_of, assignment, begins_part, comparison, concat_of, is_factor_sign}
+use Rattle.awk_tree.specs.Looks.{is_lvalue, is_term_sign, listed, matching, member_of, name_of, or_of, pipe_of}
+use Rattle.awk_tree.specs.Looks.{product_of, sign, step, sum_of}
 use Rattle.awk_tree.specs.declared.names.Member.{Member}
 use Rattle.awk_tokens.specs.declared.terminals.Assignment.{Assignment}
 use Rattle.awk_tokens.specs.Words as words
@@ -70,7 +72,9 @@ module _ (depth : ℕ) (inner : Goal → Parser Tree) where
   -- NAME | NAME [ list ]
   unfoldable pub named : Parser Tree
   named = one w.Name >>= λ token. choice (λ kind.
-      if is kind w.OpenBracket then (one w.OpenBracket >> (list >>= λ xs. one w.CloseBracket >> pure (t.element (name_of token) (trees_of xs))))
+      if is kind w.OpenBracket
+      then (one w.OpenBracket
+      >> (list >>= λ xs. one w.CloseBracket >> pure (t.element (name_of token) (trees_of xs))))
       else pure (t.name (name_of token)))
 
   -- $ operand
@@ -96,11 +100,13 @@ module _ (depth : ℕ) (inner : Goal → Parser Tree) where
 
   -- the file of a getline
   unfoldable pub source : Parser (Option Tree)
-  source = choice (λ kind. if is kind w.Less then (one w.Less >> (inner goal.File >>= λ x. pure (Some x))) else pure None)
+  source =
+      choice (λ kind. if is kind w.Less then (one w.Less >> (inner goal.File >>= λ x. pure (Some x))) else pure None)
 
   -- getline [ lvalue ] [ < file ]
   unfoldable pub getline : Parser Tree
-  getline = one w.Getline >>= λ token. target >>= λ x. source >>= λ y. pure (t.getline token.place (perhaps_of x) (perhaps_of y))
+  getline = one w.Getline >>= λ token. target >>= λ x. source
+      >>= λ y. pure (t.getline token.place (perhaps_of x) (perhaps_of y))
 
   -- ---- built-in functions, behind their word
 
@@ -113,7 +119,8 @@ module _ (depth : ℕ) (inner : Goal → Parser Tree) where
 
   -- ( expr , expr )
   unfoldable pub of_two : Place → Builtin → Parser Tree
-  of_two place which = one w.OpenParen >> (whole >>= λ x. next_in_list >>= λ y. one w.CloseParen >> pure (t.builtin place which (trees_of (x ∷ y ∷ []))))
+  of_two place which = one w.OpenParen
+      >> (whole >>= λ x. next_in_list >>= λ y. one w.CloseParen >> pure (t.builtin place which (trees_of (x ∷ y ∷ []))))
 
   -- [ , expr ] )
   unfoldable pub last_next : Parser (Option Tree)
@@ -121,11 +128,14 @@ module _ (depth : ℕ) (inner : Goal → Parser Tree) where
 
   -- ( expr , expr [ , expr ] )
   unfoldable pub of_two_or_three : Place → Builtin → Parser Tree
-  of_two_or_three place which = one w.OpenParen >> (whole >>= λ x. next_in_list >>= λ y. last_next >>= λ z. pure (t.builtin place which (trees_of (x ∷ y ∷ listed z))))
+  of_two_or_three place which = one w.OpenParen
+      >> (whole >>= λ x. next_in_list >>= λ y. last_next
+      >>= λ z. pure (t.builtin place which (trees_of (x ∷ y ∷ listed z))))
 
   -- ( list )
   unfoldable pub of_list : Place → Builtin → Parser Tree
-  of_list place which = one w.OpenParen >> (list >>= λ xs. one w.CloseParen >> pure (t.builtin place which (trees_of xs)))
+  of_list place which =
+      one w.OpenParen >> (list >>= λ xs. one w.CloseParen >> pure (t.builtin place which (trees_of xs)))
 
   -- [ expr ] )
   unfoldable pub one_or_none : Parser (List Tree)
@@ -133,19 +143,25 @@ module _ (depth : ℕ) (inner : Goal → Parser Tree) where
 
   -- ( [ expr ] )
   unfoldable pub of_one_or_none : Place → Builtin → Parser Tree
-  of_one_or_none place which = one w.OpenParen >> (inside depth one_or_none >>= λ xs. one w.CloseParen >> pure (t.builtin place which (trees_of xs)))
+  of_one_or_none place which = one w.OpenParen
+      >> (inside depth one_or_none >>= λ xs. one w.CloseParen >> pure (t.builtin place which (trees_of xs)))
 
   -- length | length ( ) | length ( expr )
   unfoldable pub length_of : Place → Parser Tree
-  length_of place = choice (λ kind. if is kind w.OpenParen then of_one_or_none place b.Length else pure (t.bare_length place))
+  length_of place =
+      choice (λ kind. if is kind w.OpenParen then of_one_or_none place b.Length else pure (t.bare_length place))
 
   -- ( expr , NAME [ , expr ] )
   unfoldable pub split_of : Place → Parser Tree
-  split_of place = one w.OpenParen >> (whole >>= λ x. one w.Comma >> (skipped (one w.Name) >>= λ token. last_next >>= λ y. pure (t.split place x (name_of token) (perhaps_of y))))
+  split_of place = one w.OpenParen
+      >> (whole >>= λ x. one w.Comma
+      >> (skipped (one w.Name) >>= λ token. last_next >>= λ y. pure (t.split place x (name_of token) (perhaps_of y))))
 
   -- [ , lvalue ]
   unfoldable pub perhaps_lvalue : Parser (Option Tree)
-  perhaps_lvalue = choice (λ kind. if is kind w.Comma then (one w.Comma >> (skipped (inner goal.Lvalue) >>= λ x. pure (Some x))) else pure None)
+  perhaps_lvalue = choice
+      (λ kind. if is kind w.Comma then (one w.Comma >> (skipped (inner goal.Lvalue) >>= λ x. pure (Some x)))
+      else pure None)
 
   -- [ , lvalue ] )
   unfoldable pub last_lvalue : Parser (Option Tree)
@@ -153,7 +169,8 @@ module _ (depth : ℕ) (inner : Goal → Parser Tree) where
 
   -- ( expr , expr [ , lvalue ] )
   unfoldable pub substitute_of : Place → Bool → Parser Tree
-  substitute_of place all = one w.OpenParen >> (whole >>= λ x. next_in_list >>= λ y. last_lvalue >>= λ z. pure (t.substitute place all x y (perhaps_of z)))
+  substitute_of place all = one w.OpenParen
+      >> (whole >>= λ x. next_in_list >>= λ y. last_lvalue >>= λ z. pure (t.substitute place all x y (perhaps_of z)))
 
   abbrev pub parameters_by : Place → Builtin → Parameters → Parser Tree
   parameters_by place which takes.One = of_one place which
@@ -218,7 +235,8 @@ module _ (depth : ℕ) (inner : Goal → Parser Tree) where
 
   -- inc = (++ | --) lvalue | lvalue (++ | --) | prim
   abbrev pub after_by : Tree → Option Step → Parser Tree
-  after_by left (Some which) = if is_lvalue left then (any >>= λ token. pure (t.after left token.place which)) else pure left
+  after_by left (Some which) =
+      if is_lvalue left then (any >>= λ token. pure (t.after left token.place which)) else pure left
   after_by left None = pure left
 
   unfoldable pub step_after : Tree → Parser Tree
@@ -233,7 +251,9 @@ module _ (depth : ℕ) (inner : Goal → Parser Tree) where
 
   -- pow = inc [ ^ unary ]
   unfoldable pub power_rest : Tree → Parser Tree
-  power_rest left = choice (λ kind. if is kind w.Caret then (one w.Caret >>= λ token. inner goal.Unary >>= λ x. pure (t.power left token.place x)) else pure left)
+  power_rest left = choice
+      (λ kind. if is kind w.Caret
+      then (one w.Caret >>= λ token. inner goal.Unary >>= λ x. pure (t.power left token.place x)) else pure left)
 
   -- unary = (! | + | -) unary | pow
   abbrev pub unary_by : Option Sign → Parser Tree
@@ -247,7 +267,8 @@ module _ (depth : ℕ) (inner : Goal → Parser Tree) where
 
   -- mul = unary { (* | / | %) unary }
   unfoldable pub factor : Parser (Term Tree)
-  factor = any >>= λ token. unary >>= λ x. pure (record { operator = arithmetic_of (terminal token); place = token.place; operand = x })
+  factor = any >>= λ token. unary
+      >>= λ x. pure (record { operator = arithmetic_of (terminal token); place = token.place; operand = x })
 
   unfoldable pub factors : Parser (List (Term Tree))
   factors = many is_factor_sign factor
@@ -257,7 +278,8 @@ module _ (depth : ℕ) (inner : Goal → Parser Tree) where
 
   -- add = mul { (+ | -) mul }
   unfoldable pub addend : Parser (Term Tree)
-  addend = any >>= λ token. unary >>= product_rest >>= λ x. pure (record { operator = arithmetic_of (terminal token); place = token.place; operand = x })
+  addend = any >>= λ token. unary >>= product_rest
+      >>= λ x. pure (record { operator = arithmetic_of (terminal token); place = token.place; operand = x })
 
   unfoldable pub addends : Parser (List (Term Tree))
   addends = many is_term_sign addend
@@ -304,7 +326,8 @@ module _ (depth : ℕ) (inner : Goal → Parser Tree) where
 
   -- match = cmp [ (~ | !~) cmp ]
   abbrev pub match_by : Bool → Tree → Option Bool → Parser Tree
-  match_by in_print left (Some unlike) = any >>= λ token. cmp in_print >>= λ x. pure (t.matched left token.place unlike x)
+  match_by in_print left (Some unlike) =
+      any >>= λ token. cmp in_print >>= λ x. pure (t.matched left token.place unlike x)
   match_by in_print left None = pure left
 
   unfoldable pub match_rest : Bool → Tree → Parser Tree
@@ -312,15 +335,18 @@ module _ (depth : ℕ) (inner : Goal → Parser Tree) where
 
   -- from the first unary of a chain on, up to `in`
   unfoldable pub unary_rest : Bool → Tree → Parser Tree
-  unary_rest in_print left = product_rest left >>= sum_rest >>= concat_rest >>= pipe_rest >>= compare_rest in_print >>= match_rest in_print >>= in_rest
+  unary_rest in_print left = product_rest left >>= sum_rest >>= concat_rest >>= pipe_rest >>= compare_rest in_print
+      >>= match_rest in_print >>= in_rest
 
   -- what stands in parentheses: an operand, or the list of two or more before `in`
   abbrev pub grouped : Bool → Place → Tree → List Tree → Parser Tree
   grouped in_print place x [] = power_rest (t.paren place x) >>= unary_rest in_print
-  grouped in_print place x (y ∷ xs) = in_name >>= λ m. in_names >>= λ ms. pure (t.group place (trees_of (x ∷ y ∷ xs)) (m ∷ ms))
+  grouped in_print place x (y ∷ xs) =
+      in_name >>= λ m. in_names >>= λ ms. pure (t.group place (trees_of (x ∷ y ∷ xs)) (m ∷ ms))
 
   unfoldable pub from_paren : Bool → Parser Tree
-  from_paren in_print = one w.OpenParen >>= λ token. whole >>= λ x. commas >>= λ xs. one w.CloseParen >> grouped in_print token.place x xs
+  from_paren in_print =
+      one w.OpenParen >>= λ token. whole >>= λ x. commas >>= λ xs. one w.CloseParen >> grouped in_print token.place x xs
 
   -- isin = match { in NAME } | ( list ) in NAME { in NAME }
   unfoldable pub isin : Bool → Parser Tree
@@ -328,7 +354,8 @@ module _ (depth : ℕ) (inner : Goal → Parser Tree) where
 
   -- lvalue (= | += | ..) expr, or what stands there
   abbrev pub assigned_by : Bool → Tree → Option Assignment → Parser Tree
-  assigned_by in_print left (Some how) = if is_lvalue left then (any >>= λ token. inner (goal.Expr in_print) >>= λ x. pure (t.assign left token.place how x)) else pure left
+  assigned_by in_print left (Some how) = if is_lvalue left
+      then (any >>= λ token. inner (goal.Expr in_print) >>= λ x. pure (t.assign left token.place how x)) else pure left
   assigned_by in_print left None = pure left
 
   unfoldable pub assigned : Bool → Tree → Parser Tree
@@ -364,7 +391,9 @@ module _ (depth : ℕ) (inner : Goal → Parser Tree) where
 
   -- cond = or [ ? expr : expr ]
   unfoldable pub choose_rest : Bool → Tree → Parser Tree
-  choose_rest in_print left = choice (λ kind. if is kind w.Question then (then_branch in_print >>= λ x. inner (goal.Expr in_print) >>= λ y. pure (t.choose left x y)) else pure left)
+  choose_rest in_print left =
+      choice (λ kind. if is kind w.Question
+      then (then_branch in_print >>= λ x. inner (goal.Expr in_print) >>= λ y. pure (t.choose left x y)) else pure left)
 
   -- from the first operand of a chain on, to the end of an expression
   unfoldable pub expr_rest : Bool → Tree → Parser Tree

@@ -69,7 +69,8 @@ skipped p = λ ts. p (skip ts)
 -- as many as the test finds; the number bounds the turns
 unfoldable pub many_from : {A : Type 0} → (Terminal → Bool) → Parser A → ℕ → Parser (List A)
 many_from test item zero = λ ts. if test (ahead ts) then refuse ts else Ok ([], ts)
-many_from test item (suc n) = λ ts. if test (ahead ts) then (item >>= λ x. many_from test item n >>= λ xs. pure (x ∷ xs)) ts else Ok ([], ts)
+many_from test item (suc n) =
+    λ ts. if test (ahead ts) then (item >>= λ x. many_from test item n >>= λ xs. pure (x ∷ xs)) ts else Ok ([], ts)
 
 abbrev pub many : {A : Type 0} → (Terminal → Bool) → Parser A → Parser (List A)
 many test item = λ ts. many_from test item (length ts) ts

@@ -1,6 +1,6 @@
--- What a rule of the grammar sees of the tokens that come next, and what it makes of the trees that it has (POSIX.1-2017 XCU
--- awk, "Grammar"). Both ways to say the grammar stand on it: the rules that read (Expressions, Statements), and
--- those that spell (awk_parse).
+-- What a rule of the grammar sees of the tokens that come next, and what it makes of the trees that it has
+-- (POSIX.1-2017 XCU awk, "Grammar"). Both ways to say the grammar stand on it: the rules that read (Expressions,
+-- Statements), and those that spell (awk_parse).
 use Rattle.std.specs.Prelude.{Bool, true, false, ◌&&◌, ◌||◌, if◌then◌else◌, List, [], ◌∷◌, Option, Some, None}
 use Rattle.awk_tokens.specs.declared.token.Token.{Token}
 use Rattle.awk_tree.specs.declared.names.Name.{Name}
@@ -120,7 +120,8 @@ else_next ts = is (look (past ts)) w.Else
 
 -- NAME in NAME ) comes next
 abbrev pub each_next : List Token → Bool
-each_next (a ∷ b ∷ c ∷ d ∷ ts) = is (terminal a) w.Name && (is (terminal b) w.In && (is (terminal c) w.Name && is (terminal d) w.CloseParen))
+each_next (a ∷ b ∷ c ∷ d ∷ ts) =
+    is (terminal a) w.Name && (is (terminal b) w.In && (is (terminal c) w.Name && is (terminal d) w.CloseParen))
 each_next other = false
 
 -- whether an item without a `}` may end here

@@ -1,6 +1,7 @@
 -- How statements, items and scripts are read: one rule of the grammar after the other
 -- (POSIX.1-2017 XCU awk, "Grammar" and "Actions").
-use Rattle.std.specs.Prelude.{ℕ, zero, suc, Bool, true, false, ◌&&◌, if◌then◌else◌, List, [], ◌∷◌, length, Option, Some, None, Ok}
+use Rattle.std.specs.Prelude.{ℕ, zero, suc, Bool, true, false, ◌&&◌, if◌then◌else◌, List, [], ◌∷◌, length, Option, Some}
+use Rattle.std.specs.Prelude.{None, Ok}
 use Rattle.awk_text.specs.declared.place.Place.{Place}
 use Rattle.awk_tokens.specs.declared.token.Token.{Token}
 use Rattle.awk_tree.specs.Looks.{each_next, else_next, ends_item, ends_print, name_of, past, redirect, skip}
@@ -17,7 +18,8 @@ use Rattle.awk_tokens.specs.declared.terminals.Terminal.TheVariants as w
 use Rattle.awk_tree.specs.Tree as t
 use Rattle.awk_tree.specs.Tree.{Tree, Statement, statements_of, Condition, Entry}
 use Rattle.awk_tree.specs.Terminals.{is, look}
-use Rattle.awk_tree.specs.Input.{Parser, ◌>>=◌, ◌>>◌, pure, refuse, deep, inside, any, choice, by_look, one, exactly, skipped, many}
+use Rattle.awk_tree.specs.Input.{Parser, ◌>>=◌, ◌>>◌, pure, refuse, deep, inside, any, choice, by_look, one, exactly}
+use Rattle.awk_tree.specs.Input.{skipped, many}
 use Rattle.awk_tree.specs.Expressions.{commas, list, expression, grouped, expr_rest, cat, expr}
 
 -- ---- lists
@@ -28,9 +30,11 @@ is_several (x ∷ xs) = true
 
 -- as many as there are up to where a list ends, with what means nothing before each; the number
 -- bounds the turns
-unfoldable pub until_from : {A : Type 0} → (List Token → List Token) → (List Token → Bool) → Parser A → ℕ → Parser (List A)
+unfoldable pub until_from : {A : Type 0} → (List Token → List Token) → (List Token → Bool) → Parser A → ℕ →
+    Parser (List A)
 until_from gap ends part zero = λ ts. if ends (gap ts) then Ok ([], gap ts) else refuse (gap ts)
-until_from gap ends part (suc n) = λ ts. if ends (gap ts) then Ok ([], gap ts) else (part >>= λ x. until_from gap ends part n >>= λ xs. pure (x ∷ xs)) (gap ts)
+until_from gap ends part (suc n) = λ ts. if ends (gap ts) then Ok ([], gap ts)
+    else (part >>= λ x. until_from gap ends part n >>= λ xs. pure (x ∷ xs)) (gap ts)
 
 abbrev pub many_until : {A : Type 0} → (List Token → List Token) → (List Token → Bool) → Parser A → Parser (List A)
 many_until gap ends part = λ ts. until_from gap ends part (length ts) ts
@@ -77,17 +81,20 @@ module _ (depth : ℕ) (inner : Goal → Parser Tree) where
       else (grouped depth inner true place x xs >>= expr_rest depth inner true >>= printed_rest))
 
   unfoldable pub printed_paren : Parser (Printed Tree)
-  printed_paren = one w.OpenParen >>= λ token. inner (goal.Expr false) >>= λ x. commas depth inner >>= λ xs. one w.CloseParen >> printed_from token.place x xs
+  printed_paren = one w.OpenParen >>= λ token. inner (goal.Expr false) >>= λ x. commas depth inner
+      >>= λ xs. one w.CloseParen >> printed_from token.place x xs
 
   -- expr { , expr }
   unfoldable pub printed : Parser (Printed Tree)
   printed = choice (λ kind. if is kind w.OpenParen then printed_paren else (here true >>= printed_rest))
 
   unfoldable pub printed_or_none : Parser (Printed Tree)
-  printed_or_none = choice (λ kind. if ends_print kind then pure (record { is_grouped = false; items = [] }) else printed)
+  printed_or_none =
+      choice (λ kind. if ends_print kind then pure (record { is_grouped = false; items = [] }) else printed)
 
   abbrev pub redirection_by : Option Redirect → Parser (Option (Redirection Tree))
-  redirection_by (Some how) = any >>= λ token. cat depth inner >>= λ x. pure (Some (record { how = how; place = token.place; target = x }))
+  redirection_by (Some how) =
+      any >>= λ token. cat depth inner >>= λ x. pure (Some (record { how = how; place = token.place; target = x }))
   redirection_by None = pure None
 
   -- [ (> | >> | |) cat ]
@@ -105,7 +112,9 @@ module _ (depth : ℕ) (inner : Goal → Parser Tree) where
   -- delete NAME | delete NAME [ list ]
   unfoldable pub delete : Parser Statement
   delete = one w.Delete >> (one w.Name >>= λ token. choice (λ kind.
-      if is kind w.OpenBracket then (one w.OpenBracket >> (list depth inner >>= λ xs. one w.CloseBracket >> pure (t.delete (name_of token) xs)))
+      if is kind w.OpenBracket
+      then (one w.OpenBracket
+      >> (list depth inner >>= λ xs. one w.CloseBracket >> pure (t.delete (name_of token) xs)))
       else pure (t.delete_all (name_of token))))
 
   abbrev pub simple_by : Terminal → Parser Statement
@@ -128,14 +137,17 @@ module _ (depth : ℕ) (inner : Goal → Parser Tree) where
 
   -- [ expr ] and the sign behind it
   unfoldable pub perhaps_until : Terminal → Parser (Option Tree)
-  perhaps_until end = by_look (λ kind. if is kind end then (any >> pure None) else (inner (goal.Expr false) >>= λ x. exactly end >> pure (Some x)))
+  perhaps_until end = by_look
+      (λ kind. if is kind end then (any >> pure None)
+      else (inner (goal.Expr false) >>= λ x. exactly end >> pure (Some x)))
 
 -- ---- statements that hold others. `body` reads a statement that is nested one level deeper.
 
 module _ (depth : ℕ) (inner : Goal → Parser Tree) (body : Nested → Parser Statement) where
   -- an `else` belongs to the nearest `if`
   unfoldable pub else_rest : Tree → Statement → Parser Statement
-  else_rest x s = λ ts. if else_next ts then (any >> (body nested.Body >>= λ u. pure (t.if_else x s u))) (past ts) else Ok (t.if_then x s, ts)
+  else_rest x s = λ ts. if else_next ts then (any >> (body nested.Body >>= λ u. pure (t.if_else x s u))) (past ts)
+      else Ok (t.if_then x s, ts)
 
   -- if ( expr ) body [ else body ]
   unfoldable pub if_of : Parser Statement
@@ -147,15 +159,19 @@ module _ (depth : ℕ) (inner : Goal → Parser Tree) (body : Nested → Parser 
 
   -- do body while ( expr )
   unfoldable pub do_of : Parser Statement
-  do_of = one w.Do >> (body nested.Body >>= λ s. skipped (one w.While) >> (condition depth inner >>= λ x. ended (t.do_while s x)))
+  do_of = one w.Do >> (body nested.Body >>= λ s. skipped (one w.While)
+      >> (condition depth inner >>= λ x. ended (t.do_while s x)))
 
   -- [ expr ] ; [ expr ] ; [ expr ] ) body
   unfoldable pub loop_rest : Parser Statement
-  loop_rest = perhaps_until depth inner w.Semicolon >>= λ x. perhaps_until depth inner w.Semicolon >>= λ y. perhaps_until depth inner w.CloseParen >>= λ z. body nested.Body >>= λ s. pure (t.for_loop x y z s)
+  loop_rest = perhaps_until depth inner w.Semicolon >>= λ x. perhaps_until depth inner w.Semicolon
+      >>= λ y. perhaps_until depth inner w.CloseParen >>= λ z. body nested.Body >>= λ s. pure (t.for_loop x y z s)
 
   -- NAME in NAME ) body
   unfoldable pub each_rest : Place → Parser Statement
-  each_rest place = one w.Name >>= λ key. one w.In >> (one w.Name >>= λ array. one w.CloseParen >> (body nested.Body >>= λ s. pure (t.for_each place (name_of key) (name_of array) s)))
+  each_rest place = one w.Name >>= λ key. one w.In
+      >> (one w.Name >>= λ array. one w.CloseParen
+      >> (body nested.Body >>= λ s. pure (t.for_each place (name_of key) (name_of array) s)))
 
   -- behind the `(` of a for
   unfoldable pub for_rest : Place → Parser Statement
@@ -211,14 +227,17 @@ whole_expr = expression levels (expr levels) false
 
 -- expr | expr , expr
 unfoldable pub pattern : Parser Condition
-pattern = whole_expr >>= λ x. choice (λ kind. if is kind w.Comma then (one w.Comma >> (skipped whole_expr >>= λ y. pure (t.range x y))) else pure (t.single x))
+pattern = whole_expr >>= λ x.
+    choice (λ kind. if is kind w.Comma then (one w.Comma >> (skipped whole_expr >>= λ y. pure (t.range x y)))
+    else pure (t.single x))
 
 unfoldable pub shown : Condition → Parser Entry
 shown c = λ ts. if ends_item ts then Ok (t.shown c, ts) else refuse ts
 
 -- pattern | pattern action
 unfoldable pub rule_of : Parser Entry
-rule_of = pattern >>= λ c. choice (λ kind. if is kind w.OpenBrace then (action >>= λ xs. pure (t.rule c xs)) else shown c)
+rule_of =
+    pattern >>= λ c. choice (λ kind. if is kind w.OpenBrace then (action >>= λ xs. pure (t.rule c xs)) else shown c)
 
 -- , NAME
 unfoldable pub next_param : Parser Name
@@ -229,15 +248,20 @@ more_params = many (is w.Comma) next_param
 
 -- [ NAME { , NAME } ]
 unfoldable pub params : Parser (List Name)
-params = choice (λ kind. if is kind w.CloseParen then pure [] else (one w.Name >>= λ token. more_params >>= λ ps. pure (name_of token ∷ ps)))
+params = choice (λ kind. if is kind w.CloseParen then pure []
+    else (one w.Name >>= λ token. more_params >>= λ ps. pure (name_of token ∷ ps)))
 
 -- a CALLNAME counts as the name
 unfoldable pub function_name : Parser Name
-function_name = choice (λ kind. if is kind w.CallName then (any >>= λ token. pure (name_of token)) else (one w.Name >>= λ token. pure (name_of token)))
+function_name = choice
+    (λ kind. if is kind w.CallName then (any >>= λ token. pure (name_of token))
+    else (one w.Name >>= λ token. pure (name_of token)))
 
 -- function NAME ( params ) action
 unfoldable pub function_of : Parser Entry
-function_of = one w.Function >> (function_name >>= λ f. one w.OpenParen >> (params >>= λ ps. one w.CloseParen >> (skipped action >>= λ xs. pure (t.function f ps xs))))
+function_of = one w.Function
+    >> (function_name >>= λ f. one w.OpenParen
+    >> (params >>= λ ps. one w.CloseParen >> (skipped action >>= λ xs. pure (t.function f ps xs))))
 
 abbrev pub item_by : Terminal → Parser Entry
 item_by w.BeginWord = any >> (action >>= λ xs. pure (t.at_begin xs))

@@ -32,16 +32,21 @@ step_text step.Decrement = codes "--"
 -- the signs of one byte, by their bytes; 10 is the newline
 abbrev pub singles : List (ℕ × Terminal)
 singles =
-    (10, w.Newline) ∷ (33, w.Not) ∷ (36, w.Dollar) ∷ (37, w.Percent) ∷ (40, w.OpenParen) ∷ (41, w.CloseParen) ∷ (42, w.Star) ∷ (43, w.Plus) ∷ (44, w.Comma) ∷ (45, w.Minus) ∷ (47, w.Slash)
-    ∷ (58, w.Colon) ∷ (59, w.Semicolon) ∷ (60, w.Less) ∷ (61, w.Assign set.Set) ∷ (62, w.Greater) ∷ (63, w.Question) ∷ (91, w.OpenBracket) ∷ (93, w.CloseBracket) ∷ (94, w.Caret)
+    (10, w.Newline) ∷ (33, w.Not) ∷ (36, w.Dollar) ∷ (37, w.Percent) ∷ (40, w.OpenParen) ∷ (41, w.CloseParen)
+    ∷ (42, w.Star) ∷ (43, w.Plus) ∷ (44, w.Comma) ∷ (45, w.Minus) ∷ (47, w.Slash)
+    ∷ (58, w.Colon) ∷ (59, w.Semicolon) ∷ (60, w.Less) ∷ (61, w.Assign set.Set) ∷ (62, w.Greater) ∷ (63, w.Question)
+    ∷ (91, w.OpenBracket) ∷ (93, w.CloseBracket) ∷ (94, w.Caret)
     ∷ (123, w.OpenBrace) ∷ (124, w.Bar) ∷ (125, w.CloseBrace) ∷ (126, w.Tilde) ∷ []
 
 -- the signs of two bytes
 abbrev pub doubles : List (Text × Terminal)
 doubles =
-    (codes "+=", w.Assign set.Add) ∷ (codes "-=", w.Assign set.Subtract) ∷ (codes "*=", w.Assign set.Multiply) ∷ (codes "/=", w.Assign set.Divide) ∷ (codes "%=", w.Assign set.Remainder)
-    ∷ (codes "^=", w.Assign set.Power) ∷ (codes "==", w.Equal) ∷ (codes "<=", w.LessOrEqual) ∷ (codes ">=", w.GreaterOrEqual) ∷ (codes "!=", w.NotEqual) ∷ (codes "!~", w.NotTilde)
-    ∷ (codes "++", w.Step step.Increment) ∷ (codes "--", w.Step step.Decrement) ∷ (codes "&&", w.And) ∷ (codes "||", w.Or) ∷ (codes ">>", w.Append) ∷ []
+    (codes "+=", w.Assign set.Add) ∷ (codes "-=", w.Assign set.Subtract) ∷ (codes "*=", w.Assign set.Multiply)
+    ∷ (codes "/=", w.Assign set.Divide) ∷ (codes "%=", w.Assign set.Remainder)
+    ∷ (codes "^=", w.Assign set.Power) ∷ (codes "==", w.Equal) ∷ (codes "<=", w.LessOrEqual)
+    ∷ (codes ">=", w.GreaterOrEqual) ∷ (codes "!=", w.NotEqual) ∷ (codes "!~", w.NotTilde)
+    ∷ (codes "++", w.Step step.Increment) ∷ (codes "--", w.Step step.Decrement) ∷ (codes "&&", w.And)
+    ∷ (codes "||", w.Or) ∷ (codes ">>", w.Append) ∷ []
 
 abbrev pub word_in : List (Text × Terminal) → Text → Terminal
 word_in [] text = w.Refused

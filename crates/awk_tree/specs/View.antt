@@ -15,7 +15,8 @@ use Rattle.awk_tree.specs.declared.items.Item.TheVariants as item
 use Rattle.awk_tree.specs.declared.items.Pattern.{Pattern}
 use Rattle.awk_tree.specs.declared.items.Pattern.TheVariants as pattern
 use Rattle.awk_tree.specs.Tree as t
-use Rattle.awk_tree.specs.Tree.{Tree, trees_of, perhaps_of, terms_of, pipes_of, Statement, statements_of, Condition, Entry}
+use Rattle.awk_tree.specs.Tree.{Tree, trees_of, perhaps_of, terms_of, pipes_of, Statement, statements_of, Condition}
+use Rattle.awk_tree.specs.Tree.{Entry}
 
 abbrev pub view_step : Expr-F Tree → Tree
 view_step (Expr-F.Number p x) = t.number p x

@@ -26,14 +26,17 @@ first_barred kinds n [] = None
 first_barred kinds n (pair ∷ pairs) = if can_assign kinds pair.0 then first_barred kinds (n + 1) pairs else Some n
 
 -- the texts write the policy and spell the script, and each pair may be set
-pub record Accepted (policy script : List ℕ) (pairs : List (List ℕ × List ℕ)) (book : Rulebook) (s : Spelled) : Type 0 where
-  pub written : Written policy book
-  pub read : ReadsScript script s
-  pub assigns : first_barred s.kinds 1 pairs ≡ None
+pub record Accepted (policy script : List ℕ) (pairs : List (List ℕ × List ℕ)) (book : Rulebook) (s : Spelled) : Type 0
+  where
+    pub written : Written policy book
+    pub read : ReadsScript script s
+    pub assigns : first_barred s.kinds 1 pairs ≡ None
 
--- Why the bytes spell no script: S9 is want of memory, S1 to S3 stand where no token does, and S4 to S8 where tokens do.
+-- Why the bytes spell no script: S9 is want of memory, S1 to S3 stand where no token does, and S4 to S8 where tokens
+-- do.
 abbrev pub IsScriptRefused : List ℕ → SyntaxError → Type 0
-IsScriptRefused script e = (e.code ≢ 9 → Refuses script e.code e.place) ⊎ ((tokens : List Token) × Reads script tokens × IsRefusedByGrammar tokens e)
+IsScriptRefused script e = (e.code ≢ 9 → Refuses script e.code e.place)
+    ⊎ ((tokens : List Token) × Reads script tokens × IsRefusedByGrammar tokens e)
 
 -- the texts write some policy and spell a script, of which this pair is the first that may not be set
 pub record IsBarred (policy script : List ℕ) (pairs : List (List ℕ × List ℕ)) (n : ℕ) : Type 0 where

@@ -19,12 +19,14 @@ use Rattle.awkbox.specs.declared.listing_refusal.ListingRefusal.TheVariants.{Pol
 
 -- the text spells a script of which these are the sites
 abbrev pub IsListed : List ℕ → List Site → Type 0
-IsListed text sites = (script : Parsed) × (items : List Entry) × Spells text items script × IsListingOf script items sites
+IsListed text sites =
+    (script : Parsed) × (items : List Entry) × Spells text items script × IsListingOf script items sites
 
 -- the texts write a policy and spell a script of which it says this
 abbrev pub IsJudged : (policy text : List ℕ) → Verdict → Type 0
 IsJudged policy text verdict =
-    (book : Rulebook) × Written policy book × ((script : Parsed) × (items : List Entry) × Spells text items script × IsVerdictOf script items book verdict)
+    (book : Rulebook) × Written policy book
+    × ((script : Parsed) × (items : List Entry) × Spells text items script × IsVerdictOf script items book verdict)
 
 -- ---- what is refused; memory may be refused whatever the texts are
 
@@ -42,7 +44,8 @@ IsCheckRefused policy text Memory = Unit {0}
 -- ---- what is printed, and the exit status
 
 abbrev pub Lists : List ℕ → Answer → Type 0
-Lists text answer = (sites : List Site) × IsListed text sites × (answer.lines.items ≡ lines_of sites) × (answer.status ≡ 0)
+Lists text answer =
+    (sites : List Site) × IsListed text sites × (answer.lines.items ≡ lines_of sites) × (answer.status ≡ 0)
 
 -- 0 where a policy has nothing against a script
 abbrev pub status_of : Verdict → ℕ
@@ -51,4 +54,5 @@ status_of (Open sites) = 1
 status_of (Refused sites) = 1
 
 abbrev pub Checks : (policy text : List ℕ) → Answer → Type 0
-Checks policy text answer = (verdict : Verdict) × IsJudged policy text verdict × (answer.lines.items ≡ verdict_lines verdict) × (answer.status ≡ status_of verdict)
+Checks policy text answer = (verdict : Verdict) × IsJudged policy text verdict
+    × (answer.lines.items ≡ verdict_lines verdict) × (answer.status ≡ status_of verdict)

@@ -17,9 +17,11 @@ pub record SameRun (book : Rulebook) (es fs : List Event) (o p : Outcome) (m n :
   pub used : m ≡ n
   pub lines : log_text (told_of book es) ≡ log_text (told_of book fs)
 
--- Two runs under one policy, given one script, setup and bound, whose allowed requests have equal replies at each position
--- that both have, are one run, where neither is ended by want of memory or of the log.
+-- Two runs under one policy, given one script, setup and bound, whose allowed requests have equal replies at each
+-- position that both have, are one run, where neither is ended by want of memory or of the log.
 abbrev pub TwoWorlds : Type 0
 TwoWorlds =
-    (book : Rulebook) (g : Given) (es fs : List Event) (o p : Outcome) (m n : ℕ) (v w : Option Want) → PlaysUnder book g es o m v → PlaysUnder book g fs p n w →
-    Alike (replies (passed_on book es)) (replies (passed_on book fs)) → IsWhole o → IsWhole p → SameRun book es fs o p m n
+    (book : Rulebook) (g : Given) (es fs : List Event) (o p : Outcome) (m n : ℕ) (v w : Option Want) →
+    PlaysUnder book g es o m v → PlaysUnder book g fs p n w →
+    Alike (replies (passed_on book es)) (replies (passed_on book fs)) → IsWhole o → IsWhole p →
+    SameRun book es fs o p m n

@@ -7,7 +7,9 @@ use Rattle.awk_text.specs.Quoted.{quoted}
 use Rattle.awk_text.specs.declared.fault.Fault.TheVariants.{StepBound as F11, Memory as F13}
 use Rattle.awk_tokens.specs.Refusals.{refusal_text}
 use Rattle.awkbox.specs.declared.messages.Message.{Message}
-use Rattle.awkbox.specs.declared.messages.Message.TheVariants.{Fault, StepBound, Policy, Script, Unspelled, Assignment, CannotRead, CannotWrite, CannotReport, CannotEnter, NotInBase, SmallStack, OutOfMemory}
+use Rattle.awkbox.specs.declared.messages.Message.TheVariants.{Fault, StepBound, Policy, Script, Unspelled, Assignment}
+use Rattle.awkbox.specs.declared.messages.Message.TheVariants.{CannotRead, CannotWrite, CannotReport, CannotEnter}
+use Rattle.awkbox.specs.declared.messages.Message.TheVariants.{NotInBase, SmallStack, OutOfMemory}
 use Rattle.awkbox.specs.declared.messages.Warning.{Warning}
 use Rattle.awkbox.specs.declared.messages.OwnFile.{OwnFile}
 use Rattle.awkbox.specs.declared.messages.OwnFile.TheVariants.{Log, Report, Policy as PolicyFile, Script as ScriptFile}
@@ -15,7 +17,8 @@ use Rattle.box_policy.specs.Refusals.{refusal_text as policy_text}
 
 -- the line, without its newline
 abbrev pub message_text : Message → List ℕ
-message_text (Fault fault place) = codes "awkbox: " ++ place_text place ++ codes " F" ++ decimal (code_of fault) ++ codes " " ++ fault_text fault
+message_text (Fault fault place) =
+    codes "awkbox: " ++ place_text place ++ codes " F" ++ decimal (code_of fault) ++ codes " " ++ fault_text fault
 message_text StepBound = codes "awkbox: F11 " ++ fault_text F11
 message_text (Policy error) = codes "awkbox: policy " ++ policy_text error
 message_text (Script error) = codes "awkbox: script " ++ refusal_text error
@@ -85,7 +88,8 @@ own_word ScriptFile = codes "script"
 -- a warning's line, without its newline
 abbrev pub warning_text : Warning → List ℕ
 warning_text warning =
-    codes "awkbox: warning: the policy lets a script write the " ++ own_word warning.file ++ codes " \"" ++ string_bytes warning.name ++ codes "\": rule " ++ decimal warning.rule
+    codes "awkbox: warning: the policy lets a script write the " ++ own_word warning.file ++ codes " \""
+    ++ string_bytes warning.name ++ codes "\": rule " ++ decimal warning.rule
 
 -- a warning that this rule lets the script write to this file, of this name
 abbrev pub Warns : ℕ → OwnFile → List ℕ → Warning → Type 0

@@ -1,5 +1,7 @@
--- The files that a run is given, its policy, its script and its log, and what keeps them apart from what the script does.
-use Rattle.std.specs.Prelude.{ℕ, Bool, false, not, ◌&&◌, ◌||◌, ◌==◌, List, [], ◌∷◌, length, take, drop, Option, None, Some, if◌then◌else◌}
+-- The files that a run is given, its policy, its script and its log, and what keeps them apart from what the script
+-- does.
+use Rattle.std.specs.Prelude.{ℕ, Bool, false, not, ◌&&◌, ◌||◌, ◌==◌, List, [], ◌∷◌, length, take, drop, Option, None}
+use Rattle.std.specs.Prelude.{Some, if◌then◌else◌}
 use Rattle.std.specs.List.{list_any}
 use Rattle.std.specs.Str.{bytes_eq}
 use Rattle.box_monitor.specs.Denials.{allowing}
@@ -35,7 +37,8 @@ or_else None other = other
 
 -- the rule that lets a script write the file of this name anew, or else the one that lets it append
 abbrev pub rule_of_name : Rulebook → List ℕ → Option ℕ
-rule_of_name book name = or_else (allowing (decision book Write name false)) (allowing (decision book Append name false))
+rule_of_name book name =
+    or_else (allowing (decision book Write name false)) (allowing (decision book Append name false))
 
 -- what stands behind a slash
 abbrev pub behind_slash : List ℕ → Option (List ℕ)
@@ -44,7 +47,8 @@ behind_slash (b ∷ bs) = if b == 47 then Some bs else None
 
 -- the name that a file in a folder has there
 abbrev pub name_in : List ℕ → List ℕ → Option (List ℕ)
-name_in folder name = if bytes_eq (take (length folder) name) folder then behind_slash (drop (length folder) name) else None
+name_in folder name =
+    if bytes_eq (take (length folder) name) folder then behind_slash (drop (length folder) name) else None
 
 abbrev pub rule_of_inner : Rulebook → Option (List ℕ) → Option ℕ
 rule_of_inner book None = None

@@ -1,6 +1,7 @@
--- What /proc/self/limits tells of the process's stack (proc(5)): a line `Max stack size`, and behind these words the soft
--- limit in bytes, or the word `unlimited`, and then the hard one.
-use Rattle.std.specs.Prelude.{ℕ, Bool, false, ◌&&◌, ℤ, pos, int_lt, List, [], ◌∷◌, length, take, drop, codes, Option, None, Some, Result, Ok, Err, if◌then◌else◌}
+-- What /proc/self/limits tells of the process's stack (proc(5)): a line `Max stack size`, and behind these words the
+-- soft limit in bytes, or the word `unlimited`, and then the hard one.
+use Rattle.std.specs.Prelude.{ℕ, Bool, false, ◌&&◌, ℤ, pos, int_lt, List, [], ◌∷◌, length, take, drop, codes, Option}
+use Rattle.std.specs.Prelude.{None, Some, Result, Ok, Err, if◌then◌else◌}
 use Rattle.std.specs.Str.{bytes_eq}
 use Rattle.awk_text.specs.Arithmetic.{ranged}
 use Rattle.awk_text.specs.Numerals.{number}

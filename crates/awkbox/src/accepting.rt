@@ -84,15 +84,16 @@ impl Prepared {
     }
 }
 
-/// The policy and the script that a run goes by, or the first refusal: the policy's, then the script's, and then that of the
-/// first `-v` pair whose name may not be set.
+/// The policy and the script that a run goes by, or the first refusal: the policy's, then the script's, and then that
+/// of the first `-v` pair whose name may not be set.
 pub fn prepare(
     alloc: Global,
     policy: &[u8],
     script: &[u8],
     setup: &Setup,
 ) -> Result<Prepared, Refusal>
-    ensures ok { IfOk result (λ prepared. Accepted policy.now script.now setup.now.assigns prepared.policy prepared.script) }
+    ensures ok { IfOk result
+        (λ prepared. Accepted policy.now script.now setup.now.assigns prepared.policy prepared.script) }
     ensures script { IfOk result (λ prepared. IsScript prepared.script) }
     ensures refused { IfErr result (IsRefused policy.now script.now setup.now.assigns) }
 {

@@ -25,8 +25,8 @@ pub struct Driven<W: World, L: Write> {
     pub log_end: LogEnd,
 }
 
-/// A run that is over: its report, how many of its requests were denied, and the world and the log given back, with how the
-/// log stands.
+/// A run that is over: its report, how many of its requests were denied, and the world and the log given back, with how
+/// the log stands.
 #[derive(Drop)]
 pub struct Ran<W: World, L: Write> {
     pub report: Report,
@@ -38,8 +38,8 @@ pub struct Ran<W: World, L: Write> {
 }
 
 impl Prepared {
-    /// Runs the script over a world, under the policy, whose rules have allowed nothing before, as [`drive`] runs the script that a
-    /// text spells.
+    /// Runs the script over a world, under the policy, whose rules have allowed nothing before, as [`drive`] runs the
+    /// script that a text spells.
     pub fn drive<W: World, L: Write>(
         self,
         alloc: Global,
@@ -51,7 +51,8 @@ impl Prepared {
         requires { IsScript self.script }
         ensures { DrivesCounted W.follows W.stops L.contents
             (cleared self.policy) (given_of self.script setup.now steps) world log
-            (view_outcome result.report.outcome) result.report.used result.denials result.log_end result.world result.log }
+            (view_outcome result.report.outcome) result.report.used result.denials result.log_end result.world
+            result.log }
     {
         let Prepared { policy, script } = self;
         let mut monitor = Monitor::new(alloc, policy, world, log);

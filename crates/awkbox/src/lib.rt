@@ -1,15 +1,15 @@
 //! An awk script under a written policy, for hosts that embed it: [`drive`] runs a script over a world,
 //! and the world is asked only what the policy allows.
 //!
-//! A host gives [`drive`] the two texts, a [`Setup`], a bound of steps, a [`World`] and a log. One that looks at the policy
-//! before the run takes it from [`prepare`]. A [`LimitedLog`] grows to a limit and no further.
-//! [`OsWorld`] is the world of real files and commands, [`MemoryWorld`] one in memory, for tests.
-//! [`Ending`] is what the program `awkbox` says and ends with after an answer, and [`Account`] what it reports for other programs. specs/Drives.antt says
-//! what a run is.
+//! A host gives [`drive`] the two texts, a [`Setup`], a bound of steps, a [`World`] and a log. One that looks at the
+//! policy before the run takes it from [`prepare`]. A [`LimitedLog`] grows to a limit and no further. [`OsWorld`] is
+//! the world of real files and commands, [`MemoryWorld`] one in memory, for tests. [`Ending`] is what the program
+//! `awkbox` says and ends with after an answer, and [`Account`] what it reports for other programs. specs/Drives.antt
+//! says what a run is.
 //!
-//! Without a run, [`sites_of`] and [`verdict_of`] answer what a script may ask of the world and what a policy says of it;
-//! [`list`] and [`check`] answer the lines that the program `awkbox` prints for them, and its exit status. specs/Answers.antt says
-//! what each of the four answers, and specs/Scripts.antt which texts are accepted and refused.
+//! Without a run, [`sites_of`] and [`verdict_of`] answer what a script may ask of the world and what a policy says of
+//! it; [`list`] and [`check`] answer the lines that the program `awkbox` prints for them, and its exit status.
+//! specs/Answers.antt says what each of the four answers, and specs/Scripts.antt which texts are accepted and refused.
 #![tactic(auto)]
 
 mod accepting;

@@ -8,8 +8,8 @@ use std::marker::Model;
 
 /// A writer that passes on to the one behind it what stays within a limit of bytes.
 ///
-/// A write that would pass the limit is refused whole, with `ErrorKind::FileTooLarge`: the writer behind is not called, and
-/// a shorter write may still be taken. So no line that comes in one write is cut by the limit.
+/// A write that would pass the limit is refused whole, with `ErrorKind::FileTooLarge`: the writer behind is not called,
+/// and a shorter write may still be taken. So no line that comes in one write is cut by the limit.
 #[derive(Drop)]
 pub struct LimitedLog<W: Write> {
     inner: W,

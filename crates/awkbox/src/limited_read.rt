@@ -23,8 +23,8 @@ const PIECE: usize = 8192;
 
 /// Reads all of the bytes up to the reader's end, at most `limit`.
 ///
-/// It holds no more than these, so an input without an end is `TooLong` as soon as it has given one byte more. A read that
-/// fails is not tried again, also where it was interrupted.
+/// It holds no more than these, so an input without an end is `TooLong` as soon as it has given one byte more. A read
+/// that fails is not tried again, also where it was interrupted.
 pub fn read_limited<R: Read>(
     alloc: Global,
     reader: &mut R,

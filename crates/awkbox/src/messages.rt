@@ -36,8 +36,8 @@ pub enum Message {
     CannotReport(String),
     /// A folder could not be entered. The name is quoted, as the log of denials has it.
     CannotEnter(String),
-    /// The program runs in another folder than the base of the policy, though rules speak of files. The base is quoted, as
-    /// the log of denials has it.
+    /// The program runs in another folder than the base of the policy, though rules speak of files. The base is quoted,
+    /// as the log of denials has it.
     NotInBase(String),
     /// The stack of the process is too small for a run.
     SmallStack,
@@ -54,7 +54,8 @@ pub enum OwnFile {
     Script,
 }
 
-/// One line on standard error, before a run that goes on: that a rule lets the script write to a file that the run is given.
+/// One line on standard error, before a run that goes on: that a rule lets the script write to a file that the run is
+/// given.
 #[derive(Debug, Drop)]
 pub struct Warning {
     /// The number of the rule.
@@ -110,7 +111,8 @@ fn quoted_name(alloc: Global, name: &str) -> Result<String, Memory>
 }
 
 impl Message {
-    ghost use Rattle.awkbox.specs.Messages.{message_status, SaysCannotEnter, SaysCannotRead, SaysCannotReport, SaysCannotWrite, SaysNotInBase};
+    ghost use Rattle.awkbox.specs.Messages.{message_status, SaysCannotEnter, SaysCannotRead, SaysCannotReport};
+    ghost use Rattle.awkbox.specs.Messages.{SaysCannotWrite, SaysNotInBase};
 
     /// That the file of this name cannot be read; `OutOfMemory` where memory for that is refused.
     pub fn cannot_read(alloc: Global, name: &str) -> Message
@@ -122,8 +124,8 @@ impl Message {
         }
     }
 
-    /// That the file of this name cannot be made or emptied, or may not be the log; `OutOfMemory` where memory for that is
-    /// refused.
+    /// That the file of this name cannot be made or emptied, or may not be the log; `OutOfMemory` where memory for that
+    /// is refused.
     pub fn cannot_write(alloc: Global, name: &str) -> Message
         ensures { SaysCannotWrite name.now result }
     {
@@ -133,7 +135,8 @@ impl Message {
         }
     }
 
-    /// That the report of a run cannot be written to the file of this name; `OutOfMemory` where memory for that is refused.
+    /// That the report of a run cannot be written to the file of this name; `OutOfMemory` where memory for that is
+    /// refused.
     pub fn cannot_report(alloc: Global, name: &str) -> Message
         ensures { SaysCannotReport name.now result }
     {
@@ -163,8 +166,8 @@ impl Message {
         }
     }
 
-    /// The exit status: 2 for a fault and where a run has no report, 4 where the steps ran out, and 3 where something was
-    /// refused before the run.
+    /// The exit status: 2 for a fault and where a run has no report, 4 where the steps ran out, and 3 where something
+    /// was refused before the run.
     pub fn status(&self) -> u8
         ensures { result ≡ message_status self.now }
     {
@@ -281,8 +284,8 @@ impl Ending {
         }
     }
 
-    /// The ending of a run whose report could not be written to the file of this name: one that says nothing says that, and any
-    /// other stays.
+    /// The ending of a run whose report could not be written to the file of this name: one that says nothing says that,
+    /// and any other stays.
     pub fn unreported(self, alloc: Global, name: &str) -> Ending
         ensures { EndsUnreported name.now self result }
     {

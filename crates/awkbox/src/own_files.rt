@@ -2,7 +2,8 @@
 ghost use Rattle.std.specs.Prelude.{◌≡◌, option_map};
 ghost use Rattle.std.specs.List.{list_any};
 ghost use Rattle.box_monitor.specs.Denials.{allowing};
-ghost use Rattle.awkbox.specs.OwnFiles.{are_one, behind_slash, is_same, may_be_log, may_start, name_in, rule_of_inner, rule_of_name, writing_rule};
+ghost use Rattle.awkbox.specs.OwnFiles.{are_one, behind_slash, is_same, may_be_log, may_start, name_in, rule_of_inner};
+ghost use Rattle.awkbox.specs.OwnFiles.{rule_of_name, writing_rule};
 
 use box_policy::policy::{Decision, Kind, Policy};
 
@@ -32,11 +33,11 @@ fn is_among(file: Identity, files: &[Identity]) -> bool
     false
 }
 
-/// Whether this file may be the log of a run, which also knows the others: its policy, its script, the files that its operands
-/// name and those that its standard streams lead to.
+/// Whether this file may be the log of a run, which also knows the others: its policy, its script, the files that its
+/// operands name and those that its standard streams lead to.
 ///
-/// A file that is no regular one, as a terminal or a pipe, may be log and another one at once, since nothing is kept in it. A
-/// regular file may not.
+/// A file that is no regular one, as a terminal or a pipe, may be log and another one at once, since nothing is kept in
+/// it. A regular file may not.
 pub fn may_be_log(log: Identity, is_regular: bool, others: &[Identity]) -> bool
     ensures { result ≡ may_be_log log is_regular others.now }
 {
@@ -54,8 +55,8 @@ fn are_one(here: Option<Identity>, base: Option<Identity>) -> bool
 
 /// Whether a run under this policy may start in the folder `here`.
 ///
-/// The policy judges a relative name under its base, and the system opens it under the folder that the process is in. So where
-/// a rule speaks of files the two are to be one. A folder that could not be looked at is `None`.
+/// The policy judges a relative name under its base, and the system opens it under the folder that the process is in.
+/// So where a rule speaks of files the two are to be one. A folder that could not be looked at is `None`.
 pub fn may_start(policy: &Policy, here: Option<Identity>, base: Option<Identity>) -> bool
     ensures { result ≡ may_start policy.now here base }
 {
@@ -101,8 +102,9 @@ fn rule_of_inner(policy: &Policy, name: Option<&[u8]>) -> Option<u32>
     rule_of_name(policy, name?)
 }
 
-/// The number of the rule that lets a script write to the file of this name, as `>` or else as `>>` does; where none does, of
-/// the one that lets it write by the name that the file has in this folder, which stands for the policy's base. Takes no memory.
+/// The number of the rule that lets a script write to the file of this name, as `>` or else as `>>` does; where none
+/// does, of the one that lets it write by the name that the file has in this folder, which stands for the policy's
+/// base. Takes no memory.
 pub fn writing_rule(policy: &Policy, folder: &[u8], name: &[u8]) -> Option<u32>
     ensures { result ≡ writing_rule policy.now folder.now name.now }
 {

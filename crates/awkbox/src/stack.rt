@@ -40,8 +40,8 @@ fn has_small(limit: Option<&[u8]>) -> bool
     }
 }
 
-/// Whether this text, which Linux has as `/proc/self/limits`, tells of a soft limit of the stack that is smaller than 8 MiB.
-/// No, where it tells of none. Takes no memory.
+/// Whether this text, which Linux has as `/proc/self/limits`, tells of a soft limit of the stack that is smaller than 8
+/// MiB. No, where it tells of none. Takes no memory.
 pub fn tells_of_small_stack(limits: &[u8]) -> bool
     ensures { result ≡ tells_of_small_stack limits.now }
 {

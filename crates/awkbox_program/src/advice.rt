@@ -8,7 +8,8 @@ use box_advice::{Wanted, explained, lint};
 /// The exit status where a policy is refused.
 const REFUSED: u8 = 3;
 
-/// Prints which rules of the policy speak of the request, and which one decides. That it cannot be written is passed over.
+/// Prints which rules of the policy speak of the request, and which one decides. That it cannot be written is passed
+/// over.
 pub fn why_file(rt: &HostRuntime, asked: &Why<'_>) -> Result<Ending, Message> {
     let source = read_source(rt, asked.policy)?;
     let bytes = source.bytes.as_slice();

@@ -4,8 +4,8 @@ use clap::error::ErrorKind;
 use clap::{Arg, ArgAction, ArgMatches, Command, Error};
 use std::alloc::{AllocError, Global};
 
-/// What `awkbox run` is asked for, operands aside. Policy, log, report and script are names of files, and the folder that of a
-/// folder.
+/// What `awkbox run` is asked for, operands aside. Policy, log, report and script are names of files, and the folder
+/// that of a folder.
 #[derive(Debug, Drop)]
 pub struct Run<'a> {
     pub policy: &'a str,
@@ -27,7 +27,8 @@ pub struct Run<'a> {
     pub assigns: Vec<&'a str>,
 }
 
-/// What `awkbox why` is asked for: what the policy of this file decides of the text, and whether that counts as an operand.
+/// What `awkbox why` is asked for: what the policy of this file decides of the text, and whether that counts as an
+/// operand.
 #[derive(Debug, Drop)]
 pub struct Why<'a> {
     pub policy: &'a str,
@@ -36,8 +37,8 @@ pub struct Why<'a> {
     pub given: bool,
 }
 
-/// What `awkbox propose` is asked for: a policy that allows what this script may ask for and what this log tells of, under this
-/// base, or behind the rules of the policy of this file. One of base and policy is there.
+/// What `awkbox propose` is asked for: a policy that allows what this script may ask for and what this log tells of,
+/// under this base, or behind the rules of the policy of this file. One of base and policy is there.
 #[derive(Debug, Drop)]
 pub struct Propose<'a> {
     pub base: Option<&'a str>,

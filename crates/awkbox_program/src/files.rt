@@ -23,8 +23,8 @@ pub fn look(rt: &HostRuntime, name: &str) -> Option<Identity> {
     }
 }
 
-/// A file that was read: which one it is, and all of its bytes. The standard input is looked at by its own names, as the other
-/// standard streams are.
+/// A file that was read: which one it is, and all of its bytes. The standard input is looked at by its own names, as
+/// the other standard streams are.
 #[derive(Drop)]
 pub struct Source {
     pub identity: Option<Identity>,

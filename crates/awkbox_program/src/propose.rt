@@ -9,7 +9,8 @@ use std::fmt::Display;
 /// The exit status where nothing is proposed.
 const REFUSED: u8 = 3;
 
-/// Prints a policy that allows what the script may ask for and what the log tells of. That it cannot be written is passed over.
+/// Prints a policy that allows what the script may ask for and what the log tells of. That it cannot be written is
+/// passed over.
 pub fn propose_policy(rt: &HostRuntime, asked: &Propose<'_>) -> Result<Ending, Message> {
     match proposed(rt, asked) {
         Ok(text) => {

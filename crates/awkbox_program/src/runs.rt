@@ -42,8 +42,8 @@ pub fn run_script(
     }
 }
 
-// The file for the report, which is none of the files that the words name and the standard streams lead to. It is open before
-// any of them is read, so that a refusal is reported too.
+// The file for the report, which is none of the files that the words name and the standard streams lead to. It is open
+// before any of them is read, so that a refusal is reported too.
 fn open_report(
     rt: &HostRuntime,
     run: &Run<'_>,
@@ -204,8 +204,8 @@ fn begin_log(
     Err(Message::cannot_write(rt.alloc(), run.log))
 }
 
-// Refuses a start in another folder than the policy's base, where the names that rules allow are not those that the run would
-// open, and warns where a rule lets the script write to the run's own files.
+// Refuses a start in another folder than the policy's base, where the names that rules allow are not those that the run
+// would open, and warns where a rule lets the script write to the run's own files.
 fn begin(
     rt: &HostRuntime,
     run: &Run<'_>,
@@ -230,8 +230,8 @@ fn begin(
     Ok(())
 }
 
-// Tells of the rule that lets the script write to this file, by its name as it was given or by that which is left of it once
-// links are followed.
+// Tells of the rule that lets the script write to this file, by its name as it was given or by that which is left of it
+// once links are followed.
 fn warn(
     rt: &HostRuntime,
     policy: &Policy,

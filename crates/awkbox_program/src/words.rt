@@ -5,8 +5,9 @@ use awkbox::{Memory, Octets};
 use clap::Error;
 use std::alloc::Global;
 
-/// The words before the operands, of which the first is the program's name, and the operands: what stands behind `--`, and what
-/// follows the script's file from the first word on that is no option, so that a script's first line may end with `-f`.
+/// The words before the operands, of which the first is the program's name, and the operands: what stands behind `--`,
+/// and what follows the script's file from the first word on that is no option, so that a script's first line may end
+/// with `-f`.
 ///
 /// A value that stands in one word with its short option is a word of its own here: of `-f=x` the file is
 /// `=x`, as the utility conventions of POSIX.1-2017 have it, where `clap` would drop the `=`.

@@ -12,12 +12,14 @@ use Rattle.box_policy.specs.Paths.{is_absolute}
 -- the earlier rule speaks of all that the later one speaks of, however often it has allowed
 pub record Covers (base : List ℕ) (earlier later : Rule) : Type 0 where
   pub always : is_limited earlier ≡ false
-  pub all : (kind : Kind) (subject : List ℕ) (given : Bool) → speaks base later kind subject given ≡ true → speaks base earlier kind subject given ≡ true
+  pub all : (kind : Kind) (subject : List ℕ) (given : Bool) → speaks base later kind subject given ≡ true →
+      speaks base earlier kind subject given ≡ true
 
 -- as patterns of the later rule's kind, the earlier one's fits what the later one's does
 abbrev pub PatternCovers : List ℕ → Rule → Rule → Type 0
 PatternCovers base earlier later =
-    (subject : List ℕ) → pattern_fits base later.kind later.pattern subject ≡ true → pattern_fits base later.kind earlier.pattern subject ≡ true
+    (subject : List ℕ) → pattern_fits base later.kind later.pattern subject ≡ true →
+    pattern_fits base later.kind earlier.pattern subject ≡ true
 
 -- just `**`, under the base or under the root, before one that stands there too
 abbrev pub is_whole : List ℕ → List ℕ → Bool

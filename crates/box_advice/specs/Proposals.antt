@@ -1,5 +1,6 @@
 -- A policy that is made of another one and of what it is to allow.
-use Rattle.std.specs.Prelude.{◌≡◌, ℕ, ◌<◌, ◌≤◌, Bool, true, false, List, [], ◌++◌, ◌+◌, length, Option, Some, None, Contains, ◌⊎◌, option_map}
+use Rattle.std.specs.Prelude.{◌≡◌, ℕ, ◌<◌, ◌≤◌, Bool, true, false, List, [], ◌++◌, ◌+◌, length, Option, Some, None}
+use Rattle.std.specs.Prelude.{Contains, ◌⊎◌, option_map}
 use Rattle.std.specs.Str.{bytes_eq}
 use Rattle.box_policy.specs.declared.policy.Decision.{Decision}
 use Rattle.box_policy.specs.declared.policy.Decision.TheVariants.{Allow, Deny, NoRule}
@@ -32,13 +33,14 @@ pub record IsWished (base : List ℕ) (kind : Kind) (subject : List ℕ) (wish :
   pub same : Same base kind text subject
 
 -- the first policy has no rule for the request, the last one allows it, and one of the wishes asks for it
-pub record IsAdded (first last : Rulebook) (wishes : List Wish) (kind : Kind) (subject : List ℕ) (given : Bool) : Type 0 where
-  pub undecided : decision first kind subject given ≡ NoRule
-  pub rule : ℕ
-  pub allowed : decision last kind subject given ≡ Allow rule
-  pub wish : Wish
-  pub is_one : Contains wishes wish
-  pub wished : IsWished first.base kind subject wish
+pub record IsAdded (first last : Rulebook) (wishes : List Wish) (kind : Kind) (subject : List ℕ) (given : Bool) : Type 0
+  where
+    pub undecided : decision first kind subject given ≡ NoRule
+    pub rule : ℕ
+    pub allowed : decision last kind subject given ≡ Allow rule
+    pub wish : Wish
+    pub is_one : Contains wishes wish
+    pub wished : IsWished first.base kind subject wish
 
 -- a wish that the first policy has no rule for, and whose text a pattern may hold
 pub record IsOwed (first : Rulebook) (wishes : List Wish) (wish : Wish) (text : List ℕ) : Type 0 where
@@ -49,16 +51,20 @@ pub record IsOwed (first : Rulebook) (wishes : List Wish) (wish : Wish) (text : 
 
 -- a rule of the first policy denies the wish, or no pattern stands for its text alone
 abbrev pub IsKeptOut : Rulebook → Wish → List ℕ → Type 0
-IsKeptOut first wish text = ((n : ℕ) × (answer first wish.kind text wish.may_be_given ≡ Deny n)) ⊎ (is_exact first.base wish.kind text ≡ false)
+IsKeptOut first wish text =
+    ((n : ℕ) × (answer first wish.kind text wish.may_be_given ≡ Deny n)) ⊎ (is_exact first.base wish.kind text ≡ false)
 
--- What is owed is allowed, however often rules have allowed. What is decided otherwise than the first policy does was wished,
--- and the first policy had no rule for it. So what is wished and never allowed, which makes `check` refuse a script, is denied by
--- a rule of the first policy, or no pattern can hold it.
+-- What is owed is allowed, however often rules have allowed. What is decided otherwise than the first policy does was
+-- wished, and the first policy had no rule for it. So what is wished and never allowed, which makes `check` refuse a
+-- script, is denied by a rule of the first policy, or no pattern can hold it.
 pub record Extends (first last : Rulebook) (wishes : List Wish) : Type 0 where
-  pub allows : (wish : Wish) (text : List ℕ) → IsOwed first wishes wish text → outlook last wish.kind text false ≡ Always
+  pub allows : (wish : Wish) (text : List ℕ) → IsOwed first wishes wish text → outlook last wish.kind text false
+      ≡ Always
   pub decides : (kind : Kind) (subject : List ℕ) (given : Bool) →
-      (decision last kind subject given ≡ decision first kind subject given) ⊎ IsAdded first last wishes kind subject given
-  pub refuses : (wish : Wish) (text : List ℕ) → Contains wishes wish → wish.text ≡ Some text → outlook last wish.kind text false ≡ Never →
+      (decision last kind subject given ≡ decision first kind subject given)
+      ⊎ IsAdded first last wishes kind subject given
+  pub refuses : (wish : Wish) (text : List ℕ) → Contains wishes wish → wish.text ≡ Some text →
+      outlook last wish.kind text false ≡ Never →
       IsKeptOut first wish text
 
 -- ---- a proposal
@@ -106,7 +112,8 @@ abbrev pub IsStartRefused : Start → ProposalError → Type 0
 IsStartRefused (Base base) error = IsBaseRefused error
 IsStartRefused (Policy text base) error = IsTextRefused text.now (option_map (λ s. s.now) base) error
 
--- what a policy would gain: its rules are too many; that they are too long to be read, or misprinted, no contract rules out
+-- what a policy would gain: its rules are too many; that they are too long to be read, or misprinted, no contract rules
+-- out
 abbrev pub IsGainRefused : Rulebook → List Wish → ProposalError → Type 0
 IsGainRefused first wishes (e.Policy error) = ⊥
 IsGainRefused first wishes e.OtherBase = ⊥
@@ -116,4 +123,5 @@ IsGainRefused first wishes e.Misprinted = Unit {0}
 IsGainRefused first wishes e.Memory = Unit {0}
 
 abbrev pub IsProposalRefused : Start → List Wish → ProposalError → Type 0
-IsProposalRefused start wishes error = IsStartRefused start error ⊎ ((first : Rulebook) × Starts start first × IsGainRefused first wishes error)
+IsProposalRefused start wishes error =
+    IsStartRefused start error ⊎ ((first : Rulebook) × Starts start first × IsGainRefused first wishes error)

@@ -23,13 +23,15 @@ answer_by NoRule NoRule = NoRule
 
 abbrev pub answer : Rulebook → Kind → List ℕ → Bool → Decision
 answer book kind text may_be_given =
-    if may_be_given then answer_by (decision book kind text false) (decision book kind text true) else decision book kind text false
+    if may_be_given then answer_by (decision book kind text false) (decision book kind text true)
+    else decision book kind text false
 
 -- one of the rules speaks of the text
 abbrev pub speak : List ℕ → List Rule → Kind → List ℕ → Bool
 speak base rules kind text = list_any (λ rule. speaks base rule kind text false) rules
 
--- what becomes of a wish: it gains a rule where the policy has none, a pattern may hold the text, and no rule that was gained speaks of it
+-- what becomes of a wish: it gains a rule where the policy has none, a pattern may hold the text, and no rule that was
+-- gained speaks of it
 abbrev pub fate_by : (answer : Decision) (is_exact is_met : Bool) → Fate
 fate_by (Allow n) exact met = Allowed
 fate_by (Deny n) exact met = Denied n

@@ -83,9 +83,9 @@ fn is_narrower(earlier: &Rule, later: &Rule) -> bool
     earlier.only_given && !later.only_given
 }
 
-/// Whether the earlier rule speaks of all that the later one speaks of, so that this never decides: their patterns are the same,
-/// the earlier one is just `**`, or the later one fits one text alone, which the earlier one fits too. It may be so in other
-/// cases as well, of which this does not tell.
+/// Whether the earlier rule speaks of all that the later one speaks of, so that this never decides: their patterns are
+/// the same, the earlier one is just `**`, or the later one fits one text alone, which the earlier one fits too. It may
+/// be so in other cases as well, of which this does not tell.
 pub fn covers(policy: &Policy, earlier: &Rule, later: &Rule) -> bool
     ensures { result ≡ true → Covers policy.now.base earlier.now later.now }
 {

@@ -188,8 +188,8 @@ fn key_of(alloc: Global, wish: &Wish) -> Result<Vec<u8>, Memory> {
     Ok(key)
 }
 
-/// The requests that a log of denials tells of, once each, in the order in which they stand there first. The text of each is
-/// the one that the log quotes.
+/// The requests that a log of denials tells of, once each, in the order in which they stand there first. The text of
+/// each is the one that the log quotes.
 pub fn read_log(alloc: Global, log: &[u8]) -> Result<Vec<Wish>, LogError> {
     let mut wishes = Vec::new(alloc);
     let lines = log.strip_suffix(b"\n".as_slice()).unwrap_or(log);

@@ -22,7 +22,8 @@ pub struct Reasons {
     pub decision: Decision,
 }
 
-/// A request that a policy is asked about. `given` says that the subject is an operand word that a run was started with.
+/// A request that a policy is asked about. `given` says that the subject is an operand word that a run was started
+/// with.
 #[derive(Clone, Copy, Drop)]
 pub struct Wanted<'a> {
     pub kind: Kind,
@@ -49,8 +50,8 @@ fn path_of(alloc: Global, base: &[u8], kind: Kind, subject: &[u8]) -> Result<Opt
     }
 }
 
-/// What the policy decides of a request of this kind for the subject, and which of its rules speak of it. `given` says that the
-/// subject is an operand word that a run was started with. `Memory` where memory is refused.
+/// What the policy decides of a request of this kind for the subject, and which of its rules speak of it. `given` says
+/// that the subject is an operand word that a run was started with. `Memory` where memory is refused.
 pub fn why(
     alloc: Global,
     policy: &Policy,
@@ -180,8 +181,8 @@ fn explanation(
     lines_of(alloc, source, wanted.kind, &why)
 }
 
-/// The lines that tell a person what [`why`] answers of the policy of this text, which stands in the file of this name: the
-/// normal form of a path, each rule of the kind, and the one that decides.
+/// The lines that tell a person what [`why`] answers of the policy of this text, which stands in the file of this name:
+/// the normal form of a path, each rule of the kind, and the one that decides.
 pub fn explained(
     alloc: Global,
     name: &str,

@@ -1,5 +1,5 @@
-// What is wrong with a policy that is refused, in words. `Policy::read` says which code and which rule it is; here is looked up
-// what stands there.
+// What is wrong with a policy that is refused, in words. `Policy::read` says which code and which rule it is; here is
+// looked up what stands there.
 use crate::nearest::hint;
 use crate::words::quoted;
 use awk_text::Memory;

@@ -1,8 +1,8 @@
 //! A policy explained to the person who writes it.
 //!
-//! [`why`] tells which rules of a policy speak of a request and which one decides, and [`explained`] tells it in lines. [`lint`]
-//! tells what is wrong with a policy that is refused, and what the rules of one that is in order may not mean. [`propose`] writes
-//! a policy that allows more.
+//! [`why`] tells which rules of a policy speak of a request and which one decides, and [`explained`] tells it in lines.
+//! [`lint`] tells what is wrong with a policy that is refused, and what the rules of one that is in order may not mean.
+//! [`propose`] writes a policy that allows more.
 #![tactic(auto)]
 
 mod covers;

@@ -111,9 +111,9 @@ fn push_refusal(
     }
 }
 
-/// The lines for the policy of this text, which stands in the file of this name: nothing for one that is in order; why it is
-/// refused, with the line and what was meant; or what its rules say that may not be meant. `file` is the file's absolute name.
-/// `Memory` where memory is refused.
+/// The lines for the policy of this text, which stands in the file of this name: nothing for one that is in order; why
+/// it is refused, with the line and what was meant; or what its rules say that may not be meant. `file` is the file's
+/// absolute name. `Memory` where memory is refused.
 pub fn lint(alloc: Global, name: &str, file: &str, text: &[u8]) -> Result<Findings, Memory>
     ensures { IfOk result (Lints text.now) }
 {

@@ -13,8 +13,9 @@ fn is_rule_header(line: &[u8]) -> bool {
     rest.trim_ascii_start().starts_with(b"]]")
 }
 
-/// The lines of a text, counted from 1, on which its rules begin. They are empty where that cannot be told, as of rules in an
-/// array, or beside a string over lines that has such a line too: then they are not as many as the policy has rules.
+/// The lines of a text, counted from 1, on which its rules begin. They are empty where that cannot be told, as of rules
+/// in an array, or beside a string over lines that has such a line too: then they are not as many as the policy has
+/// rules.
 #[derive(Drop)]
 pub struct Places {
     lines: Vec<usize>,
@@ -52,8 +53,8 @@ fn gives(line: &[u8], key: &str) -> bool {
     }
 }
 
-/// The line, counted from 1, that gives the key a value in the table that begins on this line; of the top table, which has no
-/// line of its own, it is 0.
+/// The line, counted from 1, that gives the key a value in the table that begins on this line; of the top table, which
+/// has no line of its own, it is 0.
 pub fn key_line(text: &[u8], table: usize, key: &str) -> Option<usize> {
     for (at, line) in text.split(|byte| *byte == b'\n').enumerate() {
         if at >= table {

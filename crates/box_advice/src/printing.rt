@@ -1,5 +1,5 @@
-// Rules and comments as they are written in a policy's text. What is written is read again before it is handed out, so that
-// no claim rests on this.
+// Rules and comments as they are written in a policy's text. What is written is read again before it is handed out, so
+// that no claim rests on this.
 use crate::wanting::Fate;
 use crate::wishes::{Origin, Wish};
 use crate::words::{effect_word, kind_word, quoted};

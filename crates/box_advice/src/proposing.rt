@@ -2,7 +2,8 @@
 ghost use Rattle.std.specs.Prelude.{◌≡◌, ◌++◌, ◌+◌, ◌<◌, [], true, length, option_map, IfOk, IfErr, IfSome};
 ghost use Rattle.box_policy.specs.Rulebook.{Rulebook};
 ghost use Rattle.box_policy.specs.Written.{Written};
-ghost use Rattle.box_advice.specs.Proposals.{IsBaseRefused, IsGainRefused, IsProposalRefused, IsStartRefused, IsText, IsTextRefused, Proposes, Starts, has_base, with_gained};
+ghost use Rattle.box_advice.specs.Proposals.{IsBaseRefused, IsGainRefused, IsProposalRefused, IsStartRefused, IsText};
+ghost use Rattle.box_advice.specs.Proposals.{IsTextRefused, Proposes, Starts, has_base, with_gained};
 ghost use Rattle.box_advice.specs.Wishes.{grants_from};
 
 use crate::covers::{are_of_one_kind, are_one};
@@ -19,8 +20,8 @@ use std::fmt;
 /// The most bytes that a policy may have which the program reads.
 const MAX_TEXT: usize = 16_777_216;
 
-/// What a proposal begins with: a policy without rules, under this base, or the policy of this text, of which the base may be
-/// told once more.
+/// What a proposal begins with: a policy without rules, under this base, or the policy of this text, of which the base
+/// may be told once more.
 #[derive(Clone, Copy, Drop)]
 pub enum Start<'a> {
     Base(&'a str),
@@ -124,7 +125,9 @@ fn begun_under(alloc: Global, base: &str) -> Result<Beginning, ProposalError>
 }
 
 fn begun_with(alloc: Global, text: &[u8], base: Option<&str>) -> Result<Beginning, ProposalError>
-    ensures ok { IfOk result (λ begun. Written text.now begun.policy × (has_base begun.policy.base (option_map (λ s. s.now) base.entry) ≡ true)) }
+    ensures ok { IfOk result
+        (λ begun. Written text.now begun.policy
+        × (has_base begun.policy.base (option_map (λ s. s.now) base.entry) ≡ true)) }
     ensures refused { IfErr result (IsTextRefused text.now (option_map (λ s. s.now) base.entry)) }
 {
     let policy = Policy::read(alloc, text)?;
@@ -219,10 +222,12 @@ fn reads(alloc: Global, text: &[u8], first: &Policy, gained: &[Rule]) -> Result<
     }
 }
 
-/// The text of the first policy with these lines behind it, which write the rules that it gains. Where they cannot stand
-/// there, as behind rules that are an array in one value, its own rules are written anew. `None` where neither reads so.
+/// The text of the first policy with these lines behind it, which write the rules that it gains. Where they cannot
+/// stand there, as behind rules that are an array in one value, its own rules are written anew. `None` where neither
+/// reads so.
 fn written(alloc: Global, beginning: &Beginning, gains: &Gains) -> Result<Option<Vec<u8>>, Memory>
-    ensures { IfOk result (λ found. IfSome found (λ text. Written text.items (with_gained beginning.now.policy gains.now.rules.items))) }
+    ensures { IfOk result
+        (λ found. IfSome found (λ text. Written text.items (with_gained beginning.now.policy gains.now.rules.items))) }
 {
     let first = &beginning.policy;
     let (rules, lines) = (gains.rules.as_slice(), gains.lines.as_str());
@@ -246,7 +251,9 @@ fn has_no_room(first: &Policy, gained: &[Rule]) -> bool
 
 /// The text of the policy that begins so and gains what is wished.
 fn proposed(alloc: Global, beginning: &Beginning, wishes: &[Wish]) -> Result<Vec<u8>, ProposalError>
-    ensures ok { IfOk result (λ text. IsText (with_gained beginning.now.policy (grants_from beginning.now.policy [] wishes.now)) text.items) }
+    ensures ok { IfOk result
+        (λ text. IsText (with_gained beginning.now.policy (grants_from beginning.now.policy [] wishes.now))
+        text.items) }
     ensures refused { IfErr result (IsGainRefused beginning.now.policy wishes.now) }
 {
     let gains = Gains::of(alloc, &beginning.policy, wishes)?;
@@ -263,14 +270,15 @@ fn proposed(alloc: Global, beginning: &Beginning, wishes: &[Wish]) -> Result<Vec
     Ok(text)
 }
 
-/// A policy that allows what is wished, in its text: the first policy as it stands, and below it a rule for each wish whose text
-/// a pattern can hold and of which no rule speaks, once each. What a rule of the first policy denies stays denied: a comment
-/// tells of it, and of a wish whose text is not known or that no pattern stands for alone.
+/// A policy that allows what is wished, in its text: the first policy as it stands, and below it a rule for each wish
+/// whose text a pattern can hold and of which no rule speaks, once each. What a rule of the first policy denies stays
+/// denied: a comment tells of it, and of a wish whose text is not known or that no pattern stands for alone.
 ///
-/// The text is accepted; it allows each wish that got a rule; and where it decides otherwise than the first policy, that had no
-/// rule, and the request has the kind and the text of such a wish, for a path its normal form.
+/// The text is accepted; it allows each wish that got a rule; and where it decides otherwise than the first policy,
+/// that had no rule, and the request has the kind and the text of such a wish, for a path its normal form.
 pub fn propose(alloc: Global, start: Start<'_>, wishes: &[Wish]) -> Result<Vec<u8>, ProposalError>
-    ensures ok { IfOk result (λ text. (first : Rulebook) × Starts start.entry first × Proposes first wishes.now text.items) }
+    ensures ok { IfOk result
+        (λ text. (first : Rulebook) × Starts start.entry first × Proposes first wishes.now text.items) }
     ensures refused { IfErr result (IsProposalRefused start.entry wishes.now) }
 {
     let beginning = begun(alloc, start)?;

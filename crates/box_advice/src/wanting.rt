@@ -28,8 +28,8 @@ pub(crate) enum Fate {
     Gains,
 }
 
-/// What the policy answers: what it decides of a request that is no operand, or, where it has no rule for that, the rule that
-/// denies the operand.
+/// What the policy answers: what it decides of a request that is no operand, or, where it has no rule for that, the
+/// rule that denies the operand.
 fn answer_by(plain: Decision, given: Decision) -> Decision
     ensures { result ≡ answer_by plain given }
 {
@@ -112,7 +112,8 @@ impl Gains {
     /// What becomes of the wish, written and, where it gains a rule, done.
     fn take(&mut self, alloc: Global, policy: &Policy, wish: &Wish) -> Result<(), Memory>
         requires short { are_short self.old.rules.items ≡ true }
-        ensures gained { OnOk result (self.new.rules.items ≡ self.old.rules.items ++ gained policy.now self.old.rules.items wish.now) }
+        ensures gained { OnOk result
+            (self.new.rules.items ≡ self.old.rules.items ++ gained policy.now self.old.rules.items wish.now) }
         ensures short { OnOk result (are_short self.new.rules.items ≡ true) }
     {
         let fate = fate_of(policy, self.rules.as_slice(), wish);

@@ -141,8 +141,9 @@ fn push_commands(alloc: Global, source: Source<'_>, lines: &mut String) -> Resul
     Ok(())
 }
 
-/// The warnings for the policy of this text: rules that no request reaches, rules that allow the policy itself, `/proc`, `/dev` or
-/// the root, and commands with more room than they seem to have. `file` is the absolute name of the policy's file.
+/// The warnings for the policy of this text: rules that no request reaches, rules that allow the policy itself,
+/// `/proc`, `/dev` or the root, and commands with more room than they seem to have. `file` is the absolute name of the
+/// policy's file.
 pub fn push_warnings(
     alloc: Global,
     name: &str,

@@ -26,7 +26,8 @@ shown (Some text) = codes "\"" ++ quoted text ++ codes "\""
 
 -- what stands before the text: `LINE:COLUMN KIND `
 abbrev pub line_start : Site → List ℕ
-line_start site = concat (decimal site.place.line ∷ codes ":" ∷ decimal site.place.column ∷ codes " " ∷ kind_word site.kind ∷ codes " " ∷ [])
+line_start site = concat
+    (decimal site.place.line ∷ codes ":" ∷ decimal site.place.column ∷ codes " " ∷ kind_word site.kind ∷ codes " " ∷ [])
 
 -- `LINE:COLUMN KIND TEXT` and a newline
 abbrev pub line_of : Site → List ℕ

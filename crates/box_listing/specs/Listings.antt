@@ -54,7 +54,8 @@ key x = (x.place.line, x.place.column, kind_number x.kind)
 
 abbrev pub compared : Site → Site → Ordering
 compared x y =
-    ordering_then (ordering_then (nat_cmp x.place.line y.place.line) (nat_cmp x.place.column y.place.column)) (nat_cmp (kind_number x.kind) (kind_number y.kind))
+    ordering_then (ordering_then (nat_cmp x.place.line y.place.line) (nat_cmp x.place.column y.place.column))
+    (nat_cmp (kind_number x.kind) (kind_number y.kind))
 
 -- The second list is the first one in order; what stands at one place and is of one kind stays as it stood.
 pub record IsInOrder (xs ys : List Site) : Type 0 where

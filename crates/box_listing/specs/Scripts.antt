@@ -26,7 +26,9 @@ sort_of (t.function f ps xs) = sort.Function
 
 -- the sites of the script's program, by the order of its items, where it is a script of these
 abbrev pub IsListingOf : Script → List Entry → List Site → Type 0
-IsListingOf s items sites = IsListing (view_program s.program) (map sort_of (tree s)) (names_environ (map part items)) sites
+IsListingOf s items sites =
+    IsListing (view_program s.program) (map sort_of (tree s)) (names_environ (map part items)) sites
 
 abbrev pub IsVerdictOf : Script → List Entry → Rulebook → Verdict → Type 0
-IsVerdictOf s items book verdict = IsVerdict (view_program s.program) (map sort_of (tree s)) (names_environ (map part items)) book verdict
+IsVerdictOf s items book verdict =
+    IsVerdict (view_program s.program) (map sort_of (tree s)) (names_environ (map part items)) book verdict

@@ -6,7 +6,9 @@ use Rattle.std.specs.Str.{bytes_eq}
 use Rattle.awk_text.specs.declared.place.Place.{Place}
 use Rattle.awk_program.specs.Slots.{Text}
 use Rattle.awk_program.specs.Program as p
-use Rattle.awk_program.specs.Program.{Expression, Reference, Ere, Expressions, Terms, Joins, Pipes, Arguments, Statement, Statements, When, Rule, Function, Program, expressions_of, statements_of}
+use Rattle.awk_program.specs.Program.{Expression, Reference, Ere, Expressions, Terms, Joins, Pipes, Arguments}
+use Rattle.awk_program.specs.Program.{Statement, Statements, When, Rule, Function, Program, expressions_of}
+use Rattle.awk_program.specs.Program.{statements_of}
 use Rattle.awk_program.specs.declared.builtins.Builtin.{Builtin}
 use Rattle.awk_program.specs.declared.builtins.Builtin.TheVariants as b
 use Rattle.awk_program.specs.declared.operators.Redirect.{Redirect}

@@ -48,7 +48,8 @@ abbrev pub verdict : Rulebook → List Site → Verdict
 verdict book sites = verdict_by (filter (is_denied book) sites) (filter (is_open book) sites)
 
 -- the verdict on the listing of a program, which names ENVIRON or not
-pub record IsVerdict (program : Program) (order : List Sort) (names : Bool) (book : Rulebook) (result : Verdict) : Type 0 where
+pub record IsVerdict (program : Program) (order : List Sort) (names : Bool) (book : Rulebook) (result : Verdict) : Type
+    0 where
   pub sites : List Site
   pub listing : IsListing program order names sites
   pub is : result ≡ verdict book sites

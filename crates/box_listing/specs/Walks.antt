@@ -14,10 +14,12 @@ Finds result old new found = OnOk result ((t : Names) → new ≡ old ++ found t
 -- The next of a list is found, and n are behind; or there is none.
 abbrev pub Takes : {X : Type 0} → (Names → X → List Found) → List X → (at n : ℕ) → (old new : List Found) → Type 0
 Takes {X} found xs at n old new =
-    ((drop at xs ≡ []) × (n ≡ at) × (new ≡ old)) ⊎ ((x : X) × (drop at xs ≡ x ∷ drop n xs) × ((t : Names) → new ≡ old ++ found t x))
+    ((drop at xs ≡ []) × (n ≡ at) × (new ≡ old))
+    ⊎ ((x : X) × (drop at xs ≡ x ∷ drop n xs) × ((t : Names) → new ≡ old ++ found t x))
 
 -- what is found in the items that are left
 abbrev pub left : List Sort → Behind → Names → code.Program → List Found
 left order n t x =
-    items order (map (map (view_statement t)) (drop n.begin x.begin)) (map (view_rule t) (drop n.rules x.rules)) (map (map (view_statement t)) (drop n.end x.end))
+    items order (map (map (view_statement t)) (drop n.begin x.begin)) (map (view_rule t) (drop n.rules x.rules))
+    (map (map (view_statement t)) (drop n.end x.end))
     (map (view_function t) (drop n.functions x.functions))

@@ -3,7 +3,8 @@
 
 ghost use Rattle.std.specs.Prelude.{◌≡◌, [], ◌∷◌, ◌++◌, IfOk, OnOk, None, map, option_copied};
 ghost use Rattle.awk_program.specs.Program.{expressions_of, terms_of, joins_of};
-ghost use Rattle.awk_program.specs.View.{Names, view, view_target, view_ere, view_term, view_joined, view_pipes, view_arguments};
+ghost use Rattle.awk_program.specs.View.{Names, view, view_target, view_ere, view_term, view_joined, view_pipes};
+ghost use Rattle.awk_program.specs.View.{view_arguments};
 ghost use Rattle.box_listing.specs.Sites as spec;
 ghost use Rattle.box_listing.specs.Walks.{Finds};
 
@@ -118,7 +119,8 @@ fn asked(
     xs: &[Expr],
     out: &mut Vec<Found>,
 ) -> Result<(), Memory>
-    ensures { Finds result out.old.items out.new.items (λ t. spec.asked place which (expressions_of (map (view t) xs.now))) }
+    ensures { Finds result out.old.items out.new.items
+        (λ t. spec.asked place which (expressions_of (map (view t) xs.now))) }
 {
     match which {
         Builtin::System => site(alloc, place, Kind::Run, first_constant(xs), out),
@@ -209,7 +211,9 @@ fn builtin(
     level: u64,
     out: &mut Vec<Found>,
 ) -> Result<(), Memory>
-    ensures { Finds result out.old.items out.new.items (λ t. spec.asked place which (expressions_of (map (view t) xs.now)) ++ spec.each (expressions_of (map (view t) xs.now))) }
+    ensures { Finds result out.old.items out.new.items
+        (λ t. spec.asked place which (expressions_of (map (view t) xs.now))
+        ++ spec.each (expressions_of (map (view t) xs.now))) }
 {
     asked(alloc, place, which, xs, out)?;
     each(alloc, xs, level, out)
@@ -232,7 +236,8 @@ fn three(
     level: u64,
     out: &mut Vec<Found>,
 ) -> Result<(), Memory>
-    ensures { Finds result out.old.items out.new.items (λ t. spec.value (view t x.now) ++ (spec.value (view t y.now) ++ spec.value (view t z.now))) }
+    ensures { Finds result out.old.items out.new.items
+        (λ t. spec.value (view t x.now) ++ (spec.value (view t y.now) ++ spec.value (view t z.now))) }
 {
     expression(alloc, x, level, out)?;
     two(alloc, y, z, level, out)
@@ -246,7 +251,8 @@ fn first_and_each(
     level: u64,
     out: &mut Vec<Found>,
 ) -> Result<(), Memory>
-    ensures { Finds result out.old.items out.new.items (λ t. spec.value (view t x.now) ++ spec.each (expressions_of (map (view t) xs.now))) }
+    ensures { Finds result out.old.items out.new.items
+        (λ t. spec.value (view t x.now) ++ spec.each (expressions_of (map (view t) xs.now))) }
 {
     expression(alloc, x, level, out)?;
     each(alloc, xs, level, out)
@@ -260,7 +266,8 @@ fn target_and(
     level: u64,
     out: &mut Vec<Found>,
 ) -> Result<(), Memory>
-    ensures { Finds result out.old.items out.new.items (λ t. spec.target (view_target t r.now) ++ spec.value (view t x.now)) }
+    ensures { Finds result out.old.items out.new.items
+        (λ t. spec.target (view_target t r.now) ++ spec.value (view t x.now)) }
 {
     target(alloc, r, level, out)?;
     expression(alloc, x, level, out)
@@ -274,7 +281,8 @@ fn value_and_target(
     level: u64,
     out: &mut Vec<Found>,
 ) -> Result<(), Memory>
-    ensures { Finds result out.old.items out.new.items (λ t. spec.value (view t x.now) ++ spec.target (view_target t r.now)) }
+    ensures { Finds result out.old.items out.new.items
+        (λ t. spec.value (view t x.now) ++ spec.target (view_target t r.now)) }
 {
     expression(alloc, x, level, out)?;
     target(alloc, r, level, out)
@@ -385,7 +393,8 @@ fn pipes(
     level: u64,
     out: &mut Vec<Found>,
 ) -> Result<(), Memory>
-    ensures { Finds result out.old.items out.new.items (λ t. spec.pipes (option_copied text.entry) (view_pipes t xs.now)) }
+    ensures { Finds result out.old.items out.new.items
+        (λ t. spec.pipes (option_copied text.entry) (view_pipes t xs.now)) }
 {
     let mut known = text;
     for x in xs {
@@ -403,7 +412,8 @@ fn piped(
     level: u64,
     out: &mut Vec<Found>,
 ) -> Result<(), Memory>
-    ensures { Finds result out.old.items out.new.items (λ t. spec.pipes (option_copied text.entry) (view_pipes t (x.now ∷ []))) }
+    ensures { Finds result out.old.items out.new.items
+        (λ t. spec.pipes (option_copied text.entry) (view_pipes t (x.now ∷ []))) }
 {
     site(alloc, x.place, Kind::Run, text, out)?;
     target(alloc, &x.target, level, out)

@@ -95,8 +95,8 @@ pub fn lines_of(alloc: Global, sites: &[Site]) -> Result<Vec<u8>, Memory>
     Ok(out)
 }
 
-/// `clean`, `open` or `refused` on a line of its own, and then the lines of the sites that a verdict names. `Memory` where
-/// memory is refused.
+/// `clean`, `open` or `refused` on a line of its own, and then the lines of the sites that a verdict names. `Memory`
+/// where memory is refused.
 pub fn verdict_lines(alloc: Global, verdict: &Verdict) -> Result<Vec<u8>, Memory>
     ensures { IfOk result (λ v. v.items ≡ spec.verdict_lines verdict.now) }
 {

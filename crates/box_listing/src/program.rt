@@ -1,7 +1,8 @@
 // What is found in a program.
 
 ghost use Rattle.std.specs.Prelude.{◌≡◌, [], ◌∷◌, ◌++◌, List, drop, IfOk, OnOk, map};
-ghost use Rattle.awk_program.specs.View.{Names, view_by, view_function, view_program, view_rule, view_statement, view_when};
+ghost use Rattle.awk_program.specs.View.{Names, view_by, view_function, view_program, view_rule, view_statement};
+ghost use Rattle.awk_program.specs.View.{view_when};
 ghost use Rattle.box_listing.specs.Sites as spec;
 ghost use Rattle.box_listing.specs.Walks.{Finds, Takes, left};
 ghost use Rattle.box_listing.specs.declared.site.Sort.{Sort};
@@ -15,7 +16,8 @@ use sqlite_items::Items;
 use std::alloc::Global;
 
 fn records(rules: &[Rule], end: &[Items<Statement>], out: &mut Vec<Found>) -> Result<(), Memory>
-    ensures { Finds result out.old.items out.new.items (λ t. spec.records (map (view_rule t) rules.now) (map (map (view_statement t)) end.now)) }
+    ensures { Finds result out.old.items out.new.items
+        (λ t. spec.records (map (view_rule t) rules.now) (map (map (view_statement t)) end.now)) }
 {
     match (rules, end) {
         ([], []) => Ok(()),
@@ -77,7 +79,8 @@ fn block_at(
     at: usize,
     out: &mut Vec<Found>,
 ) -> Result<usize, Memory>
-    ensures { IfOk result (λ n. Takes (λ t x. spec.all_done (map (view_statement t) x)) xs.now at n out.old.items out.new.items) }
+    ensures { IfOk result
+        (λ n. Takes (λ t x. spec.all_done (map (view_statement t) x)) xs.now at n out.old.items out.new.items) }
 {
     if at < xs.len() {
         actions(alloc, xs[at].as_slice(), out)?;
@@ -102,7 +105,8 @@ fn function_at(
     at: usize,
     out: &mut Vec<Found>,
 ) -> Result<usize, Memory>
-    ensures { IfOk result (λ n. Takes (λ t x. spec.all_done (map (view_statement t) x.body)) xs.now at n out.old.items out.new.items) }
+    ensures { IfOk result
+        (λ n. Takes (λ t x. spec.all_done (map (view_statement t) x.body)) xs.now at n out.old.items out.new.items) }
 {
     if at < xs.len() {
         actions(alloc, xs[at].body.as_slice(), out)?;
@@ -119,7 +123,9 @@ fn next(
     at: Behind,
     out: &mut Vec<Found>,
 ) -> Result<Behind, Memory>
-    ensures { IfOk result (λ n. (t : Names) (more : List Sort) → out.old.items ++ left (sort ∷ more) at t program.now ≡ out.new.items ++ left more n t program.now) }
+    ensures { IfOk result
+        (λ n. (t : Names) (more : List Sort) → out.old.items ++ left (sort ∷ more) at t program.now ≡ out.new.items
+        ++ left more n t program.now) }
 {
     match sort {
         Sort::Begin => {
@@ -167,7 +173,8 @@ fn blocks_from(
     at: usize,
     out: &mut Vec<Found>,
 ) -> Result<(), Memory>
-    ensures { Finds result out.old.items out.new.items (λ t. spec.actions (map (map (view_statement t)) (drop at xs.now))) }
+    ensures { Finds result out.old.items out.new.items
+        (λ t. spec.actions (map (map (view_statement t)) (drop at xs.now))) }
 {
     if at < xs.len() {
         let (_, left) = xs.split_at(at);
@@ -218,7 +225,8 @@ fn in_turn(
     order: &[Sort],
     out: &mut Vec<Found>,
 ) -> Result<(), Memory>
-    ensures { Finds result out.old.items out.new.items (λ t. left order.now (record { begin = 0; rules = 0; end = 0; functions = 0 }) t program.now) }
+    ensures { Finds result out.old.items out.new.items
+        (λ t. left order.now (record { begin = 0; rules = 0; end = 0; functions = 0 }) t program.now) }
 {
     let mut at = Behind {
         begin: 0,

@@ -43,7 +43,8 @@ fn order_of(alloc: Global, items: &[Item]) -> Result<Vec<Sort>, Memory>
 /// constant; at 0:0 reading and assigning where the script reads the main input, and the environment where it names
 /// ENVIRON. In order of place, then of kind, then of their words in the script. `Memory` where memory is refused.
 pub fn sites(alloc: Global, script: &Script) -> Result<Vec<Site>, Memory>
-    ensures { IfOk result (λ sites. (items : List Entry) → IsScriptOf items script.now → IsListingOf script.now items sites.items) }
+    ensures { IfOk result
+        (λ sites. (items : List Entry) → IsScriptOf items script.now → IsListingOf script.now items sites.items) }
 {
     let order = order_of(alloc, script.items())?;
     listed(
@@ -58,7 +59,9 @@ pub fn sites(alloc: Global, script: &Script) -> Result<Vec<Site>, Memory>
 /// never allowed, where there are any; else `Open` with those whose text is not known or is allowed as long as a limit
 /// lasts, where there are any; else `Clean`. `Memory` where memory is refused.
 pub fn check(alloc: Global, script: &Script, policy: &Policy) -> Result<Verdict, Memory>
-    ensures { IfOk result (λ verdict. (items : List Entry) → IsScriptOf items script.now → IsVerdictOf script.now items policy.now verdict) }
+    ensures { IfOk result
+        (λ verdict. (items : List Entry) → IsScriptOf items script.now →
+        IsVerdictOf script.now items policy.now verdict) }
 {
     let order = order_of(alloc, script.items())?;
     checked(

@@ -45,7 +45,8 @@ fn print(
     r: &Option<Redirection<Expr>>,
     out: &mut Vec<Found>,
 ) -> Result<(), Memory>
-    ensures { Finds result out.old.items out.new.items (λ t. spec.all (map (view t) xs.now) ++ spec.redirection (option_map (view_redirection t) r.now)) }
+    ensures { Finds result out.old.items out.new.items
+        (λ t. spec.all (map (view t) xs.now) ++ spec.redirection (option_map (view_redirection t) r.now)) }
 {
     values(alloc, xs, out)?;
     target(alloc, r, out)
@@ -58,7 +59,9 @@ fn printf(
     r: &Option<Redirection<Expr>>,
     out: &mut Vec<Found>,
 ) -> Result<(), Memory>
-    ensures { Finds result out.old.items out.new.items (λ t. spec.value (view t x.now) ++ (spec.all (map (view t) xs.now) ++ spec.redirection (option_map (view_redirection t) r.now))) }
+    ensures { Finds result out.old.items out.new.items
+        (λ t. spec.value (view t x.now)
+        ++ (spec.all (map (view t) xs.now) ++ spec.redirection (option_map (view_redirection t) r.now))) }
 {
     value(alloc, x, out)?;
     print(alloc, xs, r, out)
@@ -81,7 +84,9 @@ fn header(
     step: &Option<Expr>,
     out: &mut Vec<Found>,
 ) -> Result<(), Memory>
-    ensures { Finds result out.old.items out.new.items (λ t. spec.optional (option_map (view t) first.now) ++ (spec.optional (option_map (view t) test.now) ++ spec.optional (option_map (view t) step.now))) }
+    ensures { Finds result out.old.items out.new.items
+        (λ t. spec.optional (option_map (view t) first.now)
+        ++ (spec.optional (option_map (view t) test.now) ++ spec.optional (option_map (view t) step.now))) }
 {
     optional(alloc, first, out)?;
     optional(alloc, test, out)?;
@@ -145,7 +150,8 @@ fn two(
     level: u64,
     out: &mut Vec<Found>,
 ) -> Result<(), Memory>
-    ensures { Finds result out.old.items out.new.items (λ t. spec.done (view_statement t x.now) ++ spec.done (view_statement t y.now)) }
+    ensures { Finds result out.old.items out.new.items
+        (λ t. spec.done (view_statement t x.now) ++ spec.done (view_statement t y.now)) }
 {
     statement(alloc, x, level, out)?;
     statement(alloc, y, level, out)
@@ -158,7 +164,8 @@ fn statements(
     level: u64,
     out: &mut Vec<Found>,
 ) -> Result<(), Memory>
-    ensures { Finds result out.old.items out.new.items (λ t. spec.each_done (statements_of (map (view_statement t) xs.now))) }
+    ensures { Finds result out.old.items out.new.items
+        (λ t. spec.each_done (statements_of (map (view_statement t) xs.now))) }
 {
     for x in xs {
         statement(alloc, x, level, out)?;

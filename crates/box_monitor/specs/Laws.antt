@@ -1,6 +1,7 @@
 -- The laws of what a monitor goes on by.
 use Rattle.std.specs.Prelude.{◌≡◌, refl, ℕ, ◌+◌, ◌-◌, ◌^◌, ◌≤◌, min, Bool, true, false, not, cond}
-use Rattle.std.specs.Prelude.{List, [], ◌∷◌, ◌++◌, length, take, Option, None, Some, is_none, is_some, IsSome, option_to_list}
+use Rattle.std.specs.Prelude.{List, [], ◌∷◌, ◌++◌, length, take, Option, None, Some, is_none, is_some, IsSome}
+use Rattle.std.specs.Prelude.{option_to_list}
 use Rattle.std.specs.Io.KnownBytes.{Appends}
 use Rattle.std.proofs.Common.{ap, sym, ◌∙◌, subst, append_assoc, length-append, arith, inl, inr}
 use Rattle.std.proofs.lemmas.Grind.{flat_map-append}

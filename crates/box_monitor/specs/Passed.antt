@@ -1,6 +1,7 @@
 -- What of a list of events is passed on to the world behind, and what of it the log tells. The newest event comes
 -- first, and each is judged after those before it.
-use Rattle.std.specs.Prelude.{◌≡◌, List, [], ◌∷◌, ◌++◌, if◌then◌else◌, is_none, IsSome, Option, None, Some, option_to_list}
+use Rattle.std.specs.Prelude.{◌≡◌, List, [], ◌∷◌, ◌++◌, if◌then◌else◌, is_none, IsSome, Option, None, Some}
+use Rattle.std.specs.Prelude.{option_to_list}
 use Rattle.box_policy.specs.Rulebook.{Rulebook}
 use Rattle.box_policy.specs.declared.policy.Kind.TheVariants.{Run, Env, Assign}
 use Rattle.box_world.specs.Events.{Event, Want, Wish, Opens, Reads, Writes, Shuts, Runs, Looks, Assigns}

@@ -1,9 +1,11 @@
 -- What a policy decides on.
 use Rattle.std.specs.Prelude.{ℕ, List, Option, None, Some}
 use Rattle.box_policy.specs.declared.policy.Kind.{Kind}
-use Rattle.box_policy.specs.declared.policy.Kind.TheVariants.{Read, Write, Append, Run, Env as EnvKind, Assign as AssignKind}
+use Rattle.box_policy.specs.declared.policy.Kind.TheVariants.{Read, Write, Append, Run, Env as EnvKind}
+use Rattle.box_policy.specs.declared.policy.Kind.TheVariants.{Assign as AssignKind}
 use Rattle.box_world.specs.declared.ask.Mode.{Mode}
-use Rattle.box_world.specs.declared.ask.Mode.TheVariants.{Read as ReadMode, Write as WriteMode, Append as AppendMode, RunIn, RunOut}
+use Rattle.box_world.specs.declared.ask.Mode.TheVariants.{Read as ReadMode, Write as WriteMode, Append as AppendMode}
+use Rattle.box_world.specs.declared.ask.Mode.TheVariants.{RunIn, RunOut}
 use Rattle.box_world.specs.declared.ask.Request.{Request}
 use Rattle.box_world.specs.declared.ask.Request.TheVariants.{Open, Next, Put, Shut, System, Env, Assign}
 

@@ -48,8 +48,9 @@ pub fn listen_to(rt: &HostRuntime, alloc: Global, text: &str) -> io::Result<Chil
     shell(alloc, text)?.stdout(Stdio::piped()).spawn(rt)
 }
 
-/// Starts `sh -c TEXT`, which is written to by the pipe that comes with it. A pipe of the child's own would hold signals back
-/// round each write, with three calls more of the system; a program ignores SIGPIPE from its start, so that is not needed.
+/// Starts `sh -c TEXT`, which is written to by the pipe that comes with it. A pipe of the child's own would hold
+/// signals back round each write, with three calls more of the system; a program ignores SIGPIPE from its start, so
+/// that is not needed.
 pub fn speak_to(rt: &HostRuntime, alloc: Global, text: &str) -> io::Result<(Child, PipeWriter)> {
     let (end, pipe) = io::pipe(rt)?;
     let child = shell(alloc, text)?.stdin(end).spawn(rt)?;

@@ -1,6 +1,7 @@
 // The world of real files and commands.
 ghost use Rattle.std.specs.Prelude.{◌≡◌, ℕ, ◌<◌, ◌⊎◌, List, [], false, refl, IfOk, IfErr, OnErr};
-ghost use Rattle.box_world.specs.Calls.{IsFitting, IsDoing, IsOpening, IsReading, IsRunning, IsShutting, IsValuing, numbers_after, without};
+ghost use Rattle.box_world.specs.Calls.{IsFitting, IsDoing, IsOpening, IsReading, IsRunning, IsShutting, IsValuing};
+ghost use Rattle.box_world.specs.Calls.{numbers_after, without};
 ghost use Rattle.box_world.specs.declared.ask.Reply.TheVariants.{Done, Failed};
 ghost use Rattle.box_world.specs.declared.ask.Request.TheVariants.{Open};
 ghost use Rattle.box_world.specs.declared.ask.Stop.TheVariants.{Memory};

@@ -1,5 +1,6 @@
 // The open streams, by number.
-ghost use Rattle.std.specs.Prelude.{◌≡◌, ℕ, List, ◌+◌, ◌<◌, ◌++◌, true, false, length, take, drop, Ok, None, IfOk, IfErr};
+ghost use Rattle.std.specs.Prelude.{◌≡◌, ℕ, List, ◌+◌, ◌<◌, ◌++◌, true, false, length, take, drop, Ok, None, IfOk};
+ghost use Rattle.std.specs.Prelude.{IfErr};
 ghost use Rattle.box_world.specs.Calls.{IsDoing, IsReading, is_among, without};
 ghost use Rattle.box_world.specs.declared.ask.Reply.TheVariants.{Failed};
 ghost use Rattle.box_world.specs.declared.ask.Stop.TheVariants.{Memory};
@@ -23,7 +24,9 @@ fn search(streams: &[OpenStream], number: u32) -> Result<usize, usize>
     requires { IsRising (numbers_of streams.now) }
     ensures within { IfOk result (λ at. at < length streams.now) }
     ensures among { IfOk result (λ _. is_among (numbers_of streams.now) number ≡ true) }
-    ensures found { IfOk result (λ at. without number (numbers_of streams.now) ≡ numbers_of (take at streams.now) ++ numbers_of (drop (at + 1) streams.now)) }
+    ensures found { IfOk result
+        (λ at. without number (numbers_of streams.now) ≡ numbers_of (take at streams.now)
+        ++ numbers_of (drop (at + 1) streams.now)) }
     ensures absent { IfErr result (λ _. without number (numbers_of streams.now) ≡ numbers_of streams.now) }
 {
     streams.binary_search_by_key(&number, |open| open.number)

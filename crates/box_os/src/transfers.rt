@@ -21,8 +21,8 @@ pub fn room(alloc: Global, size: usize) -> Result<Vec<u8>, AllocError>
     vec![in alloc; 0u8; size]
 }
 
-/// Reads once, and at most 8,192 bytes, through a buffer of that size. Memory is taken before: where it is refused, nothing is
-/// read.
+/// Reads once, and at most 8,192 bytes, through a buffer of that size. Memory is taken before: where it is refused,
+/// nothing is read.
 pub fn read_from<R: Read>(
     alloc: Global,
     buffer: &mut [u8; PIECE],

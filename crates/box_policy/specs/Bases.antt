@@ -9,4 +9,5 @@ left_fits symbols None = false
 left_fits symbols (Some left) = fits symbols left
 
 abbrev pub IsBehind : List (List ℕ) → List (List ℕ) → Option (List (List ℕ)) → Type 0
-IsBehind base subject left = (symbols : List (Symbol (List ℕ))) → fits (map base_symbol base ++ symbols) subject ≡ left_fits symbols left
+IsBehind base subject left =
+    (symbols : List (Symbol (List ℕ))) → fits (map base_symbol base ++ symbols) subject ≡ left_fits symbols left

@@ -1,5 +1,6 @@
 -- The words of a table: bit j of word i is place 64 i + j.
-use Rattle.std.specs.Prelude.{◌≡◌, ℕ, zero, suc, ◌/◌, ◌%◌, Bool, true, false, not, ◌&&◌, ◌||◌, ◌==◌, List, if◌then◌else◌, slice_index_or, bit_or}
+use Rattle.std.specs.Prelude.{◌≡◌, ℕ, zero, suc, ◌/◌, ◌%◌, Bool, true, false, not, ◌&&◌, ◌||◌, ◌==◌, List}
+use Rattle.std.specs.Prelude.{if◌then◌else◌, slice_index_or, bit_or}
 use Rattle.std.specs.Int.{bit_at}
 use Rattle.box_policy.specs.declared.table.Block.{Block}
 use Rattle.box_policy.specs.declared.tokens.Sort.{Sort}
@@ -30,10 +31,12 @@ loops in_class block = bit_or block.wide (if in_class then block.narrow else 0)
 pub record Adds (element : Element) (mark : ℕ) (old new : Block) : Type 0 where
   pub leading : (sort : Sort) (token : Token) (j : ℕ) → is_read sort token ≡ true
       → is_set (leads token (on_bytes (class_of sort) token) new) j
-      ≡ (is_set (leads token (on_bytes (class_of sort) token) old) j || ((not (symbol_of sort element).is_run && (symbol_of sort element).test token) && is_set mark j))
+      ≡ (is_set (leads token (on_bytes (class_of sort) token) old) j
+      || ((not (symbol_of sort element).is_run && (symbol_of sort element).test token) && is_set mark j))
   pub looping : (sort : Sort) (token : Token) (j : ℕ) → is_read sort token ≡ true
       → is_set (loops (on_bytes (class_of sort) token) new) j
-      ≡ (is_set (loops (on_bytes (class_of sort) token) old) j || (((symbol_of sort element).is_run && (symbol_of sort element).test token) && is_set mark j))
+      ≡ (is_set (loops (on_bytes (class_of sort) token) old) j
+      || (((symbol_of sort element).is_run && (symbol_of sort element).test token) && is_set mark j))
 
 -- the places that the last element leads to: it stays at them, or it leads there from the place before
 abbrev pub came_to : List ℕ → List ℕ → ℕ → Bool

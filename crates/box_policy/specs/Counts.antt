@@ -1,5 +1,6 @@
 -- How often a rule may allow, and how often it has.
-use Rattle.std.specs.Prelude.{ℕ, ◌+◌, ◌-◌, ◌==◌, Bool, true, false, List, map, Option, None, Some, is_some, nat_le, nat_lt, slice_get, slice_set, if◌then◌else◌}
+use Rattle.std.specs.Prelude.{ℕ, ◌+◌, ◌-◌, ◌==◌, Bool, true, false, List, map, Option, None, Some, is_some, nat_le}
+use Rattle.std.specs.Prelude.{nat_lt, slice_get, slice_set, if◌then◌else◌}
 use Rattle.std.specs.Option.{option_map}
 use Rattle.box_policy.specs.declared.policy.Effect.{Effect}
 use Rattle.box_policy.specs.declared.policy.Effect.TheVariants.{Allow, Deny}

@@ -25,7 +25,8 @@ kind_number Assign = 5
 -- the rule is of the kind, its `from` holds and its pattern fits the subject
 abbrev pub speaks : List ℕ → Rule → Kind → List ℕ → Bool → Bool
 speaks base rule kind subject given =
-    nat_eq (kind_number rule.kind) (kind_number kind) && (given || not rule.only_given) && pattern_fits base kind rule.pattern subject
+    nat_eq (kind_number rule.kind) (kind_number kind) && (given || not rule.only_given)
+    && pattern_fits base kind rule.pattern subject
 
 -- what a rule of this effect and number decides
 abbrev pub decided : Effect → ℕ → Decision

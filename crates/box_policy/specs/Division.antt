@@ -22,7 +22,8 @@ abbrev pub cuts : {A : Type 0} → List A → List (List A × List A)
 cuts [] = ([], []) ∷ []
 cuts (x ∷ xs) = ([], x ∷ xs) ∷ map (λ cut. (x ∷ cut.0, cut.1)) (cuts xs)
 
--- there is a division: some first part is what the first symbol stands for, and the rest can be divided among the others
+-- there is a division: some first part is what the first symbol stands for, and the rest can be divided among the
+-- others
 abbrev pub fits : {A : Type 0} → List (Symbol A) → List A → Bool
 fits [] [] = true
 fits [] (x ∷ xs) = false

@@ -22,7 +22,8 @@ is_literal Assign text = is_plain_pattern Name text
 
 -- the text may be the pattern of a rule of this kind, and has no wildcard
 abbrev pub is_exact : List ℕ → Kind → List ℕ → Bool
-is_exact base kind text = nat_le (length text) 4096 && (is_utf8 text && (is_pattern base kind text && is_literal kind text))
+is_exact base kind text =
+    nat_le (length text) 4096 && (is_utf8 text && (is_pattern base kind text && is_literal kind text))
 
 -- two subjects of a kind that no exact rule tells apart: paths of one normal form, or one command or name
 abbrev pub Same : List ℕ → Kind → List ℕ → List ℕ → Type 0

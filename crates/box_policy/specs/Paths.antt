@@ -1,5 +1,6 @@
 -- Path names and their normal form: POSIX.1-2017, XBD 3.271 (Pathname) and 4.13 (Pathname Resolution).
-use Rattle.std.specs.Prelude.{ℕ, Bool, true, false, not, ◌&&◌, ◌||◌, ◌==◌, if◌then◌else◌, List, [], ◌∷◌, ◌++◌, Option, Some, None, codes, filter}
+use Rattle.std.specs.Prelude.{ℕ, Bool, true, false, not, ◌&&◌, ◌||◌, ◌==◌, if◌then◌else◌, List, [], ◌∷◌, ◌++◌, Option}
+use Rattle.std.specs.Prelude.{Some, None, codes, filter}
 use Rattle.std.specs.List.{slice_split, list_any}
 use Rattle.std.specs.Str.{is_utf8, bytes_eq}
 

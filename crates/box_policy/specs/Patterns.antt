@@ -51,7 +51,11 @@ symbols Name pattern = map name_byte pattern
 -- of a path `**` is any number of components, and any other component stands for one that it fits
 abbrev pub component_symbol : List ℕ → Symbol (List ℕ)
 component_symbol piece =
-    record { is_run = bytes_eq piece (codes "**"); test = λ name. bytes_eq piece (codes "**") || fits (symbols Component piece) name }
+    record {
+      is_run = bytes_eq piece (codes "**");
+      test = λ name. bytes_eq piece (codes "**")
+          || fits (symbols Component piece) name;
+    }
 
 -- a component of the base stands for itself
 abbrev pub base_symbol : List ℕ → Symbol (List ℕ)

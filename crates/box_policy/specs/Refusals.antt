@@ -1,5 +1,6 @@
 -- Why a policy is refused: of all that is wrong, the first in this order.
-use Rattle.std.specs.Prelude.{◌≡◌, ℕ, ◌+◌, ◌==◌, Bool, true, false, ◌&&◌, if◌then◌else◌, List, [], ◌∷◌, ◌++◌, length, Option, Some, None, is_some, unwrap_or, nat_le, codes, IsUtf8, ◌⊎◌}
+use Rattle.std.specs.Prelude.{◌≡◌, ℕ, ◌+◌, ◌==◌, Bool, true, false, ◌&&◌, if◌then◌else◌, List, [], ◌∷◌, ◌++◌, length}
+use Rattle.std.specs.Prelude.{Option, Some, None, is_some, unwrap_or, nat_le, codes, IsUtf8, ◌⊎◌}
 use Rattle.std.specs.Fmt.{decimal}
 use Rattle.toml.specs.Data.{Members, get_member}
 use Rattle.toml.specs.Parse.{parse_document}
@@ -31,7 +32,8 @@ rule_refusal version base n rule =
 -- of the rules, numbered from n
 abbrev pub rules_refusal : Version → List ℕ → ℕ → List Members → Option PolicyError
 rules_refusal version base n [] = None
-rules_refusal version base n (rule ∷ rules) = first (rule_refusal version base n rule) (rules_refusal version base (n + 1) rules)
+rules_refusal version base n (rule ∷ rules) =
+    first (rule_refusal version base n rule) (rules_refusal version base (n + 1) rules)
 
 -- of the document: its keys, its version, its base, its rules and how many they are
 abbrev pub top_refusal : Members → Option PolicyError
@@ -46,7 +48,8 @@ top_refusal tree =
 abbrev pub refusal : Members → Option PolicyError
 refusal tree =
     first (top_refusal tree)
-    (rules_refusal (unwrap_or (version_of tree) One) (unwrap_or (text_at (codes "base") tree) []) 1 (tables_of (get_member (codes "rule") tree)))
+    (rules_refusal (unwrap_or (version_of tree) One) (unwrap_or (text_at (codes "base") tree) []) 1
+    (tables_of (get_member (codes "rule") tree)))
 
 -- memory was refused
 abbrev pub no_memory : PolicyError

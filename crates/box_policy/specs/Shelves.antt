@@ -53,5 +53,6 @@ chain n (rule ∷ rules) = first_of (stands (shelf_of rule)) (n + 1) rules ∷ c
 -- it is the index of the rules
 pub record IsIndex (rules : List Rule) (index : Index) : Type 0 where
   pub firsts : (place : List ℕ)
-      → lookup (λ k. bytes_eq place (shelf k.kind k.group k.first.items)) index.firsts.entries ≡ first_of (stands place) 1 rules
+      → lookup (λ k. bytes_eq place (shelf k.kind k.group k.first.items)) index.firsts.entries
+      ≡ first_of (stands place) 1 rules
   pub nexts : index.nexts.items ≡ chain 1 rules

@@ -10,5 +10,6 @@ abbrev pub told_from : ℕ → List ℕ → List Rule → Kind → List ℕ → 
 told_from n base [] kind subject given = []
 told_from n base (rule ∷ rules) kind subject given =
     if nat_eq (kind_number rule.kind) (kind_number kind)
-    then record { number = n; fits = speaks base rule kind subject given } ∷ told_from (n + 1) base rules kind subject given
+    then record { number = n; fits = speaks base rule kind subject given }
+    ∷ told_from (n + 1) base rules kind subject given
     else told_from (n + 1) base rules kind subject given

@@ -1,5 +1,6 @@
 -- What a walk over a subject reads, and the patterns of paths as patterns of that.
-use Rattle.std.specs.Prelude.{ℕ, Bool, true, false, ◌&&◌, if◌then◌else◌, List, [], ◌∷◌, ◌++◌, map, codes, ◌==◌, ◌+◌, length}
+use Rattle.std.specs.Prelude.{ℕ, Bool, true, false, ◌&&◌, if◌then◌else◌, List, [], ◌∷◌, ◌++◌, map, codes, ◌==◌, ◌+◌}
+use Rattle.std.specs.Prelude.{length}
 use Rattle.std.specs.Str.{bytes_eq}
 use Rattle.box_policy.specs.declared.tokens.Sort.{Sort}
 use Rattle.box_policy.specs.declared.tokens.Sort.TheVariants.{Component, Command}

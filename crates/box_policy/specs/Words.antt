@@ -1,5 +1,6 @@
 -- The words of a policy, and what they stand for.
-use Rattle.std.specs.Prelude.{ℕ, ℤ, pos, int_le, unsigned_abs, Bool, true, false, ◌||◌, ◌&&◌, not, ◌==◌, if◌then◌else◌, List, [], Option, Some, None, option_and_then, is_some, codes}
+use Rattle.std.specs.Prelude.{ℕ, ℤ, pos, int_le, unsigned_abs, Bool, true, false, ◌||◌, ◌&&◌, not, ◌==◌, if◌then◌else◌}
+use Rattle.std.specs.Prelude.{List, [], Option, Some, None, option_and_then, is_some, codes}
 use Rattle.std.specs.List.{list_any}
 use Rattle.std.specs.Ordering.{int_eq}
 use Rattle.std.specs.Str.{bytes_eq}
@@ -33,7 +34,8 @@ has_limits Two = true
 -- the keys that a rule may have
 abbrev pub is_rule_key : Version → List ℕ → Bool
 is_rule_key version key =
-    bytes_eq key (codes "effect") || bytes_eq key (codes "kind") || bytes_eq key (codes "match") || bytes_eq key (codes "from")
+    bytes_eq key (codes "effect") || bytes_eq key (codes "kind") || bytes_eq key (codes "match")
+    || bytes_eq key (codes "from")
     || (bytes_eq key (codes "limit") && has_limits version)
 
 -- `*` or `?`
@@ -47,12 +49,14 @@ is_base (Some base) = is_absolute base && not (has_wildcard base) && is_some (no
 
 -- how often a rule may allow: a whole number from 1 to 1,000,000
 abbrev pub quota_named : ℤ → Option Quota
-quota_named z = if int_le (pos 1) z && int_le z (pos 1000000) then Some (record { limit = unsigned_abs z; used = 0 }) else None
+quota_named z =
+    if int_le (pos 1) z && int_le z (pos 1000000) then Some (record { limit = unsigned_abs z; used = 0 }) else None
 
 -- a rule that allows, with the limit that stands at its key, which may be absent
 abbrev pub allowing : Option Data → Option Effect
 allowing None = Some (Allow None)
-allowing (Some limit) = option_and_then (λ quota. Some (Allow (Some quota))) (option_and_then quota_named (as_integer limit))
+allowing (Some limit) =
+    option_and_then (λ quota. Some (Allow (Some quota))) (option_and_then quota_named (as_integer limit))
 
 -- a rule that denies, which may have no limit
 abbrev pub denying : Option Data → Option Effect
@@ -62,7 +66,8 @@ denying (Some limit) = None
 -- the effect of this word with this limit
 abbrev pub effect_named : Option Data → List ℕ → Option Effect
 effect_named limit word =
-    if bytes_eq word (codes "allow") then allowing limit else if bytes_eq word (codes "deny") then denying limit else None
+    if bytes_eq word (codes "allow") then allowing limit else if bytes_eq word (codes "deny") then denying limit
+    else None
 
 abbrev pub kind_named : List ℕ → Option Kind
 kind_named word =
@@ -76,7 +81,8 @@ kind_named word =
 
 -- whether a rule speaks of operand words alone
 abbrev pub from_named : List ℕ → Option Bool
-from_named word = if bytes_eq word (codes "any") then Some false else if bytes_eq word (codes "given") then Some true else None
+from_named word =
+    if bytes_eq word (codes "any") then Some false else if bytes_eq word (codes "given") then Some true else None
 
 abbrev pub effect_of : Members → Option Effect
 effect_of rule = option_and_then (effect_named (get_member (codes "limit") rule)) (text_at (codes "effect") rule)
@@ -100,8 +106,10 @@ from_of rule = from_in (kind_of rule) (get_member (codes "from") rule)
 -- no key but those of a rule, and each of these but `from` and `limit`
 abbrev pub has_rule_keys : Version → Members → Bool
 has_rule_keys version rule =
-    keys_pass (is_rule_key version) rule && (has_key (codes "effect") rule && (has_key (codes "kind") rule && has_key (codes "match") rule))
+    keys_pass (is_rule_key version) rule
+    && (has_key (codes "effect") rule && (has_key (codes "kind") rule && has_key (codes "match") rule))
 
 -- each value is one of those that it may be
 abbrev pub has_rule_values : Members → Bool
-has_rule_values rule = is_some (effect_of rule) && (is_some (kind_of rule) && (is_some (pattern_of rule) && is_some (from_of rule)))
+has_rule_values rule =
+    is_some (effect_of rule) && (is_some (kind_of rule) && (is_some (pattern_of rule) && is_some (from_of rule)))

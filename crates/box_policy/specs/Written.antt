@@ -16,7 +16,8 @@ pub record WritesRule (table : Members) (rule : Rule) : Type 0 where
   pub pattern : pattern_of table ≡ Some rule.pattern
   pub only_given : from_of table ≡ Some rule.only_given
 
--- the document writes the policy: nothing in it is refused, its base is the book's, and its tables write the rules in order
+-- the document writes the policy: nothing in it is refused, its base is the book's, and its tables write the rules in
+-- order
 pub record Writes (tree : Members) (book : Rulebook) : Type 0 where
   pub accepted : refusal tree ≡ None
   pub base : text_at (codes "base") tree ≡ Some book.base

@@ -2,7 +2,8 @@
 ghost use Rattle.std.specs.Prelude.{◌≡◌, map, nat_le};
 ghost use Rattle.std.specs.Option.{option_map};
 ghost use Rattle.box_policy.specs.Counts as spec;
-ghost use Rattle.box_policy.specs.Counts.{effect_cleared, effect_counted, is_limited_by, is_used_up_by, rule_at, rule_cleared, rules_noted, used_by};
+ghost use Rattle.box_policy.specs.Counts.{effect_cleared, effect_counted, is_limited_by, is_used_up_by, rule_at};
+ghost use Rattle.box_policy.specs.Counts.{rule_cleared, rules_noted, used_by};
 
 use crate::policy::{Effect, Quota, Rule};
 

@@ -19,9 +19,9 @@ fn is_literal(kind: Kind, text: &[u8]) -> bool
     }
 }
 
-/// Whether a rule of this kind may have the text as its `match`, and then fits the text alone: of a path, all texts of the
-/// same normal form. Patterns have no escapes, so no rule speaks of just a text that has a `*`, or in a path a `?`; nor may a
-/// pattern be longer than 4,096 bytes. Takes no memory.
+/// Whether a rule of this kind may have the text as its `match`, and then fits the text alone: of a path, all texts of
+/// the same normal form. Patterns have no escapes, so no rule speaks of just a text that has a `*`, or in a path a `?`;
+/// nor may a pattern be longer than 4,096 bytes. Takes no memory.
 pub fn is_exact(base: &[u8], kind: Kind, text: &[u8]) -> bool
     ensures { result ≡ is_exact base.now kind text.now }
 {

@@ -1,6 +1,7 @@
 // Patterns against subjects, in one walk over the subject and without memory: of each place in the
 // pattern a bit says whether the walk has reached it.
-ghost use Rattle.std.specs.Prelude.{◌≡◌, ℕ, ◌<◌, ◌≤◌, ◌+◌, ◌*◌, ◌++◌, ◌∷◌, [], length, map, List, MatchOption, Some, None, codes, replicate};
+ghost use Rattle.std.specs.Prelude.{◌≡◌, ℕ, ◌<◌, ◌≤◌, ◌+◌, ◌*◌, ◌++◌, ◌∷◌, [], length, map, List, MatchOption, Some};
+ghost use Rattle.std.specs.Prelude.{None, codes, replicate};
 ghost use Rattle.std.specs.List.{list_all};
 ghost use Rattle.std.specs.Str.{bytes_eq};
 ghost use Rattle.std.specs.Bool.{Decides};
@@ -28,7 +29,9 @@ use crate::tokens::{Element, Sort, Token, next_element};
 fn put_text(blocks: &mut [Block], mut at: usize, sort: Sort, pattern: &[u8]) -> usize
     requires { at + length pattern.now < 64 * length blocks.old }
     ensures len { length blocks.new ≡ length blocks.old }
-    ensures holds { (rest whole : List (SymbolOf TokenOf)) → Holds sort blocks.old at (map lifted (symbols sort pattern.now) ++ rest) whole → Holds sort blocks.new result rest whole }
+    ensures holds { (rest whole : List (SymbolOf TokenOf)) →
+        Holds sort blocks.old at (map lifted (symbols sort pattern.now) ++ rest) whole →
+        Holds sort blocks.new result rest whole }
     ensures small { result ≤ at + length pattern.now }
 {
     let mut left = pattern;
@@ -49,7 +52,9 @@ fn is_double_star(piece: &[u8]) -> bool
 fn put_piece(blocks: &mut [Block], at: usize, piece: &[u8]) -> usize
     requires { at + (length piece.now + 2) < 64 * length blocks.old }
     ensures len { length blocks.new ≡ length blocks.old }
-    ensures holds { (rest whole : List (SymbolOf TokenOf)) → Holds Component blocks.old at (piece_symbols piece.now ++ rest) whole → Holds Component blocks.new result rest whole }
+    ensures holds { (rest whole : List (SymbolOf TokenOf)) →
+        Holds Component blocks.old at (piece_symbols piece.now ++ rest) whole →
+        Holds Component blocks.new result rest whole }
     ensures small { result ≤ at + (length piece.now + 2) }
 {
     if is_double_star(piece) {
@@ -64,7 +69,9 @@ fn put_piece(blocks: &mut [Block], at: usize, piece: &[u8]) -> usize
 fn put_path(blocks: &mut [Block], pattern: &[u8]) -> usize
     requires { width (names pattern.now) < 64 * length blocks.old }
     ensures len { length blocks.new ≡ length blocks.old }
-    ensures holds { (rest whole : List (SymbolOf TokenOf)) → Holds Component blocks.old 0 (flat (names pattern.now) ++ rest) whole → Holds Component blocks.new result rest whole }
+    ensures holds { (rest whole : List (SymbolOf TokenOf)) →
+        Holds Component blocks.old 0 (flat (names pattern.now) ++ rest) whole →
+        Holds Component blocks.new result rest whole }
     ensures small { result ≤ width (names pattern.now) }
 {
     let mut at = 0;
@@ -80,8 +87,10 @@ fn put_path(blocks: &mut [Block], pattern: &[u8]) -> usize
 fn walk_name(blocks: &[Block], reached: &mut [u64], name: &[u8])
     requires { length blocks.now ≡ length reached.old }
     ensures len { length reached.new ≡ length reached.old }
-    ensures places { (symbols : List (SymbolOf TokenOf)) → (rest : List TokenOf) → IsTable Component blocks.now symbols → ones symbols < 64 * length reached.old
-        → reach (has reached.new) (row never symbols) rest ≡ reach (has reached.old) (row never symbols) (Open ∷ (map Byte name.now ++ (Close ∷ rest))) }
+    ensures places { (symbols : List (SymbolOf TokenOf)) → (rest : List TokenOf) →
+        IsTable Component blocks.now symbols → ones symbols < 64 * length reached.old
+        → reach (has reached.new) (row never symbols) rest
+        ≡ reach (has reached.old) (row never symbols) (Open ∷ (map Byte name.now ++ (Close ∷ rest))) }
 {
     step(blocks, reached, Token::Open, false);
     walk_text(blocks, reached, Sort::Component, name);
@@ -92,8 +101,10 @@ fn walk_name(blocks: &[Block], reached: &mut [u64], name: &[u8])
 fn walk_names(blocks: &[Block], reached: &mut [u64], mut subject: Names)
     requires { length blocks.now ≡ length reached.old }
     ensures len { length reached.new ≡ length reached.old }
-    ensures places { (symbols : List (SymbolOf TokenOf)) → IsTable Component blocks.now symbols → ones symbols < 64 * length reached.old
-        → reach (has reached.new) (row never symbols) [] ≡ reach (has reached.old) (row never symbols) (stream (names_left subject.entry)) }
+    ensures places { (symbols : List (SymbolOf TokenOf)) → IsTable Component blocks.now symbols →
+        ones symbols < 64 * length reached.old
+        → reach (has reached.new) (row never symbols) []
+        ≡ reach (has reached.old) (row never symbols) (stream (names_left subject.entry)) }
 {
     while let Some(name) = subject.next() {
         walk_name(blocks, reached, name);
@@ -108,7 +119,8 @@ fn text_leads(blocks: &[Block], reached: &mut [u64], last: usize, sort: Sort, te
     requires same { length blocks.now ≡ length reached.old }
     requires blank { reached.old ≡ replicate (length reached.old) 0 }
     requires room { last < 64 * length reached.old }
-    ensures { (symbols : List (SymbolOf TokenOf)) → IsTable sort blocks.now symbols → ones symbols ≡ last → result ≡ row_fits (row never symbols) (map Byte text.now) }
+    ensures { (symbols : List (SymbolOf TokenOf)) → IsTable sort blocks.now symbols → ones symbols ≡ last → result
+        ≡ row_fits (row never symbols) (map Byte text.now) }
 {
     start(reached);
     walk_text(blocks, reached, sort, text);
@@ -120,7 +132,8 @@ fn names_lead(blocks: &[Block], reached: &mut [u64], last: usize, subject: Names
     requires same { length blocks.now ≡ length reached.old }
     requires blank { reached.old ≡ replicate (length reached.old) 0 }
     requires room { last < 64 * length reached.old }
-    ensures { (symbols : List (SymbolOf TokenOf)) → IsTable Component blocks.now symbols → ones symbols ≡ last → result ≡ row_fits (row never symbols) (stream (names_left subject.entry)) }
+    ensures { (symbols : List (SymbolOf TokenOf)) → IsTable Component blocks.now symbols → ones symbols ≡ last → result
+        ≡ row_fits (row never symbols) (stream (names_left subject.entry)) }
 {
     start(reached);
     walk_names(blocks, reached, subject);
@@ -149,8 +162,8 @@ pub(crate) fn is_plain(sort: Sort, pattern: &[u8]) -> bool
     true
 }
 
-/// As `text_fits`, with `N` words for the places of the pattern. It stands out of line, so that a short pattern takes little of the
-/// stack.
+/// As `text_fits`, with `N` words for the places of the pattern. It stands out of line, so that a short pattern takes
+/// little of the stack.
 #[inline(never)]
 fn text_fits_in<const N: usize>(sort: Sort, pattern: &[u8], text: &[u8]) -> bool
     requires few { N ≤ 97 }
@@ -203,7 +216,8 @@ pub(crate) fn are_plain(pattern: &[u8]) -> bool
 
 /// What is left of the subject's components behind those of the base, where they begin with these.
 pub(crate) fn behind_base<'a>(base: &[u8], mut subject: Names<'a>) -> Option<Names<'a>>
-    ensures { MatchOption result (IsBehind (names base.now) (names_left subject.entry) None) (λ left. IsBehind (names base.now) (names_left subject.entry) (Some (names_left left))) }
+    ensures { MatchOption result (IsBehind (names base.now) (names_left subject.entry) None)
+        (λ left. IsBehind (names base.now) (names_left subject.entry) (Some (names_left left))) }
 {
     let mut rest = base;
     while let Some((piece, after)) = first_name(rest) {
@@ -231,8 +245,8 @@ fn are_same(pattern: &[u8], subject: Names) -> bool
     }
 }
 
-/// As `names_fit`, with `N` words for the places of the pattern. It stands out of line, so that a short pattern takes little of the
-/// stack.
+/// As `names_fit`, with `N` words for the places of the pattern. It stands out of line, so that a short pattern takes
+/// little of the stack.
 #[inline(never)]
 fn names_fit_in<const N: usize>(pattern: &[u8], subject: Names) -> bool
     requires few { N ≤ 97 }

@@ -1,5 +1,6 @@
 // The components of path names, one after another and without memory.
-ghost use Rattle.std.specs.Prelude.{◌≡◌, ◌==◌, ◌<◌, ◌∷◌, [], length, MatchOption, IfSome, ◌+◌, ◌≤◌, if◌then◌else◌, codes, position};
+ghost use Rattle.std.specs.Prelude.{◌≡◌, ◌==◌, ◌<◌, ◌∷◌, [], length, MatchOption, IfSome, ◌+◌, ◌≤◌, if◌then◌else◌};
+ghost use Rattle.std.specs.Prelude.{codes, position};
 ghost use Rattle.std.specs.List.{list_any};
 ghost use Rattle.std.specs.Str.{is_utf8, bytes_eq};
 ghost use Rattle.std.specs.Iterator.{YieldsFirstRef, item_count};
@@ -46,7 +47,8 @@ fn slash_at(text: &[u8]) -> Option<usize>
 
 /// The text up to its first slash, and what stands behind that slash.
 fn cut(text: &[u8]) -> (&[u8], &[u8])
-    ensures names { names text.now ≡ (if is_name result.0.now then result.0.now ∷ names result.1.now else names result.1.now) }
+    ensures names { names text.now
+        ≡ (if is_name result.0.now then result.0.now ∷ names result.1.now else names result.1.now) }
     ensures shorter { 0 < length text.now → length result.1.now < length text.now }
     ensures within { length result.0.now + length result.1.now ≤ length text.now }
 {

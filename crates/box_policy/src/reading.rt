@@ -1,18 +1,23 @@
 // A policy, read from its text.
-ghost use Rattle.std.specs.Prelude.{◌≡◌, ◌≤◌, ◌+◌, ℕ, true, None, Some, codes, length, is_some, option_map, IfOk, IfErr, IfSome, IsUtf8, ◌⊎◌, ◌||◌, ◌==◌, Option, if◌then◌else◌};
+ghost use Rattle.std.specs.Prelude.{◌≡◌, ◌≤◌, ◌+◌, ℕ, true, None, Some, codes, length, is_some, option_map, IfOk};
+ghost use Rattle.std.specs.Prelude.{IfErr, IfSome, IsUtf8, ◌⊎◌, ◌||◌, ◌==◌, Option, if◌then◌else◌};
 ghost use Rattle.std.specs.List.{AllZip, list_all};
 ghost use Rattle.toml.specs.Data.{Data, get_member};
 ghost use Rattle.toml.specs.Parse.{parse_document};
 ghost use Rattle.toml.specs.Text.{are_tables};
 ghost use Rattle.toml.specs.View.{view, table_view, items_view};
 ghost use Rattle.box_policy.specs.Tree.{text_at, has_key, keys_pass, is_tables, tables_in, tables_of};
-ghost use Rattle.box_policy.specs.Words.{allowing, denying, effect_named, effect_of, from_in, from_named, has_limits, has_rule_keys, has_wildcard, is_base, is_rule_key, is_top_key, kind_named, quota_named, version_named, version_of};
-ghost use Rattle.box_policy.specs.Wellformed.{has_double_star, is_component, is_path_pattern, is_command_pattern, is_name_pattern, is_pattern};
+ghost use Rattle.box_policy.specs.Words.{allowing, denying, effect_named, effect_of, from_in, from_named, has_limits};
+ghost use Rattle.box_policy.specs.Words.{has_rule_keys, has_wildcard, is_base, is_rule_key, is_top_key, kind_named};
+ghost use Rattle.box_policy.specs.Words.{quota_named, version_named, version_of};
+ghost use Rattle.box_policy.specs.Wellformed.{has_double_star, is_component, is_path_pattern, is_command_pattern};
+ghost use Rattle.box_policy.specs.Wellformed.{is_name_pattern, is_pattern};
 ghost use Rattle.box_policy.specs.Patterns.{is_name_byte};
 ghost use Rattle.box_policy.specs.Paths.{names};
 ghost use Rattle.box_policy.specs.Short.{are_short};
 ghost use Rattle.std.specs.Result.{result_err};
-ghost use Rattle.box_policy.specs.Refusals.{IsRefusedBy, no_document, no_memory, rule_refusal, rules_refusal, top_refusal};
+ghost use Rattle.box_policy.specs.Refusals.{IsRefusedBy, no_document, no_memory, rule_refusal, rules_refusal};
+ghost use Rattle.box_policy.specs.Refusals.{top_refusal};
 ghost use Rattle.box_policy.specs.Readings.{IsDocument, IsDraft};
 ghost use Rattle.box_policy.specs.Written.{WritesRule};
 
@@ -51,7 +56,8 @@ struct Draft<'a> {
 /// The document of the bytes.
 pub(crate) fn read_table(alloc: Global, bytes: &[u8]) -> Result<Table, PolicyError>
     ensures ok { IfOk result (λ table. IsUtf8 bytes.now × (parse_document bytes.now ≡ Some (table_view table))) }
-    ensures refused { IfErr result (λ e. (e ≡ no_memory) ⊎ ((e ≡ no_document) × (IsUtf8 bytes.now → parse_document bytes.now ≡ None))) }
+    ensures refused { IfErr result
+        (λ e. (e ≡ no_memory) ⊎ ((e ≡ no_document) × (IsUtf8 bytes.now → parse_document bytes.now ≡ None))) }
 {
     match toml::table_from_slice(alloc, bytes) {
         Ok(table) => Ok(table),
@@ -247,7 +253,8 @@ fn from_named(word: &str) -> Option<bool>
 }
 
 fn may_have_from(kind: Kind) -> bool
-    ensures { (found : Option Data) → from_in (Some kind) found ≡ (if result then from_in (Some Kind.Read) found else from_in (Some Kind.Write) found) }
+    ensures { (found : Option Data) → from_in (Some kind) found
+        ≡ (if result then from_in (Some Kind.Read) found else from_in (Some Kind.Write) found) }
 {
     match kind {
         Kind::Read | Kind::Assign => true,
@@ -364,8 +371,10 @@ fn are_tables(items: &[Value]) -> bool
 /// anything but tables in an array.
 fn rule_items(table: &Table) -> Option<&[Value]>
     ensures tables { is_some result ≡ is_tables (get_member (codes "rule") (table_view table.now)) }
-    ensures items { IfSome result (λ items. tables_in (items_view items.now) ≡ tables_of (get_member (codes "rule") (table_view table.now))) }
-    ensures count { IfSome result (λ items. length items.now ≡ length (tables_of (get_member (codes "rule") (table_view table.now)))) }
+    ensures items { IfSome result
+        (λ items. tables_in (items_view items.now) ≡ tables_of (get_member (codes "rule") (table_view table.now))) }
+    ensures count { IfSome result
+        (λ items. length items.now ≡ length (tables_of (get_member (codes "rule") (table_view table.now)))) }
 {
     let Some(value) = value_at(table, "rule") else {
         return Some(&[]);
@@ -450,7 +459,9 @@ fn read_rule(
     number: u32,
     table: &Table,
 ) -> Result<Rule, PolicyError>
-    ensures ok { IfOk result (λ rule. WritesRule (table_view table.now) rule × (rule_refusal version base.now number (table_view table.now) ≡ None)) }
+    ensures ok { IfOk result
+        (λ rule. WritesRule (table_view table.now) rule
+        × (rule_refusal version base.now number (table_view table.now) ≡ None)) }
     ensures refused { IfErr result (IsRefusedBy (rule_refusal version base.now number (table_view table.now))) }
 {
     let draft = read_draft(version, base, number, table)?;

@@ -1,5 +1,6 @@
 // The places of a pattern as bits of words, and a walk over them without memory.
-ghost use Rattle.std.specs.Prelude.{◌≡◌, ◌<◌, ◌≤◌, ◌+◌, ◌*◌, ◌&&◌, ◌||◌, ◌==◌, ◌++◌, [], ◌∷◌, ℕ, List, length, map, slice_set as set};
+ghost use Rattle.std.specs.Prelude.{◌≡◌, ◌<◌, ◌≤◌, ◌+◌, ◌*◌, ◌&&◌, ◌||◌, ◌==◌, ◌++◌, [], ◌∷◌, ℕ, List, length, map};
+ghost use Rattle.std.specs.Prelude.{slice_set as set};
 ghost use Rattle.std.specs.List.{list_all};
 ghost use Rattle.box_policy.specs.declared.tokens.Sort.{Sort as SortOf};
 ghost use Rattle.box_policy.specs.declared.tokens.Token.{Token as TokenOf};
@@ -80,7 +81,8 @@ fn is_run(element: Element) -> bool
 pub(crate) fn put(blocks: &mut [Block], at: usize, element: Element) -> usize
     requires { at < 64 * length blocks.old }
     ensures len { length blocks.new ≡ length blocks.old }
-    ensures holds { (sort : SortOf) → (rest whole : List (SymbolOf TokenOf)) → Holds sort blocks.old at (symbol_of sort element ∷ rest) whole → Holds sort blocks.new result rest whole }
+    ensures holds { (sort : SortOf) → (rest whole : List (SymbolOf TokenOf)) →
+        Holds sort blocks.old at (symbol_of sort element ∷ rest) whole → Holds sort blocks.new result rest whole }
     ensures small { result ≤ at + 1 }
 {
     blocks[at / 64].put(element, 1 << (at % 64));
@@ -92,7 +94,8 @@ pub(crate) fn put(blocks: &mut [Block], at: usize, element: Element) -> usize
 fn next_word(reached: u64, looping: u64, led: u64, carry: u64) -> u64
     requires { carry < 2 }
     ensures first { is_set result 0 ≡ ((is_set reached 0 && is_set looping 0) || is_set carry 0) }
-    ensures others { (j : ℕ) → j < 63 → is_set result (j + 1) ≡ ((is_set reached (j + 1) && is_set looping (j + 1)) || is_set led j) }
+    ensures others { (j : ℕ) → j < 63 → is_set result (j + 1)
+        ≡ ((is_set reached (j + 1) && is_set looping (j + 1)) || is_set led j) }
 {
     (reached & looping) | (led << 1) | carry
 }
@@ -115,7 +118,8 @@ fn led_from(reached: u64, leading: u64) -> u64
 pub(crate) fn step(blocks: &[Block], reached: &mut [u64], token: Token, in_class: bool)
     requires { length blocks.now ≡ length reached.old }
     ensures len { length reached.new ≡ length reached.old }
-    ensures places { (k : ℕ) → k < 64 * length reached.old → has reached.new k ≡ stepped reached.old (map (leads token in_class) blocks.now) (map (loops in_class) blocks.now) k }
+    ensures places { (k : ℕ) → k < 64 * length reached.old → has reached.new k
+        ≡ stepped reached.old (map (leads token in_class) blocks.now) (map (loops in_class) blocks.now) k }
 {
     let mut carry = 0;
     for i in 0..reached.len() {
@@ -136,8 +140,10 @@ pub(crate) fn is_none_reached(reached: &[u64]) -> bool
 pub(crate) fn walk_text(blocks: &[Block], reached: &mut [u64], sort: Sort, text: &[u8])
     requires { length blocks.now ≡ length reached.old }
     ensures len { length reached.new ≡ length reached.old }
-    ensures places { (symbols : List (SymbolOf TokenOf)) → (rest : List TokenOf) → IsTable sort blocks.now symbols → ones symbols < 64 * length reached.old
-        → reach (has reached.new) (row never symbols) rest ≡ reach (has reached.old) (row never symbols) (map Byte text.now ++ rest) }
+    ensures places { (symbols : List (SymbolOf TokenOf)) → (rest : List TokenOf) → IsTable sort blocks.now symbols →
+        ones symbols < 64 * length reached.old
+        → reach (has reached.new) (row never symbols) rest
+        ≡ reach (has reached.old) (row never symbols) (map Byte text.now ++ rest) }
 {
     for byte in text {
         step(

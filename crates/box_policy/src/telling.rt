@@ -22,8 +22,8 @@ fn is_of(rule: &Rule, kind: Kind) -> bool
 }
 
 impl Policy {
-    /// Whether the rule, which is one of this policy, speaks of the subject. How often it has allowed does not count. Takes no
-    /// memory.
+    /// Whether the rule, which is one of this policy, speaks of the subject. How often it has allowed does not count.
+    /// Takes no memory.
     pub fn speaks(&self, rule: &Rule, kind: Kind, subject: &[u8], given: bool) -> bool
         requires short { length rule.now.pattern ≤ 4096 }
         ensures { result ≡ spec_speaks self.now.base rule.now kind subject.now given }

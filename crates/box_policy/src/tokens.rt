@@ -78,7 +78,8 @@ fn starts_all(sort: Sort, pattern: &[u8]) -> bool
 #[tactic(auto, using(crate::proofs::ElementsLemmas::first_more))]
 /// The first element of a pattern, and what stands behind it.
 pub(crate) fn next_element(sort: Sort, pattern: &[u8]) -> Option<(Element, &[u8])>
-    ensures element { MatchOption result (symbols sort pattern.now ≡ []) (λ next. map lifted (symbols sort pattern.now) ≡ symbol_of sort next.0 ∷ map lifted (symbols sort next.1.now)) }
+    ensures element { MatchOption result (symbols sort pattern.now ≡ [])
+        (λ next. map lifted (symbols sort pattern.now) ≡ symbol_of sort next.0 ∷ map lifted (symbols sort next.1.now)) }
     ensures shorter { IfSome result (λ next. length next.1.now < length pattern.now) }
 {
     if starts_all(sort, pattern) {

@@ -1,6 +1,7 @@
 -- What a script asks of the world, as plain awk speaks of it: streams go by keys, never by numbers
 -- (POSIX.1-2017 XCU awk, "Input and Output").
-use Rattle.std.specs.Prelude.{ℕ, ◌^◌, List, [], ◌∷◌, ◌++◌, Bool, true, false, if◌then◌else◌, ◌&&◌, ◌==◌, Option, Some, None, unwrap_or, map}
+use Rattle.std.specs.Prelude.{ℕ, ◌^◌, List, [], ◌∷◌, ◌++◌, Bool, true, false, if◌then◌else◌, ◌&&◌, ◌==◌, Option, Some}
+use Rattle.std.specs.Prelude.{None, unwrap_or, map}
 use Rattle.std.specs.Str.{bytes_eq}
 use Rattle.awk_text.specs.declared.place.Place.{Place}
 use Rattle.box_world.specs.declared.ask.Ask.{Ask}
@@ -73,9 +74,11 @@ abbrev pub without_stream : Class → List ℕ → List Stream → List Stream
 without_stream class text [] = []
 without_stream class text (s ∷ ss) = if is_named class text s then ss else s ∷ without_stream class text ss
 
--- the open streams after one more event: an opening that succeeded adds its stream, a shutting ends it whatever the reply
+-- the open streams after one more event: an opening that succeeded adds its stream, a shutting ends it whatever the
+-- reply
 abbrev pub streams_after : Wish → Reply → List Stream → List Stream
-streams_after (Opens mode class text) (Opened n) streams = streams ++ (record { class = class; text = text; number = n }) ∷ []
+streams_after (Opens mode class text) (Opened n) streams =
+    streams ++ (record { class = class; text = text; number = n }) ∷ []
 streams_after (Shuts (Named class text)) reply streams = without_stream class text streams
 streams_after wish reply streams = streams
 

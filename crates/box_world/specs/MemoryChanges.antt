@@ -43,12 +43,14 @@ stream_read count stream = record stream { read = read_more stream.read count }
 
 abbrev pub with_read_from : ℕ → ℕ → Contents → Contents
 with_read_from n count store = record store {
-  streams = option_map_or (λ s. set_value (λ k. k == n) store.streams (stream_read count s)) (lookup (λ k. k == n) store.streams) store.streams;
+  streams = option_map_or (λ s. set_value (λ k. k == n) store.streams (stream_read count s))
+      (lookup (λ k. k == n) store.streams) store.streams;
 }
 
 -- so many bytes more were read
 abbrev pub with_read : ℕ → ℕ → Contents → Contents
-with_read n count store = if n == 0 then record store { read = read_more store.read count } else with_read_from n count store
+with_read n count store =
+    if n == 0 then record store { read = read_more store.read count } else with_read_from n count store
 
 -- what is put to a stream goes to the end of its file, or to its command
 abbrev pub with_put_to : Mode → List ℕ → List ℕ → Contents → Contents

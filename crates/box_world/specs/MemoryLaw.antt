@@ -23,5 +23,6 @@ Leads-append u v w xs ys p q = record {
   numbers = q.numbers ∙ ap (open_after ys) p.numbers ∙ sym (open_after-append xs ys (numbers_of u));
 }
 
-pub Leads-open : (v w : MemoryState) (calls : List Call) → Leads v calls w → numbers_of w ≡ open_after calls (numbers_of v)
+pub Leads-open : (v w : MemoryState) (calls : List Call) → Leads v calls w → numbers_of w
+    ≡ open_after calls (numbers_of v)
 Leads-open v w calls p = p.numbers

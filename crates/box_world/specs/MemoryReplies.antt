@@ -1,5 +1,6 @@
 -- What a world in memory answers.
-use Rattle.std.specs.Prelude.{ℕ, ℤ, pos, ◌+◌, ◌^◌, ◌==◌, ◌&&◌, ◌||◌, nat_le, nat_lt, Bool, true, false, if◌then◌else◌, List, [], ◌∷◌, length, take, drop, Option, Some, None, is_some, unwrap_or}
+use Rattle.std.specs.Prelude.{ℕ, ℤ, pos, ◌+◌, ◌^◌, ◌==◌, ◌&&◌, ◌||◌, nat_le, nat_lt, Bool, true, false, if◌then◌else◌}
+use Rattle.std.specs.Prelude.{List, [], ◌∷◌, length, take, drop, Option, Some, None, is_some, unwrap_or}
 use Rattle.std.specs.Map.{lookup}
 use Rattle.std.specs.Option.{option_map_or}
 use Rattle.std.specs.Str.{bytes_eq}
@@ -39,7 +40,8 @@ next_of chunk [] = End
 next_of chunk (b ∷ bs) = Bytes (take chunk (b ∷ bs))
 
 abbrev pub reading_of : Stream → Contents → Reply
-reading_of stream store = option_map_or (λ text. next_of store.chunk (drop stream.read text)) (source stream.mode stream.text store) Failed
+reading_of stream store =
+    option_map_or (λ text. next_of store.chunk (drop stream.read text)) (source stream.mode stream.text store) Failed
 
 abbrev pub reading_from : ℕ → Contents → Reply
 reading_from n store = option_map_or (λ stream. reading_of stream store) (lookup (λ k. k == n) store.streams) Failed
@@ -72,7 +74,8 @@ shutting_of RunOut text store = Status (status_of text store.commands)
 shutting_of mode text store = Done
 
 abbrev pub shutting : ℕ → Contents → Reply
-shutting n store = option_map_or (λ stream. shutting_of stream.mode stream.text store) (lookup (λ k. k == n) store.streams) Done
+shutting n store =
+    option_map_or (λ stream. shutting_of stream.mode stream.text store) (lookup (λ k. k == n) store.streams) Done
 
 abbrev pub value_of : List ℕ → Contents → Reply
 value_of name store = option_map_or (λ text. Value text) (lookup (bytes_eq name) store.environment) Failed

@@ -1,5 +1,5 @@
--- What stands under texts: a list of pairs in which no text comes twice, in the order in which they were first put there.
--- Texts are compared byte by byte.
+-- What stands under texts: a list of pairs in which no text comes twice, in the order in which they were first put
+-- there. Texts are compared byte by byte.
 use Rattle.std.specs.Prelude.{ℕ, List, [], ◌∷◌, ◌++◌, if◌then◌else◌, is_some}
 use Rattle.std.specs.Map.{lookup}
 use Rattle.std.specs.Str.{bytes_eq}

@@ -292,7 +292,8 @@ base = \"/w\"
 rule = [{ effect = \"allow\", kind = \"write\", match = \"/etc/*\", limit = 2 }]
 ";
 
-// How often the one rule has allowed once this world was asked for the file that it allows, as the monitor gives it back.
+// How often the one rule has allowed once this world was asked for the file that it allows, as the monitor gives it
+// back.
 fn used_by(alloc: Global, world: FakeWorld) -> Result<u64, Fail> {
     let policy = Policy::read(alloc, TWO_WRITES)?;
     let ask = denied(alloc)?;
@@ -356,7 +357,8 @@ fn refused_memory_changes_nothing(rt: HostRuntime) -> Result<(), Fail> {
     Ok(())
 }
 
-// Run with each allocation refused in turn: the world behind answers what is allowed, whatever memory the monitor had for its own.
+// Run with each allocation refused in turn: the world behind answers what is allowed, whatever memory the monitor had
+// for its own.
 #[test]
 fn an_allowed_ask_needs_no_memory(rt: HostRuntime) -> Result<(), Fail> {
     let alloc = rt.alloc();

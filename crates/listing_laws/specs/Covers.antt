@@ -52,18 +52,23 @@ AllAllowed book (e ∷ es) = (denial_after book es e.want ≡ None) × AllAllowe
 -- each request of each run that a policy could deny, after some events, is covered by a site of the listing
 abbrev pub AllCovered : Type 0
 AllCovered =
-    (g : Given) (order : List Sort) (sites : List Site) (events : List Event) (o : Outcome) (n : ℕ) (last : Option Want) →
+    (g : Given) (order : List Sort) (sites : List Site) (events : List Event) (o : Outcome) (n : ℕ) (last : Option Want)
+    →
     IsListing g.program order g.names_environ sites → Plays g events o n last → All (IsCovered sites) events
 
 -- of a script that is clean under a policy, no run has a request that the policy denies
 abbrev pub NoneDenied : Type 0
 NoneDenied =
-    (g : Given) (order : List Sort) (book : Rulebook) (sites : List Site) (events : List Event) (o : Outcome) (n : ℕ) (last : Option Want) →
-    IsListing g.program order g.names_environ sites → verdict book sites ≡ Clean → Plays g events o n last → AllAllowed book events
+    (g : Given) (order : List Sort) (book : Rulebook) (sites : List Site) (events : List Event) (o : Outcome) (n : ℕ)
+    (last : Option Want) →
+    IsListing g.program order g.names_environ sites → verdict book sites ≡ Clean → Plays g events o n last →
+    AllAllowed book events
 
--- a site that is refused has a text, and what it covers is denied after whatever events, where it is no operand that was given
+-- a site that is refused has a text, and what it covers is denied after whatever events, where it is no operand that
+-- was given
 abbrev pub RefusedDenied : Type 0
 RefusedDenied =
-    (book : Rulebook) (sites refused : List Site) (site : Site) (events : List Event) (place : Place) (subject : Subject) →
+    (book : Rulebook) (sites refused : List Site) (site : Site) (events : List Event) (place : Place)
+    (subject : Subject) →
     verdict book sites ≡ Refused refused → Contains refused site → Covers site place subject →
     IsSome site.text × IsSome (denial_at (after_events book events) place false (Some subject))

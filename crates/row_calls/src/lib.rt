@@ -1,5 +1,5 @@
-//! The calls of worked rows: how a row is read, what a call takes from it and how its answer is told, and for each table a module
-//! with its calls. No part of the product.
+//! The calls of worked rows: how a row is read, what a call takes from it and how its answer is told, and for each
+//! table a module with its calls. No part of the product.
 #![tactic(auto)]
 
 pub mod args;

@@ -4,7 +4,8 @@ ghost use Rattle.std.specs.Map.{keys_of, lookup};
 ghost use Rattle.std.specs.Option.{option_copied};
 ghost use Rattle.std.specs.Str.{bytes_eq};
 ghost use Rattle.box_world.specs.Calls.{IsFitting, IsOpening, IsReading, IsDoing, IsShutting, IsStatus, IsValuing};
-ghost use Rattle.box_world.specs.MemoryChanges.{files_made, fed_made, left_by, stream_read, with_end, with_open, with_put, with_read, with_read_from, with_shut};
+ghost use Rattle.box_world.specs.MemoryChanges.{files_made, fed_made, left_by, stream_read, with_end, with_open};
+ghost use Rattle.box_world.specs.MemoryChanges.{with_put, with_read, with_read_from, with_shut};
 ghost use Rattle.box_world.specs.MemoryNumbers.{GivesNext};
 ghost use Rattle.box_world.specs.MemoryReplies as spec;
 ghost use Rattle.box_world.specs.MemoryReplies.{next_of, output_of, plain_reply};
@@ -212,7 +213,8 @@ impl Store {
     }
 
     pub fn put_env(&mut self, name: Octets, value: Octets) -> Result<(), Memory>
-        ensures ok { OnOk result (self.new ≡ record self.old { environment = with_text name value self.old.environment }) }
+        ensures ok { OnOk result
+            (self.new ≡ record self.old { environment = with_text name value self.old.environment }) }
         ensures err { OnErr result (self.new ≡ self.old) }
     {
         self.environment.put(name, value)
