@@ -31,7 +31,7 @@ use Rattle.awk_parse.proofs.EndLaws.{Finished, finished, open_form, ended_form, 
 use Rattle.awk_parse.proofs.Looks.{Looks, Elses, Blind, ahead_looks, begins, begins_some, skip_begins, brace_begins, simple_look, simple_steady, near_looks, elses_before, else_skip, no_else_at}
 use Rattle.awk_parse.proofs.Until.{listing, Stops, until_law}
 use Rattle.awk_parse.proofs.Steps.{weaker_known_at, last_known_at, by_look_at, looks_at, took_exactly, skipped_blind}
-use Rattle.awk_parse.proofs.StatementLaws.{statement_form, body_form, inside, Inside, in_braces, inside_form, Within, if_law, while_law, do_law, for_law}
+use Rattle.awk_parse.proofs.StatementLaws.{statement_form, body_form, inner_tokens, Inside, in_braces, inside_form, Within, if_law, while_law, do_law, for_law}
 
 -- ---- what the lists of a block compute to
 
@@ -89,7 +89,7 @@ module _ (n depth : ℕ) (inner : Goal → Parser Tree) (deeper : Inner n depth 
   block_spells : (us vs : List Token) (t : Token) (s : Statement) (rest : List Token) → This w.OpenBrace us t (vs ++ rest) → Inside n vs s rest → SpellsStatement n (us ++ vs) s rest
   block_spells _ _ _ _ _ (this t _ h) (in_braces _ xs rest opens (closed c us _ _ k b)) = r.a_block n t c us xs rest h k opens b
 
-  block_whole : (us : List Token) (t : Token) (s : Statement) (rest : List Token) → Inside n us s rest → canon_statement s ≡ open_brace.plain t ++ inside s
+  block_whole : (us : List Token) (t : Token) (s : Statement) (rest : List Token) → Inside n us s rest → canon_statement s ≡ open_brace.plain t ++ inner_tokens s
   block_whole _ t _ _ (in_braces us xs rest opens k) = refl
 
   block_at : (ts : List Token) → look ts ≡ w.OpenBrace → At Looks Elses (statement_form n) (any >>= λ _. body nested.Braces) ts

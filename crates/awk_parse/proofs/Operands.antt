@@ -169,7 +169,7 @@ module _ (n depth : ℕ) (inner : Goal → Parser Tree) (deeper : Inner n depth 
       (if_at Near Near perhaps_lists (is (ahead ts) w.CloseParen) (pure []) (e.list depth inner) ts (λ h. pure_at Near perhaps_lists [] ts refl refl (g.no_argument (suc n) ts))
       (λ h. weaker_at Near Near lists perhaps_lists (e.list depth inner) ts (λ _. refl) (λ _. refl) (λ us xs rest k. g.some_arguments (suc n) us xs rest k.1) (list_law ts)))
 
-  -- what a token before it inside
+  -- what a token before it opened
   abbrev pub opened_form : {A : Type 0} → Form A → Form A
   opened_form a = record { plain = a.plain; bare = a.bare; spells = λ us x rest. Opens n × a.spells us x rest }
 

@@ -105,15 +105,15 @@ module _ (n : ℕ) where
   test_form = record { plain = λ x. sign (codes "(") ∷ canon x ++ sign (codes ")") ∷ []; bare = bare; spells = Test n }
 
 -- a block without its `{`, whose statements are a level deeper
-abbrev pub inside : Statement → List Token
-inside (tree.block xs) = canon_statements xs ++ sign (codes "}") ∷ []
-inside other = []
+abbrev pub inner_tokens : Statement → List Token
+inner_tokens (tree.block xs) = canon_statements xs ++ sign (codes "}") ∷ []
+inner_tokens other = []
 
 pub data Inside (n : ℕ) : List Token → Statement → List Token → Type 0 where
   in_braces : (us : List Token) (xs : List Statement) (rest : List Token) → Opens n → Closed w.CloseBrace (Block (suc n)) us xs rest → Inside n us (tree.block (statements_of xs)) rest
 
 abbrev pub inside_form : ℕ → Form Statement
-inside_form n = record { plain = inside; bare = bare_statement; spells = Inside n }
+inside_form n = record { plain = inner_tokens; bare = bare_statement; spells = Inside n }
 
 -- what is read of statements one level deeper
 pub record Within (n : ℕ) (body : Nested → Parser Statement) : Type 0 where
