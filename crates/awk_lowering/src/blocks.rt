@@ -1,12 +1,11 @@
 // Statements of parts that are made already. A part that was refused refuses the whole.
 
-ghost use Rattle.std.specs.Prelude.{◌≡◌, List, Option, Some};
+ghost use Rattle.std.specs.Prelude.{List, Option, Some};
 ghost use Rattle.awk_lowering.specs.Forms as forms;
-ghost use Rattle.awk_lowering.specs.LoweredStatements as low;
 ghost use Rattle.awk_lowering.specs.Made.{Is, IsPerhaps, AreAll, AreRedirected, AreStatements, IsStatement, IsVariable};
 ghost use Rattle.awk_program.specs.Program as p;
 ghost use Rattle.awk_program.specs.Program.{Expression, statements_of};
-ghost use Rattle.awk_program.specs.View.{Names, view_statement};
+ghost use Rattle.awk_program.specs.View.{Names};
 ghost use Rattle.awk_program.specs.declared.statements.Redirection as redirection;
 
 use crate::kept::{both, four, three, unboxed};

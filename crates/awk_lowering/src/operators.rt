@@ -10,7 +10,9 @@ ghost use Rattle.awk_program.specs.declared.builtins.Builtin.TheVariants as f;
 use crate::kept::{both, boxed, only};
 use crate::nodes::{builtin_of, not_of, read_of};
 use crate::targets::record_of;
-use awk_program::{Builtin, Comparison, Expr, Extent, Jump, Operator, Redirect, Sign, Step, Target};
+use awk_program::{
+    Builtin, Comparison, Expr, Extent, Jump, Operator, Redirect, Sign, Step, Target,
+};
 use awk_text::Memory;
 use awk_text::place::Place;
 use awk_tree::{Arithmetic, Assignment};
