@@ -1,6 +1,7 @@
 # Completion of awkbox for bash.
 _awkbox() {
     local word=${COMP_WORDS[COMP_CWORD]} before=${COMP_WORDS[COMP_CWORD-1]} options
+    local commands='run list check why lint propose'
     COMPREPLY=()
     # bash cuts a word at each = into three
     if [ "$word" = = ]; then
@@ -9,7 +10,7 @@ _awkbox() {
         before=${COMP_WORDS[COMP_CWORD-2]}
     fi
     case $before in
-    -C)
+    -C | --base)
         compopt -o filenames 2>/dev/null
         mapfile -t COMPREPLY < <(compgen -d -- "$word")
         return
@@ -22,7 +23,7 @@ _awkbox() {
     --log-limit | --steps | -F | -v) return ;;
     esac
     if [ "$COMP_CWORD" -eq 1 ]; then
-        mapfile -t COMPREPLY < <(compgen -W 'run list check why lint --help --version' -- "$word")
+        mapfile -t COMPREPLY < <(compgen -W "$commands help --help --version" -- "$word")
         return
     fi
     case " ${COMP_WORDS[*]:2:COMP_CWORD-2} " in
@@ -38,6 +39,8 @@ _awkbox() {
     check) options='--policy -f --help' ;;
     why) options='--policy --given read write append run env assign --help' ;;
     lint) options='--policy --help' ;;
+    propose) options='--base --policy --log -f --help' ;;
+    help) options=$commands ;;
     *) options= ;;
     esac
     mapfile -t COMPREPLY < <(compgen -W "$options" -- "$word")

@@ -1307,6 +1307,179 @@ lints "warnings" "$p:9: warning: rule 2: no request reaches it: rule 1 decides a
 $p:19: warning: rule 4: allow read reaches /proc
 $p:14: warning: rule 3: * lets options of sort through, which write files or start commands$line" 0
 
+# Policies that are proposed.
+
+# proposed NAME LINES STATUS ERRORS WORD..: whether a proposal is this
+proposed() {
+    local name=$1 lines=$2 wanted=$3 errors=$4
+    shift 4
+    awkbox propose "$@"
+    told "$wanted" "$lines" "$errors"
+    verdict "$name"
+}
+# rule_of KIND MATCH: an allow rule as it is proposed
+rule_of() { printf '[[rule]]\neffect = "allow"\nkind = "%s"\nmatch = "%s"\n' "$1" "$2"; }
+script 'BEGIN {
+    print > "out/a"
+    print > "./out//a"
+    print >> "out/b*"
+    system("sort \"-n\"")
+    print | $1
+    while ((getline l < "../in") > 0) n++
+    print > "out/archive/c"
+}'
+f=$work/script.awk
+proposed "a policy for a script" "version = 1
+base = \"/w\"
+
+# 2:11
+$(rule_of write out/a)
+
+# 4:11 append \"out/b*\": a pattern has no escapes, so that * and ? stand for other bytes
+
+# 5:5
+$(rule_of run 'sort \"-n\"')
+
+# 6:11 run *: only a run can tell the text
+
+# 7:13 read \"../in\": a component .. is never folded
+
+# 8:11
+$(rule_of write out/archive/c)$line" 0 "" --base /w -f "$f"
+awkbox propose --base /w -f "$f"
+cp "$work/output" "$work/proposed.toml"
+awkbox lint --policy "$work/proposed.toml"
+told 0 "" ""
+verdict "a proposal is a policy"
+awkbox check --policy "$work/proposed.toml" -f "$f"
+told 1 "refused
+4:11 append \"out/b*\"
+7:13 read \"../in\"$line" ""
+verdict "a proposal allows what a pattern can hold"
+proposed "a proposal of a proposal adds comments alone" "$(cat "$work/proposed.toml")
+
+# 4:11 append \"out/b*\": a pattern has no escapes, so that * and ? stand for other bytes
+
+# 6:11 run *: only a run can tell the text
+
+# 7:13 read \"../in\": a component .. is never folded$line" 0 "" --policy "$work/proposed.toml" -f "$f"
+
+printf 'version = 2 # kept\nbase = "/w"\n\n[[rule]]\neffect = "deny"\nkind = "write"\nmatch = "out/archive/**"\n[[rule]]\neffect = "allow"\nkind = "run"\nmatch = "sort **"\nlimit = 3' >"$p"
+proposed "a policy for a script beside a policy" "$(cat "$p")
+
+# 2:11
+$(rule_of write out/a)
+
+# 4:11 append \"out/b*\": a pattern has no escapes, so that * and ? stand for other bytes
+
+# 6:11 run *: only a run can tell the text
+
+# 7:13 read \"../in\": a component .. is never folded
+
+# 8:11 write \"out/archive/c\": rule 1 denies it$line" 0 "" --base /w --policy "$p" -f "$f"
+proposed "a proposal under another base" "" 3 "awkbox: the policy has another base$line" --base /w/ --policy "$p" -f "$f"
+proposed "a proposal of nothing" "$(cat "$p")$line" 0 "" --policy "$p"
+
+cat >"$work/log" <<'END'
+0:0 read none "in/a"
+0:0 read 7 "in/a"
+3:1 run none "printf '\x5cn' \x22\x0a\xc3\xa4\x22"
+3:1 run none "\xff"
+0:0 env none "HOME"
+0:0 env none "A.B"
+9:9 run none "sort -n"
+4:4 write 1 "./out/archive/d"
+END
+proposed "a policy for a log" "$(cat "$p")
+
+# line 1 of the log
+$(rule_of read in/a)
+
+# line 3 of the log
+$(rule_of run "printf '\\\\n' \\\"\\nä\\\"")
+
+# line 4 of the log run \"\\xff\": it is not UTF-8
+
+# line 5 of the log
+$(rule_of env HOME)
+
+# line 6 of the log env \"A.B\": a name's pattern has letters, digits and _ alone
+
+# line 8 of the log write \"./out/archive/d\": rule 1 denies it$line" 0 "" --policy "$p" --log "$work/log"
+awkbox propose --policy "$p" --log "$work/log"
+cp "$work/output" "$work/proposed.toml"
+awkbox why --policy "$work/proposed.toml" run "$(printf 'printf '"'"'\\n'"'"' "\nä"')"
+[ "$status" -eq 0 ] && tail -n 1 "$work/output" | grep -q "^allow: rule 4 "
+verdict "a command of a log is allowed"
+
+printf 'version = 1\nbase = "/w"\n[[rule]]\neffect = "deny"\nkind = "read"\nmatch = "**"\nfrom = "given"\n' >"$p"
+printf '0:0 read none "a"\n1:1 read none "b"\n' >"$work/log"
+proposed "an operand may have been given" "$(cat "$p")
+
+# line 1 of the log read \"a\": rule 1 denies it
+
+# line 2 of the log
+$(rule_of read b)$line" 0 "" --policy "$p" --log "$work/log"
+
+printf 'version = 1\nbase = "/w"\nrule = [{ effect = "allow", kind = "env", match = "A" }] # in one value\n' >"$p"
+printf '0:0 env none "B"\n' >"$work/log"
+proposed "rules in one value are written anew" "version = 1
+base = \"/w\"
+
+$(rule_of env A)
+
+# line 1 of the log
+$(rule_of env B)$line" 0 "" --policy "$p" --log "$work/log"
+
+for wrong in 'a' '1:1 read none a' '1:1 read none "a' '1:1 read none "\x61"' '1:1 read none "\x2"' '1:1 reed none "a"' '1:x read none "a"' '1:1 read some "a"' '1:1 read none "a" '; do
+    printf '0:0 env none "B"\n%s\n' "$wrong" >"$work/log"
+    proposed "a log with the line $wrong" "" 3 "awkbox: line 2 of the log is none that a run writes$line" --base /w --log "$work/log"
+done
+: >"$work/log"
+proposed "an empty log" "version = 1
+base = \"/w\"$line" 0 "" --base /w --log "$work/log"
+proposed "a log that is not there" "" 3 "awkbox: cannot read \"$work/none\"$line" --base /w --log "$work/none"
+proposed "a base that is none" "" 3 "awkbox: policy P3$line" --base w
+printf 'version = 1\nbase = "/w"\nrules = 1\n' >"$p"
+proposed "a policy that is refused" "" 3 "awkbox: policy P4$line" --policy "$p"
+for number in {1..1025}; do
+    printf '0:0 env none "A%d"\n' "$number"
+done >"$work/log"
+proposed "a proposal of too many rules" "" 3 "awkbox: the policy would have more than 1024 rules$line" --base /w --log "$work/log"
+head -n 1024 "$work/log" >"$work/less"
+awkbox propose --base /w --log "$work/less"
+cp "$work/output" "$work/proposed.toml"
+awkbox lint --policy "$work/proposed.toml"
+[ "$status" -eq 0 ] && [ "$(grep -c '^\[\[rule\]\]$' "$work/proposed.toml")" -eq 1024 ]
+verdict "a proposal of as many rules as a policy may have"
+script 'BEGIN { print > }'
+proposed "a proposal for a script that is refused" "" 3 "awkbox: script 1:17 S4$line" --base /w -f "$f"
+
+# The examples of docs/POLICY.md, over its first policy.
+page=$work/page
+mkdir "$page"
+sed -n '/^```toml$/,/^```$/{/^```toml/d;/^```/q;p}' "$top/docs/POLICY.md" >"$page/reports.toml"
+cat >"$page/report.awk" <<'END'
+BEGIN {
+	while ((getline < "rates.txt") > 0) rate[$1] = $2
+	print "total 12" > "out/totals.txt"
+	print "total 13" > "out/archive/2025.txt"
+	"date -d " month | getline day
+}
+END
+echo '7:3 read none "in/*.csv"' >"$page/denials.log"
+# shown COMMAND: what the page shows of it
+shown() { sed -n "/^\\$ awkbox $1 /,/^\`\`\`/{/^[\$\`]/!p}" "$top/docs/POLICY.md"; }
+: >"$work/errors"
+(
+    cd "$page" || exit 1
+    "$program" why --policy reports.toml write ./out//archive/2025.txt >"$work/output" 2>&1
+    holds "$work/output" "$(shown why)$line" || exit 1
+    "$program" propose --policy reports.toml -f report.awk --log denials.log 2>&1 | tail -n 11 >"$work/output"
+    holds "$work/output" "$(shown propose)$line"
+)
+verdict "the examples of docs/POLICY.md"
+
 script 'BEGIN { system("id") }'
 "$program" list -f "$work/script.awk" >/dev/full 2>"$work/errors"
 status=$?
@@ -1355,7 +1528,7 @@ awkbox --help
 [ "$status" -eq 0 ] && grep -q '^Usage: awkbox <COMMAND>' "$work/output" && [ ! -s "$work/errors" ]
 verdict "the help"
 
-for command in run list check why lint; do
+for command in run list check why lint propose; do
     awkbox "$command" --help
     [ "$status" -eq 0 ] && grep -q "^Usage: awkbox $command " "$work/output" && [ ! -s "$work/errors" ]
     verdict "the help of $command"
@@ -1388,6 +1561,7 @@ flat() {
     "$program" check --help
     "$program" why --help
     "$program" lint --help
+    "$program" propose --help
 } >"$work/helps"
 facts=0
 differing=
@@ -1550,6 +1724,8 @@ for shell in bash zsh; do
     verdict "$shell finds the file of a report"
     typed "$shell" "run -f f -- pol" run -f f -- policy.toml && typed "$shell" "run -f f pol" run -f f pol
     verdict "$shell finds operands behind -- alone"
+    typed "$shell" "help pro" help propose
+    verdict "$shell finds the commands behind help"
 done
 
 script 'BEGIN { print "hi" }'
@@ -1604,6 +1780,10 @@ fault "a policy of list" list --policy p -f f
 fault "a kind that is not known" why --policy p open a
 fault "a text that is missing" why --policy p read
 fault "a script of lint" lint --policy p -f f
+fault "a proposal under no base" propose -f f
+fault "an operand of a proposal" propose --base /w -- a
+fault "a policy and a script of a proposal that are the standard input" propose --policy - -f -
+fault "a script and a log of a proposal that are the standard input" propose --base /w --log - -f -
 
 # Nests.
 

@@ -36,6 +36,16 @@ pub struct Why<'a> {
     pub given: bool,
 }
 
+/// What `awkbox propose` is asked for: a policy that allows what this script may ask for and what this log tells of, under this
+/// base, or behind the rules of the policy of this file. One of base and policy is there.
+#[derive(Debug, Drop)]
+pub struct Propose<'a> {
+    pub base: Option<&'a str>,
+    pub policy: Option<&'a str>,
+    pub script: Option<&'a str>,
+    pub log: Option<&'a str>,
+}
+
 /// What the program is asked for. Policy and script are names of files.
 #[derive(Debug, Drop)]
 pub enum Asked<'a> {
@@ -44,6 +54,7 @@ pub enum Asked<'a> {
     Check { policy: &'a str, script: &'a str },
     Why(Why<'a>),
     Lint { policy: &'a str },
+    Propose(Propose<'a>),
 }
 
 /// The name that users know the program by, whatever the file is called that runs.
@@ -147,6 +158,16 @@ fn given<'a>(alloc: Global) -> Arg<'a> {
         .help("It is an operand that the run was started with")
 }
 
+fn base<'a>(alloc: Global) -> Arg<'a> {
+    let help = "What relative names stand under; it may be absent beside a policy, which has one";
+    option(alloc, "base", "DIR", help).long("base")
+}
+
+fn denials<'a>(alloc: Global) -> Arg<'a> {
+    let help = "A log of denials, which are to be allowed";
+    option(alloc, "log", "FILE", help).long("log")
+}
+
 fn steps<'a>(alloc: Global) -> Arg<'a> {
     let help = "How many steps the run may take, up to 1000000000000";
     option(alloc, "steps", "N", help)
@@ -224,6 +245,16 @@ fn lint_command<'a>(alloc: Global) -> Result<Command<'a>, AllocError> {
         .arg(policy(alloc))
 }
 
+fn propose_command<'a>(alloc: Global) -> Result<Command<'a>, AllocError> {
+    Command::new(alloc, "propose")
+        .about("Writes a policy that allows what a script may ask for, or what a log tells of")
+        .after_help(TOLD_STATUSES)
+        .arg(base(alloc))?
+        .arg(policy(alloc).required(false))?
+        .arg(denials(alloc))?
+        .arg(script(alloc).required(false))
+}
+
 fn command<'a>(alloc: Global) -> Result<Command<'a>, AllocError> {
     Command::new(alloc, NAME)
         .bin_name(NAME)?
@@ -234,7 +265,8 @@ fn command<'a>(alloc: Global) -> Result<Command<'a>, AllocError> {
         .subcommand(list_command(alloc)?)?
         .subcommand(check_command(alloc)?)?
         .subcommand(why_command(alloc)?)?
-        .subcommand(lint_command(alloc)?)
+        .subcommand(lint_command(alloc)?)?
+        .subcommand(propose_command(alloc)?)
 }
 
 // Digits alone, where `parse` would take a sign too.
@@ -297,6 +329,20 @@ fn sources_of<'a>(alloc: Global, matches: &ArgMatches<'a>) -> Result<(&'a str, &
     Ok((policy, script))
 }
 
+// Whether more than one of these files is the standard input.
+fn share_input(files: [Option<&str>; 3]) -> bool {
+    let mut is_taken = false;
+    for file in files {
+        if file == Some(STANDARD_INPUT) {
+            if is_taken {
+                return true;
+            }
+            is_taken = true;
+        }
+    }
+    false
+}
+
 fn run_of<'a>(alloc: Global, matches: &ArgMatches<'a>) -> Result<Run<'a>, Error> {
     let (policy, script) = sources_of(alloc, matches)?;
     Ok(Run {
@@ -328,6 +374,22 @@ fn why_of<'a>(alloc: Global, matches: &ArgMatches<'a>, policy: &'a str) -> Resul
     })
 }
 
+fn propose_of<'a>(alloc: Global, matches: &ArgMatches<'a>) -> Result<Propose<'a>, Error> {
+    let asked = Propose {
+        base: matches.get_str("base"),
+        policy: matches.get_str("policy"),
+        script: matches.get_str("script"),
+        log: matches.get_str("log"),
+    };
+    if asked.base.is_none() && asked.policy.is_none() {
+        return Err(fault(alloc, "one of --base and --policy is needed"));
+    }
+    if share_input([asked.policy, asked.script, asked.log]) {
+        return Err(fault(alloc, "only one file is the standard input"));
+    }
+    Ok(asked)
+}
+
 fn asked_of<'a>(alloc: Global, matches: &ArgMatches<'a>) -> Result<Asked<'a>, Error> {
     let Some((name, matches)) = matches.subcommand() else {
         return Err(fault(alloc, "a command is missing"));
@@ -338,6 +400,9 @@ fn asked_of<'a>(alloc: Global, matches: &ArgMatches<'a>) -> Result<Asked<'a>, Er
     if name == "list" {
         let script = value_of(alloc, matches, "script")?;
         return Ok(Asked::List { script });
+    }
+    if name == "propose" {
+        return Ok(Asked::Propose(propose_of(alloc, matches)?));
     }
     if name == "check" {
         let (policy, script) = sources_of(alloc, matches)?;

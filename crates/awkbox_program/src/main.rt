@@ -8,6 +8,7 @@ mod files;
 mod folders;
 mod process;
 mod program;
+mod propose;
 mod runs;
 mod setup;
 mod standard;

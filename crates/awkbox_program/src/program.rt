@@ -2,6 +2,7 @@
 use crate::advice::{lint_file, why_file};
 use crate::command_line::Asked;
 use crate::process::has_small_stack;
+use crate::propose::propose_policy;
 use crate::runs::{read_source, run_script};
 use crate::standard::hold_closed;
 use crate::words::Words;
@@ -39,6 +40,7 @@ fn follow(rt: &HostRuntime, words: Words) -> u8 {
         Ok(Asked::Check { policy, script }) => check_files(rt, policy, script),
         Ok(Asked::Why(why)) => why_file(rt, &why),
         Ok(Asked::Lint { policy }) => lint_file(rt, policy),
+        Ok(Asked::Propose(asked)) => propose_policy(rt, &asked),
         Err(error) => return say_words(rt, &error),
     };
     say(rt, &ending.unwrap_or_else(Ending::Said))

@@ -30,7 +30,14 @@ enum Next {
 
 const SHORT: [&str; 4] = [SCRIPT, "-v", "-F", "-C"];
 
-const LONG: [&str; 5] = ["--policy", "--log", "--log-limit", "--report", "--steps"];
+const LONG: [&str; 6] = [
+    "--policy",
+    "--log",
+    "--log-limit",
+    "--report",
+    "--steps",
+    "--base",
+];
 
 // Whether the next word is the value of this one.
 fn wants_value(word: &str) -> bool {
