@@ -184,7 +184,7 @@ module _ (S : Listed) where
   reads place key done k t rest = hand S None (v.Num (pos 0)) k tt rest
   reads place key too_long k t rest = ended S (m.Faulted fault.TextTooLong place)
 
-  opened : (place : Place) (key : Key) (k : List Piece) (r : Reply) → Stack S (hands None) k → Ready S (getline.opened place key k r)
+  opened : (place : Place) (key : Key) (k : List Piece) (r : Reply) → Stack S (hands None) k → Ready S (getline.read_opened place key k r)
   opened place key k reply.Failed h = hand S None getline.failure k tt h
   opened place key k (reply.Opened n) h = (tt, h)
   opened place key k (reply.Bytes b) h = hand S None getline.failure k tt h
@@ -256,7 +256,7 @@ module _ (S : Listed) where
   assigned name text k (reply.Value b) h = h
   assigned name text k reply.Failed h = h
 
-  operand_opened : (text : Text) (k : List Piece) (r : Reply) → Ready S k → Ready S (main.opened text k r)
+  operand_opened : (text : Text) (k : List Piece) (r : Reply) → Ready S k → Ready S (main.begin_opened text k r)
   operand_opened text k (reply.Opened n) h = (tt, h)
   operand_opened text k (reply.Bytes b) h = (tt, h)
   operand_opened text k reply.End h = (tt, h)
@@ -266,7 +266,7 @@ module _ (S : Listed) where
   operand_opened text k reply.Failed h = (tt, h)
 
   looked : (b : Bool) (g : Given) (text : Text) (k : List Piece) (t : State) → Holds S found.MainInput → Ready S k →
-      Keeps S (if b then Goes (Do (m.Begun (Standard 0) text) ∷ k) t else Asks (main.operand_want g text (Opens mode.Read OperandFile text)) (λ r. main.opened text k r) t)
+      Keeps S (if b then Goes (Do (m.Begun (Standard 0) text) ∷ k) t else Asks (main.operand_want g text (Opens mode.Read OperandFile text)) (λ r. main.begin_opened text k r) t)
   looked true g text k t fit rest = (tt, rest)
   looked false g text k t fit rest =
       ((at_start kind.Read, fit.0, record { same_place = refl; same_kind = refl; same_text = tt }, λ e. refl), λ r. operand_opened text k r rest)
