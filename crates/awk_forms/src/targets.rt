@@ -4,7 +4,7 @@ ghost use Rattle.awk_streams.specs.Tasks.{Owns};
 ghost use Rattle.awk_machine.specs.Forms.{value, spot};
 ghost use Rattle.awk_machine.specs.Pieces.{give};
 ghost use Rattle.awk_program.specs.Program as p;
-ghost use Rattle.awk_program.specs.View.{view, view_target};
+ghost use Rattle.awk_program.specs.View.{variable_of, view, view_target};
 ghost use Rattle.awk_store.specs.Spots.{IsSpotOf, value_of};
 ghost use Rattle.awk_store.specs.Wholes.{names_in};
 ghost use Rattle.awk_forms.specs.Runs.{Does, Tells, IsUnwanted, whole_of};
@@ -17,10 +17,10 @@ use crate::lists::element;
 use awk_builtins::growing::assigned;
 use awk_builtins::keys::field_number;
 use awk_builtins::made::{computed_at, stepped_at};
-use awk_program::{Expr, Operator, Step, Taken, Target};
+use awk_program::{Expr, Operator, Step, Taken, Target, Variable};
 use awk_store::Spot;
 use awk_store::targets::{read, set, stored};
-use awk_store::variables::read_variable;
+use awk_store::variables::{read_variable, set_variable};
 use awk_streams::halt::Halt;
 use awk_text::place::Place;
 use awk_text::value::Value;
@@ -88,6 +88,25 @@ pub fn read_target<W: World, E: Evaluates<W>>(
     read(cx.alloc, &mut run.store, &from)
 }
 
+/// `variable = value`, whose value nothing wants.
+fn put_variable<W: World, E: Evaluates<W>>(
+    cx: &Context<'_>,
+    place: Place,
+    variable: Variable,
+    x: &Expr,
+    on: E,
+    run: &mut Run,
+    world: &mut W,
+) -> Result<(), Halt>
+    requires can { E.can on }
+    requires owns { Owns (W.open_numbers world.old) run.old.streams }
+    ensures { Tells W.World cx.now (λ g. value (p.assign place (p.variable (variable_of (names_in g) variable)) (view (names_in g) x.now))) IsUnwanted
+        (whole_of run.old) world.old result (whole_of run.new) world.new }
+{
+    let new = on.value(cx, x, run, world)?;
+    set_variable(&mut run.store, variable, place, new)
+}
+
 /// `target = value`, whose value nothing wants: so nothing is copied, and a text grows in its place.
 pub fn put<W: World, E: Evaluates<W>>(
     cx: &Context<'_>,
@@ -107,6 +126,9 @@ pub fn put<W: World, E: Evaluates<W>>(
     let is_done = assigned(cx.alloc, &mut run.store, &mut run.texts, target, x)?;
     if is_done {
         return Ok(());
+    }
+    if let Target::Variable(variable) = target {
+        return put_variable(cx, place, *variable, x, on, run, world);
     }
     let to = target_of(cx, target, on, run, world)?;
     let new = on.value(cx, x, run, world)?;

@@ -11,7 +11,7 @@ ghost use Rattle.awk_machine.specs.Operators.{of_truth};
 use crate::context::{Context, Run};
 use crate::evaluates::Evaluates;
 use crate::sources::matches;
-use crate::targets::{alter, put, step_target};
+use crate::targets::{alter, increment, put, step_target};
 use crate::units::units_of;
 use awk_builtins::at_hand::{MOST_LEVELS, at_hand, number_at_hand, truth_at_hand};
 use awk_builtins::done::done_at_once;
@@ -22,7 +22,7 @@ use awk_program::{Comparison, Expr};
 use awk_streams::halt::Halt;
 use awk_text::fault::Fault;
 use awk_text::lent::Lent;
-use awk_text::value::{number_of, truth};
+use awk_text::value::{Value, number_of, truth};
 use box_world::world::World;
 
 /// The number of an expression's value, or that it is out of range, which is a fault only where the number is used.
@@ -97,11 +97,50 @@ fn general_truth<W: World, E: Evaluates<W>>(
     match e {
         Expr::Compare(how, x, y) => compare(cx, *how, x.get(), y.get(), below, run, world),
         Expr::Match(place, x, pattern) => { matches(cx, *place, x.get(), pattern, on, run, world) }
+        Expr::Not(x) => is_untrue(cx, x.get(), below, run, world),
         _ => {
             let found = on.value(cx, e, run, world)?;
             Ok(truth(&found))
         }
     }
+}
+
+/// The value of the operand of a `!`. A step is met here: `!a[key]++` is how scripts ask whether a key is new.
+fn negated<W: World, E: Evaluates<W>>(
+    cx: &Context<'_>,
+    x: &Expr,
+    on: E,
+    run: &mut Run,
+    world: &mut W,
+) -> Result<Value, Halt>
+    requires can { E.can on }
+    requires owns { Owns (W.open_numbers world.old) run.old.streams }
+    ensures { Does W.World cx.now (λ g. value (view (names_in g) x.now)) (λ g. give)
+        (whole_of run.old) world.old result (whole_of run.new) world.new }
+{
+    match x {
+        Expr::Step(place, how, taken, target) => {
+            increment(cx, *place, *how, *taken, target, on, run, world)
+        }
+        _ => on.value(cx, x, run, world),
+    }
+}
+
+/// Whether `! operand` is true.
+fn is_untrue<W: World, E: Evaluates<W>>(
+    cx: &Context<'_>,
+    x: &Expr,
+    on: E,
+    run: &mut Run,
+    world: &mut W,
+) -> Result<bool, Halt>
+    requires can { E.can on }
+    requires owns { Owns (W.open_numbers world.old) run.old.streams }
+    ensures { Does W.World cx.now (λ g. value (p.not (view (names_in g) x.now))) (λ g b. give (of_truth b))
+        (whole_of run.old) world.old result (whole_of run.new) world.new }
+{
+    let found = negated(cx, x, on, run, world)?;
+    Ok(!truth(&found))
 }
 
 /// Whether a comparison holds.

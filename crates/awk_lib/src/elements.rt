@@ -91,6 +91,10 @@ impl<V> Elements<V> {
         ensures unique { IsDistinct bytes_eq (keys_of self.now.map.entries) }
     {
         let len = self.map.len();
+        // So a key is not hashed for nothing.
+        if len == 0 {
+            return None;
+        }
         let steps = self.steps.get();
         if let Some(guess) = steps.guess(len) {
             if self.is_at(guess, key) {

@@ -21,6 +21,10 @@ pub returns-then-is_done : goal.returns-then-is_done
 returns-then-is_done g c =
     let h = c.in_ok-is_done.ensures.done c.if-is_done.true in record { val = h.0; is = tt; does = record { plays = λ m is. acted (there {on = λ (u : Unit {0}). give h.0} {x = tt} (h.1 m c.args.run.now.streams c.args.place)); owns = c.requires.owns } }
 
+pub returns-in-Variable : goal.returns-in-Variable
+returns-in-Variable g c =
+    record { val = c.put_variable.ensures.val; is = c.put_variable.ensures.is; does = record { plays = λ m is. rw c.in-Variable.is (rw (c.in_ok-is_done.ensures.not_done c.if-is_done.false) at (c.put_variable.ensures.does.plays m is)); owns = c.put_variable.ensures.does.owns } }
+
 pub returns-in_err-to : goal.returns-in_err-to
 returns-in_err-to g c =
     let e = err_from_is_err_and c.from_residual-in_err-to.result c.from_residual-in_err-to.ensures.1 in rw (e.1, e.2) (record { val = v.Unset; is = tt; does = record { plays = λ m is. stop _ (λ k. refl) (quietly (at_once _ _ _) (λ k hid d a. refl)) (rw (c.in_ok-is_done.ensures.not_done c.if-is_done.false) at (c.target_of.ensures.plays.plays m is)) c.in_err-to.was; owns = c.target_of.ensures.plays.owns } })

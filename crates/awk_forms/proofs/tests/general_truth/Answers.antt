@@ -1,7 +1,7 @@
 use Rattle.awk_forms.proofs.Leading.{as_truth}
 use Rattle.awk_streams.proofs.Chain.{at_once, done, lacking, part, stop}
 use Rattle.awk_machine.specs.Forms.{value}
-use Rattle.awk_program.proofs.Views.{view-Compare, view-Match}
+use Rattle.awk_program.proofs.Views.{view-Compare, view-Match, view-Not}
 use Rattle.awk_program.specs.View.{view, view_ere}
 use Rattle.awk_store.specs.Wholes.{names_in}
 use Rattle.std.proofs.Common.{refl}
@@ -31,3 +31,8 @@ pub returns-in-Match : goal.returns-in-Match
 returns-in-Match g c =
     let h = as_truth {ghosts = g.W.World} {cx = c.args.cx.now} {p = λ m. value (p.matched c.in-Match.place (view (names_in m) c.in-Match.x) (view_ere (names_in m) c.in-Match.pattern))} {r = c.matches.result} (record { plays = λ m is. rw c.get-in-Match.ensures at (c.matches.ensures.plays m is); owns = c.matches.ensures.owns }) in
     record { val = h.val; is = h.is; does = record { plays = λ m is. rw (c.in-Match.is, view-Match) (h.does.plays m is); owns = h.does.owns } }
+
+pub returns-in-Not : goal.returns-in-Not
+returns-in-Not g c =
+    let h = as_truth {ghosts = g.W.World} {cx = c.args.cx.now} {p = λ m. value (p.not (view (names_in m) c.in-Not.x))} {r = c.is_untrue.result} (record { plays = λ m is. rw c.get-in-Not.ensures at (c.is_untrue.ensures.plays m is); owns = c.is_untrue.ensures.owns }) in
+    record { val = h.val; is = h.is; does = record { plays = λ m is. rw (c.in-Not.is, view-Not) (h.does.plays m is); owns = h.does.owns } }
