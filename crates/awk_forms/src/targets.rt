@@ -100,7 +100,9 @@ fn put_variable<W: World, E: Evaluates<W>>(
 ) -> Result<(), Halt>
     requires can { E.can on }
     requires owns { Owns (W.open_numbers world.old) run.old.streams }
-    ensures { Tells W.World cx.now (λ g. value (p.assign place (p.variable (variable_of (names_in g) variable)) (view (names_in g) x.now))) IsUnwanted
+    ensures { Tells W.World cx.now
+        (λ g. value (p.assign place (p.variable (variable_of (names_in g) variable)) (view (names_in g) x.now)))
+        IsUnwanted
         (whole_of run.old) world.old result (whole_of run.new) world.new }
 {
     let new = on.value(cx, x, run, world)?;
