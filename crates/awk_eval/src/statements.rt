@@ -166,6 +166,7 @@ fn delete<W: World, E: Evaluates<W>>(
 }
 
 /// A word alone.
+#[inline(always)]
 fn jump<W: World>(which: Jump, run: &mut Run, world: &mut W) -> Result<Flow, Halt>
     requires { Owns (W.open_numbers world.old) run.old.streams }
     ensures task { (g : Given)
