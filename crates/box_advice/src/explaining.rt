@@ -3,7 +3,7 @@ ghost use Rattle.std.specs.Prelude.{◌≡◌, IfOk};
 ghost use Rattle.box_policy.specs.Files.{is_of_files};
 ghost use Rattle.box_advice.specs.Reasons.{IsWhy, path_of};
 
-use crate::places::Places;
+use crate::places::{Places, PolicyFile};
 use crate::words::{quoted, rule_text};
 use awk_text::Memory;
 use box_policy::error::PolicyError;
@@ -71,15 +71,7 @@ pub fn why(
     })
 }
 
-/// The policy's file: its name, its text and its rules.
-#[derive(Clone, Copy, Drop)]
-struct Source<'a> {
-    name: &'a str,
-    policy: &'a Policy,
-    places: &'a Places,
-}
-
-impl Source<'_> {
+impl PolicyFile<'_> {
     // `rule 4 (F:17)`, or `rule 4` where its line cannot be told.
     fn rule(self, alloc: Global, number: u32) -> Result<String, Memory> {
         match self.places.line(number) {
@@ -149,7 +141,7 @@ fn push_path(alloc: Global, path: &Option<Path>, lines: &mut String) -> Result<(
 
 fn lines_of(
     alloc: Global,
-    source: Source<'_>,
+    source: PolicyFile<'_>,
     kind: Kind,
     why: &Reasons,
 ) -> Result<String, Memory> {
@@ -173,7 +165,7 @@ fn explanation(
 ) -> Result<String, Memory> {
     let why = why(alloc, policy, wanted.kind, wanted.subject, wanted.given)?;
     let places = Places::of(alloc, text, policy.count())?;
-    let source = Source {
+    let source = PolicyFile {
         name,
         policy,
         places: &places,

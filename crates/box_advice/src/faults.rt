@@ -23,20 +23,20 @@ const SOURCES: [&str; 2] = ["any", "given"];
 
 /// What is wrong, and the key that it stands at, where one does.
 #[derive(Drop)]
-pub struct Fault {
+pub struct Mistake {
     pub key: Option<String>,
     pub words: String,
 }
 
-fn at(alloc: Global, key: &str, words: &str) -> Result<Fault, Memory> {
-    Ok(Fault {
+fn at(alloc: Global, key: &str, words: &str) -> Result<Mistake, Memory> {
+    Ok(Mistake {
         key: Some(String::from_str(alloc, key)?),
         words: String::from_str(alloc, words)?,
     })
 }
 
-fn nowhere(alloc: Global, words: &str) -> Result<Fault, Memory> {
-    Ok(Fault {
+fn nowhere(alloc: Global, words: &str) -> Result<Mistake, Memory> {
+    Ok(Mistake {
         key: None,
         words: String::from_str(alloc, words)?,
     })
@@ -52,7 +52,7 @@ fn unknown_key<'a>(table: &'a Table, known: &[&str]) -> Option<&'a str> {
     None
 }
 
-fn unknown(alloc: Global, key: &str, known: &[&str], those: &str) -> Result<Fault, Memory> {
+fn unknown(alloc: Global, key: &str, known: &[&str], those: &str) -> Result<Mistake, Memory> {
     let shown = quoted(alloc, key.as_bytes())?;
     let hint = hint(alloc, key, known)?;
     let words = format!(in alloc; "unknown key \"{shown}\"{hint}; {those}")?;
@@ -63,7 +63,7 @@ fn has_limits(table: &Table) -> bool {
     table.get("version").and_then(Value::as_integer) == Some(2)
 }
 
-fn base_fault(alloc: Global, table: &Table) -> Result<Fault, Memory> {
+fn base_fault(alloc: Global, table: &Table) -> Result<Mistake, Memory> {
     let Some(value) = table.get("base") else {
         return nowhere(alloc, "base is missing; it is an absolute path");
     };
@@ -79,7 +79,7 @@ fn base_fault(alloc: Global, table: &Table) -> Result<Fault, Memory> {
     at(alloc, "base", "base has a component .. or a NUL byte")
 }
 
-fn top_fault(alloc: Global, table: &Table, code: u8) -> Result<Fault, Memory> {
+fn top_fault(alloc: Global, table: &Table, code: u8) -> Result<Mistake, Memory> {
     match code {
         PolicyError::KEY => match unknown_key(table, TOP_KEYS.as_slice()) {
             Some(key) => unknown(
@@ -107,7 +107,7 @@ fn top_fault(alloc: Global, table: &Table, code: u8) -> Result<Fault, Memory> {
     }
 }
 
-fn rule_key_fault(alloc: Global, rule: &Table, limits: bool) -> Result<Fault, Memory> {
+fn rule_key_fault(alloc: Global, rule: &Table, limits: bool) -> Result<Mistake, Memory> {
     let (known, those) = if limits {
         (
             LIMITED_KEYS.as_slice(),
@@ -138,7 +138,7 @@ fn word_fault(
     key: &str,
     words: &[&str],
     those: &str,
-) -> Result<Option<Fault>, Memory> {
+) -> Result<Option<Mistake>, Memory> {
     let Some(value) = rule.get(key) else {
         return Ok(None);
     };
@@ -155,14 +155,14 @@ fn word_fault(
     Ok(Some(at(alloc, key, text.as_str())?))
 }
 
-fn limit_fault(alloc: Global, rule: &Table) -> Result<Fault, Memory> {
+fn limit_fault(alloc: Global, rule: &Table) -> Result<Mistake, Memory> {
     if rule.get("effect").and_then(Value::as_str) == Some("deny") {
         return at(alloc, "limit", "limit stands beside an effect that denies");
     }
     at(alloc, "limit", "limit is no whole number from 1 to 1000000")
 }
 
-fn value_fault(alloc: Global, rule: &Table) -> Result<Fault, Memory> {
+fn value_fault(alloc: Global, rule: &Table) -> Result<Mistake, Memory> {
     if let Some(fault) = word_fault(alloc, rule, "effect", EFFECTS.as_slice(), "allow or deny")? {
         return Ok(fault);
     }
@@ -210,7 +210,7 @@ fn pattern_reason(kind: &str, pattern: &str) -> &'static str {
     "** stands inside a longer component; write it as a component of its own"
 }
 
-fn pattern_fault(alloc: Global, rule: &Table) -> Result<Fault, Memory> {
+fn pattern_fault(alloc: Global, rule: &Table) -> Result<Mistake, Memory> {
     let kind = rule.get("kind").and_then(Value::as_str).unwrap_or("");
     let pattern = rule.get("match").and_then(Value::as_str).unwrap_or("");
     let shown = quoted(alloc, pattern.as_bytes())?;
@@ -219,7 +219,7 @@ fn pattern_fault(alloc: Global, rule: &Table) -> Result<Fault, Memory> {
     at(alloc, "match", words.as_str())
 }
 
-fn rule_fault(alloc: Global, rule: &Table, code: u8, limits: bool) -> Result<Fault, Memory> {
+fn rule_fault(alloc: Global, rule: &Table, code: u8, limits: bool) -> Result<Mistake, Memory> {
     match code {
         PolicyError::KEY => rule_key_fault(alloc, rule, limits),
         PolicyError::VALUE => value_fault(alloc, rule),
@@ -238,7 +238,7 @@ fn rule_at(table: &Table, number: u32) -> Option<&Table> {
 }
 
 /// What is wrong in the table of a document that was refused for this.
-pub fn fault_in(alloc: Global, table: &Table, error: PolicyError) -> Result<Fault, Memory> {
+pub fn fault_in(alloc: Global, table: &Table, error: PolicyError) -> Result<Mistake, Memory> {
     if error.code == PolicyError::MEMORY {
         return Err(AllocError);
     }

@@ -2,7 +2,7 @@
 ghost use Rattle.std.specs.Prelude.{IfOk};
 ghost use Rattle.box_advice.specs.Lints.{Lints};
 
-use crate::faults::{Fault, fault_in};
+use crate::faults::{Mistake, fault_in};
 use crate::places::{Places, key_line};
 use crate::warnings::push_warnings;
 use awk_text::Memory;
@@ -40,7 +40,7 @@ fn fault_line(
     text: &[u8],
     table: &Table,
     rule: u32,
-    fault: &Fault,
+    fault: &Mistake,
 ) -> Result<Option<usize>, Memory> {
     let start = if rule == 0 {
         Some(0)

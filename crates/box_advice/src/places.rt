@@ -1,5 +1,6 @@
 // Where the rules of a policy stand in its text.
 use awk_text::Memory;
+use box_policy::policy::Policy;
 use std::alloc::Global;
 
 /// Whether a line begins the table of a rule.
@@ -11,6 +12,14 @@ fn is_rule_header(line: &[u8]) -> bool {
         return false;
     };
     rest.trim_ascii_start().starts_with(b"]]")
+}
+
+/// The policy of a file, with the file's name, and where its rules stand there.
+#[derive(Clone, Copy, Drop)]
+pub struct PolicyFile<'a> {
+    pub name: &'a str,
+    pub policy: &'a Policy,
+    pub places: &'a Places,
 }
 
 /// The lines of a text, counted from 1, on which its rules begin. They are empty where that cannot be told, as of rules

@@ -1,6 +1,6 @@
 // What the rules of a policy say that may not be meant.
 use crate::covers::covers;
-use crate::places::Places;
+use crate::places::{Places, PolicyFile};
 use crate::words::kind_word;
 use awk_text::Memory;
 use box_policy::policy::{Decision, Effect, Kind, Policy, Rule};
@@ -24,17 +24,9 @@ const DEV: [&str; 2] = ["/dev/fd/3", "/dev/mem"];
 /// Nobody has this name: a rule that fits it fits whatever stands in the root.
 const ROOT: [&str; 1] = ["/.awkbox-lint"];
 
-/// The policy of a file, and where its rules stand there.
-#[derive(Clone, Copy, Drop)]
-struct Source<'a> {
-    name: &'a str,
-    policy: &'a Policy,
-    places: &'a Places,
-}
-
 fn push_warning(
     alloc: Global,
-    source: Source<'_>,
+    source: PolicyFile<'_>,
     number: u32,
     words: &str,
     lines: &mut String,
@@ -58,7 +50,11 @@ fn covering(policy: &Policy, earlier: &[Rule], later: &Rule) -> Option<usize> {
     None
 }
 
-fn push_unreachable(alloc: Global, source: Source<'_>, lines: &mut String) -> Result<(), Memory> {
+fn push_unreachable(
+    alloc: Global,
+    source: PolicyFile<'_>,
+    lines: &mut String,
+) -> Result<(), Memory> {
     let rules = source.policy.rules();
     let mut number = 0u32;
     for (at, rule) in rules.iter().enumerate() {
@@ -86,7 +82,7 @@ fn allowing(policy: &Policy, kind: Kind, names: &[&str]) -> Option<u32> {
 // Warns where a rule allows one of the names of this place.
 fn push_reached(
     alloc: Global,
-    source: Source<'_>,
+    source: PolicyFile<'_>,
     names: &[&str],
     place: &str,
     lines: &mut String,
@@ -128,7 +124,7 @@ fn command_words(alloc: Global, pattern: &[u8]) -> Result<Option<String>, Memory
     Ok(None)
 }
 
-fn push_commands(alloc: Global, source: Source<'_>, lines: &mut String) -> Result<(), Memory> {
+fn push_commands(alloc: Global, source: PolicyFile<'_>, lines: &mut String) -> Result<(), Memory> {
     let mut number = 0u32;
     for rule in source.policy.rules() {
         number = number.saturating_add(1);
@@ -153,7 +149,7 @@ pub fn push_warnings(
     lines: &mut String,
 ) -> Result<(), Memory> {
     let places = Places::of(alloc, text, policy.count())?;
-    let source = Source {
+    let source = PolicyFile {
         name,
         policy,
         places: &places,

@@ -10,13 +10,13 @@ use std::io::{self, ErrorKind, Read};
 
 /// A reader that is told by arguments, one for each reading: the bytes that it gives, or how it fails.
 #[derive(Drop)]
-struct Told<'a, 'b> {
+struct Readings<'a, 'b> {
     readings: &'a [Arg<'b>],
     /// Which reading is the next one.
     next: usize,
 }
 
-impl Read for Told<'_, '_> {
+impl Read for Readings<'_, '_> {
     fn read(&mut self, buf: &mut [u8]) -> io::Result<usize> {
         let Some(reading) = self.readings.get(self.next) else {
             return Ok(0);
@@ -34,7 +34,7 @@ fn read(alloc: Global, limit: i64, readings: &[Arg<'_>]) -> Answer {
     let Ok(limit) = usize::try_from(limit) else {
         return Err(Problem::NoArgument);
     };
-    let mut told = Told { readings, next: 0 };
+    let mut told = Readings { readings, next: 0 };
     match read_limited(alloc, &mut told, limit) {
         Ok(all) => Ok(all),
         Err(ReadError::Failed) => bytes(alloc, b"failed"),

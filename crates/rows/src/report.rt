@@ -21,7 +21,7 @@ pub struct Report {
 
 /// A table and its text.
 #[derive(Clone, Copy, Drop)]
-struct Source<'a> {
+struct TableText<'a> {
     table: Table,
     text: &'a [u8],
 }
@@ -29,7 +29,7 @@ struct Source<'a> {
 /// The most bytes of an answer that are told.
 const MOST_TOLD: usize = 500;
 
-impl Source<'_> {
+impl TableText<'_> {
     /// The line from whose first byte on so many bytes are left.
     fn line(&self, left: usize) -> usize {
         let before = self.text.len().saturating_sub(left);
@@ -74,7 +74,7 @@ impl Report {
     fn fail<P: Print + AllocGlobal>(
         &mut self,
         rt: &P,
-        source: Source<'_>,
+        source: TableText<'_>,
         left: usize,
         came: &[u8],
     ) {
@@ -90,7 +90,7 @@ impl Report {
     fn judge<P: Print + AllocGlobal>(
         &mut self,
         rt: &P,
-        source: Source<'_>,
+        source: TableText<'_>,
         row: &Row<'_>,
         came: &[u8],
     ) {
@@ -104,7 +104,7 @@ impl Report {
     fn judge_all<P: Print + AllocGlobal>(
         &mut self,
         rt: &P,
-        source: Source<'_>,
+        source: TableText<'_>,
         rows: &[Row<'_>],
         answers: &[Octets],
     ) {
@@ -117,7 +117,7 @@ impl Report {
     fn check_prefixes<P: Print + AllocGlobal>(
         &mut self,
         rt: &P,
-        source: Source<'_>,
+        source: TableText<'_>,
         rows: &[Row<'_>],
     ) {
         for row in rows {
@@ -131,7 +131,7 @@ impl Report {
     fn check_next<P: Print + AllocGlobal>(
         &mut self,
         rt: &P,
-        source: Source<'_>,
+        source: TableText<'_>,
         cursor: &mut Cursor<'_>,
     ) -> Result<bool, Problem> {
         let alloc = rt.alloc();
@@ -154,7 +154,7 @@ impl Report {
     fn fail_by<P: Print + AllocGlobal>(
         &mut self,
         rt: &P,
-        source: Source<'_>,
+        source: TableText<'_>,
         left: usize,
         problem: Problem,
     ) {
@@ -164,7 +164,7 @@ impl Report {
         }
     }
 
-    fn check_text<P: Print + AllocGlobal>(&mut self, rt: &P, source: Source<'_>) {
+    fn check_text<P: Print + AllocGlobal>(&mut self, rt: &P, source: TableText<'_>) {
         let mut cursor = Cursor::new(source.text);
         for _ in 0..source.text.len() {
             match self.check_next(rt, source, &mut cursor) {
@@ -178,7 +178,7 @@ impl Report {
     /// Judges the rows of the table, which lies in the folder of the process.
     pub fn check_file<R: Files + Print + AllocGlobal>(&mut self, rt: &R, table: Table) {
         match fs::read(rt, table.file()) {
-            Ok(text) => self.check_text(rt, Source { table, text: &text }),
+            Ok(text) => self.check_text(rt, TableText { table, text: &text }),
             Err(_) => {
                 self.failed = self.failed.saturating_add(1);
                 let _ = println!(rt; "{}: cannot read", table.file());

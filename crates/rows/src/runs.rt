@@ -2,7 +2,7 @@
 
 use crate::asked::asked;
 use crate::run_log::RunLog;
-use crate::start::{Start, is_start};
+use crate::start::{Beginning, is_start};
 use awk_text::octets::Octets;
 use awkbox::{Driven, Ending, LogEnd, MemoryWorld, Refusal, Report};
 use row_calls::args::{name, text};
@@ -94,7 +94,7 @@ pub fn parts<'a, 'b>(rows: &'a [Row<'b>]) -> (&'a [Row<'b>], &'a [Row<'b>]) {
 /// The answers of the rows that say what the run begins with.
 fn begin(
     alloc: Global,
-    start: &mut Start,
+    start: &mut Beginning,
     rows: &[Row<'_>],
     answers: &mut Vec<Octets>,
 ) -> Result<(), Problem> {
@@ -126,7 +126,7 @@ fn run(
     answers: &mut Vec<Octets>,
 ) -> Result<(), Problem> {
     let (before, after) = parts(rows);
-    let mut start = Start::new(alloc);
+    let mut start = Beginning::new(alloc);
     begin(alloc, &mut start, before, answers)?;
     let driven = start.drive(alloc, policy, script)?;
     ends(alloc, &driven, after, answers)

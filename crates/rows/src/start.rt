@@ -18,7 +18,7 @@ const MOST_PAIRS: usize = 1_000;
 
 /// What a run begins with.
 #[derive(Drop)]
-pub struct Start {
+pub struct Beginning {
     world: MemoryWorld,
     operands: Vec<Octets>,
     names: Vec<Octets>,
@@ -55,10 +55,10 @@ fn count(args: &[Arg<'_>]) -> Result<u32, Problem> {
     }
 }
 
-impl Start {
+impl Beginning {
     /// An empty world, no words of the host, the usual bound and a log that never fails.
-    pub fn new(alloc: Global) -> Start {
-        Start {
+    pub fn new(alloc: Global) -> Beginning {
+        Beginning {
             world: MemoryWorld::new(alloc),
             operands: Vec::new(alloc),
             names: Vec::new(alloc),
