@@ -4,8 +4,8 @@ use Rattle.awk_lib.proofs.replacing.replace_all.Given as goal
 
 abbrev pub invariant-loop-next : goal.invariant-loop-next
 invariant-loop-next l = record {
-  turn : Turn l.fn.ere l.with l.text l.next l.done l.count l.out;
-  same : l.searches ≡ (l.fn.ere, l.text);
+  turn : Turn l.ere l.with l.text l.next l.done l.count l.out;
+  same : l.searches ≡ (l.ere, l.text);
 }
 
 abbrev pub decreases-loop-next : goal.decreases-loop-next
