@@ -2,7 +2,6 @@
 use Rattle.std.proofs.Common.{◌≡◌, ℕ, zero, suc, ◌+◌, ◌-◌, ◌<◌, ◌≤◌, ◌==◌, ◌&&◌, ◌||◌, inl, inr, Bool, true, false, cond, List, [], ◌∷◌, ◌++◌, length, drop, get_or, Option, Some, None, refl, sym, ◌∙◌, ap, subst, append_assoc, arith}
 use Rattle.std.proofs.lemmas.Bool.{cases_lt, eqb-true, eq-eqb}
 use Rattle.std.proofs.lemmas.List.{get_or-drop, length-drop}
-use Rattle.std.specs.Prelude.{IfSome}
 use Rattle.memchr.specs.Find.{OccursAt, FindsNeedle}
 use Rattle.awk_ere.specs.Pattern.{Pattern, empty, bytes, cat, Matches}
 use Rattle.awk_ere.specs.Best.{Best}
@@ -130,15 +129,8 @@ module _ (source s : List ℕ) where
     longest = λ l within m. omega (arith, match_end x.0 l m, h.2);
   }
 
-  literal_finds : (from : ℕ) (found : Option (ℕ × ℕ)) → IsLiteral source → length source ≤ 4096 → FindsText source s from found → Finds source s from found
+  pub literal_finds : (from : ℕ) (found : Option (ℕ × ℕ)) → IsLiteral source → length source ≤ 4096 → FindsText source s from found → Finds source s from found
   literal_finds from found literal short h = (then_bytes empty source, literal_pattern source literal short, text_best from found h)
-
-  -- the same, by the finder that is kept
-  pub literal_found : (kept : Option (List ℕ)) (needle : List ℕ) (from : ℕ) (found : Option (ℕ × ℕ)) → kept ≡ Some needle → IfSome kept (λ f. (f ≡ source) × IsLiteral source) → length source ≤ 4096
-      → FindsText needle s from found → Finds source s from found
-  literal_found kept needle from found is told short h =
-      let both : (needle ≡ source) × IsLiteral source = subst (λ x. IfSome x (λ f. (f ≡ source) × IsLiteral source)) is told in
-      literal_finds from found both.1 short (subst (λ x. FindsText x s from found) both.0 h)
 
 -- a search in what follows `from`
 module _ (s needle : List ℕ) (from : ℕ) (le : from ≤ length s) where

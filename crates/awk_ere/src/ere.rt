@@ -5,11 +5,10 @@ ghost use Rattle.awk_ere.specs.Spelled.{IsPattern, IsAccepted, IsRefused, Finds,
 
 use crate::error::{EreError, Fault};
 use crate::hopes::{Hopes, no_hopes};
-use crate::literal::{find_text, finder_of};
+use crate::literal::{find_text, is_literal};
 use crate::read::read_within;
 use crate::table::{Matcher, Sought, whole_budget};
 use awk_text::Memory;
-use memchr::memmem::Finder;
 use std::alloc::Global;
 use std::marker::Model;
 
@@ -17,13 +16,13 @@ use std::marker::Model;
 #[derive(Drop)]
 pub struct Ere {
     source: Vec<u8>,
-    /// What finds the source, where each of its bytes stands for itself.
-    literal: Option<Finder<'static>>,
+    /// Each byte of the source stands for itself.
+    is_literal: bool,
     matcher: Matcher,
 }
 
 impl Model for Ere {
-    ghost use Rattle.std.specs.Prelude.{◌≡◌, IfSome, List, ℕ};
+    ghost use Rattle.std.specs.Prelude.{◌≡◌, true, List, ℕ};
     ghost use Rattle.awk_ere.specs.Literal.{IsLiteral};
     ghost use Rattle.awk_ere.specs.Pattern.{Pattern};
     ghost use Rattle.awk_ere.specs.Matcher.{StandsFor};
@@ -34,7 +33,7 @@ impl Model for Ere {
     ghost view = { λ e. e.source.items };
 
     ghost invariant = { λ e. (p : Pattern) × IsPattern e.source.items p × StandsFor e.matcher p
-        × IfSome e.literal (λ f. (f ≡ e.source.items) × IsLiteral e.source.items) };
+        × (e.is_literal ≡ true → IsLiteral e.source.items) };
 }
 
 impl Ere {
@@ -46,10 +45,9 @@ impl Ere {
         let node = read_within(alloc, text, &mut sets)?;
         let matcher = Matcher::new(alloc, &node, sets)?;
         let source = Vec::from_slice(alloc, text)?;
-        let literal = finder_of(alloc, text)?;
         Ok(Ere {
             source,
-            literal,
+            is_literal: is_literal(text),
             matcher,
         })
     }
@@ -89,8 +87,8 @@ impl Ere {
     pub fn is_match(&self, text: &[u8]) -> Result<bool, Memory>
         ensures { IfOk result (λ b. HasMatch self.now text.now b) }
     {
-        if let Some(finder) = &self.literal {
-            return Ok(find_text(text, finder, 0).is_some());
+        if self.is_literal {
+            return Ok(find_text(text, &self.source, 0).is_some());
         }
         match self.matcher.has_match(text) {
             Some(has_match) => Ok(has_match),
@@ -153,8 +151,8 @@ impl<'a> Searches<'a> {
         ensures same { self.new ≡ self.old }
     {
         let (ere, matcher, text) = (self.ere, self.matcher, self.text);
-        if let Some(finder) = &ere.literal {
-            return Ok(find_text(text, finder, from));
+        if ere.is_literal {
+            return Ok(find_text(text, &ere.source, from));
         }
         match matcher.find(text, from, &mut self.budget) {
             Sought::Match(start, end) => Ok(Some((start, end))),
