@@ -13,6 +13,7 @@ ghost use Rattle.awk_text.specs.Limits.{most_bytes};
 ghost use Rattle.awk_text.specs.Values.{text_of};
 ghost use Rattle.awk_text.specs.declared.value.Value.{Value as Val};
 ghost use Rattle.awk_text.specs.declared.value.Value.TheVariants as v;
+ghost use Rattle.std.specs.Fmt.{decimal};
 ghost use Rattle.std.specs.Prelude.{IfSome, Some, false, length, map, true, ℤ, ◌≡◌, ◌≤◌};
 
 use crate::at_hand::{
@@ -98,11 +99,26 @@ fn field_of_key(store: &Store, keys: &[Expr]) -> Option<u16>
     Some(number)
 }
 
-/// Gives the element whose key is a number's digits a value, and answers whether it did. The digits are not copied.
+/// Gives the element whose key is the digits of a number that is not negative a value, and answers whether it did.
+fn put_at_place(store: &mut Store, array: Variable, place: usize, value: Value) -> bool
+    ensures done { result ≡ true → (length (decimal place) ≤ most_bytes) × Puts (Some (kept.array store.old array)) (decimal place) value (λ new. store.new ≡ with_array (kept.reference store.old array) new store.old) }
+    ensures not_done { result ≡ false → store.new ≡ store.old }
+{
+    match store.put_number(array, place, value) {
+        Ok(()) => true,
+        Err(_) => false,
+    }
+}
+
+/// Gives the element whose key is a number's digits a value, and answers whether it did. The digits are made only where the
+/// element does not lie by its number.
 fn put_at_number(store: &mut Store, array: Variable, number: i64, value: Value) -> bool
     ensures done { result ≡ true → (length (text_of (v.Num number)) ≤ most_bytes) × Puts (Some (kept.array store.old array)) (text_of (v.Num number)) value (λ new. store.new ≡ with_array (kept.reference store.old array) new store.old) }
     ensures not_done { result ≡ false → store.new ≡ store.old }
 {
+    if let Ok(place) = usize::try_from(number) {
+        return put_at_place(store, array, place, value);
+    }
     let mut digits = Buffer::new();
     let key = digits.format(number).as_bytes();
     if MOST_BYTES < key.len() {
@@ -119,6 +135,9 @@ fn add_at_number(store: &mut Store, array: Variable, number: i64, by: i64) -> bo
     ensures done { result ≡ true → (length (text_of (v.Num number)) ≤ most_bytes) × Adds (Some (kept.array store.old array)) (text_of (v.Num number)) by (λ new. store.new ≡ with_array (kept.reference store.old array) new store.old) }
     ensures not_done { result ≡ false → store.new ≡ store.old }
 {
+    if let Ok(place) = usize::try_from(number) {
+        return store.add_to_number(array, place, by);
+    }
     let mut digits = Buffer::new();
     let key = digits.format(number).as_bytes();
     if MOST_BYTES < key.len() {
