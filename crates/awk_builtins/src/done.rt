@@ -46,7 +46,7 @@ fn join_at_hand(line: &mut Line, store: &Store, first: &Expr, rest: &[Joined<Exp
 }
 
 /// The key of one subscript that is at hand, or whose operands are, in the line.
-fn key_at_hand<'a>(store: &Store, line: &'a mut Line, keys: &[Expr]) -> Option<&'a [u8]>
+pub fn key_at_hand<'a>(store: &Store, line: &'a mut Line, keys: &[Expr]) -> Option<&'a [u8]>
     ensures { IfSome result (λ key. IsKey keys.now store.now key.now) }
 {
     let [one] = keys else {

@@ -3,7 +3,8 @@
 //! function evaluates a part, and only the built-in functions of `functions` ask the world.
 //!
 //! Forms whose parts are at hand, as variables, fields and constants are, are done without a move of the machine of plain awk for
-//! each part: `at_hand`, `done`, `growing`, `items`, `matching` and `splitting`.
+//! each part: `at_hand`, `done`, `growing`, `items`, `matching`, `splitting` and
+//! `stepping`.
 #![tactic(auto)]
 
 pub mod arrays;
@@ -26,3 +27,4 @@ pub mod replacements;
 pub mod searches;
 pub mod splits;
 pub mod splitting;
+pub mod stepping;

@@ -14,9 +14,11 @@ ghost use Rattle.awk_program.specs.declared.operators.Taken.{Taken as Which};
 use crate::context::{Context, Run};
 use crate::evaluates::Evaluates;
 use crate::lists::element;
+use awk_builtins::done::key_at_hand;
 use awk_builtins::growing::assigned;
 use awk_builtins::keys::field_number;
 use awk_builtins::made::{computed_at, stepped_at};
+use awk_builtins::stepping::step_at_key;
 use awk_program::{Expr, Operator, Step, Taken, Target, Variable};
 use awk_store::Spot;
 use awk_store::targets::{read, set, stored};
@@ -172,6 +174,11 @@ pub fn step_target<W: World, E: Evaluates<W>>(
     ensures { (taken : Which) → Does W.World cx.now (λ g. value (p.step place how taken (view_target (names_in g) target.now))) (λ g n. give (either taken n.0 n.1))
         (whole_of run.old) world.old result (whole_of run.new) world.new }
 {
+    if let Target::Element(at_name, array, keys) = target {
+        if let Some(key) = key_at_hand(&run.store, &mut run.line, keys.as_slice()) {
+            return step_at_key(cx.alloc, &mut run.store, place, how, *at_name, *array, key);
+        }
+    }
     let to = target_of(cx, target, on, run, world)?;
     let old = read(cx.alloc, &mut run.store, &to)?;
     let (before, behind) = stepped_at(place, how, &old)?;
