@@ -14,7 +14,7 @@ use Rattle.awk_program.specs.Program.{Reference}
 use Rattle.awk_program.specs.Slots.{Text}
 use Rattle.awk_program.specs.declared.operators.Operator.{Operator}
 use Rattle.awk_program.specs.declared.operators.Step.{Step}
-use Rattle.awk_program.specs.declared.operators.Taken.{Taken}
+use Rattle.awk_program.specs.declared.operators.StepValue.{StepValue}
 use Rattle.awk_machine.specs.Advances.{advance, held}
 use Rattle.awk_machine.specs.Operators.{computed, operation, stepped, of_count}
 use Rattle.awk_machine.specs.Pieces.{Piece, At, Value_of, Then, Goes, granted}
@@ -57,7 +57,7 @@ as_text_so place (Err e) f k s = refl
 
 -- ---- steps
 
-pub both_so : (place : Place) (how : Step) (taken : Taken) (r : Reference) (at x : Value) (g : Given) (k : List Piece) (s : State) →
+pub both_so : (place : Place) (how : Step) (taken : StepValue) (r : Reference) (at x : Value) (g : Given) (k : List Piece) (s : State) →
     advance g (At (Value_of (p.step place how taken r)) (x ∷ at ∷ []) ∷ k) s ≡ held g s (granted place (both_numbers how x) (λ n k s. Goes (stepping place taken r at n k) s) k s)
 both_so place how taken r at x g k s = by_old (number_of x) refl
   where

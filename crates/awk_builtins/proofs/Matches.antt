@@ -26,8 +26,8 @@ use Rattle.awk_store.specs.Acts.{Acts, Passes}
 use Rattle.awk_builtins.specs.Searching.{then_set}
 use Rattle.awk_store.proofs.Acting.{at_rest, moves, reworded, doing, done, stop, faulted}
 use Rattle.awk_builtins.specs.Patterns.{source_value, IsSourceOf, reading}
-use Rattle.awk_builtins.specs.declared.patterns.Source.{Source}
-use Rattle.awk_builtins.specs.declared.patterns.Source.TheVariants as s
+use Rattle.awk_builtins.specs.declared.patterns.PatternValue.{PatternValue}
+use Rattle.awk_builtins.specs.declared.patterns.PatternValue.TheVariants as s
 
 -- ---- a task of the same piece is done, or halted
 
@@ -40,13 +40,13 @@ module _ {A : Type 0} {g : Given} {from : Piece} {on : A → List Piece → List
 
 -- ---- the pattern of a form
 
-abbrev pub IsConstant : Source → Type 0
+abbrev pub IsConstant : PatternValue → Type 0
 IsConstant (s.Constant d) = Unit {0}
 IsConstant (s.Computed x) = ⊥
 
 module _ {A : Type 0} (g : Given) (w : Whole) (place : Place) (from : Piece) where
   -- a constant is not checked again
-  pub passed_constant : (y : p.Ere) (source : Source) (to : List Piece → List Piece) (x : A) → IsConstant source → IsSourceOf y source →
+  pub passed_constant : (y : p.Ere) (source : PatternValue) (to : List Piece → List Piece) (x : A) → IsConstant source → IsSourceOf y source →
       Passes g from w (λ k. checked y place (text_of (source_value source)) (to k)) w → Acts g from (λ (e : A). to) w (Ok x) w
   passed_constant (p.constant q x) source to e so is h = done h
   passed_constant (p.computed x) (s.Constant d) to e so is h = absurd is
@@ -66,7 +66,7 @@ module _ (g : Given) (w : Whole) (place : Place) (from : Piece) (at : Place) (a 
   Splits r = Acts g from (λ s k. Do (Split at a s text) ∷ k) w r w
 
   -- a constant is an ERE
-  pub split_constant : (y : p.Ere) (source : Source) → IsConstant source → IsSourceOf y source → Passes g from w (split_by y place at a text (text_of (source_value source))) w →
+  pub split_constant : (y : p.Ere) (source : PatternValue) → IsConstant source → IsSourceOf y source → Passes g from w (split_by y place at a text (text_of (source_value source))) w →
       Splits (Ok (ere (text_of (source_value source)) false))
   split_constant (p.constant q x) source so is h = done h
   split_constant (p.computed x) (s.Constant d) so is h = absurd is

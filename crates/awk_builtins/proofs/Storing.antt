@@ -12,7 +12,7 @@ use Rattle.awk_program.specs.Slots.{Text}
 use Rattle.awk_program.specs.View.{variable_of}
 use Rattle.awk_program.specs.declared.operators.Operator.{Operator}
 use Rattle.awk_program.specs.declared.operators.Step.{Step}
-use Rattle.awk_program.specs.declared.operators.Taken.{Taken}
+use Rattle.awk_program.specs.declared.operators.StepValue.{StepValue}
 use Rattle.awk_program.specs.declared.variables.Variable.{Variable}
 use Rattle.awk_machine.specs.Expressions.{either}
 use Rattle.awk_machine.specs.Forms.{value, spot}
@@ -53,7 +53,7 @@ module _ (g : Given) (old new : Whole) (place : Place) (r : p.Reference) (at : V
         doing was (moves {then_ = λ k. Do (Get (target r at)) ∷ At part (val ∷ at ∷ []) ∷ k}
         (on (moves {then_ = λ k. value x ∷ At part (at ∷ []) ∷ k} (on (moves {then_ = λ k. spot r ∷ At part [] ∷ k} (at_rest _ old) (λ k hid d a. refl)) there) (λ k hid d a. refl)) h) (λ k hid d a. refl)) get refl
 
-  step_value : {was : Value} (how : Step) (taken : Taken) → Acts g (Do (Get (target r at))) give old (Ok was) old →
+  step_value : {was : Value} (how : Step) (taken : StepValue) → Acts g (Do (Get (target r at))) give old (Ok was) old →
       Passes g (value (p.step place how taken r)) old (λ k. At (Value_of (p.step place how taken r)) (was ∷ at ∷ []) ∷ k) old
   step_value {was} how taken get =
       let part : Part = Value_of (p.step place how taken r) in
@@ -77,7 +77,7 @@ module _ (g : Given) (w : Whole) (new : Kept) (place : Place) (x : Variable) (n 
       stores g w (new, w.1) place named v.Unset (variable_spot g w x) (v.Num c)
       (moves (change_values g w (new, w.1) place named v.Unset (variable_spot g w x) e how h (reads_variable g w x n)) (λ k hid d ag. rw (first, second, made, nf-so g w hid d ag x, n) refl)) (set_variable (v.Num c) same)
 
-  pub steps_variable : (how : Step) (taken : Taken) (a b : ℤ) → number_of (kept.value w.0 x) ≡ Ok a → stepped how a ≡ Ok b → new ≡ with_value x (v.Num b) w.0 →
+  pub steps_variable : (how : Step) (taken : StepValue) (a b : ℤ) → number_of (kept.value w.0 x) ≡ Ok a → stepped how a ≡ Ok b → new ≡ with_value x (v.Num b) w.0 →
       Passes g (value (p.step place how taken named)) w (give (either taken a b)) (new, w.1)
   steps_variable how taken a b first made same =
       moves (doing (tt {0}) (moves {then_ = λ k. Do (Set (machine.Variable (variable_of (names_in g) x)) place (v.Num b)) ∷ Do (Give (either taken a b)) ∷ k}
@@ -103,7 +103,7 @@ module _ (g : Given) (w : Whole) (new : Kept) (place at_name : Place) (x : Varia
         stores g w (new, w.1) place element_named (v.Text key) there (v.Num c)
         (moves (change_values g w (new, w.1) place element_named (v.Text key) there e how h (reads_element g w x key at_name (v.Num a) has)) (λ k hid d ag. rw (second, is) refl)) (set_element made (v.Num c) puts same)
 
-    pub steps_element : (how : Step) (taken : Taken) → stepped how a ≡ Ok c → Passes g (value (p.step place how taken element_named)) w (give (either taken a c)) (new, w.1)
+    pub steps_element : (how : Step) (taken : StepValue) → stepped how a ≡ Ok c → Passes g (value (p.step place how taken element_named)) w (give (either taken a c)) (new, w.1)
     steps_element how taken is =
         moves (doing (tt {0}) (moves {then_ = λ k. Do (Set (machine.Element (variable_of (names_in g) x) key at_name) place (v.Num c)) ∷ Do (Give (either taken a c)) ∷ k}
         (step_value g w (new, w.1) place element_named (v.Text key) there how taken (reads_element g w x key at_name (v.Num a) has)) (λ k hid d ag. rw is refl)) (set_element made (v.Num c) puts same) refl) (λ k hid d ag. refl)

@@ -10,7 +10,7 @@ use Rattle.awk_program.specs.Slots.{Text}
 use Rattle.awk_program.specs.Program.{Reference}
 use Rattle.awk_program.specs.declared.operators.Operator.{Operator}
 use Rattle.awk_program.specs.declared.operators.Step.{Step}
-use Rattle.awk_program.specs.declared.operators.Taken.{Taken}
+use Rattle.awk_program.specs.declared.operators.StepValue.{StepValue}
 use Rattle.awk_machine.specs.Expressions.{either}
 use Rattle.awk_machine.specs.Operators.{operation, stepped}
 use Rattle.awk_machine.specs.Pieces.{Piece, Do, Give, Set}
@@ -29,7 +29,7 @@ abbrev pub both_numbers : Step → Value → Result (ℤ × ℤ) Fault
 both_numbers how x = number_of x >>= λ old. stepped how old >>= λ new. Ok (old, new)
 
 -- what is left to be done once these are known
-abbrev pub stepping : Place → Taken → Reference → Value → ℤ × ℤ → List Piece → List Piece
+abbrev pub stepping : Place → StepValue → Reference → Value → ℤ × ℤ → List Piece → List Piece
 stepping place taken r at (old, new) k = Do (Set (target r at) place (v.Num new)) ∷ Do (Give (either taken old new)) ∷ k
 
 -- what is left to be done once the number is known that is stored

@@ -8,16 +8,16 @@ use Rattle.awk_program.specs.Program.{Expression, Ere, Reference}
 use Rattle.awk_program.specs.declared.operators.Extent.{Extent}
 use Rattle.awk_machine.specs.Pieces.{Piece, At, Do, Get, Value_of}
 use Rattle.awk_machine.specs.Targets.{target}
-use Rattle.awk_builtins.specs.declared.patterns.Source.{Source}
-use Rattle.awk_builtins.specs.declared.patterns.Source.TheVariants as s
+use Rattle.awk_builtins.specs.declared.patterns.PatternValue.{PatternValue}
+use Rattle.awk_builtins.specs.declared.patterns.PatternValue.TheVariants as s
 
 -- the value that its part gave: of a constant its text
-abbrev pub source_value : Source → Value
+abbrev pub source_value : PatternValue → Value
 source_value (s.Constant ere) = v.Text ere.value
 source_value (s.Computed x) = x
 
 -- it is a constant where the pattern is one, and else it was computed
-abbrev pub IsSourceOf : Ere → Source → Type 0
+abbrev pub IsSourceOf : Ere → PatternValue → Type 0
 IsSourceOf (p.constant place x) (s.Constant ere) = Unit {0}
 IsSourceOf (p.computed x) (s.Computed y) = Unit {0}
 IsSourceOf x y = ⊥

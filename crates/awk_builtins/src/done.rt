@@ -4,7 +4,7 @@ ghost use Rattle.awk_machine.specs.Operators as machine;
 ghost use Rattle.awk_program.specs.Program as p;
 ghost use Rattle.awk_program.specs.Program.{expressions_of};
 ghost use Rattle.awk_program.specs.View.{variable_of, view, view_target};
-ghost use Rattle.awk_program.specs.declared.operators.Taken.{Taken as Which};
+ghost use Rattle.awk_program.specs.declared.operators.StepValue.{StepValue as Which};
 ghost use Rattle.awk_builtins.specs.AtHand.{AddsAt, HoldsOperands, IsDone, IsKey};
 ghost use Rattle.awk_store.specs.Changes.{Adds, Puts, with_array};
 ghost use Rattle.awk_store.specs.Kept as kept;

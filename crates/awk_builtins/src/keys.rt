@@ -20,7 +20,7 @@ use crate::line::Line;
 use crate::printing::printed;
 use awk_program::{Expr, Own, Variable};
 use awk_store::numbers::field_of;
-use awk_store::{Key, Store};
+use awk_store::{ElementKey, Store};
 use awk_streams::halt::{Halt, at};
 use awk_text::fault::Fault;
 use awk_text::octets::Octets;
@@ -134,14 +134,14 @@ pub fn only(subscripts: &[Expr]) -> Option<&Expr>
 }
 
 /// The key of an element by one subscript. Takes no memory.
-pub fn one_key(place: Place, subscript: Value) -> Result<Key, Halt>
+pub fn one_key(place: Place, subscript: Value) -> Result<ElementKey, Halt>
     ensures { (g : Given) (w : Whole) (a : p.Variable) (x : Expression) →
         Acts g (At (Target_of (p.element place a (p.more x p.none))) (subscript ∷ [])) (λ key. give (v.Text key)) w
         result w }
 {
     let mut buffer = Buffer::new();
     at(place, key_of_one(&subscript, &mut buffer))?;
-    Ok(Key::new(subscript))
+    Ok(ElementKey::new(subscript))
 }
 
 /// The key of `( list ) in array in array ..`.

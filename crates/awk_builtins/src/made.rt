@@ -4,7 +4,7 @@ ghost use Rattle.awk_machine.specs.Pieces.{At, Value_of};
 ghost use Rattle.awk_machine.specs.State.{Given};
 ghost use Rattle.awk_program.specs.Program as p;
 ghost use Rattle.awk_program.specs.Program.{Expression, Reference};
-ghost use Rattle.awk_program.specs.declared.operators.Taken.{Taken};
+ghost use Rattle.awk_program.specs.declared.operators.StepValue.{StepValue};
 ghost use Rattle.awk_store.specs.Acts.{Acts};
 ghost use Rattle.awk_store.specs.Numbers.{as_value};
 ghost use Rattle.awk_store.specs.Wholes.{Whole};
@@ -61,7 +61,7 @@ fn steps_of(how: Step, value: &Value) -> Result<(i64, i64), Fault>
 
 /// The old number and the new one of `target ++` and `target --`, once the target was read. Takes no memory.
 pub fn stepped_at(place: Place, how: Step, value: &Value) -> Result<(i64, i64), Halt>
-    ensures { (g : Given) (w : Whole) (taken : Taken) (r : Reference) (at : Value) →
+    ensures { (g : Given) (w : Whole) (taken : StepValue) (r : Reference) (at : Value) →
         Acts g (At (Value_of (p.step place how taken r)) (value.now ∷ at ∷ [])) (stepping place taken r at) w result w }
 {
     at(place, steps_of(how, value))

@@ -70,7 +70,7 @@ pub fn matches_record(
 
 /// What stands where a pattern is wanted, once it has a value.
 #[derive(Drop)]
-pub enum Source {
+pub enum PatternValue {
     /// A constant, which was checked where it stands
     Constant(Rc<Ere>),
     /// What was computed: its text is checked where it is used
@@ -98,13 +98,13 @@ pub fn constant(
     patterns: &mut Patterns,
     place: Place,
     text: &[u8],
-) -> Result<Source, Halt>
+) -> Result<PatternValue, Halt>
     ensures plays { (g : Given) (w : Whole) →
         Acts g (source (p.constant place text.now)) (λ s. give (source_value s)) w result w }
     ensures kind { IfOk result (λ s. IsSourceOf (p.constant place text.now) s) }
 {
     let ere = check(alloc, patterns, place, text)?;
-    Ok(Source::Constant(ere))
+    Ok(PatternValue::Constant(ere))
 }
 
 /// The ERE of a pattern where it is used: from whatever leads to its check on to what stands behind it.
@@ -112,7 +112,7 @@ pub fn used(
     alloc: Global,
     patterns: &mut Patterns,
     place: Place,
-    pattern: Source,
+    pattern: PatternValue,
 ) -> Result<Rc<Ere>, Halt>
     ensures check { (g : Given) (w : Whole) (y : p.Ere) → IsSourceOf y pattern →
         (from : Piece) (to : List Piece → List Piece)
@@ -121,8 +121,8 @@ pub fn used(
     ensures ere { IfOk result (λ e. e.value ≡ text_of (source_value pattern)) }
 {
     match pattern {
-        Source::Constant(ere) => Ok(ere),
-        Source::Computed(computed) => {
+        PatternValue::Constant(ere) => Ok(ere),
+        PatternValue::Computed(computed) => {
             let mut buffer = Buffer::new();
             check(alloc, patterns, place, text_in(&computed, &mut buffer))
         }
@@ -135,7 +135,7 @@ pub fn matched(
     patterns: &mut Patterns,
     place: Place,
     text: &Value,
-    pattern: Source,
+    pattern: PatternValue,
 ) -> Result<bool, Halt>
     ensures { (g : Given) (w : Whole) (x : Expression) (y : p.Ere) → IsSourceOf y pattern
         → Acts g (At (Value_of (p.matched place x y)) (source_value pattern ∷ text.now ∷ [])) (λ b. give (of_truth b)) w

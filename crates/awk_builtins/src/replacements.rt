@@ -16,7 +16,7 @@ ghost use Rattle.awk_text.specs.Values.{text_of};
 ghost use Rattle.std.specs.Prelude.{Err, IfErr, IfOk, List, Ok, [], ℕ, ◌-◌, ◌<◌, ◌∷◌, ◌≡◌, ◌⊎◌};
 
 use crate::cache::Patterns;
-use crate::patterns::{Source, used};
+use crate::patterns::{PatternValue, used};
 use awk_ere::Ere;
 use awk_lib::replace_any;
 use awk_program::Extent;
@@ -121,7 +121,7 @@ pub fn substitute(
     store: &mut Store,
     place: Place,
     extent: Extent,
-    pattern: Source,
+    pattern: PatternValue,
     new: &Value,
     target: Spot,
 ) -> Result<Value, Halt>

@@ -13,7 +13,7 @@ ghost use Rattle.awk_text.specs.Values.{text_of};
 ghost use Rattle.std.specs.Prelude.{Err, IfErr, IfOk, List, Ok, [], false, pos, ℕ, ◌+◌, ◌-◌, ◌<◌, ◌^◌, ◌∷◌, ◌≡◌, ◌≤◌};
 
 use crate::cache::Patterns;
-use crate::patterns::{Source, used};
+use crate::patterns::{PatternValue, used};
 use awk_ere::Ere;
 use awk_program::Own;
 use awk_store::Store;
@@ -105,7 +105,7 @@ pub fn located(
     store: &mut Store,
     place: Place,
     text: &Value,
-    pattern: Source,
+    pattern: PatternValue,
 ) -> Result<Value, Halt>
     ensures { (g : Given) (t : Table) (x : Expression) (y : p.Ere) → IsSourceOf y pattern
         → Acts g (At (Value_of (p.locate place x y)) (source_value pattern ∷ text.now ∷ [])) give (store.old, t) result

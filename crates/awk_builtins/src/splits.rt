@@ -18,7 +18,7 @@ ghost use Rattle.std.specs.Fmt.{decimal};
 ghost use Rattle.std.specs.Prelude.{Err, IfErr, IfOk, List, Ok, OnOk, [], false, length, pos, ℕ, ◌∷◌, ◌≡◌, ◌⊎◌};
 
 use crate::cache::Patterns;
-use crate::patterns::{Source, check};
+use crate::patterns::{PatternValue, check};
 use awk_ere::Ere;
 use awk_fields::Splitter;
 use awk_lib::array::{Array, MOST_ELEMENTS};
@@ -140,7 +140,7 @@ fn splitter(
     alloc: Global,
     patterns: &mut Patterns,
     place: Place,
-    by: Source,
+    by: PatternValue,
 ) -> Result<Splitter, Halt>
     ensures { (g : Given) (w : Whole) (y : p.Ere) → IsSourceOf y by →
         (at : Place) (a : p.Variable) (text : List ℕ) (from : Piece)
@@ -148,8 +148,8 @@ fn splitter(
         Acts g from (λ s k. Do (Split at a s text) ∷ k) w result w }
 {
     match by {
-        Source::Constant(ere) => Ok(Splitter::by_compiled(ere)),
-        Source::Computed(computed) => {
+        PatternValue::Constant(ere) => Ok(Splitter::by_compiled(ere)),
+        PatternValue::Computed(computed) => {
             let mut buffer = Buffer::new();
             computed_splitter(alloc, patterns, place, text_in(&computed, &mut buffer))
         }
@@ -166,7 +166,7 @@ pub fn split(
     at_name: Place,
     array: Variable,
     text: &Value,
-    by: Source,
+    by: PatternValue,
 ) -> Result<Value, Halt>
     ensures { (g : Given) (t : Table) (x : Expression) (y : p.Ere) → IsSourceOf y by
         → Acts g (At (Value_of (p.split place x at_name (variable_of (names_in g) array) y))

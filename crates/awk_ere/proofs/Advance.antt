@@ -8,17 +8,17 @@ use Rattle.std.proofs.lemmas.List.{get_or-set_same, get_or-set_other, get_or_def
 use Rattle.std.proofs.Math.ListN.{get_or-eq_default}
 use Rattle.awk_ere.specs.Program.{holds, IsSound}
 use Rattle.awk_ere.specs.Search.{mark, IsListed, IsBlank, IsClosed, LeadsTo, Reaches, Takes, Advances, target_of}
-use Rattle.awk_ere.specs.declared.program.Step.{Step}
-use Rattle.awk_ere.specs.declared.program.Step.TheVariants.{Eat, Fork, AtStart, AtEnd, Done, Hole}
+use Rattle.awk_ere.specs.declared.program.Instruction.{Instruction}
+use Rattle.awk_ere.specs.declared.program.Instruction.TheVariants.{Eat, Fork, AtStart, AtEnd, Done, Hole}
 use Rattle.awk_ere.specs.declared.search.TheConstants.{NONE}
 
 -- the first k steps of the list are done
-pub record IsAdvancing (sets : List (List Bool)) (program : List Step) (b : ℕ) (first last : Bool) (cap : ℕ) (starts active : List ℕ) (k : ℕ) (new : List ℕ) : Type 0 where
+pub record IsAdvancing (sets : List (List Bool)) (program : List Instruction) (b : ℕ) (first last : Bool) (cap : ℕ) (starts active : List ℕ) (k : ℕ) (new : List ℕ) : Type 0 where
   pub closed : IsClosed program first last new
   pub sound : (q : ℕ) → mark new q < NONE → (p : ℕ) × (r : ℕ) × Takes sets program b p r × LeadsTo program first last r q × (mark starts p ≡ mark new q)
   pub complete : (i p r : ℕ) → i < k → i < length active → get_or active i 0 ≡ p → mark starts p ≤ cap → Takes sets program b p r → mark new r ≤ mark starts p
 
-module _ (sets : List (List Bool)) (program : List Step) (b : ℕ) (first last : Bool) (cap : ℕ) (starts active : List ℕ) where
+module _ (sets : List (List Bool)) (program : List Instruction) (b : ℕ) (first last : Bool) (cap : ℕ) (starts active : List ℕ) where
   pub advancing_begins : (new : List ℕ) → IsBlank new → IsAdvancing sets program b first last cap starts active 0 new
   advancing_begins new blank = record {
     closed = λ q r skip. omega (arith, blank q, blank r);
@@ -118,7 +118,7 @@ pub listed_none : (starts : List ℕ) → IsBlank starts → IsListed starts []
 listed_none starts blank = record { each = λ q lt marked. absurd (omega (arith, blank q)); below = λ q member. absurd (omega (arith, member.1)) }
 
 -- `Takes` by `target_of`
-pub takes_target : (sets : List (List Bool)) (program : List Step) (b q r : ℕ) (x : Step) → slice_get program q ≡ Some x → target_of sets b x ≡ Some r → Takes sets program b q r
+pub takes_target : (sets : List (List Bool)) (program : List Instruction) (b q r : ℕ) (x : Instruction) → slice_get program q ≡ Some x → target_of sets b x ≡ Some r → Takes sets program b q r
 takes_target sets program b q r (Eat k to) at e =
     let f = cond_some (holds sets k b) to r e in
     record { class = k; step = subst (λ y. slice_get program q ≡ Some (Eat k y)) f.1 at; taken = f.0 }
@@ -128,11 +128,11 @@ takes_target sets program b q r (AtEnd y) at e = absurd (none-some r e)
 takes_target sets program b q r Done at e = absurd (none-some r e)
 takes_target sets program b q r Hole at e = absurd (none-some r e)
 
-pub target_takes : (sets : List (List Bool)) (program : List Step) (b q r : ℕ) (x : Step) → slice_get program q ≡ Some x → Takes sets program b q r → target_of sets b x ≡ Some r
+pub target_takes : (sets : List (List Bool)) (program : List Instruction) (b q r : ℕ) (x : Instruction) → slice_get program q ≡ Some x → Takes sets program b q r → target_of sets b x ≡ Some r
 target_takes sets program b q r x at takes =
     let e = takes.step in
     let f : x ≡ Eat takes.class r = cc in
     ap (λ y. target_of sets b y) f ∙ ap (λ y. cond y (Some r) None) takes.taken
 
-pub target_below : (sets : List (List Bool)) (program : List Step) (b q r : ℕ) → IsSound program → Takes sets program b q r → r < length program
+pub target_below : (sets : List (List Bool)) (program : List Instruction) (b q r : ℕ) → IsSound program → Takes sets program b q r → r < length program
 target_below sets program b q r sound takes = sound.names q (Eat takes.class r) takes.step

@@ -9,8 +9,8 @@ use Rattle.std.proofs.lemmas.Option.{slice_get_within}
 use Rattle.awk_ere.specs.Program.{Skips, left, right, at_start, at_end, IsSound}
 use Rattle.awk_ere.specs.Search.{mark, target_of, IsClosed, IsBlank, LeadsTo, Reaches, Takes}
 use Rattle.awk_ere.specs.Table.{steps_of, cell, Gains, LeadsMore, IsLed, AreLed, AreMarked, AreTargets, IsCell, Later, IsNumber, IsKnown, AreEdges, AreRows, AreFlags, EndsAtLast, IsFirst, IsBegin, IsDead, IsTable}
-use Rattle.awk_ere.specs.declared.program.Step.{Step}
-use Rattle.awk_ere.specs.declared.program.Step.TheVariants.{Eat}
+use Rattle.awk_ere.specs.declared.program.Instruction.{Instruction}
+use Rattle.awk_ere.specs.declared.program.Instruction.TheVariants.{Eat}
 use Rattle.awk_ere.specs.declared.search.TheConstants.{NONE}
 use Rattle.awk_ere.specs.declared.states.TheConstants.{UNKNOWN}
 use Rattle.awk_ere.specs.declared.states.Begin.{Begin}
@@ -47,7 +47,7 @@ module _ (P : ℕ → ℕ → Type 0) where
   )
 
 -- targets
-module _ (sets : List (List Bool)) (program : List Step) (b : ℕ) (list : List ℕ) where
+module _ (sets : List (List Bool)) (program : List Instruction) (b : ℕ) (list : List ℕ) where
   abbrev pub Target : ℕ → ℕ → Type 0
   Target i t = (i < length list) × Takes sets program b (get_or list i 0) t
 
@@ -70,7 +70,7 @@ marks_gathered starts list k all h inside = record {
   complete = λ p marked. (h p).1 (p, omega (arith, inside p marked), (refl, marked));
 }
 
-module _ (program : List Step) (first last : Bool) where
+module _ (program : List Instruction) (first last : Bool) where
   pub leads_all : (from : ℕ) (old new : List ℕ) → Reaches program first last from 0 old new → LeadsMore program first last from old new
   leads_all from old new h = record { lower = h.lower; there = λ lt. h.there; origin = h.origin; closed = h.closed }
 
@@ -121,13 +121,13 @@ module _ (program : List Step) (first last : Bool) where
   }
 
 -- a cell
-pub cell_by : (sets : List (List Bool)) (program : List Step) (b : ℕ) (S T U : List ℕ) → IsSound program → AreTargets sets program b S T → IsLed program false false T U → IsCell sets program b S U
+pub cell_by : (sets : List (List Bool)) (program : List Instruction) (b : ℕ) (S T U : List ℕ) → IsSound program → AreTargets sets program b S T → IsLed program false false T U → IsCell sets program b S U
 cell_by sets program b S T U sound targets led = record {
   sound = λ p member. let y = led.sound p member in let z = targets.sound y.0 y.1 in (z.0, y.0, z.1, z.2, y.2);
   complete = λ x t p member takes leads. led.complete t p (target_below sets program b x t sound takes) (targets.complete x t member takes) leads;
 }
 
-pub cell_known : (sets : List (List Bool)) (program : List Step) (b : ℕ) (S U : List ℕ) (lists : List (List ℕ)) (n : ℕ) → IsCell sets program b S U → IsNumber U lists n → IsKnown sets program b S lists n
+pub cell_known : (sets : List (List Bool)) (program : List Instruction) (b : ℕ) (S U : List ℕ) (lists : List (List ℕ)) (n : ℕ) → IsCell sets program b S U → IsNumber U lists n → IsKnown sets program b S lists n
 cell_known sets program b S U lists n is h = λ small. let y = h small in (y.0, subst (λ x. IsCell sets program b S x) (sym y.1) is)
 
 -- numbers
@@ -190,7 +190,7 @@ later_steps lists all q lt (more, is) = ap (λ x. steps_of x q) is ∙ front lis
 pub later_length : (lists all : List (List ℕ)) → Later lists all → length lists ≤ length all
 later_length lists all (more, is) = let e = ap length is in omega (arith, e, length-append {A = List ℕ})
 
-module _ (sets : List (List Bool)) (program : List Step) where
+module _ (sets : List (List Bool)) (program : List Instruction) where
   abbrev pub known_rows : List ℕ → List (List ℕ) → List ℕ → Type 0
   known_rows S lists row = (b : ℕ) → b < 256 → IsKnown sets program b S lists (get_or row b 0)
 
@@ -281,7 +281,7 @@ flags_push P k flags new b is one h = subst (λ x. AreFlags P (k + 1) x) (sym is
   flag_last (x ∷ xs) b = flag_last xs b
 
 -- what leads to the end is in the program
-leads_inside : (program : List Step) (first last : Bool) (x : ℕ) → 0 < length program → LeadsTo program first last x 0 → x < length program
+leads_inside : (program : List Instruction) (first last : Bool) (x : ℕ) → 0 < length program → LeadsTo program first last x 0 → x < length program
 leads_inside program first last x some (zero, is) = omega arith
 leads_inside program first last x some (suc n, (p, skip, path)) = by_skip skip where
   by_skip : Skips program first last x p → x < length program
@@ -290,28 +290,28 @@ leads_inside program first last x some (suc n, (p, skip, path)) = by_skip skip w
   by_skip (at_start h f) = slice_get_within program _ _ h
   by_skip (at_end h f) = slice_get_within program _ _ h
 
-pub ends_by : (program : List Step) (list steps : List ℕ) (b : Bool) → 0 < length program → IsLed program false true list steps → (b ≡ true) ↔ Contains steps 0 → (b ≡ true) ↔ EndsAtLast program list
+pub ends_by : (program : List Instruction) (list steps : List ℕ) (b : Bool) → 0 < length program → IsLed program false true list steps → (b ≡ true) ↔ Contains steps 0 → (b ≡ true) ↔ EndsAtLast program list
 ends_by program list steps b some led is = (
   (λ t. led.sound 0 (is.0 t)),
   (λ h. is.1 (led.complete h.0 0 (leads_inside program false true h.0 some h.2) h.1 h.2)),
 )
 
-pub first_known : (program : List Step) (first : Bool) (entry : ℕ) (U : List ℕ) (lists : List (List ℕ)) (n : ℕ) → IsLed program first false (entry ∷ []) U → IsNumber U lists n → IsFirst program first entry lists n
+pub first_known : (program : List Instruction) (first : Bool) (entry : ℕ) (U : List ℕ) (lists : List (List ℕ)) (n : ℕ) → IsLed program first false (entry ∷ []) U → IsNumber U lists n → IsFirst program first entry lists n
 first_known program first entry U lists n led h = λ small. let y = h small in (y.0, subst (λ x. IsLed program first false (entry ∷ []) x) (sym y.1) led)
 
-pub first_later : (program : List Step) (first : Bool) (entry n : ℕ) (lists all : List (List ℕ)) → Later lists all → IsFirst program first entry lists n → IsFirst program first entry all n
+pub first_later : (program : List Instruction) (first : Bool) (entry n : ℕ) (lists all : List (List ℕ)) → Later lists all → IsFirst program first entry lists n → IsFirst program first entry all n
 first_later program first entry n lists all later h = λ small. let y = h small in (omega (arith, y.0, later_length lists all later), subst (λ x. IsLed program first false (entry ∷ []) x) (sym (later_steps lists all n y.0 later)) y.1)
 
 -- edges: the first k steps are done
-pub record AreEdgesOf (sets : List (List Bool)) (program : List Step) (k : ℕ) (edges : List Bool) : Type 0 where
+pub record AreEdgesOf (sets : List (List Bool)) (program : List Instruction) (k : ℕ) (edges : List Bool) : Type 0 where
   pub first : get_or edges 0 false ≡ true
-  pub each : (i : ℕ) (x : Step) (b : ℕ) → i < k → slice_get program i ≡ Some x → b + 1 < 256 → get_or edges (b + 1) false ≡ false → target_of sets (b + 1) x ≡ target_of sets b x
+  pub each : (i : ℕ) (x : Instruction) (b : ℕ) → i < k → slice_get program i ≡ Some x → b + 1 < 256 → get_or edges (b + 1) false ≡ false → target_of sets (b + 1) x ≡ target_of sets b x
 
-module _ (sets : List (List Bool)) (program : List Step) where
+module _ (sets : List (List Bool)) (program : List Instruction) where
   pub edges_begin : (edges : List Bool) → get_or edges 0 false ≡ true → AreEdgesOf sets program 0 edges
   edges_begin edges first = record { first = first; each = λ i x b lt. absurd (omega arith) }
 
-  pub edges_more : (k : ℕ) (x : Step) (old new : List Bool) → slice_get program k ≡ Some x → ((b : ℕ) → get_or new b false ≡ false → get_or old b false ≡ false)
+  pub edges_more : (k : ℕ) (x : Instruction) (old new : List Bool) → slice_get program k ≡ Some x → ((b : ℕ) → get_or new b false ≡ false → get_or old b false ≡ false)
       → ((b : ℕ) → b + 1 < 256 → get_or new (b + 1) false ≡ false → target_of sets (b + 1) x ≡ target_of sets b x) → AreEdgesOf sets program k old → AreEdgesOf sets program (k + 1) new
   edges_more k x old new at kept edge h = record {
     first = still (get_or new 0 false) refl;
@@ -335,16 +335,16 @@ module _ (sets : List (List Bool)) (program : List Step) where
       (λ takes. takes_target sets program (b + 1) q r (Eat takes.class r) takes.step (same b q r inside off (Eat takes.class r) takes.step ∙ target_takes sets program b q r (Eat takes.class r) takes.step takes)),
     ),
   ) where
-    same : (b q r : ℕ) → b + 1 < 256 → get_or edges (b + 1) false ≡ false → (x : Step) → slice_get program q ≡ Some x → target_of sets (b + 1) x ≡ target_of sets b x
+    same : (b q r : ℕ) → b + 1 < 256 → get_or edges (b + 1) false ≡ false → (x : Instruction) → slice_get program q ≡ Some x → target_of sets (b + 1) x ≡ target_of sets b x
     same b q r inside off x at = h.each q x b (let lt = slice_get_within program q x at in omega arith) at inside off
 
 pub dead_later : (lists all : List (List ℕ)) → Later lists all → IsDead lists → IsDead all
 dead_later lists all later h = (omega (arith, h.0, later_length lists all later), later_steps lists all 0 h.0 later ∙ h.1)
 
-pub begin_later : (program : List Step) (entry : ℕ) (lists all : List (List ℕ)) (r : Begin) → Later lists all → IsBegin program entry lists r → IsBegin program entry all r
+pub begin_later : (program : List Instruction) (entry : ℕ) (lists all : List (List ℕ)) (r : Begin) → Later lists all → IsBegin program entry lists r → IsBegin program entry all r
 begin_later program entry lists all r later h = (first_later program true entry r.first lists all later h.0, first_later program false entry r.later lists all later h.1)
 
-pub is_table : (sets : List (List Bool)) (program : List Step) (lists cells : List (List ℕ)) (n : ℕ) (accepts ends : List Bool) → n ≡ length cells → length cells ≤ UNKNOWN → IsDead lists → AreRows sets program lists cells
+pub is_table : (sets : List (List Bool)) (program : List Instruction) (lists cells : List (List ℕ)) (n : ℕ) (accepts ends : List Bool) → n ≡ length cells → length cells ≤ UNKNOWN → IsDead lists → AreRows sets program lists cells
     → AreFlags (λ q. Contains (steps_of lists q) 0) n accepts → AreFlags (λ q. EndsAtLast program (steps_of lists q)) n ends → IsTable sets program lists cells accepts ends
 is_table sets program lists cells n accepts ends is few dead rows accept end = record {
   right = λ q b lt small known. (rows q b lt small (omega arith)).1;

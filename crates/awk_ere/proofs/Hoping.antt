@@ -5,8 +5,8 @@ use Rattle.std.proofs.lemmas.Bool.{cases_lt, cases_eq}
 use Rattle.std.proofs.lemmas.List.{get_or-replicate, get_or-set_same, get_or-set_other}
 use Rattle.awk_ere.specs.Table.{cell, IsAt, IsLongest}
 use Rattle.awk_ere.specs.Hopes.{IsRowBefore, IsHopeless, IsRow, AreKept}
-use Rattle.awk_ere.specs.declared.program.Step.{Step}
-use Rattle.awk_ere.specs.declared.states.Table.{Table}
+use Rattle.awk_ere.specs.declared.program.Instruction.{Instruction}
+use Rattle.awk_ere.specs.declared.states.StateTable.{StateTable}
 use Rattle.awk_ere.proofs.Tables.{at_next, at_turn, at_last}
 
 -- a row of which the first k states were looked at
@@ -49,7 +49,7 @@ module _ (P : ℕ → List Bool → Type 0) where
         subst (λ x. P x (slice_index_or (rows ++ row ∷ []) x [])) (sym e) (subst (P (length rows)) (sym (rows_last rows row)) here)
   ])
 
-module _ (t : Table) (s : List ℕ) where
+module _ (t : StateTable) (s : List ℕ) where
   pub row_back : (left at : ℕ) (after row : List Bool) → at ≡ length s - suc left → IsRow t s left after → IsRowBefore t (slice_index s at) after row → IsRow t s (left + 1) row
   row_back left at after row is had h = λ q lt off.
       let y = h q lt off in
@@ -60,7 +60,7 @@ module _ (t : Table) (s : List ℕ) where
   hopeless_known zero q h = h.0
   hopeless_known (suc n) q h = h.0
 
-  module _ (sets : List (List Bool)) (program : List Step) (e i : ℕ) (fit : (k : ℕ) → slice_index s k < 256) (some : i < length s) where
+  module _ (sets : List (List Bool)) (program : List Instruction) (e i : ℕ) (fit : (k : ℕ) → slice_index s k < 256) (some : i < length s) where
     pub hopeless : (n k q : ℕ) (best : Option ℕ) → k + n ≡ length s → i ≤ k → IsAt sets program s t.cells.items t.accepts.items t.ends.items e i k q → IsHopeless t s n q
         → IsLongest sets program s e i k best → IsLongest sets program s e i (length s + 1) best
     hopeless zero k q best sum le at h had =
@@ -74,12 +74,12 @@ module _ (t : Table) (s : List ℕ) where
         hopeless n (k + 1) (cell t.cells.items q (slice_index s k)) best (omega (arith, sum)) (omega (arith, le)) next on passed
 
 -- a row that is kept
-pub row_at : (t : Table) (s : List ℕ) (kept : List (List Bool)) (block left : ℕ) (row : List Bool) → 64 * block ≡ left → block < length kept → row ≡ slice_index_or kept block [] → AreKept t s kept → IsRow t s left row
+pub row_at : (t : StateTable) (s : List ℕ) (kept : List (List Bool)) (block left : ℕ) (row : List Bool) → 64 * block ≡ left → block < length kept → row ≡ slice_index_or kept block [] → AreKept t s kept → IsRow t s left row
 row_at t s kept block left row is lt same h = subst (λ n. IsRow t s n row) is (subst (λ x. IsRow t s (64 * block) x) (sym same) (h block lt))
 
 -- where the parts of the table were read
-pub hopeless_by : (t : Table) (s : List ℕ) (cells : List (List ℕ)) (accepts ends : List Bool) → cells ≡ t.cells.items → accepts ≡ t.accepts.items → ends ≡ t.ends.items
-    → (sets : List (List Bool)) (program : List Step) (e i : ℕ) → ((k : ℕ) → slice_index s k < 256) → i < length s → (n k q : ℕ) (best : Option ℕ) → k + n ≡ length s → i ≤ k
+pub hopeless_by : (t : StateTable) (s : List ℕ) (cells : List (List ℕ)) (accepts ends : List Bool) → cells ≡ t.cells.items → accepts ≡ t.accepts.items → ends ≡ t.ends.items
+    → (sets : List (List Bool)) (program : List Instruction) (e i : ℕ) → ((k : ℕ) → slice_index s k < 256) → i < length s → (n k q : ℕ) (best : Option ℕ) → k + n ≡ length s → i ≤ k
     → IsAt sets program s cells accepts ends e i k q → IsHopeless t s n q → IsLongest sets program s e i k best → IsLongest sets program s e i (length s + 1) best
 hopeless_by t s cells accepts ends cells_are accepts_are ends_are sets program e i fit some n k q best sum le at h had =
     let a = subst (λ x. IsAt sets program s x accepts ends e i k q) cells_are at in

@@ -10,24 +10,24 @@ use Rattle.awk_ere.specs.Matcher.{StandsFor, StartsFrom}
 use Rattle.awk_ere.specs.Table.{Matcher, anywhere}
 use Rattle.awk_ere.specs.View.{pattern}
 use Rattle.awk_ere.specs.Tree.{IsWhole, IsTree}
-use Rattle.awk_ere.specs.declared.tree.Part.{Part}
+use Rattle.awk_ere.specs.declared.tree.Sized.{Sized}
 use Rattle.awk_ere.specs.declared.node.Node.{Node}
-use Rattle.awk_ere.specs.declared.program.Step.{Step}
-use Rattle.awk_ere.specs.declared.program.Step.TheVariants.{Done}
+use Rattle.awk_ere.specs.declared.program.Instruction.{Instruction}
+use Rattle.awk_ere.specs.declared.program.Instruction.TheVariants.{Done}
 use Rattle.awk_ere.proofs.Tokens.{later_same}
 use Rattle.awk_ere.proofs.Programs.{Grows-trans}
 use Rattle.awk_ere.proofs.Meaning.{Means-grows}
 use Rattle.awk_ere.proofs.Parts.{compiles_cat}
 use Rattle.awk_ere.proofs.Searching.{machine_of, run_matches, matches_run}
 
-means_same : (sets : List (List Bool)) (a : List Step) (e : ℕ) (p q : Pattern) (next : ℕ) → IsSame p q → Means sets a e p next → Means sets a e q next
+means_same : (sets : List (List Bool)) (a : List Instruction) (e : ℕ) (p q : Pattern) (next : ℕ) → IsSame p q → Means sets a e p next → Means sets a e q next
 means_same sets a e p q next same m = record {
   into = λ full s n i j ext done path. let y = m.into full s n i j ext done path in (y.0, y.1, y.2, same.to s i y.0 y.3, y.4);
   back = λ full s k n i j ext x path. m.back full s k n i j ext (same.from s i k x) path;
 }
 
 -- a machine is that of each pattern that matches the same
-pub machine_same : (sets : List (List Bool)) (program : List Step) (e : ℕ) (p q : Pattern) → IsSame p q → IsMachine sets program e p → IsMachine sets program e q
+pub machine_same : (sets : List (List Bool)) (program : List Instruction) (e : ℕ) (p q : Pattern) → IsSame p q → IsMachine sets program e p → IsMachine sets program e q
 machine_same sets program e p q same m = record {
   sound = m.sound;
   inside = m.inside;
@@ -40,7 +40,7 @@ no_larger : (size n : ℕ) → size ≡ min 20001 n → size ≤ 20000 → n ≤
 no_larger size n is small = omega arith
 
 -- the same in a program that has grown
-compiled_later : (old a b : List Step) (e next : ℕ) (p : List (List Bool) → Pattern) → Compiles old a e p next → IsSound b → Grows a b → Compiles old b e p next
+compiled_later : (old a b : List Instruction) (e next : ℕ) (p : List (List Bool) → Pattern) → Compiles old a e p next → IsSound b → Grows a b → Compiles old b e p next
 compiled_later old a b e next p h sound grows = record {
   sound = sound;
   grows = Grows-trans h.grows grows;
@@ -49,7 +49,7 @@ compiled_later old a b e next p h sound grows = record {
 }
 
 -- a tree that was read, where its text is within the limits
-pub within : (text : List ℕ) (sets : List (List Bool)) (part : Part) → length text ≤ 4096 → part.size ≤ 20000 → IsWhole text sets part → IsTree text sets part.node
+pub within : (text : List ℕ) (sets : List (List Bool)) (part : Sized) → length text ≤ 4096 → part.size ≤ 20000 → IsWhole text sets part → IsTree text sets part.node
 within text sets part short small (ts, p, n, read, spells, stands) = (
   p,
   record { size = n; spelled = (ts, read, spells); short = short; small = no_larger part.size n stands.size small },
@@ -57,7 +57,7 @@ within text sets part short small (ts, p, n, read, spells, stands) = (
 )
 
 -- the machine of a tree, and the one that may begin anywhere
-pub machines : (sets : List (List Bool)) (node : Node) (a program : List Step) (entry scan : ℕ) → Compiles (Done ∷ []) a entry (λ sets. pattern sets node) 0
+pub machines : (sets : List (List Bool)) (node : Node) (a program : List Instruction) (entry scan : ℕ) → Compiles (Done ∷ []) a entry (λ sets. pattern sets node) 0
     → Compiles a program scan (λ _. repeat (bytes (λ b. true)) 0 None) entry → IsMachine sets program entry (pattern sets node) × IsMachine sets program scan (anywhere (pattern sets node))
 machines sets node a program entry scan h g = (
   machine_of sets program entry (λ sets. pattern sets node) (compiled_later (Done ∷ []) a program entry 0 (λ sets. pattern sets node) h g.sound g.grows),

@@ -4,42 +4,42 @@ use Rattle.std.specs.List.{slice_get}
 use Rattle.std.proofs.lemmas.Bool.{eqb-true}
 use Rattle.awk_ere.specs.Pattern.{Pattern, empty, bytes, start, finish, cat, alt, repeat, Chain, AtMost, Matches}
 use Rattle.awk_ere.specs.Program.{holds, times, left, right, at_start, at_end, Moves, Path, Extends, Means, Grows}
-use Rattle.awk_ere.specs.declared.program.Step.{Step}
+use Rattle.awk_ere.specs.declared.program.Instruction.{Instruction}
 use Rattle.awk_ere.specs.declared.token.Class.{Class}
-use Rattle.awk_ere.specs.declared.program.Step.TheVariants.{Eat, Fork, AtStart, AtEnd, Done}
+use Rattle.awk_ere.specs.declared.program.Instruction.TheVariants.{Eat, Fork, AtStart, AtEnd, Done}
 use Rattle.awk_ere.proofs.Programs.{Grows-extends, skips_fork, skips_start, skips_end, skips_eat}
 
 module _ (sets : List (List Bool)) where
   -- what a path from e is, in `Means`
-  abbrev pub Splits : List Step → Pattern → ℕ → List ℕ → ℕ → ℕ → ℕ → Type 0
+  abbrev pub Splits : List Instruction → Pattern → ℕ → List ℕ → ℕ → ℕ → ℕ → Type 0
   Splits full p next s n i j = (k : ℕ) × (m : ℕ) × (m ≤ n) × Matches s p i k × Path sets full s m next k 0 j
 
-  abbrev pub Ends : List Step → List ℕ → ℕ → ℕ → ℕ → Type 0
+  abbrev pub Ends : List Instruction → List ℕ → ℕ → ℕ → ℕ → Type 0
   Ends full s e i j = (m : ℕ) × Path sets full s m e i 0 j
 
-  pub Means-grows : (a b : List Step) (e : ℕ) (p : Pattern) (next : ℕ) → Grows a b → Means sets a e p next → Means sets b e p next
+  pub Means-grows : (a b : List Instruction) (e : ℕ) (p : Pattern) (next : ℕ) → Grows a b → Means sets a e p next → Means sets b e p next
   Means-grows a b e p next g m = record {
     into = λ full s n i j ext. m.into full s n i j (Grows-extends a b full g ext);
     back = λ full s k n i j ext. m.back full s k n i j (Grows-extends a b full g ext);
   }
 
-  pub Means-extends : (a b : List Step) (e : ℕ) (p : Pattern) (next : ℕ) → Extends a b → Means sets a e p next → Means sets b e p next
+  pub Means-extends : (a b : List Instruction) (e : ℕ) (p : Pattern) (next : ℕ) → Extends a b → Means sets a e p next → Means sets b e p next
   Means-extends a b e p next g m = record {
     into = λ full s n i j ext. m.into full s n i j (λ q x real at. ext q x real (g q x real at));
     back = λ full s k n i j ext. m.back full s k n i j (λ q x real at. ext q x real (g q x real at));
   }
 
-  pub means_empty : (a : List Step) (e : ℕ) → Means sets a e empty e
+  pub means_empty : (a : List Instruction) (e : ℕ) → Means sets a e empty e
   means_empty a e = record {
     into = λ full s n i j ext done path. (i, n, omega arith, refl, path);
     back = λ full s k n i j ext m path. (n, subst (λ x. Path sets full s n e x 0 j) (sym m) path);
   }
 
   -- a path of a step and a path
-  one_more : (full : List Step) (s : List ℕ) (q i p k : ℕ) (j : ℕ) → Moves sets full s q i p k → Ends full s p k j → Ends full s q i j
+  one_more : (full : List Instruction) (s : List ℕ) (q i p k : ℕ) (j : ℕ) → Moves sets full s q i p k → Ends full s p k j → Ends full s q i j
   one_more full s q i p k j move (m, path) = (suc m, (p, k, move, path))
 
-  module _ (full : List Step) (s : List ℕ) (e next : ℕ) (done : slice_get full 0 ≡ Some Done) where
+  module _ (full : List Instruction) (s : List ℕ) (e next : ℕ) (done : slice_get full 0 ≡ Some Done) where
     bytes_into : (k : Class) (n i j : ℕ) → slice_get full e ≡ Some (Eat k next) → Path sets full s n e i 0 j → Splits full (bytes (holds sets k)) next s n i j
     bytes_into k zero i j at (is, same) = let f = ap (λ x. slice_get full x) is in absurd (cc)
     bytes_into k (suc n) i j at (p, l, inl (skip, same), path) = absurd (skips_eat full _ _ e p k next at skip)
@@ -76,25 +76,25 @@ module _ (sets : List (List Bool)) where
     )
     fork_into a b (suc n) i j at (p, l, inr (eats, same), path) = let step = eats.step in absurd (cc)
 
-  pub means_bytes : (a : List Step) (e : ℕ) (k : Class) (next : ℕ) → slice_get a e ≡ Some (Eat k next) → Means sets a e (bytes (holds sets k)) next
+  pub means_bytes : (a : List Instruction) (e : ℕ) (k : Class) (next : ℕ) → slice_get a e ≡ Some (Eat k next) → Means sets a e (bytes (holds sets k)) next
   means_bytes a e k next at = record {
     into = λ full s n i j ext done path. bytes_into full s e next done k n i j (ext e (Eat k next) tt at) path;
     back = λ full s l n i j ext m path. one_more full s e i next l j (inr (record { class = k; step = ext e (Eat k next) tt at; inside = m.0; taken = m.1 }, m.2)) (n, path);
   }
 
-  pub means_start : (a : List Step) (e next : ℕ) → slice_get a e ≡ Some (AtStart next) → Means sets a e start next
+  pub means_start : (a : List Instruction) (e next : ℕ) → slice_get a e ≡ Some (AtStart next) → Means sets a e start next
   means_start a e next at = record {
     into = λ full s n i j ext done path. start_into full s e next done n i j (ext e (AtStart next) tt at) path;
     back = λ full s l n i j ext m path. one_more full s e i next l j (inl (at_start (ext e (AtStart next) tt at) (eq-eqb i 0 m.0), sym m.1)) (n, path);
   }
 
-  pub means_finish : (a : List Step) (e next : ℕ) → slice_get a e ≡ Some (AtEnd next) → Means sets a e finish next
+  pub means_finish : (a : List Instruction) (e next : ℕ) → slice_get a e ≡ Some (AtEnd next) → Means sets a e finish next
   means_finish a e next at = record {
     into = λ full s n i j ext done path. end_into full s e next done n i j (ext e (AtEnd next) tt at) path;
     back = λ full s l n i j ext m path. one_more full s e i next l j (inl (at_end (ext e (AtEnd next) tt at) (eq-eqb i (length s) m.0), sym m.1)) (n, path);
   }
 
-  pub means_cat : (a : List Step) (e middle next : ℕ) (p q : Pattern) → Means sets a e p middle → Means sets a middle q next → Means sets a e (cat p q) next
+  pub means_cat : (a : List Instruction) (e middle next : ℕ) (p q : Pattern) → Means sets a e p middle → Means sets a middle q next → Means sets a e (cat p q) next
   means_cat a e middle next p q l r = record {
     into = λ full s n i j ext done path.
         let x = l.into full s n i j ext done path in
@@ -105,7 +105,7 @@ module _ (sets : List (List Bool)) where
         l.back full s m.0 y.0 i j ext m.1 y.1;
   }
 
-  pub means_alt : (a : List Step) (e x y next : ℕ) (p q : Pattern) → slice_get a e ≡ Some (Fork x y) → Means sets a x p next → Means sets a y q next → Means sets a e (alt p q) next
+  pub means_alt : (a : List Instruction) (e x y next : ℕ) (p q : Pattern) → slice_get a e ≡ Some (Fork x y) → Means sets a x p next → Means sets a y q next → Means sets a e (alt p q) next
   means_alt a e x y next p q at l r = record {
     into = λ full s n i j ext done path.
         let f = fork_into full s e next done x y n i j (ext e (Fork x y) tt at) path in
@@ -120,7 +120,7 @@ module _ (sets : List (List Bool)) where
         ];
   }
 
-  pub means_regroup : (a : List Step) (e next : ℕ) (p q r : Pattern) → Means sets a e (alt p (alt q r)) next → Means sets a e (alt (alt p q) r) next
+  pub means_regroup : (a : List Instruction) (e next : ℕ) (p q r : Pattern) → Means sets a e (alt p (alt q r)) next → Means sets a e (alt (alt p q) r) next
   means_regroup a e next p q r m = record {
     into = λ full s n i j ext done path.
         let z = m.into full s n i j ext done path in
@@ -129,8 +129,8 @@ module _ (sets : List (List Bool)) where
         m.back full s k n i j ext (elim h [ inl y ↦ elim y [ inl x ↦ inl x | inr x ↦ inr (inl x) ] | inr x ↦ inr (inr x) ]) path;
   }
 
-  module _ (a : List Step) (e x next : ℕ) (p : Pattern) (at : slice_get a e ≡ Some (Fork x next)) where
-    module _ (inner : Means sets a x p e) (full : List Step) (s : List ℕ) (ext : Extends a full) where
+  module _ (a : List Instruction) (e x next : ℕ) (p : Pattern) (at : slice_get a e ≡ Some (Fork x next)) where
+    module _ (inner : Means sets a x p e) (full : List Instruction) (s : List ℕ) (ext : Extends a full) where
       star_into : (bound n i j : ℕ) → slice_get full 0 ≡ Some Done → n ≤ bound → Path sets full s n e i 0 j → Splits full (repeat p 0 None) next s n i j
       star_into zero n i j done le path =
           let f = fork_into full s e next done x next n i j (ext e (Fork x next) tt at) path in absurd (omega (arith, f.1, le))
@@ -157,7 +157,7 @@ module _ (sets : List (List Bool)) where
       back = λ full s k n i j ext m path. star_back inner full s ext m.0 i k n j m.3 path;
     }
 
-    module _ (c middle : ℕ) (inner : Means sets a x p middle) (rest : Means sets a middle (repeat p 0 (Some c)) next) (full : List Step) (s : List ℕ) (ext : Extends a full) where
+    module _ (c middle : ℕ) (inner : Means sets a x p middle) (rest : Means sets a middle (repeat p 0 (Some c)) next) (full : List Instruction) (s : List ℕ) (ext : Extends a full) where
       option_back : (count i k n j : ℕ) → count ≤ suc c → Chain (Matches s p) count i k → Path sets full s n next k 0 j → Ends full s e i j
       option_back zero i k n j le same path =
           one_more full s e i next i j (inl (right x (ext e (Fork x next) tt at), refl)) (n, subst (λ x. Path sets full s n next x 0 j) (sym same) path)
@@ -180,7 +180,7 @@ module _ (sets : List (List Bool)) where
     }
 
   -- at most 0 times
-  pub means_no_option : (a : List Step) (e : ℕ) (p : Pattern) → Means sets a e (repeat p 0 (Some 0)) e
+  pub means_no_option : (a : List Instruction) (e : ℕ) (p : Pattern) → Means sets a e (repeat p 0 (Some 0)) e
   means_no_option a e p = record {
     into = λ full s n i j ext done path. (i, n, omega arith, (0, omega arith, omega arith, refl), path);
     back = λ full s k n i j ext m path. (n, subst (λ x. Path sets full s n e x 0 j) (sym (none s i k m.0 m.2 m.3)) path);
@@ -217,7 +217,7 @@ pub times_to_repeat : (s : List ℕ) (p : Pattern) (c : ℕ) (more : Option ℕ)
 times_to_repeat s p c more i j m =
     let f = times_into s p more c i j m in (f.0, omega (arith, f.2), AtMost-more more c f.0 f.1 f.2 f.3, f.4)
 
-pub means_repeat : (sets : List (List Bool)) (a : List Step) (e next : ℕ) (p : Pattern) (c : ℕ) (more : Option ℕ) → Means sets a e (times c p (repeat p 0 more)) next → Means sets a e (repeat p c (option_map (λ x. c + x) more)) next
+pub means_repeat : (sets : List (List Bool)) (a : List Instruction) (e next : ℕ) (p : Pattern) (c : ℕ) (more : Option ℕ) → Means sets a e (times c p (repeat p 0 more)) next → Means sets a e (repeat p c (option_map (λ x. c + x) more)) next
 means_repeat sets a e next p c more h = record {
   into = λ full s n i j ext done path. let y = h.into full s n i j ext done path in (y.0, y.1, y.2, times_to_repeat s p c more i y.0 y.3, y.4);
   back = λ full s k n i j ext m path. h.back full s k n i j ext (repeat_to_times s p c more i k m) path;

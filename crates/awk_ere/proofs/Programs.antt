@@ -5,32 +5,32 @@ use Rattle.std.proofs.lemmas.Option.{slice_get_within}
 use Rattle.std.proofs.lemmas.List.{length_push}
 use Rattle.std.proofs.lemmas.Bool.{cases_lt}
 use Rattle.awk_ere.specs.Program.{Skips, left, right, at_start, at_end, Extends, NamesBelow, IsSound, Grows}
-use Rattle.awk_ere.specs.declared.program.Step.{Step}
+use Rattle.awk_ere.specs.declared.program.Instruction.{Instruction}
 use Rattle.awk_ere.specs.declared.token.Class.{Class}
-use Rattle.awk_ere.specs.declared.program.Step.TheVariants.{Eat, Fork, AtStart, AtEnd, Done, Hole}
+use Rattle.awk_ere.specs.declared.program.Instruction.TheVariants.{Eat, Fork, AtStart, AtEnd, Done, Hole}
 
-pub Grows-refl : (a : List Step) → Grows a a
+pub Grows-refl : (a : List Instruction) → Grows a a
 Grows-refl a = record { longer = omega arith; kept = λ q lt. refl }
 
-pub Grows-trans : {a b c : List Step} → Grows a b → Grows b c → Grows a c
+pub Grows-trans : {a b c : List Instruction} → Grows a b → Grows b c → Grows a c
 Grows-trans g h = record { longer = omega arith; kept = λ q lt. h.kept q (omega arith) ∙ g.kept q lt }
 
-pub Grows-extends : (a b c : List Step) → Grows a b → Extends b c → Extends a c
+pub Grows-extends : (a b c : List Instruction) → Grows a b → Extends b c → Extends a c
 Grows-extends a b c g h = λ q x real e. h q x real (g.kept q (slice_get_within a q x e) ∙ e)
 
-pub slice_get-push_left : (a : List Step) (x : Step) (q : ℕ) → q < length a → slice_get (a ++ x ∷ []) q ≡ slice_get a q
+pub slice_get-push_left : (a : List Instruction) (x : Instruction) (q : ℕ) → q < length a → slice_get (a ++ x ∷ []) q ≡ slice_get a q
 slice_get-push_left [] x q lt = absurd (omega arith)
 slice_get-push_left (y ∷ ys) x zero lt = refl
 slice_get-push_left (y ∷ ys) x (suc q) lt = slice_get-push_left ys x q (omega arith)
 
-pub slice_get-push_last : (a : List Step) (x : Step) → slice_get (a ++ x ∷ []) (length a) ≡ Some x
+pub slice_get-push_last : (a : List Instruction) (x : Instruction) → slice_get (a ++ x ∷ []) (length a) ≡ Some x
 slice_get-push_last [] x = refl
 slice_get-push_last (y ∷ ys) x = slice_get-push_last ys x
 
-pub Grows-push : (a : List Step) (x : Step) → Grows a (a ++ x ∷ [])
+pub Grows-push : (a : List Instruction) (x : Instruction) → Grows a (a ++ x ∷ [])
 Grows-push a x = record { longer = omega (arith, length_push a x); kept = λ q lt. slice_get-push_left a x q lt }
 
-pub NamesBelow-more : (n m : ℕ) (x : Step) → n ≤ m → NamesBelow n x → NamesBelow m x
+pub NamesBelow-more : (n m : ℕ) (x : Instruction) → n ≤ m → NamesBelow n x → NamesBelow m x
 NamesBelow-more n m (Eat k r) le h = omega arith
 NamesBelow-more n m (Fork a b) le h = (omega arith, omega arith)
 NamesBelow-more n m (AtStart r) le h = omega arith
@@ -38,7 +38,7 @@ NamesBelow-more n m (AtEnd r) le h = omega arith
 NamesBelow-more n m Done le h = tt
 NamesBelow-more n m Hole le h = tt
 
-pub IsSound-push : (a : List Step) (x : Step) → IsSound a → NamesBelow (length a) x → IsSound (a ++ x ∷ [])
+pub IsSound-push : (a : List Instruction) (x : Instruction) → IsSound a → NamesBelow (length a) x → IsSound (a ++ x ∷ [])
 IsSound-push a x sound below = record {
   names = λ q y e.
       let inside : q < length (a ++ x ∷ []) = slice_get_within (a ++ x ∷ []) q y e in
@@ -51,11 +51,11 @@ IsSound-push a x sound below = record {
   cases : (q : ℕ) → q < length (a ++ x ∷ []) → (q < length a) ⊎ (q ≡ length a)
   cases q lt = elim (cases_lt q (length a)) [ inl before ↦ inl before | inr beyond ↦ inr (omega (arith, length_push a x)) ]
 
-  same_last : (q : ℕ) (y : Step) → slice_get (a ++ x ∷ []) q ≡ Some y → q ≡ length a → y ≡ x
+  same_last : (q : ℕ) (y : Instruction) → slice_get (a ++ x ∷ []) q ≡ Some y → q ≡ length a → y ≡ x
   same_last q y e is = let f = slice_get-push_last a x in let g = ap (λ n. slice_get (a ++ x ∷ []) n) is in cc
 
 -- what can follow each kind of step
-module _ (program : List Step) (first last : Bool) (q p : ℕ) where
+module _ (program : List Instruction) (first last : Bool) (q p : ℕ) where
   pub skips_fork : (a b : ℕ) → slice_get program q ≡ Some (Fork a b) → Skips program first last q p → (p ≡ a) ⊎ (p ≡ b)
   skips_fork a b e (left other h) = inl (cc)
   skips_fork a b e (right other h) = inr (cc)

@@ -8,8 +8,8 @@ use Rattle.std.proofs.lemmas.List.Sums.{sum_by-set}
 use Rattle.std.proofs.lemmas.List.Elements.{Contains-append_left, Contains-append_right, Contains-push, Contains-push_cases, Contains-append_cases}
 use Rattle.awk_ere.specs.Program.{Skips, left, right, at_start, at_end, SkipPath, NamesBelow, IsSound}
 use Rattle.awk_ere.specs.Search.{mark, targets, IsListed, IsClosed, LeadsTo, Reaches}
-use Rattle.awk_ere.specs.declared.program.Step.{Step}
-use Rattle.awk_ere.specs.declared.program.Step.TheVariants.{Eat, Fork, AtStart, AtEnd, Done, Hole}
+use Rattle.awk_ere.specs.declared.program.Instruction.{Instruction}
+use Rattle.awk_ere.specs.declared.program.Instruction.TheVariants.{Eat, Fork, AtStart, AtEnd, Done, Hole}
 use Rattle.awk_ere.specs.declared.search.TheConstants.{NONE}
 
 not_in_none : (r : ℕ) → Contains [] r → ⊥
@@ -24,8 +24,8 @@ one_of_two a b r (zero, lt, is) = inl is
 one_of_two a b r (suc zero, lt, is) = inr is
 one_of_two a b r (suc (suc k), lt, is) = absurd (omega arith)
 
-module _ (program : List Step) (first last : Bool) (q r : ℕ) where
-  targets_skips : (x : Step) → slice_get program q ≡ Some x → Contains (targets first last x) r → Skips program first last q r
+module _ (program : List Instruction) (first last : Bool) (q r : ℕ) where
+  targets_skips : (x : Instruction) → slice_get program q ≡ Some x → Contains (targets first last x) r → Skips program first last q r
   targets_skips (Fork a b) at h = elim (one_of_two b a r h) [
     | inl is ↦ right a (subst (λ y. slice_get program q ≡ Some (Fork a y)) is at)
     | inr is ↦ left b (subst (λ y. slice_get program q ≡ Some (Fork y b)) is at)
@@ -42,7 +42,7 @@ module _ (program : List Step) (first last : Bool) (q r : ℕ) where
   targets_skips Done at h = absurd (not_in_none r h)
   targets_skips Hole at h = absurd (not_in_none r h)
 
-  skips_targets : (x : Step) → slice_get program q ≡ Some x → Skips program first last q r → Contains (targets first last x) r
+  skips_targets : (x : Instruction) → slice_get program q ≡ Some x → Skips program first last q r → Contains (targets first last x) r
   skips_targets x at (left other h) =
       let same : x ≡ Fork r other = cc in subst (λ y. Contains (targets first last y) r) (sym same) (1, omega arith, refl)
   skips_targets x at (right other h) =
@@ -52,7 +52,7 @@ module _ (program : List Step) (first last : Bool) (q r : ℕ) where
   skips_targets x at (at_end h f) =
       let same : x ≡ AtEnd r = cc in subst (λ y. Contains (targets first last y) r) (sym same) (subst (λ y. Contains (targets first y (AtEnd r)) r) (sym f) (0, omega arith, refl))
 
-targets_below : (first last : Bool) (n : ℕ) (x : Step) (r : ℕ) → NamesBelow n x → Contains (targets first last x) r → r < n
+targets_below : (first last : Bool) (n : ℕ) (x : Instruction) (r : ℕ) → NamesBelow n x → Contains (targets first last x) r → r < n
 targets_below first last n (Fork a b) r names h = elim (one_of_two b a r h) [ inl is ↦ omega (arith, is, names.1) | inr is ↦ omega (arith, is, names.0) ]
 targets_below true last n (AtStart p) r names h = let e = only_one p r h in omega arith
 targets_below false last n (AtStart p) r names h = absurd (not_in_none r h)
@@ -62,7 +62,7 @@ targets_below first last n (Eat k p) r names h = absurd (not_in_none r h)
 targets_below first last n Done r names h = absurd (not_in_none r h)
 targets_below first last n Hole r names h = absurd (not_in_none r h)
 
-pub targets_few : (first last : Bool) (x : Step) → length (targets first last x) ≤ 2
+pub targets_few : (first last : Bool) (x : Instruction) → length (targets first last x) ≤ 2
 targets_few first last (Fork a b) = omega arith
 targets_few true last (AtStart p) = omega arith
 targets_few false last (AtStart p) = omega arith
@@ -73,12 +73,12 @@ targets_few first last Done = omega arith
 targets_few first last Hole = omega arith
 
 -- a path and one step more
-skip_more : (program : List Step) (first last : Bool) (n q p r : ℕ) → SkipPath program first last n q p → Skips program first last p r → SkipPath program first last (suc n) q r
+skip_more : (program : List Instruction) (first last : Bool) (n q p r : ℕ) → SkipPath program first last n q p → Skips program first last p r → SkipPath program first last (suc n) q r
 skip_more program first last zero q p r is skip = (r, subst (λ x. Skips program first last x r) (sym is) skip, refl)
 skip_more program first last (suc n) q p r (x, one, path) skip = (x, one, skip_more program first last n x p r path skip)
 
 -- where the search stands, with these steps to look at
-pub record IsReaching (program : List Step) (first last : Bool) (from start : ℕ) (old starts stack : List ℕ) : Type 0 where
+pub record IsReaching (program : List Instruction) (first last : Bool) (from start : ℕ) (old starts stack : List ℕ) : Type 0 where
   pub len : length starts ≡ length program
   pub lower : (q : ℕ) → mark starts q ≤ mark old q
   pub origin : (q : ℕ) → (mark starts q ≡ mark old q) ⊎ ((mark starts q ≡ start) × LeadsTo program first last from q)
@@ -86,7 +86,7 @@ pub record IsReaching (program : List Step) (first last : Bool) (from start : �
   pub there : (mark starts from ≤ start) ⊎ Contains stack from
   pub known : (r : ℕ) → Contains stack r → (r < length program) × LeadsTo program first last from r
 
-module _ (program : List Step) (first last : Bool) (from start : ℕ) (old : List ℕ) where
+module _ (program : List Instruction) (first last : Bool) (from start : ℕ) (old : List ℕ) where
   pub reaching_begins : length old ≡ length program → from < length program → IsClosed program first last old → IsReaching program first last from start old old (from ∷ [])
   reaching_begins len inside closed = record {
     len = len;
@@ -125,7 +125,7 @@ module _ (program : List Step) (first last : Bool) (from start : ℕ) (old : Lis
     known = λ r member. h.known r (Contains-append_left rest (at ∷ []) r member);
   }
 
-  module _ (starts rest : List ℕ) (at : ℕ) (x : Step) (sound : IsSound program) (step : slice_get program at ≡ Some x) (lt : start < mark starts at) (h : IsReaching program first last from start old starts (rest ++ at ∷ [])) where
+  module _ (starts rest : List ℕ) (at : ℕ) (x : Instruction) (sound : IsSound program) (step : slice_get program at ≡ Some x) (lt : start < mark starts at) (h : IsReaching program first last from start old starts (rest ++ at ∷ [])) where
     at_known : (at < length program) × LeadsTo program first last from at
     at_known = h.known at (Contains-push rest at)
 
@@ -202,7 +202,7 @@ listed_again starts active at start had inside h = record {
   below = λ q member. omega (arith, h.below q member, length-set {A = ℕ});
 }
 
-pub reaching_inside : (program : List Step) (first last : Bool) (from start : ℕ) (old starts stack rest : List ℕ) {at : ℕ} → IsReaching program first last from start old starts stack → stack ≡ rest ++ at ∷ [] → at < length starts
+pub reaching_inside : (program : List Instruction) (first last : Bool) (from start : ℕ) (old starts stack rest : List ℕ) {at : ℕ} → IsReaching program first last from start old starts stack → stack ≡ rest ++ at ∷ [] → at < length starts
 reaching_inside program first last from start old starts stack rest {at} h is =
     omega (arith, h.len, (h.known at (subst (λ s. Contains s at) (sym is) (Contains-push rest at))).0)
 

@@ -12,15 +12,15 @@ use Rattle.awk_ere.specs.Program.{Compiles, IsReady}
 use Rattle.awk_ere.specs.Search.{IsMachine}
 use Rattle.awk_ere.proofs.Programs.{skips_done}
 use Rattle.awk_ere.specs.Search.{mark, IsListed, IsBlank, IsClosed, LeadsTo, Reaches, Takes, Advances, Goes, Marks, IsBestOf, BestOf, limit_of, cap_of, Finds}
-use Rattle.awk_ere.specs.declared.program.Step.{Step}
-use Rattle.awk_ere.specs.declared.program.Step.TheVariants.{Done}
+use Rattle.awk_ere.specs.declared.program.Instruction.{Instruction}
+use Rattle.awk_ere.specs.declared.program.Instruction.TheVariants.{Done}
 use Rattle.awk_ere.specs.declared.search.TheConstants.{NONE}
 
-pub closed_path : (program : List Step) (first last : Bool) (starts : List ℕ) (n q r : ℕ) → IsClosed program first last starts → SkipPath program first last n q r → mark starts r ≤ mark starts q
+pub closed_path : (program : List Instruction) (first last : Bool) (starts : List ℕ) (n q r : ℕ) → IsClosed program first last starts → SkipPath program first last n q r → mark starts r ≤ mark starts q
 closed_path program first last starts zero q r closed is = let e = ap (λ x. mark starts x) is in omega arith
 closed_path program first last starts (suc n) q r closed (p, skip, path) = omega (arith, closed q p skip, closed_path program first last starts n p r closed path)
 
-module _ (sets : List (List Bool)) (program : List Step) (s : List ℕ) where
+module _ (sets : List (List Bool)) (program : List Instruction) (s : List ℕ) where
   pub path_le : (n q i r j : ℕ) → Path sets program s n q i r j → i ≤ j
   path_le zero q i r j (is, same) = omega arith
   path_le (suc n) q i r j (p, k, inl (skip, same), path) = omega (arith, path_le n p k r j path)
@@ -232,17 +232,17 @@ blank_replicate n = λ q. each n q where
   each (suc n) zero = refl
   each (suc n) (suc q) = each n q
 
-pub marks_begin : (sets : List (List Bool)) (program : List Step) (s : List ℕ) (e from : ℕ) (starts : List ℕ) → IsBlank starts → Marks sets program s e from from from starts
+pub marks_begin : (sets : List (List Bool)) (program : List Instruction) (s : List ℕ) (e from : ℕ) (starts : List ℕ) → IsBlank starts → Marks sets program s e from from from starts
 marks_begin sets program s e from starts blank = record {
   sound = λ q lt. absurd (omega (arith, blank q));
   cover = λ i q after lt. absurd (omega arith);
   closed = λ q r skip. omega (arith, blank q, blank r);
 }
 
-pub best_begin : (sets : List (List Bool)) (program : List Step) (s : List ℕ) (e from : ℕ) → BestOf (λ i j. Goes sets program s e i 0 j) from from None
+pub best_begin : (sets : List (List Bool)) (program : List Instruction) (s : List ℕ) (e from : ℕ) → BestOf (λ i j. Goes sets program s e i 0 j) from from None
 best_begin sets program s e from = λ i j after below run. omega (arith, best_start sets program s e i j run)
 
-module _ (sets : List (List Bool)) (program : List Step) (s : List ℕ) (e from place : ℕ) where
+module _ (sets : List (List Bool)) (program : List Instruction) (s : List ℕ) (e from place : ℕ) where
   pub cap_small : (best : Option (ℕ × ℕ)) → BestOf (λ i j. Goes sets program s e i 0 j) (place + 1) from best → cap_of place best ≤ place
   cap_small None h = omega arith
   cap_small (Some m) h = omega (arith, best_start sets program s e m.0 m.1 h.related, h.within)
@@ -274,7 +274,7 @@ module _ (sets : List (List Bool)) (program : List Step) (s : List ℕ) (e from 
 pub written : (new old : List ℕ) (n : ℕ) → length new ≡ length old → length new ≡ n → take n (new ++ drop (length new) old) ≡ new
 written new old n same is = ap (λ k. take k (new ++ drop (length new) old)) (sym is) ∙ take-append_seam new (drop (length new) old)
 
-module _ (sets : List (List Bool)) (program : List Step) (e : ℕ) (p : Pattern) (machine : IsMachine sets program e p) (s : List ℕ) where
+module _ (sets : List (List Bool)) (program : List Instruction) (e : ℕ) (p : Pattern) (machine : IsMachine sets program e p) (s : List ℕ) where
   stuck : (n i j : ℕ) → Path sets program s n 0 i 0 j → i ≡ j
   stuck zero i j (is, same) = same
   stuck (suc n) i j (q, k, inl (skip, same), path) = absurd (skips_done program _ _ 0 q machine.done skip)
@@ -300,11 +300,11 @@ module _ (sets : List (List Bool)) (program : List Step) (e : ℕ) (p : Pattern)
 
 pub ready_first : IsReady (Done ∷ []) 0
 ready_first = record { sound = record { names = λ q x at. only q x at }; below = omega arith } where
-  only : (q : ℕ) (x : Step) → slice_get (Done ∷ []) q ≡ Some x → NamesBelow 1 x
+  only : (q : ℕ) (x : Instruction) → slice_get (Done ∷ []) q ≡ Some x → NamesBelow 1 x
   only zero x at = let is : Done ≡ x = cc in subst (λ y. NamesBelow 1 y) is tt
   only (suc q) x at = absurd (cc)
 
-pub machine_of : (sets : List (List Bool)) (program : List Step) (e : ℕ) (p : List (List Bool) → Pattern) → Compiles (Done ∷ []) program e p 0 → IsMachine sets program e (p sets)
+pub machine_of : (sets : List (List Bool)) (program : List Instruction) (e : ℕ) (p : List (List Bool) → Pattern) → Compiles (Done ∷ []) program e p 0 → IsMachine sets program e (p sets)
 machine_of sets program e p h = record {
   sound = h.sound;
   inside = h.below;

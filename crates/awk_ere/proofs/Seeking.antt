@@ -9,8 +9,8 @@ use Rattle.awk_ere.specs.Search.{LeadsTo, Goes, Finds}
 use Rattle.awk_ere.specs.Matcher.{BeginsIn, EndsFrom, IsAnchored, IsLater, StartsAt, StartsFrom, NoneTo, IsSought}
 use Rattle.awk_ere.specs.Matcher as matcher
 use Rattle.awk_ere.specs.Table.{steps_of, AllLead, IsLed, IsTable, IsBegin, IsAt, IsLongest, EndsAtLast, NoneBegin, Matcher, IsMatcher, anywhere}
-use Rattle.awk_ere.specs.declared.program.Step.{Step}
-use Rattle.awk_ere.specs.declared.program.Step.TheVariants.{AtStart, Done}
+use Rattle.awk_ere.specs.declared.program.Instruction.{Instruction}
+use Rattle.awk_ere.specs.declared.program.Instruction.TheVariants.{AtStart, Done}
 use Rattle.awk_ere.specs.declared.states.Begin.{Begin}
 use Rattle.awk_ere.specs.declared.table.Sought.{Sought}
 use Rattle.awk_ere.specs.declared.table.Sought.TheVariants.{Match, NoMatch, Left}
@@ -18,7 +18,7 @@ use Rattle.awk_ere.specs.declared.states.TheConstants.{UNKNOWN}
 use Rattle.awk_ere.proofs.Searching.{path_le, flat, stays, run_matches, matches_run}
 use Rattle.awk_ere.proofs.Tables.{only_one, leads_on, at_first, at_next, at_pass, at_dead, longest_begin}
 
-pub at_begin : (sets : List (List Bool)) (program : List Step) (s : List ℕ) (lists cells : List (List ℕ)) (accepts ends : List Bool) (e i n : ℕ) (r : Begin) → IsTable sets program lists cells accepts ends
+pub at_begin : (sets : List (List Bool)) (program : List Instruction) (s : List ℕ) (lists cells : List (List ℕ)) (accepts ends : List Bool) (e i n : ℕ) (r : Begin) → IsTable sets program lists cells accepts ends
     → IsBegin program e lists r → e < length program → n ≡ cond (i == 0) r.first r.later → n < length cells → IsAt sets program s cells accepts ends e i i n
 at_begin sets program s lists cells accepts ends e i n r table begin inside is lt = (lists, table, lt, at_first sets program s e i (steps_of lists n) inside (by_place (i == 0) is)) where
   by_place : (b : Bool) → n ≡ cond b r.first r.later → IsLed program b false (e ∷ []) (steps_of lists n)
@@ -145,7 +145,7 @@ module _ (m : Matcher) (p : Pattern) (is : IsMatcher m p) where
           ]
 
 -- an empty match at the end of a text that is not empty
-module _ (sets : List (List Bool)) (program : List Step) (s : List ℕ) (lists cells : List (List ℕ)) (accepts ends : List Bool) (e : ℕ) (r : Begin) (table : IsTable sets program lists cells accepts ends)
+module _ (sets : List (List Bool)) (program : List Instruction) (s : List ℕ) (lists cells : List (List ℕ)) (accepts ends : List Bool) (e : ℕ) (r : Begin) (table : IsTable sets program lists cells accepts ends)
     (begin : IsBegin program e lists r) (inside : e < length program) (some : 0 < length s) (known : r.later < length cells) where
   abbrev n : ℕ
   n = length s
@@ -189,7 +189,7 @@ module _ (sets : List (List Bool)) (program : List Step) (s : List ℕ) (lists c
       both_ways _ f ((table.end.each r.later known).1 (e, led.complete e e inside (0, omega arith, refl) (0, refl), goes_led here))
 
 -- a program that begins at the text's start
-module _ (sets : List (List Bool)) (program : List Step) (s : List ℕ) (e r : ℕ) (first : slice_get program e ≡ Some (AtStart r)) (done : slice_get program 0 ≡ Some Done) where
+module _ (sets : List (List Bool)) (program : List Instruction) (s : List ℕ) (e r : ℕ) (first : slice_get program e ≡ Some (AtStart r)) (done : slice_get program 0 ≡ Some Done) where
   only_start : (n i j : ℕ) → Path sets program s n e i 0 j → i ≡ 0
   only_start zero i j (is, same) = absurd (let x = ap (λ q. slice_get program q) is in cc)
   only_start (suc n) i j (p, k, inr (eats, same), path) = absurd (let x = eats.step in cc)

@@ -6,7 +6,7 @@ use Rattle.std.proofs.Math.Dec.{eqb-suc-zero}
 use Rattle.awk_ere.specs.Program.{Skips, left, right, at_start, at_end, SkipPath, Eats}
 use Rattle.awk_ere.specs.Search.{LeadsTo, Goes}
 use Rattle.awk_ere.specs.Table.{steps_of, cell, IsLed, IsCell, Arrives, IsFront, IsLongest, EndsSomewhere, IsAt, AllLead}
-use Rattle.awk_ere.specs.declared.program.Step.{Step}
+use Rattle.awk_ere.specs.declared.program.Instruction.{Instruction}
 use Rattle.awk_ere.proofs.Searching.{path_le, flat, stays, one_more, joined, crossing, through, best_start}
 
 not_zero : (k : ℕ) → (k + 1 == 0) ≡ false
@@ -18,7 +18,7 @@ not_last k n lt = go (k == n) refl where
   go true e = absurd (let f = eqb-true k n e in omega arith)
   go false e = refl
 
-module _ (sets : List (List Bool)) (program : List Step) (s : List ℕ) (e i : ℕ) where
+module _ (sets : List (List Bool)) (program : List Instruction) (s : List ℕ) (e i : ℕ) where
   -- before the end of the text
   pub arrives_goes : (k p : ℕ) → k < length s → Arrives sets program s e i k p → Goes sets program s e i p k
   arrives_goes k p lt (inl (same, leads)) =
@@ -148,7 +148,7 @@ module _ (sets : List (List Bool)) (program : List Step) (s : List ℕ) (e i : �
       (z.0, front.complete z.0 (subst (λ y. Arrives sets program s e i y z.0) (sym same) z.1), z.2)
 
 -- a search in a state
-module _ (sets : List (List Bool)) (program : List Step) (s : List ℕ) (cells : List (List ℕ)) (accepts ends : List Bool) (e i k state : ℕ) (h : IsAt sets program s cells accepts ends e i k state) where
+module _ (sets : List (List Bool)) (program : List Instruction) (s : List ℕ) (cells : List (List ℕ)) (accepts ends : List Bool) (e i k state : ℕ) (h : IsAt sets program s cells accepts ends e i k state) where
   -- before the end of the text
   module _ (le : i ≤ k) (lt : k < length s) where
     pub at_next : slice_index s k < 256 → cell cells state (slice_index s k) < length cells → IsAt sets program s cells accepts ends e i (k + 1) (cell cells state (slice_index s k))
@@ -204,7 +204,7 @@ module _ (sets : List (List Bool)) (program : List Step) (s : List ℕ) (cells :
     )
 
 -- bytes that leave a search in its state
-module _ (sets : List (List Bool)) (program : List Step) (s : List ℕ) (cells : List (List ℕ)) (accepts ends : List Bool) (e i state : ℕ) (small : (k : ℕ) → slice_index s k < 256) (row : List ℕ) (is : row ≡ slice_index_or cells state []) (quiet : slice_index_or accepts state false ≡ false) where
+module _ (sets : List (List Bool)) (program : List Instruction) (s : List ℕ) (cells : List (List ℕ)) (accepts ends : List Bool) (e i state : ℕ) (small : (k : ℕ) → slice_index s k < 256) (row : List ℕ) (is : row ≡ slice_index_or cells state []) (quiet : slice_index_or accepts state false ≡ false) where
   pub at_stays : (n k to : ℕ) → to ≡ k + n → i ≤ k → to ≤ length s → AllLead row s state k to → IsAt sets program s cells accepts ends e i k state → IsLongest sets program s e i k None
       → IsAt sets program s cells accepts ends e i to state × IsLongest sets program s e i to None
   at_stays zero k to sum le within all at none =
@@ -222,7 +222,7 @@ only_one a r (zero, lt, is) = is
 only_one a r (suc k, lt, is) = absurd (omega arith)
 
 -- where a search begins
-pub at_first : (sets : List (List Bool)) (program : List Step) (s : List ℕ) (e i : ℕ) (T : List ℕ) → e < length program → IsLed program (i == 0) false (e ∷ []) T → IsFront sets program s e i i T
+pub at_first : (sets : List (List Bool)) (program : List Instruction) (s : List ℕ) (e i : ℕ) (T : List ℕ) → e < length program → IsLed program (i == 0) false (e ∷ []) T → IsFront sets program s e i i T
 at_first sets program s e i T inside led = record {
   sound = λ p member. let y = led.sound p member in inl (refl, subst (λ x. LeadsTo program (i == 0) false x p) (sym (only_one e y.0 y.1)) y.2);
   complete = λ p arrives. elim arrives [

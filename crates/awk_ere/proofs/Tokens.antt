@@ -5,8 +5,8 @@ use Rattle.awk_ere.specs.Interval.{Times, is_allowed, factor, interval}
 use Rattle.awk_ere.specs.Bracket.{in_set, bracket}
 use Rattle.awk_ere.specs.Token as spec
 use Rattle.awk_ere.specs.Lexing.{has, IsSet, IsTimes, Later, IsAtom, IsToken, IsFront}
-use Rattle.awk_ere.specs.declared.error.Fault.{Fault}
-use Rattle.awk_ere.specs.declared.error.Fault.TheVariants.{Interval}
+use Rattle.awk_ere.specs.declared.error.EreFault.{EreFault}
+use Rattle.awk_ere.specs.declared.error.EreFault.TheVariants.{Interval}
 use Rattle.awk_ere.specs.declared.front.Lead.{Lead}
 use Rattle.awk_ere.specs.declared.token.Class.{Class}
 use Rattle.awk_ere.specs.declared.token.Class.TheVariants.{One, Any, In}
@@ -50,7 +50,7 @@ bracket_front s rest sets new set (negated, ranges, read, same) is =
       got : (all : List (List Bool)) → Later new all → get_or all (length sets) [] ≡ set
       got all (more, e) = ap (λ x. get_or x (length sets) []) (e ∙ ap (λ x. x ++ more) is) ∙ get_added sets more set
 
-pub bracket_wrong : (s : List ℕ) (f : Fault) → bracket s ≡ None → spec.wrong f ≡ spec.bracketed None → spec.bracketed (bracket s) ≡ spec.wrong f
+pub bracket_wrong : (s : List ℕ) (f : EreFault) → bracket s ≡ None → spec.wrong f ≡ spec.bracketed None → spec.bracketed (bracket s) ≡ spec.wrong f
 bracket_wrong s f none is = ap spec.bracketed none ∙ sym is
 
 -- an interval

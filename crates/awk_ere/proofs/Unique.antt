@@ -5,7 +5,7 @@ use Rattle.awk_ere.specs.Token.{Token, opening, Front, finished, token, wrong}
 use Rattle.awk_ere.specs.Reading.{Spot, front_at, spot_after, Leads, first_spot, HasFault}
 use Rattle.awk_ere.specs.Grammar.{ere, Spells}
 use Rattle.awk_ere.specs.Spelled.{Spelled, IsPattern, IsRefused}
-use Rattle.awk_ere.specs.declared.error.Fault.{Fault}
+use Rattle.awk_ere.specs.declared.error.EreFault.{EreFault}
 use Rattle.awk_ere.proofs.Building.{one_pattern}
 
 abbrev token_of : Front → Token
@@ -36,14 +36,14 @@ same_tokens (t ∷ ts) (u ∷ us) p q r (l, one, rest) (m, two, more) e f =
     let same = same_tokens ts us (spot_after p t l) q r rest (subst (λ x. Leads us x r) (sym (same_spot t u l m p one two)) more) e f in
     ap (λ x. x ∷ ts) (same_token t u l m p one two) ∙ ap (λ x. u ∷ x) same
 
-no_fault : (ts us : List Token) (p q r : Spot) (fault : Fault) → Leads ts p q → Leads us p r → front_at q ≡ finished → front_at r ≡ wrong fault → ⊥
+no_fault : (ts us : List Token) (p q r : Spot) (fault : EreFault) → Leads ts p q → Leads us p r → front_at q ≡ finished → front_at r ≡ wrong fault → ⊥
 no_fault [] [] p q r fault h g e f = let x = ap front_at h ∙ e in let y = ap front_at g ∙ f in cc
 no_fault [] (u ∷ us) p q r fault h (m, two, more) e f = let x = ap front_at h ∙ e in cc
 no_fault (t ∷ ts) [] p q r fault (l, one, rest) g e f = let x = ap front_at g ∙ f in cc
 no_fault (t ∷ ts) (u ∷ us) p q r fault (l, one, rest) (m, two, more) e f =
     no_fault ts us (spot_after p t l) q r fault rest (subst (λ x. Leads us x r) (sym (same_spot t u l m p one two)) more) e f
 
-faultless : (s : List ℕ) (p : Pattern) (size : ℕ) (fault : Fault) → Spelled s p size → HasFault s fault → ⊥
+faultless : (s : List ℕ) (p : Pattern) (size : ℕ) (fault : EreFault) → Spelled s p size → HasFault s fault → ⊥
 faultless s p size fault (ts, read, spells) h = no_fault ts h.0 (first_spot s) read.0 h.1 fault read.1 h.2 read.2 h.3
 
 -- a text spells one pattern at most, of one size

@@ -10,12 +10,12 @@ use Rattle.awk_ere.specs.Reading.{Spot, depth_after, is_repeatable, front_at, sp
 use Rattle.awk_ere.specs.Grammar.{ere, no_piece, Spells}
 use Rattle.awk_ere.specs.Lexing.{Later, IsToken, IsFront}
 use Rattle.awk_ere.specs.Tree.{Meant, repeats, Frame, frame, last, finished, fresh, with_last, with_anchor, with_bar, Stack, taken, Stands, StandsAny, IsFrame, AreFrames, IsStack}
-use Rattle.awk_ere.specs.declared.error.Fault.{Fault}
-use Rattle.awk_ere.specs.declared.error.Fault.TheVariants.{Syntax, Interval}
+use Rattle.awk_ere.specs.declared.error.EreFault.{EreFault}
+use Rattle.awk_ere.specs.declared.error.EreFault.TheVariants.{Syntax, Interval}
 use Rattle.awk_ere.specs.declared.front.Lead.{Lead}
 use Rattle.awk_ere.specs.declared.front.Lead.TheVariants.{Bracket, Escape, Brace, Sign}
 use Rattle.awk_ere.specs.declared.token.Token as code_token
-use Rattle.awk_ere.specs.declared.tree.Part as code_part
+use Rattle.awk_ere.specs.declared.tree.Sized as code_part
 use Rattle.awk_ere.specs.declared.tree.Frame as code_frame
 use Rattle.awk_ere.proofs.Building.{StackAt, taken_at, finish_spells}
 use Rattle.awk_ere.proofs.Tokens.{later_more}
@@ -106,10 +106,10 @@ leads_more [] p q t left h e = (left, ap front_at h ∙ e, ap (λ x. spot_after 
 leads_more (u ∷ ts) p q t left (l, one, rest) e = (l, one, leads_more ts (spot_after p u l) q t left rest e)
 
 -- later sets
-stands_later : (a b : List (List Bool)) (x : code_part.Part) (p : Meant) → Later a b → Stands a x p → Stands b x p
+stands_later : (a b : List (List Bool)) (x : code_part.Sized) (p : Meant) → Later a b → Stands a x p → Stands b x p
 stands_later a b x p later h = record { same = λ all after. h.same all (later_more a b all later after); size = h.size }
 
-any_later : (a b : List (List Bool)) (x : Option code_part.Part) (p : Option Meant) → Later a b → StandsAny a x p → StandsAny b x p
+any_later : (a b : List (List Bool)) (x : Option code_part.Sized) (p : Option Meant) → Later a b → StandsAny a x p → StandsAny b x p
 any_later a b None None later h = tt
 any_later a b None (Some p) later h = h
 any_later a b (Some x) None later h = h
@@ -145,7 +145,7 @@ groups_open sets items (o ∷ os) (front, f, is, one, rest) = ap length is ∙ g
 
 last_is : (sets : List (List Bool)) (f : code_frame.Frame) (m : Frame) → IsFrame sets f m → is_some f.last ≡ is_some (last m)
 last_is sets f (frame b p l) h = any_is f.last l h.2 where
-  any_is : (x : Option code_part.Part) (y : Option Meant) → StandsAny sets x y → is_some x ≡ is_some y
+  any_is : (x : Option code_part.Sized) (y : Option Meant) → StandsAny sets x y → is_some x ≡ is_some y
   any_is None None g = refl
   any_is None (Some y) g = absurd g
   any_is (Some x) None g = absurd g
@@ -192,7 +192,7 @@ reading_later text left items top sets all later h = record {
   spelled = h.spelled;
 }
 
-pub reading_wrong : (text left : List ℕ) (items : List code_frame.Frame) (top : code_frame.Frame) (sets : List (List Bool)) (o m : Bool) (f : Fault) → Reading text items top sets left
+pub reading_wrong : (text left : List ℕ) (items : List code_frame.Frame) (top : code_frame.Frame) (sets : List (List Bool)) (o m : Bool) (f : EreFault) → Reading text items top sets left
     → o ≡ nat_lt 0 (length items) → m ≡ is_some top.last → spec.front o m left ≡ spec.wrong f → HasFault text f
 reading_wrong text left items top sets o m f h is_open may wrong =
     (h.tokens, record { depth = length h.groups; may_repeat = is_some (last h.inner); left = left }, h.leads, front_here text left items top sets o m h is_open may ∙ wrong)
@@ -212,7 +212,7 @@ open_ends o m (c ∷ s) e = absurd (no_end (spec.lead m c) e) where
     escaped_end None e = cc
     escaped_end (Some p) e = cc
   no_end Brace e = repeated_end (interval s) e where
-    by_allowed : (b : Bool) (t : spec.Token) (l : List ℕ) (f : Fault) → cond b (spec.token t l) (spec.wrong f) ≡ spec.finished → ⊥
+    by_allowed : (b : Bool) (t : spec.Token) (l : List ℕ) (f : EreFault) → cond b (spec.token t l) (spec.wrong f) ≡ spec.finished → ⊥
     by_allowed true t l f e = cc
     by_allowed false t l f e = cc
 
@@ -255,10 +255,10 @@ module _ (o m : Bool) where
     by_open false = tt
   front_faulty (c ∷ s) = led_faulty (spec.lead m c) c s
 
-pub fault_kind : (text : List ℕ) (f : Fault) → HasFault text f → (f ≡ Syntax) ⊎ (f ≡ Interval)
+pub fault_kind : (text : List ℕ) (f : EreFault) → HasFault text f → (f ≡ Syntax) ⊎ (f ≡ Interval)
 fault_kind text f h = subst Faulty h.3 (front_faulty (nat_lt 0 h.1.depth) h.1.may_repeat h.1.left)
 
-pub reading_ends : (text left : List ℕ) (items : List code_frame.Frame) (top : code_frame.Frame) (sets : List (List Bool)) (o m : Bool) (whole : code_part.Part) → Reading text items top sets left
+pub reading_ends : (text left : List ℕ) (items : List code_frame.Frame) (top : code_frame.Frame) (sets : List (List Bool)) (o m : Bool) (whole : code_part.Sized) → Reading text items top sets left
     → o ≡ nat_lt 0 (length items) → m ≡ is_some top.last → spec.front o m left ≡ spec.finished
     → ((f : Frame) → IsFrame sets top f → Stands sets whole (finished f))
     → (ts : List spec.Token) × (p : Pattern) × (n : ℕ) × IsRead text ts × Spells ere ts p n × Stands sets whole (p, n)

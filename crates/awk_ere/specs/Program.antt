@@ -4,8 +4,8 @@ use Rattle.std.specs.Prelude.{slice_get, slice_index, slice_index_or}
 use Rattle.awk_ere.specs.Pattern.{Pattern, cat, alt, Matches}
 use Rattle.awk_ere.specs.declared.token.Class.{Class}
 use Rattle.awk_ere.specs.declared.token.Class.TheVariants.{One, Any, In}
-use Rattle.awk_ere.specs.declared.program.Step.{Step}
-use Rattle.awk_ere.specs.declared.program.Step.TheVariants.{Eat, Fork, AtStart, AtEnd, Done, Hole}
+use Rattle.awk_ere.specs.declared.program.Instruction.{Instruction}
+use Rattle.awk_ere.specs.declared.program.Instruction.TheVariants.{Eat, Fork, AtStart, AtEnd, Done, Hole}
 
 -- whether the byte is in the class; sets are named by number
 abbrev pub holds : List (List Bool) → Class → ℕ → Bool
@@ -19,18 +19,18 @@ times zero p q = q
 times (suc n) p q = cat p (times n p q)
 
 -- from q to r without reading, where `first` and `last` say whether the place is the text's start or end
-pub data Skips (program : List Step) (first last : Bool) (q r : ℕ) : Type 0 where
+pub data Skips (program : List Instruction) (first last : Bool) (q r : ℕ) : Type 0 where
   left : (other : ℕ) → slice_get program q ≡ Some (Fork r other) → Skips program first last q r
   right : (other : ℕ) → slice_get program q ≡ Some (Fork other r) → Skips program first last q r
   at_start : slice_get program q ≡ Some (AtStart r) → first ≡ true → Skips program first last q r
   at_end : slice_get program q ≡ Some (AtEnd r) → last ≡ true → Skips program first last q r
 
 -- n steps lead from q to r without reading
-abbrev pub SkipPath : List Step → Bool → Bool → ℕ → ℕ → ℕ → Type 0
+abbrev pub SkipPath : List Instruction → Bool → Bool → ℕ → ℕ → ℕ → Type 0
 SkipPath program first last zero q r = q ≡ r
 SkipPath program first last (suc n) q r = (p : ℕ) × Skips program first last q p × SkipPath program first last n p r
 
-module _ (sets : List (List Bool)) (program : List Step) (s : List ℕ) where
+module _ (sets : List (List Bool)) (program : List Instruction) (s : List ℕ) where
   -- from q to r, reading the byte at i
   pub record Eats (q i r : ℕ) : Type 0 where
     pub class : Class
@@ -47,23 +47,23 @@ module _ (sets : List (List Bool)) (program : List Step) (s : List ℕ) where
   Path (suc n) q i r j = (p : ℕ) × (k : ℕ) × Moves q i p k × Path n p k r j
 
 -- a step that is no hole
-abbrev pub IsReal : Step → Type 0
+abbrev pub IsReal : Instruction → Type 0
 IsReal Hole = ⊥
 IsReal _ = Unit {0}
 
 -- the same steps where the program has no hole
-abbrev pub Extends : List Step → List Step → Type 0
-Extends program full = (q : ℕ) (x : Step) → IsReal x → slice_get program q ≡ Some x → slice_get full q ≡ Some x
+abbrev pub Extends : List Instruction → List Instruction → Type 0
+Extends program full = (q : ℕ) (x : Instruction) → IsReal x → slice_get program q ≡ Some x → slice_get full q ≡ Some x
 
 -- however the program goes on: a path from e to the end is a match of p and a path from `next` that is no longer
-pub record Means (sets : List (List Bool)) (program : List Step) (e : ℕ) (p : Pattern) (next : ℕ) : Type 0 where
-  pub into : (full : List Step) (s : List ℕ) (n i j : ℕ) → Extends program full → slice_get full 0 ≡ Some Done →
+pub record Means (sets : List (List Bool)) (program : List Instruction) (e : ℕ) (p : Pattern) (next : ℕ) : Type 0 where
+  pub into : (full : List Instruction) (s : List ℕ) (n i j : ℕ) → Extends program full → slice_get full 0 ≡ Some Done →
       Path sets full s n e i 0 j → (k : ℕ) × (m : ℕ) × (m ≤ n) × Matches s p i k × Path sets full s m next k 0 j
-  pub back : (full : List Step) (s : List ℕ) (k n i j : ℕ) → Extends program full → Matches s p i k →
+  pub back : (full : List Instruction) (s : List ℕ) (k n i j : ℕ) → Extends program full → Matches s p i k →
       Path sets full s n next k 0 j → (m : ℕ) × Path sets full s m e i 0 j
 
 -- each step that this one names is below n
-abbrev pub NamesBelow : ℕ → Step → Type 0
+abbrev pub NamesBelow : ℕ → Instruction → Type 0
 NamesBelow n (Eat k r) = r < n
 NamesBelow n (Fork a b) = (a < n) × (b < n)
 NamesBelow n (AtStart r) = r < n
@@ -71,23 +71,23 @@ NamesBelow n (AtEnd r) = r < n
 NamesBelow n Done = Unit {0}
 NamesBelow n Hole = Unit {0}
 
-pub record IsSound (program : List Step) : Type 0 where
-  pub names : (q : ℕ) (x : Step) → slice_get program q ≡ Some x → NamesBelow (length program) x
+pub record IsSound (program : List Instruction) : Type 0 where
+  pub names : (q : ℕ) (x : Instruction) → slice_get program q ≡ Some x → NamesBelow (length program) x
 
 -- new has the steps of old at its front
-pub record Grows (old new : List Step) : Type 0 where
+pub record Grows (old new : List Instruction) : Type 0 where
   pub longer : length old ≤ length new
   pub kept : (q : ℕ) → q < length old → slice_get new q ≡ slice_get old q
 
 -- new is old with a part, entered at e, that stands for p and goes on at `next`
-pub record Compiles (old new : List Step) (e : ℕ) (p : List (List Bool) → Pattern) (next : ℕ) : Type 0 where
+pub record Compiles (old new : List Instruction) (e : ℕ) (p : List (List Bool) → Pattern) (next : ℕ) : Type 0 where
   pub sound : IsSound new
   pub grows : Grows old new
   pub below : e < length new
   pub means : (sets : List (List Bool)) → Means sets new e (p sets) next
 
 -- the same for p so many times, before what stands at `next`
-pub record Copies (old new : List Step) (e : ℕ) (p : List (List Bool) → Pattern) (count next : ℕ) : Type 0 where
+pub record Copies (old new : List Instruction) (e : ℕ) (p : List (List Bool) → Pattern) (count next : ℕ) : Type 0 where
   pub sound : IsSound new
   pub grows : Grows old new
   pub below : e < length new
@@ -95,7 +95,7 @@ pub record Copies (old new : List Step) (e : ℕ) (p : List (List Bool) → Patt
       Means sets new e (times count (p sets) q) last
 
 -- the same for p or what stands at `others`, which goes on at `next` too
-pub record Joins (old new : List Step) (e : ℕ) (p : List (List Bool) → Pattern) (others next : ℕ) : Type 0 where
+pub record Joins (old new : List Instruction) (e : ℕ) (p : List (List Bool) → Pattern) (others next : ℕ) : Type 0 where
   pub sound : IsSound new
   pub grows : Grows old new
   pub below : e < length new
@@ -103,6 +103,6 @@ pub record Joins (old new : List Step) (e : ℕ) (p : List (List Bool) → Patte
       Means sets new e (alt (p sets) q) next
 
 -- a part may be added before `next`
-pub record IsReady (program : List Step) (next : ℕ) : Type 0 where
+pub record IsReady (program : List Instruction) (next : ℕ) : Type 0 where
   pub sound : IsSound program
   pub below : next < length program

@@ -1,7 +1,7 @@
 -- The tokens of a whole pattern, and its leftmost fault.
 use Rattle.std.specs.Prelude.{◌≡◌, ℕ, ◌+◌, ◌-◌, nat_lt, Bool, true, false, List, [], ◌∷◌}
 use Rattle.awk_ere.specs.Token.{Token, atom, times, opening, closing, Front, finished, token, wrong, front}
-use Rattle.awk_ere.specs.declared.error.Fault.{Fault}
+use Rattle.awk_ere.specs.declared.error.EreFault.{EreFault}
 
 -- how many groups are open, whether a repetition has something to repeat, and what is left
 pub record Spot : Type 0 where
@@ -40,5 +40,5 @@ abbrev pub IsRead : List ℕ → List Token → Type 0
 IsRead s ts = (q : Spot) × Leads ts (first_spot s) q × (front_at q ≡ finished)
 
 -- the leftmost fault of the text: an open group is one at the end
-abbrev pub HasFault : List ℕ → Fault → Type 0
+abbrev pub HasFault : List ℕ → EreFault → Type 0
 HasFault s fault = (ts : List Token) × (q : Spot) × Leads ts (first_spot s) q × (front_at q ≡ wrong fault)

@@ -3,9 +3,9 @@ use Rattle.std.specs.Prelude.{◌≡◌, ◌==◌, ℕ, ◌+◌, ◌<◌, ◌≤
 use Rattle.std.specs.Prelude.{slice_get, slice_index_or, Contains, if◌then◌else◌}
 use Rattle.awk_ere.specs.Pattern.{Pattern}
 use Rattle.awk_ere.specs.Program.{holds, Skips, SkipPath, Path, IsSound, Means}
-use Rattle.awk_ere.specs.declared.program.Step.{Step}
+use Rattle.awk_ere.specs.declared.program.Instruction.{Instruction}
 use Rattle.awk_ere.specs.declared.token.Class.{Class}
-use Rattle.awk_ere.specs.declared.program.Step.TheVariants.{Eat, Fork, AtStart, AtEnd, Done, Hole}
+use Rattle.awk_ere.specs.declared.program.Instruction.TheVariants.{Eat, Fork, AtStart, AtEnd, Done, Hole}
 use Rattle.awk_ere.specs.declared.search.TheConstants.{NONE}
 
 -- the start that a step is marked with, or NONE
@@ -13,7 +13,7 @@ abbrev pub mark : List ℕ → ℕ → ℕ
 mark starts q = slice_index_or starts q NONE
 
 -- the steps that follow without reading, the preferred one last
-abbrev pub targets : Bool → Bool → Step → List ℕ
+abbrev pub targets : Bool → Bool → Instruction → List ℕ
 targets first last (Fork a b) = b ∷ a ∷ []
 targets first last (AtStart r) = if first then r ∷ [] else []
 targets first last (AtEnd r) = if last then r ∷ [] else []
@@ -30,27 +30,27 @@ abbrev pub IsBlank : List ℕ → Type 0
 IsBlank starts = (q : ℕ) → mark starts q ≡ NONE
 
 -- no step is marked later than one that leads to it without reading
-abbrev pub IsClosed : List Step → Bool → Bool → List ℕ → Type 0
+abbrev pub IsClosed : List Instruction → Bool → Bool → List ℕ → Type 0
 IsClosed program first last starts = (q r : ℕ) → Skips program first last q r → mark starts r ≤ mark starts q
 
-abbrev pub LeadsTo : List Step → Bool → Bool → ℕ → ℕ → Type 0
+abbrev pub LeadsTo : List Instruction → Bool → Bool → ℕ → ℕ → Type 0
 LeadsTo program first last q r = (n : ℕ) × SkipPath program first last n q r
 
 -- new is old with this start at all that `from` leads to, where it is less
-pub record Reaches (program : List Step) (first last : Bool) (from start : ℕ) (old new : List ℕ) : Type 0 where
+pub record Reaches (program : List Instruction) (first last : Bool) (from start : ℕ) (old new : List ℕ) : Type 0 where
   pub lower : (q : ℕ) → mark new q ≤ mark old q
   pub there : mark new from ≤ start
   pub origin : (q : ℕ) → (mark new q ≡ mark old q) ⊎ ((mark new q ≡ start) × LeadsTo program first last from q)
   pub closed : IsClosed program first last new
 
 -- the step q reads the byte b and goes to r
-pub record Takes (sets : List (List Bool)) (program : List Step) (b q r : ℕ) : Type 0 where
+pub record Takes (sets : List (List Bool)) (program : List Instruction) (b q r : ℕ) : Type 0 where
   pub class : Class
   pub step : slice_get program q ≡ Some (Eat class r)
   pub taken : holds sets class b ≡ true
 
 -- new marks what starts of at most cap reach over the byte b
-pub record Advances (sets : List (List Bool)) (program : List Step) (b : ℕ) (first last : Bool) (cap : ℕ)
+pub record Advances (sets : List (List Bool)) (program : List Instruction) (b : ℕ) (first last : Bool) (cap : ℕ)
     (starts new : List ℕ) : Type 0 where
   pub closed : IsClosed program first last new
   pub sound : (q : ℕ) → mark new q < NONE → (p : ℕ) × (r : ℕ) × Takes sets program b p r
@@ -58,7 +58,7 @@ pub record Advances (sets : List (List Bool)) (program : List Step) (b : ℕ) (f
   pub complete : (p r : ℕ) → mark starts p ≤ cap → Takes sets program b p r → mark new r ≤ mark starts p
 
 -- where a step goes over the byte
-abbrev pub target_of : List (List Bool) → ℕ → Step → Option ℕ
+abbrev pub target_of : List (List Bool) → ℕ → Instruction → Option ℕ
 target_of sets b (Eat k r) = if holds sets k b then Some r else None
 target_of sets b (Fork x y) = None
 target_of sets b (AtStart r) = None
@@ -66,7 +66,7 @@ target_of sets b (AtEnd r) = None
 target_of sets b Done = None
 target_of sets b Hole = None
 
-module _ (sets : List (List Bool)) (program : List Step) (s : List ℕ) where
+module _ (sets : List (List Bool)) (program : List Instruction) (s : List ℕ) where
   -- some steps lead from q at the place i to r at the place j
   abbrev pub Goes : ℕ → ℕ → ℕ → ℕ → Type 0
   Goes q i r j = (n : ℕ) × Path sets program s n q i r j
@@ -102,11 +102,11 @@ cap_of place None = place
 cap_of place (Some m) = m.0
 
 -- the best run of the program on the text
-abbrev pub Finds : List (List Bool) → List Step → List ℕ → ℕ → ℕ → Option (ℕ × ℕ) → Type 0
+abbrev pub Finds : List (List Bool) → List Instruction → List ℕ → ℕ → ℕ → Option (ℕ × ℕ) → Type 0
 Finds sets program s e from result = BestOf (λ i j. Goes sets program s e i 0 j) (length s + 1) from result
 
 -- the program stands for the pattern
-pub record IsMachine (sets : List (List Bool)) (program : List Step) (entry : ℕ) (p : Pattern) : Type 0 where
+pub record IsMachine (sets : List (List Bool)) (program : List Instruction) (entry : ℕ) (p : Pattern) : Type 0 where
   pub sound : IsSound program
   pub inside : entry < length program
   pub done : slice_get program 0 ≡ Some Done

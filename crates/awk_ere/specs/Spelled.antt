@@ -5,8 +5,8 @@ use Rattle.awk_ere.specs.Best.{Best}
 use Rattle.awk_ere.specs.Token.{Token}
 use Rattle.awk_ere.specs.Reading.{IsRead, HasFault}
 use Rattle.awk_ere.specs.Grammar.{ere, Spells}
-use Rattle.awk_ere.specs.declared.error.Fault.{Fault}
-use Rattle.awk_ere.specs.declared.error.Fault.TheVariants.{Syntax, Interval, Size, Memory}
+use Rattle.awk_ere.specs.declared.error.EreFault.{EreFault}
+use Rattle.awk_ere.specs.declared.error.EreFault.TheVariants.{Syntax, Interval, Size, Memory}
 
 -- the most bytes that a pattern's text may have
 abbrev pub most_pattern_bytes : ℕ
@@ -17,7 +17,7 @@ abbrev pub most_size : ℕ
 most_size = 20000
 
 -- the number of a refusal
-abbrev pub code_of : Fault → ℕ
+abbrev pub code_of : EreFault → ℕ
 code_of Syntax = 1
 code_of Interval = 2
 code_of Size = 3

@@ -5,14 +5,14 @@ use Rattle.std.specs.Simd.Lanes.{zip2, chunk}
 use Rattle.awk_ere.specs.Program.{Eats}
 use Rattle.awk_ere.specs.Search.{mark, IsClosed, Takes, LeadsTo, Goes, IsMachine}
 use Rattle.awk_ere.specs.Pattern.{Pattern, bytes, cat, repeat}
-use Rattle.awk_ere.specs.declared.program.Step.{Step}
+use Rattle.awk_ere.specs.declared.program.Instruction.{Instruction}
 use Rattle.awk_ere.specs.declared.states.TheConstants.{UNKNOWN}
 use Rattle.awk_ere.specs.declared.search.TheConstants.{NONE}
 use Rattle.awk_ere.specs.Bracket.{Range, in_range}
 use Rattle.awk_ere.specs.declared.heads.Heads.{Heads}
 use Rattle.awk_ere.specs.declared.heads.Spread.{Spread}
 use Rattle.awk_ere.specs.declared.states.Begin.{Begin}
-use Rattle.awk_ere.specs.declared.states.Table.{Table}
+use Rattle.awk_ere.specs.declared.states.StateTable.{StateTable}
 
 -- the steps of a state
 abbrev pub steps_of : List (List ℕ) → ℕ → List ℕ
@@ -22,12 +22,12 @@ abbrev pub cell : List (List ℕ) → ℕ → ℕ → ℕ
 cell cells q b = slice_index (slice_index_or cells q []) b
 
 -- T are the steps that those of S lead to without reading
-pub record IsLed (program : List Step) (first last : Bool) (S T : List ℕ) : Type 0 where
+pub record IsLed (program : List Instruction) (first last : Bool) (S T : List ℕ) : Type 0 where
   pub sound : (p : ℕ) → Contains T p → (x : ℕ) × Contains S x × LeadsTo program first last x p
   pub complete : (x p : ℕ) → x < length program → Contains S x → LeadsTo program first last x p → Contains T p
 
 -- the marked steps are those that the steps of S lead to without reading
-pub record AreLed (program : List Step) (first last : Bool) (S starts : List ℕ) : Type 0 where
+pub record AreLed (program : List Instruction) (first last : Bool) (S starts : List ℕ) : Type 0 where
   pub sound : (p : ℕ) → mark starts p < NONE → (x : ℕ) × Contains S x × LeadsTo program first last x p
   pub complete : (x p : ℕ) → x < length program → Contains S x → LeadsTo program first last x p → mark starts p < NONE
 
@@ -37,12 +37,12 @@ pub record AreMarked (starts list : List ℕ) : Type 0 where
   pub complete : (p : ℕ) → mark starts p < NONE → Contains list p
 
 -- T are the steps that those of S go to over the byte b
-pub record AreTargets (sets : List (List Bool)) (program : List Step) (b : ℕ) (S T : List ℕ) : Type 0 where
+pub record AreTargets (sets : List (List Bool)) (program : List Instruction) (b : ℕ) (S T : List ℕ) : Type 0 where
   pub sound : (t : ℕ) → Contains T t → (x : ℕ) × Contains S x × Takes sets program b x t
   pub complete : (x t : ℕ) → Contains S x → Takes sets program b x t → Contains T t
 
 -- over the byte b the steps S lead to the steps T
-pub record IsCell (sets : List (List Bool)) (program : List Step) (b : ℕ) (S T : List ℕ) : Type 0 where
+pub record IsCell (sets : List (List Bool)) (program : List Instruction) (b : ℕ) (S T : List ℕ) : Type 0 where
   pub sound : (p : ℕ) → Contains T p → (x : ℕ) × (t : ℕ) × Contains S x × Takes sets program b x t
       × LeadsTo program false false t p
   pub complete : (x t p : ℕ) → Contains S x → Takes sets program b x t → LeadsTo program false false t p → Contains T p
@@ -52,7 +52,7 @@ abbrev pub Gains : (ℕ → Type 0) → List ℕ → List ℕ → Type 0
 Gains P old new = (p : ℕ) → Contains new p ↔ (Contains old p ⊎ P p)
 
 -- new marks what old marks, and what the step `from` leads to without reading
-pub record LeadsMore (program : List Step) (first last : Bool) (from : ℕ) (old new : List ℕ) : Type 0 where
+pub record LeadsMore (program : List Instruction) (first last : Bool) (from : ℕ) (old new : List ℕ) : Type 0 where
   pub lower : (q : ℕ) → mark new q ≤ mark old q
   pub there : from < length program → mark new from ≤ 0
   pub origin : (q : ℕ) → (mark new q ≡ mark old q) ⊎ ((mark new q ≡ 0) × LeadsTo program first last from q)
@@ -67,23 +67,23 @@ abbrev pub IsNumber : List ℕ → List (List ℕ) → ℕ → Type 0
 IsNumber list lists n = n < UNKNOWN → (n < length lists) × (steps_of lists n ≡ list)
 
 -- where the number is that of a state, it is the one after the byte b in S
-abbrev pub IsKnown : List (List Bool) → List Step → ℕ → List ℕ → List (List ℕ) → ℕ → Type 0
+abbrev pub IsKnown : List (List Bool) → List Instruction → ℕ → List ℕ → List (List ℕ) → ℕ → Type 0
 IsKnown sets program b S lists n = n < UNKNOWN → (n < length lists) × IsCell sets program b S (steps_of lists n)
 
 -- where the byte b is no edge, each step takes it where it takes the byte before
-abbrev pub AreEdges : List (List Bool) → List Step → List Bool → Type 0
+abbrev pub AreEdges : List (List Bool) → List Instruction → List Bool → Type 0
 AreEdges sets program edges =
     (slice_index_or edges 0 false ≡ true)
     × ((b q r : ℕ) → b + 1 < 256 → slice_index_or edges (b + 1) false ≡ false → Takes sets program (b + 1) q r ↔
     Takes sets program b q r)
 
 -- the rows so far are right
-abbrev pub AreRows : List (List Bool) → List Step → List (List ℕ) → List (List ℕ) → Type 0
+abbrev pub AreRows : List (List Bool) → List Instruction → List (List ℕ) → List (List ℕ) → Type 0
 AreRows sets program lists cells =
     (q b : ℕ) → q < length cells → b < 256 → IsKnown sets program b (steps_of lists q) lists (cell cells q b)
 
 -- from the steps S a match ends here, or would at the end of the text
-abbrev pub EndsAtLast : List Step → List ℕ → Type 0
+abbrev pub EndsAtLast : List Instruction → List ℕ → Type 0
 EndsAtLast program S = (x : ℕ) × Contains S x × LeadsTo program false true x 0
 
 -- the flags of the first so many states say where P holds
@@ -92,7 +92,7 @@ pub record AreFlags (P : ℕ → Type 0) (count : ℕ) (flags : List Bool) : Typ
   pub each : (q : ℕ) → q < count → (slice_index_or flags q false ≡ true) ↔ P q
 
 -- each known cell is right, and the flags say where a match ends
-pub record IsTable (sets : List (List Bool)) (program : List Step) (lists cells : List (List ℕ))
+pub record IsTable (sets : List (List Bool)) (program : List Instruction) (lists cells : List (List ℕ))
     (accepts ends : List Bool) : Type 0 where
   pub right : (q b : ℕ) → q < length cells → b < 256 → cell cells q b < length cells →
       IsCell sets program b (steps_of lists q) (steps_of lists (cell cells q b))
@@ -102,7 +102,7 @@ pub record IsTable (sets : List (List Bool)) (program : List Step) (lists cells 
   pub dead : (x : ℕ) → Contains (steps_of lists 0) x → ⊥
 
 -- where the number is that of a state, a search begins there
-abbrev pub IsFirst : List Step → Bool → ℕ → List (List ℕ) → ℕ → Type 0
+abbrev pub IsFirst : List Instruction → Bool → ℕ → List (List ℕ) → ℕ → Type 0
 IsFirst program first entry lists n =
     n < UNKNOWN → (n < length lists) × IsLed program first false (entry ∷ []) (steps_of lists n)
 
@@ -114,7 +114,7 @@ AllLead row s q from to = (k : ℕ) → from ≤ k → k < to → slice_index ro
 abbrev pub IsDead : List (List ℕ) → Type 0
 IsDead lists = (0 < length lists) × (steps_of lists 0 ≡ [])
 
-abbrev pub IsBegin : List Step → ℕ → List (List ℕ) → Begin → Type 0
+abbrev pub IsBegin : List Instruction → ℕ → List (List ℕ) → Begin → Type 0
 IsBegin program entry lists r = IsFirst program true entry lists r.first × IsFirst program false entry lists r.later
 
 -- the range has the byte
@@ -152,7 +152,8 @@ NoneBegin h s from to =
     (k : ℕ) → from ≤ k → k < to → (k + 1 < length s) × (begins h (slice_index s k) (slice_index s (k + 1)) ≡ false)
 
 -- the table of a program, for searches from two of its steps
-pub record IsBuilt (sets : List (List Bool)) (program : List Step) (entry scan : ℕ) (t : Table) : Type 0 where
+pub record IsBuilt (sets : List (List Bool)) (program : List Instruction) (entry scan : ℕ)
+    (t : StateTable) : Type 0 where
   pub lists : List (List ℕ)
   pub table : IsTable sets program lists t.cells.items t.accepts.items t.ends.items
   pub entries : IsBegin program entry lists t.entry
@@ -160,7 +161,7 @@ pub record IsBuilt (sets : List (List Bool)) (program : List Step) (entry scan :
   pub heads : AreHeads t.cells.items t.accepts.items t.entry.later t.heads
   pub spread : AreSpread t.heads
 
-module _ (sets : List (List Bool)) (program : List Step) (s : List ℕ) where
+module _ (sets : List (List Bool)) (program : List Instruction) (s : List ℕ) where
   -- p is reached at the place k from e at i, where the end of the text is not looked at
   abbrev pub Arrives : ℕ → ℕ → ℕ → ℕ → Type 0
   Arrives e i k p =
@@ -196,8 +197,8 @@ anywhere p = cat (repeat (bytes (λ b. true)) 0 None) p
 -- what finds the matches of a pattern: a match begins at the step `entry`, or after any bytes at the step `scan`
 pub record Matcher : Type 0 where
   pub sets : List (List Bool)
-  pub program : List Step
-  pub table : Table
+  pub program : List Instruction
+  pub table : StateTable
   pub entry : ℕ
   pub scan : ℕ
 

@@ -4,10 +4,10 @@ use Rattle.awk_ere.specs.Pattern.{Pattern, bytes, start, finish}
 use Rattle.awk_ere.specs.Escape.{escape}
 use Rattle.awk_ere.specs.Interval.{Times, interval, is_allowed, factor}
 use Rattle.awk_ere.specs.Bracket.{Found, bracket, in_set}
-use Rattle.awk_ere.specs.declared.error.Fault.{Fault}
+use Rattle.awk_ere.specs.declared.error.EreFault.{EreFault}
 use Rattle.awk_ere.specs.declared.front.Lead.{Lead}
 use Rattle.awk_ere.specs.declared.front.Lead.TheVariants.{Bracket, Escape, Brace, Sign}
-use Rattle.awk_ere.specs.declared.error.Fault.TheVariants.{Syntax, Interval}
+use Rattle.awk_ere.specs.declared.error.EreFault.TheVariants.{Syntax, Interval}
 
 pub data Token : Type 0 where
   -- a byte, `.`, a bracket expression or an escape
@@ -26,7 +26,7 @@ pub data Front : Type 0 where
   finished : Front
   -- a token, and the text after it
   token : Token → List ℕ → Front
-  wrong : Fault → Front
+  wrong : EreFault → Front
 
 abbrev pub byte : ℕ → Token
 byte c = atom (bytes (λ b. b == c))

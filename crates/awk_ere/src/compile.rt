@@ -5,13 +5,13 @@ ghost use Rattle.awk_ere.specs.Program.{IsReady, Compiles, Copies, Joins};
 ghost use Rattle.awk_ere.specs.View.{pattern};
 
 use crate::node::Node;
-use crate::program::Step;
+use crate::program::Instruction;
 use crate::token::Class;
 use awk_text::Memory;
 
 /// Adds a step, and gives its number.
 #[inline(never)]
-fn add(program: &mut Vec<Step>, step: Step) -> Result<usize, Memory>
+fn add(program: &mut Vec<Instruction>, step: Instruction) -> Result<usize, Memory>
     ensures at { IfOk result (λ at. at ≡ length program.old.items) }
     ensures added { IfOk result (λ at. program.new.items ≡ program.old.items ++ step ∷ []) }
 {
@@ -23,7 +23,7 @@ fn add(program: &mut Vec<Step>, step: Step) -> Result<usize, Memory>
 /// Adds the part of the program that matches the node and then goes on at `next`. A row of nodes is
 /// compiled from its end on, in a loop, so that a long one takes no more of the stack.
 #[cycle(compile)]
-pub fn compile(node: &Node, next: usize, program: &mut Vec<Step>) -> Result<usize, Memory>
+pub fn compile(node: &Node, next: usize, program: &mut Vec<Instruction>) -> Result<usize, Memory>
     requires { IsReady program.old.items next }
     ensures { IfOk result (λ e. Compiles program.old.items program.new.items e (λ sets. pattern sets node.now) next) }
 {
@@ -39,15 +39,15 @@ pub fn compile(node: &Node, next: usize, program: &mut Vec<Step>) -> Result<usiz
 /// The same of a node that is no row, as of any. Repetitions are compiled by functions of their own,
 /// so that a level takes little of the stack.
 #[cycle(compile)]
-fn compile_node(node: &Node, next: usize, program: &mut Vec<Step>) -> Result<usize, Memory>
+fn compile_node(node: &Node, next: usize, program: &mut Vec<Instruction>) -> Result<usize, Memory>
     requires { IsReady program.old.items next }
     ensures { IfOk result (λ e. Compiles program.old.items program.new.items e (λ sets. pattern sets node.now) next) }
 {
     match node {
         Node::Empty => Ok(next),
-        Node::Bytes(class) => add(program, Step::Eat(*class, next)),
-        Node::Start => add(program, Step::AtStart(next)),
-        Node::End => add(program, Step::AtEnd(next)),
+        Node::Bytes(class) => add(program, Instruction::Eat(*class, next)),
+        Node::Start => add(program, Instruction::AtStart(next)),
+        Node::End => add(program, Instruction::AtEnd(next)),
         Node::Cat(left, right) => {
             let middle = compile(right, next, program)?;
             compile(left, middle, program)
@@ -68,7 +68,7 @@ fn compile_before(
     node: &Node,
     others: usize,
     next: usize,
-    program: &mut Vec<Step>,
+    program: &mut Vec<Instruction>,
 ) -> Result<usize, Memory>
     requires ready { IsReady program.old.items next }
     requires inside { others < length program.old.items }
@@ -79,11 +79,11 @@ fn compile_before(
     let mut at = others;
     while let Node::Alt(left, right) = rest {
         let one = compile(right, next, program)?;
-        at = add(program, Step::Fork(one, at))?;
+        at = add(program, Instruction::Fork(one, at))?;
         rest = left;
     }
     let first = compile(rest, next, program)?;
-    add(program, Step::Fork(first, at))
+    add(program, Instruction::Fork(first, at))
 }
 
 #[cycle(compile)]
@@ -93,7 +93,7 @@ fn compile_repeat(
     least: usize,
     more: Option<usize>,
     next: usize,
-    program: &mut Vec<Step>,
+    program: &mut Vec<Instruction>,
 ) -> Result<usize, Memory>
     requires { IsReady program.old.items next }
     ensures { IfOk result
@@ -121,34 +121,34 @@ fn compile_repeat(
 
 #[cycle(compile)]
 #[inline(never)]
-fn compile_star(node: &Node, next: usize, program: &mut Vec<Step>) -> Result<usize, Memory>
+fn compile_star(node: &Node, next: usize, program: &mut Vec<Instruction>) -> Result<usize, Memory>
     requires { IsReady program.old.items next }
     ensures { IfOk result
         (λ e. Compiles program.old.items program.new.items e (λ sets. repeat (pattern sets node.now) 0 None) next) }
 {
-    let fork = add(program, Step::Hole)?;
+    let fork = add(program, Instruction::Hole)?;
     let inner = compile(node, fork, program)?;
-    program[fork] = Step::Fork(inner, next);
+    program[fork] = Instruction::Fork(inner, next);
     Ok(fork)
 }
 
 /// Once or more: the body comes first, and goes on to the fork.
 #[cycle(compile)]
 #[inline(never)]
-fn compile_plus(node: &Node, next: usize, program: &mut Vec<Step>) -> Result<usize, Memory>
+fn compile_plus(node: &Node, next: usize, program: &mut Vec<Instruction>) -> Result<usize, Memory>
     requires { IsReady program.old.items next }
     ensures { IfOk result
         (λ e. Compiles program.old.items program.new.items e
         (λ sets. cat (pattern sets node.now) (repeat (pattern sets node.now) 0 None)) next) }
 {
-    let fork = add(program, Step::Hole)?;
+    let fork = add(program, Instruction::Hole)?;
     let inner = compile(node, fork, program)?;
-    program[fork] = Step::Fork(inner, next);
+    program[fork] = Instruction::Fork(inner, next);
     Ok(inner)
 }
 
 /// Adds the part of the program that goes over any bytes and then on at `next`.
-pub fn compile_scan(next: usize, program: &mut Vec<Step>) -> Result<usize, Memory>
+pub fn compile_scan(next: usize, program: &mut Vec<Instruction>) -> Result<usize, Memory>
     requires { IsReady program.old.items next }
     ensures { IfOk result
         (λ e. Compiles program.old.items program.new.items e (λ _. repeat (bytes (λ b. true)) 0 None) next) }
@@ -163,7 +163,7 @@ fn compile_options(
     node: &Node,
     count: usize,
     next: usize,
-    program: &mut Vec<Step>,
+    program: &mut Vec<Instruction>,
 ) -> Result<usize, Memory>
     requires { IsReady program.old.items next }
     ensures { IfOk result
@@ -173,7 +173,7 @@ fn compile_options(
     let mut at = next;
     for i in 0..count {
         let inner = compile(node, at, program)?;
-        at = add(program, Step::Fork(inner, next))?;
+        at = add(program, Instruction::Fork(inner, next))?;
     }
     Ok(at)
 }
@@ -184,7 +184,7 @@ fn compile_copies(
     node: &Node,
     count: usize,
     next: usize,
-    program: &mut Vec<Step>,
+    program: &mut Vec<Instruction>,
 ) -> Result<usize, Memory>
     requires { IsReady program.old.items next }
     ensures { IfOk result

@@ -3,7 +3,7 @@ ghost use Rattle.std.specs.Prelude.{◌≡◌, ◌≤◌, length, IfOk, IfErr};
 ghost use Rattle.awk_ere.specs.Pattern.{Pattern};
 ghost use Rattle.awk_ere.specs.Spelled.{IsPattern, IsAccepted, IsRefused, Finds, HasMatch, code_of};
 
-use crate::error::{EreError, Fault};
+use crate::error::{EreError, EreFault};
 use crate::hopes::{Hopes, no_hopes};
 use crate::literal::{find_text, is_literal};
 use crate::read::read_within;
@@ -37,7 +37,7 @@ impl Model for Ere {
 }
 
 impl Ere {
-    fn made(alloc: Global, text: &[u8]) -> Result<Ere, Fault>
+    fn made(alloc: Global, text: &[u8]) -> Result<Ere, EreFault>
         ensures ok { IfOk result (λ e. IsAccepted text.now e) }
         ensures err { IfErr result (λ f. IsRefused text.now (code_of f)) }
     {

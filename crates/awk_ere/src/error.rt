@@ -16,7 +16,7 @@ pub const MAX_SIZE: usize = 20000;
 
 /// Why a text is no pattern, or why none was made of it.
 #[derive(Clone, Copy, Debug, PartialEq, Eq)]
-pub enum Fault {
+pub enum EreFault {
     /// An unmatched `(` or `[`, a bracket expression that is none, or a lone `\` at the end.
     Syntax,
     /// An interval with a bound over 255 or with its bounds in the wrong order.
@@ -43,36 +43,36 @@ impl fmt::Display for EreError {
 
 impl Error for EreError {}
 
-impl Fault {
+impl EreFault {
     /// The number of the refusal.
     pub fn code(self) -> u8
         ensures { result ≡ code_of self }
     {
         match self {
-            Fault::Syntax => 1,
-            Fault::Interval => 2,
-            Fault::Size => 3,
-            Fault::Memory => 4,
+            EreFault::Syntax => 1,
+            EreFault::Interval => 2,
+            EreFault::Size => 3,
+            EreFault::Memory => 4,
         }
     }
 }
 
-impl From<AllocError> for Fault {
-    ghost use Rattle.awk_ere.specs.declared.error.Fault.TheVariants.{Memory};
+impl From<AllocError> for EreFault {
+    ghost use Rattle.awk_ere.specs.declared.error.EreFault.TheVariants.{Memory};
 
     ghost from_gives = { λ _ e. e ≡ Memory };
 
-    fn from(_error: AllocError) -> Fault {
-        Fault::Memory
+    fn from(_error: AllocError) -> EreFault {
+        EreFault::Memory
     }
 }
 
-impl<T: Drop> From<AllocFailed<T>> for Fault {
-    ghost use Rattle.awk_ere.specs.declared.error.Fault.TheVariants.{Memory};
+impl<T: Drop> From<AllocFailed<T>> for EreFault {
+    ghost use Rattle.awk_ere.specs.declared.error.EreFault.TheVariants.{Memory};
 
     ghost from_gives = { λ _ e. e ≡ Memory };
 
-    fn from(_error: AllocFailed<T>) -> Fault {
-        Fault::Memory
+    fn from(_error: AllocFailed<T>) -> EreFault {
+        EreFault::Memory
     }
 }

@@ -7,7 +7,7 @@ ghost use Rattle.awk_ere.specs.Token as spec;
 ghost use Rattle.awk_ere.specs.Lexing.{IsToken, IsFront, Later};
 
 use crate::bracket::{Set, bracket};
-use crate::error::Fault;
+use crate::error::EreFault;
 use crate::escape::escape;
 use crate::interval::{interval, repetition};
 use crate::token::{Class, Times, Token};
@@ -64,15 +64,15 @@ fn lead_of(may_repeat: bool, byte: u8) -> Lead
 }
 
 /// The set that the text after a `[` spells, as a token. The set is added to `sets`.
-fn bracket_token<'a>(after: &'a [u8], sets: &mut Vec<Set>) -> Result<(Token, &'a [u8]), Fault>
+fn bracket_token<'a>(after: &'a [u8], sets: &mut Vec<Set>) -> Result<(Token, &'a [u8]), EreFault>
     ensures within { IfOk result (λ p. length p.1.now < length after.now) }
     ensures ok { IfOk result (λ p. IsFront sets.new.items (spec.bracketed (bracket after.now)) p.0 p.1.now) }
-    ensures err { IfErr result (λ f. f ≢ Fault.Memory → spec.bracketed (bracket after.now) ≡ spec.wrong f) }
+    ensures err { IfErr result (λ f. f ≢ EreFault.Memory → spec.bracketed (bracket after.now) ≡ spec.wrong f) }
     ensures sets { Later sets.old.items sets.new.items }
 {
     let mut set = [false; 256];
     match bracket(after, &mut set) {
-        None => Err(Fault::Syntax),
+        None => Err(EreFault::Syntax),
         Some(rest) => {
             let number = sets.len();
             sets.push(set)?;
@@ -82,19 +82,19 @@ fn bracket_token<'a>(after: &'a [u8], sets: &mut Vec<Set>) -> Result<(Token, &'a
 }
 
 /// The byte that the text after a `\` names, as a token.
-fn escape_token(after: &[u8]) -> Result<(Token, &[u8]), Fault>
+fn escape_token(after: &[u8]) -> Result<(Token, &[u8]), EreFault>
     ensures within { IfOk result (λ p. length p.1.now < length after.now) }
     ensures ok { IfOk result (λ p. IsFront [] (spec.escaped (escape after.now)) p.0 p.1.now) }
     ensures err { IfErr result (λ f. spec.escaped (escape after.now) ≡ spec.wrong f) }
 {
     match escape(after) {
-        None => Err(Fault::Syntax),
+        None => Err(EreFault::Syntax),
         Some((byte, rest)) => Ok((Token::Atom(Class::One(byte)), rest)),
     }
 }
 
 /// The interval that the text after a `{` spells, or the `{` itself.
-fn interval_token(after: &[u8]) -> Result<(Token, &[u8]), Fault>
+fn interval_token(after: &[u8]) -> Result<(Token, &[u8]), EreFault>
     ensures within { IfOk result (λ p. length p.1.now ≤ length after.now) }
     ensures ok { IfOk result (λ p. IsFront [] (spec.repeated after.now (interval after.now)) p.0 p.1.now) }
     ensures err { IfErr result (λ f. spec.repeated after.now (interval after.now) ≡ spec.wrong f) }
@@ -102,7 +102,7 @@ fn interval_token(after: &[u8]) -> Result<(Token, &[u8]), Fault>
     match interval(after) {
         None => Ok((Token::Atom(Class::One(b'{')), after)),
         Some((least, most, rest)) => match repetition(least, most) {
-            None => Err(Fault::Interval),
+            None => Err(EreFault::Interval),
             Some(times) => Ok((Token::Repeat(times), rest)),
         },
     }
@@ -118,17 +118,17 @@ pub fn front<'a>(
     is_open: bool,
     may_repeat: bool,
     sets: &mut Vec<Set>,
-) -> Result<Option<(Token, &'a [u8])>, Fault>
+) -> Result<Option<(Token, &'a [u8])>, EreFault>
     ensures within { IfOk result (λ o. IfSome o (λ p. length p.1.now < length text.now)) }
     ensures ok { IfOk result
         (λ o. MatchOption o (spec.front is_open may_repeat text.now ≡ spec.finished)
         (λ p. IsFront sets.new.items (spec.front is_open may_repeat text.now) p.0 p.1.now)) }
-    ensures err { IfErr result (λ f. f ≢ Fault.Memory → spec.front is_open may_repeat text.now ≡ spec.wrong f) }
+    ensures err { IfErr result (λ f. f ≢ EreFault.Memory → spec.front is_open may_repeat text.now ≡ spec.wrong f) }
     ensures sets { Later sets.old.items sets.new.items }
 {
     let [byte, after @ ..] = text else {
         return if is_open {
-            Err(Fault::Syntax)
+            Err(EreFault::Syntax)
         } else {
             Ok(None)
         };

@@ -1,15 +1,15 @@
 // In which states of a table a match may still end, for each place of a text. A text is read backwards for it once, so
 // that no search after that reads past the end of what it finds.
 ghost use Rattle.std.specs.Prelude.{◌≡◌, ◌+◌, ◌<◌, ◌≤◌, ℕ, List, [], true, false, length, IfOk, slice_index_or};
-ghost use Rattle.awk_ere.specs.declared.states.Table.{Table};
+ghost use Rattle.awk_ere.specs.declared.states.StateTable.{StateTable};
 ghost use Rattle.awk_ere.specs.Hopes.{IsLastRow, IsRowBefore, IsHopeless, IsRow, AreRows, AreKept, AreHopes};
 
-use crate::states::Table;
+use crate::states::StateTable;
 use std::alloc::{AllocError, Global};
 use std::mem;
 
 /// For each state whether a match may still end.
-pub type Row = [bool; 256];
+pub type HopeRow = [bool; 256];
 
 /// Of so many places one has its row kept, and those between have theirs made where they are needed, so that a long
 /// text takes little memory.
@@ -19,15 +19,15 @@ const BLOCK: usize = 64;
 #[derive(Drop)]
 pub struct Hopes {
     /// The rows where 0, 64, 128 .. bytes are left.
-    pub kept: Vec<Row>,
+    pub kept: Vec<HopeRow>,
     /// The rows where `left` bytes are left, and one more for each.
-    pub rows: Vec<Row>,
+    pub rows: Vec<HopeRow>,
     pub left: usize,
 }
 
 /// Nothing is known.
 pub fn no_hopes(alloc: Global) -> Hopes
-    ensures { (t : Table) (s : List ℕ) → AreHopes t s result }
+    ensures { (t : StateTable) (s : List ℕ) → AreHopes t s result }
 {
     Hopes {
         kept: Vec::new(alloc),
@@ -37,7 +37,7 @@ pub fn no_hopes(alloc: Global) -> Hopes
 }
 
 /// The row of the text's end.
-fn last_row(table: &Table) -> Row
+fn last_row(table: &StateTable) -> HopeRow
     ensures { IsLastRow table.now result }
 {
     let ends = table.ends.as_slice();
@@ -49,14 +49,14 @@ fn last_row(table: &Table) -> Row
 }
 
 /// Whether a match may end in a state, or further on from the one that it leads to.
-fn may_end(accept: bool, after: &Row, next: u8) -> bool
+fn may_end(accept: bool, after: &HopeRow, next: u8) -> bool
     ensures { result ≡ false → (accept ≡ false) × (slice_index_or after.now next false ≡ false) }
 {
     accept || after[next as usize]
 }
 
 /// The row of a place, by its byte and the row of the place behind it.
-fn row_before(table: &Table, byte: u8, after: &Row) -> Row
+fn row_before(table: &StateTable, byte: u8, after: &HopeRow) -> HopeRow
     ensures { IsRowBefore table.now byte after.now result }
 {
     let (cells, accepts) = (table.cells.as_slice(), table.accepts.as_slice());
@@ -68,7 +68,7 @@ fn row_before(table: &Table, byte: u8, after: &Row) -> Row
 }
 
 /// The row where one byte more is left.
-fn step_back(table: &Table, text: &[u8], left: usize, row: &Row) -> Row
+fn step_back(table: &StateTable, text: &[u8], left: usize, row: &HopeRow) -> HopeRow
     requires inside { left < length text.now }
     requires row { IsRow table.now text.now left row.now }
     ensures { IsRow table.now text.now (left + 1) result }
@@ -78,7 +78,7 @@ fn step_back(table: &Table, text: &[u8], left: usize, row: &Row) -> Row
 }
 
 /// The row where a block more is left.
-fn block_back(table: &Table, text: &[u8], left: usize, first: &Row) -> Row
+fn block_back(table: &StateTable, text: &[u8], left: usize, first: &HopeRow) -> HopeRow
     requires inside { left + 64 ≤ length text.now }
     requires row { IsRow table.now text.now left first.now }
     ensures { IsRow table.now text.now (left + 64) result }
@@ -91,7 +91,7 @@ fn block_back(table: &Table, text: &[u8], left: usize, first: &Row) -> Row
 }
 
 /// The rows that are kept of a text.
-pub fn kept_rows(alloc: Global, table: &Table, text: &[u8]) -> Result<Vec<Row>, AllocError>
+pub fn kept_rows(alloc: Global, table: &StateTable, text: &[u8]) -> Result<Vec<HopeRow>, AllocError>
     ensures { IfOk result (λ kept. AreKept table.now text.now kept.items) }
 {
     let mut kept = Vec::new(alloc);
@@ -108,12 +108,12 @@ pub fn kept_rows(alloc: Global, table: &Table, text: &[u8]) -> Result<Vec<Row>, 
 
 /// The rows of a block, of which the first is given.
 fn block_rows(
-    table: &Table,
+    table: &StateTable,
     text: &[u8],
     left: usize,
-    first: &Row,
-    mut rows: Vec<Row>,
-) -> Result<Vec<Row>, AllocError>
+    first: &HopeRow,
+    mut rows: Vec<HopeRow>,
+) -> Result<Vec<HopeRow>, AllocError>
     requires inside { left ≤ length text.now }
     requires row { IsRow table.now text.now left first.now }
     ensures { IfOk result (λ found. AreRows table.now text.now left found.items) }
@@ -128,7 +128,7 @@ fn block_rows(
     Ok(rows)
 }
 
-fn kept_row(kept: &[Row], block: usize) -> Row
+fn kept_row(kept: &[HopeRow], block: usize) -> HopeRow
     requires { block < length kept.now }
     ensures { result ≡ slice_index_or kept.now block [] }
 {
@@ -137,7 +137,7 @@ fn kept_row(kept: &[Row], block: usize) -> Row
 
 /// Brings the rows of the block to which the place belongs.
 #[inline(never)]
-fn bring(table: &Table, text: &[u8], left: usize, hopes: &mut Hopes) -> Result<(), AllocError>
+fn bring(table: &StateTable, text: &[u8], left: usize, hopes: &mut Hopes) -> Result<(), AllocError>
     requires inside { left ≤ length text.now }
     requires hopes { AreHopes table.now text.now hopes.old }
     ensures { AreHopes table.now text.now hopes.new }
@@ -159,7 +159,7 @@ fn bring(table: &Table, text: &[u8], left: usize, hopes: &mut Hopes) -> Result<(
 
 /// Whether a search that is in the state where so many bytes are left meets no match's end any more.
 pub fn is_hopeless(
-    table: &Table,
+    table: &StateTable,
     text: &[u8],
     left: usize,
     state: usize,
@@ -177,7 +177,7 @@ pub fn is_hopeless(
 }
 
 /// Whether the row where so many bytes are left is there, and leaves the state out.
-fn is_left_out(rows: &[Row], first: usize, left: usize, state: usize) -> bool
+fn is_left_out(rows: &[HopeRow], first: usize, left: usize, state: usize) -> bool
     ensures { result ≡ true → (i : ℕ) × (left ≡ first + i) × (i < length rows.now) × (state < 256)
         × (slice_index_or (slice_index_or rows.now i []) state false ≡ false) }
 {

@@ -8,7 +8,7 @@ ghost use Rattle.awk_ere.specs.Spelled.{IsPattern, IsAccepted, IsRefused, Finds,
 ghost use Rattle.awk_ere.specs.View.{pattern};
 
 use crate::bracket::Set;
-use crate::error::{EreError, Fault};
+use crate::error::{EreError, EreFault};
 use crate::node::Node;
 use crate::read::read_within;
 use crate::token::{Class, takes};
@@ -274,7 +274,7 @@ impl Model for Plain {
 }
 
 impl Plain {
-    fn made(alloc: Global, text: &[u8]) -> Result<Plain, Fault>
+    fn made(alloc: Global, text: &[u8]) -> Result<Plain, EreFault>
         ensures ok { IfOk result (λ e. IsAccepted text.now e) }
         ensures err { IfErr result (λ f. IsRefused text.now (code_of f)) }
     {

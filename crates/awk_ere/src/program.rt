@@ -3,7 +3,7 @@ use crate::token::Class;
 
 /// One step of a pattern's program, with the numbers of the steps that follow.
 #[derive(Clone, Copy)]
-pub enum Step {
+pub enum Instruction {
     /// Take a byte of the class.
     Eat(Class, usize),
     /// Go on at either.

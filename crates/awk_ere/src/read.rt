@@ -5,18 +5,18 @@ ghost use Rattle.awk_ere.specs.Spelled.{IsRefused, code_of};
 ghost use Rattle.awk_ere.specs.Tree.{IsTree, IsWhole};
 
 use crate::bracket::Set;
-use crate::error::{Fault, MAX_BYTES, MAX_SIZE};
+use crate::error::{EreFault, MAX_BYTES, MAX_SIZE};
 use crate::front::front;
 use crate::node::Node;
-use crate::tree::{Part, finish, fresh, take};
+use crate::tree::{Sized, finish, fresh, take};
 use std::alloc::Global;
 
 /// The tree of the text's pattern. The sets of its bracket expressions are put into `sets`.
 ///
 /// Errors: the text's leftmost fault, or `Memory`.
-fn read(alloc: Global, text: &[u8], sets: &mut Vec<Set>) -> Result<Part, Fault>
+fn read(alloc: Global, text: &[u8], sets: &mut Vec<Set>) -> Result<Sized, EreFault>
     ensures ok { IfOk result (λ part. IsWhole text.now sets.new.items part) }
-    ensures err { IfErr result (λ f. f ≢ Fault.Memory → HasFault text.now f) }
+    ensures err { IfErr result (λ f. f ≢ EreFault.Memory → HasFault text.now f) }
 {
     let mut groups = Vec::new(alloc);
     let mut top = fresh();
@@ -33,16 +33,16 @@ fn read(alloc: Global, text: &[u8], sets: &mut Vec<Set>) -> Result<Part, Fault>
 ///
 /// Errors: in this order `Size` for more bytes than `MAX_BYTES`, the leftmost fault, and `Size` for a size
 /// over `MAX_SIZE`; `Memory`.
-pub fn read_within(alloc: Global, text: &[u8], sets: &mut Vec<Set>) -> Result<Node, Fault>
+pub fn read_within(alloc: Global, text: &[u8], sets: &mut Vec<Set>) -> Result<Node, EreFault>
     ensures ok { IfOk result (λ node. IsTree text.now sets.new.items node) }
     ensures err { IfErr result (λ f. IsRefused text.now (code_of f)) }
 {
     if text.len() > MAX_BYTES {
-        return Err(Fault::Size);
+        return Err(EreFault::Size);
     }
-    let Part { node, size } = read(alloc, text, sets)?;
+    let Sized { node, size } = read(alloc, text, sets)?;
     if size > MAX_SIZE {
-        return Err(Fault::Size);
+        return Err(EreFault::Size);
     }
     Ok(node)
 }

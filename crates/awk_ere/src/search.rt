@@ -5,32 +5,37 @@ ghost use Rattle.awk_ere.specs.Search.{targets, target_of, IsListed, IsBlank, Is
 ghost use Rattle.awk_ere.specs.Search.{BestOf, Goes, Finds, limit_of, cap_of};
 
 use crate::bracket::Set;
-use crate::program::Step;
+use crate::program::Instruction;
 use crate::token::takes;
 use std::alloc::{AllocError, Global};
 use std::mem;
 
 pub const NONE: usize = usize::MAX;
 
-fn push_next(step: Step, first: bool, last: bool, stack: &mut Vec<usize>) -> Result<(), AllocError>
+fn push_next(
+    step: Instruction,
+    first: bool,
+    last: bool,
+    stack: &mut Vec<usize>,
+) -> Result<(), AllocError>
     ensures { OnOk result (stack.new.items ≡ stack.old.items ++ targets first last step) }
 {
     match step {
-        Step::Fork(a, b) => {
+        Instruction::Fork(a, b) => {
             stack.push(b)?;
             stack.push(a)?;
         }
-        Step::AtStart(next) => {
+        Instruction::AtStart(next) => {
             if first {
                 stack.push(next)?;
             }
         }
-        Step::AtEnd(next) => {
+        Instruction::AtEnd(next) => {
             if last {
                 stack.push(next)?;
             }
         }
-        Step::Eat(_, _) | Step::Done | Step::Hole => {}
+        Instruction::Eat(_, _) | Instruction::Done | Instruction::Hole => {}
     }
     Ok(())
 }
@@ -54,7 +59,7 @@ fn mark(
 }
 
 pub fn reach(
-    program: &[Step],
+    program: &[Instruction],
     first: bool,
     last: bool,
     from: usize,
@@ -83,25 +88,29 @@ pub fn reach(
 }
 
 /// Where a step goes over the byte.
-pub fn target(sets: &[Set], step: Step, byte: u8) -> Option<usize>
+pub fn target(sets: &[Set], step: Instruction, byte: u8) -> Option<usize>
     ensures { result ≡ target_of sets.now byte step }
 {
     match step {
-        Step::Eat(class, to) => {
+        Instruction::Eat(class, to) => {
             if takes(sets, class, byte) {
                 Some(to)
             } else {
                 None
             }
         }
-        Step::Fork(_, _) | Step::AtStart(_) | Step::AtEnd(_) | Step::Done | Step::Hole => None,
+        Instruction::Fork(_, _)
+        | Instruction::AtStart(_)
+        | Instruction::AtEnd(_)
+        | Instruction::Done
+        | Instruction::Hole => None,
     }
 }
 
 /// Marks in `next` what the marked steps of starts up to `cap` reach over the byte.
 fn advance(
     sets: &[Set],
-    program: &[Step],
+    program: &[Instruction],
     byte: u8,
     first: bool,
     last: bool,
@@ -148,7 +157,7 @@ fn clear(starts: &mut [usize], active: &mut Vec<usize>)
 /// Lets a match start at the place, where none was found yet, and looks whether one ends there.
 fn arrive(
     sets: &[Set],
-    program: &[Step],
+    program: &[Instruction],
     text: &[u8],
     entry: usize,
     from: usize,
@@ -214,7 +223,7 @@ fn cap_at(place: usize, best: Option<(usize, usize)>) -> usize
 /// One place: `here` is looked at and cleared, and `ahead` is marked for the next place.
 fn turn(
     sets: &[Set],
-    program: &[Step],
+    program: &[Instruction],
     text: &[u8],
     entry: usize,
     from: usize,
@@ -281,7 +290,7 @@ fn turn(
 pub fn search(
     alloc: Global,
     sets: &[Set],
-    program: &[Step],
+    program: &[Instruction],
     text: &[u8],
     entry: usize,
     from: usize,

@@ -10,7 +10,7 @@ ghost use Rattle.awk_ere.specs.Table.{IsDead, IsBuilt};
 
 use crate::bracket::Set;
 use crate::heads::{Heads, any_heads, make_heads};
-use crate::program::Step;
+use crate::program::Instruction;
 use crate::search::{NONE, reach, target};
 use std::alloc::{AllocError, Global};
 
@@ -29,7 +29,7 @@ const MAX_WORK: usize = 1_000_000;
 /// Adds the step that this one goes to over the byte.
 fn push_target(
     sets: &[Set],
-    program: &[Step],
+    program: &[Instruction],
     at: usize,
     byte: u8,
     found: &mut Vec<usize>,
@@ -52,7 +52,7 @@ fn push_target(
 fn targets(
     alloc: Global,
     sets: &[Set],
-    program: &[Step],
+    program: &[Instruction],
     list: &[usize],
     byte: u8,
 ) -> Result<Vec<usize>, AllocError>
@@ -67,7 +67,7 @@ fn targets(
 
 /// Marks the steps that this one leads to without reading, where the program has it.
 fn lead_from(
-    program: &[Step],
+    program: &[Instruction],
     first: bool,
     last: bool,
     at: usize,
@@ -92,7 +92,7 @@ fn lead_from(
 
 /// Marks the steps that those of the list lead to without reading.
 fn lead(
-    program: &[Step],
+    program: &[Instruction],
     first: bool,
     last: bool,
     list: &[usize],
@@ -139,7 +139,7 @@ fn marked(alloc: Global, starts: &[usize]) -> Result<Vec<usize>, AllocError>
 /// The steps that those of the list lead to without reading, by marks that are blank before.
 fn led_by(
     alloc: Global,
-    program: &[Step],
+    program: &[Instruction],
     first: bool,
     last: bool,
     list: &[usize],
@@ -160,7 +160,7 @@ fn led_by(
 /// The steps that those of the list lead to without reading.
 fn led(
     alloc: Global,
-    program: &[Step],
+    program: &[Instruction],
     first: bool,
     last: bool,
     list: &[usize],
@@ -214,7 +214,7 @@ fn number(lists: &mut Vec<Vec<usize>>, list: Vec<usize>) -> Result<u8, AllocErro
 fn cell(
     alloc: Global,
     sets: &[Set],
-    program: &[Step],
+    program: &[Instruction],
     list: &[usize],
     byte: u8,
     lists: &mut Vec<Vec<usize>>,
@@ -234,7 +234,7 @@ fn cell(
 fn cell_after(
     alloc: Global,
     sets: &[Set],
-    program: &[Step],
+    program: &[Instruction],
     is_edge: bool,
     before: u8,
     list: &[usize],
@@ -260,7 +260,7 @@ fn cell_after(
 fn row(
     alloc: Global,
     sets: &[Set],
-    program: &[Step],
+    program: &[Instruction],
     edges: &[bool; 256],
     list: &[usize],
     lists: &mut Vec<Vec<usize>>,
@@ -303,7 +303,7 @@ fn list_at(alloc: Global, lists: &[Vec<usize>], at: usize) -> Result<Vec<usize>,
 fn add_row(
     alloc: Global,
     sets: &[Set],
-    program: &[Step],
+    program: &[Instruction],
     edges: &[bool; 256],
     lists: &mut Vec<Vec<usize>>,
     cells: &mut Vec<[u8; 256]>,
@@ -331,7 +331,7 @@ fn add_row(
 fn rows(
     alloc: Global,
     sets: &[Set],
-    program: &[Step],
+    program: &[Instruction],
     edges: &[bool; 256],
     count: usize,
     lists: &mut Vec<Vec<usize>>,
@@ -371,7 +371,7 @@ fn accepting(alloc: Global, lists: &[Vec<usize>], count: usize) -> Result<Vec<bo
 }
 
 /// Whether a match ends at the steps of the list where the text ends.
-fn ends_at_last(alloc: Global, program: &[Step], list: &[usize]) -> Result<bool, AllocError>
+fn ends_at_last(alloc: Global, program: &[Instruction], list: &[usize]) -> Result<bool, AllocError>
     requires sound { IsSound program.now }
     requires some { 0 < length program.now }
     ensures { IfOk result (λ b. (b ≡ true) ↔ EndsAtLast program.now list.now) }
@@ -383,7 +383,7 @@ fn ends_at_last(alloc: Global, program: &[Step], list: &[usize]) -> Result<bool,
 /// In which of the first states a match ends where the text ends.
 fn ending(
     alloc: Global,
-    program: &[Step],
+    program: &[Instruction],
     lists: &[Vec<usize>],
     count: usize,
 ) -> Result<Vec<bool>, AllocError>
@@ -405,7 +405,7 @@ fn ending(
 /// The state in which a search begins at the step.
 fn first_state(
     alloc: Global,
-    program: &[Step],
+    program: &[Instruction],
     first: bool,
     entry: usize,
     lists: &mut Vec<Vec<usize>>,
@@ -420,7 +420,7 @@ fn first_state(
 }
 
 /// Whether the step goes on otherwise over the byte than over the one before it.
-fn differs(sets: &[Set], step: Step, byte: u8) -> bool
+fn differs(sets: &[Set], step: Instruction, byte: u8) -> bool
     requires { 1 ≤ byte }
     ensures { result ≡ false → target_of sets.now byte step ≡ target_of sets.now (byte - 1) step }
 {
@@ -428,7 +428,7 @@ fn differs(sets: &[Set], step: Step, byte: u8) -> bool
 }
 
 /// Makes the byte an edge where the step goes on otherwise.
-fn add_edge(sets: &[Set], step: Step, byte: u8, edges: &mut [bool; 256])
+fn add_edge(sets: &[Set], step: Instruction, byte: u8, edges: &mut [bool; 256])
     requires { 1 ≤ byte }
     ensures kept { (b : ℕ) → has edges.new b ≡ false → has edges.old b ≡ false }
     ensures edge { has edges.new byte ≡ false → target_of sets.now byte step ≡ target_of sets.now (byte - 1) step }
@@ -439,7 +439,7 @@ fn add_edge(sets: &[Set], step: Step, byte: u8, edges: &mut [bool; 256])
 }
 
 /// Makes each byte an edge over which the step goes on otherwise than over the one before it.
-fn add_edges(sets: &[Set], step: Step, edges: &mut [bool; 256])
+fn add_edges(sets: &[Set], step: Instruction, edges: &mut [bool; 256])
     ensures kept { (b : ℕ) → has edges.new b ≡ false → has edges.old b ≡ false }
     ensures edges { (b : ℕ) → b + 1 < 256 → has edges.new (b + 1) ≡ false → target_of sets.now (b + 1) step
         ≡ target_of sets.now b step }
@@ -450,7 +450,7 @@ fn add_edges(sets: &[Set], step: Step, edges: &mut [bool; 256])
 }
 
 /// The bytes over which some step goes on otherwise than over the one before.
-fn edges(sets: &[Set], program: &[Step]) -> [bool; 256]
+fn edges(sets: &[Set], program: &[Instruction]) -> [bool; 256]
     ensures { AreEdges sets.now program.now result }
 {
     let mut edges = [false; 256];
@@ -471,7 +471,7 @@ pub struct Begin {
 /// The states in which a search begins at the step.
 fn begins(
     alloc: Global,
-    program: &[Step],
+    program: &[Instruction],
     entry: usize,
     lists: &mut Vec<Vec<usize>>,
 ) -> Result<Begin, AllocError>
@@ -486,7 +486,7 @@ fn begins(
 
 /// A table for searches that begin at the program's entry, and for those that begin at the step `scan`.
 #[derive(Drop)]
-pub struct Table {
+pub struct StateTable {
     pub cells: Vec<[u8; 256]>,
     pub accepts: Vec<bool>,
     pub ends: Vec<bool>,
@@ -497,14 +497,20 @@ pub struct Table {
 }
 
 /// A table that says nothing.
-fn blank(alloc: Global, sets: &[Set], program: &[Step], entry: usize, scan: usize) -> Table
+fn blank(
+    alloc: Global,
+    sets: &[Set],
+    program: &[Instruction],
+    entry: usize,
+    scan: usize,
+) -> StateTable
     ensures { IsBuilt sets.now program.now entry scan result }
 {
     let begin = Begin {
         first: UNKNOWN,
         later: UNKNOWN,
     };
-    Table {
+    StateTable {
         cells: Vec::new(alloc),
         accepts: Vec::new(alloc),
         ends: Vec::new(alloc),
@@ -515,7 +521,7 @@ fn blank(alloc: Global, sets: &[Set], program: &[Step], entry: usize, scan: usiz
 }
 
 /// How many rows may be made, so that the work is bounded.
-fn room(program: &[Step], edges: &[bool; 256]) -> usize
+fn room(program: &[Instruction], edges: &[bool; 256]) -> usize
     ensures { result ≤ UNKNOWN }
 {
     let mut count = 1usize;
@@ -532,12 +538,12 @@ fn room(program: &[Step], edges: &[bool; 256]) -> usize
 fn with_rows(
     alloc: Global,
     sets: &[Set],
-    program: &[Step],
+    program: &[Instruction],
     entry: usize,
     scan: usize,
     mut lists: Vec<Vec<usize>>,
     begins: (Begin, Begin),
-) -> Result<Table, AllocError>
+) -> Result<StateTable, AllocError>
     requires sound { IsSound program.now }
     requires some { 0 < length program.now }
     requires dead { IsDead (map (λ v. v.items) lists.items) }
@@ -551,7 +557,7 @@ fn with_rows(
     let accepts = accepting(alloc, &lists, cells.len())?;
     let ends = ending(alloc, program, &lists, cells.len())?;
     let heads = make_heads(&cells, &accepts, begins.0.later);
-    Ok(Table {
+    Ok(StateTable {
         cells,
         accepts,
         ends,
@@ -574,10 +580,10 @@ fn no_states(alloc: Global) -> Result<Vec<Vec<usize>>, AllocError>
 pub fn make_table(
     alloc: Global,
     sets: &[Set],
-    program: &[Step],
+    program: &[Instruction],
     entry: usize,
     scan: usize,
-) -> Result<Table, AllocError>
+) -> Result<StateTable, AllocError>
     requires sound { IsSound program.now }
     requires some { 0 < length program.now }
     ensures { IfOk result (λ t. IsBuilt sets.now program.now entry scan t) }

@@ -12,9 +12,9 @@ use crate::compile::{compile, compile_scan};
 use crate::heads::{LANES, is_open, next_head};
 use crate::hopes::{Hopes, is_hopeless, kept_rows};
 use crate::node::Node;
-use crate::program::Step;
+use crate::program::Instruction;
 use crate::search::search;
-use crate::states::{Begin, DEAD, Table, make_table};
+use crate::states::{Begin, DEAD, StateTable, make_table};
 use awk_text::Memory;
 use std::alloc::Global;
 use std::marker::Model;
@@ -113,8 +113,8 @@ fn state_at(begin: Begin, place: usize) -> usize
 #[derive(Drop)]
 pub struct Matcher {
     sets: Vec<Set>,
-    program: Vec<Step>,
-    table: Table,
+    program: Vec<Instruction>,
+    table: StateTable,
     /// Where the pattern begins in the program, and where it begins after any bytes.
     entry: usize,
     scan: usize,
@@ -141,7 +141,7 @@ impl Matcher {
         ensures { IfOk result (λ m. StandsFor m (pattern sets.items node.now)) }
     {
         let mut program = Vec::new(alloc);
-        program.push(Step::Done)?;
+        program.push(Instruction::Done)?;
         let entry = compile(node, 0, &mut program)?;
         let scan = compile_scan(entry, &mut program)?;
         let table = make_table(alloc, &sets, &program, entry, scan)?;
@@ -266,8 +266,12 @@ impl Matcher {
         ensures { IsTrue result → IsAnchored self.now }
     {
         match self.program[self.entry] {
-            Step::AtStart(_) => true,
-            Step::Eat(_, _) | Step::Fork(_, _) | Step::AtEnd(_) | Step::Done | Step::Hole => false,
+            Instruction::AtStart(_) => true,
+            Instruction::Eat(_, _)
+            | Instruction::Fork(_, _)
+            | Instruction::AtEnd(_)
+            | Instruction::Done
+            | Instruction::Hole => false,
         }
     }
 

@@ -3,8 +3,8 @@ use Rattle.std.proofs.Common.{◌≡◌, ℕ, zero, suc, ◌+◌, ◌-◌, ◌<�
 use Rattle.std.proofs.lemmas.List.{append-nil, map-append}
 use Rattle.awk_tokens.specs.declared.token.Token.{Token}
 use Rattle.awk_tokens.specs.declared.terminals.Terminal.{Terminal}
-use Rattle.awk_tree.specs.declared.fault.Fault.{Fault}
-use Rattle.awk_tree.specs.declared.fault.Fault.TheVariants.{Unexpected}
+use Rattle.awk_tree.specs.declared.fault.ParseError.{ParseError}
+use Rattle.awk_tree.specs.declared.fault.ParseError.TheVariants.{Unexpected}
 use Rattle.awk_tree.specs.Terminals.{ahead}
 use Rattle.awk_tree.specs.Input.{Outcome, Parser, and_then, many_from}
 
@@ -42,7 +42,7 @@ module _ {A : Type 0} (test : Terminal → Bool) (item : Parser A) where
       let turn : n - at ≡ suc (n - (at + 1)) = omega arith in
       sym (rw (turn, h, i) (regroup front x (many_from test item (n - (at + 1)) m))) ∙ e
 
-  pub many_fails : (front : List A) (n at : ℕ) (ts : List Token) (f : Fault) (total : Outcome (List A)) → at < n → test (ahead ts) ≡ true → item ts ≡ Err f → with_front front (many_from test item (n - at) ts) ≡ total → total ≡ Err f
+  pub many_fails : (front : List A) (n at : ℕ) (ts : List Token) (f : ParseError) (total : Outcome (List A)) → at < n → test (ahead ts) ≡ true → item ts ≡ Err f → with_front front (many_from test item (n - at) ts) ≡ total → total ≡ Err f
   unfolding many_from
   many_fails front n at ts f total lt h i e = let turn : n - at ≡ suc (n - (at + 1)) = omega arith in sym e ∙ rw (turn, h, i) refl
 

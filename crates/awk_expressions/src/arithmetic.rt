@@ -12,13 +12,13 @@ use crate::nodes::{concat_of, product_of, sum_of};
 use crate::pairs::pair;
 use crate::terminals::terminal;
 use crate::tokens::Tokens;
-use awk_tree::{Expr, Fault, Goal, Term};
+use awk_tree::{Expr, Goal, ParseError, Term};
 use sqlite_items::{Boxed, Items};
 use std::alloc::Global;
 
-impl<F: Fn(Global, &mut Tokens<'_>, usize, Goal) -> Result<Boxed<Expr>, Fault>> Grammar<F> {
+impl<F: Fn(Global, &mut Tokens<'_>, usize, Goal) -> Result<Boxed<Expr>, ParseError>> Grammar<F> {
     #[tactic(auto, unfolding(awk_tree::specs::Expressions::factor))]
-    fn factor(&self, tokens: &mut Tokens<'_>) -> Result<Term<Expr>, Fault>
+    fn factor(&self, tokens: &mut Tokens<'_>) -> Result<Term<Expr>, ParseError>
         requires { Nests self.now.depth (F.pre self.now.inner) (F.post self.now.inner) }
         ensures { Reads view_term (spec.factor self.now.depth (spec.expr self.now.depth) tokens.old) result tokens.new }
     {
@@ -32,7 +32,7 @@ impl<F: Fn(Global, &mut Tokens<'_>, usize, Goal) -> Result<Boxed<Expr>, Fault>> 
     }
 
     #[tactic(auto, unfolding(awk_tree::specs::Expressions::factors))]
-    fn factors(&self, tokens: &mut Tokens<'_>) -> Result<Items<Term<Expr>>, Fault>
+    fn factors(&self, tokens: &mut Tokens<'_>) -> Result<Items<Term<Expr>>, ParseError>
         requires { Nests self.now.depth (F.pre self.now.inner) (F.post self.now.inner) }
         ensures { Reads (map view_term) (spec.factors self.now.depth (spec.expr self.now.depth) tokens.old) result
             tokens.new }
@@ -57,7 +57,7 @@ impl<F: Fn(Global, &mut Tokens<'_>, usize, Goal) -> Result<Boxed<Expr>, Fault>> 
         &self,
         tokens: &mut Tokens<'_>,
         left: Boxed<Expr>,
-    ) -> Result<Boxed<Expr>, Fault>
+    ) -> Result<Boxed<Expr>, ParseError>
         requires { Nests self.now.depth (F.pre self.now.inner) (F.post self.now.inner) }
         ensures { Reads view (spec.product_rest self.now.depth (spec.expr self.now.depth) (view left) tokens.old) result
             tokens.new }
@@ -67,7 +67,7 @@ impl<F: Fn(Global, &mut Tokens<'_>, usize, Goal) -> Result<Boxed<Expr>, Fault>> 
     }
 
     #[tactic(auto, unfolding(awk_tree::specs::Expressions::addend))]
-    fn addend(&self, tokens: &mut Tokens<'_>) -> Result<Term<Expr>, Fault>
+    fn addend(&self, tokens: &mut Tokens<'_>) -> Result<Term<Expr>, ParseError>
         requires { Nests self.now.depth (F.pre self.now.inner) (F.post self.now.inner) }
         ensures { Reads view_term (spec.addend self.now.depth (spec.expr self.now.depth) tokens.old) result tokens.new }
     {
@@ -82,7 +82,7 @@ impl<F: Fn(Global, &mut Tokens<'_>, usize, Goal) -> Result<Boxed<Expr>, Fault>> 
     }
 
     #[tactic(auto, unfolding(awk_tree::specs::Expressions::addends))]
-    fn addends(&self, tokens: &mut Tokens<'_>) -> Result<Items<Term<Expr>>, Fault>
+    fn addends(&self, tokens: &mut Tokens<'_>) -> Result<Items<Term<Expr>>, ParseError>
         requires { Nests self.now.depth (F.pre self.now.inner) (F.post self.now.inner) }
         ensures { Reads (map view_term) (spec.addends self.now.depth (spec.expr self.now.depth) tokens.old) result
             tokens.new }
@@ -107,7 +107,7 @@ impl<F: Fn(Global, &mut Tokens<'_>, usize, Goal) -> Result<Boxed<Expr>, Fault>> 
         &self,
         tokens: &mut Tokens<'_>,
         left: Boxed<Expr>,
-    ) -> Result<Boxed<Expr>, Fault>
+    ) -> Result<Boxed<Expr>, ParseError>
         requires { Nests self.now.depth (F.pre self.now.inner) (F.post self.now.inner) }
         ensures { Reads view (spec.sum_rest self.now.depth (spec.expr self.now.depth) (view left) tokens.old) result
             tokens.new }
@@ -117,7 +117,7 @@ impl<F: Fn(Global, &mut Tokens<'_>, usize, Goal) -> Result<Boxed<Expr>, Fault>> 
     }
 
     #[tactic(auto, unfolding(awk_tree::specs::Expressions::part))]
-    fn part(&self, tokens: &mut Tokens<'_>) -> Result<Boxed<Expr>, Fault>
+    fn part(&self, tokens: &mut Tokens<'_>) -> Result<Boxed<Expr>, ParseError>
         requires { Nests self.now.depth (F.pre self.now.inner) (F.post self.now.inner) }
         ensures { Reads view (spec.part self.now.depth (spec.expr self.now.depth) tokens.old) result tokens.new }
     {
@@ -127,7 +127,7 @@ impl<F: Fn(Global, &mut Tokens<'_>, usize, Goal) -> Result<Boxed<Expr>, Fault>> 
     }
 
     #[tactic(auto, unfolding(awk_tree::specs::Expressions::parts))]
-    fn parts(&self, tokens: &mut Tokens<'_>) -> Result<Items<Expr>, Fault>
+    fn parts(&self, tokens: &mut Tokens<'_>) -> Result<Items<Expr>, ParseError>
         requires { Nests self.now.depth (F.pre self.now.inner) (F.post self.now.inner) }
         ensures { Reads (map view) (spec.parts self.now.depth (spec.expr self.now.depth) tokens.old) result tokens.new }
     {
@@ -151,7 +151,7 @@ impl<F: Fn(Global, &mut Tokens<'_>, usize, Goal) -> Result<Boxed<Expr>, Fault>> 
         &self,
         tokens: &mut Tokens<'_>,
         left: Boxed<Expr>,
-    ) -> Result<Boxed<Expr>, Fault>
+    ) -> Result<Boxed<Expr>, ParseError>
         requires { Nests self.now.depth (F.pre self.now.inner) (F.post self.now.inner) }
         ensures { Reads view (spec.concat_rest self.now.depth (spec.expr self.now.depth) (view left) tokens.old) result
             tokens.new }
@@ -162,7 +162,7 @@ impl<F: Fn(Global, &mut Tokens<'_>, usize, Goal) -> Result<Boxed<Expr>, Fault>> 
 
     /// `cat = add { add }`
     #[tactic(auto, unfolding(awk_tree::specs::Expressions::cat))]
-    pub(crate) fn cat(&self, tokens: &mut Tokens<'_>) -> Result<Boxed<Expr>, Fault>
+    pub(crate) fn cat(&self, tokens: &mut Tokens<'_>) -> Result<Boxed<Expr>, ParseError>
         requires { Nests self.now.depth (F.pre self.now.inner) (F.post self.now.inner) }
         ensures { Reads view (spec.cat self.now.depth (spec.expr self.now.depth) tokens.old) result tokens.new }
     {

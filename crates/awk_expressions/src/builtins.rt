@@ -13,14 +13,14 @@ use crate::terminals::is;
 use crate::tokens::Tokens;
 use awk_text::place::Place;
 use awk_tokens::Parameters;
-use awk_tree::{Builtin, Expr, Fault, Goal, Terminal};
+use awk_tree::{Builtin, Expr, Goal, ParseError, Terminal};
 use sqlite_items::{Boxed, Items};
 use std::alloc::Global;
 
-impl<F: Fn(Global, &mut Tokens<'_>, usize, Goal) -> Result<Boxed<Expr>, Fault>> Grammar<F> {
+impl<F: Fn(Global, &mut Tokens<'_>, usize, Goal) -> Result<Boxed<Expr>, ParseError>> Grammar<F> {
     /// `( expr )`
     #[tactic(auto, using(awk_tree::proofs::Views::views), unfolding(awk_tree::specs::Expressions::one_argument))]
-    fn one_argument(&self, tokens: &mut Tokens<'_>) -> Result<Boxed<Expr>, Fault>
+    fn one_argument(&self, tokens: &mut Tokens<'_>) -> Result<Boxed<Expr>, ParseError>
         requires { Nests self.now.depth (F.pre self.now.inner) (F.post self.now.inner) }
         ensures { Reads view (spec.one_argument self.now.depth (spec.expr self.now.depth) tokens.old) result
             tokens.new }
@@ -38,7 +38,7 @@ impl<F: Fn(Global, &mut Tokens<'_>, usize, Goal) -> Result<Boxed<Expr>, Fault>> 
         tokens: &mut Tokens<'_>,
         place: Place,
         which: Builtin,
-    ) -> Result<Boxed<Expr>, Fault>
+    ) -> Result<Boxed<Expr>, ParseError>
         requires { Nests self.now.depth (F.pre self.now.inner) (F.post self.now.inner) }
         ensures { Reads view (spec.of_one self.now.depth (spec.expr self.now.depth) place which tokens.old) result
             tokens.new }
@@ -57,7 +57,7 @@ impl<F: Fn(Global, &mut Tokens<'_>, usize, Goal) -> Result<Boxed<Expr>, Fault>> 
         tokens: &mut Tokens<'_>,
         place: Place,
         which: Builtin,
-    ) -> Result<Boxed<Expr>, Fault>
+    ) -> Result<Boxed<Expr>, ParseError>
         requires { Nests self.now.depth (F.pre self.now.inner) (F.post self.now.inner) }
         ensures { Reads view (spec.of_two self.now.depth (spec.expr self.now.depth) place which tokens.old) result
             tokens.new }
@@ -71,7 +71,7 @@ impl<F: Fn(Global, &mut Tokens<'_>, usize, Goal) -> Result<Boxed<Expr>, Fault>> 
 
     /// `[ , expr ] )`
     #[tactic(auto, using(awk_tree::proofs::Views::views), unfolding(awk_tree::specs::Expressions::last_next))]
-    fn last_next(&self, tokens: &mut Tokens<'_>) -> Result<Option<Boxed<Expr>>, Fault>
+    fn last_next(&self, tokens: &mut Tokens<'_>) -> Result<Option<Boxed<Expr>>, ParseError>
         requires { Nests self.now.depth (F.pre self.now.inner) (F.post self.now.inner) }
         ensures { Reads (option_map view) (spec.last_next self.now.depth (spec.expr self.now.depth) tokens.old) result
             tokens.new }
@@ -88,7 +88,7 @@ impl<F: Fn(Global, &mut Tokens<'_>, usize, Goal) -> Result<Boxed<Expr>, Fault>> 
         tokens: &mut Tokens<'_>,
         place: Place,
         which: Builtin,
-    ) -> Result<Boxed<Expr>, Fault>
+    ) -> Result<Boxed<Expr>, ParseError>
         requires { Nests self.now.depth (F.pre self.now.inner) (F.post self.now.inner) }
         ensures { Reads view (spec.of_two_or_three self.now.depth (spec.expr self.now.depth) place which tokens.old)
             result tokens.new }
@@ -110,7 +110,7 @@ impl<F: Fn(Global, &mut Tokens<'_>, usize, Goal) -> Result<Boxed<Expr>, Fault>> 
         tokens: &mut Tokens<'_>,
         place: Place,
         which: Builtin,
-    ) -> Result<Boxed<Expr>, Fault>
+    ) -> Result<Boxed<Expr>, ParseError>
         requires { Nests self.now.depth (F.pre self.now.inner) (F.post self.now.inner) }
         ensures { Reads view (spec.of_list self.now.depth (spec.expr self.now.depth) place which tokens.old) result
             tokens.new }
@@ -123,7 +123,7 @@ impl<F: Fn(Global, &mut Tokens<'_>, usize, Goal) -> Result<Boxed<Expr>, Fault>> 
 
     /// `[ expr ] )`, where the parenthesis stays
     #[tactic(auto, using(awk_tree::proofs::Views::views), unfolding(awk_tree::specs::Expressions::one_or_none))]
-    fn one_or_none(&self, tokens: &mut Tokens<'_>) -> Result<Items<Expr>, Fault>
+    fn one_or_none(&self, tokens: &mut Tokens<'_>) -> Result<Items<Expr>, ParseError>
         requires { Nests self.now.depth (F.pre self.now.inner) (F.post self.now.inner) }
         ensures { Reads (map view) (spec.one_or_none self.now.depth (spec.expr self.now.depth) tokens.old) result
             tokens.new }
@@ -142,7 +142,7 @@ impl<F: Fn(Global, &mut Tokens<'_>, usize, Goal) -> Result<Boxed<Expr>, Fault>> 
         tokens: &mut Tokens<'_>,
         place: Place,
         which: Builtin,
-    ) -> Result<Boxed<Expr>, Fault>
+    ) -> Result<Boxed<Expr>, ParseError>
         requires { Nests self.now.depth (F.pre self.now.inner) (F.post self.now.inner) }
         ensures { Reads view (spec.of_one_or_none self.now.depth (spec.expr self.now.depth) place which tokens.old)
             result tokens.new }
@@ -158,7 +158,7 @@ impl<F: Fn(Global, &mut Tokens<'_>, usize, Goal) -> Result<Boxed<Expr>, Fault>> 
 
     /// `length | length ( ) | length ( expr )`
     #[tactic(auto, using(awk_tree::proofs::Views::views), unfolding(awk_tree::specs::Expressions::length_of))]
-    fn length_of(&self, tokens: &mut Tokens<'_>, place: Place) -> Result<Boxed<Expr>, Fault>
+    fn length_of(&self, tokens: &mut Tokens<'_>, place: Place) -> Result<Boxed<Expr>, ParseError>
         requires { Nests self.now.depth (F.pre self.now.inner) (F.post self.now.inner) }
         ensures { Reads view (spec.length_of self.now.depth (spec.expr self.now.depth) place tokens.old) result
             tokens.new }
@@ -171,7 +171,7 @@ impl<F: Fn(Global, &mut Tokens<'_>, usize, Goal) -> Result<Boxed<Expr>, Fault>> 
 
     /// `( expr , NAME [ , expr ] )`
     #[tactic(auto, using(awk_tree::proofs::Views::views), unfolding(awk_tree::specs::Expressions::split_of))]
-    fn split_of(&self, tokens: &mut Tokens<'_>, place: Place) -> Result<Boxed<Expr>, Fault>
+    fn split_of(&self, tokens: &mut Tokens<'_>, place: Place) -> Result<Boxed<Expr>, ParseError>
         requires { Nests self.now.depth (F.pre self.now.inner) (F.post self.now.inner) }
         ensures { Reads view (spec.split_of self.now.depth (spec.expr self.now.depth) place tokens.old) result
             tokens.new }
@@ -188,7 +188,7 @@ impl<F: Fn(Global, &mut Tokens<'_>, usize, Goal) -> Result<Boxed<Expr>, Fault>> 
 
     /// `[ , lvalue ]`
     #[tactic(auto, using(awk_tree::proofs::Views::views), unfolding(awk_tree::specs::Expressions::perhaps_lvalue))]
-    fn perhaps_lvalue(&self, tokens: &mut Tokens<'_>) -> Result<Option<Boxed<Expr>>, Fault>
+    fn perhaps_lvalue(&self, tokens: &mut Tokens<'_>) -> Result<Option<Boxed<Expr>>, ParseError>
         requires { Nests self.now.depth (F.pre self.now.inner) (F.post self.now.inner) }
         ensures { Reads (option_map view) (spec.perhaps_lvalue self.now.depth (spec.expr self.now.depth) tokens.old)
             result tokens.new }
@@ -203,7 +203,7 @@ impl<F: Fn(Global, &mut Tokens<'_>, usize, Goal) -> Result<Boxed<Expr>, Fault>> 
 
     /// `[ , lvalue ] )`
     #[tactic(auto, using(awk_tree::proofs::Views::views), unfolding(awk_tree::specs::Expressions::last_lvalue))]
-    fn last_lvalue(&self, tokens: &mut Tokens<'_>) -> Result<Option<Boxed<Expr>>, Fault>
+    fn last_lvalue(&self, tokens: &mut Tokens<'_>) -> Result<Option<Boxed<Expr>>, ParseError>
         requires { Nests self.now.depth (F.pre self.now.inner) (F.post self.now.inner) }
         ensures { Reads (option_map view) (spec.last_lvalue self.now.depth (spec.expr self.now.depth) tokens.old) result
             tokens.new }
@@ -220,7 +220,7 @@ impl<F: Fn(Global, &mut Tokens<'_>, usize, Goal) -> Result<Boxed<Expr>, Fault>> 
         tokens: &mut Tokens<'_>,
         place: Place,
         all: bool,
-    ) -> Result<Boxed<Expr>, Fault>
+    ) -> Result<Boxed<Expr>, ParseError>
         requires { Nests self.now.depth (F.pre self.now.inner) (F.post self.now.inner) }
         ensures { Reads view (spec.substitute_of self.now.depth (spec.expr self.now.depth) place all tokens.old) result
             tokens.new }
@@ -238,7 +238,7 @@ impl<F: Fn(Global, &mut Tokens<'_>, usize, Goal) -> Result<Boxed<Expr>, Fault>> 
         &self,
         tokens: &mut Tokens<'_>,
         which: Builtin,
-    ) -> Result<Boxed<Expr>, Fault>
+    ) -> Result<Boxed<Expr>, ParseError>
         requires { Nests self.now.depth (F.pre self.now.inner) (F.post self.now.inner) }
         ensures { Reads view (spec.builtin self.now.depth (spec.expr self.now.depth) which tokens.old) result
             tokens.new }

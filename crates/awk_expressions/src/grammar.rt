@@ -6,7 +6,7 @@ ghost use Rattle.awk_tree.specs.Input.{Reads};
 ghost use Rattle.awk_tree.specs.View.{view};
 
 use crate::tokens::Tokens;
-use awk_tree::{Expr, Fault, Goal};
+use awk_tree::{Expr, Goal, ParseError};
 use sqlite_items::Boxed;
 use std::alloc::Global;
 
@@ -20,9 +20,13 @@ pub(crate) struct Grammar<F> {
     pub(crate) inner: F,
 }
 
-impl<F: Fn(Global, &mut Tokens<'_>, usize, Goal) -> Result<Boxed<Expr>, Fault>> Grammar<F> {
+impl<F: Fn(Global, &mut Tokens<'_>, usize, Goal) -> Result<Boxed<Expr>, ParseError>> Grammar<F> {
     /// What is nested one level deeper.
-    pub(crate) fn nested(&self, tokens: &mut Tokens<'_>, goal: Goal) -> Result<Boxed<Expr>, Fault>
+    pub(crate) fn nested(
+        &self,
+        tokens: &mut Tokens<'_>,
+        goal: Goal,
+    ) -> Result<Boxed<Expr>, ParseError>
         requires { Nests self.now.depth (F.pre self.now.inner) (F.post self.now.inner) }
         ensures { Reads view (spec.expr self.now.depth goal tokens.old) result tokens.new }
     {

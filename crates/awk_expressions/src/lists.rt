@@ -10,14 +10,14 @@ use crate::grammar::Grammar;
 use crate::nodes::joined;
 use crate::terminals::is;
 use crate::tokens::Tokens;
-use awk_tree::{Expr, Fault, Goal, Terminal};
+use awk_tree::{Expr, Goal, ParseError, Terminal};
 use sqlite_items::{Boxed, Items};
 use std::alloc::Global;
 
-impl<F: Fn(Global, &mut Tokens<'_>, usize, Goal) -> Result<Boxed<Expr>, Fault>> Grammar<F> {
+impl<F: Fn(Global, &mut Tokens<'_>, usize, Goal) -> Result<Boxed<Expr>, ParseError>> Grammar<F> {
     /// `, expr`
     #[tactic(auto, using(awk_tree::proofs::Views::views), unfolding(awk_tree::specs::Expressions::next_in_list))]
-    pub(crate) fn next_in_list(&self, tokens: &mut Tokens<'_>) -> Result<Boxed<Expr>, Fault>
+    pub(crate) fn next_in_list(&self, tokens: &mut Tokens<'_>) -> Result<Boxed<Expr>, ParseError>
         requires { Nests self.now.depth (F.pre self.now.inner) (F.post self.now.inner) }
         ensures { Reads view (spec.next_in_list self.now.depth (spec.expr self.now.depth) tokens.old) result
             tokens.new }
@@ -29,7 +29,7 @@ impl<F: Fn(Global, &mut Tokens<'_>, usize, Goal) -> Result<Boxed<Expr>, Fault>> 
 
     /// `{ , expr }`
     #[tactic(auto, using(awk_tree::proofs::Views::views), unfolding(awk_tree::specs::Expressions::commas))]
-    pub(crate) fn commas(&self, tokens: &mut Tokens<'_>) -> Result<Items<Expr>, Fault>
+    pub(crate) fn commas(&self, tokens: &mut Tokens<'_>) -> Result<Items<Expr>, ParseError>
         requires { Nests self.now.depth (F.pre self.now.inner) (F.post self.now.inner) }
         ensures { Reads (map view) (spec.commas self.now.depth (spec.expr self.now.depth) tokens.old) result
             tokens.new }
@@ -50,7 +50,7 @@ impl<F: Fn(Global, &mut Tokens<'_>, usize, Goal) -> Result<Boxed<Expr>, Fault>> 
 
     /// `expr { , expr }`
     #[tactic(auto, using(awk_tree::proofs::Views::views), unfolding(awk_tree::specs::Expressions::list))]
-    pub(crate) fn list(&self, tokens: &mut Tokens<'_>) -> Result<Items<Expr>, Fault>
+    pub(crate) fn list(&self, tokens: &mut Tokens<'_>) -> Result<Items<Expr>, ParseError>
         requires { Nests self.now.depth (F.pre self.now.inner) (F.post self.now.inner) }
         ensures { Reads (map view) (spec.list self.now.depth (spec.expr self.now.depth) tokens.old) result tokens.new }
     {
@@ -61,7 +61,10 @@ impl<F: Fn(Global, &mut Tokens<'_>, usize, Goal) -> Result<Boxed<Expr>, Fault>> 
 
     /// `[ , expr ]`
     #[tactic(auto, using(awk_tree::proofs::Views::views), unfolding(awk_tree::specs::Expressions::perhaps_next))]
-    pub(crate) fn perhaps_next(&self, tokens: &mut Tokens<'_>) -> Result<Option<Boxed<Expr>>, Fault>
+    pub(crate) fn perhaps_next(
+        &self,
+        tokens: &mut Tokens<'_>,
+    ) -> Result<Option<Boxed<Expr>>, ParseError>
         requires { Nests self.now.depth (F.pre self.now.inner) (F.post self.now.inner) }
         ensures { Reads (option_map view) (spec.perhaps_next self.now.depth (spec.expr self.now.depth) tokens.old)
             result tokens.new }
@@ -75,7 +78,7 @@ impl<F: Fn(Global, &mut Tokens<'_>, usize, Goal) -> Result<Boxed<Expr>, Fault>> 
 
     /// `[ list ] )`, where the parenthesis stays
     #[tactic(auto, using(awk_tree::proofs::Views::views), unfolding(awk_tree::specs::Expressions::list_or_none))]
-    fn list_or_none(&self, tokens: &mut Tokens<'_>) -> Result<Items<Expr>, Fault>
+    fn list_or_none(&self, tokens: &mut Tokens<'_>) -> Result<Items<Expr>, ParseError>
         requires { Nests self.now.depth (F.pre self.now.inner) (F.post self.now.inner) }
         ensures { Reads (map view) (spec.list_or_none self.now.depth (spec.expr self.now.depth) tokens.old) result
             tokens.new }
@@ -89,7 +92,7 @@ impl<F: Fn(Global, &mut Tokens<'_>, usize, Goal) -> Result<Boxed<Expr>, Fault>> 
 
     /// `( [ list ] )`
     #[tactic(auto, using(awk_tree::proofs::Views::views), unfolding(awk_tree::specs::Expressions::arguments))]
-    pub(crate) fn arguments(&self, tokens: &mut Tokens<'_>) -> Result<Items<Expr>, Fault>
+    pub(crate) fn arguments(&self, tokens: &mut Tokens<'_>) -> Result<Items<Expr>, ParseError>
         requires { Nests self.now.depth (F.pre self.now.inner) (F.post self.now.inner) }
         ensures { Reads (map view) (spec.arguments self.now.depth (spec.expr self.now.depth) tokens.old) result
             tokens.new }

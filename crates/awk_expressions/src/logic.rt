@@ -12,11 +12,11 @@ use crate::nodes::{and_of, assign, choose, is_lvalue, or_of};
 use crate::pairs::pair;
 use crate::terminals::is;
 use crate::tokens::Tokens;
-use awk_tree::{Expr, Fault, Goal, Terminal};
+use awk_tree::{Expr, Goal, ParseError, Terminal};
 use sqlite_items::{Boxed, Items};
 use std::alloc::Global;
 
-impl<F: Fn(Global, &mut Tokens<'_>, usize, Goal) -> Result<Boxed<Expr>, Fault>> Grammar<F> {
+impl<F: Fn(Global, &mut Tokens<'_>, usize, Goal) -> Result<Boxed<Expr>, ParseError>> Grammar<F> {
     /// `lvalue (= | += | ..) expr`, or what stands there.
     #[tactic(auto, unfolding(awk_tree::specs::Expressions::assigned))]
     fn assigned(
@@ -24,7 +24,7 @@ impl<F: Fn(Global, &mut Tokens<'_>, usize, Goal) -> Result<Boxed<Expr>, Fault>> 
         tokens: &mut Tokens<'_>,
         in_print: bool,
         left: Boxed<Expr>,
-    ) -> Result<Boxed<Expr>, Fault>
+    ) -> Result<Boxed<Expr>, ParseError>
         requires { Nests self.now.depth (F.pre self.now.inner) (F.post self.now.inner) }
         ensures { Reads view (spec.assigned self.now.depth (spec.expr self.now.depth) in_print (view left) tokens.old)
             result tokens.new }
@@ -41,7 +41,7 @@ impl<F: Fn(Global, &mut Tokens<'_>, usize, Goal) -> Result<Boxed<Expr>, Fault>> 
     }
 
     #[tactic(auto, unfolding(awk_tree::specs::Expressions::conjunct))]
-    fn conjunct(&self, tokens: &mut Tokens<'_>, in_print: bool) -> Result<Boxed<Expr>, Fault>
+    fn conjunct(&self, tokens: &mut Tokens<'_>, in_print: bool) -> Result<Boxed<Expr>, ParseError>
         requires { Nests self.now.depth (F.pre self.now.inner) (F.post self.now.inner) }
         ensures { Reads view (spec.conjunct self.now.depth (spec.expr self.now.depth) in_print tokens.old) result
             tokens.new }
@@ -51,7 +51,11 @@ impl<F: Fn(Global, &mut Tokens<'_>, usize, Goal) -> Result<Boxed<Expr>, Fault>> 
     }
 
     #[tactic(auto, unfolding(awk_tree::specs::Expressions::next_conjunct))]
-    fn next_conjunct(&self, tokens: &mut Tokens<'_>, in_print: bool) -> Result<Boxed<Expr>, Fault>
+    fn next_conjunct(
+        &self,
+        tokens: &mut Tokens<'_>,
+        in_print: bool,
+    ) -> Result<Boxed<Expr>, ParseError>
         requires { Nests self.now.depth (F.pre self.now.inner) (F.post self.now.inner) }
         ensures { Reads view (spec.next_conjunct self.now.depth (spec.expr self.now.depth) in_print tokens.old) result
             tokens.new }
@@ -62,7 +66,7 @@ impl<F: Fn(Global, &mut Tokens<'_>, usize, Goal) -> Result<Boxed<Expr>, Fault>> 
     }
 
     #[tactic(auto, unfolding(awk_tree::specs::Expressions::conjuncts))]
-    fn conjuncts(&self, tokens: &mut Tokens<'_>, in_print: bool) -> Result<Items<Expr>, Fault>
+    fn conjuncts(&self, tokens: &mut Tokens<'_>, in_print: bool) -> Result<Items<Expr>, ParseError>
         requires { Nests self.now.depth (F.pre self.now.inner) (F.post self.now.inner) }
         ensures { Reads (map view) (spec.conjuncts self.now.depth (spec.expr self.now.depth) in_print tokens.old) result
             tokens.new }
@@ -88,7 +92,7 @@ impl<F: Fn(Global, &mut Tokens<'_>, usize, Goal) -> Result<Boxed<Expr>, Fault>> 
         tokens: &mut Tokens<'_>,
         in_print: bool,
         left: Boxed<Expr>,
-    ) -> Result<Boxed<Expr>, Fault>
+    ) -> Result<Boxed<Expr>, ParseError>
         requires { Nests self.now.depth (F.pre self.now.inner) (F.post self.now.inner) }
         ensures { Reads view (spec.and_rest self.now.depth (spec.expr self.now.depth) in_print (view left) tokens.old)
             result tokens.new }
@@ -98,7 +102,11 @@ impl<F: Fn(Global, &mut Tokens<'_>, usize, Goal) -> Result<Boxed<Expr>, Fault>> 
     }
 
     #[tactic(auto, unfolding(awk_tree::specs::Expressions::next_disjunct))]
-    fn next_disjunct(&self, tokens: &mut Tokens<'_>, in_print: bool) -> Result<Boxed<Expr>, Fault>
+    fn next_disjunct(
+        &self,
+        tokens: &mut Tokens<'_>,
+        in_print: bool,
+    ) -> Result<Boxed<Expr>, ParseError>
         requires { Nests self.now.depth (F.pre self.now.inner) (F.post self.now.inner) }
         ensures { Reads view (spec.next_disjunct self.now.depth (spec.expr self.now.depth) in_print tokens.old) result
             tokens.new }
@@ -110,7 +118,7 @@ impl<F: Fn(Global, &mut Tokens<'_>, usize, Goal) -> Result<Boxed<Expr>, Fault>> 
     }
 
     #[tactic(auto, unfolding(awk_tree::specs::Expressions::disjuncts))]
-    fn disjuncts(&self, tokens: &mut Tokens<'_>, in_print: bool) -> Result<Items<Expr>, Fault>
+    fn disjuncts(&self, tokens: &mut Tokens<'_>, in_print: bool) -> Result<Items<Expr>, ParseError>
         requires { Nests self.now.depth (F.pre self.now.inner) (F.post self.now.inner) }
         ensures { Reads (map view) (spec.disjuncts self.now.depth (spec.expr self.now.depth) in_print tokens.old) result
             tokens.new }
@@ -136,7 +144,7 @@ impl<F: Fn(Global, &mut Tokens<'_>, usize, Goal) -> Result<Boxed<Expr>, Fault>> 
         tokens: &mut Tokens<'_>,
         in_print: bool,
         left: Boxed<Expr>,
-    ) -> Result<Boxed<Expr>, Fault>
+    ) -> Result<Boxed<Expr>, ParseError>
         requires { Nests self.now.depth (F.pre self.now.inner) (F.post self.now.inner) }
         ensures { Reads view (spec.or_rest self.now.depth (spec.expr self.now.depth) in_print (view left) tokens.old)
             result tokens.new }
@@ -146,7 +154,11 @@ impl<F: Fn(Global, &mut Tokens<'_>, usize, Goal) -> Result<Boxed<Expr>, Fault>> 
     }
 
     #[tactic(auto, unfolding(awk_tree::specs::Expressions::then_branch))]
-    fn then_branch(&self, tokens: &mut Tokens<'_>, in_print: bool) -> Result<Boxed<Expr>, Fault>
+    fn then_branch(
+        &self,
+        tokens: &mut Tokens<'_>,
+        in_print: bool,
+    ) -> Result<Boxed<Expr>, ParseError>
         requires { Nests self.now.depth (F.pre self.now.inner) (F.post self.now.inner) }
         ensures { Reads view (spec.then_branch self.now.depth (spec.expr self.now.depth) in_print tokens.old) result
             tokens.new }
@@ -164,7 +176,7 @@ impl<F: Fn(Global, &mut Tokens<'_>, usize, Goal) -> Result<Boxed<Expr>, Fault>> 
         tokens: &mut Tokens<'_>,
         in_print: bool,
         left: Boxed<Expr>,
-    ) -> Result<Boxed<Expr>, Fault>
+    ) -> Result<Boxed<Expr>, ParseError>
         requires { Nests self.now.depth (F.pre self.now.inner) (F.post self.now.inner) }
         ensures { Reads view (spec.choose_rest self.now.depth (spec.expr self.now.depth) in_print (view left)
             tokens.old) result tokens.new }
@@ -184,7 +196,7 @@ impl<F: Fn(Global, &mut Tokens<'_>, usize, Goal) -> Result<Boxed<Expr>, Fault>> 
         tokens: &mut Tokens<'_>,
         in_print: bool,
         left: Boxed<Expr>,
-    ) -> Result<Boxed<Expr>, Fault>
+    ) -> Result<Boxed<Expr>, ParseError>
         requires { Nests self.now.depth (F.pre self.now.inner) (F.post self.now.inner) }
         ensures { Reads view (spec.expr_rest self.now.depth (spec.expr self.now.depth) in_print (view left) tokens.old)
             result tokens.new }
@@ -202,7 +214,7 @@ impl<F: Fn(Global, &mut Tokens<'_>, usize, Goal) -> Result<Boxed<Expr>, Fault>> 
         tokens: &mut Tokens<'_>,
         in_print: bool,
         left: Boxed<Expr>,
-    ) -> Result<Boxed<Expr>, Fault>
+    ) -> Result<Boxed<Expr>, ParseError>
         requires { Nests self.now.depth (F.pre self.now.inner) (F.post self.now.inner) }
         ensures { Reads view (spec.expr_rest self.now.depth (spec.expr self.now.depth) in_print (view left) tokens.old)
             result tokens.new }
@@ -219,7 +231,7 @@ impl<F: Fn(Global, &mut Tokens<'_>, usize, Goal) -> Result<Boxed<Expr>, Fault>> 
         &self,
         tokens: &mut Tokens<'_>,
         in_print: bool,
-    ) -> Result<Boxed<Expr>, Fault>
+    ) -> Result<Boxed<Expr>, ParseError>
         requires { Nests self.now.depth (F.pre self.now.inner) (F.post self.now.inner) }
         ensures { Reads view (spec.expression self.now.depth (spec.expr self.now.depth) in_print tokens.old) result
             tokens.new }
@@ -229,7 +241,11 @@ impl<F: Fn(Global, &mut Tokens<'_>, usize, Goal) -> Result<Boxed<Expr>, Fault>> 
     }
 
     /// What is read to a goal.
-    pub(crate) fn level(&self, tokens: &mut Tokens<'_>, goal: Goal) -> Result<Boxed<Expr>, Fault>
+    pub(crate) fn level(
+        &self,
+        tokens: &mut Tokens<'_>,
+        goal: Goal,
+    ) -> Result<Boxed<Expr>, ParseError>
         requires { Nests self.now.depth (F.pre self.now.inner) (F.post self.now.inner) }
         ensures { Reads view (spec.level self.now.depth (spec.expr self.now.depth) goal tokens.old) result tokens.new }
     {

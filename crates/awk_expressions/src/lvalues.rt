@@ -11,14 +11,14 @@ use crate::nodes::{field, getline, name_of};
 use crate::pairs::pair;
 use crate::terminals::is;
 use crate::tokens::Tokens;
-use awk_tree::{Expr, Fault, Goal, Terminal};
+use awk_tree::{Expr, Goal, ParseError, Terminal};
 use sqlite_items::Boxed;
 use std::alloc::Global;
 
-impl<F: Fn(Global, &mut Tokens<'_>, usize, Goal) -> Result<Boxed<Expr>, Fault>> Grammar<F> {
+impl<F: Fn(Global, &mut Tokens<'_>, usize, Goal) -> Result<Boxed<Expr>, ParseError>> Grammar<F> {
     /// `NAME | NAME [ list ]`
     #[tactic(auto, using(awk_tree::proofs::Views::views), unfolding(awk_tree::specs::Expressions::named))]
-    pub(crate) fn named(&self, tokens: &mut Tokens<'_>) -> Result<Boxed<Expr>, Fault>
+    pub(crate) fn named(&self, tokens: &mut Tokens<'_>) -> Result<Boxed<Expr>, ParseError>
         requires { Nests self.now.depth (F.pre self.now.inner) (F.post self.now.inner) }
         ensures { Reads view (spec.named self.now.depth (spec.expr self.now.depth) tokens.old) result tokens.new }
     {
@@ -37,7 +37,7 @@ impl<F: Fn(Global, &mut Tokens<'_>, usize, Goal) -> Result<Boxed<Expr>, Fault>> 
 
     /// `$ operand`
     #[tactic(auto, using(awk_tree::proofs::Views::views), unfolding(awk_tree::specs::Expressions::field_of))]
-    pub(crate) fn field_of(&self, tokens: &mut Tokens<'_>) -> Result<Boxed<Expr>, Fault>
+    pub(crate) fn field_of(&self, tokens: &mut Tokens<'_>) -> Result<Boxed<Expr>, ParseError>
         requires { Nests self.now.depth (F.pre self.now.inner) (F.post self.now.inner) }
         ensures { Reads view (spec.field_of self.now.depth (spec.expr self.now.depth) tokens.old) result tokens.new }
     {
@@ -48,7 +48,7 @@ impl<F: Fn(Global, &mut Tokens<'_>, usize, Goal) -> Result<Boxed<Expr>, Fault>> 
 
     /// `named | $ operand`
     #[tactic(auto, using(awk_tree::proofs::Views::views), unfolding(awk_tree::specs::Expressions::lvalue))]
-    pub(crate) fn lvalue(&self, tokens: &mut Tokens<'_>) -> Result<Boxed<Expr>, Fault>
+    pub(crate) fn lvalue(&self, tokens: &mut Tokens<'_>) -> Result<Boxed<Expr>, ParseError>
         requires { Nests self.now.depth (F.pre self.now.inner) (F.post self.now.inner) }
         ensures { Reads view (spec.lvalue self.now.depth (spec.expr self.now.depth) tokens.old) result tokens.new }
     {
@@ -61,7 +61,7 @@ impl<F: Fn(Global, &mut Tokens<'_>, usize, Goal) -> Result<Boxed<Expr>, Fault>> 
 
     /// The lvalue of a `getline`, where there is one.
     #[tactic(auto, using(awk_tree::proofs::Views::views), unfolding(awk_tree::specs::Expressions::target))]
-    pub(crate) fn target(&self, tokens: &mut Tokens<'_>) -> Result<Option<Boxed<Expr>>, Fault>
+    pub(crate) fn target(&self, tokens: &mut Tokens<'_>) -> Result<Option<Boxed<Expr>>, ParseError>
         requires { Nests self.now.depth (F.pre self.now.inner) (F.post self.now.inner) }
         ensures { Reads (option_map view) (spec.target self.now.depth (spec.expr self.now.depth) tokens.old) result
             tokens.new }
@@ -75,7 +75,7 @@ impl<F: Fn(Global, &mut Tokens<'_>, usize, Goal) -> Result<Boxed<Expr>, Fault>> 
 
     /// `[ < file ]`
     #[tactic(auto, using(awk_tree::proofs::Views::views), unfolding(awk_tree::specs::Expressions::source))]
-    fn source(&self, tokens: &mut Tokens<'_>) -> Result<Option<Boxed<Expr>>, Fault>
+    fn source(&self, tokens: &mut Tokens<'_>) -> Result<Option<Boxed<Expr>>, ParseError>
         requires { Nests self.now.depth (F.pre self.now.inner) (F.post self.now.inner) }
         ensures { Reads (option_map view) (spec.source self.now.depth (spec.expr self.now.depth) tokens.old) result
             tokens.new }
@@ -89,7 +89,7 @@ impl<F: Fn(Global, &mut Tokens<'_>, usize, Goal) -> Result<Boxed<Expr>, Fault>> 
 
     /// `getline [ lvalue ] [ < file ]`
     #[tactic(auto, using(awk_tree::proofs::Views::views), unfolding(awk_tree::specs::Expressions::getline))]
-    pub(crate) fn getline(&self, tokens: &mut Tokens<'_>) -> Result<Boxed<Expr>, Fault>
+    pub(crate) fn getline(&self, tokens: &mut Tokens<'_>) -> Result<Boxed<Expr>, ParseError>
         requires { Nests self.now.depth (F.pre self.now.inner) (F.post self.now.inner) }
         ensures { Reads view (spec.getline self.now.depth (spec.expr self.now.depth) tokens.old) result tokens.new }
     {

@@ -8,13 +8,13 @@ ghost use Rattle.awk_tree.specs.View.{view};
 use crate::nodes::{member_of, name_of};
 use crate::terminals::is;
 use crate::tokens::Tokens;
-use awk_tree::{Expr, Fault, Member, Terminal};
+use awk_tree::{Expr, Member, ParseError, Terminal};
 use sqlite_items::{Boxed, Items};
 use std::alloc::Global;
 
 /// `in NAME`
 #[tactic(auto, unfolding(awk_tree::specs::Expressions::in_name))]
-pub(crate) fn in_name(alloc: Global, tokens: &mut Tokens<'_>) -> Result<Member, Fault>
+pub(crate) fn in_name(alloc: Global, tokens: &mut Tokens<'_>) -> Result<Member, ParseError>
     ensures { Reads (λ m. m) (spec.in_name tokens.old) result tokens.new }
 {
     let place = tokens.one(Terminal::In)?.place;
@@ -24,7 +24,7 @@ pub(crate) fn in_name(alloc: Global, tokens: &mut Tokens<'_>) -> Result<Member, 
 
 /// `{ in NAME }`
 #[tactic(auto, unfolding(awk_tree::specs::Expressions::in_names))]
-pub(crate) fn in_names(alloc: Global, tokens: &mut Tokens<'_>) -> Result<Items<Member>, Fault>
+pub(crate) fn in_names(alloc: Global, tokens: &mut Tokens<'_>) -> Result<Items<Member>, ParseError>
     ensures { Reads (λ ms. ms) (spec.in_names tokens.old) result tokens.new }
 {
     let mut found = Items::new(alloc);
@@ -47,7 +47,7 @@ pub(crate) fn in_rest(
     alloc: Global,
     tokens: &mut Tokens<'_>,
     left: Boxed<Expr>,
-) -> Result<Boxed<Expr>, Fault>
+) -> Result<Boxed<Expr>, ParseError>
     ensures { Reads view (spec.in_rest (view left) tokens.old) result tokens.new }
 {
     let more = in_names(alloc, tokens)?;

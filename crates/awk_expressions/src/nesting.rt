@@ -8,7 +8,7 @@ ghost use Rattle.awk_tree.specs.View.{view};
 use crate::grammar::Grammar;
 use crate::tokens::Tokens;
 use awk_text::place::Place;
-use awk_tree::{Expr, Fault, Goal};
+use awk_tree::{Expr, Goal, ParseError};
 use sqlite_items::{Boxed, Items};
 use std::alloc::Global;
 
@@ -18,7 +18,7 @@ pub fn expr(
     tokens: &mut Tokens<'_>,
     depth: usize,
     goal: Goal,
-) -> Result<Boxed<Expr>, Fault>
+) -> Result<Boxed<Expr>, ParseError>
     ensures { Reads view (spec.expr depth goal tokens.old) result tokens.new }
 {
     if depth == 0 {
@@ -47,14 +47,18 @@ pub struct Level {
 
 impl Level {
     /// What is read to a goal, one level of nesting deeper.
-    pub fn nested(&self, tokens: &mut Tokens<'_>, goal: Goal) -> Result<Boxed<Expr>, Fault>
+    pub fn nested(&self, tokens: &mut Tokens<'_>, goal: Goal) -> Result<Boxed<Expr>, ParseError>
         ensures { Reads view (spec.expr self.now.depth goal tokens.old) result tokens.new }
     {
         expr(self.alloc, tokens, self.depth, goal)
     }
 
     /// An expression. With the flag, `>` outside parentheses is a redirection.
-    pub fn expression(&self, tokens: &mut Tokens<'_>, in_print: bool) -> Result<Boxed<Expr>, Fault>
+    pub fn expression(
+        &self,
+        tokens: &mut Tokens<'_>,
+        in_print: bool,
+    ) -> Result<Boxed<Expr>, ParseError>
         ensures { Reads view (spec.expression self.now.depth (spec.expr self.now.depth) in_print tokens.old) result
             tokens.new }
     {
@@ -67,7 +71,7 @@ impl Level {
         tokens: &mut Tokens<'_>,
         in_print: bool,
         left: Boxed<Expr>,
-    ) -> Result<Boxed<Expr>, Fault>
+    ) -> Result<Boxed<Expr>, ParseError>
         ensures { Reads view (spec.expr_rest self.now.depth (spec.expr self.now.depth) in_print (view left) tokens.old)
             result tokens.new }
     {
@@ -82,7 +86,7 @@ impl Level {
         place: Place,
         first: Boxed<Expr>,
         more: Items<Expr>,
-    ) -> Result<Boxed<Expr>, Fault>
+    ) -> Result<Boxed<Expr>, ParseError>
         ensures { Reads view (spec.grouped self.now.depth (spec.expr self.now.depth) in_print place (view first)
             (map view more) tokens.old) result tokens.new }
     {
@@ -90,21 +94,21 @@ impl Level {
     }
 
     /// A concatenation, or one operand of it.
-    pub fn cat(&self, tokens: &mut Tokens<'_>) -> Result<Boxed<Expr>, Fault>
+    pub fn cat(&self, tokens: &mut Tokens<'_>) -> Result<Boxed<Expr>, ParseError>
         ensures { Reads view (spec.cat self.now.depth (spec.expr self.now.depth) tokens.old) result tokens.new }
     {
         rules(self.alloc, self.depth, expr).cat(tokens)
     }
 
     /// `expr { , expr }`
-    pub fn list(&self, tokens: &mut Tokens<'_>) -> Result<Items<Expr>, Fault>
+    pub fn list(&self, tokens: &mut Tokens<'_>) -> Result<Items<Expr>, ParseError>
         ensures { Reads (map view) (spec.list self.now.depth (spec.expr self.now.depth) tokens.old) result tokens.new }
     {
         rules(self.alloc, self.depth, expr).list(tokens)
     }
 
     /// `{ , expr }`
-    pub fn commas(&self, tokens: &mut Tokens<'_>) -> Result<Items<Expr>, Fault>
+    pub fn commas(&self, tokens: &mut Tokens<'_>) -> Result<Items<Expr>, ParseError>
         ensures { Reads (map view) (spec.commas self.now.depth (spec.expr self.now.depth) tokens.old) result
             tokens.new }
     {

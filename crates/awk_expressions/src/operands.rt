@@ -10,14 +10,14 @@ use crate::grammar::Grammar;
 use crate::nodes::{after, before, is_lvalue, name_of, paren, power, signed, text_of};
 use crate::terminals::is;
 use crate::tokens::Tokens;
-use awk_tree::{Expr, Fault, Goal, Sign, Step, Terminal};
+use awk_tree::{Expr, Goal, ParseError, Sign, Step, Terminal};
 use sqlite_items::Boxed;
 use std::alloc::Global;
 
-impl<F: Fn(Global, &mut Tokens<'_>, usize, Goal) -> Result<Boxed<Expr>, Fault>> Grammar<F> {
+impl<F: Fn(Global, &mut Tokens<'_>, usize, Goal) -> Result<Boxed<Expr>, ParseError>> Grammar<F> {
     /// `( expr )`
     #[tactic(auto, using(awk_tree::proofs::Views::views), unfolding(awk_tree::specs::Expressions::in_paren))]
-    fn in_paren(&self, tokens: &mut Tokens<'_>) -> Result<Boxed<Expr>, Fault>
+    fn in_paren(&self, tokens: &mut Tokens<'_>) -> Result<Boxed<Expr>, ParseError>
         requires { Nests self.now.depth (F.pre self.now.inner) (F.post self.now.inner) }
         ensures { Reads view (spec.in_paren self.now.depth (spec.expr self.now.depth) tokens.old) result tokens.new }
     {
@@ -29,7 +29,7 @@ impl<F: Fn(Global, &mut Tokens<'_>, usize, Goal) -> Result<Boxed<Expr>, Fault>> 
 
     /// `CALLNAME ( [ list ] )`
     #[tactic(auto, using(awk_tree::proofs::Views::views), unfolding(awk_tree::specs::Expressions::call_of))]
-    fn call_of(&self, tokens: &mut Tokens<'_>) -> Result<Boxed<Expr>, Fault>
+    fn call_of(&self, tokens: &mut Tokens<'_>) -> Result<Boxed<Expr>, ParseError>
         requires { Nests self.now.depth (F.pre self.now.inner) (F.post self.now.inner) }
         ensures { Reads view (spec.call_of self.now.depth (spec.expr self.now.depth) tokens.old) result tokens.new }
     {
@@ -43,7 +43,7 @@ impl<F: Fn(Global, &mut Tokens<'_>, usize, Goal) -> Result<Boxed<Expr>, Fault>> 
 
     /// An operand with no sign before or after it.
     #[tactic(auto, using(awk_tree::proofs::Views::views), unfolding(awk_tree::specs::Expressions::prim))]
-    pub(crate) fn prim(&self, tokens: &mut Tokens<'_>) -> Result<Boxed<Expr>, Fault>
+    pub(crate) fn prim(&self, tokens: &mut Tokens<'_>) -> Result<Boxed<Expr>, ParseError>
         requires { Nests self.now.depth (F.pre self.now.inner) (F.post self.now.inner) }
         ensures { Reads view (spec.prim self.now.depth (spec.expr self.now.depth) tokens.old) result tokens.new }
     {
@@ -81,7 +81,7 @@ impl<F: Fn(Global, &mut Tokens<'_>, usize, Goal) -> Result<Boxed<Expr>, Fault>> 
 
     /// `(++ | --) lvalue`
     #[tactic(auto, using(awk_tree::proofs::Views::views), unfolding(awk_tree::specs::Expressions::step_before))]
-    fn step_before(&self, tokens: &mut Tokens<'_>, which: Step) -> Result<Boxed<Expr>, Fault>
+    fn step_before(&self, tokens: &mut Tokens<'_>, which: Step) -> Result<Boxed<Expr>, ParseError>
         requires { Nests self.now.depth (F.pre self.now.inner) (F.post self.now.inner) }
         ensures { Reads view (spec.step_before self.now.depth (spec.expr self.now.depth) which tokens.old) result
             tokens.new }
@@ -98,7 +98,7 @@ impl<F: Fn(Global, &mut Tokens<'_>, usize, Goal) -> Result<Boxed<Expr>, Fault>> 
         tokens: &mut Tokens<'_>,
         which: Sign,
         rest: Goal,
-    ) -> Result<Boxed<Expr>, Fault>
+    ) -> Result<Boxed<Expr>, ParseError>
         requires { Nests self.now.depth (F.pre self.now.inner) (F.post self.now.inner) }
         ensures { Reads view (spec.signed_by self.now.depth (spec.expr self.now.depth) which rest tokens.old) result
             tokens.new }
@@ -110,7 +110,7 @@ impl<F: Fn(Global, &mut Tokens<'_>, usize, Goal) -> Result<Boxed<Expr>, Fault>> 
 
     /// What stands after `$`.
     #[tactic(auto, using(awk_tree::proofs::Views::views), unfolding(awk_tree::specs::Expressions::operand))]
-    pub(crate) fn operand(&self, tokens: &mut Tokens<'_>) -> Result<Boxed<Expr>, Fault>
+    pub(crate) fn operand(&self, tokens: &mut Tokens<'_>) -> Result<Boxed<Expr>, ParseError>
         requires { Nests self.now.depth (F.pre self.now.inner) (F.post self.now.inner) }
         ensures { Reads view (spec.operand self.now.depth (spec.expr self.now.depth) tokens.old) result tokens.new }
     {
@@ -126,7 +126,11 @@ impl<F: Fn(Global, &mut Tokens<'_>, usize, Goal) -> Result<Boxed<Expr>, Fault>> 
 
     /// `++` or `--` behind an lvalue, or what stands there.
     #[tactic(auto, using(awk_tree::proofs::Views::views), unfolding(awk_tree::specs::Expressions::step_after))]
-    fn step_after(&self, tokens: &mut Tokens<'_>, left: Boxed<Expr>) -> Result<Boxed<Expr>, Fault>
+    fn step_after(
+        &self,
+        tokens: &mut Tokens<'_>,
+        left: Boxed<Expr>,
+    ) -> Result<Boxed<Expr>, ParseError>
         requires { Nests self.now.depth (F.pre self.now.inner) (F.post self.now.inner) }
         ensures { Reads view (spec.step_after self.now.depth (spec.expr self.now.depth) (view left) tokens.old) result
             tokens.new }
@@ -142,7 +146,7 @@ impl<F: Fn(Global, &mut Tokens<'_>, usize, Goal) -> Result<Boxed<Expr>, Fault>> 
 
     /// `(++ | --) lvalue | lvalue (++ | --) | prim`
     #[tactic(auto, using(awk_tree::proofs::Views::views), unfolding(awk_tree::specs::Expressions::inc))]
-    pub(crate) fn inc(&self, tokens: &mut Tokens<'_>) -> Result<Boxed<Expr>, Fault>
+    pub(crate) fn inc(&self, tokens: &mut Tokens<'_>) -> Result<Boxed<Expr>, ParseError>
         requires { Nests self.now.depth (F.pre self.now.inner) (F.post self.now.inner) }
         ensures { Reads view (spec.inc self.now.depth (spec.expr self.now.depth) tokens.old) result tokens.new }
     {
@@ -161,7 +165,7 @@ impl<F: Fn(Global, &mut Tokens<'_>, usize, Goal) -> Result<Boxed<Expr>, Fault>> 
         &self,
         tokens: &mut Tokens<'_>,
         left: Boxed<Expr>,
-    ) -> Result<Boxed<Expr>, Fault>
+    ) -> Result<Boxed<Expr>, ParseError>
         requires { Nests self.now.depth (F.pre self.now.inner) (F.post self.now.inner) }
         ensures { Reads view (spec.power_rest self.now.depth (spec.expr self.now.depth) (view left) tokens.old) result
             tokens.new }
@@ -176,7 +180,7 @@ impl<F: Fn(Global, &mut Tokens<'_>, usize, Goal) -> Result<Boxed<Expr>, Fault>> 
 
     /// `(! | + | -) unary | inc [ ^ unary ]`
     #[tactic(auto, using(awk_tree::proofs::Views::views), unfolding(awk_tree::specs::Expressions::unary))]
-    pub(crate) fn unary(&self, tokens: &mut Tokens<'_>) -> Result<Boxed<Expr>, Fault>
+    pub(crate) fn unary(&self, tokens: &mut Tokens<'_>) -> Result<Boxed<Expr>, ParseError>
         requires { Nests self.now.depth (F.pre self.now.inner) (F.post self.now.inner) }
         ensures { Reads view (spec.unary self.now.depth (spec.expr self.now.depth) tokens.old) result tokens.new }
     {

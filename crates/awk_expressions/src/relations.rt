@@ -16,7 +16,7 @@ use crate::pairs::pair;
 use crate::terminals::is;
 use crate::tokens::Tokens;
 use awk_text::place::Place;
-use awk_tree::{Expr, Fault, Goal, Member, Piped, Terminal};
+use awk_tree::{Expr, Goal, Member, ParseError, Piped, Terminal};
 use sqlite_items::{Boxed, Items};
 use std::alloc::{AllocError, Global};
 
@@ -32,9 +32,9 @@ fn group(
     Boxed::new(alloc, Expr::Group(place, keys, arrays))
 }
 
-impl<F: Fn(Global, &mut Tokens<'_>, usize, Goal) -> Result<Boxed<Expr>, Fault>> Grammar<F> {
+impl<F: Fn(Global, &mut Tokens<'_>, usize, Goal) -> Result<Boxed<Expr>, ParseError>> Grammar<F> {
     #[tactic(auto, unfolding(awk_tree::specs::Expressions::one_pipe))]
-    fn one_pipe(&self, tokens: &mut Tokens<'_>) -> Result<Piped<Expr>, Fault>
+    fn one_pipe(&self, tokens: &mut Tokens<'_>) -> Result<Piped<Expr>, ParseError>
         requires { Nests self.now.depth (F.pre self.now.inner) (F.post self.now.inner) }
         ensures { Reads view_piped (spec.one_pipe self.now.depth (spec.expr self.now.depth) tokens.old) result
             tokens.new }
@@ -49,7 +49,7 @@ impl<F: Fn(Global, &mut Tokens<'_>, usize, Goal) -> Result<Boxed<Expr>, Fault>> 
     }
 
     #[tactic(auto, unfolding(awk_tree::specs::Expressions::pipes))]
-    fn pipes(&self, tokens: &mut Tokens<'_>) -> Result<Items<Piped<Expr>>, Fault>
+    fn pipes(&self, tokens: &mut Tokens<'_>) -> Result<Items<Piped<Expr>>, ParseError>
         requires { Nests self.now.depth (F.pre self.now.inner) (F.post self.now.inner) }
         ensures { Reads (map view_piped) (spec.pipes self.now.depth (spec.expr self.now.depth) tokens.old) result
             tokens.new }
@@ -70,7 +70,11 @@ impl<F: Fn(Global, &mut Tokens<'_>, usize, Goal) -> Result<Boxed<Expr>, Fault>> 
 
     /// `{ | getline [ lvalue ] }`
     #[tactic(auto, unfolding(awk_tree::specs::Expressions::pipe_rest))]
-    fn pipe_rest(&self, tokens: &mut Tokens<'_>, left: Boxed<Expr>) -> Result<Boxed<Expr>, Fault>
+    fn pipe_rest(
+        &self,
+        tokens: &mut Tokens<'_>,
+        left: Boxed<Expr>,
+    ) -> Result<Boxed<Expr>, ParseError>
         requires { Nests self.now.depth (F.pre self.now.inner) (F.post self.now.inner) }
         ensures { Reads view (spec.pipe_rest self.now.depth (spec.expr self.now.depth) (view left) tokens.old) result
             tokens.new }
@@ -80,7 +84,7 @@ impl<F: Fn(Global, &mut Tokens<'_>, usize, Goal) -> Result<Boxed<Expr>, Fault>> 
     }
 
     #[tactic(auto, unfolding(awk_tree::specs::Expressions::pipe))]
-    fn pipe(&self, tokens: &mut Tokens<'_>) -> Result<Boxed<Expr>, Fault>
+    fn pipe(&self, tokens: &mut Tokens<'_>) -> Result<Boxed<Expr>, ParseError>
         requires { Nests self.now.depth (F.pre self.now.inner) (F.post self.now.inner) }
         ensures { Reads view (spec.pipe self.now.depth (spec.expr self.now.depth) tokens.old) result tokens.new }
     {
@@ -95,7 +99,7 @@ impl<F: Fn(Global, &mut Tokens<'_>, usize, Goal) -> Result<Boxed<Expr>, Fault>> 
         tokens: &mut Tokens<'_>,
         in_print: bool,
         left: Boxed<Expr>,
-    ) -> Result<Boxed<Expr>, Fault>
+    ) -> Result<Boxed<Expr>, ParseError>
         requires { Nests self.now.depth (F.pre self.now.inner) (F.post self.now.inner) }
         ensures { Reads view (spec.compare_rest self.now.depth (spec.expr self.now.depth) in_print (view left)
             tokens.old) result tokens.new }
@@ -109,7 +113,7 @@ impl<F: Fn(Global, &mut Tokens<'_>, usize, Goal) -> Result<Boxed<Expr>, Fault>> 
     }
 
     #[tactic(auto, unfolding(awk_tree::specs::Expressions::cmp))]
-    fn cmp(&self, tokens: &mut Tokens<'_>, in_print: bool) -> Result<Boxed<Expr>, Fault>
+    fn cmp(&self, tokens: &mut Tokens<'_>, in_print: bool) -> Result<Boxed<Expr>, ParseError>
         requires { Nests self.now.depth (F.pre self.now.inner) (F.post self.now.inner) }
         ensures { Reads view (spec.cmp self.now.depth (spec.expr self.now.depth) in_print tokens.old) result
             tokens.new }
@@ -125,7 +129,7 @@ impl<F: Fn(Global, &mut Tokens<'_>, usize, Goal) -> Result<Boxed<Expr>, Fault>> 
         tokens: &mut Tokens<'_>,
         in_print: bool,
         left: Boxed<Expr>,
-    ) -> Result<Boxed<Expr>, Fault>
+    ) -> Result<Boxed<Expr>, ParseError>
         requires { Nests self.now.depth (F.pre self.now.inner) (F.post self.now.inner) }
         ensures { Reads view (spec.match_rest self.now.depth (spec.expr self.now.depth) in_print (view left) tokens.old)
             result tokens.new }
@@ -145,7 +149,7 @@ impl<F: Fn(Global, &mut Tokens<'_>, usize, Goal) -> Result<Boxed<Expr>, Fault>> 
         tokens: &mut Tokens<'_>,
         in_print: bool,
         left: Boxed<Expr>,
-    ) -> Result<Boxed<Expr>, Fault>
+    ) -> Result<Boxed<Expr>, ParseError>
         requires { Nests self.now.depth (F.pre self.now.inner) (F.post self.now.inner) }
         ensures { Reads view (spec.unary_rest self.now.depth (spec.expr self.now.depth) in_print (view left) tokens.old)
             result tokens.new }
@@ -163,7 +167,7 @@ impl<F: Fn(Global, &mut Tokens<'_>, usize, Goal) -> Result<Boxed<Expr>, Fault>> 
         tokens: &mut Tokens<'_>,
         in_print: bool,
         left: Boxed<Expr>,
-    ) -> Result<Boxed<Expr>, Fault>
+    ) -> Result<Boxed<Expr>, ParseError>
         requires { Nests self.now.depth (F.pre self.now.inner) (F.post self.now.inner) }
         ensures { Reads view (spec.unary_rest self.now.depth (spec.expr self.now.depth) in_print (view left) tokens.old)
             result tokens.new }
@@ -185,7 +189,7 @@ impl<F: Fn(Global, &mut Tokens<'_>, usize, Goal) -> Result<Boxed<Expr>, Fault>> 
         place: Place,
         first: Boxed<Expr>,
         more: Items<Expr>,
-    ) -> Result<Boxed<Expr>, Fault>
+    ) -> Result<Boxed<Expr>, ParseError>
         requires { Nests self.now.depth (F.pre self.now.inner) (F.post self.now.inner) }
         ensures { Reads view (spec.grouped self.now.depth (spec.expr self.now.depth) in_print place (view first)
             (map view more) tokens.old) result tokens.new }
@@ -203,7 +207,7 @@ impl<F: Fn(Global, &mut Tokens<'_>, usize, Goal) -> Result<Boxed<Expr>, Fault>> 
     }
 
     #[tactic(auto, unfolding(awk_tree::specs::Expressions::from_paren))]
-    fn from_paren(&self, tokens: &mut Tokens<'_>, in_print: bool) -> Result<Boxed<Expr>, Fault>
+    fn from_paren(&self, tokens: &mut Tokens<'_>, in_print: bool) -> Result<Boxed<Expr>, ParseError>
         requires { Nests self.now.depth (F.pre self.now.inner) (F.post self.now.inner) }
         ensures { Reads view (spec.from_paren self.now.depth (spec.expr self.now.depth) in_print tokens.old) result
             tokens.new }
@@ -217,7 +221,11 @@ impl<F: Fn(Global, &mut Tokens<'_>, usize, Goal) -> Result<Boxed<Expr>, Fault>> 
 
     /// `isin = match { in NAME } | ( list ) in NAME { in NAME }`
     #[tactic(auto, unfolding(awk_tree::specs::Expressions::isin))]
-    pub(crate) fn isin(&self, tokens: &mut Tokens<'_>, in_print: bool) -> Result<Boxed<Expr>, Fault>
+    pub(crate) fn isin(
+        &self,
+        tokens: &mut Tokens<'_>,
+        in_print: bool,
+    ) -> Result<Boxed<Expr>, ParseError>
         requires { Nests self.now.depth (F.pre self.now.inner) (F.post self.now.inner) }
         ensures { Reads view (spec.isin self.now.depth (spec.expr self.now.depth) in_print tokens.old) result
             tokens.new }

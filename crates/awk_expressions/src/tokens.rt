@@ -8,7 +8,7 @@ ghost use Rattle.awk_tree.specs.Terminals as terminals;
 
 use crate::terminals::{ahead, is, look};
 use awk_tokens::Token;
-use awk_tree::{Fault, Terminal};
+use awk_tree::{ParseError, Terminal};
 use std::marker::Model;
 
 /// The tokens that are still to be read, with what the first of them is, which is asked many times.
@@ -101,27 +101,27 @@ impl<'a> Tokens<'a> {
     }
 
     /// S4 at the next token.
-    pub fn refuse(&self) -> Fault
-        ensures { result ≡ Fault.Unexpected (length self.now) }
+    pub fn refuse(&self) -> ParseError
+        ensures { result ≡ ParseError.Unexpected (length self.now) }
     {
-        Fault::Unexpected(self.rest.len())
+        ParseError::Unexpected(self.rest.len())
     }
 
     /// S5 at the token before.
-    pub fn deep(&self) -> Fault
-        ensures { result ≡ Fault.TooDeep (suc (length self.now)) }
+    pub fn deep(&self) -> ParseError
+        ensures { result ≡ ParseError.TooDeep (suc (length self.now)) }
     {
-        Fault::TooDeep(self.rest.len() + 1)
+        ParseError::TooDeep(self.rest.len() + 1)
     }
 
     /// The next token, whatever it is.
     #[tactic(auto, unfolding(awk_tree::specs::Input::any))]
-    pub fn any(&mut self) -> Result<&'a Token, Fault>
+    pub fn any(&mut self) -> Result<&'a Token, ParseError>
         ensures { Reads (λ t. t.now) (spec.any self.old) result self.new }
     {
         let tokens = self.rest();
         let Some((first, rest)) = tokens.split_first() else {
-            return Err(Fault::Unexpected(0));
+            return Err(ParseError::Unexpected(0));
         };
         *self = Tokens::new(rest);
         Ok(first)
@@ -129,7 +129,7 @@ impl<'a> Tokens<'a> {
 
     /// The next token, where it is this one.
     #[tactic(auto, unfolding(awk_tree::specs::Input::one))]
-    pub fn one(&mut self, kind: Terminal) -> Result<&'a Token, Fault>
+    pub fn one(&mut self, kind: Terminal) -> Result<&'a Token, ParseError>
         ensures { Reads (λ t. t.now) (spec.one kind self.old) result self.new }
     {
         if is(self.ahead(), kind) {
@@ -141,7 +141,7 @@ impl<'a> Tokens<'a> {
 
     /// The same, told from the others that end an expression.
     #[tactic(auto, unfolding(awk_tree::specs::Input::exactly))]
-    pub fn exactly(&mut self, kind: Terminal) -> Result<&'a Token, Fault>
+    pub fn exactly(&mut self, kind: Terminal) -> Result<&'a Token, ParseError>
         ensures { Reads (λ t. t.now) (spec.exactly kind self.old) result self.new }
     {
         if is(self.look(), kind) {

@@ -16,7 +16,7 @@ use awk_builtins::chains::members;
 use awk_builtins::keys::{element_key, group_key, one_key, only};
 use awk_builtins::made::append;
 use awk_program::{Expr, Variable};
-use awk_store::{Key, Spot};
+use awk_store::{ElementKey, Spot};
 use awk_streams::halt::Halt;
 use awk_text::place::Place;
 use awk_text::value::Value;
@@ -78,7 +78,7 @@ pub fn element<W: World, E: Evaluates<W>>(
         place,
         values.as_slice(),
     )?;
-    Ok(Spot::Element(place, array, Key::new(Value::Text(key))))
+    Ok(Spot::Element(place, array, ElementKey::new(Value::Text(key))))
 }
 
 /// `( list ) in array in array ..`

@@ -14,7 +14,7 @@ use crate::context::{Context, Run};
 use crate::evaluates::Evaluates;
 use awk_builtins::matching::matched_at_hand;
 use awk_builtins::patterns;
-use awk_builtins::patterns::Source;
+use awk_builtins::patterns::PatternValue;
 use awk_builtins::splitting::split_for;
 use awk_program::{Expr, Pattern};
 use awk_streams::halt::Halt;
@@ -28,7 +28,7 @@ pub fn source_of<W: World, E: Evaluates<W>>(
     on: E,
     run: &mut Run,
     world: &mut W,
-) -> Result<Source, Halt>
+) -> Result<PatternValue, Halt>
     requires can { E.can on }
     requires owns { Owns (W.open_numbers world.old) run.old.streams }
     ensures plays { Does W.World cx.now (λ g. source (view_ere (names_in g) pattern.now)) (λ g s. give (source_value s))
@@ -41,7 +41,7 @@ pub fn source_of<W: World, E: Evaluates<W>>(
         }
         Pattern::Computed(x) => {
             let computed = on.value(cx, x.get(), run, world)?;
-            Ok(Source::Computed(computed))
+            Ok(PatternValue::Computed(computed))
         }
     }
 }

@@ -9,7 +9,7 @@ ghost use Rattle.awk_store.specs.Spots.{IsSpotOf, value_of};
 ghost use Rattle.awk_store.specs.Wholes.{names_in};
 ghost use Rattle.awk_forms.specs.Runs.{Does, Tells, IsUnwanted, whole_of};
 ghost use Rattle.awk_machine.specs.Expressions.{either};
-ghost use Rattle.awk_program.specs.declared.operators.Taken.{Taken as Which};
+ghost use Rattle.awk_program.specs.declared.operators.StepValue.{StepValue as Which};
 
 use crate::context::{Context, Run};
 use crate::evaluates::Evaluates;
@@ -17,7 +17,7 @@ use crate::lists::element;
 use awk_builtins::growing::assigned;
 use awk_builtins::keys::field_number;
 use awk_builtins::made::{computed_at, stepped_at};
-use awk_program::{Expr, Operator, Step, Taken, Target, Variable};
+use awk_program::{Expr, Operator, Step, StepValue, Target, Variable};
 use awk_store::Spot;
 use awk_store::targets::{read, set, stored};
 use awk_store::variables::{read_variable, set_variable};
@@ -243,7 +243,7 @@ pub fn increment<W: World, E: Evaluates<W>>(
     cx: &Context<'_>,
     place: Place,
     how: Step,
-    taken: Taken,
+    taken: StepValue,
     target: &Target<Expr>,
     on: E,
     run: &mut Run,
@@ -257,7 +257,7 @@ pub fn increment<W: World, E: Evaluates<W>>(
 {
     let (before, behind) = step_target(cx, place, how, target, on, run, world)?;
     match taken {
-        Taken::Before => Ok(Value::Num(before)),
-        Taken::Behind => Ok(Value::Num(behind)),
+        StepValue::Before => Ok(Value::Num(before)),
+        StepValue::Behind => Ok(Value::Num(behind)),
     }
 }

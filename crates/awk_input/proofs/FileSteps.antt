@@ -26,7 +26,7 @@ use Rattle.awk_store.specs.Kept.{Kept}
 use Rattle.awk_store.specs.States.{Hidden}
 use Rattle.awk_store.proofs.Cells.{change_count}
 use Rattle.awk_store.proofs.Setting as set
-use Rattle.awk_streams.specs.declared.getline.Found.{Found}
+use Rattle.awk_streams.specs.declared.getline.NextRecord.{NextRecord}
 use Rattle.awk_streams.specs.declared.halt.Halt.{Halt}
 use Rattle.awk_streams.specs.Chains.{Leads, Meets}
 use Rattle.awk_streams.specs.Tables.{Table, Entry, entries_without, find_input, open_of, with_input}
@@ -299,7 +299,7 @@ pub same_text : (a b : Text) → Some (Named OperandFile a) ≡ Some (Named Oper
 same_text a b e = cc
 
 -- the stream that was read, in other words
-pub read_as : {W : Type 0} {ghosts : Ghosts W} {g : Given} {p : Piece} {old new : Whole} {w w' : W} {r : Result Found Halt} {key other : Key} →
+pub read_as : {W : Type 0} {ghosts : Ghosts W} {g : Given} {p : Piece} {old new : Whole} {w w' : W} {r : Result NextRecord Halt} {key other : Key} →
     key ≡ other → Performs ghosts g p (found_main key) old w r new w' → Performs ghosts g p (found_main other) old w r new w'
 read_as {ghosts = ghosts} {g = g} {p = p} {old = old} {new = new} {w = w} {w' = w'} {r = r} e h =
     subst (λ z. Performs ghosts g p (found_main z) old w r new w') e h

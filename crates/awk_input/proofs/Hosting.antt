@@ -8,7 +8,7 @@ use Rattle.std.specs.Str.{bytes_eq}
 use Rattle.indexmap.specs.IndexMap.{insert_entry}
 use Rattle.awk_program.specs.Slots.{Text}
 use Rattle.awk_input.specs.Hosts.{Hosted, is_given, name_added, use_of, with_name, with_word, word_added}
-use Rattle.awk_input.specs.declared.host.Use.{Use}
+use Rattle.awk_input.specs.declared.host.HostUse.{HostUse}
 
 module _ {K : Type 0} (items : K → List ℕ) where
   pub any_named : (x : List ℕ) (ks : List K) → list_any (bytes_eq x) (map items ks) ≡ list_any (λ k. bytes_eq x (items k)) ks
@@ -26,14 +26,14 @@ module _ {K : Type 0} (items : K → List ℕ) where
       by true = refl
       by false = map_last k ks
 
-  abbrev pub named : List (K × Use) → List (Text × Use)
+  abbrev pub named : List (K × HostUse) → List (Text × HostUse)
   named es = map (λ e. (items e.0, e.1)) es
 
-  pub lookup_named : (text : List ℕ) (es : List (K × Use)) → lookup (bytes_eq text) (named es) ≡ lookup (λ k. bytes_eq text (items k)) es
+  pub lookup_named : (text : List ℕ) (es : List (K × HostUse)) → lookup (bytes_eq text) (named es) ≡ lookup (λ k. bytes_eq text (items k)) es
   lookup_named text [] = refl
   lookup_named text (e ∷ es) = ap (cond (bytes_eq text (items e.0)) (Some e.1)) (lookup_named text es)
 
-  pub name_named : (k : K) (u : Use) (es : List (K × Use)) → named (insert_entry (λ x y. bytes_eq (items x) (items y)) es k u) ≡ name_added (items k) u (named es)
+  pub name_named : (k : K) (u : HostUse) (es : List (K × HostUse)) → named (insert_entry (λ x y. bytes_eq (items x) (items y)) es k u) ≡ name_added (items k) u (named es)
   name_named k u [] = refl
   name_named k u (e ∷ es) = by (bytes_eq (items k) (items e.0)) (name_named k u es)
     where
@@ -47,8 +47,8 @@ module _ {K : Type 0} (items : K → List ℕ) where
 pub words_so : (h : Hosted) (ws : List Text) (x : Text) → ws ≡ word_added x h.words → record h { words = ws } ≡ with_word x h
 words_so h ws x e = ap (λ (z : List Text). record h { words = z }) e
 
-pub names_so : (h : Hosted) (ns : List (Text × Use)) (x : Text) (u : Use) → ns ≡ name_added x u h.names → record h { names = ns } ≡ with_name x u h
-names_so h ns x u e = ap (λ (z : List (Text × Use)). record h { names = z }) e
+pub names_so : (h : Hosted) (ns : List (Text × HostUse)) (x : Text) (u : HostUse) → ns ≡ name_added x u h.names → record h { names = ns } ≡ with_name x u h
+names_so h ns x u e = ap (λ (z : List (Text × HostUse)). record h { names = z }) e
 
 -- ---- what a host answers once more is said
 
@@ -69,7 +69,7 @@ given_added x t h = by (list_any (bytes_eq x) h.words) refl
     by true e = there (bytes_eq t x) refl e
     by false e = list_any-append (bytes_eq t) h.words (x ∷ []) ∙ swapped (list_any (bytes_eq t) h.words) (bytes_eq t x)
 
-use_at : (x y : Text) (u : Use) (es : List (Text × Use)) → lookup (bytes_eq y) (name_added x u es) ≡ (if bytes_eq y x then Some u else lookup (bytes_eq y) es)
+use_at : (x y : Text) (u : HostUse) (es : List (Text × HostUse)) → lookup (bytes_eq y) (name_added x u es) ≡ (if bytes_eq y x then Some u else lookup (bytes_eq y) es)
 use_at x y u [] = refl
 use_at x y u (e ∷ es) = by (bytes_eq x e.0) refl (use_at x y u es)
   where
@@ -95,5 +95,5 @@ use_at x y u (e ∷ es) = by (bytes_eq x e.0) refl (use_at x y u es)
         ∙ ap (λ z. if bytes_eq y x then Some u else cond (bytes_eq y z) (Some e.1) (lookup (bytes_eq y) es)) is
     by false h rest = ap (λ o. cond (bytes_eq y e.0) (Some e.1) o) rest ∙ other (bytes_eq y e.0) (bytes_eq y x) refl refl h
 
-pub use_added : (x y : Text) (u : Use) (h : Hosted) → use_of (with_name x u h) y ≡ (if bytes_eq y x then Some u else use_of h y)
+pub use_added : (x y : Text) (u : HostUse) (h : Hosted) → use_of (with_name x u h) y ≡ (if bytes_eq y x then Some u else use_of h y)
 use_added x y u h = use_at x y u h.names

@@ -25,7 +25,7 @@ use Rattle.awk_store.specs.Kept as kept
 use Rattle.awk_store.specs.Kept.{Kept}
 use Rattle.awk_store.specs.States.{Hidden}
 use Rattle.awk_store.proofs.Reading as law
-use Rattle.awk_streams.specs.declared.getline.Found.TheVariants as found
+use Rattle.awk_streams.specs.declared.getline.NextRecord.TheVariants as found
 use Rattle.awk_streams.specs.declared.halt.Halt.{Halt}
 use Rattle.awk_streams.specs.declared.halt.Halt.TheVariants as halt
 use Rattle.awk_streams.specs.Chains.{Halted, Leads, Meets}

@@ -8,14 +8,14 @@ use Rattle.awk_tokens.specs.Words.{is_name, reserved}
 use Rattle.awk_program.specs.Slots.{Text}
 use Rattle.awk_machine.specs.State.{Given}
 use Rattle.awk_store.specs.Wholes.{names_in}
-use Rattle.awk_input.specs.declared.host.Use.{Use}
-use Rattle.awk_input.specs.declared.host.Use.TheVariants as what
+use Rattle.awk_input.specs.declared.host.HostUse.{HostUse}
+use Rattle.awk_input.specs.declared.host.HostUse.TheVariants as what
 
 -- the most steps, the words that the run was started with, each once, and what names are
 pub record Hosted : Type 0 where
   pub bound : ℕ
   pub words : List Text
-  pub names : List (Text × Use)
+  pub names : List (Text × HostUse)
 
 -- ---- what it answers
 
@@ -23,10 +23,10 @@ pub record Hosted : Type 0 where
 abbrev pub is_given : Hosted → Text → Bool
 is_given h text = list_any (bytes_eq text) h.words
 
-abbrev pub use_of : Hosted → Text → Option Use
+abbrev pub use_of : Hosted → Text → Option HostUse
 use_of h name = lookup (bytes_eq name) h.names
 
-abbrev pub is_free : Option Use → Bool
+abbrev pub is_free : Option HostUse → Bool
 is_free None = true
 is_free (Some (what.Variable k)) = true
 is_free (Some what.Barred) = false
@@ -35,7 +35,7 @@ is_free (Some what.Barred) = false
 abbrev pub can_set : Hosted → Text → Bool
 can_set h name = (is_name name && is_none (reserved name)) && is_free (use_of h name)
 
-abbrev pub slot_in : Option Use → Option ℕ
+abbrev pub slot_in : Option HostUse → Option ℕ
 slot_in None = None
 slot_in (Some (what.Variable k)) = Some k
 slot_in (Some what.Barred) = None
@@ -53,11 +53,11 @@ abbrev pub with_word : Text → Hosted → Hosted
 with_word x h = record h { words = word_added x h.words }
 
 -- the pairs once this is said of the name, in the place of what was said before, or else at the end
-abbrev pub name_added : Text → Use → List (Text × Use) → List (Text × Use)
+abbrev pub name_added : Text → HostUse → List (Text × HostUse) → List (Text × HostUse)
 name_added x u [] = (x, u) ∷ []
 name_added x u (p ∷ ps) = if bytes_eq x p.0 then (p.0, u) ∷ ps else p ∷ name_added x u ps
 
-abbrev pub with_name : Text → Use → Hosted → Hosted
+abbrev pub with_name : Text → HostUse → Hosted → Hosted
 with_name x u h = record h { names = name_added x u h.names }
 
 -- ---- the host of a run

@@ -11,8 +11,8 @@ use Rattle.awk_program.specs.declared.variables.Own.TheVariants as own
 use Rattle.awk_machine.specs.MainInput.{own_name}
 use Rattle.awk_machine.specs.Pieces.{Piece, At, Do, Forget, Past, Records, Report, Rules, Step, Take, give}
 use Rattle.awk_machine.specs.State.{Given, Main}
-use Rattle.awk_streams.specs.declared.getline.Found.{Found}
-use Rattle.awk_streams.specs.declared.getline.Found.TheVariants as found
+use Rattle.awk_streams.specs.declared.getline.NextRecord.{NextRecord}
+use Rattle.awk_streams.specs.declared.getline.NextRecord.TheVariants as found
 use Rattle.awk_streams.specs.declared.halt.Halt.{Halt}
 use Rattle.awk_streams.specs.Readings.{IsLine}
 use Rattle.awk_streams.specs.Tables.{Table}
@@ -51,7 +51,7 @@ more true k = At Records [] ∷ k
 more false k = k
 
 -- by what was read: the record is given, the stream is passed, or it is given up with a message
-abbrev pub found_main : Key → Found → List Piece → List Piece
+abbrev pub found_main : Key → NextRecord → List Piece → List Piece
 found_main key (found.Record text) k = give (v.Input text) k
 found_main key found.End k = Do (Past key) ∷ Do Take ∷ k
 found_main key found.Failed k =

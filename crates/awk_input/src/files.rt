@@ -21,13 +21,13 @@ use crate::host::Host;
 use crate::progress::take_out;
 use crate::reports::report;
 use awk_program::Own;
-use awk_store::{MainInput, Source, Store};
-use awk_streams::getline::{Found, record};
+use awk_store::{CurrentInput, MainInput, Store};
+use awk_streams::getline::{NextRecord, record};
 use awk_streams::halt::Halt;
 use awk_streams::inputs;
 use awk_streams::opening::open;
 use awk_streams::requests::request;
-use awk_streams::streams::{Class, Name, Streams};
+use awk_streams::streams::{Class, StreamName, Streams};
 use awk_text::Memory;
 use awk_text::octets::Octets;
 use awk_text::place::Place;
@@ -40,7 +40,7 @@ use std::alloc::Global;
 // ---- the file begins
 
 /// The main input is read from here on, as an operand of this text names it.
-fn begin(store: &mut Store, source: Source, text: Octets)
+fn begin(store: &mut Store, source: CurrentInput, text: Octets)
     ensures { (g : Given) (t : Table) (key : Key) → store_inputs.key_of source ≡ Some key →
         Acts g (Do (Begun key text)) goes_on (store.old, t) (Ok (tt {0})) (store.new, t) }
 {
@@ -65,7 +65,7 @@ fn open_file<W: World>(
         → Performs W.World g p (begun_or text.now) old world.old result (k, streams.new) world.new }
     ensures owns { Owns (W.open_numbers world.new) streams.new }
 {
-    let name = Name {
+    let name = StreamName {
         class: Class::OperandFile,
         text,
     };
@@ -96,7 +96,7 @@ fn begin_named<W: World>(
     let copy = text.copy(alloc)?;
     let is_open = open_file(alloc, host, text.bytes(), streams, world)?;
     if is_open {
-        begin(store, Source::Operand(copy), text);
+        begin(store, CurrentInput::Operand(copy), text);
         return Ok(());
     }
     report(alloc, b"open".as_slice(), text.bytes(), store, world)
@@ -118,7 +118,7 @@ pub fn begin_input<W: World>(
     ensures owns { Owns (W.open_numbers world.new) streams.new }
 {
     if text.bytes() == b"-".as_slice() {
-        begin(store, Source::Standard, text);
+        begin(store, CurrentInput::Standard, text);
         return Ok(());
     }
     begin_named(alloc, host, text, store, streams, world)
@@ -128,7 +128,11 @@ pub fn begin_input<W: World>(
 
 /// Reads a record of the operand's file. That file stands open; the test of it is there since no contract carries this
 /// from one record to the next.
-fn read_file<W: World>(store: &Store, streams: &mut Streams, world: &mut W) -> Result<Found, Halt>
+fn read_file<W: World>(
+    store: &Store,
+    streams: &mut Streams,
+    world: &mut W,
+) -> Result<NextRecord, Halt>
     requires { Owns (W.open_numbers world.old) streams.old }
     ensures task { (g : Given) → store.now.main.ended ≡ false
         → Performs W.World g (Do Take) (found_main (current_key store.now)) (store.now, streams.old) world.old result
@@ -136,10 +140,10 @@ fn read_file<W: World>(store: &Store, streams: &mut Streams, world: &mut W) -> R
     ensures current { OnOk result ((text : Text) × (store.now.main.current ≡ Some (Named event.OperandFile text))) }
     ensures owns { Owns (W.open_numbers world.new) streams.new }
 {
-    let Source::Operand(text) = &store.main().current else {
+    let CurrentInput::Operand(text) = &store.main().current else {
         return Err(Halt::Memory);
     };
-    let name = Name {
+    let name = StreamName {
         class: Class::OperandFile,
         text: text.bytes(),
     };
@@ -149,7 +153,13 @@ fn read_file<W: World>(store: &Store, streams: &mut Streams, world: &mut W) -> R
     let place = Place { line: 0, column: 0 };
     let mut buffer = Buffer::new();
     let rs = store.own_text(Own::Rs, &mut buffer);
-    record(place, &inputs::Source::Stream(name), rs, streams, world)
+    record(
+        place,
+        &inputs::InputStream::Stream(name),
+        rs,
+        streams,
+        world,
+    )
 }
 
 // ---- it is done with
@@ -171,7 +181,7 @@ pub fn pass_file<W: World>(
     let Some(text) = take_out(store) else {
         return Err(Halt::Memory);
     };
-    let name = Name {
+    let name = StreamName {
         class: Class::OperandFile,
         text: text.bytes(),
     };
@@ -191,7 +201,7 @@ fn current_text(alloc: Global, main: &MainInput) -> Result<Octets, Memory>
         ≡ text) }
 {
     match &main.current {
-        Source::Operand(text) => text.copy(alloc),
+        CurrentInput::Operand(text) => text.copy(alloc),
         _ => Ok(Octets::new(Vec::new(alloc))),
     }
 }
@@ -206,7 +216,7 @@ fn give_up_file<W: World>(
     requires { Owns (W.open_numbers world.old) streams.old }
     ensures task { (g : Given) (text : Text) → store.old.main.current ≡ Some (Named event.OperandFile text)
         → (p : Piece) (old : Whole) (w : W) →
-        LeadsOn W.World g p old w (found_main (Named event.OperandFile text) Found.Failed) (store.old, streams.old)
+        LeadsOn W.World g p old w (found_main (Named event.OperandFile text) NextRecord.Failed) (store.old, streams.old)
         world.old
         → Onward W.World g p old w (λ k. Do Take ∷ k) result (store.new, streams.new) world.new }
     ensures owns { Owns (W.open_numbers world.new) streams.new }
@@ -230,12 +240,12 @@ pub fn take_file<W: World>(
     ensures owns { Owns (W.open_numbers world.new) streams.new }
 {
     match read_file(store, streams, world)? {
-        Found::Record(text) => Ok(Some(Value::Input(text))),
-        Found::End => {
+        NextRecord::Record(text) => Ok(Some(Value::Input(text))),
+        NextRecord::End => {
             pass_file(store, streams, world)?;
             Ok(None)
         }
-        Found::Failed => {
+        NextRecord::Failed => {
             give_up_file(alloc, store, streams, world)?;
             Ok(None)
         }

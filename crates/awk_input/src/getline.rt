@@ -20,8 +20,8 @@ use awk_program::Own;
 use awk_store::{Spot, Store};
 use awk_streams::getline::fetch;
 use awk_streams::halt::Halt;
-use awk_streams::inputs::Source;
-use awk_streams::streams::{Class, Name, Streams};
+use awk_streams::inputs::InputStream;
+use awk_streams::streams::{Class, StreamName, Streams};
 use awk_text::lent::Lent;
 use awk_text::place::Place;
 use awk_text::value::Value;
@@ -30,14 +30,14 @@ use itoa::Buffer;
 use std::alloc::Global;
 
 /// The stream of a file of this name: `-` is the standard input.
-fn file_source(name: &[u8]) -> Source<'_>
+fn file_source(name: &[u8]) -> InputStream<'_>
     ensures { (place : Place) (k : List Piece) → machine.fetch_file place name.now k
         ≡ Do (fetching place (key_of result)) ∷ k }
 {
     if name == b"-".as_slice() {
-        return Source::Standard;
+        return InputStream::Standard;
     }
-    Source::Stream(Name {
+    InputStream::Stream(StreamName {
         class: Class::InputFile,
         text: name,
     })
@@ -48,7 +48,7 @@ fn file_source(name: &[u8]) -> Source<'_>
 fn fetch_record<W: World>(
     alloc: Global,
     place: Place,
-    source: &Source<'_>,
+    source: &InputStream<'_>,
     store: &Store,
     streams: &mut Streams,
     world: &mut W,
@@ -131,7 +131,7 @@ pub fn command_record<W: World>(
     ensures owns { Owns (W.open_numbers world.new) streams.new }
 {
     let mut buffer = Buffer::new();
-    let source = Source::Stream(Name {
+    let source = InputStream::Stream(StreamName {
         class: Class::InputCommand,
         text: command.text(&mut buffer),
     });

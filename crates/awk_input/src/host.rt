@@ -13,7 +13,7 @@ use std::marker::Model;
 /// What a name is to the host of a run: a variable of the script that it may set, by its slot, or a
 /// name that it may not set.
 #[derive(Clone, Copy, Debug, PartialEq, Eq, Drop)]
-pub enum Use {
+pub enum HostUse {
     Variable(u32),
     Barred,
 }
@@ -24,7 +24,7 @@ pub enum Use {
 pub struct Host {
     bound: u64,
     words: IndexSet<Vec<u8>>,
-    names: IndexMap<Vec<u8>, Use>,
+    names: IndexMap<Vec<u8>, HostUse>,
 }
 
 impl Model for Host {
@@ -71,7 +71,7 @@ impl Host {
 
     /// Says what a name is, in the place of what was said before, or answers `Memory`, with nothing
     /// changed.
-    pub fn add_name(&mut self, name: Octets, what: Use) -> Result<(), Memory>
+    pub fn add_name(&mut self, name: Octets, what: HostUse) -> Result<(), Memory>
         ensures ok { OnOk result (self.new ≡ with_name name what self.old) }
         ensures err { OnErr result (self.new ≡ self.old) }
     {
@@ -86,7 +86,7 @@ impl Host {
         self.words.contains(text)
     }
 
-    fn use_of(&self, name: &[u8]) -> Option<Use>
+    fn use_of(&self, name: &[u8]) -> Option<HostUse>
         ensures { result ≡ spec.use_of self.now name.now }
     {
         match self.names.get(name) {
@@ -112,20 +112,20 @@ impl Host {
     }
 }
 
-fn is_free(what: Option<Use>) -> bool
+fn is_free(what: Option<HostUse>) -> bool
     ensures { result ≡ spec.is_free what }
 {
     match what {
-        Some(Use::Barred) => false,
+        Some(HostUse::Barred) => false,
         _ => true,
     }
 }
 
-fn slot_in(what: Option<Use>) -> Option<u32>
+fn slot_in(what: Option<HostUse>) -> Option<u32>
     ensures { result ≡ spec.slot_in what }
 {
     match what {
-        Some(Use::Variable(slot)) => Some(slot),
+        Some(HostUse::Variable(slot)) => Some(slot),
         _ => None,
     }
 }

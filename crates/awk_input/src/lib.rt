@@ -18,4 +18,4 @@ pub mod reads;
 mod reports;
 pub mod skipping;
 
-pub use host::{Host, Use};
+pub use host::{Host, HostUse};

@@ -22,11 +22,11 @@ use crate::operands::operand;
 use crate::progress::{is_nothing, is_standard, pass_standard};
 use crate::reports::report;
 use awk_program::Own;
-use awk_store::{Source, Spot, Store, fields};
-use awk_streams::getline::{Found, record, take_line, take_standard_line};
+use awk_store::{CurrentInput, Spot, Store, fields};
+use awk_streams::getline::{NextRecord, record, take_line, take_standard_line};
 use awk_streams::halt::Halt;
 use awk_streams::inputs;
-use awk_streams::streams::{Class, Name, Streams};
+use awk_streams::streams::{Class, StreamName, Streams};
 use awk_text::octets::Octets;
 use awk_text::place::Place;
 use awk_text::value::Value;
@@ -39,7 +39,7 @@ fn read_standard<W: World>(
     store: &Store,
     streams: &mut Streams,
     world: &mut W,
-) -> Result<Found, Halt>
+) -> Result<NextRecord, Halt>
     requires owns { Owns (W.open_numbers world.old) streams.old }
     requires ended { store.now.main.ended ≡ false }
     requires current { store.now.main.current ≡ Some (Standard 0) }
@@ -52,7 +52,7 @@ fn read_standard<W: World>(
     let place = Place { line: 0, column: 0 };
     let mut buffer = Buffer::new();
     let rs = store.own_text(Own::Rs, &mut buffer);
-    record(place, &inputs::Source::Standard, rs, streams, world)
+    record(place, &inputs::InputStream::Standard, rs, streams, world)
 }
 
 /// Gives up the standard input, which could not be read.
@@ -65,7 +65,7 @@ fn give_up<W: World>(
     requires owns { Owns (W.open_numbers world.old) streams.old }
     requires open { GoesOn (Standard 0) streams.old }
     ensures task { (g : Given) (p : Piece) (old : Whole) (w : W) →
-        LeadsOn W.World g p old w (found_main (Standard 0) Found.Failed) (store.old, streams.old) world.old
+        LeadsOn W.World g p old w (found_main (Standard 0) NextRecord.Failed) (store.old, streams.old) world.old
         → Onward W.World g p old w (λ k. Do Take ∷ k) result (store.new, streams.new) world.new }
     ensures owns { Owns (W.open_numbers world.new) streams.new }
 {
@@ -91,12 +91,12 @@ fn take_standard<W: World>(
     ensures owns { Owns (W.open_numbers world.new) streams.new }
 {
     match read_standard(store, streams, world)? {
-        Found::Record(text) => Ok(Some(Value::Input(text))),
-        Found::End => {
+        NextRecord::Record(text) => Ok(Some(Value::Input(text))),
+        NextRecord::End => {
             pass_standard(store);
             Ok(None)
         }
-        Found::Failed => {
+        NextRecord::Failed => {
             give_up(alloc, store, streams, world)?;
             Ok(None)
         }
@@ -230,10 +230,10 @@ fn takes_line(store: &Store, streams: &mut Streams, room: &mut Vec<u8>) -> bool
         return false;
     };
     match &main.current {
-        Source::Nothing => false,
-        Source::Standard => take_standard_line(rs, streams, room),
-        Source::Operand(text) => {
-            let name = Name {
+        CurrentInput::Nothing => false,
+        CurrentInput::Standard => take_standard_line(rs, streams, room),
+        CurrentInput::Operand(text) => {
+            let name = StreamName {
                 class: Class::OperandFile,
                 text: text.bytes(),
             };

@@ -18,7 +18,7 @@ use awk_program::Redirect;
 use awk_streams::halt::Halt;
 use awk_streams::opening::open_output;
 use awk_streams::requests::put;
-use awk_streams::streams::{Class, Name, Streams};
+use awk_streams::streams::{Class, StreamName, Streams};
 use awk_text::lent::Lent;
 use awk_text::octets::Octets;
 use awk_text::place::Place;
@@ -70,7 +70,7 @@ pub fn put_to<W: World>(
     ensures owns { Owns (W.open_numbers world.new) streams.new }
 {
     let mut buffer = Buffer::new();
-    let name = Name {
+    let name = StreamName {
         class: class_of(how),
         text: name.text(&mut buffer),
     };

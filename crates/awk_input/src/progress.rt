@@ -6,7 +6,7 @@ ghost use Rattle.awk_store.specs.Changes.{with_main};
 ghost use Rattle.awk_store.specs.Inputs.{main_of};
 ghost use Rattle.awk_input.specs.Inputs.{after_operands, past_standard};
 
-use awk_store::{MainInput, Source, Store};
+use awk_store::{CurrentInput, MainInput, Store};
 use awk_text::octets::Octets;
 use std::mem;
 
@@ -24,7 +24,7 @@ fn begin_standard(store: &mut Store)
     ensures { store.new ≡ with_main (record store.old.main { current = Some (Standard 0) }) store.old }
 {
     let mut main = store.replace_main(MainInput::new());
-    main.current = Source::Standard;
+    main.current = CurrentInput::Standard;
     store.replace_main(main);
 }
 
@@ -44,7 +44,7 @@ pub fn pass_standard(store: &mut Store)
     ensures { store.new ≡ with_main (past_standard store.old.main) store.old }
 {
     let mut main = store.replace_main(MainInput::new());
-    main.current = Source::Nothing;
+    main.current = CurrentInput::Nothing;
     main.ended = !main.named;
     store.replace_main(main);
 }
@@ -62,14 +62,14 @@ pub fn fail(store: &mut Store)
 pub fn is_nothing(main: &MainInput) -> bool
     ensures { result ≡ true → (main_of main.now).current ≡ None }
 {
-    matches!(main.current, Source::Nothing)
+    matches!(main.current, CurrentInput::Nothing)
 }
 
 /// Whether the standard input is read now.
 pub fn is_standard(main: &MainInput) -> bool
     ensures { result ≡ true → (main_of main.now).current ≡ Some (Standard 0) }
 {
-    matches!(main.current, Source::Standard)
+    matches!(main.current, CurrentInput::Standard)
 }
 
 /// The next operand is the one at this place in ARGV.
@@ -97,8 +97,8 @@ pub fn take_out(store: &mut Store) -> Option<Octets>
         × (store.new ≡ with_main (record store.old.main { current = None }) store.old)) }
 {
     let mut main = store.replace_main(MainInput::new());
-    match mem::replace(&mut main.current, Source::Nothing) {
-        Source::Operand(text) => {
+    match mem::replace(&mut main.current, CurrentInput::Nothing) {
+        CurrentInput::Operand(text) => {
             store.replace_main(main);
             Some(text)
         }

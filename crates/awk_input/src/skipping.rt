@@ -13,7 +13,7 @@ ghost use Rattle.awk_input.specs.Performs.{LeadsOn, Performs};
 
 use crate::files::pass_file;
 use crate::progress::pass_standard;
-use awk_store::{Source, Store, jumps};
+use awk_store::{CurrentInput, Store, jumps};
 use awk_streams::halt::Halt;
 use awk_streams::streams::Streams;
 use awk_text::place::Place;
@@ -29,12 +29,12 @@ fn skip<W: World>(store: &mut Store, streams: &mut Streams, world: &mut W) -> Re
     ensures owns { Owns (W.open_numbers world.new) streams.new }
 {
     match &store.main().current {
-        Source::Nothing => Ok(()),
-        Source::Standard => {
+        CurrentInput::Nothing => Ok(()),
+        CurrentInput::Standard => {
             pass_standard(store);
             Ok(())
         }
-        Source::Operand(_) => pass_file(store, streams, world),
+        CurrentInput::Operand(_) => pass_file(store, streams, world),
     }
 }
 

@@ -22,8 +22,8 @@ use Rattle.awk_lib.specs.Numbering.{numbers, number_at, rows, texts, shown, AreN
 use Rattle.awk_lib.specs.declared.dense.Numbered.{Numbered}
 use Rattle.awk_lib.specs.declared.dense.Dense as d
 use Rattle.awk_lib.specs.declared.elements.Elements.{Elements}
-use Rattle.awk_lib.specs.declared.elements.Place.{Place}
-use Rattle.awk_lib.specs.declared.elements.Place.TheVariants.{Dense, Mapped}
+use Rattle.awk_lib.specs.declared.elements.Slot.{Slot}
+use Rattle.awk_lib.specs.declared.elements.Slot.TheVariants.{Dense, Mapped}
 use Rattle.awk_lib.proofs.Digits.{differs}
 use Rattle.awk_lib.proofs.Order.{all_weaker, all_both, all_push, all_permuted}
 use Rattle.awk_lib.proofs.Mapped.{value_at, split_rows, number_there, inserted_rows, inserted_last, inserted_there}
@@ -108,7 +108,7 @@ module _ {V : Type 0} where
 
   -- ---- a value that is written
 
-  pub placed : (es : Elements V) (p : Place) (r : Row V) → Lies es p r
+  pub placed : (es : Elements V) (p : Slot) (r : Row V) → Lies es p r
       → (m : ℕ) × (slice_get (rows_of es) m ≡ Some r) × ((w : V) → rows_of (with_value es p w) ≡ set_at (rows_of es) m w)
   placed es (Dense k) r lies =
       let ps = es.dense.places.items in
@@ -135,7 +135,7 @@ module _ {V : Type 0} where
         λ w. ap (λ t. D ++ t) (m.3 w) ∙ sym (append_assoc D m.0 ((r.0, (r.1.0, w)) ∷ m.1)) ∙ sym (seam.2 w) ∙ ap (λ t. set_at t seam.0 w) (sym old),
       )
 
-  apart_value : (es : Elements V) (p : Place) (r : Row V) (w : V) → Lies es p r → AreApart es → AreApart (with_value es p w)
+  apart_value : (es : Elements V) (p : Slot) (r : Row V) (w : V) → Lies es p r → AreApart es → AreApart (with_value es p w)
   apart_value es (Dense k) r w lies a =
       let ps = es.dense.places.items in
       let same = sym (length-set ps k (Some (record { number = number_in (slice_get ps k); value = w }))) in
@@ -145,11 +145,11 @@ module _ {V : Type 0} where
       let m = mapped_parts es i r lies in
       record { few = a.few; outside = subst (AllByRecursion Q) (sym (m.3 w)) (all_valued (IsOutside (length es.dense.places.items)) m.0 m.1 r w (subst (AllByRecursion Q) m.2 a.outside)) }
 
-  count_value : (es : Elements V) (p : Place) (w : V) → (with_value es p w).count ≡ es.count
+  count_value : (es : Elements V) (p : Slot) (w : V) → (with_value es p w).count ≡ es.count
   count_value es (Dense k) w = refl
   count_value es (Mapped i) w = refl
 
-  module _ (es : Elements V) (p : Place) (r : Row V) (key : List ℕ) (lies : Lies es p r) (hit : bytes_eq key r.1.0 ≡ true) where
+  module _ (es : Elements V) (p : Slot) (r : Row V) (key : List ℕ) (lies : Lies es p r) (hit : bytes_eq key r.1.0 ≡ true) where
     pub value_there : IsDistinct bytes_eq (texts (rows_of es)) → element (shown (rows_of es)) key ≡ Some r.1.1
     value_there d = let m = placed es p r lies in lookup_shown key (rows_of es) d ∙ lookup_at (rows_of es) m.0 r key m.1 hit d
 
@@ -169,7 +169,7 @@ module _ {V : Type 0} where
   pub missing_element : (es : Elements V) (key : List ℕ) → IsDistinct bytes_eq (texts (rows_of es)) → lookup (bytes_eq key) (map (λ r. r.1) (rows_of es)) ≡ None → element (shown (rows_of es)) key ≡ None
   missing_element es key d none = lookup_shown key (rows_of es) d ∙ none
 
-  pub found_has : (es : Elements V) (key : List ℕ) (o : Option Place) → IsDistinct bytes_eq (texts (rows_of es))
+  pub found_has : (es : Elements V) (key : List ℕ) (o : Option Slot) → IsDistinct bytes_eq (texts (rows_of es))
       → IfSome o (λ p. (r : Row V) × Lies es p r × (bytes_eq key r.1.0 ≡ true)) → (o ≡ None → lookup (bytes_eq key) (map (λ r. r.1) (rows_of es)) ≡ None)
       → is_some o ≡ has (shown (rows_of es)) key
   found_has es key None d some none = sym (ap is_some (missing_element es key d (none refl)))
@@ -199,7 +199,7 @@ module _ {V : Type 0} where
         ∙ shown_added settled n (rows_of es) key v a.numbered none
 
     -- and another value is written there
-    pub added_value : (p : Place) (w : V) → Lies fs p (n, (key, v)) → IsDistinct bytes_eq (texts (rows_of fs)) → shown (rows_of (with_value fs p w)) ≡ with_element (shown (rows_of es)) key w
+    pub added_value : (p : Slot) (w : V) → Lies fs p (n, (key, v)) → IsDistinct bytes_eq (texts (rows_of fs)) → shown (rows_of (with_value fs p w)) ≡ with_element (shown (rows_of es)) key w
     added_value p w lies d =
         let f = set_row key w in
         let x : Row V = (n, (key, v)) in
@@ -237,7 +237,7 @@ module _ {V : Type 0} where
 
   -- ---- a key that goes
 
-  pub some_count : (es : Elements V) (p : Place) (r : Row V) → Lies es p r → es.count ≡ length (rows_of es) → 0 < es.count
+  pub some_count : (es : Elements V) (p : Slot) (r : Row V) → Lies es p r → es.count ≡ length (rows_of es) → 0 < es.count
   some_count es p r lies count = let m = placed es p r lies in let l = slice_get_within (rows_of es) m.0 r m.1 in omega (arith, count, l)
 
   pub removed_kept : (settled : Bool) (n : ℕ) (es fs : Elements V) (r : Row V) → AreKept settled n es → IsPermutation (rows_of es) (r ∷ rows_of fs) → AreApart fs → fs.count + 1 ≡ es.count

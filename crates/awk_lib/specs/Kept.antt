@@ -5,8 +5,8 @@ use Rattle.std.specs.List.{AllByRecursion}
 use Rattle.awk_lib.specs.Dense.{most_places, dense_rows, IsOutside}
 use Rattle.awk_lib.specs.Numbering.{rows, AreNumbered}
 use Rattle.awk_lib.specs.declared.elements.Elements.{Elements}
-use Rattle.awk_lib.specs.declared.elements.Place.{Place}
-use Rattle.awk_lib.specs.declared.elements.Place.TheVariants.{Dense, Mapped}
+use Rattle.awk_lib.specs.declared.elements.Slot.{Slot}
+use Rattle.awk_lib.specs.declared.elements.Slot.TheVariants.{Dense, Mapped}
 
 module _ {V : Type 0} where
   -- the elements in the map, and all elements, as they lie
@@ -22,7 +22,7 @@ module _ {V : Type 0} where
     pub outside : AllByRecursion (λ r. IsOutside (length es.dense.places.items) r.1.0) (mapped_rows es)
 
   -- the row lies at the place
-  abbrev pub Lies : Elements V → Place → ℕ × (List ℕ × V) → Type 0
+  abbrev pub Lies : Elements V → Slot → ℕ × (List ℕ × V) → Type 0
   Lies es (Dense k) r =
       (r.1.0 ≡ decimal k) × (slice_get es.dense.places.items k ≡ Some (Some (record { number = r.0; value = r.1.1 })))
   Lies es (Mapped i) r = slice_get es.map.entries i ≡ Some (r.1.0, Some (record { number = r.0; value = r.1.1 }))

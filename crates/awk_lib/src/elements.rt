@@ -28,7 +28,7 @@ const MOST_APART: usize = 8;
 
 /// Where an element lies.
 #[derive(Clone, Copy)]
-pub(crate) enum Place {
+pub(crate) enum Slot {
     Dense(usize),
     Mapped(usize),
 }
@@ -36,7 +36,7 @@ pub(crate) enum Place {
 /// Where a new element lies, and whether it lies behind all others.
 #[derive(Drop)]
 pub(crate) struct Added {
-    pub(crate) place: Place,
+    pub(crate) place: Slot,
     pub(crate) is_last: bool,
 }
 
@@ -108,7 +108,7 @@ impl<V> Elements<V> {
     }
 
     /// Where the key lies. Takes no memory.
-    pub(crate) fn find(&self, key: &[u8]) -> Option<Place>
+    pub(crate) fn find(&self, key: &[u8]) -> Option<Slot>
         requires { AreApart self.now }
         ensures some { IfSome result
             (λ p. (r : ℕ × (List ℕ × V)) × Lies self.now p r × (bytes_eq key.now r.1.0 ≡ true)) }
@@ -116,14 +116,14 @@ impl<V> Elements<V> {
     {
         match self.dense.slot(key) {
             Some(k) => if self.dense.is_filled(k) {
-                Some(Place::Dense(k))
+                Some(Slot::Dense(k))
             } else {
                 None
             },
             None => {
                 let i = self.find_mapped(key)?;
                 if self.map[i].is_some() {
-                    Some(Place::Mapped(i))
+                    Some(Slot::Mapped(i))
                 } else {
                     None
                 }
@@ -132,13 +132,13 @@ impl<V> Elements<V> {
     }
 
     /// The value at a place.
-    pub(crate) fn value(&self, place: Place) -> &V
+    pub(crate) fn value(&self, place: Slot) -> &V
         requires { (r : ℕ × (List ℕ × V)) × Lies self.now place r }
         ensures { (r : ℕ × (List ℕ × V)) → Lies self.now place r → result.now ≡ r.1.1 }
     {
         match place {
-            Place::Dense(k) => self.dense.value(k),
-            Place::Mapped(i) => match &self.map[i] {
+            Slot::Dense(k) => self.dense.value(k),
+            Slot::Mapped(i) => match &self.map[i] {
                 Some(element) => &element.value,
                 None => unreachable!(),
             },
@@ -146,14 +146,14 @@ impl<V> Elements<V> {
     }
 
     /// The value at a place, to write. Takes no memory.
-    pub(crate) fn value_mut(&mut self, place: Place) -> &mut V
+    pub(crate) fn value_mut(&mut self, place: Slot) -> &mut V
         requires { (r : ℕ × (List ℕ × V)) × Lies self.old place r }
         ensures* writes_back { sem 𝓛 (lends_value V.row self.entry place result) }
         ensures value { (r : ℕ × (List ℕ × V)) → Lies self.old place r → result.now ≡ r.1.1 }
     {
         match place {
-            Place::Dense(k) => self.dense.value_mut(k),
-            Place::Mapped(i) => {
+            Slot::Dense(k) => self.dense.value_mut(k),
+            Slot::Mapped(i) => {
                 let place = &mut self.map[i];
                 match place.as_mut() {
                     Some(element) => &mut element.value,
@@ -359,7 +359,7 @@ impl<V: Drop> Elements<V> {
             self.dense.fill(k, number, value);
             self.count += 1;
             return Ok(Added {
-                place: Place::Dense(k),
+                place: Slot::Dense(k),
                 is_last: false,
             });
         }
@@ -367,7 +367,7 @@ impl<V: Drop> Elements<V> {
         self.dense.push(number, value)?;
         self.count += 1;
         Ok(Added {
-            place: Place::Dense(k),
+            place: Slot::Dense(k),
             is_last: self.map.is_empty(),
         })
     }
@@ -394,7 +394,7 @@ impl<V: Drop> Elements<V> {
         let len = self.map.len();
         self.count += 1;
         Ok(Added {
-            place: Place::Mapped(i),
+            place: Slot::Mapped(i),
             is_last: i + 1 == len,
         })
     }
@@ -414,7 +414,7 @@ impl<V: Drop> Elements<V> {
     }
 
     /// Removes the element at a place. The others keep their order. Takes no memory.
-    pub(crate) fn remove(&mut self, place: Place)
+    pub(crate) fn remove(&mut self, place: Slot)
         requires apart { AreApart self.old }
         requires there { (r : ℕ × (List ℕ × V)) × Lies self.old place r }
         requires some { 0 < self.old.count }
@@ -426,8 +426,8 @@ impl<V: Drop> Elements<V> {
     {
         self.count -= 1;
         match place {
-            Place::Dense(k) => self.dense.remove(k),
-            Place::Mapped(i) => self.remove_mapped(i),
+            Slot::Dense(k) => self.dense.remove(k),
+            Slot::Mapped(i) => self.remove_mapped(i),
         }
     }
 

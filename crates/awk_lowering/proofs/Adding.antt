@@ -1,7 +1,7 @@
 -- A program that grows by what an item is.
 use Rattle.std.proofs.Common.{◌≡◌, ◌∙◌, Bool, List, [], ◌∷◌, ◌++◌, map, Result, Ok, Err, IfOk, OnOk, ap, refl, subst, append-nil, append_assoc}
 use Rattle.awk_tree.specs.Tree.{Text, Entry}
-use Rattle.awk_program.specs.declared.program.Name.{Name}
+use Rattle.awk_program.specs.declared.program.GlobalName.{GlobalName}
 use Rattle.awk_program.specs.declared.program.Program as code
 use Rattle.awk_program.specs.Program.{Statement, Rule, Function, Program}
 use Rattle.awk_program.specs.View.{Names, view_by, view_program}
@@ -13,7 +13,7 @@ use Rattle.awk_resolve.specs.Tables.{Tables}
 pub in_scope : (F : Names → Scope → Type 0) (t u : Names) (s r : Scope) → t ≡ u → s ≡ r → F t s → F u r
 in_scope F t u s r e f h = subst (λ y. F u y) f (subst (λ x. F x s) e h)
 
-abbrev pub of_lists : List Name → List Function → List (List Statement) → List Rule → List (List Statement) → Program
+abbrev pub of_lists : List GlobalName → List Function → List (List Statement) → List Rule → List (List Statement) → Program
 of_lists vs fs bs rs es = record { variables = vs; functions = fs; begin = bs; rules = rs; end = es }
 
 entries_are : (n : Tables) (es : List Entry) (q : Program)

@@ -11,7 +11,7 @@ use Rattle.awk_tokens.specs.declared.terminals.Step.TheVariants as tree_step
 use Rattle.awk_program.specs.declared.operators.Operator.TheVariants as operator
 use Rattle.awk_program.specs.declared.operators.Sign.TheVariants as sign
 use Rattle.awk_program.specs.declared.operators.Step.TheVariants as step
-use Rattle.awk_program.specs.declared.operators.Taken.TheVariants as taken
+use Rattle.awk_program.specs.declared.operators.StepValue.TheVariants as taken
 use Rattle.awk_program.specs.Program as p
 use Rattle.awk_lowering.specs.Lowered.{lowered}
 use Rattle.awk_lowering.specs.Scopes.{Scope}

@@ -22,7 +22,7 @@ use Rattle.awk_resolve.specs.Mentions.{bare, alone}
 use Rattle.awk_program.specs.declared.builtins.Builtin as running
 use Rattle.awk_program.specs.declared.builtins.Builtin.TheVariants as f
 use Rattle.awk_program.specs.declared.operators.Operator.TheVariants as o
-use Rattle.awk_program.specs.declared.operators.Taken.TheVariants as taken
+use Rattle.awk_program.specs.declared.operators.StepValue.TheVariants as taken
 use Rattle.awk_program.specs.Program as p
 use Rattle.awk_program.specs.Program.{Variable, Expression, Reference, Ere, Expressions, Joins, Arguments}
 use Rattle.awk_lowering.specs.Forms.{number_of, whole_record, unwritten, unwritten_target, operator_of, comparison_of}

@@ -17,13 +17,13 @@ use Rattle.awk_program.specs.Program.{Variable, Expression, Reference, Ere, Argu
 use Rattle.awk_program.specs.View.{Names, variable_of, view, view_target, view_ere, view_term, view_joined, view_pipes}
 use Rattle.awk_program.specs.View.{view_arguments, view_redirection, view_statement}
 use Rattle.awk_lowering.specs.Scopes.{Scope}
-use Rattle.awk_lowering.specs.declared.names.Context.{Context}
+use Rattle.awk_lowering.specs.declared.names.Lowering.{Lowering}
 
 -- the names of the variables, by their slots
-abbrev pub names_in : Context → Names
+abbrev pub names_in : Lowering → Names
 names_in n = n.variables.now
 
-abbrev pub scope_in : Context → Scope
+abbrev pub scope_in : Lowering → Scope
 scope_in n = record {
   parameters = n.parameters.now;
   functions = n.functions.now;

@@ -6,7 +6,7 @@ use Rattle.awk_tree.specs.Tree.{Text, Entry, Condition}
 use Rattle.awk_tree.specs.Terminals.{nowhere}
 use Rattle.awk_resolve.specs.Kinds.{texts}
 use Rattle.awk_resolve.specs.Tables.{Tables}
-use Rattle.awk_program.specs.declared.program.Name.{Name}
+use Rattle.awk_program.specs.declared.program.GlobalName.{GlobalName}
 use Rattle.awk_program.specs.Program as p
 use Rattle.awk_program.specs.Program.{Statement, When, Rule, Function, Program}
 use Rattle.awk_lowering.specs.Lowered.{lowered}
@@ -70,7 +70,7 @@ abbrev pub each : {A : Type 0} → (Entry → List A) → List Entry → List A
 each f [] = []
 each f (x ∷ xs) = f x ++ each f xs
 
-abbrev pub names : List Text → List Bool → List Name
+abbrev pub names : List Text → List Bool → List GlobalName
 names [] are = []
 names (x ∷ xs) [] = record { text = x; is_array = false } ∷ names xs []
 names (x ∷ xs) (a ∷ are) = record { text = x; is_array = a } ∷ names xs are

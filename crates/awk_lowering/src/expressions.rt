@@ -14,7 +14,7 @@ ghost use Rattle.awk_tree.specs.View.{view, view_term, view_piped};
 
 use crate::constants::{number, pattern, quoted};
 use crate::kept::{boxed, kept, push, room};
-use crate::names::{Context, arrays_in, arrays_of, function, variable};
+use crate::names::{Lowering, arrays_in, arrays_of, function, variable};
 use crate::nodes::{
     and_of, builtin_of, call_of, chain_of, choose_of, compare_of, concat_of, count_of,
     getline_file_of, getline_of, group_of, locate_of, match_of, member_of, or_of, pipe_of, read_of,
@@ -29,7 +29,7 @@ use crate::shapes::{bare, constant, counted, first_in, later, start, takes_array
 use crate::targets::{
     computed_of, constant_of, element_of, field_of, field_separator, record_of, variable_of,
 };
-use awk_program::{Argument, Builtin, Expr, Joined, Pattern, Piped, Taken, Target, Term};
+use awk_program::{Argument, Builtin, Expr, Joined, Pattern, Piped, StepValue, Target, Term};
 use awk_text::Memory;
 use awk_text::place::Place;
 use awk_tree::Name;
@@ -38,7 +38,7 @@ use std::alloc::AllocError;
 
 /// The program of an expression of at most this depth.
 #[cycle(expression)]
-pub fn expression(context: &Context<'_>, e: &awk_tree::Expr, level: u32) -> Result<Expr, Memory>
+pub fn expression(context: &Lowering<'_>, e: &awk_tree::Expr, level: u32) -> Result<Expr, Memory>
     ensures { Is (names_in context.now) result (lowered (scope_in context.now) (view e.now)) }
 {
     if level == 0 {
@@ -70,11 +70,11 @@ pub fn expression(context: &Context<'_>, e: &awk_tree::Expr, level: u32) -> Resu
         awk_tree::Expr::Getline(place, x, y) => getline(context, *place, x, y, below),
         awk_tree::Expr::Before(place, how, x) => {
             let x = target(context, x.get(), below);
-            step_of(*place, step(*how), Taken::Behind, x)
+            step_of(*place, step(*how), StepValue::Behind, x)
         }
         awk_tree::Expr::After(x, place, how) => {
             let x = target(context, x.get(), below);
-            step_of(*place, step(*how), Taken::Before, x)
+            step_of(*place, step(*how), StepValue::Before, x)
         }
         awk_tree::Expr::Signed(place, sign, x) => {
             signed_of(*place, *sign, part(context, x.get(), below))
@@ -139,7 +139,7 @@ pub fn expression(context: &Context<'_>, e: &awk_tree::Expr, level: u32) -> Resu
 
 /// The same in a box.
 #[cycle(expression)]
-pub fn part(context: &Context<'_>, x: &awk_tree::Expr, level: u32) -> Result<Boxed<Expr>, Memory>
+pub fn part(context: &Lowering<'_>, x: &awk_tree::Expr, level: u32) -> Result<Boxed<Expr>, Memory>
     ensures { Is (names_in context.now) result (lowered (scope_in context.now) (view x.now)) }
 {
     boxed(context.alloc, expression(context, x, level))
@@ -148,7 +148,7 @@ pub fn part(context: &Context<'_>, x: &awk_tree::Expr, level: u32) -> Result<Box
 /// `NAME [ list ]`
 #[cycle(expression)]
 fn element(
-    context: &Context<'_>,
+    context: &Lowering<'_>,
     n: &Name,
     keys: &[awk_tree::Expr],
     level: u32,
@@ -162,7 +162,7 @@ fn element(
 
 /// What is set. The grammar puts nothing else there.
 #[cycle(expression)]
-fn target(context: &Context<'_>, e: &awk_tree::Expr, level: u32) -> Result<Target<Expr>, Memory>
+fn target(context: &Lowering<'_>, e: &awk_tree::Expr, level: u32) -> Result<Target<Expr>, Memory>
     ensures { IsTarget (names_in context.now) result (low.target (scope_in context.now) (view e.now)) }
 {
     match e {
@@ -176,7 +176,7 @@ fn target(context: &Context<'_>, e: &awk_tree::Expr, level: u32) -> Result<Targe
 /// What is set, or the whole record where nothing is named.
 #[cycle(expression)]
 fn target_or_record(
-    context: &Context<'_>,
+    context: &Lowering<'_>,
     place: Place,
     x: &Option<Boxed<awk_tree::Expr>>,
     level: u32,
@@ -192,7 +192,7 @@ fn target_or_record(
 
 #[cycle(expression)]
 fn piped_target(
-    context: &Context<'_>,
+    context: &Lowering<'_>,
     place: Place,
     x: &Option<awk_tree::Expr>,
     level: u32,
@@ -208,7 +208,7 @@ fn piped_target(
 
 /// What stands where a pattern is wanted.
 #[cycle(expression)]
-fn wanted(context: &Context<'_>, e: &awk_tree::Expr, level: u32) -> Result<Pattern<Expr>, Memory>
+fn wanted(context: &Lowering<'_>, e: &awk_tree::Expr, level: u32) -> Result<Pattern<Expr>, Memory>
     ensures { IsEre (names_in context.now) result (low.ere (scope_in context.now) (view e.now)) }
 {
     match constant(e) {
@@ -219,7 +219,7 @@ fn wanted(context: &Context<'_>, e: &awk_tree::Expr, level: u32) -> Result<Patte
 
 #[cycle(expression)]
 fn separator(
-    context: &Context<'_>,
+    context: &Lowering<'_>,
     y: &Option<Boxed<awk_tree::Expr>>,
     level: u32,
 ) -> Result<Pattern<Expr>, Memory>
@@ -235,7 +235,7 @@ fn separator(
 /// `split ( text , array , separator )`
 #[cycle(expression)]
 fn split(
-    context: &Context<'_>,
+    context: &Lowering<'_>,
     place: Place,
     x: &awk_tree::Expr,
     n: &Name,
@@ -253,7 +253,7 @@ fn split(
 /// `getline target < file`
 #[cycle(expression)]
 fn getline(
-    context: &Context<'_>,
+    context: &Lowering<'_>,
     place: Place,
     x: &Option<Boxed<awk_tree::Expr>>,
     y: &Option<Boxed<awk_tree::Expr>>,
@@ -273,7 +273,7 @@ fn getline(
 /// `NAME ( list )`
 #[cycle(expression)]
 fn call(
-    context: &Context<'_>,
+    context: &Lowering<'_>,
     n: &Name,
     args: &[awk_tree::Expr],
     level: u32,
@@ -288,7 +288,7 @@ fn call(
 /// A built-in function.
 #[cycle(expression)]
 fn builtin(
-    context: &Context<'_>,
+    context: &Lowering<'_>,
     place: Place,
     which: awk_tree::Builtin,
     args: &[awk_tree::Expr],
@@ -310,7 +310,7 @@ fn builtin(
 /// A built-in function whose arguments are plain values, and `length ( array )`.
 #[cycle(expression)]
 fn plain(
-    context: &Context<'_>,
+    context: &Lowering<'_>,
     place: Place,
     which: Builtin,
     args: &[awk_tree::Expr],
@@ -329,7 +329,7 @@ fn plain(
 /// A built-in function whose arguments are plain values.
 #[cycle(expression)]
 fn called(
-    context: &Context<'_>,
+    context: &Lowering<'_>,
     place: Place,
     which: Builtin,
     args: &[awk_tree::Expr],
@@ -347,7 +347,7 @@ fn called(
 /// `match ( text , pattern )`
 #[cycle(expression)]
 fn located(
-    context: &Context<'_>,
+    context: &Lowering<'_>,
     place: Place,
     args: &[awk_tree::Expr],
     level: u32,
@@ -367,7 +367,7 @@ fn located(
 
 #[cycle(expression)]
 fn fill(
-    context: &Context<'_>,
+    context: &Lowering<'_>,
     xs: &[awk_tree::Expr],
     out: &mut Items<Expr>,
     level: u32,
@@ -384,7 +384,11 @@ fn fill(
 
 /// A list of expressions.
 #[cycle(expression)]
-pub fn list(context: &Context<'_>, xs: &[awk_tree::Expr], level: u32) -> Result<Items<Expr>, Memory>
+pub fn list(
+    context: &Lowering<'_>,
+    xs: &[awk_tree::Expr],
+    level: u32,
+) -> Result<Items<Expr>, Memory>
     ensures { AreAll (names_in context.now) result (map (lowered (scope_in context.now)) (map view xs.now)) }
 {
     let mut out = room(context.alloc, xs.len());
@@ -394,7 +398,7 @@ pub fn list(context: &Context<'_>, xs: &[awk_tree::Expr], level: u32) -> Result<
 
 #[cycle(expression)]
 fn fill_terms(
-    context: &Context<'_>,
+    context: &Lowering<'_>,
     xs: &[awk_tree::Term<awk_tree::Expr>],
     out: &mut Items<Term<Expr>>,
     level: u32,
@@ -413,7 +417,7 @@ fn fill_terms(
 /// The later operands of a chain.
 #[cycle(expression)]
 fn terms(
-    context: &Context<'_>,
+    context: &Lowering<'_>,
     xs: &[awk_tree::Term<awk_tree::Expr>],
     level: u32,
 ) -> Result<Items<Term<Expr>>, Memory>
@@ -427,7 +431,7 @@ fn terms(
 
 #[cycle(expression)]
 fn fill_joins(
-    context: &Context<'_>,
+    context: &Lowering<'_>,
     xs: &[awk_tree::Expr],
     out: &mut Items<Joined<Expr>>,
     level: u32,
@@ -446,7 +450,7 @@ fn fill_joins(
 /// The later operands of a concatenation.
 #[cycle(expression)]
 fn joins(
-    context: &Context<'_>,
+    context: &Lowering<'_>,
     xs: &[awk_tree::Expr],
     level: u32,
 ) -> Result<Items<Joined<Expr>>, Memory>
@@ -459,7 +463,7 @@ fn joins(
 
 #[cycle(expression)]
 fn fill_pipes(
-    context: &Context<'_>,
+    context: &Lowering<'_>,
     xs: &[awk_tree::Piped<awk_tree::Expr>],
     out: &mut Items<Piped<Expr>>,
     level: u32,
@@ -479,7 +483,7 @@ fn fill_pipes(
 /// The getlines behind a command.
 #[cycle(expression)]
 fn pipes(
-    context: &Context<'_>,
+    context: &Lowering<'_>,
     xs: &[awk_tree::Piped<awk_tree::Expr>],
     level: u32,
 ) -> Result<Items<Piped<Expr>>, Memory>
@@ -493,7 +497,7 @@ fn pipes(
 
 #[cycle(expression)]
 fn fill_arguments(
-    context: &Context<'_>,
+    context: &Lowering<'_>,
     arrays: &[bool],
     xs: &[awk_tree::Expr],
     out: &mut Items<Argument<Expr>>,
@@ -516,7 +520,7 @@ fn fill_arguments(
 /// What is handed to a function.
 #[cycle(expression)]
 fn arguments(
-    context: &Context<'_>,
+    context: &Lowering<'_>,
     arrays: &[bool],
     xs: &[awk_tree::Expr],
     level: u32,
@@ -531,7 +535,7 @@ fn arguments(
 
 /// An expression that may be absent.
 pub fn optional(
-    context: &Context<'_>,
+    context: &Lowering<'_>,
     x: &Option<awk_tree::Expr>,
     level: u32,
 ) -> Result<Option<Boxed<Expr>>, Memory>

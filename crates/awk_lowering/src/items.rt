@@ -13,10 +13,10 @@ ghost use Rattle.awk_tree.specs.View.{view_item, view_pattern, view_statement};
 use crate::blocks::print_of;
 use crate::expressions::part;
 use crate::kept::{finished, only, push};
-use crate::names::Context;
+use crate::names::Lowering;
 use crate::rules::{function_of, holds, range, rule_of};
 use crate::statements::statements;
-use awk_program::{Function, Name, Program, Rule, Statement, When};
+use awk_program::{Function, GlobalName, Program, Rule, Statement, When};
 use awk_resolve::{Roll, Tables};
 use awk_text::Memory;
 use awk_text::octets::Octets;
@@ -34,11 +34,11 @@ fn within<'a>(
     tables: &'a Tables,
     parameters: &'a Roll,
     own_arrays: &'a [bool],
-) -> Context<'a>
+) -> Lowering<'a>
     ensures names { names_in result ≡ tables.now.variables }
     ensures scope { scope_in result ≡ spec.scope_with (tables_in tables.now) parameters.now own_arrays.now }
 {
-    Context {
+    Lowering {
         alloc,
         variables: &tables.variables,
         script_arrays: tables.script_arrays.as_slice(),
@@ -62,7 +62,7 @@ fn flags<'a>(tables: &'a Tables, name: &[u8]) -> &'a [bool]
     }
 }
 
-fn action(context: &Context<'_>, body: &[awk_tree::Statement]) -> Result<Items<Statement>, Memory>
+fn action(context: &Lowering<'_>, body: &[awk_tree::Statement]) -> Result<Items<Statement>, Memory>
     ensures { AreStatements (names_in context.now) result
         (spec.body (scope_in context.now) (map view_statement body.now)) }
 {
@@ -77,7 +77,7 @@ fn printed(alloc: Global) -> Result<Items<Statement>, Memory>
     only(alloc, print_of(nowhere, Ok(Items::new(alloc)), Ok(None)))
 }
 
-fn when(context: &Context<'_>, pattern: &Pattern) -> Result<When, Memory>
+fn when(context: &Lowering<'_>, pattern: &Pattern) -> Result<When, Memory>
     ensures { IsWhen (names_in context.now) result (spec.when_of (scope_in context.now) (view_pattern pattern.now)) }
 {
     match pattern {
@@ -90,7 +90,7 @@ fn when(context: &Context<'_>, pattern: &Pattern) -> Result<When, Memory>
 }
 
 /// `action` by itself
-fn always(context: &Context<'_>, body: &[awk_tree::Statement]) -> Result<Rule, Memory>
+fn always(context: &Lowering<'_>, body: &[awk_tree::Statement]) -> Result<Rule, Memory>
     ensures { IsRule (names_in context.now) result
         (spec.rule_of p.always (spec.body (scope_in context.now) (map view_statement body.now))) }
 {
@@ -98,7 +98,7 @@ fn always(context: &Context<'_>, body: &[awk_tree::Statement]) -> Result<Rule, M
 }
 
 /// `pattern` by itself
-fn shown(context: &Context<'_>, pattern: &Pattern) -> Result<Rule, Memory>
+fn shown(context: &Lowering<'_>, pattern: &Pattern) -> Result<Rule, Memory>
     ensures { IsRule (names_in context.now) result
         (spec.rule_of (spec.when_of (scope_in context.now) (view_pattern pattern.now)) spec.printed) }
 {
@@ -108,7 +108,7 @@ fn shown(context: &Context<'_>, pattern: &Pattern) -> Result<Rule, Memory>
 
 /// `pattern action`
 fn rule(
-    context: &Context<'_>,
+    context: &Lowering<'_>,
     pattern: &Pattern,
     body: &[awk_tree::Statement],
 ) -> Result<Rule, Memory>
@@ -136,7 +136,12 @@ fn function(alloc: Global, tables: &Tables, f: &awk_tree::Function) -> Result<Fu
 }
 
 /// Puts what an item is behind the others of its kind. What has no parameters is read in the context.
-fn add(context: &Context<'_>, tables: &Tables, item: &Item, out: &mut Program) -> Result<(), Memory>
+fn add(
+    context: &Lowering<'_>,
+    tables: &Tables,
+    item: &Item,
+    out: &mut Program,
+) -> Result<(), Memory>
     requires names { names_in context.now ≡ tables.now.variables }
     requires scope { scope_in context.now ≡ spec.scope_with (tables_in tables.now) [] [] }
     ensures { OnOk result
@@ -154,7 +159,7 @@ fn add(context: &Context<'_>, tables: &Tables, item: &Item, out: &mut Program) -
 }
 
 fn add_all(
-    context: &Context<'_>,
+    context: &Lowering<'_>,
     tables: &Tables,
     items: &[Item],
     out: &mut Program,
@@ -173,19 +178,19 @@ fn add_all(
 }
 
 /// The variables of a script, by their slots.
-fn named(alloc: Global, texts: &[Vec<u8>], are: &[bool]) -> Result<Items<Name>, Memory>
+fn named(alloc: Global, texts: &[Vec<u8>], are: &[bool]) -> Result<Items<GlobalName>, Memory>
     ensures { IfOk result (λ made. made ≡ spec.names (map (λ t. t.items) texts.now) are.now) }
 {
     let mut out = Items::new(alloc);
     for text in texts {
         let is_array = are.get(out.len()).copied().unwrap_or(false);
         let text = Octets::new(Vec::from_slice(alloc, text.as_slice())?);
-        out.push(Name { text, is_array })?;
+        out.push(GlobalName { text, is_array })?;
     }
     Ok(out)
 }
 
-fn empty(alloc: Global, variables: Items<Name>) -> Program
+fn empty(alloc: Global, variables: Items<GlobalName>) -> Program
     ensures { result ≡ record { variables = variables; functions = []; begin = []; rules = []; end = [] } }
 {
     Program {

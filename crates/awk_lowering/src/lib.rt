@@ -20,5 +20,5 @@ pub mod statements;
 pub mod targets;
 
 pub use items::program;
-pub use names::Context;
+pub use names::Lowering;
 pub use scripts::lower;

@@ -18,7 +18,7 @@ use std::alloc::{AllocError, Global};
 
 /// What one item of a script is read in.
 #[derive(Drop)]
-pub struct Context<'a> {
+pub struct Lowering<'a> {
     pub alloc: Global,
     /// The variables of the whole script, by their slots, and of each whether it is an array.
     pub variables: &'a Roll,
@@ -54,7 +54,7 @@ fn numbered(roll: &Roll, text: &[u8]) -> Result<u32, Memory>
 }
 
 /// The variable of the whole script of this name.
-pub fn global(context: &Context<'_>, text: &[u8]) -> Result<Variable, Memory>
+pub fn global(context: &Lowering<'_>, text: &[u8]) -> Result<Variable, Memory>
     ensures { IfOk result (λ v. variable_of (names_in context.now) v ≡ p.global text.now) }
 {
     match numbered(context.variables, text) {
@@ -64,7 +64,7 @@ pub fn global(context: &Context<'_>, text: &[u8]) -> Result<Variable, Memory>
 }
 
 /// The variable of this name.
-pub fn variable(context: &Context<'_>, text: &[u8]) -> Result<Variable, Memory>
+pub fn variable(context: &Lowering<'_>, text: &[u8]) -> Result<Variable, Memory>
     ensures { IsVariable (names_in context.now) result (spec.variable (scope_in context.now) text.now) }
 {
     match context.parameters.position(text) {
@@ -77,14 +77,14 @@ pub fn variable(context: &Context<'_>, text: &[u8]) -> Result<Variable, Memory>
 }
 
 /// The number of the function of this name.
-pub fn function(context: &Context<'_>, text: &[u8]) -> Result<u32, Memory>
+pub fn function(context: &Lowering<'_>, text: &[u8]) -> Result<u32, Memory>
     ensures { IfOk result (λ n. n ≡ spec.function (scope_in context.now) text.now) }
 {
     numbered(context.functions, text)
 }
 
 /// Of each parameter of a function whether it is an array.
-pub fn arrays_of<'a>(context: &Context<'a>, text: &[u8]) -> &'a [bool]
+pub fn arrays_of<'a>(context: &Lowering<'a>, text: &[u8]) -> &'a [bool]
     ensures { result.now ≡ spec.arrays_of (scope_in context.now) text.now }
 {
     match context.functions.position(text) {
@@ -106,7 +106,7 @@ fn is_set(flags: &[bool], place: Option<usize>) -> bool
 }
 
 /// Whether a name is an array.
-pub fn is_array(context: &Context<'_>, text: &[u8]) -> bool
+pub fn is_array(context: &Lowering<'_>, text: &[u8]) -> bool
     ensures { result ≡ spec.is_array (scope_in context.now) text.now }
 {
     match context.parameters.position(text) {
@@ -116,7 +116,7 @@ pub fn is_array(context: &Context<'_>, text: &[u8]) -> bool
 }
 
 /// The arrays behind `in`.
-pub fn arrays_in(context: &Context<'_>, members: &[Member]) -> Result<Items<Variable>, Memory>
+pub fn arrays_in(context: &Lowering<'_>, members: &[Member]) -> Result<Items<Variable>, Memory>
     ensures { IfOk result
         (λ vs. map (variable_of (names_in context.now)) vs ≡ low.arrays_in (scope_in context.now) members.now) }
 {

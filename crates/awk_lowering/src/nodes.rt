@@ -11,8 +11,8 @@ ghost use Rattle.awk_program.specs.declared.expressions.Joined as joined;
 
 use crate::kept::{both, three};
 use awk_program::{
-    Argument, Builtin, Comparison, Expr, Extent, Joined, Pattern, Piped, Step, Taken, Target, Term,
-    Variable,
+    Argument, Builtin, Comparison, Expr, Extent, Joined, Pattern, Piped, Step, StepValue, Target,
+    Term, Variable,
 };
 use awk_text::Memory;
 use awk_text::place::Place;
@@ -32,7 +32,7 @@ pub fn read_of(target: Result<Target<Expr>, Memory>) -> Result<Expr, Memory>
 pub fn step_of(
     place: Place,
     how: Step,
-    taken: Taken,
+    taken: StepValue,
     target: Result<Target<Expr>, Memory>,
 ) -> Result<Expr, Memory>
     ensures { (t : Names) (a : Reference) → IsTarget t target a → Is t result (p.step place how taken a) }

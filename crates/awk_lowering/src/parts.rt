@@ -11,7 +11,7 @@ ghost use Rattle.awk_program.specs.declared.operators.Operator.TheVariants as o;
 ghost use Rattle.awk_text.specs.declared.place.Place as spot;
 
 use crate::kept::{both, either, only};
-use crate::names::{Context, is_array, variable};
+use crate::names::{Lowering, is_array, variable};
 use crate::nodes::chain_of;
 use crate::operators::operator;
 use awk_program::{Argument, Expr, Joined, Operator, Piped, Target, Term};
@@ -107,7 +107,7 @@ fn value_of(x: Result<Boxed<Expr>, Memory>) -> Result<Argument<Expr>, Memory>
 
 /// What a name by itself is handed on as, unless it is by its value.
 fn by_name(
-    context: &Context<'_>,
+    context: &Lowering<'_>,
     takes_array: bool,
     n: &Name,
 ) -> Result<Option<Argument<Expr>>, Memory>
@@ -128,7 +128,7 @@ fn by_name(
 
 /// What is handed to a function, which is a name by itself or this value.
 pub fn argument_of(
-    context: &Context<'_>,
+    context: &Lowering<'_>,
     takes_array: bool,
     name: Option<&Name>,
     value: Result<Boxed<Expr>, Memory>,

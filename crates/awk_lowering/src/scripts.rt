@@ -9,7 +9,7 @@ ghost use Rattle.awk_tree.specs.View.{view_item};
 
 use crate::items::program;
 use awk_program::Program;
-use awk_resolve::{Kinds, Part, tables_of};
+use awk_resolve::{Kinds, Section, tables_of};
 use awk_text::Memory;
 use awk_tree::Item;
 use std::alloc::Global;
@@ -19,7 +19,7 @@ use std::alloc::Global;
 pub fn lower(
     alloc: Global,
     kinds: &Kinds,
-    parts: &[Part],
+    parts: &[Section],
     items: &[Item],
 ) -> Result<Program, Memory>
     ensures program { IfOk result

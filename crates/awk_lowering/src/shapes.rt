@@ -8,7 +8,7 @@ ghost use Rattle.awk_lowering.specs.Made.{scope_in};
 ghost use Rattle.awk_tree.specs.Tree.{trees_of};
 ghost use Rattle.awk_tree.specs.View.{view};
 
-use crate::names::{Context, is_array};
+use crate::names::{Lowering, is_array};
 use awk_program::Builtin;
 use awk_text::Memory;
 use awk_text::octets::Octets;
@@ -66,7 +66,7 @@ fn alone(xs: &[Expr]) -> Option<&Name>
 }
 
 /// The array that a list is, where it is the name of one by itself.
-fn array_alone<'a>(context: &Context<'_>, xs: &'a [Expr]) -> Option<&'a Name>
+fn array_alone<'a>(context: &Lowering<'_>, xs: &'a [Expr]) -> Option<&'a Name>
     ensures { option_copied result ≡ low.array_among (scope_in context.now) (said.alone (trees_of (map view xs.now))) }
 {
     match alone(xs) {
@@ -82,7 +82,7 @@ fn array_alone<'a>(context: &Context<'_>, xs: &'a [Expr]) -> Option<&'a Name>
 }
 
 /// The array whose elements `length ( array )` counts.
-pub fn counted<'a>(context: &Context<'_>, which: Builtin, xs: &'a [Expr]) -> Option<&'a Name>
+pub fn counted<'a>(context: &Lowering<'_>, which: Builtin, xs: &'a [Expr]) -> Option<&'a Name>
     ensures { option_copied result ≡ low.counted (scope_in context.now) which (trees_of (map view xs.now)) }
 {
     match which {

@@ -14,7 +14,7 @@ use crate::blocks::{
 };
 use crate::expressions::{list, optional, part};
 use crate::kept::{boxed, kept, push, room};
-use crate::names::{Context, variable};
+use crate::names::{Lowering, variable};
 use crate::operators::jump;
 use awk_program::{Expr, Redirection, Statement};
 use awk_text::Memory;
@@ -24,7 +24,7 @@ use sqlite_items::{Boxed, Items};
 use std::alloc::AllocError;
 
 fn redirected(
-    context: &Context<'_>,
+    context: &Lowering<'_>,
     to: &Option<awk_tree::Redirection<awk_tree::Expr>>,
     level: u32,
 ) -> Result<Option<Redirection<Expr>>, Memory>
@@ -38,7 +38,7 @@ fn redirected(
 }
 
 fn printf(
-    context: &Context<'_>,
+    context: &Lowering<'_>,
     place: Place,
     xs: &[awk_tree::Expr],
     to: &Option<awk_tree::Redirection<awk_tree::Expr>>,
@@ -59,7 +59,7 @@ fn printf(
 }
 
 fn for_in(
-    context: &Context<'_>,
+    context: &Lowering<'_>,
     place: Place,
     key: &Name,
     array: &Name,
@@ -77,7 +77,7 @@ fn for_in(
 /// The program of a statement of at most this depth.
 #[cycle(statement)]
 fn statement(
-    context: &Context<'_>,
+    context: &Lowering<'_>,
     s: &awk_tree::Statement,
     level: u32,
 ) -> Result<Statement, Memory>
@@ -138,7 +138,7 @@ fn statement(
 
 #[cycle(statement)]
 fn branch(
-    context: &Context<'_>,
+    context: &Lowering<'_>,
     s: &awk_tree::Statement,
     level: u32,
 ) -> Result<Boxed<Statement>, Memory>
@@ -149,7 +149,7 @@ fn branch(
 
 #[cycle(statement)]
 fn fill(
-    context: &Context<'_>,
+    context: &Lowering<'_>,
     xs: &[awk_tree::Statement],
     out: &mut Items<Statement>,
     level: u32,
@@ -168,7 +168,7 @@ fn fill(
 /// The program of statements.
 #[cycle(statement)]
 pub fn statements(
-    context: &Context<'_>,
+    context: &Lowering<'_>,
     xs: &[awk_tree::Statement],
     level: u32,
 ) -> Result<Items<Statement>, Memory>

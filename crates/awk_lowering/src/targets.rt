@@ -8,7 +8,7 @@ ghost use Rattle.awk_program.specs.Program.{Expression, Reference, expressions_o
 ghost use Rattle.awk_program.specs.View.{Names};
 
 use crate::kept::{both, boxed};
-use crate::names::{Context, global};
+use crate::names::{Lowering, global};
 use crate::nodes::read_of;
 use awk_program::{Expr, Pattern, Target, Variable};
 use awk_text::Memory;
@@ -84,7 +84,7 @@ pub fn constant_of(alloc: Global, place: Place, text: &Octets) -> Result<Pattern
 }
 
 /// What FS holds
-pub fn field_separator(context: &Context<'_>) -> Result<Pattern<Expr>, Memory>
+pub fn field_separator(context: &Lowering<'_>) -> Result<Pattern<Expr>, Memory>
     ensures { IsEre (names_in context.now) result (p.computed (p.read (p.variable (p.global (codes "FS"))))) }
 {
     let fs = variable_of(global(context, b"FS"));

@@ -11,7 +11,7 @@ use Rattle.awk_text.specs.Escapes.{unescaped}
 use Rattle.awk_fields.specs.Rows.{known}
 use Rattle.awk_program.specs.Slots.{Text}
 use Rattle.awk_program.specs.Program.{Program, global}
-use Rattle.awk_program.specs.declared.program.Name.{Name}
+use Rattle.awk_program.specs.declared.program.GlobalName.{GlobalName}
 use Rattle.awk_machine.specs.Operators.{of_count}
 use Rattle.awk_machine.specs.Pieces.{nowhere, Piece, Do, Target, Variable, Element, Set, Environ, Enter}
 use Rattle.awk_machine.specs.State.{Array, State, Course, Given, Beginning, Ruling, Ending}
@@ -31,10 +31,10 @@ first_values =
 abbrev pub first_value : Text → Value
 first_value name = unwrap_or (lookup (bytes_eq name) first_values) v.Unset
 
-abbrev pub is_variable : Text → Name → Bool
+abbrev pub is_variable : Text → GlobalName → Bool
 is_variable name x = bytes_eq name x.text && not x.is_array
 
-abbrev pub is_array : Text → Name → Bool
+abbrev pub is_array : Text → GlobalName → Bool
 is_array name x = bytes_eq name x.text && x.is_array
 
 abbrev pub values_at_start : Program → Text → Option Value

@@ -8,8 +8,8 @@ use Rattle.awk_program.specs.Program as p
 use Rattle.awk_program.specs.Program.{Expression, Expressions, Ere, Terms, Joins}
 use Rattle.awk_program.specs.declared.operators.Operator.{Operator}
 use Rattle.awk_program.specs.declared.operators.Step.{Step}
-use Rattle.awk_program.specs.declared.operators.Taken.{Taken}
-use Rattle.awk_program.specs.declared.operators.Taken.TheVariants as taken
+use Rattle.awk_program.specs.declared.operators.StepValue.{StepValue}
+use Rattle.awk_program.specs.declared.operators.StepValue.TheVariants as taken
 use Rattle.awk_machine.specs.Builtins.{called, locate_in, substitute, split}
 use Rattle.awk_machine.specs.Calls.{call}
 use Rattle.awk_machine.specs.Forms.{value, spot, source, answer, deliver, if_true, unary, binary, listed, each_of}
@@ -44,11 +44,11 @@ change place how r x part (y ∷ at ∷ []) k s = Goes (Do (Get (target r at)) �
 change place how r x part (old ∷ y ∷ at ∷ vs) k s = granted place (computed how old y) (store (target r at) place) k s
 
 -- `++` and `--`: the old number is given, or the new one
-abbrev pub either : Taken → ℤ → ℤ → Value
+abbrev pub either : StepValue → ℤ → ℤ → Value
 either taken.Before old new = v.Num old
 either taken.Behind old new = v.Num new
 
-abbrev pub step : Place → Step → Taken → p.Reference → Part → List Value → Then
+abbrev pub step : Place → Step → StepValue → p.Reference → Part → List Value → Then
 step place how which r part [] k s = Goes (spot r ∷ At part [] ∷ k) s
 step place how which r part (at ∷ []) k s = Goes (Do (Get (target r at)) ∷ At part (at ∷ []) ∷ k) s
 step place how which r part (x ∷ at ∷ vs) k s =

@@ -1,8 +1,8 @@
 -- What the canonical spelling of a script is parsed as.
 use Rattle.std.proofs.Common.{◌≡◌, ◌≢◌, List, [], map, ap, sym, ◌∙◌, refl, subst, Ok, Err}
 use Rattle.awk_tokens.specs.declared.token.Token.{Token}
-use Rattle.awk_tree.specs.declared.fault.Fault.{Fault}
-use Rattle.awk_tree.specs.declared.fault.Fault.TheVariants as fault
+use Rattle.awk_tree.specs.declared.fault.ParseError.{ParseError}
+use Rattle.awk_tree.specs.declared.fault.ParseError.TheVariants as fault
 use Rattle.awk_tree.specs.Tree.{Entry}
 use Rattle.awk_tree.specs.Statements as grammar
 use Rattle.awk_tree.specs.Canon.{canon_script, bare_entry}
@@ -48,7 +48,7 @@ same_flaw tokens ts s items found f read of e now flawed =
     rw (only_memory (map part found) f none flawed) refl
 
 pub same_fault :
-    (tokens ts : List Token) (s : Script) (items : List Entry) (e : Fault) → grammar.script ts ≡ Ok (items, []) → IsScriptOf items s →
+    (tokens ts : List Token) (s : Script) (items : List Entry) (e : ParseError) → grammar.script ts ≡ Ok (items, []) → IsScriptOf items s →
     tokens ≡ canon_script (tree s) → (e ≢ fault.Memory → grammar.script tokens ≡ Err e) → (places.refusal tokens e).code ≡ 9
 same_fault tokens ts s items fault.Memory read of e h = refl
 same_fault tokens ts s items (fault.Unexpected n) read of e h = absurd (let k = read_again tokens ts s items read of e in let z = h (λ (q : fault.Unexpected n ≡ fault.Memory). cc) in cc)

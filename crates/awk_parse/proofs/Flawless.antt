@@ -2,11 +2,11 @@
 use Rattle.std.proofs.Common.{◌≡◌, ◌≢◌, List, refl, Err}
 use Rattle.awk_text.specs.declared.place.Place.{Place}
 use Rattle.awk_tokens.specs.declared.token.Token.{Token}
-use Rattle.awk_tree.specs.declared.fault.Fault.{Fault}
-use Rattle.awk_tree.specs.declared.fault.Fault.TheVariants as fault
+use Rattle.awk_tree.specs.declared.fault.ParseError.{ParseError}
+use Rattle.awk_tree.specs.declared.fault.ParseError.TheVariants as fault
 use Rattle.awk_tree.specs.Statements as grammar
 use Rattle.awk_statements.specs.Places as places
-use Rattle.awk_resolve.specs.declared.mention.Part.{Part}
+use Rattle.awk_resolve.specs.declared.mention.Section.{Section}
 use Rattle.awk_resolve.specs.Faultless.{Faultless, GivesArrays}
 use Rattle.awk_resolve.specs.Kinds.{Agrees, Clashes, two_kinds, no_array}
 use Rattle.awk_parse.specs.declared.flaw.Flaw.{Flaw}
@@ -14,18 +14,18 @@ use Rattle.awk_parse.specs.declared.flaw.Flaw.TheVariants as flaw
 use Rattle.awk_parse.specs.Flaws.{Flawed, memory, word, function, kind}
 use Rattle.awk_parse.specs.Scripts.{IsRefused, by_grammar, by_memory}
 
-no_clash : (parts : List Part) (place : Place) → Agrees parts → GivesArrays parts → Clashes parts place → ⊥
+no_clash : (parts : List Section) (place : Place) → Agrees parts → GivesArrays parts → Clashes parts place → ⊥
 no_clash parts place agrees gives (two_kinds n k l p h i differ first) = differ (agrees n k l h i)
 no_clash parts place agrees gives (no_array r f args i q calls none takes forced) = gives r f args i q calls none takes forced
 
-pub only_memory : (parts : List Part) (f : Flaw) → Faultless parts → Flawed parts f → f ≡ flaw.Memory
+pub only_memory : (parts : List Section) (f : Flaw) → Faultless parts → Flawed parts f → f ≡ flaw.Memory
 only_memory parts f h memory = refl
 only_memory parts f h (word place m) = absurd (h.placed place m)
 only_memory parts f h (function place placed m) = absurd (h.defined place m)
 only_memory parts f h (kind place placed defined m first) = absurd (no_clash parts place h.agrees h.gives m)
 
 -- a fault of the grammar refuses the tokens
-pub refused : (tokens : List Token) (e : Fault) → (e ≢ fault.Memory → grammar.script tokens ≡ Err e) → IsRefused tokens (places.refusal tokens e)
+pub refused : (tokens : List Token) (e : ParseError) → (e ≢ fault.Memory → grammar.script tokens ≡ Err e) → IsRefused tokens (places.refusal tokens e)
 refused tokens fault.Memory h = by_memory
 refused tokens (fault.Unexpected n) h = by_grammar (fault.Unexpected n) (h (λ (q : fault.Unexpected n ≡ fault.Memory). cc))
 refused tokens (fault.TooDeep n) h = by_grammar (fault.TooDeep n) (h (λ (q : fault.TooDeep n ≡ fault.Memory). cc))

@@ -5,7 +5,7 @@ use Rattle.awk_tree.specs.declared.items.Item.{Item}
 use Rattle.awk_resolve.specs.Mentions.{part}
 use Rattle.awk_resolve.specs.Faults as names
 use Rattle.awk_resolve.specs.Faultless.{Faultless}
-use Rattle.awk_resolve.specs.declared.mention.Part.{Part}
+use Rattle.awk_resolve.specs.declared.mention.Section.{Section}
 use Rattle.awk_resolve.specs.Marks.{AreKinds}
 use Rattle.awk_program.specs.View.{view_program, names_of}
 use Rattle.awk_lowering.specs.Programs.{program}
@@ -14,7 +14,7 @@ use Rattle.awk_resolve.specs.Sound.{Sound}
 use Rattle.awk_parse.specs.declared.script.Script.{Script}
 use Rattle.awk_parse.specs.Scripts.{IsScriptOf}
 
-pub made : (xs : List Item) (parts : List Part) (s : Script) → parts ≡ map part (map view_item xs)
+pub made : (xs : List Item) (parts : List Section) (s : Script) → parts ≡ map part (map view_item xs)
     → Faultless parts → AreKinds parts s.kinds → s.tree.items ≡ xs
     → view_program s.program ≡ program (tables s.kinds parts) (map view_item xs) → Sound (names_of s.program)
     → s.names_environ ≡ names.names_environ parts → s.reads_main ≡ names.reads_main parts → IsScriptOf (map view_item xs) s

@@ -2,7 +2,7 @@
 use Rattle.std.specs.Prelude.{◌≡◌, List, [], map, Result, Ok, Err}
 use Rattle.awk_tokens.specs.declared.token.Token.{Token}
 use Rattle.awk_tokens.specs.declared.syntax_error.SyntaxError.{SyntaxError}
-use Rattle.awk_tree.specs.declared.fault.Fault.{Fault}
+use Rattle.awk_tree.specs.declared.fault.ParseError.{ParseError}
 use Rattle.awk_tree.specs.Tree.{Entry}
 use Rattle.awk_tree.specs.View.{view_item}
 use Rattle.awk_tree.specs.Statements as grammar
@@ -53,7 +53,7 @@ IsScript s = (tokens : List Token) × IsRead tokens s
 
 -- a token that cannot stand there, or a level too much; or else a flaw of the items
 pub data IsRefused (tokens : List Token) : SyntaxError → Type 0 where
-  by_grammar : (fault : Fault) → grammar.script tokens ≡ Err fault → IsRefused tokens (places.refusal tokens fault)
+  by_grammar : (fault : ParseError) → grammar.script tokens ≡ Err fault → IsRefused tokens (places.refusal tokens fault)
   by_flaw : (items : List Entry) (flaw : Flaw) → grammar.script tokens ≡ Ok (items, []) → Flawed (map part items) flaw →
       IsRefused tokens (flaws.refusal flaw)
   by_memory : IsRefused tokens (record { code = 9; place = record { line = 0; column = 0 } })

@@ -15,7 +15,7 @@ ghost use Rattle.awk_tree.specs.View.{view_item};
 use crate::flaw::Flaw;
 use awk_lowering::lower;
 use awk_program::Program;
-use awk_resolve::{Kinds, Part, misdefined, misplaced, names_environ, parts, reads_main};
+use awk_resolve::{Kinds, Section, misdefined, misplaced, names_environ, parts, reads_main};
 use awk_text::Memory;
 use awk_tokens::Token;
 use awk_tree::Item;
@@ -33,7 +33,7 @@ pub struct Script {
 }
 
 /// The kinds of the names of a script without a flaw.
-fn kinds(alloc: Global, parts: &[Part]) -> Result<Kinds, Flaw>
+fn kinds(alloc: Global, parts: &[Section]) -> Result<Kinds, Flaw>
     ensures faultless { OnOk result (Faultless parts.now) }
     ensures kinds { IfOk result (λ kinds. AreKinds parts.now kinds) }
     ensures flawed { IfErr result (λ flaw. Flawed parts.now flaw) }
@@ -52,7 +52,7 @@ fn kinds(alloc: Global, parts: &[Part]) -> Result<Kinds, Flaw>
 
 impl Script {
     /// The script of these items, which are these parts, or its flaw.
-    fn of_parts(alloc: Global, items: Items<Item>, parts: &[Part]) -> Result<Script, Flaw>
+    fn of_parts(alloc: Global, items: Items<Item>, parts: &[Section]) -> Result<Script, Flaw>
         requires { parts.now ≡ map part (map view_item items) }
         ensures script { IfOk result (λ script. IsScriptOf (map view_item items) script) }
         ensures flawed { IfErr result (λ flaw. Flawed (map part (map view_item items)) flaw) }

@@ -5,7 +5,7 @@ use Rattle.std.specs.Fmt.{signed_decimal}
 use Rattle.std.specs.List.{flat_map}
 use Rattle.awk_text.specs.declared.place.Place.{Place}
 use Rattle.awk_program.specs.declared.statements.Redirection.{Redirection}
-use Rattle.awk_program.specs.declared.program.Name.{Name}
+use Rattle.awk_program.specs.declared.program.GlobalName.{GlobalName}
 use Rattle.awk_program.specs.Builtins.{word_of}
 use Rattle.awk_program.specs.Jumps as jumps
 use Rattle.awk_program.specs.Slots.{Text}
@@ -141,7 +141,7 @@ abbrev pub action_text : List Statement → Text
 action_text xs = statements_text (statements_of xs) ++ codes "\n"
 
 -- the variables of the script's own, which stand behind the 16 that awk has
-abbrev pub variables_line : List Name → Text
+abbrev pub variables_line : List GlobalName → Text
 variables_line names = codes "variables" ++ (flat_map declared_name (drop 16 names) ++ codes "\n")
 
 abbrev pub function_line : ℕ → p.Function → Text

@@ -15,9 +15,9 @@ use Rattle.awk_program.specs.declared.operators.Sign.{Sign}
 use Rattle.awk_program.specs.declared.operators.Sign.TheVariants as sign
 use Rattle.awk_program.specs.declared.operators.Step.{Step}
 use Rattle.awk_program.specs.declared.operators.Step.TheVariants as step
-use Rattle.awk_program.specs.declared.operators.Taken.{Taken}
-use Rattle.awk_program.specs.declared.operators.Taken.TheVariants as taken
-use Rattle.awk_program.specs.declared.program.Name.{Name}
+use Rattle.awk_program.specs.declared.operators.StepValue.{StepValue}
+use Rattle.awk_program.specs.declared.operators.StepValue.TheVariants as taken
+use Rattle.awk_program.specs.declared.program.GlobalName.{GlobalName}
 use Rattle.awk_program.specs.Slots.{Text}
 use Rattle.awk_program.specs.View.{Names}
 
@@ -73,7 +73,7 @@ change_text operator.Divide = codes "/="
 change_text operator.Remainder = codes "%="
 change_text operator.Power = codes "^="
 
-abbrev pub step_text : Step → Taken → Text
+abbrev pub step_text : Step → StepValue → Text
 step_text step.Increment taken.Before = codes "post++"
 step_text step.Increment taken.Behind = codes "pre++"
 step_text step.Decrement taken.Before = codes "post--"
@@ -105,9 +105,9 @@ abbrev pub flag : Bool → Text
 flag is_array = if is_array then codes " array" else codes " value"
 
 -- a variable of the script, with `[]` behind an array
-abbrev pub declared_name : Name → Text
+abbrev pub declared_name : GlobalName → Text
 declared_name name = word name.text ++ (if name.is_array then codes "[]" else [])
 
 -- the names of the variables of a program of the code, by their slots
-abbrev pub names_in : List Name → Names
+abbrev pub names_in : List GlobalName → Names
 names_in names = map (λ n. n.text) names

@@ -18,12 +18,12 @@ use crate::pieces::{close, number, open, ordinal, place, quoted, text, variable,
 use crate::words::{
     change_text, comparison_text, extent_text, operator_text, sign_text, step_text,
 };
-use awk_program::{Argument, Expr, Joined, Name, Pattern, Piped, Target, Term, Variable};
+use awk_program::{Argument, Expr, GlobalName, Joined, Pattern, Piped, Target, Term, Variable};
 use awk_text::place::Place;
 
 /// Prints an expression of at most this depth.
 #[cycle(expression)]
-pub fn expression(names: &[Name], e: &Expr, level: u32, out: &mut Page)
+pub fn expression(names: &[GlobalName], e: &Expr, level: u32, out: &mut Page)
     ensures { Adds out.old out.new (expression_text (view (names_in names.now) e.now)) }
 {
     if level == 0 {
@@ -87,7 +87,7 @@ fn record_pattern(q: Place, x: &[u8], out: &mut Page)
 }
 
 /// A form of one variable.
-pub fn of_variable(names: &[Name], head: &str, v: Variable, out: &mut Page)
+pub fn of_variable(names: &[GlobalName], head: &str, v: Variable, out: &mut Page)
     ensures { Adds out.old out.new (spec.form head.now (variable_text (variable_of (names_in names.now) v) ∷ [])) }
 {
     open(head, out);
@@ -97,7 +97,7 @@ pub fn of_variable(names: &[Name], head: &str, v: Variable, out: &mut Page)
 
 /// A form of one expression.
 #[cycle(expression)]
-fn one(names: &[Name], head: &str, x: &Expr, level: u32, out: &mut Page)
+fn one(names: &[GlobalName], head: &str, x: &Expr, level: u32, out: &mut Page)
     ensures { Adds out.old out.new (spec.form head.now (expression_text (view (names_in names.now) x.now) ∷ [])) }
 {
     open(head, out);
@@ -107,7 +107,7 @@ fn one(names: &[Name], head: &str, x: &Expr, level: u32, out: &mut Page)
 
 /// A form of two expressions.
 #[cycle(expression)]
-fn two(names: &[Name], head: &str, x: &Expr, y: &Expr, level: u32, out: &mut Page)
+fn two(names: &[GlobalName], head: &str, x: &Expr, y: &Expr, level: u32, out: &mut Page)
     ensures { Adds out.old out.new
         (spec.form head.now (expression_text (view (names_in names.now) x.now)
         ∷ expression_text (view (names_in names.now) y.now) ∷ [])) }
@@ -120,7 +120,7 @@ fn two(names: &[Name], head: &str, x: &Expr, y: &Expr, level: u32, out: &mut Pag
 
 /// `test ? then : else`
 #[cycle(expression)]
-fn choice(names: &[Name], x: &Expr, y: &Expr, z: &Expr, level: u32, out: &mut Page)
+fn choice(names: &[GlobalName], x: &Expr, y: &Expr, z: &Expr, level: u32, out: &mut Page)
     ensures { Adds out.old out.new
         (spec.form (codes "?")
         (expression_text (view (names_in names.now) x.now) ∷ expression_text (view (names_in names.now) y.now)
@@ -135,7 +135,7 @@ fn choice(names: &[Name], x: &Expr, y: &Expr, z: &Expr, level: u32, out: &mut Pa
 
 /// A form of a place and an expression.
 #[cycle(expression)]
-pub fn at_one(names: &[Name], head: &str, q: Place, x: &Expr, level: u32, out: &mut Page)
+pub fn at_one(names: &[GlobalName], head: &str, q: Place, x: &Expr, level: u32, out: &mut Page)
     ensures { Adds out.old out.new
         (spec.form head.now (spec.placed q ∷ expression_text (view (names_in names.now) x.now) ∷ [])) }
 {
@@ -147,7 +147,7 @@ pub fn at_one(names: &[Name], head: &str, q: Place, x: &Expr, level: u32, out: &
 
 /// A form of a place and a list.
 #[cycle(expression)]
-fn at_list(names: &[Name], head: &str, q: Place, xs: &[Expr], level: u32, out: &mut Page)
+fn at_list(names: &[GlobalName], head: &str, q: Place, xs: &[Expr], level: u32, out: &mut Page)
     ensures { Adds out.old out.new
         (spec.form head.now (spec.placed q ∷ list_text (map (view (names_in names.now)) xs.now) ∷ [])) }
 {
@@ -159,7 +159,14 @@ fn at_list(names: &[Name], head: &str, q: Place, xs: &[Expr], level: u32, out: &
 
 /// A form of a place and what is set.
 #[cycle(expression)]
-fn at_target(names: &[Name], head: &str, q: Place, r: &Target<Expr>, level: u32, out: &mut Page)
+fn at_target(
+    names: &[GlobalName],
+    head: &str,
+    q: Place,
+    r: &Target<Expr>,
+    level: u32,
+    out: &mut Page,
+)
     ensures { Adds out.old out.new
         (spec.form head.now (spec.placed q ∷ reference_text (view_target (names_in names.now) r.now) ∷ [])) }
 {
@@ -172,7 +179,7 @@ fn at_target(names: &[Name], head: &str, q: Place, r: &Target<Expr>, level: u32,
 /// A form of a place, what is set, and an expression.
 #[cycle(expression)]
 fn setting(
-    names: &[Name],
+    names: &[GlobalName],
     head: &str,
     q: Place,
     r: &Target<Expr>,
@@ -194,7 +201,7 @@ fn setting(
 /// A form of a place, an expression, and what stands where a pattern is wanted.
 #[cycle(expression)]
 fn at_match(
-    names: &[Name],
+    names: &[GlobalName],
     head: &str,
     q: Place,
     x: &Expr,
@@ -215,7 +222,7 @@ fn at_match(
 
 /// A form of an expression and a list.
 #[cycle(expression)]
-fn many(names: &[Name], head: &str, x: &Expr, xs: &[Expr], level: u32, out: &mut Page)
+fn many(names: &[GlobalName], head: &str, x: &Expr, xs: &[Expr], level: u32, out: &mut Page)
     ensures { Adds out.old out.new
         (spec.form head.now (expression_text (view (names_in names.now) x.now)
         ∷ list_text (map (view (names_in names.now)) xs.now) ∷ [])) }
@@ -227,7 +234,7 @@ fn many(names: &[Name], head: &str, x: &Expr, xs: &[Expr], level: u32, out: &mut
 }
 
 #[cycle(expression)]
-fn member(names: &[Name], x: &Expr, vs: &[Variable], level: u32, out: &mut Page)
+fn member(names: &[GlobalName], x: &Expr, vs: &[Variable], level: u32, out: &mut Page)
     ensures { Adds out.old out.new
         (expression_text (p.member (view (names_in names.now) x.now) (map (variable_of (names_in names.now)) vs.now))) }
 {
@@ -238,7 +245,7 @@ fn member(names: &[Name], x: &Expr, vs: &[Variable], level: u32, out: &mut Page)
 }
 
 #[cycle(expression)]
-fn group(names: &[Name], q: Place, xs: &[Expr], vs: &[Variable], level: u32, out: &mut Page)
+fn group(names: &[GlobalName], q: Place, xs: &[Expr], vs: &[Variable], level: u32, out: &mut Page)
     ensures { Adds out.old out.new
         (expression_text (p.group q (expressions_of (map (view (names_in names.now)) xs.now))
         (map (variable_of (names_in names.now)) vs.now))) }
@@ -254,7 +261,7 @@ fn group(names: &[Name], q: Place, xs: &[Expr], vs: &[Variable], level: u32, out
 
 #[cycle(expression)]
 fn split(
-    names: &[Name],
+    names: &[GlobalName],
     q: Place,
     x: &Expr,
     at: Place,
@@ -278,7 +285,7 @@ fn split(
 
 #[cycle(expression)]
 fn substitute(
-    names: &[Name],
+    names: &[GlobalName],
     head: &str,
     q: Place,
     x: &Pattern<Expr>,
@@ -302,7 +309,7 @@ fn substitute(
 
 /// Whatever is read or set.
 #[cycle(expression)]
-fn target(names: &[Name], r: &Target<Expr>, level: u32, out: &mut Page)
+fn target(names: &[GlobalName], r: &Target<Expr>, level: u32, out: &mut Page)
     ensures { Adds out.old out.new (reference_text (view_target (names_in names.now) r.now)) }
 {
     match r {
@@ -315,7 +322,7 @@ fn target(names: &[Name], r: &Target<Expr>, level: u32, out: &mut Page)
 /// An array with its keys.
 #[cycle(expression)]
 pub fn element(
-    names: &[Name],
+    names: &[GlobalName],
     head: &str,
     q: Place,
     v: Variable,
@@ -336,7 +343,7 @@ pub fn element(
 
 /// What stands where a pattern is wanted.
 #[cycle(expression)]
-fn ere(names: &[Name], x: &Pattern<Expr>, level: u32, out: &mut Page)
+fn ere(names: &[GlobalName], x: &Pattern<Expr>, level: u32, out: &mut Page)
     ensures { Adds out.old out.new (ere_text (view_ere (names_in names.now) x.now)) }
 {
     match x {
@@ -349,7 +356,7 @@ fn ere(names: &[Name], x: &Pattern<Expr>, level: u32, out: &mut Page)
 }
 
 #[cycle(expression)]
-pub fn list(names: &[Name], xs: &[Expr], level: u32, out: &mut Page)
+pub fn list(names: &[GlobalName], xs: &[Expr], level: u32, out: &mut Page)
     ensures { Adds out.old out.new (list_text (map (view (names_in names.now)) xs.now)) }
 {
     for x in xs {
@@ -358,7 +365,7 @@ pub fn list(names: &[Name], xs: &[Expr], level: u32, out: &mut Page)
 }
 
 /// An expression that may be absent.
-pub fn perhaps(names: &[Name], x: &Option<Expr>, level: u32, out: &mut Page)
+pub fn perhaps(names: &[GlobalName], x: &Option<Expr>, level: u32, out: &mut Page)
     ensures { Adds out.old out.new (perhaps_text (option_map (view (names_in names.now)) x.now)) }
 {
     match x {
@@ -368,7 +375,7 @@ pub fn perhaps(names: &[Name], x: &Option<Expr>, level: u32, out: &mut Page)
 }
 
 #[cycle(expression)]
-fn chain(names: &[Name], x: &Expr, xs: &[Term<Expr>], level: u32, out: &mut Page)
+fn chain(names: &[GlobalName], x: &Expr, xs: &[Term<Expr>], level: u32, out: &mut Page)
     ensures { Adds out.old out.new
         (expression_text (p.chain (view (names_in names.now) x.now)
         (terms_of (map (view_term (names_in names.now)) xs.now)))) }
@@ -380,7 +387,7 @@ fn chain(names: &[Name], x: &Expr, xs: &[Term<Expr>], level: u32, out: &mut Page
 }
 
 #[cycle(expression)]
-fn terms(names: &[Name], xs: &[Term<Expr>], level: u32, out: &mut Page)
+fn terms(names: &[GlobalName], xs: &[Term<Expr>], level: u32, out: &mut Page)
     ensures { Adds out.old out.new (terms_text (terms_of (map (view_term (names_in names.now)) xs.now))) }
 {
     for x in xs {
@@ -389,7 +396,7 @@ fn terms(names: &[Name], xs: &[Term<Expr>], level: u32, out: &mut Page)
 }
 
 #[cycle(expression)]
-fn term(names: &[Name], x: &Term<Expr>, level: u32, out: &mut Page)
+fn term(names: &[GlobalName], x: &Term<Expr>, level: u32, out: &mut Page)
     ensures { Adds out.old out.new
         (spec.word (spec.operator_text x.now.operator)
         ++ (spec.placed x.now.place ++ expression_text (view (names_in names.now) x.now.operand))) }
@@ -400,7 +407,7 @@ fn term(names: &[Name], x: &Term<Expr>, level: u32, out: &mut Page)
 }
 
 #[cycle(expression)]
-fn concat(names: &[Name], x: &Expr, xs: &[Joined<Expr>], level: u32, out: &mut Page)
+fn concat(names: &[GlobalName], x: &Expr, xs: &[Joined<Expr>], level: u32, out: &mut Page)
     ensures { Adds out.old out.new
         (expression_text (p.concat (view (names_in names.now) x.now)
         (joins_of (map (view_joined (names_in names.now)) xs.now)))) }
@@ -412,7 +419,7 @@ fn concat(names: &[Name], x: &Expr, xs: &[Joined<Expr>], level: u32, out: &mut P
 }
 
 #[cycle(expression)]
-fn joins(names: &[Name], xs: &[Joined<Expr>], level: u32, out: &mut Page)
+fn joins(names: &[GlobalName], xs: &[Joined<Expr>], level: u32, out: &mut Page)
     ensures { Adds out.old out.new (joins_text (joins_of (map (view_joined (names_in names.now)) xs.now))) }
 {
     for x in xs {
@@ -421,7 +428,7 @@ fn joins(names: &[Name], xs: &[Joined<Expr>], level: u32, out: &mut Page)
 }
 
 #[cycle(expression)]
-fn join(names: &[Name], x: &Joined<Expr>, level: u32, out: &mut Page)
+fn join(names: &[GlobalName], x: &Joined<Expr>, level: u32, out: &mut Page)
     ensures { Adds out.old out.new
         (spec.placed x.now.place ++ expression_text (view (names_in names.now) x.now.operand)) }
 {
@@ -430,7 +437,7 @@ fn join(names: &[Name], x: &Joined<Expr>, level: u32, out: &mut Page)
 }
 
 #[cycle(expression)]
-fn pipe(names: &[Name], x: &Expr, xs: &[Piped<Expr>], level: u32, out: &mut Page)
+fn pipe(names: &[GlobalName], x: &Expr, xs: &[Piped<Expr>], level: u32, out: &mut Page)
     ensures { Adds out.old out.new
         (expression_text (p.pipe (view (names_in names.now) x.now) (view_pipes (names_in names.now) xs.now))) }
 {
@@ -441,7 +448,7 @@ fn pipe(names: &[Name], x: &Expr, xs: &[Piped<Expr>], level: u32, out: &mut Page
 }
 
 #[cycle(expression)]
-fn pipes(names: &[Name], xs: &[Piped<Expr>], level: u32, out: &mut Page)
+fn pipes(names: &[GlobalName], xs: &[Piped<Expr>], level: u32, out: &mut Page)
     ensures { Adds out.old out.new (pipes_text (view_pipes (names_in names.now) xs.now)) }
 {
     for x in xs {
@@ -450,7 +457,7 @@ fn pipes(names: &[Name], xs: &[Piped<Expr>], level: u32, out: &mut Page)
 }
 
 #[cycle(expression)]
-fn piped(names: &[Name], x: &Piped<Expr>, level: u32, out: &mut Page)
+fn piped(names: &[GlobalName], x: &Piped<Expr>, level: u32, out: &mut Page)
     ensures { Adds out.old out.new
         (spec.placed x.now.place ++ reference_text (view_target (names_in names.now) x.now.target)) }
 {
@@ -459,7 +466,7 @@ fn piped(names: &[Name], x: &Piped<Expr>, level: u32, out: &mut Page)
 }
 
 #[cycle(expression)]
-fn call(names: &[Name], q: Place, f: u32, xs: &[Argument<Expr>], level: u32, out: &mut Page)
+fn call(names: &[GlobalName], q: Place, f: u32, xs: &[Argument<Expr>], level: u32, out: &mut Page)
     ensures { Adds out.old out.new (expression_text (p.call q f (view_arguments (names_in names.now) xs.now))) }
 {
     open("call", out);
@@ -470,7 +477,7 @@ fn call(names: &[Name], q: Place, f: u32, xs: &[Argument<Expr>], level: u32, out
 }
 
 #[cycle(expression)]
-fn arguments(names: &[Name], xs: &[Argument<Expr>], level: u32, out: &mut Page)
+fn arguments(names: &[GlobalName], xs: &[Argument<Expr>], level: u32, out: &mut Page)
     ensures { Adds out.old out.new (arguments_text (view_arguments (names_in names.now) xs.now)) }
 {
     for x in xs {
@@ -479,7 +486,7 @@ fn arguments(names: &[Name], xs: &[Argument<Expr>], level: u32, out: &mut Page)
 }
 
 #[cycle(expression)]
-fn argument(names: &[Name], x: &Argument<Expr>, level: u32, out: &mut Page)
+fn argument(names: &[GlobalName], x: &Argument<Expr>, level: u32, out: &mut Page)
     ensures { Adds out.old out.new (arguments_text (view_arguments (names_in names.now) (x.now ∷ []))) }
 {
     match x {

@@ -9,7 +9,7 @@ ghost use Rattle.awk_printer.specs.Words as spec;
 ghost use Rattle.awk_program.specs.View.{variable_of};
 
 use crate::page::{Page, put};
-use awk_program::{Name, Variable};
+use awk_program::{GlobalName, Variable};
 use awk_text::place::Place;
 use itoa::Buffer;
 
@@ -96,7 +96,7 @@ pub fn quoted(mark: u8, text: &[u8], out: &mut Page)
 }
 
 /// A variable by its name, a parameter by its place.
-pub fn variable(names: &[Name], v: Variable, out: &mut Page)
+pub fn variable(names: &[GlobalName], v: Variable, out: &mut Page)
     ensures { Adds out.old out.new (variable_text (variable_of (spec.names_in names.now) v)) }
 {
     match v {
@@ -111,7 +111,7 @@ pub fn variable(names: &[Name], v: Variable, out: &mut Page)
     }
 }
 
-pub fn variables(names: &[Name], vs: &[Variable], out: &mut Page)
+pub fn variables(names: &[GlobalName], vs: &[Variable], out: &mut Page)
     ensures { Adds out.old out.new (variables_text (map (variable_of (spec.names_in names.now)) vs.now)) }
 {
     for v in vs {

@@ -11,7 +11,7 @@ use crate::expressions::expression;
 use crate::page::Page;
 use crate::pieces::{close, open, ordinal, text, word};
 use crate::statements::{DEEPEST, action};
-use awk_program::{Function, Name, Program, Rule, Statement, When};
+use awk_program::{Function, GlobalName, Program, Rule, Statement, When};
 use awk_text::Memory;
 use sqlite_items::Items;
 use std::alloc::{AllocError, Global};
@@ -19,7 +19,7 @@ use std::alloc::{AllocError, Global};
 /// How many variables awk itself has.
 const OWN: usize = 16;
 
-fn declared(name: &Name, out: &mut Page)
+fn declared(name: &GlobalName, out: &mut Page)
     ensures { Adds out.old out.new (declared_name name.now) }
 {
     word(name.text.bytes(), out);
@@ -28,7 +28,7 @@ fn declared(name: &Name, out: &mut Page)
     }
 }
 
-fn all_declared(names: &[Name], out: &mut Page)
+fn all_declared(names: &[GlobalName], out: &mut Page)
     ensures { Adds out.old out.new (flat_map declared_name names.now) }
 {
     for name in names {
@@ -36,7 +36,7 @@ fn all_declared(names: &[Name], out: &mut Page)
     }
 }
 
-fn variables(names: &[Name], out: &mut Page)
+fn variables(names: &[GlobalName], out: &mut Page)
     ensures { Adds out.old out.new (spec.variables_line names.now) }
 {
     text("variables", out);
@@ -66,7 +66,7 @@ fn parameters(flags: &[bool], out: &mut Page)
     close(out)
 }
 
-fn function(names: &[Name], n: usize, f: &Function, out: &mut Page)
+fn function(names: &[GlobalName], n: usize, f: &Function, out: &mut Page)
     ensures { Adds out.old out.new (spec.function_line n (view_function (names_in names.now) f.now)) }
 {
     text("function", out);
@@ -76,7 +76,7 @@ fn function(names: &[Name], n: usize, f: &Function, out: &mut Page)
     action(names, f.body.as_slice(), out)
 }
 
-fn functions(names: &[Name], fs: &[Function], out: &mut Page)
+fn functions(names: &[GlobalName], fs: &[Function], out: &mut Page)
     ensures { Adds out.old out.new (spec.functions_text 0 (map (view_function (names_in names.now)) fs.now)) }
 {
     for (n, f) in fs.iter().enumerate() {
@@ -84,14 +84,14 @@ fn functions(names: &[Name], fs: &[Function], out: &mut Page)
     }
 }
 
-fn begin(names: &[Name], xs: &[Statement], out: &mut Page)
+fn begin(names: &[GlobalName], xs: &[Statement], out: &mut Page)
     ensures { Adds out.old out.new (spec.begin_line (map (view_statement (names_in names.now)) xs.now)) }
 {
     text("BEGIN", out);
     action(names, xs, out)
 }
 
-fn begins(names: &[Name], bodies: &[Items<Statement>], out: &mut Page)
+fn begins(names: &[GlobalName], bodies: &[Items<Statement>], out: &mut Page)
     ensures { Adds out.old out.new
         (flat_map spec.begin_line (map (map (view_statement (names_in names.now))) bodies.now)) }
 {
@@ -100,14 +100,14 @@ fn begins(names: &[Name], bodies: &[Items<Statement>], out: &mut Page)
     }
 }
 
-fn end(names: &[Name], xs: &[Statement], out: &mut Page)
+fn end(names: &[GlobalName], xs: &[Statement], out: &mut Page)
     ensures { Adds out.old out.new (spec.end_line (map (view_statement (names_in names.now)) xs.now)) }
 {
     text("END", out);
     action(names, xs, out)
 }
 
-fn ends(names: &[Name], bodies: &[Items<Statement>], out: &mut Page)
+fn ends(names: &[GlobalName], bodies: &[Items<Statement>], out: &mut Page)
     ensures { Adds out.old out.new
         (flat_map spec.end_line (map (map (view_statement (names_in names.now))) bodies.now)) }
 {
@@ -116,7 +116,7 @@ fn ends(names: &[Name], bodies: &[Items<Statement>], out: &mut Page)
     }
 }
 
-fn when(names: &[Name], x: &When, out: &mut Page)
+fn when(names: &[GlobalName], x: &When, out: &mut Page)
     ensures { Adds out.old out.new (spec.when_text (view_when (names_in names.now) x.now)) }
 {
     match x {
@@ -138,7 +138,7 @@ fn when(names: &[Name], x: &When, out: &mut Page)
     }
 }
 
-fn rule(names: &[Name], r: &Rule, out: &mut Page)
+fn rule(names: &[GlobalName], r: &Rule, out: &mut Page)
     ensures { Adds out.old out.new (spec.rule_line (view_rule (names_in names.now) r.now)) }
 {
     text("rule", out);
@@ -146,7 +146,7 @@ fn rule(names: &[Name], r: &Rule, out: &mut Page)
     action(names, r.action.as_slice(), out)
 }
 
-fn rules(names: &[Name], rs: &[Rule], out: &mut Page)
+fn rules(names: &[GlobalName], rs: &[Rule], out: &mut Page)
     ensures { Adds out.old out.new (flat_map spec.rule_line (map (view_rule (names_in names.now)) rs.now)) }
 {
     for r in rs {

@@ -14,32 +14,32 @@ use crate::expressions::{at_one, element, expression, list, of_variable, perhaps
 use crate::page::{Page, cut};
 use crate::pieces::{close, open, place, text, variable};
 use crate::words::redirect_text;
-use awk_program::{Expr, Jump, Name, Redirection, Statement, Variable};
+use awk_program::{Expr, GlobalName, Jump, Redirection, Statement, Variable};
 use awk_text::place::Place;
 
 /// More levels than any program has.
 pub const DEEPEST: u32 = u32::MAX;
 
 /// An expression of a statement.
-fn whole(names: &[Name], x: &Expr, out: &mut Page)
+fn whole(names: &[GlobalName], x: &Expr, out: &mut Page)
     ensures { Adds out.old out.new (expression_text (view (names_in names.now) x.now)) }
 {
     expression(names, x, DEEPEST, out)
 }
 
-fn all(names: &[Name], xs: &[Expr], out: &mut Page)
+fn all(names: &[GlobalName], xs: &[Expr], out: &mut Page)
     ensures { Adds out.old out.new (list_text (map (view (names_in names.now)) xs.now)) }
 {
     list(names, xs, DEEPEST, out)
 }
 
-fn optional(names: &[Name], x: &Option<Expr>, out: &mut Page)
+fn optional(names: &[GlobalName], x: &Option<Expr>, out: &mut Page)
     ensures { Adds out.old out.new (perhaps_text (option_map (view (names_in names.now)) x.now)) }
 {
     perhaps(names, x, DEEPEST, out)
 }
 
-fn redirection(names: &[Name], x: &Option<Redirection<Expr>>, out: &mut Page)
+fn redirection(names: &[GlobalName], x: &Option<Redirection<Expr>>, out: &mut Page)
     ensures { Adds out.old out.new (redirection_text (option_map (view_redirection (names_in names.now)) x.now)) }
 {
     match x {
@@ -55,7 +55,13 @@ fn redirection(names: &[Name], x: &Option<Redirection<Expr>>, out: &mut Page)
     }
 }
 
-fn print(names: &[Name], q: Place, xs: &[Expr], target: &Option<Redirection<Expr>>, out: &mut Page)
+fn print(
+    names: &[GlobalName],
+    q: Place,
+    xs: &[Expr],
+    target: &Option<Redirection<Expr>>,
+    out: &mut Page,
+)
     ensures { Adds out.old out.new
         (statement_text (p.print q (map (view (names_in names.now)) xs.now)
         (option_map (view_redirection (names_in names.now)) target.now))) }
@@ -68,7 +74,7 @@ fn print(names: &[Name], q: Place, xs: &[Expr], target: &Option<Redirection<Expr
 }
 
 fn printf(
-    names: &[Name],
+    names: &[GlobalName],
     q: Place,
     x: &Expr,
     xs: &[Expr],
@@ -113,7 +119,7 @@ fn jump(which: Jump, out: &mut Page)
     }
 }
 
-fn exit(names: &[Name], q: Place, x: &Option<Expr>, out: &mut Page)
+fn exit(names: &[GlobalName], q: Place, x: &Option<Expr>, out: &mut Page)
     ensures { Adds out.old out.new (statement_text (p.exit q (option_map (view (names_in names.now)) x.now))) }
 {
     open("exit", out);
@@ -122,7 +128,7 @@ fn exit(names: &[Name], q: Place, x: &Option<Expr>, out: &mut Page)
     close(out)
 }
 
-fn give(names: &[Name], x: &Option<Expr>, out: &mut Page)
+fn give(names: &[GlobalName], x: &Option<Expr>, out: &mut Page)
     ensures { Adds out.old out.new (statement_text (p.return (option_map (view (names_in names.now)) x.now))) }
 {
     open("return", out);
@@ -131,7 +137,13 @@ fn give(names: &[Name], x: &Option<Expr>, out: &mut Page)
 }
 
 /// `first ; test ; step`
-fn header(names: &[Name], x: &Option<Expr>, y: &Option<Expr>, z: &Option<Expr>, out: &mut Page)
+fn header(
+    names: &[GlobalName],
+    x: &Option<Expr>,
+    y: &Option<Expr>,
+    z: &Option<Expr>,
+    out: &mut Page,
+)
     ensures { Adds out.old out.new
         (spec.opening (codes "for")
         ++ (perhaps_text (option_map (view (names_in names.now)) x.now)
@@ -145,7 +157,7 @@ fn header(names: &[Name], x: &Option<Expr>, y: &Option<Expr>, z: &Option<Expr>, 
 }
 
 /// `key in array`
-fn each_header(names: &[Name], q: Place, key: Variable, array: Variable, out: &mut Page)
+fn each_header(names: &[GlobalName], q: Place, key: Variable, array: Variable, out: &mut Page)
     ensures { Adds out.old out.new
         (spec.opening (codes "for-in")
         ++ (spec.placed q ++ (variable_text (variable_of (names_in names.now) key)
@@ -159,7 +171,7 @@ fn each_header(names: &[Name], q: Place, key: Variable, array: Variable, out: &m
 
 /// Prints a statement of at most this depth.
 #[cycle(statement)]
-fn statement(names: &[Name], s: &Statement, level: u32, out: &mut Page)
+fn statement(names: &[GlobalName], s: &Statement, level: u32, out: &mut Page)
     ensures { Adds out.old out.new (statement_text (view_statement (names_in names.now) s.now)) }
 {
     if level == 0 {
@@ -192,7 +204,7 @@ fn statement(names: &[Name], s: &Statement, level: u32, out: &mut Page)
 }
 
 #[cycle(statement)]
-fn block(names: &[Name], xs: &[Statement], level: u32, out: &mut Page)
+fn block(names: &[GlobalName], xs: &[Statement], level: u32, out: &mut Page)
     ensures { Adds out.old out.new
         (statement_text (p.block (statements_of (map (view_statement (names_in names.now)) xs.now)))) }
 {
@@ -203,7 +215,7 @@ fn block(names: &[Name], xs: &[Statement], level: u32, out: &mut Page)
 
 /// A test and a statement.
 #[cycle(statement)]
-fn test(names: &[Name], head: &str, x: &Expr, body: &Statement, level: u32, out: &mut Page)
+fn test(names: &[GlobalName], head: &str, x: &Expr, body: &Statement, level: u32, out: &mut Page)
     ensures { Adds out.old out.new
         (spec.form head.now (expression_text (view (names_in names.now) x.now)
         ∷ statement_text (view_statement (names_in names.now) body.now) ∷ [])) }
@@ -216,7 +228,7 @@ fn test(names: &[Name], head: &str, x: &Expr, body: &Statement, level: u32, out:
 
 #[cycle(statement)]
 fn if_else(
-    names: &[Name],
+    names: &[GlobalName],
     x: &Expr,
     body: &Statement,
     other: &Statement,
@@ -235,7 +247,7 @@ fn if_else(
 }
 
 #[cycle(statement)]
-fn do_while(names: &[Name], body: &Statement, x: &Expr, level: u32, out: &mut Page)
+fn do_while(names: &[GlobalName], body: &Statement, x: &Expr, level: u32, out: &mut Page)
     ensures { Adds out.old out.new
         (statement_text (p.do_while (view_statement (names_in names.now) body.now) (view (names_in names.now) x.now))) }
 {
@@ -247,7 +259,7 @@ fn do_while(names: &[Name], body: &Statement, x: &Expr, level: u32, out: &mut Pa
 
 #[cycle(statement)]
 fn for_loop(
-    names: &[Name],
+    names: &[GlobalName],
     x: &Option<Expr>,
     y: &Option<Expr>,
     z: &Option<Expr>,
@@ -267,7 +279,7 @@ fn for_loop(
 
 #[cycle(statement)]
 fn for_each(
-    names: &[Name],
+    names: &[GlobalName],
     q: Place,
     key: Variable,
     array: Variable,
@@ -285,7 +297,7 @@ fn for_each(
 }
 
 #[cycle(statement)]
-fn statements(names: &[Name], xs: &[Statement], level: u32, out: &mut Page)
+fn statements(names: &[GlobalName], xs: &[Statement], level: u32, out: &mut Page)
     ensures { Adds out.old out.new
         (statements_text (statements_of (map (view_statement (names_in names.now)) xs.now))) }
 {
@@ -295,7 +307,7 @@ fn statements(names: &[Name], xs: &[Statement], level: u32, out: &mut Page)
 }
 
 /// Statements, to the end of their line.
-pub fn action(names: &[Name], xs: &[Statement], out: &mut Page)
+pub fn action(names: &[GlobalName], xs: &[Statement], out: &mut Page)
     ensures { Adds out.old out.new (action_text (map (view_statement (names_in names.now)) xs.now)) }
 {
     statements(names, xs, DEEPEST, out);

@@ -3,7 +3,7 @@
 ghost use Rattle.std.specs.Prelude.{◌≡◌};
 ghost use Rattle.awk_printer.specs.Words as spec;
 
-use awk_program::{Comparison, Extent, Operator, Redirect, Sign, Step, Taken};
+use awk_program::{Comparison, Extent, Operator, Redirect, Sign, Step, StepValue};
 
 pub fn operator_text(operator: Operator) -> &'static str
     ensures { result.now ≡ spec.operator_text operator }
@@ -31,14 +31,14 @@ pub fn change_text(operator: Operator) -> &'static str
     }
 }
 
-pub fn step_text(step: Step, taken: Taken) -> &'static str
+pub fn step_text(step: Step, taken: StepValue) -> &'static str
     ensures { result.now ≡ spec.step_text step taken }
 {
     match (step, taken) {
-        (Step::Increment, Taken::Before) => "post++",
-        (Step::Increment, Taken::Behind) => "pre++",
-        (Step::Decrement, Taken::Before) => "post--",
-        (Step::Decrement, Taken::Behind) => "pre--",
+        (Step::Increment, StepValue::Before) => "post++",
+        (Step::Increment, StepValue::Behind) => "pre++",
+        (Step::Decrement, StepValue::Before) => "post--",
+        (Step::Decrement, StepValue::Behind) => "pre--",
     }
 }
 

@@ -9,7 +9,7 @@ use Rattle.awk_program.specs.declared.operators.Extent.{Extent}
 use Rattle.awk_program.specs.declared.operators.Operator.{Operator}
 use Rattle.awk_program.specs.declared.operators.Sign.{Sign}
 use Rattle.awk_program.specs.declared.operators.Step.{Step}
-use Rattle.awk_program.specs.declared.operators.Taken.{Taken}
+use Rattle.awk_program.specs.declared.operators.StepValue.{StepValue}
 use Rattle.awk_program.specs.declared.expressions.Term.{Term}
 use Rattle.awk_program.specs.declared.expressions.Joined.{Joined}
 use Rattle.awk_program.specs.declared.expressions.Piped.{Piped}
@@ -95,7 +95,7 @@ view-Change t q how (target.Variable v0) x = opened t _ _ (e.rolls-Change q how 
 view-Change t q how (target.Element w0 v0 xs0) x = opened t _ _ (e.rolls-Change q how (target.Element w0 v0 xs0) x)
 view-Change t q how (target.Field w0 x0) x = opened t _ _ (e.rolls-Change q how (target.Field w0 x0) x)
 
-pub view-Step : (t : Names) (q : Place) (how : Step) (taken : Taken) (r : Target Expr) → view t (e.Step q how taken r) ≡ p.step q how taken (view_target t r)
+pub view-Step : (t : Names) (q : Place) (how : Step) (taken : StepValue) (r : Target Expr) → view t (e.Step q how taken r) ≡ p.step q how taken (view_target t r)
 unfolding layer
 view-Step t q how taken (target.Variable v0) = opened t _ _ (e.rolls-Step q how taken (target.Variable v0))
 view-Step t q how taken (target.Element w0 v0 xs0) = opened t _ _ (e.rolls-Step q how taken (target.Element w0 v0 xs0))

@@ -9,11 +9,11 @@ use Rattle.awk_program.specs.declared.operators.Extent.{Extent}
 use Rattle.awk_program.specs.declared.operators.Operator.{Operator}
 use Rattle.awk_program.specs.declared.operators.Sign.{Sign}
 use Rattle.awk_program.specs.declared.operators.Step.{Step}
-use Rattle.awk_program.specs.declared.operators.Taken.{Taken}
+use Rattle.awk_program.specs.declared.operators.StepValue.{StepValue}
 use Rattle.awk_program.specs.declared.expressions.Term.{Term}
 use Rattle.awk_program.specs.declared.expressions.Joined.{Joined}
 use Rattle.awk_program.specs.declared.statements.Redirection.{Redirection}
-use Rattle.awk_program.specs.declared.program.Name.{Name}
+use Rattle.awk_program.specs.declared.program.GlobalName.{GlobalName}
 use Rattle.awk_program.specs.Slots.{Text}
 
 pub data Variable : Type 0 where
@@ -30,7 +30,7 @@ mutual
     read : Reference → Expression
     assign : Place → Reference → Expression → Expression
     change : Place → Operator → Reference → Expression → Expression
-    step : Place → Step → Taken → Reference → Expression
+    step : Place → Step → StepValue → Reference → Expression
     not : Expression → Expression
     signed : Place → Sign → Expression → Expression
     chain : Expression → Terms → Expression
@@ -146,7 +146,7 @@ pub record Function : Type 0 where
 
 pub record Program : Type 0 where
   -- the variables of the whole script, awk's own first
-  pub variables : List Name
+  pub variables : List GlobalName
   pub functions : List Function
   -- the actions of BEGIN, the rules for each record, and the actions of END
   pub begin : List (List Statement)

@@ -1,7 +1,7 @@
 // Expressions.
 
 use crate::builtins::Builtin;
-use crate::operators::{Comparison, Extent, Operator, Sign, Step, Taken};
+use crate::operators::{Comparison, Extent, Operator, Sign, Step, StepValue};
 use crate::variables::Variable;
 use awk_text::octets::Octets;
 use awk_text::place::Place;
@@ -71,7 +71,7 @@ pub enum Expr {
     /// `target += value`, and with the other operators
     Change(Place, Operator, Target<Expr>, Boxed<Expr>),
     /// `target ++`
-    Step(Place, Step, Taken, Target<Expr>),
+    Step(Place, Step, StepValue, Target<Expr>),
     /// `! operand`
     Not(Boxed<Expr>),
     /// `- operand`

@@ -38,7 +38,7 @@ pub enum Step {
 
 /// Which number a step gives: the one from before it, as `x++`, or the one from behind it, as `++x`.
 #[derive(Clone, Copy, Debug, PartialEq, Eq, Drop)]
-pub enum Taken {
+pub enum StepValue {
     Before,
     Behind,
 }

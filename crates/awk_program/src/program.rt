@@ -7,7 +7,7 @@ use sqlite_items::Items;
 
 /// A variable of the whole script.
 #[derive(Drop)]
-pub struct Name {
+pub struct GlobalName {
     pub text: Octets,
     pub is_array: bool,
 }
@@ -43,7 +43,7 @@ pub struct Function {
 #[derive(Drop)]
 pub struct Program {
     /// The variables by their slots, awk's own first.
-    pub variables: Items<Name>,
+    pub variables: Items<GlobalName>,
     pub functions: Items<Function>,
     /// The actions of BEGIN
     pub begin: Items<Items<Statement>>,

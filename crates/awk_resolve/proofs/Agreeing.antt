@@ -12,7 +12,7 @@ use Rattle.awk_resolve.specs.declared.mention.Mention as m
 use Rattle.awk_resolve.specs.declared.mention.Mention.TheVariants as said
 use Rattle.awk_resolve.specs.declared.mention.Role.{Role}
 use Rattle.awk_resolve.specs.declared.mention.Role.TheVariants as role
-use Rattle.awk_resolve.specs.declared.mention.Part.{Part}
+use Rattle.awk_resolve.specs.declared.mention.Section.{Section}
 use Rattle.awk_resolve.proofs.Lists.{contains_none, contains_cases}
 use Rattle.awk_resolve.proofs.Naming.{contains_among}
 use Rattle.awk_resolve.specs.Clash as s
@@ -77,7 +77,7 @@ two_kinds_of c a e = by (has c a k.function) (has c a k.scalar) (has c a k.array
 abbrev Own : Named → Kind → Type 0
 Own a kind = (x : Text) × (a ≡ global x) × (((kind ≡ k.scalar) × Contains scalars x) ⊎ ((kind ≡ k.array) × Contains arrays x))
 
-shown : (parts : List Part) (a : Named) (kind : Kind) → Forced parts a kind → ((q : Place) × Appears parts a q) ⊎ Own a kind
+shown : (parts : List Section) (a : Named) (kind : Kind) → Forced parts a kind → ((q : Place) × Appears parts a q) ⊎ Own a kind
 shown parts a kind (k.own_scalar x c) = inr (x, refl, inl (refl, c))
 shown parts a kind (k.own_array x c) = inr (x, refl, inr (refl, c))
 shown parts a kind (k.defined f ps d) = inl (f.place, k.as_function f ps d)
@@ -156,11 +156,11 @@ module _ (c : Kinds) (ps : List ℕ) where
 
 -- ---- the places that are found are those of the clashes
 
-module _ (parts : List Part) (well : (place : Place) → Misdefined parts place → ⊥) (c : Kinds) (is : c.numbers ≡ numbers parts) (kinds : AreKinds parts c) where
-  number_same : (p : Part) (x : Text) → Contains parts p → number_in c.numbers p.role x ≡ number c.numbers (meant p.role x)
+module _ (parts : List Section) (well : (place : Place) → Misdefined parts place → ⊥) (c : Kinds) (is : c.numbers ≡ numbers parts) (kinds : AreKinds parts c) where
+  number_same : (p : Section) (x : Text) → Contains parts p → number_in c.numbers p.role x ≡ number c.numbers (meant p.role x)
   number_same p x d = ap (λ z. number_in z p.role x) is ∙ (here parts well p x d ∙ ap (λ z. number z (meant p.role x)) (sym is))
 
-  function_same : (p : Part) (x : Text) → Contains parts p → u.is_function c.numbers x ≡ has c (meant p.role x) k.function
+  function_same : (p : Section) (x : Text) → Contains parts p → u.is_function c.numbers x ≡ has c (meant p.role x) k.function
   function_same p x d = by p.role refl
     where
       in_function : (f : Name) (ps : List Name) (b g : Bool) → p.role ≡ role.Function f ps → is_among (texts ps) x ≡ b → u.is_function c.numbers x ≡ g
@@ -181,7 +181,7 @@ module _ (parts : List Part) (well : (place : Place) → Misdefined parts place 
       by role.Rule e = refl
       by (role.Function f ps) e = in_function f ps (is_among (texts ps) x) (u.is_function c.numbers x) e refl refl
 
-  two_same : (p : Part) (x : Text) → Contains parts p → s.has_two c p.role x ≡ two c (meant p.role x)
+  two_same : (p : Section) (x : Text) → Contains parts p → s.has_two c p.role x ≡ two c (meant p.role x)
   two_same p x d = rw (number_same p x d) (ap (λ f. s.two_of f (is_marked c.scalars (number c.numbers (meant p.role x))) (is_marked c.arrays (number c.numbers (meant p.role x)))) (function_same p x d))
 
   abbrev Shows : Place → Type 0
@@ -189,7 +189,7 @@ module _ (parts : List Part) (well : (place : Place) → Misdefined parts place 
 
   abbrev NoArray : Place → Type 0
   NoArray q =
-      (p : Part) × (f : Name) × (args : List (Option Name)) × (i : ℕ) × (x : Name) × Contains parts p × Contains p.mentions (said.Call f args) × (slice_get args i ≡ Some None)
+      (p : Section) × (f : Name) × (args : List (Option Name)) × (i : ℕ) × (x : Name) × Contains parts p × Contains p.mentions (said.Call f args) × (slice_get args i ≡ Some None)
       × Takes parts f.text i x × (has c (parameter f.text x.text) k.array ≡ true) × (f.place ≡ q)
 
   abbrev All : Place → Type 0
@@ -197,13 +197,13 @@ module _ (parts : List Part) (well : (place : Place) → Misdefined parts place 
 
   -- from a place to a clash
 
-  name_shows : (p : Part) (n : Name) (q : Place) → Contains parts p → Appears parts (meant p.role n.text) n.place → NameAt c p.role n q → Shows q
+  name_shows : (p : Section) (n : Name) (q : Place) → Contains parts p → Appears parts (meant p.role n.text) n.place → NameAt c p.role n q → Shows q
   name_shows p n q d appears (e, at2) = (meant p.role n.text, rw at2 at appears, sym (two_same p n.text d) ∙ e)
 
   function_shows : (f : Name) (q : Place) → Appears parts (global f.text) f.place → NameAt c role.Begin f q → Shows q
   function_shows f q appears (e, at2) = (global f.text, rw at2 at appears, e)
 
-  call_lacks : (p : Part) (f : Name) (args : List (Option Name)) (q : Place) → Contains parts p → Contains p.mentions (said.Call f args) → CallAt c f args q → NoArray q
+  call_lacks : (p : Section) (f : Name) (args : List (Option Name)) (q : Place) → Contains parts p → Contains p.mentions (said.Call f args) → CallAt c f args q → NoArray q
   call_lacks p f args q d e (lacks, at2) =
       let (i, none, marked) = lacks_found c (u.parameters c.numbers f.text) 0 args lacks in
       let plain : 0 + i ≡ i = omega arith in
@@ -218,7 +218,7 @@ module _ (parts : List Part) (well : (place : Place) → Misdefined parts place 
           let there : number c.numbers (parameter f.text x.text) ≡ Some n = ap (λ z. number z (parameter f.text x.text)) is ∙ numbered in
           (p, f, args, i, x, d, e, none, tk, ap (is_marked c.arrays) there ∙ h, at2)
 
-  mention_stands : (p : Part) (n : m.Mention) (q : Place) → Contains parts p → Contains p.mentions n → MentionAt c p.role n q → Shows q ⊎ NoArray q
+  mention_stands : (p : Section) (n : m.Mention) (q : Place) → Contains parts p → Contains p.mentions n → MentionAt c p.role n q → Shows q ⊎ NoArray q
   mention_stands p (said.Scalar n) q d e h = inl (name_shows p n q d (k.as_scalar p n d e) h)
   mention_stands p (said.Array n) q d e h = inl (name_shows p n q d (k.as_array p n d e) h)
   mention_stands p (said.Measured n) q d e h = inl (name_shows p n q d (k.as_measured p n d e) h)
@@ -234,7 +234,7 @@ module _ (parts : List Part) (well : (place : Place) → Misdefined parts place 
       let among : is_among (texts ps) n.text ≡ true = contains_among (texts ps) n.text (texts_at ps i n at2) in
       ap (λ b. if b then parameter f.text n.text else global n.text) among
 
-  role_stands : (p : Part) (q : Place) → Contains parts p → RoleAt c p.role q → Shows q ⊎ NoArray q
+  role_stands : (p : Section) (q : Place) → Contains parts p → RoleAt c p.role q → Shows q ⊎ NoArray q
   role_stands p q d h = by p.role refl h
     where
       param : (f : Name) (ps : List Name) (n : Name) → p.role ≡ role.Function f ps → Contains ps n → NameAt c (role.Function f ps) n q → Shows q
@@ -257,10 +257,10 @@ module _ (parts : List Part) (well : (place : Place) → Misdefined parts place 
 
   -- and back
 
-  in_role : (p : Part) (f : Name) (ps : List Name) (q : Place) → Contains parts p → p.role ≡ role.Function f ps → RoleAt c (role.Function f ps) q → All q
+  in_role : (p : Section) (f : Name) (ps : List Name) (q : Place) → Contains parts p → p.role ≡ role.Function f ps → RoleAt c (role.Function f ps) q → All q
   in_role p f ps q d e h = (p, d, inl (rw e h))
 
-  in_mention : (p : Part) (n : m.Mention) (q : Place) → Contains parts p → Contains p.mentions n → MentionAt c p.role n q → All q
+  in_mention : (p : Section) (n : m.Mention) (q : Place) → Contains parts p → Contains p.mentions n → MentionAt c p.role n q → All q
   in_mention p n q d e h = (p, d, inr (n, e, h))
 
   shown_there : (a : Named) (q : Place) → two c a ≡ true → Appears parts a q → All q

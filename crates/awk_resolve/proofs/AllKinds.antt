@@ -6,7 +6,7 @@ use Rattle.awk_tree.specs.declared.names.Name.{Name}
 use Rattle.awk_resolve.specs.Kinds as k
 use Rattle.awk_resolve.specs.Kinds.{Kind, Named, global, parameter, Defines, texts, meant, Forced}
 use Rattle.awk_resolve.specs.Faults.{Misdefined}
-use Rattle.awk_resolve.specs.declared.mention.Part.{Part}
+use Rattle.awk_resolve.specs.declared.mention.Section.{Section}
 use Rattle.awk_resolve.specs.Numbering as s
 use Rattle.awk_resolve.specs.Numbering.{number}
 use Rattle.awk_resolve.specs.Uses as u
@@ -30,7 +30,7 @@ true_mark : (marks : List Bool) (o : Option ℕ) (n : ℕ) → o ≡ Some n → 
 true_mark marks o n e f = ap (is_marked marks) e ∙ ap is_set f
 
 -- only what an item defines is a function
-function_only : (parts : List Part) (a : Named) (kind : Kind) → kind ≡ k.function → Forced parts a kind → (g : Name) × (ps : List Name) × Defines parts g ps × (a ≡ global g.text)
+function_only : (parts : List Section) (a : Named) (kind : Kind) → kind ≡ k.function → Forced parts a kind → (g : Name) × (ps : List Name) × Defines parts g ps × (a ≡ global g.text)
 function_only parts a kind e (k.own_scalar x c) = absurd (cc)
 function_only parts a kind e (k.own_array x c) = absurd (cc)
 function_only parts a kind e (k.defined f ps d) = (f, ps, d, refl)
@@ -45,7 +45,7 @@ function_only parts a kind e (k.measured r f args i n q c d tk asks forced) = ab
 global_text : (x y : Text) → global x ≡ global y → x ≡ y
 global_text x y e = cc
 
-module _ (parts : List Part) (well : (place : Place) → Misdefined parts place → ⊥) where
+module _ (parts : List Section) (well : (place : Place) → Misdefined parts place → ⊥) where
   abbrev t : Numbers
   t = s.numbers parts
 
@@ -110,7 +110,7 @@ module _ (parts : List Part) (well : (place : Place) → Misdefined parts place 
       by (parameter f x) k.function = no_parameter f x
 
 -- as the code finds them, step by step
-pub marked_kinds : (parts : List Part) → ((place : Place) → Misdefined parts place → ⊥) → (c : Kinds) (us : List Use) (scalars : List ℕ) (links : List (List ℕ)) → c.numbers ≡ s.numbers parts
+pub marked_kinds : (parts : List Section) → ((place : Place) → Misdefined parts place → ⊥) → (c : Kinds) (us : List Use) (scalars : List ℕ) (links : List (List ℕ)) → c.numbers ≡ s.numbers parts
     → us ≡ u.uses c.numbers parts → scalars ≡ u.scalars us → links ≡ u.linked us (replicate c.numbers.count []) → Marks scalars links c.scalars → AreArrays us links c.arrays → AreKinds parts c
 marked_kinds parts well c us scalars links numbered used scalars_are linked hs ha =
     all_kinds parts well c numbered (λ n. rw (scalars_there, links_there) at (hs n)) (rw (uses_there, links_there) at ha)

@@ -10,7 +10,7 @@ use Rattle.awk_program.specs.Slots.{Text, slot_of, name_of}
 use Rattle.awk_program.specs.declared.variables.Own.{Own}
 use Rattle.awk_program.specs.declared.variables.Own.TheVariants as o
 use Rattle.awk_resolve.specs.Kinds.{scalars, arrays}
-use Rattle.awk_resolve.specs.declared.mention.Part.{Part}
+use Rattle.awk_resolve.specs.declared.mention.Section.{Section}
 use Rattle.awk_resolve.specs.Rolls.{added}
 use Rattle.awk_resolve.proofs.Rolls.{none_among}
 use Rattle.awk_resolve.specs.Tables.{behind, mentioned, variables}
@@ -113,7 +113,7 @@ once xs h none = λ j k i e.
     ]
 
 -- the variables of a script, of which none is empty
-pub sound : (parts : List Part) (xs : List Text) → xs ≡ variables parts → position (bytes_eq []) xs ≡ None → Sound xs
+pub sound : (parts : List Section) (xs : List Text) → xs ≡ variables parts → position (bytes_eq []) xs ≡ None → Sound xs
 sound parts xs e none =
     let f = fresh (scalars ++ arrays) (mentioned parts) in
     record {

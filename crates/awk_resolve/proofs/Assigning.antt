@@ -4,7 +4,7 @@ use Rattle.awk_tokens.specs.Words.{is_name, reserved}
 use Rattle.awk_tree.specs.Tree.{Text}
 use Rattle.awk_resolve.specs.Kinds as k
 use Rattle.awk_resolve.specs.Kinds.{global, Forced}
-use Rattle.awk_resolve.specs.declared.mention.Part.{Part}
+use Rattle.awk_resolve.specs.declared.mention.Section.{Section}
 use Rattle.awk_resolve.specs.Marks.{has, AreKinds}
 use Rattle.awk_resolve.specs.Assigns.{CanAssign, can_assign}
 use Rattle.awk_resolve.specs.declared.kinds.Kinds.{Kinds}
@@ -28,7 +28,7 @@ never : (b : Bool) → (b ≡ true → ⊥) → not b ≡ true
 never true n = absurd (n refl)
 never false n = refl
 
-pub may_assign : (parts : List Part) (c : Kinds) (x : Text) → AreKinds parts c → (can_assign c x ≡ true) ↔ CanAssign parts x
+pub may_assign : (parts : List Section) (c : Kinds) (x : Text) → AreKinds parts c → (can_assign c x ≡ true) ↔ CanAssign parts x
 may_assign parts c x kinds = (forward, back)
   where
     forward : can_assign c x ≡ true → CanAssign parts x

@@ -6,14 +6,14 @@ use Rattle.std.specs.Str.{bytes_eq}
 use Rattle.awk_text.specs.declared.place.Place.{Place}
 use Rattle.awk_resolve.specs.declared.mention.Mention.{Mention}
 use Rattle.awk_resolve.specs.declared.mention.Mention.TheVariants.{Call}
-use Rattle.awk_resolve.specs.declared.mention.Part.{Part}
+use Rattle.awk_resolve.specs.declared.mention.Section.{Section}
 use Rattle.awk_resolve.specs.Faults.{Miscalled, undefined, too_many}
 use Rattle.awk_resolve.specs.Search.{Counts, first, miscalled, miscalled_at}
 use Rattle.awk_resolve.proofs.Searches.{found, none}
 use Rattle.awk_resolve.proofs.Counting.{Knows}
 
-module _ (ps : List Part) (known : Counts) (k : Knows ps known) where
-  stands_at : (p : Part) (m : Mention) (place : Place) → Contains ps p → Contains p.mentions m → miscalled known p.role m ≡ Some place → Miscalled ps place
+module _ (ps : List Section) (known : Counts) (k : Knows ps known) where
+  stands_at : (p : Section) (m : Mention) (place : Place) → Contains ps p → Contains p.mentions m → miscalled known p.role m ≡ Some place → Miscalled ps place
   stands_at p (Call f args) place c d s = by (lookup (bytes_eq f.text) known) refl s
     where
       over : (n : ℕ) → lookup (bytes_eq f.text) known ≡ Some n → (b : Bool) → nat_lt n (length args) ≡ b → (if b then Some f.place else None) ≡ Some place → Miscalled ps place

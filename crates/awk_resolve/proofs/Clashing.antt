@@ -8,7 +8,7 @@ use Rattle.awk_resolve.specs.declared.mention.Mention as m
 use Rattle.awk_resolve.specs.declared.mention.Mention.TheVariants as said
 use Rattle.awk_resolve.specs.declared.mention.Role.{Role}
 use Rattle.awk_resolve.specs.declared.mention.Role.TheVariants as role
-use Rattle.awk_resolve.specs.declared.mention.Part.{Part}
+use Rattle.awk_resolve.specs.declared.mention.Section.{Section}
 use Rattle.awk_resolve.proofs.Lists.{contains_first, contains_later, contains_none, contains_cases}
 use Rattle.awk_resolve.specs.Uses as u
 use Rattle.awk_resolve.specs.declared.kinds.Kinds.{Kinds}
@@ -162,7 +162,7 @@ module _ (c : Kinds) where
   RoleAt role.Rule q = ⊥
   RoleAt (role.Function f ps) q = NameAt role.Begin f q ⊎ Some_of ps (NameAt (role.Function f ps)) q
 
-  abbrev pub PartAt : Part → Place → Type 0
+  abbrev pub PartAt : Section → Place → Type 0
   PartAt p q = RoleAt p.role q ⊎ Some_of p.mentions (MentionAt p.role) q
 
   name_adds : (r : Role) (n : Name) → Adds (NameAt r n) (s.at_name c r n)
@@ -190,12 +190,12 @@ module _ (c : Kinds) where
       then_adds (NameAt role.Begin f) (Some_of ps (NameAt (role.Function f ps))) (s.at_name c role.Begin f) (over (s.at_name c (role.Function f ps)) ps) (name_adds role.Begin f)
       (over_adds (NameAt (role.Function f ps)) (s.at_name c (role.Function f ps)) (name_adds (role.Function f ps)) ps)
 
-  part_adds : (p : Part) → Adds (PartAt p) (s.at_part c p)
+  part_adds : (p : Section) → Adds (PartAt p) (s.at_part c p)
   part_adds p =
       then_adds (RoleAt p.role) (Some_of p.mentions (MentionAt p.role)) (s.at_role c p.role) (over (s.at_mention c p.role) p.mentions) (role_adds p.role)
       (over_adds (MentionAt p.role) (s.at_mention c p.role) (mention_adds p.role) p.mentions)
 
-  pub least : (parts : List Part) → Least (Some_of parts PartAt) (over (s.at_part c) parts None)
+  pub least : (parts : List Section) → Least (Some_of parts PartAt) (over (s.at_part c) parts None)
   least parts = same_least (λ q. ⊥ ⊎ Some_of parts PartAt q) (Some_of parts PartAt) (over (s.at_part c) parts None) there (λ q d. inr d) (over_adds PartAt (s.at_part c) part_adds parts (λ q. ⊥) None (λ q d. d))
     where
       there : (q : Place) → ⊥ ⊎ Some_of parts PartAt q → Some_of parts PartAt q

@@ -11,7 +11,7 @@ use Rattle.awk_tree.specs.Tree.{Text}
 use Rattle.awk_tree.specs.declared.names.Name.{Name}
 use Rattle.awk_resolve.specs.declared.mention.Role.{Role}
 use Rattle.awk_resolve.specs.declared.mention.Role.TheVariants as role
-use Rattle.awk_resolve.specs.declared.mention.Part.{Part}
+use Rattle.awk_resolve.specs.declared.mention.Section.{Section}
 use Rattle.awk_resolve.specs.Kinds.{Defines}
 use Rattle.awk_resolve.specs.Faults.{Redefined, twice}
 use Rattle.awk_resolve.specs.Search.{Counts, redefined_at, redefined_in, with_role, redefined, counts}
@@ -19,20 +19,20 @@ use Rattle.awk_resolve.specs.TextTables.{with_text}
 use Rattle.awk_resolve.proofs.TableLemmas.{put_same, put_other}
 use Rattle.awk_resolve.proofs.Lists.{contains_first, contains_none, contains_cases}
 
-abbrev pub Known : List Part → Text → ℕ → Type 0
+abbrev pub Known : List Section → Text → ℕ → Type 0
 Known parts x n = (g : Name) × (qs : List Name) × Defines parts g qs × (g.text ≡ x) × (length qs ≡ n)
 
-pub record Knows (parts : List Part) (known : Counts) : Type 0 where
+pub record Knows (parts : List Section) (known : Counts) : Type 0 where
   pub sound : (x : Text) (n : ℕ) → lookup (bytes_eq x) known ≡ Some n → Known parts x n
   pub complete : (g : Name) (qs : List Name) → Defines parts g qs → lookup (bytes_eq g.text) known ≡ Some (length qs)
 
-defines_left : (ps qs : List Part) (f : Name) (fs : List Name) → Defines ps f fs → Defines (ps ++ qs) f fs
+defines_left : (ps qs : List Section) (f : Name) (fs : List Name) → Defines ps f fs → Defines (ps ++ qs) f fs
 defines_left ps qs f fs (p, c, e) = (p, Contains-append_left ps qs p c, e)
 
-defines_last : (ps : List Part) (p : Part) (f : Name) (fs : List Name) → p.role ≡ role.Function f fs → Defines (ps ++ p ∷ []) f fs
+defines_last : (ps : List Section) (p : Section) (f : Name) (fs : List Name) → p.role ≡ role.Function f fs → Defines (ps ++ p ∷ []) f fs
 defines_last ps p f fs e = (p, Contains-append_right ps (p ∷ []) p (contains_first p []), e)
 
-defines_cases : (ps : List Part) (p : Part) (f : Name) (fs : List Name) → Defines (ps ++ p ∷ []) f fs → Defines ps f fs ⊎ (p.role ≡ role.Function f fs)
+defines_cases : (ps : List Section) (p : Section) (f : Name) (fs : List Name) → Defines (ps ++ p ∷ []) f fs → Defines ps f fs ⊎ (p.role ≡ role.Function f fs)
 defines_cases ps p f fs (q, c, e) = by (Contains-append_cases ps (p ∷ []) q c)
   where
     by : Contains ps q ⊎ Contains (p ∷ []) q → Defines ps f fs ⊎ (p.role ≡ role.Function f fs)
@@ -47,7 +47,7 @@ pub no_parts : Knows [] []
 no_parts = record { sound = λ x n e. absurd (cc); complete = λ g qs d. absurd (contains_none d.0 d.1) }
 
 -- an item that is no function
-same_functions : (ps : List Part) (p : Part) (known : Counts) → ((f : Name) (fs : List Name) → p.role ≡ role.Function f fs → ⊥) → Knows ps known → Knows (ps ++ p ∷ []) known
+same_functions : (ps : List Section) (p : Section) (known : Counts) → ((f : Name) (fs : List Name) → p.role ≡ role.Function f fs → ⊥) → Knows ps known → Knows (ps ++ p ∷ []) known
 same_functions ps p known other k = record { sound = λ x n e. wider (k.sound x n e); complete = λ g qs d. narrower g qs (defines_cases ps p g qs d) }
   where
     wider : {x : Text} {n : ℕ} → Known ps x n → Known (ps ++ p ∷ []) x n
@@ -61,7 +61,7 @@ unknown : (o : Option ℕ) (f : Name) → redefined_at o f ≡ None → o ≡ No
 unknown None f e = refl
 unknown (Some n) f e = cc
 
-one_more : (ps : List Part) (p : Part) (f : Name) (fs : List Name) (known : Counts) → p.role ≡ role.Function f fs → lookup (bytes_eq f.text) known ≡ None → Knows ps known
+one_more : (ps : List Section) (p : Section) (f : Name) (fs : List Name) (known : Counts) → p.role ≡ role.Function f fs → lookup (bytes_eq f.text) known ≡ None → Knows ps known
     → Knows (ps ++ p ∷ []) (with_text f.text (length fs) known)
 one_more ps p f fs known e new k = record { sound = λ x n h. told x n h (cases_Bool (bytes_eq x f.text)); complete = λ g qs d. held g qs (defines_cases ps p g qs d) (cases_Bool (bytes_eq g.text f.text)) }
   where
@@ -82,13 +82,13 @@ one_more ps p f fs known e new k = record { sound = λ x n h. told x n h (cases_
     held g qs (inr d) b = let one : role.Function f fs ≡ role.Function g qs = sym e ∙ d in let same : f ≡ g = cc in let all : fs ≡ qs = cc in
         rw (← same, ← all) (put_same f.text (length fs) known)
 
-step : (ps : List Part) (p : Part) (r : Role) (known : Counts) → p.role ≡ r → redefined_in known r ≡ None → Knows ps known → Knows (ps ++ p ∷ []) (with_role r known)
+step : (ps : List Section) (p : Section) (r : Role) (known : Counts) → p.role ≡ r → redefined_in known r ≡ None → Knows ps known → Knows (ps ++ p ∷ []) (with_role r known)
 step ps p role.Begin known e h k = same_functions ps p known (λ f fs d. absurd (cc)) k
 step ps p role.End known e h k = same_functions ps p known (λ f fs d. absurd (cc)) k
 step ps p role.Rule known e h k = same_functions ps p known (λ f fs d. absurd (cc)) k
 step ps p (role.Function f fs) known e h k = one_more ps p f fs known e (unknown (lookup (bytes_eq f.text) known) f h) k
 
-twice_here : (before ps : List Part) (p : Part) (r : Role) (known : Counts) (place : Place) → p.role ≡ r → Knows before known → redefined_in known r ≡ Some place → Redefined (before ++ p ∷ ps) place
+twice_here : (before ps : List Section) (p : Section) (r : Role) (known : Counts) (place : Place) → p.role ≡ r → Knows before known → redefined_in known r ≡ Some place → Redefined (before ++ p ∷ ps) place
 twice_here before ps p role.Begin known place e k h = cc
 twice_here before ps p role.End known place e k h = cc
 twice_here before ps p role.Rule known place e k h = cc
@@ -98,7 +98,7 @@ twice_here before ps p (role.Function f fs) known place e k h = by (lookup (byte
     by None l h2 = cc
     by (Some n) l h2 = let (g, qs, d, same, count) = k.sound f.text n l in let at : f.place ≡ place = cc in rw (← at) (twice before ps p f g fs qs refl e d same)
 
-pub redefined_stands : (before ps : List Part) (known : Counts) (place : Place) → Knows before known → redefined known ps ≡ Some place → Redefined (before ++ ps) place
+pub redefined_stands : (before ps : List Section) (known : Counts) (place : Place) → Knows before known → redefined known ps ≡ Some place → Redefined (before ++ ps) place
 redefined_stands before [] known place k e = cc
 redefined_stands before (p ∷ ps) known place k e =
     by (redefined_in known p.role) refl e (λ h. redefined_stands (before ++ p ∷ []) ps (with_role p.role known) place (step before p p.role known refl h k))
@@ -117,21 +117,21 @@ then_none : (o u : Option Place) → option_or o u ≡ None → u ≡ None
 then_none None u e = e
 then_none (Some x) u e = cc
 
-pub knows_all : (before ps : List Part) (known : Counts) → Knows before known → redefined known ps ≡ None → Knows (before ++ ps) (counts known ps)
+pub knows_all : (before ps : List Section) (known : Counts) → Knows before known → redefined known ps ≡ None → Knows (before ++ ps) (counts known ps)
 knows_all before [] known k e = rw (append-nil before) k
 knows_all before (p ∷ ps) known k e =
     let a = first_none (redefined_in known p.role) _ e in
     let b = then_none (redefined_in known p.role) _ e in
     rw append_assoc at (knows_all (before ++ p ∷ []) ps (with_role p.role known) (step before p p.role known refl a k) b)
 
-not_known : (before : List Part) (known : Counts) (r : Role) (f g : Name) (fs qs : List Name) → Knows before known → redefined_in known r ≡ None → r ≡ role.Function f fs → Defines before g qs → g.text ≡ f.text → ⊥
+not_known : (before : List Section) (known : Counts) (r : Role) (f g : Name) (fs qs : List Name) → Knows before known → redefined_in known r ≡ None → r ≡ role.Function f fs → Defines before g qs → g.text ≡ f.text → ⊥
 not_known before known r f g fs qs k h e d same =
     let there = rw same at (k.complete g qs d) in
     let none = rw e at h in
     let new = unknown (lookup (bytes_eq f.text) known) f none in
     cc
 
-no_twice : (before ps : List Part) (known : Counts) → Knows before known → redefined known ps ≡ None → (mid after : List Part) (p : Part) (f g : Name) (fs qs : List Name) → ps ≡ mid ++ p ∷ after
+no_twice : (before ps : List Section) (known : Counts) → Knows before known → redefined known ps ≡ None → (mid after : List Section) (p : Section) (f g : Name) (fs qs : List Name) → ps ≡ mid ++ p ∷ after
     → p.role ≡ role.Function f fs → Defines (before ++ mid) g qs → g.text ≡ f.text → ⊥
 no_twice before [] known k e [] after p f g fs qs parts r d same = cc
 no_twice before [] known k e (m ∷ mid) after p f g fs qs parts r d same = cc
@@ -147,5 +147,5 @@ no_twice before (q ∷ ps) known k e (m ∷ mid) after p f g fs qs parts r d sam
     let d2 = rw (← one) at d in
     no_twice (before ++ q ∷ []) ps (with_role q.role known) (step before q q.role known refl a k) b mid after p f g fs qs rest r (rw (append_assoc before (q ∷ []) mid) d2) same
 
-pub redefined_none : (ps : List Part) → redefined [] ps ≡ None → (place : Place) → Redefined ps place → ⊥
+pub redefined_none : (ps : List Section) → redefined [] ps ≡ None → (place : Place) → Redefined ps place → ⊥
 redefined_none ps e place (twice before after p f g fs qs parts r d same) = no_twice [] ps [] no_parts e before after p f g fs qs parts r d same

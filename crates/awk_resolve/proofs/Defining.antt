@@ -1,7 +1,7 @@
 -- The three searches together find a fault of the functions, and find none only where there is none.
 use Rattle.std.proofs.Common.{◌≡◌, sym, List, [], Option, Some, None, IfSome, IfNone}
 use Rattle.awk_text.specs.declared.place.Place.{Place}
-use Rattle.awk_resolve.specs.declared.mention.Part.{Part}
+use Rattle.awk_resolve.specs.declared.mention.Section.{Section}
 use Rattle.awk_resolve.specs.Faults as f
 use Rattle.awk_resolve.specs.Faults.{Misdefined}
 use Rattle.awk_resolve.specs.Search.{redefined, counts, misnamed, miscalled, first}
@@ -9,20 +9,20 @@ use Rattle.awk_resolve.proofs.Counting.{Knows, no_parts, knows_all, redefined_st
 use Rattle.awk_resolve.proofs.Naming.{misnamed_stands, misnamed_none}
 use Rattle.awk_resolve.proofs.Calling.{miscalled_stands, miscalled_none}
 
-pub all_known : (ps : List Part) → redefined [] ps ≡ None → Knows ps (counts [] ps)
+pub all_known : (ps : List Section) → redefined [] ps ≡ None → Knows ps (counts [] ps)
 all_known ps e = knows_all [] ps [] no_parts e
 
-pub is_redefined : (ps : List Part) (place : Place) → Some place ≡ redefined [] ps → Misdefined ps place
+pub is_redefined : (ps : List Section) (place : Place) → Some place ≡ redefined [] ps → Misdefined ps place
 is_redefined ps place e = f.redefined place (redefined_stands [] ps [] place no_parts (sym e))
 
-pub is_misnamed : (ps : List Part) (place : Place) → None ≡ redefined [] ps → Some place ≡ misnamed (counts [] ps) ps → Misdefined ps place
+pub is_misnamed : (ps : List Section) (place : Place) → None ≡ redefined [] ps → Some place ≡ misnamed (counts [] ps) ps → Misdefined ps place
 is_misnamed ps place d e = f.misnamed place (misnamed_stands ps (counts [] ps) (all_known ps (sym d)) place (sym e))
 
-pub is_miscalled : (ps : List Part) (o : Option Place) → None ≡ redefined [] ps → o ≡ first (miscalled (counts [] ps)) ps → IfSome o (λ place. Misdefined ps place)
+pub is_miscalled : (ps : List Section) (o : Option Place) → None ≡ redefined [] ps → o ≡ first (miscalled (counts [] ps)) ps → IfSome o (λ place. Misdefined ps place)
 is_miscalled ps None d e = tt
 is_miscalled ps (Some place) d e = f.miscalled place (miscalled_stands ps (counts [] ps) (all_known ps (sym d)) place (sym e))
 
-pub is_whole : (ps : List Part) (o : Option Place) → None ≡ redefined [] ps → None ≡ misnamed (counts [] ps) ps → o ≡ first (miscalled (counts [] ps)) ps
+pub is_whole : (ps : List Section) (o : Option Place) → None ≡ redefined [] ps → None ≡ misnamed (counts [] ps) ps → o ≡ first (miscalled (counts [] ps)) ps
     → IfNone o ((place : Place) → Misdefined ps place → ⊥)
 is_whole ps (Some place) d n e = tt
 is_whole ps None d n e = λ place fault. by place fault

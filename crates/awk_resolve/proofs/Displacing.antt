@@ -8,7 +8,7 @@ use Rattle.awk_resolve.specs.declared.mention.Mention.{Mention}
 use Rattle.awk_resolve.specs.declared.mention.Mention.TheVariants.{Scalar, Array, Measured, Call, Next, Return, Stray}
 use Rattle.awk_resolve.specs.declared.mention.Role.{Role}
 use Rattle.awk_resolve.specs.declared.mention.Role.TheVariants as role
-use Rattle.awk_resolve.specs.declared.mention.Part.{Part}
+use Rattle.awk_resolve.specs.declared.mention.Section.{Section}
 use Rattle.awk_resolve.specs.Kinds as kinds
 use Rattle.awk_resolve.specs.Kinds.{Kind, Named, texts, meant, Defines, Calls, Takes, Forced, Measures, Agrees}
 use Rattle.awk_resolve.specs.Faults as faults
@@ -109,21 +109,21 @@ none_back : (o : Option Name) → option_map bare_name o ≡ None → o ≡ None
 none_back None e = refl
 none_back (Some m) e = absurd (cc)
 
-mention_in : (p q : Part) (m : Mention) → bare_part q ≡ p → Contains p.mentions m → Contains (map bare_mention q.mentions) m
+mention_in : (p q : Section) (m : Mention) → bare_part q ≡ p → Contains p.mentions m → Contains (map bare_mention q.mentions) m
 mention_in p q m s d = subst (λ w. Contains w.mentions m) (sym s) d
 
-role_of : (p q : Part) → bare_part q ≡ p → bare_role q.role ≡ p.role
+role_of : (p q : Section) → bare_part q ≡ p → bare_role q.role ≡ p.role
 role_of p q s = ap (λ w. w.role) s
 
-defines_back : (ps : List Part) (f : Name) (fs : List Name) → Defines (map bare_part ps) f fs →
+defines_back : (ps : List Section) (f : Name) (fs : List Name) → Defines (map bare_part ps) f fs →
     (g : Name) × (gs : List Name) × Defines ps g gs × (bare_name g ≡ f) × (map bare_name gs ≡ fs)
 defines_back ps f fs (p, c, e) =
     let (q, d, s) = contains_map bare_part ps p c in let (g, gs, h, i, j) = function_back q.role f fs (role_of p q s ∙ e) in (g, gs, (q, d, h), i, j)
 
-defines_bare : (ps : List Part) (f : Name) (fs : List Name) → Defines ps f fs → Defines (map bare_part ps) (bare_name f) (map bare_name fs)
+defines_bare : (ps : List Section) (f : Name) (fs : List Name) → Defines ps f fs → Defines (map bare_part ps) (bare_name f) (map bare_name fs)
 defines_bare ps f fs (p, c, e) = (bare_part p, map_contains bare_part ps p c, ap bare_role e)
 
-calls_back : (ps : List Part) (r : Role) (f : Name) (args : List (Option Name)) → Calls (map bare_part ps) r f args →
+calls_back : (ps : List Section) (r : Role) (f : Name) (args : List (Option Name)) → Calls (map bare_part ps) r f args →
     (s : Role) × (g : Name) × (given : List (Option Name)) × Calls ps s g given × (bare_role s ≡ r) × (bare_name g ≡ f) × (map (option_map bare_name) given ≡ args)
 calls_back ps r f args (p, c, e, d) =
     let (q, c', s) = contains_map bare_part ps p c in
@@ -133,7 +133,7 @@ calls_back ps r f args (p, c, e, d) =
 
 -- ---- words
 
-misplaced_back : (ps : List Part) (place : Place) → Misplaced (map bare_part ps) place → (q : Place) × Misplaced ps q
+misplaced_back : (ps : List Section) (place : Place) → Misplaced (map bare_part ps) place → (q : Place) × Misplaced ps q
 misplaced_back ps place (faults.next_in_begin p place' c e d) =
     let (q, c', s) = contains_map bare_part ps p c in
     let (m, d', h) = contains_map bare_mention q.mentions (Next place') (mention_in p q (Next place') s d) in
@@ -157,14 +157,14 @@ misplaced_back ps place (faults.outside_loop p place' c d) =
 
 -- ---- functions and parameters
 
-redefined_back : (ps : List Part) (place : Place) → Redefined (map bare_part ps) place → (q : Place) × Redefined ps q
+redefined_back : (ps : List Section) (place : Place) → Redefined (map bare_part ps) place → (q : Place) × Redefined ps q
 redefined_back ps place (faults.twice before after p f g fs gs split e d same) =
     let (b, q, a, h, i, j) = map_split bare_part ps before p after split in
     let (f', fs', k, l, l') = function_back q.role f fs (role_of p q j ∙ e) in
     let (g', gs', d', n, n') = defines_back b g gs (subst (λ w. Defines w g gs) (sym i) d) in
     (f'.place, faults.twice b a q f' g' fs' gs' h k d' (text_is g' g n ∙ same ∙ sym (text_is f' f l)))
 
-miscalled_back : (ps : List Part) (place : Place) → Miscalled (map bare_part ps) place → (q : Place) × Miscalled ps q
+miscalled_back : (ps : List Section) (place : Place) → Miscalled (map bare_part ps) place → (q : Place) × Miscalled ps q
 miscalled_back ps place (faults.undefined r f args c n) =
     let (s, f', given, c', i, j, k) = calls_back ps r f args c in
     (f'.place, faults.undefined s f' given c' (λ g gs d e. n (bare_name g) (map bare_name gs) (defines_bare ps g gs d) (e ∙ text_is f' f j)))
@@ -176,7 +176,7 @@ miscalled_back ps place (faults.too_many r f g args fs c d e l) =
           (omega (arith, l, ap length n', ap length k, length_map bare_name gs', length_map (option_map bare_name) given)),
     )
 
-misnamed_back : (ps : List Part) (place : Place) → Misnamed (map bare_part ps) place → (q : Place) × Misnamed ps q
+misnamed_back : (ps : List Section) (place : Place) → Misnamed (map bare_part ps) place → (q : Place) × Misnamed ps q
 misnamed_back ps place (faults.parameter_twice f fs before after q d split c) =
     let (f', fs', d', i, j) = defines_back ps f fs d in
     let (b, x, a, h, k, l) = map_split bare_name fs' before q after (j ∙ split) in (
@@ -194,7 +194,7 @@ misnamed_back ps place (faults.as_variable f fs q d c v) =
     let (x, c', h) = contains_map bare_name fs' q (subst (λ w. Contains w q) (sym j) c) in
     (x.place, faults.as_variable f' fs' x d' c' (subst (λ w. Contains (kinds.scalars ++ kinds.arrays) w) (sym (text_is x q h)) v))
 
-misdefined_back : (ps : List Part) (place : Place) → Misdefined (map bare_part ps) place → (q : Place) × Misdefined ps q
+misdefined_back : (ps : List Section) (place : Place) → Misdefined (map bare_part ps) place → (q : Place) × Misdefined ps q
 misdefined_back ps place (faults.redefined place' h) = let (q, i) = redefined_back ps place' h in (q, faults.redefined q i)
 misdefined_back ps place (faults.misnamed place' h) = let (q, i) = misnamed_back ps place' h in (q, faults.misnamed q i)
 misdefined_back ps place (faults.miscalled place' h) = let (q, i) = miscalled_back ps place' h in (q, faults.miscalled q i)
@@ -210,7 +210,7 @@ meant_bare (role.Function f fs) x = rw (texts_bare fs) refl
 meant_is : (r s : Role) (n m : Name) → bare_role s ≡ r → bare_name m ≡ n → meant s m.text ≡ meant r n.text
 meant_is r s n m e d = sym (meant_bare s m.text) ∙ ap (λ w. meant w m.text) e ∙ ap (λ w. meant r w) (text_is m n d)
 
-takes_back : (ps : List Part) (f : Text) (i : ℕ) (q : Name) → Takes (map bare_part ps) f i q → (x : Name) × Takes ps f i x × (bare_name x ≡ q)
+takes_back : (ps : List Section) (f : Text) (i : ℕ) (q : Name) → Takes (map bare_part ps) f i q → (x : Name) × Takes ps f i x × (bare_name x ≡ q)
 takes_back ps f i q (g, gs, d, e, h) =
     let (g', gs', d', j, k) = defines_back ps g gs d in
     let (x, l, n) = get_map bare_name gs' i q (ap (λ w. slice_get w i) k ∙ h) in
@@ -219,7 +219,7 @@ takes_back ps f i q (g, gs, d, e, h) =
 parameter_is : (f q f' q' : Name) → bare_name f' ≡ f → bare_name q' ≡ q → kinds.parameter f.text q.text ≡ kinds.parameter f'.text q'.text
 parameter_is f q f' q' e d = rw (text_is f' f e, text_is q' q d) refl
 
-measures_back : (ps : List Part) (n : Named) → Measures (map bare_part ps) n → Measures ps n
+measures_back : (ps : List Section) (n : Named) → Measures (map bare_part ps) n → Measures ps n
 measures_back ps n (kinds.asked p x c d) =
     let (q, c', s) = contains_map bare_part ps p c in
     let (m, d', h) = contains_map bare_mention q.mentions (Measured x) (mention_in p q (Measured x) s d) in
@@ -234,7 +234,7 @@ measures_back ps n (kinds.handed_on r f args i x q c a t h) =
     (kinds.handed_on s f' given i y q' c' (a' ∙ ap Some v) (subst (λ g. Takes ps g i q') (sym (text_is f' f j)) t')
     (subst (λ n'. Measures ps n') (parameter_is f q f' q' j w) (measures_back ps (kinds.parameter f.text q.text) h)))
 
-forced_back : (ps : List Part) (n : Named) (k : Kind) → Forced (map bare_part ps) n k → Forced ps n k
+forced_back : (ps : List Section) (n : Named) (k : Kind) → Forced (map bare_part ps) n k → Forced ps n k
 forced_back ps n k (kinds.own_scalar x c) = kinds.own_scalar x c
 forced_back ps n k (kinds.own_array x c) = kinds.own_array x c
 forced_back ps n k (kinds.defined f fs d) =
@@ -283,10 +283,10 @@ forced_back ps n k (kinds.measured r f args i x q c a t asks h) =
     (subst (λ n'. Measures ps n') (parameter_is f q f' q' j w) (measures_back ps (kinds.parameter f.text q.text) asks))
     (subst (λ n'. Forced ps n' kinds.array) (sym (meant_is r s x y b z)) (forced_back ps (meant r x.text) kinds.array h)))
 
-agrees_bare : (ps : List Part) → Agrees ps → Agrees (map bare_part ps)
+agrees_bare : (ps : List Section) → Agrees ps → Agrees (map bare_part ps)
 agrees_bare ps h n k l a b = h n k l (forced_back ps n k a) (forced_back ps n l b)
 
-gives_bare : (ps : List Part) → GivesArrays ps → GivesArrays (map bare_part ps)
+gives_bare : (ps : List Section) → GivesArrays ps → GivesArrays (map bare_part ps)
 gives_bare ps h r f args i q c a t d =
     let (s, f', given, c', b, j, l) = calls_back ps r f args c in
     let (o, a', u) = get_map (option_map bare_name) given i None (ap (λ w. slice_get w i) l ∙ a) in
@@ -295,7 +295,7 @@ gives_bare ps h r f args i q c a t d =
     (subst (λ g. Forced ps (kinds.parameter g q'.text) kinds.array) (sym (text_is f' f j))
     (subst (λ g. Forced ps (kinds.parameter f.text g) kinds.array) (sym (text_is q' q w)) (forced_back ps (kinds.parameter f.text q.text) kinds.array d)))
 
-faultless_bare : (ps : List Part) → Faultless ps → Faultless (map bare_part ps)
+faultless_bare : (ps : List Section) → Faultless ps → Faultless (map bare_part ps)
 faultless_bare ps h = record {
   placed = λ place m. (let (q, i) = misplaced_back ps place m in h.placed q i);
   defined = λ place m. (let (q, i) = misdefined_back ps place m in h.defined q i);

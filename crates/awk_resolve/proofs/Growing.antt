@@ -7,7 +7,7 @@ use Rattle.std.proofs.lemmas.List.Quantifiers.{position-Some}
 use Rattle.awk_tree.specs.Tree.{Text}
 use Rattle.awk_tree.specs.declared.names.Name.{Name}
 use Rattle.awk_resolve.specs.declared.mention.Mention.{Mention}
-use Rattle.awk_resolve.specs.declared.mention.Part.{Part}
+use Rattle.awk_resolve.specs.declared.mention.Section.{Section}
 use Rattle.awk_resolve.specs.Rolls.{added}
 use Rattle.awk_resolve.proofs.Lists.{drop_here}
 use Rattle.awk_resolve.proofs.Rolls.{none_among}
@@ -60,7 +60,7 @@ mentions_on ps all old new m ms i h e is far =
     far ∙ ap (λ xs. behind old (outside ps (all_used xs))) (drop_here ms i m h e)
     ∙ both_append ps old (used m) (all_used (drop (i + 1) ms)) ∙ ap (λ b. behind b (outside ps (all_used (drop (i + 1) ms)))) (sym is)
 
-pub parts_on : (all old new : List Text) (p : Part) (ps : List Part) (i : ℕ) → i < length ps → p ≡ get_or ps i p
+pub parts_on : (all old new : List Text) (p : Section) (ps : List Section) (i : ℕ) → i < length ps → p ≡ get_or ps i p
     → new ≡ behind old (outside (own_of p.role) (all_used p.mentions)) → all ≡ behind old (mentioned (drop i ps)) → all ≡ behind new (mentioned (drop (i + 1) ps))
 parts_on all old new p ps i h e is far =
     far ∙ ap (λ xs. behind old (mentioned xs)) (drop_here ps i p h e)

@@ -16,7 +16,7 @@ use Rattle.awk_resolve.specs.declared.mention.Mention as m
 use Rattle.awk_resolve.specs.declared.mention.Mention.TheVariants as said
 use Rattle.awk_resolve.specs.declared.mention.Role.{Role}
 use Rattle.awk_resolve.specs.declared.mention.Role.TheVariants as role
-use Rattle.awk_resolve.specs.declared.mention.Part.{Part}
+use Rattle.awk_resolve.specs.declared.mention.Section.{Section}
 use Rattle.awk_resolve.proofs.Naming.{among_contains}
 use Rattle.awk_resolve.specs.Numbering as s
 use Rattle.awk_resolve.specs.Numbering.{number, number_in}
@@ -52,7 +52,7 @@ meant_text r x y e = by r e
     by role.Rule e = global_text x y e
     by (role.Function f ps) e = of_function (is_among (texts ps) x) f.text x y e
 
-module _ (parts : List Part) (well : (place : Place) → Misdefined parts place → ⊥) where
+module _ (parts : List Section) (well : (place : Place) → Misdefined parts place → ⊥) where
   abbrev t : Numbers
   t = s.numbers parts
 
@@ -70,11 +70,11 @@ module _ (parts : List Part) (well : (place : Place) → Misdefined parts place 
   abbrev pub Means : Kind → ℕ → Type 0
   Means kind n = Holds (λ a. Forced parts a kind) n
 
-  named : (p : Part) (x : Text) (n : ℕ) → Contains parts p → number_in t p.role x ≡ Some n → number t (meant p.role x) ≡ Some n
+  named : (p : Section) (x : Text) (n : ℕ) → Contains parts p → number_in t p.role x ≡ Some n → number t (meant p.role x) ≡ Some n
   named p x n c e = sym (here parts well p x c) ∙ e
 
   -- the name of a function means the function, since no parameter has it
-  pub meant_function : (p : Part) (g : Name) (ps : List Name) (x : Text) → Contains parts p → Defines parts g ps → g.text ≡ x → meant p.role x ≡ global g.text
+  pub meant_function : (p : Section) (g : Name) (ps : List Name) (x : Text) → Contains parts p → Defines parts g ps → g.text ≡ x → meant p.role x ≡ global g.text
   meant_function p g ps x c d same = by p.role refl
     where
       in_function : (f : Name) (qs : List Name) (b : Bool) → p.role ≡ role.Function f qs → is_among (texts qs) x ≡ b → (if b then parameter f.text x else global x) ≡ global g.text
@@ -107,10 +107,10 @@ module _ (parts : List Part) (well : (place : Place) → Misdefined parts place 
   Right (Array n) = Means k.array n
   Right (Measured n) = Holds (Measures parts) n
   Right (Handed q n) =
-      (p : Part) × (f : Name) × (args : List (Option Name)) × (i : ℕ) × (x : Name) × Contains parts p × Contains p.mentions (said.Call f args) × (slice_get args i ≡ Some (Some x))
+      (p : Section) × (f : Name) × (args : List (Option Name)) × (i : ℕ) × (x : Name) × Contains parts p × Contains p.mentions (said.Call f args) × (slice_get args i ≡ Some (Some x))
       × (slice_get (u.parameters t f.text) i ≡ Some q) × (number_in t p.role x.text ≡ Some n)
 
-  call_right : (p : Part) (f : Name) (args : List (Option Name)) (v : Use) → Contains parts p → Contains p.mentions (said.Call f args) → Contains (u.arguments t p.role (u.parameters t f.text) 0 args) v → Right v
+  call_right : (p : Section) (f : Name) (args : List (Option Name)) (v : Use) → Contains parts p → Contains p.mentions (said.Call f args) → Contains (u.arguments t p.role (u.parameters t f.text) 0 args) v → Right v
   call_right p f args v c d e = by (found_argument t p.role (u.parameters t f.text) 0 args v e)
     where
       said_by : (i : ℕ) (x : Name) → slice_get args i ≡ Some (Some x)
@@ -131,7 +131,7 @@ module _ (parts : List Part) (well : (place : Place) → Misdefined parts place 
           let (x, is, says) = argument_is t p.role (slice_get (u.parameters t f.text) j) a v (rw plain at g) in
           said_by j x (rw is at at2) says
 
-  measured_right : (p : Part) (x : Name) (v : Use) → Contains parts p → Contains p.mentions (said.Measured x) → Contains (u.function t p.role x.text ++ u.measured t p.role x.text) v → Right v
+  measured_right : (p : Section) (x : Name) (v : Use) → Contains parts p → Contains p.mentions (said.Measured x) → Contains (u.function t p.role x.text ++ u.measured t p.role x.text) v → Right v
   measured_right p x v c d e = elim (Contains-append_cases (u.function t p.role x.text) (u.measured t p.role x.text) v e) [
     | inl g ↦ let (is, h) = function_is t p.role x.text v g in of_function is h
     | inr g ↦ let (n, there, same) = measured_is t p.role x.text v g in rw (← same) (meant p.role x.text, named p x.text n c there, k.asked p x c d)
@@ -145,7 +145,7 @@ module _ (parts : List Part) (well : (place : Place) → Misdefined parts place 
           let found_number = named p x.text n c there in
           rw (← same) (global h.text, rw meaning at found_number, k.measured_function p x h ps c d def meaning)
 
-  mention_right : (p : Part) (n : m.Mention) (v : Use) → Contains parts p → Contains p.mentions n → Contains (u.mention t p.role n) v → Right v
+  mention_right : (p : Section) (n : m.Mention) (v : Use) → Contains parts p → Contains p.mentions n → Contains (u.mention t p.role n) v → Right v
   mention_right p (said.Scalar x) v c d e = let (n, there, same) = scalar_is t p.role x.text v e in rw (← same) (meant p.role x.text, named p x.text n c there, k.read_or_set p x c d)
   mention_right p (said.Array x) v c d e = let (n, there, same) = array_is t p.role x.text v e in rw (← same) (meant p.role x.text, named p x.text n c there, k.subscripted p x c d)
   mention_right p (said.Measured x) v c d e = measured_right p x v c d e
@@ -180,7 +180,7 @@ module _ (parts : List Part) (well : (place : Place) → Misdefined parts place 
   -- what holds of a parameter holds of what is handed to it
   abbrev Leads : (Named → Type 0) → Type 0
   Leads P =
-      (p : Part) (f : Name) (args : List (Option Name)) (i : ℕ) (x q : Name) → Contains parts p → Contains p.mentions (said.Call f args) → slice_get args i ≡ Some (Some x)
+      (p : Section) (f : Name) (args : List (Option Name)) (i : ℕ) (x q : Name) → Contains parts p → Contains p.mentions (said.Call f args) → slice_get args i ≡ Some (Some x)
       → Takes parts f.text i q → P (parameter f.text q.text) → P (meant p.role x.text)
 
   forced_leads : (kind : Kind) → Leads (λ a. Forced parts a kind)
@@ -233,7 +233,7 @@ module _ (parts : List Part) (well : (place : Place) → Misdefined parts place 
   inside : (links : List (List ℕ)) → length links ≡ t.count → (a : Named) (n : ℕ) → number t a ≡ Some n → n < length links
   inside links long a n e = let h = (injective parts well).within a n e in rw long h
 
-  in_parts : (p : Part) (n : m.Mention) (v : Use) → Contains parts p → Contains p.mentions n → Contains (u.mention t p.role n) v → Contains us v
+  in_parts : (p : Section) (n : m.Mention) (v : Use) → Contains parts p → Contains p.mentions n → Contains (u.mention t p.role n) v → Contains us v
   in_parts p n v c d e = Contains-append_right (u.own_scalars t k.scalars) _ v (Contains-append_right (u.own_arrays t k.arrays) (u.parts t parts) v (has t parts p n v c d e))
 
   scalar_in : (r : Role) (x : Text) (n : ℕ) → number_in t r x ≡ Some n → Contains (u.scalar t r x) (Scalar n)
@@ -261,16 +261,16 @@ module _ (parts : List Part) (well : (place : Place) → Misdefined parts place 
   from_scalar : (a : Named) (n : ℕ) → number t a ≡ Some n → Contains us (Scalar n) → Gets (u.scalars us) table a
   from_scalar a n e c = starts_with (u.scalars us) table table_length a n e (scalars_have us n c)
 
-  argument_text : (p : Part) (f : Name) (args : List (Option Name)) (x : Name) → Contains parts p → Contains p.mentions (said.Call f args) → Contains args (Some x) → Known t p.role x.text
+  argument_text : (p : Section) (f : Name) (args : List (Option Name)) (x : Name) → Contains parts p → Contains p.mentions (said.Call f args) → Contains args (Some x) → Known t p.role x.text
   argument_text p f args x c d e = known parts well p (said.Call f args) x c d e
 
-  in_call : (p : Part) (f : Name) (args : List (Option Name)) (i : ℕ) (x : Name) (v : Use) → Contains parts p → Contains p.mentions (said.Call f args) → slice_get args i ≡ Some (Some x)
+  in_call : (p : Section) (f : Name) (args : List (Option Name)) (i : ℕ) (x : Name) (v : Use) → Contains parts p → Contains p.mentions (said.Call f args) → slice_get args i ≡ Some (Some x)
       → Contains (u.function t p.role x.text ++ u.handed t p.role (slice_get (u.parameters t f.text) i) x.text) v → Contains us v
   in_call p f args i x v c d at2 e =
       let plain : i ≡ 0 + i = omega arith in
       in_parts p (said.Call f args) v c d (has_argument t p.role (u.parameters t f.text) 0 args i (Some x) v at2 (rw plain at e))
 
-  from_function : (p : Part) (f : Name) (args : List (Option Name)) (x g : Name) (ps : List Name) → Contains parts p → Contains p.mentions (said.Call f args) → Contains args (Some x) → Defines parts g ps
+  from_function : (p : Section) (f : Name) (args : List (Option Name)) (x g : Name) (ps : List Name) → Contains parts p → Contains p.mentions (said.Call f args) → Contains args (Some x) → Defines parts g ps
       → meant p.role x.text ≡ global g.text → Gets (u.scalars us) table (global g.text)
   from_function p f args x g ps c d e def meaning =
       let (n, there) = argument_text p f args x c d e in
@@ -280,7 +280,7 @@ module _ (parts : List Part) (well : (place : Place) → Misdefined parts place 
       let is_one : u.is_function t x.text ≡ true = rw same (function_found g ps def) in
       from_scalar (global g.text) n numbered (in_call p f args i x (Scalar n) c d at2 (Contains-append_left (u.function t p.role x.text) _ (Scalar n) (function_in p.role x.text n is_one there)))
 
-  from_measured_function : (p : Part) (x g : Name) (ps : List Name) → Contains parts p → Contains p.mentions (said.Measured x) → Defines parts g ps → meant p.role x.text ≡ global g.text
+  from_measured_function : (p : Section) (x g : Name) (ps : List Name) → Contains parts p → Contains p.mentions (said.Measured x) → Defines parts g ps → meant p.role x.text ≡ global g.text
       → Gets (u.scalars us) table (global g.text)
   from_measured_function p x g ps c d def meaning =
       let (n, there) = known parts well p (said.Measured x) x c d refl in
@@ -290,7 +290,7 @@ module _ (parts : List Part) (well : (place : Place) → Misdefined parts place 
       from_scalar (global g.text) n numbered (in_parts p (said.Measured x) (Scalar n) c d (Contains-append_left (u.function t p.role x.text) _ (Scalar n) (function_in p.role x.text n is_one there)))
 
   -- the numbers of a parameter and of what is handed to it
-  handing : (p : Part) (f : Name) (args : List (Option Name)) (i : ℕ) (x q : Name) → Contains parts p → Contains p.mentions (said.Call f args) → slice_get args i ≡ Some (Some x) → Takes parts f.text i q
+  handing : (p : Section) (f : Name) (args : List (Option Name)) (i : ℕ) (x q : Name) → Contains parts p → Contains p.mentions (said.Call f args) → slice_get args i ≡ Some (Some x) → Takes parts f.text i q
       → (n : ℕ) × (a : ℕ) × (number t (parameter f.text q.text) ≡ Some n) × (number t (meant p.role x.text) ≡ Some a) × Contains us (Handed n a)
   handing p f args i x q c d at2 tk =
       let (sc, n, l, place, numbered) = takes parts well f.text i q tk in
@@ -302,7 +302,7 @@ module _ (parts : List Part) (well : (place : Place) → Misdefined parts place 
   long_enough a n e = rw (length-replicate {A = List ℕ} t.count []) ((injective parts well).within a n e)
 
   from_link : (starts : List ℕ) (links : List (List ℕ)) → length links ≡ t.count → ((n a : ℕ) → Linked table n a → Linked links n a)
-      → (p : Part) (f : Name) (args : List (Option Name)) (i : ℕ) (x q : Name) → Contains parts p → Contains p.mentions (said.Call f args) → slice_get args i ≡ Some (Some x) → Takes parts f.text i q
+      → (p : Section) (f : Name) (args : List (Option Name)) (i : ℕ) (x q : Name) → Contains parts p → Contains p.mentions (said.Call f args) → slice_get args i ≡ Some (Some x) → Takes parts f.text i q
       → Gets starts links (parameter f.text q.text) → Gets starts links (meant p.role x.text)
   from_link starts links long wide p f args i x q c d at2 tk (m, numbered2, there) =
       let (n, a, numbered, meaning, use_there) = handing p f args i x q c d at2 tk in
@@ -346,7 +346,7 @@ module _ (parts : List Part) (well : (place : Place) → Misdefined parts place 
     from_array : (a : Named) (n : ℕ) → number t a ≡ Some n → Contains us (Array n) → Gets (u.arrays us) back a
     from_array a n e c = starts_with (u.arrays us) back long_back a n e (arrays_have us n c)
 
-    from_back : (p : Part) (f : Name) (args : List (Option Name)) (i : ℕ) (x q : Name) → Contains parts p → Contains p.mentions (said.Call f args) → slice_get args i ≡ Some (Some x)
+    from_back : (p : Section) (f : Name) (args : List (Option Name)) (i : ℕ) (x q : Name) → Contains parts p → Contains p.mentions (said.Call f args) → slice_get args i ≡ Some (Some x)
         → Takes parts f.text i q → Measures parts (parameter f.text q.text) → Gets (u.arrays us) back (meant p.role x.text) → Gets (u.arrays us) back (parameter f.text q.text)
     from_back p f args i x q c d at2 tk asks (b, numbered_b, there) =
         let (n, a, numbered, meaning, use_there) = handing p f args i x q c d at2 tk in

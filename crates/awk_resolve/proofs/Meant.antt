@@ -16,7 +16,7 @@ use Rattle.awk_resolve.specs.Faults.{Misdefined}
 use Rattle.awk_resolve.specs.declared.mention.Mention.{Mention}
 use Rattle.awk_resolve.specs.declared.mention.Role.{Role}
 use Rattle.awk_resolve.specs.declared.mention.Role.TheVariants as role
-use Rattle.awk_resolve.specs.declared.mention.Part.{Part}
+use Rattle.awk_resolve.specs.declared.mention.Section.{Section}
 use Rattle.awk_resolve.proofs.Lists.{contains_first, contains_cases}
 use Rattle.awk_resolve.proofs.Naming.{among_contains, contains_among, split_at}
 use Rattle.awk_resolve.specs.Numbering as s
@@ -48,18 +48,18 @@ in_front [] ys i h = absurd (omega arith)
 in_front (x ∷ xs) ys zero h = refl
 in_front (x ∷ xs) ys (suc i) h = in_front xs ys i (omega arith)
 
-module _ (parts : List Part) (well : (place : Place) → Misdefined parts place → ⊥) where
+module _ (parts : List Section) (well : (place : Place) → Misdefined parts place → ⊥) where
   -- a function is defined once
-  twice : (before after : List Part) (p : Part) (f g : Name) (ps qs : List Name) → parts ≡ before ++ p ∷ after → p.role ≡ role.Function f ps → Defines before g qs → g.text ≡ f.text → ⊥
+  twice : (before after : List Section) (p : Section) (f g : Name) (ps qs : List Name) → parts ≡ before ++ p ∷ after → p.role ≡ role.Function f ps → Defines before g qs → g.text ≡ f.text → ⊥
   twice before after p f g ps qs e r d same = well f.place (fault.redefined f.place (fault.twice before after p f g ps qs e r d same))
 
   pub function_once : (f g : Name) (ps qs : List Name) → Defines parts f ps → Defines parts g qs → f.text ≡ g.text → ps ≡ qs
   function_once f g ps qs (p, c, r) (q, d, t) same = by (split_at parts p c)
     where
-      by : (mid : List Part) × (after : List Part) × (parts ≡ mid ++ p ∷ after) → ps ≡ qs
+      by : (mid : List Section) × (after : List Section) × (parts ≡ mid ++ p ∷ after) → ps ≡ qs
       by (mid, after, e) = sides (Contains-append_cases mid (p ∷ after) q (rw e at d))
         where
-          later : (mid2 : List Part) × (after2 : List Part) × (after ≡ mid2 ++ q ∷ after2) → ps ≡ qs
+          later : (mid2 : List Section) × (after2 : List Section) × (after ≡ mid2 ++ q ∷ after2) → ps ≡ qs
           later (mid2, after2, f2) =
               let whole : parts ≡ (mid ++ p ∷ mid2) ++ q ∷ after2 = e ∙ (ap (λ l. mid ++ p ∷ l) f2 ∙ sym (append_assoc mid (p ∷ mid2) (q ∷ after2))) in
               absurd (twice (mid ++ p ∷ mid2) after2 q g f qs ps whole t (p, Contains-append_right mid (p ∷ mid2) p (contains_first p mid2), r) same)
@@ -138,7 +138,7 @@ module _ (parts : List Part) (well : (place : Place) → Misdefined parts place 
               absurd (cc)
 
   -- an item finds the number of what a text means there
-  pub here : (p : Part) (x : Text) → Contains parts p → number_in t p.role x ≡ number t (meant p.role x)
+  pub here : (p : Section) (x : Text) → Contains parts p → number_in t p.role x ≡ number t (meant p.role x)
   here p x c = by p.role refl
     where
       by : (r : Role) → p.role ≡ r → number_in t r x ≡ number t (meant r x)
@@ -148,7 +148,7 @@ module _ (parts : List Part) (well : (place : Place) → Misdefined parts place 
       by (role.Function f ps) e = in_function f ps x (p, c, e)
 
   -- each name has a number
-  pub known : (p : Part) (m : Mention) (n : Name) → Contains parts p → Contains p.mentions m → Names m n → Known t p.role n.text
+  pub known : (p : Section) (m : Mention) (n : Name) → Contains parts p → Contains p.mentions m → Names m n → Known t p.role n.text
   known p m n c d h = parts_known parts p m n (s.with_own arrays (s.with_own scalars functions)) c d h
 
   pub own_scalar_known : (x : Text) → Contains scalars x → Known t role.Begin x

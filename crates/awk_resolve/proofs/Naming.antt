@@ -12,7 +12,7 @@ use Rattle.awk_tree.specs.Tree.{Text}
 use Rattle.awk_tree.specs.declared.names.Name.{Name}
 use Rattle.awk_resolve.specs.declared.mention.Role.{Role}
 use Rattle.awk_resolve.specs.declared.mention.Role.TheVariants as role
-use Rattle.awk_resolve.specs.declared.mention.Part.{Part}
+use Rattle.awk_resolve.specs.declared.mention.Section.{Section}
 use Rattle.awk_resolve.specs.Kinds.{Defines, texts, scalars, arrays}
 use Rattle.awk_resolve.specs.Faults.{Misnamed, parameter_twice, as_function, as_variable}
 use Rattle.awk_resolve.specs.Search.{Counts, Seen, is_misnamed, misnamed_in, misnamed_role, misnamed}
@@ -93,7 +93,7 @@ split_at {A} (x ∷ xs) y c = by (contains_cases x xs y c) (split_at xs y)
     by (inl same) rest = ([], xs, ap (λ z. z ∷ xs) same)
     by (inr d) rest = let (mid, after, e) = rest d in (x ∷ mid, after, ap (λ l. x ∷ l) e)
 
-module _ (parts : List Part) (known : Counts) (k : Knows parts known) where
+module _ (parts : List Section) (known : Counts) (k : Knows parts known) where
   -- a parameter that has a name which it cannot have, after these
   abbrev Bad : List Name → Name → Type 0
   Bad before q = Contains (texts before) q.text ⊎ (((g : Name) × (qs : List Name) × Defines parts g qs × (g.text ≡ q.text)) ⊎ Contains (scalars ++ arrays) q.text)
@@ -163,13 +163,13 @@ module _ (parts : List Part) (known : Counts) (k : Knows parts known) where
       by true b h2 more = cc
       by false b h2 more = more h2
 
-  role_stands : (p : Part) (r : Role) (place : Place) → p.role ≡ r → Contains parts p → misnamed_role known r ≡ Some place → Misnamed parts place
+  role_stands : (p : Section) (r : Role) (place : Place) → p.role ≡ r → Contains parts p → misnamed_role known r ≡ Some place → Misnamed parts place
   role_stands p role.Begin place e c h = cc
   role_stands p role.End place e c h = cc
   role_stands p role.Rule place e c h = cc
   role_stands p (role.Function f ps) place e c h = in_stands f ps [] ps [] place (p, c, e) refl saw_none h
 
-  stands_from : (rest : List Part) (place : Place) → ((p : Part) → Contains rest p → Contains parts p) → misnamed known rest ≡ Some place → Misnamed parts place
+  stands_from : (rest : List Section) (place : Place) → ((p : Section) → Contains rest p → Contains parts p) → misnamed known rest ≡ Some place → Misnamed parts place
   stands_from [] place within h = cc
   stands_from (p ∷ rest) place within h = by (misnamed_role known p.role) refl h (stands_from rest place (λ q c. within q (contains_later p rest q c)))
     where
@@ -180,7 +180,7 @@ module _ (parts : List Part) (known : Counts) (k : Knows parts known) where
   pub misnamed_stands : (place : Place) → misnamed known parts ≡ Some place → Misnamed parts place
   misnamed_stands place h = stands_from parts place (λ p c. c) h
 
-  none_of : (rest : List Part) (p : Part) → misnamed known rest ≡ None → Contains rest p → misnamed_role known p.role ≡ None
+  none_of : (rest : List Section) (p : Section) → misnamed known rest ≡ None → Contains rest p → misnamed_role known p.role ≡ None
   none_of [] p h c = absurd (contains_none p c)
   none_of (q ∷ rest) p h c = by (misnamed_role known q.role) refl h (contains_cases q rest p c) (none_of rest p)
     where
@@ -190,7 +190,7 @@ module _ (parts : List Part) (known : Counts) (k : Knows parts known) where
       by None e h2 (inr d) more = more h2 d
       by (Some x) e h2 d more = cc
 
-  none_for : (p : Part) (f : Name) (ps mid after : List Name) (q : Name) → misnamed known parts ≡ None → Contains parts p → p.role ≡ role.Function f ps → ps ≡ mid ++ q ∷ after → Bad mid q → ⊥
+  none_for : (p : Section) (f : Name) (ps mid after : List Name) (q : Name) → misnamed known parts ≡ None → Contains parts p → p.role ≡ role.Function f ps → ps ≡ mid ++ q ∷ after → Bad mid q → ⊥
   none_for p f ps mid after q h c e at bad = none_in [] ps [] saw_none (ap (misnamed_role known) (sym e) ∙ none_of parts p h c) mid after q at bad
 
   pub misnamed_none : misnamed known parts ≡ None → (place : Place) → Misnamed parts place → ⊥

@@ -14,7 +14,7 @@ use Rattle.awk_resolve.specs.declared.mention.Mention.{Mention}
 use Rattle.awk_resolve.specs.declared.mention.Mention.TheVariants.{Scalar, Array, Measured, Call}
 use Rattle.awk_resolve.specs.declared.mention.Role.{Role}
 use Rattle.awk_resolve.specs.declared.mention.Role.TheVariants as role
-use Rattle.awk_resolve.specs.declared.mention.Part.{Part}
+use Rattle.awk_resolve.specs.declared.mention.Section.{Section}
 use Rattle.awk_resolve.proofs.TableLemmas.{put_same, put_other}
 use Rattle.awk_resolve.proofs.Lists.{contains_first, contains_later, contains_none, contains_cases}
 use Rattle.awk_resolve.specs.Numbering as s
@@ -224,16 +224,16 @@ role_injective role.End t k = k
 role_injective role.Rule t k = k
 role_injective (role.Function f ps) t k = function_injective f ps t k
 
-pub functions_injective : (parts : List Part) (t : Numbers) → Injective t → Injective (s.with_functions parts t)
+pub functions_injective : (parts : List Section) (t : Numbers) → Injective t → Injective (s.with_functions parts t)
 functions_injective [] t k = k
 functions_injective (p ∷ ps) t k = functions_injective ps (s.with_function p.role t) (role_injective p.role t k)
 
-module _ (parts : List Part) where
+module _ (parts : List Section) where
   -- The scopes are of the functions of the script.
   abbrev pub Scopes : Numbers → Type 0
   Scopes t = (f : Text) (c : Scope) → lookup (bytes_eq f) t.functions ≡ Some c → (g : Name) × (ps : List Name) × (base : ℕ) × Defines parts g ps × (g.text ≡ f) × Scoped base ps c
 
-  role_scopes : (p : Part) (r : Role) (t : Numbers) → p.role ≡ r → Contains parts p → Scopes t → Scopes (s.with_function r t)
+  role_scopes : (p : Section) (r : Role) (t : Numbers) → p.role ≡ r → Contains parts p → Scopes t → Scopes (s.with_function r t)
   role_scopes p role.Begin t e h k = k
   role_scopes p role.End t e h k = k
   role_scopes p role.Rule t e h k = k
@@ -244,7 +244,7 @@ module _ (parts : List Part) where
       by f c (inl (same, is)) = (g, ps, t.count, (p, h, e), sym same, rw is at (scoped t.count ps))
       by f c (inr old) = k f c old
 
-  pub functions_scopes : (ps : List Part) (t : Numbers) → ((p : Part) → Contains ps p → Contains parts p) → Scopes t → Scopes (s.with_functions ps t)
+  pub functions_scopes : (ps : List Section) (t : Numbers) → ((p : Section) → Contains ps p → Contains parts p) → Scopes t → Scopes (s.with_functions ps t)
   functions_scopes [] t within k = k
   functions_scopes (p ∷ ps) t within k =
       functions_scopes ps (s.with_function p.role t) (λ q c. within q (contains_later p ps q c)) (role_scopes p p.role t refl (within p (contains_first p ps)) k)
@@ -258,14 +258,14 @@ role_keeps role.End x t h = h
 role_keeps role.Rule x t h = h
 role_keeps (role.Function f ps) x t (c, e) = put_known f.text x (s.scope t.count s.no_parameters ps) c t.functions e
 
-functions_keep : (ps : List Part) (x : Text) (t : Numbers) → HasFunction x t → HasFunction x (s.with_functions ps t)
+functions_keep : (ps : List Section) (x : Text) (t : Numbers) → HasFunction x t → HasFunction x (s.with_functions ps t)
 functions_keep [] x t h = h
 functions_keep (p ∷ ps) x t h = functions_keep ps x (s.with_function p.role t) (role_keeps p.role x t h)
 
 role_has : (r : Role) (f : Name) (fs : List Name) (t : Numbers) → r ≡ role.Function f fs → HasFunction f.text (s.with_function r t)
 role_has r f fs t e = rw e (s.scope t.count s.no_parameters fs, put_same f.text (s.scope t.count s.no_parameters fs) t.functions)
 
-pub functions_have : (ps : List Part) (p : Part) (f : Name) (fs : List Name) (t : Numbers) → Contains ps p → p.role ≡ role.Function f fs → HasFunction f.text (s.with_functions ps t)
+pub functions_have : (ps : List Section) (p : Section) (f : Name) (fs : List Name) (t : Numbers) → Contains ps p → p.role ≡ role.Function f fs → HasFunction f.text (s.with_functions ps t)
 functions_have [] p f fs t c e = absurd (contains_none p c)
 functions_have (q ∷ ps) p f fs t c e = elim (contains_cases q ps p c) [
   | inl same ↦ functions_keep ps f.text (s.with_function q.role t) (role_has q.role f fs t (ap (λ z. z.role) same ∙ e))
@@ -419,11 +419,11 @@ mentions_known r (n ∷ ms) m x t c h = elim (contains_cases n ms m c) [
   | inr d ↦ mentions_known r ms m x (s.with_mention r n t) d h
 ]
 
-pub parts_grow : (ps : List Part) (t : Numbers) → Grows t (s.with_parts ps t)
+pub parts_grow : (ps : List Section) (t : Numbers) → Grows t (s.with_parts ps t)
 parts_grow [] t = grows_none t
 parts_grow (p ∷ ps) t = grows_on t (s.with_mentions p.role p.mentions t) _ (mentions_grow p.role p.mentions t) (parts_grow ps (s.with_mentions p.role p.mentions t))
 
-pub parts_known : (ps : List Part) (p : Part) (m : Mention) (x : Name) (t : Numbers) → Contains ps p → Contains p.mentions m → Names m x → Known (s.with_parts ps t) p.role x.text
+pub parts_known : (ps : List Section) (p : Section) (m : Mention) (x : Name) (t : Numbers) → Contains ps p → Contains p.mentions m → Names m x → Known (s.with_parts ps t) p.role x.text
 parts_known [] p m x t c d h = absurd (contains_none p c)
 parts_known (q ∷ ps) p m x t c d h = elim (contains_cases q ps p c) [
   | inl same ↦ known_keeps (s.with_mentions q.role q.mentions t) _ p.role x.text (parts_grow ps (s.with_mentions q.role q.mentions t)) (rw same (mentions_known p.role p.mentions m x t d h))

@@ -4,7 +4,7 @@ use Rattle.std.specs.Option.{option_or}
 use Rattle.awk_text.specs.declared.place.Place.{Place}
 use Rattle.awk_resolve.specs.declared.mention.Mention.{Mention}
 use Rattle.awk_resolve.specs.declared.mention.Role.{Role}
-use Rattle.awk_resolve.specs.declared.mention.Part.{Part}
+use Rattle.awk_resolve.specs.declared.mention.Section.{Section}
 use Rattle.awk_resolve.specs.Search.{Test, first_in, first}
 use Rattle.awk_resolve.proofs.Lists.{contains_first, contains_later, contains_none, contains_cases}
 
@@ -21,15 +21,15 @@ module _ (test : Test) where
   found_in r [] place e = cc
   found_in r (m ∷ ms) place e = here_in r m ms place (test r m) refl e (found_in r ms place)
 
-  abbrev pub Found : List Part → Place → Type 0
-  Found ps place = (p : Part) × (m : Mention) × Contains ps p × Contains p.mentions m × test p.role m ≡ Some place
+  abbrev pub Found : List Section → Place → Type 0
+  Found ps place = (p : Section) × (m : Mention) × Contains ps p × Contains p.mentions m × test p.role m ≡ Some place
 
-  here : (p : Part) (ps : List Part) (place : Place) (o : Option Place) → first_in test p.role p.mentions ≡ o → option_or o (first test ps) ≡ Some place
+  here : (p : Section) (ps : List Section) (place : Place) (o : Option Place) → first_in test p.role p.mentions ≡ o → option_or o (first test ps) ≡ Some place
       → (first test ps ≡ Some place → Found ps place) → Found (p ∷ ps) place
   here p ps place None h e rest = let (q, m, c, d, s) = rest e in (q, m, contains_later p ps q c, d, s)
   here p ps place (Some x) h e rest = let (m, d, s) = found_in p.role p.mentions place (h ∙ e) in (p, m, contains_first p ps, d, s)
 
-  pub found : (ps : List Part) (place : Place) → first test ps ≡ Some place → Found ps place
+  pub found : (ps : List Section) (place : Place) → first test ps ≡ Some place → Found ps place
   found [] place e = cc
   found (p ∷ ps) place e = here p ps place (first_in test p.role p.mentions) refl e (found ps place)
 
@@ -43,12 +43,12 @@ module _ (test : Test) where
   none_in r [] m e c = absurd (contains_none m c)
   none_in r (n ∷ ms) m e c = not_here_in r n m ms (test r n) refl e (contains_cases n ms m c) (none_in r ms m)
 
-  not_here : (q p : Part) (ps : List Part) (m : Mention) (o : Option Place) → first_in test q.role q.mentions ≡ o → option_or o (first test ps) ≡ None → (q ≡ p) ⊎ Contains ps p
+  not_here : (q p : Section) (ps : List Section) (m : Mention) (o : Option Place) → first_in test q.role q.mentions ≡ o → option_or o (first test ps) ≡ None → (q ≡ p) ⊎ Contains ps p
       → Contains p.mentions m → (first test ps ≡ None → Contains ps p → test p.role m ≡ None) → test p.role m ≡ None
   not_here q p ps m None h e (inl same) d rest = none_in p.role p.mentions m (ap (λ w. first_in test w.role w.mentions) (sym same) ∙ h) d
   not_here q p ps m None h e (inr c) d rest = rest e c
   not_here q p ps m (Some x) h e c d rest = cc
 
-  pub none : (ps : List Part) (p : Part) (m : Mention) → first test ps ≡ None → Contains ps p → Contains p.mentions m → test p.role m ≡ None
+  pub none : (ps : List Section) (p : Section) (m : Mention) → first test ps ≡ None → Contains ps p → Contains p.mentions m → test p.role m ≡ None
   none [] p m e c d = absurd (contains_none p c)
   none (q ∷ ps) p m e c d = not_here q p ps m (first_in test q.role q.mentions) refl e (contains_cases q ps p c) d (λ h k. none ps p m h k d)

@@ -6,7 +6,7 @@ use Rattle.awk_tree.specs.declared.names.Name.{Name}
 use Rattle.awk_resolve.specs.declared.mention.Mention as m
 use Rattle.awk_resolve.specs.declared.mention.Role.{Role}
 use Rattle.awk_resolve.specs.declared.mention.Role.TheVariants as role
-use Rattle.awk_resolve.specs.declared.mention.Part.{Part}
+use Rattle.awk_resolve.specs.declared.mention.Section.{Section}
 use Rattle.awk_resolve.proofs.Lists.{contains_first, contains_later, contains_none, contains_cases}
 use Rattle.awk_resolve.specs.Numbering.{number_in}
 use Rattle.awk_resolve.specs.Uses as u
@@ -38,17 +38,17 @@ module _ (t : Numbers) where
     | inr e ↦ Contains-append_right (u.mention t r o) (u.mentions t r ms) x (has_in r ms n x e d)
   ]
 
-  abbrev pub Stands : List Part → Use → Type 0
-  Stands ps x = (p : Part) × (n : m.Mention) × Contains ps p × Contains p.mentions n × Contains (u.mention t p.role n) x
+  abbrev pub Stands : List Section → Use → Type 0
+  Stands ps x = (p : Section) × (n : m.Mention) × Contains ps p × Contains p.mentions n × Contains (u.mention t p.role n) x
 
-  pub found : (ps : List Part) (x : Use) → Contains (u.parts t ps) x → Stands ps x
+  pub found : (ps : List Section) (x : Use) → Contains (u.parts t ps) x → Stands ps x
   found [] x c = absurd (contains_none x c)
   found (p ∷ ps) x c = elim (Contains-append_cases (u.mentions t p.role p.mentions) (u.parts t ps) x c) [
     | inl d ↦ let (n, e, f) = found_in p.role p.mentions x d in (p, n, contains_first p ps, e, f)
     | inr d ↦ let (q, n, e, f, g) = found ps x d in (q, n, contains_later p ps q e, f, g)
   ]
 
-  pub has : (ps : List Part) (p : Part) (n : m.Mention) (x : Use) → Contains ps p → Contains p.mentions n → Contains (u.mention t p.role n) x → Contains (u.parts t ps) x
+  pub has : (ps : List Section) (p : Section) (n : m.Mention) (x : Use) → Contains ps p → Contains p.mentions n → Contains (u.mention t p.role n) x → Contains (u.parts t ps) x
   has [] p n x c d e = absurd (contains_none p c)
   has (q ∷ ps) p n x c d e = elim (contains_cases q ps p c) [
     | inl same ↦ Contains-append_left (u.mentions t q.role q.mentions) (u.parts t ps) x (rw same (has_in p.role p.mentions n x d e))

@@ -7,7 +7,7 @@ use Rattle.awk_resolve.specs.declared.mention.Mention.TheVariants.{Scalar, Array
 use Rattle.awk_resolve.specs.declared.mention.Mention.TheVariants.{Return, Stray}
 use Rattle.awk_resolve.specs.declared.mention.Role.{Role}
 use Rattle.awk_resolve.specs.declared.mention.Role.TheVariants as role
-use Rattle.awk_resolve.specs.declared.mention.Part.{Part}
+use Rattle.awk_resolve.specs.declared.mention.Section.{Section}
 
 abbrev pub bare_mention : Mention → Mention
 bare_mention (Scalar n) = Scalar (bare_name n)
@@ -25,5 +25,5 @@ bare_role role.End = role.End
 bare_role role.Rule = role.Rule
 bare_role (role.Function f ps) = role.Function (bare_name f) (map bare_name ps)
 
-abbrev pub bare_part : Part → Part
+abbrev pub bare_part : Section → Section
 bare_part p = record { role = bare_role p.role; mentions = map bare_mention p.mentions }

@@ -8,7 +8,7 @@ use Rattle.awk_resolve.specs.declared.mention.Mention.{Mention}
 use Rattle.awk_resolve.specs.declared.mention.Mention.TheVariants.{Scalar, Array, Measured, Call}
 use Rattle.awk_resolve.specs.declared.mention.Role.{Role}
 use Rattle.awk_resolve.specs.declared.mention.Role.TheVariants as role
-use Rattle.awk_resolve.specs.declared.mention.Part.{Part}
+use Rattle.awk_resolve.specs.declared.mention.Section.{Section}
 use Rattle.awk_resolve.specs.Numbering.{number_in}
 use Rattle.awk_resolve.specs.Uses.{is_function, parameters}
 use Rattle.awk_resolve.specs.Marks.{is_marked}
@@ -68,5 +68,5 @@ at_role c role.End least = least
 at_role c role.Rule least = least
 at_role c (role.Function f ps) least = over (at_name c (role.Function f ps)) ps (at_name c role.Begin f least)
 
-abbrev pub at_part : Kinds → Part → Step
+abbrev pub at_part : Kinds → Section → Step
 at_part c p least = over (at_mention c p.role) p.mentions (at_role c p.role least)

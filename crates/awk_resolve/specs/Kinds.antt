@@ -9,7 +9,7 @@ use Rattle.awk_tree.specs.declared.names.Name.{Name}
 use Rattle.awk_resolve.specs.declared.mention.Mention.TheVariants.{Scalar, Array, Measured, Call}
 use Rattle.awk_resolve.specs.declared.mention.Role.{Role}
 use Rattle.awk_resolve.specs.declared.mention.Role.TheVariants as role
-use Rattle.awk_resolve.specs.declared.mention.Part.{Part}
+use Rattle.awk_resolve.specs.declared.mention.Section.{Section}
 
 -- what a name of a script is used as
 pub data Kind : Type 0 where
@@ -43,21 +43,21 @@ abbrev pub arrays : List Text
 arrays = codes "ARGV" ∷ codes "ENVIRON" ∷ []
 
 -- an item of the script is this function
-abbrev pub Defines : List Part → Name → List Name → Type 0
-Defines parts f ps = (p : Part) × Contains parts p × (p.role ≡ role.Function f ps)
+abbrev pub Defines : List Section → Name → List Name → Type 0
+Defines parts f ps = (p : Section) × Contains parts p × (p.role ≡ role.Function f ps)
 
 -- an item of this role has this call
-abbrev pub Calls : List Part → Role → Name → List (Option Name) → Type 0
-Calls parts r f args = (p : Part) × Contains parts p × (p.role ≡ r) × Contains p.mentions (Call f args)
+abbrev pub Calls : List Section → Role → Name → List (Option Name) → Type 0
+Calls parts r f args = (p : Section) × Contains parts p × (p.role ≡ r) × Contains p.mentions (Call f args)
 
 -- the function of this text has this parameter, at this number from 0
-abbrev pub Takes : List Part → Text → ℕ → Name → Type 0
+abbrev pub Takes : List Section → Text → ℕ → Name → Type 0
 Takes parts f i q = (g : Name) × (ps : List Name) × Defines parts g ps × (g.text ≡ f) × (slice_get ps i ≡ Some q)
 
 -- The names whose length is asked, by themselves or as the parameter that they are handed to by themselves:
 -- the least set that is closed under these rules.
-pub data Measures (parts : List Part) : Named → Type 0 where
-  asked : (p : Part) (n : Name) → Contains parts p → Contains p.mentions (Measured n) →
+pub data Measures (parts : List Section) : Named → Type 0 where
+  asked : (p : Section) (n : Name) → Contains parts p → Contains p.mentions (Measured n) →
       Measures parts (meant p.role n.text)
   handed_on :
       (r : Role) (f : Name) (args : List (Option Name)) (i : ℕ) (n q : Name) → Calls parts r f args → slice_get args i
@@ -67,17 +67,17 @@ pub data Measures (parts : List Part) : Named → Type 0 where
 -- The least set of names with kinds that is closed under these rules. A name that is handed to a
 -- parameter by itself is what the parameter is. A parameter whose length is asked is an array where
 -- an array is handed to it.
-pub data Forced (parts : List Part) : Named → Kind → Type 0 where
+pub data Forced (parts : List Section) : Named → Kind → Type 0 where
   own_scalar : (x : Text) → Contains scalars x → Forced parts (global x) scalar
   own_array : (x : Text) → Contains arrays x → Forced parts (global x) array
   defined : (f : Name) (ps : List Name) → Defines parts f ps → Forced parts (global f.text) function
-  read_or_set : (p : Part) (n : Name) → Contains parts p → Contains p.mentions (Scalar n) →
+  read_or_set : (p : Section) (n : Name) → Contains parts p → Contains p.mentions (Scalar n) →
       Forced parts (meant p.role n.text) scalar
-  subscripted : (p : Part) (n : Name) → Contains parts p → Contains p.mentions (Array n) →
+  subscripted : (p : Section) (n : Name) → Contains parts p → Contains p.mentions (Array n) →
       Forced parts (meant p.role n.text) array
   -- a function has no length
   measured_function :
-      (p : Part) (n g : Name) (ps : List Name) → Contains parts p → Contains p.mentions (Measured n) →
+      (p : Section) (n g : Name) (ps : List Name) → Contains parts p → Contains p.mentions (Measured n) →
       Defines parts g ps →
       meant p.role n.text ≡ global g.text → Forced parts (global g.text) scalar
   -- a function's name is no argument
@@ -96,15 +96,15 @@ pub data Forced (parts : List Part) : Named → Kind → Type 0 where
       Forced parts (parameter f.text q.text) array
 
 -- where a name stands
-pub data Appears (parts : List Part) : Named → Place → Type 0 where
+pub data Appears (parts : List Section) : Named → Place → Type 0 where
   as_function : (f : Name) (ps : List Name) → Defines parts f ps → Appears parts (global f.text) f.place
   as_parameter : (f : Name) (ps : List Name) (q : Name) → Defines parts f ps → Contains ps q →
       Appears parts (parameter f.text q.text) q.place
-  as_scalar : (p : Part) (n : Name) → Contains parts p → Contains p.mentions (Scalar n) →
+  as_scalar : (p : Section) (n : Name) → Contains parts p → Contains p.mentions (Scalar n) →
       Appears parts (meant p.role n.text) n.place
-  as_array : (p : Part) (n : Name) → Contains parts p → Contains p.mentions (Array n) →
+  as_array : (p : Section) (n : Name) → Contains parts p → Contains p.mentions (Array n) →
       Appears parts (meant p.role n.text) n.place
-  as_measured : (p : Part) (n : Name) → Contains parts p → Contains p.mentions (Measured n) →
+  as_measured : (p : Section) (n : Name) → Contains parts p → Contains p.mentions (Measured n) →
       Appears parts (meant p.role n.text) n.place
   as_call : (r : Role) (f : Name) (args : List (Option Name)) → Calls parts r f args →
       Appears parts (global f.text) f.place
@@ -115,12 +115,12 @@ pub data Appears (parts : List Part) : Named → Place → Type 0 where
 abbrev pub NotAfter : Place → Place → Type 0
 NotAfter a b = (a.line < b.line) ⊎ ((a.line ≡ b.line) × (a.column ≤ b.column))
 
-abbrev pub FirstAppears : List Part → Named → Place → Type 0
+abbrev pub FirstAppears : List Section → Named → Place → Type 0
 FirstAppears parts n place = Appears parts n place × ((other : Place) → Appears parts n other → NotAfter place other)
 
 -- Why a script has no kinds, and the place: a name of two kinds, at its first appearance; an
 -- expression for an array, at the word of the call.
-pub data Clashes (parts : List Part) : Place → Type 0 where
+pub data Clashes (parts : List Section) : Place → Type 0 where
   two_kinds : (n : Named) (k l : Kind) (place : Place) → Forced parts n k → Forced parts n l → k ≢ l →
       FirstAppears parts n place → Clashes parts place
   no_array :
@@ -129,5 +129,5 @@ pub data Clashes (parts : List Part) : Place → Type 0 where
       Forced parts (parameter f.text q.text) array → Clashes parts f.place
 
 -- no name is of two kinds
-abbrev pub Agrees : List Part → Type 0
+abbrev pub Agrees : List Section → Type 0
 Agrees parts = (n : Named) (k l : Kind) → Forced parts n k → Forced parts n l → k ≡ l

@@ -2,7 +2,7 @@
 use Rattle.std.specs.Prelude.{◌≡◌, ◌↔◌, ℕ, Bool, true, false, List, slice_get, Option, Some, None}
 use Rattle.awk_resolve.specs.Kinds as k
 use Rattle.awk_resolve.specs.Kinds.{Kind, Named, global, parameter, Forced}
-use Rattle.awk_resolve.specs.declared.mention.Part.{Part}
+use Rattle.awk_resolve.specs.declared.mention.Section.{Section}
 use Rattle.awk_resolve.specs.Numbering.{number}
 use Rattle.awk_resolve.specs.Reached.{Reached}
 use Rattle.awk_resolve.specs.Uses as u
@@ -25,7 +25,7 @@ has c (global x) k.function = is_function c.numbers x
 has c (parameter f x) k.function = false
 
 -- each name has the kinds that it is forced to, and no other one
-abbrev pub AreKinds : List Part → Kinds → Type 0
+abbrev pub AreKinds : List Section → Kinds → Type 0
 AreKinds parts c = (a : Named) (kind : Kind) → (has c a kind ≡ true) ↔ Forced parts a kind
 
 -- the marks of what is reached

@@ -16,7 +16,7 @@ use Rattle.awk_resolve.specs.declared.mention.Mention.{Mention}
 use Rattle.awk_resolve.specs.declared.mention.Mention.TheVariants.{Scalar, Array, Measured, Call, MainInput, Next}
 use Rattle.awk_resolve.specs.declared.mention.Mention.TheVariants.{Return, Stray}
 use Rattle.awk_resolve.specs.declared.mention.Role.TheVariants as role
-use Rattle.awk_resolve.specs.declared.mention.Part.{Part}
+use Rattle.awk_resolve.specs.declared.mention.Section.{Section}
 
 -- ---- expressions
 
@@ -171,7 +171,7 @@ conditions (t.single x) = mentions x
 conditions (t.range x y) = mentions x ++ mentions y
 
 -- an item of a script, as its role and what it says
-abbrev pub part : Entry → Part
+abbrev pub part : Entry → Section
 part (t.at_begin xs) = record { role = role.Begin; mentions = all_said xs }
 part (t.at_end xs) = record { role = role.End; mentions = all_said xs }
 part (t.always xs) = record { role = role.Rule; mentions = all_said xs }

@@ -12,7 +12,7 @@ use Rattle.awk_resolve.specs.declared.mention.Mention.{Mention}
 use Rattle.awk_resolve.specs.declared.mention.Mention.TheVariants.{Scalar, Array, Measured, Call}
 use Rattle.awk_resolve.specs.declared.mention.Role.{Role}
 use Rattle.awk_resolve.specs.declared.mention.Role.TheVariants as role
-use Rattle.awk_resolve.specs.declared.mention.Part.{Part}
+use Rattle.awk_resolve.specs.declared.mention.Section.{Section}
 use Rattle.awk_resolve.specs.declared.numbers.Scope.{Scope}
 use Rattle.awk_resolve.specs.declared.numbers.Numbers.{Numbers}
 
@@ -73,7 +73,7 @@ with_function (role.Function f ps) t =
           t.count + length ps;
     }
 
-abbrev pub with_functions : List Part → Numbers → Numbers
+abbrev pub with_functions : List Section → Numbers → Numbers
 with_functions [] t = t
 with_functions (p ∷ ps) t = with_functions ps (with_function p.role t)
 
@@ -112,9 +112,9 @@ abbrev pub with_mentions : Role → List Mention → Numbers → Numbers
 with_mentions r [] t = t
 with_mentions r (m ∷ ms) t = with_mentions r ms (with_mention r m t)
 
-abbrev pub with_parts : List Part → Numbers → Numbers
+abbrev pub with_parts : List Section → Numbers → Numbers
 with_parts [] t = t
 with_parts (p ∷ ps) t = with_parts ps (with_mentions p.role p.mentions t)
 
-abbrev pub numbers : List Part → Numbers
+abbrev pub numbers : List Section → Numbers
 numbers parts = with_parts parts (with_own arrays (with_own scalars (with_functions parts nothing)))

@@ -5,7 +5,7 @@ use Rattle.awk_resolve.specs.declared.mention.Mention.{Mention}
 use Rattle.awk_resolve.specs.declared.mention.Mention.TheVariants.{Scalar, Array, Measured, Call}
 use Rattle.awk_resolve.specs.declared.mention.Role.{Role}
 use Rattle.awk_resolve.specs.declared.mention.Role.TheVariants as role
-use Rattle.awk_resolve.specs.declared.mention.Part.{Part}
+use Rattle.awk_resolve.specs.declared.mention.Section.{Section}
 
 -- a name stands in what is said, other than as a function that is called
 abbrev pub Names : Mention → Name → Type 0
@@ -22,6 +22,6 @@ defined_by role.Rule = []
 defined_by (role.Function f ps) = f ∷ []
 
 -- the names of the functions, in the order of the script
-abbrev pub defined : List Part → List Name
+abbrev pub defined : List Section → List Name
 defined [] = []
 defined (p ∷ ps) = defined_by p.role ++ defined ps

@@ -14,7 +14,7 @@ use Rattle.awk_resolve.specs.declared.mention.Mention.{Mention}
 use Rattle.awk_resolve.specs.declared.mention.Mention.TheVariants.{Call, Next, Return, Stray}
 use Rattle.awk_resolve.specs.declared.mention.Role.{Role}
 use Rattle.awk_resolve.specs.declared.mention.Role.TheVariants as role
-use Rattle.awk_resolve.specs.declared.mention.Part.{Part}
+use Rattle.awk_resolve.specs.declared.mention.Section.{Section}
 
 -- the fault of one mention, in an item of this role
 abbrev pub Test : Type 0
@@ -24,7 +24,7 @@ abbrev pub first_in : Test → Role → List Mention → Option Place
 first_in test r [] = None
 first_in test r (m ∷ ms) = option_or (test r m) (first_in test r ms)
 
-abbrev pub first : Test → List Part → Option Place
+abbrev pub first : Test → List Section → Option Place
 first test [] = None
 first test (p ∷ ps) = option_or (first_in test p.role p.mentions) (first test ps)
 
@@ -69,11 +69,11 @@ with_role role.End known = known
 with_role role.Rule known = known
 with_role (role.Function f ps) known = with_text f.text (length ps) known
 
-abbrev pub redefined : Counts → List Part → Option Place
+abbrev pub redefined : Counts → List Section → Option Place
 redefined known [] = None
 redefined known (p ∷ ps) = option_or (redefined_in known p.role) (redefined (with_role p.role known) ps)
 
-abbrev pub counts : Counts → List Part → Counts
+abbrev pub counts : Counts → List Section → Counts
 counts known [] = known
 counts known (p ∷ ps) = counts (with_role p.role known) ps
 
@@ -107,6 +107,6 @@ misnamed_role known role.End = None
 misnamed_role known role.Rule = None
 misnamed_role known (role.Function f ps) = misnamed_in known [] ps
 
-abbrev pub misnamed : Counts → List Part → Option Place
+abbrev pub misnamed : Counts → List Section → Option Place
 misnamed known [] = None
 misnamed known (p ∷ ps) = option_or (misnamed_role known p.role) (misnamed known ps)

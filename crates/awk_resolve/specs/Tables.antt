@@ -12,7 +12,7 @@ use Rattle.awk_resolve.specs.declared.mention.Mention.{Mention}
 use Rattle.awk_resolve.specs.declared.mention.Mention.TheVariants.{Scalar, Array, Measured, Call}
 use Rattle.awk_resolve.specs.declared.mention.Role.{Role}
 use Rattle.awk_resolve.specs.declared.mention.Role.TheVariants as role
-use Rattle.awk_resolve.specs.declared.mention.Part.{Part}
+use Rattle.awk_resolve.specs.declared.mention.Section.{Section}
 use Rattle.awk_resolve.specs.Marks.{has}
 use Rattle.awk_resolve.specs.Said.{defined}
 use Rattle.awk_resolve.specs.declared.kinds.Kinds.{Kinds}
@@ -58,7 +58,7 @@ abbrev pub outside : List Text → List Name → List Text
 outside ps [] = []
 outside ps (n ∷ ns) = if list_any (bytes_eq n.text) ps then outside ps ns else n.text ∷ outside ps ns
 
-abbrev pub mentioned : List Part → List Text
+abbrev pub mentioned : List Section → List Text
 mentioned [] = []
 mentioned (p ∷ ps) = outside (own_of p.role) (all_used p.mentions) ++ mentioned ps
 
@@ -68,7 +68,7 @@ behind before [] = before
 behind before (x ∷ xs) = behind (added x before) xs
 
 -- awk's own variables, and then each other one where the script names it first
-abbrev pub variables : List Part → List Text
+abbrev pub variables : List Section → List Text
 variables parts = behind (scalars ++ arrays) (mentioned parts)
 
 -- ---- arrays
@@ -81,7 +81,7 @@ flags is_array role.Rule = []
 flags is_array (role.Function f ps) = map (λ q. is_array (parameter f.text q.text)) ps ∷ []
 
 -- of each function
-abbrev pub all_flags : (Named → Bool) → List Part → List (List Bool)
+abbrev pub all_flags : (Named → Bool) → List Section → List (List Bool)
 all_flags is_array [] = []
 all_flags is_array (p ∷ ps) = flags is_array p.role ++ all_flags is_array ps
 
@@ -93,7 +93,7 @@ variable_flags is_array xs = map (λ x. is_array (global x)) xs
 abbrev pub arrays_by : Kinds → Named → Bool
 arrays_by c a = has c a k.array
 
-abbrev pub tables : Kinds → List Part → Tables
+abbrev pub tables : Kinds → List Section → Tables
 tables c parts = record {
   variables = variables parts;
   script_arrays = variable_flags (arrays_by c) (variables parts);

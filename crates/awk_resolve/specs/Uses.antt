@@ -10,7 +10,7 @@ use Rattle.awk_resolve.specs.declared.mention.Mention as m
 use Rattle.awk_resolve.specs.declared.mention.Mention.TheVariants as said
 use Rattle.awk_resolve.specs.declared.mention.Role.{Role}
 use Rattle.awk_resolve.specs.declared.mention.Role.TheVariants as role
-use Rattle.awk_resolve.specs.declared.mention.Part.{Part}
+use Rattle.awk_resolve.specs.declared.mention.Section.{Section}
 use Rattle.awk_resolve.specs.Numbering.{number_in}
 use Rattle.awk_resolve.specs.declared.numbers.Scope.{Scope}
 use Rattle.awk_resolve.specs.declared.numbers.Numbers.{Numbers}
@@ -79,7 +79,7 @@ abbrev pub mentions : Numbers → Role → List m.Mention → List Use
 mentions t r [] = []
 mentions t r (x ∷ xs) = mention t r x ++ mentions t r xs
 
-abbrev pub parts : Numbers → List Part → List Use
+abbrev pub parts : Numbers → List Section → List Use
 parts t [] = []
 parts t (p ∷ ps) = mentions t p.role p.mentions ++ parts t ps
 
@@ -91,7 +91,7 @@ abbrev pub own_arrays : Numbers → List Text → List Use
 own_arrays t [] = []
 own_arrays t (x ∷ xs) = array t role.Begin x ++ own_arrays t xs
 
-abbrev pub uses : Numbers → List Part → List Use
+abbrev pub uses : Numbers → List Section → List Use
 uses t ps = own_scalars t k.scalars ++ (own_arrays t k.arrays ++ parts t ps)
 
 -- ---- the uses by what they say

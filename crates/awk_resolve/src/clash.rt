@@ -4,7 +4,7 @@ ghost use Rattle.std.specs.Prelude.{◌≡◌, None};
 ghost use Rattle.awk_resolve.specs.Clash as spec;
 
 use crate::kinds::{Kinds, is_marked};
-use crate::mention::{Mention, Part, Role};
+use crate::mention::{Mention, Role, Section};
 use crate::numbers::nth;
 use awk_text::place::Place;
 use awk_tree::Name;
@@ -157,7 +157,7 @@ fn at_role(kinds: &Kinds, role: &Role, least: Option<Place>) -> Option<Place>
     }
 }
 
-fn at_part(kinds: &Kinds, part: &Part, least: Option<Place>) -> Option<Place>
+fn at_part(kinds: &Kinds, part: &Section, least: Option<Place>) -> Option<Place>
     ensures { result ≡ spec.at_part kinds.now part.now least }
 {
     let least = at_role(kinds, &part.role, least);
@@ -166,7 +166,7 @@ fn at_part(kinds: &Kinds, part: &Part, least: Option<Place>) -> Option<Place>
 
 /// The first place at which a name of two kinds stands, or a function is called with an
 /// expression for an array.
-pub fn first_clash(kinds: &Kinds, parts: &[Part]) -> Option<Place>
+pub fn first_clash(kinds: &Kinds, parts: &[Section]) -> Option<Place>
     ensures { result ≡ spec.over (spec.at_part kinds.now) parts.now None }
 {
     let mut least = None;

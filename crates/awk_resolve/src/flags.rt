@@ -5,7 +5,7 @@ ghost use Rattle.awk_resolve.specs.Kinds.{parameter};
 ghost use Rattle.awk_resolve.specs.Tables as spec;
 
 use crate::kinds::Kinds;
-use crate::mention::{Part, Role};
+use crate::mention::{Role, Section};
 use awk_text::Memory;
 use awk_tree::Name;
 use sqlite_items::Items;
@@ -61,7 +61,11 @@ fn add_flags(
 }
 
 /// Of each parameter of each function.
-pub fn all_flags(alloc: Global, kinds: &Kinds, parts: &[Part]) -> Result<Items<Items<bool>>, Memory>
+pub fn all_flags(
+    alloc: Global,
+    kinds: &Kinds,
+    parts: &[Section],
+) -> Result<Items<Items<bool>>, Memory>
     ensures { IfOk result (λ all. all ≡ spec.all_flags (spec.arrays_by kinds.now) parts.now) }
 {
     let mut all = Items::new(alloc);

@@ -5,15 +5,15 @@ ghost use Rattle.awk_resolve.specs.Faults.{Misdefined};
 ghost use Rattle.awk_resolve.specs.Search as search_of;
 ghost use Rattle.awk_text.specs.declared.place.Place as places;
 
-use crate::mention::{Mention, Part, Role};
+use crate::mention::{Mention, Role, Section};
 use crate::parameters::first_misnamed;
-use crate::table::Table;
+use crate::table::TextTable;
 use awk_text::Memory;
 use awk_text::place::Place;
 use std::alloc::Global;
 
 /// The place of a function that is known already.
-fn redefined_in(known: &Table<usize>, role: &Role) -> Option<Place>
+fn redefined_in(known: &TextTable<usize>, role: &Role) -> Option<Place>
     ensures { result ≡ search_of.redefined_in known.now role.now }
 {
     match role {
@@ -26,7 +26,7 @@ fn redefined_in(known: &Table<usize>, role: &Role) -> Option<Place>
 }
 
 /// Notes the function that an item of this role is.
-fn add(alloc: Global, role: &Role, known: &mut Table<usize>) -> Result<(), Memory>
+fn add(alloc: Global, role: &Role, known: &mut TextTable<usize>) -> Result<(), Memory>
     ensures { OnOk result (known.new ≡ search_of.with_role role.now known.old) }
 {
     match role {
@@ -36,7 +36,11 @@ fn add(alloc: Global, role: &Role, known: &mut Table<usize>) -> Result<(), Memor
 }
 
 /// Notes the functions of these parts, up to one that is known already: its place is answered.
-fn add_all(alloc: Global, parts: &[Part], known: &mut Table<usize>) -> Result<Option<Place>, Memory>
+fn add_all(
+    alloc: Global,
+    parts: &[Section],
+    known: &mut TextTable<usize>,
+) -> Result<Option<Place>, Memory>
     ensures place { IfOk result (λ place. place ≡ search_of.redefined known.old parts.now) }
     ensures whole { IfOk result (λ place. IfNone place (known.new ≡ search_of.counts known.old parts.now)) }
 {
@@ -49,7 +53,7 @@ fn add_all(alloc: Global, parts: &[Part], known: &mut Table<usize>) -> Result<Op
     Ok(None)
 }
 
-fn miscalled_mention(known: &Table<usize>, mention: &Mention) -> Option<Place>
+fn miscalled_mention(known: &TextTable<usize>, mention: &Mention) -> Option<Place>
     ensures { (r : _) → result ≡ search_of.miscalled known.now r mention.now }
 {
     match mention {
@@ -67,7 +71,7 @@ fn miscalled_mention(known: &Table<usize>, mention: &Mention) -> Option<Place>
     }
 }
 
-fn miscalled_in(known: &Table<usize>, mentions: &[Mention]) -> Option<Place>
+fn miscalled_in(known: &TextTable<usize>, mentions: &[Mention]) -> Option<Place>
     ensures { (r : _) → result ≡ search_of.first_in (search_of.miscalled known.now) r mentions.now }
 {
     for mention in mentions {
@@ -78,7 +82,7 @@ fn miscalled_in(known: &Table<usize>, mentions: &[Mention]) -> Option<Place>
     None
 }
 
-fn first_miscalled(known: &Table<usize>, parts: &[Part]) -> Option<Place>
+fn first_miscalled(known: &TextTable<usize>, parts: &[Section]) -> Option<Place>
     ensures { result ≡ search_of.first (search_of.miscalled known.now) parts.now }
 {
     for part in parts {
@@ -92,11 +96,11 @@ fn first_miscalled(known: &Table<usize>, parts: &[Part]) -> Option<Place>
 /// The place of a function that is defined twice, of a parameter that has the name of another one,
 /// of a function or of a variable that awk sets, or of a call that fits no function, if one of
 /// these stands in the script. `Memory` where memory is refused.
-pub fn misdefined(alloc: Global, parts: &[Part]) -> Result<Option<Place>, Memory>
+pub fn misdefined(alloc: Global, parts: &[Section]) -> Result<Option<Place>, Memory>
     ensures stands { IfOk result (λ found. IfSome found (λ place. Misdefined parts.now place)) }
     ensures none { IfOk result (λ found. IfNone found ((place : places.Place) → Misdefined parts.now place → ⊥)) }
 {
-    let mut known = Table::new(alloc);
+    let mut known = TextTable::new(alloc);
     if let Some(place) = add_all(alloc, parts, &mut known)? {
         return Ok(Some(place));
     }

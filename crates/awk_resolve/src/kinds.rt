@@ -5,7 +5,7 @@ ghost use Rattle.awk_resolve.specs.Faults.{Misdefined};
 ghost use Rattle.awk_resolve.specs.Faultless.{GivesArrays};
 ghost use Rattle.awk_resolve.specs.Kinds.{Agrees, Clashes, NotAfter, global, parameter};
 ghost use Rattle.awk_resolve.specs.Kinds as names;
-ghost use Rattle.awk_resolve.specs.declared.mention.Part as items;
+ghost use Rattle.awk_resolve.specs.declared.mention.Section as items;
 ghost use Rattle.awk_text.specs.declared.place.Place as places;
 ghost use Rattle.awk_resolve.specs.Marks.{AreArrays, AreKinds};
 ghost use Rattle.awk_resolve.specs.Marks as spec;
@@ -14,7 +14,7 @@ ghost use Rattle.awk_resolve.specs.Assigns.{CanAssign};
 ghost use Rattle.awk_resolve.specs.Assigns as assigns;
 
 use crate::clash::first_clash;
-use crate::mention::Part;
+use crate::mention::Section;
 use crate::numbers::Numbers;
 use crate::reach::reached;
 use crate::uses::{Use, arrays, link_measured, links, measures, scalars, uses};
@@ -58,7 +58,7 @@ fn array_marks(
 }
 
 impl Kinds {
-    fn marked(alloc: Global, parts: &[Part]) -> Result<Kinds, Memory>
+    fn marked(alloc: Global, parts: &[Section]) -> Result<Kinds, Memory>
         requires { (place : places.Place) → Misdefined parts.now place → ⊥ }
         ensures numbers { IfOk result (λ kinds. kinds.numbers ≡ numbers parts.now) }
         ensures kinds { IfOk result (λ kinds. AreKinds parts.now kinds) }
@@ -76,7 +76,7 @@ impl Kinds {
 
     /// The kinds of the names of these items, or the place where a name that has two of them
     /// stands first, or of a call that hands an expression to an array, whichever is first.
-    pub fn of(alloc: Global, parts: &[Part]) -> Result<Result<Kinds, Place>, Memory>
+    pub fn of(alloc: Global, parts: &[Section]) -> Result<Result<Kinds, Place>, Memory>
         requires { (place : places.Place) → Misdefined parts.now place → ⊥ }
         ensures numbers { IfOk result (λ found. IfOk found (λ kinds. kinds.numbers ≡ numbers parts.now)) }
         ensures kinds { IfOk result (λ found. IfOk found (λ kinds. AreKinds parts.now kinds)) }
@@ -106,7 +106,7 @@ impl Kinds {
     /// Whether a host may assign to the variable of this name: it is spelled as a name, is no word
     /// of the language, and no array and no function of the script. Takes no memory.
     pub fn can_assign(&self, name: &[u8]) -> bool
-        ensures { (parts : List items.Part) → AreKinds parts self.now → (result ≡ true) ↔ CanAssign parts name.now }
+        ensures { (parts : List items.Section) → AreKinds parts self.now → (result ≡ true) ↔ CanAssign parts name.now }
     {
         self.may_assign(name)
     }

@@ -31,7 +31,7 @@ mod variables;
 
 pub use functions::misdefined;
 pub use kinds::Kinds;
-pub use mention::{Mention, Part, Role};
+pub use mention::{Mention, Role, Section};
 pub use placement::misplaced;
 pub use places::faultless_places_aside;
 pub use requests::{names_environ, reads_main};

@@ -45,7 +45,7 @@ pub enum Role {
 
 /// An item of a script, with all that it says, in the order of the script.
 #[derive(Drop)]
-pub struct Part {
+pub struct Section {
     pub role: Role,
     pub mentions: Items<Mention>,
 }

@@ -5,8 +5,8 @@ ghost use Rattle.awk_resolve.specs.Kinds.{global, parameter};
 ghost use Rattle.awk_resolve.specs.Numbering as spec;
 ghost use Rattle.awk_resolve.specs.Uses as uses;
 
-use crate::mention::{Mention, Part, Role};
-use crate::table::Table;
+use crate::mention::{Mention, Role, Section};
+use crate::table::TextTable;
 use crate::variables::{ARRAYS, SCALARS};
 use awk_text::Memory;
 use awk_text::octets::Octets;
@@ -18,7 +18,7 @@ use std::alloc::{AllocError, Global};
 #[derive(Drop)]
 pub struct Scope {
     /// Where each stands among them, by its text.
-    pub positions: Table<usize>,
+    pub positions: TextTable<usize>,
     /// The number of each, in order.
     pub numbers: Items<usize>,
 }
@@ -27,8 +27,8 @@ pub struct Scope {
 /// two have one number.
 #[derive(Drop)]
 pub struct Numbers {
-    pub functions: Table<Scope>,
-    pub globals: Table<usize>,
+    pub functions: TextTable<Scope>,
+    pub globals: TextTable<usize>,
     pub count: usize,
 }
 
@@ -37,7 +37,7 @@ impl Scope {
         ensures { result ≡ spec.no_parameters }
     {
         Scope {
-            positions: Table::new(alloc),
+            positions: TextTable::new(alloc),
             numbers: Items::new(alloc),
         }
     }
@@ -65,8 +65,8 @@ impl Numbers {
         ensures { result ≡ spec.nothing }
     {
         Numbers {
-            functions: Table::new(alloc),
-            globals: Table::new(alloc),
+            functions: TextTable::new(alloc),
+            globals: TextTable::new(alloc),
             count: 0,
         }
     }
@@ -151,7 +151,7 @@ impl Numbers {
         }
     }
 
-    fn add_functions(&mut self, alloc: Global, parts: &[Part]) -> Result<(), Memory>
+    fn add_functions(&mut self, alloc: Global, parts: &[Section]) -> Result<(), Memory>
         ensures { OnOk result (self.new ≡ spec.with_functions parts.now self.old) }
     {
         for part in parts {
@@ -243,7 +243,7 @@ impl Numbers {
         Ok(())
     }
 
-    fn add_parts(&mut self, alloc: Global, parts: &[Part]) -> Result<(), Memory>
+    fn add_parts(&mut self, alloc: Global, parts: &[Section]) -> Result<(), Memory>
         ensures { OnOk result (self.new ≡ spec.with_parts parts.now self.old) }
     {
         for part in parts {
@@ -253,7 +253,7 @@ impl Numbers {
     }
 
     /// Numbers the names of these items.
-    pub fn of(alloc: Global, parts: &[Part]) -> Result<Numbers, Memory>
+    pub fn of(alloc: Global, parts: &[Section]) -> Result<Numbers, Memory>
         ensures { IfOk result (λ numbers. numbers ≡ spec.numbers parts.now) }
     {
         let mut numbers = Numbers::new(alloc);

@@ -3,8 +3,8 @@
 ghost use Rattle.std.specs.Prelude.{◌≡◌, [], IfOk};
 ghost use Rattle.awk_resolve.specs.Search as search_of;
 
-use crate::mention::{Part, Role};
-use crate::table::Table;
+use crate::mention::{Role, Section};
+use crate::table::TextTable;
 use crate::variables::is_variable;
 use awk_text::Memory;
 use awk_text::place::Place;
@@ -12,7 +12,7 @@ use awk_tree::Name;
 use std::alloc::Global;
 
 /// Whether a parameter has the name of one before it, of a function or of a variable that awk sets.
-fn is_misnamed(known: &Table<usize>, seen: &Table<Place>, name: &Name) -> bool
+fn is_misnamed(known: &TextTable<usize>, seen: &TextTable<Place>, name: &Name) -> bool
     ensures { result ≡ search_of.is_misnamed known.now seen.now name.now }
 {
     let text = name.text.bytes();
@@ -21,12 +21,12 @@ fn is_misnamed(known: &Table<usize>, seen: &Table<Place>, name: &Name) -> bool
 
 fn misnamed_in(
     alloc: Global,
-    known: &Table<usize>,
+    known: &TextTable<usize>,
     params: &[Name],
 ) -> Result<Option<Place>, Memory>
     ensures { IfOk result (λ place. place ≡ search_of.misnamed_in known.now [] params.now) }
 {
-    let mut seen = Table::new(alloc);
+    let mut seen = TextTable::new(alloc);
     for param in params {
         if is_misnamed(known, &seen, param) {
             return Ok(Some(param.place));
@@ -36,7 +36,11 @@ fn misnamed_in(
     Ok(None)
 }
 
-fn misnamed_role(alloc: Global, known: &Table<usize>, role: &Role) -> Result<Option<Place>, Memory>
+fn misnamed_role(
+    alloc: Global,
+    known: &TextTable<usize>,
+    role: &Role,
+) -> Result<Option<Place>, Memory>
     ensures { IfOk result (λ place. place ≡ search_of.misnamed_role known.now role.now) }
 {
     match role {
@@ -48,8 +52,8 @@ fn misnamed_role(alloc: Global, known: &Table<usize>, role: &Role) -> Result<Opt
 /// The place of the first parameter that has a name which it cannot have.
 pub fn first_misnamed(
     alloc: Global,
-    known: &Table<usize>,
-    parts: &[Part],
+    known: &TextTable<usize>,
+    parts: &[Section],
 ) -> Result<Option<Place>, Memory>
     ensures { IfOk result (λ place. place ≡ search_of.misnamed known.now parts.now) }
 {

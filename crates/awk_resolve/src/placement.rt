@@ -5,7 +5,7 @@ ghost use Rattle.awk_resolve.specs.Faults.{Misplaced};
 ghost use Rattle.awk_resolve.specs.Search as search_of;
 ghost use Rattle.awk_text.specs.declared.place.Place as places;
 
-use crate::mention::{Mention, Part, Role};
+use crate::mention::{Mention, Role, Section};
 use awk_text::place::Place;
 
 /// Whether nothing but records or a call begins what stands in an item of this role.
@@ -54,7 +54,7 @@ fn misplaced_in(role: &Role, mentions: &[Mention]) -> Option<Place>
     None
 }
 
-fn first_misplaced(parts: &[Part]) -> Option<Place>
+fn first_misplaced(parts: &[Section]) -> Option<Place>
     ensures { result ≡ search_of.first search_of.misplaced_word parts.now }
 {
     for part in parts {
@@ -67,7 +67,7 @@ fn first_misplaced(parts: &[Part]) -> Option<Place>
 
 /// The place of a `next` in BEGIN or END, of a `return` outside a function, or of a `break` or
 /// `continue` outside a loop, if one of these stands in the script. Takes no memory.
-pub fn misplaced(parts: &[Part]) -> Option<Place>
+pub fn misplaced(parts: &[Section]) -> Option<Place>
     ensures stands { IfSome result (λ place. Misplaced parts.now place) }
     ensures none { IfNone result ((place : places.Place) → Misplaced parts.now place → ⊥) }
 {

@@ -5,7 +5,7 @@ ghost use Rattle.std.specs.List.{list_any};
 ghost use Rattle.std.specs.Str.{bytes_eq};
 ghost use Rattle.awk_resolve.specs.Faults as spec;
 
-use crate::mention::{Mention, Part, Role};
+use crate::mention::{Mention, Role, Section};
 use awk_tree::Name;
 
 fn takes_records(role: &Role) -> bool
@@ -45,7 +45,7 @@ fn has_main_input(mentions: &[Mention]) -> bool
 
 /// Whether the script reads the main input: it has an item that is neither BEGIN nor a function,
 /// or a `getline` without a file. Takes no memory.
-pub fn reads_main(parts: &[Part]) -> bool
+pub fn reads_main(parts: &[Section]) -> bool
     ensures { result ≡ spec.reads_main parts.now }
 {
     for part in parts {
@@ -104,7 +104,7 @@ fn have_environ(mentions: &[Mention]) -> bool
 }
 
 /// Whether the script names ENVIRON, in a function that is never called too. Takes no memory.
-pub fn names_environ(parts: &[Part]) -> bool
+pub fn names_environ(parts: &[Section]) -> bool
     ensures { result ≡ spec.names_environ parts.now }
 {
     for part in parts {

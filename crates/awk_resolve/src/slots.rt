@@ -6,7 +6,7 @@ ghost use Rattle.awk_resolve.specs.Kinds.{scalars, arrays};
 ghost use Rattle.awk_resolve.specs.Sound.{Sound};
 ghost use Rattle.awk_resolve.specs.Tables as spec;
 
-use crate::mention::{Mention, Part, Role};
+use crate::mention::{Mention, Role, Section};
 use crate::roll::Roll;
 use crate::variables::{ARRAYS, SCALARS};
 use awk_text::Memory;
@@ -119,7 +119,7 @@ fn parameters(alloc: Global, role: &Role) -> Result<Roll, Memory>
     }
 }
 
-fn add_part(alloc: Global, part: &Part, out: &mut Roll) -> Result<(), Memory>
+fn add_part(alloc: Global, part: &Section, out: &mut Roll) -> Result<(), Memory>
     ensures { OnOk result
         (out.new ≡ spec.behind out.old (spec.outside (spec.own_of part.now.role) (spec.all_used part.now.mentions))) }
 {
@@ -127,7 +127,7 @@ fn add_part(alloc: Global, part: &Part, out: &mut Roll) -> Result<(), Memory>
     add_mentions(alloc, &parameters, part.mentions.as_slice(), out)
 }
 
-fn add_parts(alloc: Global, parts: &[Part], out: &mut Roll) -> Result<(), Memory>
+fn add_parts(alloc: Global, parts: &[Section], out: &mut Roll) -> Result<(), Memory>
     ensures { OnOk result (out.new ≡ spec.behind out.old (spec.mentioned parts.now)) }
 {
     for part in parts {
@@ -138,7 +138,7 @@ fn add_parts(alloc: Global, parts: &[Part], out: &mut Roll) -> Result<(), Memory
 
 /// The variables of these items, awk's own first. `Memory` where memory is refused, or a name has
 /// no letter, as none has that was read.
-pub fn variables(alloc: Global, parts: &[Part]) -> Result<Roll, Memory>
+pub fn variables(alloc: Global, parts: &[Section]) -> Result<Roll, Memory>
     ensures variables { IfOk result (λ roll. roll ≡ spec.variables parts.now) }
     ensures sound { IfOk result (λ roll. Sound roll) }
 {

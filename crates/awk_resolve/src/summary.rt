@@ -6,7 +6,7 @@ ghost use Rattle.awk_resolve.specs.Mentions as spec;
 ghost use Rattle.awk_resolve.specs.declared.mention.Role.TheVariants as role;
 
 use crate::expressions::expression;
-use crate::mention::{Mention, Part, Role, copy_name};
+use crate::mention::{Mention, Role, Section, copy_name};
 use crate::statements::statements;
 use awk_text::Memory;
 use awk_tree::{Function, Item, Name, Pattern, Statement};
@@ -68,31 +68,31 @@ fn function(alloc: Global, function: &Function) -> Result<Role, Memory>
     Ok(Role::Function(name, params))
 }
 
-fn part(alloc: Global, item: &Item) -> Result<Part, Memory>
+fn part(alloc: Global, item: &Item) -> Result<Section, Memory>
     ensures { IfOk result (λ p. p ≡ spec.part (view_item item.now)) }
 {
     match item {
-        Item::Begin(body) => Ok(Part {
+        Item::Begin(body) => Ok(Section {
             role: Role::Begin,
             mentions: action(alloc, body.as_slice())?,
         }),
-        Item::End(body) => Ok(Part {
+        Item::End(body) => Ok(Section {
             role: Role::End,
             mentions: action(alloc, body.as_slice())?,
         }),
-        Item::Always(body) => Ok(Part {
+        Item::Always(body) => Ok(Section {
             role: Role::Rule,
             mentions: action(alloc, body.as_slice())?,
         }),
-        Item::Shown(condition) => Ok(Part {
+        Item::Shown(condition) => Ok(Section {
             role: Role::Rule,
             mentions: shown(alloc, condition)?,
         }),
-        Item::Rule(condition, body) => Ok(Part {
+        Item::Rule(condition, body) => Ok(Section {
             role: Role::Rule,
             mentions: rule(alloc, condition, body.as_slice())?,
         }),
-        Item::Function(f) => Ok(Part {
+        Item::Function(f) => Ok(Section {
             role: function(alloc, f)?,
             mentions: action(alloc, f.body.as_slice())?,
         }),
@@ -100,7 +100,7 @@ fn part(alloc: Global, item: &Item) -> Result<Part, Memory>
 }
 
 /// The items of a script, each with all that it says, or `Memory` where memory is refused.
-pub fn parts(alloc: Global, items: &[Item]) -> Result<Items<Part>, Memory>
+pub fn parts(alloc: Global, items: &[Item]) -> Result<Items<Section>, Memory>
     ensures { IfOk result (λ ps. ps ≡ map spec.part (map view_item items.now)) }
 {
     let mut parts = Items::new(alloc);

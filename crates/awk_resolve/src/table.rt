@@ -14,11 +14,11 @@ use std::marker::Model;
 
 /// One value under each text. A look-up takes no more time where there are many.
 #[derive(Drop)]
-pub struct Table<V> {
+pub struct TextTable<V> {
     entries: IndexMap<Vec<u8>, V>,
 }
 
-impl<V> Model for Table<V> {
+impl<V> Model for TextTable<V> {
     ghost use Rattle.std.specs.Prelude.{ℕ, List, map};
     ghost use Rattle.std.specs.Coded.{coded_list};
 
@@ -27,11 +27,11 @@ impl<V> Model for Table<V> {
     ghost view = { λ t. map (λ e. (e.0.items, e.1)) t.entries.entries };
 }
 
-impl<V> Table<V> {
-    pub fn new(alloc: Global) -> Table<V>
+impl<V> TextTable<V> {
+    pub fn new(alloc: Global) -> TextTable<V>
         ensures { result ≡ [] }
     {
-        Table {
+        TextTable {
             entries: IndexMap::new(alloc),
         }
     }
@@ -43,7 +43,7 @@ impl<V> Table<V> {
     }
 }
 
-impl<V: Drop> Table<V> {
+impl<V: Drop> TextTable<V> {
     /// Puts the value under the text, in the place of what was there, or answers `Memory`, with
     /// nothing changed.
     pub fn put(&mut self, text: Octets, value: V) -> Result<(), Memory>

@@ -8,7 +8,7 @@ ghost use Rattle.awk_resolve.specs.TablesIn.{tables_in};
 use crate::definitions::function_names;
 use crate::flags::{all_flags, variable_flags};
 use crate::kinds::Kinds;
-use crate::mention::Part;
+use crate::mention::Section;
 use crate::roll::Roll;
 use crate::slots::variables;
 use awk_text::Memory;
@@ -27,7 +27,7 @@ pub struct Tables {
 }
 
 /// What the names of these parts are, which are of these kinds, or `Memory` where memory is refused.
-pub fn tables_of(alloc: Global, kinds: &Kinds, parts: &[Part]) -> Result<Tables, Memory>
+pub fn tables_of(alloc: Global, kinds: &Kinds, parts: &[Section]) -> Result<Tables, Memory>
     ensures tables { IfOk result (λ made. tables_in made ≡ spec.tables kinds.now parts.now) }
     ensures sound { IfOk result (λ made. Sound made.variables) }
 {

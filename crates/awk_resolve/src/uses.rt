@@ -3,7 +3,7 @@
 ghost use Rattle.std.specs.Prelude.{◌≡◌, ◌++◌, [], map, replicate, slice_get, IfOk, OnOk};
 ghost use Rattle.awk_resolve.specs.Uses as spec;
 
-use crate::mention::{Mention, Part, Role};
+use crate::mention::{Mention, Role, Section};
 use crate::numbers::{Numbers, nth};
 use crate::variables::{ARRAYS, SCALARS};
 use awk_text::Memory;
@@ -152,7 +152,7 @@ fn mentions(
     Ok(())
 }
 
-fn parts(numbers: &Numbers, parts: &[Part], out: &mut Items<Use>) -> Result<(), Memory>
+fn parts(numbers: &Numbers, parts: &[Section], out: &mut Items<Use>) -> Result<(), Memory>
     ensures { OnOk result (out.new ≡ out.old ++ spec.parts numbers.now parts.now) }
 {
     for part in parts {
@@ -180,7 +180,7 @@ fn own_arrays(numbers: &Numbers, texts: &[&[u8]], out: &mut Items<Use>) -> Resul
 }
 
 /// The uses of the variables that awk sets, and then those in these items.
-pub fn uses(alloc: Global, numbers: &Numbers, items: &[Part]) -> Result<Items<Use>, Memory>
+pub fn uses(alloc: Global, numbers: &Numbers, items: &[Section]) -> Result<Items<Use>, Memory>
     ensures { IfOk result (λ uses. uses ≡ spec.uses numbers.now items.now) }
 {
     let mut out = Items::new(alloc);

@@ -8,7 +8,7 @@ use Rattle.awk_tree.specs.Tree.{Entry}
 use Rattle.awk_resolve.specs.Kinds as k
 use Rattle.awk_resolve.specs.Kinds.{global, Forced, texts}
 use Rattle.awk_resolve.specs.Mentions.{part}
-use Rattle.awk_resolve.specs.declared.mention.Part.{Part}
+use Rattle.awk_resolve.specs.declared.mention.Section.{Section}
 use Rattle.awk_resolve.specs.Assigns.{CanAssign, can_assign}
 use Rattle.awk_resolve.specs.Marks.{has, AreKinds}
 use Rattle.awk_resolve.specs.Said.{defined}
@@ -22,8 +22,8 @@ use Rattle.awk_program.specs.declared.program.Function.{Function}
 use Rattle.awk_parse.specs.Scripts.{IsScript, IsScriptOf}
 use Rattle.awk_parse.specs.declared.script.Script.{Script}
 use Rattle.awk_input.specs.Hosts.{Hosted, IsHost, IsSlotIn, can_set, is_free, is_given, slot_in, slot_of, use_of, with_name, with_word}
-use Rattle.awk_input.specs.declared.host.Use.{Use}
-use Rattle.awk_input.specs.declared.host.Use.TheVariants.{Variable, Barred}
+use Rattle.awk_input.specs.declared.host.HostUse.{HostUse}
+use Rattle.awk_input.specs.declared.host.HostUse.TheVariants.{Variable, Barred}
 use Rattle.awk_input.proofs.Hosting.{given_added, use_added}
 use Rattle.awk_run.specs.SetupParts.{SetupParts}
 use Rattle.awk_run.specs.Givens.{given_of}
@@ -67,18 +67,18 @@ functions_stay (x ∷ xs) h = functions_stay xs (with_name x Barred h)
 -- ---- what it says of a name is right
 
 module _ (free : Text → Bool) (names : List Text) where
-  abbrev IsRight : Text → Use → Type 0
+  abbrev IsRight : Text → HostUse → Type 0
   IsRight y (Variable n) = (free y ≡ true) × (get_or names n [] ≡ y)
   IsRight y Barred = free y ≡ false
 
   abbrev Right : Hosted → Type 0
-  Right h = (y : Text) (u : Use) → use_of h y ≡ Some u → IsRight y u
+  Right h = (y : Text) (u : HostUse) → use_of h y ≡ Some u → IsRight y u
 
-  right_added : (x : Text) (u : Use) (h : Hosted) → IsRight x u → Right h → Right (with_name x u h)
+  right_added : (x : Text) (u : HostUse) (h : Hosted) → IsRight x u → Right h → Right (with_name x u h)
   right_added x u h one all = λ y v e. by y v (bytes_eq y x) refl (sym (use_added x y u h) ∙ e)
     where
-      by : (y : Text) (v : Use) (b : Bool) → bytes_eq y x ≡ b → (if b then Some u else use_of h y) ≡ Some v → IsRight y v
-      by y v true same e = let is : u ≡ v = cc in subst (λ (w : Use). IsRight y w) is (subst (λ (z : Text). IsRight z u) (sym ((bytes_eq-Decides y x).0 same)) one)
+      by : (y : Text) (v : HostUse) (b : Bool) → bytes_eq y x ≡ b → (if b then Some u else use_of h y) ≡ Some v → IsRight y v
+      by y v true same e = let is : u ≡ v = cc in subst (λ (w : HostUse). IsRight y w) is (subst (λ (z : Text). IsRight z u) (sym ((bytes_eq-Decides y x).0 same)) one)
       by y v false same e = all y v e
 
   at_length : (pre : List Text) (x : Text) (xs : List Text) → get_or (pre ++ x ∷ xs) (length pre) [] ≡ x
@@ -126,10 +126,10 @@ assigns_so s x b (tokens, (items, read, of)) says = by b (can_assign s.kinds x) 
 abbrev Knows : Text → Hosted → Type 0
 Knows y h = is_none (use_of h y) ≡ false
 
-knows_so : (x y : Text) (u : Use) (h : Hosted) (b : Bool) → bytes_eq y x ≡ b → is_none (if b then Some u else use_of h y) ≡ false → Knows y (with_name x u h)
+knows_so : (x y : Text) (u : HostUse) (h : Hosted) (b : Bool) → bytes_eq y x ≡ b → is_none (if b then Some u else use_of h y) ≡ false → Knows y (with_name x u h)
 knows_so x y u h b e is = rw (use_added x y u h, e) is
 
-keeps_knowing : (x y : Text) (u : Use) (h : Hosted) → Knows y h → Knows y (with_name x u h)
+keeps_knowing : (x y : Text) (u : HostUse) (h : Hosted) → Knows y h → Knows y (with_name x u h)
 keeps_knowing x y u h known = knows_so x y u h (bytes_eq y x) refl (by (bytes_eq y x))
   where
     by : (b : Bool) → is_none (if b then Some u else use_of h y) ≡ false
@@ -166,10 +166,10 @@ functions_known (x ∷ xs) h y has = by (bytes_eq y x) refl has (functions_known
 unknown_not : (y : Text) (h : Hosted) → use_of h y ≡ None → Knows y h → ⊥
 unknown_not y h e known = true≢false (sym (ap is_none e) ∙ known)
 
-module _ (parts : List Part) (c : Kinds) (kinds : AreKinds parts c) (names : List Text) (h : Hosted) (right : Right (can_assign c) names h)
+module _ (parts : List Section) (c : Kinds) (kinds : AreKinds parts c) (names : List Text) (h : Hosted) (right : Right (can_assign c) names h)
     (arrays_known : (y : Text) → Forced parts (global y) k.array → Knows y h) (functions_known_all : (y : Text) → Forced parts (global y) k.function → Knows y h)
     (names_known : (y : Text) → Has y names → Knows y h) where
-  set_so : (y : Text) (o : Option Use) (b : Bool) → use_of h y ≡ o → ((is_name y && is_none (reserved y)) && is_free o) ≡ b → can_set h y ≡ b
+  set_so : (y : Text) (o : Option HostUse) (b : Bool) → use_of h y ≡ o → ((is_name y && is_none (reserved y)) && is_free o) ≡ b → can_set h y ≡ b
   set_so y o b e is = ap (λ z. (is_name y && is_none (reserved y)) && is_free z) e ∙ is
 
   all_true : (a b : Bool) → a ≡ true → b ≡ true → ((a && b) && true) ≡ true
@@ -200,7 +200,7 @@ module _ (parts : List Part) (c : Kinds) (kinds : AreKinds parts c) (names : Lis
           let (named, word, array, function) = (may_assign parts c y kinds).0 is in
           is ∙ sym (set_so y (Some (Variable n)) true e (all_true (is_name y) (is_none (reserved y)) named (ap is_none word)))
 
-      by : (o : Option Use) → use_of h y ≡ o → can_assign c y ≡ can_set h y
+      by : (o : Option HostUse) → use_of h y ≡ o → can_assign c y ≡ can_set h y
       by None e = regrouped (is_name y) (is_none (reserved y)) (has c (global y) k.array) (has c (global y) k.function) (not_kind y k.array e (arrays_known y)) (not_kind y k.function e (functions_known_all y)) ∙ sym (set_so y None ((is_name y && is_none (reserved y)) && true) e refl)
       by (Some (Variable n)) e = free n e
       by (Some Barred) e = right y Barred e ∙ sym (set_so y (Some Barred) false e (barred_so (is_name y && is_none (reserved y))))
@@ -212,7 +212,7 @@ module _ (parts : List Part) (c : Kinds) (kinds : AreKinds parts c) (names : Lis
       absent true e f = absurd (unknown_not y h e (names_known y f))
       absent false e f = refl
 
-      by : (o : Option Use) → use_of h y ≡ o → IsSlotIn names y (slot_in o)
+      by : (o : Option HostUse) → use_of h y ≡ o → IsSlotIn names y (slot_in o)
       by None e = absent (list_any (bytes_eq y) names) e refl
       by (Some (Variable n)) e = (right y (Variable n) e).1
       by (Some Barred) e = absurd (true≢false (sym can ∙ set_so y (Some Barred) false e (barred_so (is_name y && is_none (reserved y)))))
@@ -223,7 +223,7 @@ viewed_names : (t : Names) (fs : List Function) → map (λ f. f.name) (map (vie
 viewed_names t [] = refl
 viewed_names t (f ∷ fs) = ap (λ ys. f.name ∷ ys) (viewed_names t fs)
 
-barred_all : (parts : List Part) (c : Kinds) → AreKinds parts c → (names xs : List Text) → AllForced parts xs → AllBarred (can_assign c) names xs
+barred_all : (parts : List Section) (c : Kinds) → AreKinds parts c → (names xs : List Text) → AllForced parts xs → AllBarred (can_assign c) names xs
 barred_all parts c kinds names [] forced = tt
 barred_all parts c kinds names (x ∷ xs) (one, rest) = (by (can_assign c x) refl, barred_all parts c kinds names xs rest)
   where
@@ -234,7 +234,7 @@ barred_all parts c kinds names (x ∷ xs) (one, rest) = (by (can_assign c x) ref
 nothing_right : (free : Text → Bool) (names xs : List Text) (steps : ℕ) → Right free names (with_words xs (nothing_told steps))
 nothing_right free names xs steps = λ y u e. absurd (by y u (words_names xs (nothing_told steps)) e)
   where
-    by : (y : Text) (u : Use) → (with_words xs (nothing_told steps)).names ≡ [] → use_of (with_words xs (nothing_told steps)) y ≡ Some u → ⊥
+    by : (y : Text) (u : HostUse) → (with_words xs (nothing_told steps)).names ≡ [] → use_of (with_words xs (nothing_told steps)) y ≡ Some u → ⊥
     by y u none e = let e2 = rw none at e in cc
 
 module _ (s : Script) (setup : SetupParts) (steps : ℕ) where
@@ -261,7 +261,7 @@ module _ (s : Script) (setup : SetupParts) (steps : ℕ) where
 
 pub host_is : (s : Script) (setup : SetupParts) (steps : ℕ) → IsScript s → IsHost (host_of s setup steps) (given_of s setup steps)
 host_is s setup steps (tokens, (items, read, of)) =
-    let all : List Part = map part items in
+    let all : List Section = map part items in
     let names_are : names_of s.program ≡ variables all = ap (λ q. map (λ m. m.text) q.variables) of.program ∙ texts_are (variables all) (variable_flags (arrays_by s.kinds) (variables all)) in
     let functions_are : fs s setup steps ≡ texts (defined all) = sym (viewed_names (names_of s.program) s.program.functions) ∙ (ap (λ q. map (λ f. f.name) q.functions) of.program ∙ functions_named (tables s.kinds all) items) in
     let barred : AllBarred (can_assign s.kinds) (names_of s.program) (fs s setup steps) =

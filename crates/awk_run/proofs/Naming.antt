@@ -15,7 +15,7 @@ use Rattle.awk_resolve.specs.declared.mention.Mention.{Mention}
 use Rattle.awk_resolve.specs.declared.mention.Mention.TheVariants.{Array, Call}
 use Rattle.awk_resolve.specs.declared.mention.Role.{Role}
 use Rattle.awk_resolve.specs.declared.mention.Role.TheVariants as role
-use Rattle.awk_resolve.specs.declared.mention.Part.{Part}
+use Rattle.awk_resolve.specs.declared.mention.Section.{Section}
 use Rattle.awk_resolve.specs.Said.{defined, defined_by}
 use Rattle.awk_lowering.specs.Programs.{each, functions_of}
 use Rattle.awk_resolve.specs.Rolls.{added}
@@ -106,12 +106,12 @@ all_used_has x [] m k h e s = absurd (omega (arith, h))
 all_used_has x (y ∷ ms) m zero h e s = said_left x (used y) (all_used ms) (subst (λ (z : Mention). Said x (used z)) (sym e) s)
 all_used_has x (y ∷ ms) m (suc k) h e s = said_right x (used y) (all_used ms) (all_used_has x ms m k (omega (arith, h)) e s)
 
-abbrev says : Part → List Text
+abbrev says : Section → List Text
 says p = outside (own_of p.role) (all_used p.mentions)
 
-mentioned_has : (x : Text) (parts : List Part) (p : Part) (k : ℕ) → k < length parts → get_or parts k p ≡ p → Has x (says p) → Has x (mentioned parts)
+mentioned_has : (x : Text) (parts : List Section) (p : Section) (k : ℕ) → k < length parts → get_or parts k p ≡ p → Has x (says p) → Has x (mentioned parts)
 mentioned_has x [] p k h e s = absurd (omega (arith, h))
-mentioned_has x (q ∷ qs) p zero h e s = has_left x (says q) (mentioned qs) (subst (λ (z : Part). Has x (says z)) (sym e) s)
+mentioned_has x (q ∷ qs) p zero h e s = has_left x (says q) (mentioned qs) (subst (λ (z : Section). Has x (says z)) (sym e) s)
 mentioned_has x (q ∷ qs) p (suc k) h e s = has_right x (says q) (mentioned qs) (mentioned_has x qs p k (omega (arith, h)) e s)
 
 given_has : (args : List (Option Name)) (i : ℕ) (n : Name) → slice_get args i ≡ Some (Some n) → Said n.text (given args)
@@ -150,13 +150,13 @@ meant_global (role.Function f ps) y x e = by (is_among (texts ps) y) refl e
 
 -- ---- arrays are variables
 
-named_variable : (parts : List Part) (p : Part) (m : Mention) (n : Name) (x : Text) → Contains parts p → Contains p.mentions m → Said n.text (used m) → meant p.role n.text ≡ global x → Has x (variables parts)
+named_variable : (parts : List Section) (p : Section) (m : Mention) (n : Name) (x : Text) → Contains parts p → Contains p.mentions m → Said n.text (used m) → meant p.role n.text ≡ global x → Has x (variables parts)
 named_variable parts p m n x (k, h, e) (j, i, f) said is =
     let (same, free) = meant_global p.role n.text x is in
     let there : Has n.text (mentioned parts) = mentioned_has n.text parts p k h e (outside_has n.text (own_of p.role) (all_used p.mentions) free (all_used_has n.text p.mentions m j i f said)) in
     subst (λ (z : Text). Has z (variables parts)) same (behind_has n.text (scalars ++ arrays) (mentioned parts) there)
 
-pub array_is_variable : (parts : List Part) (a : Named) (kind : Kind) (x : Text) → kind ≡ k.array → a ≡ global x → Forced parts a kind → Has x (variables parts)
+pub array_is_variable : (parts : List Section) (a : Named) (kind : Kind) (x : Text) → kind ≡ k.array → a ≡ global x → Forced parts a kind → Has x (variables parts)
 array_is_variable parts a kind x e is (k.own_scalar y c) = absurd (cc)
 array_is_variable parts a kind x e is (k.own_array y c) =
     let same : y ≡ x = cc in
@@ -172,7 +172,7 @@ array_is_variable parts a kind x e is (k.handed r f args i n q kind2 (p, c, of, 
 
 -- ---- functions are those that items define
 
-function_only : (parts : List Part) (a : Named) (kind : Kind) → kind ≡ k.function → Forced parts a kind → (g : Name) × (ps : List Name) × Defines parts g ps × (a ≡ global g.text)
+function_only : (parts : List Section) (a : Named) (kind : Kind) → kind ≡ k.function → Forced parts a kind → (g : Name) × (ps : List Name) × Defines parts g ps × (a ≡ global g.text)
 function_only parts a kind e (k.own_scalar x c) = absurd (cc)
 function_only parts a kind e (k.own_array x c) = absurd (cc)
 function_only parts a kind e (k.defined f ps d) = (f, ps, d, refl)
@@ -189,15 +189,15 @@ texts_append [] ys = refl
 texts_append (x ∷ xs) ys = ap (λ zs. x.text ∷ zs) (texts_append xs ys)
 
 -- the functions that one item defines
-abbrev own_functions : Part → List Text
+abbrev own_functions : Section → List Text
 own_functions p = texts (defined_by p.role)
 
-defined_has : (x : Text) (parts : List Part) (p : Part) (k : ℕ) → k < length parts → get_or parts k p ≡ p → Has x (own_functions p) → Has x (texts (defined parts))
+defined_has : (x : Text) (parts : List Section) (p : Section) (k : ℕ) → k < length parts → get_or parts k p ≡ p → Has x (own_functions p) → Has x (texts (defined parts))
 defined_has x [] p k h e s = absurd (omega (arith, h))
-defined_has x (q ∷ qs) p zero h e s = rw (texts_append (defined_by q.role) (defined qs)) (has_left x (own_functions q) (texts (defined qs)) (subst (λ (z : Part). Has x (own_functions z)) (sym e) s))
+defined_has x (q ∷ qs) p zero h e s = rw (texts_append (defined_by q.role) (defined qs)) (has_left x (own_functions q) (texts (defined qs)) (subst (λ (z : Section). Has x (own_functions z)) (sym e) s))
 defined_has x (q ∷ qs) p (suc k) h e s = rw (texts_append (defined_by q.role) (defined qs)) (has_right x (own_functions q) (texts (defined qs)) (defined_has x qs p k (omega (arith, h)) e s))
 
-pub function_is_defined : (parts : List Part) (x : Text) → Forced parts (global x) k.function → Has x (texts (defined parts))
+pub function_is_defined : (parts : List Section) (x : Text) → Forced parts (global x) k.function → Has x (texts (defined parts))
 function_is_defined parts x forced = by (function_only parts (global x) k.function refl forced)
   where
     by : (g : Name) × (ps : List Name) × Defines parts g ps × (global x ≡ global g.text) → Has x (texts (defined parts))
@@ -207,11 +207,11 @@ function_is_defined parts x forced = by (function_only parts (global x) k.functi
         defined_has x parts p k h e (subst (λ (z : Text). Has z (own_functions p)) (sym same) own)
 
 -- each that an item defines is one
-abbrev pub AllForced : List Part → List Text → Type 0
+abbrev pub AllForced : List Section → List Text → Type 0
 AllForced parts [] = Unit {0}
 AllForced parts (x ∷ xs) = Forced parts (global x) k.function × AllForced parts xs
 
-all_defined : (all parts : List Part) → ((p : Part) → Contains parts p → Contains all p) → AllForced all (texts (defined parts))
+all_defined : (all parts : List Section) → ((p : Section) → Contains parts p → Contains all p) → AllForced all (texts (defined parts))
 all_defined all [] inside = tt
 all_defined all (p ∷ ps) inside = by p.role refl (all_defined all ps (λ q (j, h, e). inside q (suc j, omega (arith, h), e)))
   where
@@ -221,7 +221,7 @@ all_defined all (p ∷ ps) inside = by p.role refl (all_defined all ps (λ q (j,
     by role.Rule e rest = rest
     by (role.Function f qs) e rest = (k.defined f qs (p, inside p (zero, omega arith, refl), e), rest)
 
-pub functions_are_forced : (parts : List Part) → AllForced parts (texts (defined parts))
+pub functions_are_forced : (parts : List Section) → AllForced parts (texts (defined parts))
 functions_are_forced parts = all_defined parts parts (λ p c. c)
 
 -- ---- the functions of a program

@@ -5,7 +5,7 @@ use Rattle.awk_parse.specs.declared.script.Script.{Script}
 use Rattle.awk_program.specs.Slots.{Text}
 use Rattle.awk_program.specs.View.{names_of}
 use Rattle.awk_input.specs.Hosts.{Hosted, with_name, with_word}
-use Rattle.awk_input.specs.declared.host.Use.TheVariants.{Variable, Barred}
+use Rattle.awk_input.specs.declared.host.HostUse.TheVariants.{Variable, Barred}
 use Rattle.awk_run.specs.SetupParts.{SetupParts}
 
 -- the words that the run was started with

@@ -8,7 +8,7 @@ ghost use Rattle.awk_run.specs.Givens.{given_of};
 ghost use Rattle.awk_run.specs.Hosting.{host_of, with_functions, with_variables, with_words};
 
 use crate::Setup;
-use awk_input::{Host, Use};
+use awk_input::{Host, HostUse};
 use awk_parse::Script;
 use awk_program::Function;
 use awk_text::Memory;
@@ -34,14 +34,14 @@ fn can_assign(script: &Script, name: &[u8]) -> bool
 }
 
 /// What the variable of a script with this slot and name is to the host. Takes no memory.
-fn use_of(script: &Script, slot: u32, name: &[u8]) -> Use
+fn use_of(script: &Script, slot: u32, name: &[u8]) -> HostUse
     requires { IsScript script.now }
-    ensures { result ≡ (if kinds.can_assign script.now.kinds name.now then Use.Variable slot else Use.Barred) }
+    ensures { result ≡ (if kinds.can_assign script.now.kinds name.now then HostUse.Variable slot else HostUse.Barred) }
 {
     if can_assign(script, name) {
-        Use::Variable(slot)
+        HostUse::Variable(slot)
     } else {
-        Use::Barred
+        HostUse::Barred
     }
 }
 
@@ -68,7 +68,7 @@ fn add_functions(alloc: Global, host: &mut Host, functions: &[Function]) -> Resu
     ensures { OnOk result (host.new ≡ with_functions (map (λ f. f.name) functions.now) host.old) }
 {
     for function in functions {
-        host.add_name(function.name.copy(alloc)?, Use::Barred)?;
+        host.add_name(function.name.copy(alloc)?, HostUse::Barred)?;
     }
     Ok(())
 }

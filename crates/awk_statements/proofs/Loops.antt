@@ -2,7 +2,7 @@
 use Rattle.std.proofs.Common.{◌≡◌, ℕ, zero, suc, ◌+◌, ◌-◌, ◌<◌, ◌≤◌, Bool, true, false, length, List, [], ◌∷◌, ◌++◌, Ok, Err, refl, ap, sym, map, ◌∙◌, append_assoc, arith}
 use Rattle.std.proofs.lemmas.List.{append-nil, map-append}
 use Rattle.awk_tokens.specs.declared.token.Token.{Token}
-use Rattle.awk_tree.specs.declared.fault.Fault.TheVariants.{Unexpected}
+use Rattle.awk_tree.specs.declared.fault.ParseError.TheVariants.{Unexpected}
 use Rattle.awk_tree.specs.Input.{Outcome, Parser, and_then}
 use Rattle.awk_tree.specs.Statements.{until_from}
 use Rattle.awk_expressions.proofs.Loops.{with_front}

@@ -3,8 +3,8 @@ use Rattle.std.specs.Prelude.{ℕ, ◌-◌, List, length, slice_get, Option, Som
 use Rattle.awk_text.specs.declared.place.Place.{Place}
 use Rattle.awk_tokens.specs.declared.token.Token.{Token}
 use Rattle.awk_tokens.specs.declared.syntax_error.SyntaxError.{SyntaxError}
-use Rattle.awk_tree.specs.declared.fault.Fault.{Fault}
-use Rattle.awk_tree.specs.declared.fault.Fault.TheVariants.{Memory, Unexpected, TooDeep}
+use Rattle.awk_tree.specs.declared.fault.ParseError.{ParseError}
+use Rattle.awk_tree.specs.declared.fault.ParseError.TheVariants.{Memory, Unexpected, TooDeep}
 
 -- directly behind the last token; without a token, the first place of a script
 abbrev pub end_of : Option Token → Place
@@ -20,7 +20,7 @@ place_at None last = end_of last
 abbrev pub place_of : List Token → ℕ → Place
 place_of tokens left = place_at (slice_get tokens (length tokens - left)) (slice_get tokens (length tokens - 1))
 
-abbrev pub refusal : List Token → Fault → SyntaxError
+abbrev pub refusal : List Token → ParseError → SyntaxError
 refusal tokens Memory = record { code = 9; place = record { line = 0; column = 0 } }
 refusal tokens (Unexpected left) = record { code = 4; place = place_of tokens left }
 refusal tokens (TooDeep left) = record { code = 5; place = place_of tokens left }

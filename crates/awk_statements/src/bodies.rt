@@ -14,7 +14,7 @@ use crate::simple::{condition, ended, perhaps_until, simple};
 use crate::statement_signs::each_next;
 use awk_expressions::{Level, Tokens, is, name_of, pair};
 use awk_text::place::Place;
-use awk_tree::{Expr, Fault, Nested, Statement, Terminal};
+use awk_tree::{Expr, Nested, ParseError, Statement, Terminal};
 use sqlite_items::{Boxed, Items};
 use std::alloc::Global;
 
@@ -25,9 +25,9 @@ pub struct Bodies<B> {
     pub body: B,
 }
 
-impl<B: Fn(Global, &mut Tokens<'_>, usize, Nested) -> Result<Statement, Fault>> Bodies<B> {
+impl<B: Fn(Global, &mut Tokens<'_>, usize, Nested) -> Result<Statement, ParseError>> Bodies<B> {
     /// Statements one level deeper.
-    fn nested(&self, tokens: &mut Tokens<'_>, which: Nested) -> Result<Statement, Fault>
+    fn nested(&self, tokens: &mut Tokens<'_>, which: Nested) -> Result<Statement, ParseError>
         requires { NestsStatements self.now.level.depth (B.pre self.now.body) (B.post self.now.body) }
         ensures { Reads view_statement (spec.statement self.now.level.depth which tokens.old) result tokens.new }
     {
@@ -35,7 +35,7 @@ impl<B: Fn(Global, &mut Tokens<'_>, usize, Nested) -> Result<Statement, Fault>> 
     }
 
     /// The body of a statement.
-    fn body(&self, tokens: &mut Tokens<'_>) -> Result<Boxed<Statement>, Fault>
+    fn body(&self, tokens: &mut Tokens<'_>) -> Result<Boxed<Statement>, ParseError>
         requires { NestsStatements self.now.level.depth (B.pre self.now.body) (B.post self.now.body) }
         ensures { Reads view_statement (spec.statement self.now.level.depth Nested.Body tokens.old) result tokens.new }
     {
@@ -50,7 +50,7 @@ impl<B: Fn(Global, &mut Tokens<'_>, usize, Nested) -> Result<Statement, Fault>> 
         tokens: &mut Tokens<'_>,
         test: Boxed<Expr>,
         body: Boxed<Statement>,
-    ) -> Result<Statement, Fault>
+    ) -> Result<Statement, ParseError>
         requires nests { NestsStatements self.now.level.depth (B.pre self.now.body) (B.post self.now.body) }
         requires closed { is_open (view_statement body) ≡ true → looks.else_next tokens.old ≡ false }
         ensures { Reads view_statement
@@ -68,7 +68,7 @@ impl<B: Fn(Global, &mut Tokens<'_>, usize, Nested) -> Result<Statement, Fault>> 
 
     /// `if ( expr ) body [ else body ]`
     #[tactic(auto, using(awk_tree::proofs::Views::statement_views), unfolding(awk_tree::specs::Statements::if_of))]
-    fn if_of(&self, tokens: &mut Tokens<'_>) -> Result<Statement, Fault>
+    fn if_of(&self, tokens: &mut Tokens<'_>) -> Result<Statement, ParseError>
         requires { NestsStatements self.now.level.depth (B.pre self.now.body) (B.post self.now.body) }
         ensures { Reads view_statement
             (spec.if_of self.now.level.depth (expr self.now.level.depth) (spec.statement self.now.level.depth)
@@ -82,7 +82,7 @@ impl<B: Fn(Global, &mut Tokens<'_>, usize, Nested) -> Result<Statement, Fault>> 
 
     /// `while ( expr ) body`
     #[tactic(auto, using(awk_tree::proofs::Views::statement_views), unfolding(awk_tree::specs::Statements::while_of))]
-    fn while_of(&self, tokens: &mut Tokens<'_>) -> Result<Statement, Fault>
+    fn while_of(&self, tokens: &mut Tokens<'_>) -> Result<Statement, ParseError>
         requires { NestsStatements self.now.level.depth (B.pre self.now.body) (B.post self.now.body) }
         ensures { Reads view_statement
             (spec.while_of self.now.level.depth (expr self.now.level.depth) (spec.statement self.now.level.depth)
@@ -96,7 +96,7 @@ impl<B: Fn(Global, &mut Tokens<'_>, usize, Nested) -> Result<Statement, Fault>> 
 
     /// `do body while ( expr )`, and what ends it.
     #[tactic(auto, using(awk_tree::proofs::Views::statement_views), unfolding(awk_tree::specs::Statements::do_of))]
-    fn do_of(&self, tokens: &mut Tokens<'_>) -> Result<Statement, Fault>
+    fn do_of(&self, tokens: &mut Tokens<'_>) -> Result<Statement, ParseError>
         requires { NestsStatements self.now.level.depth (B.pre self.now.body) (B.post self.now.body) }
         ensures { Reads view_statement
             (spec.do_of self.now.level.depth (expr self.now.level.depth) (spec.statement self.now.level.depth)
@@ -112,7 +112,7 @@ impl<B: Fn(Global, &mut Tokens<'_>, usize, Nested) -> Result<Statement, Fault>> 
 
     /// `[ expr ] ; [ expr ] ; [ expr ] ) body`
     #[tactic(auto, using(awk_tree::proofs::Views::statement_views), unfolding(awk_tree::specs::Statements::loop_rest))]
-    fn loop_rest(&self, tokens: &mut Tokens<'_>) -> Result<Statement, Fault>
+    fn loop_rest(&self, tokens: &mut Tokens<'_>) -> Result<Statement, ParseError>
         requires { NestsStatements self.now.level.depth (B.pre self.now.body) (B.post self.now.body) }
         ensures { Reads view_statement
             (spec.loop_rest self.now.level.depth (expr self.now.level.depth) (spec.statement self.now.level.depth)
@@ -133,7 +133,7 @@ impl<B: Fn(Global, &mut Tokens<'_>, usize, Nested) -> Result<Statement, Fault>> 
 
     /// `NAME in NAME ) body`
     #[tactic(auto, using(awk_tree::proofs::Views::statement_views), unfolding(awk_tree::specs::Statements::each_rest))]
-    fn each_rest(&self, tokens: &mut Tokens<'_>, place: Place) -> Result<Statement, Fault>
+    fn each_rest(&self, tokens: &mut Tokens<'_>, place: Place) -> Result<Statement, ParseError>
         requires { NestsStatements self.now.level.depth (B.pre self.now.body) (B.post self.now.body) }
         ensures { Reads view_statement
             (spec.each_rest self.now.level.depth (expr self.now.level.depth) (spec.statement self.now.level.depth) place
@@ -151,7 +151,7 @@ impl<B: Fn(Global, &mut Tokens<'_>, usize, Nested) -> Result<Statement, Fault>> 
 
     /// What stands behind the `(` of a `for`.
     #[tactic(auto, using(awk_tree::proofs::Views::statement_views), unfolding(awk_tree::specs::Statements::for_rest))]
-    fn for_rest(&self, tokens: &mut Tokens<'_>, place: Place) -> Result<Statement, Fault>
+    fn for_rest(&self, tokens: &mut Tokens<'_>, place: Place) -> Result<Statement, ParseError>
         requires { NestsStatements self.now.level.depth (B.pre self.now.body) (B.post self.now.body) }
         ensures { Reads view_statement
             (spec.for_rest self.now.level.depth (expr self.now.level.depth) (spec.statement self.now.level.depth) place
@@ -166,7 +166,7 @@ impl<B: Fn(Global, &mut Tokens<'_>, usize, Nested) -> Result<Statement, Fault>> 
 
     /// `for ( .. ) body`
     #[tactic(auto, using(awk_tree::proofs::Views::statement_views), unfolding(awk_tree::specs::Statements::for_of))]
-    fn for_of(&self, tokens: &mut Tokens<'_>) -> Result<Statement, Fault>
+    fn for_of(&self, tokens: &mut Tokens<'_>) -> Result<Statement, ParseError>
         requires { NestsStatements self.now.level.depth (B.pre self.now.body) (B.post self.now.body) }
         ensures { Reads view_statement
             (spec.for_of self.now.level.depth (expr self.now.level.depth) (spec.statement self.now.level.depth)
@@ -181,7 +181,7 @@ impl<B: Fn(Global, &mut Tokens<'_>, usize, Nested) -> Result<Statement, Fault>> 
     }
 
     /// A statement that holds no other, and what ends it.
-    fn simple(&self, tokens: &mut Tokens<'_>) -> Result<Statement, Fault>
+    fn simple(&self, tokens: &mut Tokens<'_>) -> Result<Statement, ParseError>
         requires { NestsStatements self.now.level.depth (B.pre self.now.body) (B.post self.now.body) }
         ensures { Reads view_statement
             (and_then (spec.simple self.now.level.depth (expr self.now.level.depth) tokens.old) spec.ended) result
@@ -192,7 +192,7 @@ impl<B: Fn(Global, &mut Tokens<'_>, usize, Nested) -> Result<Statement, Fault>> 
     }
 
     #[tactic(auto, using(awk_tree::proofs::Views::statement_views))]
-    fn statement_by(&self, tokens: &mut Tokens<'_>, kind: Terminal) -> Result<Statement, Fault>
+    fn statement_by(&self, tokens: &mut Tokens<'_>, kind: Terminal) -> Result<Statement, ParseError>
         requires { NestsStatements self.now.level.depth (B.pre self.now.body) (B.post self.now.body) }
         ensures { Reads view_statement
             (spec.statement_by self.now.level.depth (expr self.now.level.depth) (spec.statement self.now.level.depth)
@@ -217,7 +217,7 @@ impl<B: Fn(Global, &mut Tokens<'_>, usize, Nested) -> Result<Statement, Fault>> 
 
     /// A statement, and what ends it.
     #[tactic(auto, unfolding(awk_tree::specs::Statements::statement_here))]
-    fn statement_here(&self, tokens: &mut Tokens<'_>) -> Result<Statement, Fault>
+    fn statement_here(&self, tokens: &mut Tokens<'_>) -> Result<Statement, ParseError>
         requires { NestsStatements self.now.level.depth (B.pre self.now.body) (B.post self.now.body) }
         ensures { Reads view_statement
             (spec.statement_here self.now.level.depth (expr self.now.level.depth) (spec.statement self.now.level.depth)
@@ -229,7 +229,7 @@ impl<B: Fn(Global, &mut Tokens<'_>, usize, Nested) -> Result<Statement, Fault>> 
 
     /// As many as there are up to a `}`, with newlines before each.
     #[tactic(auto, unfolding(awk_tree::specs::Statements::statements))]
-    fn statements(&self, tokens: &mut Tokens<'_>) -> Result<Items<Statement>, Fault>
+    fn statements(&self, tokens: &mut Tokens<'_>) -> Result<Items<Statement>, ParseError>
         requires { NestsStatements self.now.level.depth (B.pre self.now.body) (B.post self.now.body) }
         ensures { Reads (map view_statement)
             (spec.statements self.now.level.depth (expr self.now.level.depth) (spec.statement self.now.level.depth)
@@ -252,7 +252,7 @@ impl<B: Fn(Global, &mut Tokens<'_>, usize, Nested) -> Result<Statement, Fault>> 
 
     /// `{ statement } }`
     #[tactic(auto, unfolding(awk_tree::specs::Statements::braces))]
-    pub fn braces(&self, tokens: &mut Tokens<'_>) -> Result<Items<Statement>, Fault>
+    pub fn braces(&self, tokens: &mut Tokens<'_>) -> Result<Items<Statement>, ParseError>
         requires { NestsStatements self.now.level.depth (B.pre self.now.body) (B.post self.now.body) }
         ensures { Reads (map view_statement)
             (spec.braces self.now.level.depth (expr self.now.level.depth) (spec.statement self.now.level.depth)
@@ -265,7 +265,7 @@ impl<B: Fn(Global, &mut Tokens<'_>, usize, Nested) -> Result<Statement, Fault>> 
 
     /// What a level holds.
     #[tactic(auto, using(awk_tree::proofs::Views::statement_views))]
-    pub fn nested_in(&self, tokens: &mut Tokens<'_>, which: Nested) -> Result<Statement, Fault>
+    pub fn nested_in(&self, tokens: &mut Tokens<'_>, which: Nested) -> Result<Statement, ParseError>
         requires { NestsStatements self.now.level.depth (B.pre self.now.body) (B.post self.now.body) }
         ensures { Reads view_statement
             (spec.nested_in self.now.level.depth (expr self.now.level.depth) (spec.statement self.now.level.depth) which

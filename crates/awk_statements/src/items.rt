@@ -10,7 +10,7 @@ use crate::statement::statement;
 use crate::statement_signs::{ends_item, is_done};
 use awk_expressions::{Level, Tokens, is, joined, name_of, pair, refused};
 use awk_tokens::Token;
-use awk_tree::{Expr, Fault, Function, Item, Name, Pattern, Statement, Terminal};
+use awk_tree::{Expr, Function, Item, Name, ParseError, Pattern, Statement, Terminal};
 use sqlite_items::{Boxed, Items};
 use std::alloc::Global;
 
@@ -19,7 +19,7 @@ const LEVELS: usize = 200;
 
 /// `{ statement }`
 #[tactic(auto, unfolding(awk_tree::specs::Statements::action))]
-fn action(alloc: Global, tokens: &mut Tokens<'_>) -> Result<Items<Statement>, Fault>
+fn action(alloc: Global, tokens: &mut Tokens<'_>) -> Result<Items<Statement>, ParseError>
     ensures { Reads (map view_statement) (spec.action tokens.old) result tokens.new }
 {
     tokens.one(Terminal::OpenBrace)?;
@@ -35,7 +35,7 @@ fn action(alloc: Global, tokens: &mut Tokens<'_>) -> Result<Items<Statement>, Fa
 }
 
 #[tactic(auto, unfolding(awk_tree::specs::Statements::whole_expr))]
-fn whole_expr(alloc: Global, tokens: &mut Tokens<'_>) -> Result<Boxed<Expr>, Fault>
+fn whole_expr(alloc: Global, tokens: &mut Tokens<'_>) -> Result<Boxed<Expr>, ParseError>
     ensures { Reads view (spec.whole_expr tokens.old) result tokens.new }
 {
     let level = Level {
@@ -47,7 +47,7 @@ fn whole_expr(alloc: Global, tokens: &mut Tokens<'_>) -> Result<Boxed<Expr>, Fau
 
 /// `expr | expr , expr`
 #[tactic(auto, unfolding(awk_tree::specs::Statements::pattern))]
-fn pattern(alloc: Global, tokens: &mut Tokens<'_>) -> Result<Pattern, Fault>
+fn pattern(alloc: Global, tokens: &mut Tokens<'_>) -> Result<Pattern, ParseError>
     ensures { Reads view_pattern (spec.pattern tokens.old) result tokens.new }
 {
     let first = whole_expr(alloc, tokens)?;
@@ -62,7 +62,7 @@ fn pattern(alloc: Global, tokens: &mut Tokens<'_>) -> Result<Pattern, Fault>
 
 /// A pattern by itself, where an item may end.
 #[tactic(auto, unfolding(awk_tree::specs::Statements::shown))]
-fn shown(tokens: &mut Tokens<'_>, when: Pattern) -> Result<Item, Fault>
+fn shown(tokens: &mut Tokens<'_>, when: Pattern) -> Result<Item, ParseError>
     ensures { Reads view_item (spec.shown (view_pattern when) tokens.old) result tokens.new }
 {
     if ends_item(tokens.rest()) {
@@ -74,7 +74,7 @@ fn shown(tokens: &mut Tokens<'_>, when: Pattern) -> Result<Item, Fault>
 
 /// `pattern | pattern action`
 #[tactic(auto, unfolding(awk_tree::specs::Statements::rule_of))]
-fn rule_of(alloc: Global, tokens: &mut Tokens<'_>) -> Result<Item, Fault>
+fn rule_of(alloc: Global, tokens: &mut Tokens<'_>) -> Result<Item, ParseError>
     ensures { Reads view_item (spec.rule_of tokens.old) result tokens.new }
 {
     let when = pattern(alloc, tokens)?;
@@ -88,7 +88,7 @@ fn rule_of(alloc: Global, tokens: &mut Tokens<'_>) -> Result<Item, Fault>
 
 /// `, NAME`
 #[tactic(auto, unfolding(awk_tree::specs::Statements::next_param))]
-fn next_param(alloc: Global, tokens: &mut Tokens<'_>) -> Result<Name, Fault>
+fn next_param(alloc: Global, tokens: &mut Tokens<'_>) -> Result<Name, ParseError>
     ensures { Reads (λ n. n) (spec.next_param tokens.old) result tokens.new }
 {
     tokens.one(Terminal::Comma)?;
@@ -98,7 +98,7 @@ fn next_param(alloc: Global, tokens: &mut Tokens<'_>) -> Result<Name, Fault>
 }
 
 #[tactic(auto, unfolding(awk_tree::specs::Statements::more_params))]
-fn more_params(alloc: Global, tokens: &mut Tokens<'_>) -> Result<Items<Name>, Fault>
+fn more_params(alloc: Global, tokens: &mut Tokens<'_>) -> Result<Items<Name>, ParseError>
     ensures { Reads (λ ns. ns) (spec.more_params tokens.old) result tokens.new }
 {
     let mut found = Items::new(alloc);
@@ -117,7 +117,7 @@ fn more_params(alloc: Global, tokens: &mut Tokens<'_>) -> Result<Items<Name>, Fa
 
 /// `[ NAME { , NAME } ]`
 #[tactic(auto, unfolding(awk_tree::specs::Statements::params))]
-fn params(alloc: Global, tokens: &mut Tokens<'_>) -> Result<Items<Name>, Fault>
+fn params(alloc: Global, tokens: &mut Tokens<'_>) -> Result<Items<Name>, ParseError>
     ensures { Reads (λ ns. ns) (spec.params tokens.old) result tokens.new }
 {
     if is(tokens.ahead(), Terminal::CloseParen) {
@@ -131,7 +131,7 @@ fn params(alloc: Global, tokens: &mut Tokens<'_>) -> Result<Items<Name>, Fault>
 
 /// A CALLNAME counts as the name.
 #[tactic(auto, unfolding(awk_tree::specs::Statements::function_name))]
-fn function_name(alloc: Global, tokens: &mut Tokens<'_>) -> Result<Name, Fault>
+fn function_name(alloc: Global, tokens: &mut Tokens<'_>) -> Result<Name, ParseError>
     ensures { Reads (λ n. n) (spec.function_name tokens.old) result tokens.new }
 {
     let token = if is(tokens.ahead(), Terminal::CallName) {
@@ -144,7 +144,7 @@ fn function_name(alloc: Global, tokens: &mut Tokens<'_>) -> Result<Name, Fault>
 
 /// `function NAME ( params ) action`
 #[tactic(auto, unfolding(awk_tree::specs::Statements::function_of))]
-fn function_of(alloc: Global, tokens: &mut Tokens<'_>) -> Result<Item, Fault>
+fn function_of(alloc: Global, tokens: &mut Tokens<'_>) -> Result<Item, ParseError>
     ensures { Reads view_item (spec.function_of tokens.old) result tokens.new }
 {
     tokens.one(Terminal::Function)?;
@@ -157,7 +157,7 @@ fn function_of(alloc: Global, tokens: &mut Tokens<'_>) -> Result<Item, Fault>
     Ok(Item::Function(Function { name, params, body }))
 }
 
-fn item_by(alloc: Global, tokens: &mut Tokens<'_>, kind: Terminal) -> Result<Item, Fault>
+fn item_by(alloc: Global, tokens: &mut Tokens<'_>, kind: Terminal) -> Result<Item, ParseError>
     ensures { Reads view_item (spec.item_by kind tokens.old) result tokens.new }
 {
     match kind {
@@ -176,7 +176,7 @@ fn item_by(alloc: Global, tokens: &mut Tokens<'_>, kind: Terminal) -> Result<Ite
 }
 
 #[tactic(auto, unfolding(awk_tree::specs::Statements::item))]
-fn item(alloc: Global, tokens: &mut Tokens<'_>) -> Result<Item, Fault>
+fn item(alloc: Global, tokens: &mut Tokens<'_>) -> Result<Item, ParseError>
     ensures { Reads view_item (spec.item tokens.old) result tokens.new }
 {
     let kind = tokens.ahead();
@@ -185,7 +185,7 @@ fn item(alloc: Global, tokens: &mut Tokens<'_>) -> Result<Item, Fault>
 
 /// As many as there are, with newlines and `;` before each, up to the end.
 #[tactic(auto, unfolding(awk_tree::specs::Statements::script))]
-fn items(alloc: Global, tokens: &mut Tokens<'_>) -> Result<Items<Item>, Fault>
+fn items(alloc: Global, tokens: &mut Tokens<'_>) -> Result<Items<Item>, ParseError>
     ensures reads { Reads (map view_item) (spec.script tokens.old) result tokens.new }
     ensures done { IfOk result (λ _. tokens.new ≡ []) }
 {
@@ -206,7 +206,7 @@ fn items(alloc: Global, tokens: &mut Tokens<'_>) -> Result<Items<Item>, Fault>
 
 /// The items of a script, or why it is refused: all of its tokens are read, as the grammar reads
 /// them.
-pub fn script(alloc: Global, tokens: &[Token]) -> Result<Items<Item>, Fault>
+pub fn script(alloc: Global, tokens: &[Token]) -> Result<Items<Item>, ParseError>
     ensures { Reads (map view_item) (spec.script tokens.now) result [] }
 {
     items(alloc, &mut Tokens::new(tokens))

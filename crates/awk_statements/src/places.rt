@@ -5,22 +5,22 @@ ghost use Rattle.awk_statements.specs.Places as spec;
 
 use awk_text::place::Place;
 use awk_tokens::{SyntaxError, Token};
-use awk_tree::Fault;
+use awk_tree::ParseError;
 
 /// Why the script of these tokens is refused. Memory that is refused has no place.
-pub fn refusal(tokens: &[Token], fault: Fault) -> SyntaxError
+pub fn refusal(tokens: &[Token], fault: ParseError) -> SyntaxError
     ensures { result ≡ spec.refusal tokens.now fault }
 {
     match fault {
-        Fault::Memory => SyntaxError {
+        ParseError::Memory => SyntaxError {
             code: SyntaxError::MEMORY,
             place: Place { line: 0, column: 0 },
         },
-        Fault::Unexpected(left) => SyntaxError {
+        ParseError::Unexpected(left) => SyntaxError {
             code: SyntaxError::TOKEN,
             place: place_of(tokens, left),
         },
-        Fault::TooDeep(left) => SyntaxError {
+        ParseError::TooDeep(left) => SyntaxError {
             code: SyntaxError::NESTING,
             place: place_of(tokens, left),
         },

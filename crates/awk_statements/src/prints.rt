@@ -9,7 +9,7 @@ ghost use Rattle.awk_tree.specs.View.{view, view_printed, view_redirection, view
 use crate::statement_signs::{ends_print, redirect};
 use awk_expressions::{Level, Tokens, is, joined, pair};
 use awk_text::place::Place;
-use awk_tree::{Expr, Fault, Goal, Printed, Redirection, Statement, Terminal};
+use awk_tree::{Expr, Goal, ParseError, Printed, Redirection, Statement, Terminal};
 use sqlite_items::{Boxed, Items};
 
 fn is_several(items: &Items<Expr>) -> bool
@@ -23,7 +23,7 @@ fn is_several(items: &Items<Expr>) -> bool
 
 /// `, expr`
 #[tactic(auto, unfolding(awk_tree::specs::Statements::next_printed))]
-fn next_printed(level: &Level, tokens: &mut Tokens<'_>) -> Result<Boxed<Expr>, Fault>
+fn next_printed(level: &Level, tokens: &mut Tokens<'_>) -> Result<Boxed<Expr>, ParseError>
     ensures { Reads view (spec.next_printed level.now.depth (expr level.now.depth) tokens.old) result tokens.new }
 {
     tokens.one(Terminal::Comma)?;
@@ -32,7 +32,7 @@ fn next_printed(level: &Level, tokens: &mut Tokens<'_>) -> Result<Boxed<Expr>, F
 }
 
 #[tactic(auto, unfolding(awk_tree::specs::Statements::more_printed))]
-fn more_printed(level: &Level, tokens: &mut Tokens<'_>) -> Result<Items<Expr>, Fault>
+fn more_printed(level: &Level, tokens: &mut Tokens<'_>) -> Result<Items<Expr>, ParseError>
     ensures { Reads (map view) (spec.more_printed level.now.depth (expr level.now.depth) tokens.old) result tokens.new }
 {
     let mut found = Items::new(level.alloc);
@@ -55,7 +55,7 @@ fn printed_rest(
     level: &Level,
     tokens: &mut Tokens<'_>,
     first: Boxed<Expr>,
-) -> Result<Printed<Expr>, Fault>
+) -> Result<Printed<Expr>, ParseError>
     ensures { Reads view_printed (spec.printed_rest level.now.depth (expr level.now.depth) (view first) tokens.old)
         result tokens.new }
 {
@@ -75,7 +75,7 @@ fn printed_from(
     place: Place,
     first: Boxed<Expr>,
     more: Items<Expr>,
-) -> Result<Printed<Expr>, Fault>
+) -> Result<Printed<Expr>, ParseError>
     ensures { Reads view_printed
         (spec.printed_from level.now.depth (expr level.now.depth) place (view first) (map view more) tokens.old) result
         tokens.new }
@@ -93,7 +93,7 @@ fn printed_from(
 
 /// A list that begins with `(`.
 #[tactic(auto, unfolding(awk_tree::specs::Statements::printed_paren))]
-fn printed_paren(level: &Level, tokens: &mut Tokens<'_>) -> Result<Printed<Expr>, Fault>
+fn printed_paren(level: &Level, tokens: &mut Tokens<'_>) -> Result<Printed<Expr>, ParseError>
     ensures { Reads view_printed (spec.printed_paren level.now.depth (expr level.now.depth) tokens.old) result
         tokens.new }
 {
@@ -106,7 +106,7 @@ fn printed_paren(level: &Level, tokens: &mut Tokens<'_>) -> Result<Printed<Expr>
 
 /// `expr { , expr }`
 #[tactic(auto, unfolding(awk_tree::specs::Statements::printed))]
-fn printed(level: &Level, tokens: &mut Tokens<'_>) -> Result<Printed<Expr>, Fault>
+fn printed(level: &Level, tokens: &mut Tokens<'_>) -> Result<Printed<Expr>, ParseError>
     ensures { Reads view_printed (spec.printed level.now.depth (expr level.now.depth) tokens.old) result tokens.new }
 {
     if is(tokens.ahead(), Terminal::OpenParen) {
@@ -117,7 +117,7 @@ fn printed(level: &Level, tokens: &mut Tokens<'_>) -> Result<Printed<Expr>, Faul
 }
 
 #[tactic(auto, unfolding(awk_tree::specs::Statements::printed_or_none))]
-fn printed_or_none(level: &Level, tokens: &mut Tokens<'_>) -> Result<Printed<Expr>, Fault>
+fn printed_or_none(level: &Level, tokens: &mut Tokens<'_>) -> Result<Printed<Expr>, ParseError>
     ensures { Reads view_printed (spec.printed_or_none level.now.depth (expr level.now.depth) tokens.old) result
         tokens.new }
 {
@@ -132,7 +132,10 @@ fn printed_or_none(level: &Level, tokens: &mut Tokens<'_>) -> Result<Printed<Exp
 
 /// `[ (> | >> | |) cat ]`
 #[tactic(auto, unfolding(awk_tree::specs::Statements::redirection))]
-fn redirection(level: &Level, tokens: &mut Tokens<'_>) -> Result<Option<Redirection<Expr>>, Fault>
+fn redirection(
+    level: &Level,
+    tokens: &mut Tokens<'_>,
+) -> Result<Option<Redirection<Expr>>, ParseError>
     ensures { Reads (option_map view_redirection) (spec.redirection level.now.depth (expr level.now.depth) tokens.old)
         result tokens.new }
 {
@@ -148,7 +151,7 @@ fn redirection(level: &Level, tokens: &mut Tokens<'_>) -> Result<Option<Redirect
 }
 
 #[tactic(auto, using(awk_tree::proofs::Views::statement_views), unfolding(awk_tree::specs::Statements::print))]
-pub fn print(level: &Level, tokens: &mut Tokens<'_>) -> Result<Statement, Fault>
+pub fn print(level: &Level, tokens: &mut Tokens<'_>) -> Result<Statement, ParseError>
     ensures { Reads view_statement (spec.print level.now.depth (expr level.now.depth) tokens.old) result tokens.new }
 {
     let token = tokens.one(Terminal::Print)?;
@@ -158,7 +161,7 @@ pub fn print(level: &Level, tokens: &mut Tokens<'_>) -> Result<Statement, Fault>
 }
 
 #[tactic(auto, using(awk_tree::proofs::Views::statement_views), unfolding(awk_tree::specs::Statements::printf))]
-pub fn printf(level: &Level, tokens: &mut Tokens<'_>) -> Result<Statement, Fault>
+pub fn printf(level: &Level, tokens: &mut Tokens<'_>) -> Result<Statement, ParseError>
     ensures { Reads view_statement (spec.printf level.now.depth (expr level.now.depth) tokens.old) result tokens.new }
 {
     let token = tokens.one(Terminal::Printf)?;

@@ -9,12 +9,12 @@ ghost use Rattle.awk_tree.specs.View.{view, view_statement};
 
 use crate::prints::{print, printf};
 use awk_expressions::{Level, Tokens, is, name_of, pair, refused};
-use awk_tree::{Expr, Fault, Goal, Statement, Terminal};
+use awk_tree::{Expr, Goal, ParseError, Statement, Terminal};
 use sqlite_items::Boxed;
 
 /// The statement, where it ends here: with `;`, a newline, or before `}`.
 #[tactic(auto, unfolding(awk_tree::specs::Statements::ended))]
-pub fn ended(tokens: &mut Tokens<'_>, statement: Statement) -> Result<Statement, Fault>
+pub fn ended(tokens: &mut Tokens<'_>, statement: Statement) -> Result<Statement, ParseError>
     ensures { Reads view_statement (spec.ended (view_statement statement) tokens.old) result tokens.new }
 {
     let kind = tokens.look();
@@ -25,7 +25,7 @@ fn ended_by(
     tokens: &mut Tokens<'_>,
     statement: Statement,
     kind: Terminal,
-) -> Result<Statement, Fault>
+) -> Result<Statement, ParseError>
     ensures { Reads view_statement (spec.ended_by (view_statement statement) kind tokens.old) result tokens.new }
 {
     match kind {
@@ -40,7 +40,7 @@ fn ended_by(
 
 /// `[ expr ]`, where the statement ends behind it.
 #[tactic(auto, unfolding(awk_tree::specs::Statements::perhaps_here))]
-fn perhaps_here(level: &Level, tokens: &mut Tokens<'_>) -> Result<Option<Expr>, Fault>
+fn perhaps_here(level: &Level, tokens: &mut Tokens<'_>) -> Result<Option<Expr>, ParseError>
     ensures { Reads (option_map view) (spec.perhaps_here level.now.depth (expr level.now.depth) tokens.old) result
         tokens.new }
 {
@@ -52,7 +52,7 @@ fn perhaps_here(level: &Level, tokens: &mut Tokens<'_>) -> Result<Option<Expr>, 
 
 /// `delete NAME | delete NAME [ list ]`
 #[tactic(auto, using(awk_tree::proofs::Views::statement_views), unfolding(awk_tree::specs::Statements::delete))]
-fn delete(level: &Level, tokens: &mut Tokens<'_>) -> Result<Statement, Fault>
+fn delete(level: &Level, tokens: &mut Tokens<'_>) -> Result<Statement, ParseError>
     ensures { Reads view_statement (spec.delete level.now.depth (expr level.now.depth) tokens.old) result tokens.new }
 {
     tokens.one(Terminal::Delete)?;
@@ -68,7 +68,7 @@ fn delete(level: &Level, tokens: &mut Tokens<'_>) -> Result<Statement, Fault>
 
 /// An expression as a statement.
 #[tactic(auto, using(awk_tree::proofs::Views::statement_views))]
-fn plain(level: &Level, tokens: &mut Tokens<'_>) -> Result<Statement, Fault>
+fn plain(level: &Level, tokens: &mut Tokens<'_>) -> Result<Statement, ParseError>
     ensures { Reads view_statement
         (and_then (expression level.now.depth (expr level.now.depth) false tokens.old) (λ x ts. Ok (tree.plain x, ts)))
         result tokens.new }
@@ -78,7 +78,7 @@ fn plain(level: &Level, tokens: &mut Tokens<'_>) -> Result<Statement, Fault>
 
 /// `exit [ expr ]`
 #[tactic(auto, using(awk_tree::proofs::Views::statement_views))]
-fn exit(level: &Level, tokens: &mut Tokens<'_>) -> Result<Statement, Fault>
+fn exit(level: &Level, tokens: &mut Tokens<'_>) -> Result<Statement, ParseError>
     ensures { Reads view_statement (spec.simple_by level.now.depth (expr level.now.depth) Terminal.Exit tokens.old)
         result tokens.new }
 {
@@ -88,7 +88,7 @@ fn exit(level: &Level, tokens: &mut Tokens<'_>) -> Result<Statement, Fault>
 
 /// `return [ expr ]`
 #[tactic(auto, using(awk_tree::proofs::Views::statement_views))]
-fn give_back(level: &Level, tokens: &mut Tokens<'_>) -> Result<Statement, Fault>
+fn give_back(level: &Level, tokens: &mut Tokens<'_>) -> Result<Statement, ParseError>
     ensures { Reads view_statement (spec.simple_by level.now.depth (expr level.now.depth) Terminal.Return tokens.old)
         result tokens.new }
 {
@@ -97,7 +97,11 @@ fn give_back(level: &Level, tokens: &mut Tokens<'_>) -> Result<Statement, Fault>
 }
 
 #[tactic(auto, using(awk_tree::proofs::Views::statement_views))]
-fn simple_by(level: &Level, tokens: &mut Tokens<'_>, kind: Terminal) -> Result<Statement, Fault>
+fn simple_by(
+    level: &Level,
+    tokens: &mut Tokens<'_>,
+    kind: Terminal,
+) -> Result<Statement, ParseError>
     ensures { Reads view_statement (spec.simple_by level.now.depth (expr level.now.depth) kind tokens.old) result
         tokens.new }
 {
@@ -114,7 +118,7 @@ fn simple_by(level: &Level, tokens: &mut Tokens<'_>, kind: Terminal) -> Result<S
 
 /// A statement that holds no other, without what ends it.
 #[tactic(auto, unfolding(awk_tree::specs::Statements::simple))]
-pub fn simple(level: &Level, tokens: &mut Tokens<'_>) -> Result<Statement, Fault>
+pub fn simple(level: &Level, tokens: &mut Tokens<'_>) -> Result<Statement, ParseError>
     ensures { Reads view_statement (spec.simple level.now.depth (expr level.now.depth) tokens.old) result tokens.new }
 {
     let kind = tokens.ahead();
@@ -123,7 +127,7 @@ pub fn simple(level: &Level, tokens: &mut Tokens<'_>) -> Result<Statement, Fault
 
 /// `( expr )`
 #[tactic(auto, unfolding(awk_tree::specs::Statements::condition))]
-pub fn condition(level: &Level, tokens: &mut Tokens<'_>) -> Result<Boxed<Expr>, Fault>
+pub fn condition(level: &Level, tokens: &mut Tokens<'_>) -> Result<Boxed<Expr>, ParseError>
     ensures { Reads view (spec.condition level.now.depth (expr level.now.depth) tokens.old) result tokens.new }
 {
     tokens.one(Terminal::OpenParen)?;
@@ -138,7 +142,7 @@ pub fn perhaps_until(
     level: &Level,
     tokens: &mut Tokens<'_>,
     end: Terminal,
-) -> Result<Option<Expr>, Fault>
+) -> Result<Option<Expr>, ParseError>
     ensures { Reads (option_map view) (spec.perhaps_until level.now.depth (expr level.now.depth) end tokens.old) result
         tokens.new }
 {

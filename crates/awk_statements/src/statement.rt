@@ -7,7 +7,7 @@ ghost use Rattle.awk_tree.specs.View.{view_statement};
 
 use crate::bodies::Bodies;
 use awk_expressions::{Level, Tokens};
-use awk_tree::{Fault, Nested, Statement};
+use awk_tree::{Nested, ParseError, Statement};
 use std::alloc::Global;
 
 /// Statements nested no deeper than the number.
@@ -16,7 +16,7 @@ pub fn statement(
     tokens: &mut Tokens<'_>,
     depth: usize,
     which: Nested,
-) -> Result<Statement, Fault>
+) -> Result<Statement, ParseError>
     ensures { Reads view_statement (spec.statement depth which tokens.old) result tokens.new }
 {
     if depth == 0 {

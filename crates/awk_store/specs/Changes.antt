@@ -13,7 +13,7 @@ use Rattle.awk_fields.specs.Separators.{separator}
 use Rattle.awk_format.specs.Directives.{◌>>=◌}
 use Rattle.awk_lib.specs.Arrays.{element, put}
 use Rattle.awk_program.specs.Slots.{Text, slot_of}
-use Rattle.awk_program.specs.declared.program.Name.{Name}
+use Rattle.awk_program.specs.declared.program.GlobalName.{GlobalName}
 use Rattle.awk_program.specs.declared.variables.Own.{Own}
 use Rattle.awk_program.specs.declared.variables.Own.TheVariants as own
 use Rattle.awk_program.specs.declared.variables.Variable.{Variable}
@@ -33,13 +33,13 @@ use Rattle.awk_store.specs.Kept.{Kept, own_text}
 
 -- ---- at first
 
-abbrev pub first_cell : Name → Cell
+abbrev pub first_cell : GlobalName → Cell
 first_cell x = if x.is_array then cell.Array [] else cell.Value (first_value x.text)
 
 abbrev pub first_main : Main
 first_main = record { position = 1; current = None; named = false; ended = false; failed = false }
 
-abbrev pub first_kept : List Name → Kept
+abbrev pub first_kept : List GlobalName → Kept
 first_kept names = record {
   cells = map first_cell names;
   frame = [];

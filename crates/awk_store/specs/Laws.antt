@@ -5,7 +5,7 @@ use Rattle.awk_text.specs.declared.value.Value.{Value}
 use Rattle.awk_fields.specs.Rows.{Row, known}
 use Rattle.awk_program.specs.Slots.{Text, name_of}
 use Rattle.awk_program.specs.View.{variable_of}
-use Rattle.awk_program.specs.declared.program.Name.{Name}
+use Rattle.awk_program.specs.declared.program.GlobalName.{GlobalName}
 use Rattle.awk_program.specs.declared.variables.Own.{Own}
 use Rattle.awk_program.specs.declared.variables.Variable.{Variable}
 use Rattle.awk_machine.specs.Begins.{first_state}
@@ -128,7 +128,7 @@ KeepsState = (names : List Text) (k : Kept) (hidden : Hidden) (row : Row) →
 abbrev pub first_hidden : Hidden
 first_hidden = record { taken = λ key. 0; row = record { whole = []; fields = known [] } }
 
-abbrev pub texts_of : List Name → List Text
+abbrev pub texts_of : List GlobalName → List Text
 texts_of names = map (λ n. n.text) names
 
 abbrev pub BeginsSo : Type 0

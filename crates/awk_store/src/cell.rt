@@ -6,7 +6,7 @@ ghost use Rattle.awk_machine.specs.Begins.{first_value};
 ghost use Rattle.awk_store.specs.Changes.{Adds};
 
 use awk_lib::array::Array;
-use awk_program::Name;
+use awk_program::GlobalName;
 use awk_text::arithmetic::add;
 use awk_text::fault::Fault;
 use awk_text::octets::Octets;
@@ -28,7 +28,7 @@ impl Cell {
     /// A variable as it is when a run begins.
     ///
     /// Fails with `Fault::Memory` alone, where memory is refused.
-    pub(crate) fn first(alloc: Global, name: &Name) -> Result<Cell, Fault>
+    pub(crate) fn first(alloc: Global, name: &GlobalName) -> Result<Cell, Fault>
         ensures ok { IfOk result (λ cell. cell ≡ first_cell name.now) }
         ensures err { IsOkUnless result Fault.Memory }
     {

@@ -7,7 +7,7 @@ use awk_text::octets::Octets;
 
 /// The stream of the main input that is read now.
 #[derive(Drop)]
-pub enum Source {
+pub enum CurrentInput {
     Nothing,
     Standard,
     /// The file that an operand of this text names
@@ -19,7 +19,7 @@ pub enum Source {
 pub struct MainInput {
     /// The place in ARGV of the next operand
     pub position: u64,
-    pub current: Source,
+    pub current: CurrentInput,
     /// Whether an operand named a file or standard input
     pub named: bool,
     /// Whether it has ended for good
@@ -35,7 +35,7 @@ impl MainInput {
     {
         MainInput {
             position: 1,
-            current: Source::Nothing,
+            current: CurrentInput::Nothing,
             named: false,
             ended: false,
             failed: false,

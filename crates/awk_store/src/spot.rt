@@ -7,9 +7,9 @@ use std::marker::Model;
 
 /// The key of an element: the text of a value.
 #[derive(Drop)]
-pub struct Key(Value);
+pub struct ElementKey(Value);
 
-impl Model for Key {
+impl Model for ElementKey {
     ghost use Rattle.std.specs.Prelude.{List, ℕ};
     ghost use Rattle.awk_text.specs.Values.{text_of};
 
@@ -18,15 +18,15 @@ impl Model for Key {
     ghost view = { λ k. text_of k.0 };
 }
 
-impl Key {
+impl ElementKey {
     ghost use Rattle.std.specs.Prelude.{◌≡◌};
     ghost use Rattle.awk_text.specs.Values.{text_of};
 
     /// The text of this value, as a key. Takes no memory.
-    pub fn new(value: Value) -> Key
+    pub fn new(value: Value) -> ElementKey
         ensures { result ≡ text_of value }
     {
-        Key(value)
+        ElementKey(value)
     }
 
     /// The text, lent: a number's is written into the buffer. Takes no memory.
@@ -42,7 +42,7 @@ impl Key {
 pub enum Spot {
     Variable(Variable),
     /// An element of an array by its key, with the place of the array's name
-    Element(Place, Variable, Key),
+    Element(Place, Variable, ElementKey),
     /// A field by its number: 0 is the whole record
     Field(u16),
 }

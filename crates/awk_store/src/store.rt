@@ -11,7 +11,7 @@ use crate::phase::Phase;
 use crate::separators::Separators;
 use awk_fields::Record;
 use awk_lib::array::Array;
-use awk_program::Name;
+use awk_program::GlobalName;
 use awk_text::Memory;
 use awk_text::fault::Fault;
 use awk_text::value::Value;
@@ -67,7 +67,7 @@ impl Store {
     /// What a run begins with, for a script with these variables.
     ///
     /// Fails with `Fault::Memory` alone, where memory is refused.
-    pub fn new(alloc: Global, names: &[Name]) -> Result<Store, Fault>
+    pub fn new(alloc: Global, names: &[GlobalName]) -> Result<Store, Fault>
         ensures ok { IfOk result (λ store. store ≡ first_kept names.now) }
         ensures err { IsOkUnless result Fault.Memory }
     {
@@ -186,7 +186,7 @@ fn turn(flags: &mut Vec<bool>, at: usize, on: bool) -> Result<(), Memory>
 }
 
 /// The variables as they are when a run begins.
-fn first_cells(alloc: Global, names: &[Name]) -> Result<Vec<Cell>, Fault>
+fn first_cells(alloc: Global, names: &[GlobalName]) -> Result<Vec<Cell>, Fault>
     ensures ok { IfOk result (λ cells. cells.items ≡ map first_cell names.now) }
     ensures err { IsOkUnless result Fault.Memory }
 {

@@ -13,8 +13,8 @@ use Rattle.indexmap.specs.IndexMap.{insert_entry, set_value_at}
 use Rattle.box_world.specs.Events.{Class, Stream, class_number, is_named, find_stream}
 use Rattle.std.specs.Prelude.{Result, Ok, Err, OnOk, IfOk, IfErr, IfSome, IsOk}
 use Rattle.awk_streams.specs.contracts.streams.KeptNamePartialEq.TheImpl.{eq-value}
-use Rattle.awk_streams.specs.contracts.streams.NameEquivalentKeptName.TheImpl.{equivalent-value}
-use Rattle.awk_streams.specs.declared.streams.Name.{Name}
+use Rattle.awk_streams.specs.contracts.streams.StreamNameEquivalentKeptName.TheImpl.{equivalent-value}
+use Rattle.awk_streams.specs.declared.streams.StreamName.{StreamName}
 use Rattle.awk_streams.specs.declared.streams.KeptName.{KeptName}
 use Rattle.awk_streams.specs.declared.streams.Open.{Open}
 use Rattle.awk_fields.specs.Takes.{Input, Window}
@@ -185,7 +185,7 @@ kept_test n e = refl
 pub text_test : (c : Class) (text : List ℕ) → IsTest (has_name c text) c text
 text_test c text e = refl
 
-pub name_test : (q : Name) → IsTest (equivalent-value.it q) (kind q.class) q.text.now
+pub name_test : (q : StreamName) → IsTest (equivalent-value.it q) (kind q.class) q.text.now
 name_test q e = refl
 
 -- ---- results

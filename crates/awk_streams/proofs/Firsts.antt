@@ -5,7 +5,7 @@ use Rattle.awk_text.specs.Limits.{most_bytes}
 use Rattle.awk_text.specs.declared.fault.Fault.{Fault}
 use Rattle.awk_text.specs.declared.fault.Fault.TheVariants as fault
 use Rattle.awk_text.specs.declared.place.Place.{Place}
-use Rattle.awk_streams.specs.declared.getline.Found.TheVariants as found
+use Rattle.awk_streams.specs.declared.getline.NextRecord.TheVariants as found
 use Rattle.awk_fields.specs.declared.reader.Taken.{Taken}
 use Rattle.awk_fields.specs.declared.reader.Taken.TheVariants as taking
 use Rattle.awk_fields.specs.Heads.{Head, taken, need_more, done, too_long, last, is_newline, pair_place, trimmed, ended_by, head}

@@ -10,10 +10,10 @@ use Rattle.awk_machine.specs.Getline.{input_mode, read_opened}
 use Rattle.awk_machine.specs.Pieces.{Do, Fetch, Read, give}
 use Rattle.awk_machine.specs.State.{State, Given}
 use Rattle.awk_machine.specs.Variables.{own_text}
-use Rattle.awk_streams.specs.declared.getline.Found.TheVariants as found
+use Rattle.awk_streams.specs.declared.getline.NextRecord.TheVariants as found
 use Rattle.awk_streams.specs.Chains.{Leads}
-use Rattle.awk_streams.specs.declared.inputs.Source.{Source}
-use Rattle.awk_streams.specs.declared.inputs.Source.TheVariants as source
+use Rattle.awk_streams.specs.declared.inputs.InputStream.{InputStream}
+use Rattle.awk_streams.specs.declared.inputs.InputStream.TheVariants as source
 use Rattle.awk_streams.specs.Readings.{IsLine, fetching, key_of}
 use Rattle.awk_streams.specs.Tables.{Table, kind, open_of}
 use Rattle.awk_streams.specs.Tasks.{Does, Tells, beside}
@@ -34,7 +34,7 @@ line_fetched {ghosts = ghosts} laws g s place class name text rs is old new w x 
     record { plays = λ first k hid c a. read.plays first k hid c a }
 
 -- and so of whichever stream
-pub line_at_once : {W : Type 0} {ghosts : Ghosts W} (laws : Laws ghosts) (g : Given) (s : State) (place : Place) (source : Source) (text rs : Text) → own_text s (codes "RS") ≡ rs → (old new : Table) (w : W) →
+pub line_at_once : {W : Type 0} {ghosts : Ghosts W} (laws : Laws ghosts) (g : Given) (s : State) (place : Place) (source : InputStream) (text rs : Text) → own_text s (codes "RS") ≡ rs → (old new : Table) (w : W) →
     IsLine (key_of source) rs old text new → Does ghosts g s (Do (fetching place (key_of source))) give old w (Ok (v.Input text)) new w
 line_at_once {ghosts = ghosts} laws g s place source.Standard text rs is old new w x =
     let read = gives ghosts g s place (Standard 0) rs is old new x.before x.live (reads_so g s place (Standard 0)) (at_once _ old w) (found.Record text) x.first in

@@ -9,8 +9,8 @@ use Rattle.box_world.specs.Events.{Class, Key, Standard, Named, class_number, is
 use Rattle.awk_program.specs.Slots.{Text}
 use Rattle.awk_machine.specs.State.{Course}
 use Rattle.awk_machine.specs.Streams.{is_live, same_key}
-use Rattle.awk_streams.specs.declared.inputs.Source.{Source}
-use Rattle.awk_streams.specs.declared.inputs.Source.TheVariants as source
+use Rattle.awk_streams.specs.declared.inputs.InputStream.{InputStream}
+use Rattle.awk_streams.specs.declared.inputs.InputStream.TheVariants as source
 use Rattle.awk_streams.specs.Readings.{GoesOn, IsLive, key_of}
 use Rattle.awk_streams.specs.Tables.{Table, Entry, open_of, find_input, kind, with_input}
 use Rattle.awk_streams.specs.Tasks.{IsNumber, IsReadAt, IsSame, Owns, Tells, input_at}
@@ -58,7 +58,7 @@ live_in (Standard n) table taken c live a = refl
 live_in (Named d t) table taken c live a = ap (λ ss. is_some (find_stream d t ss)) a.streams ∙ number_live d t table live
 
 -- its number is a stream of the world's
-pub next_duty : (numbers : List ℕ) (s : Source) (number : ℕ) (table : Table) → IsNumber (key_of s) number table → Owns numbers table → IsStream numbers number
+pub next_duty : (numbers : List ℕ) (s : InputStream) (number : ℕ) (table : Table) → IsNumber (key_of s) number table → Owns numbers table → IsStream numbers number
 next_duty numbers source.Standard number table is owns = inl (omega (arith, is))
 next_duty numbers (source.Stream name) number table is owns =
     let one = found_once (kind name.class) name.text.now (open_of table) number is in
@@ -101,11 +101,11 @@ standard_is i table h = some_is table.input i h
 -- ---- what is held unread is changed
 
 -- the table with this held unread of a stream
-abbrev pub table_with : Source → Input → Table → Table
+abbrev pub table_with : InputStream → Input → Table → Table
 table_with source.Standard i table = record table { input = i }
 table_with (source.Stream name) i table = record table { entries = with_input (kind name.class) name.text.now (λ old. i) table.entries }
 
-pub read_with : (s : Source) (i before : Input) (table : Table) → input_at (key_of s) table ≡ Some before → IsReadAt (key_of s) i table (table_with s i table)
+pub read_with : (s : InputStream) (i before : Input) (table : Table) → input_at (key_of s) table ≡ Some before → IsReadAt (key_of s) i table (table_with s i table)
 read_with source.Standard i before table h = read_standard i table (record table { input = i }) refl refl
 read_with (source.Stream name) i before table h =
     read_at (kind name.class) name.text.now (λ old. i) before table (record table { entries = with_input (kind name.class) name.text.now (λ old. i) table.entries }) h refl refl

@@ -20,8 +20,8 @@ use Rattle.awk_machine.specs.Streams.{came, same_key, seen, want, with_event}
 use Rattle.awk_machine.specs.Variables.{own_text}
 use Rattle.awk_streams.specs.declared.halt.Halt.{Halt}
 use Rattle.awk_streams.specs.declared.halt.Halt.TheVariants as halt
-use Rattle.awk_streams.specs.declared.getline.Found.{Found}
-use Rattle.awk_streams.specs.declared.inputs.Source.{Source}
+use Rattle.awk_streams.specs.declared.getline.NextRecord.{NextRecord}
+use Rattle.awk_streams.specs.declared.inputs.InputStream.{InputStream}
 use Rattle.awk_streams.specs.Chains.{Leads, Meets}
 use Rattle.awk_streams.specs.Readings.{FailsFirst, FailsOpen, FirstIs, GoesOn, HasCome, IsReading, Received, Waits, further, gives_read, key_of, read_further}
 use Rattle.awk_streams.specs.Tables.{Table}
@@ -55,7 +55,7 @@ tells_reply place key old new t c before (reply.Status z) on number numbers f op
 tells_reply place key old new t c before (reply.Value b) on number numbers f open_ live x a = absurd f
 
 -- and how the reading goes on
-onward : {g : Given} {s : State} {p : Piece} {place : Place} {key : Key} {to : Found → List Piece → List Piece} (form : IsReading g s p place key to) (old new : Table) (before : Input) (r : Reply) (on : Bool) (number : ℕ) (numbers : List ℕ) (k : List Piece) →
+onward : {g : Given} {s : State} {p : Piece} {place : Place} {key : Key} {to : NextRecord → List Piece → List Piece} (form : IsReading g s p place key to) (old new : Table) (before : Input) (r : Reply) (on : Bool) (number : ℕ) (numbers : List ℕ) (k : List Piece) →
     IsFitting numbers (request.Next number) r → Received key old new before r on → form.then_ k r ≡ further p to on k
 onward {p = p} {to = to} form old new before (reply.Bytes b) on number numbers k f x = form.again k b ∙ ap (λ y. further p to y k) (sym x.0)
 onward {p = p} {to = to} form old new before reply.End on number numbers k f x = form.ended k ∙ ap (λ y. further p to y k) (sym x.0)
@@ -66,7 +66,7 @@ onward form old new before (reply.Status z) on number numbers k f x = absurd f
 onward form old new before (reply.Value b) on number numbers k f x = absurd f
 
 -- some bytes came, wherever they are held
-come : (s : Source) (before : Input) (old : Table) (r : Reply) → HasCome r → input_at (key_of s) old ≡ Some before → (new : Table) × Received (key_of s) old new before r true
+come : (s : InputStream) (before : Input) (old : Table) (r : Reply) → HasCome r → input_at (key_of s) old ≡ Some before → (new : Table) × Received (key_of s) old new before r true
 come s before old (reply.Bytes b) h live = (table_with s (record { unread = before.unread ++ b; ended = false }) old, (refl, read_with s (record { unread = before.unread ++ b; ended = false }) before old live))
 come s before old reply.End h live = absurd h
 come s before old reply.Failed h live = absurd h
@@ -118,7 +118,7 @@ reads_so g s place key = record {
 -- ---- the machine asks
 
 module _ {W : Type 0} {ghosts : Ghosts W} (laws : Laws ghosts)
-    (g : Given) (s : State) (p : Piece) (place : Place) (source : Source) (to : Found → List Piece → List Piece) (form : IsReading g s p place (key_of source) to) (number : ℕ) (old : Table) (is : IsNumber (key_of source) number old)
+    (g : Given) (s : State) (p : Piece) (place : Place) (source : InputStream) (to : NextRecord → List Piece → List Piece) (form : IsReading g s p place (key_of source) to) (number : ℕ) (old : Table) (is : IsNumber (key_of source) number old)
     (before : Input) (live : input_at (key_of source) old ≡ Some before) (waits : head (own_text s (codes "RS")) before.unread before.ended ≡ need_more) where
   read_asks : (w : W) (k : List Piece) (t : Key → ℕ) (c : Course) → Tells old t c →
       advance g (p ∷ k) (seen (beside s old t) c) ≡ Asks (want place (Reads (key_of source))) (form.then_ k) (seen (beside s old t) c)
@@ -165,9 +165,9 @@ module _ {W : Type 0} {ghosts : Ghosts W} (laws : Laws ghosts)
 -- ---- the first record, once the machine stands before the reading
 
 module _ {W : Type 0} (ghosts : Ghosts W) (g : Given) (s : State) (place : Place) (key : Key) (rs : Text) (rs_is : own_text s (codes "RS") ≡ rs)
-    (mid new : Table) (before : Input) (live : input_at key mid ≡ Some before) {p q : Piece} {to : Found → List Piece → List Piece} (form : IsReading g s q place key to) {old : Table} {first w : W}
+    (mid new : Table) (before : Input) (live : input_at key mid ≡ Some before) {p q : Piece} {to : NextRecord → List Piece → List Piece} (form : IsReading g s q place key to) {old : Table} {first w : W}
     (lead : Leads ghosts (beside s) Tells (λ t. s.course.used) g p old first (λ k. q ∷ k) mid w) where
-  gives_first : (h : Head) (x : Found) → head rs before.unread before.ended ≡ h → FirstIs key mid new before h (Some x) →
+  gives_first : (h : Head) (x : NextRecord) → head rs before.unread before.ended ≡ h → FirstIs key mid new before h (Some x) →
       Leads ghosts (beside s) Tells (λ t. s.course.used) g p old first (λ k. to x k) new w
   gives_first (taken text rest) x e y =
       let b = behind rs before.unread before.ended text rest e in
@@ -179,7 +179,7 @@ module _ {W : Type 0} (ghosts : Ghosts W) (g : Given) (s : State) (place : Place
       turned z (λ k. ap (λ u. to u k) (sym y.0))
   gives_first too_long x e y = absurd y
 
-  pub gives : (x : Found) → FirstIs key mid new before (head rs before.unread before.ended) (Some x) → Meets ghosts (beside s) Tells (λ t. s.course.used) g p to old first (Ok x) new w
+  pub gives : (x : NextRecord) → FirstIs key mid new before (head rs before.unread before.ended) (Some x) → Meets ghosts (beside s) Tells (λ t. s.course.used) g p to old first (Ok x) new w
   gives x y = finished (gives_first (head rs before.unread before.ended) x refl y)
 
   -- none is whole: more is waited for
@@ -217,7 +217,7 @@ first_waits key old new before rs y = (
     same i live = some_is before i (sym (input_read key before old new x.1) ∙ live)
 
 -- the numbers of the table are the same
-pub first_owns : (numbers : List ℕ) (key : Key) (old new : Table) (before : Input) (h : Head) (answer : Option Found) → FirstIs key old new before h answer → Owns numbers old → Owns numbers new
+pub first_owns : (numbers : List ℕ) (key : Key) (old new : Table) (before : Input) (h : Head) (answer : Option NextRecord) → FirstIs key old new before h answer → Owns numbers old → Owns numbers new
 first_owns numbers key old new before (taken text rest) (Some x) y owns = owns_read numbers key _ old new y.1 owns
 first_owns numbers key old new before (taken text rest) None y owns = absurd y
 first_owns numbers key old new before need_more (Some x) y owns = absurd y
@@ -238,7 +238,7 @@ goes_on_received key old new before (reply.Status z) on x e open_ = goes_on_same
 goes_on_received key old new before (reply.Value b) on x e open_ = goes_on_same key old new x.1 open_
 
 -- what stands first is no failure
-pub first_opens : (key : Key) (old new : Table) (before : Input) (h : Head) (x : Found) → FirstIs key old new before h (Some x) → FailsOpen key x new
+pub first_opens : (key : Key) (old new : Table) (before : Input) (h : Head) (x : NextRecord) → FirstIs key old new before h (Some x) → FailsOpen key x new
 first_opens key old new before (taken text rest) x y = rw y.0 tt
 first_opens key old new before need_more x y = absurd y
 first_opens key old new before done x y = rw y.0 tt

@@ -15,8 +15,8 @@ use Rattle.awk_machine.specs.State.{State, Course, Given}
 use Rattle.awk_machine.specs.Streams.{came, has_ended, same_key, seen}
 use Rattle.awk_machine.specs.Variables.{own_text}
 use Rattle.awk_streams.specs.Chains.{Leads}
-use Rattle.awk_streams.specs.declared.getline.Found.{Found}
-use Rattle.awk_streams.specs.declared.getline.Found.TheVariants as found
+use Rattle.awk_streams.specs.declared.getline.NextRecord.{NextRecord}
+use Rattle.awk_streams.specs.declared.getline.NextRecord.TheVariants as found
 use Rattle.awk_streams.specs.Readings.{IsReading}
 use Rattle.awk_streams.specs.Tables.{Table}
 use Rattle.awk_streams.specs.Tasks.{Tells, IsReadAt, beside, input_at}
@@ -31,7 +31,7 @@ module _ {W : Type 0} (ghosts : Ghosts W) (g : Given) (s : State) (place : Place
       let x = a.inputs key before live in
       ap (λ r. head r (drop (k key) (came key c.events)) (has_ended key c.events)) rs_is ∙ ap (λ u. head rs u (has_ended key c.events)) (sym x.unread) ∙ ap (head rs before.unread) (sym x.ended)
 
-  module _ {p q : Piece} {to : Found → List Piece → List Piece} (form : IsReading g s q place key to) {old : Table} {first w : W} (lead : Leads ghosts (beside s) Tells (λ t. s.course.used) g p old first (λ k. q ∷ k) mid w) where
+  module _ {p q : Piece} {to : NextRecord → List Piece → List Piece} (form : IsReading g s q place key to) {old : Table} {first w : W} (lead : Leads ghosts (beside s) Tells (λ t. s.course.used) g p old first (λ k. q ∷ k) mid w) where
     -- the machine's move, where this stands first
     pub head_moves : (h : Head) → head rs before.unread before.ended ≡ h → (k : List Piece) (t : Key → ℕ) (c : Course) → Tells mid t c →
         advance g (q ∷ k) (seen (beside s mid t) c) ≡ held g (seen (beside s mid t) c) (form.by_head h k (seen (beside s mid t) c))

@@ -17,17 +17,17 @@ use Rattle.awk_machine.specs.Moves.{move}
 use Rattle.awk_machine.specs.Pieces.{Piece, Task, Do, Read, Fetch, Then, Goes, Asks, give, fails}
 use Rattle.awk_machine.specs.State.{State, Course, Given}
 use Rattle.awk_machine.specs.Streams.{left, seen, want}
-use Rattle.awk_streams.specs.declared.getline.Found as declared
-use Rattle.awk_streams.specs.declared.getline.Found.TheVariants as found
+use Rattle.awk_streams.specs.declared.getline.NextRecord as declared
+use Rattle.awk_streams.specs.declared.getline.NextRecord.TheVariants as found
 use Rattle.awk_streams.specs.declared.halt.Halt.{Halt}
 use Rattle.awk_streams.specs.declared.halt.Halt.TheVariants as halt
-use Rattle.awk_streams.specs.declared.inputs.Source.{Source}
-use Rattle.awk_streams.specs.declared.inputs.Source.TheVariants as source
+use Rattle.awk_streams.specs.declared.inputs.InputStream.{InputStream}
+use Rattle.awk_streams.specs.declared.inputs.InputStream.TheVariants as source
 use Rattle.awk_streams.specs.Tables.{Table, kind}
 use Rattle.awk_streams.specs.Tasks.{IsReadAt, IsSame, beside, input_at}
 
 -- the key of a stream that is read
-abbrev pub key_of : Source → Key
+abbrev pub key_of : InputStream → Key
 key_of source.Standard = Standard 0
 key_of (source.Stream name) = Named (kind name.class) name.text.now
 
@@ -49,13 +49,13 @@ Waits rs key table = Holds key table (λ i. head rs i.unread i.ended ≡ need_mo
 
 -- ---- its first record
 
-abbrev pub read_taken : Taken → Option declared.Found
+abbrev pub read_taken : Taken → Option declared.NextRecord
 read_taken (taking.Record text) = Some (found.Record text)
 read_taken taking.NeedMore = None
 read_taken taking.Done = Some found.End
 
 -- the answer, where this is what stands first: the record, which is taken, the end, or none yet
-abbrev pub FirstIs : Key → Table → Table → Input → Head → Option declared.Found → Type 0
+abbrev pub FirstIs : Key → Table → Table → Input → Head → Option declared.NextRecord → Type 0
 FirstIs key old new i (taken text rest) (Some x) =
     (x ≡ found.Record text) × IsReadAt key (record { unread = rest; ended = i.ended }) old new
 FirstIs key old new i done (Some x) = (x ≡ found.End) × IsReadAt key i old new
@@ -90,7 +90,7 @@ HasCome reply = ⊥
 
 -- the piece p reads a record of the stream, and goes on by what was read; requests are made at this place
 pub record IsReading (g : Given) (s : State) (p : Piece) (place : Place) (key : Key)
-    (to : declared.Found → List Piece → List Piece) : Type 0 where
+    (to : declared.NextRecord → List Piece → List Piece) : Type 0 where
   -- what it does by what stands first, and by the reply to a request for more
   pub by_head : Head → Then
   pub then_ : List Piece → Reply → List Piece
@@ -106,24 +106,24 @@ pub record IsReading (g : Given) (s : State) (p : Piece) (place : Place) (key : 
   pub failed : (k : List Piece) → then_ k Failed ≡ to found.Failed k
 
 -- what is left to be done once there is more to read, or the reading has failed
-abbrev pub further : Piece → (declared.Found → List Piece → List Piece) → Bool → List Piece → List Piece
+abbrev pub further : Piece → (declared.NextRecord → List Piece → List Piece) → Bool → List Piece → List Piece
 further p to true k = p ∷ k
 further p to false k = to found.Failed k
 
 -- where a reading has failed, the end has not come
-abbrev pub FailsOpen : Key → declared.Found → Table → Type 0
+abbrev pub FailsOpen : Key → declared.NextRecord → Table → Type 0
 FailsOpen key found.Failed table = GoesOn key table
 FailsOpen key other table = Unit {0}
 
 -- ---- getline
 
 -- the value of what was read: the record as input, 0 at the end, and -1 where it failed
-abbrev pub read_value : declared.Found → Value
+abbrev pub read_value : declared.NextRecord → Value
 read_value (found.Record text) = v.Input text
 read_value found.End = v.Num (pos 0)
 read_value found.Failed = failure
 
-abbrev pub gives_read : declared.Found → List Piece → List Piece
+abbrev pub gives_read : declared.NextRecord → List Piece → List Piece
 gives_read x k = give (read_value x) k
 
 -- what is left to be done once a stream stands open to be read, or can't be opened

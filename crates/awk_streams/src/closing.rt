@@ -11,7 +11,7 @@ ghost use Rattle.awk_streams.specs.Tasks.{Does, Owns, closing};
 
 use crate::halt::Halt;
 use crate::requests::request;
-use crate::streams::{Name, Streams};
+use crate::streams::{StreamName, Streams};
 use awk_text::place::Place;
 use awk_text::value::Value;
 use box_world::ask::{Reply, Request};
@@ -93,7 +93,7 @@ pub fn close<W: World>(
     let mut answer = None;
     while let Some((class, number)) = streams.first_of(text) {
         let status = shut(place, number, world)?;
-        streams.remove(&Name { class, text });
+        streams.remove(&StreamName { class, text });
         answer = Some(first_status(answer, status));
     }
     Ok(answer_or(answer))

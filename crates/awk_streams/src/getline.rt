@@ -13,10 +13,10 @@ ghost use Rattle.awk_streams.specs.Tables.{kind};
 ghost use Rattle.awk_streams.specs.Tasks.{Does, IsSame, Owns};
 
 use crate::halt::Halt;
-use crate::inputs::{Source, finish, number, push, take};
+use crate::inputs::{InputStream, finish, number, push, take};
 use crate::opening::open_input;
 use crate::requests::request;
-use crate::streams::{Name, Streams};
+use crate::streams::{StreamName, Streams};
 use awk_fields::reader::Taken;
 use awk_text::Memory;
 use awk_text::octets::Octets;
@@ -28,7 +28,7 @@ use std::alloc::{AllocError, Global};
 
 /// What a reading answers.
 #[derive(Drop)]
-pub enum Found {
+pub enum NextRecord {
     Record(Octets),
     /// The stream has ended, and no record is left.
     End,
@@ -36,23 +36,23 @@ pub enum Found {
     Failed,
 }
 
-fn read_taken(taken: Taken) -> Option<Found>
+fn read_taken(taken: Taken) -> Option<NextRecord>
     ensures { result ≡ spec.read_taken taken }
 {
     match taken {
-        Taken::Record(text) => Some(Found::Record(text)),
+        Taken::Record(text) => Some(NextRecord::Record(text)),
         Taken::NeedMore => None,
-        Taken::Done => Some(Found::End),
+        Taken::Done => Some(NextRecord::End),
     }
 }
 
 /// The first record of what is held unread, or the end; `None` where more is to come.
 fn first(
     place: Place,
-    source: &Source<'_>,
+    source: &InputStream<'_>,
     rs: &[u8],
     streams: &mut Streams,
-) -> Result<Option<Found>, Halt>
+) -> Result<Option<NextRecord>, Halt>
     ensures ok { IfOk result (λ answer. Holds (key_of source.now) streams.old
         (λ i. FirstIs (key_of source.now) streams.old streams.new i (head rs.now i.unread i.ended) answer)) }
     ensures same { OnErr result (IsSame streams.old streams.new) }
@@ -77,7 +77,12 @@ pub fn take_standard_line(rs: &[u8], streams: &mut Streams, room: &mut Vec<u8>) 
 
 /// The same of a stream that is opened. It stands out of line, so that reading the standard input stays short.
 #[inline(never)]
-pub fn take_line(name: &Name<'_>, rs: &[u8], streams: &mut Streams, room: &mut Vec<u8>) -> bool
+pub fn take_line(
+    name: &StreamName<'_>,
+    rs: &[u8],
+    streams: &mut Streams,
+    room: &mut Vec<u8>,
+) -> bool
     ensures taken { result ≡ true →
         IsLine (Named (kind name.now.class) name.now.text.now) rs.now streams.old room.new.items streams.new }
     ensures not_taken { result ≡ false → streams.new ≡ streams.old }
@@ -87,11 +92,11 @@ pub fn take_line(name: &Name<'_>, rs: &[u8], streams: &mut Streams, room: &mut V
 
 /// The first record of what is held unread, where it needs no other look; `None` where it does, or where the stream is
 /// not open. Of the standard input `record` says what there is.
-fn held_line(source: &Source<'_>, rs: &[u8], streams: &mut Streams) -> Option<Octets>
+fn held_line(source: &InputStream<'_>, rs: &[u8], streams: &mut Streams) -> Option<Octets>
     ensures some { IfSome result (λ text. IsLine (key_of source.now) rs.now streams.old text streams.new) }
     ensures none { result ≡ None → streams.new ≡ streams.old }
 {
-    let Source::Stream(name) = source else {
+    let InputStream::Stream(name) = source else {
         return None;
     };
     let mut room = streams.take_room();
@@ -103,7 +108,7 @@ fn held_line(source: &Source<'_>, rs: &[u8], streams: &mut Streams) -> Option<Oc
 }
 
 /// Keeps what came, and answers whether the reading goes on: it does not where it has failed.
-fn receive(streams: &mut Streams, source: &Source<'_>, reply: &Reply) -> Result<bool, Memory>
+fn receive(streams: &mut Streams, source: &InputStream<'_>, reply: &Reply) -> Result<bool, Memory>
     requires { GoesOn (key_of source.now) streams.old }
     ensures ok { IfOk result
         (λ on. Holds (key_of source.now) streams.old
@@ -127,14 +132,14 @@ fn receive(streams: &mut Streams, source: &Source<'_>, reply: &Reply) -> Result<
 /// Asks for more of a stream of which no record is whole, and answers whether the reading goes on.
 fn more<W: World>(
     place: Place,
-    source: &Source<'_>,
+    source: &InputStream<'_>,
     streams: &mut Streams,
     world: &mut W,
 ) -> Result<bool, Halt>
     requires owns { Owns (W.open_numbers world.old) streams.old }
     requires live { IsLive (key_of source.now) streams.old }
     requires open { GoesOn (key_of source.now) streams.old }
-    ensures task { (g : Given) (s : State) (p : Piece) (to : Found → List Piece → List Piece) →
+    ensures task { (g : Given) (s : State) (p : Piece) (to : NextRecord → List Piece → List Piece) →
         IsReading g s p place (key_of source.now) to → Waits (own_text s (codes "RS")) (key_of source.now) streams.old
         → Does W.World g s p (further p to) streams.old world.old result streams.new world.new }
     ensures failed { IfOk result (λ on. on ≡ false → GoesOn (key_of source.now) streams.new) }
@@ -150,14 +155,14 @@ fn more<W: World>(
 /// as it is now. What is unread stays for the next one.
 pub fn record<W: World>(
     place: Place,
-    source: &Source<'_>,
+    source: &InputStream<'_>,
     rs: &[u8],
     streams: &mut Streams,
     world: &mut W,
-) -> Result<Found, Halt>
+) -> Result<NextRecord, Halt>
     requires owns { Owns (W.open_numbers world.old) streams.old }
     requires live { IsLive (key_of source.now) streams.old }
-    ensures task { (g : Given) (s : State) (p : Piece) (to : Found → List Piece → List Piece) →
+    ensures task { (g : Given) (s : State) (p : Piece) (to : NextRecord → List Piece → List Piece) →
         IsReading g s p place (key_of source.now) to → own_text s (codes "RS") ≡ rs.now
         → Does W.World g s p to streams.old world.old result streams.new world.new }
     ensures failed { IfOk result (λ x. FailsOpen (key_of source.now) x streams.new) }
@@ -168,19 +173,19 @@ pub fn record<W: World>(
             return Ok(found);
         }
         if !more(place, source, streams, world)? {
-            return Ok(Found::Failed);
+            return Ok(NextRecord::Failed);
         }
     }
     Err(Halt::Memory)
 }
 
-fn read_value(found: Found) -> Value
+fn read_value(found: NextRecord) -> Value
     ensures { result ≡ spec.read_value found }
 {
     match found {
-        Found::Record(text) => Value::Input(text),
-        Found::End => Value::Num(0),
-        Found::Failed => Value::Num(-1),
+        NextRecord::Record(text) => Value::Input(text),
+        NextRecord::End => Value::Num(0),
+        NextRecord::Failed => Value::Num(-1),
     }
 }
 
@@ -188,7 +193,7 @@ fn read_value(found: Found) -> Value
 /// can't be read.
 pub fn read<W: World>(
     place: Place,
-    source: &Source<'_>,
+    source: &InputStream<'_>,
     rs: &[u8],
     streams: &mut Streams,
     world: &mut W,
@@ -208,7 +213,7 @@ pub fn read<W: World>(
 fn open_named<W: World>(
     alloc: Global,
     place: Place,
-    name: &Name<'_>,
+    name: &StreamName<'_>,
     streams: &mut Streams,
     world: &mut W,
 ) -> Result<bool, Halt>
@@ -227,7 +232,7 @@ fn open_named<W: World>(
 fn open_source<W: World>(
     alloc: Global,
     place: Place,
-    source: &Source<'_>,
+    source: &InputStream<'_>,
     streams: &mut Streams,
     world: &mut W,
 ) -> Result<bool, Halt>
@@ -239,8 +244,8 @@ fn open_source<W: World>(
     ensures owns { Owns (W.open_numbers world.new) streams.new }
 {
     match source {
-        Source::Standard => Ok(true),
-        Source::Stream(name) => open_named(alloc, place, name, streams, world),
+        InputStream::Standard => Ok(true),
+        InputStream::Stream(name) => open_named(alloc, place, name, streams, world),
     }
 }
 
@@ -248,7 +253,7 @@ fn open_source<W: World>(
 pub fn fetch<W: World>(
     alloc: Global,
     place: Place,
-    source: &Source<'_>,
+    source: &InputStream<'_>,
     rs: &[u8],
     streams: &mut Streams,
     world: &mut W,

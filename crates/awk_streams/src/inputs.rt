@@ -5,30 +5,30 @@ ghost use Rattle.awk_fields.specs.Takes.{Input, Takes};
 ghost use Rattle.awk_streams.specs.Readings.{GoesOn, Holds, IsLive, key_of};
 ghost use Rattle.awk_streams.specs.Tasks.{IsNumber, IsReadAt, IsSame};
 
-use crate::streams::{Name, Streams};
+use crate::streams::{StreamName, Streams};
 use awk_fields::reader::Taken;
 use awk_text::fault::Fault;
 
 /// A stream that is read: the standard input, or one that is opened, whose name is lent.
 #[derive(Clone, Copy, Drop)]
-pub enum Source<'a> {
+pub enum InputStream<'a> {
     Standard,
-    Stream(Name<'a>),
+    Stream(StreamName<'a>),
 }
 
 /// The number of a stream that stands open. Takes no memory.
-pub fn number(streams: &Streams, source: &Source<'_>) -> u32
+pub fn number(streams: &Streams, source: &InputStream<'_>) -> u32
     requires { IsLive (key_of source.now) streams.now }
     ensures { IsNumber (key_of source.now) result streams.now }
 {
     match source {
-        Source::Standard => 0,
-        Source::Stream(name) => streams.number(name).unwrap(),
+        InputStream::Standard => 0,
+        InputStream::Stream(name) => streams.number(name).unwrap(),
     }
 }
 
 /// Adds the next bytes of a stream that has not ended. `Memory` changes nothing.
-pub fn push(streams: &mut Streams, source: &Source<'_>, bytes: &[u8]) -> Result<(), Fault>
+pub fn push(streams: &mut Streams, source: &InputStream<'_>, bytes: &[u8]) -> Result<(), Fault>
     requires { GoesOn (key_of source.now) streams.old }
     ensures ok { OnOk result (Holds (key_of source.now) streams.old
         (λ i. IsReadAt (key_of source.now) (record { unread = i.unread ++ bytes.now; ended = false }) streams.old
@@ -37,14 +37,14 @@ pub fn push(streams: &mut Streams, source: &Source<'_>, bytes: &[u8]) -> Result<
     ensures memory { IsOkUnless result Fault.Memory }
 {
     match source {
-        Source::Standard => streams.push_standard(bytes),
-        Source::Stream(name) => streams.push(name, bytes),
+        InputStream::Standard => streams.push_standard(bytes),
+        InputStream::Stream(name) => streams.push(name, bytes),
     }
 }
 
 /// The first record of what is held unread, which is taken; see `Reader::take`. Where it fails,
 /// nothing was taken.
-pub fn take(streams: &mut Streams, source: &Source<'_>, rs: &[u8]) -> Result<Taken, Fault>
+pub fn take(streams: &mut Streams, source: &InputStream<'_>, rs: &[u8]) -> Result<Taken, Fault>
     ensures ok { IfOk result (λ taken. Holds (key_of source.now) streams.old
         (λ i. (j : Input) × Takes (head rs.now i.unread i.ended) taken i j
         × IsReadAt (key_of source.now) j streams.old streams.new)) }
@@ -53,18 +53,18 @@ pub fn take(streams: &mut Streams, source: &Source<'_>, rs: &[u8]) -> Result<Tak
         (λ i. (e ≡ Fault.Memory) ⊎ ((e ≡ Fault.TextTooLong) × (head rs.now i.unread i.ended ≡ too_long)))) }
 {
     match source {
-        Source::Standard => streams.take_standard(rs),
-        Source::Stream(name) => streams.take(name, rs),
+        InputStream::Standard => streams.take_standard(rs),
+        InputStream::Stream(name) => streams.take(name, rs),
     }
 }
 
 /// Says that a stream has ended. Takes no memory.
-pub fn finish(streams: &mut Streams, source: &Source<'_>)
+pub fn finish(streams: &mut Streams, source: &InputStream<'_>)
     ensures { Holds (key_of source.now) streams.old
         (λ i. IsReadAt (key_of source.now) (record { unread = i.unread; ended = true }) streams.old streams.new) }
 {
     match source {
-        Source::Standard => streams.finish_standard(),
-        Source::Stream(name) => streams.finish(name),
+        InputStream::Standard => streams.finish_standard(),
+        InputStream::Stream(name) => streams.finish(name),
     }
 }

@@ -11,7 +11,7 @@ ghost use Rattle.awk_streams.specs.Tasks.{Does, Opens, Owns, fetched, goes_on};
 
 use crate::halt::Halt;
 use crate::requests::request;
-use crate::streams::{Class, Name, Streams};
+use crate::streams::{Class, StreamName, Streams};
 use awk_text::fault::Fault;
 use awk_text::octets::Octets;
 use awk_text::place::Place;
@@ -35,7 +35,7 @@ pub fn open<W: World>(
     place: Place,
     given: bool,
     mode: Mode,
-    name: &Name<'_>,
+    name: &StreamName<'_>,
     streams: &mut Streams,
     world: &mut W,
 ) -> Result<Option<u32>, Halt>
@@ -65,7 +65,7 @@ pub fn open_output<W: World>(
     alloc: Global,
     place: Place,
     mode: Mode,
-    name: &Name<'_>,
+    name: &StreamName<'_>,
     streams: &mut Streams,
     world: &mut W,
 ) -> Result<u32, Halt>
@@ -91,7 +91,7 @@ pub fn open_output<W: World>(
 pub fn open_input<W: World>(
     alloc: Global,
     place: Place,
-    name: &Name<'_>,
+    name: &StreamName<'_>,
     streams: &mut Streams,
     world: &mut W,
 ) -> Result<Option<u32>, Halt>

@@ -42,7 +42,7 @@ pub enum Class {
 
 /// The name of a stream that the script opens, lent.
 #[derive(Clone, Copy, Drop)]
-pub struct Name<'a> {
+pub struct StreamName<'a> {
     pub class: Class,
     pub text: &'a [u8],
 }
@@ -55,7 +55,7 @@ pub(crate) struct KeptName {
     text: Vec<u8>,
 }
 
-impl Name<'_> {
+impl StreamName<'_> {
     /// The name with a text of its own, or `Memory` where memory is refused.
     pub(crate) fn kept(&self, alloc: Global) -> Result<KeptName, Memory>
         ensures class { IfOk result (λ x. x.class ≡ self.now.class) }
@@ -72,7 +72,8 @@ impl PartialEq for KeptName {
     ghost eq = { λ x y. nat_eq (class_number (kind x.class)) (class_number (kind y.class))
         && bytes_eq x.text.items y.text.items };
 
-    ghost laws = { on_per (λ n. class_number (kind n.class) ∷ n.text.items) (Cmp.partial_equiv_from_equiv nat_list_eq_equiv) };
+    ghost laws = { on_per (λ n. class_number (kind n.class) ∷ n.text.items)
+        (Cmp.partial_equiv_from_equiv nat_list_eq_equiv) };
 
     fn eq(&self, other: &Self) -> bool {
         self.class == other.class && is_same(self.text.as_slice(), other.text.as_slice())
@@ -96,21 +97,23 @@ impl Hash for KeptName {
     }
 }
 
-impl PartialEq for Name<'_> {
-    ghost eq = { λ x y. nat_eq (class_number (kind x.class)) (class_number (kind y.class)) && bytes_eq x.text.now y.text.now };
+impl PartialEq for StreamName<'_> {
+    ghost eq = { λ x y. nat_eq (class_number (kind x.class)) (class_number
+        (kind y.class)) && bytes_eq x.text.now y.text.now };
 
-    ghost laws = { on_per (λ n. class_number (kind n.class) ∷ n.text.now) (Cmp.partial_equiv_from_equiv nat_list_eq_equiv) };
+    ghost laws = { on_per (λ n. class_number (kind n.class) ∷ n.text.now)
+        (Cmp.partial_equiv_from_equiv nat_list_eq_equiv) };
 
     fn eq(&self, other: &Self) -> bool {
         self.class == other.class && is_same(self.text, other.text)
     }
 }
 
-impl Eq for Name<'_> {
+impl Eq for StreamName<'_> {
     ghost laws = { on_equiv (λ n. class_number (kind n.class) ∷ n.text.now) nat_list_eq_equiv };
 }
 
-impl Hash for Name<'_> {
+impl Hash for StreamName<'_> {
     ghost hash_input = { λ n. n.text.now ∷ [] };
 
     ghost respects_eq = { λ x y h.
@@ -122,7 +125,7 @@ impl Hash for Name<'_> {
     }
 }
 
-impl Equivalent<KeptName> for Name<'_> {
+impl Equivalent<KeptName> for StreamName<'_> {
     ghost equivalent = { λ q n. nat_eq (class_number (kind q.class)) (class_number (kind n.class))
         && bytes_eq q.text.now n.text.items };
 
@@ -166,7 +169,8 @@ impl Model for Streams {
 
     ghost Value = { Table };
 
-    ghost view = { λ s. record { entries = map entry_of s.table.entries; input = s.input.input; room = spare s.table } };
+    ghost view = { λ s. record { entries = map entry_of s.table.entries; input = s.input.input; room = spare s.table }
+        };
 }
 
 /// Whether `close` shuts the streams of this sort.
@@ -179,7 +183,7 @@ fn is_closed(class: Class) -> bool
 /// Where the stream of this name lies, if it is open. Most often it is the one that was looked for last, so that one is
 /// tried before the name is hashed.
 #[inline(always)]
-fn place_of(table: &IndexMap<KeptName, Open>, last: usize, name: &Name<'_>) -> Option<usize>
+fn place_of(table: &IndexMap<KeptName, Open>, last: usize, name: &StreamName<'_>) -> Option<usize>
     ensures some { IfSome result
         (λ i. (k : KeptName) × (o : Open) × (slice_get table.now.entries i ≡ Some (k, o))
         × (has_name (kind name.now.class) name.now.text.now k ≡ true)) }
@@ -209,7 +213,7 @@ impl Streams {
     }
 
     /// The number of the stream of this name, if it is open. Takes no memory.
-    pub fn number(&self, name: &Name<'_>) -> Option<u32>
+    pub fn number(&self, name: &StreamName<'_>) -> Option<u32>
         ensures { result ≡ find_stream (kind name.now.class) name.now.text.now (open_of self.now) }
     {
         let place = place_of(&self.table, self.asked.get(), name)?;
@@ -262,7 +266,7 @@ impl Streams {
     }
 
     /// Takes a stream away, if it is open. Takes no memory.
-    pub fn remove(&mut self, name: &Name<'_>)
+    pub fn remove(&mut self, name: &StreamName<'_>)
         ensures entries { self.new.entries ≡ entries_without (kind name.now.class) name.now.text.now self.old.entries }
         ensures input { self.new.input ≡ self.old.input }
     {
@@ -298,11 +302,11 @@ impl Streams {
     pub fn has_output(&self, text: &[u8]) -> bool
         ensures { result ≡ has_output text.now (open_of self.now) }
     {
-        let file = Name {
+        let file = StreamName {
             class: Class::OutputFile,
             text,
         };
-        let command = Name {
+        let command = StreamName {
             class: Class::OutputCommand,
             text,
         };
@@ -318,7 +322,7 @@ impl Streams {
     }
 
     /// Adds the next bytes of an input that has not ended, if it is open. `Memory` changes nothing.
-    pub fn push(&mut self, name: &Name<'_>, bytes: &[u8]) -> Result<(), Fault>
+    pub fn push(&mut self, name: &StreamName<'_>, bytes: &[u8]) -> Result<(), Fault>
         requires { (i : Input) → find_input (kind name.now.class) name.now.text.now self.old.entries ≡ Some i → i.ended
             ≡ false }
         ensures ok { OnOk result
@@ -339,7 +343,7 @@ impl Streams {
 
     /// The first record of what is held unread of an input, which is taken; see `Reader::take`. A
     /// stream that is not open has none. Where it fails, nothing was taken.
-    pub fn take(&mut self, name: &Name<'_>, rs: &[u8]) -> Result<Taken, Fault>
+    pub fn take(&mut self, name: &StreamName<'_>, rs: &[u8]) -> Result<Taken, Fault>
         ensures ok { IfOk result
             (λ taken. TakesOf (kind name.now.class) name.now.text.now rs.now self.old.entries taken self.new.entries) }
         ensures err { OnErr result (self.new.entries ≡ self.old.entries) }
@@ -360,7 +364,7 @@ impl Streams {
 
     /// Takes the first record of what is held unread of an input, if it is open, and writes it into the room; see
     /// `Reader::take_line`.
-    pub fn take_line(&mut self, name: &Name<'_>, rs: &[u8], room: &mut Vec<u8>) -> bool
+    pub fn take_line(&mut self, name: &StreamName<'_>, rs: &[u8], room: &mut Vec<u8>) -> bool
         ensures taken { result ≡ true →
             TakesLine (kind name.now.class) name.now.text.now rs.now self.old.entries room.new.items self.new.entries }
         ensures not_taken { result ≡ false → self.new ≡ self.old }
@@ -377,7 +381,7 @@ impl Streams {
     }
 
     /// Says that an input has ended, if it is open. Takes no memory.
-    pub fn finish(&mut self, name: &Name<'_>)
+    pub fn finish(&mut self, name: &StreamName<'_>)
         ensures entries { self.new.entries
             ≡ with_input (kind name.now.class) name.now.text.now (λ i. record { unread = i.unread; ended = true })
             self.old.entries }

@@ -17,8 +17,8 @@ use Rattle.awk_tokens.specs.Strings.{StringEnds}
 use Rattle.awk_tokens.specs.Patterns.{PatternEnds}
 use Rattle.awk_tokens.specs.Tokens.{is_number, IsToken, IsWord, NoLonger, is_whole, IsWhole, IsFirst}
 use Rattle.awk_tokens.specs.Reads.{IsGap, IsStray, Stands, stray, open_string, open_pattern, no_whole, point}
-use Rattle.awk_tokens.specs.Scan.{Found, digits_len, name_len, string_rest, pattern_rest, closed, number, word, sign, first_token, gap_len}
-use Rattle.awk_tokens.specs.declared.scan.Part.TheVariants.{Outside}
+use Rattle.awk_tokens.specs.Scan.{Scanned, digits_len, name_len, string_rest, pattern_rest, closed, number, word, sign, first_token, gap_len}
+use Rattle.awk_tokens.specs.declared.scan.ErePart.TheVariants.{Outside}
 use Rattle.awk_tokens.specs.declared.kinds.TokenKind.{TokenKind}
 use Rattle.awk_tokens.specs.declared.kinds.TokenKind.TheVariants.{Number, Quoted, Pattern, Keyword, Builtin, Refused, Name, CallName, Sign}
 use Rattle.awk_tokens.proofs.Choices.{chosen, chosen_in}
@@ -222,10 +222,10 @@ single_adds operand b rest single kind (c ∷ d ∷ more) left is parts other =
 
 -- ---- what each scan finds
 
-abbrev okay : TokenKind × ℕ → Found
+abbrev okay : TokenKind × ℕ → Scanned
 okay p = Ok p
 
-abbrev refuse : ℕ → Found
+abbrev refuse : ℕ → Scanned
 refuse code = Err code
 
 ok_same : (p q : TokenKind × ℕ) → okay p ≡ okay q → p ≡ q
@@ -238,7 +238,7 @@ number_longest : (operand : Bool) (b : ℕ) (z : Text) → is_ascii_digit b ≡ 
 number_longest operand b z digit = no_longer operand a_number b (take (digits_len z) z) (drop (digits_len z) z) (rw digit refl) (digits_add operand b z digit)
 
 -- the choice of the scan, where the first byte is a digit
-number_choice : (b : ℕ) (z : Text) (f : Found) → is_ascii_digit b ≡ true → number (b ∷ z) ≡ f
+number_choice : (b : ℕ) (z : Text) (f : Scanned) → is_ascii_digit b ≡ true → number (b ∷ z) ≡ f
     → cond (is_whole (b ∷ take (digits_len z) z) (drop (digits_len z) z)) (okay (Number, suc (digits_len z))) (Err 3) ≡ f
 unfolding number
 number_choice b z f digit e =
@@ -413,7 +413,7 @@ single_found operand b z p other is =
       first = record { token = (is, not_slash operand b p); longest = no_longer operand a_sign b [] z (plain_family operand b p) (single_adds operand b z other); whole = tt };
     }
 
-abbrev sign_of : ℕ → ℕ → ℕ → Found
+abbrev sign_of : ℕ → ℕ → ℕ → Scanned
 sign_of n b next = cond (eqb n 0) (Err (cond (eqb b 46 && is_ascii_digit next) 3 1)) (Ok (Sign, n))
 
 sign_is : (b : ℕ) (z : Text) → sign (b ∷ z) ≡ sign_of (sign_len b (get_or z 0 0)) b (get_or z 0 0)
@@ -480,7 +480,7 @@ sign_refused operand b z code none p e =
 
 -- ---- the token or the refusal at the front
 
-abbrev choice : Bool → ℕ → Text → Found
+abbrev choice : Bool → ℕ → Text → Scanned
 choice operand b z =
     cond (is_ascii_digit b) (number (b ∷ z)) (cond (begins_name b) (Ok (word (b ∷ z))) (cond (eqb b 34) (closed Quoted (b ∷ z) (string_rest false z))
     (cond (eqb b 47 && operand) (closed Pattern (b ∷ z) (pattern_rest Outside 0 z)) (sign (b ∷ z)))))

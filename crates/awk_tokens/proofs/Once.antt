@@ -15,7 +15,7 @@ use Rattle.awk_tokens.specs.Patterns.{PatternEnds}
 use Rattle.awk_tokens.specs.Tokens.{is_number, IsToken, IsWord, NoLonger, is_whole, IsWhole, IsFirst}
 use Rattle.awk_tokens.specs.Reads.{IsStray, IsGap, blank, joined, comment, ReadsTo, begun, a_gap, a_token, Reads, Stands, stray, open_string, open_pattern, no_whole, point, Refuses, operand_after, token_of}
 use Rattle.awk_tokens.specs.Scan.{gap_len, line_len}
-use Rattle.awk_tokens.specs.declared.scan.Part.TheVariants.{Outside}
+use Rattle.awk_tokens.specs.declared.scan.ErePart.TheVariants.{Outside}
 use Rattle.awk_tokens.specs.declared.token.Token.{Token}
 use Rattle.awk_tokens.specs.declared.kinds.TokenKind.{TokenKind}
 use Rattle.awk_tokens.specs.declared.kinds.TokenKind.TheVariants.{Number, Quoted, Pattern, Keyword, Builtin, Refused, Name, CallName, Sign}

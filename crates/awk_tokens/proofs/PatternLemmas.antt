@@ -5,14 +5,14 @@ use Rattle.std.proofs.lemmas.List.{append_assoc}
 use Rattle.awk_tokens.specs.Bytes.{Text}
 use Rattle.awk_tokens.specs.Patterns.{BeginsClass, PatternEnds, ends, escaped, plain, opens, opens_not, first, no_first, closes, member_escaped, member, class}
 use Rattle.awk_tokens.specs.Scan.{class_len, step_of, outside_step, bracket_step, stepped, pattern_rest}
-use Rattle.awk_tokens.specs.declared.scan.Part.{Part}
-use Rattle.awk_tokens.specs.declared.scan.Part.TheVariants.{Outside, Opened, Inside}
-use Rattle.awk_tokens.specs.declared.scan.Step.{Step}
-use Rattle.awk_tokens.specs.declared.scan.Step.TheVariants.{Ends, Breaks, Goes}
+use Rattle.awk_tokens.specs.declared.scan.ErePart.{ErePart}
+use Rattle.awk_tokens.specs.declared.scan.ErePart.TheVariants.{Outside, Opened, Inside}
+use Rattle.awk_tokens.specs.declared.scan.EreStep.{EreStep}
+use Rattle.awk_tokens.specs.declared.scan.EreStep.TheVariants.{Ends, Breaks, Goes}
 use Rattle.awk_tokens.proofs.Choices.{chosen_in}
 use Rattle.awk_tokens.proofs.ClassLemmas.{class_at, class_found, class_none}
 
-skipped : (part : Part) (n : ℕ) (z : Text) → pattern_rest part n z ≡ pattern_rest part 0 (drop n z)
+skipped : (part : ErePart) (n : ℕ) (z : Text) → pattern_rest part n z ≡ pattern_rest part 0 (drop n z)
 skipped part zero [] = refl
 skipped part zero (b ∷ z) = refl
 skipped part (suc n) [] = refl
@@ -26,7 +26,7 @@ opened_is (b ∷ z) other = rw (ne_eqb b 93 other) refl
 abbrev goes_on : Text → Text → Option Text
 goes_on z rest = pattern_rest Inside 0 z
 
-pub pattern_rest_at : (part : Part) (z rest : Text) → PatternEnds part z rest → pattern_rest part 0 z ≡ Some rest
+pub pattern_rest_at : (part : ErePart) (z rest : Text) → PatternEnds part z rest → pattern_rest part 0 z ≡ Some rest
 pattern_rest_at _ _ _ (ends rest) = refl
 pattern_rest_at _ _ _ (escaped b z rest h) = pattern_rest_at Outside z rest h
 pattern_rest_at _ _ _ (plain b z rest n47 n92 n91 n10 h) =
@@ -52,7 +52,7 @@ pub pattern_open : (z : Text) → pattern_rest Outside 0 z ≡ None → (rest : 
 pattern_open z open_here rest h = let found = pattern_rest_at Outside z rest h in absurd cc
 
 -- what ends stands in front of the rest
-pub pattern_parts : (part : Part) (z rest : Text) → PatternEnds part z rest → (body : Text) × (z ≡ body ++ rest)
+pub pattern_parts : (part : ErePart) (z rest : Text) → PatternEnds part z rest → (body : Text) × (z ≡ body ++ rest)
 pattern_parts _ _ _ (ends rest) = (47 ∷ [], refl)
 pattern_parts _ _ _ (escaped b z rest h) = let p = pattern_parts Outside z rest h in (92 ∷ b ∷ p.0, ap (λ w. 92 ∷ b ∷ w) p.1)
 pattern_parts _ _ _ (plain b z rest n47 n92 n91 n10 h) = let p = pattern_parts Outside z rest h in (b ∷ p.0, ap (λ w. b ∷ w) p.1)
@@ -71,9 +71,9 @@ pattern_parts _ _ _ (class z left rest begins h) =
 -- ---- the other way: what the scan finds is an end
 
 abbrev Later : Text → Text → Type 0
-Later z rest = (part : Part) (n : ℕ) → pattern_rest part n z ≡ Some rest → PatternEnds part (drop n z) rest
+Later z rest = (part : ErePart) (n : ℕ) → pattern_rest part n z ≡ Some rest → PatternEnds part (drop n z) rest
 
-here : (part : Part) (z rest : Text) → PatternEnds part (drop 0 z) rest → PatternEnds part z rest
+here : (part : ErePart) (z rest : Text) → PatternEnds part (drop 0 z) rest → PatternEnds part z rest
 here part [] rest h = h
 here part (b ∷ z) rest h = h
 
@@ -89,7 +89,7 @@ opened_not : (z rest : Text) → eqb (slice_index z 0) 94 ≡ true → PatternEn
 opened_not [] rest e h = absurd cc
 opened_not (c ∷ z) rest e h = subst (λ v. PatternEnds Outside (91 ∷ v ∷ z) rest) (sym (eqb-true c 94 e)) (opens_not z rest h)
 
-abbrev go : Text → Step → Option Text
+abbrev go : Text → EreStep → Option Text
 go z s = stepped s z (λ next more. pattern_rest next more z)
 
 outside_found : (b : ℕ) (z rest : Text) → Later z rest → go z (outside_step b z) ≡ Some rest → PatternEnds Outside (b ∷ z) rest

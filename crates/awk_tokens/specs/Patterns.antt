@@ -4,8 +4,8 @@ use Rattle.std.specs.Prelude.{◌≡◌, ◌≢◌, ℕ, true, List, [], ◌∷�
 use Rattle.std.specs.Char.{is_ascii_alphabetic}
 use Rattle.std.specs.List.{list_all}
 use Rattle.awk_tokens.specs.Bytes.{Text}
-use Rattle.awk_tokens.specs.declared.scan.Part.{Part}
-use Rattle.awk_tokens.specs.declared.scan.Part.TheVariants.{Outside, Opened, Inside}
+use Rattle.awk_tokens.specs.declared.scan.ErePart.{ErePart}
+use Rattle.awk_tokens.specs.declared.scan.ErePart.TheVariants.{Outside, Opened, Inside}
 
 -- the text begins with what follows `[` in a class such as `[:alpha:]`, and this is left behind it
 abbrev pub BeginsClass : Text → Text → Type 0
@@ -16,7 +16,7 @@ BeginsClass z left = (name : Text) × (list_all is_ascii_alphabetic name ≡ tru
 -- expression, directly behind the `[` or `[^` that opens one, or further inside it. A newline
 -- stands in an expression only behind a `\`.
 -- 47 is `/`, 92 is `\`, 10 is the newline, 91 is `[`, 93 is `]`, 94 is `^`.
-pub data PatternEnds : Part → Text → Text → Type 0 where
+pub data PatternEnds : ErePart → Text → Text → Type 0 where
   ends : (rest : Text) → PatternEnds Outside (47 ∷ rest) rest
   escaped : (b : ℕ) (z rest : Text) → PatternEnds Outside z rest → PatternEnds Outside (92 ∷ b ∷ z) rest
   plain : (b : ℕ) (z rest : Text) → b ≢ 47 → b ≢ 92 → b ≢ 91 → b ≢ 10 → PatternEnds Outside z rest →

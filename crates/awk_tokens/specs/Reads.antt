@@ -12,7 +12,7 @@ use Rattle.awk_tokens.specs.Strings.{StringEnds}
 use Rattle.awk_tokens.specs.Patterns.{PatternEnds}
 use Rattle.awk_tokens.specs.Places.{place_after}
 use Rattle.awk_tokens.specs.Tokens.{IsToken, NoLonger, IsFirst, is_whole, text_of}
-use Rattle.awk_tokens.specs.declared.scan.Part.TheVariants.{Outside}
+use Rattle.awk_tokens.specs.declared.scan.ErePart.TheVariants.{Outside}
 use Rattle.awk_tokens.specs.declared.token.Token.{Token}
 use Rattle.awk_tokens.specs.declared.kinds.TokenKind.{TokenKind}
 use Rattle.awk_tokens.specs.declared.kinds.TokenKind.TheVariants.{Number, Quoted, Pattern, Keyword, Builtin, Refused}

@@ -8,10 +8,10 @@ use Rattle.awk_tokens.specs.Bytes.{Text, is_blank, begins_name, continues_name}
 use Rattle.awk_tokens.specs.Signs.{sign_len}
 use Rattle.awk_tokens.specs.Words.{word_kind}
 use Rattle.awk_tokens.specs.Tokens.{is_whole}
-use Rattle.awk_tokens.specs.declared.scan.Part.{Part}
-use Rattle.awk_tokens.specs.declared.scan.Part.TheVariants.{Outside, Opened, Inside}
-use Rattle.awk_tokens.specs.declared.scan.Step.{Step}
-use Rattle.awk_tokens.specs.declared.scan.Step.TheVariants.{Ends, Breaks, Goes}
+use Rattle.awk_tokens.specs.declared.scan.ErePart.{ErePart}
+use Rattle.awk_tokens.specs.declared.scan.ErePart.TheVariants.{Outside, Opened, Inside}
+use Rattle.awk_tokens.specs.declared.scan.EreStep.{EreStep}
+use Rattle.awk_tokens.specs.declared.scan.EreStep.TheVariants.{Ends, Breaks, Goes}
 use Rattle.awk_tokens.specs.declared.kinds.TokenKind.{TokenKind}
 use Rattle.awk_tokens.specs.declared.kinds.TokenKind.TheVariants.{Number, Quoted, Pattern, Sign}
 
@@ -49,7 +49,7 @@ class_len z =
     else 0)
     else 0
 
-abbrev pub outside_step : ℕ → Text → Step
+abbrev pub outside_step : ℕ → Text → EreStep
 outside_step b z =
     if b == 47 then Ends
     else (if b == 10 then Breaks
@@ -57,25 +57,25 @@ outside_step b z =
     else (if b == 91 then Goes Opened (if slice_index z 0 == 94 then 1 else 0) else Goes Outside 0)))
 
 -- the part is the one behind a `]`
-abbrev pub bracket_step : Part → ℕ → Text → Step
+abbrev pub bracket_step : ErePart → ℕ → Text → EreStep
 bracket_step part b z =
     if b == 93 then Goes part 0
     else (if b == 10 then Breaks
     else (if b == 92 then Goes Inside 1
     else (if b == 91 then Goes Inside (class_len z) else Goes Inside 0)))
 
-abbrev pub step_of : Part → ℕ → Text → Step
+abbrev pub step_of : ErePart → ℕ → Text → EreStep
 step_of Outside b z = outside_step b z
 step_of Opened b z = bracket_step Inside b z
 step_of Inside b z = bracket_step Outside b z
 
-abbrev pub stepped : Step → Text → (Part → ℕ → Option Text) → Option Text
+abbrev pub stepped : EreStep → Text → (ErePart → ℕ → Option Text) → Option Text
 stepped Ends z go = Some z
 stepped Breaks z go = None
 stepped (Goes part skip) z go = go part skip
 
 -- what is left behind the end of a pattern, if it ends; the number counts the bytes to pass over
-abbrev pub pattern_rest : Part → ℕ → Text → Option Text
+abbrev pub pattern_rest : ErePart → ℕ → Text → Option Text
 pattern_rest part skip [] = None
 pattern_rest part (suc skip) (b ∷ z) = pattern_rest part skip z
 pattern_rest part zero (b ∷ z) = stepped (step_of part b z) z (λ next more. pattern_rest next more z)
@@ -84,26 +84,26 @@ abbrev pub saturated : ℕ → ℕ
 saturated n = min n 18446744073709551615
 
 -- a token's kind and length, or the code of a refusal
-abbrev pub Found : Type 0
-Found = Result (TokenKind × ℕ) ℕ
+abbrev pub Scanned : Type 0
+Scanned = Result (TokenKind × ℕ) ℕ
 
-abbrev pub closed : TokenKind → Text → Option Text → Found
+abbrev pub closed : TokenKind → Text → Option Text → Scanned
 closed kind z None = Err 2
 closed kind z (Some rest) = Ok (kind, length z - length rest)
 
-unfoldable pub number : Text → Found
+unfoldable pub number : Text → Scanned
 number z = let n = digits_len z in if is_whole (take n z) (drop n z) then Ok (Number, n) else Err 3
 
 unfoldable pub word : Text → TokenKind × ℕ
 word z = let n = name_len z in (word_kind (take n z) (drop n z), n)
 
-unfoldable pub sign : Text → Found
+unfoldable pub sign : Text → Scanned
 sign z =
     let n = sign_len (slice_index z 0) (slice_index z 1) in
     if n == 0 then Err (if slice_index z 0 == 46 && is_ascii_digit (slice_index z 1) then 3 else 1) else Ok (Sign, n)
 
 -- the token at the front of a text that is not empty and begins with no separator
-unfoldable pub first_token : Bool → Text → Found
+unfoldable pub first_token : Bool → Text → Scanned
 first_token operand z =
     let b = slice_index z 0 in
     if is_ascii_digit b then number z

@@ -9,7 +9,7 @@ use Rattle.awk_tokens.specs.Signs.{is_sign}
 use Rattle.awk_tokens.specs.Words.{is_name, word_kind}
 use Rattle.awk_tokens.specs.Strings.{StringEnds}
 use Rattle.awk_tokens.specs.Patterns.{PatternEnds}
-use Rattle.awk_tokens.specs.declared.scan.Part.TheVariants.{Outside}
+use Rattle.awk_tokens.specs.declared.scan.ErePart.TheVariants.{Outside}
 use Rattle.awk_tokens.specs.declared.kinds.TokenKind.{TokenKind}
 use Rattle.awk_tokens.specs.declared.kinds.TokenKind.TheVariants.{Number, Quoted, Pattern, Keyword, Builtin, Refused}
 use Rattle.awk_tokens.specs.declared.kinds.TokenKind.TheVariants.{Name, CallName, Sign}

@@ -15,7 +15,7 @@ use crate::syntax_error::SyntaxError;
 
 /// Where in an extended regular expression a byte stands.
 #[derive(Clone, Copy, Debug)]
-enum Part {
+enum ErePart {
     /// In no bracket expression.
     Outside,
     /// Directly behind the `[` or `[^` of a bracket expression.
@@ -26,13 +26,13 @@ enum Part {
 
 /// What a byte of an extended regular expression leads to.
 #[derive(Clone, Copy, Debug)]
-enum Step {
+enum EreStep {
     /// It ends the expression.
     Ends,
     /// No expression has it there.
     Breaks,
     /// The next byte that counts stands in this part, so many bytes further on.
-    Goes(Part, usize),
+    Goes(ErePart, usize),
 }
 
 /// The byte at an index, 0 past the end.
@@ -160,51 +160,51 @@ fn class_len(z: &[u8]) -> usize
     }
 }
 
-fn outside_step(b: u8, rest: &[u8]) -> Step
+fn outside_step(b: u8, rest: &[u8]) -> EreStep
     ensures { result ≡ spec.outside_step b rest.now }
 {
     match b {
-        b'/' => Step::Ends,
-        b'\n' => Step::Breaks,
-        b'\\' => Step::Goes(Part::Outside, 1),
+        b'/' => EreStep::Ends,
+        b'\n' => EreStep::Breaks,
+        b'\\' => EreStep::Goes(ErePart::Outside, 1),
         b'[' => {
             let is_not = byte(rest, 0) == b'^';
-            Step::Goes(Part::Opened, if is_not { 1 } else { 0 })
+            EreStep::Goes(ErePart::Opened, if is_not { 1 } else { 0 })
         }
-        _ => Step::Goes(Part::Outside, 0),
+        _ => EreStep::Goes(ErePart::Outside, 0),
     }
 }
 
 /// `closed` is the part behind a `]`.
-fn bracket_step(closed: Part, b: u8, rest: &[u8]) -> Step
+fn bracket_step(closed: ErePart, b: u8, rest: &[u8]) -> EreStep
     ensures { result ≡ spec.bracket_step closed b rest.now }
 {
     match b {
-        b']' => Step::Goes(closed, 0),
-        b'\n' => Step::Breaks,
-        b'\\' => Step::Goes(Part::Inside, 1),
-        b'[' => Step::Goes(Part::Inside, class_len(rest)),
-        _ => Step::Goes(Part::Inside, 0),
+        b']' => EreStep::Goes(closed, 0),
+        b'\n' => EreStep::Breaks,
+        b'\\' => EreStep::Goes(ErePart::Inside, 1),
+        b'[' => EreStep::Goes(ErePart::Inside, class_len(rest)),
+        _ => EreStep::Goes(ErePart::Inside, 0),
     }
 }
 
-fn step_of(part: Part, b: u8, rest: &[u8]) -> Step
+fn step_of(part: ErePart, b: u8, rest: &[u8]) -> EreStep
     ensures { result ≡ spec.step_of part b rest.now }
 {
     match part {
-        Part::Outside => outside_step(b, rest),
-        Part::Opened => bracket_step(Part::Inside, b, rest),
-        Part::Inside => bracket_step(Part::Outside, b, rest),
+        ErePart::Outside => outside_step(b, rest),
+        ErePart::Opened => bracket_step(ErePart::Inside, b, rest),
+        ErePart::Inside => bracket_step(ErePart::Outside, b, rest),
     }
 }
 
 /// What is left behind the end of an extended regular expression, where it ends. The text stands
 /// behind the opening `/`.
 fn pattern_rest(mut z: &[u8]) -> Option<&[u8]>
-    ensures value { option_copied result ≡ spec.pattern_rest Part.Outside 0 z.entry.now }
+    ensures value { option_copied result ≡ spec.pattern_rest ErePart.Outside 0 z.entry.now }
     ensures within { IfSome result (λ rest. length rest.now < length z.entry.now) }
 {
-    let mut part = Part::Outside;
+    let mut part = ErePart::Outside;
     let mut skip = 0;
     while let [b, rest @ ..] = z {
         z = rest;
@@ -213,9 +213,9 @@ fn pattern_rest(mut z: &[u8]) -> Option<&[u8]>
             continue;
         }
         match step_of(part, *b, rest) {
-            Step::Ends => return Some(rest),
-            Step::Breaks => return None,
-            Step::Goes(next, more) => {
+            EreStep::Ends => return Some(rest),
+            EreStep::Breaks => return None,
+            EreStep::Goes(next, more) => {
                 part = next;
                 skip = more;
             }
@@ -260,10 +260,10 @@ fn is_whole(digits: &[u8], rest: &[u8]) -> bool
 }
 
 /// A token's kind and length, or the code of a refusal.
-pub type Found = Result<(TokenKind, usize), u8>;
+pub type Scanned = Result<(TokenKind, usize), u8>;
 
 #[tactic(auto, using(crate::proofs::Runs::list_all_take), unfolding(crate::specs::Scan::number))]
-fn number(z: &[u8]) -> Found
+fn number(z: &[u8]) -> Scanned
     ensures { result ≡ spec.number z.now }
 {
     let n = digits_len(z);
@@ -284,7 +284,7 @@ fn word(z: &[u8]) -> (TokenKind, usize)
     (word_kind(name, rest), n)
 }
 
-fn closed(kind: TokenKind, z: &[u8], rest: Option<&[u8]>) -> Found
+fn closed(kind: TokenKind, z: &[u8], rest: Option<&[u8]>) -> Scanned
     requires { IfSome rest (λ r. length r.now ≤ length z.now) }
     ensures { result ≡ spec.closed kind z.now (option_copied rest.entry) }
 {
@@ -295,7 +295,7 @@ fn closed(kind: TokenKind, z: &[u8], rest: Option<&[u8]>) -> Found
 }
 
 #[tactic(auto, unfolding(crate::specs::Scan::sign))]
-fn sign(z: &[u8]) -> Found
+fn sign(z: &[u8]) -> Scanned
     ensures { result ≡ spec.sign z.now }
 {
     let (b, next) = (byte(z, 0), byte(z, 1));
@@ -312,7 +312,7 @@ fn sign(z: &[u8]) -> Found
 /// The token at the front of a text that begins with no separator: its kind and length, or the code
 /// of the refusal that stands there. `operand` says whether an operand may begin there.
 #[tactic(auto, unfolding(crate::specs::Scan::first_token))]
-pub fn first_token(operand: bool, z: &[u8]) -> Found
+pub fn first_token(operand: bool, z: &[u8]) -> Scanned
     requires { 0 < length z.now }
     ensures { result ≡ spec.first_token operand z.now }
 {

@@ -2,15 +2,15 @@
 use Rattle.std.specs.Prelude.{◌≡◌, ◌≢◌, ℕ, zero, suc, Bool, if◌then◌else◌, ◌==◌, List, [], ◌∷◌, length, Result, Ok, Err}
 use Rattle.awk_tokens.specs.declared.token.Token.{Token}
 use Rattle.awk_tree.specs.Looks.{skip}
-use Rattle.awk_tree.specs.declared.fault.Fault.{Fault}
-use Rattle.awk_tree.specs.declared.fault.Fault.TheVariants.{Memory, Unexpected, TooDeep}
+use Rattle.awk_tree.specs.declared.fault.ParseError.{ParseError}
+use Rattle.awk_tree.specs.declared.fault.ParseError.TheVariants.{Memory, Unexpected, TooDeep}
 use Rattle.awk_tokens.specs.declared.terminals.Terminal.{Terminal}
 use Rattle.awk_tree.specs.Terminals.{is, look, ahead}
 
 -- ---- parsers. A fault tells its token by how many were left.
 
 abbrev pub Outcome : Type 0 → Type 0
-Outcome A = Result (A × List Token) Fault
+Outcome A = Result (A × List Token) ParseError
 
 abbrev pub Parser : Type 0 → Type 0
 Parser A = List Token → Outcome A
@@ -76,6 +76,6 @@ abbrev pub many : {A : Type 0} → (Terminal → Bool) → Parser A → Parser (
 many test item = λ ts. many_from test item (length ts) ts
 
 -- what a function that parses ensures: the parser's outcome, unless memory fails
-abbrev pub Reads : {A B : Type 0} → (B → A) → Outcome A → Result B Fault → List Token → Type 0
+abbrev pub Reads : {A B : Type 0} → (B → A) → Outcome A → Result B ParseError → List Token → Type 0
 Reads view outcome (Ok b) new = outcome ≡ Ok (view b, new)
 Reads view outcome (Err e) new = e ≢ Memory → outcome ≡ Err e

@@ -6,7 +6,7 @@ use std::alloc::{AllocError, AllocFailed};
 
 /// Why nothing is read. A place is told by the count of tokens that were left.
 #[derive(Clone, Copy, Drop)]
-pub enum Fault {
+pub enum ParseError {
     /// S9: memory was refused.
     Memory,
     /// S4: the first of these tokens cannot stand there.
@@ -15,22 +15,22 @@ pub enum Fault {
     TooDeep(usize),
 }
 
-impl From<AllocError> for Fault {
-    ghost use Rattle.awk_tree.specs.declared.fault.Fault.TheVariants.{Memory};
+impl From<AllocError> for ParseError {
+    ghost use Rattle.awk_tree.specs.declared.fault.ParseError.TheVariants.{Memory};
 
     ghost from_gives = { λ _ e. e ≡ Memory };
 
-    fn from(_: AllocError) -> Fault {
-        Fault::Memory
+    fn from(_: AllocError) -> ParseError {
+        ParseError::Memory
     }
 }
 
-impl<T: Drop> From<AllocFailed<T>> for Fault {
-    ghost use Rattle.awk_tree.specs.declared.fault.Fault.TheVariants.{Memory};
+impl<T: Drop> From<AllocFailed<T>> for ParseError {
+    ghost use Rattle.awk_tree.specs.declared.fault.ParseError.TheVariants.{Memory};
 
     ghost from_gives = { λ _ e. e ≡ Memory };
 
-    fn from(_: AllocFailed<T>) -> Fault {
-        Fault::Memory
+    fn from(_: AllocFailed<T>) -> ParseError {
+        ParseError::Memory
     }
 }

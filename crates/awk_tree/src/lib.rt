@@ -16,7 +16,7 @@ mod statements;
 
 pub use awk_tokens::{Assignment, Builtin, Jump, Step, Terminal};
 pub use expressions::{Expr, Piped, Term};
-pub use fault::Fault;
+pub use fault::ParseError;
 pub use goals::{Goal, Nested};
 pub use items::{Function, Item, Pattern, Script};
 pub use names::{Member, Name};

@@ -26,16 +26,16 @@ pub fn look(rt: &HostRuntime, name: &str) -> Option<Identity> {
 /// A file that was read: which one it is, and all of its bytes. The standard input is looked at by its own names, as
 /// the other standard streams are.
 #[derive(Drop)]
-pub struct Source {
+pub struct ReadFile {
     pub identity: Option<Identity>,
     pub bytes: Vec<u8>,
 }
 
 /// Reads the file, or the standard input, which may not be too long.
-pub fn read(rt: &HostRuntime, name: &str) -> Result<Source, ReadError> {
+pub fn read(rt: &HostRuntime, name: &str) -> Result<ReadFile, ReadError> {
     if name == STANDARD_INPUT {
         let bytes = read_limited(rt.alloc(), &mut rt.stdin(), MOST_BYTES)?;
-        return Ok(Source {
+        return Ok(ReadFile {
             identity: None,
             bytes,
         });
@@ -47,7 +47,7 @@ pub fn read(rt: &HostRuntime, name: &str) -> Result<Source, ReadError> {
         return Err(ReadError::Failed);
     };
     let bytes = read_limited(rt.alloc(), &mut file, MOST_BYTES)?;
-    Ok(Source {
+    Ok(ReadFile {
         identity: Some(identity_of(&metadata)),
         bytes,
     })

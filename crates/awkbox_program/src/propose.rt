@@ -2,7 +2,7 @@
 use crate::command_line::Propose;
 use crate::runs::read_source;
 use awkbox::{Ending, ListingRefusal, Message, sites_of};
-use box_advice::{LogError, Origin, ProposalError, Start, Wish, propose, read_log};
+use box_advice::{Basis, LogError, Origin, ProposalError, Wish, propose, read_log};
 use std::alloc::{AllocFailed, Global};
 use std::fmt::Display;
 
@@ -23,27 +23,27 @@ pub fn propose_policy(rt: &HostRuntime, asked: &Propose<'_>) -> Result<Ending, M
 
 // Why nothing is proposed.
 #[derive(Drop)]
-enum Refusal {
+enum NotProposed {
     Message(Message),
     Log(LogError),
     Proposal(ProposalError),
 }
 
-impl From<Message> for Refusal {
-    fn from(message: Message) -> Refusal {
-        Refusal::Message(message)
+impl From<Message> for NotProposed {
+    fn from(message: Message) -> NotProposed {
+        NotProposed::Message(message)
     }
 }
 
-impl<T: Drop> From<AllocFailed<T>> for Refusal {
-    fn from(_error: AllocFailed<T>) -> Refusal {
-        Refusal::Message(Message::OutOfMemory)
+impl<T: Drop> From<AllocFailed<T>> for NotProposed {
+    fn from(_error: AllocFailed<T>) -> NotProposed {
+        NotProposed::Message(Message::OutOfMemory)
     }
 }
 
-impl From<ListingRefusal> for Refusal {
-    fn from(refusal: ListingRefusal) -> Refusal {
-        Refusal::Message(match refusal {
+impl From<ListingRefusal> for NotProposed {
+    fn from(refusal: ListingRefusal) -> NotProposed {
+        NotProposed::Message(match refusal {
             ListingRefusal::Script(error) => Message::Script(error),
             ListingRefusal::Policy(error) => Message::Policy(error),
             ListingRefusal::Memory => Message::OutOfMemory,
@@ -51,28 +51,28 @@ impl From<ListingRefusal> for Refusal {
     }
 }
 
-impl From<LogError> for Refusal {
-    fn from(error: LogError) -> Refusal {
-        Refusal::Log(error)
+impl From<LogError> for NotProposed {
+    fn from(error: LogError) -> NotProposed {
+        NotProposed::Log(error)
     }
 }
 
-impl From<ProposalError> for Refusal {
-    fn from(error: ProposalError) -> Refusal {
-        Refusal::Proposal(error)
+impl From<ProposalError> for NotProposed {
+    fn from(error: ProposalError) -> NotProposed {
+        NotProposed::Proposal(error)
     }
 }
 
-impl Refusal {
+impl NotProposed {
     fn told(self, rt: &HostRuntime) -> Result<Ending, Message> {
         match self {
-            Refusal::Message(message) => Err(message),
-            Refusal::Log(LogError::Memory) | Refusal::Proposal(ProposalError::Memory) => {
+            NotProposed::Message(message) => Err(message),
+            NotProposed::Log(LogError::Memory) | NotProposed::Proposal(ProposalError::Memory) => {
                 Err(Message::OutOfMemory)
             }
-            Refusal::Proposal(ProposalError::Policy(error)) => Err(Message::Policy(error)),
-            Refusal::Log(error) => say(rt, &error),
-            Refusal::Proposal(error) => say(rt, &error),
+            NotProposed::Proposal(ProposalError::Policy(error)) => Err(Message::Policy(error)),
+            NotProposed::Log(error) => say(rt, &error),
+            NotProposed::Proposal(error) => say(rt, &error),
         }
     }
 }
@@ -84,10 +84,10 @@ fn say<E: Display>(rt: &HostRuntime, error: &E) -> Result<Ending, Message> {
 }
 
 // The text of the policy, behind the rules of the one that is named or under the base.
-fn proposed(rt: &HostRuntime, asked: &Propose<'_>) -> Result<Vec<u8>, Refusal> {
+fn proposed(rt: &HostRuntime, asked: &Propose<'_>) -> Result<Vec<u8>, NotProposed> {
     let wishes = wishes_of(rt, asked)?;
     let Some(policy) = asked.policy else {
-        let start = Start::Base(asked.base.unwrap_or(""));
+        let start = Basis::Base(asked.base.unwrap_or(""));
         return Ok(propose(rt.alloc(), start, wishes.as_slice())?);
     };
     let policy = read_source(rt, policy)?;
@@ -102,10 +102,10 @@ fn behind<'a>(
     base: Option<&'a str>,
     wishes: &[Wish],
 ) -> Result<Vec<u8>, ProposalError> {
-    propose(alloc, Start::Policy { text, base }, wishes)
+    propose(alloc, Basis::Policy { text, base }, wishes)
 }
 
-fn wishes_of(rt: &HostRuntime, asked: &Propose<'_>) -> Result<Vec<Wish>, Refusal> {
+fn wishes_of(rt: &HostRuntime, asked: &Propose<'_>) -> Result<Vec<Wish>, NotProposed> {
     let mut wishes = match asked.script {
         Some(script) => sites_wished(rt, script)?,
         None => Vec::new(rt.alloc()),
@@ -119,7 +119,7 @@ fn wishes_of(rt: &HostRuntime, asked: &Propose<'_>) -> Result<Vec<Wish>, Refusal
     Ok(wishes)
 }
 
-fn sites_wished(rt: &HostRuntime, script: &str) -> Result<Vec<Wish>, Refusal> {
+fn sites_wished(rt: &HostRuntime, script: &str) -> Result<Vec<Wish>, NotProposed> {
     let script = read_source(rt, script)?;
     let mut wishes = Vec::new(rt.alloc());
     for site in sites_of(rt.alloc(), script.bytes.as_slice())? {

@@ -1,6 +1,6 @@
 // The run of a script.
 use crate::command_line::{Run, STANDARD_INPUT};
-use crate::files::{OpenLog, Source, look, read};
+use crate::files::{OpenLog, ReadFile, look, read};
 use crate::folders::{Folders, enter, resolved};
 use crate::setup::setup_of;
 use crate::standard;
@@ -14,8 +14,8 @@ use std::io::Write;
 // The files that the words name, open or read before the folder is entered.
 #[derive(Drop)]
 struct Files {
-    policy: Source,
-    script: Source,
+    policy: ReadFile,
+    script: ReadFile,
     log: OpenLog,
 }
 
@@ -140,7 +140,7 @@ fn open_files(rt: &HostRuntime, run: &Run<'_>) -> Result<Files, Message> {
 }
 
 /// Reads a policy or a script.
-pub fn read_source(rt: &HostRuntime, name: &str) -> Result<Source, Message> {
+pub fn read_source(rt: &HostRuntime, name: &str) -> Result<ReadFile, Message> {
     match read(rt, name) {
         Ok(source) => Ok(source),
         Err(_) => Err(Message::cannot_read(rt.alloc(), name)),

@@ -25,8 +25,8 @@ use Rattle.box_policy.specs.Written.{Written, WritesRule}
 use Rattle.box_policy.proofs.OutlookLemmas.{allows, never}
 use Rattle.box_advice.specs.Proposals.{Extends, IsAdded, IsKeptOut, IsOwed, IsWished, Starts, with_gained}
 use Rattle.box_advice.specs.Wishes.{answer, answer_by, grant, grants_from, speak}
-use Rattle.box_advice.specs.declared.proposing.Start.{Start}
-use Rattle.box_advice.specs.declared.proposing.Start.TheVariants.{Base, Policy}
+use Rattle.box_advice.specs.declared.proposing.Basis.{Basis}
+use Rattle.box_advice.specs.declared.proposing.Basis.TheVariants.{Base, Policy}
 use Rattle.box_advice.specs.declared.wishes.Wish.{Wish}
 use Rattle.box_advice.proofs.GrantsLemmas.{AreGrants, In, IsGrantOf, grants, in_from, spoken, wished}
 
@@ -193,7 +193,7 @@ fresh_tables [] (rule ∷ rules) h = absurd h
 fresh_tables (table ∷ tables) [] h = absurd h
 fresh_tables (table ∷ tables) (rule ∷ rules) h = and_from (not (is_used_up rule)) (are_fresh rules) (fresh_table table rule h.0) (fresh_tables tables rules h.1)
 
-fresh_start : (start : Start) (first : Rulebook) → Starts start first → are_fresh first.rules ≡ true
+fresh_start : (start : Basis) (first : Rulebook) → Starts start first → are_fresh first.rules ≡ true
 fresh_start (Base base) first h = ap (λ (book : Rulebook). are_fresh book.rules) h
 fresh_start (Policy text base) first h = fresh_tables (tables_of (get_member (codes "rule") h.0.tree)) first.rules h.0.writes.rules
 
@@ -303,5 +303,5 @@ module _ (first : Rulebook) (wishes : List Wish) (fresh : are_fresh first.rules 
         is_one known is_never refl refl;
   }
 
-pub extended : (start : Start) (first : Rulebook) (wishes : List Wish) → Starts start first → Extends first (with_gained first (grants_from first [] wishes)) wishes
+pub extended : (start : Basis) (first : Rulebook) (wishes : List Wish) → Starts start first → Extends first (with_gained first (grants_from first [] wishes)) wishes
 extended start first wishes starts = extends first wishes (fresh_start start first starts)

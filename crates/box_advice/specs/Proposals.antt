@@ -13,8 +13,8 @@ use Rattle.box_policy.specs.Refusals.{IsRefused}
 use Rattle.box_policy.specs.Rulebook.{Rulebook}
 use Rattle.box_policy.specs.Written.{Written}
 use Rattle.box_advice.specs.Wishes.{answer, grants_from}
-use Rattle.box_advice.specs.declared.proposing.Start.{Start}
-use Rattle.box_advice.specs.declared.proposing.Start.TheVariants.{Base, Policy}
+use Rattle.box_advice.specs.declared.proposing.Basis.{Basis}
+use Rattle.box_advice.specs.declared.proposing.Basis.TheVariants.{Base, Policy}
 use Rattle.box_advice.specs.declared.proposing.ProposalError.{ProposalError}
 use Rattle.box_advice.specs.declared.proposing.ProposalError.TheVariants as e
 use Rattle.box_advice.specs.declared.wishes.Wish.{Wish}
@@ -75,7 +75,7 @@ has_base base None = true
 has_base base (Some told) = bytes_eq base told
 
 -- the first policy: one without rules under a base, or the one that a text writes, whose base may be told once more
-abbrev pub Starts : Start → Rulebook → Type 0
+abbrev pub Starts : Basis → Rulebook → Type 0
 Starts (Base base) first = first ≡ record { base = base.now; rules = [] }
 Starts (Policy text base) first = Written text.now first × (has_base first.base (option_map (λ s. s.now) base) ≡ true)
 
@@ -108,7 +108,7 @@ IsTextRefused text base e.TooLong = ⊥
 IsTextRefused text base e.Misprinted = ⊥
 IsTextRefused text base e.Memory = Unit {0}
 
-abbrev pub IsStartRefused : Start → ProposalError → Type 0
+abbrev pub IsStartRefused : Basis → ProposalError → Type 0
 IsStartRefused (Base base) error = IsBaseRefused error
 IsStartRefused (Policy text base) error = IsTextRefused text.now (option_map (λ s. s.now) base) error
 
@@ -122,6 +122,6 @@ IsGainRefused first wishes e.TooLong = Unit {0}
 IsGainRefused first wishes e.Misprinted = Unit {0}
 IsGainRefused first wishes e.Memory = Unit {0}
 
-abbrev pub IsProposalRefused : Start → List Wish → ProposalError → Type 0
+abbrev pub IsProposalRefused : Basis → List Wish → ProposalError → Type 0
 IsProposalRefused start wishes error =
     IsStartRefused start error ⊎ ((first : Rulebook) × Starts start first × IsGainRefused first wishes error)

@@ -23,6 +23,6 @@ pub use box_policy::policy::Kind;
 pub use denials::{LogError, read_log};
 pub use explaining::{Reasons, Wanted, explained, why};
 pub use linting::{Findings, lint};
-pub use proposing::{ProposalError, Start, propose};
+pub use proposing::{Basis, ProposalError, propose};
 pub use wishes::{Origin, Wish};
 pub use words::kind_named;

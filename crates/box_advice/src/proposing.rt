@@ -23,7 +23,7 @@ const MAX_TEXT: usize = 16_777_216;
 /// What a proposal begins with: a policy without rules, under this base, or the policy of this text, of which the base
 /// may be told once more.
 #[derive(Clone, Copy, Drop)]
-pub enum Start<'a> {
+pub enum Basis<'a> {
     Base(&'a str),
     Policy {
         text: &'a [u8],
@@ -94,7 +94,7 @@ impl From<PolicyError> for ProposalError {
 
 /// A policy and its text.
 #[derive(Drop)]
-struct Beginning {
+struct WrittenPolicy {
     text: Vec<u8>,
     policy: Policy,
 }
@@ -109,7 +109,7 @@ fn has_base(policy: &Policy, base: Option<&str>) -> bool
 }
 
 /// The policy without rules under this base.
-fn begun_under(alloc: Global, base: &str) -> Result<Beginning, ProposalError>
+fn begun_under(alloc: Global, base: &str) -> Result<WrittenPolicy, ProposalError>
     ensures ok { IfOk result (λ begun. begun.policy ≡ record { base = base.now; rules = [] }) }
     ensures refused { IfErr result IsBaseRefused }
 {
@@ -121,10 +121,14 @@ fn begun_under(alloc: Global, base: &str) -> Result<Beginning, ProposalError>
     if policy.count() > 0 {
         return Err(ProposalError::Misprinted);
     }
-    Ok(Beginning { text, policy })
+    Ok(WrittenPolicy { text, policy })
 }
 
-fn begun_with(alloc: Global, text: &[u8], base: Option<&str>) -> Result<Beginning, ProposalError>
+fn begun_with(
+    alloc: Global,
+    text: &[u8],
+    base: Option<&str>,
+) -> Result<WrittenPolicy, ProposalError>
     ensures ok { IfOk result
         (λ begun. Written text.now begun.policy
         × (has_base begun.policy.base (option_map (λ s. s.now) base.entry) ≡ true)) }
@@ -135,16 +139,16 @@ fn begun_with(alloc: Global, text: &[u8], base: Option<&str>) -> Result<Beginnin
         return Err(ProposalError::OtherBase);
     }
     let text = Vec::from_slice(alloc, text)?;
-    Ok(Beginning { text, policy })
+    Ok(WrittenPolicy { text, policy })
 }
 
-fn begun(alloc: Global, start: Start<'_>) -> Result<Beginning, ProposalError>
+fn begun(alloc: Global, start: Basis<'_>) -> Result<WrittenPolicy, ProposalError>
     ensures ok { IfOk result (λ begun. Starts start.entry begun.policy) }
     ensures refused { IfErr result (IsStartRefused start.entry) }
 {
     match start {
-        Start::Base(base) => begun_under(alloc, base),
-        Start::Policy { text, base } => begun_with(alloc, text, base),
+        Basis::Base(base) => begun_under(alloc, base),
+        Basis::Policy { text, base } => begun_with(alloc, text, base),
     }
 }
 
@@ -225,7 +229,11 @@ fn reads(alloc: Global, text: &[u8], first: &Policy, gained: &[Rule]) -> Result<
 /// The text of the first policy with these lines behind it, which write the rules that it gains. Where they cannot
 /// stand there, as behind rules that are an array in one value, its own rules are written anew. `None` where neither
 /// reads so.
-fn written(alloc: Global, beginning: &Beginning, gains: &Gains) -> Result<Option<Vec<u8>>, Memory>
+fn written(
+    alloc: Global,
+    beginning: &WrittenPolicy,
+    gains: &Gains,
+) -> Result<Option<Vec<u8>>, Memory>
     ensures { IfOk result
         (λ found. IfSome found (λ text. Written text.items (with_gained beginning.now.policy gains.now.rules.items))) }
 {
@@ -250,7 +258,11 @@ fn has_no_room(first: &Policy, gained: &[Rule]) -> bool
 }
 
 /// The text of the policy that begins so and gains what is wished.
-fn proposed(alloc: Global, beginning: &Beginning, wishes: &[Wish]) -> Result<Vec<u8>, ProposalError>
+fn proposed(
+    alloc: Global,
+    beginning: &WrittenPolicy,
+    wishes: &[Wish],
+) -> Result<Vec<u8>, ProposalError>
     ensures ok { IfOk result
         (λ text. IsText (with_gained beginning.now.policy (grants_from beginning.now.policy [] wishes.now))
         text.items) }
@@ -276,7 +288,7 @@ fn proposed(alloc: Global, beginning: &Beginning, wishes: &[Wish]) -> Result<Vec
 ///
 /// The text is accepted; it allows each wish that got a rule; and where it decides otherwise than the first policy,
 /// that had no rule, and the request has the kind and the text of such a wish, for a path its normal form.
-pub fn propose(alloc: Global, start: Start<'_>, wishes: &[Wish]) -> Result<Vec<u8>, ProposalError>
+pub fn propose(alloc: Global, start: Basis<'_>, wishes: &[Wish]) -> Result<Vec<u8>, ProposalError>
     ensures ok { IfOk result
         (λ text. (first : Rulebook) × Starts start.entry first × Proposes first wishes.now text.items) }
     ensures refused { IfErr result (IsProposalRefused start.entry wishes.now) }

@@ -12,7 +12,7 @@ use Rattle.box_world.specs.declared.ask.Reply.{Reply}
 use Rattle.box_world.specs.declared.ask.Reply.TheVariants.{Opened, Bytes, Done, Status, Failed}
 use Rattle.box_world.specs.declared.ask.Request.{Request}
 use Rattle.box_world.specs.declared.ask.Request.TheVariants.{Open, Next, Put, Shut, System}
-use Rattle.box_world.specs.declared.memory_world.store.Stream.{Stream}
+use Rattle.box_world.specs.declared.memory_world.store.MemoryStream.{MemoryStream}
 use Rattle.box_world.specs.MemoryChanges.{answered, left_by, stream_read, with_end, with_end_of, with_put, with_put_to, with_read, with_shut}
 use Rattle.box_world.specs.MemoryLaw.{Leads}
 use Rattle.box_world.specs.MemoryState.{Contents, MemoryState}
@@ -36,7 +36,7 @@ streams-with_put_to RunOut text bytes store = refl
 streams-with_put : (n : ℕ) (bytes : List ℕ) (store : Contents) → (with_put n bytes store).streams ≡ store.streams
 streams-with_put n bytes store = by (nat_eq n 1) (nat_eq n 2) _ _ _ refl refl (of (lookup (λ k. k == n) store.streams))
   where
-    of : (found : Option Stream) → (option_map_or (λ s. with_put_to s.mode s.text bytes store) found store).streams ≡ store.streams
+    of : (found : Option MemoryStream) → (option_map_or (λ s. with_put_to s.mode s.text bytes store) found store).streams ≡ store.streams
     of None = refl
     of (Some s) = streams-with_put_to s.mode s.text bytes store
 
@@ -49,7 +49,7 @@ streams-with_put n bytes store = by (nat_eq n 1) (nat_eq n 2) _ _ _ refl refl (o
 keys-with_read : (n count : ℕ) (store : Contents) → keys_of (with_read n count store).streams ≡ keys_of store.streams
 keys-with_read n count store = by (nat_eq n 0) _ _ refl (of (lookup (λ k. k == n) store.streams))
   where
-    of : (found : Option Stream) → keys_of (option_map_or (λ s. set_value (λ k. k == n) store.streams (stream_read count s)) found store.streams) ≡ keys_of store.streams
+    of : (found : Option MemoryStream) → keys_of (option_map_or (λ s. set_value (λ k. k == n) store.streams (stream_read count s)) found store.streams) ≡ keys_of store.streams
     of None = refl
     of (Some s) = keys-set_value (λ k. k == n) store.streams (stream_read count s)
 
@@ -67,7 +67,7 @@ streams-with_end_of RunOut text store = refl
 streams-with_end : (n : ℕ) (store : Contents) → (with_end n store).streams ≡ store.streams
 streams-with_end n store = of (lookup (λ k. k == n) store.streams)
   where
-    of : (found : Option Stream) → (option_map_or (λ s. with_end_of s.mode s.text store) found store).streams ≡ store.streams
+    of : (found : Option MemoryStream) → (option_map_or (λ s. with_end_of s.mode s.text store) found store).streams ≡ store.streams
     of None = refl
     of (Some s) = streams-with_end_of s.mode s.text store
 

@@ -10,7 +10,7 @@ use Rattle.box_world.specs.declared.ask.Reply.{Reply}
 use Rattle.box_world.specs.declared.ask.Reply.TheVariants.{Opened, Bytes, Done, Status, Failed}
 use Rattle.box_world.specs.declared.ask.Request.{Request}
 use Rattle.box_world.specs.declared.ask.Request.TheVariants.{Open, Next, Put, Shut, System}
-use Rattle.box_world.specs.declared.memory_world.store.Stream.{Stream}
+use Rattle.box_world.specs.declared.memory_world.store.MemoryStream.{MemoryStream}
 use Rattle.box_world.specs.MemoryReplies.{output_of}
 use Rattle.box_world.specs.MemoryState.{Contents, MemoryState}
 use Rattle.box_world.specs.MemoryTexts.{with_text, with_more, with_new}
@@ -38,7 +38,7 @@ with_open mode n text store = record store {
 abbrev pub read_more : ℕ → ℕ → ℕ
 read_more read count = min (read + count) (2 ^ 64 - 1)
 
-abbrev pub stream_read : ℕ → Stream → Stream
+abbrev pub stream_read : ℕ → MemoryStream → MemoryStream
 stream_read count stream = record stream { read = read_more stream.read count }
 
 abbrev pub with_read_from : ℕ → ℕ → Contents → Contents

@@ -10,7 +10,7 @@ use Rattle.box_world.specs.declared.ask.Reply.{Reply}
 use Rattle.box_world.specs.declared.ask.Reply.TheVariants.{Opened, Bytes, End, Done, Status, Value, Failed}
 use Rattle.box_world.specs.declared.ask.Request.{Request}
 use Rattle.box_world.specs.declared.ask.Request.TheVariants.{Open, Next, Put, Shut, System, Env, Assign}
-use Rattle.box_world.specs.declared.memory_world.store.Stream.{Stream}
+use Rattle.box_world.specs.declared.memory_world.store.MemoryStream.{MemoryStream}
 use Rattle.box_world.specs.MemoryState.{Behavior, Contents, MemoryState}
 
 -- a command that was not put has no output and the status 127
@@ -39,7 +39,7 @@ abbrev pub next_of : ℕ → List ℕ → Reply
 next_of chunk [] = End
 next_of chunk (b ∷ bs) = Bytes (take chunk (b ∷ bs))
 
-abbrev pub reading_of : Stream → Contents → Reply
+abbrev pub reading_of : MemoryStream → Contents → Reply
 reading_of stream store =
     option_map_or (λ text. next_of store.chunk (drop stream.read text)) (source stream.mode stream.text store) Failed
 
@@ -56,7 +56,7 @@ is_written Read = false
 is_written RunIn = false
 is_written mode = true
 
-abbrev pub is_written_in : ℕ → List (ℕ × Stream) → Bool
+abbrev pub is_written_in : ℕ → List (ℕ × MemoryStream) → Bool
 is_written_in n streams = option_map_or (λ stream. is_written stream.mode) (lookup (λ k. k == n) streams) false
 
 -- nothing is put to the standard input, or to what is read

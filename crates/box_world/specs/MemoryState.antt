@@ -1,7 +1,7 @@
 -- What a world in memory is: what it was asked, and what it holds.
 use Rattle.std.specs.Prelude.{ℕ, ℤ, List, [], Option}
 use Rattle.box_world.specs.Calls.{Call}
-use Rattle.box_world.specs.declared.memory_world.store.Stream.{Stream}
+use Rattle.box_world.specs.declared.memory_world.store.MemoryStream.{MemoryStream}
 
 -- what a command does: what it prints, and its exit status
 pub record Behavior : Type 0 where
@@ -20,7 +20,7 @@ pub record Contents : Type 0 where
   -- how many bytes one reading gives at most
   pub chunk : ℕ
   -- the open numbers with their streams, in order of opening
-  pub streams : List (ℕ × Stream)
+  pub streams : List (ℕ × MemoryStream)
   -- what was put to each command that was ever opened to be written to
   pub fed : List (List ℕ × List ℕ)
   -- what was written to the standard output and to the standard error

@@ -21,7 +21,7 @@ use awk_text::Memory;
 use awk_text::octets::Octets;
 use std::alloc::Global;
 use std::marker::Model;
-use store::Store;
+use store::MemoryStore;
 
 /// A world whose files and commands are in memory. It keeps all that it is asked, with its replies.
 ///
@@ -33,7 +33,7 @@ pub struct MemoryWorld {
     asked: Vec<(Ask, Reply)>,
     fail_at: usize,
     fail_from: Option<usize>,
-    store: Store,
+    store: MemoryStore,
 }
 
 impl Model for MemoryWorld {
@@ -64,7 +64,7 @@ impl MemoryWorld {
             asked: Vec::new(alloc),
             fail_at: 0,
             fail_from: None,
-            store: Store::new(alloc),
+            store: MemoryStore::new(alloc),
         }
     }
 

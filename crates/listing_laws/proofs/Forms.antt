@@ -15,7 +15,7 @@ use Rattle.awk_program.specs.declared.builtins.Builtin.TheVariants as b
 use Rattle.awk_program.specs.declared.operators.Operator.{Operator}
 use Rattle.awk_program.specs.declared.operators.Extent.{Extent}
 use Rattle.awk_program.specs.declared.operators.Step.{Step}
-use Rattle.awk_program.specs.declared.operators.Taken.{Taken}
+use Rattle.awk_program.specs.declared.operators.StepValue.{StepValue}
 use Rattle.box_policy.specs.declared.policy.Kind.TheVariants.{Read, Run}
 use Rattle.box_world.specs.Events.{InputFile, Standard}
 use Rattle.awk_machine.specs.Builtins as built
@@ -198,10 +198,10 @@ module _ (S : Listed) where
   changed place how r x (y ∷ at ∷ []) k t h rest = (tt, (h, λ y says. tt, rest))
   changed place how r x (old ∷ y ∷ at ∷ vs) k t h rest = through S place (computed how old y) (store (target r at) place) k t (λ made. (tt, (tt, rest)))
 
-  abbrev put : Place → Taken → p.Reference → Value → ℤ → ℤ → Then
+  abbrev put : Place → StepValue → p.Reference → Value → ℤ → ℤ → Then
   put place which r at old new k t = Goes (Do (m.Set (target r at) place (v.Num new)) ∷ Do (m.Give (e.either which old new)) ∷ k) t
 
-  stepped : (place : Place) (how : Step) (which : Taken) (r : p.Reference) (vs : List Value) (k : List Piece) (t : State) → Sub S (s.target r) → Stack S (hands None) k →
+  stepped : (place : Place) (how : Step) (which : StepValue) (r : p.Reference) (vs : List Value) (k : List Piece) (t : State) → Sub S (s.target r) → Stack S (hands None) k →
       Keeps S (e.step place how which r (Value_of (p.step place how which r)) vs k t)
   stepped place how which r [] k t h rest = push_target S r (Value_of (p.step place how which r)) [] k h h (λ y says. tt) rest
   stepped place how which r (at ∷ []) k t h rest = (tt, (h, λ y says. tt, rest))

@@ -16,13 +16,13 @@ use Rattle.awk_resolve.specs.Mentions.{part}
 use Rattle.awk_resolve.specs.Said.{defined}
 use Rattle.awk_resolve.specs.Tables.{tables, variables, variable_flags, all_flags, arrays_by}
 use Rattle.awk_resolve.specs.declared.kinds.Kinds.{Kinds}
-use Rattle.awk_resolve.specs.declared.mention.Part.{Part}
+use Rattle.awk_resolve.specs.declared.mention.Section.{Section}
 use Rattle.awk_tokens.proofs.Once.{read_once}
 use Rattle.awk_tokens.specs.Words.{is_name, reserved}
 use Rattle.awk_tokens.specs.declared.token.Token.{Token}
 use Rattle.awk_tree.specs.Statements as grammar
 use Rattle.awk_tree.specs.Tree.{Entry}
-use Rattle.awk_tree.specs.declared.fault.Fault.{Fault}
+use Rattle.awk_tree.specs.declared.fault.ParseError.{ParseError}
 use Rattle.box_policy.specs.Rulebook.{Rulebook}
 use Rattle.box_policy.specs.Tree.{text_at, tables_of}
 use Rattle.box_policy.specs.Words.{effect_of, kind_of, pattern_of, from_of}
@@ -72,12 +72,12 @@ both_ways true c f g = sym (f refl)
 both_ways false true f g = g refl
 both_ways false false f g = refl
 
-same_kind : (parts : List Part) (c d : Kinds) → AreKinds parts c → AreKinds parts d → (name : Named) (kind : Kind) →
+same_kind : (parts : List Section) (c d : Kinds) → AreKinds parts c → AreKinds parts d → (name : Named) (kind : Kind) →
     has c name kind ≡ has d name kind
 same_kind parts c d x y name kind =
     both_ways (has c name kind) (has d name kind) (λ h. (y name kind).1 ((x name kind).0 h)) (λ h. (x name kind).1 ((y name kind).0 h))
 
-same_tables : (parts : List Part) (c d : Kinds) → AreKinds parts c → AreKinds parts d → tables c parts ≡ tables d parts
+same_tables : (parts : List Section) (c d : Kinds) → AreKinds parts c → AreKinds parts d → tables c parts ≡ tables d parts
 same_tables parts c d x y =
     let e : arrays_by c ≡ arrays_by d = λ i name. same_kind parts c d x y name k.array i in
     λ i. record {
@@ -98,7 +98,7 @@ same_script items s r x y =
     let environ : s.names_environ ≡ r.names_environ = x.environ ∙ sym y.environ in
     record { program = programs; assigns = assigns; environ = environ; main = x.main ∙ sym y.main }
 
-items_in : Result (List Entry × List Token) Fault → List Entry
+items_in : Result (List Entry × List Token) ParseError → List Entry
 items_in (Ok p) = p.0
 items_in (Err e) = []
 

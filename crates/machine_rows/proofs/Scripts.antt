@@ -9,7 +9,7 @@ use Rattle.awk_tokens.specs.Scan as scan
 use Rattle.awk_ere.specs.Token as ere_token
 use Rattle.awk_ere.specs.Bracket as bracket
 use Rattle.awk_ere.specs.Escape as escape
-use Rattle.awk_tokens.specs.Scan.{Found}
+use Rattle.awk_tokens.specs.Scan.{Scanned}
 use Rattle.awk_tree.specs.Input as input
 use Rattle.awk_tree.specs.Terminals as word
 use Rattle.awk_tree.specs.Expressions as ex
@@ -26,7 +26,7 @@ use Rattle.awk_resolve.specs.Tables.{Tables}
 abbrev pub Reading : Type 0
 Reading = Text → Text → List Token → Option (List Token)
 
-abbrev pub taken : Reading → Text → Text → List Token → Found → Option (List Token)
+abbrev pub taken : Reading → Text → Text → List Token → Scanned → Option (List Token)
 taken go front rest ts (Err code) = None
 taken go front rest ts (Ok found) = go (front ++ take found.1 rest) (drop found.1 rest) (ts ++ token_of front found.0 (take found.1 rest) ∷ [])
 

@@ -4,7 +4,7 @@ ghost use Rattle.std.specs.Prelude.{◌<◌};
 use crate::args::{name, octets, text};
 use crate::problem::Problem;
 use crate::row::Arg;
-use crate::shown::{Answer, bracketed};
+use crate::shown::{Shown, bracketed};
 use awk_fields::{Record, Splitter, records, split};
 use awk_text::fault::Fault;
 use awk_text::octets::Octets;
@@ -19,12 +19,12 @@ fn splitter(alloc: Global, call: &str, separator: &[u8]) -> Result<Splitter, Pro
     }
 }
 
-fn fields(alloc: Global, splitter: &Splitter, text: &[u8]) -> Answer {
+fn fields(alloc: Global, splitter: &Splitter, text: &[u8]) -> Shown {
     bracketed(alloc, &split(alloc, text, splitter)?)
 }
 
 /// The fields by the splitter, and by one that shares its pattern.
-fn fields_twice(alloc: Global, splitter: &Splitter, text: &[u8]) -> Answer {
+fn fields_twice(alloc: Global, splitter: &Splitter, text: &[u8]) -> Shown {
     let shared = splitter.share()?;
     let (first, second) = (
         fields(alloc, splitter, text)?,
@@ -47,7 +47,7 @@ fn pieces(alloc: Global, input: &[u8], len: usize) -> Result<Vec<Octets>, Proble
     Ok(pieces)
 }
 
-fn records_of(alloc: Global, rs: &[u8], input: &[u8], len: usize) -> Answer
+fn records_of(alloc: Global, rs: &[u8], input: &[u8], len: usize) -> Shown
     requires { 0 < len }
 {
     let pieces = pieces(alloc, input, len)?;
@@ -55,7 +55,7 @@ fn records_of(alloc: Global, rs: &[u8], input: &[u8], len: usize) -> Answer
 }
 
 /// The records of the input, in whatever pieces it comes.
-fn records_cut(alloc: Global, rs: &[u8], input: &[u8]) -> Answer {
+fn records_cut(alloc: Global, rs: &[u8], input: &[u8]) -> Shown {
     let whole = records_of(alloc, rs, input, 8192)?;
     for len in [1usize, 2, 3] {
         let cut = records_of(alloc, rs, input, len)?;
@@ -73,7 +73,7 @@ fn count(alloc: Global, text: &[u8], splitter: Splitter) -> Result<i64, Fault> {
 }
 
 /// NF of each record of the input, which comes in one piece.
-fn counts(alloc: Global, fs: &[u8], rs: &[u8], input: &[u8]) -> Answer {
+fn counts(alloc: Global, fs: &[u8], rs: &[u8], input: &[u8]) -> Shown {
     let input = octets(alloc, input)?;
     let mut shown = Vec::new(alloc);
     for text in records(alloc, &[input], rs)? {
@@ -85,7 +85,7 @@ fn counts(alloc: Global, fs: &[u8], rs: &[u8], input: &[u8]) -> Answer {
 }
 
 /// The answer of the call.
-pub fn call(alloc: Global, args: &[Arg<'_>]) -> Answer {
+pub fn call(alloc: Global, args: &[Arg<'_>]) -> Shown {
     match name(args, 0) {
         "records" => records_cut(alloc, text(args, 1), text(args, 2)),
         "records_in_one_piece" => records_of(alloc, text(args, 1), text(args, 2), usize::MAX),

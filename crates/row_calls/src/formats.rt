@@ -2,12 +2,12 @@
 use crate::args::{name, text, values};
 use crate::problem::Problem;
 use crate::row::Arg;
-use crate::shown::Answer;
+use crate::shown::Shown;
 use awk_format::format;
 use std::alloc::Global;
 
 /// The answer of the call.
-pub fn call(alloc: Global, args: &[Arg<'_>]) -> Answer {
+pub fn call(alloc: Global, args: &[Arg<'_>]) -> Shown {
     match name(args, 0) {
         "format" => {
             let form = text(args, 1);

@@ -2,14 +2,14 @@
 use crate::args::{name, number, octets, text};
 use crate::problem::Problem;
 use crate::row::{Arg, Row};
-use crate::shown::{Answer, bracketed, bytes, show, told};
+use crate::shown::{Shown, bracketed, bytes, show, told};
 use awk_ere::Ere;
 use awk_lib::array::Array;
 use awk_lib::{index, replace, substr, to_case};
 use awk_text::octets::Octets;
 use std::alloc::Global;
 
-fn substr_of(alloc: Global, args: &[Arg<'_>]) -> Answer {
+fn substr_of(alloc: Global, args: &[Arg<'_>]) -> Shown {
     let from = number(args, 2)?;
     let count = match args.get(3) {
         Some(_) => Some(number(args, 3)?),
@@ -19,7 +19,7 @@ fn substr_of(alloc: Global, args: &[Arg<'_>]) -> Answer {
 }
 
 /// How many matches are replaced, and the new text.
-fn replaced(alloc: Global, args: &[Arg<'_>], all: bool) -> Answer {
+fn replaced(alloc: Global, args: &[Arg<'_>], all: bool) -> Shown {
     let ere = Ere::parse(alloc, text(args, 1))?;
     let (new, count) = replace(alloc, &ere, text(args, 2), text(args, 3), all)?;
     let mut shown = show(alloc, count)?;
@@ -29,7 +29,7 @@ fn replaced(alloc: Global, args: &[Arg<'_>], all: bool) -> Answer {
 }
 
 /// The answer of the call.
-pub fn call(alloc: Global, args: &[Arg<'_>]) -> Answer {
+pub fn call(alloc: Global, args: &[Arg<'_>]) -> Shown {
     match name(args, 0) {
         "index" => show(alloc, index(text(args, 1), text(args, 2))),
         "substr" => substr_of(alloc, args),
@@ -41,25 +41,25 @@ pub fn call(alloc: Global, args: &[Arg<'_>]) -> Answer {
     }
 }
 
-fn put(alloc: Global, array: &mut Array<Octets>, key: &[u8], value: &[u8]) -> Answer {
+fn put(alloc: Global, array: &mut Array<Octets>, key: &[u8], value: &[u8]) -> Shown {
     let key = Vec::from_slice(alloc, key)?;
     array.put(key, octets(alloc, value)?)?;
     bytes(alloc, b"done")
 }
 
 /// Puts the numbers up to this one, from 1 on, as keys without a value.
-fn fill(alloc: Global, array: &mut Array<Octets>, most: i64) -> Answer {
+fn fill(alloc: Global, array: &mut Array<Octets>, most: i64) -> Shown {
     for key in 1..=most {
         put(alloc, array, show(alloc, key)?.as_slice(), b"")?;
     }
     bytes(alloc, b"done")
 }
 
-fn keys(alloc: Global, array: &mut Array<Octets>) -> Answer {
+fn keys(alloc: Global, array: &mut Array<Octets>) -> Shown {
     bracketed(alloc, array.keys()?.as_slice())
 }
 
-fn step(alloc: Global, array: &mut Array<Octets>, args: &[Arg<'_>]) -> Answer {
+fn step(alloc: Global, array: &mut Array<Octets>, args: &[Arg<'_>]) -> Shown {
     match name(args, 0) {
         "put" => put(alloc, array, text(args, 1), text(args, 2)),
         "fill" => fill(alloc, array, number(args, 1)?),

@@ -3,7 +3,7 @@ use crate::args::{name, text};
 use crate::parses::script;
 use crate::problem::Problem;
 use crate::row::{Arg, Row};
-use crate::shown::{Answer, told};
+use crate::shown::{Shown, told};
 use awk_parse::Script;
 use awk_text::octets::Octets;
 use box_listing::{check, lines_of, sites, verdict_lines};
@@ -11,12 +11,12 @@ use box_policy::policy::Policy;
 use std::alloc::Global;
 
 /// The sites of the script, a line each.
-pub fn sites_in(alloc: Global, script: &Script) -> Answer {
+pub fn sites_in(alloc: Global, script: &Script) -> Shown {
     let sites = sites(alloc, script)?;
     Ok(lines_of(alloc, &sites)?)
 }
 
-fn listed(alloc: Global, text: &[u8]) -> Answer {
+fn listed(alloc: Global, text: &[u8]) -> Shown {
     let script = script(alloc, text)?;
     let answer = sites_in(alloc, &script);
     script.release();
@@ -24,12 +24,12 @@ fn listed(alloc: Global, text: &[u8]) -> Answer {
 }
 
 /// The verdict of the policy on the script, and the sites that it is about.
-pub fn verdict_on(alloc: Global, policy: &Policy, script: &Script) -> Answer {
+pub fn verdict_on(alloc: Global, policy: &Policy, script: &Script) -> Shown {
     let verdict = check(alloc, script, policy)?;
     Ok(verdict_lines(alloc, &verdict)?)
 }
 
-fn judged(alloc: Global, policy: &Policy, text: &[u8]) -> Answer {
+fn judged(alloc: Global, policy: &Policy, text: &[u8]) -> Shown {
     let script = script(alloc, text)?;
     let answer = verdict_on(alloc, policy, &script);
     script.release();
@@ -37,14 +37,14 @@ fn judged(alloc: Global, policy: &Policy, text: &[u8]) -> Answer {
 }
 
 /// The answer of the call.
-pub fn call(alloc: Global, args: &[Arg<'_>]) -> Answer {
+pub fn call(alloc: Global, args: &[Arg<'_>]) -> Shown {
     match name(args, 0) {
         "list" => listed(alloc, text(args, 1)),
         _ => Err(Problem::NoCall),
     }
 }
 
-fn step(alloc: Global, policy: &Policy, args: &[Arg<'_>]) -> Answer {
+fn step(alloc: Global, policy: &Policy, args: &[Arg<'_>]) -> Shown {
     match name(args, 0) {
         "check" => judged(alloc, policy, text(args, 1)),
         _ => Err(Problem::NoCall),

@@ -5,7 +5,7 @@ ghost use Rattle.std.specs.Prelude.{IfOk, List, ℕ};
 use crate::args::{bare, name, octets, text};
 use crate::problem::Problem;
 use crate::row::{Arg, Row};
-use crate::shown::{Answer, bytes, show, told};
+use crate::shown::{Shown, bytes, show, told};
 use crate::worlds::{left, show_reply};
 use awk_text::numeral::leading_digits;
 use awk_text::octets::Octets;
@@ -55,7 +55,7 @@ fn request(alloc: Global, args: &[Arg<'_>]) -> Result<Request, Problem>
     }
 }
 
-fn ask<W: World>(alloc: Global, world: &mut W, args: &[Arg<'_>]) -> Answer {
+fn ask<W: World>(alloc: Global, world: &mut W, args: &[Arg<'_>]) -> Shown {
     let ask = Ask {
         place: place(bare(args, 1))?,
         given: false,

@@ -2,7 +2,7 @@
 use crate::args::{name, text};
 use crate::problem::Problem;
 use crate::row::Arg;
-use crate::shown::{Answer, bytes, yes_or_no};
+use crate::shown::{Shown, bytes, yes_or_no};
 use awk_parse::{Script, canon, parse};
 use awk_text::Memory;
 use awk_tokens::{SyntaxError, Token, TokenKind, tokens};
@@ -35,7 +35,7 @@ fn spelling_of(alloc: Global, tokens: &[Token]) -> Result<Vec<Token>, Problem> {
 }
 
 /// Done where the canonical spelling of the script is parsed as a script with the same spelling.
-fn parsed_again(alloc: Global, script: &Script) -> Answer {
+fn parsed_again(alloc: Global, script: &Script) -> Shown {
     let first = canon(alloc, script)?;
     let second = spelling_of(alloc, &first)?;
     if !are_same(&first, &second) {
@@ -91,7 +91,7 @@ fn push_token(token: &Token, shown: &mut Vec<u8>) -> Result<(), Memory> {
 }
 
 /// The tokens with spaces between.
-fn spelled(alloc: Global, tokens: &[Token]) -> Answer {
+fn spelled(alloc: Global, tokens: &[Token]) -> Shown {
     let mut shown = Vec::new(alloc);
     for token in tokens {
         push_token(token, &mut shown)?;
@@ -100,7 +100,7 @@ fn spelled(alloc: Global, tokens: &[Token]) -> Answer {
 }
 
 /// What the script asks of its host: the main input, and the environment.
-fn asked(alloc: Global, script: &Script) -> Answer {
+fn asked(alloc: Global, script: &Script) -> Shown {
     let asked: &[u8] = match (script.reads_main(), script.names_environ()) {
         (true, true) => b"main environment",
         (true, false) => b"main",
@@ -110,13 +110,13 @@ fn asked(alloc: Global, script: &Script) -> Answer {
     bytes(alloc, asked)
 }
 
-fn spelled_script(alloc: Global, script: &Script) -> Answer {
+fn spelled_script(alloc: Global, script: &Script) -> Shown {
     let tokens = canon(alloc, script)?;
     spelled(alloc, &tokens)
 }
 
 /// What the call says of the script.
-fn told_of(alloc: Global, script: &Script, args: &[Arg<'_>]) -> Answer {
+fn told_of(alloc: Global, script: &Script, args: &[Arg<'_>]) -> Shown {
     match name(args, 0) {
         "parse" => parsed_again(alloc, script),
         "canon" => spelled_script(alloc, script),
@@ -127,7 +127,7 @@ fn told_of(alloc: Global, script: &Script, args: &[Arg<'_>]) -> Answer {
 }
 
 /// The answer of the call.
-pub fn call(alloc: Global, args: &[Arg<'_>]) -> Answer {
+pub fn call(alloc: Global, args: &[Arg<'_>]) -> Shown {
     let script = script(alloc, text(args, 1))?;
     let answer = told_of(alloc, &script, args);
     script.release();

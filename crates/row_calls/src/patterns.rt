@@ -4,19 +4,19 @@ ghost use Rattle.std.specs.Prelude.{length, ◌≤◌};
 use crate::args::{name, number, text};
 use crate::problem::Problem;
 use crate::row::Arg;
-use crate::shown::{Answer, bytes, yes_or_no};
+use crate::shown::{Shown, bytes, yes_or_no};
 use awk_ere::{Ere, Plain};
 use std::alloc::Global;
 
 /// Where a match begins and ends, as the numbers of bytes before.
-fn place(alloc: Global, found: Option<(usize, usize)>) -> Answer {
+fn place(alloc: Global, found: Option<(usize, usize)>) -> Shown {
     match found {
         Some((start, end)) => Ok(format!(in alloc; "{start} {end}")?.into_bytes()),
         None => bytes(alloc, b"none"),
     }
 }
 
-fn find(alloc: Global, ere: &Ere, text: &[u8], from: usize) -> Answer {
+fn find(alloc: Global, ere: &Ere, text: &[u8], from: usize) -> Shown {
     if from > text.len() {
         return Err(Problem::NoArgument);
     }
@@ -45,7 +45,7 @@ fn agree_on(alloc: Global, ere: &Ere, plain: &Plain, text: &[u8]) -> Result<bool
 }
 
 /// Whether both agree on each of the texts.
-fn agree(alloc: Global, ere: &Ere, plain: &Plain, texts: &[Arg<'_>]) -> Answer {
+fn agree(alloc: Global, ere: &Ere, plain: &Plain, texts: &[Arg<'_>]) -> Shown {
     for arg in texts {
         if !agree_on(alloc, ere, plain, arg.text.as_slice())? {
             return Err(Problem::TwoAnswers);
@@ -54,7 +54,7 @@ fn agree(alloc: Global, ere: &Ere, plain: &Plain, texts: &[Arg<'_>]) -> Answer {
     yes_or_no(alloc, true)
 }
 
-fn of_ere(alloc: Global, ere: &Ere, args: &[Arg<'_>]) -> Answer {
+fn of_ere(alloc: Global, ere: &Ere, args: &[Arg<'_>]) -> Shown {
     match name(args, 0) {
         "pattern" => bytes(alloc, b"accepted"),
         "find" => find(alloc, ere, text(args, 2), 0),
@@ -74,7 +74,7 @@ fn of_ere(alloc: Global, ere: &Ere, args: &[Arg<'_>]) -> Answer {
 }
 
 /// The answer of the call.
-pub fn call(alloc: Global, args: &[Arg<'_>]) -> Answer {
+pub fn call(alloc: Global, args: &[Arg<'_>]) -> Shown {
     let ere = Ere::parse(alloc, text(args, 1))?;
     of_ere(alloc, &ere, args)
 }

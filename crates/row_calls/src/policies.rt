@@ -2,7 +2,7 @@
 use crate::args::{bare, name, number, text};
 use crate::problem::Problem;
 use crate::row::{Arg, Row};
-use crate::shown::{Answer, bracketed, bytes, show, told, yes_or_no};
+use crate::shown::{Shown, bracketed, bytes, show, told, yes_or_no};
 use awk_text::Memory;
 use awk_text::octets::Octets;
 use box_policy::error::PolicyError;
@@ -25,7 +25,7 @@ fn kind(name: &str) -> Result<Kind, Problem> {
     }
 }
 
-fn policy(alloc: Global, text: &[u8]) -> Answer {
+fn policy(alloc: Global, text: &[u8]) -> Shown {
     let _policy = Policy::read(alloc, text)?;
     bytes(alloc, b"accepted")
 }
@@ -69,7 +69,7 @@ fn allowing(alloc: Global, kind: &[u8], pattern: &[u8]) -> Result<Vec<u8>, Memor
     Ok(text)
 }
 
-fn fits(alloc: Global, args: &[Arg<'_>]) -> Answer {
+fn fits(alloc: Global, args: &[Arg<'_>]) -> Shown {
     let (kind, subject) = (kind(name(args, 1))?, text(args, 2));
     let text = allowing(alloc, bare(args, 1), text(args, 1))?;
     let policy = Policy::read(alloc, &text)?;
@@ -79,7 +79,7 @@ fn fits(alloc: Global, args: &[Arg<'_>]) -> Answer {
     )
 }
 
-fn components(alloc: Global, base: &[u8], text: &[u8]) -> Answer {
+fn components(alloc: Global, base: &[u8], text: &[u8]) -> Shown {
     match normal(alloc, base, text)? {
         Some(path) => bracketed(alloc, path.components()),
         None => bytes(alloc, b"none"),
@@ -87,7 +87,7 @@ fn components(alloc: Global, base: &[u8], text: &[u8]) -> Answer {
 }
 
 /// The answer of the call.
-pub fn call(alloc: Global, args: &[Arg<'_>]) -> Answer {
+pub fn call(alloc: Global, args: &[Arg<'_>]) -> Shown {
     match name(args, 0) {
         "policy" => policy(alloc, text(args, 1)),
         "rule" => policy(alloc, &one_rule(alloc, args.get(1..).unwrap_or(&[]))?),
@@ -97,7 +97,7 @@ pub fn call(alloc: Global, args: &[Arg<'_>]) -> Answer {
     }
 }
 
-fn show_decision(alloc: Global, decision: Decision) -> Answer {
+fn show_decision(alloc: Global, decision: Decision) -> Shown {
     match decision {
         Decision::Allow(rule) => Ok(format!(in alloc; "allow {rule}")?.into_bytes()),
         Decision::Deny(rule) => Ok(format!(in alloc; "deny {rule}")?.into_bytes()),
@@ -105,7 +105,7 @@ fn show_decision(alloc: Global, decision: Decision) -> Answer {
     }
 }
 
-fn show_outlook(alloc: Global, outlook: Outlook) -> Answer {
+fn show_outlook(alloc: Global, outlook: Outlook) -> Shown {
     match outlook {
         Outlook::Always => bytes(alloc, b"always"),
         Outlook::Never => bytes(alloc, b"never"),
@@ -122,7 +122,7 @@ fn rule(args: &[Arg<'_>]) -> Result<u32, Problem> {
 }
 
 /// Notes that the rule allowed a request, as often as the row says: once, where it says nothing.
-fn note(alloc: Global, policy: &mut Policy, args: &[Arg<'_>]) -> Answer {
+fn note(alloc: Global, policy: &mut Policy, args: &[Arg<'_>]) -> Shown {
     let rule = rule(args)?;
     for _ in 0..number(args, 2).unwrap_or(1) {
         policy.note(rule);
@@ -130,17 +130,17 @@ fn note(alloc: Global, policy: &mut Policy, args: &[Arg<'_>]) -> Answer {
     show(alloc, policy.used(rule))
 }
 
-fn decide(alloc: Global, policy: &Policy, args: &[Arg<'_>], is_given: bool) -> Answer {
+fn decide(alloc: Global, policy: &Policy, args: &[Arg<'_>], is_given: bool) -> Shown {
     let (kind, subject) = (kind(name(args, 1))?, text(args, 1));
     show_decision(alloc, policy.decide(kind, subject, is_given))
 }
 
-fn outlook(alloc: Global, policy: &Policy, args: &[Arg<'_>], is_given: bool) -> Answer {
+fn outlook(alloc: Global, policy: &Policy, args: &[Arg<'_>], is_given: bool) -> Shown {
     let (kind, subject) = (kind(name(args, 1))?, text(args, 1));
     show_outlook(alloc, policy.outlook(kind, subject, is_given))
 }
 
-fn step(alloc: Global, policy: &mut Policy, args: &[Arg<'_>]) -> Answer {
+fn step(alloc: Global, policy: &mut Policy, args: &[Arg<'_>]) -> Shown {
     match name(args, 0) {
         "count" => show(alloc, policy.count()),
         "decide" => decide(alloc, policy, args, false),

@@ -3,13 +3,13 @@ use crate::args::{name, text};
 use crate::parses::script;
 use crate::problem::Problem;
 use crate::row::Arg;
-use crate::shown::Answer;
+use crate::shown::Shown;
 use awk_printer::printed;
 use awk_text::Memory;
 use awk_text::numeral::leading_digits;
 use std::alloc::Global;
 
-fn program(alloc: Global, text: &[u8]) -> Answer {
+fn program(alloc: Global, text: &[u8]) -> Shown {
     let script = script(alloc, text)?;
     let printed = printed(alloc, script.program());
     script.release();
@@ -51,7 +51,7 @@ fn without_places(alloc: Global, mut rest: &[u8]) -> Result<Vec<u8>, Memory> {
 }
 
 /// The answer of the call.
-pub fn call(alloc: Global, args: &[Arg<'_>]) -> Answer {
+pub fn call(alloc: Global, args: &[Arg<'_>]) -> Shown {
     let program = program(alloc, text(args, 1))?;
     match name(args, 0) {
         "program" => Ok(program),

@@ -4,12 +4,12 @@ ghost use Rattle.std.specs.Prelude.{false, ◌≡◌};
 use crate::args::{name, text};
 use crate::problem::Problem;
 use crate::row::{Arg, Row};
-use crate::shown::{Answer, bracketed, bytes, show, told};
+use crate::shown::{Shown, bracketed, bytes, show, told};
 use awk_fields::reader::{Reader, Taken};
 use awk_text::octets::Octets;
 use std::alloc::Global;
 
-fn push(alloc: Global, reader: &mut Reader, piece: &[u8]) -> Answer
+fn push(alloc: Global, reader: &mut Reader, piece: &[u8]) -> Shown
     requires { reader.old.input.ended ≡ false }
     ensures { reader.new.input.ended ≡ false }
 {
@@ -17,7 +17,7 @@ fn push(alloc: Global, reader: &mut Reader, piece: &[u8]) -> Answer
     bytes(alloc, b"done")
 }
 
-fn show_taken(alloc: Global, taken: Taken) -> Answer {
+fn show_taken(alloc: Global, taken: Taken) -> Shown {
     match taken {
         Taken::Record(text) => bracketed(alloc, &[text]),
         Taken::NeedMore => bytes(alloc, b"more"),
@@ -25,14 +25,14 @@ fn show_taken(alloc: Global, taken: Taken) -> Answer {
     }
 }
 
-fn take(alloc: Global, reader: &mut Reader, rs: &[u8]) -> Answer
+fn take(alloc: Global, reader: &mut Reader, rs: &[u8]) -> Shown
     ensures { reader.new.input.ended ≡ reader.old.input.ended }
 {
     let mut room = Vec::new(alloc);
     show_taken(alloc, reader.take(rs, &mut room)?)
 }
 
-fn step(alloc: Global, reader: &mut Reader, args: &[Arg<'_>]) -> Answer
+fn step(alloc: Global, reader: &mut Reader, args: &[Arg<'_>]) -> Shown
     requires { reader.old.input.ended ≡ false }
     ensures { reader.new.input.ended ≡ false }
 {

@@ -3,20 +3,20 @@ use crate::args::{name, number, octets, text, values};
 use crate::problem::Problem;
 use crate::readers;
 use crate::row::{Arg, Row};
-use crate::shown::{Answer, bytes, show, show_value, told};
+use crate::shown::{Shown, bytes, show, show_value, told};
 use awk_fields::{Record, Splitter};
 use awk_text::fault::Fault;
 use awk_text::octets::Octets;
 use awk_text::value::text_of;
 use std::alloc::Global;
 
-fn set_whole(alloc: Global, record: &mut Record, fs: &[u8], text: &[u8]) -> Answer {
+fn set_whole(alloc: Global, record: &mut Record, fs: &[u8], text: &[u8]) -> Shown {
     let splitter = Splitter::new(alloc, fs, false)?;
     record.set_whole(octets(alloc, text)?, splitter)?;
     bytes(alloc, b"done")
 }
 
-fn set_field(alloc: Global, record: &mut Record, args: &[Arg<'_>]) -> Answer {
+fn set_field(alloc: Global, record: &mut Record, args: &[Arg<'_>]) -> Shown {
     let at = number(args, 1)?;
     let mut values = values(alloc, args, 2)?;
     values.truncate(1);
@@ -29,12 +29,12 @@ fn set_field(alloc: Global, record: &mut Record, args: &[Arg<'_>]) -> Answer {
     }
 }
 
-fn set_count(alloc: Global, record: &mut Record, count: i64, ofs: &[u8]) -> Answer {
+fn set_count(alloc: Global, record: &mut Record, count: i64, ofs: &[u8]) -> Shown {
     record.set_count(count, ofs)?;
     bytes(alloc, b"done")
 }
 
-fn whole(alloc: Global, record: &mut Record) -> Answer {
+fn whole(alloc: Global, record: &mut Record) -> Shown {
     record.rebuild()?;
     match record.known_whole() {
         Some(whole) => bytes(alloc, whole),
@@ -42,7 +42,7 @@ fn whole(alloc: Global, record: &mut Record) -> Answer {
     }
 }
 
-fn step(alloc: Global, record: &mut Record, args: &[Arg<'_>]) -> Answer {
+fn step(alloc: Global, record: &mut Record, args: &[Arg<'_>]) -> Shown {
     match name(args, 0) {
         "line" => set_whole(alloc, record, text(args, 1), text(args, 2)),
         "set" => set_field(alloc, record, args),

@@ -6,23 +6,23 @@ use std::alloc::{AllocError, Global};
 use std::fmt::Display;
 
 /// What a call answers, as bytes.
-pub type Answer = Result<Vec<u8>, Problem>;
+pub type Shown = Result<Vec<u8>, Problem>;
 
-pub fn bytes(alloc: Global, bytes: &[u8]) -> Answer {
+pub fn bytes(alloc: Global, bytes: &[u8]) -> Shown {
     Ok(Vec::from_slice(alloc, bytes)?)
 }
 
-pub fn show<T: Display + Drop>(alloc: Global, shown: T) -> Answer {
+pub fn show<T: Display + Drop>(alloc: Global, shown: T) -> Shown {
     let shown = shown.to_string(alloc)?;
     Ok(shown.into_bytes())
 }
 
-pub fn yes_or_no(alloc: Global, is_so: bool) -> Answer {
+pub fn yes_or_no(alloc: Global, is_so: bool) -> Shown {
     bytes(alloc, if is_so { b"yes" } else { b"no" })
 }
 
 /// A value as an argument writes it.
-pub fn show_value(alloc: Global, value: &Value) -> Answer {
+pub fn show_value(alloc: Global, value: &Value) -> Shown {
     match value {
         Value::Unset => bytes(alloc, b"unset"),
         Value::Num(number) => show(alloc, *number),
@@ -36,7 +36,7 @@ pub fn show_value(alloc: Global, value: &Value) -> Answer {
 }
 
 /// The texts, each in brackets.
-pub fn bracketed(alloc: Global, texts: &[Octets]) -> Answer {
+pub fn bracketed(alloc: Global, texts: &[Octets]) -> Shown {
     let mut shown = Vec::new(alloc);
     for text in texts {
         shown.push(b'[')?;
@@ -47,7 +47,7 @@ pub fn bracketed(alloc: Global, texts: &[Octets]) -> Answer {
 }
 
 /// What a row is compared with: the answer, or why there is none.
-pub fn told(alloc: Global, answer: Answer) -> Result<Octets, AllocError> {
+pub fn told(alloc: Global, answer: Shown) -> Result<Octets, AllocError> {
     match answer {
         Ok(bytes) => Ok(Octets::new(bytes)),
         Err(problem) => Ok(Octets::new(problem.to_string(alloc)?.into_bytes())),

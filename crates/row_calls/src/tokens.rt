@@ -2,7 +2,7 @@
 use crate::args::{name, text};
 use crate::problem::Problem;
 use crate::row::Arg;
-use crate::shown::Answer;
+use crate::shown::Shown;
 use awk_text::Memory;
 use awk_tokens::{Token, TokenKind, tokens};
 use std::alloc::Global;
@@ -39,7 +39,7 @@ fn push_span(alloc: Global, token: &Token, shown: &mut Vec<u8>) -> Result<(), Me
 }
 
 /// The tokens, or their spans, with commas between.
-pub fn listed(alloc: Global, tokens: &[Token], are_spans: bool) -> Answer {
+pub fn listed(alloc: Global, tokens: &[Token], are_spans: bool) -> Shown {
     let mut shown = Vec::new(alloc);
     for token in tokens {
         if !shown.is_empty() {
@@ -55,7 +55,7 @@ pub fn listed(alloc: Global, tokens: &[Token], are_spans: bool) -> Answer {
 }
 
 /// The answer of the call.
-pub fn call(alloc: Global, args: &[Arg<'_>]) -> Answer {
+pub fn call(alloc: Global, args: &[Arg<'_>]) -> Shown {
     let are_spans = match name(args, 0) {
         "tokens" => false,
         "spans" => true,

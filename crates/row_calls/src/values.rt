@@ -2,7 +2,7 @@
 use crate::args::{name, number, text, values};
 use crate::problem::Problem;
 use crate::row::Arg;
-use crate::shown::{Answer, bytes, show, show_value, yes_or_no};
+use crate::shown::{Shown, bytes, show, show_value, yes_or_no};
 use awk_text::arithmetic::{add, div, mul, neg, pow, rem, sub};
 use awk_text::escape::unescape;
 use awk_text::fault::Fault;
@@ -29,7 +29,7 @@ const FAULTS: [Fault; 13] = [
     Fault::Memory,
 ];
 
-fn fault(alloc: Global, code: i64) -> Answer {
+fn fault(alloc: Global, code: i64) -> Shown {
     for fault in FAULTS {
         if i64::from(fault.code()) == code {
             return show(alloc, fault);
@@ -51,14 +51,14 @@ fn of_two(call: &str, a: i64, b: i64) -> Result<i64, Problem> {
     Ok(found?)
 }
 
-fn looks(alloc: Global, text: &[u8]) -> Answer {
+fn looks(alloc: Global, text: &[u8]) -> Shown {
     match looks_numeric(text) {
         Some(number) => show(alloc, number),
         None => bytes(alloc, b"no"),
     }
 }
 
-fn order(alloc: Global, a: &Value, b: &Value) -> Answer {
+fn order(alloc: Global, a: &Value, b: &Value) -> Shown {
     let order: &[u8] = match compare(a, b) {
         Ordering::Less => b"less",
         Ordering::Equal => b"equal",
@@ -67,7 +67,7 @@ fn order(alloc: Global, a: &Value, b: &Value) -> Answer {
     bytes(alloc, order)
 }
 
-fn of_values(alloc: Global, call: &str, values: &[Value]) -> Answer {
+fn of_values(alloc: Global, call: &str, values: &[Value]) -> Shown {
     match (call, values) {
         ("number", [value]) => show(alloc, number_of(value)?),
         ("text", [value]) => Ok(text_of(alloc, value)?),
@@ -79,7 +79,7 @@ fn of_values(alloc: Global, call: &str, values: &[Value]) -> Answer {
 }
 
 /// The answer of the call.
-pub fn call(alloc: Global, args: &[Arg<'_>]) -> Answer {
+pub fn call(alloc: Global, args: &[Arg<'_>]) -> Shown {
     match name(args, 0) {
         "fault" => fault(alloc, number(args, 1)?),
         "looks_numeric" => looks(alloc, text(args, 1)),

@@ -5,7 +5,7 @@ ghost use Rattle.std.specs.Prelude.{IfOk, OnOk, [], ◌++◌, ◌<◌, ◌∷◌
 use crate::args::{name, number, octets, text};
 use crate::problem::Problem;
 use crate::row::{Arg, Row};
-use crate::shown::{Answer, bytes, show, told};
+use crate::shown::{Shown, bytes, show, told};
 use awk_text::octets::Octets;
 use awk_text::place::Place;
 use box_world::ask::{Ask, Mode, Reply, Request};
@@ -14,7 +14,7 @@ use box_world::world::World;
 use std::alloc::Global;
 
 /// A reply, as rows write it.
-pub fn show_reply(alloc: Global, reply: &Reply) -> Answer {
+pub fn show_reply(alloc: Global, reply: &Reply) -> Shown {
     match reply {
         Reply::Opened(number) => show(alloc, *number),
         Reply::Status(status) => show(alloc, *status),
@@ -61,7 +61,7 @@ fn put_to<W: World>(alloc: Global, world: &mut W, number: u32, bytes: &[u8]) -> 
 }
 
 /// Opens the file, puts the bytes to it and shuts it. Answers its number.
-fn write<W: World>(alloc: Global, world: &mut W, mode: Mode, name: &[u8], bytes: &[u8]) -> Answer {
+fn write<W: World>(alloc: Global, world: &mut W, mode: Mode, name: &[u8], bytes: &[u8]) -> Shown {
     let number = open(alloc, world, mode, name)?;
     put_to(alloc, world, number, bytes)?;
     reply_to(world, Request::Shut(number))?;
@@ -69,7 +69,7 @@ fn write<W: World>(alloc: Global, world: &mut W, mode: Mode, name: &[u8], bytes:
 }
 
 /// Opens both files, and puts `a` to the first, `b` to the second and `c` again to the first.
-fn write_in_turn<W: World>(alloc: Global, world: &mut W, first: &[u8], second: &[u8]) -> Answer {
+fn write_in_turn<W: World>(alloc: Global, world: &mut W, first: &[u8], second: &[u8]) -> Shown {
     let one = open(alloc, world, Mode::Write, first)?;
     let two = open(alloc, world, Mode::Write, second)?;
     put_to(alloc, world, one, b"a")?;
@@ -79,7 +79,7 @@ fn write_in_turn<W: World>(alloc: Global, world: &mut W, first: &[u8], second: &
 }
 
 /// Opens the command to be written to, puts the bytes to it and shuts it. Answers the last reply.
-fn feed<W: World>(alloc: Global, world: &mut W, command: &[u8], bytes: &[u8]) -> Answer {
+fn feed<W: World>(alloc: Global, world: &mut W, command: &[u8], bytes: &[u8]) -> Shown {
     let number = open(alloc, world, Mode::RunOut, command)?;
     put_to(alloc, world, number, bytes)?;
     show_reply(alloc, &reply_to(world, Request::Shut(number))?)
@@ -104,7 +104,7 @@ fn read_on<W: World>(
 }
 
 /// Opens what is to be read, reads three times and shuts it. Answers the later replies.
-fn read<W: World>(alloc: Global, world: &mut W, mode: Mode, name: &[u8]) -> Answer {
+fn read<W: World>(alloc: Global, world: &mut W, mode: Mode, name: &[u8]) -> Shown {
     let number = open(alloc, world, mode, name)?;
     let mut shown = Vec::new(alloc);
     read_on(alloc, world, number, &mut shown)?;
@@ -116,24 +116,24 @@ fn read<W: World>(alloc: Global, world: &mut W, mode: Mode, name: &[u8]) -> Answ
 }
 
 /// Reads once from a standard stream.
-fn next<W: World>(alloc: Global, world: &mut W, number: u32) -> Answer
+fn next<W: World>(alloc: Global, world: &mut W, number: u32) -> Shown
     requires { number < 3 }
 {
     show_reply(alloc, &reply_to(world, Request::Next(number))?)
 }
 
-fn env<W: World>(alloc: Global, world: &mut W, name: &[u8]) -> Answer {
+fn env<W: World>(alloc: Global, world: &mut W, name: &[u8]) -> Shown {
     let name = octets(alloc, name)?;
     show_reply(alloc, &reply_to(world, Request::Env(name))?)
 }
 
-fn assign<W: World>(alloc: Global, world: &mut W, name: &[u8], text: &[u8]) -> Answer {
+fn assign<W: World>(alloc: Global, world: &mut W, name: &[u8], text: &[u8]) -> Shown {
     let name = octets(alloc, name)?;
     let request = Request::Assign(name, octets(alloc, text)?);
     show_reply(alloc, &reply_to(world, request)?)
 }
 
-fn run<W: World>(alloc: Global, world: &mut W, command: &[u8]) -> Answer {
+fn run<W: World>(alloc: Global, world: &mut W, command: &[u8]) -> Shown {
     let command = octets(alloc, command)?;
     show_reply(alloc, &reply_to(world, Request::System(command))?)
 }
@@ -150,14 +150,14 @@ fn standard(number: i64) -> Result<u32, Problem>
     }
 }
 
-fn put<W: World>(alloc: Global, world: &mut W, number: u32, bytes: &[u8]) -> Answer
+fn put<W: World>(alloc: Global, world: &mut W, number: u32, bytes: &[u8]) -> Shown
     requires { number < 3 }
 {
     let bytes = octets(alloc, bytes)?;
     show_reply(alloc, &reply_to(world, Request::Put(number, bytes))?)
 }
 
-fn shut<W: World>(alloc: Global, world: &mut W, number: u32) -> Answer
+fn shut<W: World>(alloc: Global, world: &mut W, number: u32) -> Shown
     requires { number < 3 }
 {
     show_reply(alloc, &reply_to(world, Request::Shut(number))?)
@@ -170,7 +170,7 @@ fn put_command(
     command: &[u8],
     output: &[u8],
     status: i64,
-) -> Answer {
+) -> Shown {
     if status < 0 || status > 256 {
         return Err(Problem::NoArgument);
     }
@@ -179,7 +179,7 @@ fn put_command(
     bytes(alloc, b"done")
 }
 
-fn fail_at(alloc: Global, world: &mut MemoryWorld, number: i64) -> Answer {
+fn fail_at(alloc: Global, world: &mut MemoryWorld, number: i64) -> Shown {
     let Ok(number) = usize::try_from(number) else {
         return Err(Problem::NoArgument);
     };
@@ -187,7 +187,7 @@ fn fail_at(alloc: Global, world: &mut MemoryWorld, number: i64) -> Answer {
     bytes(alloc, b"done")
 }
 
-fn fail_from(alloc: Global, world: &mut MemoryWorld, number: i64) -> Answer {
+fn fail_from(alloc: Global, world: &mut MemoryWorld, number: i64) -> Shown {
     let Ok(number) = usize::try_from(number) else {
         return Err(Problem::NoArgument);
     };
@@ -195,24 +195,24 @@ fn fail_from(alloc: Global, world: &mut MemoryWorld, number: i64) -> Answer {
     bytes(alloc, b"done")
 }
 
-fn put_file(alloc: Global, world: &mut MemoryWorld, name: &[u8], contents: &[u8]) -> Answer {
+fn put_file(alloc: Global, world: &mut MemoryWorld, name: &[u8], contents: &[u8]) -> Shown {
     let name = octets(alloc, name)?;
     world.put_file(name, octets(alloc, contents)?)?;
     bytes(alloc, b"done")
 }
 
-fn put_env(alloc: Global, world: &mut MemoryWorld, name: &[u8], value: &[u8]) -> Answer {
+fn put_env(alloc: Global, world: &mut MemoryWorld, name: &[u8], value: &[u8]) -> Shown {
     let name = octets(alloc, name)?;
     world.put_env(name, octets(alloc, value)?)?;
     bytes(alloc, b"done")
 }
 
-fn put_input(alloc: Global, world: &mut MemoryWorld, contents: &[u8]) -> Answer {
+fn put_input(alloc: Global, world: &mut MemoryWorld, contents: &[u8]) -> Shown {
     world.put_input(octets(alloc, contents)?)?;
     bytes(alloc, b"done")
 }
 
-fn chunk(alloc: Global, world: &mut MemoryWorld, number: i64) -> Answer {
+fn chunk(alloc: Global, world: &mut MemoryWorld, number: i64) -> Shown {
     match usize::try_from(number) {
         Ok(number) if number > 0 => {
             world.chunk(number);
@@ -223,7 +223,7 @@ fn chunk(alloc: Global, world: &mut MemoryWorld, number: i64) -> Answer {
 }
 
 /// What is left in the world.
-pub fn left(alloc: Global, world: &MemoryWorld, args: &[Arg<'_>]) -> Answer {
+pub fn left(alloc: Global, world: &MemoryWorld, args: &[Arg<'_>]) -> Shown {
     match name(args, 0) {
         "output" => bytes(alloc, world.output()),
         "errors" => bytes(alloc, world.errors()),
@@ -235,7 +235,7 @@ pub fn left(alloc: Global, world: &MemoryWorld, args: &[Arg<'_>]) -> Answer {
 }
 
 /// Says what the world begins with, or what happens to it between the asks.
-pub fn prepare(alloc: Global, world: &mut MemoryWorld, args: &[Arg<'_>]) -> Answer {
+pub fn prepare(alloc: Global, world: &mut MemoryWorld, args: &[Arg<'_>]) -> Shown {
     match name(args, 0) {
         "command" => put_command(alloc, world, text(args, 1), text(args, 2), number(args, 3)?),
         "put_file" => put_file(alloc, world, text(args, 1), text(args, 2)),
@@ -249,7 +249,7 @@ pub fn prepare(alloc: Global, world: &mut MemoryWorld, args: &[Arg<'_>]) -> Answ
 }
 
 /// A step on files and commands.
-fn stream_step(alloc: Global, world: &mut MemoryWorld, args: &[Arg<'_>]) -> Answer {
+fn stream_step(alloc: Global, world: &mut MemoryWorld, args: &[Arg<'_>]) -> Shown {
     match name(args, 0) {
         "write" => write(alloc, world, Mode::Write, text(args, 1), text(args, 2)),
         "append" => write(alloc, world, Mode::Append, text(args, 1), text(args, 2)),
@@ -261,7 +261,7 @@ fn stream_step(alloc: Global, world: &mut MemoryWorld, args: &[Arg<'_>]) -> Answ
     }
 }
 
-fn step(alloc: Global, world: &mut MemoryWorld, args: &[Arg<'_>]) -> Answer {
+fn step(alloc: Global, world: &mut MemoryWorld, args: &[Arg<'_>]) -> Shown {
     match name(args, 0) {
         "run" => run(alloc, world, text(args, 1)),
         "put" => put(alloc, world, standard(number(args, 1)?)?, text(args, 2)),

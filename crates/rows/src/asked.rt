@@ -4,7 +4,7 @@ use awkbox::{Ask, MemoryWorld, Mode, Reply, Request};
 use row_calls::args::{bare, number, text};
 use row_calls::problem::Problem;
 use row_calls::row::Arg;
-use row_calls::shown::{Answer, bytes};
+use row_calls::shown::{Shown, bytes};
 use row_calls::worlds::show_reply;
 use std::alloc::Global;
 
@@ -44,14 +44,14 @@ fn texts(request: &Request) -> (&[u8], &[u8]) {
 }
 
 /// Where a request stands: `1:19`, or `0:0 given`.
-fn place(alloc: Global, ask: &Ask) -> Answer {
+fn place(alloc: Global, ask: &Ask) -> Shown {
     let (line, column) = (ask.place.line, ask.place.column);
     let given = if ask.given { " given" } else { "" };
     Ok(format!(in alloc; "{line}:{column}{given}")?.into_bytes())
 }
 
 /// What is asked: `write`, or `put 3`.
-fn call(alloc: Global, request: &Request) -> Answer {
+fn call(alloc: Global, request: &Request) -> Shown {
     match name(request) {
         (name, Some(number)) => Ok(format!(in alloc; "{name} {number}")?.into_bytes()),
         (name, None) => bytes(alloc, name.as_bytes()),
@@ -70,7 +70,7 @@ fn is_told(alloc: Global, ask: &Ask, args: &[Arg<'_>]) -> Result<bool, Problem> 
 }
 
 /// A request in one text: `1:19 put 3 [a] done`.
-fn show_ask(alloc: Global, ask: &Ask, reply: &Reply) -> Answer {
+fn show_ask(alloc: Global, ask: &Ask, reply: &Reply) -> Shown {
     let (first, second) = texts(&ask.request);
     let mut shown = place(alloc, ask)?;
     shown.push(b' ')?;
@@ -86,7 +86,7 @@ fn show_ask(alloc: Global, ask: &Ask, reply: &Reply) -> Answer {
 
 /// The reply to the request of the number that the row says, counted from 1, where that is the
 /// request that the row tells; and else the request that came in its place.
-pub fn asked(alloc: Global, world: &MemoryWorld, args: &[Arg<'_>]) -> Answer {
+pub fn asked(alloc: Global, world: &MemoryWorld, args: &[Arg<'_>]) -> Shown {
     let Ok(number) = usize::try_from(number(args, 1)?) else {
         return Err(Problem::NoArgument);
     };

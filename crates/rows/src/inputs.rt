@@ -4,7 +4,7 @@ use awkbox::{Fault, ReadError, read_limited};
 use row_calls::args::{name, number};
 use row_calls::problem::Problem;
 use row_calls::row::Arg;
-use row_calls::shown::{Answer, bytes};
+use row_calls::shown::{Shown, bytes};
 use std::alloc::Global;
 use std::io::{self, ErrorKind, Read};
 
@@ -30,7 +30,7 @@ impl Read for Readings<'_, '_> {
     }
 }
 
-fn read(alloc: Global, limit: i64, readings: &[Arg<'_>]) -> Answer {
+fn read(alloc: Global, limit: i64, readings: &[Arg<'_>]) -> Shown {
     let Ok(limit) = usize::try_from(limit) else {
         return Err(Problem::NoArgument);
     };
@@ -44,7 +44,7 @@ fn read(alloc: Global, limit: i64, readings: &[Arg<'_>]) -> Answer {
 }
 
 /// The answer of the call.
-pub fn call(alloc: Global, args: &[Arg<'_>]) -> Answer {
+pub fn call(alloc: Global, args: &[Arg<'_>]) -> Shown {
     match name(args, 0) {
         "read_limited" => read(alloc, number(args, 1)?, args.get(2..).unwrap_or(&[])),
         _ => Err(Problem::NoCall),

@@ -12,12 +12,12 @@ mod runs;
 mod start;
 mod table;
 
-use report::Report;
+use report::Tally;
 use std::process::ExitCode;
 use table::TABLES;
 
 fn main(rt: HostRuntime) -> ExitCode {
-    let mut report = Report::new();
+    let mut report = Tally::new();
     for table in TABLES {
         report.check_file(&rt, table);
     }

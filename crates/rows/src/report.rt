@@ -14,7 +14,7 @@ use std::{fs, slice, str};
 
 /// How many rows hold, and how many do not.
 #[derive(Clone, Copy, Drop)]
-pub struct Report {
+pub struct Tally {
     held: u64,
     failed: u64,
 }
@@ -66,9 +66,9 @@ fn answers(
     Ok(answers)
 }
 
-impl Report {
-    pub fn new() -> Report {
-        Report { held: 0, failed: 0 }
+impl Tally {
+    pub fn new() -> Tally {
+        Tally { held: 0, failed: 0 }
     }
 
     fn fail<P: Print + AllocGlobal>(

@@ -8,19 +8,19 @@ use awkbox::{Driven, Ending, LogEnd, MemoryWorld, Refusal, Report};
 use row_calls::args::{name, text};
 use row_calls::problem::Problem;
 use row_calls::row::{Arg, Row};
-use row_calls::shown::{Answer, bytes, show, told};
+use row_calls::shown::{Shown, bytes, show, told};
 use row_calls::worlds::left;
 use std::alloc::Global;
 
 /// What the program says at its end: nothing, or a message.
-fn message(alloc: Global, answer: Result<Report, Refusal>) -> Answer {
+fn message(alloc: Global, answer: Result<Report, Refusal>) -> Shown {
     match Ending::of(answer) {
         Ending::Quiet(_) => bytes(alloc, b"none"),
         Ending::Said(message) => Ok(message.to_string(alloc)?.into_bytes()),
     }
 }
 
-fn log_end(alloc: Global, end: LogEnd) -> Answer {
+fn log_end(alloc: Global, end: LogEnd) -> Shown {
     let word: &[u8] = match end {
         LogEnd::Whole => b"whole",
         LogEnd::Part => b"part",
@@ -30,7 +30,7 @@ fn log_end(alloc: Global, end: LogEnd) -> Answer {
 }
 
 /// How many steps the run took.
-fn used(alloc: Global, answer: Result<Report, Refusal>) -> Answer {
+fn used(alloc: Global, answer: Result<Report, Refusal>) -> Shown {
     match answer {
         Ok(report) => show(alloc, report.used),
         Err(_) => bytes(alloc, b"none"),
@@ -38,7 +38,7 @@ fn used(alloc: Global, answer: Result<Report, Refusal>) -> Answer {
 }
 
 /// The code of a refusal.
-fn refused(alloc: Global, answer: Result<Report, Refusal>) -> Answer {
+fn refused(alloc: Global, answer: Result<Report, Refusal>) -> Shown {
     let (letter, code) = match answer {
         Err(Refusal::Policy(error)) => ("P", error.code),
         Err(Refusal::Script(error)) => ("S", error.code),
@@ -49,7 +49,7 @@ fn refused(alloc: Global, answer: Result<Report, Refusal>) -> Answer {
 }
 
 /// What is told after the run.
-pub fn end(alloc: Global, driven: &Driven<MemoryWorld, RunLog>, args: &[Arg<'_>]) -> Answer {
+pub fn end(alloc: Global, driven: &Driven<MemoryWorld, RunLog>, args: &[Arg<'_>]) -> Shown {
     match name(args, 0) {
         "says" => message(alloc, driven.answer),
         "status" => show(alloc, Ending::of(driven.answer).status()),

@@ -6,7 +6,7 @@ use awkbox::{Driven, MemoryWorld, Setup, drive};
 use row_calls::args::{name, number, octets, text};
 use row_calls::problem::Problem;
 use row_calls::row::Arg;
-use row_calls::shown::{Answer, bytes};
+use row_calls::shown::{Shown, bytes};
 use row_calls::worlds::prepare;
 use std::alloc::Global;
 
@@ -70,7 +70,7 @@ impl Beginning {
     }
 
     // A name of the environment is the host's word too.
-    fn add_env(&mut self, alloc: Global, args: &[Arg<'_>]) -> Answer {
+    fn add_env(&mut self, alloc: Global, args: &[Arg<'_>]) -> Shown {
         self.names.push(octets(alloc, text(args, 1))?)?;
         prepare(alloc, &mut self.world, args)
     }
@@ -82,7 +82,7 @@ impl Beginning {
     }
 
     /// Adds what the step says.
-    pub fn add(&mut self, alloc: Global, args: &[Arg<'_>]) -> Answer {
+    pub fn add(&mut self, alloc: Global, args: &[Arg<'_>]) -> Shown {
         match name(args, 0) {
             "operand" => self.operands.push(octets(alloc, text(args, 1))?)?,
             "assign" => self.add_pair(alloc, args)?,

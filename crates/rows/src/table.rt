@@ -4,7 +4,7 @@ use crate::{inputs, runs};
 use awk_text::octets::Octets;
 use row_calls::problem::Problem;
 use row_calls::row::{Arg, Row};
-use row_calls::shown::Answer;
+use row_calls::shown::Shown;
 use row_calls::{
     fields, formats, library, listings, monitors, parses, patterns, policies, programs, records,
     tokens, values, worlds,
@@ -86,7 +86,7 @@ impl Table {
     }
 
     /// The answer of a call of one line.
-    pub fn call(self, alloc: Global, args: &[Arg<'_>]) -> Answer {
+    pub fn call(self, alloc: Global, args: &[Arg<'_>]) -> Shown {
         match self {
             Table::Values => values::call(alloc, args),
             Table::Patterns | Table::Searches => patterns::call(alloc, args),

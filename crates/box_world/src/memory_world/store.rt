@@ -55,13 +55,13 @@ impl Command {
 
 /// An open stream: how it was opened, on what, and how many bytes were read of it.
 #[derive(Drop)]
-pub struct Stream {
+pub struct MemoryStream {
     pub mode: Mode,
     pub text: Octets,
     pub read: usize,
 }
 
-impl Stream {
+impl MemoryStream {
     fn advance(&mut self, count: usize)
         ensures { self.new ≡ stream_read count self.old }
     {
@@ -133,7 +133,7 @@ fn make(
 
 /// What a world in memory holds: what was put, the open streams, and what was written.
 #[derive(Drop)]
-pub struct Store {
+pub struct MemoryStore {
     alloc: Global,
     commands: Texts<Command>,
     files: Texts<Growing>,
@@ -142,7 +142,7 @@ pub struct Store {
     read: usize,
     chunk: usize,
     // The open streams by their numbers, which ascend in order of opening.
-    streams: BTreeMap<u32, Stream>,
+    streams: BTreeMap<u32, MemoryStream>,
     fed: Texts<Growing>,
     output: Vec<u8>,
     errors: Vec<u8>,
@@ -150,7 +150,7 @@ pub struct Store {
     next: u64,
 }
 
-impl Model for Store {
+impl Model for MemoryStore {
     ghost use Rattle.std.specs.Prelude.{◌<◌};
     ghost use Rattle.std.specs.Map.{keys_of};
     ghost use Rattle.box_world.specs.MemoryNumbers.{IsNumbered};
@@ -175,11 +175,11 @@ impl Model for Store {
     ghost invariant = { λ s. IsNumbered s.next (keys_of s.streams.entries) × (0 < s.chunk) };
 }
 
-impl Store {
-    pub fn new(alloc: Global) -> Store
+impl MemoryStore {
+    pub fn new(alloc: Global) -> MemoryStore
         ensures { result ≡ nothing }
     {
-        Store {
+        MemoryStore {
             alloc,
             commands: Texts::new(alloc),
             files: Texts::new(alloc),
@@ -278,7 +278,7 @@ impl Store {
         }
     }
 
-    fn source(&self, stream: &Stream) -> Option<&[u8]>
+    fn source(&self, stream: &MemoryStream) -> Option<&[u8]>
         ensures { option_copied result ≡ spec.source stream.now.mode stream.now.text self.now }
     {
         match stream.mode {
@@ -288,7 +288,7 @@ impl Store {
         }
     }
 
-    fn reading_of(&self, stream: &Stream) -> Result<Reply, Memory>
+    fn reading_of(&self, stream: &MemoryStream) -> Result<Reply, Memory>
         ensures reply { IfOk result (λ r. r ≡ spec.reading_of stream.now self.now) }
         ensures fits { IfOk result IsReading }
     {
@@ -393,7 +393,7 @@ impl Store {
         let opened = text.copy(self.alloc)?;
         self.files.make_room()?;
         self.fed.make_room()?;
-        let stream = Stream {
+        let stream = MemoryStream {
             mode,
             text: opened,
             read: 0,

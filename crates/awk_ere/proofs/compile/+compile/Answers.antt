@@ -6,8 +6,8 @@ use Rattle.awk_ere.specs.declared.node.Node.TheBlock.{the_depth, the_members, th
 use Rattle.awk_ere.specs.declared.node.Node.TheViews.{Cat, Alt}
 use denote.Hole.Carrier.{out}
 use denote.Hole.Rolled.{depth_falls}
-use Rattle.awk_ere.specs.declared.program.Step.{Step}
-use Rattle.awk_ere.specs.declared.program.Step.TheVariants.{Eat, Fork, AtStart, AtEnd}
+use Rattle.awk_ere.specs.declared.program.Instruction.{Instruction}
+use Rattle.awk_ere.specs.declared.program.Instruction.TheVariants.{Eat, Fork, AtStart, AtEnd}
 use Rattle.awk_ere.specs.declared.token.Class.{Class}
 use Rattle.awk_ere.specs.View.{pattern}
 use Rattle.awk_ere.specs.Pattern.{Pattern, bytes, start, finish, cat, alt}
@@ -17,27 +17,27 @@ use Rattle.awk_ere.proofs.compile.+compile.Goals as goal
 
 -- a step that was added
 module _ where
-  added_bytes : (r : Result ℕ AllocError) (old new : List Step) (k : Class) (next : ℕ) (p : List (List Bool) → Pattern) → IfOk r (λ at'. at' ≡ length old) → IfOk r (λ at'. new ≡ old ++ Eat k next ∷ []) → IsReady old next → p ≡ (λ sets. bytes (holds sets k)) → IfOk r (λ e. Compiles old new e p next)
+  added_bytes : (r : Result ℕ AllocError) (old new : List Instruction) (k : Class) (next : ℕ) (p : List (List Bool) → Pattern) → IfOk r (λ at'. at' ≡ length old) → IfOk r (λ at'. new ≡ old ++ Eat k next ∷ []) → IsReady old next → p ≡ (λ sets. bytes (holds sets k)) → IfOk r (λ e. Compiles old new e p next)
   added_bytes (Err e) old new k next p at added ready is = tt
   added_bytes (Ok e) old new k next p at added ready is = rw (at, added, is) (compiles_bytes old k next ready)
 
-  added_start : (r : Result ℕ AllocError) (old new : List Step) (next : ℕ) → IfOk r (λ at'. at' ≡ length old) → IfOk r (λ at'. new ≡ old ++ AtStart next ∷ []) → IsReady old next → IfOk r (λ e. Compiles old new e (λ sets. start) next)
+  added_start : (r : Result ℕ AllocError) (old new : List Instruction) (next : ℕ) → IfOk r (λ at'. at' ≡ length old) → IfOk r (λ at'. new ≡ old ++ AtStart next ∷ []) → IsReady old next → IfOk r (λ e. Compiles old new e (λ sets. start) next)
   added_start (Err e) old new next at added ready = tt
   added_start (Ok e) old new next at added ready = rw (at, added) (compiles_start old next ready)
 
-  added_finish : (r : Result ℕ AllocError) (old new : List Step) (next : ℕ) → IfOk r (λ at'. at' ≡ length old) → IfOk r (λ at'. new ≡ old ++ AtEnd next ∷ []) → IsReady old next → IfOk r (λ e. Compiles old new e (λ sets. finish) next)
+  added_finish : (r : Result ℕ AllocError) (old new : List Instruction) (next : ℕ) → IfOk r (λ at'. at' ≡ length old) → IfOk r (λ at'. new ≡ old ++ AtEnd next ∷ []) → IsReady old next → IfOk r (λ e. Compiles old new e (λ sets. finish) next)
   added_finish (Err e) old new next at added ready = tt
   added_finish (Ok e) old new next at added ready = rw (at, added) (compiles_finish old next ready)
 
-  added_one : (r : Result ℕ AllocError) (a b new : List Step) (x others next : ℕ) (p : List (List Bool) → Pattern) → IfOk r (λ at'. at' ≡ length b) → IfOk r (λ at'. new ≡ b ++ Fork x others ∷ []) → others < length a → Compiles a b x p next → IfOk r (λ e. Joins a new e p others next)
+  added_one : (r : Result ℕ AllocError) (a b new : List Instruction) (x others next : ℕ) (p : List (List Bool) → Pattern) → IfOk r (λ at'. at' ≡ length b) → IfOk r (λ at'. new ≡ b ++ Fork x others ∷ []) → others < length a → Compiles a b x p next → IfOk r (λ e. Joins a new e p others next)
   added_one (Err e) a b new x others next p at added lt one = tt
   added_one (Ok e) a b new x others next p at added lt one = rw (at, added) (joins_one a b x others next p lt one)
 
-  then_alt : (r : Result ℕ AllocError) (a b c : List Step) (others next : ℕ) (p q : List (List Bool) → Pattern) → Compiles a b others q next → IfOk r (λ e. Joins b c e p others next) → IfOk r (λ e. Compiles a c e (λ sets. alt (p sets) (q sets)) next)
+  then_alt : (r : Result ℕ AllocError) (a b c : List Instruction) (others next : ℕ) (p q : List (List Bool) → Pattern) → Compiles a b others q next → IfOk r (λ e. Joins b c e p others next) → IfOk r (λ e. Compiles a c e (λ sets. alt (p sets) (q sets)) next)
   then_alt (Err e) a b c others next p q rest one = tt
   then_alt (Ok e) a b c others next p q rest one = compiles_alt a b c e others next p q rest one
 
-  then_cat : (r : Result ℕ AllocError) (a b c : List Step) (middle next : ℕ) (p q : List (List Bool) → Pattern) → Compiles a b middle q next → IfOk r (λ e. Compiles b c e p middle) → IfOk r (λ e. Compiles a c e (λ sets. cat (p sets) (q sets)) next)
+  then_cat : (r : Result ℕ AllocError) (a b c : List Instruction) (middle next : ℕ) (p q : List (List Bool) → Pattern) → Compiles a b middle q next → IfOk r (λ e. Compiles b c e p middle) → IfOk r (λ e. Compiles a c e (λ sets. cat (p sets) (q sets)) next)
   then_cat (Err e) a b c middle next p q rest one = tt
   then_cat (Ok e) a b c middle next p q rest one = compiles_cat a b c e middle next p q rest one
 

@@ -2,7 +2,7 @@ use Rattle.std.proofs.Common.{Some}
 use Rattle.awk_fields.specs.Heads.{head}
 use Rattle.awk_program.specs.declared.variables.Own.TheVariants as own
 use Rattle.awk_store.specs.Kept.{own_text}
-use Rattle.awk_streams.specs.declared.getline.Found.TheVariants as found
+use Rattle.awk_streams.specs.declared.getline.NextRecord.TheVariants as found
 use Rattle.awk_streams.proofs.MoreSteps.{first_owns}
 use Rattle.awk_input.proofs.MainSteps.{line_taken}
 use Rattle.awk_input.proofs.main_input.take.Goals as goal

@@ -1,5 +1,5 @@
 use Rattle.std.proofs.Common.{◌≡◌, ◌≢◌, [], map, Ok, Err}
-use Rattle.awk_tree.specs.declared.fault.Fault.TheVariants as fault
+use Rattle.awk_tree.specs.declared.fault.ParseError.TheVariants as fault
 use Rattle.awk_tree.specs.Statements as grammar
 use Rattle.awk_tree.specs.View.{view_item}
 use Rattle.awk_parse.proofs.Laws.{scripts_are_spelled}

@@ -1,16 +1,16 @@
 use Rattle.std.proofs.Common.{◌≡◌, List, sym, Option, Some, None, IfSome, IfNone}
 use Rattle.awk_text.specs.declared.place.Place.{Place}
 use Rattle.awk_resolve.specs.Faults.{Misplaced}
-use Rattle.awk_resolve.specs.declared.mention.Part.{Part}
+use Rattle.awk_resolve.specs.declared.mention.Section.{Section}
 use Rattle.awk_resolve.specs.Search as search_of
 use Rattle.awk_resolve.proofs.Misplacing.{misplaced_stands, misplaced_none}
 use Rattle.awk_resolve.proofs.placement.misplaced.Goals as goal
 
-stands : (ps : List Part) (o : Option Place) → o ≡ search_of.first search_of.misplaced_word ps → IfSome o (λ place. Misplaced ps place)
+stands : (ps : List Section) (o : Option Place) → o ≡ search_of.first search_of.misplaced_word ps → IfSome o (λ place. Misplaced ps place)
 stands ps None e = tt
 stands ps (Some place) e = misplaced_stands ps place (sym e)
 
-none : (ps : List Part) (o : Option Place) → o ≡ search_of.first search_of.misplaced_word ps → IfNone o ((place : Place) → Misplaced ps place → ⊥)
+none : (ps : List Section) (o : Option Place) → o ≡ search_of.first search_of.misplaced_word ps → IfNone o ((place : Place) → Misplaced ps place → ⊥)
 none ps None e = misplaced_none ps (sym e)
 none ps (Some place) e = tt
 

@@ -1,6 +1,6 @@
 use Rattle.std.proofs.Common.{◌≡◌, ◌≤◌, length}
 use Rattle.awk_tokens.specs.Scan.{pattern_rest}
-use Rattle.awk_tokens.specs.declared.scan.Part.TheVariants.{Outside}
+use Rattle.awk_tokens.specs.declared.scan.ErePart.TheVariants.{Outside}
 use Rattle.awk_tokens.proofs.scan.pattern_rest.Given as goal
 
 abbrev pub invariant-loop-z : goal.invariant-loop-z

@@ -1,7 +1,7 @@
 use Rattle.std.proofs.Common.{map, true, sym, ap, ◌∙◌}
 use Rattle.std.specs.Option.{option_copied_mut}
 use Rattle.awk_streams.specs.Tables.{kind, entry_of}
-use Rattle.awk_streams.specs.contracts.streams.NameEquivalentKeptName.TheImpl.{equivalent-value}
+use Rattle.awk_streams.specs.contracts.streams.StreamNameEquivalentKeptName.TheImpl.{equivalent-value}
 use Rattle.awk_streams.proofs.Entries.{name_test, with_input-absent, with_input-entries}
 use Rattle.awk_streams.proofs.streams.Streams.finish.Goals as goal
 use Rattle.awk_streams.proofs.streams.Streams.finish.Goals.{in-Some, in_default}

@@ -1,6 +1,6 @@
 use Rattle.std.proofs.Common.{map, sym, ap, ◌∙◌}
 use Rattle.awk_streams.specs.Tables.{kind, entry_of}
-use Rattle.awk_streams.specs.contracts.streams.NameEquivalentKeptName.TheImpl.{equivalent-value}
+use Rattle.awk_streams.specs.contracts.streams.StreamNameEquivalentKeptName.TheImpl.{equivalent-value}
 use Rattle.awk_streams.proofs.Entries.{without-entries, name_test}
 use Rattle.awk_streams.proofs.streams.Streams.remove.Goals as goal
 

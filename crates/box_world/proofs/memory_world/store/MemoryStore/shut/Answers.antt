@@ -1,5 +1,5 @@
 use Rattle.box_world.proofs.NumberLemmas.{AllBelow-remove}
-use Rattle.box_world.proofs.memory_world.store.Store.shut.Goals as goal
+use Rattle.box_world.proofs.memory_world.store.MemoryStore.shut.Goals as goal
 
 pub invariant_of-self : goal.invariant_of-self
 invariant_of-self c = (

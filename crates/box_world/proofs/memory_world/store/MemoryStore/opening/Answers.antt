@@ -1,5 +1,5 @@
 use Rattle.box_world.proofs.NumberLemmas.{is_among-next}
-use Rattle.box_world.proofs.memory_world.store.Store.opening.Goals as goal
+use Rattle.box_world.proofs.memory_world.store.MemoryStore.opening.Goals as goal
 
 pub returns-in-Ok-clause-fits : goal.returns-in-Ok-clause-fits
 returns-in-Ok-clause-fits c =

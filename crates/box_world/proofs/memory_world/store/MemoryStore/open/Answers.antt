@@ -1,7 +1,7 @@
 use Rattle.std.proofs.Common.{◌≡◌, refl, ap, sym, ◌∙◌, arith}
 use Rattle.box_world.specs.MemoryState.{Contents}
 use Rattle.box_world.proofs.NumberLemmas.{insert_entry-next, AllBelow-push}
-use Rattle.box_world.proofs.memory_world.store.Store.open.Goals as goal
+use Rattle.box_world.proofs.memory_world.store.MemoryStore.open.Goals as goal
 
 pub invariant_of-self-2 : goal.invariant_of-self-2
 invariant_of-self-2 c =

@@ -1,7 +1,7 @@
 use Rattle.std.proofs.Common.{◌≡◌, ◌==◌, Some, sym}
 use Rattle.std.specs.Map.{lookup}
 use Rattle.box_world.proofs.NumberLemmas.{is_at-number}
-use Rattle.box_world.proofs.memory_world.store.Store.reading_from.Goals as goal
+use Rattle.box_world.proofs.memory_world.store.MemoryStore.reading_from.Goals as goal
 
 pub returns-in-Some-clause-reply : goal.returns-in-Some-clause-reply
 returns-in-Some-clause-reply c =

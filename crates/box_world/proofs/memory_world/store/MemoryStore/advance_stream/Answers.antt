@@ -1,8 +1,8 @@
 use Rattle.std.proofs.Common.{refl, ap, sym, ◌∙◌}
 use Rattle.std.specs.Option.{option_copied_mut}
 use Rattle.box_world.proofs.NumberLemmas.{is_at-number}
-use Rattle.box_world.proofs.memory_world.store.Store.advance_stream.Goals as goal
-use Rattle.box_world.proofs.memory_world.store.Store.advance_stream.Goals.{in-Some, in-None}
+use Rattle.box_world.proofs.memory_world.store.MemoryStore.advance_stream.Goals as goal
+use Rattle.box_world.proofs.memory_world.store.MemoryStore.advance_stream.Goals.{in-Some, in-None}
 
 pub returns : goal.returns
 returns c = elim c.match-get_mut.branch [

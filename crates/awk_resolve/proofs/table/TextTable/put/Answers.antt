@@ -1,6 +1,6 @@
 use Rattle.std.proofs.Common.{sym, ◌∙◌, ap}
 use Rattle.awk_resolve.proofs.TableLemmas.{named, with_text_named}
-use Rattle.awk_resolve.proofs.table.Table.put.Goals as goal
+use Rattle.awk_resolve.proofs.table.TextTable.put.Goals as goal
 
 pub returns-clause-ok : goal.returns-clause-ok
 returns-clause-ok g c = rw (← c.self.view_is, ← c.into_bytes.ensures)
