@@ -11,7 +11,7 @@ pub mod Refusals
 pub mod Laws
 pub mod Program
 pub mod Search
-pub mod StateTable
+pub mod Table
 pub mod Matcher
 pub mod Hopes
 pub mod Literal
