@@ -400,8 +400,8 @@ fn owned<'a>(alloc: Global, value: Lent<'a>) -> Option<Value>
     match value {
         Lent::Unset => Some(Value::Unset),
         Lent::Num(number) => Some(Value::Num(number)),
-        Lent::Text(text) => Some(Value::Text(Octets::new(Vec::from_slice(alloc, text).ok()?))),
-        Lent::Input(text) => Some(Value::Input(Octets::new(Vec::from_slice(alloc, text).ok()?))),
+        Lent::Text(text) => Some(Value::Text(Octets::of(alloc, text).ok()?)),
+        Lent::Input(text) => Some(Value::Input(Octets::of(alloc, text).ok()?)),
     }
 }
 

@@ -37,7 +37,7 @@ fn into_bytes(alloc: Global, value: Value) -> Result<Vec<u8>, Fault>
             let mut buffer = Buffer::new();
             Ok(Vec::from_slice(alloc, buffer.format(number).as_bytes())?)
         }
-        Value::Text(text) | Value::Input(text) => Ok(text.into_bytes()),
+        Value::Text(text) | Value::Input(text) => Ok(text.into_bytes(alloc)?),
     }
 }
 

@@ -131,7 +131,7 @@ fn grow(alloc: Global, store: &mut Store, to: Variable, more: &[u8]) -> Result<(
     let Ok(text) = into_text(alloc, store.replace_value(to, Value::Unset)) else {
         return Err(Halt::Memory);
     };
-    let mut bytes = text.into_bytes();
+    let mut bytes = text.into_bytes(alloc)?;
     bytes.extend_from_slice(more)?;
     store.set(to, Value::Text(Octets::new(bytes)));
     Ok(())

@@ -74,7 +74,7 @@ fn joined_key(
     let mut buffer = Buffer::new();
     let subsep = store.own_text(Own::Subsep, &mut buffer);
     let text = joined_subscripts(line, subscripts, subsep)?;
-    Ok(Octets::new(Vec::from_slice(alloc, text)?))
+    Ok(Octets::of(alloc, text)?)
 }
 
 /// The text of one subscript.
@@ -85,7 +85,7 @@ fn single_key(alloc: Global, subscript: &Value) -> Result<Octets, Fault>
 {
     let mut buffer = Buffer::new();
     let text = key_of_one(subscript, &mut buffer)?;
-    Ok(Octets::new(Vec::from_slice(alloc, text)?))
+    Ok(Octets::of(alloc, text)?)
 }
 
 /// The key that the subscripts are.

@@ -113,6 +113,10 @@ impl Line {
         if self.is_too_long {
             return Err(Fault::TextTooLong);
         }
+        if let Some(text) = Octets::short(self.bytes.as_slice()) {
+            self.bytes.clear();
+            return Ok(text);
+        }
         let none = Vec::new(*self.bytes.allocator());
         Ok(Octets::new(mem::replace(&mut self.bytes, none)))
     }
@@ -121,9 +125,11 @@ impl Line {
     pub fn reuse(&mut self, text: Octets)
         ensures { self.new ≡ Some [] }
     {
-        let mut room = text.into_bytes();
-        room.clear();
-        self.bytes = room;
+        let room = text.into_room(*self.bytes.allocator());
+        if self.bytes.capacity() < room.capacity() {
+            self.bytes = room;
+        }
+        self.bytes.clear();
         self.is_too_long = false;
     }
 

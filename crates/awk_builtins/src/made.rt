@@ -46,8 +46,7 @@ pub fn owned(alloc: Global, text: &[u8]) -> Result<Value, Halt>
     ensures ok { IfOk result (λ new. new ≡ Value.Text text.now) }
     ensures err { IfErr result (λ h. h ≡ Halt.Memory) }
 {
-    let bytes = Vec::from_slice(alloc, text)?;
-    Ok(Value::Text(Octets::new(bytes)))
+    Ok(Value::Text(Octets::of(alloc, text)?))
 }
 
 /// The number of a value, and the one behind it or before it.

@@ -31,7 +31,7 @@ fn token(kind: TokenKind, text: Octets) -> Token
 fn push_text(alloc: Global, kind: TokenKind, text: &str, out: &mut Vec<Token>) -> Result<(), Memory>
     ensures { OnOk result (out.new.items ≡ out.old.items ++ terminals.token kind text.now ∷ []) }
 {
-    let text = Octets::new(Vec::from_slice(alloc, text.as_bytes())?);
+    let text = Octets::of(alloc, text.as_bytes())?;
     Ok(out.push(token(kind, text))?)
 }
 

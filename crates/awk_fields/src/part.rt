@@ -27,8 +27,7 @@ pub fn span_value(alloc: Global, text: &[u8], span: Span) -> Result<Value, Memor
     requires { IsWithin text.now span }
     ensures { IfOk result (λ v. v ≡ Value.Input (part text.now span)) }
 {
-    let copy = Vec::from_slice(alloc, &text[span.start..span.end])?;
-    Ok(Value::Input(Octets::new(copy)))
+    Ok(Value::Input(Octets::of(alloc, &text[span.start..span.end])?))
 }
 
 /// The value of a part.

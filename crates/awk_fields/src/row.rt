@@ -117,7 +117,8 @@ impl Record {
         if text.bytes().len() > MOST_BYTES {
             return Err(Fault::TextTooLong);
         }
-        self.room = mem::replace(&mut self.text, text).into_bytes();
+        let alloc = *self.parts.spans.allocator();
+        self.room = mem::replace(&mut self.text, text).into_room(alloc);
         self.parts.state = State::Unsplit(splitter);
         if !self.parts.edited.parts.is_empty() {
             self.parts.edited.parts.clear();
@@ -176,7 +177,7 @@ impl Record {
         let alloc = *self.parts.spans.allocator();
         self.rebuild()?;
         match self.known_whole() {
-            Some(whole) => Ok(Value::Input(Octets::new(Vec::from_slice(alloc, whole)?))),
+            Some(whole) => Ok(Value::Input(Octets::of(alloc, whole)?)),
             None => Err(Fault::Memory),
         }
     }

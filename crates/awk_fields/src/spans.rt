@@ -33,8 +33,7 @@ pub fn texts(alloc: Global, text: &[u8], spans: &[Span]) -> Result<Vec<Octets>, 
 {
     let mut found = Vec::with_capacity(alloc, spans.len())?;
     for span in spans {
-        let copy = Vec::from_slice(alloc, &text[span.start..span.end])?;
-        found.push(Octets::new(copy))?;
+        found.push(Octets::of(alloc, &text[span.start..span.end])?)?;
     }
     Ok(found)
 }

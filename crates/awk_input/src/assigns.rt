@@ -72,8 +72,8 @@ fn copy_all(alloc: Global, name: &[u8], text: &[u8]) -> Result<Copies, Fault>
     ensures value { IfOk result (λ x. x.value ≡ unescaped text.now) }
 {
     Ok(Copies {
-        name: Octets::new(Vec::from_slice(alloc, name)?),
-        text: Octets::new(Vec::from_slice(alloc, text)?),
+        name: Octets::of(alloc, name)?,
+        text: Octets::of(alloc, text)?,
         value: Octets::new(unescape(alloc, text)?),
     })
 }

@@ -65,7 +65,8 @@ impl Host {
         ensures ok { OnOk result (self.new ≡ with_word word self.old) }
         ensures err { OnErr result (self.new ≡ self.old) }
     {
-        self.words.insert(word.into_bytes())?;
+        let bytes = word.into_bytes(*self.words.allocator())?;
+        self.words.insert(bytes)?;
         Ok(())
     }
 
@@ -75,7 +76,8 @@ impl Host {
         ensures ok { OnOk result (self.new ≡ with_name name what self.old) }
         ensures err { OnErr result (self.new ≡ self.old) }
     {
-        self.names.insert(name.into_bytes(), what)?;
+        let bytes = name.into_bytes(*self.names.allocator())?;
+        self.names.insert(bytes, what)?;
         Ok(())
     }
 

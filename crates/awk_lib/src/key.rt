@@ -52,7 +52,7 @@ impl Key {
     pub fn copy(&self, alloc: Global) -> Result<Octets, Memory>
         ensures { IfOk result (λ o. o ≡ self.now) }
     {
-        Ok(Octets::new(Vec::from_slice(alloc, self.bytes())?))
+        Ok(Octets::of(alloc, self.bytes())?)
     }
 }
 

@@ -242,6 +242,5 @@ pub fn replace(
     if MOST_BYTES < text.len() {
         return Err(Fault::TextTooLong);
     }
-    let copy = Vec::from_slice(alloc, text)?;
-    Ok((Octets::new(copy), 0))
+    Ok((Octets::of(alloc, text)?, 0))
 }

@@ -184,7 +184,7 @@ fn named(alloc: Global, texts: &[Vec<u8>], are: &[bool]) -> Result<Items<GlobalN
     let mut out = Items::new(alloc);
     for text in texts {
         let is_array = are.get(out.len()).copied().unwrap_or(false);
-        let text = Octets::new(Vec::from_slice(alloc, text.as_slice())?);
+        let text = Octets::of(alloc, text.as_slice())?;
         out.push(GlobalName { text, is_array })?;
     }
     Ok(out)

@@ -25,7 +25,7 @@ pub data Misplaced (parts : List Section) : Place → Type 0 where
       Misplaced parts place
   return_outside :
       (p : Section) (place : Place) → Contains parts p → ((f : Name) (ps : List Name) → p.role ≡ role.Function f ps
-          → ⊥) →
+      → ⊥) →
       Contains p.mentions (Return place) →
       Misplaced parts place
   outside_loop : (p : Section) (place : Place) → Contains parts p → Contains p.mentions (Stray place) →
@@ -35,7 +35,7 @@ pub data Misplaced (parts : List Section) : Place → Type 0 where
 pub data Redefined (parts : List Section) : Place → Type 0 where
   twice :
       (before after : List Section) (p : Section) (f g : Name) (ps qs : List Name) → parts ≡ before ++ p ∷ after
-          → p.role
+      → p.role
       ≡ role.Function f ps →
       Defines before g qs → g.text ≡ f.text → Redefined parts f.place
 

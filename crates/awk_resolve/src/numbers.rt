@@ -164,8 +164,7 @@ impl Numbers {
         ensures { OnOk result (self.new ≡ spec.with_global text.now self.old) }
     {
         let number = self.fresh()?;
-        self.globals
-            .put(Octets::new(Vec::from_slice(alloc, text)?), number)
+        self.globals.put(Octets::of(alloc, text)?, number)
     }
 
     /// Gives a number to what a text is in an item of this role, unless it has one.

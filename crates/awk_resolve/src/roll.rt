@@ -72,7 +72,8 @@ impl Roll {
         ensures ok { OnOk result (self.new ≡ added text self.old) }
         ensures err { OnErr result (self.new ≡ self.old) }
     {
-        self.texts.insert(text.into_bytes())?;
+        let bytes = text.into_bytes(*self.texts.allocator())?;
+        self.texts.insert(bytes)?;
         Ok(())
     }
 

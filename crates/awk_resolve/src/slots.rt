@@ -18,7 +18,7 @@ fn push_all(alloc: Global, texts: &[&[u8]], out: &mut Roll) -> Result<(), Memory
     ensures { OnOk result (out.new ≡ out.old ++ map (λ w. w.now) texts.now) }
 {
     for text in texts {
-        out.push(Octets::new(Vec::from_slice(alloc, text)?))?;
+        out.push(Octets::of(alloc, text)?)?;
     }
     Ok(())
 }

@@ -50,7 +50,8 @@ impl<V: Drop> TextTable<V> {
         ensures ok { OnOk result (self.new ≡ with_text text value self.old) }
         ensures err { OnErr result (self.new ≡ self.old) }
     {
-        self.entries.insert(text.into_bytes(), value)?;
+        let bytes = text.into_bytes(*self.entries.allocator())?;
+        self.entries.insert(bytes, value)?;
         Ok(())
     }
 }

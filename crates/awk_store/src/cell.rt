@@ -165,7 +165,7 @@ fn text(alloc: Global, text: &[u8]) -> Result<Value, Fault>
     ensures ok { IfOk result (λ value. value ≡ Value.Text text.now) }
     ensures err { IsOkUnless result Fault.Memory }
 {
-    Ok(Value::Text(Octets::new(Vec::from_slice(alloc, text)?)))
+    Ok(Value::Text(Octets::of(alloc, text)?))
 }
 
 /// The value that a variable of this name has when a run begins.

@@ -74,7 +74,7 @@ impl Separators {
         }
         let splitter = Splitter::new(alloc, fs, rs_empty)?;
         let known = Known {
-            source: Octets::new(Vec::from_slice(alloc, fs)?),
+            source: Octets::of(alloc, fs)?,
             newline: rs_empty,
             splitter: splitter.share()?,
         };

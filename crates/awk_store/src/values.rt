@@ -6,6 +6,7 @@ ghost use Rattle.std.specs.Prelude.{IfOk, ◌≡◌};
 use awk_text::fault::Fault;
 use awk_text::octets::Octets;
 use awk_text::value::{Value, text_of};
+use itoa::Buffer;
 use std::alloc::Global;
 
 /// A value of its own for what is lent, if there is one.
@@ -26,6 +27,9 @@ pub fn into_text(alloc: Global, value: Value) -> Result<Octets, Fault>
         Value::Text(text) => Ok(text),
         Value::Input(text) => Ok(text),
         Value::Unset => Ok(Octets::new(Vec::new(alloc))),
-        Value::Num(number) => Ok(Octets::new(text_of(alloc, &Value::Num(number))?)),
+        Value::Num(number) => {
+            let mut buffer = Buffer::new();
+            Ok(Octets::of(alloc, buffer.format(number).as_bytes())?)
+        }
     }
 }

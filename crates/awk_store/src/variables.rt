@@ -280,7 +280,7 @@ fn set_count(store: &mut Store, place: Place, value: &Value) -> Result<(), Halt>
 /// What the text of a value lay in: none where it was a number or unset.
 fn into_room(alloc: Global, value: Value) -> Vec<u8> {
     match value {
-        Value::Text(text) | Value::Input(text) => text.into_bytes(),
+        Value::Text(text) | Value::Input(text) => text.into_room(alloc),
         Value::Unset | Value::Num(_) => Vec::new(alloc),
     }
 }

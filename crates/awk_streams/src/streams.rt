@@ -169,8 +169,7 @@ impl Model for Streams {
 
     ghost Value = { Table };
 
-    ghost view = { λ s. record { entries = map entry_of s.table.entries; input = s.input.input; room = spare s.table }
-        };
+    ghost view = { λ s. record { entries = map entry_of s.table.entries; input = s.input.input; room = spare s.table } };
 }
 
 /// Whether `close` shuts the streams of this sort.

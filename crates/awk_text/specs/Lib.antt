@@ -1,6 +1,7 @@
 pub mod Arithmetic
 pub mod Escapes
 pub mod Faults
+pub mod Held
 pub mod Lents
 pub mod Limits
 pub mod Numerals

@@ -1,50 +1,105 @@
 // A text of bytes.
-ghost use Rattle.std.specs.Prelude.{◌≡◌, IfOk, vec_items};
+ghost use Rattle.std.specs.Prelude.{◌≡◌, IfOk, IfSome};
 
 use crate::Memory;
+use arrayvec::ArrayVec;
 use std::alloc::Global;
 use std::marker::Model;
+
+/// Where the bytes of a text lie. Most texts are short: those lie in the value itself, and take no memory of their own.
+#[derive(Drop)]
+enum Bytes {
+    Short(ArrayVec<u8, 16>),
+    Long(Vec<u8>),
+}
 
 /// A text: any bytes, which contracts see as their list.
 #[derive(Drop)]
 pub struct Octets {
-    bytes: Vec<u8>,
+    bytes: Bytes,
 }
 
 impl Model for Octets {
     ghost use Rattle.std.specs.Prelude.{List, ℕ};
+    ghost use Rattle.awk_text.specs.Held.{items_of};
 
     ghost Value = { List ℕ };
 
-    ghost view = { λ o. o.bytes.items };
+    ghost view = { λ o. items_of o.bytes };
 }
 
 impl Octets {
-    /// The text of these bytes. Takes no memory.
+    /// The text of these bytes, which stay where they lie. Takes no memory.
+    #[inline]
     pub fn new(bytes: Vec<u8>) -> Octets
         ensures { result ≡ bytes.items }
     {
-        Octets { bytes }
+        Octets {
+            bytes: Bytes::Long(bytes),
+        }
+    }
+
+    /// The text of a copy of these bytes, where they are few enough to lie in the value: up to 16. Takes no memory.
+    #[inline]
+    pub fn short(bytes: &[u8]) -> Option<Octets>
+        ensures { IfSome result (λ o. o ≡ bytes.now) }
+    {
+        match ArrayVec::try_from(bytes) {
+            Ok(short) => Some(Octets {
+                bytes: Bytes::Short(short),
+            }),
+            Err(_) => None,
+        }
+    }
+
+    /// The text of a copy of these bytes, or `Memory` where memory is refused. A short one takes none.
+    #[inline]
+    pub fn of(alloc: Global, bytes: &[u8]) -> Result<Octets, Memory>
+        ensures { IfOk result (λ o. o ≡ bytes.now) }
+    {
+        match Octets::short(bytes) {
+            Some(short) => Ok(short),
+            None => {
+                let copy = Vec::from_slice(alloc, bytes)?;
+                Ok(Octets::new(copy))
+            }
+        }
     }
 
     /// The bytes of the text. Takes no memory.
+    #[inline]
     pub fn bytes(&self) -> &[u8]
         ensures { result.now ≡ self.now }
     {
-        self.bytes.as_slice()
+        match &self.bytes {
+            Bytes::Short(bytes) => bytes.as_slice(),
+            Bytes::Long(bytes) => bytes.as_slice(),
+        }
     }
 
     /// The same text once more, or `Memory` where memory is refused.
     pub fn copy(&self, alloc: Global) -> Result<Octets, Memory>
         ensures { IfOk result (λ o. o ≡ self.now) }
     {
-        Ok(Octets::new(Vec::from_slice(alloc, self.bytes.as_slice())?))
+        Octets::of(alloc, self.bytes())
     }
 
-    /// The bytes, given back. Takes no memory.
-    pub fn into_bytes(self) -> Vec<u8>
-        ensures { result.items ≡ self }
+    /// The bytes, given back, or `Memory` where memory is refused. A long text takes none.
+    pub fn into_bytes(self, alloc: Global) -> Result<Vec<u8>, Memory>
+        ensures { IfOk result (λ bytes. bytes.items ≡ self) }
     {
-        self.bytes
+        match self.bytes {
+            Bytes::Short(bytes) => Vec::from_slice(alloc, bytes.as_slice()),
+            Bytes::Long(bytes) => Ok(bytes),
+        }
+    }
+
+    /// The memory that the text lay in, for other bytes: a short one has none. Takes no memory.
+    #[inline]
+    pub fn into_room(self, alloc: Global) -> Vec<u8> {
+        match self.bytes {
+            Bytes::Short(_) => Vec::new(alloc),
+            Bytes::Long(bytes) => bytes,
+        }
     }
 }

@@ -79,11 +79,11 @@ fn unslashed(alloc: Global, body: &[u8]) -> Result<Vec<u8>, Memory>
 fn text_of(alloc: Global, kind: TokenKind, slice: &[u8]) -> Result<Octets, Memory>
     ensures { IfOk result (λ text. text ≡ spec.text_of kind slice.now) }
 {
-    Ok(Octets::new(match kind {
-        TokenKind::Quoted => Vec::from_slice(alloc, between(slice))?,
-        TokenKind::Pattern => unslashed(alloc, between(slice))?,
-        _ => Vec::from_slice(alloc, slice)?,
-    }))
+    match kind {
+        TokenKind::Quoted => Octets::of(alloc, between(slice)),
+        TokenKind::Pattern => Ok(Octets::new(unslashed(alloc, between(slice))?)),
+        _ => Octets::of(alloc, slice),
+    }
 }
 
 /// Whether a token ends an operand, so that no operand may begin directly after it.

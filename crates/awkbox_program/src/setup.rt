@@ -5,7 +5,7 @@ use awkbox::{Memory, Message, Octets, Setup};
 use std::alloc::Global;
 
 fn octets(alloc: Global, text: &str) -> Result<Octets, Memory> {
-    Ok(Octets::new(Vec::from_slice(alloc, text.as_bytes())?))
+    Ok(Octets::of(alloc, text.as_bytes())?)
 }
 
 // The name, up to the first `=`, and the text of a word of `-v`. One without `=` has no name, and is

@@ -51,7 +51,7 @@ fn collected(alloc: Global, mut names: Names) -> Result<Vec<Octets>, Memory>
 {
     let mut components = Vec::new(alloc);
     while let Some(name) = names.next() {
-        components.push(Octets::new(Vec::from_slice(alloc, name)?))?;
+        components.push(Octets::of(alloc, name)?)?;
     }
     Ok(components)
 }

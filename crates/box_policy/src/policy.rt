@@ -150,7 +150,7 @@ impl Policy {
         ensures refused { IfErr result (IsRefusedBy (refusal (table_view table.now))) }
     {
         let document = read_document(table)?;
-        let base = Octets::new(Vec::from_slice(alloc, document.base.as_bytes())?);
+        let base = Octets::of(alloc, document.base.as_bytes())?;
         let rules = read_rules(
             alloc,
             document.version,

@@ -469,7 +469,7 @@ fn read_rule(
         effect: draft.effect,
         kind: draft.kind,
         only_given: draft.only_given,
-        pattern: Octets::new(Vec::from_slice(alloc, draft.pattern.as_bytes())?),
+        pattern: Octets::of(alloc, draft.pattern.as_bytes())?,
     })
 }
 

@@ -120,7 +120,7 @@ fn fake_world(stop: Option<Stop>) -> FakeWorld {
 }
 
 fn text(alloc: Global, bytes: &[u8]) -> Result<Octets, Memory> {
-    Ok(Octets::new(Vec::from_slice(alloc, bytes)?))
+    Ok(Octets::of(alloc, bytes)?)
 }
 
 fn ask_at(line: u32, column: u32, request: Request) -> Ask

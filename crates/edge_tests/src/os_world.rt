@@ -20,7 +20,7 @@ fn ask_of(request: Request) -> Ask {
 }
 
 fn octets(alloc: Global, bytes: &[u8]) -> Result<Octets, Memory> {
-    Ok(Octets::new(Vec::from_slice(alloc, bytes)?))
+    Ok(Octets::of(alloc, bytes)?)
 }
 
 // The number that a stream is opened with, or 0.

@@ -34,7 +34,7 @@ pub fn number(args: &[Arg<'_>], at: usize) -> Result<i64, Problem> {
 }
 
 pub fn octets(alloc: Global, bytes: &[u8]) -> Result<Octets, Memory> {
-    Ok(Octets::new(Vec::from_slice(alloc, bytes)?))
+    Ok(Octets::of(alloc, bytes)?)
 }
 
 /// A value: a number, `unset`, a text, or a text from outside after the word `field`.

@@ -116,12 +116,12 @@ fn make(
     fed: &mut Texts<Growing>,
     alloc: Global,
     mode: Mode,
-    text: Octets,
+    text: Vec<u8>,
 )
     requires files { 0 < files.old.room }
     requires fed { 0 < fed.old.room }
-    ensures files { files.new.pairs ≡ files_made mode text files.old.pairs }
-    ensures fed { fed.new.pairs ≡ fed_made mode text fed.old.pairs }
+    ensures files { files.new.pairs ≡ files_made mode text.items files.old.pairs }
+    ensures fed { fed.new.pairs ≡ fed_made mode text.items fed.old.pairs }
 {
     match mode {
         Mode::Read | Mode::RunIn => {}
@@ -202,14 +202,17 @@ impl MemoryStore {
         }) }
         ensures err { OnErr result (self.new ≡ self.old) }
     {
-        self.commands.put(text, Command { output, status })
+        self.commands
+            .put(text.into_bytes(self.alloc)?, Command { output, status })
     }
 
     pub fn put_file(&mut self, text: Octets, bytes: Octets) -> Result<(), Memory>
         ensures ok { OnOk result (self.new ≡ record self.old { files = with_text text bytes self.old.files }) }
         ensures err { OnErr result (self.new ≡ self.old) }
     {
-        self.files.put(text, Growing::of(bytes))
+        let bytes = bytes.into_bytes(self.alloc)?;
+        self.files
+            .put(text.into_bytes(self.alloc)?, Growing::of(bytes))
     }
 
     pub fn put_env(&mut self, name: Octets, value: Octets) -> Result<(), Memory>
@@ -217,7 +220,7 @@ impl MemoryStore {
             (self.new ≡ record self.old { environment = with_text name value self.old.environment }) }
         ensures err { OnErr result (self.new ≡ self.old) }
     {
-        self.environment.put(name, value)
+        self.environment.put(name.into_bytes(self.alloc)?, value)
     }
 
     pub fn put_input(&mut self, bytes: Octets)
@@ -389,7 +392,7 @@ impl MemoryStore {
         ensures ok { OnOk result (self.new ≡ with_open mode number text.now self.old) }
         ensures err { OnErr result (self.new ≡ self.old) }
     {
-        let name = text.copy(self.alloc)?;
+        let name = Vec::from_slice(self.alloc, text.bytes())?;
         let opened = text.copy(self.alloc)?;
         self.files.make_room()?;
         self.fed.make_room()?;

@@ -6,7 +6,6 @@ ghost use Rattle.std.specs.Str.{bytes_eq};
 ghost use Rattle.box_world.specs.MemoryTexts.{with_text, with_more, with_new};
 
 use awk_text::Memory;
-use awk_text::octets::Octets;
 use indexmap::IndexMap;
 use std::alloc::Global;
 use std::marker::Model;
@@ -54,12 +53,12 @@ impl<V> Texts<V> {
 impl<V: Drop> Texts<V> {
     /// Puts the value under the text, in the place of what was there. Where there is room this
     /// takes no memory; else it may answer `Memory`, with nothing changed.
-    pub fn put(&mut self, text: Octets, value: V) -> Result<(), Memory>
-        ensures ok { OnOk result (self.new.pairs ≡ with_text text value self.old.pairs) }
+    pub fn put(&mut self, text: Vec<u8>, value: V) -> Result<(), Memory>
+        ensures ok { OnOk result (self.new.pairs ≡ with_text text.items value self.old.pairs) }
         ensures err { OnErr result (self.new.pairs ≡ self.old.pairs) }
         ensures succeeds { 0 < self.old.room → IsOk result }
     {
-        self.table.insert(text.into_bytes(), value)?;
+        self.table.insert(text, value)?;
         Ok(())
     }
 }
@@ -81,12 +80,10 @@ impl Model for Growing {
 impl Growing {
     ghost use Rattle.std.specs.Prelude.{◌++◌};
 
-    pub fn of(bytes: Octets) -> Growing
-        ensures { result ≡ bytes }
+    pub fn of(bytes: Vec<u8>) -> Growing
+        ensures { result ≡ bytes.items }
     {
-        Growing {
-            bytes: bytes.into_bytes(),
-        }
+        Growing { bytes }
     }
 
     pub fn new(alloc: Global) -> Growing
@@ -113,11 +110,11 @@ impl Growing {
 
 impl Texts<Growing> {
     /// Puts no bytes under the text, where nothing stands there yet. There is room for it.
-    pub fn put_new(&mut self, alloc: Global, text: Octets)
+    pub fn put_new(&mut self, alloc: Global, text: Vec<u8>)
         requires { 0 < self.old.room }
-        ensures { self.new.pairs ≡ with_new text self.old.pairs }
+        ensures { self.new.pairs ≡ with_new text.items self.old.pairs }
     {
-        if self.get(text.bytes()).is_none() {
+        if self.get(text.as_slice()).is_none() {
             self.put(text, Growing::new(alloc)).unwrap();
         }
     }
