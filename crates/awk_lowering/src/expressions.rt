@@ -27,7 +27,7 @@ use crate::operators::{
 use crate::parts::{argument_of, given, join_of, piped_of, power_of, term_of};
 use crate::shapes::{bare, constant, counted, first_in, later, start, takes_array};
 use crate::targets::{
-    computed_of, constant_of, element_of, field_of, field_separator, record_of, variable_of,
+    computed_of, constant_of, element_of, field_of, field_separator, record_of, variable_of, zero,
 };
 use awk_program::{Argument, Builtin, Expr, Joined, Pattern, Piped, StepValue, Target, Term};
 use awk_text::Memory;
@@ -160,7 +160,7 @@ fn element(
     element_of(n.place, v, list(context, keys, level))
 }
 
-/// What is set. The grammar puts nothing else there.
+/// What is set. The grammar puts nothing else there, and for anything else the definition has the whole record.
 #[cycle(expression)]
 fn target(context: &Lowering<'_>, e: &awk_tree::Expr, level: u32) -> Result<Target<Expr>, Memory>
     ensures { IsTarget (names_in context.now) result (low.target (scope_in context.now) (view e.now)) }
@@ -169,7 +169,7 @@ fn target(context: &Lowering<'_>, e: &awk_tree::Expr, level: u32) -> Result<Targ
         awk_tree::Expr::Name(n) => variable_of(variable(context, n.text.bytes())),
         awk_tree::Expr::Element(n, keys) => element(context, n, keys.as_slice(), level),
         awk_tree::Expr::Field(place, x) => field_of(*place, part(context, x.get(), level)),
-        _ => Err(AllocError),
+        _ => record_of(context.alloc, Place { line: 0, column: 0 }),
     }
 }
 
@@ -285,7 +285,7 @@ fn call(
     call_of(n.place, f, arguments(context, arrays, args, level))
 }
 
-/// A built-in function.
+/// A built-in function. One that has a form of its own is not written so, and stands for 0.
 #[cycle(expression)]
 fn builtin(
     context: &Lowering<'_>,
@@ -302,7 +302,7 @@ fn builtin(
         Some(function) => plain(context, place, function, args, level),
         None => match which {
             awk_tree::Builtin::Match => located(context, place, args, level),
-            _ => Err(AllocError),
+            _ => zero(),
         },
     }
 }
@@ -344,7 +344,7 @@ fn called(
     }
 }
 
-/// `match ( text , pattern )`
+/// `match ( text , pattern )`. With another count of arguments, which no script has, it stands for 0.
 #[cycle(expression)]
 fn located(
     context: &Lowering<'_>,
@@ -361,7 +361,7 @@ fn located(
             let x = part(context, x, level);
             locate_of(place, x, wanted(context, y, level))
         }
-        _ => Err(AllocError),
+        _ => zero(),
     }
 }
 

@@ -16,6 +16,7 @@ use crate::expressions::{list, optional, part};
 use crate::kept::{boxed, kept, push, room};
 use crate::names::{Lowering, variable};
 use crate::operators::jump;
+use crate::targets::zero;
 use awk_program::{Expr, Redirection, Statement};
 use awk_text::Memory;
 use awk_text::place::Place;
@@ -48,12 +49,17 @@ fn printf(
         (low.printed (scope_in context.now) place (map view xs.now)
         (option_map (low.redirected (scope_in context.now)) (option_map view_redirection to.now))) }
 {
+    let to = redirected(context, to, level);
     match xs {
-        [] => Err(AllocError),
+        [] => printf_of(
+            place,
+            boxed(context.alloc, zero()),
+            Ok(Items::new(context.alloc)),
+            to,
+        ),
         [x, rest @ ..] => {
             let x = part(context, x, level);
-            let xs = list(context, rest, level);
-            printf_of(place, x, xs, redirected(context, to, level))
+            printf_of(place, x, list(context, rest, level), to)
         }
     }
 }

@@ -62,8 +62,9 @@ pub fn computed_of(x: Result<Boxed<Expr>, Memory>) -> Result<Pattern<Expr>, Memo
     }
 }
 
+/// The number 0
 #[tactic(auto, using(awk_program::proofs::Views::views))]
-fn zero() -> Result<Expr, Memory>
+pub fn zero() -> Result<Expr, Memory>
     ensures { (t : Names) → Is t result (p.number (pos 0)) }
 {
     Ok(Expr::Number(0))
