@@ -9,4 +9,4 @@ pub returns-clause-ok : goal.returns-clause-ok
 returns-clause-ok c =
     c.set.ensures ∙ ap (with_value c.args.to (v.Text c.new.result)) c.replace_value.ensures.after ∙ value_twice c.args.to v.Unset (v.Text c.new.result) c.args.store.now
     ∙ ap (λ text. with_value c.args.to (v.Text text) c.args.store.now)
-    (c.new.ensures ∙ c.in_ok-extend_from_slice.ensures.items ∙ ap (λ text. text ++ c.args.more.now) (c.into_bytes-bytes.ensures ∙ c.in-Ok.ensures ∙ ap text_of c.replace_value.ensures.value))
+    (c.new.ensures ∙ c.in_ok-extend_from_slice.ensures.items ∙ ap (λ text. text ++ c.args.more.now) (c.in_ok-bytes.ensures ∙ c.in-Ok.ensures ∙ ap text_of c.replace_value.ensures.value))
