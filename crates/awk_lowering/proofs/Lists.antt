@@ -18,8 +18,8 @@ use Rattle.awk_program.specs.declared.expressions.Argument.TheVariants as argume
 use Rattle.awk_program.specs.Program as p
 use Rattle.awk_program.specs.Program.{Expressions, Pipes, Arguments, expressions_of, joins_of}
 use Rattle.awk_program.specs.View.{Names, variable_of, view, view_target, view_pipes, view_arguments}
-use Rattle.awk_lowering.specs.Forms.{called, operator_of, plain_builtin}
-use Rattle.awk_lowering.specs.Lowered.{built, plain, lowered, lowered_list, lowered_terms, lowered_joins, lowered_pipes, target_or_record, arguments, argument, takes_array, later}
+use Rattle.awk_lowering.specs.Forms.{called, operator_of, plain_builtin, unwritten}
+use Rattle.awk_lowering.specs.Lowered.{built, located, plain, lowered, lowered_list, lowered_terms, lowered_joins, lowered_pipes, target_or_record, arguments, argument, takes_array, later}
 use Rattle.awk_lowering.specs.LoweredStatements.{statement, statements}
 use Rattle.awk_lowering.specs.Made.{with_argument, IsArgument, IsPiped}
 use Rattle.awk_lowering.specs.OneByOne.{lowered_term, lowered_join, then_pipes, then_arguments}
@@ -41,6 +41,13 @@ called_some c q which (x ∷ xs) some = ap (λ ys. p.builtin q which (p.more (lo
 pub plainly : (c : Scope) (q : Place) (which : tree_builtin.Builtin) (runs : Builtin) (xs : Trees) (us : Expressions) → plain_builtin which ≡ Some runs → built c q which xs us ≡ plain c q (Some runs) xs us
 plainly c q b.Match runs xs us e = absurd (cc)
 plainly c q which runs xs us e = ap (λ o. plain c q o xs us) e
+
+-- match takes two arguments
+pub located_else : (q : Place) (xs : List tree_expr.Expr) (us : Expressions) → (length xs ≡ 2 → ⊥) → located q (trees_of (map tree.view xs)) us ≡ unwritten
+located_else q [] us other = refl
+located_else q (x ∷ []) us other = refl
+located_else q (x ∷ y ∷ []) us other = absurd (other refl)
+located_else q (x ∷ y ∷ z ∷ xs) us other = refl
 
 pub terms_are : (c : Scope) (xs : List (tree_term.Term Tree)) → lowered_terms c (terms_of xs) ≡ p.terms_of (map (lowered_term c) xs)
 terms_are c [] = refl

@@ -160,7 +160,7 @@ fn element(
     element_of(n.place, v, list(context, keys, level))
 }
 
-/// What is set. The grammar puts nothing else there, and for anything else the definition has the whole record.
+/// What is set. The grammar puts nothing else there.
 #[cycle(expression)]
 fn target(context: &Lowering<'_>, e: &awk_tree::Expr, level: u32) -> Result<Target<Expr>, Memory>
     ensures { IsTarget (names_in context.now) result (low.target (scope_in context.now) (view e.now)) }
@@ -169,7 +169,7 @@ fn target(context: &Lowering<'_>, e: &awk_tree::Expr, level: u32) -> Result<Targ
         awk_tree::Expr::Name(n) => variable_of(variable(context, n.text.bytes())),
         awk_tree::Expr::Element(n, keys) => element(context, n, keys.as_slice(), level),
         awk_tree::Expr::Field(place, x) => field_of(*place, part(context, x.get(), level)),
-        _ => record_of(context.alloc, Place { line: 0, column: 0 }),
+        _ => Err(AllocError),
     }
 }
 
@@ -361,7 +361,8 @@ fn located(
             let x = part(context, x, level);
             locate_of(place, x, wanted(context, y, level))
         }
-        _ => zero(),
+        [] | [_] => zero(),
+        [_, _, _, ..] => zero(),
     }
 }
 

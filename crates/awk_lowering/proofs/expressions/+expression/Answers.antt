@@ -8,7 +8,7 @@ use Rattle.awk_lowering.specs.Lowered.{lowered, lowered_list}
 use Rattle.awk_lowering.specs.OneByOne.{lowered_term, lowered_join}
 use Rattle.awk_lowering.specs.Made.{names_in, scope_in}
 use Rattle.awk_lowering.proofs.Carried.{boxed_is, turned, whole, whole_as, none_left, just_two}
-use Rattle.awk_lowering.proofs.Lists.{called_some, plainly, list_is, terms_are, joins_are, pipes_end, pipes_turn, arguments_end, arguments_turn}
+use Rattle.awk_lowering.proofs.Lists.{called_some, plainly, located_else, list_is, terms_are, joins_are, pipes_end, pipes_turn, arguments_end, arguments_turn}
 use Rattle.awk_lowering.proofs.expressions.+expression.Goals as goal
 
 pub expression-returns-in-Number : goal.expression-returns-in-Number
@@ -217,6 +217,14 @@ called-returns-in-empty t c =
 pub called-returns-in-len1-up : goal.called-returns-in-len1-up
 called-returns-in-len1-up t c =
     rw (called_some (scope_in c.args.context.now) c.args.place c.args.which c.args.args.now c.in-len1-up.len_at_least) (c.builtin_of.ensures _ _ c.list.ensures)
+
+pub located-returns-in-empty : goal.located-returns-in-empty
+located-returns-in-empty t c =
+    rw (located_else c.args.place c.args.args.now _ (λ two. omega (arith, two, c.in-empty.len_below))) (c.zero.ensures _)
+
+pub located-returns-in-len3-up : goal.located-returns-in-len3-up
+located-returns-in-len3-up t c =
+    rw (located_else c.args.place c.args.args.now _ (λ two. omega (arith, two, c.in-len3-up.len_at_least))) (c.zero-in-len3-up.ensures _)
 
 pub located-returns-in-len2 : goal.located-returns-in-len2
 located-returns-in-len2 t c =
