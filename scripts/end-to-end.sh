@@ -1257,6 +1257,10 @@ lints() {
     told "$3" "$2" ""
     verdict "$1"
 }
+# lone_rule VERSION TEXT: writes the policy file with one rule, whose header stands on line 4
+lone_rule() { printf 'version = %s\nbase = "/w"\n\n[[rule]]\n%s\n' "$1" "$2" >"$p"; }
+# rules COUNT: so many rules, five lines each
+rules() { yes $'[[rule]]\neffect = "allow"\nkind = "read"\nmatch = "a"\n' | head -n $((5 * $1)); }
 top_of() { printf 'version = 1\nbase = "%s"\n%s\n' "$base" "$1" >"$p"; }
 top_of 'rules = 1'
 lints "a top key that is not known" "$p:3: P4: unknown key \"rules\" (did you mean \"rule\"?); a policy has version, base, rule$line" 3
@@ -1266,6 +1270,33 @@ printf 'version = 1\nbase = "w"\n' >"$p"
 lints "a base that is not absolute" "$p:2: P3: base does not begin with /$line" 3
 top_of 'rule = 1'
 lints "rules that are no tables" "$p:3: P5: rule is no array of tables; write [[rule]] above each rule$line" 3
+top_of '[[rules]]'
+lints "a table that is not known" "$p:3: P4: unknown key \"rules\" (did you mean \"rule\"?); a policy has version, base, rule$line" 3
+top_of '"x y".z = 1'
+lints "a key in quotes that is not known" "$p:3: P4: unknown key \"x y\"; a policy has version, base, rule$line" 3
+printf '# of reports\nbase = "/w"\n' >"$p"
+lints "a version that is missing" "$p:1: P2: version is missing; it is 1, or 2 where rules have limits$line" 3
+printf 'base = "/w"\n\n[[rule]]\neffect = "allow"\nversion = 1\n' >"$p"
+lints "a version below a rule's header" "$p:5: P2: rule 1: version is a key of the policy; write it above the first [[rule]]$line" 3
+printf 'version = "1"\nbase = "/w"\n' >"$p"
+lints "a version that is no number" "$p:1: P2: version is no whole number; it is 1, or 2 where rules have limits$line" 3
+printf 'version = 1\n' >"$p"
+lints "a base that is missing" "$p:1: P3: base is missing; it is an absolute path$line" 3
+printf 'version = 1\n\n[[rule]]\nkind = "read"\n\n[[rule]]\nbase = "/w"\n' >"$p"
+lints "a base below a rule's header" "$p:7: P3: rule 2: base is a key of the policy; write it above the first [[rule]]$line" 3
+for case in '1|is no text; it is an absolute path' '"/w/*"|holds * or ?' '"/w/../x"|has a component .., which is never folded' \
+    '"/w\u0000"|holds a NUL byte'; do
+    printf '%s\n' 'version = 1' "base = ${case%%|*}" >"$p"
+    lints "a base that ${case#*|}" "$p:2: P3: base ${case#*|}$line" 3
+done
+top_of '[rule]'
+lints "a table for the rules" "$p:3: P5: rule is no array of tables; write [[rule]] above each rule$line" 3
+top_of 'rule = [{kind = "read"}, 2]'
+lints "a rule that is no table" "$p:3: P5: rule 2: no table; write [[rule]] above each rule$line" 3
+top_of "$(rules 1026)"
+lints "rules past the limit" "$p:5123: P7: rule 1025: a policy has at most 1024 rules, and this one has 1026$line" 3
+top_of "rule = [$(yes '{kind = "read"},' | head -n 1025)]"
+lints "rules past the limit in one value" "$p:3: P7: rule 1025: a policy has at most 1024 rules, and this one has 1025$line" 3
 policy 'effect = "allow"
 kind = "read"
 path = "a"'
@@ -1290,6 +1321,39 @@ policy "effect = \"allow\"
 kind = \"read\"
 match = \"$(head -c 4097 /dev/zero | tr '\0' a)\""
 lints "a pattern that is too long" "$p:7: P7 rule 1: match has more than 4096 bytes$line" 3
+for key in effect match; do
+    lone_rule 1 "$(printf '%s\n' 'effect = "allow"' 'kind = "env"' 'match = "a"' | grep -v "^$key")"
+    lints "a rule without $key" "$p:4: P4 rule 1: $key is missing; a rule has effect, kind, match, from$line" 3
+done
+top_of 'rule = [
+  {effect = "allow", kind = "read", match = "a"},
+  {effect = "allow", kind = "read"},
+]'
+lints "a key that is missing in one value" "$p:3: P4 rule 2: match is missing; a rule has effect, kind, match, from$line" 3
+lone_rule 1 $'effect = "allow"\nkind = "run"\nmatch = "a"\nlimit = 1'
+lints "a limit in version 1" "$p:8: P4 rule 1: a rule has a limit in version 2 alone$line" 3
+for case in 'effect|1|effect is no text; it is allow or deny' \
+    'kind|"reed"|unknown kind "reed" (did you mean "read"?); it is read, write, append, run, env or assign' \
+    'match|1|match is no text' 'from|"file"|unknown from "file"; it is any or given' \
+    'limit|0|limit is no whole number from 1 to 1000000'; do
+    IFS='|' read -r key value words <<<"$case"
+    lone_rule 2 "$(printf '%s\n' 'effect = "allow"' 'kind = "read"' 'match = "a"' | grep -v "^$key"; echo "\"$key\" = $value")"
+    lints "a wrong $key" "$p:$(wc -l <"$p"): P5 rule 1: $words$line" 3
+done
+lone_rule 2 $'effect = "deny"\nkind = "run"\nmatch = "a"\nlimit = 1'
+lints "a limit beside an effect that denies" "$p:8: P5 rule 1: limit stands beside an effect that denies$line" 3
+for case in 'run||it is empty' 'run|a\u0000|it holds a NUL byte' \
+    'env|a-b|a name has letters, digits and _ alone, and * for any run of these' \
+    'read|a**|** stands inside a longer component; write it as a component of its own'; do
+    IFS='|' read -r kind pattern words <<<"$case"
+    lone_rule 1 "$(printf '%s\n' 'effect = "allow"' "kind = \"$kind\"" "match = \"$pattern\"")"
+    lints "no pattern: $kind $words" \
+        "$p:7: P6 rule 1: match \"${pattern/u0000/x00}\" is no pattern of kind $kind: $words$line" 3
+done
+printf 'version = 1\nbase = "/\xff"\n' >"$p"
+lints "a text that is not UTF-8" "$p:2: P1: invalid UTF-8$line" 3
+top_of "x = $(printf '%.0s[' {1..81})$(printf '%.0s]' {1..81})"
+lints "a nest that is too deep" "$p:3: P1: cannot recurse further; max recursion depth met$line" 3
 printf 'version = 1\nbase = "/w"\n\n[[rule]\n' >"$p"
 awkbox lint --policy "$p"
 [ "$status" -eq 3 ] && grep -qxE "$p:[45]: P1: .+" "$work/output"

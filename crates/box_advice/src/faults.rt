@@ -4,6 +4,7 @@ use crate::nearest::hint;
 use crate::words::quoted;
 use awk_text::Memory;
 use box_policy::error::PolicyError;
+use box_policy::policy::MAX_RULES;
 use std::alloc::{AllocError, Global};
 use toml::{Table, Value};
 
@@ -21,15 +22,27 @@ const KINDS: [&str; 6] = ["read", "write", "append", "run", "env", "assign"];
 
 const SOURCES: [&str; 2] = ["any", "given"];
 
-/// What is wrong, and the key that it stands at, where one does.
+/// The first rule that a policy may not have.
+const FIRST_ABOVE: u32 = MAX_RULES as u32 + 1;
+
+/// What is wrong, and where it stands: in the rule of this number, or in none where that is 0, and there at this key,
+/// where it does.
 #[derive(Drop)]
 pub struct Mistake {
+    pub rule: u32,
     pub key: Option<String>,
     pub words: String,
 }
 
+impl Mistake {
+    fn in_rule(self, rule: u32) -> Mistake {
+        Mistake { rule, ..self }
+    }
+}
+
 fn at(alloc: Global, key: &str, words: &str) -> Result<Mistake, Memory> {
     Ok(Mistake {
+        rule: 0,
         key: Some(String::from_str(alloc, key)?),
         words: String::from_str(alloc, words)?,
     })
@@ -37,6 +50,7 @@ fn at(alloc: Global, key: &str, words: &str) -> Result<Mistake, Memory> {
 
 fn nowhere(alloc: Global, words: &str) -> Result<Mistake, Memory> {
     Ok(Mistake {
+        rule: 0,
         key: None,
         words: String::from_str(alloc, words)?,
     })
@@ -63,20 +77,117 @@ fn has_limits(table: &Table) -> bool {
     table.get("version").and_then(Value::as_integer) == Some(2)
 }
 
+/// What stands under `rule`, where that is an array.
+pub fn rules_of(table: &Table) -> &[Value] {
+    match table.get("rule").and_then(Value::as_array) {
+        Some(rules) => rules.as_slice(),
+        None => &[],
+    }
+}
+
+fn has_key(value: &Value, key: &str) -> bool {
+    match value.as_table() {
+        Some(table) => table.get(key).is_some(),
+        None => false,
+    }
+}
+
+// The number of the first rule that has this key, counted from 1.
+fn rule_with(rules: &[Value], key: &str) -> Option<u32> {
+    let mut number = 0u32;
+    for rule in rules {
+        number = number.saturating_add(1);
+        if has_key(rule, key) {
+            return Some(number);
+        }
+    }
+    None
+}
+
+// A key that the policy lacks, of which these words tell. It may stand below the header of a rule: then it is a key of
+// that.
+fn missing(alloc: Global, table: &Table, key: &str, words: &str) -> Result<Mistake, Memory> {
+    match rule_with(rules_of(table), key) {
+        Some(rule) => {
+            let words = format!(in alloc;
+                "rule {rule}: {key} is a key of the policy; write it above the first [[rule]]"
+            )?;
+            Ok(at(alloc, key, words.as_str())?.in_rule(rule))
+        }
+        None => nowhere(alloc, words),
+    }
+}
+
+fn version_fault(alloc: Global, table: &Table) -> Result<Mistake, Memory> {
+    let those = "it is 1, or 2 where rules have limits";
+    match table.get("version") {
+        Some(value) if value.is_integer() => at(alloc, "version", "version is neither 1 nor 2"),
+        Some(_) => {
+            let words = format!(in alloc; "version is no whole number; {those}")?;
+            at(alloc, "version", words.as_str())
+        }
+        None => {
+            let words = format!(in alloc; "version is missing; {those}")?;
+            missing(alloc, table, "version", words.as_str())
+        }
+    }
+}
+
+// The reason why this is no base.
+fn base_reason(base: &str) -> &'static str {
+    let bytes = base.as_bytes();
+    if !base.starts_with('/') {
+        return "base does not begin with /";
+    }
+    if bytes.iter().any(|b| *b == b'*' || *b == b'?') {
+        return "base holds * or ?";
+    }
+    if bytes.contains(&0) {
+        return "base holds a NUL byte";
+    }
+    "base has a component .., which is never folded"
+}
+
 fn base_fault(alloc: Global, table: &Table) -> Result<Mistake, Memory> {
     let Some(value) = table.get("base") else {
-        return nowhere(alloc, "base is missing; it is an absolute path");
+        return missing(
+            alloc,
+            table,
+            "base",
+            "base is missing; it is an absolute path",
+        );
     };
-    let Some(base) = value.as_str() else {
-        return at(alloc, "base", "base is no text; it is an absolute path");
+    match value.as_str() {
+        Some(base) => at(alloc, "base", base_reason(base)),
+        None => at(alloc, "base", "base is no text; it is an absolute path"),
+    }
+}
+
+// The number of the first of these that is no table, counted from 1.
+fn first_other(rules: &[Value]) -> Option<usize> {
+    for (at, rule) in rules.iter().enumerate() {
+        if !rule.is_table() {
+            return Some(at.saturating_add(1));
+        }
+    }
+    None
+}
+
+fn rules_fault(alloc: Global, table: &Table) -> Result<Mistake, Memory> {
+    let those = "write [[rule]] above each rule";
+    let words = match first_other(rules_of(table)) {
+        Some(number) => format!(in alloc; "rule {number}: no table; {those}")?,
+        None => format!(in alloc; "rule is no array of tables; {those}")?,
     };
-    if !base.starts_with('/') {
-        return at(alloc, "base", "base does not begin with /");
-    }
-    if base.as_bytes().iter().any(|b| *b == b'*' || *b == b'?') {
-        return at(alloc, "base", "base holds * or ?");
-    }
-    at(alloc, "base", "base has a component .. or a NUL byte")
+    at(alloc, "rule", words.as_str())
+}
+
+fn count_fault(alloc: Global, table: &Table) -> Result<Mistake, Memory> {
+    let count = rules_of(table).len();
+    let words = format!(in alloc;
+        "rule {FIRST_ABOVE}: a policy has at most {MAX_RULES} rules, and this one has {count}"
+    )?;
+    Ok(nowhere(alloc, words.as_str())?.in_rule(FIRST_ABOVE))
 }
 
 fn top_fault(alloc: Global, table: &Table, code: u8) -> Result<Mistake, Memory> {
@@ -90,20 +201,10 @@ fn top_fault(alloc: Global, table: &Table, code: u8) -> Result<Mistake, Memory> 
             ),
             None => nowhere(alloc, "unknown key"),
         },
-        PolicyError::VERSION => match table.get("version") {
-            Some(_) => at(alloc, "version", "version is neither 1 nor 2"),
-            None => nowhere(
-                alloc,
-                "version is missing; it is 1, or 2 where rules have limits",
-            ),
-        },
+        PolicyError::VERSION => version_fault(alloc, table),
         PolicyError::BASE => base_fault(alloc, table),
-        PolicyError::VALUE => at(
-            alloc,
-            "rule",
-            "rule is no array of tables; write [[rule]] above each rule",
-        ),
-        _ => nowhere(alloc, "more than 1024 rules"),
+        PolicyError::VALUE => rules_fault(alloc, table),
+        _ => count_fault(alloc, table),
     }
 }
 
@@ -230,9 +331,7 @@ fn rule_fault(alloc: Global, rule: &Table, code: u8, limits: bool) -> Result<Mis
 
 // The table of the rule of this number, counted from 1.
 fn rule_at(table: &Table, number: u32) -> Option<&Table> {
-    let rules = table.get("rule")?.as_array()?;
-    rules
-        .as_slice()
+    rules_of(table)
         .get((number as usize).saturating_sub(1))?
         .as_table()
 }
@@ -246,7 +345,10 @@ pub fn fault_in(alloc: Global, table: &Table, error: PolicyError) -> Result<Mist
         return top_fault(alloc, table, error.code);
     }
     match rule_at(table, error.rule) {
-        Some(rule) => rule_fault(alloc, rule, error.code, has_limits(table)),
+        Some(rule) => {
+            let fault = rule_fault(alloc, rule, error.code, has_limits(table))?;
+            Ok(fault.in_rule(error.rule))
+        }
         None => nowhere(alloc, "the rule is refused"),
     }
 }

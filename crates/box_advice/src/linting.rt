@@ -2,14 +2,14 @@
 ghost use Rattle.std.specs.Prelude.{IfOk};
 ghost use Rattle.box_advice.specs.Lints.{Lints};
 
-use crate::faults::{Mistake, fault_in};
-use crate::places::{Places, key_line};
+use crate::faults::{Mistake, fault_in, rules_of};
+use crate::places::{Places, header_line, key_line};
 use crate::warnings::push_warnings;
 use awk_text::Memory;
 use box_policy::error::PolicyError;
 use box_policy::policy::Policy;
 use std::alloc::{AllocError, Global};
-use toml::{Table, Value};
+use toml::Table;
 
 /// What a policy's text is told: the lines, and why it is refused, where it is.
 #[derive(Drop)]
@@ -27,37 +27,39 @@ fn line_at(text: &[u8], at: usize) -> usize {
         .saturating_add(1)
 }
 
-fn count_of(table: &Table) -> usize {
-    match table.get("rule").and_then(Value::as_array) {
-        Some(rules) => rules.len(),
-        None => 0,
+// The line of a mistake above the rules: of its key, or else the first one, where a key may be written.
+fn top_line(text: &[u8], key: &Option<String>) -> Option<usize> {
+    let Some(key) = key else {
+        return Some(1);
+    };
+    match key_line(text, 0, key.as_str()) {
+        Some(line) => Some(line),
+        None => header_line(text, key.as_str()),
     }
 }
 
-// The line that a fault stands on, where it can be told.
-fn fault_line(
+// The line of a mistake in the rule that begins on this line: of its key, or else the rule's own.
+fn rule_line(text: &[u8], start: usize, key: &Option<String>) -> usize {
+    match key {
+        Some(key) => key_line(text, start, key.as_str()).unwrap_or(start),
+        None => start,
+    }
+}
+
+// The line that a mistake stands on, where it can be told. Of rules that are an array in one value it is the line on
+// which that begins.
+fn line_of(
     alloc: Global,
     text: &[u8],
     table: &Table,
-    rule: u32,
-    fault: &Mistake,
+    mistake: &Mistake,
 ) -> Result<Option<usize>, Memory> {
-    let start = if rule == 0 {
-        Some(0)
-    } else {
-        Places::of(alloc, text, count_of(table))?.line(rule)
-    };
-    let Some(start) = start else {
-        return Ok(None);
-    };
-    let found = match &fault.key {
-        Some(key) => key_line(text, start, key.as_str()),
-        None => None,
-    };
-    match found {
-        Some(line) => Ok(Some(line)),
-        None if start > 0 => Ok(Some(start)),
-        None => Ok(None),
+    if mistake.rule == 0 {
+        return Ok(top_line(text, &mistake.key));
+    }
+    match Places::of(alloc, text, rules_of(table).len())?.line(mistake.rule) {
+        Some(start) => Ok(Some(rule_line(text, start, &mistake.key))),
+        None => Ok(key_line(text, 0, "rule")),
     }
 }
 
@@ -104,9 +106,9 @@ fn push_refusal(
         Err(error) if error.is_memory() => Err(AllocError),
         Err(error) => push_document(alloc, name, text, refused, &error, lines),
         Ok(table) => {
-            let fault = fault_in(alloc, &table, refused)?;
-            let line = fault_line(alloc, text, &table, refused.rule, &fault)?;
-            push_line(alloc, name, line, refused, fault.words.as_str(), lines)
+            let mistake = fault_in(alloc, &table, refused)?;
+            let line = line_of(alloc, text, &table, &mistake)?;
+            push_line(alloc, name, line, refused, mistake.words.as_str(), lines)
         }
     }
 }

@@ -3,15 +3,34 @@ use awk_text::Memory;
 use box_policy::policy::Policy;
 use std::alloc::Global;
 
+/// What stands behind the key where it is the first thing here, bare or in quotes.
+fn behind_key<'a>(text: &'a [u8], key: &str) -> Option<&'a [u8]> {
+    let text = text.trim_ascii_start();
+    match text {
+        [b'"', rest @ ..] => rest
+            .strip_prefix(key.as_bytes())?
+            .strip_prefix(b"\"".as_slice()),
+        [b'\'', rest @ ..] => rest
+            .strip_prefix(key.as_bytes())?
+            .strip_prefix(b"'".as_slice()),
+        _ => text.strip_prefix(key.as_bytes()),
+    }
+}
+
+/// Whether a line begins a table.
+fn is_header(line: &[u8]) -> bool {
+    line.trim_ascii_start().starts_with(b"[")
+}
+
 /// Whether a line begins the table of a rule.
 fn is_rule_header(line: &[u8]) -> bool {
     let Some(rest) = line.trim_ascii_start().strip_prefix(b"[[".as_slice()) else {
         return false;
     };
-    let Some(rest) = rest.trim_ascii_start().strip_prefix(b"rule".as_slice()) else {
-        return false;
-    };
-    rest.trim_ascii_start().starts_with(b"]]")
+    match behind_key(rest, "rule") {
+        Some(rest) => rest.trim_ascii_start().starts_with(b"]]"),
+        None => false,
+    }
 }
 
 /// The policy of a file, with the file's name, and where its rules stand there.
@@ -54,10 +73,10 @@ impl Places {
     }
 }
 
-/// Whether the line gives this key a value.
+/// Whether the line gives this key a value, or a part of one.
 fn gives(line: &[u8], key: &str) -> bool {
-    match line.trim_ascii_start().strip_prefix(key.as_bytes()) {
-        Some(rest) => rest.trim_ascii_start().starts_with(b"="),
+    match behind_key(line, key) {
+        Some(rest) => matches!(rest.trim_ascii_start(), [b'=' | b'.', ..]),
         None => false,
     }
 }
@@ -70,9 +89,32 @@ pub fn key_line(text: &[u8], table: usize, key: &str) -> Option<usize> {
             if gives(line, key) {
                 return Some(at.saturating_add(1));
             }
-            if line.trim_ascii_start().starts_with(b"[") {
+            if is_header(line) {
                 return None;
             }
+        }
+    }
+    None
+}
+
+/// Whether the line begins a table, or a table of an array, that this top key leads to.
+fn heads(line: &[u8], key: &str) -> bool {
+    let line = line.trim_ascii_start();
+    let Some(rest) = line.strip_prefix(b"[".as_slice()) else {
+        return false;
+    };
+    let name = rest.strip_prefix(b"[".as_slice()).unwrap_or(rest);
+    match behind_key(name, key) {
+        Some(rest) => matches!(rest.trim_ascii_start(), [b']' | b'.', ..]),
+        None => false,
+    }
+}
+
+/// The first line, counted from 1, that begins a table which this top key leads to.
+pub fn header_line(text: &[u8], key: &str) -> Option<usize> {
+    for (at, line) in text.split(|byte| *byte == b'\n').enumerate() {
+        if heads(line, key) {
+            return Some(at.saturating_add(1));
         }
     }
     None
