@@ -89,3 +89,7 @@ outside_other ds not_all = outside ds most_places (λ k l e. not_all (subst (All
 pub outside_beyond : (ds : List ℕ) (k n : ℕ) → ds ≡ decimal k → k < most_places → n ≤ k → IsOutside n ds
 outside_beyond ds k n is small beyond =
     outside ds n (λ j l e. let same : k ≡ j = decimal_injective k j (omega (arith, small)) (omega (arith, small, l, beyond)) (sym is ∙ e) in omega (arith, same, l, beyond))
+
+pub outside_number : (k n : ℕ) → k < 2 ^ 64 → n ≤ k → IsOutside n (decimal k)
+outside_number k n small beyond =
+    outside (decimal k) n (λ j l e. let same : k ≡ j = decimal_injective k j small (omega (arith, small, l, beyond)) e in omega (arith, same, l, beyond))

@@ -1,5 +1,5 @@
 -- What each call does to the elements of an array, and so to its list.
-use Rattle.std.proofs.Common.{◌≡◌, ℕ, zero, suc, ◌+◌, ◌<◌, ◌≤◌, nat_lt, nat_eq, Bool, true, false, if◌then◌else◌, ◌||◌, ◌&&◌, ◌⊎◌, inl, inr, List, [], ◌∷◌, ◌++◌, map, length, slice_get, slice_set, Option, None, Some, is_some, Ok, Err, refl, sym, ap, ◌∙◌, subst, true≢false, arith, append_assoc, append-nil, length-set, get_or, ⊎_elim, IsPermutation}
+use Rattle.std.proofs.Common.{◌≡◌, ℕ, zero, suc, ◌+◌, ◌<◌, ◌≤◌, ◌^◌, nat_lt, nat_eq, Bool, true, false, if◌then◌else◌, ◌||◌, ◌&&◌, ◌⊎◌, inl, inr, List, [], ◌∷◌, ◌++◌, map, length, slice_get, slice_set, Option, None, Some, is_some, Ok, Err, refl, sym, ap, ◌∙◌, subst, true≢false, arith, append_assoc, append-nil, length-set, get_or, ⊎_elim, IsPermutation}
 use Rattle.std.proofs.lemmas.Bool.{cases_lt}
 use Rattle.std.proofs.lemmas.Bool.Decides.{nat_tests}
 use Rattle.std.proofs.lemmas.Fmt.{decimal_injective}
@@ -24,7 +24,7 @@ use Rattle.awk_lib.specs.declared.dense.Dense as d
 use Rattle.awk_lib.specs.declared.elements.Elements.{Elements}
 use Rattle.awk_lib.specs.declared.elements.Slot.{Slot}
 use Rattle.awk_lib.specs.declared.elements.Slot.TheVariants.{Dense, Mapped}
-use Rattle.awk_lib.proofs.Digits.{differs}
+use Rattle.awk_lib.proofs.Digits.{differs, outside_number}
 use Rattle.awk_lib.proofs.Order.{all_weaker, all_both, all_push, all_permuted}
 use Rattle.awk_lib.proofs.Mapped.{value_at, split_rows, number_there, inserted_rows, inserted_last, inserted_there}
 use Rattle.awk_lib.proofs.Rows.{Row, none_numbered, set_at, set_row, set_at_row, lookup_at, lookup_shown, absent_rows, at_place, length_shown, set_numbered, shown_set, set_none, added, shown_added, moved, shown_moved, gone, put_allowed, put_refused}
@@ -105,6 +105,16 @@ module _ {V : Type 0} where
       → lookup (bytes_eq key) (map (λ r. r.1) (rows_of es)) ≡ None
   missing_mapped es key o none =
       none_lookup key (rows_of es) (all_append (λ r. bytes_eq key r.1.0 ≡ false) (dense_rows 0 es.dense.places.items) (mapped_rows es) (dense_outside es key o) none)
+
+  none_mapped : (key : List ℕ) (xs : List (List ℕ × Option (Numbered V))) → length xs ≡ 0 → AllByRecursion (λ r. bytes_eq key r.1.0 ≡ false) (rows xs)
+  none_mapped key [] e = tt
+  none_mapped key (x ∷ xs) e = absurd (let h = e in omega (arith, h))
+
+  -- the digits of a number without a place, where the map is empty
+  pub missing_number : (es : Elements V) (n : ℕ) → n < 2 ^ 64 → length es.dense.places.items ≤ n → length es.map.entries ≡ 0
+      → lookup (bytes_eq (decimal n)) (map (λ r. r.1) (rows_of es)) ≡ None
+  missing_number es n small beyond none =
+      missing_mapped es (decimal n) (outside_number n (length es.dense.places.items) small beyond) (none_mapped (decimal n) es.map.entries none)
 
   -- ---- a value that is written
 

@@ -1,12 +1,14 @@
 // Arrays.
 ghost use Rattle.std.specs.Prelude.{◌≡◌, ◌⊎◌, [], length, None, Some, Ok, Err, IfOk, IfErr, OnOk, IsOkUnless};
 ghost use Rattle.std.specs.Option.{option_copied, option_copied_mut};
+ghost use Rattle.std.specs.Fmt.{decimal};
 ghost use Rattle.awk_lib.specs.Arrays.{element, has, put, with_element, without, keys};
 
 use crate::elements::Elements;
 use crate::key::{Key, texts_of};
 use awk_text::fault::Fault;
 use awk_text::octets::Octets;
+use itoa::Buffer;
 use std::alloc::Global;
 use std::marker::Model;
 
@@ -84,6 +86,25 @@ impl<V> Array<V> {
         let place = self.elements.find(key)?;
         Some(self.elements.value_mut(place))
     }
+
+    /// The value of the key that is the digits of a number, as `get`. Takes no memory.
+    pub fn get_number(&self, number: usize) -> Option<&V>
+        ensures { option_copied result ≡ element self.now (decimal number) }
+    {
+        let place = self.elements.find_number(number)?;
+        Some(self.elements.value(place))
+    }
+
+    /// The value of the key that is the digits of a number, to write, as `get_mut`. Takes no memory.
+    pub fn get_number_mut(&mut self, number: usize) -> Option<&mut V>
+        ensures* writes_back { sem 𝓛 (lends_element V.row self.entry (decimal number) result) }
+        ensures value { option_copied_mut result ≡ element self.old (decimal number) }
+        ensures same { (v : V) → element self.old (decimal number) ≡ Some v →
+            with_element self.old (decimal number) v ≡ self.old }
+    {
+        let place = self.elements.find_number(number)?;
+        Some(self.elements.value_mut(place))
+    }
 }
 
 impl<V: Drop> Array<V> {
@@ -112,6 +133,22 @@ impl<V: Drop> Array<V> {
             return Ok(());
         }
         self.insert(key, value)
+    }
+
+    /// Gives the key that is the digits of a number the value, as `put` does.
+    ///
+    /// Fails as `put` does. Takes no memory where the key is there.
+    pub fn set_number(&mut self, number: usize, value: V) -> Result<(), Fault>
+        ensures ok { OnOk result (put self.old (decimal number) value ≡ Ok self.new) }
+        ensures err { IfErr result
+            (λ e. (self.new ≡ self.old) × ((e ≡ Fault.Memory) ⊎ (put self.old (decimal number) value ≡ Err e))) }
+    {
+        if let Some(old) = self.get_number_mut(number) {
+            *old = value;
+            return Ok(());
+        }
+        let mut buffer = Buffer::new();
+        self.insert(buffer.format(number).as_bytes(), value)
     }
 
     /// Adds a key that is not there. Fails as `put` does.

@@ -20,6 +20,7 @@ use crate::steps::Steps;
 use awk_text::Memory;
 use awk_text::fault::Fault;
 use indexmap::IndexMap;
+use itoa::Buffer;
 use std::alloc::Global;
 use std::cell::Cell;
 
@@ -128,6 +129,41 @@ impl<V> Elements<V> {
                     None
                 }
             }
+        }
+    }
+
+    /// Where the key lies that is the digits of a number with no place in the dense part. Takes no memory.
+    #[inline(never)]
+    fn find_beyond(&self, number: usize) -> Option<Slot>
+        requires apart { AreApart self.now }
+        requires beyond { length self.now.dense.places.items ≤ number }
+        ensures some { IfSome result
+            (λ p. (r : ℕ × (List ℕ × V)) × Lies self.now p r × (bytes_eq (decimal number) r.1.0 ≡ true)) }
+        ensures none { result ≡ None → lookup (bytes_eq (decimal number)) (map (λ r. r.1) (rows_of self.now)) ≡ None }
+    {
+        if self.map.is_empty() {
+            return None;
+        }
+        let mut buffer = Buffer::new();
+        self.find(buffer.format(number).as_bytes())
+    }
+
+    /// Where the key lies that is the digits of a number: no digits are made where the dense part has a place for it.
+    /// Takes no memory.
+    #[inline(always)]
+    pub(crate) fn find_number(&self, number: usize) -> Option<Slot>
+        requires { AreApart self.now }
+        ensures some { IfSome result
+            (λ p. (r : ℕ × (List ℕ × V)) × Lies self.now p r × (bytes_eq (decimal number) r.1.0 ≡ true)) }
+        ensures none { result ≡ None → lookup (bytes_eq (decimal number)) (map (λ r. r.1) (rows_of self.now)) ≡ None }
+    {
+        if self.dense.len() <= number {
+            return self.find_beyond(number);
+        }
+        if self.dense.is_filled(number) {
+            Some(Slot::Dense(number))
+        } else {
+            None
         }
     }
 

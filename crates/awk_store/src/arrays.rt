@@ -1,6 +1,7 @@
 // Arrays.
 ghost use Rattle.std.specs.Prelude.{[], ◌≡◌, ◌⊎◌, ◌≤◌, true, false, Ok, Some, slice_get, slice_set, unwrap_or, length};
 ghost use Rattle.std.specs.Prelude.{IfOk, IfErr, OnOk, IsOkUnless};
+ghost use Rattle.std.specs.Fmt.{decimal};
 ghost use Rattle.std.specs.Option.{option_copied};
 ghost use Rattle.awk_fields.specs.Rows.{IsValueAt};
 ghost use Rattle.awk_text.specs.Limits.{most_bytes};
@@ -10,7 +11,7 @@ ghost use Rattle.awk_machine.specs.State as state;
 ghost use Rattle.awk_store.specs.Kept.{array, array_at, array_found, bound_reference, listed, reference};
 ghost use Rattle.awk_store.specs.Changes.{change_at, given_array, with_array, Adds, Puts, PutsNot};
 
-use crate::cell::{Cell, add_in};
+use crate::cell::{Cell, add_in, add_in_number};
 use crate::frame::{Bound, Reference};
 use crate::store::Store;
 use awk_lib::array::Array;
@@ -130,6 +131,71 @@ fn put_made(
     }
 }
 
+/// `put_in_cells`, of the element whose key is the digits of a number.
+fn put_number_in_cells(
+    cells: &mut Vec<Cell>,
+    slot: usize,
+    number: usize,
+    value: Value,
+) -> Result<(), Fault>
+    ensures ok { OnOk result
+        (Puts (listed (slice_get cells.old.items slot)) (decimal number) value
+        (λ new. cells.new.items ≡ change_at (given_array new) cells.old.items slot)) }
+    ensures err { IfErr result
+        (λ e. (cells.new.items ≡ cells.old.items)
+        × PutsNot (listed (slice_get cells.old.items slot)) (decimal number) value e) }
+{
+    match cells.get_mut(slot) {
+        Some(cell) => cell.put_number(number, value),
+        None => Ok(()),
+    }
+}
+
+/// `put_made`, of the element whose key is the digits of a number.
+fn put_number_made(
+    made: &mut Vec<Array<Value>>,
+    place: usize,
+    number: usize,
+    value: Value,
+) -> Result<(), Fault>
+    ensures ok { OnOk result
+        (Puts (slice_get made.old.items place) (decimal number) value
+        (λ new. made.new.items ≡ slice_set made.old.items place new)) }
+    ensures err { IfErr result
+        (λ e. (made.new.items ≡ made.old.items) × PutsNot (slice_get made.old.items place) (decimal number) value e) }
+{
+    match made.get_mut(place) {
+        Some(array) => array.set_number(number, value),
+        None => Ok(()),
+    }
+}
+
+/// `add_in_cells`, of the element whose key is the digits of a number.
+fn add_number_in_cells(cells: &mut Vec<Cell>, slot: usize, number: usize, by: i64) -> bool
+    ensures done { result ≡ true →
+        Adds (listed (slice_get cells.old.items slot)) (decimal number) by
+        (λ new. cells.new.items ≡ change_at (given_array new) cells.old.items slot) }
+    ensures not_done { result ≡ false → cells.new.items ≡ cells.old.items }
+{
+    match cells.get_mut(slot) {
+        Some(cell) => cell.add_to_number(number, by),
+        None => false,
+    }
+}
+
+/// `add_in_made`, of the element whose key is the digits of a number.
+fn add_number_in_made(made: &mut Vec<Array<Value>>, place: usize, number: usize, by: i64) -> bool
+    ensures done { result ≡ true →
+        Adds (slice_get made.old.items place) (decimal number) by
+        (λ new. made.new.items ≡ slice_set made.old.items place new) }
+    ensures not_done { result ≡ false → made.new.items ≡ made.old.items }
+{
+    match made.get_mut(place) {
+        Some(elements) => add_in_number(elements, number, by),
+        None => false,
+    }
+}
+
 impl Store {
     /// Which array a variable is.
     pub fn reference(&self, variable: Variable) -> Reference
@@ -179,6 +245,14 @@ impl Store {
         ensures { option_copied result ≡ element (array self.now name) key.now }
     {
         self.array_at(self.reference(name))?.get(key)
+    }
+
+    /// The value of the element whose key is the digits of a number, where it is there. Takes no memory.
+    #[inline(always)]
+    pub fn element_of_number(&self, name: Variable, number: usize) -> Option<&Value>
+        ensures { option_copied result ≡ element (array self.now name) (decimal number) }
+    {
+        self.array_at(self.reference(name))?.get_number(number)
     }
 
     /// Whether the key is there. Takes no memory.
@@ -236,7 +310,47 @@ impl Store {
         }
     }
 
-    /// The same, where the key is the text of a field by its number, and the field is there without a change; see
+    /// As `put`, where the key is the digits of a number: they are made only where the element does not lie by its
+    /// number.
+    #[inline(always)]
+    pub fn put_number(&mut self, name: Variable, number: usize, value: Value) -> Result<(), Fault>
+        ensures ok { OnOk result
+            ((new : state.Array) × (put (array self.old name) (decimal number) value ≡ Ok new)
+            × (self.new ≡ with_array (reference self.old name) new self.old)) }
+        ensures err { IfErr result
+            (λ e. (self.new ≡ self.old)
+            × ((e ≡ Fault.Memory) ⊎ (put (array self.old name) (decimal number) value ≡ Err e))) }
+    {
+        match self.reference(name) {
+            Reference::Shared(slot) => {
+                put_number_in_cells(&mut self.cells, slot as usize, number, value)
+            }
+            Reference::Made(place) => {
+                put_number_made(&mut self.made, place as usize, number, value)
+            }
+            Reference::Nothing => Ok(()),
+        }
+    }
+
+    /// As `add_to`, where the key is the digits of a number.
+    pub fn add_to_number(&mut self, name: Variable, number: usize, by: i64) -> bool
+        ensures done { result ≡ true →
+            Adds (Some (array self.old name)) (decimal number) by
+            (λ new. self.new ≡ with_array (reference self.old name) new self.old) }
+        ensures not_done { result ≡ false → self.new ≡ self.old }
+    {
+        match self.reference(name) {
+            Reference::Shared(slot) => {
+                add_number_in_cells(&mut self.cells, slot as usize, number, by)
+            }
+            Reference::Made(place) => {
+                add_number_in_made(&mut self.made, place as usize, number, by)
+            }
+            Reference::Nothing => false,
+        }
+    }
+
+    /// `add_to`, where the key is the text of a field by its number, and the field is there without a change; see
     /// `lent_field`.
     pub fn add_at_field(&mut self, name: Variable, n: u16, by: i64) -> bool
         ensures done { result ≡ true → (key : Value) × IsValueAt self.old.row n key

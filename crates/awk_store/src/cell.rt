@@ -1,5 +1,6 @@
 // Variables of the whole script.
 ghost use Rattle.std.specs.Prelude.{◌≡◌, ℤ, pos, Some, Ok, true, false, unwrap_or, IfOk, IfErr, OnOk, IsOkUnless};
+ghost use Rattle.std.specs.Fmt.{decimal};
 ghost use Rattle.std.specs.Option.{option_copied};
 ghost use Rattle.awk_text.specs.Arithmetic.{add};
 ghost use Rattle.awk_machine.specs.Begins.{first_value};
@@ -120,6 +121,31 @@ impl Cell {
         }
     }
 
+    /// The same of the element whose key is the digits of a number.
+    pub(crate) fn put_number(&mut self, number: usize, value: Value) -> Result<(), Fault>
+        ensures ok { OnOk result
+            (Puts (listed (Some self.old)) (decimal number) value (λ new. self.new ≡ given_array new self.old)) }
+        ensures err { IfErr result
+            (λ e. (self.new ≡ self.old) × PutsNot (listed (Some self.old)) (decimal number) value e) }
+    {
+        match self {
+            Cell::Value(_) => Ok(()),
+            Cell::Array(array) => array.set_number(number, value),
+        }
+    }
+
+    /// Adds to the number that the element holds whose key is the digits of a number, and answers whether it did.
+    pub(crate) fn add_to_number(&mut self, number: usize, by: i64) -> bool
+        ensures done { result ≡ true →
+            Adds (listed (Some self.old)) (decimal number) by (λ new. self.new ≡ given_array new self.old) }
+        ensures not_done { result ≡ false → self.new ≡ self.old }
+    {
+        match self {
+            Cell::Value(_) => false,
+            Cell::Array(array) => add_in_number(array, number, by),
+        }
+    }
+
     /// Puts an array in place of the one that it holds, and answers that. A value stays as it is.
     pub(crate) fn replace_array(&mut self, array: Array<Value>, none: Array<Value>) -> Array<Value>
         ensures value { result ≡ unwrap_or (listed (Some self.old)) none }
@@ -138,6 +164,17 @@ pub(crate) fn add_in(elements: &mut Array<Value>, key: &[u8], by: i64) -> bool
     ensures not_done { result ≡ false → elements.new ≡ elements.old }
 {
     match elements.get_mut(key) {
+        Some(value) => add_value(value, by),
+        None => false,
+    }
+}
+
+/// The same of the element whose key is the digits of a number.
+pub(crate) fn add_in_number(elements: &mut Array<Value>, number: usize, by: i64) -> bool
+    ensures done { result ≡ true → Adds (Some elements.old) (decimal number) by (λ new. elements.new ≡ new) }
+    ensures not_done { result ≡ false → elements.new ≡ elements.old }
+{
+    match elements.get_number_mut(number) {
         Some(value) => add_value(value, by),
         None => false,
     }
