@@ -2,7 +2,10 @@
 use Rattle.std.proofs.Common.{◌≡◌, ℕ, zero, suc, ◌+◌, ◌-◌, ◌<◌, ◌≤◌, ◌==◌, ◌&&◌, ◌||◌, inl, inr, Bool, true, false, cond, List, [], ◌∷◌, ◌++◌, length, drop, get_or, Option, Some, None, refl, sym, ◌∙◌, ap, subst, append_assoc, arith}
 use Rattle.std.proofs.lemmas.Bool.{cases_lt, eqb-true, eq-eqb}
 use Rattle.std.proofs.lemmas.List.{get_or-drop, length-drop}
-use Rattle.memchr.specs.Find.{OccursAt, FindsNeedle}
+use Rattle.std.specs.Prelude.{IfSome}
+use Rattle.memchr.specs.Find.{OccursAt, FindsNeedle, IsFirst, Nowhere, IsFirstByte, Passes, is_byte}
+use Rattle.memchr.specs.Pairs.{IsPairFinderOf, HasPair, reach_of}
+use Rattle.memchr.specs.declared.arch.all.packedpair.Finder.{Finder}
 use Rattle.awk_ere.specs.Pattern.{Pattern, empty, bytes, cat, Matches}
 use Rattle.awk_ere.specs.Best.{Best}
 use Rattle.awk_ere.specs.Token as spec
@@ -129,8 +132,15 @@ module _ (source s : List ℕ) where
     longest = λ l within m. omega (arith, match_end x.0 l m, h.2);
   }
 
-  pub literal_finds : (from : ℕ) (found : Option (ℕ × ℕ)) → IsLiteral source → length source ≤ 4096 → FindsText source s from found → Finds source s from found
+  literal_finds : (from : ℕ) (found : Option (ℕ × ℕ)) → IsLiteral source → length source ≤ 4096 → FindsText source s from found → Finds source s from found
   literal_finds from found literal short h = (then_bytes empty source, literal_pattern source literal short, text_best from found h)
+
+  -- the same, by what is kept of the source
+  pub literal_found : (kept : Option (List ℕ)) (needle : List ℕ) (from : ℕ) (found : Option (ℕ × ℕ)) → kept ≡ Some needle → IfSome kept (λ l. (l ≡ source) × IsLiteral source) → length source ≤ 4096
+      → FindsText needle s from found → Finds source s from found
+  literal_found kept needle from found is told short h =
+      let both : (needle ≡ source) × IsLiteral source = subst (λ x. IfSome x (λ l. (l ≡ source) × IsLiteral source)) is told in
+      literal_finds from found both.1 short (subst (λ x. FindsText x s from found) both.0 h)
 
 -- a search in what follows `from`
 module _ (s needle : List ℕ) (from : ℕ) (le : from ≤ length s) where
@@ -162,3 +172,59 @@ module _ (s needle : List ℕ) (from : ℕ) (le : from ≤ length s) where
 
   pub text_fits : (k : ℕ) → FindsNeedle (drop from s) needle 0 (Some k) → from + k + length needle ≤ length s
   text_fits k h = omega (arith, h.1.fits, length-drop from s)
+
+-- a search for one byte
+module _ (s needle : List ℕ) (one : length needle ≡ 1) where
+  occurs_passes : (k : ℕ) → OccursAt s needle k → Passes (is_byte (get_or needle 0 0)) s k
+  occurs_passes k h =
+      let e : k ≡ k + 0 = omega arith in
+      eq-eqb _ _ (ap (λ n. get_or s n 0) e ∙ h.reads 0 (omega arith))
+
+  passes_occurs : (k : ℕ) → k < length s → Passes (is_byte (get_or needle 0 0)) s k → OccursAt s needle k
+  passes_occurs k inside h = record { fits = omega arith; reads = reads } where
+    reads : (j : ℕ) → j < length needle → get_or s (k + j) 0 ≡ get_or needle j 0
+    reads zero lt = let e : k + 0 ≡ k = omega arith in ap (λ n. get_or s n 0) e ∙ eqb-true _ _ h
+    reads (suc j) lt = absurd (omega arith)
+
+  pub one_byte : (found : Option ℕ) → IsFirstByte (is_byte (get_or needle 0 0)) s found → FindsNeedle s needle 0 found
+  one_byte None h = λ k low high occurs. h k low (omega (arith, occurs.fits)) (occurs_passes k occurs)
+  one_byte (Some at) h = (
+    record { low = h.0.low; high = omega (arith, h.0.high); before = λ k low less occurs. h.0.before k low less (occurs_passes k occurs) },
+    passes_occurs at h.0.high h.1,
+  )
+
+-- a search by two bytes of the needle
+module _ (f : Finder) (s needle : List ℕ) (of : IsPairFinderOf f needle) where
+  pair_stands : (k : ℕ) → OccursAt s needle k → HasPair f s k
+  pair_stands k h = record {
+    first = h.reads f.pair.index1 of.pair.first ∙ sym of.byte1;
+    second = h.reads f.pair.index2 of.pair.second ∙ sym of.byte2;
+  }
+
+  pub pair_before : (at : ℕ) → IsFirst (HasPair f s) 0 (length s - reach_of f) (Some at) → Nowhere (OccursAt s needle) 0 at
+  pair_before at h = λ k low less occurs. h.0.before k low less (pair_stands k occurs)
+
+  pub pair_inside : (at : ℕ) → IsFirst (HasPair f s) 0 (length s - reach_of f) (Some at) → at ≤ length s
+  pair_inside at h = omega (arith, h.0.high)
+
+-- where it occurs from `at` on, and nowhere before
+module _ (s needle : List ℕ) (at : ℕ) (le : at ≤ length s) (before : Nowhere (OccursAt s needle) 0 at) where
+  pub found_none : FindsNeedle (drop at s) needle 0 None → FindsNeedle s needle 0 None
+  found_none h = λ k low high occurs. elim (cases_lt k at) [
+    | inl less ↦ before k low less occurs
+    | inr ge ↦ let x = occurs_back s needle at le k ge occurs in h (k - at) (omega arith) (omega (arith, x.fits)) x
+  ]
+
+  pub found_further : (further : ℕ) → FindsNeedle (drop at s) needle 0 (Some further) → FindsNeedle s needle 0 (Some (at + further))
+  found_further further h =
+      let there = occurs_on s needle at le further h.1 in (
+        record {
+          low = omega arith;
+          high = omega (arith, there.fits);
+          before = λ k low less occurs. elim (cases_lt k at) [
+            | inl l ↦ before k low l occurs
+            | inr ge ↦ let x = occurs_back s needle at le k ge occurs in h.0.before (k - at) (omega arith) (omega arith) x
+          ];
+        },
+        there,
+      )

@@ -5,7 +5,7 @@ ghost use Rattle.awk_ere.specs.Spelled.{IsPattern, IsAccepted, IsRefused, Finds,
 
 use crate::error::{EreError, EreFault};
 use crate::hopes::{Hopes, no_hopes};
-use crate::literal::{find_text, is_literal};
+use crate::literal::Literal;
 use crate::read::read_within;
 use crate::table::{Matcher, Sought, whole_budget};
 use awk_text::Memory;
@@ -16,13 +16,13 @@ use std::marker::Model;
 #[derive(Drop)]
 pub struct Ere {
     source: Vec<u8>,
-    /// Each byte of the source stands for itself.
-    is_literal: bool,
+    /// What finds the source, where each of its bytes stands for itself.
+    literal: Option<Literal>,
     matcher: Matcher,
 }
 
 impl Model for Ere {
-    ghost use Rattle.std.specs.Prelude.{◌≡◌, true, List, ℕ};
+    ghost use Rattle.std.specs.Prelude.{◌≡◌, IfSome, List, ℕ};
     ghost use Rattle.awk_ere.specs.Literal.{IsLiteral};
     ghost use Rattle.awk_ere.specs.Pattern.{Pattern};
     ghost use Rattle.awk_ere.specs.Matcher.{StandsFor};
@@ -33,7 +33,7 @@ impl Model for Ere {
     ghost view = { λ e. e.source.items };
 
     ghost invariant = { λ e. (p : Pattern) × IsPattern e.source.items p × StandsFor e.matcher p
-        × (e.is_literal ≡ true → IsLiteral e.source.items) };
+        × IfSome e.literal (λ l. (l ≡ e.source.items) × IsLiteral e.source.items) };
 }
 
 impl Ere {
@@ -45,9 +45,10 @@ impl Ere {
         let node = read_within(alloc, text, &mut sets)?;
         let matcher = Matcher::new(alloc, &node, sets)?;
         let source = Vec::from_slice(alloc, text)?;
+        let literal = Literal::new(alloc, text)?;
         Ok(Ere {
             source,
-            is_literal: is_literal(text),
+            literal,
             matcher,
         })
     }
@@ -87,8 +88,8 @@ impl Ere {
     pub fn is_match(&self, text: &[u8]) -> Result<bool, Memory>
         ensures { IfOk result (λ b. HasMatch self.now text.now b) }
     {
-        if self.is_literal {
-            return Ok(find_text(text, &self.source, 0).is_some());
+        if let Some(literal) = &self.literal {
+            return Ok(literal.find(text, 0).is_some());
         }
         match self.matcher.has_match(text) {
             Some(has_match) => Ok(has_match),
@@ -151,8 +152,8 @@ impl<'a> Searches<'a> {
         ensures same { self.new ≡ self.old }
     {
         let (ere, matcher, text) = (self.ere, self.matcher, self.text);
-        if ere.is_literal {
-            return Ok(find_text(text, &ere.source, from));
+        if let Some(literal) = &ere.literal {
+            return Ok(literal.find(text, from));
         }
         match matcher.find(text, from, &mut self.budget) {
             Sought::Match(start, end) => Ok(Some((start, end))),

@@ -1,13 +1,13 @@
 use Rattle.std.proofs.Common.{Some, None}
 use Rattle.awk_ere.proofs.Searching.{finds_best}
 use Rattle.awk_ere.proofs.Seeking.{found_later}
-use Rattle.awk_ere.proofs.Literals.{literal_finds}
+use Rattle.awk_ere.proofs.Literals.{literal_found}
 use Rattle.awk_ere.proofs.ere.Searches.find.Goals as goal
 
-pub returns-then-ere-clause-found : goal.returns-then-ere-clause-found
-returns-then-ere-clause-found c =
+pub returns-in-Some-clause-found : goal.returns-in-Some-clause-found
+returns-in-Some-clause-found c =
     rw (← c.self.view_is, ← c.ere.view_is)
-    (literal_finds _ _ _ _ (c.ere.invariant.3 c.if-ere.true) c.ere.invariant.1.short (rw c.deref.ensures.value at c.find_text.ensures))
+    (literal_found _ _ _ _ _ _ c.in-Some.is c.ere.invariant.3 c.ere.invariant.1.short c.find.ensures)
 
 pub returns-in-Match-clause-found : goal.returns-in-Match-clause-found
 returns-in-Match-clause-found c =
