@@ -47,7 +47,7 @@ pub fn open<W: World>(
     ensures owns { Owns (W.open_numbers world.new) streams.new }
 {
     let kept = name.kept(alloc)?;
-    let sent = Octets::of(alloc, name.text)?;
+    let sent = Octets::new(Vec::from_slice(alloc, name.text)?);
     streams.make_room()?;
     let reply = request(place, given, Request::Open(mode, sent), world)?;
     match number_opened(&reply) {
