@@ -222,6 +222,22 @@ for folder in "${recipes[@]}"; do
     verdict "the commands of the README in $folder"
 done
 
+# What docs/EMBEDDING.md shows is in files that are proved.
+if command -v python3 >/dev/null; then
+    python3 - "$top" >"$work/output" 2>"$work/errors" <<'END'
+import re, sys
+from pathlib import Path
+
+top = Path(sys.argv[1])
+code = "".join((top / "crates/rows" / it).read_text() for it in ("src/embedding.rt", "specs/Printed.antt"))
+blocks = re.findall(r"```(?:rust|antt)\n(.*?)```", (top / "docs/EMBEDDING.md").read_text(), re.S)
+sys.exit(len(blocks) != 3 or any(it not in code for it in blocks))
+END
+    status=$?
+    [ "$status" -eq 0 ]
+    verdict "the code of docs/EMBEDDING.md is the proved one"
+fi
+
 # The example of the README's first lines: its script, its rule, its log.
 policy 'effect = "allow"
 kind = "write"

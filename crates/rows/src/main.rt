@@ -4,6 +4,7 @@
 #![tactic(auto)]
 
 mod asked;
+mod embedding;
 mod inputs;
 mod prefixes;
 mod report;

@@ -1,6 +1,6 @@
 // The tables, and which calls stand in which.
 
-use crate::{inputs, runs};
+use crate::{embedding, inputs, runs};
 use awk_text::octets::Octets;
 use row_calls::problem::Problem;
 use row_calls::row::{Arg, Row};
@@ -34,9 +34,10 @@ pub enum Table {
     Scripts,
     Streams,
     Operands,
+    Embedding,
 }
 
-pub const TABLES: [Table; 20] = [
+pub const TABLES: [Table; 21] = [
     Table::Values,
     Table::Patterns,
     Table::Searches,
@@ -57,6 +58,7 @@ pub const TABLES: [Table; 20] = [
     Table::Scripts,
     Table::Streams,
     Table::Operands,
+    Table::Embedding,
 ];
 
 impl Table {
@@ -82,6 +84,7 @@ impl Table {
             Table::Scripts => "scripts.txt",
             Table::Streams => "streams.txt",
             Table::Operands => "operands.txt",
+            Table::Embedding => "embedding.txt",
         }
     }
 
@@ -99,6 +102,7 @@ impl Table {
             Table::Policies => policies::call(alloc, args),
             Table::Listings => listings::call(alloc, args),
             Table::Inputs => inputs::call(alloc, args),
+            Table::Embedding => embedding::call(alloc, args),
             _ => Err(Problem::NoCall),
         }
     }
