@@ -1,6 +1,8 @@
 -- What is there without a move, and what a chain makes of it.
-use Rattle.std.proofs.Common.{◌≡◌, refl, sym, ap, subst, ◌∙◌, inl, ◌+◌, ◌≤◌, ◌<◌, ℕ, true, false, List, [], ◌∷◌, ◌++◌, length, map, drop, get_or, arith}
+use Rattle.std.proofs.Common.{◌≡◌, refl, sym, ap, subst, ◌∙◌, inl, ◌+◌, ◌≤◌, ◌<◌, ◌^◌, ℕ, true, false, List, [], ◌∷◌, ◌++◌, length, map, drop, get_or, arith}
 use Rattle.std.proofs.lemmas.List.{drop_more}
+use Rattle.std.proofs.lemmas.Fmt.{length-decimal-le}
+use Rattle.std.specs.Fmt.{decimal}
 use Rattle.std.specs.Int.{FitsUnsignedBits}
 use Rattle.std.specs.Prelude.{Bool, ℤ, pos, negsuc, nat_abs, Option, Some, Result, Ok}
 use Rattle.awk_text.specs.Limits.{most_bytes}
@@ -153,6 +155,15 @@ splits g t old new q same is =
 pub field_number_is : (z : ℤ) (n : ℕ) → FitsUnsignedBits 16 z → n ≡ nat_abs z → (z ≡ pos n) × (n ≤ 65535)
 field_number_is (pos m) n fits is = (ap pos (sym is), omega (arith, fits, is))
 field_number_is (negsuc m) n fits is = absurd fits
+
+-- ---- the digits of a number that is not negative
+
+pub place_is : (k : ℕ) (z : ℤ) (n : ℕ) → FitsUnsignedBits k z → n ≡ nat_abs z → text_of (v.Num z) ≡ decimal n
+place_is k (pos m) n fits is = ap decimal (sym is)
+place_is k (negsuc m) n fits is = absurd fits
+
+pub few_digits : (n : ℕ) → n < 2 ^ 64 → length (decimal n) ≤ most_bytes
+few_digits n l = omega (arith, length-decimal-le 20 n (omega arith) (omega (arith, l)) l)
 
 -- ---- what was written into an empty line
 

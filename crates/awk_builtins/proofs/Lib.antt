@@ -16,5 +16,6 @@ pub mod Rests
 pub mod SearchSteps
 pub mod SplitSteps
 pub mod Storing
+pub mod Subscripts
 pub mod Truths
 pub mod WholeArrays

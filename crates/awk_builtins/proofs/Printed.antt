@@ -34,13 +34,13 @@ there_more kept [] (u ∷ us) x val hs h = absurd hs
 there_more kept (y ∷ ys) [] x val hs h = absurd hs
 there_more kept (y ∷ ys) (u ∷ us) x val hs h = (hs.0, there_more kept ys us x val hs.1 h)
 
-there_count : (kept : Kept) (names : _) (xs : List Expr) (vals : List Value) → AreThere kept xs vals → length (map (view names) xs) ≡ length vals
+pub there_count : (kept : Kept) (names : _) (xs : List Expr) (vals : List Value) → AreThere kept xs vals → length (map (view names) xs) ≡ length vals
 there_count kept names [] [] hs = refl
 there_count kept names [] (u ∷ us) hs = absurd hs
 there_count kept names (y ∷ ys) [] hs = absurd hs
 there_count kept names (y ∷ ys) (u ∷ us) hs = ap suc (there_count kept names ys us hs.1)
 
-got_at : {X Y : Type 0} (f : X → Y) (more : List Y) (all : List X) (n : ℕ) (x : X) (xs : List X) → drop n all ≡ x ∷ xs → slice_get (map f all ++ more) n ≡ Some (f x)
+pub got_at : {X Y : Type 0} (f : X → Y) (more : List Y) (all : List X) (n : ℕ) (x : X) (xs : List X) → drop n all ≡ x ∷ xs → slice_get (map f all ++ more) n ≡ Some (f x)
 got_at f more [] zero x xs e = absurd (cc)
 got_at f more [] (suc n) x xs e = absurd (cc)
 got_at f more (y ∷ ys) zero x xs e = let h : y ≡ x = cc in ap (λ z. Some (f z)) h
@@ -52,13 +52,13 @@ got_last [] (suc n) x e = absurd (omega (arith, e))
 got_last (y ∷ ys) zero x e = absurd (omega (arith, e))
 got_last (y ∷ ys) (suc n) x e = got_last ys n x (omega (arith, e))
 
-drop_next : {X : Type 0} (all : List X) (n : ℕ) (x : X) (xs : List X) → drop n all ≡ x ∷ xs → drop (suc n) all ≡ xs
+pub drop_next : {X : Type 0} (all : List X) (n : ℕ) (x : X) (xs : List X) → drop n all ≡ x ∷ xs → drop (suc n) all ≡ xs
 drop_next [] zero x xs e = absurd (cc)
 drop_next [] (suc n) x xs e = absurd (cc)
 drop_next (y ∷ ys) zero x xs e = let h : ys ≡ xs = cc in h
 drop_next (y ∷ ys) (suc n) x xs e = drop_next ys n x xs e
 
-reverse_onto : (val : Value) (vals vs : List Value) → reverse vals ++ (val ∷ vs) ≡ reverse (val ∷ vals) ++ vs
+pub reverse_onto : (val : Value) (vals vs : List Value) → reverse vals ++ (val ∷ vs) ≡ reverse (val ∷ vals) ++ vs
 reverse_onto val vals vs = sym (append_assoc (reverse vals) (val ∷ []) vs) ∙ ap (λ us. us ++ vs) (sym (reverse-append (val ∷ []) vals))
 
 pub first_expr : (xs : List Expr) (x : Expr) → 1 ≤ length xs → x ≡ get_or xs 0 x → xs ≡ x ∷ take (length xs - 1) (drop 1 xs)

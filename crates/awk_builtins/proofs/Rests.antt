@@ -1,6 +1,8 @@
 -- Lists, and what was made.
 use Rattle.std.proofs.Common.{◌≡◌, ◌==◌, false, refl, ap, sym, ◌∙◌, ℕ, zero, suc, ◌≤◌, ◌<◌, drop, List, [], ◌∷◌, length, arith}
 use Rattle.std.specs.Prelude.{Option, Some, None, IfSome, Result, Ok, Err, IfOk, IfErr, get_or}
+use Rattle.std.specs.Borrow.{Bor}
+use Rattle.std.specs.Option.{option_copied}
 use Rattle.std.specs.Result.{result_ok}
 use Rattle.awk_program.specs.Program.{Expression, expressions_of}
 use Rattle.awk_machine.specs.Forms.{listed}
@@ -44,6 +46,16 @@ drop_all (x ∷ xs) (suc n) far = drop_all xs n (omega (arith, far))
 pub some_for : {X : Type 0} {P Q : X → Type 0} (r : Option X) → ((x : X) → P x → Q x) → IfSome r P → IfSome r Q
 some_for None f h = tt
 some_for (Some x) f h = f x h
+
+-- what holds whatever is there
+pub some_ever : {X F : Type 0} (r : Option X) → F → IfSome r (λ x. F)
+some_ever None f = tt
+some_ever (Some x) f = f
+
+-- what a reference shows
+pub some_told : {V : Type 0} (r : Option (Bor V)) (o : Option V) → option_copied r ≡ o → IfSome r (λ x. o ≡ Some x.now)
+some_told None o e = tt
+some_told (Some x) o e = sym e
 
 pub some_both : {X : Type 0} {P Q R : X → Type 0} (r : Option X) → ((x : X) → P x → Q x → R x) → IfSome r P → IfSome r Q → IfSome r R
 some_both None f p q = tt

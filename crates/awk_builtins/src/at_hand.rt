@@ -11,11 +11,14 @@ ghost use Rattle.awk_store.specs.Acts.{Passes};
 ghost use Rattle.awk_store.specs.Kept as kept;
 ghost use Rattle.awk_store.specs.Spots.{IsSpotOf, value_of};
 ghost use Rattle.awk_store.specs.Wholes.{Whole, names_in};
+ghost use Rattle.awk_lib.specs.Arrays.{element};
+ghost use Rattle.awk_text.specs.Limits.{most_bytes};
+ghost use Rattle.awk_text.specs.Values.{text_of};
 ghost use Rattle.awk_text.specs.Lents.{lent_value};
 ghost use Rattle.awk_text.specs.declared.place.Place as spot_of;
 ghost use Rattle.awk_text.specs.declared.value.Value.{Value as Val};
 ghost use Rattle.awk_text.specs.declared.value.Value.TheVariants as v;
-ghost use Rattle.std.specs.Prelude.{Err, IfSome, Ok, false, map, ◌≡◌};
+ghost use Rattle.std.specs.Prelude.{Err, IfSome, Ok, Some, false, length, map, ◌≡◌, ◌≤◌};
 
 use crate::functions::{cased, index_of, part_of, text_length};
 use crate::operators::{compared_lent, compared_numbers, operation};
@@ -107,6 +110,27 @@ fn digits_held(store: &Store, target: &Target<Expr>) -> Option<i64>
     }
 }
 
+/// The value of the element whose key is the text of a value, where it is there. A number's text is made only where the
+/// element does not lie by its number.
+#[inline(always)]
+fn element_by<'a>(store: &'a Store, array: Variable, subscript: Lent<'_>) -> Option<&'a Value>
+    ensures fits { IfSome result (λ x. length (text_of (lent_value subscript.entry)) ≤ most_bytes) }
+    ensures there { IfSome result
+        (λ x. element (kept.array store.now array) (text_of (lent_value subscript.entry)) ≡ Some x.now) }
+{
+    if let Lent::Num(number) = subscript {
+        if let Ok(place) = usize::try_from(number) {
+            return store.element_of_number(array, place);
+        }
+    }
+    let mut digits = Buffer::new();
+    let key = subscript.text(&mut digits);
+    if MOST_BYTES < key.len() {
+        return None;
+    }
+    store.element(array, key)
+}
+
 /// The value of an element that is there, by one subscript.
 #[cycle(hand)]
 #[inline(never)]
@@ -126,12 +150,7 @@ fn element_at_hand<'a>(
         return None;
     };
     let subscript = at_hand(store, one, level)?;
-    let mut digits = Buffer::new();
-    let key = subscript.text(&mut digits);
-    if MOST_BYTES < key.len() {
-        return None;
-    }
-    let value = store.element(array, key)?;
+    let value = element_by(store, array, subscript)?;
     Some(Lent::of(value))
 }
 

@@ -1,27 +1,31 @@
 // Assignments that are done at once: what they need is at hand, and their value is not wanted.
-ghost use Rattle.awk_fields.specs.Rows.{IsValueAt};
+ghost use Rattle.awk_fields.specs.Rows.{IsValueAt, joined};
 ghost use Rattle.awk_machine.specs.Operators as machine;
 ghost use Rattle.awk_program.specs.Program as p;
 ghost use Rattle.awk_program.specs.Program.{expressions_of};
 ghost use Rattle.awk_program.specs.View.{variable_of, view, view_target};
 ghost use Rattle.awk_program.specs.declared.operators.StepValue.{StepValue as Which};
-ghost use Rattle.awk_builtins.specs.AtHand.{AddsAt, HoldsOperands, IsDone, IsKey};
+ghost use Rattle.awk_builtins.specs.AtHand.{AddsAt, AreThere, HoldsOperands, IsDone, IsKey};
+ghost use Rattle.awk_builtins.specs.Lines.{held};
 ghost use Rattle.awk_store.specs.Changes.{Adds, Puts, with_array};
 ghost use Rattle.awk_store.specs.Kept as kept;
+ghost use Rattle.awk_store.specs.Kept.{own_text};
+ghost use Rattle.awk_program.specs.declared.variables.Own.TheVariants as own;
 ghost use Rattle.awk_text.specs.Arithmetic.{add};
 ghost use Rattle.awk_text.specs.Limits.{most_bytes};
 ghost use Rattle.awk_text.specs.Values.{text_of};
 ghost use Rattle.awk_text.specs.declared.value.Value.{Value as Val};
 ghost use Rattle.awk_text.specs.declared.value.Value.TheVariants as v;
-ghost use Rattle.std.specs.Prelude.{IfSome, Some, false, length, map, true, ℤ, ◌≡◌, ◌≤◌};
+ghost use Rattle.std.specs.Fmt.{decimal};
+ghost use Rattle.std.specs.Prelude.{IfSome, List, Some, false, length, map, true, ℤ, ◌≡◌, ◌≤◌};
 
 use crate::at_hand::{
     MOST_LEVELS, at_hand, chosen, number_at_hand, number_kept, number_there, value_at_hand,
 };
-use crate::items::add_item;
+use crate::items::{add_item, add_others};
 use crate::line::Line;
 use crate::operators::{operation, stepped};
-use awk_program::{Expr, Joined, Operator, Step, Target, Variable};
+use awk_program::{Expr, Joined, Operator, Own, Step, Target, Variable};
 use awk_store::{Store, is_nf};
 use awk_text::place::Place;
 use awk_text::texts::MOST_BYTES;
@@ -45,12 +49,40 @@ fn join_at_hand(line: &mut Line, store: &Store, first: &Expr, rest: &[Joined<Exp
     true
 }
 
-/// The key of one subscript that is at hand, or whose operands are, in the line.
-fn key_at_hand<'a>(store: &Store, line: &'a mut Line, keys: &[Expr]) -> Option<&'a [u8]>
+/// Makes the line the texts of subscripts that are at hand with SUBSEP between, and answers whether it did.
+fn join_subscripts(line: &mut Line, store: &Store, keys: &[Expr]) -> bool
+    ensures { result ≡ true → (vals : List Val) × AreThere store.now keys.now vals
+        × (line.new ≡ held (joined (own_text store.now own.Subsep) vals)) }
+{
+    let [first, others @ ..] = keys else {
+        return false;
+    };
+    let mut buffer = Buffer::new();
+    let subsep = store.own_text(Own::Subsep, &mut buffer);
+    line.clear();
+    if !add_item(line, store, first) {
+        return false;
+    }
+    add_others(line, store, others, subsep)
+}
+
+/// The key of several subscripts that are at hand, in the line.
+#[inline(never)]
+fn several_at_hand<'a>(store: &Store, line: &'a mut Line, keys: &[Expr]) -> Option<&'a [u8]>
+    ensures { IfSome result (λ key. IsKey keys.now store.now key.now) }
+{
+    if !join_subscripts(line, store, keys) {
+        return None;
+    }
+    line.text().ok()
+}
+
+/// The key of subscripts that are at hand, or of one whose operands are, in the line.
+pub fn key_at_hand<'a>(store: &Store, line: &'a mut Line, keys: &[Expr]) -> Option<&'a [u8]>
     ensures { IfSome result (λ key. IsKey keys.now store.now key.now) }
 {
     let [one] = keys else {
-        return None;
+        return several_at_hand(store, line, keys);
     };
     if let Expr::Concat(first, rest) = one {
         if !join_at_hand(line, store, first.get(), rest.as_slice()) {
@@ -101,13 +133,30 @@ fn field_of_key(store: &Store, keys: &[Expr]) -> Option<u16>
     Some(number)
 }
 
-/// Gives the element whose key is a number's digits a value, and answers whether it did. The digits are not copied.
+/// Gives the element whose key is the digits of a number that is not negative a value, and answers whether it did.
+fn put_at_place(store: &mut Store, array: Variable, place: usize, value: Value) -> bool
+    ensures done { result ≡ true → (length (decimal place) ≤ most_bytes)
+        × Puts (Some (kept.array store.old array)) (decimal place) value
+        (λ new. store.new ≡ with_array (kept.reference store.old array) new store.old) }
+    ensures not_done { result ≡ false → store.new ≡ store.old }
+{
+    match store.put_number(array, place, value) {
+        Ok(()) => true,
+        Err(_) => false,
+    }
+}
+
+/// Gives the element whose key is a number's digits a value, and answers whether it did. The digits are made only where
+/// the element does not lie by its number.
 fn put_at_number(store: &mut Store, array: Variable, number: i64, value: Value) -> bool
     ensures done { result ≡ true → (length (text_of (v.Num number)) ≤ most_bytes)
         × Puts (Some (kept.array store.old array)) (text_of (v.Num number)) value
         (λ new. store.new ≡ with_array (kept.reference store.old array) new store.old) }
     ensures not_done { result ≡ false → store.new ≡ store.old }
 {
+    if let Ok(place) = usize::try_from(number) {
+        return put_at_place(store, array, place, value);
+    }
     let mut digits = Buffer::new();
     let key = digits.format(number).as_bytes();
     if MOST_BYTES < key.len() {
@@ -126,6 +175,9 @@ fn add_at_number(store: &mut Store, array: Variable, number: i64, by: i64) -> bo
         (λ new. store.new ≡ with_array (kept.reference store.old array) new store.old) }
     ensures not_done { result ≡ false → store.new ≡ store.old }
 {
+    if let Ok(place) = usize::try_from(number) {
+        return store.add_to_number(array, place, by);
+    }
     let mut digits = Buffer::new();
     let key = digits.format(number).as_bytes();
     if MOST_BYTES < key.len() {

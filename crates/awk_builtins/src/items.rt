@@ -59,7 +59,7 @@ fn add_next(line: &mut Line, store: &Store, x: &Expr, separator: &[u8]) -> bool
 }
 
 /// Adds the texts of items that are at hand, each behind the separator, and answers whether it did.
-fn add_others(line: &mut Line, store: &Store, xs: &[Expr], separator: &[u8]) -> bool
+pub(crate) fn add_others(line: &mut Line, store: &Store, xs: &[Expr], separator: &[u8]) -> bool
     ensures { result ≡ true → (first : Val) → line.old ≡ held (joined separator.now (first ∷ [])) →
         HoldsJoined store.now xs.now separator.now first line.new }
 {

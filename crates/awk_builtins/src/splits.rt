@@ -14,7 +14,6 @@ ghost use Rattle.awk_store.specs.Acts.{Acts, Passes};
 ghost use Rattle.awk_store.specs.Wholes.{Whole, names_in};
 ghost use Rattle.awk_streams.specs.Tables.{Table};
 ghost use Rattle.awk_text.specs.Values.{text_of};
-ghost use Rattle.std.specs.Fmt.{decimal};
 ghost use Rattle.std.specs.Prelude.{Err, IfErr, IfOk, List, Ok, OnOk, [], false, length, pos, ℕ, ◌∷◌, ◌≡◌, ◌⊎◌};
 
 use crate::cache::Patterns;
@@ -43,13 +42,6 @@ pub fn split_text(alloc: Global, splitter: &Splitter, value: &Value) -> Result<V
     awk_fields::split(alloc, text_in(value, &mut buffer), splitter)
 }
 
-/// The digits of a number, as a key, in the buffer.
-fn number_key(number: u64, buffer: &mut Buffer) -> &[u8]
-    ensures { result.now ≡ decimal number }
-{
-    buffer.format(number).as_bytes()
-}
-
 /// Fills the array with the parts, in place of what it holds, under the keys 1, 2 and so on; and answers how
 /// many there are.
 ///
@@ -67,10 +59,9 @@ pub fn fill_with(array: &mut Array<Value>, parts: Vec<Octets>) -> Result<i64, Fa
     array.clear();
     let mut rest = parts;
     rest.as_mut_slice().reverse();
-    let mut number: u64 = 1;
-    let mut digits = Buffer::new();
+    let mut number: usize = 1;
     while let Some(part) = rest.pop() {
-        array.set(number_key(number, &mut digits), Value::Input(part))?;
+        array.set_number(number, Value::Input(part))?;
         number += 1;
     }
     Ok(count as i64)
