@@ -358,7 +358,10 @@ pub fn number_at_hand(store: &Store, e: &Expr, level: u32) -> Option<i64>
     if let Expr::Chain(x, xs) = e {
         return chain_at_hand(store, x.get(), xs.as_slice(), level - 1);
     }
-    number_made(store, e, level - 1)
+    match e {
+        Expr::Builtin(_, _, _) | Expr::Count(_) => number_made(store, e, level - 1),
+        _ => None,
+    }
 }
 
 /// The value of an expression, where it is there: to evaluate it changes nothing and meets no fault.
@@ -627,11 +630,15 @@ fn truth_there(store: &Store, e: &Expr) -> Option<bool>
     }
 }
 
-/// Whether an expression is true, where its value is there, or it is a comparison of two such.
-#[inline(always)]
+/// Whether an expression is true, where its value is there, or it is a comparison of two such. An ERE by itself never
+/// is: it is told from the others first.
+#[inline(never)]
 pub fn truth_at_hand(store: &Store, e: &Expr) -> Option<bool>
     ensures { IfSome result (λ b. HasTruth (λ names. view names e.now) store.now b) }
 {
+    if let Expr::Pattern(_, _) = e {
+        return None;
+    }
     if let Expr::Compare(how, x, y) = e {
         return compared_at_hand(store, *how, x.get(), y.get());
     }

@@ -253,8 +253,8 @@ fn assigned_element(
     }
 }
 
-/// `target = value`
-#[inline(always)]
+/// `target = value`. It stands out of line, as the others do that are told apart first: so a step has a small frame.
+#[inline(never)]
 fn assigned(
     alloc: Global,
     store: &mut Store,
@@ -339,6 +339,7 @@ fn added_by(
 }
 
 /// `target += number`, and of a variable with the other operators.
+#[inline(never)]
 fn changed(
     store: &mut Store,
     line: &mut Line,
@@ -405,7 +406,7 @@ fn stepped_element(
 }
 
 /// `target ++` and `target --`
-#[inline(always)]
+#[inline(never)]
 fn stepped_target(store: &mut Store, line: &mut Line, how: Step, target: &Target<Expr>) -> bool
     ensures done { result ≡ true → (place : Place) (taken : Which) →
         IsDone (λ names. p.step place how taken (view_target names target.now)) store.old store.new }

@@ -82,7 +82,8 @@ fn arguments<W: World, E: Evaluates<W>>(
     Ok(values)
 }
 
-/// `function ( list )`
+/// `function ( list )`. It stands out of line, so that the frame of `value` is small.
+#[inline(never)]
 pub fn call<W: World, E: Evaluates<W>>(
     cx: &Context<'_>,
     place: Place,

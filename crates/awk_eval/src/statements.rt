@@ -18,16 +18,64 @@ use awk_forms::context::{Context, Run};
 use awk_forms::evaluates::Evaluates;
 use awk_forms::lists::fill;
 use awk_forms::tests::{effect, truth_of};
+use awk_forms::units::units_of_statement;
 use awk_input::skipping::next_file;
 use awk_program::{Expr, Jump, Statement, Variable};
 use awk_store::Flow;
 use awk_store::flow::is_on;
 use awk_store::jumps::{exit, exit_with, next};
+use awk_store::steps::step;
 use awk_streams::halt::Halt;
 use awk_text::place::Place;
 use box_world::world::World;
 
-/// Statements, one after the other.
+/// A `return`, with the step before it. It stands out of line, so that a list has a small frame.
+#[inline(never)]
+fn stepped_return<W: World, E: Evaluates<W>>(
+    cx: &Context<'_>,
+    x: &Statement,
+    on: E,
+    run: &mut Run,
+    world: &mut W,
+) -> Result<Flow, Halt>
+    requires can { E.can on }
+    requires owns { Owns (W.open_numbers world.old) run.old.streams }
+    ensures { Does W.World cx.now (λ g. Do (Start (view_statement (names_in g) x.now))) (λ g. flows)
+        (whole_of run.old) world.old result (whole_of run.new) world.new }
+{
+    let Statement::Return(answer) = x else {
+        return on.statement(cx, x, run, world);
+    };
+    let Some(below) = on.below(units_of_statement(x)) else {
+        return Err(Halt::Memory);
+    };
+    step(cx.host.bound(), &mut run.store)?;
+    give_back(cx, answer, below, run, world)
+}
+
+/// One statement of a list. A `return` is met here, since most calls end by one: there is less on the way to its value
+/// so.
+#[inline(always)]
+fn one<W: World, E: Evaluates<W>>(
+    cx: &Context<'_>,
+    x: &Statement,
+    on: E,
+    run: &mut Run,
+    world: &mut W,
+) -> Result<Flow, Halt>
+    requires can { E.can on }
+    requires owns { Owns (W.open_numbers world.old) run.old.streams }
+    ensures { Does W.World cx.now (λ g. Do (Start (view_statement (names_in g) x.now))) (λ g. flows)
+        (whole_of run.old) world.old result (whole_of run.new) world.new }
+{
+    match x {
+        Statement::Return(_) => stepped_return(cx, x, on, run, world),
+        _ => on.statement(cx, x, run, world),
+    }
+}
+
+/// Statements, one after the other. It is always inlined, as it was before `one` stood in it.
+#[inline(always)]
 pub fn body<W: World, E: Evaluates<W>>(
     cx: &Context<'_>,
     xs: &[Statement],
@@ -41,7 +89,7 @@ pub fn body<W: World, E: Evaluates<W>>(
         (whole_of run.old) world.old result (whole_of run.new) world.new }
 {
     for x in xs {
-        let flow = on.statement(cx, x, run, world)?;
+        let flow = one(cx, x, on, run, world)?;
         if !is_on(&flow) {
             return Ok(flow);
         }
@@ -119,6 +167,7 @@ pub fn perform<W: World, E: Evaluates<W>>(
 }
 
 /// An expression whose value nothing wants.
+#[inline(always)]
 pub fn plain<W: World, E: Evaluates<W>>(
     cx: &Context<'_>,
     e: &Expr,

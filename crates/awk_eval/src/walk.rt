@@ -90,6 +90,18 @@ pub fn value<W: World>(
     ensures { Does W.World cx.now (λ g. value (view (names_in g) e.now)) (λ g. give)
         (whole_of run.old) world.old result (whole_of run.new) world.new }
 {
+    if let Expr::Call(place, f, xs) = e {
+        let units = units_of(e);
+        if left < units {
+            return Err(Halt::Memory);
+        }
+        let below = Walk {
+            left: left - units,
+            value: value::<W>,
+            statement: statement::<W>,
+        };
+        return call(cx, *place, *f, xs.as_slice(), below, run, world);
+    }
     if let Some(there) = value_at_hand(cx.alloc, &run.store, e) {
         return Ok(there);
     }
@@ -105,7 +117,6 @@ pub fn value<W: World>(
     match e {
         Expr::Chain(x, xs) => chain(cx, x.get(), xs.as_slice(), below, run, world),
         Expr::Choice(x, y, z) => choose(cx, x.get(), y.get(), z.get(), below, run, world),
-        Expr::Call(place, f, xs) => call(cx, *place, *f, xs.as_slice(), below, run, world),
         Expr::GetlineFile(place, target, x) => {
             from_file(cx, *place, target, x.get(), below, run, world)
         }

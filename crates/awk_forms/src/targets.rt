@@ -89,7 +89,8 @@ pub fn read_target<W: World, E: Evaluates<W>>(
 }
 
 /// `variable = value`, whose value nothing wants.
-fn put_variable<W: World, E: Evaluates<W>>(
+#[inline(always)]
+pub(crate) fn put_variable<W: World, E: Evaluates<W>>(
     cx: &Context<'_>,
     place: Place,
     variable: Variable,

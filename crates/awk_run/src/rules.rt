@@ -10,7 +10,7 @@ ghost use Rattle.awk_store.specs.Wholes.{names_in};
 ghost use Rattle.awk_streams.specs.Tasks.{Owns, goes_on};
 ghost use Rattle.std.specs.Prelude.{[], if◌then◌else◌, map, ◌≡◌};
 
-use awk_eval::{body, truth_of, value};
+use awk_eval::{body, truth_of};
 use awk_forms::{Context, MOST_UNITS, Run};
 use awk_input::ranges::{begin_range, end_range};
 use awk_program::{Expr, Rule, Statement, When};
@@ -67,12 +67,12 @@ fn meet<W: World>(
         (whole_of run.old) world.old result (whole_of run.new) world.new }
 {
     let pattern = next_pattern(run.store.is_on(n), first, last);
-    let found = value(cx, pattern, MOST_UNITS, run, world)?;
+    let holds = truth_of(cx, pattern, MOST_UNITS, run, world)?;
     if run.store.is_on(n) {
-        end_range(&mut run.store, n, &found)?;
+        end_range(&mut run.store, n, holds)?;
         return Ok(Some(true));
     }
-    let begins = begin_range(&mut run.store, n, &found)?;
+    let begins = begin_range(&mut run.store, n, holds)?;
     if begins {
         return Ok(None);
     }

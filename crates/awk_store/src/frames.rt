@@ -87,6 +87,7 @@ fn hand_arrays(store: &Store, xs: &[Argument<Expr>], bounds: &mut Vec<Bound>)
 }
 
 /// Adds the value of an argument behind the others.
+#[inline(always)]
 pub fn pass(values: &mut Passed, value: Value) -> Result<(), Halt>
     ensures ok { OnOk result (values.new ≡ values.old ++ value ∷ []) }
     ensures err { IfErr result (λ h. h ≡ Halt.Memory) }

@@ -307,6 +307,7 @@ pub fn replace_variable(
 }
 
 /// Sets a variable.
+#[inline(always)]
 pub fn set_variable(
     store: &mut Store,
     variable: Variable,

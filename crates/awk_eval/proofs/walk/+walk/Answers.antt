@@ -15,9 +15,13 @@ pub value-returns-then-left-units : goal.value-returns-then-left-units
 value-returns-then-left-units g t c =
     record { plays = λ m is. lacking (at_once _ _ _); owns = c.requires }
 
+pub value-returns-then-left-units-2 : goal.value-returns-then-left-units-2
+value-returns-then-left-units-2 g t c =
+    record { plays = λ m is. lacking (at_once _ _ _); owns = c.requires }
+
 pub value-returns-in-Chain : goal.value-returns-in-Chain
 value-returns-in-Chain g t c =
-    record { plays = λ m is. rw (c.in-Chain.is, view-Chain) (rw (c.get.ensures, c.as_slice.ensures) at (c.chain.ensures.plays m is)); owns = c.chain.ensures.owns }
+    record { plays = λ m is. rw (c.in-Chain.is, view-Chain) (rw (c.get.ensures, c.as_slice-in-Chain.ensures) at (c.chain.ensures.plays m is)); owns = c.chain.ensures.owns }
 
 pub value-returns-in-Choice : goal.value-returns-in-Choice
 value-returns-in-Choice g t c =
@@ -33,7 +37,7 @@ value-returns-in-Pipe g t c =
 
 pub value-returns-in-Call : goal.value-returns-in-Call
 value-returns-in-Call g t c =
-    record { plays = λ m is. rw (c.in-Call.is, view-Call) (rw c.as_slice-in-Call.ensures at (c.call.ensures.plays m is)); owns = c.call.ensures.owns }
+    record { plays = λ m is. rw (c.in-Call.is, view-Call) (rw c.as_slice.ensures at (c.call.ensures.plays m is)); owns = c.call.ensures.owns }
 
 pub statement-returns-then-left-units : goal.statement-returns-then-left-units
 statement-returns-then-left-units g t c =

@@ -1,32 +1,14 @@
-use Rattle.awk_forms.proofs.Leading.{failed_not, false_not}
-use Rattle.awk_streams.proofs.Chain.{at_once, done, part, passes, stop}
-use Rattle.awk_machine.specs.Forms.{value}
 use Rattle.awk_machine.specs.Pieces.{give}
-use Rattle.awk_program.specs.View.{view}
 use Rattle.awk_store.proofs.Acting.{acted, done as there}
-use Rattle.awk_store.specs.Wholes.{names_in}
-use Rattle.std.proofs.Common.{ap, false, refl, true, ◌∙◌}
-use Rattle.std.proofs.lemmas.Result.{err_from_is_err_and}
-use Rattle.std.specs.Prelude.{Ok}
+use Rattle.std.proofs.Common.{false, true}
 use Rattle.awk_forms.proofs.tests.effect.Goals as goal
-use Rattle.awk_text.specs.declared.value.Value.TheVariants as v
 
 pub returns-then-is_done : goal.returns-then-is_done
 returns-then-is_done g c =
     let h = c.done_at_once-is_done.ensures.done c.if-is_done.true in
     record { val = h.val; is = tt; does = record { plays = λ m is. acted (there {on = λ (u : Unit {0}). give h.val} {x = tt} (h.gives m c.args.run.now.streams)); owns = c.requires.owns } }
 
-pub returns-in_err-is_done : goal.returns-in_err-is_done
-returns-in_err-is_done g c =
-    let e = err_from_is_err_and c.from_residual.result c.from_residual.ensures.1 in
-    rw (e.1, e.2) (record { val = v.Unset; is = tt; does = record { plays = λ m is. stop _ (λ k. refl) (at_once _ _ _) (acted (rw (c.done_at_once-is_done.ensures.not_done c.if-is_done.false) at (c.done_once_split.ensures.not_done (failed_not c.in_err-is_done.was) m c.args.run.now.streams (value (view (names_in m) c.args.e.now))))) c.in_err-is_done.was; owns = c.requires.owns } })
-
-pub returns-then-is_done-2 : goal.returns-then-is_done-2
-returns-then-is_done-2 g c =
-    let h = rw (c.done_at_once-is_done.ensures.not_done c.if-is_done.false) at (c.done_once_split.ensures.done (c.in_ok-is_done.was ∙ ap Ok c.if-is_done-2.true)) in
-    record { val = h.val; is = tt; does = record { plays = λ m is. acted (there {on = λ (u : Unit {0}). give h.val} {x = tt} (h.gives m c.args.run.now.streams)); owns = c.requires.owns } }
-
 pub returns : goal.returns
 returns g c =
-    let h = c.general_effect.ensures in
-    record { val = h.val; is = h.is; does = record { plays = λ m is. passes (part _ (at_once _ _ _) (acted (rw (c.done_at_once-is_done.ensures.not_done c.if-is_done.false) at (c.done_once_split.ensures.not_done (false_not c.in_ok-is_done.is_done c.in_ok-is_done.was c.if-is_done-2.false) m c.args.run.now.streams (value (view (names_in m) c.args.e.now))))) c.in_ok-is_done.was) (h.does.plays m is); owns = h.does.owns } }
+    let h = c.later_effect.ensures in
+    record { val = h.val; is = h.is; does = record { plays = λ m is. rw (c.done_at_once-is_done.ensures.not_done c.if-is_done.false) at (h.does.plays m is); owns = h.does.owns } }

@@ -4,13 +4,13 @@ use Rattle.awk_store.proofs.Acting.{lacking}
 use Rattle.awk_input.proofs.RangeSteps.{stays_on, turns_off}
 use Rattle.awk_input.proofs.ranges.end_range.Goals as goal
 
-pub returns-then-not-truth : goal.returns-then-not-truth
-returns-then-not-truth c = λ g t x y z is. stays_on g (c.args.store.now, t) c.args.rule x y z is c.args.last.now c.requires (sym c.truth.ensures ∙ c.if-not-truth.true)
+pub returns-then-not-holds : goal.returns-then-not-holds
+returns-then-not-holds c = λ g t x y z v is so. stays_on g (c.args.store.now, t) c.args.rule x y z is v c.requires (sym so ∙ c.if-not-holds.true)
 
 pub returns : goal.returns
-returns c = λ g t x y z is. turns_off g (c.args.store.now, t) c.args.rule x y z is c.args.last.now c.set_on.new.self c.requires (sym c.truth.ensures ∙ c.if-not-truth.false) c.in_ok-set_on.ensures.ok
+returns c = λ g t x y z v is so. turns_off g (c.args.store.now, t) c.args.rule x y z is v c.set_on.new.self c.requires (sym so ∙ c.if-not-holds.false) c.in_ok-set_on.ensures.ok
 
 pub returns-in_err-set_on : goal.returns-in_err-set_on
-returns-in_err-set_on c = λ g t x y z is.
+returns-in_err-set_on c = λ g t x y z v is so.
     let e = err_from_is_err_and c.from_residual.result c.from_residual.ensures.1 in
     rw (e.1, e.2, c.in_err-set_on.ensures.err) (lacking refl)
