@@ -1352,19 +1352,19 @@ for case in 'effect|1|effect is no text; it is allow or deny' \
     'kind|"reed"|unknown kind "reed" (did you mean "read"?); it is read, write, append, run, env or assign' \
     'match|1|match is no text' 'from|"file"|unknown from "file"; it is any or given' \
     'limit|0|limit is no whole number from 1 to 1000000'; do
-    IFS='|' read -r key value words <<<"$case"
+    IFS='|' read -r key value said <<<"$case"
     lone_rule 2 "$(printf '%s\n' 'effect = "allow"' 'kind = "read"' 'match = "a"' | grep -v "^$key"; echo "\"$key\" = $value")"
-    lints "a wrong $key" "$p:$(wc -l <"$p"): P5 rule 1: $words$line" 3
+    lints "a wrong $key" "$p:$(wc -l <"$p"): P5 rule 1: $said$line" 3
 done
 lone_rule 2 $'effect = "deny"\nkind = "run"\nmatch = "a"\nlimit = 1'
 lints "a limit beside an effect that denies" "$p:8: P5 rule 1: limit stands beside an effect that denies$line" 3
 for case in 'run||it is empty' 'run|a\u0000|it holds a NUL byte' \
     'env|a-b|a name has letters, digits and _ alone, and * for any run of these' \
     'read|a**|** stands inside a longer component; write it as a component of its own'; do
-    IFS='|' read -r kind pattern words <<<"$case"
+    IFS='|' read -r kind pattern said <<<"$case"
     lone_rule 1 "$(printf '%s\n' 'effect = "allow"' "kind = \"$kind\"" "match = \"$pattern\"")"
-    lints "no pattern: $kind $words" \
-        "$p:7: P6 rule 1: match \"${pattern/u0000/x00}\" is no pattern of kind $kind: $words$line" 3
+    lints "no pattern: $kind $said" \
+        "$p:7: P6 rule 1: match \"${pattern/u0000/x00}\" is no pattern of kind $kind: $said$line" 3
 done
 printf 'version = 1\nbase = "/\xff"\n' >"$p"
 lints "a text that is not UTF-8" "$p:2: P1: invalid UTF-8$line" 3
