@@ -182,6 +182,7 @@ pub fn truth_of<W: World>(
 }
 
 /// Statements, one after the other.
+#[inline(always)]
 pub fn body<W: World>(
     cx: &Context<'_>,
     xs: &[Statement],
