@@ -14,9 +14,7 @@ ghost use Rattle.awk_program.specs.declared.operators.StepValue.{StepValue as Wh
 use crate::context::{Context, Run};
 use crate::evaluates::Evaluates;
 use crate::lists::element;
-use awk_builtins::done::key_at_hand;
 use awk_builtins::growing::assigned;
-use awk_builtins::keyed::{read_at_key, step_at_key};
 use awk_builtins::keys::field_number;
 use awk_builtins::made::{computed_at, stepped_at};
 use awk_program::{Expr, Operator, Step, StepValue, Target, Variable};
@@ -85,11 +83,6 @@ pub fn read_target<W: World, E: Evaluates<W>>(
 {
     if let Target::Variable(variable) = target {
         return read_variable(cx.alloc, &mut run.store, *variable);
-    }
-    if let Target::Element(at_name, array, keys) = target {
-        if let Some(key) = key_at_hand(&run.store, &mut run.line, keys.as_slice()) {
-            return read_at_key(cx.alloc, &mut run.store, *at_name, *array, key);
-        }
     }
     let from = target_of(cx, target, on, run, world)?;
     read(cx.alloc, &mut run.store, &from)
@@ -186,11 +179,6 @@ pub fn step_target<W: World, E: Evaluates<W>>(
         (λ g n. give (either taken n.0 n.1))
         (whole_of run.old) world.old result (whole_of run.new) world.new }
 {
-    if let Target::Element(at_name, array, keys) = target {
-        if let Some(key) = key_at_hand(&run.store, &mut run.line, keys.as_slice()) {
-            return step_at_key(cx.alloc, &mut run.store, place, how, *at_name, *array, key);
-        }
-    }
     let to = target_of(cx, target, on, run, world)?;
     let old = read(cx.alloc, &mut run.store, &to)?;
     let (before, behind) = stepped_at(place, how, &old)?;

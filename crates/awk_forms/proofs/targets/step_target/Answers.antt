@@ -2,21 +2,16 @@ use Rattle.awk_forms.proofs.Leading.{quietly}
 use Rattle.awk_streams.proofs.Chain.{at_once, done, part, stop, turned}
 use Rattle.awk_machine.specs.Expressions.{either}
 use Rattle.awk_machine.specs.Pieces.{At, Do, Get, Give, Set, Value_of}
-use Rattle.awk_program.specs.Program.{expressions_of}
-use Rattle.awk_program.specs.View.{variable_of, view, view_target}
+use Rattle.awk_program.specs.View.{view_target}
 use Rattle.awk_store.proofs.Acting.{acted}
 use Rattle.awk_store.specs.Spots.{meant, value_of}
 use Rattle.awk_store.specs.Wholes.{names_in}
-use Rattle.std.proofs.Common.{[], ap, map, refl, rules, w64, ◌∷◌}
+use Rattle.std.proofs.Common.{[], ap, refl, rules, w64, ◌∷◌}
 use Rattle.std.proofs.lemmas.Int.{to_z-of_z}
 use Rattle.std.proofs.lemmas.Result.{err_from_is_err_and}
 use Rattle.awk_forms.proofs.targets.step_target.Goals as goal
 use Rattle.awk_program.specs.Program as p
 use Rattle.awk_text.specs.declared.value.Value.TheVariants as v
-
-pub returns-in-Some : goal.returns-in-Some
-returns-in-Some g c =
-    λ which. record { plays = λ m is. rw c.in-Element.is (acted (c.step_at_key.ensures m c.args.run.now.streams (expressions_of (map (view (names_in m)) c.in-Element.keys)) which (rw c.as_slice.ensures at (c.in-Some.ensures m c.args.run.now.streams c.in-Element.at_name (variable_of (names_in m) c.in-Element.array))))); owns = c.requires.owns }
 
 pub returns-in_err-to : goal.returns-in_err-to
 returns-in_err-to g c =
