@@ -166,8 +166,8 @@ pub fn perform<W: World, E: Evaluates<W>>(
     }
 }
 
-/// An expression whose value nothing wants.
-#[inline(always)]
+/// An expression whose value nothing wants. It stands out of line, so that a statement has a small frame.
+#[inline(never)]
 pub fn plain<W: World, E: Evaluates<W>>(
     cx: &Context<'_>,
     e: &Expr,
