@@ -12,7 +12,7 @@ use Rattle.awk_tree.specs.Expressions.{expr}
 
 pub record Nests (depth : ℕ) (pre : Global → MutBor (List Token) → ℕ → Goal → Type 0)
     (post : Global → MutBor (List Token) → ℕ → Goal → Result Expr ParseError → MutBor (List Token)
-        → Type 0) : Type 0 where
+    → Type 0) : Type 0 where
   pub callable : (alloc : Global) (old : MutBor (List Token)) (goal : Goal) → pre alloc old depth goal
   pub reads : (alloc : Global) (old new : MutBor (List Token)) (goal : Goal) (r : Result Expr ParseError) →
       post alloc old depth goal r new

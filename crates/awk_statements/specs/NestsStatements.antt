@@ -12,7 +12,7 @@ use Rattle.awk_tree.specs.Statements.{statement}
 
 pub record NestsStatements (depth : ℕ) (pre : Global → MutBor (List Token) → ℕ → Nested → Type 0)
     (post : Global → MutBor (List Token) → ℕ → Nested → Result Statement ParseError → MutBor (List Token)
-        → Type 0) : Type 0
+    → Type 0) : Type 0
   where
     pub callable : (alloc : Global) (old : MutBor (List Token)) (which : Nested) → pre alloc old depth which
     pub reads : (alloc : Global) (old new : MutBor (List Token)) (which : Nested) (r : Result Statement ParseError) →
