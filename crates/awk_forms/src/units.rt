@@ -15,7 +15,7 @@ pub fn units_of(e: &Expr) -> u32
     ensures { 1 ≤ result }
 {
     match e {
-        Expr::Chain(_, _) => 10,
+        Expr::Chain(_, _) => 12,
         Expr::Choice(_, _, _) => 12,
         Expr::Call(_, _, _) => 20,
         Expr::GetlineFile(_, _, _) => 24,
