@@ -10,7 +10,7 @@ use Rattle.awk_ere.specs.Matcher.{StandsFor, StartsFrom}
 use Rattle.awk_ere.specs.Table.{Matcher, anywhere}
 use Rattle.awk_ere.specs.View.{pattern}
 use Rattle.awk_ere.specs.Tree.{IsWhole, IsTree}
-use Rattle.awk_ere.specs.declared.tree.Sized.{Sized}
+use Rattle.awk_ere.specs.declared.tree.SizedNode.{SizedNode}
 use Rattle.awk_ere.specs.declared.node.Node.{Node}
 use Rattle.awk_ere.specs.declared.program.Instruction.{Instruction}
 use Rattle.awk_ere.specs.declared.program.Instruction.TheVariants.{Done}
@@ -49,7 +49,7 @@ compiled_later old a b e next p h sound grows = record {
 }
 
 -- a tree that was read, where its text is within the limits
-pub within : (text : List ℕ) (sets : List (List Bool)) (part : Sized) → length text ≤ 4096 → part.size ≤ 20000 → IsWhole text sets part → IsTree text sets part.node
+pub within : (text : List ℕ) (sets : List (List Bool)) (part : SizedNode) → length text ≤ 4096 → part.size ≤ 20000 → IsWhole text sets part → IsTree text sets part.node
 within text sets part short small (ts, p, n, read, spells, stands) = (
   p,
   record { size = n; spelled = (ts, read, spells); short = short; small = no_larger part.size n stands.size small },

@@ -11,24 +11,24 @@ use Rattle.awk_ere.specs.Tree.{Meant, cats, alts, repeats, nothing, Frame, frame
 use Rattle.awk_ere.specs.declared.node.Node.{Node, Empty, Bytes}
 use Rattle.awk_ere.specs.declared.token.Class.{Class}
 use Rattle.awk_ere.specs.declared.token.Class.TheVariants.{One, Any, In}
-use Rattle.awk_ere.specs.declared.tree.Sized as code_part
+use Rattle.awk_ere.specs.declared.tree.SizedNode as code_part
 use Rattle.awk_ere.specs.declared.tree.Frame as code_frame
 use Rattle.awk_ere.proofs.Normal.{same_refl, same_trans, same_cat, same_alt, same_repeat}
 
-abbrev pub Sized : Type 0
-Sized = code_part.Sized
+abbrev pub SizedNode : Type 0
+SizedNode = code_part.SizedNode
 
-abbrev pub part : Node → ℕ → Sized
+abbrev pub part : Node → ℕ → SizedNode
 part n k = record { node = n; size = k }
 
 module _ (sets : List (List Bool)) where
-  pub cat_stands : (l r : Sized) (n : Node) (k : ℕ) (p q : Meant) → k ≡ min 20001 (l.size + r.size) → ((all : List (List Bool)) → IsSame (pattern all n) (cat (pattern all l.node) (pattern all r.node))) → Stands sets l p → Stands sets r q → Stands sets (part n k) (cats p q)
+  pub cat_stands : (l r : SizedNode) (n : Node) (k : ℕ) (p q : Meant) → k ≡ min 20001 (l.size + r.size) → ((all : List (List Bool)) → IsSame (pattern all n) (cat (pattern all l.node) (pattern all r.node))) → Stands sets l p → Stands sets r q → Stands sets (part n k) (cats p q)
   cat_stands l r n k p q is same h g = record {
     same = λ all later. same_trans _ _ _ (same all) (same_cat _ _ _ _ (h.same all later) (g.same all later));
     size = omega (arith, is, h.size, g.size);
   }
 
-  pub alt_stands : (l r : Sized) (n : Node) (k : ℕ) (p q : Meant) → k ≡ min 20001 (l.size + r.size) → ((all : List (List Bool)) → IsSame (pattern all n) (alt (pattern all l.node) (pattern all r.node))) → Stands sets l p → Stands sets r q → Stands sets (part n k) (alts p q)
+  pub alt_stands : (l r : SizedNode) (n : Node) (k : ℕ) (p q : Meant) → k ≡ min 20001 (l.size + r.size) → ((all : List (List Bool)) → IsSame (pattern all n) (alt (pattern all l.node) (pattern all r.node))) → Stands sets l p → Stands sets r q → Stands sets (part n k) (alts p q)
   alt_stands l r n k p q is same h g = record {
     same = λ all later. same_trans _ _ _ (same all) (same_alt _ _ _ _ (h.same all later) (g.same all later));
     size = omega (arith, is, h.size, g.size);
@@ -41,7 +41,7 @@ module _ (sets : List (List Bool)) where
     | inr le ↦ ap (λ x. min 20001 (x * suc f)) (let e : min 20001 n ≡ 20001 = omega arith in e) ∙ (let e : min 20001 (20001 * suc f) ≡ min 20001 (n * suc f) = omega arith in e)
   ]
 
-  pub repeat_stands : (l : Sized) (n : Node) (k : ℕ) (p : Meant) (least : ℕ) (most : Option ℕ) (factor : ℕ) → k ≡ min 20001 (l.size * factor) → ((all : List (List Bool)) → IsSame (pattern all n) (repeat (pattern all l.node) least most)) → Stands sets l p → Stands sets (part n k) (repeats p least most factor)
+  pub repeat_stands : (l : SizedNode) (n : Node) (k : ℕ) (p : Meant) (least : ℕ) (most : Option ℕ) (factor : ℕ) → k ≡ min 20001 (l.size * factor) → ((all : List (List Bool)) → IsSame (pattern all n) (repeat (pattern all l.node) least most)) → Stands sets l p → Stands sets (part n k) (repeats p least most factor)
   repeat_stands l n k p least most factor is same h = record {
     same = λ all later. same_trans _ _ _ (same all) (same_repeat _ _ least most (h.same all later));
     size = is ∙ ap (λ x. min 20001 (x * factor)) h.size ∙ size_times p.1 factor;
@@ -51,38 +51,38 @@ module _ (sets : List (List Bool)) where
   nothing_stands = record { same = λ all later. same_refl empty; size = omega arith }
 
   -- the last item joins the pieces
-  abbrev pub Flushes : Sized → Option Sized → Sized → Type 0
+  abbrev pub Flushes : SizedNode → Option SizedNode → SizedNode → Type 0
   Flushes pieces l r = (p : Meant) (m : Option Meant) → Stands sets pieces p → StandsAny sets l m → Stands sets r (flush p m)
 
-  pub flush_none : (pieces : Sized) (l : Option Sized) → l ≡ None → Flushes pieces l pieces
+  pub flush_none : (pieces : SizedNode) (l : Option SizedNode) → l ≡ None → Flushes pieces l pieces
   flush_none pieces None is = λ p m h g. none p m h g where
     none : (p : Meant) (m : Option Meant) → Stands sets pieces p → StandsAny sets None m → Stands sets pieces (flush p m)
     none p None h g = h
     none p (Some q) h g = absurd g
   flush_none pieces (Some x) is = absurd (cc)
 
-  pub flush_some : (pieces : Sized) (l : Option Sized) (x r : Sized) → l ≡ Some x → ((p q : Meant) → Stands sets pieces p → Stands sets x q → Stands sets r (cats p q)) → Flushes pieces l r
+  pub flush_some : (pieces : SizedNode) (l : Option SizedNode) (x r : SizedNode) → l ≡ Some x → ((p q : Meant) → Stands sets pieces p → Stands sets x q → Stands sets r (cats p q)) → Flushes pieces l r
   flush_some pieces l x r is cats_stand = λ p m h g. some p m h (subst (λ y. StandsAny sets y m) is g) where
     some : (p : Meant) (m : Option Meant) → Stands sets pieces p → StandsAny sets (Some x) m → Stands sets r (flush p m)
     some p None h g = absurd g
     some p (Some q) h g = cats_stand p q h g
 
   module _ (f : code_frame.Frame) where
-    pub finish_none : (branch : Sized) (m : Frame) → f.before ≡ None → Flushes f.pieces f.last branch → IsFrame sets f m → Stands sets branch (finished m)
+    pub finish_none : (branch : SizedNode) (m : Frame) → f.before ≡ None → Flushes f.pieces f.last branch → IsFrame sets f m → Stands sets branch (finished m)
     finish_none branch (frame None p l) is flushes h = flushes p l h.1 h.2
     finish_none branch (frame (Some a) p l) is flushes h = absurd (subst (λ y. StandsAny sets y (Some a)) is h.0)
 
-    pub finish_some : (branch x r : Sized) (m : Frame) → f.before ≡ Some x → Flushes f.pieces f.last branch → ((p q : Meant) → Stands sets x p → Stands sets branch q → Stands sets r (alts p q)) → IsFrame sets f m → Stands sets r (finished m)
+    pub finish_some : (branch x r : SizedNode) (m : Frame) → f.before ≡ Some x → Flushes f.pieces f.last branch → ((p q : Meant) → Stands sets x p → Stands sets branch q → Stands sets r (alts p q)) → IsFrame sets f m → Stands sets r (finished m)
     finish_some branch x r (frame None p l) is flushes alts_stand h = absurd (subst (λ y. StandsAny sets y None) is h.0)
     finish_some branch x r (frame (Some a) p l) is flushes alts_stand h = alts_stand a (flush p l) (subst (λ y. StandsAny sets y (Some a)) is h.0) (flushes p l h.1 h.2)
 
-    pub item_frame : (pieces item : Sized) (m : Frame) (p : Meant) → Flushes f.pieces f.last pieces → IsFrame sets f m → Stands sets item p → IsFrame sets (record { before = f.before; pieces = pieces; last = Some item }) (with_last m p)
+    pub item_frame : (pieces item : SizedNode) (m : Frame) (p : Meant) → Flushes f.pieces f.last pieces → IsFrame sets f m → Stands sets item p → IsFrame sets (record { before = f.before; pieces = pieces; last = Some item }) (with_last m p)
     item_frame pieces item (frame b q l) p flushes h g = (h.0, flushes q l h.1 h.2, g)
 
-    pub anchor_frame : (pieces both : Sized) (n : Node) (m : Frame) (p : Pattern) → Flushes f.pieces f.last pieces → ((x y : Meant) → Stands sets pieces x → Stands sets (part n 1) y → Stands sets both (cats x y)) → IsFrame sets f m → ((all : List (List Bool)) → IsSame (pattern all n) p) → IsFrame sets (record { before = f.before; pieces = both; last = None }) (with_anchor m p)
+    pub anchor_frame : (pieces both : SizedNode) (n : Node) (m : Frame) (p : Pattern) → Flushes f.pieces f.last pieces → ((x y : Meant) → Stands sets pieces x → Stands sets (part n 1) y → Stands sets both (cats x y)) → IsFrame sets f m → ((all : List (List Bool)) → IsSame (pattern all n) p) → IsFrame sets (record { before = f.before; pieces = both; last = None }) (with_anchor m p)
     anchor_frame pieces both n (frame b q l) p flushes cats_stand h same = (h.0, cats_stand (flush q l) (p, 1) (flushes q l h.1 h.2) (record { same = λ all later. same all; size = omega arith }), tt)
 
-    pub bar_frame : (whole : Sized) (m : Frame) → Stands sets whole (finished m) → IsFrame sets (record { before = Some whole; pieces = part Empty 0; last = None }) (with_bar m)
+    pub bar_frame : (whole : SizedNode) (m : Frame) → Stands sets whole (finished m) → IsFrame sets (record { before = Some whole; pieces = part Empty 0; last = None }) (with_bar m)
     bar_frame whole m h = (h, nothing_stands, tt)
 
   pub fresh_frame : IsFrame sets (record { before = None; pieces = part Empty 0; last = None }) fresh

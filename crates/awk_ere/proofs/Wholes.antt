@@ -15,7 +15,7 @@ use Rattle.awk_ere.specs.declared.error.EreFault.TheVariants.{Syntax, Interval}
 use Rattle.awk_ere.specs.declared.front.Lead.{Lead}
 use Rattle.awk_ere.specs.declared.front.Lead.TheVariants.{Bracket, Escape, Brace, Sign}
 use Rattle.awk_ere.specs.declared.token.Token as code_token
-use Rattle.awk_ere.specs.declared.tree.Sized as code_part
+use Rattle.awk_ere.specs.declared.tree.SizedNode as code_part
 use Rattle.awk_ere.specs.declared.tree.Frame as code_frame
 use Rattle.awk_ere.proofs.Building.{StackAt, taken_at, finish_spells}
 use Rattle.awk_ere.proofs.Tokens.{later_more}
@@ -106,10 +106,10 @@ leads_more [] p q t left h e = (left, ap front_at h ∙ e, ap (λ x. spot_after 
 leads_more (u ∷ ts) p q t left (l, one, rest) e = (l, one, leads_more ts (spot_after p u l) q t left rest e)
 
 -- later sets
-stands_later : (a b : List (List Bool)) (x : code_part.Sized) (p : Meant) → Later a b → Stands a x p → Stands b x p
+stands_later : (a b : List (List Bool)) (x : code_part.SizedNode) (p : Meant) → Later a b → Stands a x p → Stands b x p
 stands_later a b x p later h = record { same = λ all after. h.same all (later_more a b all later after); size = h.size }
 
-any_later : (a b : List (List Bool)) (x : Option code_part.Sized) (p : Option Meant) → Later a b → StandsAny a x p → StandsAny b x p
+any_later : (a b : List (List Bool)) (x : Option code_part.SizedNode) (p : Option Meant) → Later a b → StandsAny a x p → StandsAny b x p
 any_later a b None None later h = tt
 any_later a b None (Some p) later h = h
 any_later a b (Some x) None later h = h
@@ -145,7 +145,7 @@ groups_open sets items (o ∷ os) (front, f, is, one, rest) = ap length is ∙ g
 
 last_is : (sets : List (List Bool)) (f : code_frame.Frame) (m : Frame) → IsFrame sets f m → is_some f.last ≡ is_some (last m)
 last_is sets f (frame b p l) h = any_is f.last l h.2 where
-  any_is : (x : Option code_part.Sized) (y : Option Meant) → StandsAny sets x y → is_some x ≡ is_some y
+  any_is : (x : Option code_part.SizedNode) (y : Option Meant) → StandsAny sets x y → is_some x ≡ is_some y
   any_is None None g = refl
   any_is None (Some y) g = absurd g
   any_is (Some x) None g = absurd g
@@ -258,7 +258,7 @@ module _ (o m : Bool) where
 pub fault_kind : (text : List ℕ) (f : EreFault) → HasFault text f → (f ≡ Syntax) ⊎ (f ≡ Interval)
 fault_kind text f h = subst Faulty h.3 (front_faulty (nat_lt 0 h.1.depth) h.1.may_repeat h.1.left)
 
-pub reading_ends : (text left : List ℕ) (items : List code_frame.Frame) (top : code_frame.Frame) (sets : List (List Bool)) (o m : Bool) (whole : code_part.Sized) → Reading text items top sets left
+pub reading_ends : (text left : List ℕ) (items : List code_frame.Frame) (top : code_frame.Frame) (sets : List (List Bool)) (o m : Bool) (whole : code_part.SizedNode) → Reading text items top sets left
     → o ≡ nat_lt 0 (length items) → m ≡ is_some top.last → spec.front o m left ≡ spec.finished
     → ((f : Frame) → IsFrame sets top f → Stands sets whole (finished f))
     → (ts : List spec.Token) × (p : Pattern) × (n : ℕ) × IsRead text ts × Spells ere ts p n × Stands sets whole (p, n)

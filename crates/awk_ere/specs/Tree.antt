@@ -10,7 +10,7 @@ use Rattle.awk_ere.specs.Spelled.{IsPattern}
 use Rattle.awk_ere.specs.Lexing.{Later}
 use Rattle.awk_ere.specs.View.{pattern}
 use Rattle.awk_ere.specs.declared.node.Node.{Node}
-use Rattle.awk_ere.specs.declared.tree.Sized as code_part
+use Rattle.awk_ere.specs.declared.tree.SizedNode as code_part
 use Rattle.awk_ere.specs.declared.tree.Frame as code_frame
 use Rattle.awk_ere.specs.declared.tree.TheConstants.{TOO_LARGE}
 
@@ -103,11 +103,11 @@ taken closing (o ∷ os) f = Some (os, with_last o (finished f))
 taken bar os f = Some (os, with_bar f)
 
 -- the code's part stands for the pattern, whatever sets are added; sizes over the limit are one
-pub record Stands (sets : List (List Bool)) (part : code_part.Sized) (p : Meant) : Type 0 where
+pub record Stands (sets : List (List Bool)) (part : code_part.SizedNode) (p : Meant) : Type 0 where
   pub same : (all : List (List Bool)) → Later sets all → IsSame (pattern all part.node) p.0
   pub size : part.size ≡ min TOO_LARGE p.1
 
-abbrev pub StandsAny : List (List Bool) → Option code_part.Sized → Option Meant → Type 0
+abbrev pub StandsAny : List (List Bool) → Option code_part.SizedNode → Option Meant → Type 0
 StandsAny sets None None = Unit {0}
 StandsAny sets (Some part) (Some p) = Stands sets part p
 StandsAny sets part p = ⊥
@@ -127,7 +127,7 @@ IsStack sets groups f None = Unit {0}
 IsStack sets groups f (Some stack) = AreFrames sets groups stack.0 × IsFrame sets f stack.1
 
 -- the part stands for the pattern that the whole text spells
-abbrev pub IsWhole : List ℕ → List (List Bool) → code_part.Sized → Type 0
+abbrev pub IsWhole : List ℕ → List (List Bool) → code_part.SizedNode → Type 0
 IsWhole text sets part =
     (ts : List Token) × (p : Pattern) × (n : ℕ) × IsRead text ts × Spells ere ts p n × Stands sets part (p, n)
 

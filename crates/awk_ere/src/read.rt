@@ -8,13 +8,13 @@ use crate::bracket::Set;
 use crate::error::{EreFault, MAX_BYTES, MAX_SIZE};
 use crate::front::front;
 use crate::node::Node;
-use crate::tree::{Sized, finish, fresh, take};
+use crate::tree::{SizedNode, finish, fresh, take};
 use std::alloc::Global;
 
 /// The tree of the text's pattern. The sets of its bracket expressions are put into `sets`.
 ///
 /// Errors: the text's leftmost fault, or `Memory`.
-fn read(alloc: Global, text: &[u8], sets: &mut Vec<Set>) -> Result<Sized, EreFault>
+fn read(alloc: Global, text: &[u8], sets: &mut Vec<Set>) -> Result<SizedNode, EreFault>
     ensures ok { IfOk result (λ part. IsWhole text.now sets.new.items part) }
     ensures err { IfErr result (λ f. f ≢ EreFault.Memory → HasFault text.now f) }
 {
@@ -40,7 +40,7 @@ pub fn read_within(alloc: Global, text: &[u8], sets: &mut Vec<Set>) -> Result<No
     if text.len() > MAX_BYTES {
         return Err(EreFault::Size);
     }
-    let Sized { node, size } = read(alloc, text, sets)?;
+    let SizedNode { node, size } = read(alloc, text, sets)?;
     if size > MAX_SIZE {
         return Err(EreFault::Size);
     }

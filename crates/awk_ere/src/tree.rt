@@ -18,7 +18,7 @@ pub const TOO_LARGE: usize = MAX_SIZE + 1;
 
 /// A pattern, with its size.
 #[derive(Drop)]
-pub struct Sized {
+pub struct SizedNode {
     pub node: Node,
     pub size: usize,
 }
@@ -27,9 +27,9 @@ pub struct Sized {
 /// which a repetition may still take.
 #[derive(Drop)]
 pub struct Frame {
-    pub before: Option<Sized>,
-    pub pieces: Sized,
-    pub last: Option<Sized>,
+    pub before: Option<SizedNode>,
+    pub pieces: SizedNode,
+    pub last: Option<SizedNode>,
 }
 
 fn cat_node(alloc: Global, left: Node, right: Node) -> Result<Node, Memory>
@@ -142,26 +142,26 @@ fn repeat_node(alloc: Global, node: Node, least: usize, more: Option<usize>) -> 
     }
 }
 
-fn cat_parts(alloc: Global, left: Sized, right: Sized) -> Result<Sized, Memory>
+fn cat_parts(alloc: Global, left: SizedNode, right: SizedNode) -> Result<SizedNode, Memory>
     ensures { IfOk result
         (λ r. (sets : List (List Bool)) (p q : spec.Meant) → spec.Stands sets left p → spec.Stands sets right q →
         spec.Stands sets r (spec.cats p q)) }
 {
-    let Sized { node, size } = left;
+    let SizedNode { node, size } = left;
     let size = size.saturating_add(right.size).min(TOO_LARGE);
     let node = cat_node(alloc, node, right.node)?;
-    Ok(Sized { node, size })
+    Ok(SizedNode { node, size })
 }
 
-fn alt_parts(alloc: Global, left: Sized, right: Sized) -> Result<Sized, Memory>
+fn alt_parts(alloc: Global, left: SizedNode, right: SizedNode) -> Result<SizedNode, Memory>
     ensures { IfOk result
         (λ r. (sets : List (List Bool)) (p q : spec.Meant) → spec.Stands sets left p → spec.Stands sets right q →
         spec.Stands sets r (spec.alts p q)) }
 {
-    let Sized { node, size } = left;
+    let SizedNode { node, size } = left;
     let size = size.saturating_add(right.size).min(TOO_LARGE);
     let node = alt_node(alloc, node, right.node)?;
-    Ok(Sized { node, size })
+    Ok(SizedNode { node, size })
 }
 
 fn widened(more: Option<u16>) -> Option<usize>
@@ -173,19 +173,19 @@ fn widened(more: Option<u16>) -> Option<usize>
     }
 }
 
-fn repeat_part(alloc: Global, part: Sized, times: Times) -> Result<Sized, Memory>
+fn repeat_part(alloc: Global, part: SizedNode, times: Times) -> Result<SizedNode, Memory>
     ensures { IfOk result
         (λ r. (sets : List (List Bool)) (p : spec.Meant) → spec.Stands sets part p →
         spec.Stands sets r (spec.repeats p times.least (option_map (λ m. times.least + m) times.more) times.factor)) }
 {
-    let Sized { node, size } = part;
+    let SizedNode { node, size } = part;
     let size = size.saturating_mul(times.factor as usize).min(TOO_LARGE);
     let more = widened(times.more);
     let node = repeat_node(alloc, node, times.least as usize, more)?;
-    Ok(Sized { node, size })
+    Ok(SizedNode { node, size })
 }
 
-fn flush(alloc: Global, pieces: Sized, last: Option<Sized>) -> Result<Sized, Memory>
+fn flush(alloc: Global, pieces: SizedNode, last: Option<SizedNode>) -> Result<SizedNode, Memory>
     ensures { IfOk result
         (λ r. (sets : List (List Bool)) (p : spec.Meant) (l : Option spec.Meant) → spec.Stands sets pieces p →
         spec.StandsAny sets last l → spec.Stands sets r (spec.flush p l)) }
@@ -200,7 +200,7 @@ fn flush(alloc: Global, pieces: Sized, last: Option<Sized>) -> Result<Sized, Mem
 }
 
 /// The pattern of the frame as a whole.
-pub fn finish(alloc: Global, frame: Frame) -> Result<Sized, Memory>
+pub fn finish(alloc: Global, frame: Frame) -> Result<SizedNode, Memory>
     ensures { IfOk result
         (λ r. (sets : List (List Bool)) (f : spec.Frame) → spec.IsFrame sets frame f →
         spec.Stands sets r (spec.finished f)) }
@@ -220,7 +220,7 @@ pub fn finish(alloc: Global, frame: Frame) -> Result<Sized, Memory>
     }
 }
 
-fn with_item(alloc: Global, frame: Frame, item: Sized) -> Result<Frame, Memory>
+fn with_item(alloc: Global, frame: Frame, item: SizedNode) -> Result<Frame, Memory>
     ensures { IfOk result
         (λ r. (sets : List (List Bool)) (f : spec.Frame) (p : spec.Meant) → spec.IsFrame sets frame f →
         spec.Stands sets item p → spec.IsFrame sets r (spec.with_last f p)) }
@@ -249,7 +249,7 @@ fn with_anchor(alloc: Global, frame: Frame, node: Node) -> Result<Frame, Memory>
         last,
     } = frame;
     let pieces = flush(alloc, pieces, last)?;
-    let pieces = cat_parts(alloc, pieces, Sized { node, size: 1 })?;
+    let pieces = cat_parts(alloc, pieces, SizedNode { node, size: 1 })?;
     Ok(Frame {
         before,
         pieces,
@@ -293,7 +293,7 @@ pub fn fresh() -> Frame
 {
     Frame {
         before: None,
-        pieces: Sized {
+        pieces: SizedNode {
             node: Node::Empty,
             size: 0,
         },
@@ -309,7 +309,7 @@ fn with_bar(alloc: Global, frame: Frame) -> Result<Frame, Memory>
     let branches = finish(alloc, frame)?;
     Ok(Frame {
         before: Some(branches),
-        pieces: Sized {
+        pieces: SizedNode {
             node: Node::Empty,
             size: 0,
         },
@@ -331,7 +331,7 @@ pub fn take(
 {
     match token {
         Token::Atom(class) => {
-            let item = Sized {
+            let item = SizedNode {
                 node: Node::Bytes(class),
                 size: 1,
             };

@@ -1,5 +1,5 @@
 // A text of bytes.
-ghost use Rattle.std.specs.Prelude.{◌≡◌, IfOk, IfSome};
+ghost use Rattle.std.specs.Prelude.{◌≡◌, [], IfOk, IfSome};
 
 use crate::Memory;
 use arrayvec::ArrayVec;
@@ -96,10 +96,15 @@ impl Octets {
 
     /// The memory that the text lay in, for other bytes: a short one has none. Takes no memory.
     #[inline]
-    pub fn into_room(self, alloc: Global) -> Vec<u8> {
+    pub fn into_room(self, alloc: Global) -> Vec<u8>
+        ensures { result.items ≡ [] }
+    {
         match self.bytes {
             Bytes::Short(_) => Vec::new(alloc),
-            Bytes::Long(bytes) => bytes,
+            Bytes::Long(mut bytes) => {
+                bytes.clear();
+                bytes
+            }
         }
     }
 }
