@@ -8,7 +8,6 @@ use crate::elements::Elements;
 use crate::key::{Key, texts_of};
 use awk_text::fault::Fault;
 use awk_text::octets::Octets;
-use itoa::Buffer;
 use std::alloc::Global;
 use std::marker::Model;
 
@@ -147,8 +146,7 @@ impl<V: Drop> Array<V> {
             *old = value;
             return Ok(());
         }
-        let mut buffer = Buffer::new();
-        self.insert(buffer.format(number).as_bytes(), value)
+        self.insert_number(number, value)
     }
 
     /// Adds a key that is not there. Fails as `put` does.
@@ -165,6 +163,25 @@ impl<V: Drop> Array<V> {
             return Err(Fault::Memory);
         };
         let added = self.elements.add(key, self.next, value)?;
+        self.next = next;
+        self.settled &= added.is_last;
+        Ok(())
+    }
+
+    /// Adds a key that is the digits of a number and is not there. Fails as `put` does.
+    fn insert_number(&mut self, number: usize, value: V) -> Result<(), Fault>
+        requires { element self.old (decimal number) ≡ None }
+        ensures ok { OnOk result (put self.old (decimal number) value ≡ Ok self.new) }
+        ensures err { IfErr result
+            (λ e. (self.new ≡ self.old) × ((e ≡ Fault.Memory) ⊎ (put self.old (decimal number) value ≡ Err e))) }
+    {
+        if self.elements.count >= MOST_ELEMENTS {
+            return Err(Fault::TooManyElements);
+        }
+        let Some(next) = self.next.checked_add(1) else {
+            return Err(Fault::Memory);
+        };
+        let added = self.elements.add_number(number, self.next, value)?;
         self.next = next;
         self.settled &= added.is_last;
         Ok(())

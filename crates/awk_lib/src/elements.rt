@@ -27,6 +27,9 @@ use std::cell::Cell;
 /// How far past the places of the dense part a new key may lie, so that places are made up to it.
 const MOST_APART: usize = 8;
 
+/// How many places the dense part has at most: the numbers of at most seven digits.
+const MOST_PLACES: usize = 10_000_000;
+
 /// Where an element lies.
 #[derive(Clone, Copy)]
 pub(crate) enum Slot {
@@ -226,6 +229,17 @@ impl<V> Elements<V> {
         if k - len > MOST_APART { None } else { Some(k) }
     }
 
+    /// Whether a new key that is the digits of this number takes a place that is there in the dense part, or the next
+    /// one. Takes no memory.
+    fn has_spot(&self, key: usize) -> bool
+        requires { AreApart self.now }
+        ensures { result ≡ true → (key < most_places)
+            × (length self.now.dense.places.items ≤ key → key ≡ length self.now.dense.places.items) }
+    {
+        let len = self.dense.len();
+        key < len || (key == len && key < MOST_PLACES && len / 8 <= self.count)
+    }
+
     /// Adds the keys of the map as they lie.
     fn push_mapped_texts(&self, keys: &mut Vec<Key>) -> Result<(), Fault>
         ensures ok { OnOk result (keys.new.items ≡ keys.old.items ++ texts (mapped_rows self.now)) }
@@ -371,6 +385,28 @@ impl<V: Drop> Elements<V> {
             Some(k) => self.add_dense(k, number, value),
             None => self.add_mapped(key, number, value),
         }
+    }
+
+    /// Adds the key that is the digits of a number, as `add` does. No digits are made where the dense part takes it.
+    pub(crate) fn add_number(&mut self, key: usize, number: u64, value: V) -> Result<Added, Fault>
+        requires apart { AreApart self.old }
+        requires absent { lookup (bytes_eq (decimal key)) (map (λ r. r.1) (rows_of self.old)) ≡ None }
+        requires room { self.old.count < most_elements }
+        ensures place { IfOk result (λ a. Lies self.new a.place (number, (decimal key, value))) }
+        ensures added { OnOk result
+            (IsPermutation (rows_of self.old ++ (number, (decimal key, value)) ∷ []) (rows_of self.new)) }
+        ensures last { IfOk result
+            (λ a. a.is_last ≡ true → rows_of self.new ≡ rows_of self.old ++ (number, (decimal key, value)) ∷ []) }
+        ensures count { self.new.count ≡ (if is_ok result then self.old.count + 1 else self.old.count) }
+        ensures apart { AreApart self.new }
+        ensures err { OnErr result (rows_of self.new ≡ rows_of self.old) }
+        ensures memory { IsOkUnless result Fault.Memory }
+    {
+        if self.has_spot(key) {
+            return self.add_dense(key, number, value);
+        }
+        let mut buffer = Buffer::new();
+        self.add(buffer.format(key).as_bytes(), number, value)
     }
 
     /// Adds an element to the dense part, at a place that is empty or behind all places.

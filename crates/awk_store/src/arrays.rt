@@ -21,6 +21,7 @@ use awk_text::fault::Fault;
 use awk_text::texts::MOST_BYTES;
 use awk_text::value::Value;
 use itoa::Buffer;
+use std::alloc::Global;
 use std::mem;
 
 fn handed(frame: &[Bound], place: usize) -> Reference
@@ -41,36 +42,36 @@ fn found(cells: &[Cell], slot: usize) -> Option<&Array<Value>>
     }
 }
 
-/// Puts an array in place of the one at a slot, and answers that, or `none` where there is no array.
+/// Puts an array in place of the one at a slot, and answers that, or an empty one where there is no array.
 fn replace_in_cells(
+    alloc: Global,
     cells: &mut Vec<Cell>,
     slot: usize,
     array: Array<Value>,
-    none: Array<Value>,
 ) -> Array<Value>
-    ensures value { result ≡ unwrap_or (listed (slice_get cells.old.items slot)) none }
+    ensures value { result ≡ unwrap_or (listed (slice_get cells.old.items slot)) [] }
     ensures after { cells.new.items ≡ change_at (given_array array) cells.old.items slot }
 {
     match cells.get_mut(slot) {
-        Some(cell) => cell.replace_array(array, none),
-        None => none,
+        Some(cell) => cell.replace_array(alloc, array),
+        None => Array::new(alloc),
     }
 }
 
 /// The same among the arrays that calls have made.
 fn replace_made(
+    alloc: Global,
     made: &mut Vec<Array<Value>>,
     place: usize,
     array: Array<Value>,
-    none: Array<Value>,
 ) -> Array<Value>
-    ensures value { result ≡ unwrap_or (slice_get made.old.items place) none }
+    ensures value { result ≡ unwrap_or (slice_get made.old.items place) [] }
     ensures after { made.new.items ≡ slice_set made.old.items place array }
 {
     if place < made.len() {
         return mem::replace(&mut made[place], array);
     }
-    none
+    Array::new(alloc)
 }
 
 /// Gives an element of the array at a slot a value. Where there is no array nothing changes.
@@ -226,16 +227,16 @@ impl Store {
         ensures value { result ≡ array_at self.old at }
         ensures after { self.new ≡ with_array at array self.old }
     {
-        let none = Array::new(self.alloc);
+        let alloc = self.alloc;
         match at {
             Reference::Shared(slot) => replace_in_cells(
+                alloc,
                 &mut self.cells,
                 slot as usize,
                 array,
-                none,
             ),
-            Reference::Made(place) => replace_made(&mut self.made, place as usize, array, none),
-            Reference::Nothing => none,
+            Reference::Made(place) => replace_made(alloc, &mut self.made, place as usize, array),
+            Reference::Nothing => Array::new(alloc),
         }
     }
 

@@ -1,5 +1,5 @@
 // Variables of the whole script.
-ghost use Rattle.std.specs.Prelude.{◌≡◌, ℤ, pos, Some, Ok, true, false, unwrap_or, IfOk, IfErr, OnOk, IsOkUnless};
+ghost use Rattle.std.specs.Prelude.{[], ◌≡◌, ℤ, pos, Some, Ok, true, false, unwrap_or, IfOk, IfErr, OnOk, IsOkUnless};
 ghost use Rattle.std.specs.Fmt.{decimal};
 ghost use Rattle.std.specs.Option.{option_copied};
 ghost use Rattle.awk_text.specs.Arithmetic.{add};
@@ -146,13 +146,14 @@ impl Cell {
         }
     }
 
-    /// Puts an array in place of the one that it holds, and answers that. A value stays as it is.
-    pub(crate) fn replace_array(&mut self, array: Array<Value>, none: Array<Value>) -> Array<Value>
-        ensures value { result ≡ unwrap_or (listed (Some self.old)) none }
+    /// Puts an array in place of the one that it holds, and answers that. A value stays as it is, and the answer is
+    /// empty.
+    pub(crate) fn replace_array(&mut self, alloc: Global, array: Array<Value>) -> Array<Value>
+        ensures value { result ≡ unwrap_or (listed (Some self.old)) [] }
         ensures after { self.new ≡ given_array array self.old }
     {
         match self {
-            Cell::Value(_) => none,
+            Cell::Value(_) => Array::new(alloc),
             Cell::Array(old) => mem::replace(old, array),
         }
     }

@@ -1,4 +1,4 @@
-use Rattle.std.proofs.Common.{◌≡◌, ℕ, ◌≤◌, List, length, true, false, Option, Some, refl, sym, subst, ◌∙◌, arith}
+use Rattle.std.proofs.Common.{◌≡◌, ℕ, List, true, false, Option, Some, refl, sym, subst, ◌∙◌, arith}
 use Rattle.awk_ere.specs.Spelled.{Finds}
 use Rattle.awk_lib.specs.Replacing.{is_passed}
 use Rattle.awk_lib.proofs.Matching.{reaches_begin, reaches_on, reaches_none, reaches_end, reaches_one}
