@@ -18,7 +18,7 @@ ghost use Rattle.awk_text.specs.declared.value.Value.{Value as Val};
 ghost use Rattle.awk_text.specs.declared.value.Value.TheVariants as v;
 ghost use Rattle.std.specs.Prelude.{IfErr, IfOk, IfSome, List, OnOk, false, length, map, true, ℕ, ◌++◌, ◌+◌, ◌≡◌, ◌≤◌};
 
-use crate::at_hand::{MOST_LEVELS, at_hand, chosen};
+use crate::at_hand::{MOST_LEVELS, at_hand, chosen, value_at_hand};
 use awk_program::{Expr, Joined, Target, Variable};
 use awk_store::values::into_text;
 use awk_store::{Store, is_nf};
@@ -27,9 +27,37 @@ use awk_text::Memory;
 use awk_text::octets::Octets;
 use awk_text::place::Place;
 use awk_text::texts::MOST_BYTES;
-use awk_text::value::Value;
+use awk_text::value::{Value, text_in};
 use itoa::Buffer;
 use std::alloc::Global;
+
+/// Adds bytes behind the others, and answers whether it did: there is room.
+fn add_bytes(bytes: &[u8], room: usize, texts: &mut Vec<u8>) -> Result<bool, Memory>
+    ensures room { IfOk result (λ added. added ≡ true → length texts.new.items ≤ room) }
+    ensures text { IfOk result (λ added. added ≡ true → texts.new.items ≡ texts.old.items ++ bytes.now) }
+{
+    if room < texts.len() + bytes.len() {
+        return Ok(false);
+    }
+    texts.extend_from_slice(bytes)?;
+    Ok(true)
+}
+
+/// `add_text`, of an operand whose value is made of what is at hand.
+#[inline(never)]
+fn add_made(store: &Store, e: &Expr, room: usize, texts: &mut Vec<u8>) -> Result<bool, Memory>
+    ensures room { IfOk result (λ added. added ≡ true → length texts.new.items ≤ room) }
+    ensures text { IfOk result
+        (λ added. added ≡ true → (text : List ℕ) × (texts.new.items ≡ texts.old.items ++ text)
+        × ((g : Given) (t : Table) → Lends g (store.now, t) (view (names_in g) e.now) text)) }
+{
+    let Some(value) = value_at_hand(*texts.allocator(), store, e) else {
+        return Ok(false);
+    };
+    let mut buffer = Buffer::new();
+    let added = add_bytes(text_in(&value, &mut buffer), room, texts)?;
+    Ok(added)
+}
 
 /// Adds the text of an operand behind the others, and answers whether it did: it is at hand, and there is room.
 fn add_text(store: &Store, e: &Expr, room: usize, texts: &mut Vec<u8>) -> Result<bool, Memory>
@@ -38,16 +66,14 @@ fn add_text(store: &Store, e: &Expr, room: usize, texts: &mut Vec<u8>) -> Result
         (λ added. added ≡ true → (text : List ℕ) × (texts.new.items ≡ texts.old.items ++ text)
         × ((g : Given) (t : Table) → Lends g (store.now, t) (view (names_in g) e.now) text)) }
 {
-    let Some(value) = at_hand(store, chosen(store, e), MOST_LEVELS) else {
-        return Ok(false);
+    let part = chosen(store, e);
+    let Some(value) = at_hand(store, part, MOST_LEVELS) else {
+        let added = add_made(store, e, room, texts)?;
+        return Ok(added);
     };
     let mut buffer = Buffer::new();
-    let text = value.text(&mut buffer);
-    if room < texts.len() + text.len() {
-        return Ok(false);
-    }
-    texts.extend_from_slice(text)?;
-    Ok(true)
+    let added = add_bytes(value.text(&mut buffer), room, texts)?;
+    Ok(added)
 }
 
 /// Makes it the texts of the operands, one after the other, and answers whether it did: each is at hand, and there is

@@ -94,11 +94,20 @@ fn is_keyed_by_field(target: &Target<Expr>) -> bool {
     }
 }
 
+/// Whether an expression is a concatenation with a field behind its first operand. A text that grows so does in its
+/// place where the field is at hand.
+fn has_field_behind(e: &Expr) -> bool {
+    match e {
+        Expr::Concat(_, rest) => rest.iter().any(|next| is_field(&next.operand)),
+        _ => false,
+    }
+}
+
 /// Whether an expression, or a part of an assignment or of a comparison, is at hand only once the record is split.
 fn has_parts_to_split(e: &Expr) -> bool {
     match e {
         Expr::Assign(_, target, x) | Expr::Change(_, _, target, x) => {
-            is_keyed_by_field(target) || wants_split(x.get())
+            is_keyed_by_field(target) || wants_split(x.get()) || has_field_behind(x.get())
         }
         Expr::Step(_, _, _, target) => is_keyed_by_field(target),
         Expr::Compare(_, x, y) => wants_split(x.get()) || wants_split(y.get()),

@@ -4,4 +4,4 @@ use Rattle.awk_builtins.proofs.growing.add_text.Goals as goal
 
 pub returns-clause-text : goal.returns-clause-text
 returns-clause-text c = λ yes.
-    (c.text-text.result.now, c.in_ok-extend_from_slice.ensures.items, λ g t. record { val = lent_value c.in-Some.value; is = sym c.text-text.ensures; passes = c.chosen.ensures (lent_value c.in-Some.value) c.in-Some.ensures g t })
+    (c.text.result.now, c.in_ok-added.ensures.text yes, λ g t. record { val = lent_value c.in-Some.value; is = sym c.text.ensures; passes = c.chosen-part.ensures (lent_value c.in-Some.value) c.in-Some.ensures g t })
