@@ -68,8 +68,8 @@ fn add_text(store: &Store, e: &Expr, room: usize, texts: &mut Vec<u8>) -> Result
 {
     let part = chosen(store, e);
     let Some(value) = at_hand(store, part, MOST_LEVELS) else {
-        let added = add_made(store, e, room, texts)?;
-        return Ok(added);
+        let made = add_made(store, e, room, texts)?;
+        return Ok(made);
     };
     let mut buffer = Buffer::new();
     let added = add_bytes(value.text(&mut buffer), room, texts)?;

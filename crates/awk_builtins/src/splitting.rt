@@ -98,7 +98,7 @@ fn is_keyed_by_field(target: &Target<Expr>) -> bool {
 /// place where the field is at hand.
 fn has_field_behind(e: &Expr) -> bool {
     match e {
-        Expr::Concat(_, rest) => rest.iter().any(|next| is_field(&next.operand)),
+        Expr::Concat(_, rest) => rest.as_slice().iter().any(|next| is_field(&next.operand)),
         _ => false,
     }
 }
