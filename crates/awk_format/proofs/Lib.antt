@@ -1,2 +1,3 @@
+mod Flags
 mod Radix
 mod Steps

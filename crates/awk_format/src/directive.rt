@@ -77,13 +77,21 @@ fn count_flags(text: &[u8]) -> usize
 fn flags_of(run: &[u8]) -> Flags
     ensures { result ≡ flags_of run.now }
 {
-    Flags {
-        left: run.contains(&b'-'),
-        plus: run.contains(&b'+'),
-        space: run.contains(&b' '),
-        alternate: run.contains(&b'#'),
-        zero: run.contains(&b'0'),
+    let mut flags = Flags {
+        left: false,
+        plus: false,
+        space: false,
+        alternate: false,
+        zero: false,
+    };
+    for b in run {
+        flags.left |= *b == b'-';
+        flags.plus |= *b == b'+';
+        flags.space |= *b == b' ';
+        flags.alternate |= *b == b'#';
+        flags.zero |= *b == b'0';
     }
+    flags
 }
 
 /// The width or precision that the text begins with, 0 where it has no digit, and what follows.

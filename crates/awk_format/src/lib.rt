@@ -17,6 +17,10 @@ use awk_text::fault::Fault;
 use awk_text::value::Value;
 use std::alloc::Global;
 
+/// The room that a value is given at once, beside that of its conversion specification: most take no more, and then
+/// the whole text takes memory once.
+const ROOM_OF_A_VALUE: usize = 16;
+
 /// How many bytes stand before the first `%`.
 fn plain_length(text: &[u8]) -> usize
     ensures length { result ≡ position_or_len (λ b. b == 0x25) text.now }
@@ -75,7 +79,10 @@ pub fn format(alloc: Global, format: &[u8], values: &[Value]) -> Result<Vec<u8>,
     ensures ok { IfOk result (λ text. formatted format.now values.now ≡ Ok text.items) }
     ensures err { IfErr result (λ e. (e ≡ Fault.Memory) ⊎ (formatted format.now values.now ≡ Err e)) }
 {
-    let mut out = Output::new(alloc);
+    let room = format
+        .len()
+        .saturating_add(values.len().saturating_mul(ROOM_OF_A_VALUE));
+    let mut out = Output::with_room(alloc, room)?;
     let mut rest = format;
     let mut values = values;
     while !rest.is_empty() {

@@ -28,17 +28,30 @@ impl Model for Output {
 }
 
 impl Output {
-    pub fn new(alloc: Global) -> Output
-        ensures { result ≡ Some [] }
+    /// The empty text, with room for about so many bytes.
+    pub fn with_room(alloc: Global, room: usize) -> Result<Output, Memory>
+        ensures { IfOk result (λ o. o ≡ Some []) }
     {
-        Output {
-            bytes: Vec::new(alloc),
+        Ok(Output {
+            bytes: Vec::with_capacity(alloc, room.min(MOST_BYTES))?,
             too_long: false,
-        }
+        })
     }
 
-    /// Adds the piece.
+    /// Adds the piece. Most leads and many plain texts are empty, and are not worth a call.
+    #[inline(always)]
     pub fn push(&mut self, piece: &[u8]) -> Result<(), Memory>
+        ensures { OnOk result (self.new ≡ written self.old piece.now) }
+    {
+        // That the text is within the limit is known where a field is read.
+        let _ = &self.bytes;
+        if piece.is_empty() {
+            return Ok(());
+        }
+        self.push_some(piece)
+    }
+
+    fn push_some(&mut self, piece: &[u8]) -> Result<(), Memory>
         ensures { OnOk result (self.new ≡ written self.old piece.now) }
     {
         if MOST_BYTES - self.bytes.len() < piece.len() {
@@ -50,8 +63,19 @@ impl Output {
         Ok(())
     }
 
-    /// Adds the byte so many times.
+    /// Adds the byte so many times, which is mostly not at all.
+    #[inline(always)]
     pub fn fill(&mut self, byte: u8, count: usize) -> Result<(), Memory>
+        ensures { OnOk result (self.new ≡ written self.old (replicate count byte)) }
+    {
+        let _ = &self.bytes;
+        if count == 0 {
+            return Ok(());
+        }
+        self.fill_some(byte, count)
+    }
+
+    fn fill_some(&mut self, byte: u8, count: usize) -> Result<(), Memory>
         ensures { OnOk result (self.new ≡ written self.old (replicate count byte)) }
     {
         if MOST_BYTES - self.bytes.len() < count {
