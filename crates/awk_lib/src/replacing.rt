@@ -66,29 +66,48 @@ fn push_filled(out: &mut NewText, with: &[u8], matched: &[u8]) -> Result<(), Mem
     out.push(rest)
 }
 
-/// Adds the text from one place up to a match, and what stands for the match; `plain` tells that all of `with` stands
-/// for itself.
+/// What stands for each match.
+#[derive(Clone, Copy, Drop)]
+struct Replacement<'a> {
+    text: &'a [u8],
+    /// Whether all of it stands for itself, whatever was matched.
+    is_plain: bool,
+}
+
+impl<'a> Replacement<'a> {
+    fn of(with: &'a [u8]) -> Replacement<'a>
+        ensures text { result.text.now ≡ with.now }
+        ensures plain { result.is_plain ≡ true → (matched : List ℕ) → filled matched false with.now ≡ with.now }
+    {
+        Replacement {
+            text: with,
+            is_plain: is_plain(with),
+        }
+    }
+}
+
+/// Adds the text from one place up to a match, and what stands for the match.
 fn push_match(
     out: &mut NewText,
-    with: &[u8],
-    plain: bool,
+    with: Replacement<'_>,
     text: &[u8],
     from: usize,
-    start: usize,
-    end: usize,
+    found: (usize, usize),
 ) -> Result<(), Memory>
-    requires after { from ≤ start }
-    requires ordered { start ≤ end }
-    requires inside { end ≤ length text.now }
-    requires plain { plain ≡ true → (matched : List ℕ) → filled matched false with.now ≡ with.now }
+    requires after { from ≤ found.0 }
+    requires ordered { found.0 ≤ found.1 }
+    requires inside { found.1 ≤ length text.now }
+    requires plain { with.is_plain ≡ true → (matched : List ℕ) → filled matched false with.text.now ≡ with.text.now }
     ensures { OnOk result (out.new ≡ written out.old
-        (slice_range text.now from start ++ filled (slice_range text.now start end) false with.now)) }
+        (slice_range text.now from found.0
+        ++ filled (slice_range text.now found.0 found.1) false with.entry.text.now)) }
 {
+    let (start, end) = found;
     out.push(&text[from..start])?;
-    if plain {
-        return out.push(with);
+    if with.is_plain {
+        return out.push(with.text);
     }
-    push_filled(out, with, &text[start..end])
+    push_filled(out, with.text, &text[start..end])
 }
 
 /// Whether an empty match at the end of the match before is none.
@@ -152,7 +171,7 @@ fn replace_first(
         return Ok(None);
     };
     let mut out = NewText::with_room(alloc, text.len())?;
-    push_match(&mut out, with, is_plain(with), text, 0, start, end)?;
+    push_match(&mut out, Replacement::of(with), text, 0, (start, end))?;
     let new = out.finish(&text[end..])?;
     Ok(Some((new, 1)))
 }
@@ -177,11 +196,11 @@ fn replace_all(
         return Ok(None);
     }
     let mut out = NewText::with_room(alloc, text.len())?;
-    let plain = is_plain(with);
+    let replacement = Replacement::of(with);
     let mut done = 0;
     let mut count: usize = 0;
     while let Some((start, end)) = next {
-        push_match(&mut out, with, plain, text, done, start, end)?;
+        push_match(&mut out, replacement, text, done, (start, end))?;
         done = end;
         count += 1;
         next = next_match(&mut searches, text, next_from(start, end), Some(end))?;

@@ -20,6 +20,7 @@ use Rattle.awk_program.specs.declared.operators.StepValue.TheVariants as taken
 use Rattle.awk_program.specs.declared.program.GlobalName.{GlobalName}
 use Rattle.awk_program.specs.Slots.{Text}
 use Rattle.awk_program.specs.View.{Names}
+use Rattle.awk_printer.specs.declared.context.Printing.{Printing}
 
 -- ---- pieces, each with a space before it
 
@@ -34,13 +35,17 @@ abbrev pub closed : List Text → Text
 closed [] = codes ")"
 closed (x ∷ xs) = x ++ closed xs
 
--- ` (`, the form's name, its parts, and `)`
-abbrev pub form : Text → List Text → Text
-form text parts = opening text ++ closed parts
-
 -- `line:column`
 abbrev pub placed : Place → Text
 placed place = word (place_text place)
+
+-- ` (`, the form's name and its place
+abbrev pub opening_at : Text → Place → Text
+opening_at text place = opening text ++ placed place
+
+-- ` (`, the form's name, its parts, and `)`
+abbrev pub form : Text → List Text → Text
+form text parts = opening text ++ closed parts
 
 -- `\` before the mark that the text stands between, and in a text before `\` too, where a newline is
 -- `\n`: an ERE is as a script spells it, which has `\/` for `/` and keeps every other escape
@@ -108,6 +113,6 @@ flag is_array = if is_array then codes " array" else codes " value"
 abbrev pub declared_name : GlobalName → Text
 declared_name name = word name.text ++ (if name.is_array then codes "[]" else [])
 
--- the names of the variables of a program of the code, by their slots
-abbrev pub names_in : List GlobalName → Names
-names_in names = map (λ n. n.text) names
+-- the names of the variables of the program that is printed, by their slots
+abbrev pub names_in : Printing → Names
+names_in context = map (λ n. n.text) context.names.now

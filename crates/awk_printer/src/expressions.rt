@@ -1,5 +1,4 @@
-// Expressions. Each call counts down a level, which is more than any program has: one of that many
-// boxes has no room in memory.
+// Expressions. Each counts down a level of the context that its parts are printed in.
 
 ghost use Rattle.std.specs.Prelude.{[], ◌∷◌, ◌++◌, codes, map, option_map};
 ghost use Rattle.awk_printer.specs.Pages.{Adds};
@@ -13,65 +12,66 @@ ghost use Rattle.awk_program.specs.Program.{terms_of, joins_of, expressions_of};
 ghost use Rattle.awk_program.specs.View.{variable_of, view, view_target, view_ere, view_term, view_joined, view_pipes};
 ghost use Rattle.awk_program.specs.View.{view_arguments};
 
+use crate::context::Printing;
 use crate::page::{Page, cut};
-use crate::pieces::{close, number, open, ordinal, place, quoted, text, variable, variables, word};
+use crate::pieces::{
+    close, number, open, open_at, ordinal, place, quoted, text, variable, variables, word,
+};
 use crate::words::{
     change_text, comparison_text, extent_text, operator_text, sign_text, step_text,
 };
-use awk_program::{Argument, Expr, GlobalName, Joined, Pattern, Piped, Target, Term, Variable};
+use awk_program::{Argument, Expr, Joined, Pattern, Piped, Target, Term, Variable};
 use awk_text::place::Place;
 
-/// Prints an expression of at most this depth.
+/// Prints an expression, or gives up where no level is left.
 #[cycle(expression)]
-pub fn expression(names: &[GlobalName], e: &Expr, level: u32, out: &mut Page)
-    ensures { Adds out.old out.new (expression_text (view (names_in names.now) e.now)) }
+pub fn expression(context: Printing<'_>, e: &Expr, out: &mut Page)
+    ensures { Adds out.old out.new (expression_text (view (names_in context.entry) e.now)) }
 {
-    if level == 0 {
-        return cut(out);
+    match context.below() {
+        Some(below) => expression_of_parts(below, e, out),
+        None => cut(out),
     }
-    let below = level - 1;
+}
+
+/// An expression, whose parts are printed in this context.
+#[cycle(expression)]
+fn expression_of_parts(context: Printing<'_>, e: &Expr, out: &mut Page)
+    ensures { Adds out.old out.new (expression_text (view (names_in context.entry) e.now)) }
+{
     match e {
         Expr::Number(n) => number(*n, out),
         Expr::Text(x) => quoted(b'"', x.bytes(), out),
         Expr::Pattern(q, x) => record_pattern(*q, x.bytes(), out),
-        Expr::Read(r) => target(names, r, below, out),
-        Expr::Assign(q, r, x) => setting(names, "=", *q, r, x.get(), below, out),
-        Expr::Change(q, how, r, x) => {
-            setting(names, change_text(*how), *q, r, x.get(), below, out)
+        Expr::Read(r) => target(context, r, out),
+        Expr::Assign(q, r, x) => setting(context, "=", *q, r, x.get(), out),
+        Expr::Change(q, how, r, x) => { setting(context, change_text(*how), *q, r, x.get(), out) }
+        Expr::Step(q, how, taken, r) => at_target(context, step_text(*how, *taken), *q, r, out),
+        Expr::Not(x) => one(context, "!", x.get(), out),
+        Expr::Signed(q, how, x) => at_one(context, sign_text(*how), *q, x.get(), out),
+        Expr::Chain(x, xs) => chain(context, x.get(), xs.as_slice(), out),
+        Expr::Concat(x, xs) => concat(context, x.get(), xs.as_slice(), out),
+        Expr::Compare(how, x, y) => { two(context, comparison_text(*how), x.get(), y.get(), out) }
+        Expr::Match(q, x, y) => at_match(context, "~", *q, x.get(), y, out),
+        Expr::In(x, vs) => member(context, x.get(), vs.as_slice(), out),
+        Expr::Group(q, xs, vs) => group(context, *q, xs.as_slice(), vs.as_slice(), out),
+        Expr::And(x, xs) => many(context, "&&", x.get(), xs.as_slice(), out),
+        Expr::Or(x, xs) => many(context, "||", x.get(), xs.as_slice(), out),
+        Expr::Choice(x, y, z) => choice(context, x.get(), y.get(), z.get(), out),
+        Expr::Call(q, f, xs) => call(context, *q, *f, xs.as_slice(), out),
+        Expr::Getline(q, r) => at_target(context, "getline", *q, r, out),
+        Expr::GetlineFile(q, r, x) => setting(context, "getline<", *q, r, x.get(), out),
+        Expr::Pipe(x, xs) => pipe(context, x.get(), xs.as_slice(), out),
+        Expr::Builtin(q, which, xs) => { at_list(context, which.word(), *q, xs.as_slice(), out) }
+        Expr::Count(v) => of_variable(context, "count", *v, out),
+        Expr::Locate(q, x, y) => at_match(context, "match", *q, x.get(), y, out),
+        Expr::Split(q, x, at, v, y) => {
+            open_at("split", *q, out);
+            split(context, x.get(), *at, *v, y, out)
         }
-        Expr::Step(q, how, taken, r) => at_target(
-            names,
-            step_text(*how, *taken),
-            *q,
-            r,
-            below,
-            out,
-        ),
-        Expr::Not(x) => one(names, "!", x.get(), below, out),
-        Expr::Signed(q, how, x) => at_one(names, sign_text(*how), *q, x.get(), below, out),
-        Expr::Chain(x, xs) => chain(names, x.get(), xs.as_slice(), below, out),
-        Expr::Concat(x, xs) => concat(names, x.get(), xs.as_slice(), below, out),
-        Expr::Compare(how, x, y) => {
-            two(names, comparison_text(*how), x.get(), y.get(), below, out)
-        }
-        Expr::Match(q, x, y) => at_match(names, "~", *q, x.get(), y, below, out),
-        Expr::In(x, vs) => member(names, x.get(), vs.as_slice(), below, out),
-        Expr::Group(q, xs, vs) => group(names, *q, xs.as_slice(), vs.as_slice(), below, out),
-        Expr::And(x, xs) => many(names, "&&", x.get(), xs.as_slice(), below, out),
-        Expr::Or(x, xs) => many(names, "||", x.get(), xs.as_slice(), below, out),
-        Expr::Choice(x, y, z) => choice(names, x.get(), y.get(), z.get(), below, out),
-        Expr::Call(q, f, xs) => call(names, *q, *f, xs.as_slice(), below, out),
-        Expr::Getline(q, r) => at_target(names, "getline", *q, r, below, out),
-        Expr::GetlineFile(q, r, x) => setting(names, "getline<", *q, r, x.get(), below, out),
-        Expr::Pipe(x, xs) => pipe(names, x.get(), xs.as_slice(), below, out),
-        Expr::Builtin(q, which, xs) => {
-            at_list(names, which.word(), *q, xs.as_slice(), below, out)
-        }
-        Expr::Count(v) => of_variable(names, "count", *v, out),
-        Expr::Locate(q, x, y) => at_match(names, "match", *q, x.get(), y, below, out),
-        Expr::Split(q, x, at, v, y) => split(names, *q, x.get(), *at, *v, y, below, out),
         Expr::Substitute(q, all, x, y, r) => {
-            substitute(names, extent_text(*all), *q, x, y.get(), r, below, out)
+            open_at(extent_text(*all), *q, out);
+            substitute(context, x, y.get(), r, out)
         }
     }
 }
@@ -80,420 +80,376 @@ pub fn expression(names: &[GlobalName], e: &Expr, level: u32, out: &mut Page)
 fn record_pattern(q: Place, x: &[u8], out: &mut Page)
     ensures { Adds out.old out.new (expression_text (p.pattern q x.now)) }
 {
-    open("record~", out);
-    place(q, out);
+    open_at("record~", q, out);
     quoted(b'/', x, out);
     close(out)
 }
 
 /// A form of one variable.
-pub fn of_variable(names: &[GlobalName], head: &str, v: Variable, out: &mut Page)
-    ensures { Adds out.old out.new (spec.form head.now (variable_text (variable_of (names_in names.now) v) ∷ [])) }
+pub fn of_variable(context: Printing<'_>, head: &str, v: Variable, out: &mut Page)
+    ensures { Adds out.old out.new (spec.form head.now (variable_text (variable_of (names_in context.entry) v) ∷ [])) }
 {
     open(head, out);
-    variable(names, v, out);
+    variable(context, v, out);
     close(out)
 }
 
 /// A form of one expression.
 #[cycle(expression)]
-fn one(names: &[GlobalName], head: &str, x: &Expr, level: u32, out: &mut Page)
-    ensures { Adds out.old out.new (spec.form head.now (expression_text (view (names_in names.now) x.now) ∷ [])) }
+fn one(context: Printing<'_>, head: &str, x: &Expr, out: &mut Page)
+    ensures { Adds out.old out.new (spec.form head.now (expression_text (view (names_in context.entry) x.now) ∷ [])) }
 {
     open(head, out);
-    expression(names, x, level, out);
+    expression(context, x, out);
     close(out)
 }
 
 /// A form of two expressions.
 #[cycle(expression)]
-fn two(names: &[GlobalName], head: &str, x: &Expr, y: &Expr, level: u32, out: &mut Page)
+fn two(context: Printing<'_>, head: &str, x: &Expr, y: &Expr, out: &mut Page)
     ensures { Adds out.old out.new
-        (spec.form head.now (expression_text (view (names_in names.now) x.now)
-        ∷ expression_text (view (names_in names.now) y.now) ∷ [])) }
+        (spec.form head.now (expression_text (view (names_in context.entry) x.now)
+        ∷ expression_text (view (names_in context.entry) y.now) ∷ [])) }
 {
     open(head, out);
-    expression(names, x, level, out);
-    expression(names, y, level, out);
+    expression(context, x, out);
+    expression(context, y, out);
     close(out)
 }
 
 /// `test ? then : else`
 #[cycle(expression)]
-fn choice(names: &[GlobalName], x: &Expr, y: &Expr, z: &Expr, level: u32, out: &mut Page)
+fn choice(context: Printing<'_>, x: &Expr, y: &Expr, z: &Expr, out: &mut Page)
     ensures { Adds out.old out.new
         (spec.form (codes "?")
-        (expression_text (view (names_in names.now) x.now) ∷ expression_text (view (names_in names.now) y.now)
-        ∷ expression_text (view (names_in names.now) z.now) ∷ [])) }
+        (expression_text (view (names_in context.entry) x.now) ∷ expression_text (view (names_in context.entry) y.now)
+        ∷ expression_text (view (names_in context.entry) z.now) ∷ [])) }
 {
     open("?", out);
-    expression(names, x, level, out);
-    expression(names, y, level, out);
-    expression(names, z, level, out);
+    expression(context, x, out);
+    expression(context, y, out);
+    expression(context, z, out);
     close(out)
 }
 
 /// A form of a place and an expression.
 #[cycle(expression)]
-pub fn at_one(names: &[GlobalName], head: &str, q: Place, x: &Expr, level: u32, out: &mut Page)
+pub fn at_one(context: Printing<'_>, head: &str, q: Place, x: &Expr, out: &mut Page)
     ensures { Adds out.old out.new
-        (spec.form head.now (spec.placed q ∷ expression_text (view (names_in names.now) x.now) ∷ [])) }
+        (spec.form head.now (spec.placed q ∷ expression_text (view (names_in context.entry) x.now) ∷ [])) }
 {
-    open(head, out);
-    place(q, out);
-    expression(names, x, level, out);
+    open_at(head, q, out);
+    expression(context, x, out);
     close(out)
 }
 
 /// A form of a place and a list.
 #[cycle(expression)]
-fn at_list(names: &[GlobalName], head: &str, q: Place, xs: &[Expr], level: u32, out: &mut Page)
+fn at_list(context: Printing<'_>, head: &str, q: Place, xs: &[Expr], out: &mut Page)
     ensures { Adds out.old out.new
-        (spec.form head.now (spec.placed q ∷ list_text (map (view (names_in names.now)) xs.now) ∷ [])) }
+        (spec.form head.now (spec.placed q ∷ list_text (map (view (names_in context.entry)) xs.now) ∷ [])) }
 {
-    open(head, out);
-    place(q, out);
-    list(names, xs, level, out);
+    open_at(head, q, out);
+    list(context, xs, out);
     close(out)
 }
 
 /// A form of a place and what is set.
 #[cycle(expression)]
-fn at_target(
-    names: &[GlobalName],
-    head: &str,
-    q: Place,
-    r: &Target<Expr>,
-    level: u32,
-    out: &mut Page,
-)
+fn at_target(context: Printing<'_>, head: &str, q: Place, r: &Target<Expr>, out: &mut Page)
     ensures { Adds out.old out.new
-        (spec.form head.now (spec.placed q ∷ reference_text (view_target (names_in names.now) r.now) ∷ [])) }
+        (spec.form head.now (spec.placed q ∷ reference_text (view_target (names_in context.entry) r.now) ∷ [])) }
 {
-    open(head, out);
-    place(q, out);
-    target(names, r, level, out);
+    open_at(head, q, out);
+    target(context, r, out);
     close(out)
 }
 
 /// A form of a place, what is set, and an expression.
 #[cycle(expression)]
-fn setting(
-    names: &[GlobalName],
-    head: &str,
-    q: Place,
-    r: &Target<Expr>,
-    x: &Expr,
-    level: u32,
-    out: &mut Page,
-)
+fn setting(context: Printing<'_>, head: &str, q: Place, r: &Target<Expr>, x: &Expr, out: &mut Page)
     ensures { Adds out.old out.new
-        (spec.form head.now (spec.placed q ∷ reference_text (view_target (names_in names.now) r.now)
-        ∷ expression_text (view (names_in names.now) x.now) ∷ [])) }
+        (spec.form head.now (spec.placed q ∷ reference_text (view_target (names_in context.entry) r.now)
+        ∷ expression_text (view (names_in context.entry) x.now) ∷ [])) }
 {
-    open(head, out);
-    place(q, out);
-    target(names, r, level, out);
-    expression(names, x, level, out);
+    open_at(head, q, out);
+    target(context, r, out);
+    expression(context, x, out);
     close(out)
 }
 
 /// A form of a place, an expression, and what stands where a pattern is wanted.
 #[cycle(expression)]
 fn at_match(
-    names: &[GlobalName],
+    context: Printing<'_>,
     head: &str,
     q: Place,
     x: &Expr,
     y: &Pattern<Expr>,
-    level: u32,
     out: &mut Page,
 )
     ensures { Adds out.old out.new
-        (spec.form head.now (spec.placed q ∷ expression_text (view (names_in names.now) x.now)
-        ∷ ere_text (view_ere (names_in names.now) y.now) ∷ [])) }
+        (spec.form head.now (spec.placed q ∷ expression_text (view (names_in context.entry) x.now)
+        ∷ ere_text (view_ere (names_in context.entry) y.now) ∷ [])) }
 {
-    open(head, out);
-    place(q, out);
-    expression(names, x, level, out);
-    ere(names, y, level, out);
+    open_at(head, q, out);
+    expression(context, x, out);
+    ere(context, y, out);
     close(out)
 }
 
 /// A form of an expression and a list.
 #[cycle(expression)]
-fn many(names: &[GlobalName], head: &str, x: &Expr, xs: &[Expr], level: u32, out: &mut Page)
+fn many(context: Printing<'_>, head: &str, x: &Expr, xs: &[Expr], out: &mut Page)
     ensures { Adds out.old out.new
-        (spec.form head.now (expression_text (view (names_in names.now) x.now)
-        ∷ list_text (map (view (names_in names.now)) xs.now) ∷ [])) }
+        (spec.form head.now (expression_text (view (names_in context.entry) x.now)
+        ∷ list_text (map (view (names_in context.entry)) xs.now) ∷ [])) }
 {
     open(head, out);
-    expression(names, x, level, out);
-    list(names, xs, level, out);
+    expression(context, x, out);
+    list(context, xs, out);
     close(out)
 }
 
 #[cycle(expression)]
-fn member(names: &[GlobalName], x: &Expr, vs: &[Variable], level: u32, out: &mut Page)
+fn member(context: Printing<'_>, x: &Expr, vs: &[Variable], out: &mut Page)
     ensures { Adds out.old out.new
-        (expression_text (p.member (view (names_in names.now) x.now) (map (variable_of (names_in names.now)) vs.now))) }
+        (expression_text (p.member (view (names_in context.entry) x.now)
+        (map (variable_of (names_in context.entry)) vs.now))) }
 {
     open("in", out);
-    expression(names, x, level, out);
-    variables(names, vs, out);
+    expression(context, x, out);
+    variables(context, vs, out);
     close(out)
 }
 
 #[cycle(expression)]
-fn group(names: &[GlobalName], q: Place, xs: &[Expr], vs: &[Variable], level: u32, out: &mut Page)
+fn group(context: Printing<'_>, q: Place, xs: &[Expr], vs: &[Variable], out: &mut Page)
     ensures { Adds out.old out.new
-        (expression_text (p.group q (expressions_of (map (view (names_in names.now)) xs.now))
-        (map (variable_of (names_in names.now)) vs.now))) }
+        (expression_text (p.group q (expressions_of (map (view (names_in context.entry)) xs.now))
+        (map (variable_of (names_in context.entry)) vs.now))) }
 {
-    open("in", out);
-    place(q, out);
+    open_at("in", q, out);
     open("list", out);
-    list(names, xs, level, out);
+    list(context, xs, out);
     close(out);
-    variables(names, vs, out);
+    variables(context, vs, out);
     close(out)
 }
 
+/// A `split` behind its place.
 #[cycle(expression)]
-fn split(
-    names: &[GlobalName],
-    q: Place,
-    x: &Expr,
-    at: Place,
-    v: Variable,
-    y: &Pattern<Expr>,
-    level: u32,
-    out: &mut Page,
-)
+fn split(context: Printing<'_>, x: &Expr, at: Place, v: Variable, y: &Pattern<Expr>, out: &mut Page)
     ensures { Adds out.old out.new
-        (expression_text (p.split q (view (names_in names.now) x.now) at (variable_of (names_in names.now) v)
-        (view_ere (names_in names.now) y.now))) }
-{
-    open("split", out);
-    place(q, out);
-    expression(names, x, level, out);
-    place(at, out);
-    variable(names, v, out);
-    ere(names, y, level, out);
-    close(out)
-}
-
-#[cycle(expression)]
-fn substitute(
-    names: &[GlobalName],
-    head: &str,
-    q: Place,
-    x: &Pattern<Expr>,
-    y: &Expr,
-    r: &Target<Expr>,
-    level: u32,
-    out: &mut Page,
-)
-    ensures { Adds out.old out.new
-        (spec.form head.now (spec.placed q ∷ ere_text (view_ere (names_in names.now) x.now)
-        ∷ expression_text (view (names_in names.now) y.now) ∷ reference_text (view_target (names_in names.now) r.now)
+        (spec.closed (expression_text (view (names_in context.entry) x.now) ∷ spec.placed at
+        ∷ variable_text (variable_of (names_in context.entry) v) ∷ ere_text (view_ere (names_in context.entry) y.now)
         ∷ [])) }
 {
-    open(head, out);
-    place(q, out);
-    ere(names, x, level, out);
-    expression(names, y, level, out);
-    target(names, r, level, out);
+    expression(context, x, out);
+    place(at, out);
+    variable(context, v, out);
+    ere(context, y, out);
+    close(out)
+}
+
+/// A `sub` or a `gsub` behind its place.
+#[cycle(expression)]
+fn substitute(context: Printing<'_>, x: &Pattern<Expr>, y: &Expr, r: &Target<Expr>, out: &mut Page)
+    ensures { Adds out.old out.new
+        (spec.closed (ere_text (view_ere (names_in context.entry) x.now)
+        ∷ expression_text (view (names_in context.entry) y.now)
+        ∷ reference_text (view_target (names_in context.entry) r.now) ∷ [])) }
+{
+    ere(context, x, out);
+    expression(context, y, out);
+    target(context, r, out);
     close(out)
 }
 
 /// Whatever is read or set.
 #[cycle(expression)]
-fn target(names: &[GlobalName], r: &Target<Expr>, level: u32, out: &mut Page)
-    ensures { Adds out.old out.new (reference_text (view_target (names_in names.now) r.now)) }
+fn target(context: Printing<'_>, r: &Target<Expr>, out: &mut Page)
+    ensures { Adds out.old out.new (reference_text (view_target (names_in context.entry) r.now)) }
 {
     match r {
-        Target::Variable(v) => variable(names, *v, out),
-        Target::Element(q, v, xs) => element(names, "[]", *q, *v, xs.as_slice(), level, out),
-        Target::Field(q, x) => at_one(names, "$", *q, x.get(), level, out),
+        Target::Variable(v) => variable(context, *v, out),
+        Target::Element(q, v, xs) => element(context, "[]", *q, *v, xs.as_slice(), out),
+        Target::Field(q, x) => at_one(context, "$", *q, x.get(), out),
     }
 }
 
 /// An array with its keys.
 #[cycle(expression)]
 pub fn element(
-    names: &[GlobalName],
+    context: Printing<'_>,
     head: &str,
     q: Place,
     v: Variable,
     xs: &[Expr],
-    level: u32,
     out: &mut Page,
 )
     ensures { Adds out.old out.new
-        (spec.form head.now (spec.placed q ∷ variable_text (variable_of (names_in names.now) v)
-        ∷ list_text (map (view (names_in names.now)) xs.now) ∷ [])) }
+        (spec.form head.now (spec.placed q ∷ variable_text (variable_of (names_in context.entry) v)
+        ∷ list_text (map (view (names_in context.entry)) xs.now) ∷ [])) }
 {
-    open(head, out);
-    place(q, out);
-    variable(names, v, out);
-    list(names, xs, level, out);
+    open_at(head, q, out);
+    variable(context, v, out);
+    list(context, xs, out);
     close(out)
 }
 
 /// What stands where a pattern is wanted.
 #[cycle(expression)]
-fn ere(names: &[GlobalName], x: &Pattern<Expr>, level: u32, out: &mut Page)
-    ensures { Adds out.old out.new (ere_text (view_ere (names_in names.now) x.now)) }
+fn ere(context: Printing<'_>, x: &Pattern<Expr>, out: &mut Page)
+    ensures { Adds out.old out.new (ere_text (view_ere (names_in context.entry) x.now)) }
 {
     match x {
         Pattern::Constant(q, x) => {
             place(*q, out);
             quoted(b'/', x.bytes(), out)
         }
-        Pattern::Computed(x) => expression(names, x.get(), level, out),
+        Pattern::Computed(x) => expression(context, x.get(), out),
     }
 }
 
 #[cycle(expression)]
-pub fn list(names: &[GlobalName], xs: &[Expr], level: u32, out: &mut Page)
-    ensures { Adds out.old out.new (list_text (map (view (names_in names.now)) xs.now)) }
+pub fn list(context: Printing<'_>, xs: &[Expr], out: &mut Page)
+    ensures { Adds out.old out.new (list_text (map (view (names_in context.entry)) xs.now)) }
 {
     for x in xs {
-        expression(names, x, level, out);
+        expression(context, x, out);
     }
 }
 
 /// An expression that may be absent.
-pub fn perhaps(names: &[GlobalName], x: &Option<Expr>, level: u32, out: &mut Page)
-    ensures { Adds out.old out.new (perhaps_text (option_map (view (names_in names.now)) x.now)) }
+pub fn perhaps(context: Printing<'_>, x: &Option<Expr>, out: &mut Page)
+    ensures { Adds out.old out.new (perhaps_text (option_map (view (names_in context.entry)) x.now)) }
 {
     match x {
         None => text(" -", out),
-        Some(x) => expression(names, x, level, out),
+        Some(x) => expression(context, x, out),
     }
 }
 
 #[cycle(expression)]
-fn chain(names: &[GlobalName], x: &Expr, xs: &[Term<Expr>], level: u32, out: &mut Page)
+fn chain(context: Printing<'_>, x: &Expr, xs: &[Term<Expr>], out: &mut Page)
     ensures { Adds out.old out.new
-        (expression_text (p.chain (view (names_in names.now) x.now)
-        (terms_of (map (view_term (names_in names.now)) xs.now)))) }
+        (expression_text (p.chain (view (names_in context.entry) x.now)
+        (terms_of (map (view_term (names_in context.entry)) xs.now)))) }
 {
     open("chain", out);
-    expression(names, x, level, out);
-    terms(names, xs, level, out);
+    expression(context, x, out);
+    terms(context, xs, out);
     close(out)
 }
 
 #[cycle(expression)]
-fn terms(names: &[GlobalName], xs: &[Term<Expr>], level: u32, out: &mut Page)
-    ensures { Adds out.old out.new (terms_text (terms_of (map (view_term (names_in names.now)) xs.now))) }
+fn terms(context: Printing<'_>, xs: &[Term<Expr>], out: &mut Page)
+    ensures { Adds out.old out.new (terms_text (terms_of (map (view_term (names_in context.entry)) xs.now))) }
 {
     for x in xs {
-        term(names, x, level, out);
+        term(context, x, out);
     }
 }
 
 #[cycle(expression)]
-fn term(names: &[GlobalName], x: &Term<Expr>, level: u32, out: &mut Page)
+fn term(context: Printing<'_>, x: &Term<Expr>, out: &mut Page)
     ensures { Adds out.old out.new
         (spec.word (spec.operator_text x.now.operator)
-        ++ (spec.placed x.now.place ++ expression_text (view (names_in names.now) x.now.operand))) }
+        ++ (spec.placed x.now.place ++ expression_text (view (names_in context.entry) x.now.operand))) }
 {
     word(operator_text(x.operator).as_bytes(), out);
     place(x.place, out);
-    expression(names, &x.operand, level, out)
+    expression(context, &x.operand, out)
 }
 
 #[cycle(expression)]
-fn concat(names: &[GlobalName], x: &Expr, xs: &[Joined<Expr>], level: u32, out: &mut Page)
+fn concat(context: Printing<'_>, x: &Expr, xs: &[Joined<Expr>], out: &mut Page)
     ensures { Adds out.old out.new
-        (expression_text (p.concat (view (names_in names.now) x.now)
-        (joins_of (map (view_joined (names_in names.now)) xs.now)))) }
+        (expression_text (p.concat (view (names_in context.entry) x.now)
+        (joins_of (map (view_joined (names_in context.entry)) xs.now)))) }
 {
     open("concat", out);
-    expression(names, x, level, out);
-    joins(names, xs, level, out);
+    expression(context, x, out);
+    joins(context, xs, out);
     close(out)
 }
 
 #[cycle(expression)]
-fn joins(names: &[GlobalName], xs: &[Joined<Expr>], level: u32, out: &mut Page)
-    ensures { Adds out.old out.new (joins_text (joins_of (map (view_joined (names_in names.now)) xs.now))) }
+fn joins(context: Printing<'_>, xs: &[Joined<Expr>], out: &mut Page)
+    ensures { Adds out.old out.new (joins_text (joins_of (map (view_joined (names_in context.entry)) xs.now))) }
 {
     for x in xs {
-        join(names, x, level, out);
+        join(context, x, out);
     }
 }
 
 #[cycle(expression)]
-fn join(names: &[GlobalName], x: &Joined<Expr>, level: u32, out: &mut Page)
+fn join(context: Printing<'_>, x: &Joined<Expr>, out: &mut Page)
     ensures { Adds out.old out.new
-        (spec.placed x.now.place ++ expression_text (view (names_in names.now) x.now.operand)) }
+        (spec.placed x.now.place ++ expression_text (view (names_in context.entry) x.now.operand)) }
 {
     place(x.place, out);
-    expression(names, &x.operand, level, out)
+    expression(context, &x.operand, out)
 }
 
 #[cycle(expression)]
-fn pipe(names: &[GlobalName], x: &Expr, xs: &[Piped<Expr>], level: u32, out: &mut Page)
+fn pipe(context: Printing<'_>, x: &Expr, xs: &[Piped<Expr>], out: &mut Page)
     ensures { Adds out.old out.new
-        (expression_text (p.pipe (view (names_in names.now) x.now) (view_pipes (names_in names.now) xs.now))) }
+        (expression_text (p.pipe (view (names_in context.entry) x.now) (view_pipes (names_in context.entry) xs.now))) }
 {
     open("|getline", out);
-    expression(names, x, level, out);
-    pipes(names, xs, level, out);
+    expression(context, x, out);
+    pipes(context, xs, out);
     close(out)
 }
 
 #[cycle(expression)]
-fn pipes(names: &[GlobalName], xs: &[Piped<Expr>], level: u32, out: &mut Page)
-    ensures { Adds out.old out.new (pipes_text (view_pipes (names_in names.now) xs.now)) }
+fn pipes(context: Printing<'_>, xs: &[Piped<Expr>], out: &mut Page)
+    ensures { Adds out.old out.new (pipes_text (view_pipes (names_in context.entry) xs.now)) }
 {
     for x in xs {
-        piped(names, x, level, out);
+        piped(context, x, out);
     }
 }
 
 #[cycle(expression)]
-fn piped(names: &[GlobalName], x: &Piped<Expr>, level: u32, out: &mut Page)
+fn piped(context: Printing<'_>, x: &Piped<Expr>, out: &mut Page)
     ensures { Adds out.old out.new
-        (spec.placed x.now.place ++ reference_text (view_target (names_in names.now) x.now.target)) }
+        (spec.placed x.now.place ++ reference_text (view_target (names_in context.entry) x.now.target)) }
 {
     place(x.place, out);
-    target(names, &x.target, level, out)
+    target(context, &x.target, out)
 }
 
 #[cycle(expression)]
-fn call(names: &[GlobalName], q: Place, f: u32, xs: &[Argument<Expr>], level: u32, out: &mut Page)
-    ensures { Adds out.old out.new (expression_text (p.call q f (view_arguments (names_in names.now) xs.now))) }
+fn call(context: Printing<'_>, q: Place, f: u32, xs: &[Argument<Expr>], out: &mut Page)
+    ensures { Adds out.old out.new (expression_text (p.call q f (view_arguments (names_in context.entry) xs.now))) }
 {
-    open("call", out);
-    place(q, out);
+    open_at("call", q, out);
     ordinal(f as usize, out);
-    arguments(names, xs, level, out);
+    arguments(context, xs, out);
     close(out)
 }
 
 #[cycle(expression)]
-fn arguments(names: &[GlobalName], xs: &[Argument<Expr>], level: u32, out: &mut Page)
-    ensures { Adds out.old out.new (arguments_text (view_arguments (names_in names.now) xs.now)) }
+fn arguments(context: Printing<'_>, xs: &[Argument<Expr>], out: &mut Page)
+    ensures { Adds out.old out.new (arguments_text (view_arguments (names_in context.entry) xs.now)) }
 {
     for x in xs {
-        argument(names, x, level, out);
+        argument(context, x, out);
     }
 }
 
 #[cycle(expression)]
-fn argument(names: &[GlobalName], x: &Argument<Expr>, level: u32, out: &mut Page)
-    ensures { Adds out.old out.new (arguments_text (view_arguments (names_in names.now) (x.now ∷ []))) }
+fn argument(context: Printing<'_>, x: &Argument<Expr>, out: &mut Page)
+    ensures { Adds out.old out.new (arguments_text (view_arguments (names_in context.entry) (x.now ∷ []))) }
 {
     match x {
-        Argument::Value(x) => expression(names, x, level, out),
+        Argument::Value(x) => expression(context, x, out),
         Argument::Array(v) => {
             open("array", out);
-            variable(names, *v, out);
+            variable(context, *v, out);
             close(out)
         }
         Argument::Nothing => {

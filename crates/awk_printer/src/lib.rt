@@ -35,6 +35,7 @@
 //! - `(for-in 1:1 key array body)` and `(block ..)`.
 #![tactic(auto)]
 
+mod context;
 mod expressions;
 mod page;
 mod pieces;

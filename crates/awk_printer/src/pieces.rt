@@ -8,8 +8,9 @@ ghost use Rattle.awk_printer.specs.Printed.{variable_text, variables_text};
 ghost use Rattle.awk_printer.specs.Words as spec;
 ghost use Rattle.awk_program.specs.View.{variable_of};
 
+use crate::context::Printing;
 use crate::page::{Page, put};
-use awk_program::{GlobalName, Variable};
+use awk_program::Variable;
 use awk_text::place::Place;
 use itoa::Buffer;
 
@@ -32,6 +33,14 @@ pub fn open(text: &str, out: &mut Page)
 {
     put(b" (", out);
     put(text.as_bytes(), out)
+}
+
+/// `(`, the name of a form and its place.
+pub fn open_at(text: &str, at: Place, out: &mut Page)
+    ensures { Adds out.old out.new (spec.opening_at text.now at) }
+{
+    open(text, out);
+    place(at, out)
 }
 
 /// The end of a form.
@@ -96,11 +105,11 @@ pub fn quoted(mark: u8, text: &[u8], out: &mut Page)
 }
 
 /// A variable by its name, a parameter by its place.
-pub fn variable(names: &[GlobalName], v: Variable, out: &mut Page)
-    ensures { Adds out.old out.new (variable_text (variable_of (spec.names_in names.now) v)) }
+pub fn variable(context: Printing<'_>, v: Variable, out: &mut Page)
+    ensures { Adds out.old out.new (variable_text (variable_of (spec.names_in context.entry) v)) }
 {
     match v {
-        Variable::Global(n) => match names.get(n as usize) {
+        Variable::Global(n) => match context.names.get(n as usize) {
             Some(name) => word(name.text.bytes(), out),
             None => word(b"", out),
         },
@@ -111,10 +120,10 @@ pub fn variable(names: &[GlobalName], v: Variable, out: &mut Page)
     }
 }
 
-pub fn variables(names: &[GlobalName], vs: &[Variable], out: &mut Page)
-    ensures { Adds out.old out.new (variables_text (map (variable_of (spec.names_in names.now)) vs.now)) }
+pub fn variables(context: Printing<'_>, vs: &[Variable], out: &mut Page)
+    ensures { Adds out.old out.new (variables_text (map (variable_of (spec.names_in context.entry)) vs.now)) }
 {
     for v in vs {
-        variable(names, *v, out);
+        variable(context, *v, out);
     }
 }

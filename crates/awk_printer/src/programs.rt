@@ -7,10 +7,11 @@ ghost use Rattle.awk_printer.specs.Printed as spec;
 ghost use Rattle.awk_printer.specs.Words.{names_in, flag, form, declared_name};
 ghost use Rattle.awk_program.specs.View.{view_statement, view_function, view_rule, view_when, view_program};
 
+use crate::context::Printing;
 use crate::expressions::expression;
 use crate::page::Page;
 use crate::pieces::{close, open, ordinal, text, word};
-use crate::statements::{DEEPEST, action};
+use crate::statements::action;
 use awk_program::{Function, GlobalName, Program, Rule, Statement, When};
 use awk_text::Memory;
 use sqlite_items::Items;
@@ -66,58 +67,58 @@ fn parameters(flags: &[bool], out: &mut Page)
     close(out)
 }
 
-fn function(names: &[GlobalName], n: usize, f: &Function, out: &mut Page)
-    ensures { Adds out.old out.new (spec.function_line n (view_function (names_in names.now) f.now)) }
+fn function(context: Printing<'_>, n: usize, f: &Function, out: &mut Page)
+    ensures { Adds out.old out.new (spec.function_line n (view_function (names_in context.entry) f.now)) }
 {
     text("function", out);
     ordinal(n, out);
     word(f.name.bytes(), out);
     parameters(f.parameters.as_slice(), out);
-    action(names, f.body.as_slice(), out)
+    action(context, f.body.as_slice(), out)
 }
 
-fn functions(names: &[GlobalName], fs: &[Function], out: &mut Page)
-    ensures { Adds out.old out.new (spec.functions_text 0 (map (view_function (names_in names.now)) fs.now)) }
+fn functions(context: Printing<'_>, fs: &[Function], out: &mut Page)
+    ensures { Adds out.old out.new (spec.functions_text 0 (map (view_function (names_in context.entry)) fs.now)) }
 {
     for (n, f) in fs.iter().enumerate() {
-        function(names, n, f, out);
+        function(context, n, f, out);
     }
 }
 
-fn begin(names: &[GlobalName], xs: &[Statement], out: &mut Page)
-    ensures { Adds out.old out.new (spec.begin_line (map (view_statement (names_in names.now)) xs.now)) }
+fn begin(context: Printing<'_>, xs: &[Statement], out: &mut Page)
+    ensures { Adds out.old out.new (spec.begin_line (map (view_statement (names_in context.entry)) xs.now)) }
 {
     text("BEGIN", out);
-    action(names, xs, out)
+    action(context, xs, out)
 }
 
-fn begins(names: &[GlobalName], bodies: &[Items<Statement>], out: &mut Page)
+fn begins(context: Printing<'_>, bodies: &[Items<Statement>], out: &mut Page)
     ensures { Adds out.old out.new
-        (flat_map spec.begin_line (map (map (view_statement (names_in names.now))) bodies.now)) }
+        (flat_map spec.begin_line (map (map (view_statement (names_in context.entry))) bodies.now)) }
 {
     for xs in bodies {
-        begin(names, xs.as_slice(), out);
+        begin(context, xs.as_slice(), out);
     }
 }
 
-fn end(names: &[GlobalName], xs: &[Statement], out: &mut Page)
-    ensures { Adds out.old out.new (spec.end_line (map (view_statement (names_in names.now)) xs.now)) }
+fn end(context: Printing<'_>, xs: &[Statement], out: &mut Page)
+    ensures { Adds out.old out.new (spec.end_line (map (view_statement (names_in context.entry)) xs.now)) }
 {
     text("END", out);
-    action(names, xs, out)
+    action(context, xs, out)
 }
 
-fn ends(names: &[GlobalName], bodies: &[Items<Statement>], out: &mut Page)
+fn ends(context: Printing<'_>, bodies: &[Items<Statement>], out: &mut Page)
     ensures { Adds out.old out.new
-        (flat_map spec.end_line (map (map (view_statement (names_in names.now))) bodies.now)) }
+        (flat_map spec.end_line (map (map (view_statement (names_in context.entry))) bodies.now)) }
 {
     for xs in bodies {
-        end(names, xs.as_slice(), out);
+        end(context, xs.as_slice(), out);
     }
 }
 
-fn when(names: &[GlobalName], x: &When, out: &mut Page)
-    ensures { Adds out.old out.new (spec.when_text (view_when (names_in names.now) x.now)) }
+fn when(context: Printing<'_>, x: &When, out: &mut Page)
+    ensures { Adds out.old out.new (spec.when_text (view_when (names_in context.entry) x.now)) }
 {
     match x {
         When::Always => {
@@ -126,31 +127,31 @@ fn when(names: &[GlobalName], x: &When, out: &mut Page)
         }
         When::Holds(x) => {
             open("when", out);
-            expression(names, x, DEEPEST, out);
+            expression(context, x, out);
             close(out)
         }
         When::Range(x, y) => {
             open("from-to", out);
-            expression(names, x, DEEPEST, out);
-            expression(names, y, DEEPEST, out);
+            expression(context, x, out);
+            expression(context, y, out);
             close(out)
         }
     }
 }
 
-fn rule(names: &[GlobalName], r: &Rule, out: &mut Page)
-    ensures { Adds out.old out.new (spec.rule_line (view_rule (names_in names.now) r.now)) }
+fn rule(context: Printing<'_>, r: &Rule, out: &mut Page)
+    ensures { Adds out.old out.new (spec.rule_line (view_rule (names_in context.entry) r.now)) }
 {
     text("rule", out);
-    when(names, &r.when, out);
-    action(names, r.action.as_slice(), out)
+    when(context, &r.when, out);
+    action(context, r.action.as_slice(), out)
 }
 
-fn rules(names: &[GlobalName], rs: &[Rule], out: &mut Page)
-    ensures { Adds out.old out.new (flat_map spec.rule_line (map (view_rule (names_in names.now)) rs.now)) }
+fn rules(context: Printing<'_>, rs: &[Rule], out: &mut Page)
+    ensures { Adds out.old out.new (flat_map spec.rule_line (map (view_rule (names_in context.entry)) rs.now)) }
 {
     for r in rs {
-        rule(names, r, out);
+        rule(context, r, out);
     }
 }
 
@@ -161,15 +162,16 @@ pub fn printed(alloc: Global, program: &Program) -> Result<Vec<u8>, Memory>
     ensures { IfOk result (λ text. text.items ≡ spec.program_text (view_program program.now)) }
 {
     let names = program.variables.as_slice();
+    let context = Printing::of(names);
     let mut out = Page {
         text: Vec::new(alloc),
         is_cut: false,
     };
     variables(names, &mut out);
-    functions(names, program.functions.as_slice(), &mut out);
-    begins(names, program.begin.as_slice(), &mut out);
-    rules(names, program.rules.as_slice(), &mut out);
-    ends(names, program.end.as_slice(), &mut out);
+    functions(context, program.functions.as_slice(), &mut out);
+    begins(context, program.begin.as_slice(), &mut out);
+    rules(context, program.rules.as_slice(), &mut out);
+    ends(context, program.end.as_slice(), &mut out);
     let Page { text, is_cut } = out;
     if is_cut { Err(AllocError) } else { Ok(text) }
 }

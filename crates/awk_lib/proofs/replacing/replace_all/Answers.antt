@@ -19,6 +19,9 @@ loop-next-init c =
       same = c.in_ok-next.ensures.same ∙ c.new-searches.ensures;
     }
 
+pub push_match-requires-clause-plain : goal.push_match-requires-clause-plain
+push_match-requires-clause-plain c = rw c.of-replacement.ensures.text c.of-replacement.ensures.plain
+
 pub loop-next-preserved : goal.loop-next-preserved
 loop-next-preserved c =
     let ere = c.args.ere.now in
@@ -28,7 +31,7 @@ loop-next-preserved c =
     subst (λ n. Turn ere with text n c.loop-next.done c.loop-next.count c.loop-next.out) c.in-Some.is c.loop-next.invariant.turn in
     let next = subst (λ z. IsNextMatch z.0 text c.next_from.result (Some c.in-Some.end) c.in_ok-next-2.next) c.loop-next.invariant.same c.in_ok-next-2.ensures.next in
     record {
-      turn = turn_on ere with text c.in-Some.start c.in-Some.end c.in_ok-next-2.next c.loop-next.done c.loop-next.count c.loop-next.out c.push_match.new.out turn c.in_ok-push_match.ensures
+      turn = turn_on ere with text c.in-Some.start c.in-Some.end c.in_ok-next-2.next c.loop-next.done c.loop-next.count c.loop-next.out c.push_match.new.out turn (rw c.of-replacement.ensures.text at c.in_ok-push_match.ensures)
           (subst (λ f. IsNextMatch ere text f (Some c.in-Some.end) c.in_ok-next-2.next) c.next_from.ensures next);
       same = c.in_ok-next-2.ensures.same ∙ c.loop-next.invariant.same;
     }

@@ -1,5 +1,6 @@
-use Rattle.awk_printer.proofs.Pages.{both}
+use Rattle.std.proofs.Common.{codes}
+use Rattle.awk_printer.proofs.Pages.{both, behind}
 use Rattle.awk_printer.proofs.expressions.record_pattern.Goals as goal
 
 pub returns : goal.returns
-returns c = both c.open.ensures (both c.place.ensures (both c.quoted.ensures c.close.ensures))
+returns c = behind (codes "record~") c.args.q c.open_at.ensures (both c.quoted.ensures c.close.ensures)

@@ -11,4 +11,4 @@ returns-else-is_cut c =
     let ends = rw c.as_slice-4.ensures at c.ends.ensures in
     let all = both c.variables.ensures (both functions (both begins (both rules ends))) in
     let h = (all.whole c.if-is_cut.false).1 in
-    rw (c.as_slice-names.ensures, c.new.ensures.items) at h
+    rw (c.of-context.ensures, c.as_slice-names.ensures, c.new.ensures.items) at h

@@ -8,28 +8,31 @@ use Rattle.awk_printer.specs.declared.page.Page.{Page}
 use Rattle.awk_printer.proofs.statements.+statement.Given as goal
 
 abbrev pub decreases-statement : goal.decreases-statement
-decreases-statement l = 16 * l.level
+decreases-statement l = 16 * l.context.level
+
+abbrev pub decreases-statement_of_parts : goal.decreases-statement_of_parts
+decreases-statement_of_parts l = 7 + 16 * l.context.level
 
 abbrev pub decreases-test : goal.decreases-test
-decreases-test l = 1 + 16 * l.level
+decreases-test l = 1 + 16 * l.context.level
 
 abbrev pub decreases-if_else : goal.decreases-if_else
-decreases-if_else l = 1 + 16 * l.level
+decreases-if_else l = 1 + 16 * l.context.level
 
 abbrev pub decreases-do_while : goal.decreases-do_while
-decreases-do_while l = 1 + 16 * l.level
+decreases-do_while l = 1 + 16 * l.context.level
 
 abbrev pub decreases-for_loop : goal.decreases-for_loop
-decreases-for_loop l = 1 + 16 * l.level
+decreases-for_loop l = 1 + 16 * l.context.level
 
 abbrev pub decreases-for_each : goal.decreases-for_each
-decreases-for_each l = 1 + 16 * l.level
+decreases-for_each l = 1 + 16 * l.context.level
 
 abbrev pub decreases-statements : goal.decreases-statements
-decreases-statements l = 1 + 16 * l.level
+decreases-statements l = 1 + 16 * l.context.level
 
 abbrev pub decreases-block : goal.decreases-block
-decreases-block l = 2 + 16 * l.level
+decreases-block l = 2 + 16 * l.context.level
 
 abbrev pub invariant-statements-loop-s : goal.invariant-statements-loop-s
-invariant-statements-loop-s l = (end : Page) → Adds l.out end (statements_text (statements_of (map (view_statement (names_in l.names)) (drop l.s-index l.xs)))) → Adds l.initial.out end (statements_text (statements_of (map (view_statement (names_in l.names)) l.xs)))
+invariant-statements-loop-s l = (end : Page) → Adds l.out end (statements_text (statements_of (map (view_statement (names_in l.context)) (drop l.s-index l.xs)))) → Adds l.initial.out end (statements_text (statements_of (map (view_statement (names_in l.context)) l.xs)))

@@ -2,4 +2,4 @@ use Rattle.awk_printer.proofs.Pages.{both}
 use Rattle.awk_printer.proofs.statements.give.Goals as goal
 
 pub returns : goal.returns
-returns c = both c.open.ensures (both c.optional.ensures c.close.ensures)
+returns c = both c.open.ensures (both c.perhaps.ensures c.close.ensures)

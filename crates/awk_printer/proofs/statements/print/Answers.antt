@@ -1,5 +1,6 @@
-use Rattle.awk_printer.proofs.Pages.{both}
+use Rattle.std.proofs.Common.{codes}
+use Rattle.awk_printer.proofs.Pages.{both, behind}
 use Rattle.awk_printer.proofs.statements.print.Goals as goal
 
 pub returns : goal.returns
-returns c = both c.open.ensures (both c.place.ensures (both c.all.ensures (both c.redirection.ensures c.close.ensures)))
+returns c = behind (codes "print") c.args.q c.open_at.ensures (both c.list.ensures (both c.redirection.ensures c.close.ensures))
