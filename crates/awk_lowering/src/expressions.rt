@@ -27,7 +27,8 @@ use crate::operators::{
 use crate::parts::{argument_of, given, join_of, piped_of, power_of, term_of};
 use crate::shapes::{bare, constant, counted, first_in, later, start, takes_array};
 use crate::targets::{
-    computed_of, constant_of, element_of, field_of, field_separator, record_of, variable_of, zero,
+    computed_of, constant_of, element_of, field_of, field_separator, record_of, unwritten,
+    variable_of, zero,
 };
 use awk_program::{Argument, Builtin, Expr, Joined, Pattern, Piped, StepValue, Target, Term};
 use awk_text::Memory;
@@ -160,7 +161,8 @@ fn element(
     element_of(n.place, v, list(context, keys, level))
 }
 
-/// What is set. The grammar puts nothing else there.
+/// What is set. The grammar puts nothing but the first three there; anything else stands for the whole record.
+#[tactic(auto, using(awk_tree::proofs::Views::views))]
 #[cycle(expression)]
 fn target(context: &Lowering<'_>, e: &awk_tree::Expr, level: u32) -> Result<Target<Expr>, Memory>
     ensures { IsTarget (names_in context.now) result (low.target (scope_in context.now) (view e.now)) }
@@ -169,7 +171,32 @@ fn target(context: &Lowering<'_>, e: &awk_tree::Expr, level: u32) -> Result<Targ
         awk_tree::Expr::Name(n) => variable_of(variable(context, n.text.bytes())),
         awk_tree::Expr::Element(n, keys) => element(context, n, keys.as_slice(), level),
         awk_tree::Expr::Field(place, x) => field_of(*place, part(context, x.get(), level)),
-        _ => Err(AllocError),
+        awk_tree::Expr::Number(_, _)
+        | awk_tree::Expr::Quoted(_, _)
+        | awk_tree::Expr::Pattern(_, _)
+        | awk_tree::Expr::Paren(_, _)
+        | awk_tree::Expr::Call(_, _)
+        | awk_tree::Expr::Builtin(_, _, _)
+        | awk_tree::Expr::Length(_)
+        | awk_tree::Expr::Split(_, _, _, _)
+        | awk_tree::Expr::Substitute(_, _, _, _, _)
+        | awk_tree::Expr::Getline(_, _, _)
+        | awk_tree::Expr::Before(_, _, _)
+        | awk_tree::Expr::After(_, _, _)
+        | awk_tree::Expr::Signed(_, _, _)
+        | awk_tree::Expr::Power(_, _, _)
+        | awk_tree::Expr::Product(_, _)
+        | awk_tree::Expr::Sum(_, _)
+        | awk_tree::Expr::Concat(_, _)
+        | awk_tree::Expr::Pipe(_, _)
+        | awk_tree::Expr::Compare(_, _, _, _)
+        | awk_tree::Expr::Match(_, _, _, _)
+        | awk_tree::Expr::Group(_, _, _)
+        | awk_tree::Expr::In(_, _)
+        | awk_tree::Expr::And(_, _)
+        | awk_tree::Expr::Or(_, _)
+        | awk_tree::Expr::Choice(_, _, _)
+        | awk_tree::Expr::Assign(_, _, _, _) => unwritten(context.alloc),
     }
 }
 

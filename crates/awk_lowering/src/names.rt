@@ -42,12 +42,12 @@ fn small(n: usize) -> Result<u32, Memory>
     }
 }
 
-/// Where a text stands that stands there: each name of a script is in its roll.
-fn numbered(roll: &Roll, text: &[u8]) -> Result<u32, Memory>
-    ensures place { IfOk result (λ n. position (bytes_eq text.now) roll.now ≡ Some n) }
-    ensures text { IfOk result (λ n. get_or roll.now n [] ≡ text.now) }
+/// The slot of the variable of this name. Each that a script names has one. No slot stands for another one, which is
+/// refused as memory is.
+fn slot(variables: &Roll, text: &[u8]) -> Result<u32, Memory>
+    ensures { IfOk result (λ n. get_or variables.now n [] ≡ text.now) }
 {
-    match roll.position(text) {
+    match variables.position(text) {
         Some(n) => small(n),
         None => Err(AllocError),
     }
@@ -57,7 +57,7 @@ fn numbered(roll: &Roll, text: &[u8]) -> Result<u32, Memory>
 pub fn global(context: &Lowering<'_>, text: &[u8]) -> Result<Variable, Memory>
     ensures { IfOk result (λ v. variable_of (names_in context.now) v ≡ p.global text.now) }
 {
-    match numbered(context.variables, text) {
+    match slot(context.variables, text) {
         Ok(n) => Ok(Variable::Global(n)),
         Err(refused) => Err(refused),
     }
@@ -76,11 +76,14 @@ pub fn variable(context: &Lowering<'_>, text: &[u8]) -> Result<Variable, Memory>
     }
 }
 
-/// The number of the function of this name.
+/// The number of the function of this name. A script calls none that it has not, which would be the first.
 pub fn function(context: &Lowering<'_>, text: &[u8]) -> Result<u32, Memory>
     ensures { IfOk result (λ n. n ≡ spec.function (scope_in context.now) text.now) }
 {
-    numbered(context.functions, text)
+    match context.functions.position(text) {
+        Some(n) => small(n),
+        None => Ok(0),
+    }
 }
 
 /// Of each parameter of a function whether it is an array.

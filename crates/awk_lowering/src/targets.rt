@@ -1,7 +1,7 @@
 // What is read or set, and patterns, of parts that are made already. A part that was refused refuses the whole.
 
 ghost use Rattle.std.specs.Prelude.{◌≡◌, IfOk, List, pos, codes};
-ghost use Rattle.awk_lowering.specs.Forms.{whole_record};
+ghost use Rattle.awk_lowering.specs.Forms.{unwritten_target, whole_record};
 ghost use Rattle.awk_lowering.specs.Made.{Is, AreAll, IsTarget, IsEre, IsVariable, names_in};
 ghost use Rattle.awk_program.specs.Program as p;
 ghost use Rattle.awk_program.specs.Program.{Expression, Reference, expressions_of};
@@ -75,6 +75,13 @@ pub fn record_of(alloc: Global, place: Place) -> Result<Target<Expr>, Memory>
     ensures { (t : Names) → IsTarget t result (whole_record place) }
 {
     field_of(place, boxed(alloc, zero()))
+}
+
+/// What stands for a target that is none. It has no place of its own.
+pub fn unwritten(alloc: Global) -> Result<Target<Expr>, Memory>
+    ensures { (t : Names) → IsTarget t result unwritten_target }
+{
+    record_of(alloc, Place { line: 0, column: 0 })
 }
 
 /// An ERE by itself
