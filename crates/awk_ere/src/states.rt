@@ -11,7 +11,7 @@ ghost use Rattle.awk_ere.specs.Table.{IsDead, IsBuilt};
 use crate::bracket::Set;
 use crate::heads::{Heads, any_heads, make_heads};
 use crate::program::Instruction;
-use crate::search::{NONE, reach, target};
+use crate::search::{NONE, Starts, TextEnds, reach, target};
 use std::alloc::{AllocError, Global};
 
 /// The number of no state: the table does not say where the search goes on.
@@ -25,6 +25,12 @@ const MAX_STEPS: usize = 2000;
 
 /// How many steps may be looked at for a table.
 const MAX_WORK: usize = 1_000_000;
+
+/// A place with bytes before it and behind it.
+const INSIDE: TextEnds = TextEnds {
+    first: false,
+    last: false,
+};
 
 /// Adds the step that this one goes to over the byte.
 fn push_target(
@@ -68,56 +74,49 @@ fn targets(
 /// Marks the steps that this one leads to without reading, where the program has it.
 fn lead_from(
     program: &[Instruction],
-    first: bool,
-    last: bool,
+    ends: TextEnds,
     at: usize,
-    starts: &mut [usize],
-    active: &mut Vec<usize>,
+    starts: &mut Starts,
     stack: &mut Vec<usize>,
 ) -> Result<(), AllocError>
     requires sound { IsSound program.now }
     requires len { length starts.old ≡ length program.now }
-    requires listed { IsListed starts.old active.old.items }
-    requires closed { IsClosed program.now first last starts.old }
-    ensures more { OnOk result (LeadsMore program.now first last at starts.old starts.new) }
-    ensures listed { OnOk result (IsListed starts.new active.new.items) }
+    requires closed { IsClosed program.now ends.first ends.last starts.old }
+    ensures len { OnOk result (length starts.new ≡ length program.now) }
+    ensures more { OnOk result (LeadsMore program.now ends.first ends.last at starts.old starts.new) }
 {
     if at < program.len() {
-        reach(program, first, last, at, 0, starts, active, stack)?;
+        reach(program, ends, at, 0, starts, stack)?;
         Ok(())
     } else {
         Ok(())
     }
 }
 
-/// Marks the steps that those of the list lead to without reading.
+/// The marks of the steps that those of the list lead to without reading.
 fn lead(
+    alloc: Global,
     program: &[Instruction],
-    first: bool,
-    last: bool,
+    ends: TextEnds,
     list: &[usize],
-    starts: &mut [usize],
-    active: &mut Vec<usize>,
-    stack: &mut Vec<usize>,
-) -> Result<(), AllocError>
-    requires sound { IsSound program.now }
-    requires len { length starts.old ≡ length program.now }
-    requires blank { IsBlank starts.old }
-    requires listed { IsListed starts.old active.old.items }
-    ensures { OnOk result (AreLed program.now first last list.now starts.new) }
+) -> Result<Starts, AllocError>
+    requires { IsSound program.now }
+    ensures { IfOk result (λ starts. AreLed program.now ends.first ends.last list.now starts) }
 {
+    let mut starts = Starts::new(alloc, program.len())?;
+    let mut stack = Vec::new(alloc);
     for at in list {
-        lead_from(program, first, last, *at, starts, active, stack)?;
+        lead_from(program, ends, *at, &mut starts, &mut stack)?;
     }
-    Ok(())
+    Ok(starts)
 }
 
 /// Adds the step where it is marked.
-fn push_marked(starts: &[usize], at: usize, list: &mut Vec<usize>) -> Result<(), AllocError>
+fn push_marked(starts: &Starts, at: usize, list: &mut Vec<usize>) -> Result<(), AllocError>
     requires { at < length starts.now }
     ensures { OnOk result (Gains (λ p. (p ≡ at) × (mark starts.now p < NONE)) list.old.items list.new.items) }
 {
-    if starts[at] < NONE {
+    if starts.least(at) < NONE {
         list.push(at)?;
         Ok(())
     } else {
@@ -126,7 +125,7 @@ fn push_marked(starts: &[usize], at: usize, list: &mut Vec<usize>) -> Result<(),
 }
 
 /// The marked steps, in order.
-fn marked(alloc: Global, starts: &[usize]) -> Result<Vec<usize>, AllocError>
+fn marked(alloc: Global, starts: &Starts) -> Result<Vec<usize>, AllocError>
     ensures { IfOk result (λ list. AreMarked starts.now list.items) }
 {
     let mut list = Vec::new(alloc);
@@ -136,40 +135,18 @@ fn marked(alloc: Global, starts: &[usize]) -> Result<Vec<usize>, AllocError>
     Ok(list)
 }
 
-/// The steps that those of the list lead to without reading, by marks that are blank before.
-fn led_by(
-    alloc: Global,
-    program: &[Instruction],
-    first: bool,
-    last: bool,
-    list: &[usize],
-    starts: &mut [usize],
-) -> Result<Vec<usize>, AllocError>
-    requires sound { IsSound program.now }
-    requires len { length starts.old ≡ length program.now }
-    requires blank { IsBlank starts.old }
-    ensures { IfOk result (λ led. IsLed program.now first last list.now led.items) }
-{
-    let mut active = Vec::new(alloc);
-    let mut stack = Vec::new(alloc);
-    lead(program, first, last, list, starts, &mut active, &mut stack)?;
-    let found = marked(alloc, starts)?;
-    Ok(found)
-}
-
 /// The steps that those of the list lead to without reading.
 fn led(
     alloc: Global,
     program: &[Instruction],
-    first: bool,
-    last: bool,
+    ends: TextEnds,
     list: &[usize],
 ) -> Result<Vec<usize>, AllocError>
     requires { IsSound program.now }
-    ensures { IfOk result (λ led. IsLed program.now first last list.now led.items) }
+    ensures { IfOk result (λ led. IsLed program.now ends.first ends.last list.now led.items) }
 {
-    let mut starts = vec![in alloc; NONE; program.len()]?;
-    let found = led_by(alloc, program, first, last, list, &mut starts)?;
+    let starts = lead(alloc, program, ends, list)?;
+    let found = marked(alloc, &starts)?;
     Ok(found)
 }
 
@@ -225,35 +202,9 @@ fn cell(
         (λ n. IsKnown sets.now program.now byte list.now (map (λ v. v.items) lists.new.items) n) }
 {
     let targets = targets(alloc, sets, program, list, byte)?;
-    let steps = led(alloc, program, false, false, &targets)?;
+    let steps = led(alloc, program, INSIDE, &targets)?;
     let at = number(lists, steps)?;
     Ok(at)
-}
-
-/// The same where the byte is an edge, and otherwise the state after the byte before.
-fn cell_after(
-    alloc: Global,
-    sets: &[Set],
-    program: &[Instruction],
-    is_edge: bool,
-    before: u8,
-    list: &[usize],
-    byte: u8,
-    lists: &mut Vec<Vec<usize>>,
-) -> Result<u8, AllocError>
-    requires sound { IsSound program.now }
-    requires same { is_edge ≡ false →
-        IsKnown sets.now program.now byte list.now (map (λ v. v.items) lists.old.items) before }
-    ensures later { OnOk result (Later (map (λ v. v.items) lists.old.items) (map (λ v. v.items) lists.new.items)) }
-    ensures known { IfOk result
-        (λ n. IsKnown sets.now program.now byte list.now (map (λ v. v.items) lists.new.items) n) }
-{
-    if is_edge {
-        let at = cell(alloc, sets, program, list, byte, lists)?;
-        Ok(at)
-    } else {
-        Ok(before)
-    }
 }
 
 /// The states after each byte.
@@ -275,16 +226,9 @@ fn row(
     let mut row = [UNKNOWN; 256];
     let mut before = UNKNOWN;
     for byte in 0..256usize {
-        before = cell_after(
-            alloc,
-            sets,
-            program,
-            edges[byte],
-            before,
-            list,
-            byte as u8,
-            lists,
-        )?;
+        if edges[byte] {
+            before = cell(alloc, sets, program, list, byte as u8, lists)?;
+        }
         row[byte] = before;
     }
     Ok(row)
@@ -376,7 +320,11 @@ fn ends_at_last(alloc: Global, program: &[Instruction], list: &[usize]) -> Resul
     requires some { 0 < length program.now }
     ensures { IfOk result (λ b. (b ≡ true) ↔ EndsAtLast program.now list.now) }
 {
-    let steps = led(alloc, program, false, true, list)?;
+    let ends = TextEnds {
+        first: false,
+        last: true,
+    };
+    let steps = led(alloc, program, ends, list)?;
     Ok(has_done(&steps))
 }
 
@@ -414,7 +362,8 @@ fn first_state(
     ensures later { OnOk result (Later (map (λ v. v.items) lists.old.items) (map (λ v. v.items) lists.new.items)) }
     ensures first { IfOk result (λ n. IsFirst program.now first entry (map (λ v. v.items) lists.new.items) n) }
 {
-    let steps = led(alloc, program, first, false, &[entry])?;
+    let ends = TextEnds { first, last: false };
+    let steps = led(alloc, program, ends, &[entry])?;
     let at = number(lists, steps)?;
     Ok(at)
 }
@@ -534,39 +483,6 @@ fn room(program: &[Instruction], edges: &[bool; 256]) -> usize
     (MAX_WORK / row).min(UNKNOWN as usize)
 }
 
-/// The table of the states and with the rows that they have room for.
-fn with_rows(
-    alloc: Global,
-    sets: &[Set],
-    program: &[Instruction],
-    entry: usize,
-    scan: usize,
-    mut lists: Vec<Vec<usize>>,
-    begins: (Begin, Begin),
-) -> Result<StateTable, AllocError>
-    requires sound { IsSound program.now }
-    requires some { 0 < length program.now }
-    requires dead { IsDead (map (λ v. v.items) lists.items) }
-    requires entry { IsBegin program.now entry (map (λ v. v.items) lists.items) begins.0 }
-    requires scan { IsBegin program.now scan (map (λ v. v.items) lists.items) begins.1 }
-    ensures { IfOk result (λ t. IsBuilt sets.now program.now entry scan t) }
-{
-    let edges = edges(sets, program);
-    let room = room(program, &edges);
-    let cells = rows(alloc, sets, program, &edges, room, &mut lists)?;
-    let accepts = accepting(alloc, &lists, cells.len())?;
-    let ends = ending(alloc, program, &lists, cells.len())?;
-    let heads = make_heads(&cells, &accepts, begins.0.later);
-    Ok(StateTable {
-        cells,
-        accepts,
-        ends,
-        entry: begins.0,
-        scan: begins.1,
-        heads,
-    })
-}
-
 /// The states of a table before any is met: the one that has no step.
 fn no_states(alloc: Global) -> Result<Vec<Vec<usize>>, AllocError>
     ensures { IfOk result (λ lists. IsDead (map (λ v. v.items) lists.items)) }
@@ -592,16 +508,20 @@ pub fn make_table(
         return Ok(blank(alloc, sets, program, entry, scan));
     }
     let mut lists = no_states(alloc)?;
-    let entry_begin = begins(alloc, program, entry, &mut lists)?;
-    let scan_begin = begins(alloc, program, scan, &mut lists)?;
-    let table = with_rows(
-        alloc,
-        sets,
-        program,
+    let entry = begins(alloc, program, entry, &mut lists)?;
+    let scan = begins(alloc, program, scan, &mut lists)?;
+    let edges = edges(sets, program);
+    let room = room(program, &edges);
+    let cells = rows(alloc, sets, program, &edges, room, &mut lists)?;
+    let accepts = accepting(alloc, &lists, cells.len())?;
+    let ends = ending(alloc, program, &lists, cells.len())?;
+    let heads = make_heads(&cells, &accepts, entry.later);
+    Ok(StateTable {
+        cells,
+        accepts,
+        ends,
         entry,
         scan,
-        lists,
-        (entry_begin, scan_begin),
-    )?;
-    Ok(table)
+        heads,
+    })
 }
