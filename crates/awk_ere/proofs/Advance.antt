@@ -1,10 +1,11 @@
 -- One byte further.
-use Rattle.std.proofs.Common.{◌≡◌, ℕ, ◌+◌, ◌<◌, ◌≤◌, inl, inr, Bool, cond, List, [], length, get_or, Some, None, sym, ◌∙◌, ap, subst, arith, Fits, w64}
+use Rattle.std.proofs.Common.{◌≡◌, ℕ, ◌+◌, ◌<◌, ◌≤◌, inl, inr, Bool, cond, List, [], length, get_or, Some, None, sym, ◌∙◌, ap, subst, arith}
 use Rattle.std.proofs.Math.ListN.{set, length-set}
 use Rattle.std.specs.List.{slice_get, Contains}
 use Rattle.std.proofs.lemmas.Bool.{cases_eq, cases_lt}
 use Rattle.std.proofs.lemmas.Option.{cond_some, none-some}
 use Rattle.std.proofs.lemmas.List.{get_or-set_same, get_or-set_other, get_or_default}
+use Rattle.std.proofs.lemmas.List.Elements.{Contains-get_or}
 use Rattle.std.proofs.Math.ListN.{get_or-eq_default}
 use Rattle.awk_ere.specs.Program.{holds, IsSound}
 use Rattle.awk_ere.specs.Search.{mark, IsListed, IsBlank, IsClosed, LeadsTo, Reaches, Takes, Advances, target_of}
@@ -74,15 +75,9 @@ pub record IsClearing (active : List ℕ) (k : ℕ) (starts : List ℕ) : Type 0
   pub below : (q : ℕ) → Contains active q → q < length starts
   pub small : (q : ℕ) → mark starts q ≤ NONE
 
-small_marks : (starts : List ℕ) → ((i : ℕ) → Fits w64 (get_or starts i 0)) → (q : ℕ) → mark starts q ≤ NONE
-small_marks starts fits q = elim (cases_lt q (length starts)) [
-  | inl before ↦ omega (arith, fits q, get_or_default starts q 0 NONE before)
-  | inr beyond ↦ omega (arith, get_or-eq_default starts NONE beyond)
-]
-
-pub clearing_begins : (starts active : List ℕ) → ((i : ℕ) → Fits w64 (get_or starts i 0)) → IsListed starts active → IsClearing active 0 starts
-clearing_begins starts active fits h = record {
-  small = small_marks starts fits;
+pub clearing_begins : (starts active : List ℕ) → IsListed starts active → IsClearing active 0 starts
+clearing_begins starts active h = record {
+  small = h.small;
   left = λ q marked.
       let inside : q < length starts = elim (cases_lt q (length starts)) [ inl before ↦ before | inr beyond ↦ absurd (omega (arith, get_or-eq_default starts NONE beyond)) ] in
       let member = h.each q inside marked in
@@ -115,7 +110,18 @@ clearing_ends starts active k all h = λ q. elim (cases_lt (mark starts q) NONE)
 ]
 
 pub listed_none : (starts : List ℕ) → IsBlank starts → IsListed starts []
-listed_none starts blank = record { each = λ q lt marked. absurd (omega (arith, blank q)); below = λ q member. absurd (omega (arith, member.1)) }
+listed_none starts blank = record {
+  each = λ q lt marked. absurd (omega (arith, blank q));
+  below = λ q member. absurd (omega (arith, member.1));
+  small = λ q. omega (arith, blank q);
+}
+
+pub listed_blank : (starts active : List ℕ) → length active ≡ 0 → IsListed starts active → IsBlank starts
+listed_blank starts active none h = clearing_ends starts active 0 (omega arith) (clearing_begins starts active h)
+
+-- a step of the list, which is there as a slice
+pub listed_below : (starts active items : List ℕ) (k : ℕ) → items ≡ active → k < length items → IsListed starts active → get_or items k 0 < length starts
+listed_below starts active items k same lt h = h.below (get_or items k 0) (subst (λ xs. Contains xs (get_or items k 0)) same (Contains-get_or items k 0 lt))
 
 -- `Takes` by `target_of`
 pub takes_target : (sets : List (List Bool)) (program : List Instruction) (b q r : ℕ) (x : Instruction) → slice_get program q ≡ Some x → target_of sets b x ≡ Some r → Takes sets program b q r

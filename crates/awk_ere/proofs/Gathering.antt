@@ -127,6 +127,19 @@ cell_by sets program b S T U sound targets led = record {
   complete = λ x t p member takes leads. led.complete t p (target_below sets program b x t sound takes) (targets.complete x t member takes) leads;
 }
 
+pub no_items : (xs : List ℕ) → length xs ≡ 0 → xs ≡ []
+no_items [] z = refl
+no_items (x ∷ xs) z = absurd (omega (arith, z))
+
+-- no steps lead to none
+pub none_led : (program : List Instruction) (S : List ℕ) → S ≡ [] → IsLed program false false S S
+none_led program S none = record {
+  sound = λ p member. absurd (nothing p (subst (λ l. Contains l p) none member));
+  complete = λ x p below member leads. absurd (nothing x (subst (λ l. Contains l x) none member));
+} where
+  nothing : (x : ℕ) → Contains [] x → ⊥
+  nothing x member = omega (arith, member.1)
+
 pub cell_known : (sets : List (List Bool)) (program : List Instruction) (b : ℕ) (S U : List ℕ) (lists : List (List ℕ)) (n : ℕ) → IsCell sets program b S U → IsNumber U lists n → IsKnown sets program b S lists n
 cell_known sets program b S U lists n is h = λ small. let y = h small in (y.0, subst (λ x. IsCell sets program b S x) (sym y.1) is)
 

@@ -181,8 +181,14 @@ module _ (program : List Instruction) (first last : Bool) (from start : ℕ) (ol
       ];
     }
 
-pub listed_new : (starts active : List ℕ) (at start : ℕ) → at < length starts → IsListed starts active → IsListed (set starts at start) (active ++ at ∷ [])
-listed_new starts active at start inside h = record {
+small_set : (starts : List ℕ) (at start : ℕ) → at < length starts → start ≤ NONE → ((q : ℕ) → mark starts q ≤ NONE) → (q : ℕ) → mark (set starts at start) q ≤ NONE
+small_set starts at start inside low small q = elim (cases_eq q at) [
+  | inl is ↦ (let e = ap (λ y. mark (set starts at start) y) is in omega (arith, e, low, get_or-set_same starts at start NONE inside))
+  | inr ne ↦ omega (arith, small q, get_or-set_other starts at q start NONE ne)
+]
+
+pub listed_new : (starts active : List ℕ) (at start : ℕ) → at < length starts → start ≤ NONE → IsListed starts active → IsListed (set starts at start) (active ++ at ∷ [])
+listed_new starts active at start inside low h = record {
   each = λ q lt marked. elim (cases_eq q at) [
     | inl is ↦ subst (λ y. Contains (active ++ at ∷ []) y) (sym is) (Contains-push active at)
     | inr ne ↦ Contains-append_left active (at ∷ []) q (h.each q (omega (arith, length-set {A = ℕ})) (let e = get_or-set_other starts at q start NONE ne in omega (arith, e)))
@@ -191,15 +197,17 @@ listed_new starts active at start inside h = record {
     | inl before ↦ omega (arith, h.below q before, length-set {A = ℕ})
     | inr is ↦ omega (arith, length-set {A = ℕ})
   ];
+  small = small_set starts at start inside low h.small;
 }
 
-pub listed_again : (starts active : List ℕ) (at start : ℕ) → mark starts at < NONE → at < length starts → IsListed starts active → IsListed (set starts at start) active
-listed_again starts active at start had inside h = record {
+pub listed_again : (starts active : List ℕ) (at start : ℕ) → mark starts at < NONE → at < length starts → start ≤ NONE → IsListed starts active → IsListed (set starts at start) active
+listed_again starts active at start had inside low h = record {
   each = λ q lt marked. elim (cases_eq q at) [
     | inl is ↦ subst (λ y. Contains active y) (sym is) (h.each at inside had)
     | inr ne ↦ h.each q (omega (arith, length-set {A = ℕ})) (let e = get_or-set_other starts at q start NONE ne in omega (arith, e))
   ];
   below = λ q member. omega (arith, h.below q member, length-set {A = ℕ});
+  small = small_set starts at start inside low h.small;
 }
 
 pub reaching_inside : (program : List Instruction) (first last : Bool) (from start : ℕ) (old starts stack rest : List ℕ) {at : ℕ} → IsReaching program first last from start old starts stack → stack ≡ rest ++ at ∷ [] → at < length starts
@@ -211,11 +219,12 @@ any_default [] i d e lt = absurd (omega arith)
 any_default (x ∷ xs) zero d e lt = refl
 any_default (x ∷ xs) (suc i) d e lt = any_default xs i d e (omega arith)
 
-pub smaller_marks : (starts stack rest next : List ℕ) (at start : ℕ) → at < length starts → start < get_or starts at 0 → length next ≤ 2 → stack ≡ rest ++ at ∷ [] → length (rest ++ next) + 3 * sum (set starts at start) < length stack + 3 * sum starts
+pub smaller_marks : (starts stack rest next : List ℕ) (at start : ℕ) → at < length starts → start < mark starts at → length next ≤ 2 → stack ≡ rest ++ at ∷ [] → length (rest ++ next) + 3 * sum (set starts at start) < length stack + 3 * sum starts
 smaller_marks starts stack rest next at start inside lt few is =
     let e = sum_by-set (λ x. x) starts at start 0 inside in
+    let f = any_default starts at 0 NONE inside in
     let a = ap length is in
-    omega (arith, e, a, length-append {A = ℕ})
+    omega (arith, e, f, a, length-append {A = ℕ})
 
 pub smaller_skips : (starts stack rest : List ℕ) (at : ℕ) → stack ≡ rest ++ at ∷ [] → length rest + 3 * sum starts < length stack + 3 * sum starts
 smaller_skips starts stack rest at is =

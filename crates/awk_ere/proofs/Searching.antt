@@ -1,17 +1,15 @@
 -- What the marks say of the program's runs.
-use Rattle.std.proofs.Common.{◌≡◌, ◌==◌, ℕ, zero, suc, ◌+◌, ◌<◌, ◌≤◌, inl, inr, Bool, true, false, List, [], ◌∷◌, ◌++◌, length, Option, Some, None, refl, sym, ◌∙◌, ap, subst, arith, slice_index, add-one, is_some}
+use Rattle.std.proofs.Common.{◌≡◌, ◌==◌, ℕ, zero, suc, ◌+◌, ◌<◌, ◌≤◌, inl, inr, Bool, true, false, List, [], ◌∷◌, length, Option, Some, None, refl, sym, ◌∙◌, ap, subst, arith, slice_index, is_some}
 use Rattle.std.specs.List.{slice_get}
 use Rattle.std.proofs.lemmas.Bool.{cases_lt}
-use Rattle.std.proofs.Math.ListN.{get_or-eq_default, replicate, take, drop}
-use Rattle.std.proofs.Math.Dec.{eqb-suc-zero}
-use Rattle.std.proofs.Math.Seq.{take-append_seam}
+use Rattle.std.proofs.Math.ListN.{replicate}
 use Rattle.awk_ere.specs.Program.{Skips, SkipPath, Eats, Moves, Path, NamesBelow}
 use Rattle.awk_ere.specs.Pattern.{Pattern, Matches}
 use Rattle.awk_ere.specs.Best.{Best}
 use Rattle.awk_ere.specs.Program.{Compiles, IsReady}
 use Rattle.awk_ere.specs.Search.{IsMachine}
 use Rattle.awk_ere.proofs.Programs.{skips_done}
-use Rattle.awk_ere.specs.Search.{mark, IsListed, IsBlank, IsClosed, LeadsTo, Reaches, Takes, Advances, Goes, Marks, IsBestOf, BestOf, limit_of, cap_of, Finds}
+use Rattle.awk_ere.specs.Search.{mark, IsBlank, IsClosed, LeadsTo, Reaches, Takes, Advances, Goes, Marks, IsBestOf, BestOf, limit_of, cap_of, Finds}
 use Rattle.awk_ere.specs.declared.program.Instruction.{Instruction}
 use Rattle.awk_ere.specs.declared.program.Instruction.TheVariants.{Done}
 use Rattle.awk_ere.specs.declared.search.TheConstants.{NONE}
@@ -128,7 +126,7 @@ module _ (sets : List (List Bool)) (program : List Instruction) (s : List ℕ) w
       none_here : (limit i : ℕ) → limit ≤ mark starts 0 → Marks sets program s e from limit place starts → from ≤ i → i < limit → Goes sets program s e i 0 place → ⊥
       none_here limit i high h after lt goes = omega (arith, h.cover i 0 after lt goes)
 
-      pub best_none : mark starts 0 ≡ NONE → Marks sets program s e from (place + 1) place starts → BestOf (λ i j. Goes sets program s e i 0 j) place from None → BestOf (λ i j. Goes sets program s e i 0 j) (place + 1) from None
+      pub best_none : NONE ≤ mark starts 0 → Marks sets program s e from (place + 1) place starts → BestOf (λ i j. Goes sets program s e i 0 j) place from None → BestOf (λ i j. Goes sets program s e i 0 j) (place + 1) from None
       best_none is h old = λ i j after lt run. elim (cases_lt j place) [
         | inl less ↦ old i j after less run
         | inr ge ↦
@@ -247,32 +245,16 @@ module _ (sets : List (List Bool)) (program : List Instruction) (s : List ℕ) (
   cap_small None h = omega arith
   cap_small (Some m) h = omega (arith, best_start sets program s e m.0 m.1 h.related, h.within)
 
-  pub marks_turn : (best : Option (ℕ × ℕ)) (starts new : List ℕ) → place < length s → BestOf (λ i j. Goes sets program s e i 0 j) (place + 1) from best → Marks sets program s e from (limit_of (place + 1) best) place starts → Advances sets program (slice_index s place) false (place + 1 == length s) (cap_of place best) starts new → Marks sets program s e from (limit_of (place + 1) best) (place + 1) new
-  marks_turn None starts new inside h marks goes = marks_advance sets program s e from place place starts new (omega arith) inside marks (subst (λ x. Advances sets program (slice_index s place) x (place + 1 == length s) place starts new) (sym later) goes) where
-    later : (place + 1 == 0) ≡ false
-    later = ap (λ x. x == 0) (add-one place) ∙ eqb-suc-zero place
-  marks_turn (Some m) starts new inside h marks goes = marks_advance sets program s e from m.0 place starts new (cap_small (Some m) h) inside marks (subst (λ x. Advances sets program (slice_index s place) x (place + 1 == length s) m.0 starts new) (sym later) goes) where
-    later : (place + 1 == 0) ≡ false
-    later = ap (λ x. x == 0) (add-one place) ∙ eqb-suc-zero place
+  pub marks_turn : (best : Option (ℕ × ℕ)) (starts new : List ℕ) → place < length s → BestOf (λ i j. Goes sets program s e i 0 j) (place + 1) from best → Marks sets program s e from (limit_of (place + 1) best) place starts → Advances sets program (slice_index s place) (place + 1 == 0) (place + 1 == length s) (cap_of place best) starts new → Marks sets program s e from (limit_of (place + 1) best) (place + 1) new
+  marks_turn None starts new inside h marks goes = marks_advance sets program s e from place place starts new (omega arith) inside marks goes
+  marks_turn (Some m) starts new inside h marks goes = marks_advance sets program s e from m.0 place starts new (cap_small (Some m) h) inside marks goes
 
-  pub stops : (best : Option (ℕ × ℕ)) (starts : List ℕ) → is_some best ≡ true → place < NONE → place ≤ length s → Marks sets program s e from (limit_of place best) place starts → BestOf (λ i j. Goes sets program s e i 0 j) place from best → IsListed starts [] → Finds sets program s e from best
-  stops None starts found small inside marks h listed = absurd (false-true found) where
+  pub stops : (best : Option (ℕ × ℕ)) (starts : List ℕ) → is_some best ≡ true → place < NONE → place ≤ length s → Marks sets program s e from (limit_of place best) place starts → BestOf (λ i j. Goes sets program s e i 0 j) place from best → IsBlank starts → Finds sets program s e from best
+  stops None starts found small inside marks h blank = absurd (false-true found) where
     false-true : false ≡ true → ⊥
     false-true x = cc
-  stops (Some m) starts found small inside marks h listed =
-      best_final sets program s e from place starts small m.0 m.1 marks h (length s + 1) (omega arith) blank where
-        blank : (q : ℕ) → NONE ≤ mark starts q
-        blank q = elim (cases_lt (mark starts q) NONE) [
-          | inl lt ↦ absurd (elim (cases_lt q (length starts)) [
-            | inl before ↦ omega (arith, (listed.each q before lt).1)
-            | inr beyond ↦ omega (arith, get_or-eq_default starts NONE beyond)
-          ])
-          | inr ge ↦ ge
-        ]
-
--- a slice of the whole, written back
-pub written : (new old : List ℕ) (n : ℕ) → length new ≡ length old → length new ≡ n → take n (new ++ drop (length new) old) ≡ new
-written new old n same is = ap (λ k. take k (new ++ drop (length new) old)) (sym is) ∙ take-append_seam new (drop (length new) old)
+  stops (Some m) starts found small inside marks h blank =
+      best_final sets program s e from place starts small m.0 m.1 marks h (length s + 1) (omega arith) (λ q. omega (arith, blank q))
 
 module _ (sets : List (List Bool)) (program : List Instruction) (e : ℕ) (p : Pattern) (machine : IsMachine sets program e p) (s : List ℕ) where
   stuck : (n i j : ℕ) → Path sets program s n 0 i 0 j → i ≡ j

@@ -21,10 +21,11 @@ targets first last (Eat k r) = []
 targets first last Done = []
 targets first last Hole = []
 
--- each marked step is in the list, and the list names steps alone
+-- each marked step is in the list, which names steps alone, and no mark is more than NONE
 pub record IsListed (starts active : List ℕ) : Type 0 where
   pub each : (q : ℕ) → q < length starts → mark starts q < NONE → Contains active q
   pub below : (q : ℕ) → Contains active q → q < length starts
+  pub small : (q : ℕ) → mark starts q ≤ NONE
 
 abbrev pub IsBlank : List ℕ → Type 0
 IsBlank starts = (q : ℕ) → mark starts q ≡ NONE

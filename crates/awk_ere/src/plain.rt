@@ -1,8 +1,8 @@
 // A search by the definition of a match, for tests and readers: it is slow, and has no program or table.
-ghost use Rattle.std.specs.Prelude.{◌≡◌, ◌+◌, ◌≤◌, Some, None, length, IfOk, IfErr, option_map};
+ghost use Rattle.std.specs.Prelude.{◌≡◌, ◌+◌, ◌≤◌, Some, None, length, IfOk, IfErr};
 ghost use Rattle.awk_ere.specs.Best.{Best};
 ghost use Rattle.awk_ere.specs.Image.{IsImage, IsUnion, IsSingle, IsLast, Longest, Stays, Within, Maybe};
-ghost use Rattle.awk_ere.specs.Pattern.{Pattern, Chain, Matches, bytes, repeat};
+ghost use Rattle.awk_ere.specs.Pattern.{Pattern, Chain, Matches, bytes};
 ghost use Rattle.awk_ere.specs.Program.{holds};
 ghost use Rattle.awk_ere.specs.Spelled.{IsPattern, IsAccepted, IsRefused, Finds, code_of};
 ghost use Rattle.awk_ere.specs.View.{pattern};
@@ -88,29 +88,13 @@ fn image(
             let others = image(alloc, sets, right, text, from)?;
             union(alloc, &some, &others)
         }
-        Node::Repeat(inner, least, more) => repeated(alloc, sets, inner, *least, *more, text, from),
-    }
-}
-
-#[cycle(image)]
-fn repeated(
-    alloc: Global,
-    sets: &[Set],
-    node: &Node,
-    least: usize,
-    more: Option<usize>,
-    text: &[u8],
-    from: &[bool],
-) -> Result<Vec<bool>, Memory>
-    requires { length from.now ≡ length text.now + 1 }
-    ensures { IfOk result
-        (λ to. IsImage (Matches text.now (repeat (pattern sets.now node.now) least (option_map (λ m. least + m) more)))
-        from.now to.items) }
-{
-    let first = copies(alloc, sets, node, least, text, from)?;
-    match more {
-        Some(more) => options(alloc, sets, node, more, text, &first),
-        None => closure(alloc, sets, node, text, &first),
+        Node::Repeat(inner, least, more) => {
+            let first = copies(alloc, sets, inner, *least, text, from)?;
+            match more {
+                Some(more) => options(alloc, sets, inner, *more, text, &first),
+                None => closure(alloc, sets, inner, text, &first),
+            }
+        }
     }
 }
 

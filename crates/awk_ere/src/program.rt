@@ -1,7 +1,7 @@
-// Programs of steps.
+// Programs of instructions.
 use crate::token::Class;
 
-/// One step of a pattern's program, with the numbers of the steps that follow.
+/// One instruction of a pattern's program, with the numbers of those that follow.
 #[derive(Clone, Copy)]
 pub enum Instruction {
     /// Take a byte of the class.
@@ -13,6 +13,6 @@ pub enum Instruction {
     AtEnd(usize),
     /// A match ends here.
     Done,
-    /// A step that is still to be written.
+    /// An instruction that is still to be written.
     Hole,
 }

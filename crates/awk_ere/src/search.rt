@@ -1,24 +1,107 @@
 // The search for the best match.
-ghost use Rattle.std.specs.Prelude.{◌≡◌, ◌++◌, ◌+◌, ◌<◌, ◌≤◌, ℕ, [], ◌∷◌, Some, None, length, IfOk, OnOk, slice_set};
+ghost use Rattle.std.specs.Prelude.{◌≡◌, ◌==◌, ◌++◌, ◌+◌, ◌<◌, ◌≤◌, true, length};
+ghost use Rattle.std.specs.Prelude.{IfOk, OnOk, slice_index, slice_set};
 ghost use Rattle.awk_ere.specs.Program.{IsSound, holds};
-ghost use Rattle.awk_ere.specs.Search.{targets, target_of, IsListed, IsBlank, IsClosed, Reaches, Advances, Marks};
+ghost use Rattle.awk_ere.specs.Search.{mark, targets, target_of, IsBlank, IsClosed, Reaches, Advances, Marks};
 ghost use Rattle.awk_ere.specs.Search.{BestOf, Goes, Finds, limit_of, cap_of};
 
 use crate::bracket::Set;
 use crate::program::Instruction;
 use crate::token::takes;
 use std::alloc::{AllocError, Global};
+use std::marker::Model;
 use std::mem;
 
 pub const NONE: usize = usize::MAX;
 
-fn push_next(
-    step: Instruction,
-    first: bool,
-    last: bool,
-    stack: &mut Vec<usize>,
-) -> Result<(), AllocError>
-    ensures { OnOk result (stack.new.items ≡ stack.old.items ++ targets first last step) }
+/// Whether a place is the text's start, and its end.
+#[derive(Clone, Copy)]
+pub struct TextEnds {
+    pub first: bool,
+    pub last: bool,
+}
+
+/// For each step of a program the least start from which a place is reached there, or `NONE`. Contracts see these
+/// starts alone.
+#[derive(Drop)]
+pub struct Starts {
+    starts: Vec<usize>,
+    /// The steps that are marked with one.
+    active: Vec<usize>,
+}
+
+impl Model for Starts {
+    ghost use Rattle.std.specs.Prelude.{List, ℕ};
+    ghost use Rattle.awk_ere.specs.Search.{IsListed};
+
+    ghost Value = { List ℕ };
+
+    ghost view = { λ s. s.starts.items };
+
+    ghost invariant = { λ s. IsListed s.starts.items s.active.items };
+}
+
+impl Starts {
+    /// For so many steps, none of which is marked.
+    pub fn new(alloc: Global, len: usize) -> Result<Starts, AllocError>
+        ensures len { IfOk result (λ starts. length starts ≡ len) }
+        ensures blank { IfOk result (λ starts. IsBlank starts) }
+    {
+        let starts = vec![in alloc; NONE; len]?;
+        Ok(Starts {
+            starts,
+            active: Vec::new(alloc),
+        })
+    }
+
+    /// How many steps there are.
+    pub fn len(&self) -> usize
+        ensures { result ≡ length self.now }
+    {
+        self.starts.len()
+    }
+
+    /// The start that the step is marked with, or `NONE`.
+    pub fn least(&self, at: usize) -> usize
+        requires { at < length self.now }
+        ensures { result ≡ mark self.now at }
+    {
+        self.starts[at]
+    }
+
+    /// Whether no step is marked.
+    fn is_blank(&self) -> bool
+        ensures { result ≡ true → IsBlank self.now }
+    {
+        self.active.is_empty()
+    }
+
+    /// Marks the step with the start, whatever it was marked with.
+    fn mark(&mut self, at: usize, start: usize) -> Result<(), AllocError>
+        requires { at < length self.old }
+        ensures { OnOk result (self.new ≡ slice_set self.old at start) }
+    {
+        if self.starts[at] == NONE {
+            self.active.push(at)?;
+        }
+        self.starts[at] = start;
+        Ok(())
+    }
+
+    /// Takes each mark away.
+    fn clear(&mut self)
+        ensures len { length self.new ≡ length self.old }
+        ensures blank { IsBlank self.new }
+    {
+        for at in self.active.iter() {
+            self.starts[*at] = NONE;
+        }
+        self.active.clear();
+    }
+}
+
+fn push_next(step: Instruction, ends: TextEnds, stack: &mut Vec<usize>) -> Result<(), AllocError>
+    ensures { OnOk result (stack.new.items ≡ stack.old.items ++ targets ends.first ends.last step) }
 {
     match step {
         Instruction::Fork(a, b) => {
@@ -26,12 +109,12 @@ fn push_next(
             stack.push(a)?;
         }
         Instruction::AtStart(next) => {
-            if first {
+            if ends.first {
                 stack.push(next)?;
             }
         }
         Instruction::AtEnd(next) => {
-            if last {
+            if ends.last {
                 stack.push(next)?;
             }
         }
@@ -40,48 +123,28 @@ fn push_next(
     Ok(())
 }
 
-fn mark(
-    starts: &mut [usize],
-    active: &mut Vec<usize>,
-    at: usize,
-    start: usize,
-) -> Result<(), AllocError>
-    requires inside { at < length starts.old }
-    requires listed { IsListed starts.old active.old.items }
-    ensures starts { OnOk result (starts.new ≡ slice_set starts.old at start) }
-    ensures listed { OnOk result (IsListed starts.new active.new.items) }
-{
-    if starts[at] == NONE {
-        active.push(at)?;
-    }
-    starts[at] = start;
-    Ok(())
-}
-
+/// Marks the steps that `from` leads to without reading with the start, where it is less.
 pub fn reach(
     program: &[Instruction],
-    first: bool,
-    last: bool,
+    ends: TextEnds,
     from: usize,
     start: usize,
-    starts: &mut [usize],
-    active: &mut Vec<usize>,
+    starts: &mut Starts,
     stack: &mut Vec<usize>,
 ) -> Result<(), AllocError>
     requires sound { IsSound program.now }
     requires inside { from < length program.now }
     requires len { length starts.old ≡ length program.now }
-    requires listed { IsListed starts.old active.old.items }
-    requires closed { IsClosed program.now first last starts.old }
-    ensures reaches { OnOk result (Reaches program.now first last from start starts.old starts.new) }
-    ensures listed { OnOk result (IsListed starts.new active.new.items) }
+    requires closed { IsClosed program.now ends.first ends.last starts.old }
+    ensures len { OnOk result (length starts.new ≡ length program.now) }
+    ensures reaches { OnOk result (Reaches program.now ends.first ends.last from start starts.old starts.new) }
 {
     stack.clear();
     stack.push(from)?;
     while let Some(at) = stack.pop() {
-        if start < starts[at] {
-            mark(starts, active, at, start)?;
-            push_next(program[at], first, last, stack)?;
+        if start < starts.least(at) {
+            starts.mark(at, start)?;
+            push_next(program[at], ends, stack)?;
         }
     }
     Ok(())
@@ -107,110 +170,6 @@ pub fn target(sets: &[Set], step: Instruction, byte: u8) -> Option<usize>
     }
 }
 
-/// Marks in `next` what the marked steps of starts up to `cap` reach over the byte.
-fn advance(
-    sets: &[Set],
-    program: &[Instruction],
-    byte: u8,
-    first: bool,
-    last: bool,
-    cap: usize,
-    starts: &[usize],
-    active: &[usize],
-    next: &mut [usize],
-    listed: &mut Vec<usize>,
-    stack: &mut Vec<usize>,
-) -> Result<(), AllocError>
-    requires sound { IsSound program.now }
-    requires cap { cap < NONE }
-    requires len { length starts.now ≡ length program.now }
-    requires next_len { length next.old ≡ length program.now }
-    requires blank { IsBlank next.old }
-    requires was_listed { IsListed starts.now active.now }
-    requires next_listed { IsListed next.old listed.old.items }
-    ensures advances { OnOk result (Advances sets.now program.now byte first last cap starts.now next.new) }
-    ensures listed { OnOk result (IsListed next.new listed.new.items) }
-{
-    for at in active {
-        let here = *at;
-        let start = starts[here];
-        if start <= cap {
-            if let Some(to) = target(sets, program[here], byte) {
-                reach(program, first, last, to, start, next, listed, stack)?;
-            }
-        }
-    }
-    Ok(())
-}
-
-fn clear(starts: &mut [usize], active: &mut Vec<usize>)
-    requires { IsListed starts.old active.old.items }
-    ensures blank { IsBlank starts.new }
-    ensures listed { IsListed starts.new active.new.items }
-{
-    for at in active.iter() {
-        starts[*at] = NONE;
-    }
-    active.clear();
-}
-
-/// Lets a match start at the place, where none was found yet, and looks whether one ends there.
-fn arrive(
-    sets: &[Set],
-    program: &[Instruction],
-    text: &[u8],
-    entry: usize,
-    from: usize,
-    place: usize,
-    best: Option<(usize, usize)>,
-    starts: &mut [usize],
-    active: &mut Vec<usize>,
-    stack: &mut Vec<usize>,
-) -> Result<Option<(usize, usize)>, AllocError>
-    requires sound { IsSound program.now }
-    requires entry { entry < length program.now }
-    requires place { from ≤ place × place ≤ length text.now }
-    requires small { place < NONE }
-    requires len { length starts.old ≡ length program.now }
-    requires was_listed { IsListed starts.old active.old.items }
-    requires marks { Marks sets.now program.now text.now entry from (limit_of place best) place starts.old }
-    requires best { BestOf (λ i j. Goes sets.now program.now text.now entry i 0 j) place from best }
-    ensures marks { IfOk result
-        (λ found. Marks sets.now program.now text.now entry from (limit_of (place + 1) found) place starts.new) }
-    ensures best { IfOk result
-        (λ found. BestOf (λ i j. Goes sets.now program.now text.now entry i 0 j) (place + 1) from found) }
-    ensures listed { OnOk result (IsListed starts.new active.new.items) }
-{
-    match best {
-        None => {
-            reach(
-                program,
-                place == 0,
-                place == text.len(),
-                entry,
-                place,
-                starts,
-                active,
-                stack,
-            )?;
-            let start = starts[0];
-            if start == NONE {
-                Ok(None)
-            } else {
-                Ok(Some((start, place)))
-            }
-        }
-        Some((had, end)) => {
-            let start = starts[0];
-            if had < start {
-                Ok(Some((had, end)))
-            } else {
-                Ok(Some((start, place)))
-            }
-        }
-    }
-}
-
 fn cap_at(place: usize, best: Option<(usize, usize)>) -> usize
     ensures { result ≡ cap_of place best }
 {
@@ -220,69 +179,149 @@ fn cap_at(place: usize, best: Option<(usize, usize)>) -> usize
     }
 }
 
-/// One place: `here` is looked at and cleared, and `ahead` is marked for the next place.
-fn turn(
-    sets: &[Set],
-    program: &[Instruction],
-    text: &[u8],
+/// The runs of a program on a text that begin at the step `entry`, and at the place `from` or later.
+#[derive(Clone, Copy)]
+struct Runs<'a> {
+    sets: &'a [Set],
+    program: &'a [Instruction],
+    text: &'a [u8],
     entry: usize,
     from: usize,
-    place: usize,
-    best: Option<(usize, usize)>,
-    here: &mut [usize],
-    here_active: &mut Vec<usize>,
-    ahead: &mut [usize],
-    ahead_active: &mut Vec<usize>,
-    stack: &mut Vec<usize>,
-) -> Result<Option<(usize, usize)>, AllocError>
-    requires sound { IsSound program.now }
-    requires entry { entry < length program.now }
-    requires place { from ≤ place × place < length text.now }
-    requires small { place < NONE }
-    requires here_len { length here.old ≡ length program.now }
-    requires ahead_len { length ahead.old ≡ length program.now }
-    requires here_listed { IsListed here.old here_active.old.items }
-    requires ahead_listed { IsListed ahead.old ahead_active.old.items }
-    requires blank { IsBlank ahead.old }
-    requires marks { Marks sets.now program.now text.now entry from (limit_of place best) place here.old }
-    requires best { BestOf (λ i j. Goes sets.now program.now text.now entry i 0 j) place from best }
-    ensures marks { IfOk result
-        (λ found. Marks sets.now program.now text.now entry from (limit_of (place + 1) found) (place + 1) ahead.new) }
-    ensures best { IfOk result
-        (λ found. BestOf (λ i j. Goes sets.now program.now text.now entry i 0 j) (place + 1) from found) }
-    ensures here_listed { OnOk result (IsListed here.new here_active.new.items) }
-    ensures ahead_listed { OnOk result (IsListed ahead.new ahead_active.new.items) }
-    ensures blank { OnOk result (IsBlank here.new) }
-{
-    let found = arrive(
-        sets,
-        program,
-        text,
-        entry,
-        from,
-        place,
-        best,
-        here,
-        here_active,
-        stack,
-    )?;
-    let cap = cap_at(place, found);
-    let last = place + 1 == text.len();
-    advance(
-        sets,
-        program,
-        text[place],
-        false,
-        last,
-        cap,
-        here,
-        here_active,
-        ahead,
-        ahead_active,
-        stack,
-    )?;
-    clear(here, here_active);
-    Ok(found)
+}
+
+impl<'a> Runs<'a> {
+    fn ends_at(&self, place: usize) -> TextEnds
+        ensures first { result.first ≡ (place == 0) }
+        ensures last { result.last ≡ (place == length self.now.text.now) }
+    {
+        TextEnds {
+            first: place == 0,
+            last: place == self.text.len(),
+        }
+    }
+
+    /// Marks in `ahead` what the marked steps of starts up to `cap` reach over the byte at the place.
+    fn advance(
+        &self,
+        place: usize,
+        cap: usize,
+        here: &Starts,
+        ahead: &mut Starts,
+        stack: &mut Vec<usize>,
+    ) -> Result<(), AllocError>
+        requires sound { IsSound self.now.program.now }
+        requires place { place < length self.now.text.now }
+        requires cap { cap < NONE }
+        requires here_len { length here.now ≡ length self.now.program.now }
+        requires ahead_len { length ahead.old ≡ length self.now.program.now }
+        requires blank { IsBlank ahead.old }
+        ensures len { OnOk result (length ahead.new ≡ length self.now.program.now) }
+        ensures advances { OnOk result
+            (Advances self.now.sets.now self.now.program.now (slice_index self.now.text.now place) (place + 1 == 0)
+            (place + 1 == length self.now.text.now) cap here.now ahead.new) }
+    {
+        let byte = self.text[place];
+        let ends = self.ends_at(place + 1);
+        for at in here.active.iter() {
+            let start = here.least(*at);
+            if start <= cap {
+                if let Some(to) = target(self.sets, self.program[*at], byte) {
+                    reach(self.program, ends, to, start, ahead, stack)?;
+                }
+            }
+        }
+        Ok(())
+    }
+
+    /// Lets a match start at the place, where none was found yet, and looks whether one ends there.
+    fn arrive(
+        &self,
+        place: usize,
+        best: Option<(usize, usize)>,
+        here: &mut Starts,
+        stack: &mut Vec<usize>,
+    ) -> Result<Option<(usize, usize)>, AllocError>
+        requires sound { IsSound self.now.program.now }
+        requires entry { self.now.entry < length self.now.program.now }
+        requires place { self.now.from ≤ place × place ≤ length self.now.text.now }
+        requires small { place < NONE }
+        requires len { length here.old ≡ length self.now.program.now }
+        requires marks { Marks self.now.sets.now self.now.program.now self.now.text.now self.now.entry self.now.from
+            (limit_of place best) place here.old }
+        requires best { BestOf (λ i j. Goes self.now.sets.now self.now.program.now self.now.text.now self.now.entry i 0 j)
+            place self.now.from best }
+        ensures len { OnOk result (length here.new ≡ length self.now.program.now) }
+        ensures marks { IfOk result
+            (λ found. Marks self.now.sets.now self.now.program.now self.now.text.now self.now.entry self.now.from
+            (limit_of (place + 1) found) place here.new) }
+        ensures best { IfOk result
+            (λ found. BestOf (λ i j. Goes self.now.sets.now self.now.program.now self.now.text.now self.now.entry i 0 j)
+            (place + 1) self.now.from found) }
+    {
+        match best {
+            None => {
+                reach(
+                    self.program,
+                    self.ends_at(place),
+                    self.entry,
+                    place,
+                    here,
+                    stack,
+                )?;
+                let start = here.least(0);
+                if start < NONE {
+                    Ok(Some((start, place)))
+                } else {
+                    Ok(None)
+                }
+            }
+            Some((had, end)) => {
+                let start = here.least(0);
+                if had < start {
+                    Ok(Some((had, end)))
+                } else {
+                    Ok(Some((start, place)))
+                }
+            }
+        }
+    }
+
+    /// One place: `here` is looked at and cleared, and `ahead` is marked for the next place.
+    fn turn(
+        &self,
+        place: usize,
+        best: Option<(usize, usize)>,
+        here: &mut Starts,
+        ahead: &mut Starts,
+        stack: &mut Vec<usize>,
+    ) -> Result<Option<(usize, usize)>, AllocError>
+        requires sound { IsSound self.now.program.now }
+        requires entry { self.now.entry < length self.now.program.now }
+        requires place { self.now.from ≤ place × place < length self.now.text.now }
+        requires small { place < NONE }
+        requires here_len { length here.old ≡ length self.now.program.now }
+        requires ahead_len { length ahead.old ≡ length self.now.program.now }
+        requires blank { IsBlank ahead.old }
+        requires marks { Marks self.now.sets.now self.now.program.now self.now.text.now self.now.entry self.now.from
+            (limit_of place best) place here.old }
+        requires best { BestOf (λ i j. Goes self.now.sets.now self.now.program.now self.now.text.now self.now.entry i 0 j)
+            place self.now.from best }
+        ensures here_len { OnOk result (length here.new ≡ length self.now.program.now) }
+        ensures ahead_len { OnOk result (length ahead.new ≡ length self.now.program.now) }
+        ensures blank { OnOk result (IsBlank here.new) }
+        ensures marks { IfOk result
+            (λ found. Marks self.now.sets.now self.now.program.now self.now.text.now self.now.entry self.now.from
+            (limit_of (place + 1) found) (place + 1) ahead.new) }
+        ensures best { IfOk result
+            (λ found. BestOf (λ i j. Goes self.now.sets.now self.now.program.now self.now.text.now self.now.entry i 0 j)
+            (place + 1) self.now.from found) }
+    {
+        let found = self.arrive(place, best, here, stack)?;
+        let cap = cap_at(place, found);
+        self.advance(place, cap, here, ahead, stack)?;
+        here.clear();
+        Ok(found)
+    }
 }
 
 /// The best run of the program that starts at `from` or later. Seldom needed, so it stands out of line.
@@ -300,44 +339,24 @@ pub fn search(
     requires from { from ≤ length text.now }
     ensures { IfOk result (λ found. Finds sets.now program.now text.now entry from found) }
 {
-    let mut here = vec![in alloc; NONE; program.len()]?;
-    let mut ahead = vec![in alloc; NONE; program.len()]?;
-    let mut here_active = Vec::new(alloc);
-    let mut ahead_active = Vec::new(alloc);
-    let mut stack = Vec::new(alloc);
-    let mut best = None;
-    for place in from..text.len() {
-        best = turn(
-            sets,
-            program,
-            text,
-            entry,
-            from,
-            place,
-            best,
-            &mut here,
-            &mut here_active,
-            &mut ahead,
-            &mut ahead_active,
-            &mut stack,
-        )?;
-        mem::swap(&mut here, &mut ahead);
-        mem::swap(&mut here_active, &mut ahead_active);
-        if best.is_some() && here_active.is_empty() {
-            return Ok(best);
-        }
-    }
-    let found = arrive(
+    let runs = Runs {
         sets,
         program,
         text,
         entry,
         from,
-        text.len(),
-        best,
-        &mut here,
-        &mut here_active,
-        &mut stack,
-    )?;
+    };
+    let mut here = Starts::new(alloc, program.len())?;
+    let mut ahead = Starts::new(alloc, program.len())?;
+    let mut stack = Vec::new(alloc);
+    let mut best = None;
+    for place in from..text.len() {
+        best = runs.turn(place, best, &mut here, &mut ahead, &mut stack)?;
+        mem::swap(&mut here, &mut ahead);
+        if best.is_some() && here.is_blank() {
+            return Ok(best);
+        }
+    }
+    let found = runs.arrive(text.len(), best, &mut here, &mut stack)?;
     Ok(found)
 }

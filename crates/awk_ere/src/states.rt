@@ -5,13 +5,13 @@ ghost use Rattle.awk_ere.specs.Lexing.{has};
 ghost use Rattle.awk_ere.specs.Program.{IsSound};
 ghost use Rattle.awk_ere.specs.Search.{mark, target_of, IsListed, IsBlank, IsClosed, Takes};
 ghost use Rattle.awk_ere.specs.Table.{steps_of, Gains, LeadsMore, IsLed, AreLed, AreMarked, AreTargets, Later};
-ghost use Rattle.awk_ere.specs.Table.{IsNumber, IsKnown, AreEdges, AreRows, AreFlags, EndsAtLast, IsFirst, IsBegin};
+ghost use Rattle.awk_ere.specs.Table.{IsNumber, IsCell, IsKnown, AreEdges, AreRows, AreFlags, EndsAtLast, IsFirst, IsBegin};
 ghost use Rattle.awk_ere.specs.Table.{IsDead, IsBuilt};
 
 use crate::bracket::Set;
 use crate::heads::{Heads, any_heads, make_heads};
 use crate::program::Instruction;
-use crate::search::{NONE, reach, target};
+use crate::search::{NONE, Starts, TextEnds, reach, target};
 use std::alloc::{AllocError, Global};
 
 /// The number of no state: the table does not say where the search goes on.
@@ -23,8 +23,21 @@ pub const DEAD: u8 = 0;
 /// The longest program that gets a table.
 const MAX_STEPS: usize = 2000;
 
-/// How many steps may be looked at for a table.
+/// How much work may be done for a table: about how many steps are looked at.
 const MAX_WORK: usize = 1_000_000;
+
+/// A place with bytes before it and behind it.
+const INSIDE: TextEnds = TextEnds {
+    first: false,
+    last: false,
+};
+
+/// The states of a table so far, each by its steps, and how much work may still be done for more of them.
+#[derive(Drop)]
+struct States {
+    lists: Vec<Vec<usize>>,
+    work: usize,
+}
 
 /// Adds the step that this one goes to over the byte.
 fn push_target(
@@ -68,56 +81,49 @@ fn targets(
 /// Marks the steps that this one leads to without reading, where the program has it.
 fn lead_from(
     program: &[Instruction],
-    first: bool,
-    last: bool,
+    ends: TextEnds,
     at: usize,
-    starts: &mut [usize],
-    active: &mut Vec<usize>,
+    starts: &mut Starts,
     stack: &mut Vec<usize>,
 ) -> Result<(), AllocError>
     requires sound { IsSound program.now }
     requires len { length starts.old ≡ length program.now }
-    requires listed { IsListed starts.old active.old.items }
-    requires closed { IsClosed program.now first last starts.old }
-    ensures more { OnOk result (LeadsMore program.now first last at starts.old starts.new) }
-    ensures listed { OnOk result (IsListed starts.new active.new.items) }
+    requires closed { IsClosed program.now ends.first ends.last starts.old }
+    ensures len { OnOk result (length starts.new ≡ length program.now) }
+    ensures more { OnOk result (LeadsMore program.now ends.first ends.last at starts.old starts.new) }
 {
     if at < program.len() {
-        reach(program, first, last, at, 0, starts, active, stack)?;
+        reach(program, ends, at, 0, starts, stack)?;
         Ok(())
     } else {
         Ok(())
     }
 }
 
-/// Marks the steps that those of the list lead to without reading.
+/// The marks of the steps that those of the list lead to without reading.
 fn lead(
+    alloc: Global,
     program: &[Instruction],
-    first: bool,
-    last: bool,
+    ends: TextEnds,
     list: &[usize],
-    starts: &mut [usize],
-    active: &mut Vec<usize>,
-    stack: &mut Vec<usize>,
-) -> Result<(), AllocError>
-    requires sound { IsSound program.now }
-    requires len { length starts.old ≡ length program.now }
-    requires blank { IsBlank starts.old }
-    requires listed { IsListed starts.old active.old.items }
-    ensures { OnOk result (AreLed program.now first last list.now starts.new) }
+) -> Result<Starts, AllocError>
+    requires { IsSound program.now }
+    ensures { IfOk result (λ starts. AreLed program.now ends.first ends.last list.now starts) }
 {
+    let mut starts = Starts::new(alloc, program.len())?;
+    let mut stack = Vec::new(alloc);
     for at in list {
-        lead_from(program, first, last, *at, starts, active, stack)?;
+        lead_from(program, ends, *at, &mut starts, &mut stack)?;
     }
-    Ok(())
+    Ok(starts)
 }
 
 /// Adds the step where it is marked.
-fn push_marked(starts: &[usize], at: usize, list: &mut Vec<usize>) -> Result<(), AllocError>
+fn push_marked(starts: &Starts, at: usize, list: &mut Vec<usize>) -> Result<(), AllocError>
     requires { at < length starts.now }
     ensures { OnOk result (Gains (λ p. (p ≡ at) × (mark starts.now p < NONE)) list.old.items list.new.items) }
 {
-    if starts[at] < NONE {
+    if starts.least(at) < NONE {
         list.push(at)?;
         Ok(())
     } else {
@@ -126,7 +132,7 @@ fn push_marked(starts: &[usize], at: usize, list: &mut Vec<usize>) -> Result<(),
 }
 
 /// The marked steps, in order.
-fn marked(alloc: Global, starts: &[usize]) -> Result<Vec<usize>, AllocError>
+fn marked(alloc: Global, starts: &Starts) -> Result<Vec<usize>, AllocError>
     ensures { IfOk result (λ list. AreMarked starts.now list.items) }
 {
     let mut list = Vec::new(alloc);
@@ -136,40 +142,18 @@ fn marked(alloc: Global, starts: &[usize]) -> Result<Vec<usize>, AllocError>
     Ok(list)
 }
 
-/// The steps that those of the list lead to without reading, by marks that are blank before.
-fn led_by(
-    alloc: Global,
-    program: &[Instruction],
-    first: bool,
-    last: bool,
-    list: &[usize],
-    starts: &mut [usize],
-) -> Result<Vec<usize>, AllocError>
-    requires sound { IsSound program.now }
-    requires len { length starts.old ≡ length program.now }
-    requires blank { IsBlank starts.old }
-    ensures { IfOk result (λ led. IsLed program.now first last list.now led.items) }
-{
-    let mut active = Vec::new(alloc);
-    let mut stack = Vec::new(alloc);
-    lead(program, first, last, list, starts, &mut active, &mut stack)?;
-    let found = marked(alloc, starts)?;
-    Ok(found)
-}
-
 /// The steps that those of the list lead to without reading.
 fn led(
     alloc: Global,
     program: &[Instruction],
-    first: bool,
-    last: bool,
+    ends: TextEnds,
     list: &[usize],
 ) -> Result<Vec<usize>, AllocError>
     requires { IsSound program.now }
-    ensures { IfOk result (λ led. IsLed program.now first last list.now led.items) }
+    ensures { IfOk result (λ led. IsLed program.now ends.first ends.last list.now led.items) }
 {
-    let mut starts = vec![in alloc; NONE; program.len()]?;
-    let found = led_by(alloc, program, first, last, list, &mut starts)?;
+    let starts = lead(alloc, program, ends, list)?;
+    let found = marked(alloc, &starts)?;
     Ok(found)
 }
 
@@ -210,6 +194,36 @@ fn number(lists: &mut Vec<Vec<usize>>, list: Vec<usize>) -> Result<u8, AllocErro
     }
 }
 
+/// The steps that those of the list lead to over the byte.
+fn steps_after(
+    alloc: Global,
+    sets: &[Set],
+    program: &[Instruction],
+    list: &[usize],
+    byte: u8,
+) -> Result<Vec<usize>, AllocError>
+    requires { IsSound program.now }
+    ensures { IfOk result (λ steps. IsCell sets.now program.now byte list.now steps.items) }
+{
+    let targets = targets(alloc, sets, program, list, byte)?;
+    if targets.is_empty() {
+        return Ok(targets);
+    }
+    let steps = led(alloc, program, INSIDE, &targets)?;
+    Ok(steps)
+}
+
+/// How much work it is to find the state after a byte: where there are steps, all of the program is gone through for
+/// them, and they are looked for among all states.
+fn work_of(from: &[usize], program: &[Instruction], to: &[usize], lists: &[Vec<usize>]) -> usize {
+    if to.is_empty() {
+        return from.len();
+    }
+    from.len()
+        .saturating_add(program.len())
+        .saturating_add(lists.len())
+}
+
 /// The state after the byte.
 fn cell(
     alloc: Global,
@@ -217,43 +231,19 @@ fn cell(
     program: &[Instruction],
     list: &[usize],
     byte: u8,
-    lists: &mut Vec<Vec<usize>>,
+    states: &mut States,
 ) -> Result<u8, AllocError>
     requires { IsSound program.now }
-    ensures later { OnOk result (Later (map (λ v. v.items) lists.old.items) (map (λ v. v.items) lists.new.items)) }
+    ensures later { OnOk result
+        (Later (map (λ v. v.items) states.old.lists.items) (map (λ v. v.items) states.new.lists.items)) }
     ensures known { IfOk result
-        (λ n. IsKnown sets.now program.now byte list.now (map (λ v. v.items) lists.new.items) n) }
+        (λ n. IsKnown sets.now program.now byte list.now (map (λ v. v.items) states.new.lists.items) n) }
 {
-    let targets = targets(alloc, sets, program, list, byte)?;
-    let steps = led(alloc, program, false, false, &targets)?;
-    let at = number(lists, steps)?;
+    let steps = steps_after(alloc, sets, program, list, byte)?;
+    let work = work_of(list, program, &steps, &states.lists);
+    states.work = states.work.saturating_sub(work);
+    let at = number(&mut states.lists, steps)?;
     Ok(at)
-}
-
-/// The same where the byte is an edge, and otherwise the state after the byte before.
-fn cell_after(
-    alloc: Global,
-    sets: &[Set],
-    program: &[Instruction],
-    is_edge: bool,
-    before: u8,
-    list: &[usize],
-    byte: u8,
-    lists: &mut Vec<Vec<usize>>,
-) -> Result<u8, AllocError>
-    requires sound { IsSound program.now }
-    requires same { is_edge ≡ false →
-        IsKnown sets.now program.now byte list.now (map (λ v. v.items) lists.old.items) before }
-    ensures later { OnOk result (Later (map (λ v. v.items) lists.old.items) (map (λ v. v.items) lists.new.items)) }
-    ensures known { IfOk result
-        (λ n. IsKnown sets.now program.now byte list.now (map (λ v. v.items) lists.new.items) n) }
-{
-    if is_edge {
-        let at = cell(alloc, sets, program, list, byte, lists)?;
-        Ok(at)
-    } else {
-        Ok(before)
-    }
 }
 
 /// The states after each byte.
@@ -263,28 +253,22 @@ fn row(
     program: &[Instruction],
     edges: &[bool; 256],
     list: &[usize],
-    lists: &mut Vec<Vec<usize>>,
+    states: &mut States,
 ) -> Result<[u8; 256], AllocError>
     requires sound { IsSound program.now }
     requires edges { AreEdges sets.now program.now edges.now }
-    ensures later { OnOk result (Later (map (λ v. v.items) lists.old.items) (map (λ v. v.items) lists.new.items)) }
+    ensures later { OnOk result
+        (Later (map (λ v. v.items) states.old.lists.items) (map (λ v. v.items) states.new.lists.items)) }
     ensures known { IfOk result
         (λ row. (b : ℕ) → b < 256 →
-        IsKnown sets.now program.now b list.now (map (λ v. v.items) lists.new.items) (slice_index row b)) }
+        IsKnown sets.now program.now b list.now (map (λ v. v.items) states.new.lists.items) (slice_index row b)) }
 {
     let mut row = [UNKNOWN; 256];
     let mut before = UNKNOWN;
     for byte in 0..256usize {
-        before = cell_after(
-            alloc,
-            sets,
-            program,
-            edges[byte],
-            before,
-            list,
-            byte as u8,
-            lists,
-        )?;
+        if edges[byte] {
+            before = cell(alloc, sets, program, list, byte as u8, states)?;
+        }
         row[byte] = before;
     }
     Ok(row)
@@ -299,56 +283,58 @@ fn list_at(alloc: Global, lists: &[Vec<usize>], at: usize) -> Result<Vec<usize>,
     Ok(list)
 }
 
-/// Adds the next state's row, where there is such a state.
+/// Adds the row of the first state that has none.
 fn add_row(
     alloc: Global,
     sets: &[Set],
     program: &[Instruction],
     edges: &[bool; 256],
-    lists: &mut Vec<Vec<usize>>,
+    states: &mut States,
     cells: &mut Vec<[u8; 256]>,
 ) -> Result<(), AllocError>
     requires sound { IsSound program.now }
     requires edges { AreEdges sets.now program.now edges.now }
-    requires inside { length cells.old.items ≤ length lists.old.items }
-    requires rows { AreRows sets.now program.now (map (λ v. v.items) lists.old.items) cells.old.items }
-    ensures later { OnOk result (Later (map (λ v. v.items) lists.old.items) (map (λ v. v.items) lists.new.items)) }
-    ensures inside { OnOk result (length cells.new.items ≤ length lists.new.items) }
-    ensures len { OnOk result (length cells.new.items ≤ length cells.old.items + 1) }
-    ensures rows { OnOk result (AreRows sets.now program.now (map (λ v. v.items) lists.new.items) cells.new.items) }
+    requires inside { length cells.old.items < length states.old.lists.items }
+    requires rows { AreRows sets.now program.now (map (λ v. v.items) states.old.lists.items) cells.old.items }
+    ensures later { OnOk result
+        (Later (map (λ v. v.items) states.old.lists.items) (map (λ v. v.items) states.new.lists.items)) }
+    ensures inside { OnOk result (length cells.new.items ≤ length states.new.lists.items) }
+    ensures len { OnOk result (length cells.new.items ≡ length cells.old.items + 1) }
+    ensures rows { OnOk result
+        (AreRows sets.now program.now (map (λ v. v.items) states.new.lists.items) cells.new.items) }
 {
     let at = cells.len();
-    if at >= lists.len() {
-        return Ok(());
-    }
-    let list = list_at(alloc, lists, at)?;
-    let row = row(alloc, sets, program, edges, &list, lists)?;
+    let list = list_at(alloc, &states.lists, at)?;
+    let row = row(alloc, sets, program, edges, &list, states)?;
     cells.push(row)?;
     Ok(())
 }
 
-/// The rows of at most so many states; new states are added as they are met.
-fn rows(
+/// Adds the rows of the states that have none, and of those that are met by them, while there is room and work is left.
+fn add_rows(
     alloc: Global,
     sets: &[Set],
     program: &[Instruction],
     edges: &[bool; 256],
-    count: usize,
-    lists: &mut Vec<Vec<usize>>,
-) -> Result<Vec<[u8; 256]>, AllocError>
+    states: &mut States,
+    cells: &mut Vec<[u8; 256]>,
+) -> Result<(), AllocError>
     requires sound { IsSound program.now }
     requires edges { AreEdges sets.now program.now edges.now }
-    ensures later { OnOk result (Later (map (λ v. v.items) lists.old.items) (map (λ v. v.items) lists.new.items)) }
-    ensures inside { IfOk result (λ cells. length cells.items ≤ length lists.new.items) }
-    ensures few { IfOk result (λ cells. length cells.items ≤ count) }
-    ensures rows { IfOk result
-        (λ cells. AreRows sets.now program.now (map (λ v. v.items) lists.new.items) cells.items) }
+    requires inside { length cells.old.items ≤ length states.old.lists.items }
+    requires few { length cells.old.items ≤ UNKNOWN }
+    requires rows { AreRows sets.now program.now (map (λ v. v.items) states.old.lists.items) cells.old.items }
+    ensures later { OnOk result
+        (Later (map (λ v. v.items) states.old.lists.items) (map (λ v. v.items) states.new.lists.items)) }
+    ensures inside { OnOk result (length cells.new.items ≤ length states.new.lists.items) }
+    ensures few { OnOk result (length cells.new.items ≤ UNKNOWN) }
+    ensures rows { OnOk result
+        (AreRows sets.now program.now (map (λ v. v.items) states.new.lists.items) cells.new.items) }
 {
-    let mut cells = Vec::new(alloc);
-    for i in 0..count {
-        add_row(alloc, sets, program, edges, lists, &mut cells)?;
+    while cells.len() < states.lists.len() && cells.len() < UNKNOWN as usize && states.work > 0 {
+        add_row(alloc, sets, program, edges, states, cells)?;
     }
-    Ok(cells)
+    Ok(())
 }
 
 fn has_done(list: &[usize]) -> bool
@@ -376,7 +362,11 @@ fn ends_at_last(alloc: Global, program: &[Instruction], list: &[usize]) -> Resul
     requires some { 0 < length program.now }
     ensures { IfOk result (λ b. (b ≡ true) ↔ EndsAtLast program.now list.now) }
 {
-    let steps = led(alloc, program, false, true, list)?;
+    let ends = TextEnds {
+        first: false,
+        last: true,
+    };
+    let steps = led(alloc, program, ends, list)?;
     Ok(has_done(&steps))
 }
 
@@ -414,7 +404,8 @@ fn first_state(
     ensures later { OnOk result (Later (map (λ v. v.items) lists.old.items) (map (λ v. v.items) lists.new.items)) }
     ensures first { IfOk result (λ n. IsFirst program.now first entry (map (λ v. v.items) lists.new.items) n) }
 {
-    let steps = led(alloc, program, first, false, &[entry])?;
+    let ends = TextEnds { first, last: false };
+    let steps = led(alloc, program, ends, &[entry])?;
     let at = number(lists, steps)?;
     Ok(at)
 }
@@ -520,60 +511,16 @@ fn blank(
     }
 }
 
-/// How many rows may be made, so that the work is bounded.
-fn room(program: &[Instruction], edges: &[bool; 256]) -> usize
-    ensures { result ≤ UNKNOWN }
-{
-    let mut count = 1usize;
-    for edge in edges {
-        if *edge {
-            count = count.saturating_add(1);
-        }
-    }
-    let row = count.saturating_mul(program.len()).max(1);
-    (MAX_WORK / row).min(UNKNOWN as usize)
-}
-
-/// The table of the states and with the rows that they have room for.
-fn with_rows(
-    alloc: Global,
-    sets: &[Set],
-    program: &[Instruction],
-    entry: usize,
-    scan: usize,
-    mut lists: Vec<Vec<usize>>,
-    begins: (Begin, Begin),
-) -> Result<StateTable, AllocError>
-    requires sound { IsSound program.now }
-    requires some { 0 < length program.now }
-    requires dead { IsDead (map (λ v. v.items) lists.items) }
-    requires entry { IsBegin program.now entry (map (λ v. v.items) lists.items) begins.0 }
-    requires scan { IsBegin program.now scan (map (λ v. v.items) lists.items) begins.1 }
-    ensures { IfOk result (λ t. IsBuilt sets.now program.now entry scan t) }
-{
-    let edges = edges(sets, program);
-    let room = room(program, &edges);
-    let cells = rows(alloc, sets, program, &edges, room, &mut lists)?;
-    let accepts = accepting(alloc, &lists, cells.len())?;
-    let ends = ending(alloc, program, &lists, cells.len())?;
-    let heads = make_heads(&cells, &accepts, begins.0.later);
-    Ok(StateTable {
-        cells,
-        accepts,
-        ends,
-        entry: begins.0,
-        scan: begins.1,
-        heads,
-    })
-}
-
 /// The states of a table before any is met: the one that has no step.
-fn no_states(alloc: Global) -> Result<Vec<Vec<usize>>, AllocError>
-    ensures { IfOk result (λ lists. IsDead (map (λ v. v.items) lists.items)) }
+fn no_states(alloc: Global) -> Result<States, AllocError>
+    ensures { IfOk result (λ states. IsDead (map (λ v. v.items) states.lists.items)) }
 {
     let mut lists = Vec::new(alloc);
     lists.push(Vec::new(alloc))?;
-    Ok(lists)
+    Ok(States {
+        lists,
+        work: MAX_WORK,
+    })
 }
 
 /// The table of the program.
@@ -591,17 +538,23 @@ pub fn make_table(
     if program.len() > MAX_STEPS {
         return Ok(blank(alloc, sets, program, entry, scan));
     }
-    let mut lists = no_states(alloc)?;
-    let entry_begin = begins(alloc, program, entry, &mut lists)?;
-    let scan_begin = begins(alloc, program, scan, &mut lists)?;
-    let table = with_rows(
-        alloc,
-        sets,
-        program,
+    let edges = edges(sets, program);
+    let mut states = no_states(alloc)?;
+    let mut cells = Vec::new(alloc);
+    // The states of searches from one start come first: they find the matches, and most are small.
+    let entry = begins(alloc, program, entry, &mut states.lists)?;
+    add_rows(alloc, sets, program, &edges, &mut states, &mut cells)?;
+    let scan = begins(alloc, program, scan, &mut states.lists)?;
+    add_rows(alloc, sets, program, &edges, &mut states, &mut cells)?;
+    let accepts = accepting(alloc, &states.lists, cells.len())?;
+    let ends = ending(alloc, program, &states.lists, cells.len())?;
+    let heads = make_heads(&cells, &accepts, entry.later);
+    Ok(StateTable {
+        cells,
+        accepts,
+        ends,
         entry,
         scan,
-        lists,
-        (entry_begin, scan_begin),
-    )?;
-    Ok(table)
+        heads,
+    })
 }

@@ -3,12 +3,12 @@ use Rattle.awk_ere.proofs.Gathering.{leading_begins, leading_more, leading_ends}
 use Rattle.awk_ere.proofs.states.lead.Goals as goal
 
 pub loop-at-init : goal.loop-at-init
-loop-at-init c = record { leading = leading_begins _ _ _ _ _ c.requires.blank; listed = c.requires.listed }
+loop-at-init c = record { len = c.in_ok-starts.ensures.len; leading = leading_begins _ _ _ _ _ c.in_ok-starts.ensures.blank }
 
 pub loop-at-preserved : goal.loop-at-preserved
 loop-at-preserved c = record {
+  len = c.in_ok-lead_from.ensures.len;
   leading = leading_more _ _ _ _ _ _ _ c.loop-at-test.true c.in_ok-lead_from.ensures.more c.loop-at.invariant.leading;
-  listed = c.in_ok-lead_from.ensures.listed;
 }
 
 pub returns : goal.returns

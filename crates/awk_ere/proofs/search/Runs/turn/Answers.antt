@@ -1,6 +1,6 @@
 use Rattle.std.proofs.Common.{arith}
 use Rattle.awk_ere.proofs.Searching.{cap_small, marks_turn}
-use Rattle.awk_ere.proofs.search.turn.Goals as goal
+use Rattle.awk_ere.proofs.search.Runs.turn.Goals as goal
 
 pub advance-requires-clause-cap : goal.advance-requires-clause-cap
 advance-requires-clause-cap c = omega (arith, c.cap_at-cap.ensures, cap_small _ _ _ _ _ _ _ c.in_ok-found.ensures.best)
