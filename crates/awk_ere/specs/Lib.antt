@@ -11,6 +11,7 @@ pub mod Refusals
 pub mod Laws
 pub mod Program
 pub mod Search
+pub mod Runs
 pub mod Table
 pub mod Matcher
 pub mod Hopes

@@ -1,9 +1,10 @@
 // The search for the best match.
 ghost use Rattle.std.specs.Prelude.{◌≡◌, ◌==◌, ◌++◌, ◌+◌, ◌<◌, ◌≤◌, true, length};
 ghost use Rattle.std.specs.Prelude.{IfOk, OnOk, slice_index, slice_set};
-ghost use Rattle.awk_ere.specs.Program.{IsSound, holds};
-ghost use Rattle.awk_ere.specs.Search.{mark, targets, target_of, IsBlank, IsClosed, Reaches, Advances, Marks};
-ghost use Rattle.awk_ere.specs.Search.{BestOf, Goes, Finds, limit_of, cap_of};
+ghost use Rattle.awk_ere.specs.Program.{IsSound};
+ghost use Rattle.awk_ere.specs.Runs.{AreMarks, IsBest};
+ghost use Rattle.awk_ere.specs.Search.{mark, targets, target_of, IsBlank, IsClosed, Reaches, Advances, Finds};
+ghost use Rattle.awk_ere.specs.Search.{limit_of, cap_of};
 
 use crate::bracket::Set;
 use crate::program::Instruction;
@@ -246,17 +247,11 @@ impl<'a> Runs<'a> {
         requires place { self.now.from ≤ place × place ≤ length self.now.text.now }
         requires small { place < NONE }
         requires len { length here.old ≡ length self.now.program.now }
-        requires marks { Marks self.now.sets.now self.now.program.now self.now.text.now self.now.entry self.now.from
-            (limit_of place best) place here.old }
-        requires best { BestOf (λ i j. Goes self.now.sets.now self.now.program.now self.now.text.now self.now.entry i 0 j)
-            place self.now.from best }
+        requires marks { AreMarks self.now (limit_of place best) place here.old }
+        requires best { IsBest self.now place best }
         ensures len { OnOk result (length here.new ≡ length self.now.program.now) }
-        ensures marks { IfOk result
-            (λ found. Marks self.now.sets.now self.now.program.now self.now.text.now self.now.entry self.now.from
-            (limit_of (place + 1) found) place here.new) }
-        ensures best { IfOk result
-            (λ found. BestOf (λ i j. Goes self.now.sets.now self.now.program.now self.now.text.now self.now.entry i 0 j)
-            (place + 1) self.now.from found) }
+        ensures marks { IfOk result (λ found. AreMarks self.now (limit_of (place + 1) found) place here.new) }
+        ensures best { IfOk result (λ found. IsBest self.now (place + 1) found) }
     {
         match best {
             None => {
@@ -302,19 +297,13 @@ impl<'a> Runs<'a> {
         requires here_len { length here.old ≡ length self.now.program.now }
         requires ahead_len { length ahead.old ≡ length self.now.program.now }
         requires blank { IsBlank ahead.old }
-        requires marks { Marks self.now.sets.now self.now.program.now self.now.text.now self.now.entry self.now.from
-            (limit_of place best) place here.old }
-        requires best { BestOf (λ i j. Goes self.now.sets.now self.now.program.now self.now.text.now self.now.entry i 0 j)
-            place self.now.from best }
+        requires marks { AreMarks self.now (limit_of place best) place here.old }
+        requires best { IsBest self.now place best }
         ensures here_len { OnOk result (length here.new ≡ length self.now.program.now) }
         ensures ahead_len { OnOk result (length ahead.new ≡ length self.now.program.now) }
         ensures blank { OnOk result (IsBlank here.new) }
-        ensures marks { IfOk result
-            (λ found. Marks self.now.sets.now self.now.program.now self.now.text.now self.now.entry self.now.from
-            (limit_of (place + 1) found) (place + 1) ahead.new) }
-        ensures best { IfOk result
-            (λ found. BestOf (λ i j. Goes self.now.sets.now self.now.program.now self.now.text.now self.now.entry i 0 j)
-            (place + 1) self.now.from found) }
+        ensures marks { IfOk result (λ found. AreMarks self.now (limit_of (place + 1) found) (place + 1) ahead.new) }
+        ensures best { IfOk result (λ found. IsBest self.now (place + 1) found) }
     {
         let found = self.arrive(place, best, here, stack)?;
         let cap = cap_at(place, found);
