@@ -84,31 +84,39 @@ fn is_done(reply: &Reply) -> bool
     matches!(reply, Reply::Done)
 }
 
-/// Does the assignment that an operand of this text is, of this name and text, where the world lets
-/// it. All memory for it is taken before the world is asked.
+/// An operand that is an assignment.
+#[derive(Clone, Copy, Drop)]
+pub struct AssignmentOperand<'a> {
+    pub whole: &'a [u8],
+    /// What stands before its first `=`, and what stands behind it.
+    pub name: &'a [u8],
+    pub text: &'a [u8],
+}
+
+/// Does the assignment that an operand is, where the world lets it. All memory for it is taken before
+/// the world is asked.
 pub fn assign<W: World>(
     alloc: Global,
     host: &Host,
-    operand: &[u8],
-    name: &[u8],
-    text: &[u8],
+    operand: AssignmentOperand<'_>,
     store: &mut Store,
     world: &mut W,
 ) -> Result<(), Halt>
-    requires { can_set host.now name.now ≡ true }
+    requires { can_set host.now operand.name.now ≡ true }
     ensures task { (g : Given) → IsHost host.now g → (t : Table) (p : Piece) (old : Whole) →
-        Moves g p old (assignment g operand.now name.now text.now) (store.old, t)
+        Moves g p old (assignment g operand.entry.whole.now operand.entry.name.now operand.entry.text.now)
+        (store.old, t)
         → Performs W.World g p goes_on old world.old result (store.new, t) world.new }
     ensures numbers { W.open_numbers world.new ≡ W.open_numbers world.old }
 {
-    let Ok(sent) = copy_all(alloc, name, text) else {
+    let Ok(sent) = copy_all(alloc, operand.name, operand.text) else {
         return Err(Halt::Memory);
     };
     let place = Place { line: 0, column: 0 };
-    let given = host.is_given(operand);
+    let given = host.is_given(operand.whole);
     let reply = request(place, given, Request::Assign(sent.name, sent.text), world)?;
     if !is_done(&reply) {
         return Ok(());
     }
-    set_named(alloc, host, name, Value::Input(sent.value), store)
+    set_named(alloc, host, operand.name, Value::Input(sent.value), store)
 }

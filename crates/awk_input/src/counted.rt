@@ -58,26 +58,38 @@ fn is_record(value: &Value) -> bool
     matches!(value, Value::Input(_))
 }
 
-/// Sets the target to a record that was read, and adds 1 to each of these variables; answers 1. What came in place of a
-/// record is the answer itself. The next record is written where the text lay that the target held before.
+/// What getline sets to the record that it reads, and what counts that.
+#[derive(Drop)]
+pub struct Getline {
+    pub place: Place,
+    pub target: Spot,
+    pub counters: Counted,
+}
+
+/// Sets the target to a record that was read, and adds 1 to each of the variables that count it; answers 1. What came
+/// in place of a record is the answer itself. The next record is written where the text lay that the target held
+/// before.
 #[inline(always)]
 pub fn set_record(
     alloc: Global,
     store: &mut Store,
     streams: &mut Streams,
-    place: Place,
-    target: Spot,
-    counters: Counted,
+    getline: Getline,
     answer: Value,
 ) -> Result<Value, Halt>
     ensures task { (g : Given) (p : Piece) (to : List Piece → List Piece) →
-        IsGot g p place (meant (names_in g) target) (names_of counters) answer to
+        IsGot g p getline.place (meant (names_in g) getline.target) (names_of getline.counters) answer to
         → Acts g p (λ v k. give v (to k)) (store.old, streams.old) result (store.new, streams.new) }
     ensures same { streams.new ≡ streams.old }
 {
     if !is_record(&answer) {
         return Ok(answer);
     }
+    let Getline {
+        place,
+        target,
+        counters,
+    } = getline;
     let room = replace(alloc, store, target, place, answer)?;
     streams.keep_room(room);
     count_all(store, place, counters)?;

@@ -25,7 +25,7 @@ use awk_store::{CurrentInput, MainInput, Store};
 use awk_streams::getline::{NextRecord, record};
 use awk_streams::halt::Halt;
 use awk_streams::inputs;
-use awk_streams::opening::open;
+use awk_streams::opening::{OpenAsk, open};
 use awk_streams::requests::request;
 use awk_streams::streams::{Class, StreamName, Streams};
 use awk_text::Memory;
@@ -72,9 +72,13 @@ fn open_file<W: World>(
     if streams.number(&name).is_some() {
         return Ok(true);
     }
-    let place = Place { line: 0, column: 0 };
-    let given = host.is_given(text);
-    let found = open(alloc, place, given, Mode::Read, &name, streams, world)?;
+    let ask = OpenAsk {
+        place: Place { line: 0, column: 0 },
+        given: host.is_given(text),
+        mode: Mode::Read,
+        name,
+    };
+    let found = open(alloc, ask, streams, world)?;
     Ok(found.is_some())
 }
 

@@ -15,7 +15,7 @@ ghost use Rattle.awk_store.specs.Wholes.{names_in};
 ghost use Rattle.awk_input.specs.Gots.{piped_of, read_of};
 ghost use Rattle.awk_input.specs.Performs.{Performs};
 
-use crate::counted::{Counted, set_record};
+use crate::counted::{Counted, Getline, set_record};
 use awk_program::Own;
 use awk_store::{Spot, Store};
 use awk_streams::getline::fetch;
@@ -102,15 +102,12 @@ pub fn set_from_file(
         (store.old, streams.old) result (store.new, streams.new) }
     ensures same { streams.new ≡ streams.old }
 {
-    set_record(
-        alloc,
-        store,
-        streams,
+    let getline = Getline {
         place,
         target,
-        Counted::Nothing,
-        answer,
-    )
+        counters: Counted::Nothing,
+    };
+    set_record(alloc, store, streams, getline, answer)
 }
 
 /// Reads a record for `command | getline target`, once the command and what is set are known: the record as input, 0 at
@@ -154,7 +151,12 @@ pub fn set_from_command(
         (λ v k. give v (At (Pipes_of xs) [] ∷ k)) (store.old, streams.old) result (store.new, streams.new) }
     ensures same { streams.new ≡ streams.old }
 {
-    set_record(alloc, store, streams, place, target, Counted::Nr, answer)
+    let getline = Getline {
+        place,
+        target,
+        counters: Counted::Nr,
+    };
+    set_record(alloc, store, streams, getline, answer)
 }
 
 /// `command | getline target`, once the command and what is set are known.

@@ -15,7 +15,7 @@ ghost use Rattle.awk_input.specs.Hosts.{IsHost};
 ghost use Rattle.awk_input.specs.Inputs.{IsMainLine, Onward, at_records, counted_on, found_main, meeting, taken};
 ghost use Rattle.awk_input.specs.Performs.{LeadsOn, Performs, PerformsIn};
 
-use crate::counted::{Counted, count_both, set_record};
+use crate::counted::{Counted, Getline, count_both, set_record};
 use crate::files::take_file;
 use crate::host::Host;
 use crate::operands::operand;
@@ -193,15 +193,12 @@ pub fn getline_main<W: World>(
     ensures owns { Owns (W.open_numbers world.new) streams.new }
 {
     let answer = take(alloc, host, store, streams, world)?;
-    set_record(
-        alloc,
-        store,
-        streams,
+    let getline = Getline {
         place,
         target,
-        Counted::NrAndFnr,
-        answer,
-    )
+        counters: Counted::NrAndFnr,
+    };
+    set_record(alloc, store, streams, getline, answer)
 }
 
 /// Sets `$0` to a record of the main input and counts it, before the rules meet it.

@@ -16,7 +16,7 @@ ghost use Rattle.awk_input.specs.Hosts.{IsHost};
 ghost use Rattle.awk_input.specs.Operands.{Moves, argv, is_assigning};
 ghost use Rattle.awk_input.specs.Performs.{Performs};
 
-use crate::assigns::assign;
+use crate::assigns::{AssignmentOperand, assign};
 use crate::files::begin_input;
 use crate::host::Host;
 use crate::progress::{move_to, name_input, pass_operands};
@@ -118,9 +118,12 @@ fn begin_operand<W: World>(
         return Ok(());
     }
     if let Some(sign) = assignment_sign(host, bytes) {
-        let name = &bytes[..sign];
-        let new = &bytes[sign + 1..];
-        return assign(alloc, host, bytes, name, new, store, world);
+        let operand = AssignmentOperand {
+            whole: bytes,
+            name: &bytes[..sign],
+            text: &bytes[sign + 1..],
+        };
+        return assign(alloc, host, operand, store, world);
     }
     name_input(store);
     begin_input(alloc, host, text, store, streams, world)

@@ -28,28 +28,36 @@ fn number_opened(reply: &Reply) -> Option<u32>
     }
 }
 
+/// What is asked to open a stream. `given` says that it is an operand word that the run was started with.
+#[derive(Clone, Copy, Drop)]
+pub struct OpenAsk<'a> {
+    pub place: Place,
+    pub given: bool,
+    pub mode: Mode,
+    pub name: StreamName<'a>,
+}
+
 /// Opens a stream that is not open yet, and answers its number; `None` where the world does not
 /// open it. All memory is taken before the world is asked.
 pub fn open<W: World>(
     alloc: Global,
-    place: Place,
-    given: bool,
-    mode: Mode,
-    name: &StreamName<'_>,
+    ask: OpenAsk<'_>,
     streams: &mut Streams,
     world: &mut W,
 ) -> Result<Option<u32>, Halt>
     requires owns { Owns (W.open_numbers world.old) streams.old }
-    requires new { find_stream (kind name.now.class) name.now.text.now (open_of streams.old) ≡ None }
-    ensures opens { Opens W.World
-        (record { place = place; given = given; request = Open mode name.now.text.now }) (kind name.now.class)
-        name.now.text.now streams.old world.old result streams.new world.new }
+    requires new { find_stream (kind ask.name.class) ask.name.text.now (open_of streams.old) ≡ None }
+    ensures opens { Opens W.World (record {
+      place = ask.entry.place;
+      given = ask.entry.given;
+      request = Open ask.entry.mode ask.entry.name.text.now;
+    }) (kind ask.entry.name.class) ask.entry.name.text.now streams.old world.old result streams.new world.new }
     ensures owns { Owns (W.open_numbers world.new) streams.new }
 {
-    let kept = name.kept(alloc)?;
-    let sent = Octets::new(Vec::from_slice(alloc, name.text)?);
+    let kept = ask.name.kept(alloc)?;
+    let sent = Octets::new(Vec::from_slice(alloc, ask.name.text)?);
     streams.make_room()?;
-    let reply = request(place, given, Request::Open(mode, sent), world)?;
+    let reply = request(ask.place, ask.given, Request::Open(ask.mode, sent), world)?;
     match number_opened(&reply) {
         Some(number) => {
             streams.add(kept, number);
@@ -80,7 +88,13 @@ pub fn open_output<W: World>(
     if let Some(number) = streams.number(name) {
         return Ok(number);
     }
-    let Some(number) = open(alloc, place, false, mode, name, streams, world)? else {
+    let ask = OpenAsk {
+        place,
+        given: false,
+        mode,
+        name: *name,
+    };
+    let Some(number) = open(alloc, ask, streams, world)? else {
         return Err(Halt::Fault(Fault::Output, place));
     };
     Ok(number)
@@ -107,8 +121,13 @@ pub fn open_input<W: World>(
     if let Some(number) = streams.number(name) {
         return Ok(Some(number));
     }
-    let mode = input_mode(name.class);
-    open(alloc, place, false, mode, name, streams, world)
+    let ask = OpenAsk {
+        place,
+        given: false,
+        mode: input_mode(name.class),
+        name: *name,
+    };
+    open(alloc, ask, streams, world)
 }
 
 fn input_mode(class: Class) -> Mode

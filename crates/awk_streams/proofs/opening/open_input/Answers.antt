@@ -20,7 +20,7 @@ pub returns-clause-task : goal.returns-clause-task
 returns-clause-task g c = λ m s.
     let a = c.args in
     let n = a.name.now in
-    let x = rw c.input_mode-mode.ensures at c.open.ensures.opens in
+    let x = rw c.input_mode.ensures at c.open.ensures.opens in
     input_asked (laws_of g.met.W.World.follows_append g.met.W.World.stops_later g.met.W.World.follows_open) m s a.place (kind n.class) n.text.now a.streams.now c.open.new.streams a.world.now c.open.new.world c.open.result
     (sym c.number.ensures ∙ c.in_default.is) x
 
