@@ -1,7 +1,6 @@
 // What the names of an item stand for.
 
-ghost use Rattle.std.specs.Prelude.{◌≡◌, [], get_or, map, position, Some, IfOk};
-ghost use Rattle.std.specs.Str.{bytes_eq};
+ghost use Rattle.std.specs.Prelude.{◌≡◌, [], get_or, map, IfOk};
 ghost use Rattle.awk_lowering.specs.Lowered as low;
 ghost use Rattle.awk_lowering.specs.Made.{names_in, scope_in, IsVariable};
 ghost use Rattle.awk_lowering.specs.Scopes as spec;

@@ -17,6 +17,7 @@ pub mod Linking
 pub mod Kinding
 pub mod AllKinds
 pub mod Clashing
+pub mod Doubles
 pub mod Agreeing
 pub mod Assigning
 pub mod Apart

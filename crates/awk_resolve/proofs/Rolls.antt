@@ -1,6 +1,6 @@
 -- A roll as contracts see it. Where it is kept the keys are not the texts but have them.
 use Rattle.std.proofs.Common.{◌≡◌, ◌+◌, ◌≤◌, ◌∙◌, ℕ, Bool, true, false, List, [], ◌∷◌, ◌++◌, map, cond, if◌then◌else◌, ◌||◌, not, Some, None, get_or, length, ltb, position, Result, Ok, Err, IfOk, OnOk, ap, sym, refl, arith}
-use Rattle.std.proofs.lemmas.List.Folds.{list_any_none}
+use Rattle.std.proofs.lemmas.List.Folds.{list_any_none, list_any_at}
 use Rattle.std.proofs.lemmas.List.Sums.{fails_before_first}
 use Rattle.std.proofs.lemmas.List.{length-map}
 use Rattle.std.proofs.lemmas.List.Quantifiers.{position-Some}
@@ -40,9 +40,12 @@ pub stands_small : (x : List ℕ) (xs : List (List ℕ)) {E : Type 0} (n : ℕ) 
 stands_small x xs n (Ok m) some same = ap (λ k. get_or xs k []) same ∙ stands x xs n some
 stands_small x xs n (Err e) some same = tt
 
-pub found_small : (x : List ℕ) (xs : List (List ℕ)) {E : Type 0} (n : ℕ) (r : Result ℕ E) → position (bytes_eq x) xs ≡ Some n → IfOk r (λ m. m ≡ n) → IfOk r (λ m. position (bytes_eq x) xs ≡ Some m)
-found_small x xs n (Ok m) some same = some ∙ ap (λ k. Some k) (sym same)
-found_small x xs n (Err e) some same = tt
+-- and is not added
+pub added_found : (x : List ℕ) (xs : List (List ℕ)) (n : ℕ) → position (bytes_eq x) xs ≡ Some n → added x xs ≡ xs
+added_found x xs n e =
+    let at = position-Some (bytes_eq x) xs n [] e in
+    let there : list_any (bytes_eq x) xs ≡ true = list_any_at (bytes_eq x) xs n [] at.0 at.1 in
+    rw there refl
 
 -- a text that stands nowhere in a list is put last
 none_past : (n m : ℕ) → cond (ltb n m) (Some n) None ≡ None → m ≤ n

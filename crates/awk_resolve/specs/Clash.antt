@@ -1,6 +1,7 @@
 -- How the first place of a clash is found: the least of all places where one stands.
 use Rattle.std.specs.Prelude.{ℕ, ◌+◌, Bool, true, false, ◌&&◌, ◌||◌, if◌then◌else◌, nat_lt, nat_le, ◌==◌, List, [], ◌∷◌}
 use Rattle.std.specs.Prelude.{slice_get, Option, Some, None, is_none}
+use Rattle.std.specs.List.{list_any}
 use Rattle.awk_text.specs.declared.place.Place.{Place}
 use Rattle.awk_tree.specs.Tree.{Text}
 use Rattle.awk_tree.specs.declared.names.Name.{Name}
@@ -70,3 +71,22 @@ at_role c (role.Function f ps) least = over (at_name c (role.Function f ps)) ps 
 
 abbrev pub at_part : Kinds → Section → Step
 at_part c p least = over (at_mention c p.role) p.mentions (at_role c p.role least)
+
+-- ---- whether a name may have two kinds: of its number, and of the functions
+
+-- of the numbers from this one on
+abbrev pub marked_twice : List Bool → ℕ → List Bool → Bool
+marked_twice arrays n [] = false
+marked_twice arrays n (b ∷ scalars) = (b && is_marked arrays (Some n)) || marked_twice arrays (n + 1) scalars
+
+abbrev pub is_double : Kinds → Role → Bool
+is_double c role.Begin = false
+is_double c role.End = false
+is_double c role.Rule = false
+is_double c (role.Function f ps) = has_two c role.Begin f.text
+
+abbrev pub any_double : Kinds → List Section → Bool
+any_double c parts = list_any (λ p. is_double c p.role) parts
+
+abbrev pub may_double : Kinds → List Section → Bool
+may_double c parts = marked_twice c.arrays 0 c.scalars || any_double c parts

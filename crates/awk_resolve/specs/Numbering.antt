@@ -33,6 +33,13 @@ abbrev pub number : Numbers → Named → Option ℕ
 number t (global x) = lookup (bytes_eq x) t.globals
 number t (parameter f x) = in_perhaps (lookup (bytes_eq f) t.functions) x
 
+-- the parameters of the function that an item of this role is
+abbrev pub scope_of : Numbers → Role → Option Scope
+scope_of t role.Begin = None
+scope_of t role.End = None
+scope_of t role.Rule = None
+scope_of t (role.Function f ps) = lookup (bytes_eq f.text) t.functions
+
 -- the number of what a text is in an item of this role
 abbrev pub number_in : Numbers → Role → Text → Option ℕ
 number_in t role.Begin x = number t (global x)

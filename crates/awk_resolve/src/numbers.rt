@@ -1,10 +1,12 @@
 // A number for each name of a script.
 
 ghost use Rattle.std.specs.Prelude.{◌≡◌, map, length, slice_get, IfOk, OnOk};
+ghost use Rattle.std.specs.Option.{option_copied};
 ghost use Rattle.awk_resolve.specs.Kinds.{global, parameter};
 ghost use Rattle.awk_resolve.specs.Numbering as spec;
 ghost use Rattle.awk_resolve.specs.Uses as uses;
 
+use crate::inside::Inside;
 use crate::mention::{Mention, Role, Section};
 use crate::table::TextTable;
 use crate::variables::{ARRAYS, SCALARS};
@@ -88,17 +90,21 @@ impl Numbers {
         }
     }
 
+    /// The parameters of the function that an item of this role is.
+    pub fn scope_of(&self, role: &Role) -> Option<&Scope>
+        ensures { option_copied result ≡ spec.scope_of self.now role.now }
+    {
+        match role {
+            Role::Function(name, _params) => self.functions.get(name.text.bytes()),
+            Role::Begin | Role::End | Role::Rule => None,
+        }
+    }
+
     /// The number of what a text is in an item of this role.
     pub fn number(&self, role: &Role, text: &[u8]) -> Option<usize>
         ensures { result ≡ spec.number_in self.now role.now text.now }
     {
-        match role {
-            Role::Function(name, _params) => match self.parameter(name.text.bytes(), text) {
-                Some(number) => Some(number),
-                None => self.global(text),
-            },
-            Role::Begin | Role::End | Role::Rule => self.global(text),
-        }
+        Inside::new(self, role).number(text)
     }
 
     pub fn is_function(&self, text: &[u8]) -> bool

@@ -67,14 +67,25 @@ impl Roll {
         self.texts.len()
     }
 
-    /// Puts a text last, unless it is there, or answers `Memory`, with nothing changed.
-    pub fn add(&mut self, text: Octets) -> Result<(), Memory>
+    fn append(&mut self, text: Octets) -> Result<(), Memory>
         ensures ok { OnOk result (self.new ≡ added text self.old) }
         ensures err { OnErr result (self.new ≡ self.old) }
     {
         let bytes = text.into_bytes(*self.texts.allocator())?;
         self.texts.insert(bytes)?;
         Ok(())
+    }
+
+    /// Puts a text last, unless it is there, or answers `Memory`, with nothing changed. Where it is
+    /// there, as most that are added are, no memory is asked for.
+    pub fn add(&mut self, text: Octets) -> Result<(), Memory>
+        ensures ok { OnOk result (self.new ≡ added text self.old) }
+        ensures err { OnErr result (self.new ≡ self.old) }
+    {
+        match self.position(text.bytes()) {
+            Some(_) => Ok(()),
+            None => self.append(text),
+        }
     }
 
     /// Puts a text last, or answers `Memory`, with nothing changed, where it is there already or
@@ -85,7 +96,7 @@ impl Roll {
     {
         match self.position(text.bytes()) {
             Some(_) => Err(AllocError),
-            None => self.add(text),
+            None => self.append(text),
         }
     }
 }

@@ -3,6 +3,7 @@
 ghost use Rattle.std.specs.Prelude.{◌≡◌, ◌++◌, [], map, replicate, slice_get, IfOk, OnOk};
 ghost use Rattle.awk_resolve.specs.Uses as spec;
 
+use crate::inside::Inside;
 use crate::mention::{Mention, Role, Section};
 use crate::numbers::{Numbers, nth};
 use crate::variables::{ARRAYS, SCALARS};
@@ -24,44 +25,44 @@ pub enum Use {
     Handed(usize, usize),
 }
 
-fn scalar(numbers: &Numbers, role: &Role, text: &[u8], out: &mut Items<Use>) -> Result<(), Memory>
-    ensures { OnOk result (out.new ≡ out.old ++ spec.scalar numbers.now role.now text.now) }
+fn scalar(inside: &Inside<'_>, text: &[u8], out: &mut Items<Use>) -> Result<(), Memory>
+    ensures { OnOk result (out.new ≡ out.old ++ spec.scalar inside.now.numbers.now inside.now.role.now text.now) }
 {
-    match numbers.number(role, text) {
+    match inside.number(text) {
         Some(number) => out.push(Use::Scalar(number)),
         None => Ok(()),
     }
 }
 
-fn array(numbers: &Numbers, role: &Role, text: &[u8], out: &mut Items<Use>) -> Result<(), Memory>
-    ensures { OnOk result (out.new ≡ out.old ++ spec.array numbers.now role.now text.now) }
+fn array(inside: &Inside<'_>, text: &[u8], out: &mut Items<Use>) -> Result<(), Memory>
+    ensures { OnOk result (out.new ≡ out.old ++ spec.array inside.now.numbers.now inside.now.role.now text.now) }
 {
-    match numbers.number(role, text) {
+    match inside.number(text) {
         Some(number) => out.push(Use::Array(number)),
         None => Ok(()),
     }
 }
 
-fn measured(numbers: &Numbers, role: &Role, text: &[u8], out: &mut Items<Use>) -> Result<(), Memory>
-    ensures { OnOk result (out.new ≡ out.old ++ spec.measured numbers.now role.now text.now) }
+fn measured(inside: &Inside<'_>, text: &[u8], out: &mut Items<Use>) -> Result<(), Memory>
+    ensures { OnOk result (out.new ≡ out.old ++ spec.measured inside.now.numbers.now inside.now.role.now text.now) }
 {
-    match numbers.number(role, text) {
+    match inside.number(text) {
         Some(number) => out.push(Use::Measured(number)),
         None => Ok(()),
     }
 }
 
 fn handed(
-    numbers: &Numbers,
-    role: &Role,
+    inside: &Inside<'_>,
     parameter: Option<usize>,
     text: &[u8],
     out: &mut Items<Use>,
 ) -> Result<(), Memory>
-    ensures { OnOk result (out.new ≡ out.old ++ spec.handed numbers.now role.now parameter text.now) }
+    ensures { OnOk result
+        (out.new ≡ out.old ++ spec.handed inside.now.numbers.now inside.now.role.now parameter text.now) }
 {
     match parameter {
-        Some(parameter) => match numbers.number(role, text) {
+        Some(parameter) => match inside.number(text) {
             Some(number) => out.push(Use::Handed(parameter, number)),
             None => Ok(()),
         },
@@ -70,84 +71,74 @@ fn handed(
 }
 
 /// A function by itself is no argument, and has no length: its name is then used as a scalar too.
-fn function(numbers: &Numbers, role: &Role, text: &[u8], out: &mut Items<Use>) -> Result<(), Memory>
-    ensures { OnOk result (out.new ≡ out.old ++ spec.function numbers.now role.now text.now) }
+fn function(inside: &Inside<'_>, text: &[u8], out: &mut Items<Use>) -> Result<(), Memory>
+    ensures { OnOk result (out.new ≡ out.old ++ spec.function inside.now.numbers.now inside.now.role.now text.now) }
 {
-    if numbers.is_function(text) {
-        scalar(numbers, role, text, out)
+    if inside.numbers.is_function(text) {
+        scalar(inside, text, out)
     } else {
         Ok(())
     }
 }
 
 fn argument(
-    numbers: &Numbers,
-    role: &Role,
+    inside: &Inside<'_>,
     parameter: Option<usize>,
     arg: &Option<Name>,
     out: &mut Items<Use>,
 ) -> Result<(), Memory>
-    ensures { OnOk result (out.new ≡ out.old ++ spec.argument numbers.now role.now parameter arg.now) }
+    ensures { OnOk result
+        (out.new ≡ out.old ++ spec.argument inside.now.numbers.now inside.now.role.now parameter arg.now) }
 {
     match arg {
         Some(name) => {
-            function(numbers, role, name.text.bytes(), out)?;
-            handed(numbers, role, parameter, name.text.bytes(), out)
+            function(inside, name.text.bytes(), out)?;
+            handed(inside, parameter, name.text.bytes(), out)
         }
         None => Ok(()),
     }
 }
 
 fn arguments(
-    numbers: &Numbers,
-    role: &Role,
+    inside: &Inside<'_>,
     parameters: &[usize],
     args: &[Option<Name>],
     out: &mut Items<Use>,
 ) -> Result<(), Memory>
-    ensures { OnOk result (out.new ≡ out.old ++ spec.arguments numbers.now role.now parameters.now 0 args.now) }
+    ensures { OnOk result
+        (out.new ≡ out.old ++ spec.arguments inside.now.numbers.now inside.now.role.now parameters.now 0 args.now) }
 {
     let mut position = 0;
     for arg in args {
-        argument(numbers, role, nth(parameters, position), arg, out)?;
+        argument(inside, nth(parameters, position), arg, out)?;
         position += 1;
     }
     Ok(())
 }
 
-fn mention(
-    numbers: &Numbers,
-    role: &Role,
-    mention: &Mention,
-    out: &mut Items<Use>,
-) -> Result<(), Memory>
-    ensures { OnOk result (out.new ≡ out.old ++ spec.mention numbers.now role.now mention.now) }
+fn mention(inside: &Inside<'_>, mention: &Mention, out: &mut Items<Use>) -> Result<(), Memory>
+    ensures { OnOk result (out.new ≡ out.old ++ spec.mention inside.now.numbers.now inside.now.role.now mention.now) }
 {
     match mention {
-        Mention::Scalar(name) => scalar(numbers, role, name.text.bytes(), out),
-        Mention::Array(name) => array(numbers, role, name.text.bytes(), out),
+        Mention::Scalar(name) => scalar(inside, name.text.bytes(), out),
+        Mention::Array(name) => array(inside, name.text.bytes(), out),
         Mention::Measured(name) => {
-            function(numbers, role, name.text.bytes(), out)?;
-            measured(numbers, role, name.text.bytes(), out)
+            function(inside, name.text.bytes(), out)?;
+            measured(inside, name.text.bytes(), out)
         }
         Mention::Call(name, args) => {
-            let parameters = numbers.parameters(name.text.bytes());
-            arguments(numbers, role, parameters, args.as_slice(), out)
+            let parameters = inside.numbers.parameters(name.text.bytes());
+            arguments(inside, parameters, args.as_slice(), out)
         }
         Mention::MainInput | Mention::Next(_) | Mention::Return(_) | Mention::Stray(_) => Ok(()),
     }
 }
 
-fn mentions(
-    numbers: &Numbers,
-    role: &Role,
-    mentions: &[Mention],
-    out: &mut Items<Use>,
-) -> Result<(), Memory>
-    ensures { OnOk result (out.new ≡ out.old ++ spec.mentions numbers.now role.now mentions.now) }
+fn mentions(inside: &Inside<'_>, mentions: &[Mention], out: &mut Items<Use>) -> Result<(), Memory>
+    ensures { OnOk result (out.new ≡ out.old ++ spec.mentions inside.now.numbers.now inside.now.role.now mentions.now) }
 {
     for said in mentions {
-        mention(numbers, role, said, out)?;
+        mention(inside, said, out)?;
     }
     Ok(())
 }
@@ -156,7 +147,8 @@ fn parts(numbers: &Numbers, parts: &[Section], out: &mut Items<Use>) -> Result<(
     ensures { OnOk result (out.new ≡ out.old ++ spec.parts numbers.now parts.now) }
 {
     for part in parts {
-        mentions(numbers, &part.role, part.mentions.as_slice(), out)?;
+        let inside = Inside::new(numbers, &part.role);
+        mentions(&inside, part.mentions.as_slice(), out)?;
     }
     Ok(())
 }
@@ -164,8 +156,10 @@ fn parts(numbers: &Numbers, parts: &[Section], out: &mut Items<Use>) -> Result<(
 fn own_scalars(numbers: &Numbers, texts: &[&[u8]], out: &mut Items<Use>) -> Result<(), Memory>
     ensures { OnOk result (out.new ≡ out.old ++ spec.own_scalars numbers.now (map (λ w. w.now) texts.now)) }
 {
+    let begin = Role::Begin;
+    let inside = Inside::new(numbers, &begin);
     for text in texts {
-        scalar(numbers, &Role::Begin, text, out)?;
+        scalar(&inside, text, out)?;
     }
     Ok(())
 }
@@ -173,8 +167,10 @@ fn own_scalars(numbers: &Numbers, texts: &[&[u8]], out: &mut Items<Use>) -> Resu
 fn own_arrays(numbers: &Numbers, texts: &[&[u8]], out: &mut Items<Use>) -> Result<(), Memory>
     ensures { OnOk result (out.new ≡ out.old ++ spec.own_arrays numbers.now (map (λ w. w.now) texts.now)) }
 {
+    let begin = Role::Begin;
+    let inside = Inside::new(numbers, &begin);
     for text in texts {
-        array(numbers, &Role::Begin, text, out)?;
+        array(&inside, text, out)?;
     }
     Ok(())
 }

@@ -1,7 +1,6 @@
-use Rattle.std.proofs.Common.{◌∙◌, ap, map}
-use Rattle.awk_resolve.proofs.Rolls.{added_named}
+use Rattle.std.proofs.Common.{◌∙◌, sym}
+use Rattle.awk_resolve.proofs.Rolls.{added_found}
 use Rattle.awk_resolve.proofs.roll.Roll.add.Goals as goal
 
-pub returns-clause-ok : goal.returns-clause-ok
-returns-clause-ok c = rw (← c.self.view_is, ← c.in_ok-bytes.ensures)
-    (ap (map (λ t. t.items)) c.in_ok-insert.ensures.keys ∙ added_named (λ t. t.items) c.in_ok-bytes.bytes c.self.inside.texts.keys)
+pub returns-in-Some-clause-ok : goal.returns-in-Some-clause-ok
+returns-in-Some-clause-ok c = sym (added_found c.args.text c.args.self.now _ (rw c.bytes.ensures at (sym c.position.ensures ∙ c.in-Some.is)))
