@@ -31,6 +31,16 @@ abbrev pub flags_of : List ℕ → Flags
 flags_of run = record
     { left = has 0x2D run; plus = has 0x2B run; space = has 0x20 run; alternate = has 0x23 run; zero = has 0x30 run }
 
+-- these flags and the one that a byte is, where it is one
+abbrev pub with_flag : ℕ → Flags → Flags
+with_flag b flags = record {
+  left = b == 0x2D || flags.left;
+  plus = b == 0x2B || flags.plus;
+  space = b == 0x20 || flags.space;
+  alternate = b == 0x23 || flags.alternate;
+  zero = b == 0x30 || flags.zero;
+}
+
 -- a width or a precision: the digits that the text begins with, which may be none; over 65,535 is F4
 abbrev pub columns_of : List ℕ → Result ℕ Fault
 columns_of text =

@@ -4,7 +4,7 @@ ghost use Rattle.std.specs.Char.{is_ascii_digit};
 ghost use Rattle.std.specs.List.{prefix_len};
 ghost use Rattle.awk_text.specs.Numerals.{drop_while};
 ghost use Rattle.awk_format.specs.Directives.{columns_of, conversion_of, directive_of, flags_of, is_flag, precision_of};
-ghost use Rattle.awk_format.specs.Directives.{tail_of, after_precision};
+ghost use Rattle.awk_format.specs.Directives.{tail_of, after_precision, with_flag};
 
 use awk_text::fault::Fault;
 use awk_text::numeral::leading_digits;
@@ -25,6 +25,28 @@ pub struct Flags {
     pub alternate: bool,
     /// `0`: the fill is zeros.
     pub zero: bool,
+}
+
+impl Flags {
+    /// These and the one that the byte is.
+    fn with(self, b: u8) -> Flags
+        ensures { result ≡ with_flag b self }
+    {
+        match b {
+            b'-' => Flags { left: true, ..self },
+            b'+' => Flags { plus: true, ..self },
+            b' ' => Flags {
+                space: true,
+                ..self
+            },
+            b'#' => Flags {
+                alternate: true,
+                ..self
+            },
+            b'0' => Flags { zero: true, ..self },
+            _ => self,
+        }
+    }
 }
 
 /// What a conversion specification makes of its value.
@@ -85,11 +107,7 @@ fn flags_of(run: &[u8]) -> Flags
         zero: false,
     };
     for b in run {
-        flags.left |= *b == b'-';
-        flags.plus |= *b == b'+';
-        flags.space |= *b == b' ';
-        flags.alternate |= *b == b'#';
-        flags.zero |= *b == b'0';
+        flags = flags.with(*b);
     }
     flags
 }

@@ -1,5 +1,5 @@
 // Lists of expressions.
-ghost use Rattle.std.specs.Prelude.{◌≡◌, ◌+◌, List, ℕ, length, IfOk, OnOk, map};
+ghost use Rattle.std.specs.Prelude.{◌≡◌, ◌+◌, List, ℕ, length, IfErr, IfOk, OnOk, map};
 ghost use Rattle.awk_streams.specs.Tasks.{Owns};
 ghost use Rattle.awk_machine.specs.Forms.{value, spot};
 ghost use Rattle.awk_machine.specs.Pieces.{give};
@@ -22,6 +22,15 @@ use awk_text::place::Place;
 use awk_text::value::Value;
 use box_world::world::World;
 
+/// Makes room for so many values more, so that a list takes memory once.
+fn make_room(values: &mut Vec<Value>, count: usize) -> Result<(), Halt>
+    ensures same { values.new.items ≡ values.old.items }
+    ensures err { IfErr result (λ h. h ≡ Halt.Memory) }
+{
+    values.reserve(count)?;
+    Ok(())
+}
+
 /// Adds the values of a list of expressions, from left to right, to those that are there.
 pub fn fill<W: World, E: Evaluates<W>>(
     cx: &Context<'_>,
@@ -37,6 +46,7 @@ pub fn fill<W: World, E: Evaluates<W>>(
         (whole_of run.old) world.old result (whole_of run.new) world.new }
     ensures count { OnOk result (length values.new.items ≡ length values.old.items + length xs.now) }
 {
+    make_room(values, xs.len())?;
     for x in xs {
         let next = on.value(cx, x, run, world)?;
         append(values, next)?;
