@@ -15,6 +15,8 @@ use Rattle.awk_program.specs.declared.variables.Variable.{Variable}
 use Rattle.awk_program.specs.View.{Names, view, view_joined}
 use Rattle.awk_program.specs.declared.expressions.Expr.{Expr}
 use Rattle.awk_program.specs.declared.expressions.Joined.{Joined}
+use Rattle.awk_program.specs.declared.expressions.Target.{Target}
+use Rattle.awk_program.specs.declared.expressions.Target.TheVariants as target
 use Rattle.awk_machine.specs.Forms.{spot, value}
 use Rattle.awk_machine.specs.Pieces.{give}
 use Rattle.awk_machine.specs.State.{Given}
@@ -91,6 +93,12 @@ abbrev pub IsKey : List Expr → Kept → List ℕ → Type 0
 IsKey keys kept key = (g : Given) (t : Table) (place : Place) (of_ : p.Variable) →
     Passes g (spot (p.element place of_ (expressions_of (map (view (names_in g)) keys)))) (kept, t) (give (v.Text key))
     (kept, t)
+
+-- what is read or set is the element of this array with this key, which is there
+pub record IsAtKey (what : Target Expr) (kept : Kept) (at_name : Place) (of_ : Variable) (key : List ℕ) : Type 0 where
+  pub keys : List Expr
+  pub is : what ≡ target.Element at_name of_ keys
+  pub key_is : IsKey keys kept key
 
 -- the element with these subscripts holds a number, and is given the sum of that and another one
 pub record AddsAt (of_ : Variable) (keys : List Expr) (by_ : ℤ) (old new : Kept) : Type 0 where

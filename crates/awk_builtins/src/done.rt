@@ -78,7 +78,7 @@ fn several_at_hand<'a>(store: &Store, line: &'a mut Line, keys: &[Expr]) -> Opti
 }
 
 /// The key of subscripts that are at hand, or of one whose operands are, in the line.
-fn key_at_hand<'a>(store: &Store, line: &'a mut Line, keys: &[Expr]) -> Option<&'a [u8]>
+pub fn key_at_hand<'a>(store: &Store, line: &'a mut Line, keys: &[Expr]) -> Option<&'a [u8]>
     ensures { IfSome result (λ key. IsKey keys.now store.now key.now) }
 {
     let [one] = keys else {

@@ -4,7 +4,7 @@
 //! world.
 //!
 //! Forms whose parts are at hand, as variables, fields and constants are, are done without a move of the machine of
-//! plain awk for each part: `at_hand`, `done`, `growing`, `items`, `matching` and `splitting`.
+//! plain awk for each part: `at_hand`, `done`, `growing`, `items`, `keyed`, `matching` and `splitting`.
 #![tactic(auto)]
 
 pub mod arrays;
@@ -15,6 +15,7 @@ pub mod done;
 pub mod functions;
 pub mod growing;
 pub mod items;
+pub mod keyed;
 pub mod keys;
 pub mod line;
 pub mod made;

@@ -15,6 +15,7 @@ use crate::context::{Context, Run};
 use crate::evaluates::Evaluates;
 use crate::lists::element;
 use awk_builtins::growing::assigned;
+use awk_builtins::keyed::{element_at_hand, read_at_key, step_at_key};
 use awk_builtins::keys::field_number;
 use awk_builtins::made::{computed_at, stepped_at};
 use awk_program::{Expr, Operator, Step, StepValue, Target, Variable};
@@ -68,6 +69,44 @@ pub fn target_of<W: World, E: Evaluates<W>>(
     }
 }
 
+/// The value of what is read, once it is known what that is.
+fn general_read<W: World, E: Evaluates<W>>(
+    cx: &Context<'_>,
+    target: &Target<Expr>,
+    on: E,
+    run: &mut Run,
+    world: &mut W,
+) -> Result<Value, Halt>
+    requires can { E.can on }
+    requires owns { Owns (W.open_numbers world.old) run.old.streams }
+    ensures { Does W.World cx.now (λ g. value (p.read (view_target (names_in g) target.now))) (λ g. give)
+        (whole_of run.old) world.old result (whole_of run.new) world.new }
+{
+    let from = target_of(cx, target, on, run, world)?;
+    read(cx.alloc, &mut run.store, &from)
+}
+
+/// The value of an element, by its key where that is at hand. It stands out of line, so that to read a variable takes a
+/// small frame.
+#[inline(never)]
+fn read_element_target<W: World, E: Evaluates<W>>(
+    cx: &Context<'_>,
+    target: &Target<Expr>,
+    on: E,
+    run: &mut Run,
+    world: &mut W,
+) -> Result<Value, Halt>
+    requires can { E.can on }
+    requires owns { Owns (W.open_numbers world.old) run.old.streams }
+    ensures { Does W.World cx.now (λ g. value (p.read (view_target (names_in g) target.now))) (λ g. give)
+        (whole_of run.old) world.old result (whole_of run.new) world.new }
+{
+    if let Some(element) = element_at_hand(&run.store, &mut run.line, target) {
+        return read_at_key(cx.alloc, &mut run.store, element);
+    }
+    general_read(cx, target, on, run, world)
+}
+
 /// The value of a variable, of an element or of a field.
 pub fn read_target<W: World, E: Evaluates<W>>(
     cx: &Context<'_>,
@@ -84,8 +123,10 @@ pub fn read_target<W: World, E: Evaluates<W>>(
     if let Target::Variable(variable) = target {
         return read_variable(cx.alloc, &mut run.store, *variable);
     }
-    let from = target_of(cx, target, on, run, world)?;
-    read(cx.alloc, &mut run.store, &from)
+    if let Target::Element(_, _, _) = target {
+        return read_element_target(cx, target, on, run, world);
+    }
+    general_read(cx, target, on, run, world)
 }
 
 /// `variable = value`, whose value nothing wants.
@@ -162,8 +203,8 @@ pub fn alter<W: World, E: Evaluates<W>>(
     set(cx.alloc, &mut run.store, to, place, Value::Num(number))
 }
 
-/// Sets a target to the next number, or to the one before, and answers the old number and the new one.
-pub fn step_target<W: World, E: Evaluates<W>>(
+/// Sets a target to the next number, or to the one before, once it is known what it is.
+fn general_step<W: World, E: Evaluates<W>>(
     cx: &Context<'_>,
     place: Place,
     how: Step,
@@ -184,6 +225,53 @@ pub fn step_target<W: World, E: Evaluates<W>>(
     let (before, behind) = stepped_at(place, how, &old)?;
     set(cx.alloc, &mut run.store, to, place, Value::Num(behind))?;
     Ok((before, behind))
+}
+
+/// The same of an element, by its key where that is at hand. It stands out of line, as what reads one does.
+#[inline(never)]
+fn step_element_target<W: World, E: Evaluates<W>>(
+    cx: &Context<'_>,
+    place: Place,
+    how: Step,
+    target: &Target<Expr>,
+    on: E,
+    run: &mut Run,
+    world: &mut W,
+) -> Result<(i64, i64), Halt>
+    requires can { E.can on }
+    requires owns { Owns (W.open_numbers world.old) run.old.streams }
+    ensures { (taken : Which) →
+        Does W.World cx.now (λ g. value (p.step place how taken (view_target (names_in g) target.now)))
+        (λ g n. give (either taken n.0 n.1))
+        (whole_of run.old) world.old result (whole_of run.new) world.new }
+{
+    if let Some(element) = element_at_hand(&run.store, &mut run.line, target) {
+        return step_at_key(cx.alloc, &mut run.store, place, how, element);
+    }
+    general_step(cx, place, how, target, on, run, world)
+}
+
+/// Sets a target to the next number, or to the one before, and answers the old number and the new one.
+pub fn step_target<W: World, E: Evaluates<W>>(
+    cx: &Context<'_>,
+    place: Place,
+    how: Step,
+    target: &Target<Expr>,
+    on: E,
+    run: &mut Run,
+    world: &mut W,
+) -> Result<(i64, i64), Halt>
+    requires can { E.can on }
+    requires owns { Owns (W.open_numbers world.old) run.old.streams }
+    ensures { (taken : Which) →
+        Does W.World cx.now (λ g. value (p.step place how taken (view_target (names_in g) target.now)))
+        (λ g n. give (either taken n.0 n.1))
+        (whole_of run.old) world.old result (whole_of run.new) world.new }
+{
+    if let Target::Element(_, _, _) = target {
+        return step_element_target(cx, place, how, target, on, run, world);
+    }
+    general_step(cx, place, how, target, on, run, world)
 }
 
 /// `target = value`
