@@ -101,6 +101,7 @@ impl Starts {
     }
 }
 
+/// Adds the steps that follow without reading, the preferred one last.
 fn push_next(step: Instruction, ends: TextEnds, stack: &mut Vec<usize>) -> Result<(), AllocError>
     ensures { OnOk result (stack.new.items ≡ stack.old.items ++ targets ends.first ends.last step) }
 {
@@ -191,6 +192,7 @@ struct Runs<'a> {
 }
 
 impl<'a> Runs<'a> {
+    /// Which of the text's ends the place is.
     fn ends_at(&self, place: usize) -> TextEnds
         ensures first { result.first ≡ (place == 0) }
         ensures last { result.last ≡ (place == length self.now.text.now) }
