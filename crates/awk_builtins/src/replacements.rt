@@ -81,22 +81,30 @@ fn is_all(extent: Extent) -> bool
     }
 }
 
+/// What sub or gsub is to do: replace the first match, or each one, by the text of a value.
+#[derive(Clone, Copy)]
+pub struct Substitution<'a> {
+    pub place: Place,
+    pub extent: Extent,
+    pub new: &'a Value,
+}
+
 /// What is made of the target's old text, from whatever leads to its reading on. A text that can be lent is not copied.
 fn replaced_in(
     alloc: Global,
     store: &mut Store,
-    place: Place,
-    extent: Extent,
+    substitution: Substitution<'_>,
     ere: &Ere,
-    new: &Value,
     target: &Spot,
 ) -> Result<Option<(Octets, i64)>, Halt>
     ensures { (g : Given) (t : Table) (x : p.Ere) (y : Expression) (r : Reference) (pattern : Value) →
         IsSpotOf (names_in g) r target.now → text_of pattern ≡ ere.now
         → (from : Piece) → Passes g from (store.old, t)
-        (reading place extent x y r (value_of target.now) new.now pattern) (store.old, t)
-        → Acts g from (then_set place (meant (names_in g) target.now)) (store.old, t) result (store.new, t) }
+        (reading substitution.entry.place substitution.entry.extent x y r (value_of target.now)
+        substitution.entry.new.now pattern) (store.old, t)
+        → Acts g from (then_set substitution.entry.place (meant (names_in g) target.now)) (store.old, t) result (store.new, t) }
 {
+    let Substitution { place, extent, new } = substitution;
     let mut buffer = Buffer::new();
     if let Some(old) = lent(store, target, &mut buffer) {
         return replaced(alloc, place, ere, new, old, is_all(extent));
@@ -119,23 +127,21 @@ pub fn substitute(
     alloc: Global,
     patterns: &mut Patterns,
     store: &mut Store,
-    place: Place,
-    extent: Extent,
+    substitution: Substitution<'_>,
     pattern: PatternValue,
-    new: &Value,
     target: Spot,
 ) -> Result<Value, Halt>
     ensures { (g : Given) (t : Table) (x : p.Ere) (y : Expression) (r : Reference) → IsSourceOf x pattern →
         IsSpotOf (names_in g) r target
-        → Acts g (At (Value_of (p.substitute place extent x y r))
-        (value_of target ∷ new.now ∷ source_value pattern ∷ [])) give (store.old, t) result (store.new, t) }
+        → Acts g (At (Value_of (p.substitute substitution.entry.place substitution.entry.extent x y r))
+        (value_of target ∷ substitution.entry.new.now ∷ source_value pattern ∷ [])) give (store.old, t) result (store.new, t) }
 {
-    let ere = used(alloc, patterns, place, pattern)?;
-    let made = replaced_in(alloc, store, place, extent, &ere, new, &target)?;
+    let ere = used(alloc, patterns, substitution.place, pattern)?;
+    let made = replaced_in(alloc, store, substitution, &ere, &target)?;
     match made {
         None => Ok(Value::Num(0)),
         Some((text, count)) => {
-            set(alloc, store, target, place, Value::Text(text))?;
+            set(alloc, store, target, substitution.place, Value::Text(text))?;
             Ok(Value::Num(count))
         }
     }

@@ -87,24 +87,31 @@ fn fill(
     at(at_name, filled)
 }
 
+/// What split is to do: put the parts of the text of a value into the array, whose name stands at this place.
+#[derive(Clone, Copy)]
+pub struct Splitting<'a> {
+    pub at_name: Place,
+    pub array: Variable,
+    pub text: &'a Value,
+}
+
 /// Splits the text of a value into an array, in place of what it holds, and answers how many parts there are. Too many
 /// are a fault at the place of the array's name.
 pub fn split_into(
     alloc: Global,
     store: &mut Store,
-    at_name: Place,
-    array: Variable,
+    splitting: Splitting<'_>,
     splitter: &Splitter,
-    text: &Value,
 ) -> Result<i64, Halt>
     ensures { (g : Given) (t : Table) →
-        Acts g (Do (Split at_name (variable_of (names_in g) array) splitter.now (text_of text.now)))
+        Acts g (Do (Split splitting.entry.at_name (variable_of (names_in g) splitting.entry.array) splitter.now
+        (text_of splitting.entry.text.now)))
         (λ n. give (Value.Num n)) (store.old, t) result (store.new, t) }
 {
-    let Ok(parts) = split_text(alloc, splitter, text) else {
+    let Ok(parts) = split_text(alloc, splitter, splitting.text) else {
         return Err(Halt::Memory);
     };
-    fill(alloc, store, at_name, array, parts)
+    fill(alloc, store, splitting.at_name, splitting.array, parts)
 }
 
 /// What a text that was computed separates by: an ERE where it has two bytes or more.
@@ -154,16 +161,15 @@ pub fn split(
     patterns: &mut Patterns,
     store: &mut Store,
     place: Place,
-    at_name: Place,
-    array: Variable,
-    text: &Value,
+    splitting: Splitting<'_>,
     by: PatternValue,
 ) -> Result<Value, Halt>
     ensures { (g : Given) (t : Table) (x : Expression) (y : p.Ere) → IsSourceOf y by
-        → Acts g (At (Value_of (p.split place x at_name (variable_of (names_in g) array) y))
-        (source_value by ∷ text.now ∷ [])) give (store.old, t) result (store.new, t) }
+        → Acts g (At
+        (Value_of (p.split place x splitting.entry.at_name (variable_of (names_in g) splitting.entry.array) y))
+        (source_value by ∷ splitting.entry.text.now ∷ [])) give (store.old, t) result (store.new, t) }
 {
     let separator = splitter(alloc, patterns, place, by)?;
-    let count = split_into(alloc, store, at_name, array, &separator, text)?;
+    let count = split_into(alloc, store, splitting, &separator)?;
     Ok(Value::Num(count))
 }

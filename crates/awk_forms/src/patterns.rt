@@ -11,6 +11,8 @@ use crate::context::{Context, Run};
 use crate::evaluates::Evaluates;
 use crate::sources::source_of;
 use crate::targets::target_of;
+use awk_builtins::replacements::Substitution;
+use awk_builtins::splits::Splitting;
 use awk_builtins::{replacements, searches, splits};
 use awk_program::{Expr, Extent, Pattern, Target, Variable};
 use awk_streams::halt::Halt;
@@ -67,14 +69,17 @@ pub fn split<W: World, E: Evaluates<W>>(
 {
     let text = on.value(cx, x, run, world)?;
     let by = source_of(cx, separator, on, run, world)?;
+    let splitting = Splitting {
+        at_name,
+        array,
+        text: &text,
+    };
     splits::split(
         cx.alloc,
         &mut run.patterns,
         &mut run.store,
         place,
-        at_name,
-        array,
-        &text,
+        splitting,
         by,
     )
 }
@@ -101,14 +106,17 @@ pub fn substitute<W: World, E: Evaluates<W>>(
     let from = source_of(cx, pattern, on, run, world)?;
     let new = on.value(cx, x, run, world)?;
     let to = target_of(cx, target, on, run, world)?;
+    let substitution = Substitution {
+        place,
+        extent,
+        new: &new,
+    };
     replacements::substitute(
         cx.alloc,
         &mut run.patterns,
         &mut run.store,
-        place,
-        extent,
+        substitution,
         from,
-        &new,
         to,
     )
 }
