@@ -69,7 +69,7 @@ pub fn target_of<W: World, E: Evaluates<W>>(
     }
 }
 
-/// The value of what is read, once it is known what that is.
+/// The value of what is read, whose subscripts or number are evaluated first.
 fn general_read<W: World, E: Evaluates<W>>(
     cx: &Context<'_>,
     target: &Target<Expr>,
@@ -203,7 +203,7 @@ pub fn alter<W: World, E: Evaluates<W>>(
     set(cx.alloc, &mut run.store, to, place, Value::Num(number))
 }
 
-/// Sets a target to the next number, or to the one before, once it is known what it is.
+/// Steps what is read and set, whose subscripts or number are evaluated first.
 fn general_step<W: World, E: Evaluates<W>>(
     cx: &Context<'_>,
     place: Place,
