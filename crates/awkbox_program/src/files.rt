@@ -1,6 +1,6 @@
 // The files that the program is given.
-use crate::command_line::STANDARD_INPUT;
 use awkbox::{Identity, ReadError, read_limited};
+use awkbox_options::STANDARD_INPUT;
 use std::fs::{File, Metadata, OpenOptions, metadata};
 use std::io;
 use std::os::unix::fs::MetadataExt;

@@ -44,6 +44,11 @@ impl Folders {
     }
 }
 
+/// The absolute form of a name, from the folder that the program is in.
+pub fn absolute(rt: &HostRuntime, name: &str) -> Result<PathBuf, Memory> {
+    current(rt)?.join(rt.alloc(), name)
+}
+
 /// The name of the same file without links on its way; this name, where it cannot be told.
 pub fn resolved(rt: &HostRuntime, absolute: &str) -> Result<PathBuf, Memory> {
     match canonicalize(rt, absolute) {

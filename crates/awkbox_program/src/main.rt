@@ -3,16 +3,14 @@
 #![tactic(auto)]
 
 mod advice;
-mod command_line;
 mod files;
 mod folders;
-mod process;
 mod program;
 mod propose;
 mod runs;
 mod setup;
+mod stack;
 mod standard;
-mod words;
 
 use std::process::ExitCode;
 

@@ -1,9 +1,9 @@
 // A policy proposed.
-use crate::command_line::Propose;
 use crate::runs::read_source;
-use awkbox::{Ending, ListingRefusal, Message, sites_of};
+use awkbox::{ListingRefusal, Message, sites_of};
+use awkbox_options::Propose;
 use box_advice::{Basis, LogError, Origin, ProposalError, Wish, propose, read_log};
-use std::alloc::{AllocFailed, Global};
+use std::alloc::Global;
 use std::fmt::Display;
 
 /// The exit status where nothing is proposed.
@@ -11,11 +11,11 @@ const REFUSED: u8 = 3;
 
 /// Prints a policy that allows what the script may ask for and what the log tells of. That it cannot be written is
 /// passed over.
-pub fn propose_policy(rt: &HostRuntime, asked: &Propose<'_>) -> Result<Ending, Message> {
+pub fn propose_policy(rt: &HostRuntime, asked: &Propose<'_>) -> Result<u8, Message> {
     match proposed(rt, asked) {
         Ok(text) => {
             let _ = rt.stdout().write_all(text.as_slice());
-            Ok(Ending::Quiet(0))
+            Ok(0)
         }
         Err(refusal) => refusal.told(rt),
     }
@@ -32,12 +32,6 @@ enum NotProposed {
 impl From<Message> for NotProposed {
     fn from(message: Message) -> NotProposed {
         NotProposed::Message(message)
-    }
-}
-
-impl<T: Drop> From<AllocFailed<T>> for NotProposed {
-    fn from(_error: AllocFailed<T>) -> NotProposed {
-        NotProposed::Message(Message::OutOfMemory)
     }
 }
 
@@ -64,7 +58,7 @@ impl From<ProposalError> for NotProposed {
 }
 
 impl NotProposed {
-    fn told(self, rt: &HostRuntime) -> Result<Ending, Message> {
+    fn told(self, rt: &HostRuntime) -> Result<u8, Message> {
         match self {
             NotProposed::Message(message) => Err(message),
             NotProposed::Log(LogError::Memory) | NotProposed::Proposal(ProposalError::Memory) => {
@@ -78,21 +72,31 @@ impl NotProposed {
 }
 
 // A message that is no run's.
-fn say<E: Display>(rt: &HostRuntime, error: &E) -> Result<Ending, Message> {
+fn say<E: Display>(rt: &HostRuntime, error: &E) -> Result<u8, Message> {
     let _ = eprintln!(rt; "awkbox: {error}");
-    Ok(Ending::Quiet(REFUSED))
+    Ok(REFUSED)
 }
 
 // The text of the policy, behind the rules of the one that is named or under the base.
 fn proposed(rt: &HostRuntime, asked: &Propose<'_>) -> Result<Vec<u8>, NotProposed> {
     let wishes = wishes_of(rt, asked)?;
-    let Some(policy) = asked.policy else {
-        let start = Basis::Base(asked.base.unwrap_or(""));
-        return Ok(propose(rt.alloc(), start, wishes.as_slice())?);
-    };
+    match asked.policy {
+        Some(policy) => behind_file(rt, policy, asked.base, wishes.as_slice()),
+        None => {
+            let start = Basis::Base(asked.base.unwrap_or(""));
+            Ok(propose(rt.alloc(), start, wishes.as_slice())?)
+        }
+    }
+}
+
+fn behind_file(
+    rt: &HostRuntime,
+    policy: &str,
+    base: Option<&str>,
+    wishes: &[Wish],
+) -> Result<Vec<u8>, NotProposed> {
     let policy = read_source(rt, policy)?;
-    let text = policy.bytes.as_slice();
-    Ok(behind(rt.alloc(), text, asked.base, wishes.as_slice())?)
+    Ok(behind(rt.alloc(), policy.bytes.as_slice(), base, wishes)?)
 }
 
 // The start holds text and base as if they were lent equally long.
@@ -106,29 +110,44 @@ fn behind<'a>(
 }
 
 fn wishes_of(rt: &HostRuntime, asked: &Propose<'_>) -> Result<Vec<Wish>, NotProposed> {
-    let mut wishes = match asked.script {
-        Some(script) => sites_wished(rt, script)?,
-        None => Vec::new(rt.alloc()),
-    };
+    let mut wishes = Vec::new(rt.alloc());
+    if let Some(script) = asked.script {
+        add_script(rt, script, &mut wishes)?;
+    }
     if let Some(log) = asked.log {
-        let log = read_source(rt, log)?;
-        for wish in read_log(rt.alloc(), log.bytes.as_slice())? {
-            wishes.push(wish)?;
-        }
+        add_log(rt, log, &mut wishes)?;
     }
     Ok(wishes)
 }
 
-fn sites_wished(rt: &HostRuntime, script: &str) -> Result<Vec<Wish>, NotProposed> {
+fn add_script(rt: &HostRuntime, script: &str, wishes: &mut Vec<Wish>) -> Result<(), NotProposed> {
     let script = read_source(rt, script)?;
-    let mut wishes = Vec::new(rt.alloc());
-    for site in sites_of(rt.alloc(), script.bytes.as_slice())? {
-        wishes.push(Wish {
+    Ok(add_sites(rt.alloc(), script.bytes.as_slice(), wishes)?)
+}
+
+fn add_sites(alloc: Global, script: &[u8], wishes: &mut Vec<Wish>) -> Result<(), ListingRefusal> {
+    for site in sites_of(alloc, script)? {
+        let wish = Wish {
             kind: site.kind,
             text: site.text,
             may_be_given: false,
             origin: Origin::Script(site.place),
-        })?;
+        };
+        if wishes.push(wish).is_err() {
+            return Err(ListingRefusal::Memory);
+        }
     }
-    Ok(wishes)
+    Ok(())
+}
+
+fn add_log(rt: &HostRuntime, log: &str, wishes: &mut Vec<Wish>) -> Result<(), NotProposed> {
+    let log = read_source(rt, log)?;
+    Ok(add_denials(rt.alloc(), log.bytes.as_slice(), wishes)?)
+}
+
+fn add_denials(alloc: Global, log: &[u8], wishes: &mut Vec<Wish>) -> Result<(), LogError> {
+    for wish in read_log(alloc, log)? {
+        wishes.push(wish)?;
+    }
+    Ok(())
 }

@@ -1,5 +1,4 @@
 // The run of a script.
-use crate::command_line::{Run, STANDARD_INPUT};
 use crate::files::{OpenLog, ReadFile, look, read};
 use crate::folders::{Folders, enter, resolved};
 use crate::setup::setup_of;
@@ -8,38 +7,51 @@ use awkbox::{
     Account, Ending, Identity, LimitedLog, Memory, Message, Octets, OsWorld, OwnFile, Policy,
     Setup, Warning, may_be_log, may_start, prepare, writing_rule,
 };
+use awkbox_options::{Run, STANDARD_INPUT};
 use std::fs::File;
 use std::io::Write;
 
-// The files that the words name, open or read before the folder is entered.
+// The texts that a run goes by, read before the folder is entered.
 #[derive(Drop)]
-struct Files {
+struct Sources {
     policy: ReadFile,
     script: ReadFile,
-    log: OpenLog,
 }
 
-/// Runs a script under a policy, by the words of the command line, and reports it where they ask for that.
-pub fn run_script(
+/// Runs a script under a policy, by the words of the command line, and reports it where they ask for that. Gives the
+/// exit status.
+pub fn run_script(rt: &HostRuntime, run: &Run<'_>, operands: Vec<Octets>) -> Result<u8, Message> {
+    let ending = match run.report {
+        Some(name) => reported(rt, run, operands, name)?,
+        None => account_of(rt, run, operands, None).ending(),
+    };
+    match ending {
+        Ending::Quiet(status) => Ok(status),
+        Ending::Said(message) => Err(message),
+    }
+}
+
+fn reported(
     rt: &HostRuntime,
     run: &Run<'_>,
     operands: Vec<Octets>,
+    name: &str,
 ) -> Result<Ending, Message> {
-    let Some(name) = run.report else {
-        return Ok(account_of(rt, run, operands, None).ending());
-    };
-    let opened = open_report(rt, run, name, operands.as_slice())?;
-    let identity = opened.identity;
-    let Ok(mut report) = opened.begin(false) else {
-        return Err(Message::cannot_write(rt.alloc(), name));
-    };
-    let account = account_of(rt, run, operands, Some(identity));
-    let is_written = write_report(rt, &mut report, &account);
+    let mut report = open_report(rt, run, name, operands.as_slice())?;
+    let account = account_of(rt, run, operands, Some(report.identity));
+    let is_written = write_report(rt, &mut report.file, &account);
     let ending = account.ending();
     match is_written {
         true => Ok(ending),
         false => Ok(ending.unreported(rt.alloc(), name)),
     }
+}
+
+// The empty file that the run is reported in.
+#[derive(Drop)]
+struct ReportFile {
+    identity: Identity,
+    file: File,
 }
 
 // The file for the report, which is none of the files that the words name and the standard streams lead to. It is open
@@ -49,8 +61,8 @@ fn open_report(
     run: &Run<'_>,
     name: &str,
     operands: &[Octets],
-) -> Result<OpenLog, Message> {
-    let Ok(report) = OpenLog::open(rt, name) else {
+) -> Result<ReportFile, Message> {
+    let Ok(opened) = OpenLog::open(rt, name) else {
         return Err(Message::cannot_write(rt.alloc(), name));
     };
     let named = [
@@ -58,10 +70,10 @@ fn open_report(
         look_source(rt, run.script),
         look(rt, run.log),
     ];
-    let others = others(rt, named, operands)?;
-    match may_be_log(report.identity, report.is_regular, others.as_slice()) {
-        true => Ok(report),
-        false => Err(Message::cannot_write(rt.alloc(), name)),
+    let identity = opened.identity;
+    match claim(rt, opened, named, operands, false)? {
+        Some(file) => Ok(ReportFile { identity, file }),
+        None => Err(Message::cannot_write(rt.alloc(), name)),
     }
 }
 
@@ -75,68 +87,94 @@ fn write_report(rt: &HostRuntime, report: &mut File, account: &Account) -> bool 
     }
 }
 
+// Each of the functions from here to `run_logged` makes a large value and lends it to the next one, so that it is let
+// go in one place.
 fn account_of(
     rt: &HostRuntime,
     run: &Run<'_>,
     operands: Vec<Octets>,
     report: Option<Identity>,
 ) -> Account {
-    match run_files(rt, run, operands, report) {
+    match setup_of(rt, run, operands) {
+        Ok(setup) => account_under(rt, run, &setup, report),
+        Err(message) => Account::Refused(message),
+    }
+}
+
+fn account_under(
+    rt: &HostRuntime,
+    run: &Run<'_>,
+    setup: &Setup,
+    report: Option<Identity>,
+) -> Account {
+    match read_sources(rt, run) {
+        Ok(sources) => account_from(rt, run, setup, &sources, report),
+        Err(message) => Account::Refused(message),
+    }
+}
+
+fn account_from(
+    rt: &HostRuntime,
+    run: &Run<'_>,
+    setup: &Setup,
+    sources: &Sources,
+    report: Option<Identity>,
+) -> Account {
+    let named = [sources.policy.identity, sources.script.identity, report];
+    match run_sources(rt, run, setup, sources, named) {
         Ok(account) => account,
         Err(message) => Account::Refused(message),
     }
 }
 
-fn run_files(
+fn read_sources(rt: &HostRuntime, run: &Run<'_>) -> Result<Sources, Message> {
+    let policy = read_source(rt, run.policy)?;
+    let script = read_source(rt, run.script)?;
+    Ok(Sources { policy, script })
+}
+
+// The log is open before the folder is entered, and emptied after that.
+fn run_sources(
     rt: &HostRuntime,
     run: &Run<'_>,
-    operands: Vec<Octets>,
-    report: Option<Identity>,
+    setup: &Setup,
+    sources: &Sources,
+    named: [Option<Identity>; 3],
+) -> Result<Account, Message> {
+    let Ok(opened) = OpenLog::open(rt, run.log) else {
+        return Err(Message::cannot_write(rt.alloc(), run.log));
+    };
+    let folders = enter(rt, run.folder)?;
+    match claim(rt, opened, named, setup.operands(), run.adds_to_log)? {
+        Some(log) => run_logged(rt, run, setup, sources, &folders, log),
+        None => Err(Message::cannot_write(rt.alloc(), run.log)),
+    }
+}
+
+fn run_logged(
+    rt: &HostRuntime,
+    run: &Run<'_>,
+    setup: &Setup,
+    sources: &Sources,
+    folders: &Folders,
+    log: File,
 ) -> Result<Account, Message> {
     let alloc = rt.alloc();
-    let setup = setup_of(rt, run, operands)?;
-    let Files {
-        policy,
-        script,
-        log,
-    } = open_files(rt, run)?;
-    let folders = enter(rt, run.folder)?;
-    let taken = others(
-        rt,
-        [policy.identity, script.identity, report],
-        setup.operands(),
-    )?;
-    let log = LimitedLog::new(begin_log(rt, run, log, taken.as_slice())?, run.log_limit);
-    let world = OsWorld::new(rt.clone()?);
-    let prepared = prepare(
-        alloc,
-        policy.bytes.as_slice(),
-        script.bytes.as_slice(),
-        &setup,
-    )?;
-    if let Err(message) = begin(rt, run, prepared.policy(), &folders) {
+    let host = rt.clone()?;
+    let policy = sources.policy.bytes.as_slice();
+    let script = sources.script.bytes.as_slice();
+    let prepared = prepare(alloc, policy, script, setup)?;
+    if let Err(message) = begin(rt, run, prepared.policy(), folders) {
         prepared.release();
         return Err(message);
     }
-    let ran = prepared.drive(alloc, &setup, run.steps, world, log);
+    let log = LimitedLog::new(log, run.log_limit);
+    let ran = prepared.drive(alloc, setup, run.steps, OsWorld::new(host), log);
     Ok(Account::Ran {
         report: ran.report,
         denials: ran.denials,
         log_end: ran.log_end,
     })
-}
-
-fn open_files(rt: &HostRuntime, run: &Run<'_>) -> Result<Files, Message> {
-    let policy = read_source(rt, run.policy)?;
-    let script = read_source(rt, run.script)?;
-    match OpenLog::open(rt, run.log) {
-        Ok(log) => Ok(Files {
-            policy,
-            script,
-            log,
-        }),
-        Err(_) => Err(Message::cannot_write(rt.alloc(), run.log)),
-    }
 }
 
 /// Reads a policy or a script.
@@ -189,19 +227,20 @@ fn look_operand(rt: &HostRuntime, operand: &[u8]) -> Option<Identity> {
     }
 }
 
-// The log for the lines of the run. One that is refused stays as it was.
-fn begin_log(
+// The file for the lines of a log or a report, where it is none of the files that are named or that the standard
+// streams and the operands lead to. One that is refused stays as it was.
+fn claim(
     rt: &HostRuntime,
-    run: &Run<'_>,
-    log: OpenLog,
-    others: &[Identity],
-) -> Result<File, Message> {
-    if may_be_log(log.identity, log.is_regular, others) {
-        if let Ok(file) = log.begin(run.adds_to_log) {
-            return Ok(file);
-        }
+    opened: OpenLog,
+    named: [Option<Identity>; 3],
+    operands: &[Octets],
+    is_kept: bool,
+) -> Result<Option<File>, Memory> {
+    let others = others(rt, named, operands)?;
+    match may_be_log(opened.identity, opened.is_regular, others.as_slice()) {
+        true => Ok(opened.begin(is_kept).ok()),
+        false => Ok(None),
     }
-    Err(Message::cannot_write(rt.alloc(), run.log))
 }
 
 // Refuses a start in another folder than the policy's base, where the names that rules allow are not those that the run
@@ -217,6 +256,15 @@ fn begin(
     if !may_start(policy, look(rt, "."), look(rt, base)) {
         return Err(Message::not_in_base(rt.alloc(), base));
     }
+    Ok(warn_of_all(rt, run, policy, folders)?)
+}
+
+fn warn_of_all(
+    rt: &HostRuntime,
+    run: &Run<'_>,
+    policy: &Policy,
+    folders: &Folders,
+) -> Result<(), Memory> {
     warn(rt, policy, folders, OwnFile::Log, run.log)?;
     if let Some(report) = run.report {
         warn(rt, policy, folders, OwnFile::Report, report)?;

@@ -1,7 +1,6 @@
 // What a run is started with.
-use crate::command_line::Run;
-use crate::process::names;
 use awkbox::{Memory, Message, Octets, Setup};
+use awkbox_options::{Run, names};
 use std::alloc::Global;
 
 fn octets(alloc: Global, text: &str) -> Result<Octets, Memory> {

@@ -1,5 +1,7 @@
 //! The calls of worked rows: how a row is read, what a call takes from it and how its answer is told, and for each
 //! table a module with its calls. No part of the product.
+//!
+//! `proofs/` has rows of another sort: whole runs of scripts by the definition of plain awk, which the prover computes.
 #![tactic(auto)]
 
 pub mod args;

@@ -1,7 +1,8 @@
 // The words that the program is started with, cut where `clap` would cut them otherwise.
 use crate::command_line::{NAME, fault};
 use crate::process::{List, entry};
-use awkbox::{Memory, Octets};
+use awk_text::Memory;
+use awk_text::octets::Octets;
 use clap::Error;
 use std::alloc::Global;
 
@@ -13,7 +14,9 @@ use std::alloc::Global;
 /// `=x`, as the utility conventions of POSIX.1-2017 have it, where `clap` would drop the `=`.
 #[derive(Drop)]
 pub struct Words {
+    /// The words before the operands, which are text; the program's name is always there.
     pub options: Vec<String>,
+    /// The operands, in order: any bytes.
     pub operands: Vec<Octets>,
 }
 
@@ -128,7 +131,7 @@ impl Reading {
     }
 }
 
-/// Reads the words. One before the operands is text, or at fault; an operand is any bytes.
+/// Reads the words. The error is `clap`'s: a word before the operands is not text, or memory was refused.
 pub fn read(rt: &HostRuntime) -> Result<Words, Error> {
     let alloc = rt.alloc();
     let mut reading = Reading::new(alloc)?;

@@ -1,4 +1,4 @@
--- Rows made by the reference: scripts as texts, the world's replies, and what a run then was.
+-- Rows of the definition, made by the reference: scripts as texts, the world's replies, and what a run then was.
 use Rattle.std.specs.Prelude.{◌≡◌, refl, ℕ, Bool, true, false, List, [], ◌∷◌, pos, codes, Option, Some, None}
 use Rattle.std.specs.List.{list_any}
 use Rattle.std.specs.Str.{bytes_eq}
@@ -13,8 +13,8 @@ use Rattle.box_world.specs.declared.ask.Reply.{Reply}
 use Rattle.box_world.specs.declared.ask.Reply.TheVariants as reply
 use Rattle.awk_machine.specs.Pieces.{Outcome, Status, Faulted, Cut}
 use Rattle.awk_machine.specs.State.{Given}
-use Rattle.machine_rows.proofs.Playing.{replayed}
-use Rattle.machine_rows.proofs.Scripts.{program_of, rules}
+use Rattle.row_calls.proofs.Playing.{replayed}
+use Rattle.row_calls.proofs.Scripts.{program_of, rules}
 
 -- parameters that are arrays, names that may be assigned, whether ENVIRON is named, the setup, the bound, and the script
 abbrev given : List (Text × Text) → List Text → Bool → List Text → List Text → List (Text × Text) → Option Text → ℕ → Text → Given

@@ -1,4 +1,4 @@
--- Rows of the sites of scripts, and of what a policy says of them: scripts as texts, computed.
+-- Rows of the definition of sites, and of what a policy says of them: scripts as texts, computed.
 use Rattle.std.specs.Prelude.{◌≡◌, refl, ℕ, false, List, [], ◌∷◌, length, map, codes, Option, Some, None}
 use Rattle.std.specs.Str.{is_utf8, chars}
 use lib.Utf8.{encode}
@@ -19,7 +19,7 @@ use Rattle.box_listing.specs.declared.verdict.Verdict.TheVariants.{Clean, Open, 
 use Rattle.box_listing.specs.Listings.{sites_of}
 use Rattle.box_listing.specs.Sites.{found}
 use Rattle.box_listing.specs.Verdicts.{verdict}
-use Rattle.machine_rows.proofs.Scripts.{program_of, items_of, read, rules}
+use Rattle.row_calls.proofs.Scripts.{program_of, items_of, read, rules}
 
 -- the sorts of the items of a script, in order
 abbrev order_of : List Entry → List Sort

@@ -4,26 +4,28 @@ use clap::error::ErrorKind;
 use clap::{Arg, ArgAction, ArgMatches, Command, Error};
 use std::alloc::{AllocError, Global};
 
-/// What `awkbox run` is asked for, operands aside. Policy, log, report and script are names of files, and the folder
-/// that of a folder.
+/// What `awkbox run` is asked for, operands aside.
 #[derive(Debug, Drop)]
 pub struct Run<'a> {
+    /// The name of the policy's file, or [`STANDARD_INPUT`], which not both of policy and script are.
     pub policy: &'a str,
+    /// The name of the file for denials, which may be of any spelling.
     pub log: &'a str,
     /// Whether what the log holds is kept.
     pub adds_to_log: bool,
-    /// How many bytes the run may add to the log.
+    /// How many bytes the run may add to the log; `u64::MAX` where the words set no limit.
     pub log_limit: u64,
-    /// The file that the run is reported in.
+    /// The name of the file that the run is reported in.
     pub report: Option<&'a str>,
+    /// The name of the script's file, or [`STANDARD_INPUT`].
     pub script: &'a str,
     /// The folder that is entered before the run.
     pub folder: Option<&'a str>,
-    /// How many steps the run may take.
+    /// How many steps the run may take, up to 1,000,000,000,000.
     pub steps: u64,
     /// The text that FS is set to.
     pub separator: Option<&'a str>,
-    /// The words of `-v`.
+    /// The words of `-v`, in order; whether they are `NAME=TEXT` is not looked at.
     pub assigns: Vec<&'a str>,
 }
 
@@ -31,30 +33,45 @@ pub struct Run<'a> {
 /// operand.
 #[derive(Debug, Drop)]
 pub struct Why<'a> {
+    /// The name of the policy's file, or [`STANDARD_INPUT`].
     pub policy: &'a str,
+    /// What is asked for.
     pub kind: Kind,
+    /// The path, the command or the name that is asked for.
     pub text: &'a str,
+    /// Whether it is an operand that the run was started with.
     pub given: bool,
 }
 
 /// What `awkbox propose` is asked for: a policy that allows what this script may ask for and what this log tells of,
-/// under this base, or behind the rules of the policy of this file. One of base and policy is there.
+/// under this base, or behind the rules of the policy of this file. One of base and policy is there, and at most one
+/// of the files is [`STANDARD_INPUT`].
 #[derive(Debug, Drop)]
 pub struct Propose<'a> {
+    /// The folder that relative names stand under.
     pub base: Option<&'a str>,
+    /// The name of the policy's file.
     pub policy: Option<&'a str>,
+    /// The name of the script's file.
     pub script: Option<&'a str>,
+    /// The name of the file of a log of denials.
     pub log: Option<&'a str>,
 }
 
-/// What the program is asked for. Policy and script are names of files.
+/// What the program is asked for. Policy and script are names of files, of which at most one is [`STANDARD_INPUT`].
 #[derive(Debug, Drop)]
 pub enum Asked<'a> {
+    /// To run a script under a policy.
     Run(Run<'a>),
+    /// To list where a run of this script may ask.
     List { script: &'a str },
+    /// To tell whether this policy denies what this script may ask for.
     Check { policy: &'a str, script: &'a str },
+    /// To tell which rules of a policy speak of a request.
     Why(Why<'a>),
+    /// To tell what is wrong with this policy, or what its rules may not mean.
     Lint { policy: &'a str },
+    /// To write a policy that allows more.
     Propose(Propose<'a>),
 }
 

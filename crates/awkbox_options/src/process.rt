@@ -1,26 +1,9 @@
-// What the process was started with: its words and its environment, which are any bytes, and its stack.
-use awkbox::{Memory, Octets, read_limited, tells_of_small_stack};
+// What the process was started with: its words and its environment, which are any bytes.
+use awk_text::Memory;
+use awk_text::octets::Octets;
 use std::alloc::AllocError;
 use std::env::FillError;
-use std::fs::File;
 use std::rt::Env;
-
-/// What the system tells of the limits of the process.
-const LIMITS: &str = "/proc/self/limits";
-
-/// More bytes than that text has.
-const MOST_OF_LIMITS: usize = 65_536;
-
-/// Whether the system tells of a stack that is too small for a run.
-pub fn has_small_stack(rt: &HostRuntime) -> bool {
-    let Ok(mut file) = File::open(rt, LIMITS) else {
-        return false;
-    };
-    match read_limited(rt.alloc(), &mut file, MOST_OF_LIMITS) {
-        Ok(limits) => tells_of_small_stack(limits.as_slice()),
-        Err(_) => false,
-    }
-}
 
 /// What the system keeps a list of.
 #[derive(Clone, Copy, Debug, PartialEq, Eq, Drop)]
@@ -82,7 +65,10 @@ fn unordered_names(rt: &HostRuntime) -> Result<Vec<String>, Memory> {
     Ok(names)
 }
 
-/// The names of the environment that are text, in ascending order of their bytes and without repeats.
+/// The names of the environment that are text, in ascending order of their bytes and without repeats. An entry that is
+/// not `NAME=VALUE` has none.
+///
+/// Fails where memory is refused.
 pub fn names(rt: &HostRuntime) -> Result<Vec<Octets>, Memory> {
     let mut texts = unordered_names(rt)?;
     texts.sort_unstable();

@@ -1,5 +1,5 @@
--- What is replayed is a run of plain awk: where its questions on EREs are answered rightly, and where it asks none,
--- without more.
+-- For the rows of the definition: what is replayed is a run of plain awk, where its questions on EREs are answered
+-- rightly, and where it asks none, without more.
 use Rattle.std.proofs.Common.{◌≡◌, ◌<◌, ◌≤◌, ℕ, zero, suc, ℤ, pos, negsuc, Bool, true, false, not, ◌&&◌, nat_lt, nat_le, List, [], ◌∷◌, map, length, Option, refl, sym, ap, subst, ◌∙◌, arith, true≢false}
 use Rattle.std.specs.Prelude.{Some, None}
 use Rattle.std.specs.Int.Signed.{le_z_yes}
@@ -25,7 +25,7 @@ use Rattle.box_world.specs.declared.ask.Reply.{Reply}
 use Rattle.box_world.specs.declared.ask.Reply.TheVariants as reply
 use Rattle.box_world.specs.declared.ask.Request.{Request}
 use Rattle.box_world.specs.declared.ask.Request.TheVariants.{Open, Next, Put, Shut, System, Env, Assign}
-use Rattle.machine_rows.proofs.Playing.{answer_to, fields_of, parts_of, fitting, fits, answered, met, replay, replayed, of_ere, of_row, is_of_ere, with_question, asked_of, questions, questions_of}
+use Rattle.row_calls.proofs.Playing.{answer_to, fields_of, parts_of, fitting, fits, answered, met, replay, replayed, of_ere, of_row, is_of_ere, with_question, asked_of, questions, questions_of}
 
 -- ---- replies that fit
 

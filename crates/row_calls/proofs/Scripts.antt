@@ -1,4 +1,4 @@
--- Scripts as texts: read and parsed by computing.
+-- For the rows of the definition: scripts as texts, read and parsed by computing.
 use Rattle.std.specs.Prelude.{Bool, true, false, ◌&&◌, map, ℕ, zero, suc, List, [], ◌∷◌, ◌++◌, take, drop, length, Option, Some, None, Result, Ok, Err}
 use Rattle.std.specs.List.{filter, list_any}
 use Rattle.std.specs.Str.{bytes_eq}

@@ -1,4 +1,4 @@
--- Running the definition: moves one after the other, over replies that are given.
+-- For the rows of the definition: running it, moves one after the other, over replies that are given.
 use Rattle.std.specs.Prelude.{ℕ, zero, suc, ℤ, pos, negsuc, nat_le, nat_lt, Bool, true, false, not, ◌&&◌, List, [], ◌∷◌, length, map, is_some, Option, Some, None}
 use Rattle.std.specs.List.{slice_split}
 use Rattle.awk_text.specs.declared.value.Value.TheVariants as v
@@ -21,7 +21,7 @@ use Rattle.awk_machine.specs.Questions as q
 use Rattle.awk_machine.specs.Questions.{Question, Answer, Is, Places, Texts, Values}
 use Rattle.awk_machine.specs.State.{State, Course, Given}
 use Rattle.awk_machine.specs.Streams.{seen, with_step, with_event}
-use Rattle.machine_rows.proofs.Matching.{pattern_of, find, all, separators}
+use Rattle.row_calls.proofs.Matching.{pattern_of, find, all, separators}
 
 -- ---- answers
 

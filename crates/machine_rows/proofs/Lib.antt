@@ -1,9 +1,0 @@
-mod Matching
-mod Playing
-mod Sound
-mod Scripts
-mod FormRows
-mod Replays
-mod Choices
-mod Lines
-mod Listings

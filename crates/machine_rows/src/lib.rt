@@ -1,2 +1,0 @@
-//! Rows of the definition of plain awk: whole runs, computed.
-#![tactic(auto)]
