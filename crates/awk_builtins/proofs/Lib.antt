@@ -1,7 +1,6 @@
 pub mod AtHand
 pub mod Cached
 pub mod Called
-pub mod Filling
 pub mod Granted
 pub mod Grown
 pub mod Lines

@@ -23,7 +23,7 @@ use Rattle.awk_store.specs.Kept as kept
 use Rattle.awk_store.specs.Kept.{Kept}
 use Rattle.awk_store.specs.States.{Hidden}
 use Rattle.awk_store.proofs.Cells.{as_it_was}
-use Rattle.awk_builtins.specs.Filled.{filled}
+use Rattle.awk_store.specs.Filled.{filled}
 use Rattle.awk_store.specs.Wholes.{Whole, Agreeing, base, names_in}
 use Rattle.awk_streams.specs.Chains.{halt_at, result_at}
 use Rattle.awk_store.specs.Acts.{Acts, Passes}

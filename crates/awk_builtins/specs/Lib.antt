@@ -1,7 +1,6 @@
 pub mod AtHand
 pub mod Cached
 pub mod Checks
-pub mod Filled
 pub mod Growing
 pub mod Lines
 pub mod Made

@@ -1,5 +1,4 @@
 // split: what it separates by, what it makes, and what it fills.
-ghost use Rattle.awk_builtins.specs.Filled.{filled};
 ghost use Rattle.awk_builtins.specs.Patterns.{IsSourceOf, source_value};
 ghost use Rattle.awk_fields.specs.Fields.{Fields};
 ghost use Rattle.awk_fields.specs.Separators as separators;
@@ -20,7 +19,6 @@ use crate::cache::Patterns;
 use crate::patterns::{PatternValue, check};
 use awk_ere::Ere;
 use awk_fields::Splitter;
-use awk_lib::array::{Array, MOST_ELEMENTS};
 use awk_program::Variable;
 use awk_store::Store;
 use awk_streams::halt::{Halt, at};
@@ -42,49 +40,14 @@ pub fn split_text(alloc: Global, splitter: &Splitter, value: &Value) -> Result<V
     awk_fields::split(alloc, text_in(value, &mut buffer), splitter)
 }
 
-/// Fills the array with the parts, in place of what it holds, under the keys 1, 2 and so on; and answers how
-/// many there are.
-///
-/// Fails with `Fault::TooManyElements` exactly where there are more than `MOST_ELEMENTS`, and then the array is
-/// as it was, and with `Fault::Memory` where memory is refused.
-pub fn fill_with(array: &mut Array<Value>, parts: Vec<Octets>) -> Result<i64, Fault>
-    ensures ok { OnOk result (filled parts.items ≡ Ok array.new) }
-    ensures count { IfOk result (λ n. n ≡ pos (length parts.items)) }
-    ensures err { IfErr result (λ e. (e ≡ Fault.Memory) ⊎ ((filled parts.items ≡ Err e) × (array.new ≡ array.old))) }
-{
-    let count = parts.len();
-    if MOST_ELEMENTS < count {
-        return Err(Fault::TooManyElements);
-    }
-    array.clear();
-    let mut rest = parts;
-    rest.as_mut_slice().reverse();
-    let mut number: usize = 1;
-    while let Some(part) = rest.pop() {
-        array.set_number(number, Value::Input(part))?;
-        number += 1;
-    }
-    Ok(count as i64)
-}
-
 /// Fills an array with the parts, in place of what it holds, and answers how many there are. Too many are a fault at
 /// the place of the array's name.
-fn fill(
-    alloc: Global,
-    store: &mut Store,
-    at_name: Place,
-    array: Variable,
-    parts: Vec<Octets>,
-) -> Result<i64, Halt>
+fn fill(store: &mut Store, at_name: Place, array: Variable, parts: Vec<Octets>) -> Result<i64, Halt>
     ensures { (g : Given) (t : Table) →
         Acts g (Do (Fill at_name (variable_of (names_in g) array) parts.items)) (λ n. give (Value.Num n)) (store.old, t)
         result (store.new, t) }
 {
-    let reference = store.reference(array);
-    let mut elements = store.replace(reference, Array::new(alloc));
-    let filled = fill_with(&mut elements, parts);
-    store.replace(reference, elements);
-    at(at_name, filled)
+    at(at_name, store.fill(array, parts))
 }
 
 /// What split is to do: put the parts of the text of a value into the array, whose name stands at this place.
@@ -111,7 +74,7 @@ pub fn split_into(
     let Ok(parts) = split_text(alloc, splitter, splitting.text) else {
         return Err(Halt::Memory);
     };
-    fill(alloc, store, splitting.at_name, splitting.array, parts)
+    fill(store, splitting.at_name, splitting.array, parts)
 }
 
 /// What a text that was computed separates by: an ERE where it has two bytes or more.

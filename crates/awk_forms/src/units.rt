@@ -1,5 +1,5 @@
 // How much of the stack each form takes where it is nested, in units of 64 bytes: what scripts/stack-of-forms.py
-// measured of the proved program, and a quarter more (docs/DECISIONS.md, "A run under a policy").
+// measured of the proved program, and some to spare (docs/DECISIONS.md, "A run under a policy").
 ghost use Rattle.std.specs.Prelude.{◌≤◌};
 
 use awk_program::{Expr, Statement};

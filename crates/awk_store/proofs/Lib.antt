@@ -13,6 +13,7 @@ pub mod Leaving
 pub mod Lent
 pub mod Lifting
 pub mod Limited
+pub mod Numbered
 pub mod OwnSteps
 pub mod Ranges
 pub mod Reading

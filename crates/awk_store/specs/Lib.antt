@@ -3,6 +3,7 @@ pub mod Calling
 pub mod Calls
 pub mod Changes
 pub mod Ends
+pub mod Filled
 pub mod Flows
 pub mod Inputs
 pub mod Jumps

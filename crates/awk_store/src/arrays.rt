@@ -1,5 +1,5 @@
 // Arrays.
-ghost use Rattle.std.specs.Prelude.{[], ◌≡◌, ◌⊎◌, ◌≤◌, true, false, Ok, Some, slice_get, slice_set, unwrap_or, length};
+ghost use Rattle.std.specs.Prelude.{[], ◌≡◌, ◌⊎◌, ◌≤◌, true, false, Ok, Some, pos, slice_get, slice_set, unwrap_or, length};
 ghost use Rattle.std.specs.Prelude.{IfOk, IfErr, OnOk, IsOkUnless};
 ghost use Rattle.std.specs.Fmt.{decimal};
 ghost use Rattle.std.specs.Option.{option_copied};
@@ -9,15 +9,18 @@ ghost use Rattle.awk_text.specs.Values.{text_of};
 ghost use Rattle.awk_lib.specs.Arrays.{element, has, keys, put, without};
 ghost use Rattle.awk_machine.specs.State as state;
 ghost use Rattle.awk_store.specs.Kept.{array, array_at, array_found, bound_reference, listed, reference};
+ghost use Rattle.awk_store.specs.Filled.{Fills};
 ghost use Rattle.awk_store.specs.Changes.{change_at, given_array, with_array, Adds, Puts, PutsNot};
 
 use crate::cell::{Cell, add_in, add_in_number};
+use crate::filling::{counted, fill_with};
 use crate::frame::{Bound, Reference};
 use crate::store::Store;
 use awk_lib::array::Array;
 use awk_lib::key::Key;
 use awk_program::Variable;
 use awk_text::fault::Fault;
+use awk_text::octets::Octets;
 use awk_text::texts::MOST_BYTES;
 use awk_text::value::Value;
 use itoa::Buffer;
@@ -72,6 +75,30 @@ fn replace_made(
         return mem::replace(&mut made[place], array);
     }
     Array::new(alloc)
+}
+
+/// Fills the array at a slot with the parts. Where there is no array nothing changes.
+fn fill_in_cells(cells: &mut Vec<Cell>, slot: usize, parts: Vec<Octets>) -> Result<i64, Fault>
+    ensures count { IfOk result (λ n. n ≡ pos (length parts.items)) }
+    ensures filled { Fills (listed (slice_get cells.old.items slot)) parts.items result
+        (λ new. cells.new.items ≡ change_at (given_array new) cells.old.items slot) }
+{
+    match cells.get_mut(slot) {
+        Some(cell) => cell.fill(parts),
+        None => counted(parts.as_slice()),
+    }
+}
+
+/// The same among the arrays that calls have made.
+fn fill_made(made: &mut Vec<Array<Value>>, place: usize, parts: Vec<Octets>) -> Result<i64, Fault>
+    ensures count { IfOk result (λ n. n ≡ pos (length parts.items)) }
+    ensures filled { Fills (slice_get made.old.items place) parts.items result
+        (λ new. made.new.items ≡ slice_set made.old.items place new) }
+{
+    match made.get_mut(place) {
+        Some(array) => fill_with(array, parts),
+        None => counted(parts.as_slice()),
+    }
 }
 
 /// Gives an element of the array at a slot a value. Where there is no array nothing changes.
@@ -373,6 +400,23 @@ impl Store {
             Reference::Shared(slot) => add_in_cells(&mut self.cells, slot as usize, key, by),
             Reference::Made(place) => add_in_made(&mut self.made, place as usize, key, by),
             Reference::Nothing => false,
+        }
+    }
+
+    /// Fills the array with the parts, in place of what it holds, under the keys 1, 2 and so on; and answers how many
+    /// there are. Where the variable is no array nothing changes.
+    ///
+    /// Fails with `Fault::TooManyElements` exactly where there are more than `MOST_ELEMENTS`, and then the array is as
+    /// it was, and with `Fault::Memory` where memory is refused.
+    pub fn fill(&mut self, name: Variable, parts: Vec<Octets>) -> Result<i64, Fault>
+        ensures count { IfOk result (λ n. n ≡ pos (length parts.items)) }
+        ensures filled { Fills (Some (array self.old name)) parts.items result
+            (λ new. self.new ≡ with_array (reference self.old name) new self.old) }
+    {
+        match self.reference(name) {
+            Reference::Shared(slot) => fill_in_cells(&mut self.cells, slot as usize, parts),
+            Reference::Made(place) => fill_made(&mut self.made, place as usize, parts),
+            Reference::Nothing => counted(parts.as_slice()),
         }
     }
 

@@ -1,11 +1,13 @@
 // Variables of the whole script.
-ghost use Rattle.std.specs.Prelude.{[], ◌≡◌, ℤ, pos, Some, Ok, true, false, unwrap_or, IfOk, IfErr, OnOk, IsOkUnless};
+ghost use Rattle.std.specs.Prelude.{[], ◌≡◌, ℤ, pos, Some, Ok, true, false, length, unwrap_or, IfOk, IfErr, OnOk, IsOkUnless};
 ghost use Rattle.std.specs.Fmt.{decimal};
 ghost use Rattle.std.specs.Option.{option_copied};
 ghost use Rattle.awk_text.specs.Arithmetic.{add};
 ghost use Rattle.awk_machine.specs.Begins.{first_value};
 ghost use Rattle.awk_store.specs.Changes.{Adds};
+ghost use Rattle.awk_store.specs.Filled.{Fills};
 
+use crate::filling::{counted, fill_with};
 use awk_lib::array::Array;
 use awk_program::GlobalName;
 use awk_text::arithmetic::add;
@@ -143,6 +145,17 @@ impl Cell {
         match self {
             Cell::Value(_) => false,
             Cell::Array(array) => add_in_number(array, number, by),
+        }
+    }
+
+    /// Fills the array that it holds with the parts, as `Store::fill` does. A value stays as it is.
+    pub(crate) fn fill(&mut self, parts: Vec<Octets>) -> Result<i64, Fault>
+        ensures count { IfOk result (λ n. n ≡ pos (length parts.items)) }
+        ensures filled { Fills (listed (Some self.old)) parts.items result (λ new. self.new ≡ given_array new self.old) }
+    {
+        match self {
+            Cell::Value(_) => counted(parts.as_slice()),
+            Cell::Array(array) => fill_with(array, parts),
         }
     }
 

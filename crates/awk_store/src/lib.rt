@@ -14,6 +14,7 @@ mod cell;
 pub mod counters;
 pub mod elements;
 pub mod fields;
+mod filling;
 pub mod flow;
 mod frame;
 pub mod frames;

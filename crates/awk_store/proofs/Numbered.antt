@@ -1,5 +1,5 @@
 -- An array that is filled with parts, one after the other.
-use Rattle.std.proofs.Common.{◌≡◌, ℕ, suc, ◌+◌, ◌≤◌, ◌<◌, ◌^◌, Bool, true, false, List, [], ◌∷◌, ◌++◌, reverse, length, Result, Ok, Err, refl, sym, ap, ◌∙◌, append_assoc, append-nil, length-append, arith}
+use Rattle.std.proofs.Common.{OnOk, IfErr, ℤ, None, inr, ◌≡◌, ℕ, suc, ◌+◌, ◌≤◌, ◌<◌, ◌^◌, Bool, true, false, List, [], ◌∷◌, ◌++◌, reverse, length, Result, Ok, Err, refl, sym, ap, ◌∙◌, append_assoc, append-nil, length-append, arith}
 use Rattle.std.proofs.lemmas.Bool.Decides.{nat_tests}
 use Rattle.std.proofs.lemmas.Fmt.{decimal_injective}
 use Rattle.std.proofs.lemmas.List.{reverse-append, reverse-reverse}
@@ -14,7 +14,7 @@ use Rattle.awk_lib.specs.Arrays.{has, put, most_elements}
 use Rattle.awk_program.specs.Slots.{Text}
 use Rattle.awk_machine.specs.State.{Array}
 use Rattle.awk_machine.specs.Builtins.{numbered}
-use Rattle.awk_builtins.specs.Filled.{filled}
+use Rattle.awk_store.specs.Filled.{filled, Fills}
 
 pub length_numbered : (n : ℕ) (xs : List Text) → length (numbered n xs) ≡ length xs
 length_numbered n [] = refl
@@ -91,3 +91,9 @@ pub ends : (parts : List Text) (array : Array) (rest : List Text) (number : ℕ)
 ends parts array rest number over few f =
     let whole : parts ≡ f.done = f.parts_are ∙ ap (λ l. f.done ++ reverse l) over ∙ append-nil f.done in
     filled_by (nat_le (length parts) most_elements) parts refl few ∙ ap (λ l. Ok (numbered 1 l)) whole ∙ ap (λ a. Ok a) (sym f.array_is)
+
+-- where there is no array, what holds one holds whatever is put there
+pub none_filled : (r : Result ℤ Fault) (parts : List Text) (Holds : Array → Type 0) → ((a : Array) → Holds a) → OnOk r (filled parts ≡ Ok (numbered 1 parts)) → IfErr r (λ e. filled parts ≡ Err e)
+    → Fills None parts r Holds
+none_filled (Ok n) parts Holds all ok err = (numbered 1 parts, ok, tt, all _)
+none_filled (Err e) parts Holds all ok err = ([], tt, inr (err, refl), all _)

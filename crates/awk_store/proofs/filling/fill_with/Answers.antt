@@ -2,8 +2,8 @@ use Rattle.std.proofs.Common.{◌≤◌, length, ⊎_elim, inl, arith}
 use Rattle.std.proofs.lemmas.Result.{err_from_is_err_and}
 use Rattle.awk_text.specs.declared.value.Value.TheVariants as v
 use Rattle.awk_lib.specs.Arrays.{most_elements}
-use Rattle.awk_builtins.proofs.Filling.{no_fault, goes_on}
-use Rattle.awk_builtins.proofs.splits.fill_with.Goals as goal
+use Rattle.awk_store.proofs.Numbered.{no_fault, goes_on}
+use Rattle.awk_store.proofs.filling.fill_with.Goals as goal
 
 pub returns-in_err-set_number-clause-err : goal.returns-in_err-set_number-clause-err
 returns-in_err-set_number-clause-err c =

@@ -1,6 +1,6 @@
 use Rattle.std.proofs.Common.{length}
-use Rattle.awk_builtins.proofs.Filling.{Filling}
-use Rattle.awk_builtins.proofs.splits.fill_with.Given as goal
+use Rattle.awk_store.proofs.Numbered.{Filling}
+use Rattle.awk_store.proofs.filling.fill_with.Given as goal
 
 abbrev pub invariant-loop-part : goal.invariant-loop-part
 invariant-loop-part l = Filling l.fn.parts.items l.array l.rest.items l.number
