@@ -123,7 +123,7 @@ fn is_variable(target: &Target<Expr>, variable: Variable) -> bool
 }
 
 /// Whether the expression is that variable.
-fn reads_variable(e: &Expr, variable: Variable) -> bool
+pub(crate) fn reads_variable(e: &Expr, variable: Variable) -> bool
     ensures { result ≡ true → (names : Names) → view names e.now ≡ p.read (p.variable (variable_of names variable)) }
 {
     match e {

@@ -9,6 +9,7 @@ ghost use Rattle.std.specs.Prelude.{IfOk, IfSome, Ok, true, ◌∷◌, ◌≡◌
 
 use crate::at_hand::truth_at_hand;
 use crate::done::done_at_once;
+use crate::growing::reads_variable;
 use crate::line::Line;
 use awk_program::{Expr, Target};
 use awk_store::{Store, is_nf};
@@ -94,11 +95,16 @@ fn is_keyed_by_field(target: &Target<Expr>) -> bool {
     }
 }
 
-/// Whether an expression is a concatenation with a field behind its first operand. A text that grows so does in its
-/// place where the field is at hand.
-fn has_field_behind(e: &Expr) -> bool {
-    match e {
-        Expr::Concat(_, rest) => rest.as_slice().iter().any(|next| is_field(&next.operand)),
+/// Whether the value is the text of the target with a field among what stands behind it: so it grows in its place where
+/// the field is at hand.
+fn grows_by_field(target: &Target<Expr>, value: &Expr) -> bool {
+    let Target::Variable(variable) = target else {
+        return false;
+    };
+    match value {
+        Expr::Concat(first, rest) if reads_variable(first.get(), *variable) => {
+            rest.as_slice().iter().any(|next| is_field(&next.operand))
+        }
         _ => false,
     }
 }
@@ -106,9 +112,10 @@ fn has_field_behind(e: &Expr) -> bool {
 /// Whether an expression, or a part of an assignment or of a comparison, is at hand only once the record is split.
 fn has_parts_to_split(e: &Expr) -> bool {
     match e {
-        Expr::Assign(_, target, x) | Expr::Change(_, _, target, x) => {
-            is_keyed_by_field(target) || wants_split(x.get()) || has_field_behind(x.get())
+        Expr::Assign(_, target, x) => {
+            is_keyed_by_field(target) || wants_split(x.get()) || grows_by_field(target, x.get())
         }
+        Expr::Change(_, _, target, x) => is_keyed_by_field(target) || wants_split(x.get()),
         Expr::Step(_, _, _, target) => is_keyed_by_field(target),
         Expr::Compare(_, x, y) => wants_split(x.get()) || wants_split(y.get()),
         _ => wants_split(e),
