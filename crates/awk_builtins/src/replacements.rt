@@ -102,7 +102,8 @@ fn replaced_in(
         → (from : Piece) → Passes g from (store.old, t)
         (reading substitution.entry.place substitution.entry.extent x y r (value_of target.now)
         substitution.entry.new.now pattern) (store.old, t)
-        → Acts g from (then_set substitution.entry.place (meant (names_in g) target.now)) (store.old, t) result (store.new, t) }
+        → Acts g from (then_set substitution.entry.place (meant (names_in g) target.now)) (store.old, t) result
+        (store.new, t) }
 {
     let Substitution { place, extent, new } = substitution;
     let mut buffer = Buffer::new();
@@ -134,7 +135,8 @@ pub fn substitute(
     ensures { (g : Given) (t : Table) (x : p.Ere) (y : Expression) (r : Reference) → IsSourceOf x pattern →
         IsSpotOf (names_in g) r target
         → Acts g (At (Value_of (p.substitute substitution.entry.place substitution.entry.extent x y r))
-        (value_of target ∷ substitution.entry.new.now ∷ source_value pattern ∷ [])) give (store.old, t) result (store.new, t) }
+        (value_of target ∷ substitution.entry.new.now ∷ source_value pattern ∷ [])) give (store.old, t) result
+        (store.new, t) }
 {
     let ere = used(alloc, patterns, substitution.place, pattern)?;
     let made = replaced_in(alloc, store, substitution, &ere, &target)?;

@@ -5,8 +5,8 @@ ghost use Rattle.awk_ere.specs.Lexing.{has};
 ghost use Rattle.awk_ere.specs.Program.{IsSound};
 ghost use Rattle.awk_ere.specs.Search.{mark, target_of, IsListed, IsBlank, IsClosed, Takes};
 ghost use Rattle.awk_ere.specs.Table.{steps_of, Gains, LeadsMore, IsLed, AreLed, AreMarked, AreTargets, Later};
-ghost use Rattle.awk_ere.specs.Table.{IsNumber, IsCell, IsKnown, AreEdges, AreRows, AreFlags, EndsAtLast, IsFirst, IsBegin};
-ghost use Rattle.awk_ere.specs.Table.{IsDead, IsBuilt};
+ghost use Rattle.awk_ere.specs.Table.{IsNumber, IsCell, IsKnown, AreEdges, AreRows, AreFlags, EndsAtLast, IsFirst};
+ghost use Rattle.awk_ere.specs.Table.{IsBegin, IsDead, IsBuilt};
 
 use crate::bracket::Set;
 use crate::heads::{Heads, any_heads, make_heads};

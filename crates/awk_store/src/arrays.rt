@@ -1,6 +1,6 @@
 // Arrays.
-ghost use Rattle.std.specs.Prelude.{[], ◌≡◌, ◌⊎◌, ◌≤◌, true, false, Ok, Some, pos, slice_get, slice_set, unwrap_or, length};
-ghost use Rattle.std.specs.Prelude.{IfOk, IfErr, OnOk, IsOkUnless};
+ghost use Rattle.std.specs.Prelude.{[], ◌≡◌, ◌⊎◌, ◌≤◌, true, false, Ok, Some, pos, slice_get, slice_set, unwrap_or};
+ghost use Rattle.std.specs.Prelude.{length, IfOk, IfErr, OnOk, IsOkUnless};
 ghost use Rattle.std.specs.Fmt.{decimal};
 ghost use Rattle.std.specs.Option.{option_copied};
 ghost use Rattle.awk_fields.specs.Rows.{IsValueAt};

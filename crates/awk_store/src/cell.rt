@@ -1,5 +1,6 @@
 // Variables of the whole script.
-ghost use Rattle.std.specs.Prelude.{[], ◌≡◌, ℤ, pos, Some, Ok, true, false, length, unwrap_or, IfOk, IfErr, OnOk, IsOkUnless};
+ghost use Rattle.std.specs.Prelude.{[], ◌≡◌, ℤ, pos, Some, Ok, true, false, length, unwrap_or};
+ghost use Rattle.std.specs.Prelude.{IfOk, IfErr, OnOk, IsOkUnless};
 ghost use Rattle.std.specs.Fmt.{decimal};
 ghost use Rattle.std.specs.Option.{option_copied};
 ghost use Rattle.awk_text.specs.Arithmetic.{add};
@@ -151,7 +152,8 @@ impl Cell {
     /// Fills the array that it holds with the parts, as `Store::fill` does. A value stays as it is.
     pub(crate) fn fill(&mut self, parts: Vec<Octets>) -> Result<i64, Fault>
         ensures count { IfOk result (λ n. n ≡ pos (length parts.items)) }
-        ensures filled { Fills (listed (Some self.old)) parts.items result (λ new. self.new ≡ given_array new self.old) }
+        ensures filled { Fills (listed (Some self.old)) parts.items result
+            (λ new. self.new ≡ given_array new self.old) }
     {
         match self {
             Cell::Value(_) => counted(parts.as_slice()),
