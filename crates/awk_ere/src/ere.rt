@@ -7,7 +7,7 @@ use crate::error::{EreError, EreFault};
 use crate::hopes::{Hopes, no_hopes};
 use crate::literal::Literal;
 use crate::read::read_within;
-use crate::table::{Matcher, Sought, whole_budget};
+use crate::table::{Matcher, Sought};
 use awk_text::Memory;
 use std::alloc::Global;
 use std::marker::Model;
@@ -138,7 +138,7 @@ impl<'a> Searches<'a> {
             ere,
             matcher: &ere.matcher,
             text,
-            budget: whole_budget(text),
+            budget: ere.matcher.whole_budget(text),
             hopes: no_hopes(alloc),
         }
     }

@@ -22,6 +22,9 @@ use std::marker::Model;
 /// How many bytes may be looked at for each byte of the text, by searches that find nothing.
 const BUDGET: usize = 4;
 
+/// A byte more for so many states: to read the text backwards takes a look at each state for each byte.
+const STATES_A_BYTE: usize = 8;
+
 /// How many bytes may be looked at so before it is asked whether there is any match.
 const FIRST_BUDGET: usize = 64;
 
@@ -90,13 +93,6 @@ fn stays_to(row: &[u8; 256], state: u8, text: &[u8], from: usize) -> usize
     stays_one_by_one(row, state, text, place)
 }
 
-/// How many bytes the searches of a text may look at.
-pub fn whole_budget(text: &[u8]) -> usize {
-    text.len()
-        .saturating_mul(BUDGET)
-        .saturating_add(FIRST_BUDGET)
-}
-
 /// The state in which a search begins at the place.
 fn state_at(begin: Begin, place: usize) -> usize
     ensures { result ≡ (if place == 0 then begin.first else begin.later) }
@@ -152,6 +148,12 @@ impl Matcher {
             entry,
             scan,
         })
+    }
+
+    /// How many bytes the searches of a text may look at.
+    pub fn whole_budget(&self, text: &[u8]) -> usize {
+        let each = BUDGET.max(self.table.cells.len() / STATES_A_BYTE);
+        text.len().saturating_mul(each).saturating_add(FIRST_BUDGET)
     }
 
     /// The state in which a search begins at the place, where the table has it.
