@@ -13,7 +13,7 @@ ghost use Rattle.awk_store.specs.Acts.{Acts, Passes};
 ghost use Rattle.awk_store.specs.Wholes.{Whole, names_in};
 ghost use Rattle.awk_streams.specs.Tables.{Table};
 ghost use Rattle.awk_text.specs.Values.{text_of};
-ghost use Rattle.std.specs.Prelude.{Err, IfErr, IfOk, List, Ok, OnOk, [], false, length, pos, ℕ, ◌∷◌, ◌≡◌, ◌⊎◌};
+ghost use Rattle.std.specs.Prelude.{Err, IfErr, IfOk, List, Ok, [], false, ℕ, ◌∷◌, ◌≡◌};
 
 use crate::cache::Patterns;
 use crate::patterns::{PatternValue, check};

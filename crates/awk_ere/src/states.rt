@@ -3,7 +3,7 @@ ghost use Rattle.std.specs.Prelude.{◌≡◌, ◌↔◌, ◌+◌, ◌-◌, ◌<
 ghost use Rattle.std.specs.Prelude.{Contains, IfOk, OnOk, IfSome};
 ghost use Rattle.awk_ere.specs.Lexing.{has};
 ghost use Rattle.awk_ere.specs.Program.{IsSound};
-ghost use Rattle.awk_ere.specs.Search.{mark, target_of, IsListed, IsBlank, IsClosed, Takes};
+ghost use Rattle.awk_ere.specs.Search.{mark, target_of, IsClosed, Takes};
 ghost use Rattle.awk_ere.specs.Table.{steps_of, Gains, LeadsMore, IsLed, AreLed, AreMarked, AreTargets, Later};
 ghost use Rattle.awk_ere.specs.Table.{IsNumber, IsCell, IsKnown, AreEdges, AreRows, AreFlags, EndsAtLast, IsFirst};
 ghost use Rattle.awk_ere.specs.Table.{IsBegin, IsDead, IsBuilt};

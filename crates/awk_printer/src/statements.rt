@@ -2,7 +2,7 @@
 
 ghost use Rattle.std.specs.Prelude.{[], ◌∷◌, ◌++◌, codes, map, option_map};
 ghost use Rattle.awk_printer.specs.Pages.{Adds};
-ghost use Rattle.awk_printer.specs.Printed.{variable_text, expression_text, list_text, perhaps_text, redirection_text};
+ghost use Rattle.awk_printer.specs.Printed.{variable_text, expression_text, perhaps_text, redirection_text};
 ghost use Rattle.awk_printer.specs.Printed.{statement_text, statements_text, action_text};
 ghost use Rattle.awk_printer.specs.Words as spec;
 ghost use Rattle.awk_printer.specs.Words.{names_in};
