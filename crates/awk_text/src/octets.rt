@@ -1,16 +1,34 @@
 // A text of bytes.
+ghost use Rattle.awk_text.specs.Held.{items_of};
 ghost use Rattle.std.specs.Prelude.{◌≡◌, [], IfOk, IfSome};
 
 use crate::Memory;
 use arrayvec::ArrayVec;
 use std::alloc::Global;
 use std::marker::Model;
+use std::mem;
+use std::rc::Rc;
 
 /// Where the bytes of a text lie. Most texts are short: those lie in the value itself, and take no memory of their own.
 #[derive(Drop)]
 enum Bytes {
     Short(ArrayVec<u8, 16>),
     Long(Vec<u8>),
+    /// Of several texts that are the same: none of them changes it.
+    Shared(Rc<Vec<u8>>),
+}
+
+/// The same bytes, which others can share from now on: where memory is refused they stay as they are.
+fn shared(alloc: Global, bytes: Bytes) -> Bytes
+    ensures { items_of result ≡ items_of bytes }
+{
+    match bytes {
+        Bytes::Long(long) => match Rc::new(alloc, long) {
+            Ok(several) => Bytes::Shared(several),
+            Err(refused) => Bytes::Long(refused.value),
+        },
+        Bytes::Short(_) | Bytes::Shared(_) => bytes,
+    }
 }
 
 /// A text: any bytes, which contracts see as their list.
@@ -74,33 +92,53 @@ impl Octets {
         match &self.bytes {
             Bytes::Short(bytes) => bytes.as_slice(),
             Bytes::Long(bytes) => bytes.as_slice(),
+            Bytes::Shared(bytes) => bytes.as_ref().as_slice(),
         }
     }
 
-    /// The same text once more, or `Memory` where memory is refused.
+    /// The same text once more, or `Memory` where memory is refused. A long one is copied where it is not shared.
     pub fn copy(&self, alloc: Global) -> Result<Octets, Memory>
         ensures { IfOk result (λ o. o ≡ self.now) }
     {
-        Octets::of(alloc, self.bytes())
+        match &self.bytes {
+            Bytes::Shared(bytes) => Ok(Octets {
+                bytes: Bytes::Shared(bytes.clone()?),
+            }),
+            Bytes::Short(_) | Bytes::Long(_) => Octets::of(alloc, self.bytes()),
+        }
     }
 
-    /// The bytes, given back, or `Memory` where memory is refused. A long text takes none.
+    /// The same text once more, or `Memory` where memory is refused. The bytes of a long one are not copied: the two
+    /// share them, until one is asked for its own.
+    pub fn share(&mut self, alloc: Global) -> Result<Octets, Memory>
+        ensures stays { self.new ≡ self.old }
+        ensures ok { IfOk result (λ o. o ≡ self.old) }
+    {
+        if let Bytes::Long(_) = &self.bytes {
+            let bytes = mem::replace(&mut self.bytes, Bytes::Long(Vec::new(alloc)));
+            self.bytes = shared(alloc, bytes);
+        }
+        self.copy(alloc)
+    }
+
+    /// The bytes, given back, or `Memory` where memory is refused. A long text takes none where it shares none.
     pub fn into_bytes(self, alloc: Global) -> Result<Vec<u8>, Memory>
         ensures { IfOk result (λ bytes. bytes.items ≡ self) }
     {
         match self.bytes {
             Bytes::Short(bytes) => Vec::from_slice(alloc, bytes.as_slice()),
             Bytes::Long(bytes) => Ok(bytes),
+            Bytes::Shared(bytes) => Rc::unwrap_or_clone(bytes),
         }
     }
 
-    /// The memory that the text lay in, for other bytes: a short one has none. Takes no memory.
+    /// The memory that the text lay in, for other bytes: one that is short, or shared, has none. Takes no memory.
     #[inline]
     pub fn into_room(self, alloc: Global) -> Vec<u8>
         ensures { result.items ≡ [] }
     {
         match self.bytes {
-            Bytes::Short(_) => Vec::new(alloc),
+            Bytes::Short(_) | Bytes::Shared(_) => Vec::new(alloc),
             Bytes::Long(mut bytes) => {
                 bytes.clear();
                 bytes

@@ -35,6 +35,22 @@ impl Value {
             Value::Input(text) => Ok(Value::Input(text.copy(alloc)?)),
         }
     }
+
+    /// The same value once more, which shares the bytes of a long text.
+    ///
+    /// Fails with `Fault::Memory` alone, where memory is refused.
+    pub fn share(&mut self, alloc: Global) -> Result<Value, Fault>
+        ensures stays { self.new ≡ self.old }
+        ensures ok { IfOk result (λ value. value ≡ self.old) }
+        ensures err { IsOkUnless result Fault.Memory }
+    {
+        match self {
+            Value::Unset => Ok(Value::Unset),
+            Value::Num(number) => Ok(Value::Num(*number)),
+            Value::Text(text) => Ok(Value::Text(text.share(alloc)?)),
+            Value::Input(text) => Ok(Value::Input(text.share(alloc)?)),
+        }
+    }
 }
 
 /// The number of a value: of a text the number that it begins with. Takes no memory.
