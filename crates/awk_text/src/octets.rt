@@ -9,6 +9,9 @@ use std::marker::Model;
 use std::mem;
 use std::rc::Rc;
 
+/// The fewest bytes that are shared: to copy fewer takes no longer, and takes less memory.
+const LEAST_SHARED: usize = 128;
+
 /// Where the bytes of a text lie. Most texts are short: those lie in the value itself, and take no memory of their own.
 #[derive(Drop)]
 enum Bytes {
@@ -108,13 +111,13 @@ impl Octets {
         }
     }
 
-    /// The same text once more, or `Memory` where memory is refused. The bytes of a long one are not copied: the two
-    /// share them, until one is asked for its own.
+    /// The same text once more, or `Memory` where memory is refused. 128 bytes and more are not copied: the two share
+    /// them, until one is asked for its own.
     pub fn share(&mut self, alloc: Global) -> Result<Octets, Memory>
         ensures stays { self.new ≡ self.old }
         ensures ok { IfOk result (λ o. o ≡ self.old) }
     {
-        if let Bytes::Long(_) = &self.bytes {
+        if LEAST_SHARED <= self.bytes().len() {
             let bytes = mem::replace(&mut self.bytes, Bytes::Long(Vec::new(alloc)));
             self.bytes = shared(alloc, bytes);
         }
