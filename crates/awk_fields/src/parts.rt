@@ -1,5 +1,5 @@
 // The fields of a record, which are split when they are first asked for.
-ghost use Rattle.std.specs.Prelude.{◌≡◌, List, ℕ, length, IfOk, OnOk, OnErr, IfErr, IfSome};
+ghost use Rattle.std.specs.Prelude.{◌≡◌, List, ℕ, true, length, IfOk, OnOk, OnErr, IfErr, IfSome};
 ghost use Rattle.std.specs.List.{slice_index_or};
 ghost use Rattle.awk_fields.specs.Parts.{ArePartsKept, IsSound, IsSplitBy, row_of, values_of, whole_of};
 ghost use Rattle.awk_text.specs.Lents.{lent_value};
@@ -92,6 +92,16 @@ pub fn rebuild_parts(parts: &mut Parts, text: &[u8]) -> Result<(), Memory>
         return Ok(());
     };
     rebuild_edited(&mut parts.edited, text)
+}
+
+/// Whether the text is the whole one: no field was set.
+pub fn is_text(parts: &Parts) -> bool
+    ensures { result ≡ true → (text : List ℕ) → whole_of text parts.now ≡ text }
+{
+    match &parts.state {
+        State::Unsplit(_) | State::Spans => true,
+        State::Edits => false,
+    }
 }
 
 /// The whole text, where it is there.

@@ -8,7 +8,7 @@ ghost use Rattle.awk_fields.specs.Rows.{SetsCount, SetsNoField, SetsNoCount};
 
 use crate::edits::{Edited, put, set_len};
 use crate::parts::{
-    Parts, State, edit_parts, field_at, field_count, known_count, known_whole, lent_at,
+    Parts, State, edit_parts, field_at, field_count, is_text, known_count, known_whole, lent_at,
     rebuild_parts, split_parts,
 };
 use crate::splitter::Splitter;
@@ -24,6 +24,9 @@ use std::mem;
 
 /// The greatest number of a field that can be named or set, and the greatest count that can be set.
 pub const MOST_FIELDS: i64 = 65535;
+
+/// The fewest bytes of a record that are shared: what a shorter one lies in is kept for the next one.
+const LEAST_SHARED: usize = 4096;
 
 /// A record: `$0`, and the fields `$1` to `$NF`. A text is split when its fields are first asked
 /// for, and the whole text is rebuilt when it is first asked for after a field or NF was set.
@@ -168,7 +171,7 @@ impl Record {
         set_len(&mut self.parts.edited, self.text.bytes(), count, ofs)
     }
 
-    /// The whole text, as a value.
+    /// The whole text, as a value. A long one is shared, unless it is made of fields.
     fn whole_value(&mut self) -> Result<Value, Fault>
         ensures ok { IfOk result (λ v. v ≡ Value.Input self.new.whole) }
         ensures same { self.new ≡ self.old }
@@ -176,6 +179,9 @@ impl Record {
     {
         let alloc = *self.parts.spans.allocator();
         self.rebuild()?;
+        if is_text(&self.parts) && LEAST_SHARED <= self.text.bytes().len() {
+            return Ok(Value::Input(self.text.share(alloc)?));
+        }
         match self.known_whole() {
             Some(whole) => Ok(Value::Input(Octets::of(alloc, whole)?)),
             None => Err(Fault::Memory),
