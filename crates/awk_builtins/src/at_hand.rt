@@ -36,6 +36,9 @@ use std::alloc::Global;
 /// each level looks again: so this bounds how often a part is looked at.
 pub const MOST_LEVELS: u32 = 3;
 
+/// The most bytes of an element or of the record that are copied where they are read: more are shared.
+const MOST_COPIED: usize = 4095;
+
 /// The value of a variable. NF has one where the record is split.
 #[inline(always)]
 fn variable_at_hand<'a>(store: &'a Store, variable: Variable) -> Option<Lent<'a>>
@@ -427,12 +430,25 @@ fn owned<'a>(alloc: Global, value: Lent<'a>) -> Option<Value>
     }
 }
 
-/// The value of an expression, where it is there, as one of its own. `None` stands for refused memory too.
+/// Whether a value is a text so long that it is shared where it lies, not copied.
+#[inline(always)]
+fn is_long(value: Lent<'_>) -> bool {
+    match value {
+        Lent::Unset | Lent::Num(_) => false,
+        Lent::Text(text) | Lent::Input(text) => MOST_COPIED < text.len(),
+    }
+}
+
+/// The value of what is read, where it is there and no long text, as one of its own. `None` stands for refused memory
+/// too.
 #[inline(never)]
 fn value_there(alloc: Global, store: &Store, e: &Expr) -> Option<Value>
     ensures { IfSome result (λ v. IsThere (λ names. view names e.now) store.now v) }
 {
     let value = at_hand(store, e, MOST_LEVELS)?;
+    if is_long(value) {
+        return None;
+    }
     owned(alloc, value)
 }
 

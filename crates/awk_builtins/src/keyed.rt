@@ -61,7 +61,7 @@ pub fn read_at_key(
         IsAtKey target store.old element.entry.at_name element.entry.array element.entry.key.now →
         Acts g (value (p.read (view_target (names_in g) target))) give (store.old, t) result (store.new, t) }
 {
-    read_element(alloc, store, element.at_name, element.array, element.key)
+    read_element(store, element.at_name, element.array, element.key)
 }
 
 /// `array [ key ] ++` and `array [ key ] --`, once the key is known: the old number and the new one. A fault of the
@@ -83,7 +83,7 @@ pub fn step_at_key(
         array,
         key,
     } = element;
-    let old = read_element(alloc, store, at_name, array, key)?;
+    let old = read_element(store, at_name, array, key)?;
     let (before, behind) = stepped_at(place, how, &old)?;
     set_element(store, at_name, array, key, Value::Num(behind))?;
     Ok((before, behind))

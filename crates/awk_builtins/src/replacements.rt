@@ -110,7 +110,7 @@ fn replaced_in(
     if let Some(old) = lent(store, target, &mut buffer) {
         return replaced(alloc, place, ere, new, old, is_all(extent));
     }
-    let old = read(alloc, store, target)?;
+    let old = read(store, target)?;
     let mut digits = Buffer::new();
     replaced(
         alloc,

@@ -32,8 +32,9 @@ unfolding each_by
 each_ends flow.On xs k = refl
 each_ends flow.Break xs k = refl
 each_ends flow.Continue xs k = refl
-each_ends (flow.Return None) xs k = refl
-each_ends (flow.Return (Some v)) xs k = refl
+each_ends flow.Return xs k = refl
+each_ends (flow.ReturnNumber n) xs k = refl
+each_ends (flow.ReturnValue v) xs k = refl
 
 pub each_on : (f : Flow) (xs : List Statement) (k : List Piece) → is_on f ≡ true → flows f (Do (Each xs) ∷ k) ≡ Do (Each xs) ∷ k
 unfolding each_by
@@ -53,8 +54,9 @@ unfolding loop_by
 turn_ends flow.On x k = refl
 turn_ends flow.Break x k = refl
 turn_ends flow.Continue x k = refl
-turn_ends (flow.Return None) x k = refl
-turn_ends (flow.Return (Some v)) x k = refl
+turn_ends flow.Return x k = refl
+turn_ends (flow.ReturnNumber n) x k = refl
+turn_ends (flow.ReturnValue v) x k = refl
 
 pub turn_on : (f : Flow) (x : Loop) (k : List Piece) → end_of f ≡ None → flows f (At (Turn x) [] ∷ k) ≡ At (Turn x) [] ∷ k
 unfolding loop_by
@@ -69,8 +71,9 @@ unfolding loop_by
 keys_end flow.On place a x rest k = refl
 keys_end flow.Break place a x rest k = refl
 keys_end flow.Continue place a x rest k = refl
-keys_end (flow.Return None) place a x rest k = refl
-keys_end (flow.Return (Some v)) place a x rest k = refl
+keys_end flow.Return place a x rest k = refl
+keys_end (flow.ReturnNumber n) place a x rest k = refl
+keys_end (flow.ReturnValue v) place a x rest k = refl
 
 pub keys_on : (f : Flow) (place : Place) (a : p.Variable) (x : Statement) (rest : List Text) (k : List Piece) → end_of f ≡ None → flows f (Do (Keys place a x rest) ∷ k) ≡ Do (Keys place a x rest) ∷ k
 unfolding loop_by

@@ -269,10 +269,10 @@ fn give_back<W: World, E: Evaluates<W>>(
         (whole_of run.old) world.old result (whole_of run.new) world.new }
 {
     match x {
-        None => Ok(Flow::Return(None)),
+        None => Ok(Flow::Return),
         Some(x) => {
             let answer = on.value(cx, x, run, world)?;
-            Ok(Flow::Return(Some(answer)))
+            Ok(Flow::returning(cx.alloc, answer)?)
         }
     }
 }

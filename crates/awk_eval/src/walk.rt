@@ -17,9 +17,10 @@ use awk_forms::context::{Context, Run};
 use awk_forms::evaluates::Evaluates;
 use awk_forms::expressions::{chain, choose, evaluate};
 use awk_forms::inputs::{from_commands, from_file};
+use awk_forms::targets::value_of_variable;
 use awk_forms::tests;
 use awk_forms::units::{units_of, units_of_statement};
-use awk_program::{Expr, Statement};
+use awk_program::{Expr, Statement, Target};
 use awk_store::Flow;
 use awk_store::steps::{is_one, step};
 use awk_streams::halt::Halt;
@@ -101,6 +102,11 @@ pub fn value<W: World>(
             statement: statement::<W>,
         };
         return call(cx, *place, *f, xs.as_slice(), below, run, world);
+    }
+    if let Expr::Read(target) = e {
+        if let Target::Variable(variable) = target {
+            return value_of_variable(cx, *variable, run, world);
+        }
     }
     if let Some(there) = value_at_hand(cx.alloc, &run.store, e) {
         return Ok(there);

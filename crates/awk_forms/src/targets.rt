@@ -83,7 +83,7 @@ fn general_read<W: World, E: Evaluates<W>>(
         (whole_of run.old) world.old result (whole_of run.new) world.new }
 {
     let from = target_of(cx, target, on, run, world)?;
-    read(cx.alloc, &mut run.store, &from)
+    read(&mut run.store, &from)
 }
 
 /// The value of an element, by its key where that is at hand. It stands out of line, so that to read a variable takes a
@@ -107,6 +107,21 @@ fn read_element_target<W: World, E: Evaluates<W>>(
     general_read(cx, target, on, run, world)
 }
 
+/// The value of a variable: a long text is shared.
+#[inline(always)]
+pub fn value_of_variable<W: World>(
+    cx: &Context<'_>,
+    variable: Variable,
+    run: &mut Run,
+    world: &mut W,
+) -> Result<Value, Halt>
+    requires owns { Owns (W.open_numbers world.old) run.old.streams }
+    ensures { Does W.World cx.now (λ g. value (p.read (p.variable (variable_of (names_in g) variable)))) (λ g. give)
+        (whole_of run.old) world.old result (whole_of run.new) world.new }
+{
+    read_variable(&mut run.store, variable)
+}
+
 /// The value of a variable, of an element or of a field.
 pub fn read_target<W: World, E: Evaluates<W>>(
     cx: &Context<'_>,
@@ -121,7 +136,7 @@ pub fn read_target<W: World, E: Evaluates<W>>(
         (whole_of run.old) world.old result (whole_of run.new) world.new }
 {
     if let Target::Variable(variable) = target {
-        return read_variable(cx.alloc, &mut run.store, *variable);
+        return value_of_variable(cx, *variable, run, world);
     }
     if let Target::Element(_, _, _) = target {
         return read_element_target(cx, target, on, run, world);
@@ -198,7 +213,7 @@ pub fn alter<W: World, E: Evaluates<W>>(
 {
     let to = target_of(cx, target, on, run, world)?;
     let operand = on.value(cx, x, run, world)?;
-    let old = read(cx.alloc, &mut run.store, &to)?;
+    let old = read(&mut run.store, &to)?;
     let number = computed_at(place, how, &old, &operand)?;
     set(cx.alloc, &mut run.store, to, place, Value::Num(number))
 }
@@ -221,7 +236,7 @@ fn general_step<W: World, E: Evaluates<W>>(
         (whole_of run.old) world.old result (whole_of run.new) world.new }
 {
     let to = target_of(cx, target, on, run, world)?;
-    let old = read(cx.alloc, &mut run.store, &to)?;
+    let old = read(&mut run.store, &to)?;
     let (before, behind) = stepped_at(place, how, &old)?;
     set(cx.alloc, &mut run.store, to, place, Value::Num(behind))?;
     Ok((before, behind))
@@ -291,8 +306,8 @@ pub fn assign<W: World, E: Evaluates<W>>(
         (whole_of run.old) world.old result (whole_of run.new) world.new }
 {
     let to = target_of(cx, target, on, run, world)?;
-    let new = on.value(cx, x, run, world)?;
-    let Ok(kept) = stored(cx.alloc, &to, &new) else {
+    let mut new = on.value(cx, x, run, world)?;
+    let Ok(kept) = stored(cx.alloc, &to, &mut new) else {
         return Err(Halt::Memory);
     };
     set(cx.alloc, &mut run.store, to, place, new)?;
@@ -318,12 +333,13 @@ pub fn change<W: World, E: Evaluates<W>>(
 {
     let to = target_of(cx, target, on, run, world)?;
     let operand = on.value(cx, x, run, world)?;
-    let old = read(cx.alloc, &mut run.store, &to)?;
+    let old = read(&mut run.store, &to)?;
     let number = computed_at(place, how, &old, &operand)?;
-    let Ok(kept) = stored(cx.alloc, &to, &Value::Num(number)) else {
+    let mut new = Value::Num(number);
+    let Ok(kept) = stored(cx.alloc, &to, &mut new) else {
         return Err(Halt::Memory);
     };
-    set(cx.alloc, &mut run.store, to, place, Value::Num(number))?;
+    set(cx.alloc, &mut run.store, to, place, new)?;
     Ok(kept)
 }
 

@@ -1,6 +1,6 @@
 -- The parts of a program: how each begins, and what ends it.
 use Rattle.std.proofs.Common.{◌≡◌, refl, sym, ap, subst, ◌∙◌, false, List, [], ◌∷◌, ◌++◌, map}
-use Rattle.std.specs.Prelude.{Some, None, Ok}
+use Rattle.std.specs.Prelude.{Ok}
 use Rattle.box_world.specs.declared.world.World.{Ghosts}
 use Rattle.awk_program.specs.Program.{Statement}
 use Rattle.awk_program.specs.View.{view_statement}
@@ -40,15 +40,17 @@ pub flows_task : (f : Flow) (phase : _) (k : List Piece) → flows f (Do (Enter 
 flows_task flow.On phase k = refl
 flows_task flow.Break phase k = refl
 flows_task flow.Continue phase k = refl
-flows_task (flow.Return None) phase k = refl
-flows_task (flow.Return (Some v)) phase k = refl
+flows_task flow.Return phase k = refl
+flows_task (flow.ReturnNumber n) phase k = refl
+flows_task (flow.ReturnValue v) phase k = refl
 
 pub flows_finish : (f : Flow) (k : List Piece) → flows f (Do Finish ∷ k) ≡ Do Finish ∷ k
 flows_finish flow.On k = refl
 flows_finish flow.Break k = refl
 flows_finish flow.Continue k = refl
-flows_finish (flow.Return None) k = refl
-flows_finish (flow.Return (Some v)) k = refl
+flows_finish flow.Return k = refl
+flows_finish (flow.ReturnNumber n) k = refl
+flows_finish (flow.ReturnValue v) k = refl
 
 module _ (g : Given) (cx : Context) (is : IsGiven cx g) where
   names_so : names_in g ≡ map (λ n. n.text) cx.program.now.variables

@@ -1,6 +1,6 @@
 -- Rules: which of them are done, and what the machine goes on with behind them.
 use Rattle.std.proofs.Common.{◌≡◌, refl, sym, ap, ◌∙◌, ℕ, Bool, true, false, List, [], ◌∷◌, map}
-use Rattle.std.specs.Prelude.{if◌then◌else◌, get_or, Some, None, Result, Ok, Err, MatchResult}
+use Rattle.std.specs.Prelude.{if◌then◌else◌, get_or, Result, Ok, Err, MatchResult}
 use Rattle.awk_text.specs.Values.{truth}
 use Rattle.awk_text.specs.declared.value.Value.{Value}
 use Rattle.box_world.specs.declared.world.World.{Ghosts}
@@ -76,8 +76,9 @@ pub flows_on : (f : Flow) (n : ℕ) (xs : List Rule) (k : List Piece) → flows 
 flows_on flow.On n xs k = refl
 flows_on flow.Break n xs k = refl
 flows_on flow.Continue n xs k = refl
-flows_on (flow.Return None) n xs k = refl
-flows_on (flow.Return (Some v)) n xs k = refl
+flows_on flow.Return n xs k = refl
+flows_on (flow.ReturnNumber m) n xs k = refl
+flows_on (flow.ReturnValue v) n xs k = refl
 
 -- ---- `next`
 

@@ -23,16 +23,16 @@ change_nowhere f [] k past = refl
 change_nowhere f (x ∷ cs) zero past = absurd (omega (arith, past))
 change_nowhere f (x ∷ cs) (suc k) past = ap (λ ys. x ∷ ys) (change_nowhere f cs k (omega (arith, past)))
 
--- the cell that was there, in a proof that knows it by its own value
-pub found_here : (cells : List Cell) (k : ℕ) (c : Cell) → k < length cells → c ≡ slice_index_or cells k c → slice_get cells k ≡ Some c
-found_here [] k c inside is = absurd (omega (arith, inside))
-found_here (x ∷ cs) zero c inside is = ap Some (sym is)
-found_here (x ∷ cs) (suc k) c inside is = found_here cs k c (omega (arith, inside)) is
+-- what was there, in a proof that knows it by its own value
+pub found_here : {X : Type 0} (xs : List X) (k : ℕ) (x : X) → k < length xs → x ≡ slice_index_or xs k x → slice_get xs k ≡ Some x
+found_here [] k x inside is = absurd (omega (arith, inside))
+found_here (y ∷ xs) zero x inside is = ap Some (sym is)
+found_here (y ∷ xs) (suc k) x inside is = found_here xs k x (omega (arith, inside)) is
 
-pub found_nowhere : (cells : List Cell) (k : ℕ) → length cells ≤ k → slice_get cells k ≡ None
+pub found_nowhere : {X : Type 0} (xs : List X) (k : ℕ) → length xs ≤ k → slice_get xs k ≡ None
 found_nowhere [] k past = refl
-found_nowhere (x ∷ cs) zero past = absurd (omega (arith, past))
-found_nowhere (x ∷ cs) (suc k) past = found_nowhere cs k (omega (arith, past))
+found_nowhere (x ∷ xs) zero past = absurd (omega (arith, past))
+found_nowhere (x ∷ xs) (suc k) past = found_nowhere xs k (omega (arith, past))
 
 pub change_count : (f : Cell → Cell) (cells : List Cell) (k : ℕ) → length (change_at f cells k) ≡ length cells
 change_count f [] k = refl
@@ -117,16 +117,6 @@ ok_always (Ok x) p = p
 ok_always (Err e) p = tt
 
 -- ---- an array that is changed where it lies
-
-pub made_found : (as_ : List Array) (k : ℕ) (a : Array) → k < length as_ → a ≡ slice_index_or as_ k a → slice_get as_ k ≡ Some a
-made_found [] k a inside is = absurd (omega (arith, inside))
-made_found (x ∷ as_) zero a inside is = ap Some (sym is)
-made_found (x ∷ as_) (suc k) a inside is = made_found as_ k a (omega (arith, inside)) is
-
-pub made_nowhere : (as_ : List Array) (k : ℕ) → length as_ ≤ k → slice_get as_ k ≡ None
-made_nowhere [] k past = refl
-made_nowhere (x ∷ as_) zero past = absurd (omega (arith, past))
-made_nowhere (x ∷ as_) (suc k) past = made_nowhere as_ k (omega (arith, past))
 
 pub set_nowhere : (as_ : List Array) (k : ℕ) (a : Array) → length as_ ≤ k → as_ ≡ slice_set as_ k a
 set_nowhere [] k a past = refl

@@ -1,7 +1,7 @@
 -- How a call ends whose body has ended: with the value that it returned, or none.
 use Rattle.std.proofs.Common.{◌≡◌, refl, List, [], ◌∷◌, map}
-use Rattle.std.specs.Prelude.{Some, None}
 use Rattle.awk_text.specs.declared.value.Value.{Value}
+use Rattle.awk_text.specs.declared.value.Value.TheVariants as v
 use Rattle.awk_machine.specs.Builtins.{first}
 use Rattle.awk_machine.specs.Pieces.{Piece, At, Leave}
 use Rattle.awk_machine.specs.State.{Given}
@@ -16,20 +16,23 @@ use Rattle.awk_store.specs.declared.flow.Flow.TheVariants as flow
 
 -- what the end of the call has by then
 abbrev pub answers : Flow → List Value
-answers (flow.Return (Some x)) = x ∷ []
+answers (flow.ReturnNumber n) = v.Num n ∷ []
+answers (flow.ReturnValue x) = x.value ∷ []
 answers other = []
 
 pub answers_so : (f : Flow) → first (answers f) ≡ returned f
 answers_so flow.On = refl
 answers_so flow.Break = refl
 answers_so flow.Continue = refl
-answers_so (flow.Return None) = refl
-answers_so (flow.Return (Some x)) = refl
+answers_so flow.Return = refl
+answers_so (flow.ReturnNumber n) = refl
+answers_so (flow.ReturnValue x) = refl
 
 -- however the body ends, the end of the call is next
 pub returns_to : (g : Given) (caller : Caller) (f : Flow) (k : List Piece) → flows f (ending g caller k) ≡ At (Leave (map (bound_of (names_in g)) caller.frame.items) caller.made) (answers f) ∷ k
 returns_to g caller flow.On k = refl
 returns_to g caller flow.Break k = refl
 returns_to g caller flow.Continue k = refl
-returns_to g caller (flow.Return None) k = refl
-returns_to g caller (flow.Return (Some x)) k = refl
+returns_to g caller flow.Return k = refl
+returns_to g caller (flow.ReturnNumber n) k = refl
+returns_to g caller (flow.ReturnValue x) k = refl

@@ -24,5 +24,6 @@ array_of argument.Nothing = None
 
 -- the value of a call whose body ended so
 abbrev pub returned : Flow → Value
-returned (flow.Return (Some x)) = x
+returned (flow.ReturnNumber n) = v.Num n
+returned (flow.ReturnValue x) = x.value
 returned other = v.Unset

@@ -8,11 +8,15 @@ abbrev pub is_on : Flow → Bool
 is_on flow.On = true
 is_on flow.Break = false
 is_on flow.Continue = false
-is_on (flow.Return x) = false
+is_on flow.Return = false
+is_on (flow.ReturnNumber n) = false
+is_on (flow.ReturnValue x) = false
 
 -- how the loop ends that is around it, if it ends
 abbrev pub end_of : Flow → Option Flow
 end_of flow.On = None
 end_of flow.Break = Some flow.On
 end_of flow.Continue = None
-end_of (flow.Return x) = Some (flow.Return x)
+end_of flow.Return = Some flow.Return
+end_of (flow.ReturnNumber n) = Some (flow.ReturnNumber n)
+end_of (flow.ReturnValue x) = Some (flow.ReturnValue x)

@@ -1,5 +1,6 @@
 -- How a statement ends that is not halted, and what is left to be done then (POSIX.1-2017 XCU awk, "Actions").
-use Rattle.std.specs.Prelude.{List, Some, None}
+use Rattle.std.specs.Prelude.{List}
+use Rattle.awk_text.specs.declared.value.Value.TheVariants as v
 use Rattle.awk_machine.specs.Pieces.{Piece}
 use Rattle.awk_machine.specs.Statements.{after_break, after_continue, to_leave, leave_with}
 use Rattle.awk_store.specs.declared.flow.Flow.{Flow}
@@ -9,5 +10,6 @@ abbrev pub flows : Flow → List Piece → List Piece
 flows flow.On k = k
 flows flow.Break k = after_break k
 flows flow.Continue k = after_continue k
-flows (flow.Return None) k = to_leave k
-flows (flow.Return (Some v)) k = leave_with v (to_leave k)
+flows flow.Return k = to_leave k
+flows (flow.ReturnNumber n) k = leave_with (v.Num n) (to_leave k)
+flows (flow.ReturnValue x) k = leave_with x.value (to_leave k)

@@ -12,7 +12,7 @@ ghost use Rattle.awk_store.specs.Kept.{array, array_at, array_found, bound_refer
 ghost use Rattle.awk_store.specs.Filled.{Fills};
 ghost use Rattle.awk_store.specs.Changes.{change_at, given_array, with_array, Adds, Puts, PutsNot};
 
-use crate::cell::{Cell, add_in, add_in_number};
+use crate::cell::{Cell, add_in, add_in_number, share_in};
 use crate::filling::{counted, fill_with};
 use crate::frame::{Bound, Reference};
 use crate::store::Store;
@@ -98,6 +98,38 @@ fn fill_made(made: &mut Vec<Array<Value>>, place: usize, parts: Vec<Octets>) -> 
     match made.get_mut(place) {
         Some(array) => fill_with(array, parts),
         None => counted(parts.as_slice()),
+    }
+}
+
+/// The value of an element of the array at a slot once more, where it is there: a long text is shared.
+fn share_in_cells(
+    alloc: Global,
+    cells: &mut Vec<Cell>,
+    slot: usize,
+    key: &[u8],
+) -> Result<Option<Value>, Fault>
+    ensures ok { IfOk result (λ x. x ≡ element (unwrap_or (listed (slice_get cells.old.items slot)) []) key.now) }
+    ensures same { cells.new.items ≡ cells.old.items }
+{
+    match cells.get_mut(slot) {
+        Some(cell) => cell.share_element(alloc, key),
+        None => Ok(None),
+    }
+}
+
+/// The same among the arrays that calls have made.
+fn share_made(
+    alloc: Global,
+    made: &mut Vec<Array<Value>>,
+    place: usize,
+    key: &[u8],
+) -> Result<Option<Value>, Fault>
+    ensures ok { IfOk result (λ x. x ≡ element (unwrap_or (slice_get made.old.items place) []) key.now) }
+    ensures same { made.new.items ≡ made.old.items }
+{
+    match made.get_mut(place) {
+        Some(elements) => share_in(alloc, elements, key),
+        None => Ok(None),
     }
 }
 
@@ -281,6 +313,24 @@ impl Store {
         ensures { option_copied result ≡ element (array self.now name) (decimal number) }
     {
         self.array_at(self.reference(name))?.get_number(number)
+    }
+
+    /// The value of an element once more, as `element` lends it: a long text is not copied but shared.
+    ///
+    /// Fails where memory is refused.
+    pub fn share_element(&mut self, name: Variable, key: &[u8]) -> Result<Option<Value>, Fault>
+        ensures ok { IfOk result (λ x. x ≡ element (array self.old name) key.now) }
+        ensures same { self.new ≡ self.old }
+    {
+        match self.reference(name) {
+            Reference::Shared(slot) => {
+                share_in_cells(self.alloc, &mut self.cells, slot as usize, key)
+            }
+            Reference::Made(place) => {
+                share_made(self.alloc, &mut self.made, place as usize, key)
+            }
+            Reference::Nothing => Ok(None),
+        }
     }
 
     /// Whether the key is there. Takes no memory.

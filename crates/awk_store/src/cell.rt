@@ -4,6 +4,7 @@ ghost use Rattle.std.specs.Prelude.{IfOk, IfErr, OnOk, IsOkUnless};
 ghost use Rattle.std.specs.Fmt.{decimal};
 ghost use Rattle.std.specs.Option.{option_copied};
 ghost use Rattle.awk_text.specs.Arithmetic.{add};
+ghost use Rattle.awk_lib.specs.Arrays.{element};
 ghost use Rattle.awk_machine.specs.Begins.{first_value};
 ghost use Rattle.awk_store.specs.Changes.{Adds};
 ghost use Rattle.awk_store.specs.Filled.{Fills};
@@ -50,6 +51,37 @@ impl Cell {
         match self {
             Cell::Value(value) => Some(value),
             Cell::Array(_) => None,
+        }
+    }
+
+    /// The value once more, where it holds one: a long text is shared.
+    ///
+    /// Fails where memory is refused.
+    #[inline(always)]
+    pub(crate) fn share(&mut self, alloc: Global) -> Result<Value, Fault>
+        ensures ok { IfOk result (λ x. x ≡ unwrap_or (scalar (Some self.old)) Value.Unset) }
+        ensures same { self.new ≡ self.old }
+    {
+        match self {
+            Cell::Value(value) => value.share(alloc),
+            Cell::Array(_) => Ok(Value::Unset),
+        }
+    }
+
+    /// The value of an element once more, where it is there.
+    ///
+    /// Fails where memory is refused.
+    pub(crate) fn share_element(
+        &mut self,
+        alloc: Global,
+        key: &[u8],
+    ) -> Result<Option<Value>, Fault>
+        ensures ok { IfOk result (λ x. x ≡ element (unwrap_or (listed (Some self.old)) []) key.now) }
+        ensures same { self.new ≡ self.old }
+    {
+        match self {
+            Cell::Value(_) => Ok(None),
+            Cell::Array(array) => share_in(alloc, array, key),
         }
     }
 
@@ -171,6 +203,23 @@ impl Cell {
             Cell::Value(_) => Array::new(alloc),
             Cell::Array(old) => mem::replace(old, array),
         }
+    }
+}
+
+/// The value of an element once more, where it is there: a long text is shared.
+///
+/// Fails where memory is refused.
+pub(crate) fn share_in(
+    alloc: Global,
+    elements: &mut Array<Value>,
+    key: &[u8],
+) -> Result<Option<Value>, Fault>
+    ensures ok { IfOk result (λ x. x ≡ element elements.old key.now) }
+    ensures same { elements.new ≡ elements.old }
+{
+    match elements.get_mut(key) {
+        Some(value) => Ok(Some(value.share(alloc)?)),
+        None => Ok(None),
     }
 }
 

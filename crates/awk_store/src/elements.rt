@@ -9,16 +9,13 @@ ghost use Rattle.awk_streams.specs.Tables.{Table};
 ghost use Rattle.awk_streams.specs.Tasks.{goes_on};
 
 use crate::Store;
-use crate::values::copied;
 use awk_program::Variable;
 use awk_streams::halt::{Halt, at};
 use awk_text::place::Place;
 use awk_text::value::Value;
-use std::alloc::Global;
 
 /// Reads an element by its key, and makes it where it is not there. A fault is at the place of the array's name.
 pub fn read_element(
-    alloc: Global,
     store: &mut Store,
     place: Place,
     array: Variable,
@@ -28,7 +25,7 @@ pub fn read_element(
         Acts g (Do (Get (machine.Element (variable_of (names_in g) array) key.now place))) give (store.old, t) result
         (store.new, t) }
 {
-    let Ok(found) = copied(alloc, store.element(array, key)) else {
+    let Ok(found) = store.share_element(array, key) else {
         return Err(Halt::Memory);
     };
     if let Some(value) = found {

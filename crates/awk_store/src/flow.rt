@@ -2,7 +2,9 @@
 ghost use Rattle.awk_store.specs.Ends as spec;
 ghost use Rattle.std.specs.Prelude.{◌≡◌};
 
+use awk_text::Memory;
 use awk_text::value::Value;
+use std::alloc::Global;
 
 /// How a statement ends that is not halted.
 #[derive(Drop)]
@@ -13,8 +15,32 @@ pub enum Flow {
     Break,
     /// `continue`: the turn of the loop ends.
     Continue,
-    /// `return`, with its value if it has one.
-    Return(Option<Value>),
+    /// `return`, without a value.
+    Return,
+    /// `return`, with a number, which lies here: so it takes no memory.
+    ReturnNumber(i64),
+    /// `return`, with another value. It lies elsewhere, since each statement hands a `Flow` back: so that is small.
+    ReturnValue(Box<Value>),
+}
+
+impl Flow {
+    ghost use Rattle.std.specs.Prelude.{List, IfOk};
+    ghost use Rattle.awk_machine.specs.Pieces.{Piece};
+    ghost use Rattle.awk_machine.specs.Statements.{to_leave, leave_with};
+    ghost use Rattle.awk_store.specs.Flows.{flows};
+
+    /// `return` with this value.
+    ///
+    /// Fails where memory is refused. A number takes none.
+    #[inline(always)]
+    pub fn returning(alloc: Global, value: Value) -> Result<Flow, Memory>
+        ensures { IfOk result (λ flow. (k : List Piece) → flows flow k ≡ leave_with value (to_leave k)) }
+    {
+        match value {
+            Value::Num(number) => Ok(Flow::ReturnNumber(number)),
+            _ => Ok(Flow::ReturnValue(Box::new(alloc, value)?)),
+        }
+    }
 }
 
 /// Whether the next statement follows. Takes no memory.
@@ -23,7 +49,11 @@ pub fn is_on(flow: &Flow) -> bool
 {
     match flow {
         Flow::On => true,
-        Flow::Break | Flow::Continue | Flow::Return(_) => false,
+        Flow::Break
+        | Flow::Continue
+        | Flow::Return
+        | Flow::ReturnNumber(_)
+        | Flow::ReturnValue(_) => false,
     }
 }
 
@@ -35,6 +65,8 @@ pub fn end_of(flow: Flow) -> Option<Flow>
         Flow::On => None,
         Flow::Break => Some(Flow::On),
         Flow::Continue => None,
-        Flow::Return(value) => Some(Flow::Return(value)),
+        Flow::Return => Some(Flow::Return),
+        Flow::ReturnNumber(number) => Some(Flow::ReturnNumber(number)),
+        Flow::ReturnValue(value) => Some(Flow::ReturnValue(value)),
     }
 }

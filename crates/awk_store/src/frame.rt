@@ -1,9 +1,11 @@
 // Parameters of a call.
-ghost use Rattle.std.specs.Prelude.{◌≡◌, ◌∷◌, ◌++◌, [], Some, map, length, unwrap_or, OnOk, OnErr};
+ghost use Rattle.std.specs.Prelude.{◌≡◌, ◌∷◌, ◌++◌, [], Some, map, length, unwrap_or, IfOk, OnOk, OnErr};
 ghost use Rattle.awk_store.specs.Kept.{bound_scalar, as_scalar};
 
 use awk_text::Memory;
+use awk_text::fault::Fault;
 use awk_text::value::Value;
+use std::alloc::Global;
 use std::marker::Model;
 
 /// Which array is meant: that of a variable of the whole script, by its slot, or one that a call made; or none, where a
@@ -23,6 +25,20 @@ pub enum Bound {
 }
 
 impl Bound {
+    /// The value that it holds once more: a long text is shared. An array has none.
+    ///
+    /// Fails where memory is refused.
+    #[inline(always)]
+    pub(crate) fn share(&mut self, alloc: Global) -> Result<Value, Fault>
+        ensures ok { IfOk result (λ x. x ≡ unwrap_or (bound_scalar (Some self.old)) Value.Unset) }
+        ensures same { self.new ≡ self.old }
+    {
+        match self {
+            Bound::Scalar(value) => value.share(alloc),
+            Bound::Handed(_) => Ok(Value::Unset),
+        }
+    }
+
     /// The value that it holds. An array has none.
     pub(crate) fn into_value(self) -> Value
         ensures { result ≡ unwrap_or (bound_scalar (Some self)) Value.Unset }

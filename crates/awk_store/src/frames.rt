@@ -157,7 +157,8 @@ pub fn returned(flow: Flow) -> Value
     ensures { result ≡ calls.returned flow }
 {
     match flow {
-        Flow::Return(Some(value)) => value,
-        _ => Value::Unset,
+        Flow::ReturnNumber(number) => Value::Num(number),
+        Flow::ReturnValue(value) => Box::into_inner(value),
+        Flow::On | Flow::Break | Flow::Continue | Flow::Return => Value::Unset,
     }
 }

@@ -25,15 +25,15 @@ use itoa::Buffer;
 use std::alloc::Global;
 
 /// Reads it.
-pub fn read(alloc: Global, store: &mut Store, target: &Spot) -> Result<Value, Halt>
+pub fn read(store: &mut Store, target: &Spot) -> Result<Value, Halt>
     ensures { (g : Given) (t : Table) →
         Acts g (Do (Get (meant (names_in g) target.now))) give (store.old, t) result (store.new, t) }
 {
     match target {
-        Spot::Variable(variable) => read_variable(alloc, store, *variable),
+        Spot::Variable(variable) => read_variable(store, *variable),
         Spot::Element(place, array, key) => {
             let mut buffer = Buffer::new();
-            read_element(alloc, store, *place, *array, key.text(&mut buffer))
+            read_element(store, *place, *array, key.text(&mut buffer))
         }
         Spot::Field(number) => read_field(store, *number),
     }
@@ -116,26 +116,29 @@ fn as_number(value: &Value) -> Value
     }
 }
 
-/// What the target holds once the value is set there: `$0` is always input, and NF always a number.
+/// What the target holds once the value is set there: `$0` is always input, and NF always a number. A long text is
+/// shared.
 ///
 /// Fails where memory is refused.
-pub fn stored(alloc: Global, target: &Spot, value: &Value) -> Result<Value, Fault>
-    ensures { IfOk result (λ x. x ≡ spec.stored target.now value.now) }
+/// Fails where memory is refused.
+pub fn stored(alloc: Global, target: &Spot, value: &mut Value) -> Result<Value, Fault>
+    ensures ok { IfOk result (λ x. x ≡ spec.stored target.now value.old) }
+    ensures same { value.new ≡ value.old }
 {
     match target {
         Spot::Variable(variable) => {
             if is_nf(*variable) {
                 Ok(as_number(value))
             } else {
-                value.copy(alloc)
+                value.share(alloc)
             }
         }
-        Spot::Element(_, _, _) => value.copy(alloc),
+        Spot::Element(_, _, _) => value.share(alloc),
         Spot::Field(number) => {
             if *number == 0 {
                 Ok(Value::Input(Octets::new(text_of(alloc, value)?)))
             } else {
-                value.copy(alloc)
+                value.share(alloc)
             }
         }
     }

@@ -1,6 +1,5 @@
-// Values that are lent, copied, and their texts.
+// The texts of values.
 ghost use Rattle.awk_text.specs.Values.{text_of};
-ghost use Rattle.std.specs.Option.{option_copied};
 ghost use Rattle.std.specs.Prelude.{IfOk, ◌≡◌};
 
 use awk_text::fault::Fault;
@@ -8,16 +7,6 @@ use awk_text::octets::Octets;
 use awk_text::value::{Value, text_of};
 use itoa::Buffer;
 use std::alloc::Global;
-
-/// A value of its own for what is lent, if there is one.
-pub fn copied(alloc: Global, value: Option<&Value>) -> Result<Option<Value>, Fault>
-    ensures { IfOk result (λ x. x ≡ option_copied value.entry) }
-{
-    match value {
-        None => Ok(None),
-        Some(value) => Ok(Some(value.copy(alloc)?)),
-    }
-}
 
 /// The text of a value, which is moved where it is one.
 pub fn into_text(alloc: Global, value: Value) -> Result<Octets, Fault>

@@ -14,13 +14,12 @@ ghost use Rattle.awk_streams.specs.Tasks.{goes_on};
 ghost use Rattle.awk_text.specs.Arithmetic.{add as sum};
 ghost use Rattle.awk_text.specs.Values.{text_of};
 ghost use Rattle.std.specs.Option.{option_copied};
-ghost use Rattle.std.specs.Prelude.{Err, IfErr, IfSome, Ok, OnOk, false, pos, slice_get, slice_set, true, unwrap_or, ℤ};
+ghost use Rattle.std.specs.Prelude.{Err, IfErr, IfOk, IfSome, Ok, OnOk, false, pos, slice_get, slice_set, true, unwrap_or, ℤ};
 ghost use Rattle.std.specs.Prelude.{◌≡◌};
 
 use crate::cell::Cell;
 use crate::frame::Bound;
 use crate::store::Store;
-use crate::values::copied;
 use awk_program::{Own, Variable};
 use awk_streams::halt::{Halt, at};
 use awk_text::arithmetic::add;
@@ -47,6 +46,30 @@ fn bound_value(frame: &[Bound], place: usize) -> Option<&Value>
     match frame.get(place) {
         Some(Bound::Scalar(value)) => Some(value),
         Some(Bound::Handed(_)) | None => None,
+    }
+}
+
+/// The value at a slot once more: a long text is shared.
+#[inline(always)]
+fn share_at(alloc: Global, cells: &mut Vec<Cell>, slot: usize) -> Result<Value, Fault>
+    ensures ok { IfOk result (λ x. x ≡ value_at cells.old.items slot) }
+    ensures same { cells.new.items ≡ cells.old.items }
+{
+    match cells.get_mut(slot) {
+        Some(cell) => cell.share(alloc),
+        None => Ok(Value::Unset),
+    }
+}
+
+/// The value of a parameter once more: a long text is shared.
+#[inline(always)]
+fn share_bound(alloc: Global, frame: &mut Vec<Bound>, place: usize) -> Result<Value, Fault>
+    ensures ok { IfOk result (λ x. x ≡ unwrap_or (bound_scalar (slice_get frame.old.items place)) Value.Unset) }
+    ensures same { frame.new.items ≡ frame.old.items }
+{
+    match frame.get_mut(place) {
+        Some(bound) => bound.share(alloc),
+        None => Ok(Value::Unset),
     }
 }
 
@@ -148,6 +171,22 @@ impl Store {
         match variable {
             Variable::Global(slot) => value_at(self.cells.as_slice(), slot as usize),
             Variable::Parameter(place) => bound_value(self.frame.as_slice(), place as usize),
+        }
+    }
+
+    /// The value of a variable once more, as `value` lends it: a long text is not copied but shared.
+    ///
+    /// Fails where memory is refused.
+    #[inline(always)]
+    pub fn share(&mut self, variable: Variable) -> Result<Value, Fault>
+        ensures ok { IfOk result (λ x. x ≡ value self.old variable) }
+        ensures same { self.new ≡ self.old }
+    {
+        match variable {
+            Variable::Global(slot) => share_at(self.alloc, &mut self.cells, slot as usize),
+            Variable::Parameter(place) => {
+                share_bound(self.alloc, &mut self.frame, place as usize)
+            }
         }
     }
 
@@ -253,7 +292,7 @@ fn count_fields(store: &mut Store) -> Result<Value, Halt>
 }
 
 /// Reads a variable. Of NF the fields are counted, so the record is split where it was not.
-pub fn read_variable(alloc: Global, store: &mut Store, variable: Variable) -> Result<Value, Halt>
+pub fn read_variable(store: &mut Store, variable: Variable) -> Result<Value, Halt>
     ensures { (g : Given) (t : Table) →
         Acts g (Do (Get (machine.Variable (variable_of (names_in g) variable)))) give (store.old, t) result
         (store.new, t) }
@@ -261,10 +300,10 @@ pub fn read_variable(alloc: Global, store: &mut Store, variable: Variable) -> Re
     if is_nf(variable) {
         return count_fields(store);
     }
-    let Ok(value) = copied(alloc, store.value(variable)) else {
+    let Ok(value) = store.share(variable) else {
         return Err(Halt::Memory);
     };
-    Ok(value.unwrap_or(Value::Unset))
+    Ok(value)
 }
 
 /// Sets NF to the number of a value.

@@ -1,5 +1,4 @@
-use Rattle.std.proofs.Common.{sym, ap, ◌∙◌, unwrap_or}
-use Rattle.awk_text.specs.declared.value.Value.TheVariants as v
+use Rattle.std.proofs.Common.{sym, ◌∙◌}
 use Rattle.awk_store.proofs.VariableSteps.{reads_variable}
 use Rattle.awk_store.proofs.variables.read_variable.Goals as goal
 
@@ -8,4 +7,4 @@ returns-then-is_nf c = λ g t. c.count_fields.ensures g t c.args.variable (sym c
 
 pub returns : goal.returns
 returns c = λ g t.
-    rw (c.unwrap_or.ensures ∙ ap (λ o. unwrap_or o v.Unset) c.in-Ok.ensures ∙ c.value.ensures) (reads_variable g (c.args.store.now, t) c.args.variable (sym c.is_nf.ensures ∙ c.if-is_nf.false))
+    rw (c.share.ensures.same, c.in-Ok.ensures.ok) (reads_variable g (c.args.store.now, t) c.args.variable (sym c.is_nf.ensures ∙ c.if-is_nf.false))

@@ -1,0 +1,12 @@
+use Rattle.std.specs.Prelude.{slice_set}
+use Rattle.std.proofs.Common.{◌∙◌, ap}
+use Rattle.awk_store.proofs.Cells.{found_here, set_here}
+use Rattle.awk_store.proofs.variables.share_bound.Goals as goal
+
+pub returns-in-Some-clause-ok : goal.returns-in-Some-clause-ok
+returns-in-Some-clause-ok c =
+    rw (found_here c.args.frame.now.items c.args.place c.in-Some.bound.now c.in-Some.ensures.item.3.0 c.in-Some.ensures.value) c.share.ensures.ok
+
+pub returns-in-Some-clause-same : goal.returns-in-Some-clause-same
+returns-in-Some-clause-same c =
+    ap (slice_set c.args.frame.now.items c.args.place) c.share.ensures.same ∙ set_here c.args.frame.now.items c.args.place c.in-Some.bound.now c.in-Some.ensures.value
