@@ -1,5 +1,6 @@
 pub mod Arrays
 pub mod Dense
+pub mod Filled
 pub mod Kept
 pub mod Lends
 pub mod Numbering

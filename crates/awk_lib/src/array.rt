@@ -5,11 +5,14 @@ ghost use Rattle.std.specs.Fmt.{decimal};
 ghost use Rattle.awk_lib.specs.Arrays.{element, has, put, with_element, without, keys};
 
 use crate::elements::Elements;
+use crate::filling::elements_of;
 use crate::key::{Key, texts_of};
 use awk_text::fault::Fault;
 use awk_text::octets::Octets;
+use awk_text::value::Value;
 use std::alloc::Global;
 use std::marker::Model;
+use std::mem;
 
 /// How many elements an array may have.
 pub const MOST_ELEMENTS: usize = 1_000_000;
@@ -238,5 +241,36 @@ impl<V: Drop> Array<V> {
         self.elements.settle()?;
         self.settled = true;
         self.elements.keys()
+    }
+}
+
+impl Array<Value> {
+    ghost use Rattle.std.specs.Prelude.{◌<◌, ◌≤◌};
+    ghost use Rattle.awk_lib.specs.Arrays.{most_elements};
+    ghost use Rattle.awk_lib.specs.Filled.{texts_from};
+
+    /// Puts the texts, as values from outside, in place of all elements, under the keys 1, 2 and so on.
+    ///
+    /// Fails with `Fault::TooManyElements` exactly where there are more than `MOST_ELEMENTS`, and then nothing has
+    /// changed, and with `Fault::Memory` where memory is refused.
+    pub fn fill(&mut self, parts: Vec<Octets>) -> Result<(), Fault>
+        ensures ok { OnOk result (self.new ≡ texts_from 1 parts.items) }
+        ensures fits { OnOk result (length parts.items ≤ most_elements) }
+        ensures err { IfErr result (λ e. (e ≡ Fault.Memory)
+            ⊎ ((e ≡ Fault.TooManyElements) × (most_elements < length parts.items) × (self.new ≡ self.old))) }
+    {
+        if MOST_ELEMENTS < parts.len() {
+            return Err(Fault::TooManyElements);
+        }
+        let alloc = *parts.allocator();
+        let count = parts.len() as u64;
+        let old = mem::replace(self, Array::new(alloc));
+        let elements = elements_of(alloc, old.elements.into_room(), parts)?;
+        *self = Array {
+            elements,
+            next: count,
+            settled: true,
+        };
+        Ok(())
     }
 }

@@ -76,6 +76,32 @@ impl<V> Elements<V> {
         }
     }
 
+    /// The elements that lie at these places of the dense part, and no others. Takes no memory.
+    pub(crate) fn of_places(
+        alloc: Global,
+        places: Vec<Option<Numbered<V>>>,
+        count: usize,
+    ) -> Elements<V>
+        ensures places { result.dense.places.items ≡ places.items }
+        ensures map { result.map.entries ≡ [] }
+        ensures count { result.count ≡ count }
+    {
+        Elements {
+            dense: Dense { places },
+            map: IndexMap::new(alloc),
+            count,
+            steps: Cell::new(Steps::new()),
+        }
+    }
+
+    /// What the places of the dense part lay in, for others. Takes no memory.
+    pub(crate) fn into_room(self) -> Vec<Option<Numbered<V>>>
+    where
+        V: Drop,
+    {
+        self.dense.places
+    }
+
     /// Whether the key has the place in the map, which may be empty. Takes no memory.
     fn is_at(&self, i: usize, key: &[u8]) -> bool
         ensures { result ≡ true → (k : _) × (p : _) × (slice_get self.now.map.entries i ≡ Some (k, p))

@@ -5,6 +5,7 @@
 pub mod array;
 mod dense;
 mod elements;
+mod filling;
 pub mod key;
 mod new_text;
 pub mod replacing;

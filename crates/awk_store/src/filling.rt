@@ -19,17 +19,7 @@ pub(crate) fn fill_with(array: &mut Array<Value>, parts: Vec<Octets>) -> Result<
     ensures err { IfErr result (λ e. (e ≡ Fault.Memory) ⊎ ((filled parts.items ≡ Err e) × (array.new ≡ array.old))) }
 {
     let count = parts.len();
-    if MOST_ELEMENTS < count {
-        return Err(Fault::TooManyElements);
-    }
-    array.clear();
-    let mut rest = parts;
-    rest.as_mut_slice().reverse();
-    let mut number: usize = 1;
-    while let Some(part) = rest.pop() {
-        array.set_number(number, Value::Input(part))?;
-        number += 1;
-    }
+    array.fill(parts)?;
     Ok(count as i64)
 }
 
