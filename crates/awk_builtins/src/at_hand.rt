@@ -492,6 +492,14 @@ pub fn value_at_hand(alloc: Global, store: &Store, e: &Expr) -> Option<Value>
     if let Some(number) = number_there(store, e) {
         return Some(Value::Num(number));
     }
+    other_at_hand(alloc, store, e)
+}
+
+/// The same, of what `number_there` has no number for.
+#[inline(always)]
+pub fn other_at_hand(alloc: Global, store: &Store, e: &Expr) -> Option<Value>
+    ensures { IfSome result (λ v. IsThere (λ names. view names e.now) store.now v) }
+{
     match e {
         Expr::Builtin(_, which, args) => called_there(alloc, store, *which, args.as_slice()),
         Expr::Read(_) | Expr::Text(_) | Expr::Count(_) => value_there(alloc, store, e),

@@ -12,7 +12,7 @@ ghost use Rattle.awk_store.specs.Wholes.{names_in};
 use crate::calls::call;
 use crate::statements;
 use crate::statements::{block, either, perform, plain, when};
-use awk_builtins::at_hand::value_at_hand;
+use awk_builtins::at_hand::{number_there, other_at_hand};
 use awk_forms::context::{Context, Run};
 use awk_forms::evaluates::Evaluates;
 use awk_forms::expressions::{chain, choose, evaluate};
@@ -103,12 +103,15 @@ pub fn value<W: World>(
         };
         return call(cx, *place, *f, xs.as_slice(), below, run, world);
     }
+    if let Some(number) = number_there(&run.store, e) {
+        return Ok(Value::Num(number));
+    }
     if let Expr::Read(target) = e {
         if let Target::Variable(variable) = target {
             return value_of_variable(cx, *variable, run, world);
         }
     }
-    if let Some(there) = value_at_hand(cx.alloc, &run.store, e) {
+    if let Some(there) = other_at_hand(cx.alloc, &run.store, e) {
         return Ok(there);
     }
     let units = units_of(e);

@@ -194,6 +194,31 @@ pub fn put<W: World, E: Evaluates<W>>(
     set(cx.alloc, &mut run.store, to, place, new)
 }
 
+/// `variable += value`, and with the other operators, whose value nothing wants.
+#[inline(always)]
+fn alter_variable<W: World, E: Evaluates<W>>(
+    cx: &Context<'_>,
+    place: Place,
+    how: Operator,
+    variable: Variable,
+    x: &Expr,
+    on: E,
+    run: &mut Run,
+    world: &mut W,
+) -> Result<(), Halt>
+    requires can { E.can on }
+    requires owns { Owns (W.open_numbers world.old) run.old.streams }
+    ensures { Tells W.World cx.now
+        (λ g. value (p.change place how (p.variable (variable_of (names_in g) variable)) (view (names_in g) x.now)))
+        IsUnwanted
+        (whole_of run.old) world.old result (whole_of run.new) world.new }
+{
+    let operand = on.value(cx, x, run, world)?;
+    let old = read_variable(&mut run.store, variable)?;
+    let number = computed_at(place, how, &old, &operand)?;
+    set_variable(&mut run.store, variable, place, Value::Num(number))
+}
+
 /// `target += value`, and with the other operators, whose value nothing wants.
 pub fn alter<W: World, E: Evaluates<W>>(
     cx: &Context<'_>,
@@ -211,6 +236,9 @@ pub fn alter<W: World, E: Evaluates<W>>(
         (λ g. value (p.change place how (view_target (names_in g) target.now) (view (names_in g) x.now))) IsUnwanted
         (whole_of run.old) world.old result (whole_of run.new) world.new }
 {
+    if let Target::Variable(variable) = target {
+        return alter_variable(cx, place, how, *variable, x, on, run, world);
+    }
     let to = target_of(cx, target, on, run, world)?;
     let operand = on.value(cx, x, run, world)?;
     let old = read(&mut run.store, &to)?;

@@ -6,7 +6,7 @@ use Rattle.awk_program.proofs.Views.{view-Builtin}
 use Rattle.awk_text.specs.declared.place.Place.{Place}
 use Rattle.awk_builtins.specs.AtHand.{IsThere}
 use Rattle.awk_builtins.proofs.Rests.{some_for}
-use Rattle.awk_builtins.proofs.at_hand.value_at_hand.Goals as goal
+use Rattle.awk_builtins.proofs.at_hand.other_at_hand.Goals as goal
 
 pub returns-in-Builtin : goal.returns-in-Builtin
 returns-in-Builtin c =
