@@ -65,7 +65,8 @@ fn fetch_record<W: World>(
 }
 
 /// Reads a record for `getline target < file`, once the file's name is known: the record as input, 0 at its end, or -1
-/// where it can't be read. `set_from_file` sets it.
+/// where it can't be read. `set_from_file` sets it. It stands out of line, since forms that nest call it.
+#[inline(never)]
 pub fn file_record<W: World>(
     alloc: Global,
     place: Place,
@@ -111,7 +112,8 @@ pub fn set_from_file(
 }
 
 /// Reads a record for `command | getline target`, once the command and what is set are known: the record as input, 0 at
-/// its end, or -1 where it can't be read. `set_from_command` sets it.
+/// its end, or -1 where it can't be read. `set_from_command` sets it. It stands out of line, as `file_record` does.
+#[inline(never)]
 pub fn command_record<W: World>(
     alloc: Global,
     place: Place,

@@ -266,7 +266,7 @@ fn next_any<W: World>(
 
 /// The next record of the main input is set and counted, for the rules to meet it; answers whether there was one. It is
 /// written where the text of the record before the present one lay, so that few records need memory.
-#[inline(never)]
+#[inline(always)]
 pub fn next_record<W: World>(
     alloc: Global,
     host: &Host,

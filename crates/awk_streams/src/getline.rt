@@ -75,8 +75,8 @@ pub fn take_standard_line(rs: &[u8], streams: &mut Streams, room: &mut Vec<u8>) 
     streams.take_standard_line(rs, room)
 }
 
-/// The same of a stream that is opened. It stands out of line, so that reading the standard input stays short.
-#[inline(never)]
+/// The same of a stream that is opened.
+#[inline(always)]
 pub fn take_line(
     name: &StreamName<'_>,
     rs: &[u8],
@@ -92,6 +92,7 @@ pub fn take_line(
 
 /// The first record of what is held unread, where it needs no other look; `None` where it does, or where the stream is
 /// not open. Of the standard input `record` says what there is.
+#[inline(always)]
 fn held_line(source: &InputStream<'_>, rs: &[u8], streams: &mut Streams) -> Option<Octets>
     ensures some { IfSome result (λ text. IsLine (key_of source.now) rs.now streams.old text streams.new) }
     ensures none { result ≡ None → streams.new ≡ streams.old }
@@ -249,7 +250,30 @@ fn open_source<W: World>(
     }
 }
 
+/// As `fetch`, where no record was found that needs no other look. It stands out of line, since few records need it.
+#[inline(never)]
+fn fetch_any<W: World>(
+    alloc: Global,
+    place: Place,
+    source: InputStream<'_>,
+    rs: &[u8],
+    streams: &mut Streams,
+    world: &mut W,
+) -> Result<Value, Halt>
+    requires { Owns (W.open_numbers world.old) streams.old }
+    ensures task { (g : Given) (s : State) → own_text s (codes "RS") ≡ rs.now
+        → Does W.World g s (Do (fetching place (key_of source.entry))) give streams.old world.old result streams.new
+        world.new }
+    ensures owns { Owns (W.open_numbers world.new) streams.new }
+{
+    if !open_source(alloc, place, &source, streams, world)? {
+        return Ok(Value::Num(-1));
+    }
+    read(place, &source, rs, streams, world)
+}
+
 /// Reads a record of a stream, which is opened before where it is not open; -1 where it can't be.
+#[inline(always)]
 pub fn fetch<W: World>(
     alloc: Global,
     place: Place,
@@ -267,8 +291,5 @@ pub fn fetch<W: World>(
     if let Some(text) = held_line(source, rs, streams) {
         return Ok(Value::Input(text));
     }
-    if !open_source(alloc, place, source, streams, world)? {
-        return Ok(Value::Num(-1));
-    }
-    read(place, source, rs, streams, world)
+    fetch_any(alloc, place, *source, rs, streams, world)
 }

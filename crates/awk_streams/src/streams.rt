@@ -363,6 +363,7 @@ impl Streams {
 
     /// Takes the first record of what is held unread of an input, if it is open, and writes it into the room; see
     /// `Reader::take_line`.
+    #[inline(always)]
     pub fn take_line(&mut self, name: &StreamName<'_>, rs: &[u8], room: &mut Vec<u8>) -> bool
         ensures taken { result ≡ true →
             TakesLine (kind name.now.class) name.now.text.now rs.now self.old.entries room.new.items self.new.entries }
