@@ -2,9 +2,10 @@
 use Rattle.std.proofs.Common.{◌≡◌, refl, sym, ap, ◌∙◌, ◌+◌, ◌≤◌, ◌<◌, ℕ, false, List, [], ◌∷◌, ◌++◌, length, map, drop, get_or, arith, append_assoc}
 use Rattle.std.proofs.lemmas.Bool.Decides.{nat_tests}
 use Rattle.std.proofs.lemmas.List.{length-append, drop_more}
-use Rattle.std.specs.Prelude.{Bool, true, nat_le, Option, Some, None, Ok, IfSome}
+use Rattle.std.specs.Prelude.{Bool, true, nat_le, Option, Some, None, Result, Ok, IfSome}
 use Rattle.awk_text.specs.Limits.{most_bytes}
 use Rattle.awk_text.specs.Values.{text_of}
+use Rattle.awk_text.specs.declared.fault.Fault.{Fault}
 use Rattle.awk_text.specs.declared.place.Place.{Place}
 use Rattle.awk_text.specs.declared.value.Value.{Value}
 use Rattle.awk_text.specs.declared.value.Value.TheVariants as v
@@ -41,6 +42,9 @@ so_far g rest text n more k = At (Texts_of (joins_of (map (view_joined (names_in
 abbrev pub behind : Given → List (Joined Expr) → ℕ → Value → List Piece → List Piece
 behind g rest n val k = At (Texts_of (joins_of (map (view_joined (names_in g)) (drop n rest)))) (val ∷ []) ∷ k
 
+abbrev ok_of : Text → Result Text Fault
+ok_of text = Ok text
+
 -- a text that was granted is within the limit
 fits_by : (b : Bool) (text key : Text) → nat_le (length text) most_bytes ≡ b → limited text ≡ Ok key → length text ≤ most_bytes
 fits_by true text key e h = grind (arith, nat_tests)
@@ -48,6 +52,12 @@ fits_by false text key e h = absurd (grind (arith, nat_tests))
 
 pub limited_fits : (text key : Text) → limited text ≡ Ok key → length text ≤ most_bytes
 limited_fits text key h = fits_by (nat_le (length text) most_bytes) text key refl h
+
+-- and is that text
+pub limited_is : (text key : Text) → limited text ≡ Ok key → text ≡ key
+limited_is text key h =
+    let both : ok_of text ≡ ok_of key = sym (limited_ok text (limited_fits text key h)) ∙ h in
+    cc
 
 module _ (g : Given) (w : Whole) where
   -- ---- operands are joined

@@ -1,6 +1,6 @@
 -- Expressions whose value is there: to evaluate them changes nothing and meets no fault; and assignments that are done
 -- at once.
-use Rattle.std.specs.Prelude.{◌≡◌, ◌≤◌, ℕ, ℤ, Bool, false, true, Ok, Some, List, [], ◌∷◌, Option, length, map}
+use Rattle.std.specs.Prelude.{◌≡◌, ◌<◌, ◌≤◌, ℕ, ℤ, Bool, false, true, Ok, Some, List, [], ◌∷◌, Option, length, map}
 use Rattle.awk_fields.specs.Rows.{joined}
 use Rattle.awk_text.specs.Limits.{most_bytes}
 use Rattle.awk_text.specs.Values.{number_of, numeric, text_of, truth}
@@ -80,13 +80,14 @@ pub record HoldsJoined (kept : Kept) (xs : List Expr) (separator : List ℕ) (fi
   pub line_is : line ≡ held (joined separator (first ∷ vals))
 
 -- a line is the text of a value, which is that of operands one after the other, and is there where that text is within
--- the limit
+-- the limit; of two operands and more it is a text
 pub record HoldsOperands (kept : Kept) (first : Expr) (rest : List (Joined Expr)) (line : Option (List ℕ)) : Type 0
   where
     pub val : Value
     pub line_is : line ≡ held (text_of val)
     pub there : length (text_of val) ≤ most_bytes →
         IsThere (λ names. p.concat (view names first) (joins_of (map (view_joined names) rest))) kept val
+    pub is_text : 0 < length rest → val ≡ v.Text (text_of val)
 
 -- subscripts are this key, of whichever array
 abbrev pub IsKey : List Expr → Kept → List ℕ → Type 0

@@ -2,10 +2,10 @@
 ghost use Rattle.awk_fields.specs.Rows.{IsValueAt, joined};
 ghost use Rattle.awk_machine.specs.Operators as machine;
 ghost use Rattle.awk_program.specs.Program as p;
-ghost use Rattle.awk_program.specs.Program.{expressions_of};
-ghost use Rattle.awk_program.specs.View.{variable_of, view, view_target};
+ghost use Rattle.awk_program.specs.Program.{expressions_of, joins_of};
+ghost use Rattle.awk_program.specs.View.{variable_of, view, view_joined, view_target};
 ghost use Rattle.awk_program.specs.declared.operators.StepValue.{StepValue as Which};
-ghost use Rattle.awk_builtins.specs.AtHand.{AddsAt, AreThere, HoldsOperands, IsDone, IsKey};
+ghost use Rattle.awk_builtins.specs.AtHand.{AddsAt, AreThere, HoldsOperands, IsDone, IsKey, IsThere};
 ghost use Rattle.awk_builtins.specs.Lines.{held};
 ghost use Rattle.awk_store.specs.Changes.{Adds, Puts, with_array};
 ghost use Rattle.awk_store.specs.Kept as kept;
@@ -47,6 +47,31 @@ fn join_at_hand(line: &mut Line, store: &Store, first: &Expr, rest: &[Joined<Exp
         }
     }
     true
+}
+
+/// The value of a concatenation whose operands are at hand; `None` stands for refused memory too, and for a text that
+/// is too long. Its text is made in the line.
+pub fn concat_at_hand(
+    alloc: Global,
+    line: &mut Line,
+    store: &Store,
+    first: &Expr,
+    rest: &[Joined<Expr>],
+) -> Option<Value>
+    ensures { IfSome result
+        (λ v. IsThere (λ names. p.concat (view names first.now) (joins_of (map (view_joined names) rest.now))) store.now
+        v) }
+{
+    if rest.is_empty() {
+        return None;
+    }
+    if !join_at_hand(line, store, first, rest) {
+        return None;
+    }
+    let Ok(text) = line.own_text(alloc) else {
+        return None;
+    };
+    Some(Value::Text(text))
 }
 
 /// Makes the line the texts of subscripts that are at hand with SUBSEP between, and answers whether it did.

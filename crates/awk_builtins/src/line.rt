@@ -5,7 +5,7 @@ ghost use Rattle.awk_format.specs.Formatted.{within};
 ghost use Rattle.awk_lib.specs.Written.{written};
 ghost use Rattle.awk_text.specs.Values.{text_of};
 ghost use Rattle.std.specs.List.{flat_map};
-ghost use Rattle.std.specs.Prelude.{Err, IfErr, IfOk, List, Ok, OnOk, Some, [], ℕ, ◌++◌, ◌≡◌};
+ghost use Rattle.std.specs.Prelude.{Err, IfErr, IfOk, List, Ok, OnOk, Some, [], ℕ, ◌++◌, ◌≡◌, ◌⊎◌};
 
 use awk_text::Memory;
 use awk_text::fault::Fault;
@@ -16,6 +16,9 @@ use itoa::Buffer;
 use std::alloc::Global;
 use std::marker::Model;
 use std::mem;
+
+/// The most bytes of a text that are copied out of a line, so that its room stays.
+const MOST_COPIED: usize = 255;
 
 /// A text that is made piece by piece, or that it has gone over `MOST_BYTES`: then no more is kept of it. The
 /// room of one text serves the next one.
@@ -119,6 +122,20 @@ impl Line {
         }
         let none = Vec::new(*self.bytes.allocator());
         Ok(Octets::new(mem::replace(&mut self.bytes, none)))
+    }
+
+    /// The text as one of its own: a copy of it, or what it lies in where it has more than 255 bytes.
+    ///
+    /// Fails as `take` does, and with `Fault::Memory` where memory is refused.
+    pub fn own_text(&mut self, alloc: Global) -> Result<Octets, Fault>
+        ensures ok { IfOk result (λ text. within self.old ≡ Ok text) }
+        ensures err { IfErr result (λ e. (e ≡ Fault.Memory) ⊎ (within self.old ≡ Err e)) }
+    {
+        if MOST_COPIED < self.bytes.len() {
+            return self.take();
+        }
+        let text = self.text()?;
+        Ok(Octets::of(alloc, text)?)
     }
 
     /// Begins a new text in the room of one that was taken out. Takes no memory.

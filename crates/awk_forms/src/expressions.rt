@@ -22,7 +22,7 @@ use crate::tests::{number, truth_of};
 use awk_builtins::arrays::count;
 use awk_builtins::at_hand::{MOST_LEVELS, at_hand, number_at_hand, truth_at_hand};
 use awk_builtins::chains::{join, members, operated};
-use awk_builtins::done::done_at_once;
+use awk_builtins::done::{concat_at_hand, done_at_once};
 use awk_builtins::made::owned;
 use awk_builtins::operands::{Binary, Unary};
 use awk_builtins::operators::{compared, compared_lent, truth_value};
@@ -142,8 +142,8 @@ pub fn chain<W: World, E: Evaluates<W>>(
     Ok(so_far)
 }
 
-/// Operands one directly after the other.
-fn concat<W: World, E: Evaluates<W>>(
+/// Operands one directly after the other, each evaluated.
+fn concat_each<W: World, E: Evaluates<W>>(
     cx: &Context<'_>,
     x: &Expr,
     xs: &[Joined<Expr>],
@@ -163,6 +163,27 @@ fn concat<W: World, E: Evaluates<W>>(
         so_far = join(cx.alloc, next.place, so_far, &operand)?;
     }
     Ok(so_far)
+}
+
+/// Operands one directly after the other. Where they are at hand, no value is made of each.
+fn concat<W: World, E: Evaluates<W>>(
+    cx: &Context<'_>,
+    x: &Expr,
+    xs: &[Joined<Expr>],
+    on: E,
+    run: &mut Run,
+    world: &mut W,
+) -> Result<Value, Halt>
+    requires can { E.can on }
+    requires owns { Owns (W.open_numbers world.old) run.old.streams }
+    ensures { Does W.World cx.now
+        (λ g. value (p.concat (view (names_in g) x.now) (joins_of (map (view_joined (names_in g)) xs.now)))) (λ g. give)
+        (whole_of run.old) world.old result (whole_of run.new) world.new }
+{
+    if let Some(there) = concat_at_hand(cx.alloc, &mut run.line, &run.store, x, xs) {
+        return Ok(there);
+    }
+    concat_each(cx, x, xs, on, run, world)
 }
 
 /// `key in array in array ..`

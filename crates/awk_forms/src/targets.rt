@@ -363,11 +363,10 @@ pub fn change<W: World, E: Evaluates<W>>(
     let operand = on.value(cx, x, run, world)?;
     let old = read(&mut run.store, &to)?;
     let number = computed_at(place, how, &old, &operand)?;
-    let mut new = Value::Num(number);
-    let Ok(kept) = stored(cx.alloc, &to, &mut new) else {
+    let Ok(kept) = stored(cx.alloc, &to, &mut Value::Num(number)) else {
         return Err(Halt::Memory);
     };
-    set(cx.alloc, &mut run.store, to, place, new)?;
+    set(cx.alloc, &mut run.store, to, place, Value::Num(number))?;
     Ok(kept)
 }
 

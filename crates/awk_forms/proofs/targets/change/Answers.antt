@@ -63,6 +63,6 @@ pub returns : goal.returns
 returns g c =
     record {
       plays = λ m is.
-          done (quietly (part _ (turned {then_ = λ k. Do (Set (meant (names_in m) c.in_ok-to.to) c.args.place (v.Num c.in_ok-number.number)) ∷ Do (Give (stored (meant (names_in m) c.in_ok-to.to) (v.Num c.in_ok-number.number))) ∷ k} (part _ (part _ (quietly {then_ = λ k. Do (Get (meant (names_in m) c.in_ok-to.to)) ∷ At (Value_of (p.change c.args.place c.args.how (view_target (names_in m) c.args.target.now) (view (names_in m) c.args.x.now))) (c.in_ok-operand.operand ∷ value_of c.in_ok-to.to ∷ []) ∷ k} (part _ (quietly (part _ (quietly (at_once _ _ _) (λ k hid d a. refl)) (c.target_of.ensures.plays.plays m is) c.in_ok-to.was) (λ k hid d a. refl)) (c.value.ensures.plays m is) c.in_ok-operand.was) (λ k hid d a. rw (c.in_ok-to.ensures.spot (names_in m)) refl)) (acted (c.read.ensures m c.value.new.run.streams)) c.in_ok-old.was) (acted (c.computed_at.ensures m (c.read.new.store, c.value.new.run.streams) (view_target (names_in m) c.args.target.now) (view (names_in m) c.args.x.now) (value_of c.in_ok-to.to))) c.in_ok-number.was) (λ k. ap (λ t. Do (Set t c.args.place (v.Num c.in_ok-number.number)) ∷ Do (Give (stored t (v.Num c.in_ok-number.number))) ∷ k) (c.in_ok-to.ensures.spot (names_in m)))) (acted (rw (to_z-of_z w64 c.in_ok-number.number (search rules)) at (c.set.ensures m c.value.new.run.streams))) c.in_ok-set.was) (λ k hid d a. rw (stored-so m _ hid d a c.in_ok-to.to (v.Num c.in_ok-number.number) ∙ sym (rw (to_z-of_z w64 c.in_ok-number.number (search rules)) at c.in-Ok.ensures)) refl));
+          done (quietly (part _ (turned {then_ = λ k. Do (Set (meant (names_in m) c.in_ok-to.to) c.args.place (v.Num c.in_ok-number.number)) ∷ Do (Give (stored (meant (names_in m) c.in_ok-to.to) (v.Num c.in_ok-number.number))) ∷ k} (part _ (part _ (quietly {then_ = λ k. Do (Get (meant (names_in m) c.in_ok-to.to)) ∷ At (Value_of (p.change c.args.place c.args.how (view_target (names_in m) c.args.target.now) (view (names_in m) c.args.x.now))) (c.in_ok-operand.operand ∷ value_of c.in_ok-to.to ∷ []) ∷ k} (part _ (quietly (part _ (quietly (at_once _ _ _) (λ k hid d a. refl)) (c.target_of.ensures.plays.plays m is) c.in_ok-to.was) (λ k hid d a. refl)) (c.value.ensures.plays m is) c.in_ok-operand.was) (λ k hid d a. rw (c.in_ok-to.ensures.spot (names_in m)) refl)) (acted (c.read.ensures m c.value.new.run.streams)) c.in_ok-old.was) (acted (c.computed_at.ensures m (c.read.new.store, c.value.new.run.streams) (view_target (names_in m) c.args.target.now) (view (names_in m) c.args.x.now) (value_of c.in_ok-to.to))) c.in_ok-number.was) (λ k. ap (λ t. Do (Set t c.args.place (v.Num c.in_ok-number.number)) ∷ Do (Give (stored t (v.Num c.in_ok-number.number))) ∷ k) (c.in_ok-to.ensures.spot (names_in m)))) (acted (rw (to_z-of_z w64 c.in_ok-number.number (search rules)) at (c.set.ensures m c.value.new.run.streams))) c.in_ok-set.was) (λ k hid d a. rw (stored-so m _ hid d a c.in_ok-to.to (v.Num c.in_ok-number.number) ∙ sym (rw (to_z-of_z w64 c.in_ok-number.number (search rules)) at c.in-Ok.ensures.ok)) refl));
       owns = c.value.ensures.owns;
     }
