@@ -272,7 +272,10 @@ fn give_back<W: World, E: Evaluates<W>>(
         None => Ok(Flow::Return),
         Some(x) => {
             let answer = on.value(cx, x, run, world)?;
-            Ok(Flow::returning(cx.alloc, answer)?)
+            let Ok(flow) = Flow::returning(cx.alloc, answer) else {
+                return Err(Halt::Memory);
+            };
+            Ok(flow)
         }
     }
 }
