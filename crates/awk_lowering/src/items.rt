@@ -17,7 +17,7 @@ use crate::names::Lowering;
 use crate::rules::{function_of, holds, range, rule_of};
 use crate::statements::statements;
 use awk_program::{Function, GlobalName, Program, Rule, Statement, When};
-use awk_resolve::{Roll, Tables};
+use awk_resolve::{OwnNames, Tables};
 use awk_text::Memory;
 use awk_text::octets::Octets;
 use awk_text::place::Place;
@@ -32,7 +32,7 @@ const DEEPEST: u32 = u32::MAX;
 fn within<'a>(
     alloc: Global,
     tables: &'a Tables,
-    parameters: &'a Roll,
+    parameters: &'a OwnNames<'a>,
     own_arrays: &'a [bool],
 ) -> Lowering<'a>
     ensures names { names_in result ≡ tables.now.variables }
@@ -124,7 +124,7 @@ fn function(alloc: Global, tables: &Tables, f: &awk_tree::Function) -> Result<Fu
     ensures { IsFunction tables.now.variables result
         (spec.function_of (tables_in tables.now) f.now.name.text (texts f.now.params) (map view_statement f.now.body)) }
 {
-    let parameters = Roll::of_names(alloc, f.params.as_slice())?;
+    let parameters = OwnNames::of(alloc, f.params.as_slice())?;
     let flags = flags(tables, f.name.text.bytes());
     let context = within(alloc, tables, &parameters, flags);
     let body = action(&context, f.body.as_slice());
@@ -210,7 +210,7 @@ pub fn program(alloc: Global, tables: &Tables, items: &[Item]) -> Result<Program
     let texts = tables.variables.texts();
     let variables = named(alloc, texts, tables.script_arrays.as_slice())?;
     let mut out = empty(alloc, variables);
-    let none = Roll::new(alloc);
+    let none = OwnNames::none();
     let context = within(alloc, tables, &none, &[]);
     let filled = add_all(&context, tables, items, &mut out);
     finished(out, filled)

@@ -9,7 +9,7 @@ ghost use Rattle.awk_program.specs.View.{variable_of};
 
 use crate::kept::push;
 use awk_program::Variable;
-use awk_resolve::Roll;
+use awk_resolve::{OwnNames, Roll};
 use awk_text::Memory;
 use awk_tree::Member;
 use sqlite_items::Items;
@@ -26,7 +26,7 @@ pub struct Lowering<'a> {
     pub functions: &'a Roll,
     pub arrays: &'a [Items<bool>],
     /// The parameters of the function that the item is, and of each whether it is an array.
-    pub parameters: &'a Roll,
+    pub parameters: &'a OwnNames<'a>,
     pub own_arrays: &'a [bool],
 }
 

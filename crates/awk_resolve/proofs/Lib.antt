@@ -23,3 +23,4 @@ pub mod Assigning
 pub mod Apart
 pub mod Growing
 pub mod Rolls
+pub mod ShortTables

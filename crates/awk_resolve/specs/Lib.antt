@@ -17,3 +17,4 @@ pub mod Tables
 pub mod Sound
 pub mod TablesIn
 pub mod Rolls
+pub mod OwnNames

@@ -8,6 +8,7 @@ ghost use Rattle.awk_resolve.specs.Uses as uses;
 
 use crate::inside::Inside;
 use crate::mention::{Mention, Role, Section};
+use crate::short_table::ShortTable;
 use crate::table::TextTable;
 use crate::variables::{ARRAYS, SCALARS};
 use awk_text::Memory;
@@ -20,7 +21,7 @@ use std::alloc::{AllocError, Global};
 #[derive(Drop)]
 pub struct Scope {
     /// Where each stands among them, by its text.
-    pub positions: TextTable<usize>,
+    pub positions: ShortTable<usize>,
     /// The number of each, in order.
     pub numbers: Items<usize>,
 }
@@ -35,13 +36,14 @@ pub struct Numbers {
 }
 
 impl Scope {
-    fn new(alloc: Global) -> Scope
-        ensures { result ≡ spec.no_parameters }
+    /// One without parameters, with room for so many.
+    fn new(alloc: Global, count: usize) -> Result<Scope, Memory>
+        ensures { IfOk result (λ s. s ≡ spec.no_parameters) }
     {
-        Scope {
-            positions: TextTable::new(alloc),
-            numbers: Items::new(alloc),
-        }
+        Ok(Scope {
+            positions: ShortTable::new(alloc, count)?,
+            numbers: Items::from_vec(Vec::with_capacity(alloc, count)?),
+        })
     }
 
     fn add(&mut self, text: Octets, number: usize) -> Result<(), Memory>
@@ -137,7 +139,7 @@ impl Numbers {
         ensures scope { IfOk result (λ s. s ≡ spec.scope self.old.count spec.no_parameters params.now) }
         ensures rest { OnOk result (self.new ≡ spec.counted_by (length params.now) self.old) }
     {
-        let mut scope = Scope::new(alloc);
+        let mut scope = Scope::new(alloc, params.len())?;
         for param in params {
             let number = self.fresh()?;
             scope.add(param.text.copy(alloc)?, number)?;

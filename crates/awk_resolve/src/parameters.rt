@@ -4,6 +4,7 @@ ghost use Rattle.std.specs.Prelude.{◌≡◌, [], IfOk};
 ghost use Rattle.awk_resolve.specs.Search as search_of;
 
 use crate::mention::{Role, Section};
+use crate::short_table::ShortTable;
 use crate::table::TextTable;
 use crate::variables::is_variable;
 use awk_text::Memory;
@@ -12,7 +13,7 @@ use awk_tree::Name;
 use std::alloc::Global;
 
 /// Whether a parameter has the name of one before it, of a function or of a variable that awk sets.
-fn is_misnamed(known: &TextTable<usize>, seen: &TextTable<Place>, name: &Name) -> bool
+fn is_misnamed(known: &TextTable<usize>, seen: &ShortTable<Place>, name: &Name) -> bool
     ensures { result ≡ search_of.is_misnamed known.now seen.now name.now }
 {
     let text = name.text.bytes();
@@ -26,7 +27,7 @@ fn misnamed_in(
 ) -> Result<Option<Place>, Memory>
     ensures { IfOk result (λ place. place ≡ search_of.misnamed_in known.now [] params.now) }
 {
-    let mut seen = TextTable::new(alloc);
+    let mut seen = ShortTable::new(alloc, params.len())?;
     for param in params {
         if is_misnamed(known, &seen, param) {
             return Ok(Some(param.place));

@@ -7,6 +7,7 @@ ghost use Rattle.awk_resolve.specs.Sound.{Sound};
 ghost use Rattle.awk_resolve.specs.Tables as spec;
 
 use crate::mention::{Mention, Role, Section};
+use crate::own_names::OwnNames;
 use crate::roll::Roll;
 use crate::variables::{ARRAYS, SCALARS};
 use awk_text::Memory;
@@ -41,7 +42,12 @@ fn add_copy(alloc: Global, name: &Name, out: &mut Roll) -> Result<(), Memory>
 }
 
 /// Puts a name last that is no parameter, unless it is there.
-fn add_name(alloc: Global, parameters: &Roll, name: &Name, out: &mut Roll) -> Result<(), Memory>
+fn add_name(
+    alloc: Global,
+    parameters: &OwnNames<'_>,
+    name: &Name,
+    out: &mut Roll,
+) -> Result<(), Memory>
     ensures { OnOk result (out.new ≡ spec.behind out.old (spec.outside parameters.now (name.now ∷ []))) }
 {
     match parameters.position(name.text.bytes()) {
@@ -52,7 +58,7 @@ fn add_name(alloc: Global, parameters: &Roll, name: &Name, out: &mut Roll) -> Re
 
 fn add_argument(
     alloc: Global,
-    parameters: &Roll,
+    parameters: &OwnNames<'_>,
     name: &Option<Name>,
     out: &mut Roll,
 ) -> Result<(), Memory>
@@ -66,7 +72,7 @@ fn add_argument(
 
 fn add_arguments(
     alloc: Global,
-    parameters: &Roll,
+    parameters: &OwnNames<'_>,
     args: &[Option<Name>],
     out: &mut Roll,
 ) -> Result<(), Memory>
@@ -80,7 +86,7 @@ fn add_arguments(
 
 fn add_mention(
     alloc: Global,
-    parameters: &Roll,
+    parameters: &OwnNames<'_>,
     mention: &Mention,
     out: &mut Roll,
 ) -> Result<(), Memory>
@@ -97,7 +103,7 @@ fn add_mention(
 
 fn add_mentions(
     alloc: Global,
-    parameters: &Roll,
+    parameters: &OwnNames<'_>,
     mentions: &[Mention],
     out: &mut Roll,
 ) -> Result<(), Memory>
@@ -110,12 +116,12 @@ fn add_mentions(
 }
 
 /// The names that an item of this role has to itself.
-fn parameters(alloc: Global, role: &Role) -> Result<Roll, Memory>
-    ensures { IfOk result (λ roll. roll ≡ spec.own_of role.now) }
+fn parameters<'a>(alloc: Global, role: &'a Role) -> Result<OwnNames<'a>, Memory>
+    ensures { IfOk result (λ own. own ≡ spec.own_of role.now) }
 {
     match role {
-        Role::Function(_name, params) => Roll::of_names(alloc, params.as_slice()),
-        Role::Begin | Role::End | Role::Rule => Ok(Roll::new(alloc)),
+        Role::Function(_name, params) => OwnNames::of(alloc, params.as_slice()),
+        Role::Begin | Role::End | Role::Rule => Ok(OwnNames::none()),
     }
 }
 

@@ -1,6 +1,6 @@
 // What stands under texts.
 
-ghost use Rattle.std.specs.Prelude.{◌≡◌, [], OnOk, OnErr};
+ghost use Rattle.std.specs.Prelude.{◌≡◌, ◌↔◌, true, [], OnOk, OnErr};
 ghost use Rattle.std.specs.Map.{lookup};
 ghost use Rattle.std.specs.Option.{option_copied};
 ghost use Rattle.std.specs.Str.{bytes_eq};
@@ -34,6 +34,13 @@ impl<V> TextTable<V> {
         TextTable {
             entries: IndexMap::new(alloc),
         }
+    }
+
+    /// Whether nothing stands under any text.
+    pub fn is_empty(&self) -> bool
+        ensures { (result ≡ true) ↔ (self.now ≡ []) }
+    {
+        self.entries.is_empty()
     }
 
     pub fn get(&self, text: &[u8]) -> Option<&V>
