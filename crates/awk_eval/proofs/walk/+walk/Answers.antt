@@ -3,12 +3,13 @@ use Rattle.awk_forms.proofs.Leading.{quietly}
 use Rattle.awk_streams.proofs.Chain.{at_once, lacking, part, passes, stop}
 use Rattle.awk_store.proofs.Leading.{takes}
 use Rattle.awk_machine.specs.Pieces.{At, Do, Doing, Step, give}
-use Rattle.awk_program.proofs.Views.{statement-Expr, statement-If, statement-IfElse, view-Call, view-Chain, view-Choice, view-GetlineFile, view-Pipe}
+use Rattle.awk_program.proofs.Views.{statement-Expr, statement-If, statement-IfElse, view-Call, view-Chain, view-Choice, view-GetlineFile, view-Pipe, view-Read}
 use Rattle.awk_program.specs.View.{view_statement}
 use Rattle.awk_store.proofs.Acting.{acted, done as there}
 use Rattle.awk_store.specs.Wholes.{names_in}
 use Rattle.std.proofs.Common.{[], ap, false, refl, sym, true, ◌∙◌, ◌∷◌}
 use Rattle.std.proofs.lemmas.Result.{err_from_is_err_and}
+use Rattle.awk_text.specs.declared.value.Value.TheVariants as v
 use Rattle.awk_eval.proofs.walk.+walk.Goals as goal
 
 pub value-returns-then-left-units : goal.value-returns-then-left-units
@@ -69,4 +70,12 @@ statement-returns-in-IfElse g t c =
 
 pub value-returns-in-Some : goal.value-returns-in-Some
 value-returns-in-Some g t c =
-    record { plays = λ m is. acted (there {on = give} {x = c.in-Some.there} (c.in-Some.ensures m c.args.run.now.streams)); owns = c.requires }
+    record { plays = λ m is. acted (there {on = give} {x = v.Num c.in-Some.number} (c.in-Some.ensures m c.args.run.now.streams)); owns = c.requires }
+
+pub value-returns-in-Variable : goal.value-returns-in-Variable
+value-returns-in-Variable g t c =
+    record { plays = λ m is. rw (c.in-Read.is, view-Read, c.in-Variable.is) (c.value_of_variable.ensures.plays m is); owns = c.value_of_variable.ensures.owns }
+
+pub value-returns-in-Some-other_at_hand : goal.value-returns-in-Some-other_at_hand
+value-returns-in-Some-other_at_hand g t c =
+    record { plays = λ m is. acted (there {on = give} {x = c.in-Some-other_at_hand.there} (c.in-Some-other_at_hand.ensures m c.args.run.now.streams)); owns = c.requires }
