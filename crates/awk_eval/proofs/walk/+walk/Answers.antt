@@ -7,8 +7,10 @@ use Rattle.awk_program.proofs.Views.{statement-Expr, statement-If, statement-IfE
 use Rattle.awk_program.specs.View.{view_statement}
 use Rattle.awk_store.proofs.Acting.{acted, done as there}
 use Rattle.awk_store.specs.Wholes.{names_in}
-use Rattle.std.proofs.Common.{[], ap, false, refl, sym, true, ◌∙◌, ◌∷◌}
+use Rattle.std.proofs.Common.{[], ap, false, refl, rules, sym, true, w64, ◌∙◌, ◌∷◌}
+use Rattle.std.proofs.lemmas.Int.{to_z-of_z}
 use Rattle.std.proofs.lemmas.Result.{err_from_is_err_and}
+use Rattle.awk_text.specs.declared.value.Value.TheVariants as v
 use Rattle.awk_eval.proofs.walk.+walk.Goals as goal
 
 pub value-returns-then-left-units : goal.value-returns-then-left-units
@@ -69,7 +71,7 @@ statement-returns-in-IfElse g t c =
 
 pub value-returns-in-Some : goal.value-returns-in-Some
 value-returns-in-Some g t c =
-    record { plays = λ m is. acted (there {on = give} (c.in-Some.ensures m c.args.run.now.streams)); owns = c.requires }
+    record { plays = λ m is. rw (to_z-of_z w64 c.in-Some.number (search rules)) (acted (there {on = give} {x = v.Num c.in-Some.number} (c.in-Some.ensures m c.args.run.now.streams))); owns = c.requires }
 
 pub value-returns-in-Variable : goal.value-returns-in-Variable
 value-returns-in-Variable g t c =
