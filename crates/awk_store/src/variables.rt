@@ -14,8 +14,8 @@ ghost use Rattle.awk_streams.specs.Tasks.{goes_on};
 ghost use Rattle.awk_text.specs.Arithmetic.{add as sum};
 ghost use Rattle.awk_text.specs.Values.{text_of};
 ghost use Rattle.std.specs.Option.{option_copied};
-ghost use Rattle.std.specs.Prelude.{Err, IfErr, IfOk, IfSome, Ok, OnOk, false, pos, slice_get, slice_set, true, unwrap_or, ℤ};
-ghost use Rattle.std.specs.Prelude.{◌≡◌};
+ghost use Rattle.std.specs.Prelude.{Err, IfErr, IfOk, IfSome, Ok, OnOk, false, pos, slice_get, slice_set, true};
+ghost use Rattle.std.specs.Prelude.{unwrap_or, ℤ, ◌≡◌};
 
 use crate::cell::Cell;
 use crate::frame::Bound;
