@@ -242,12 +242,12 @@ module _ (sets : List (List Bool)) (program : List Instruction) where
       (y.0, subst (λ x. IsCell sets program x S (steps_of lists before)) (sym e) (cell_same k (k + 1) S (steps_of lists before) (λ q r. are.1 k q r (omega arith) f) y.1))
 
   -- rows
-  cell_front : (cells : List (List ℕ)) (row : List ℕ) (q b : ℕ) → q < length cells → cell (cells ++ row ∷ []) q b ≡ cell cells q b
+  pub cell_front : (cells : List (List ℕ)) (row : List ℕ) (q b : ℕ) → q < length cells → cell (cells ++ row ∷ []) q b ≡ cell cells q b
   cell_front [] row q b lt = absurd (omega arith)
   cell_front (x ∷ xs) row zero b lt = refl
   cell_front (x ∷ xs) row (suc q) b lt = cell_front xs row q b (omega arith)
 
-  cell_last : (cells : List (List ℕ)) (row : List ℕ) (b : ℕ) → cell (cells ++ row ∷ []) (length cells) b ≡ get_or row b 0
+  pub cell_last : (cells : List (List ℕ)) (row : List ℕ) (b : ℕ) → cell (cells ++ row ∷ []) (length cells) b ≡ get_or row b 0
   cell_last [] row b = refl
   cell_last (x ∷ xs) row b = cell_last xs row b
 

@@ -20,5 +20,6 @@ pub mod Beginnings
 pub mod Gathering
 pub mod Seeking
 pub mod Hoping
+pub mod Meeting
 pub mod Literals
 pub mod Images

@@ -228,12 +228,12 @@ module _ (s : List ℕ) where
   over_le (suc n) i j (k, one, rest) = omega (arith, one.2, over_le n k j rest)
 
 module _ (m : Matcher) (p : Pattern) (is : IsMatcher m p) (s : List ℕ) (from : ℕ) where
-  starts : EndsFrom m s m.scan from → StartsFrom m s from
+  pub starts : EndsFrom m s m.scan from → StartsFrom m s from
   starts (j, within, run) =
       let y = run_matches m.sets m.program m.scan (anywhere p) is.scanner s from j run in
       (y.0, over_le s y.1.0 from y.0 y.1.3, (j, within, matches_run m.sets m.program m.entry p is.machine s y.0 j y.2))
 
-  ends : StartsFrom m s from → EndsFrom m s m.scan from
+  pub ends : StartsFrom m s from → EndsFrom m s m.scan from
   ends (i, after, (j, within, run)) =
       let le : i ≤ j = path_le m.sets m.program s run.0 m.entry i 0 j run.1 in
       (j, within, matches_run m.sets m.program m.scan (anywhere p) is.scanner s from j (i, (i - from, omega arith, tt, over s (i - from) from i (omega arith) (omega arith)), run_matches m.sets m.program m.entry p is.machine s i j run))

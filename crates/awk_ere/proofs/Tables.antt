@@ -5,7 +5,7 @@ use Rattle.std.proofs.lemmas.Bool.{cases_lt, eqb-true, eq-eqb}
 use Rattle.std.proofs.Math.Dec.{eqb-suc-zero}
 use Rattle.awk_ere.specs.Program.{Skips, left, right, at_start, at_end, SkipPath, Eats}
 use Rattle.awk_ere.specs.Search.{LeadsTo, Goes}
-use Rattle.awk_ere.specs.Table.{steps_of, cell, IsLed, IsCell, Arrives, IsFront, IsLongest, EndsSomewhere, IsAt, AllLead}
+use Rattle.awk_ere.specs.Table.{steps_of, cell, IsLed, IsCell, Arrives, IsFront, IsLongest, EndsAtLast, EndsSomewhere, IsAt, AllLead}
 use Rattle.awk_ere.specs.declared.program.Instruction.{Instruction}
 use Rattle.awk_ere.proofs.Searching.{path_le, flat, stays, one_more, joined, crossing, through, best_start}
 
@@ -147,6 +147,44 @@ module _ (sets : List (List Bool)) (program : List Instruction) (s : List ℕ) (
       let z = goes_end k 0 (sym same ∙ is) le (subst (λ y. Goes sets program s e i 0 y) same run) in
       (z.0, front.complete z.0 (subst (λ y. Arrives sets program s e i y z.0) (sym same) z.1), z.2)
 
+-- a search that has reached the steps S
+module _ (sets : List (List Bool)) (program : List Instruction) (s : List ℕ) (e i k : ℕ) (S : List ℕ) (front : IsFront sets program s e i k S) where
+  -- before the end of the text, where a flag says whether a match ends
+  module _ (le : i ≤ k) (lt : k < length s) (here : Bool) (is : (here ≡ true) ↔ Contains S 0) where
+    pub front_turn : (best : Option ℕ) → IsLongest sets program s e i k best → IsLongest sets program s e i (k + 1) (cond here (Some k) best)
+    front_turn best had =
+        longest_turn sets program s e i k here
+        (λ t. arrives_goes sets program s e i k 0 lt (front.sound 0 (is.0 t)))
+        (λ run. is.1 (front.complete 0 (goes_arrives sets program s e i k 0 le lt run)))
+        best had
+
+    pub front_pass : here ≡ false → IsLongest sets program s e i k None → IsLongest sets program s e i (k + 1) None
+    front_pass off none = subst (λ b. IsLongest sets program s e i (k + 1) (cond b (Some k) None)) off (front_turn None none)
+
+    pub front_accept : here ≡ true → EndsSomewhere sets program s e i
+    front_accept t = (k, omega arith, arrives_goes sets program s e i k 0 lt (front.sound 0 (is.0 t)))
+
+  -- at its end
+  module _ (same : k ≡ length s) (some : i < k) (last : Bool) (is : (last ≡ true) ↔ EndsAtLast program S) where
+    last_is : last ≡ true → Goes sets program s e i 0 k
+    last_is t = let y = is.0 t in end_yes sets program s e i k (k - 1) S same (omega arith) (omega arith) front y.0 y.1 y.2
+
+    last_has : Goes sets program s e i 0 k → last ≡ true
+    last_has run = let y = end_has sets program s e i k (k - 1) S same (omega arith) (omega arith) front run in is.1 (y.0, y.1, y.2)
+
+    pub front_last : (best : Option ℕ) → IsLongest sets program s e i k best → IsLongest sets program s e i (length s + 1) (cond last (Some (length s)) best)
+    front_last best had = subst (λ n. IsLongest sets program s e i (n + 1) (cond last (Some n) best)) same
+        (longest_turn sets program s e i k last last_is last_has best had)
+
+    pub front_finish : IsLongest sets program s e i k None → IsTrue last ↔ EndsSomewhere sets program s e i
+    front_finish none = (
+      (λ t. (k, omega arith, last_is t)),
+      λ run. elim (cases_lt run.0 k) [
+        | inl less ↦ absurd (none run.0 less run.2)
+        | inr ge ↦ last_has (let at : run.0 ≡ k = omega (arith, run.1) in subst (λ x. Goes sets program s e i 0 x) at run.2)
+      ],
+    )
+
 -- a search in a state
 module _ (sets : List (List Bool)) (program : List Instruction) (s : List ℕ) (cells : List (List ℕ)) (accepts ends : List Bool) (e i k state : ℕ) (h : IsAt sets program s cells accepts ends e i k state) where
   -- before the end of the text
@@ -164,17 +202,13 @@ module _ (sets : List (List Bool)) (program : List Instruction) (s : List ℕ) (
         subst (λ n. IsAt sets program s cells accepts ends e i (k + 1) n) (sym same) (at_next byte (omega (arith, same, known)))
 
     pub at_turn : (best : Option ℕ) → IsLongest sets program s e i k best → IsLongest sets program s e i (k + 1) (cond (slice_index_or accepts state false) (Some k) best)
-    at_turn best had =
-        longest_turn sets program s e i k (slice_index_or accepts state false)
-        (λ t. arrives_goes sets program s e i k 0 lt (h.3.sound 0 ((h.1.accept.each state h.2).0 t)))
-        (λ run. (h.1.accept.each state h.2).1 (h.3.complete 0 (goes_arrives sets program s e i k 0 le lt run)))
-        best had
+    at_turn best had = front_turn sets program s e i k (steps_of h.0 state) h.3 le lt (slice_index_or accepts state false) (h.1.accept.each state h.2) best had
 
     pub at_pass : slice_index_or accepts state false ≡ false → IsLongest sets program s e i k None → IsLongest sets program s e i (k + 1) None
-    at_pass is none = subst (λ b. IsLongest sets program s e i (k + 1) (cond b (Some k) None)) is (at_turn None none)
+    at_pass off none = front_pass sets program s e i k (steps_of h.0 state) h.3 le lt (slice_index_or accepts state false) (h.1.accept.each state h.2) off none
 
     pub at_accept : slice_index_or accepts state false ≡ true → EndsSomewhere sets program s e i
-    at_accept t = (k, omega arith, arrives_goes sets program s e i k 0 lt (h.3.sound 0 ((h.1.accept.each state h.2).0 t)))
+    at_accept t = front_accept sets program s e i k (steps_of h.0 state) h.3 le lt (slice_index_or accepts state false) (h.1.accept.each state h.2) t
 
     pub at_dead : slice_index s k < 256 → cell cells state (slice_index s k) ≡ 0 → (best : Option ℕ) → IsLongest sets program s e i (k + 1) best → IsLongest sets program s e i (length s + 1) best
     at_dead byte is best had =
@@ -184,24 +218,11 @@ module _ (sets : List (List Bool)) (program : List Instruction) (s : List ℕ) (
 
   -- at its end
   module _ (is : k ≡ length s) (some : i < k) where
-    last_is : slice_index_or ends state false ≡ true → Goes sets program s e i 0 k
-    last_is t = let y = (h.1.end.each state h.2).0 t in end_yes sets program s e i k (k - 1) (steps_of h.0 state) is (omega arith) (omega arith) h.3 y.0 y.1 y.2
-
-    last_has : Goes sets program s e i 0 k → slice_index_or ends state false ≡ true
-    last_has run = let y = end_has sets program s e i k (k - 1) (steps_of h.0 state) is (omega arith) (omega arith) h.3 run in (h.1.end.each state h.2).1 (y.0, y.1, y.2)
-
     pub at_last : (best : Option ℕ) → IsLongest sets program s e i k best → IsLongest sets program s e i (length s + 1) (cond (slice_index_or ends state false) (Some (length s)) best)
-    at_last best had = subst (λ n. IsLongest sets program s e i (n + 1) (cond (slice_index_or ends state false) (Some n) best)) is
-        (longest_turn sets program s e i k (slice_index_or ends state false) last_is last_has best had)
+    at_last best had = front_last sets program s e i k (steps_of h.0 state) h.3 is some (slice_index_or ends state false) (h.1.end.each state h.2) best had
 
     pub at_finish : IsLongest sets program s e i k None → IsTrue (slice_index_or ends state false) ↔ EndsSomewhere sets program s e i
-    at_finish none = (
-      (λ t. (k, omega arith, last_is t)),
-      λ run. elim (cases_lt run.0 k) [
-        | inl less ↦ absurd (none run.0 less run.2)
-        | inr ge ↦ last_has (let same : run.0 ≡ k = omega (arith, run.1) in subst (λ x. Goes sets program s e i 0 x) same run.2)
-      ],
-    )
+    at_finish none = front_finish sets program s e i k (steps_of h.0 state) h.3 is some (slice_index_or ends state false) (h.1.end.each state h.2) none
 
 -- bytes that leave a search in its state
 module _ (sets : List (List Bool)) (program : List Instruction) (s : List ℕ) (cells : List (List ℕ)) (accepts ends : List Bool) (e i state : ℕ) (small : (k : ℕ) → slice_index s k < 256) (row : List ℕ) (is : row ≡ slice_index_or cells state []) (quiet : slice_index_or accepts state false ≡ false) where

@@ -15,6 +15,7 @@ pub mod Runs
 pub mod Table
 pub mod Matcher
 pub mod Hopes
+pub mod Lazy
 pub mod Literal
 pub mod View
 pub mod Same

@@ -1,15 +1,19 @@
 // Patterns, and the search for their best match.
-ghost use Rattle.std.specs.Prelude.{◌≡◌, ◌≤◌, length, IfOk, IfErr};
+ghost use Rattle.std.specs.Prelude.{◌≡◌, ◌<◌, ◌≤◌, length, IfOk, IfErr, IfSome};
+ghost use Rattle.awk_ere.specs.Lazy.{HasMatchFrom, IsSoughtFor, LongestFrom};
+ghost use Rattle.awk_ere.specs.Matcher.{StandsFor};
 ghost use Rattle.awk_ere.specs.Pattern.{Pattern};
 ghost use Rattle.awk_ere.specs.Spelled.{IsPattern, IsAccepted, IsRefused, Finds, HasMatch, code_of};
 
 use crate::error::{EreError, EreFault};
 use crate::hopes::{Hopes, no_hopes};
+use crate::lazy::Lazy;
 use crate::literal::Literal;
 use crate::read::read_within;
 use crate::table::{Matcher, Sought};
 use awk_text::Memory;
 use std::alloc::Global;
+use std::cell::RefCell;
 use std::marker::Model;
 
 /// A pattern that is ready to be searched for. Contracts see it as the text that it was made of.
@@ -19,6 +23,8 @@ pub struct Ere {
     /// What finds the source, where each of its bytes stands for itself.
     literal: Option<Literal>,
     matcher: Matcher,
+    /// The states that are made as searches meet them, once one needs them.
+    lazy: RefCell<Option<Lazy>>,
 }
 
 impl Model for Ere {
@@ -50,6 +56,7 @@ impl Ere {
             source,
             literal,
             matcher,
+            lazy: RefCell::new(None),
         })
     }
 
@@ -93,13 +100,90 @@ impl Ere {
         }
         match self.matcher.has_match(text) {
             Some(has_match) => Ok(has_match),
+            None => self.is_match_left(text),
+        }
+    }
+
+    /// Whether there is a match anywhere in the text, where the table does not say.
+    ///
+    /// Errors: `Memory` where memory is refused.
+    fn is_match_left(&self, text: &[u8]) -> Result<bool, Memory>
+        ensures { IfOk result (λ b. HasMatch self.now text.now b) }
+    {
+        match self.has_match_from(text, 0)? {
+            Some(has_match) => Ok(has_match),
             None => {
                 let found = self.find(text, 0)?;
                 Ok(found.is_some())
             }
         }
     }
+
+    /// The end of the longest match from the place, if there is one, by the states that are made as they are met;
+    /// `None` where that is too much work.
+    ///
+    /// Errors: `Memory` where memory is refused.
+    #[inline(never)]
+    fn longest_from(&self, text: &[u8], from: usize) -> Result<Option<Option<usize>>, Memory>
+        requires { from ≤ length text.now }
+        ensures { IfOk result (λ r. IfSome r (λ found. LongestFrom self.now text.now from found)) }
+    {
+        if from == text.len() {
+            return Ok(None);
+        }
+        let Ok(mut lazy) = self.lazy.try_borrow_mut() else {
+            return Ok(None);
+        };
+        let lazy = &mut *lazy;
+        match ready(&self.matcher, &self.source, lazy)? {
+            Some(lazy) => lazy.longest(text, from),
+            None => Ok(None),
+        }
+    }
+
+    /// Whether a match starts at the place or later, by the states that are made as they are met; `None` where that
+    /// is too much work.
+    ///
+    /// Errors: `Memory` where memory is refused.
+    #[inline(never)]
+    fn has_match_from(&self, text: &[u8], from: usize) -> Result<Option<bool>, Memory>
+        requires { from ≤ length text.now }
+        ensures { IfOk result (λ r. IfSome r (λ b. HasMatchFrom self.now text.now from b)) }
+    {
+        if from == text.len() {
+            return Ok(None);
+        }
+        let Ok(mut lazy) = self.lazy.try_borrow_mut() else {
+            return Ok(None);
+        };
+        let lazy = &mut *lazy;
+        match ready(&self.matcher, &self.source, lazy)? {
+            Some(lazy) => lazy.has_match(text, from),
+            None => Ok(None),
+        }
+    }
 }
+
+/// The states of the pattern, where these are no other's; they are made where there are none yet.
+fn ready<'a>(
+    matcher: &Matcher,
+    source: &[u8],
+    lazy: &'a mut Option<Lazy>,
+) -> Result<Option<&'a mut Lazy>, Memory>
+    requires { (p : Pattern) × IsPattern source.now p × StandsFor matcher.now p }
+    ensures { IfOk result (λ r. IfSome r (λ l. l.now ≡ source.now)) }
+{
+    if lazy.is_none() {
+        *lazy = Some(matcher.lazy(source)?);
+    }
+    match lazy {
+        Some(lazy) if lazy.is_of(source) => Ok(Some(lazy)),
+        _ => Ok(None),
+    }
+}
+
+/// How many starts are tried by the states that are made as they are met, before the program goes on alone.
+const LAZY_TRIES: usize = 16;
 
 /// Searches of one text by one pattern, one after the other. What they read past the matches that they find is bounded
 /// for all together, so that they take time linear in the text (by design; time is not proved). Contracts see the
@@ -158,10 +242,66 @@ impl<'a> Searches<'a> {
         match matcher.find(text, from, &mut self.budget) {
             Sought::Match(start, end) => Ok(Some((start, end))),
             Sought::NoMatch => Ok(None),
-            Sought::Left(start) => {
-                let found = matcher.find_left(text, start, self.budget, &mut self.hopes)?;
-                Ok(found)
-            }
+            Sought::Left(start) => self.find_left(start),
         }
+    }
+
+    /// The best match from the place on, where the table says no more, or not within the budget.
+    ///
+    /// Errors: `Memory` where memory is refused.
+    fn find_left(&mut self, from: usize) -> Result<Option<(usize, usize)>, Memory>
+        requires { from ≤ length self.old.1 }
+        ensures found { IfOk result (λ found. Finds self.old.0 self.old.1 from found) }
+        ensures same { self.new ≡ self.old }
+    {
+        if self.budget == 0 {
+            return self.find_read(from);
+        }
+        match self.find_lazily(from)? {
+            Sought::Match(start, end) => Ok(Some((start, end))),
+            Sought::NoMatch => Ok(None),
+            Sought::Left(start) => self.find_read(start),
+        }
+    }
+
+    /// The best match from the place on, by what the text read backwards shows, or by the program alone.
+    ///
+    /// Errors: `Memory` where memory is refused.
+    fn find_read(&mut self, from: usize) -> Result<Option<(usize, usize)>, Memory>
+        requires { from ≤ length self.old.1 }
+        ensures found { IfOk result (λ found. Finds self.old.0 self.old.1 from found) }
+        ensures same { self.new ≡ self.old }
+    {
+        self.matcher
+            .find_left(self.text, from, self.budget, &mut self.hopes)
+    }
+
+    /// The best match from the place on, as far as the states tell it that are made as they are met: some starts are
+    /// tried in turn, once the first one has failed only where there is any match.
+    ///
+    /// Errors: `Memory` where memory is refused.
+    fn find_lazily(&self, from: usize) -> Result<Sought, Memory>
+        requires { from ≤ length self.now.1 }
+        ensures { IfOk result (λ sought. IsSoughtFor self.now.0 self.now.1 from sought) }
+    {
+        let mut at = from;
+        for tried in 0..LAZY_TRIES {
+            let start = self.matcher.first_start(self.text, at);
+            if start == self.text.len() {
+                return Ok(Sought::Left(start));
+            }
+            match self.ere.longest_from(self.text, start)? {
+                None => return Ok(Sought::Left(start)),
+                Some(Some(end)) => return Ok(Sought::Match(start, end)),
+                Some(None) => {}
+            }
+            if tried == 0
+                && let Some(false) = self.ere.has_match_from(self.text, start)?
+            {
+                return Ok(Sought::NoMatch);
+            }
+            at = start + 1;
+        }
+        Ok(Sought::Left(at))
     }
 }

@@ -11,6 +11,7 @@ mod heads;
 mod hopes;
 mod interval;
 pub mod laws;
+mod lazy;
 mod literal;
 mod node;
 pub mod plain;

@@ -1,6 +1,6 @@
 // The states of a table: sets of steps, with their cells.
 ghost use Rattle.std.specs.Prelude.{◌≡◌, ◌↔◌, ◌+◌, ◌-◌, ◌<◌, ◌≤◌, ℕ, [], true, false, length, map, slice_index};
-ghost use Rattle.std.specs.Prelude.{Contains, IfOk, OnOk, IfSome};
+ghost use Rattle.std.specs.Prelude.{Contains, IfOk, OnOk, IfSome, if◌then◌else◌};
 ghost use Rattle.awk_ere.specs.Lexing.{has};
 ghost use Rattle.awk_ere.specs.Program.{IsSound};
 ghost use Rattle.awk_ere.specs.Search.{mark, target_of, IsClosed, Takes};
@@ -143,7 +143,7 @@ fn marked(alloc: Global, starts: &Starts) -> Result<Vec<usize>, AllocError>
 }
 
 /// The steps that those of the list lead to without reading.
-fn led(
+pub fn led(
     alloc: Global,
     program: &[Instruction],
     ends: TextEnds,
@@ -195,7 +195,7 @@ fn number(lists: &mut Vec<Vec<usize>>, list: Vec<usize>) -> Result<u8, AllocErro
 }
 
 /// The steps that those of the list lead to over the byte.
-fn steps_after(
+pub fn steps_after(
     alloc: Global,
     sets: &[Set],
     program: &[Instruction],
@@ -337,10 +337,17 @@ fn add_rows(
     Ok(())
 }
 
-fn has_done(list: &[usize]) -> bool
+pub fn has_done(list: &[usize]) -> bool
     ensures { (result ≡ true) ↔ Contains list.now 0 }
 {
     list.contains(&0)
+}
+
+/// The best end so far, where it is told whether a match ends at the place.
+pub fn noted(accept: bool, place: usize, best: Option<usize>) -> Option<usize>
+    ensures { result ≡ (if accept then Some place else best) }
+{
+    if accept { Some(place) } else { best }
 }
 
 /// In which of the first states a match ends.
@@ -357,7 +364,11 @@ fn accepting(alloc: Global, lists: &[Vec<usize>], count: usize) -> Result<Vec<bo
 }
 
 /// Whether a match ends at the steps of the list where the text ends.
-fn ends_at_last(alloc: Global, program: &[Instruction], list: &[usize]) -> Result<bool, AllocError>
+pub fn ends_at_last(
+    alloc: Global,
+    program: &[Instruction],
+    list: &[usize],
+) -> Result<bool, AllocError>
     requires sound { IsSound program.now }
     requires some { 0 < length program.now }
     ensures { IfOk result (λ b. (b ≡ true) ↔ EndsAtLast program.now list.now) }

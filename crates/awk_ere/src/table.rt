@@ -4,6 +4,8 @@ ghost use Rattle.std.specs.Prelude.{if◌then◌else◌};
 ghost use Rattle.awk_ere.specs.Hopes.{AreHopes};
 ghost use Rattle.awk_ere.specs.Matcher.{BeginsIn, EndsFrom, Finds, IsAnchored, IsLater, IsLongest, IsSought, NoneTo};
 ghost use Rattle.awk_ere.specs.Matcher.{StandsFor, StartsAt, StartsFrom};
+ghost use Rattle.awk_ere.specs.Pattern.{Pattern};
+ghost use Rattle.awk_ere.specs.Spelled.{IsPattern};
 ghost use Rattle.awk_ere.specs.Table.{AllLead};
 ghost use Rattle.awk_ere.specs.View.{pattern};
 
@@ -11,10 +13,11 @@ use crate::bracket::Set;
 use crate::compile::{compile, compile_scan};
 use crate::heads::{LANES, is_open, next_head};
 use crate::hopes::{Hopes, is_hopeless, kept_rows};
+use crate::lazy::Lazy;
 use crate::node::Node;
 use crate::program::Instruction;
 use crate::search::search;
-use crate::states::{Begin, DEAD, StateTable, make_table};
+use crate::states::{Begin, DEAD, StateTable, make_table, noted};
 use awk_text::Memory;
 use std::alloc::Global;
 use std::marker::Model;
@@ -31,6 +34,9 @@ const FIRST_BUDGET: usize = 64;
 /// How many starts are tried before it is asked whether there is any match, where they are told by their bytes.
 const TRIES: usize = 4;
 
+/// A range of fewer bytes tells where a match may start.
+const FEW_HEADS: u8 = 64;
+
 /// What a search by the table gives.
 #[derive(Clone, Copy)]
 pub enum Sought {
@@ -39,12 +45,6 @@ pub enum Sought {
     NoMatch,
     /// No match starts before this place; the table says no more.
     Left(usize),
-}
-
-fn noted(accept: bool, place: usize, best: Option<usize>) -> Option<usize>
-    ensures { result ≡ (if accept then Some place else best) }
-{
-    if accept { Some(place) } else { best }
 }
 
 /// The first place, from this one on, whose byte leads to another state than this; the text's end where there is none.
@@ -148,6 +148,20 @@ impl Matcher {
             entry,
             scan,
         })
+    }
+
+    /// The states of its searches that are made as they are met; none is made yet. The source spells the pattern.
+    ///
+    /// Errors: `Memory` where memory is refused.
+    pub fn lazy(&self, source: &[u8]) -> Result<Lazy, Memory>
+        requires { (p : Pattern) × IsPattern source.now p × StandsFor self.now p }
+        ensures { IfOk result (λ l. l ≡ source.now) }
+    {
+        let alloc = *self.program.allocator();
+        let source = Vec::from_slice(alloc, source)?;
+        let sets = Vec::from_slice(alloc, &self.sets)?;
+        let program = Vec::from_slice(alloc, &self.program)?;
+        Ok(Lazy::new(source, sets, program, self.entry, self.scan))
     }
 
     /// How many bytes the searches of a text may look at.
@@ -326,7 +340,7 @@ impl Matcher {
     }
 
     /// The first place, from this one on, that is to be tried as a start.
-    fn first_start(&self, text: &[u8], from: usize) -> usize
+    pub fn first_start(&self, text: &[u8], from: usize) -> usize
         requires { from ≤ length text.now }
         ensures { NoneTo self.now text.now from result }
     {
@@ -591,9 +605,14 @@ impl Matcher {
         }
     }
 
-    /// How many starts are tried first.
+    /// How many starts are tried first: none where many bytes may be one, since each may read the text to its end.
     fn tries(&self) -> usize {
-        if self.table.heads.is_exact { TRIES } else { 0 }
+        let (first, last) = self.table.heads.first;
+        if self.table.heads.is_exact && last.saturating_sub(first) < FEW_HEADS {
+            TRIES
+        } else {
+            0
+        }
     }
 
     /// Whether there is a match anywhere; `None` where the table does not say.

@@ -1,6 +1,6 @@
 use Rattle.std.proofs.Common.{Some, None}
 use Rattle.awk_ere.proofs.Searching.{finds_best}
-use Rattle.awk_ere.proofs.Seeking.{found_later}
+use Rattle.awk_ere.proofs.Meeting.{left_found, none_before}
 use Rattle.awk_ere.proofs.Literals.{literal_found}
 use Rattle.awk_ere.proofs.ere.Searches.find.Goals as goal
 
@@ -17,7 +17,6 @@ pub returns-in-NoMatch-clause-found : goal.returns-in-NoMatch-clause-found
 returns-in-NoMatch-clause-found c =
     rw (← c.self.view_is) (c.self.invariant.0, c.self.invariant.1, finds_best _ _ _ _ c.self.invariant.2 c.self.inside.text.now c.args.from None c.in-NoMatch.ensures)
 
-pub returns-in_ok-found-in-Left-clause-found : goal.returns-in_ok-found-in-Left-clause-found
-returns-in_ok-found-in-Left-clause-found c =
-    let found = found_later _ _ _ _ _ c.in-Left.ensures c.in_ok-found-in-Left.ensures.found in
-    rw (← c.self.view_is) (c.self.invariant.0, c.self.invariant.1, finds_best _ _ _ _ c.self.invariant.2 c.self.inside.text.now c.args.from _ found)
+pub returns-in-Left-clause-found : goal.returns-in-Left-clause-found
+returns-in-Left-clause-found c =
+    rw (← c.self.view_is) (left_found _ _ _ _ (none_before _ _ c.self.inside.matcher.now _ c.self.invariant.1 c.self.invariant.2 _ _ c.in-Left.ensures) _ c.find_left.ensures.found)
