@@ -1,17 +1,17 @@
 -- Where no number is marked twice and no function has the name of a variable, no name has two kinds.
-use Rattle.std.proofs.Common.{◌≡◌, ◌∙◌, ◌⊎◌, inl, inr, ℕ, zero, suc, ◌+◌, Bool, true, false, ◌&&◌, List, [], ◌∷◌, refl, sym, ap, Option, Some, None, Contains, arith}
-use Rattle.std.proofs.lemmas.Bool.{or_parts}
-use Rattle.std.specs.List.{list_any}
+use Rattle.std.proofs.Common.{◌≡◌, ◌≢◌, ◌∙◌, ◌⊎◌, inl, inr, ◌+◌, ◌<◌, ◌≤◌, ◌++◌, [], ◌∷◌, ℕ, true, List, refl, sym, ap, Option, Some, None, Contains, length, get_or, take}
+use Rattle.std.proofs.lemmas.List.{take_more, take_all}
+use Rattle.std.proofs.lemmas.List.Elements.{Contains-push_cases}
 use Rattle.std.specs.Map.{lookup}
 use Rattle.std.specs.Option.{option_or}
 use Rattle.std.specs.Str.{bytes_eq}
 use Rattle.awk_text.specs.declared.place.Place.{Place}
 use Rattle.awk_tree.specs.Tree.{Text}
-use Rattle.awk_tree.specs.declared.names.Name.{Name}
 use Rattle.awk_resolve.specs.Clash as s
 use Rattle.awk_resolve.specs.Faults as fault
 use Rattle.awk_resolve.specs.Faults.{Misdefined}
-use Rattle.awk_resolve.specs.Kinds.{global, Defines}
+use Rattle.awk_resolve.specs.Kinds as k
+use Rattle.awk_resolve.specs.Kinds.{Kind, global}
 use Rattle.awk_resolve.specs.Marks.{is_marked}
 use Rattle.awk_resolve.specs.Numbering.{number, number_in, numbers, in_scope, in_perhaps}
 use Rattle.awk_resolve.specs.Uses.{is_function}
@@ -22,31 +22,24 @@ use Rattle.awk_resolve.specs.declared.mention.Section.{Section}
 use Rattle.awk_resolve.specs.declared.numbers.Numbers.{Numbers}
 use Rattle.awk_resolve.specs.declared.numbers.Scope.{Scope}
 use Rattle.awk_resolve.proofs.Kinding.{function_known}
-use Rattle.awk_resolve.proofs.Lists.{contains_none, contains_cases}
 use Rattle.awk_resolve.proofs.Meant.{scopes}
 use Rattle.awk_resolve.proofs.Numbered.{scope_known}
 use Rattle.awk_resolve.proofs.Reaching.{at_found}
 
-none_is : {A : Type 0} (test : A → Bool) (xs : List A) (x : A) → Contains xs x → list_any test xs ≡ false → test x ≡ false
-none_is test [] x c none = absurd (contains_none x c)
-none_is {A} test (y ∷ ys) x c none = by (λ d rest. none_is test ys x d rest) (contains_cases y ys x c)
+-- where no function so far is double, and this one neither
+pub more_double : (c : Kinds) (ps : List Section) (i : ℕ) (p : Section) → i < length ps → p ≡ get_or ps i p → (s.AnyDouble c (take i ps) → ⊥) → (s.IsDouble c p.role → ⊥)
+    → s.AnyDouble c (take (i + 1) ps) → ⊥
+more_double c ps i p h e none not_this (q, there, double) = by q double (Contains-push_cases (take i ps) p q (rw more at there))
   where
-    parts : (test y ≡ false) × (list_any test ys ≡ false)
-    parts = or_parts (test y) (list_any test ys) none
+    more : take (i + 1) ps ≡ take i ps ++ p ∷ []
+    more = take_more ps i p h ∙ ap (λ y. take i ps ++ y ∷ []) (sym e)
 
-    by : (Contains ys x → list_any test ys ≡ false → test x ≡ false) → (y ≡ x) ⊎ Contains ys x → test x ≡ false
-    by later (inl same) = ap test (sym same) ∙ parts.0
-    by later (inr d) = later d parts.1
+    by : (q : Section) → s.IsDouble c q.role → Contains (take i ps) q ⊎ (p ≡ q) → ⊥
+    by q double (inl before) = none (q, before, double)
+    by q double (inr same) = not_this (rw (← same) at double)
 
-marked_once : (arrays : List Bool) (n : ℕ) (scalars : List Bool) → s.marked_twice arrays n scalars ≡ false
-    → (i : ℕ) → (is_marked scalars (Some i) && is_marked arrays (Some (n + i))) ≡ false
-marked_once arrays n [] once i = refl
-marked_once arrays n (b ∷ scalars) once zero =
-    let here : n + 0 ≡ n = omega arith in
-    rw here (or_parts (b && is_marked arrays (Some n)) (s.marked_twice arrays (n + 1) scalars) once).0
-marked_once arrays n (b ∷ scalars) once (suc i) =
-    let on : n + suc i ≡ (n + 1) + i = omega arith in
-    rw on (marked_once arrays (n + 1) scalars (or_parts (b && is_marked arrays (Some n)) (s.marked_twice arrays (n + 1) scalars) once).1 i)
+pub all_double : (c : Kinds) (ps : List Section) (i : ℕ) → length ps ≤ i → (s.AnyDouble c (take i ps) → ⊥) → s.AnyDouble c ps → ⊥
+all_double c ps i h none = rw (take_all i ps h) at none
 
 module _ (parts : List Section) (well : (place : Place) → Misdefined parts place → ⊥) where
   abbrev t : Numbers
@@ -71,28 +64,35 @@ module _ (parts : List Section) (well : (place : Place) → Misdefined parts pla
       by None l = refl
       by (Some c) l = inside c l (in_scope c x) refl
 
-  module _ (c : Kinds) (same : c.numbers ≡ t) (never : s.may_double c parts ≡ false) where
-    tests : (s.marked_twice c.arrays 0 c.scalars ≡ false) × (s.any_double c parts ≡ false)
-    tests = or_parts (s.marked_twice c.arrays 0 c.scalars) (s.any_double c parts) never
-
-    no_function : (g : Name) (ps : List Name) → Defines parts g ps → s.has_two c role.Begin g.text ≡ false
-    no_function g ps (p, there, is) = rw is at (none_is (λ q. s.is_double c q.role) parts p there tests.1)
-
+  module _ (c : Kinds) (same : c.numbers ≡ t) (once : s.AnyTwice c → ⊥) (apart : s.AnyDouble c parts → ⊥) where
     -- no name has two kinds, whatever item it stands in
-    pub no_two : (r : Role) (x : Text) → s.has_two c r x ≡ false
-    no_two r x = by (is_function c.numbers x) refl
+    pub no_two : (r : Role) (x : Text) → s.HasTwo c r x → ⊥
+    no_two r x (kind, other, g, h, differs) = by kind other g h differs
       where
-        one_mark : (o : Option ℕ) → (is_marked c.scalars o && is_marked c.arrays o) ≡ false
-        one_mark None = refl
-        one_mark (Some n) = let at2 : 0 + n ≡ n = omega arith in rw at2 at (marked_once c.arrays 0 c.scalars tests.0 n)
+        marks : (o : Option ℕ) → is_marked c.scalars o ≡ true → is_marked c.arrays o ≡ true → ⊥
+        marks None e f = cc
+        marks (Some n) e f = once (n, e, f)
 
-        as_function : is_function c.numbers x ≡ true → s.has_two c r x ≡ false
-        as_function is =
+        plain : number_in c.numbers r x ≡ number_in c.numbers role.Begin x → (one : Kind) → s.has_in c role.Begin x one ≡ s.has_in c r x one
+        plain e k.scalar = ap (is_marked c.scalars) (sym e)
+        plain e k.array = ap (is_marked c.arrays) (sym e)
+        plain e k.function = refl
+
+        at_text : (y : Text) → x ≡ y → s.HasTwo c role.Begin x → s.HasTwo c role.Begin y
+        at_text y e two = rw e at two
+
+        as_function : is_function c.numbers x ≡ true → (one two : Kind) → s.has_in c r x one ≡ true → s.has_in c r x two ≡ true → one ≢ two → ⊥
+        as_function is one two e f apart_kinds =
             let is2 : is_function t x ≡ true = rw same at is in
-            let (g, ps, d, name) = function_known parts well x is2 in
+            let (function, ps, (p, there, defines), name) = function_known parts well x is2 in
             let whole : number_in c.numbers r x ≡ number_in c.numbers role.Begin x = rw same (function_global r x is2) in
-            rw whole (rw name at (no_function g ps d))
+            apart (p, there, (function, ps, defines, at_text function.text (sym name) (one, two, plain whole one ∙ e, plain whole two ∙ f, apart_kinds)))
 
-        by : (b : Bool) → is_function c.numbers x ≡ b → s.has_two c r x ≡ false
-        by true is = as_function is
-        by false is = rw is (one_mark (number_in c.numbers r x))
+        by : (one two : Kind) → s.has_in c r x one ≡ true → s.has_in c r x two ≡ true → one ≢ two → ⊥
+        by k.scalar k.scalar e f d = d refl
+        by k.array k.array e f d = d refl
+        by k.scalar k.array e f d = marks (number_in c.numbers r x) e f
+        by k.array k.scalar e f d = marks (number_in c.numbers r x) f e
+        by k.function two e f d = as_function e k.function two e f d
+        by k.scalar k.function e f d = as_function f k.scalar k.function e f d
+        by k.array k.function e f d = as_function f k.array k.function e f d

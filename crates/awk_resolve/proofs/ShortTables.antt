@@ -1,5 +1,5 @@
 -- A list of texts with values, and more of them behind it.
-use Rattle.std.proofs.Common.{◌≡◌, ◌∙◌, ℕ, ◌<◌, List, [], ◌∷◌, ◌++◌, length, drop, suc, get_or, Bool, true, false, cond, Option, Some, None, refl, sym, ap, if◌then◌else◌, append_assoc, drop-cons, Result, Ok, Err, OnOk}
+use Rattle.std.proofs.Common.{◌≡◌, ◌∙◌, ℕ, ◌<◌, List, [], ◌∷◌, ◌++◌, length, drop, suc, get_or, Bool, true, false, cond, Some, None, refl, sym, ap, if◌then◌else◌, append_assoc, drop-cons, Result, Ok, Err, OnOk}
 use Rattle.std.specs.Map.{lookup}
 use Rattle.std.specs.Str.{bytes_eq}
 use Rattle.awk_resolve.specs.TextTables.{with_text}

@@ -13,6 +13,7 @@ use Rattle.awk_resolve.specs.declared.mention.Mention.TheVariants.{Scalar, Array
 use Rattle.awk_resolve.specs.declared.mention.Role.{Role}
 use Rattle.awk_resolve.specs.declared.mention.Role.TheVariants as role
 use Rattle.awk_resolve.specs.declared.mention.Section.{Section}
+use Rattle.awk_resolve.specs.declared.globals.Globals.{Globals}
 use Rattle.awk_resolve.specs.declared.numbers.Scope.{Scope}
 use Rattle.awk_resolve.specs.declared.numbers.Numbers.{Numbers}
 
@@ -34,11 +35,14 @@ number t (global x) = lookup (bytes_eq x) t.globals
 number t (parameter f x) = in_perhaps (lookup (bytes_eq f) t.functions) x
 
 -- the parameters of the function that an item of this role is
+abbrev pub scope_in : List (Text × Scope) → Role → Option Scope
+scope_in fs role.Begin = None
+scope_in fs role.End = None
+scope_in fs role.Rule = None
+scope_in fs (role.Function f ps) = lookup (bytes_eq f.text) fs
+
 abbrev pub scope_of : Numbers → Role → Option Scope
-scope_of t role.Begin = None
-scope_of t role.End = None
-scope_of t role.Rule = None
-scope_of t (role.Function f ps) = lookup (bytes_eq f.text) t.functions
+scope_of t r = scope_in t.functions r
 
 -- the number of what a text is in an item of this role
 abbrev pub number_in : Numbers → Role → Text → Option ℕ
@@ -65,9 +69,6 @@ nothing = record { functions = []; globals = []; count = 0 }
 abbrev pub counted_by : ℕ → Numbers → Numbers
 counted_by n t = record { functions = t.functions; globals = t.globals; count = t.count + n }
 
-abbrev pub counted : Numbers → Numbers
-counted t = counted_by 1 t
-
 abbrev pub with_function : Role → Numbers → Numbers
 with_function role.Begin t = t
 with_function role.End t = t
@@ -85,6 +86,10 @@ with_functions [] t = t
 with_functions (p ∷ ps) t = with_functions ps (with_function p.role t)
 
 -- ---- other names
+
+-- the functions of a script, and its variables so far
+abbrev pub beside : List (Text × Scope) → Globals → Numbers
+beside functions g = record { functions = functions; globals = g.numbers; count = g.count }
 
 abbrev pub with_global : Text → Numbers → Numbers
 with_global x t = record { functions = t.functions; globals = with_text x t.count t.globals; count = t.count + 1 }

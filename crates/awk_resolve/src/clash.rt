@@ -1,9 +1,11 @@
 // Names of two kinds, and expressions for arrays.
 
-ghost use Rattle.std.specs.Prelude.{◌≡◌, false, None};
+ghost use Rattle.std.specs.Prelude.{◌≡◌, ◌⊎◌, ◌↔◌, true, false, Some, IfNone};
 ghost use Rattle.awk_tree.specs.Tree.{Text};
 ghost use Rattle.awk_resolve.specs.Clash as spec;
 ghost use Rattle.awk_resolve.specs.Faults.{Misdefined};
+ghost use Rattle.awk_resolve.specs.Kinds.{Agrees, Clashes, NotAfter};
+ghost use Rattle.awk_resolve.specs.Marks.{AreKinds};
 ghost use Rattle.awk_resolve.specs.Numbering.{numbers};
 ghost use Rattle.awk_resolve.specs.declared.mention.Role as roles;
 ghost use Rattle.awk_text.specs.declared.place.Place as places;
@@ -19,30 +21,37 @@ use awk_tree::Name;
 struct Sought<'a> {
     kinds: &'a Kinds,
     may_double: bool,
-    ghost only: { may_double ≡ false → (r : roles.Role) (x : Text) → spec.has_two kinds.now r x ≡ false },
+    ghost only: { may_double ≡ false → (r : roles.Role) (x : Text) → spec.HasTwo kinds.now r x → ⊥ },
 }
 
-/// The earlier one of two places.
-fn earlier(least: Option<Place>, place: Place) -> Option<Place>
-    ensures { result ≡ spec.earlier least place }
+fn is_not_after(one: Place, other: Place) -> bool
+    ensures { (result ≡ true) ↔ NotAfter one other }
 {
-    match least {
-        Some(other) => {
-            if other.line < place.line
-                || (other.line == place.line && other.column <= place.column)
-            {
-                Some(other)
-            } else {
-                Some(place)
+    one.line < other.line || (one.line == other.line && one.column <= other.column)
+}
+
+/// The first one of two places, as far as there are any.
+fn earlier(one: Option<Place>, other: Option<Place>) -> Option<Place>
+    ensures { spec.IsFirst (λ place. (one ≡ Some place) ⊎ (other ≡ Some place)) result }
+{
+    match one {
+        Some(first) => match other {
+            Some(second) => {
+                if is_not_after(first, second) {
+                    Some(first)
+                } else {
+                    Some(second)
+                }
             }
-        }
-        None => Some(place),
+            None => Some(first),
+        },
+        None => other,
     }
 }
 
 /// Whether what a text is in an item of this role has two kinds.
 fn has_two(kinds: &Kinds, role: &Role, text: &[u8]) -> bool
-    ensures { result ≡ spec.has_two kinds.now role.now text.now }
+    ensures { (result ≡ true) ↔ spec.HasTwo kinds.now role.now text.now }
 {
     let number = kinds.numbers.number(role, text);
     let is_scalar = is_marked(&kinds.scalars, number);
@@ -54,58 +63,48 @@ fn has_two(kinds: &Kinds, role: &Role, text: &[u8]) -> bool
     }
 }
 
-fn at_name(sought: &Sought<'_>, role: &Role, name: &Name, least: Option<Place>) -> Option<Place>
-    ensures { result ≡ spec.at_name sought.now.kinds.now role.now name.now least }
+fn at_name(sought: &Sought<'_>, role: &Role, name: &Name) -> Option<Place>
+    ensures { spec.IsFirst (spec.NameAt sought.now.kinds.now role.now name.now) result }
 {
     if sought.may_double && has_two(sought.kinds, role, name.text.bytes()) {
-        earlier(least, name.place)
+        Some(name.place)
     } else {
-        least
+        None
     }
 }
 
-fn at_names(sought: &Sought<'_>, role: &Role, names: &[Name], least: Option<Place>) -> Option<Place>
-    ensures { result ≡ spec.over (spec.at_name sought.now.kinds.now role.now) names.now least }
+fn at_names(sought: &Sought<'_>, role: &Role, names: &[Name]) -> Option<Place>
+    ensures { spec.IsFirst (spec.OneOf (spec.NameAt sought.now.kinds.now role.now) names.now) result }
 {
-    let mut least = least;
+    let mut first = None;
     for name in names {
-        least = at_name(sought, role, name, least);
+        first = earlier(first, at_name(sought, role, name));
     }
-    least
+    first
 }
 
-fn at_argument(
-    sought: &Sought<'_>,
-    role: &Role,
-    name: &Option<Name>,
-    least: Option<Place>,
-) -> Option<Place>
-    ensures { result ≡ spec.at_argument sought.now.kinds.now role.now name.now least }
+fn at_argument(sought: &Sought<'_>, role: &Role, name: &Option<Name>) -> Option<Place>
+    ensures { spec.IsFirst (spec.ArgumentAt sought.now.kinds.now role.now name.now) result }
 {
     match name {
-        Some(name) => at_name(sought, role, name, least),
-        None => least,
+        Some(name) => at_name(sought, role, name),
+        None => None,
     }
 }
 
-fn at_arguments(
-    sought: &Sought<'_>,
-    role: &Role,
-    args: &[Option<Name>],
-    least: Option<Place>,
-) -> Option<Place>
-    ensures { result ≡ spec.over (spec.at_argument sought.now.kinds.now role.now) args.now least }
+fn at_arguments(sought: &Sought<'_>, role: &Role, args: &[Option<Name>]) -> Option<Place>
+    ensures { spec.IsFirst (spec.OneOf (spec.ArgumentAt sought.now.kinds.now role.now) args.now) result }
 {
-    let mut least = least;
+    let mut first = None;
     for arg in args {
-        least = at_argument(sought, role, arg, least);
+        first = earlier(first, at_argument(sought, role, arg));
     }
-    least
+    first
 }
 
 /// Whether an expression is handed to an array among these parameters.
 fn lacks_array(kinds: &Kinds, parameters: &[usize], args: &[Option<Name>]) -> bool
-    ensures { result ≡ spec.lacks_array kinds.now parameters.now 0 args.now }
+    ensures { (result ≡ true) ↔ spec.LacksArray kinds.now parameters.now args.now }
 {
     let mut position = 0;
     for arg in args {
@@ -117,74 +116,67 @@ fn lacks_array(kinds: &Kinds, parameters: &[usize], args: &[Option<Name>]) -> bo
     false
 }
 
-fn at_call(kinds: &Kinds, name: &Name, args: &[Option<Name>], least: Option<Place>) -> Option<Place>
-    ensures { result ≡ spec.at_call kinds.now name.now args.now least }
+fn at_call(kinds: &Kinds, name: &Name, args: &[Option<Name>]) -> Option<Place>
+    ensures { spec.IsFirst (spec.CallAt kinds.now name.now args.now) result }
 {
     if lacks_array(kinds, kinds.numbers.parameters(name.text.bytes()), args) {
-        earlier(least, name.place)
+        Some(name.place)
     } else {
-        least
+        None
     }
 }
 
-fn at_mention(
-    sought: &Sought<'_>,
-    role: &Role,
-    mention: &Mention,
-    least: Option<Place>,
-) -> Option<Place>
-    ensures { result ≡ spec.at_mention sought.now.kinds.now role.now mention.now least }
+fn at_mention(sought: &Sought<'_>, role: &Role, mention: &Mention) -> Option<Place>
+    ensures { spec.IsFirst (spec.MentionAt sought.now.kinds.now role.now mention.now) result }
 {
     match mention {
-        Mention::Scalar(name) => at_name(sought, role, name, least),
-        Mention::Array(name) => at_name(sought, role, name, least),
-        Mention::Measured(name) => at_name(sought, role, name, least),
+        Mention::Scalar(name) => at_name(sought, role, name),
+        Mention::Array(name) => at_name(sought, role, name),
+        Mention::Measured(name) => at_name(sought, role, name),
         Mention::Call(name, args) => {
-            let least = at_name(sought, &Role::Begin, name, least);
-            let least = at_call(sought.kinds, name, args.as_slice(), least);
-            at_arguments(sought, role, args.as_slice(), least)
+            let function = at_name(sought, &Role::Begin, name);
+            let call = at_call(sought.kinds, name, args.as_slice());
+            let arguments = at_arguments(sought, role, args.as_slice());
+            earlier(earlier(function, call), arguments)
         }
-        Mention::MainInput | Mention::Next(_) | Mention::Return(_) | Mention::Stray(_) => least,
+        Mention::MainInput | Mention::Next(_) | Mention::Return(_) | Mention::Stray(_) => None,
     }
 }
 
-fn at_mentions(
-    sought: &Sought<'_>,
-    role: &Role,
-    mentions: &[Mention],
-    least: Option<Place>,
-) -> Option<Place>
-    ensures { result ≡ spec.over (spec.at_mention sought.now.kinds.now role.now) mentions.now least }
+fn at_mentions(sought: &Sought<'_>, role: &Role, mentions: &[Mention]) -> Option<Place>
+    ensures { spec.IsFirst (spec.OneOf (spec.MentionAt sought.now.kinds.now role.now) mentions.now) result }
 {
-    let mut least = least;
+    let mut first = None;
     for mention in mentions {
-        least = at_mention(sought, role, mention, least);
+        first = earlier(first, at_mention(sought, role, mention));
     }
-    least
+    first
 }
 
-fn at_role(sought: &Sought<'_>, role: &Role, least: Option<Place>) -> Option<Place>
-    ensures { result ≡ spec.at_role sought.now.kinds.now role.now least }
+fn at_role(sought: &Sought<'_>, role: &Role) -> Option<Place>
+    ensures { spec.IsFirst (spec.RoleAt sought.now.kinds.now role.now) result }
 {
     match role {
         Role::Function(name, params) => {
-            let least = at_name(sought, &Role::Begin, name, least);
-            at_names(sought, role, params.as_slice(), least)
+            let function = at_name(sought, &Role::Begin, name);
+            let parameters = at_names(sought, role, params.as_slice());
+            earlier(function, parameters)
         }
-        Role::Begin | Role::End | Role::Rule => least,
+        Role::Begin | Role::End | Role::Rule => None,
     }
 }
 
-fn at_part(sought: &Sought<'_>, part: &Section, least: Option<Place>) -> Option<Place>
-    ensures { result ≡ spec.at_part sought.now.kinds.now part.now least }
+fn at_part(sought: &Sought<'_>, part: &Section) -> Option<Place>
+    ensures { spec.IsFirst (spec.PartAt sought.now.kinds.now part.now) result }
 {
-    let least = at_role(sought, &part.role, least);
-    at_mentions(sought, &part.role, part.mentions.as_slice(), least)
+    let role = at_role(sought, &part.role);
+    let mentions = at_mentions(sought, &part.role, part.mentions.as_slice());
+    earlier(role, mentions)
 }
 
 /// Whether a number has both marks.
 fn marked_twice(kinds: &Kinds) -> bool
-    ensures { result ≡ spec.marked_twice kinds.now.arrays 0 kinds.now.scalars }
+    ensures { (result ≡ true) ↔ spec.AnyTwice kinds.now }
 {
     let mut number = 0;
     for is_scalar in kinds.scalars.as_slice() {
@@ -198,7 +190,7 @@ fn marked_twice(kinds: &Kinds) -> bool
 
 /// Whether an item of this role is a function whose name is a variable too.
 fn is_double(kinds: &Kinds, role: &Role) -> bool
-    ensures { result ≡ spec.is_double kinds.now role.now }
+    ensures { (result ≡ true) ↔ spec.IsDouble kinds.now role.now }
 {
     match role {
         Role::Function(name, _params) => has_two(kinds, &Role::Begin, name.text.bytes()),
@@ -207,7 +199,7 @@ fn is_double(kinds: &Kinds, role: &Role) -> bool
 }
 
 fn any_double(kinds: &Kinds, parts: &[Section]) -> bool
-    ensures { result ≡ spec.any_double kinds.now parts.now }
+    ensures { (result ≡ true) ↔ spec.AnyDouble kinds.now parts.now }
 {
     for part in parts {
         if is_double(kinds, &part.role) {
@@ -219,7 +211,7 @@ fn any_double(kinds: &Kinds, parts: &[Section]) -> bool
 
 /// Whether a name may have two kinds, by numbers and functions, which are fewer than the places where names stand.
 fn may_double(kinds: &Kinds, parts: &[Section]) -> bool
-    ensures { result ≡ spec.may_double kinds.now parts.now }
+    ensures { (result ≡ true) ↔ (spec.AnyTwice kinds.now ⊎ spec.AnyDouble kinds.now parts.now) }
 {
     marked_twice(kinds) || any_double(kinds, parts)
 }
@@ -236,16 +228,18 @@ fn look<'a>(kinds: &'a Kinds, parts: &[Section]) -> Sought<'a>
 }
 
 /// The first place at which a name of two kinds stands, or a function is called with an
-/// expression for an array.
-pub fn first_clash(kinds: &Kinds, parts: &[Section]) -> Option<Place>
+/// expression for an array, where the kinds are those of these items.
+pub(crate) fn first_clash(kinds: &Kinds, parts: &[Section]) -> Option<Place>
     requires numbers { kinds.now.numbers ≡ numbers parts.now }
+    requires kinds { AreKinds parts.now kinds.now }
     requires defined { (place : places.Place) → Misdefined parts.now place → ⊥ }
-    ensures { result ≡ spec.over (spec.at_part kinds.now) parts.now None }
+    ensures first { spec.IsFirst (Clashes parts.now) result }
+    ensures agree { IfNone result (Agrees parts.now) }
 {
     let sought = look(kinds, parts);
-    let mut least = None;
+    let mut first = None;
     for part in parts {
-        least = at_part(&sought, part, least);
+        first = earlier(first, at_part(&sought, part));
     }
-    least
+    first
 }

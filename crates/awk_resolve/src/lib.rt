@@ -12,6 +12,7 @@ mod definitions;
 mod expressions;
 mod flags;
 mod functions;
+mod globals;
 mod inside;
 mod kinds;
 mod mention;

@@ -1,13 +1,14 @@
 // A number for each name of a script.
 
-ghost use Rattle.std.specs.Prelude.{◌≡◌, map, length, slice_get, IfOk, OnOk};
+ghost use Rattle.std.specs.Prelude.{◌≡◌, ◌+◌, length, slice_get, IfOk, OnOk};
 ghost use Rattle.std.specs.Option.{option_copied};
 ghost use Rattle.awk_resolve.specs.Kinds.{global, parameter};
 ghost use Rattle.awk_resolve.specs.Numbering as spec;
 ghost use Rattle.awk_resolve.specs.Uses as uses;
 
+use crate::globals::Globals;
 use crate::inside::Inside;
-use crate::mention::{Mention, Role, Section};
+use crate::mention::{Role, Section};
 use crate::short_table::ShortTable;
 use crate::table::TextTable;
 use crate::variables::{ARRAYS, SCALARS};
@@ -64,6 +65,26 @@ impl Scope {
     }
 }
 
+/// The parameters of the function that an item of this role is.
+pub fn scope_in<'a>(functions: &'a TextTable<Scope>, role: &Role) -> Option<&'a Scope>
+    ensures { option_copied result ≡ spec.scope_in functions.now role.now }
+{
+    match role {
+        Role::Function(name, _params) => functions.get(name.text.bytes()),
+        Role::Begin | Role::End | Role::Rule => None,
+    }
+}
+
+/// A number that no name has. More names than there are numbers have no room in memory.
+pub fn fresh(count: &mut usize) -> Result<usize, Memory>
+    ensures number { IfOk result (λ n. n ≡ count.old) }
+    ensures rest { OnOk result (count.new ≡ count.old + 1) }
+{
+    let number = *count;
+    *count = number.checked_add(1).ok_or(AllocError)?;
+    Ok(number)
+}
+
 impl Numbers {
     fn new(alloc: Global) -> Numbers
         ensures { result ≡ spec.nothing }
@@ -96,10 +117,7 @@ impl Numbers {
     pub fn scope_of(&self, role: &Role) -> Option<&Scope>
         ensures { option_copied result ≡ spec.scope_of self.now role.now }
     {
-        match role {
-            Role::Function(name, _params) => self.functions.get(name.text.bytes()),
-            Role::Begin | Role::End | Role::Rule => None,
-        }
+        scope_in(&self.functions, role)
     }
 
     /// The number of what a text is in an item of this role.
@@ -125,23 +143,13 @@ impl Numbers {
         }
     }
 
-    /// A number that no name has. More names than there are numbers have no room in memory.
-    fn fresh(&mut self) -> Result<usize, Memory>
-        ensures number { IfOk result (λ n. n ≡ self.old.count) }
-        ensures rest { OnOk result (self.new ≡ spec.counted self.old) }
-    {
-        let number = self.count;
-        self.count = number.checked_add(1).ok_or(AllocError)?;
-        Ok(number)
-    }
-
     fn scope(&mut self, alloc: Global, params: &[Name]) -> Result<Scope, Memory>
         ensures scope { IfOk result (λ s. s ≡ spec.scope self.old.count spec.no_parameters params.now) }
         ensures rest { OnOk result (self.new ≡ spec.counted_by (length params.now) self.old) }
     {
         let mut scope = Scope::new(alloc, params.len())?;
         for param in params {
-            let number = self.fresh()?;
+            let number = fresh(&mut self.count)?;
             scope.add(param.text.copy(alloc)?, number)?;
         }
         Ok(scope)
@@ -168,107 +176,29 @@ impl Numbers {
         Ok(())
     }
 
-    fn add_global(&mut self, alloc: Global, text: &[u8]) -> Result<(), Memory>
-        ensures { OnOk result (self.new ≡ spec.with_global text.now self.old) }
-    {
-        let number = self.fresh()?;
-        self.globals.put(Octets::of(alloc, text)?, number)
-    }
-
-    /// Gives a number to what a text is in an item of this role, unless it has one.
-    fn add(&mut self, alloc: Global, role: &Role, text: &[u8]) -> Result<(), Memory>
-        ensures { OnOk result (self.new ≡ spec.with_name role.now text.now self.old) }
-    {
-        match self.number(role, text) {
-            Some(_number) => Ok(()),
-            None => self.add_global(alloc, text),
-        }
-    }
-
-    fn add_own(&mut self, alloc: Global, texts: &[&[u8]]) -> Result<(), Memory>
-        ensures { OnOk result (self.new ≡ spec.with_own (map (λ w. w.now) texts.now) self.old) }
-    {
-        for text in texts {
-            self.add(alloc, &Role::Begin, text)?;
-        }
-        Ok(())
-    }
-
-    fn add_argument(
-        &mut self,
-        alloc: Global,
-        role: &Role,
-        name: &Option<Name>,
-    ) -> Result<(), Memory>
-        ensures { OnOk result (self.new ≡ spec.with_argument role.now name.now self.old) }
-    {
-        match name {
-            Some(name) => self.add(alloc, role, name.text.bytes()),
-            None => Ok(()),
-        }
-    }
-
-    fn add_arguments(
-        &mut self,
-        alloc: Global,
-        role: &Role,
-        args: &[Option<Name>],
-    ) -> Result<(), Memory>
-        ensures { OnOk result (self.new ≡ spec.with_arguments role.now args.now self.old) }
-    {
-        for arg in args {
-            self.add_argument(alloc, role, arg)?;
-        }
-        Ok(())
-    }
-
-    fn add_mention(&mut self, alloc: Global, role: &Role, mention: &Mention) -> Result<(), Memory>
-        ensures { OnOk result (self.new ≡ spec.with_mention role.now mention.now self.old) }
-    {
-        match mention {
-            Mention::Scalar(name) => self.add(alloc, role, name.text.bytes()),
-            Mention::Array(name) => self.add(alloc, role, name.text.bytes()),
-            Mention::Measured(name) => self.add(alloc, role, name.text.bytes()),
-            Mention::Call(_name, args) => self.add_arguments(alloc, role, args.as_slice()),
-            Mention::MainInput | Mention::Next(_) | Mention::Return(_) | Mention::Stray(_) => Ok(
-                (),
-            ),
-        }
-    }
-
-    fn add_mentions(
-        &mut self,
-        alloc: Global,
-        role: &Role,
-        mentions: &[Mention],
-    ) -> Result<(), Memory>
-        ensures { OnOk result (self.new ≡ spec.with_mentions role.now mentions.now self.old) }
-    {
-        for mention in mentions {
-            self.add_mention(alloc, role, mention)?;
-        }
-        Ok(())
-    }
-
-    fn add_parts(&mut self, alloc: Global, parts: &[Section]) -> Result<(), Memory>
-        ensures { OnOk result (self.new ≡ spec.with_parts parts.now self.old) }
-    {
-        for part in parts {
-            self.add_mentions(alloc, &part.role, part.mentions.as_slice())?;
-        }
-        Ok(())
-    }
-
     /// Numbers the names of these items.
     pub fn of(alloc: Global, parts: &[Section]) -> Result<Numbers, Memory>
         ensures { IfOk result (λ numbers. numbers ≡ spec.numbers parts.now) }
     {
         let mut numbers = Numbers::new(alloc);
         numbers.add_functions(alloc, parts)?;
-        numbers.add_own(alloc, &SCALARS)?;
-        numbers.add_own(alloc, &ARRAYS)?;
-        numbers.add_parts(alloc, parts)?;
-        Ok(numbers)
+        let Numbers {
+            functions,
+            globals,
+            count,
+        } = numbers;
+        let mut globals = Globals {
+            numbers: globals,
+            count,
+        };
+        globals.add_own(alloc, &functions, &SCALARS)?;
+        globals.add_own(alloc, &functions, &ARRAYS)?;
+        globals.add_parts(alloc, &functions, parts)?;
+        Ok(Numbers {
+            functions,
+            globals: globals.numbers,
+            count: globals.count,
+        })
     }
 }
 

@@ -5,13 +5,11 @@ ghost use Rattle.std.specs.Str.{bytes_eq};
 ghost use Rattle.awk_resolve.specs.Kinds.{texts};
 
 use crate::roll::Roll;
+use crate::table::FEW;
 use awk_text::Memory;
 use awk_tree::Name;
 use std::alloc::Global;
 use std::marker::Model;
-
-/// How many names are looked at one by one: a table of so few takes longer to make than it saves.
-const FEW: usize = 8;
 
 /// The parameters of a function, where they stand in the script. Where they are many, a look-up takes no more time.
 #[derive(Drop)]

@@ -6,14 +6,11 @@ ghost use Rattle.std.specs.Option.{option_copied};
 ghost use Rattle.std.specs.Str.{bytes_eq};
 ghost use Rattle.awk_resolve.specs.TextTables.{with_text};
 
-use crate::table::TextTable;
+use crate::table::{FEW, TextTable};
 use awk_text::Memory;
 use awk_text::octets::Octets;
 use std::alloc::{AllocError, Global};
 use std::marker::Model;
-
-/// How many texts are looked at one by one: a table of so few takes longer to make than it saves.
-const FEW: usize = 8;
 
 /// One value under each text: the first few in a list, and the others in a table. A look-up takes no more time where
 /// there are many.

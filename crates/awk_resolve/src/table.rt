@@ -12,6 +12,9 @@ use indexmap::IndexMap;
 use std::alloc::Global;
 use std::marker::Model;
 
+/// How many texts are looked at one by one: a table of so few takes longer to make than it saves.
+pub const FEW: usize = 8;
+
 /// One value under each text. A look-up takes no more time where there are many.
 #[derive(Drop)]
 pub struct TextTable<V> {

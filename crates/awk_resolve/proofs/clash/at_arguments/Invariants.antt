@@ -1,6 +1,6 @@
-use Rattle.std.proofs.Common.{◌≡◌, drop}
-use Rattle.awk_resolve.specs.Clash as spec
+use Rattle.std.proofs.Common.{take}
+use Rattle.awk_resolve.specs.Clash.{IsFirst, OneOf, ArgumentAt}
 use Rattle.awk_resolve.proofs.clash.at_arguments.Given as goal
 
 abbrev pub invariant-loop-arg : goal.invariant-loop-arg
-invariant-loop-arg l = spec.over (spec.at_argument l.sought.kinds.now l.role) l.args l.initial.least ≡ spec.over (spec.at_argument l.sought.kinds.now l.role) (drop l.arg-index l.args) l.least
+invariant-loop-arg l = IsFirst (OneOf (ArgumentAt l.sought.kinds.now l.role) (take l.arg-index l.args)) l.first
