@@ -12,7 +12,7 @@ use Rattle.awk_program.specs.Slots.{Text}
 use Rattle.awk_program.specs.View.{variable_of}
 use Rattle.awk_program.specs.declared.variables.Variable.{Variable}
 use Rattle.awk_machine.specs.Advances.{advance}
-use Rattle.awk_machine.specs.Builtins.{numbered}
+use Rattle.awk_lib.specs.Parts.{texts_from}
 use Rattle.awk_machine.specs.Operators.{of_count}
 use Rattle.awk_machine.specs.Pieces.{Piece, Do, Fill, Split, Goes, give, ends, Faulted}
 use Rattle.awk_machine.specs.Questions.{Divides, Texts, texts}
@@ -32,7 +32,7 @@ use Rattle.awk_store.proofs.ArraySteps.{with_new, array-set, array_agrees, array
 
 -- ---- what fits, and what does not
 
-few_by : (b : Bool) (parts : List Text) (a : Array) → nat_le (length parts) most_elements ≡ b → filled parts ≡ Ok a → (nat_le (length parts) most_elements ≡ true) × (a ≡ numbered 1 parts)
+few_by : (b : Bool) (parts : List Text) (a : Array) → nat_le (length parts) most_elements ≡ b → filled parts ≡ Ok a → (nat_le (length parts) most_elements ≡ true) × (a ≡ texts_from 1 parts)
 few_by true parts a e is = (e, let x = rw e at is in cc)
 few_by false parts a e is = absurd (let x = rw e at is in cc)
 
@@ -45,8 +45,8 @@ module _ (g : Given) (old : Whole) (x : Variable) (at : Place) (parts : List Tex
   filling = Do (Fill at (variable_of (names_in g) x) parts)
 
   fill_moves : nat_le (length parts) most_elements ≡ true → (k : List Piece) (hid : Hidden) (c : Course) → Agreeing g old hid c →
-      advance g (Do (Fill at (variable_of (names_in g) x) parts) ∷ k) (seen (base g old hid) c) ≡ Goes (give (of_count (length parts)) k) (seen (base g (with_new g old x (numbered 1 parts)) hid) c)
-  fill_moves few k hid c a = rw (few, array-set g old x (numbered 1 parts) hid c a) refl
+      advance g (Do (Fill at (variable_of (names_in g) x) parts) ∷ k) (seen (base g old hid) c) ≡ Goes (give (of_count (length parts)) k) (seen (base g (with_new g old x (texts_from 1 parts)) hid) c)
+  fill_moves few k hid c a = rw (few, array-set g old x (texts_from 1 parts) hid c a) refl
 
   fill_faults : nat_le (length parts) most_elements ≡ false → (k : List Piece) (hid : Hidden) (c : Course) → Agreeing g old hid c →
       advance g (Do (Fill at (variable_of (names_in g) x) parts) ∷ k) (seen (base g old hid) c) ≡ Goes (ends (Faulted fault.TooManyElements at)) (seen (base g old hid) c)
@@ -57,7 +57,7 @@ module _ (g : Given) (old : Whole) (x : Variable) (at : Place) (parts : List Tex
   fills n new a is count same =
       let so = few_by (nat_le (length parts) most_elements) parts a refl is in
       rw (same, so.1, count)
-      (done (alters (array_used g old x (numbered 1 parts)) (at_rest _ old) (λ k hid c a. (hid, array_agrees g old x (numbered 1 parts) hid c a, fill_moves so.0 k hid c a))))
+      (done (alters (array_used g old x (texts_from 1 parts)) (at_rest _ old) (λ k hid c a. (hid, array_agrees g old x (texts_from 1 parts) hid c a, fill_moves so.0 k hid c a))))
 
   fails : (new : Kept) (a : Array) (met : Fault) → new ≡ changes.with_array (kept.reference old.0 x) a old.0 → (met ≡ fault.Memory) ⊎ ((filled parts ≡ Err met) × (a ≡ kept.array old.0 x)) →
       Acts g (Do (Fill at (variable_of (names_in g) x) parts)) (λ (n : ℤ). give (v.Num n)) old (Err (halt_at at met)) (new, old.1)

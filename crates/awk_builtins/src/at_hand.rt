@@ -22,6 +22,7 @@ ghost use Rattle.std.specs.Prelude.{Err, IfSome, Ok, Some, false, length, map, â
 
 use crate::functions::{cased, index_of, part_of, text_length};
 use crate::operators::{compared_lent, compared_numbers, operation};
+use awk_fields::row::LEAST_SHARED;
 use awk_program::{Builtin, Comparison, Expr, Target, Term, Variable};
 use awk_store::{Spot, Store, is_nf};
 use awk_text::lent::{Lent, few_digits};
@@ -35,9 +36,6 @@ use std::alloc::Global;
 /// How many levels of arithmetic and of subscripts are looked into. What lies deeper is evaluated, level by level, and
 /// each level looks again: so this bounds how often a part is looked at.
 pub const MOST_LEVELS: u32 = 3;
-
-/// The most bytes of an element or of the record that are copied where they are read: more are shared.
-const MOST_COPIED: usize = 4095;
 
 /// The value of a variable. NF has one where the record is split.
 #[inline(always)]
@@ -435,7 +433,7 @@ fn owned<'a>(alloc: Global, value: Lent<'a>) -> Option<Value>
 fn is_long(value: Lent<'_>) -> bool {
     match value {
         Lent::Unset | Lent::Num(_) => false,
-        Lent::Text(text) | Lent::Input(text) => MOST_COPIED < text.len(),
+        Lent::Text(text) | Lent::Input(text) => LEAST_SHARED <= text.len(),
     }
 }
 

@@ -25,8 +25,9 @@ use std::mem;
 /// The greatest number of a field that can be named or set, and the greatest count that can be set.
 pub const MOST_FIELDS: i64 = 65535;
 
-/// The fewest bytes of a record that are shared: what a shorter one lies in is kept for the next one.
-const LEAST_SHARED: usize = 4096;
+/// The fewest bytes of a record, or of an element, that are shared: what a shorter record lies in is kept for the next
+/// one.
+pub const LEAST_SHARED: usize = 4096;
 
 /// A record: `$0`, and the fields `$1` to `$NF`. A text is split when its fields are first asked
 /// for, and the whole text is rebuilt when it is first asked for after a field or NF was set.

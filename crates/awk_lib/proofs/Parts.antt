@@ -10,7 +10,8 @@ use Rattle.awk_text.specs.declared.value.Value.{Value}
 use Rattle.awk_text.specs.declared.value.Value.TheVariants as v
 use Rattle.awk_lib.specs.Arrays.{most_elements}
 use Rattle.awk_lib.specs.Dense.{dense_rows, IsOutside}
-use Rattle.awk_lib.specs.Filled.{texts_from, AreFilled}
+use Rattle.awk_lib.specs.Filled.{AreFilled}
+use Rattle.awk_lib.specs.Parts.{texts_from}
 use Rattle.awk_lib.specs.Kept.{rows_of, AreKept}
 use Rattle.awk_lib.specs.Numbering.{in_order, rows, shown, AreNumbered}
 use Rattle.awk_lib.specs.declared.dense.Numbered.{Numbered}

@@ -4,6 +4,7 @@ pub mod Filled
 pub mod Kept
 pub mod Lends
 pub mod Numbering
+pub mod Parts
 pub mod Places
 pub mod Replacing
 pub mod Seeking

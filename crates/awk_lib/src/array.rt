@@ -247,7 +247,7 @@ impl<V: Drop> Array<V> {
 impl Array<Value> {
     ghost use Rattle.std.specs.Prelude.{◌<◌, ◌≤◌};
     ghost use Rattle.awk_lib.specs.Arrays.{most_elements};
-    ghost use Rattle.awk_lib.specs.Filled.{texts_from};
+    ghost use Rattle.awk_lib.specs.Parts.{texts_from};
 
     /// Puts the texts, as values from outside, in place of all elements, under the keys 1, 2 and so on.
     ///

@@ -2,7 +2,6 @@
 -- the function gives.
 use Rattle.std.specs.Prelude.{ℕ, ℤ, ◌+◌, ◌-◌, nat_le, Bool, true, false, if◌then◌else◌, negsuc, List, [], ◌∷◌, length}
 use Rattle.std.specs.Prelude.{drop, get_or, codes, Option, Some, None, Result, Ok}
-use Rattle.std.specs.Fmt.{decimal}
 use Rattle.awk_text.specs.declared.place.Place.{Place}
 use Rattle.awk_text.specs.declared.value.Value.{Value}
 use Rattle.awk_text.specs.declared.value.Value.TheVariants as v
@@ -25,9 +24,10 @@ use Rattle.awk_program.specs.declared.builtins.Builtin.TheVariants as b
 use Rattle.awk_machine.specs.Flushing.{flush}
 use Rattle.awk_machine.specs.Forms.{value, spot, source, binary, deliver, checked}
 use Rattle.awk_lib.specs.Arrays.{most_elements}
+use Rattle.awk_lib.specs.Parts.{texts_from}
 use Rattle.awk_lib.specs.Replacing.{replaced}
 use Rattle.awk_lib.specs.Texts.{index, substr, to_case}
-use Rattle.awk_machine.specs.State.{Array, State}
+use Rattle.awk_machine.specs.State.{State}
 use Rattle.awk_machine.specs.Operators.{of_count, limited}
 use Rattle.awk_machine.specs.Pieces.{Part, Task, Piece, At, Do, Target, Get, Set, Give, Locate, Located, Substitute}
 use Rattle.awk_machine.specs.Pieces.{Split, Close, Run, Then, Goes, Seeks, Asks, give, granted, fails}
@@ -154,12 +154,8 @@ split place x at a y part vs k s =
     binary (value x) (source y) part (λ text by k s. Goes (split_by y place at a (text_of text) (text_of by) k) s) vs k
     s
 
-abbrev pub numbered : ℕ → List Text → Array
-numbered n [] = []
-numbered n (x ∷ xs) = (decimal n, v.Input x) ∷ numbered (n + 1) xs
-
 abbrev pub fill : Place → p.Variable → List Text → Then
 fill at a parts k s =
     if nat_le (length parts) most_elements
-    then Goes (give (of_count (length parts)) k) (with_array a (numbered 1 parts) s)
+    then Goes (give (of_count (length parts)) k) (with_array a (texts_from 1 parts) s)
     else fails TooManyElements at s

@@ -1,5 +1,5 @@
 // An array that is filled with the parts of a text, as split does it.
-ghost use Rattle.awk_machine.specs.Builtins.{numbered};
+ghost use Rattle.awk_lib.specs.Parts.{texts_from};
 ghost use Rattle.awk_store.specs.Filled.{filled};
 ghost use Rattle.std.specs.Prelude.{Err, IfErr, IfOk, Ok, OnOk, length, pos, ◌≡◌, ◌⊎◌};
 
@@ -25,7 +25,7 @@ pub(crate) fn fill_with(array: &mut Array<Value>, parts: Vec<Octets>) -> Result<
 
 /// What `fill_with` answers, where there is no array.
 pub(crate) fn counted(parts: &[Octets]) -> Result<i64, Fault>
-    ensures ok { OnOk result (filled parts.now ≡ Ok (numbered 1 parts.now)) }
+    ensures ok { OnOk result (filled parts.now ≡ Ok (texts_from 1 parts.now)) }
     ensures count { IfOk result (λ n. n ≡ pos (length parts.now)) }
     ensures err { IfErr result (λ e. filled parts.now ≡ Err e) }
 {

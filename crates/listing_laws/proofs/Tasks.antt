@@ -16,6 +16,7 @@ use Rattle.awk_fields.specs.Separators.{separator}
 use Rattle.awk_format.specs.Directives.{◌>>=◌}
 use Rattle.awk_lib.specs.Arrays.{element, put}
 use Rattle.awk_lib.specs.Arrays as arrays
+use Rattle.awk_lib.specs.Parts.{texts_from}
 use Rattle.awk_lib.specs.Replacing.{replaced}
 use Rattle.awk_program.specs.Slots.{Text}
 use Rattle.awk_program.specs.Program as p
@@ -110,7 +111,7 @@ module _ (S : Listed) where
       through S place (limited (replaced new old 0 (x ∷ ms))) (λ text k s. Goes (Do (m.Set y place (v.Text text)) ∷ Do (m.Give (of_count (length (x ∷ ms)))) ∷ k) s) k t (λ made. (tt, (tt, rest)))
 
   fills_by : (b : Bool) (at : Place) (a : p.Variable) (parts : List Text) (k : List Piece) (t : State) → Stack S (hands None) k →
-      Keeps S (if b then Goes (give (of_count (length parts)) k) (with_array a (built.numbered 1 parts) t) else m.fails fault.TooManyElements at t)
+      Keeps S (if b then Goes (give (of_count (length parts)) k) (with_array a (texts_from 1 parts) t) else m.fails fault.TooManyElements at t)
   fills_by true at a parts k t rest = hand S None (of_count (length parts)) k tt rest
   fills_by false at a parts k t rest = ended S (m.Faulted fault.TooManyElements at)
 
