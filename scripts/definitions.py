@@ -1,8 +1,8 @@
 #!/usr/bin/env python3
 """definitions.py [--write]: the files of definitions that the contract of `drive` cites, in the order to read them.
 
-The contract speaks in two files of awkbox, and each file names those that it uses: this follows the names. Prints the table of
-docs/PROVED.md; with --write puts it there, between the two marks.
+The contract speaks in two files of awkbox, and each file names those that it uses: this follows the names. Prints the
+table of docs/PROVED.md; with --write puts it there, between the two marks.
 """
 
 import re
@@ -18,7 +18,10 @@ SUBJECTS = [
     ("requests, replies and events", ["box_world"]),
     ("what a policy's text writes and denies", ["box_policy"]),
     ("what is passed on, and what the log tells", ["box_monitor"]),
-    ("texts, values, patterns, records, formats, arrays", ["awk_text", "awk_ere", "awk_fields", "awk_format", "awk_lib"]),
+    (
+        "texts, values, patterns, records, formats, arrays",
+        ["awk_text", "awk_ere", "awk_fields", "awk_format", "awk_lib"],
+    ),
     ("the form of a script that runs", ["awk_program"]),
     ("plain awk", ["awk_machine"]),
     ("what a run is given", ["awk_run"]),
@@ -31,7 +34,8 @@ USE = re.compile(r"^\s*(?:pub )?use Rattle\.(\w+)\.specs\.([\w.]+?)(?:\.\{|\s|$)
 
 
 def uses(file: Path) -> list[Path]:
-    found = (CRATES / crate / "specs" / (name.replace(".", "/") + ".antt") for crate, name in USE.findall(file.read_text()))
+    names = USE.findall(file.read_text())
+    found = (CRATES / crate / "specs" / (name.replace(".", "/") + ".antt") for crate, name in names)
     return [it for it in found if it.is_file()]
 
 

@@ -1,11 +1,12 @@
 #!/usr/bin/env python3
 """growths.py ROWS: refuses each growth of memory in turn in worked rows, by the program crates/rows/out/rows.
 
-A line for each row, and a last line 'N passed, M failed'. The program is started in a folder that has one table with one row in it, once
-for each growth, with scripts/refuse.c before its C library; so it is the proved program that runs, and it needs a C compiler. What it
-tells of the row is compared with the row here: with one growth refused a run has its own answer, as where a cache alone was refused,
-or says that memory was refused (F13, P8, S9, or F12 where the log's own writer was refused), and then its requests, its log and its
-outputs are the first of the row's. A list of sites and a check have their own answer or say the same."""
+A line for each row, and a last line 'N passed, M failed'. The program is started in a folder that has one table with
+one row in it, once for each growth, with scripts/refuse.c before its C library; so it is the proved program that
+runs, and it needs a C compiler. What it tells of the row is compared with the row here: with one growth refused a run
+has its own answer, as where a cache alone was refused, or says that memory was refused (F13, P8, S9, or F12 where the
+log's own writer was refused), and then its requests, its log and its outputs are the first of the row's. A list of
+sites and a check have their own answer or say the same."""
 import ast
 import collections
 import concurrent.futures
@@ -54,7 +55,7 @@ def unquoted(text):
     pieces = re.findall(r'"((?:[^"\\]|\\.)*)"(?: x (\d+))?|`([^`]*)`', text)
     if not pieces:
         return text
-    return "".join(ast.literal_eval(f'"{quoted}"') * int(times or 1) if not raw else raw for quoted, times, raw in pieces)
+    return "".join(raw or ast.literal_eval(f'"{quoted}"') * int(times or 1) for quoted, times, raw in pieces)
 
 
 def lines_of(text):
@@ -113,7 +114,7 @@ def is_begun(line, came, asks):
 
 
 def run_said(lines, came):
-    """What a run says: `own`, the code of a refusal, `outside` where no part of the run was refused, or what is wrong."""
+    """What a run says: `own`, a refusal's code, `outside` where no part of the run was refused, or what is wrong."""
     steps = {line.number: line for line in lines if line.answer}
     if not came:
         return "own"
@@ -144,11 +145,13 @@ def listing_said(lines, came):
         return "outside"
     if text == OUT_OF_MEMORY:
         return "Memory"
-    return "S9" if re.fullmatch(r"\d+:\d+ S9", text) else "outside" if "bytes are not read" in text else f"wrong: {text}"
+    if re.fullmatch(r"\d+:\d+ S9", text):
+        return "S9"
+    return "outside" if "bytes are not read" in text else f"wrong: {text}"
 
 
 def swept(rows_program, library, row):
-    """What is said with each growth of the row refused. Those before it are passed over, and the first one behind it ends this."""
+    """What is said with each growth of the row refused. Those before are passed over; the one behind it ends this."""
     said = []
     with tempfile.TemporaryDirectory() as folder:
         pathlib.Path(folder, row.table).write_text("\n".join([*row.lines, ""]))
@@ -176,7 +179,8 @@ def main():
         all_rows = rows()
         for row, said in zip(all_rows, pool.map(lambda row: swept(program, library, row), all_rows)):
             counts = collections.Counter(said)
-            print(f"{row.name}: {len(said)} growths, each refused: " + ", ".join(f"{answer} {counts[answer]}" for answer in counts))
+            answers = ", ".join(f"{answer} {count}" for answer, count in counts.items())
+            print(f"{row.name}: {len(said)} growths, each refused: {answers}")
             growths += len(said)
             wrong = any(answer.startswith("wrong") for answer in said)
             passed, failed = passed + (not wrong), failed + wrong

@@ -1,11 +1,11 @@
 #!/usr/bin/env python3
 """search-times.py PROGRAM [--large]: how the time of searches grows with the text, beside gawk in the same run.
 
-Each case is an operation on a text that is hard for its pattern: starts that read on to the end and fail, or matches of which each
-reads on to the end. It is done as often as takes a tenth of a second, on 64, 128 and 256 KB; the milliseconds of one stand, without
-what the program takes to start and to make the text, and the exponent between the first and the last (1 is linear). A peer that takes
-over two seconds is left out from there on. --large has patterns at the limit of size, on 2, 4 and 8 KB and with ten seconds, and the
-nanoseconds that a byte takes."""
+Each case is an operation on a text that is hard for its pattern: starts that read on to the end and fail, or matches
+of which each reads on to the end. It is done as often as takes a tenth of a second, on 64, 128 and 256 KB; the
+milliseconds of one stand, without what the program takes to start and to make the text, and the exponent between the
+first and the last (1 is linear). A peer that takes over two seconds is left out from there on. --large has patterns
+at the limit of size, on 2, 4 and 8 KB and with ten seconds, and the nanoseconds that a byte takes."""
 import argparse
 import math
 import os
@@ -19,28 +19,52 @@ USUAL, LONG = ((65536, 131072, 262144), 2), ((2048, 4096, 8192), 10)
 POLICY = 'version = 1\nbase = "/tmp"\n'
 # what is repeated to make the text, what stands at its end, the operation on s
 CASES = [
-    ("a", "", "match(s, /a*b/)"), ("a", "", "match(s, /(a|aa)*b/)"), ("a", "", "match(s, /a.?.?.?.?.?b/)"), ("<", "", "sub(/<.*>/, \"\", s)"),
-    ("ab", "", "match(s, /(a.*b)*c/)"), ("a", "", "match(s, /(.*)(.*)(.*)c/)"), (" ", "x", "sub(/ +$/, \"\", s)"), ("ab,", "", "match(s, /[a-z]+,[0-9]/)"),
-    ("a", "", "s ~ /a.*b.*c/"), ("x", "", "match(s, /x.*y|x/)"),
-    ("x", "", "gsub(/x.*y|x/, \"z\", s)"), ("<", "", "gsub(/<.*>|</, \"(\", s)"), ("ab", "", "gsub(/(ab)*c|a/, \"b\", s)"), ("(a", "", "gsub(/\\([^)]*\\)|\\(/, \"[\", s)"),
-    ("a ", "b", "gsub(/ +$|(a | b)*c| /, \"_\", s)"), ("\\\"a", "", "gsub(/\"([^x]|x[^y])*xy|\"/, \"\", s)"),
-    ("x", "", "split(s, p, /x.*y|x/)"), ("a,", "", "split(s, p, /,.*;|,/)"),
-    ("x", "", "FS = \"x.*y|x\"; $0 = s; n = NF"), ("a, ", "", "FS = \", *(.*;)?\"; $0 = s; n = NF"),
+    ("a", "", "match(s, /a*b/)"),
+    ("a", "", "match(s, /(a|aa)*b/)"),
+    ("a", "", "match(s, /a.?.?.?.?.?b/)"),
+    ("<", "", "sub(/<.*>/, \"\", s)"),
+    ("ab", "", "match(s, /(a.*b)*c/)"),
+    ("a", "", "match(s, /(.*)(.*)(.*)c/)"),
+    (" ", "x", "sub(/ +$/, \"\", s)"),
+    ("ab,", "", "match(s, /[a-z]+,[0-9]/)"),
+    ("a", "", "s ~ /a.*b.*c/"),
+    ("x", "", "match(s, /x.*y|x/)"),
+    ("x", "", "gsub(/x.*y|x/, \"z\", s)"),
+    ("<", "", "gsub(/<.*>|</, \"(\", s)"),
+    ("ab", "", "gsub(/(ab)*c|a/, \"b\", s)"),
+    ("(a", "", "gsub(/\\([^)]*\\)|\\(/, \"[\", s)"),
+    ("a ", "b", "gsub(/ +$|(a | b)*c| /, \"_\", s)"),
+    ("\\\"a", "", "gsub(/\"([^x]|x[^y])*xy|\"/, \"\", s)"),
+    ("x", "", "split(s, p, /x.*y|x/)"),
+    ("a,", "", "split(s, p, /,.*;|,/)"),
+    ("x", "", "FS = \"x.*y|x\"; $0 = s; n = NF"),
+    ("a, ", "", "FS = \", *(.*;)?\"; $0 = s; n = NF"),
 ]
 LARGE = [
-    ("a", "", "match(s, /((a?){141}){141}b/)"), ("a", "b", "match(s, /((a?){141}){141}b/)"), ("a", "", "match(s, /((a?){141}){141}/)"),
-    ("ab", "c", "match(s, /((a|b){100}){99}c/)"), ("ab", "", "match(s, /([^c]{0,255}){78}c/)"), ("ab", "", "match(s, /(([ab]*c){141}){70}/)"),
+    ("a", "", "match(s, /((a?){141}){141}b/)"),
+    ("a", "b", "match(s, /((a?){141}){141}b/)"),
+    ("a", "", "match(s, /((a?){141}){141}/)"),
+    ("ab", "c", "match(s, /((a|b){100}){99}c/)"),
+    ("ab", "", "match(s, /([^c]{0,255}){78}c/)"),
+    ("ab", "", "match(s, /(([ab]*c){141}){70}/)"),
 ]
 
 
 def run(command, folder, case, size, limit, rounds):
     unit, end, operation = case
-    script = f'BEGIN {{ for (t = "{unit}"; length(t) < {size}; ) t = t t; t = substr(t, 1, {size}) "{end}"; for (k = 0; k < {rounds}; k++) {{ s = t; {operation} }} }}\n'
+    text = f'for (t = "{unit}"; length(t) < {size}; ) t = t t; t = substr(t, 1, {size}) "{end}"'
+    script = f"BEGIN {{ {text}; for (k = 0; k < {rounds}; k++) {{ s = t; {operation} }} }}\n"
     with open(f"{folder}/s.awk", "w") as out:
         out.write(script)
     before = resource.getrusage(resource.RUSAGE_CHILDREN)
-    ran = subprocess.run(command, stdin=subprocess.DEVNULL, capture_output=True, cwd="/tmp", env={**os.environ, "LC_ALL": "C"},
-                         preexec_fn=lambda: resource.setrlimit(resource.RLIMIT_CPU, (limit, limit)))
+    ran = subprocess.run(
+        command,
+        stdin=subprocess.DEVNULL,
+        capture_output=True,
+        cwd="/tmp",
+        env={**os.environ, "LC_ALL": "C"},
+        preexec_fn=lambda: resource.setrlimit(resource.RLIMIT_CPU, (limit, limit)),
+    )
     after = resource.getrusage(resource.RUSAGE_CHILDREN)
     if ran.returncode < 0:
         return math.inf
@@ -58,7 +82,9 @@ def one(command, folder, case, size, limit):
     while True:
         took = run(command, folder, case, size, limit, rounds) - start
         if took >= ENOUGH or rounds >= 1 << 20:
-            return min([took] + [run(command, folder, case, size, limit, rounds) - start for _ in range(2 if took < 1 else 0)]) / rounds
+            more = range(2 if took < 1 else 0)
+            again = [run(command, folder, case, size, limit, rounds) - start for _ in more]
+            return min([took, *again]) / rounds
         rounds *= 8 if took < ENOUGH / 8 else 2
 
 
@@ -71,8 +97,9 @@ def times(command, folder, case, sizes, limit):
 
 def shown(found, sizes):
     cells = ["%9.3f" % (t * 1000) if t < math.inf else "        -" for t in found]
-    grows = "%6.2f" % (math.log(found[-1] / found[0]) / math.log(sizes[-1] / sizes[0])) if found[-1] < math.inf else "     -"
-    return " ".join(cells) + grows
+    if found[-1] == math.inf:
+        return " ".join(cells) + "     -"
+    return " ".join(cells) + "%6.2f" % (math.log(found[-1] / found[0]) / math.log(sizes[-1] / sizes[0]))
 
 
 def main():
@@ -83,15 +110,18 @@ def main():
     with tempfile.TemporaryDirectory() as folder:
         with open(f"{folder}/policy.toml", "w") as out:
             out.write(POLICY)
-        own = [os.path.abspath(a.program), "run", "--policy", f"{folder}/policy.toml", "--log", f"{folder}/log", "-f", f"{folder}/s.awk"]
-        gawk = ["gawk", "-f", f"{folder}/s.awk"]
+        script = ["-f", f"{folder}/s.awk"]
+        under = ["--policy", f"{folder}/policy.toml", "--log", f"{folder}/log"]
+        own = [os.path.abspath(a.program), "run", *under, *script]
+        gawk = ["gawk", *script]
         sizes, limit = LONG if a.large else USUAL
         title = "milliseconds for %d, %d, %d KB, exponent" % tuple(size // 1024 for size in sizes)
         print("%-44s %35s %35s" % (title, "awkbox", "gawk"))
         for case in LARGE if a.large else CASES:
             ours, theirs = (times(command, folder, case, sizes, limit) for command in (own, gawk))
             each = "  %8.1f ns a byte" % (ours[-1] / sizes[-1] * 1e9) if a.large else ""
-            print("%-44s %s %s%s" % (f"{case[2]}  on {case[0]}..{case[1]}", shown(ours, sizes), shown(theirs, sizes), each), flush=True)
+            named = f"{case[2]}  on {case[0]}..{case[1]}"
+            print("%-44s %s %s%s" % (named, shown(ours, sizes), shown(theirs, sizes), each), flush=True)
 
 
 if __name__ == "__main__":

@@ -1,11 +1,14 @@
 #!/usr/bin/env python3
-"""stack-of-forms.py [--nests] PROGRAM: the bytes of stack that each form of the language takes where it is nested, beside a call's.
+"""stack-of-forms.py [--nests] PROGRAM: the bytes of stack that each form of the language takes where it nests,
+beside those of a call.
 
-A function calls itself 60 and 120 times deep, at the bottom reads its own VmStk from /proc/self/status, and is run with the form
-nested 0 and 8 times around the call. The stack grows by pages, so a number is right to some 10 bytes. Linux alone.
+A function calls itself 60 and 120 times deep, at the bottom reads its own VmStk from /proc/self/status, and is run with
+the form nested 0 and 8 times around the call. The stack grows by pages, so a number is right to some 10 bytes. Linux
+alone.
 
-With --nests each form is nested too deep instead: 199 calls with 60 of it around each. A run has to end by itself, as F13 where
-the nest is too deep, and 199 calls with 20 `if` around each have to come to their end. The last line counts the trials."""
+With --nests each form is nested too deep instead: 199 calls with 60 of it around each. A run has to end by itself, as
+F13 where the nest is too deep, and 199 calls with 20 `if` around each have to come to their end. The last line counts
+the trials."""
 import re
 import subprocess
 import sys
@@ -14,18 +17,23 @@ import tempfile
 NESTS, FEW, MANY = 8, 60, 120
 POLICY = 'version = 1\nbase = "/proc"\n\n[[rule]]\neffect = "allow"\nkind = "read"\nmatch = "**"\n'
 SHOW = 'while ((getline l < "/proc/self/status") > 0) if (l ~ /VmStk/) print l; exit'
-EXPRESSIONS = ["-(%s)", "!(%s)", "((%s)+n)", "(n+(%s))", "(n^(%s))", "((%s) n)", "(n (%s))", "((%s)<n)", "(n<(%s))", "((%s)?n:1)",
-               "(n+1?(%s):1)", "((%s)&&n)", "((%s)||n)", "((%s)~n)", "(n~(%s))", "$(%s)", "a[%s]", "a[%s,1]", "((%s) in a)",
-               "((%s,1) in a)", "(v=(%s))", "(a[%s]=n)", "($(%s)=n)", "(v+=(%s))", "(a[%s]+=n)", "(a[%s]++)", "($(%s)++)",
-               "length(%s)", "tolower(%s)", "int(%s)", "index((%s),n)", "substr((%s),n)", "substr((%s),n,n)", 'sprintf("%%s",(%s))',
-               "match((%s),n)", "match(n,(%s))", "split((%s),b,n)", "split(n,b,(%s))", "sub(n,(%s),v)", "gsub((%s),n,v)",
-               "close(%s)", "fflush(%s)", "g(%s)", "(getline q < (%s))"]
-STATEMENTS = ["if (n>0||n<5) %s", "if (n<0) n=1; else %s", "{ n=n; %s }", "while (n>-1) { %s; break }", "do { %s; break } while (n)",
-              "for (i=0;i<1;i++) { %s; break }", "for (i in c) %s"]
+EXPRESSIONS = [
+    "-(%s)", "!(%s)", "((%s)+n)", "(n+(%s))", "(n^(%s))", "((%s) n)", "(n (%s))", "((%s)<n)", "(n<(%s))", "((%s)?n:1)",
+    "(n+1?(%s):1)", "((%s)&&n)", "((%s)||n)", "((%s)~n)", "(n~(%s))", "$(%s)", "a[%s]", "a[%s,1]", "((%s) in a)",
+    "((%s,1) in a)", "(v=(%s))", "(a[%s]=n)", "($(%s)=n)", "(v+=(%s))", "(a[%s]+=n)", "(a[%s]++)", "($(%s)++)",
+    "length(%s)", "tolower(%s)", "int(%s)", "index((%s),n)", "substr((%s),n)", "substr((%s),n,n)",
+    'sprintf("%%s",(%s))', "match((%s),n)", "match(n,(%s))", "split((%s),b,n)", "split(n,b,(%s))", "sub(n,(%s),v)",
+    "gsub((%s),n,v)", "close(%s)", "fflush(%s)", "g(%s)", "(getline q < (%s))",
+]
+STATEMENTS = [
+    "if (n>0||n<5) %s", "if (n<0) n=1; else %s", "{ n=n; %s }", "while (n>-1) { %s; break }",
+    "do { %s; break } while (n)", "for (i=0;i<1;i++) { %s; break }", "for (i in c) %s",
+]
 
 
 def stack(program, folder, body, depth):
-    script = "function g(x) { return x } function f(n) { if (n < 1) { %s } %s } BEGIN { c[1]; f(%d) }" % (SHOW, body, depth)
+    functions = "function g(x) { return x } function f(n) { if (n < 1) { %s } %s }" % (SHOW, body)
+    script = "%s BEGIN { c[1]; f(%d) }" % (functions, depth)
     for name, text in (("s.awk", script), ("policy.toml", POLICY)):
         with open(f"{folder}/{name}", "w") as out:
             out.write(text)
@@ -48,7 +56,8 @@ def nested(form, inner, times=NESTS):
 
 
 def ends_well(program, folder, body, wanted):
-    script = "function g(x) { return x } function f(n) { if (n < 1) return 0; %s } BEGIN { c[1]; f(199); print \"done\" }" % body
+    functions = "function g(x) { return x } function f(n) { if (n < 1) return 0; %s }" % body
+    script = f'{functions} BEGIN {{ c[1]; f(199); print "done" }}'
     with open(f"{folder}/s.awk", "w") as out:
         out.write(script)
     with open(f"{folder}/policy.toml", "w") as out:

@@ -1,5 +1,6 @@
 #!/usr/bin/env python3
-"""typed.py bash|zsh TEXT: types `awkbox TEXT` and a tab to that shell, with the completions of this repository, and then Enter.
+"""typed.py bash|zsh TEXT: types `awkbox TEXT` and a tab to that shell, with the completions of this repository, and
+then Enter.
 
 Prints the words that awkbox is called with then, a line for each. The shell reads no files of the user."""
 
