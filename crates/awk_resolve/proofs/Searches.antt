@@ -1,11 +1,13 @@
 -- A search finds a fault, and finds none only where there is none.
-use Rattle.std.proofs.Common.{◌≡◌, ◌∙◌, ◌⊎◌, inl, inr, List, [], ◌∷◌, refl, sym, ap, Option, Some, None, Contains}
+use Rattle.std.proofs.Common.{◌≡◌, ◌∙◌, ◌⊎◌, inl, inr, List, [], ◌∷◌, refl, sym, ap, subst, ℕ, ◌+◌, ◌<◌, ◌≤◌, length, get_or, take, Option, Some, None, All, Contains}
+use Rattle.std.proofs.lemmas.List.{take_all}
+use Rattle.std.proofs.lemmas.List.Elements.{All-contains, All-more}
 use Rattle.std.specs.Option.{option_or}
 use Rattle.awk_text.specs.declared.place.Place.{Place}
 use Rattle.awk_resolve.specs.declared.mention.Mention.{Mention}
 use Rattle.awk_resolve.specs.declared.mention.Role.{Role}
 use Rattle.awk_resolve.specs.declared.mention.Section.{Section}
-use Rattle.awk_resolve.specs.Search.{Test, first_in, first}
+use Rattle.awk_resolve.specs.Search.{Test, Finds, first_in, first}
 use Rattle.awk_resolve.proofs.Lists.{contains_first, contains_later, contains_none, contains_cases}
 
 module _ (test : Test) where
@@ -52,3 +54,11 @@ module _ (test : Test) where
   pub none : (ps : List Section) (p : Section) (m : Mention) → first test ps ≡ None → Contains ps p → Contains p.mentions m → test p.role m ≡ None
   none [] p m e c d = absurd (contains_none p c)
   none (q ∷ ps) p m e c d = not_here q p ps m (first_in test q.role q.mentions) refl e (contains_cases q ps p c) d (λ h k. none ps p m h k d)
+
+-- a search that finds nothing so far, and at the end
+module _ {A : Type 0} (P : A → Place → Type 0) (xs : List A) (i : ℕ) where
+  pub none_more : (x : A) → i < length xs → x ≡ get_or xs i x → All (λ y. Finds (P y) None) (take i xs) → Finds (P x) None → All (λ y. Finds (P y) None) (take (i + 1) xs)
+  none_more x h e none not_this = All-more (λ y. Finds (P y) None) xs i x h none (subst (λ y. Finds (P y) None) e not_this)
+
+  pub none_of : length xs ≤ i → All (λ y. Finds (P y) None) (take i xs) → (x : A) → Contains xs x → Finds (P x) None
+  none_of h none x c = All-contains (λ y. Finds (P y) None) xs x (rw (take_all i xs h) at none) c

@@ -1,5 +1,5 @@
 -- How faults are looked for: the first that is found, one part after the other.
-use Rattle.std.specs.Prelude.{ℕ, Bool, true, false, if◌then◌else◌, nat_lt, ◌||◌, is_some, List, [], ◌∷◌, ◌++◌, length}
+use Rattle.std.specs.Prelude.{◌≡◌, ◌⊎◌, ℕ, Bool, if◌then◌else◌, nat_lt, ◌||◌, is_some, List, [], ◌∷◌, ◌++◌, length}
 use Rattle.std.specs.Prelude.{Option, Some, None}
 use Rattle.std.specs.Option.{option_or}
 use Rattle.std.specs.Map.{lookup}
@@ -28,25 +28,25 @@ abbrev pub first : Test → List Section → Option Place
 first test [] = None
 first test (p ∷ ps) = option_or (first_in test p.role p.mentions) (first test ps)
 
+-- such a place, or none is
+abbrev pub Finds : (Place → Type 0) → Option Place → Type 0
+Finds P None = (q : Place) → P q → ⊥
+Finds P (Some q) = P q
+
 -- ---- misplaced words
 
-abbrev pub is_begin_or_end : Role → Bool
-is_begin_or_end role.Begin = true
-is_begin_or_end role.End = true
-is_begin_or_end role.Rule = false
-is_begin_or_end (role.Function f ps) = false
+abbrev pub IsBeginOrEnd : Role → Type 0
+IsBeginOrEnd r = (r ≡ role.Begin) ⊎ (r ≡ role.End)
 
-abbrev pub is_function : Role → Bool
-is_function role.Begin = false
-is_function role.End = false
-is_function role.Rule = false
-is_function (role.Function f ps) = true
+abbrev pub IsFunction : Role → Type 0
+IsFunction r = (f : Name) × (ps : List Name) × (r ≡ role.Function f ps)
 
-abbrev pub misplaced_word : Test
-misplaced_word r (Next place) = if is_begin_or_end r then Some place else None
-misplaced_word r (Return place) = if is_function r then None else Some place
-misplaced_word r (Stray place) = Some place
-misplaced_word r m = None
+-- a word that cannot stand in an item of this role
+abbrev pub WordAt : Role → Mention → Place → Type 0
+WordAt r (Next place) q = IsBeginOrEnd r × (place ≡ q)
+WordAt r (Return place) q = (IsFunction r → ⊥) × (place ≡ q)
+WordAt r (Stray place) q = place ≡ q
+WordAt r m q = ⊥
 
 -- ---- functions, by their texts, with the counts of their parameters
 

@@ -1,8 +1,9 @@
 // Words outside the statements that they belong to.
 
-ghost use Rattle.std.specs.Prelude.{◌≡◌, IfSome, IfNone};
+ghost use Rattle.std.specs.Prelude.{◌≡◌, ◌↔◌, true, IfSome, IfNone};
+ghost use Rattle.awk_resolve.specs.Clash.{OneOf};
 ghost use Rattle.awk_resolve.specs.Faults.{Misplaced};
-ghost use Rattle.awk_resolve.specs.Search as search_of;
+ghost use Rattle.awk_resolve.specs.Search.{Finds, IsBeginOrEnd, IsFunction, WordAt};
 ghost use Rattle.awk_text.specs.declared.place.Place as places;
 
 use crate::mention::{Mention, Role, Section};
@@ -10,7 +11,7 @@ use awk_text::place::Place;
 
 /// Whether nothing but records or a call begins what stands in an item of this role.
 fn is_begin_or_end(role: &Role) -> bool
-    ensures { result ≡ search_of.is_begin_or_end role.now }
+    ensures { (result ≡ true) ↔ IsBeginOrEnd role.now }
 {
     match role {
         Role::Begin | Role::End => true,
@@ -19,7 +20,7 @@ fn is_begin_or_end(role: &Role) -> bool
 }
 
 fn is_function(role: &Role) -> bool
-    ensures { result ≡ search_of.is_function role.now }
+    ensures { (result ≡ true) ↔ IsFunction role.now }
 {
     match role {
         Role::Function(_, _) => true,
@@ -29,7 +30,7 @@ fn is_function(role: &Role) -> bool
 
 /// The place of a word that cannot stand in an item of this role.
 fn misplaced_word(role: &Role, mention: &Mention) -> Option<Place>
-    ensures { result ≡ search_of.misplaced_word role.now mention.now }
+    ensures { Finds (WordAt role.now mention.now) result }
 {
     match mention {
         Mention::Next(place) => is_begin_or_end(role).then_some(*place),
@@ -44,7 +45,7 @@ fn misplaced_word(role: &Role, mention: &Mention) -> Option<Place>
 }
 
 fn misplaced_in(role: &Role, mentions: &[Mention]) -> Option<Place>
-    ensures { result ≡ search_of.first_in search_of.misplaced_word role.now mentions.now }
+    ensures { Finds (OneOf (WordAt role.now) mentions.now) result }
 {
     for mention in mentions {
         if let Some(place) = misplaced_word(role, mention) {
@@ -55,7 +56,8 @@ fn misplaced_in(role: &Role, mentions: &[Mention]) -> Option<Place>
 }
 
 fn first_misplaced(parts: &[Section]) -> Option<Place>
-    ensures { result ≡ search_of.first search_of.misplaced_word parts.now }
+    ensures stands { IfSome result (λ place. Misplaced parts.now place) }
+    ensures none { IfNone result ((place : places.Place) → Misplaced parts.now place → ⊥) }
 {
     for part in parts {
         if let Some(place) = misplaced_in(&part.role, part.mentions.as_slice()) {

@@ -1,6 +1,7 @@
-use Rattle.std.proofs.Common.{◌≡◌, drop}
-use Rattle.awk_resolve.specs.Search as search_of
+use Rattle.std.proofs.Common.{None, All, take}
+use Rattle.awk_resolve.specs.Clash.{OneOf}
+use Rattle.awk_resolve.specs.Search.{Finds, WordAt}
 use Rattle.awk_resolve.proofs.placement.first_misplaced.Given as goal
 
 abbrev pub invariant-loop-part : goal.invariant-loop-part
-invariant-loop-part l = search_of.first search_of.misplaced_word l.parts ≡ search_of.first search_of.misplaced_word (drop l.part-index l.parts)
+invariant-loop-part l = All (λ p. Finds (OneOf (WordAt p.role) p.mentions) None) (take l.part-index l.parts)
