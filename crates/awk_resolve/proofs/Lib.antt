@@ -6,7 +6,6 @@ pub mod TableLemmas
 pub mod Counting
 pub mod Calling
 pub mod Naming
-pub mod Defining
 pub mod Bare
 pub mod Displacing
 pub mod Reaching

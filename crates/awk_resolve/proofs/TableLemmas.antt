@@ -1,5 +1,6 @@
 -- A table of texts, as contracts see it, after the calls of the map that holds it. There the keys are not the texts but have them.
-use Rattle.std.proofs.Common.{◌≡◌, ℕ, List, [], ◌∷◌, map, Bool, true, false, cond, Some, refl, ap, sym, ◌∙◌, if◌then◌else◌}
+use Rattle.std.proofs.Common.{◌≡◌, ◌⊎◌, inl, inr, ℕ, List, [], ◌∷◌, map, Bool, true, false, cond, Some, refl, ap, sym, subst, ◌∙◌, if◌then◌else◌}
+use Rattle.std.proofs.lemmas.Bool.{cases_Bool}
 use Rattle.std.proofs.lemmas.Slice.Eq.{bytes_eq-Decides}
 use Rattle.std.specs.Map.{lookup}
 use Rattle.std.specs.Str.{bytes_eq}
@@ -43,3 +44,14 @@ put_other {V} x y v (e ∷ es) o = by (bytes_eq x e.0) refl (put_other x y v es 
         → lookup (bytes_eq y) (if b then (e.0, v) ∷ es else e ∷ with_text x v es) ≡ cond (bytes_eq y e.0) (Some e.1) (lookup (bytes_eq y) es)
     by true h rest = let same : x ≡ e.0 = (bytes_eq-Decides x e.0).0 h in let o2 : bytes_eq y e.0 ≡ false = ap (bytes_eq y) (sym same) ∙ o in rw o2 refl
     by false h rest = ap (cond (bytes_eq y e.0) (Some e.1)) rest
+
+-- what stands under y after v was put under x
+abbrev pub AfterPut : {V : Type 0} → List ℕ → List ℕ → V → List (List ℕ × V) → Type 0
+AfterPut x y v es =
+    ((x ≡ y) × (lookup (bytes_eq y) (with_text x v es) ≡ Some v)) ⊎ ((x ≡ y → ⊥) × (lookup (bytes_eq y) (with_text x v es) ≡ lookup (bytes_eq y) es))
+
+pub put_cases : {V : Type 0} (x y : List ℕ) (v : V) (es : List (List ℕ × V)) → AfterPut x y v es
+put_cases x y v es = elim (cases_Bool (bytes_eq y x)) [
+  | inl b ↦ let same : x ≡ y = sym ((bytes_eq-Decides y x).0 b) in inl (same, subst (λ z. lookup (bytes_eq z) (with_text x v es) ≡ Some v) same (put_same x v es))
+  | inr b ↦ inr ((λ same. let yes = (bytes_eq-Decides y x).1 (sym same) in cc), put_other x y v es b)
+]

@@ -1,8 +1,9 @@
 // The functions of a script, and the calls of them.
 
-ghost use Rattle.std.specs.Prelude.{◌≡◌, IfOk, OnOk, IfSome, IfNone, is_none};
-ghost use Rattle.awk_resolve.specs.Faults.{Misdefined};
-ghost use Rattle.awk_resolve.specs.Search as search_of;
+ghost use Rattle.std.specs.Prelude.{◌≡◌, [], IfOk, OnOk, IfSome, IfNone};
+ghost use Rattle.awk_resolve.specs.Clash.{OneOf};
+ghost use Rattle.awk_resolve.specs.Faults.{Misdefined, Redefined, Miscalled};
+ghost use Rattle.awk_resolve.specs.Search.{Finds, KnownAt, Knows, MiscallAt, with_role};
 ghost use Rattle.awk_text.specs.declared.place.Place as places;
 
 use crate::mention::{Mention, Role, Section};
@@ -14,7 +15,7 @@ use std::alloc::Global;
 
 /// The place of a function that is known already.
 fn redefined_in(known: &TextTable<usize>, role: &Role) -> Option<Place>
-    ensures { result ≡ search_of.redefined_in known.now role.now }
+    ensures { Finds (KnownAt known.now role.now) result }
 {
     match role {
         Role::Function(name, _params) => match known.get(name.text.bytes()) {
@@ -27,7 +28,7 @@ fn redefined_in(known: &TextTable<usize>, role: &Role) -> Option<Place>
 
 /// Notes the function that an item of this role is.
 fn add(alloc: Global, role: &Role, known: &mut TextTable<usize>) -> Result<(), Memory>
-    ensures { OnOk result (known.new ≡ search_of.with_role role.now known.old) }
+    ensures { OnOk result (known.new ≡ with_role role.now known.old) }
 {
     match role {
         Role::Function(name, params) => known.put(name.text.copy(alloc)?, params.len()),
@@ -35,14 +36,15 @@ fn add(alloc: Global, role: &Role, known: &mut TextTable<usize>) -> Result<(), M
     }
 }
 
-/// Notes the functions of these parts, up to one that is known already: its place is answered.
+/// Notes the functions of these parts in a table that is empty, up to one that is known already: its place is answered.
 fn add_all(
     alloc: Global,
     parts: &[Section],
     known: &mut TextTable<usize>,
 ) -> Result<Option<Place>, Memory>
-    ensures place { IfOk result (λ place. place ≡ search_of.redefined known.old parts.now) }
-    ensures whole { IfOk result (λ place. IfNone place (known.new ≡ search_of.counts known.old parts.now)) }
+    requires { known.old ≡ [] }
+    ensures place { IfOk result (λ found. Finds (Redefined parts.now) found) }
+    ensures whole { IfOk result (λ found. IfNone found (Knows parts.now known.new)) }
 {
     for part in parts {
         if let Some(place) = redefined_in(known, &part.role) {
@@ -54,7 +56,7 @@ fn add_all(
 }
 
 fn miscalled_mention(known: &TextTable<usize>, mention: &Mention) -> Option<Place>
-    ensures { (r : _) → result ≡ search_of.miscalled known.now r mention.now }
+    ensures { Finds (MiscallAt known.now mention.now) result }
 {
     match mention {
         Mention::Call(name, args) => match known.get(name.text.bytes()) {
@@ -72,7 +74,7 @@ fn miscalled_mention(known: &TextTable<usize>, mention: &Mention) -> Option<Plac
 }
 
 fn miscalled_in(known: &TextTable<usize>, mentions: &[Mention]) -> Option<Place>
-    ensures { (r : _) → result ≡ search_of.first_in (search_of.miscalled known.now) r mentions.now }
+    ensures { Finds (OneOf (MiscallAt known.now) mentions.now) result }
 {
     for mention in mentions {
         if let Some(place) = miscalled_mention(known, mention) {
@@ -83,7 +85,8 @@ fn miscalled_in(known: &TextTable<usize>, mentions: &[Mention]) -> Option<Place>
 }
 
 fn first_miscalled(known: &TextTable<usize>, parts: &[Section]) -> Option<Place>
-    ensures { result ≡ search_of.first (search_of.miscalled known.now) parts.now }
+    requires { Knows parts.now known.now }
+    ensures { Finds (Miscalled parts.now) result }
 {
     for part in parts {
         if let Some(place) = miscalled_in(known, part.mentions.as_slice()) {

@@ -1,7 +1,9 @@
 // The parameters of a script's functions.
 
-ghost use Rattle.std.specs.Prelude.{◌≡◌, [], IfOk};
-ghost use Rattle.awk_resolve.specs.Search as search_of;
+ghost use Rattle.std.specs.Prelude.{◌≡◌, IfOk};
+ghost use Rattle.awk_resolve.specs.Faults.{Misnamed};
+ghost use Rattle.awk_resolve.specs.Search as spec;
+ghost use Rattle.awk_resolve.specs.Search.{Finds, Knows, MisnamedAt, OneAfter, ParameterAt};
 
 use crate::mention::{Role, Section};
 use crate::short_table::ShortTable;
@@ -14,7 +16,7 @@ use std::alloc::Global;
 
 /// Whether a parameter has the name of one before it, of a function or of a variable that awk sets.
 fn is_misnamed(known: &TextTable<usize>, seen: &ShortTable<Place>, name: &Name) -> bool
-    ensures { result ≡ search_of.is_misnamed known.now seen.now name.now }
+    ensures { result ≡ spec.is_misnamed known.now seen.now name.now }
 {
     let text = name.text.bytes();
     seen.get(text).is_some() || known.get(text).is_some() || is_variable(text)
@@ -25,7 +27,7 @@ fn misnamed_in(
     known: &TextTable<usize>,
     params: &[Name],
 ) -> Result<Option<Place>, Memory>
-    ensures { IfOk result (λ place. place ≡ search_of.misnamed_in known.now [] params.now) }
+    ensures { IfOk result (λ found. Finds (OneAfter (ParameterAt known.now) params.now) found) }
 {
     let mut seen = ShortTable::new(alloc, params.len())?;
     for param in params {
@@ -42,7 +44,7 @@ fn misnamed_role(
     known: &TextTable<usize>,
     role: &Role,
 ) -> Result<Option<Place>, Memory>
-    ensures { IfOk result (λ place. place ≡ search_of.misnamed_role known.now role.now) }
+    ensures { IfOk result (λ found. Finds (MisnamedAt known.now role.now) found) }
 {
     match role {
         Role::Function(_name, params) => misnamed_in(alloc, known, params.as_slice()),
@@ -56,7 +58,8 @@ pub fn first_misnamed(
     known: &TextTable<usize>,
     parts: &[Section],
 ) -> Result<Option<Place>, Memory>
-    ensures { IfOk result (λ place. place ≡ search_of.misnamed known.now parts.now) }
+    requires { Knows parts.now known.now }
+    ensures { IfOk result (λ found. Finds (Misnamed parts.now) found) }
 {
     for part in parts {
         if let Some(place) = misnamed_role(alloc, known, &part.role)? {

@@ -1,30 +1,38 @@
-use Rattle.std.proofs.Common.{◌∙◌, sym}
-use Rattle.awk_resolve.proofs.Defining.{is_redefined, is_misnamed, is_miscalled, is_whole}
+use Rattle.std.proofs.Common.{List, Option, Some, None, IfSome, IfNone}
+use Rattle.awk_text.specs.declared.place.Place.{Place}
+use Rattle.awk_resolve.specs.Faults.{Misdefined, Redefined, Misnamed, Miscalled, redefined, misnamed, miscalled}
+use Rattle.awk_resolve.specs.Search.{Finds}
+use Rattle.awk_resolve.specs.declared.mention.Section.{Section}
 use Rattle.awk_resolve.proofs.functions.misdefined.Goals as goal
 
+stands : (ps : List Section) (o : Option Place) → Finds (Miscalled ps) o → IfSome o (λ place. Misdefined ps place)
+stands ps None none = tt
+stands ps (Some place) call = miscalled place call
+
+none_stands : (ps : List Section) (o : Option Place) → Finds (Redefined ps) None → Finds (Misnamed ps) None → Finds (Miscalled ps) o → IfNone o ((place : Place) → Misdefined ps place → ⊥)
+none_stands ps (Some place) once named called = tt
+none_stands ps None once named called = by
+  where
+    by : (place : Place) → Misdefined ps place → ⊥
+    by place (redefined q fault) = once place fault
+    by place (misnamed q fault) = named place fault
+    by place (miscalled q fault) = called place fault
+
+pub first_misnamed-requires : goal.first_misnamed-requires
+first_misnamed-requires c = rw c.in_default.is at c.in_ok-place.ensures.whole
+
+pub first_miscalled-requires : goal.first_miscalled-requires
+first_miscalled-requires c = rw c.in_default.is at c.in_ok-place.ensures.whole
+
 pub returns-in-Some-clause-stands : goal.returns-in-Some-clause-stands
-returns-in-Some-clause-stands c =
-    let h = rw c.new-known.ensures at c.in_ok-place.ensures.place in
-    is_redefined c.args.parts.now c.in-Some.place (sym c.in-Some.is ∙ h)
+returns-in-Some-clause-stands c = redefined c.in-Some.place (rw c.in-Some.is at c.in_ok-place.ensures.place)
 
 pub returns-in-Some-2-clause-stands : goal.returns-in-Some-2-clause-stands
-returns-in-Some-2-clause-stands c =
-    let h = rw c.new-known.ensures at c.in_ok-place.ensures.place in
-    let w = rw (c.new-known.ensures, c.in_default.is) at c.in_ok-place.ensures.whole in
-    let n = rw w at c.in_ok-place-2.ensures in
-    is_misnamed c.args.parts.now c.in-Some-2.place (sym c.in_default.is ∙ h) (sym c.in-Some-2.is ∙ n)
+returns-in-Some-2-clause-stands c = misnamed c.in-Some-2.place (rw c.in-Some-2.is at c.in_ok-place-2.ensures)
 
 pub returns-clause-stands : goal.returns-clause-stands
-returns-clause-stands c =
-    let h = rw c.new-known.ensures at c.in_ok-place.ensures.place in
-    let w = rw (c.new-known.ensures, c.in_default.is) at c.in_ok-place.ensures.whole in
-    let m = rw w at c.first_miscalled.ensures in
-    is_miscalled c.args.parts.now c.first_miscalled.result (sym c.in_default.is ∙ h) m
+returns-clause-stands c = stands c.args.parts.now c.first_miscalled.result c.first_miscalled.ensures
 
 pub returns-clause-none : goal.returns-clause-none
 returns-clause-none c =
-    let h = rw c.new-known.ensures at c.in_ok-place.ensures.place in
-    let w = rw (c.new-known.ensures, c.in_default.is) at c.in_ok-place.ensures.whole in
-    let n = rw w at c.in_ok-place-2.ensures in
-    let m = rw w at c.first_miscalled.ensures in
-    is_whole c.args.parts.now c.first_miscalled.result (sym c.in_default.is ∙ h) (sym c.in_default-2.is ∙ n) m
+    none_stands c.args.parts.now c.first_miscalled.result (rw c.in_default.is at c.in_ok-place.ensures.place) (rw c.in_default-2.is at c.in_ok-place-2.ensures) c.first_miscalled.ensures
