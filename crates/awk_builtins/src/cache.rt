@@ -14,7 +14,7 @@ use std::num::NonZeroUsize;
 use std::rc::Rc;
 
 /// How many patterns are kept.
-const MOST_KEPT: usize = 64;
+const MOST_KEPT: usize = 256;
 
 /// How many patterns stand before the cache, which are found without a hash. Most scripts have no more.
 const MOST_NEAR: usize = 8;

@@ -49,9 +49,10 @@ impl Ere {
     {
         let mut sets = Vec::new(alloc);
         let node = read_within(alloc, text, &mut sets)?;
-        let matcher = Matcher::new(alloc, &node, sets)?;
-        let source = Vec::from_slice(alloc, text)?;
         let literal = Literal::new(alloc, text)?;
+        // A literal is not searched for by a table.
+        let matcher = Matcher::new(alloc, &node, sets, literal.is_none())?;
+        let source = Vec::from_slice(alloc, text)?;
         Ok(Ere {
             source,
             literal,

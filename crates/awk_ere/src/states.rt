@@ -534,19 +534,20 @@ fn no_states(alloc: Global) -> Result<States, AllocError>
     })
 }
 
-/// The table of the program.
+/// The table of the program: one that says nothing where none is wanted, or where the program is large.
 pub fn make_table(
     alloc: Global,
     sets: &[Set],
     program: &[Instruction],
     entry: usize,
     scan: usize,
+    is_wanted: bool,
 ) -> Result<StateTable, AllocError>
     requires sound { IsSound program.now }
     requires some { 0 < length program.now }
     ensures { IfOk result (λ t. IsBuilt sets.now program.now entry scan t) }
 {
-    if program.len() > MAX_STEPS {
+    if !is_wanted || program.len() > MAX_STEPS {
         return Ok(blank(alloc, sets, program, entry, scan));
     }
     let edges = edges(sets, program);

@@ -130,17 +130,22 @@ impl Model for Matcher {
 }
 
 impl Matcher {
-    /// A matcher of the pattern that the node stands for.
+    /// A matcher of the pattern that the node stands for, with a table where one is wanted.
     ///
     /// Errors: `Memory` where memory is refused.
-    pub fn new(alloc: Global, node: &Node, sets: Vec<Set>) -> Result<Matcher, Memory>
+    pub fn new(
+        alloc: Global,
+        node: &Node,
+        sets: Vec<Set>,
+        has_table: bool,
+    ) -> Result<Matcher, Memory>
         ensures { IfOk result (λ m. StandsFor m (pattern sets.items node.now)) }
     {
         let mut program = Vec::new(alloc);
         program.push(Instruction::Done)?;
         let entry = compile(node, 0, &mut program)?;
         let scan = compile_scan(entry, &mut program)?;
-        let table = make_table(alloc, &sets, &program, entry, scan)?;
+        let table = make_table(alloc, &sets, &program, entry, scan, has_table)?;
         Ok(Matcher {
             sets,
             program,
