@@ -1,6 +1,6 @@
 -- What the machine does once the arguments of a built-in function are there.
-use Rattle.std.proofs.Common.{◌≡◌, refl, sym, ap, ◌∙◌, List, ◌∷◌, length, reverse}
-use Rattle.std.specs.Prelude.{Bool, Result, Ok}
+use Rattle.std.proofs.Common.{◌≡◌, sym, ap, ◌∙◌, List, ◌∷◌, length, reverse}
+use Rattle.std.specs.Prelude.{Result, Ok}
 use Rattle.awk_text.specs.declared.fault.Fault.{Fault}
 use Rattle.awk_text.specs.declared.place.Place.{Place}
 use Rattle.awk_text.specs.declared.value.Value.{Value}

@@ -2,7 +2,7 @@
 use Rattle.std.proofs.Common.{◌≡◌, refl, sym, ap, ◌∙◌, ◌+◌, ◌≤◌, ◌<◌, ℕ, false, List, [], ◌∷◌, ◌++◌, length, map, drop, get_or, arith, append_assoc}
 use Rattle.std.proofs.lemmas.Bool.Decides.{nat_tests}
 use Rattle.std.proofs.lemmas.List.{length-append, drop_more}
-use Rattle.std.specs.Prelude.{Bool, true, nat_le, Option, Some, None, Result, Ok, IfSome}
+use Rattle.std.specs.Prelude.{Bool, true, nat_le, Result, Ok}
 use Rattle.awk_text.specs.Limits.{most_bytes}
 use Rattle.awk_text.specs.Values.{text_of}
 use Rattle.awk_text.specs.declared.fault.Fault.{Fault}

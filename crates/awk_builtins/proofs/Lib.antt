@@ -1,4 +1,5 @@
 pub mod AtHand
+pub mod Behind
 pub mod Cached
 pub mod Called
 pub mod Granted

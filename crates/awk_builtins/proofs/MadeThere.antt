@@ -1,5 +1,5 @@
 -- What functions on texts, and a choice, make of values that are there.
-use Rattle.std.proofs.Common.{◌≡◌, refl, ap, ℤ, Bool, true, false, List, [], ◌∷◌}
+use Rattle.std.proofs.Common.{◌≡◌, refl, ap, ℤ, true, false, List, [], ◌∷◌}
 use Rattle.std.specs.Prelude.{Some, None, Ok}
 use Rattle.awk_text.specs.Values.{number_of, text_of, truth}
 use Rattle.awk_text.specs.declared.place.Place.{Place}

@@ -7,11 +7,9 @@ use Rattle.awk_lib.specs.Replacing.{Found, replaced}
 use Rattle.awk_text.specs.declared.fault.Fault.{Fault}
 use Rattle.awk_text.specs.declared.fault.Fault.TheVariants as fault
 use Rattle.awk_text.specs.declared.place.Place.{Place}
-use Rattle.awk_text.specs.declared.value.Value.{Value}
 use Rattle.awk_text.specs.declared.value.Value.TheVariants as v
 use Rattle.awk_program.specs.Program as program
 use Rattle.awk_program.specs.Slots.{Text, name_of}
-use Rattle.awk_program.specs.declared.variables.Own.{Own}
 use Rattle.awk_program.specs.declared.variables.Own.TheVariants as own
 use Rattle.awk_machine.specs.Operators.{of_truth, limited}
 use Rattle.awk_machine.specs.Pieces.{Piece, Target, At, Do, Check, Match, Locate, Located, Substitute, Replace, Give, Pattern_of, Value_of, Goes, give, ends, Faulted}
@@ -25,7 +23,7 @@ use Rattle.awk_store.specs.States.{Hidden}
 use Rattle.awk_builtins.specs.Searches.{location, substituted}
 use Rattle.awk_builtins.specs.declared.searches.Location.{Location}
 use Rattle.awk_streams.specs.Tasks.{goes_on}
-use Rattle.awk_store.specs.Wholes.{Whole, Agreeing, base, names_in}
+use Rattle.awk_store.specs.Wholes.{Whole, Agreeing, base}
 use Rattle.awk_streams.specs.Chains.{halt_at, result_at}
 use Rattle.awk_store.specs.Acts.{Acts, Passes}
 use Rattle.awk_builtins.specs.Checks.{gives_text}

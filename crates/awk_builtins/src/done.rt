@@ -1,15 +1,22 @@
 // Assignments that are done at once: what they need is at hand, and their value is not wanted.
 ghost use Rattle.awk_fields.specs.Rows.{IsValueAt, joined};
+ghost use Rattle.awk_machine.specs.Expressions.{either};
+ghost use Rattle.awk_machine.specs.Forms.{value};
 ghost use Rattle.awk_machine.specs.Operators as machine;
+ghost use Rattle.awk_machine.specs.Pieces.{give};
+ghost use Rattle.awk_machine.specs.State.{Given};
 ghost use Rattle.awk_program.specs.Program as p;
 ghost use Rattle.awk_program.specs.Program.{expressions_of, joins_of};
 ghost use Rattle.awk_program.specs.View.{variable_of, view, view_joined, view_target};
 ghost use Rattle.awk_program.specs.declared.operators.StepValue.{StepValue as Which};
 ghost use Rattle.awk_builtins.specs.AtHand.{AddsAt, AreThere, HoldsOperands, IsDone, IsKey, IsThere};
 ghost use Rattle.awk_builtins.specs.Lines.{held};
+ghost use Rattle.awk_store.specs.Acts.{Passes};
 ghost use Rattle.awk_store.specs.Changes.{Adds, Puts, with_array};
 ghost use Rattle.awk_store.specs.Kept as kept;
 ghost use Rattle.awk_store.specs.Kept.{own_text};
+ghost use Rattle.awk_store.specs.Wholes.{names_in};
+ghost use Rattle.awk_streams.specs.Tables.{Table};
 ghost use Rattle.awk_program.specs.declared.variables.Own.TheVariants as own;
 ghost use Rattle.awk_text.specs.Arithmetic.{add};
 ghost use Rattle.awk_text.specs.Limits.{most_bytes};
@@ -17,7 +24,7 @@ ghost use Rattle.awk_text.specs.Values.{text_of};
 ghost use Rattle.awk_text.specs.declared.value.Value.{Value as Val};
 ghost use Rattle.awk_text.specs.declared.value.Value.TheVariants as v;
 ghost use Rattle.std.specs.Fmt.{decimal};
-ghost use Rattle.std.specs.Prelude.{IfSome, List, Some, false, length, map, true, ℤ, ◌≡◌, ◌≤◌};
+ghost use Rattle.std.specs.Prelude.{IfSome, List, None, Some, false, length, map, true, ℤ, ◌≡◌, ◌≤◌};
 
 use crate::at_hand::{
     MOST_LEVELS, at_hand, chosen, number_at_hand, number_kept, number_there, value_at_hand,
@@ -385,21 +392,22 @@ fn changed(
     added_by(store, line, how, *array, keys.as_slice(), x)
 }
 
-/// `variable ++` and `variable --`
+/// `variable ++` and `variable --`, where the variable holds a number and there is no fault: the old number and the new
+/// one.
 #[inline(always)]
-fn stepped_variable(store: &mut Store, how: Step, variable: Variable) -> bool
-    ensures done { result ≡ true → (place : Place) (taken : Which) →
-        IsDone (λ names. p.step place how taken (p.variable (variable_of names variable))) store.old store.new }
-    ensures not_done { result ≡ false → store.new ≡ store.old }
+pub fn stepped_variable(store: &mut Store, how: Step, variable: Variable) -> Option<(i64, i64)>
+    ensures done { IfSome result
+        (λ n. (g : Given) (t : Table) (place : Place) (taken : Which) →
+        Passes g (value (p.step place how taken (p.variable (variable_of (names_in g) variable)))) (store.old, t)
+        (give (either taken n.0 n.1)) (store.new, t)) }
+    ensures not_done { result ≡ None → store.new ≡ store.old }
 {
-    let Some(old) = number_kept(store, variable) else {
-        return false;
-    };
+    let old = number_kept(store, variable)?;
     let Ok(new) = stepped(how, old) else {
-        return false;
+        return None;
     };
     store.set(variable, Value::Num(new));
-    true
+    Some((old, new))
 }
 
 /// What `++` and `--` add.
@@ -438,7 +446,7 @@ fn stepped_target(store: &mut Store, line: &mut Line, how: Step, target: &Target
     ensures not_done { result ≡ false → store.new ≡ store.old }
 {
     if let Target::Variable(variable) = target {
-        return stepped_variable(store, how, *variable);
+        return stepped_variable(store, how, *variable).is_some();
     }
     let Target::Element(_, array, keys) = target else {
         return false;

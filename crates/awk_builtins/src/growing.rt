@@ -147,6 +147,24 @@ fn room_behind(store: &Store, variable: Variable) -> Option<usize>
     }
 }
 
+/// Sets a variable to a text with more behind it, which lies where the text did unless that is shared.
+pub(crate) fn set_longer(
+    alloc: Global,
+    store: &mut Store,
+    to: Variable,
+    text: Octets,
+    more: &[u8],
+) -> Result<(), Halt>
+    ensures ok { OnOk result (store.new ≡ with_value to (v.Text (text ++ more.now)) store.old) }
+    ensures err { IfErr result (λ h. h ≡ Halt.Memory) }
+    ensures used { store.new.used ≡ store.old.used }
+{
+    let mut bytes = text.into_bytes(alloc)?;
+    bytes.extend_from_slice(more)?;
+    store.set(to, Value::Text(Octets::new(bytes)));
+    Ok(())
+}
+
 /// Adds bytes behind the text of a variable, in its place. It holds a text from now on.
 fn grow(alloc: Global, store: &mut Store, to: Variable, more: &[u8]) -> Result<(), Halt>
     ensures ok { OnOk result
@@ -157,10 +175,7 @@ fn grow(alloc: Global, store: &mut Store, to: Variable, more: &[u8]) -> Result<(
     let Ok(text) = into_text(alloc, store.replace_value(to, Value::Unset)) else {
         return Err(Halt::Memory);
     };
-    let mut bytes = text.into_bytes(alloc)?;
-    bytes.extend_from_slice(more)?;
-    store.set(to, Value::Text(Octets::new(bytes)));
-    Ok(())
+    set_longer(alloc, store, to, text, more)
 }
 
 /// Does the whole of `to = first rest..` where `first` reads `to` too, which holds a text, and each of the others is at

@@ -18,6 +18,7 @@ pub mod items;
 pub mod keyed;
 pub mod keys;
 pub mod line;
+pub mod longer;
 pub mod made;
 pub mod matching;
 pub mod operands;

@@ -1,5 +1,5 @@
 -- The turns of the loops that evaluate lists.
-use Rattle.std.proofs.Common.{◌≡◌, refl, sym, ap, subst, ◌∙◌, ℕ, suc, ◌+◌, ◌<◌, Bool, List, [], ◌∷◌, ◌++◌, length, reverse, drop, map, arith}
+use Rattle.std.proofs.Common.{◌≡◌, refl, sym, ap, subst, ◌∙◌, ℕ, ◌+◌, ◌<◌, Bool, List, [], ◌∷◌, ◌++◌, length, reverse, drop, map, arith}
 use Rattle.std.specs.Prelude.{true, false, if◌then◌else◌, IfOk, IfErr, Result, Ok, Err, Option, Some, slice_get, option_map, get_or}
 use Rattle.std.proofs.lemmas.List.{length-reverse, length-append, length-map, drop_more}
 use Rattle.std.proofs.lemmas.Option.{slice_get-map, slice_get-get_or}

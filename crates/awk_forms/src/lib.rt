@@ -8,6 +8,7 @@
 pub mod context;
 pub mod evaluates;
 pub mod expressions;
+mod growing;
 pub mod inputs;
 pub mod lists;
 pub mod operands;

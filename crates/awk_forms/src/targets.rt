@@ -1,27 +1,32 @@
 // What is read or set.
-ghost use Rattle.std.specs.Prelude.{List, ℕ, IfOk};
+ghost use Rattle.std.specs.Prelude.{List, None, ℕ, IfOk, IfSome, ◌≡◌};
 ghost use Rattle.awk_streams.specs.Tasks.{Owns};
 ghost use Rattle.awk_machine.specs.Forms.{value, spot};
 ghost use Rattle.awk_machine.specs.Pieces.{give};
 ghost use Rattle.awk_program.specs.Program as p;
 ghost use Rattle.awk_program.specs.View.{variable_of, view, view_target};
+ghost use Rattle.awk_machine.specs.State.{Given};
+ghost use Rattle.awk_store.specs.Acts.{Passes};
 ghost use Rattle.awk_store.specs.Spots.{IsSpotOf, value_of};
 ghost use Rattle.awk_store.specs.Wholes.{names_in};
 ghost use Rattle.awk_forms.specs.Runs.{Does, Tells, IsUnwanted, whole_of};
 ghost use Rattle.awk_machine.specs.Expressions.{either};
 ghost use Rattle.awk_program.specs.declared.operators.StepValue.{StepValue as Which};
+ghost use Rattle.awk_streams.specs.Tables.{Table};
 
 use crate::context::{Context, Run};
 use crate::evaluates::Evaluates;
+use crate::growing::put_longer;
 use crate::lists::element;
+use awk_builtins::done::stepped_variable;
 use awk_builtins::growing::assigned;
 use awk_builtins::keyed::{element_at_hand, read_at_key, step_at_key};
 use awk_builtins::keys::field_number;
 use awk_builtins::made::{computed_at, stepped_at};
 use awk_program::{Expr, Operator, Step, StepValue, Target, Variable};
-use awk_store::Spot;
 use awk_store::targets::{read, set, stored};
 use awk_store::variables::{read_variable, set_variable};
+use awk_store::{Spot, Store};
 use awk_streams::halt::Halt;
 use awk_text::place::Place;
 use awk_text::value::Value;
@@ -187,7 +192,7 @@ pub fn put<W: World, E: Evaluates<W>>(
         return Ok(());
     }
     if let Target::Variable(variable) = target {
-        return put_variable(cx, place, *variable, x, on, run, world);
+        return put_longer(cx, place, *variable, x, on, run, world);
     }
     let to = target_of(cx, target, on, run, world)?;
     let new = on.value(cx, x, run, world)?;
@@ -294,6 +299,21 @@ fn step_element_target<W: World, E: Evaluates<W>>(
     general_step(cx, place, how, target, on, run, world)
 }
 
+/// What `stepped_variable` does, where the target is a variable.
+#[inline(always)]
+fn stepped_at_once(store: &mut Store, how: Step, target: &Target<Expr>) -> Option<(i64, i64)>
+    ensures done { IfSome result
+        (λ n. (g : Given) (t : Table) (place : Place) (taken : Which) →
+        Passes g (value (p.step place how taken (view_target (names_in g) target.now))) (store.old, t)
+        (give (either taken n.0 n.1)) (store.new, t)) }
+    ensures not_done { result ≡ None → store.new ≡ store.old }
+{
+    match target {
+        Target::Variable(variable) => stepped_variable(store, how, *variable),
+        Target::Element(_, _, _) | Target::Field(_, _) => None,
+    }
+}
+
 /// Sets a target to the next number, or to the one before, and answers the old number and the new one.
 pub fn step_target<W: World, E: Evaluates<W>>(
     cx: &Context<'_>,
@@ -311,6 +331,9 @@ pub fn step_target<W: World, E: Evaluates<W>>(
         (λ g n. give (either taken n.0 n.1))
         (whole_of run.old) world.old result (whole_of run.new) world.new }
 {
+    if let Some(steps) = stepped_at_once(&mut run.store, how, target) {
+        return Ok(steps);
+    }
     if let Target::Element(_, _, _) = target {
         return step_element_target(cx, place, how, target, on, run, world);
     }

@@ -125,8 +125,9 @@ fn general_truth<W: World, E: Evaluates<W>>(
     }
 }
 
-/// The value of the operand of a `!`. A step is met here: `!a[key]++` is how scripts ask whether a key is new.
-fn negated<W: World, E: Evaluates<W>>(
+/// The value of an operand of a test. A step is met here: `!a[key]++` is how scripts ask whether a key is new, and
+/// `i++ < n` how they count.
+fn operand<W: World, E: Evaluates<W>>(
     cx: &Context<'_>,
     x: &Expr,
     on: E,
@@ -159,7 +160,7 @@ fn is_untrue<W: World, E: Evaluates<W>>(
     ensures { Does W.World cx.now (λ g. value (p.not (view (names_in g) x.now))) (λ g b. give (of_truth b))
         (whole_of run.old) world.old result (whole_of run.new) world.new }
 {
-    let found = negated(cx, x, on, run, world)?;
+    let found = operand(cx, x, on, run, world)?;
     Ok(!truth(&found))
 }
 
@@ -179,7 +180,7 @@ fn compare<W: World, E: Evaluates<W>>(
         (λ g b. give (of_truth b))
         (whole_of run.old) world.old result (whole_of run.new) world.new }
 {
-    let one = on.value(cx, x, run, world)?;
+    let one = operand(cx, x, on, run, world)?;
     if let Some(other) = at_hand(&run.store, y, MOST_LEVELS) {
         return Ok(compared_lent(how, Lent::of(&one), other));
     }

@@ -1,5 +1,5 @@
 use Rattle.std.proofs.Common.{refl, sym, ◌∙◌, map}
-use Rattle.std.specs.Prelude.{true, false}
+use Rattle.std.specs.Prelude.{false}
 use Rattle.awk_machine.specs.Operators.{of_truth}
 use Rattle.awk_program.specs.Program.{expressions_of}
 use Rattle.awk_program.specs.View.{view}

@@ -1,4 +1,4 @@
-use Rattle.std.proofs.Common.{refl, rules, w64, ap, sym, ◌∙◌}
+use Rattle.std.proofs.Common.{refl, rules, w64}
 use Rattle.std.proofs.lemmas.Int.{to_z-of_z}
 use Rattle.std.specs.Prelude.{None, true, false}
 use Rattle.awk_lib.specs.Texts.{to_case}

@@ -1,11 +1,9 @@
-use Rattle.std.proofs.Common.{◌≡◌, ◌<◌, ◌≤◌, List, [], ◌∷◌, length, get_or, drop, refl, ap, sym, arith, ◌∙◌}
-use Rattle.std.proofs.lemmas.Result.{err_from_is_err_and}
+use Rattle.std.proofs.Common.{◌≡◌, ◌<◌, ◌≤◌, List, [], ◌∷◌, length, get_or, drop, refl, ap, sym, arith}
 use Rattle.std.specs.Prelude.{Ok, None, Some}
 use Rattle.awk_format.specs.Directives.{◌>>=◌}
 use Rattle.awk_text.specs.declared.value.Value.{Value}
 use Rattle.awk_text.specs.Values.{number_of}
 use Rattle.awk_machine.specs.Builtins.{count_of}
-use Rattle.awk_builtins.proofs.functions.count_of.Goals as goal
 
 third : (vs : List Value) (d : Value) → 3 ≤ length vs → d ≡ get_or vs 2 d → count_of (drop 2 vs) ≡ (number_of d >>= λ n. Ok (Some n))
 third [] d h e = absurd (omega (arith, h))

@@ -1,4 +1,3 @@
-use Rattle.std.proofs.Common.{ap}
 use Rattle.awk_builtins.proofs.Called.{grants_made}
 use Rattle.awk_builtins.proofs.Making.{text_so}
 use Rattle.awk_machine.specs.Pieces.{give}

@@ -2,12 +2,11 @@ use Rattle.awk_forms.proofs.Leading.{quietly}
 use Rattle.awk_forms.proofs.Turns.{and_off, and_on, next_of}
 use Rattle.awk_streams.proofs.Chain.{at_once, done, part, stop, turned}
 use Rattle.awk_builtins.proofs.Rests.{drop_all}
-use Rattle.awk_machine.specs.Forms.{value}
 use Rattle.awk_machine.specs.Pieces.{Ands_of, At}
 use Rattle.awk_program.specs.Program.{expressions_of}
 use Rattle.awk_program.specs.View.{view}
 use Rattle.awk_store.specs.Wholes.{names_in}
-use Rattle.std.proofs.Common.{[], ap, drop, false, map, refl, sym, true, ◌+◌, ◌∙◌, ◌∷◌}
+use Rattle.std.proofs.Common.{[], ap, drop, map, refl, sym, ◌+◌, ◌∙◌, ◌∷◌}
 use Rattle.std.proofs.lemmas.Result.{err_from_is_err_and}
 use Rattle.awk_forms.proofs.expressions.all.Goals as goal
 

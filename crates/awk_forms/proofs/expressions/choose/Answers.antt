@@ -1,7 +1,6 @@
 use Rattle.awk_forms.proofs.Leading.{quietly, told_truth}
 use Rattle.awk_forms.proofs.Turns.{choose_so}
 use Rattle.awk_streams.proofs.Chain.{at_once, part, passes, stop}
-use Rattle.awk_machine.specs.Forms.{value}
 use Rattle.awk_program.specs.View.{view}
 use Rattle.awk_store.specs.Wholes.{names_in}
 use Rattle.std.proofs.Common.{false, refl, sym, true, ◌∙◌}

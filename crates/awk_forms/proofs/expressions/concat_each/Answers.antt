@@ -2,13 +2,12 @@ use Rattle.awk_forms.proofs.Leading.{quietly}
 use Rattle.awk_forms.proofs.Turns.{next_of}
 use Rattle.awk_streams.proofs.Chain.{at_once, done, part, stop, turned}
 use Rattle.awk_builtins.proofs.Rests.{drop_all}
-use Rattle.awk_machine.specs.Forms.{value}
 use Rattle.awk_machine.specs.Pieces.{At, Texts_of}
 use Rattle.awk_program.specs.Program.{joins_of}
 use Rattle.awk_program.specs.View.{view, view_joined}
 use Rattle.awk_store.proofs.Acting.{acted}
 use Rattle.awk_store.specs.Wholes.{names_in}
-use Rattle.std.proofs.Common.{[], ap, drop, false, map, refl, true, ◌+◌, ◌∷◌}
+use Rattle.std.proofs.Common.{[], ap, drop, map, refl, ◌+◌, ◌∷◌}
 use Rattle.std.proofs.lemmas.Result.{err_from_is_err_and}
 use Rattle.awk_forms.proofs.expressions.concat_each.Goals as goal
 

@@ -3,13 +3,12 @@ use Rattle.awk_forms.proofs.Turns.{next_of}
 use Rattle.awk_streams.proofs.Chain.{at_once, done, part, passes, stop, turned}
 use Rattle.awk_builtins.proofs.Rests.{drop_all, just_one}
 use Rattle.awk_text.specs.Lents.{lent_value}
-use Rattle.awk_machine.specs.Forms.{answer, value}
 use Rattle.awk_machine.specs.Pieces.{At, Pipes_of, give}
 use Rattle.awk_program.specs.View.{view_pipes, view_target}
 use Rattle.awk_store.proofs.Acting.{acted, done as there}
 use Rattle.awk_store.specs.Spots.{value_of}
 use Rattle.awk_store.specs.Wholes.{names_in}
-use Rattle.std.proofs.Common.{[], ap, drop, false, refl, true, ◌+◌, ◌∷◌}
+use Rattle.std.proofs.Common.{[], ap, drop, refl, ◌+◌, ◌∷◌}
 use Rattle.std.proofs.lemmas.Result.{err_from_is_err_and}
 use Rattle.awk_forms.proofs.inputs.from_commands.Goals as goal
 use Rattle.awk_program.specs.Program as p

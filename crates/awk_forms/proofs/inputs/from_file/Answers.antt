@@ -1,7 +1,6 @@
 use Rattle.awk_forms.proofs.Leading.{quietly}
 use Rattle.awk_streams.proofs.Chain.{at_once, part, passes, stop}
 use Rattle.awk_text.specs.Lents.{lent_value}
-use Rattle.awk_machine.specs.Forms.{answer, value}
 use Rattle.awk_machine.specs.Pieces.{give}
 use Rattle.awk_program.specs.View.{view, view_target}
 use Rattle.awk_store.proofs.Acting.{acted, done as there}

@@ -1,7 +1,7 @@
 use Rattle.awk_forms.proofs.Leading.{quietly}
 use Rattle.awk_forms.proofs.Turns.{count_listed, filled_from, waits_listed}
 use Rattle.awk_streams.proofs.Chain.{at_once, done, part, stop}
-use Rattle.awk_machine.specs.Forms.{answer, keyed, value}
+use Rattle.awk_machine.specs.Forms.{answer, keyed}
 use Rattle.awk_machine.specs.Pieces.{Target_of}
 use Rattle.awk_program.specs.Program.{expressions_of}
 use Rattle.awk_program.specs.View.{variable_of, view}

@@ -1,6 +1,6 @@
 use Rattle.awk_forms.proofs.Turns.{count_listed, filled_from, waits_listed}
 use Rattle.awk_streams.proofs.Chain.{at_once, part, passes, stop}
-use Rattle.awk_machine.specs.Forms.{keyed, value}
+use Rattle.awk_machine.specs.Forms.{keyed}
 use Rattle.awk_machine.specs.Pieces.{At, Goes, Members_of, Value_of}
 use Rattle.awk_program.specs.Program.{expressions_of}
 use Rattle.awk_program.specs.View.{variable_of, view}

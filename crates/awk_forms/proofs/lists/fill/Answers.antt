@@ -1,9 +1,8 @@
 use Rattle.awk_forms.proofs.Turns.{fill_stop, fill_turn, got_of}
-use Rattle.awk_streams.proofs.Chain.{at_once, done, lacking, part}
-use Rattle.awk_machine.specs.Forms.{value}
+use Rattle.awk_streams.proofs.Chain.{at_once, done, lacking}
 use Rattle.awk_program.specs.View.{view}
 use Rattle.awk_store.specs.Wholes.{names_in}
-use Rattle.std.proofs.Common.{arith, false, true}
+use Rattle.std.proofs.Common.{arith}
 use Rattle.std.proofs.lemmas.Result.{err_from_is_err_and}
 use Rattle.awk_forms.proofs.lists.fill.Goals as goal
 

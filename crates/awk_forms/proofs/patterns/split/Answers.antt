@@ -1,6 +1,5 @@
 use Rattle.awk_forms.proofs.Leading.{quietly}
 use Rattle.awk_streams.proofs.Chain.{at_once, part, passes, stop}
-use Rattle.awk_machine.specs.Forms.{value}
 use Rattle.awk_program.specs.View.{view, view_ere}
 use Rattle.awk_store.proofs.Acting.{acted}
 use Rattle.awk_store.specs.Wholes.{names_in}

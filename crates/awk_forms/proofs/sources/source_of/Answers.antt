@@ -1,7 +1,6 @@
 use Rattle.awk_forms.proofs.Leading.{quietly}
 use Rattle.awk_streams.proofs.Chain.{at_once, done, part, stop}
 use Rattle.awk_builtins.proofs.Rests.{ok_for}
-use Rattle.awk_machine.specs.Forms.{value}
 use Rattle.awk_store.proofs.Acting.{acted}
 use Rattle.std.proofs.Common.{refl}
 use Rattle.std.proofs.lemmas.Result.{err_from_is_err_and}

@@ -1,6 +1,5 @@
 use Rattle.awk_forms.proofs.Leading.{quietly}
 use Rattle.awk_streams.proofs.Chain.{at_once, done, lacking, part, stop}
-use Rattle.awk_machine.specs.Forms.{value}
 use Rattle.awk_machine.specs.Pieces.{Do, Give, Set}
 use Rattle.awk_machine.specs.Targets.{stored}
 use Rattle.awk_store.proofs.Acting.{acted}

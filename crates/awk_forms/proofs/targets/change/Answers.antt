@@ -1,6 +1,5 @@
 use Rattle.awk_forms.proofs.Leading.{quietly}
 use Rattle.awk_streams.proofs.Chain.{at_once, done, lacking, part, stop, turned}
-use Rattle.awk_machine.specs.Forms.{value}
 use Rattle.awk_machine.specs.Pieces.{At, Do, Get, Give, Set, Value_of}
 use Rattle.awk_machine.specs.Targets.{stored}
 use Rattle.awk_program.specs.View.{view, view_target}

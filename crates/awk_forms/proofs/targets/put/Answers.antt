@@ -1,6 +1,5 @@
 use Rattle.awk_forms.proofs.Leading.{hands_on, quietly, rests, unwanted}
-use Rattle.awk_streams.proofs.Chain.{at_once, done, part, stop}
-use Rattle.awk_machine.specs.Forms.{value}
+use Rattle.awk_streams.proofs.Chain.{at_once, part, stop}
 use Rattle.awk_machine.specs.Pieces.{Do, Give, Set, give}
 use Rattle.awk_machine.specs.Targets.{stored}
 use Rattle.awk_store.proofs.Acting.{acted, done as there, lacking as lacks_there}
@@ -8,7 +7,7 @@ use Rattle.awk_store.proofs.Spots.{stored-so}
 use Rattle.awk_store.specs.Spots as spots
 use Rattle.awk_store.specs.Spots.{meant}
 use Rattle.awk_store.specs.Wholes.{names_in}
-use Rattle.std.proofs.Common.{false, refl, true, ◌∷◌}
+use Rattle.std.proofs.Common.{refl, ◌∷◌}
 use Rattle.std.proofs.lemmas.Result.{err_from_is_err_and}
 use Rattle.awk_forms.proofs.targets.put.Goals as goal
 use Rattle.awk_text.specs.declared.value.Value.TheVariants as v
@@ -23,7 +22,7 @@ returns-then-is_done g c =
 
 pub returns-in-Variable : goal.returns-in-Variable
 returns-in-Variable g c =
-    record { val = c.put_variable.ensures.val; is = c.put_variable.ensures.is; does = record { plays = λ m is. rw c.in-Variable.is (rw (c.in_ok-is_done.ensures.not_done c.if-is_done.false) at (c.put_variable.ensures.does.plays m is)); owns = c.put_variable.ensures.does.owns } }
+    record { val = c.put_longer.ensures.val; is = c.put_longer.ensures.is; does = record { plays = λ m is. rw c.in-Variable.is (rw (c.in_ok-is_done.ensures.not_done c.if-is_done.false) at (c.put_longer.ensures.does.plays m is)); owns = c.put_longer.ensures.does.owns } }
 
 pub returns-in_err-to : goal.returns-in_err-to
 returns-in_err-to g c =

@@ -1,6 +1,5 @@
 use Rattle.awk_machine.specs.Pieces.{give}
 use Rattle.awk_store.proofs.Acting.{acted, done as there}
-use Rattle.std.proofs.Common.{false, true}
 use Rattle.awk_forms.proofs.tests.effect.Goals as goal
 
 pub returns-then-is_done : goal.returns-then-is_done

@@ -1,6 +1,5 @@
 use Rattle.awk_streams.proofs.Chain.{at_once, done, lacking, part, stop}
 use Rattle.awk_machine.specs.Expressions.{either}
-use Rattle.awk_machine.specs.Forms.{value}
 use Rattle.awk_program.proofs.Views.{view-Assign, view-Change, view-Step}
 use Rattle.std.proofs.Common.{refl}
 use Rattle.std.proofs.lemmas.Result.{err_from_is_err_and}

@@ -5,7 +5,7 @@ use Rattle.awk_machine.specs.Pieces.{give}
 use Rattle.awk_program.specs.View.{view}
 use Rattle.awk_store.proofs.Acting.{acted, done as there}
 use Rattle.awk_store.specs.Wholes.{names_in}
-use Rattle.std.proofs.Common.{ap, false, refl, true, ◌∙◌}
+use Rattle.std.proofs.Common.{ap, refl, ◌∙◌}
 use Rattle.std.proofs.lemmas.Result.{err_from_is_err_and}
 use Rattle.std.specs.Prelude.{Ok}
 use Rattle.awk_forms.proofs.tests.later_effect.Goals as goal

@@ -1,5 +1,4 @@
 use Rattle.awk_streams.proofs.Chain.{at_once, done, part, stop}
-use Rattle.awk_machine.specs.Forms.{value}
 use Rattle.awk_machine.specs.Pieces.{give}
 use Rattle.awk_store.proofs.Acting.{acted, done as there}
 use Rattle.awk_text.specs.declared.fault.Fault.{Fault}

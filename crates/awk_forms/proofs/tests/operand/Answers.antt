@@ -1,5 +1,5 @@
 use Rattle.awk_program.proofs.Views.{view-Step}
-use Rattle.awk_forms.proofs.tests.negated.Goals as goal
+use Rattle.awk_forms.proofs.tests.operand.Goals as goal
 
 pub returns-in-Step : goal.returns-in-Step
 returns-in-Step g c =

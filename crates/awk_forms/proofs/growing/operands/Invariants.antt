@@ -1,0 +1,12 @@
+use Rattle.std.proofs.Common.{[], ◌∷◌, ◌++◌, drop, map}
+use Rattle.awk_program.specs.Program.{joins_of}
+use Rattle.awk_program.specs.View.{view_joined}
+use Rattle.awk_machine.specs.Pieces.{At, Texts_of}
+use Rattle.awk_store.specs.Wholes.{names_in}
+use Rattle.awk_text.specs.declared.value.Value.TheVariants as v
+use Rattle.awk_forms.specs.Along.{Along}
+use Rattle.awk_forms.proofs.growing.operands.Given as goal
+
+abbrev pub invariant-loop-next : goal.invariant-loop-next
+invariant-loop-next g l = Along g.W.World l.cx (λ m. At (Texts_of (joins_of (map (view_joined (names_in m)) l.xs))) (v.Text l.text ∷ []))
+    (λ m k. At (Texts_of (joins_of (map (view_joined (names_in m)) (drop l.next-index l.xs)))) (v.Text (l.text ++ l.more.items) ∷ []) ∷ k) (l.fn.run.store, l.fn.run.streams) l.fn.world (l.run.store, l.run.streams) l.world
