@@ -25,17 +25,11 @@ use Rattle.awk_store.specs.Kept.{Kept}
 use Rattle.awk_store.specs.Wholes.{Whole, names_in}
 use Rattle.awk_store.proofs.Acting.{at_rest, moves, done, closed, lacking}
 use Rattle.awk_store.proofs.Limited.{limited_ok}
+use Rattle.awk_store.proofs.Rebuilding.{limited_err}
 use Rattle.awk_store.proofs.VariableSteps.{sets_variable}
 use Rattle.awk_streams.specs.Tasks.{goes_on}
 use Rattle.awk_streams.specs.declared.halt.Halt.{Halt}
 use Rattle.awk_streams.specs.declared.halt.Halt.TheVariants as halt
-
-limited_not_by : (b : Bool) (text : Text) → nat_le (length text) most_bytes ≡ b → most_bytes < length text → limited text ≡ Err fault.TextTooLong
-limited_not_by true text e h = absurd (grind (arith, nat_tests))
-limited_not_by false text e h = rw e refl
-
-limited_not : (text : Text) → most_bytes < length text → limited text ≡ Err fault.TextTooLong
-limited_not text h = limited_not_by (nat_le (length text) most_bytes) text refl h
 
 lengths : (text before more : Text) → length ((text ++ before) ++ more) ≡ (length text + length before) + length more
 lengths text before more = length-append (text ++ before) more ∙ (rw (length-append text before) refl)
@@ -55,7 +49,7 @@ module _ (g : Given) (w : Whole) (place : Place) (x : Expression) (xs : Joins) (
   pub joins_not : (after : Text) → most_bytes < (length text + length before) + length (text_of z) → Acts g waits (ends_with after) w (Err (halt.Fault fault.TextTooLong place)) w
   joins_not after over =
       let long : most_bytes < length ((text ++ before) ++ text_of z) = rw (lengths text before (text_of z)) over in
-      closed (moves (at_rest _ w) (λ k hid d a. rw (limited_not ((text ++ before) ++ text_of z) long) refl))
+      closed (moves (at_rest _ w) (λ k hid d a. rw (limited_err ((text ++ before) ++ text_of z) long) refl))
 
 -- the variable is set
 pub sets_behind : (g : Given) (old : Whole) (x : Variable) (place : Place) (val : Value) (new : Kept) (r : Result (Unit {0}) Halt) → kept.is_nf x ≡ false → OnOk r (new ≡ with_value x val old.0) →

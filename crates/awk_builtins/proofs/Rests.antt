@@ -1,6 +1,6 @@
 -- Lists, and what was made.
 use Rattle.std.proofs.Common.{◌≡◌, ◌==◌, false, refl, ap, sym, ◌∙◌, ℕ, zero, suc, ◌≤◌, ◌<◌, drop, List, [], ◌∷◌, length, arith}
-use Rattle.std.specs.Prelude.{Option, Some, None, IfSome, Result, Ok, Err, IfOk, IfErr, OnOk, get_or, is_some, true}
+use Rattle.std.specs.Prelude.{Option, Some, None, IfSome, Result, Ok, Err, IfOk, IfErr, get_or}
 use Rattle.std.specs.Borrow.{Bor}
 use Rattle.std.specs.Option.{option_copied}
 use Rattle.std.specs.Result.{result_ok}
@@ -32,14 +32,6 @@ just_three (u ∷ v ∷ w ∷ k ∷ xs) x y z some few e f h = absurd (omega (ar
 pub ok_for : {X E : Type 0} {P Q : X → Type 0} (r : Result X E) → ((x : X) → P x → Q x) → IfOk r P → IfOk r Q
 ok_for (Ok x) f h = f x h
 ok_for (Err e) f h = h
-
-pub on_ok_for : {X E P Q : Type 0} (r : Result X E) → (P → Q) → OnOk r P → OnOk r Q
-on_ok_for (Ok x) f h = f h
-on_ok_for (Err e) f h = h
-
-pub where_some : {X Q : Type 0} {P : X → Type 0} (o : Option X) → ((x : X) → P x → Q) → IfSome o P → is_some o ≡ true → Q
-where_some (Some x) f h is = f x h
-where_some None f h is = cc
 
 pub err_for : {X E : Type 0} {P Q : E → Type 0} (r : Result X E) → ((e : E) → P e → Q e) → IfErr r P → IfErr r Q
 err_for (Ok x) f h = h
