@@ -1,8 +1,7 @@
 -- A text with more behind it: one operand more, and a variable that is set to the whole.
-use Rattle.std.proofs.Common.{◌≡◌, refl, sym, ◌∙◌, ◌+◌, ◌≤◌, ◌<◌, List, [], ◌∷◌, ◌++◌, length, arith, append_assoc}
-use Rattle.std.proofs.lemmas.Bool.Decides.{nat_tests}
+use Rattle.std.proofs.Common.{◌≡◌, refl, sym, ◌∙◌, ◌+◌, ◌≤◌, ◌<◌, List, [], ◌∷◌, ◌++◌, length, append_assoc}
 use Rattle.std.proofs.lemmas.List.{length-append}
-use Rattle.std.specs.Prelude.{Bool, true, false, nat_le, Result, Ok, Err, OnOk, IfErr}
+use Rattle.std.specs.Prelude.{false, Result, Ok, Err, OnOk, IfErr}
 use Rattle.awk_text.specs.Limits.{most_bytes}
 use Rattle.awk_text.specs.Values.{text_of}
 use Rattle.awk_text.specs.declared.fault.Fault.TheVariants as fault
@@ -14,7 +13,6 @@ use Rattle.awk_program.specs.Program.{Expression, Joins}
 use Rattle.awk_program.specs.Slots.{Text}
 use Rattle.awk_program.specs.View.{variable_of}
 use Rattle.awk_program.specs.declared.variables.Variable.{Variable}
-use Rattle.awk_machine.specs.Operators.{limited}
 use Rattle.awk_machine.specs.Pieces as machine
 use Rattle.awk_machine.specs.Pieces.{Piece, At, Do, Set, Texts_of}
 use Rattle.awk_machine.specs.State.{Given}
