@@ -12,6 +12,7 @@ use Rattle.awk_resolve.specs.Kinds.{Agrees, Clashes, two_kinds, no_array}
 use Rattle.awk_parse.specs.declared.flaw.Flaw.{Flaw}
 use Rattle.awk_parse.specs.declared.flaw.Flaw.TheVariants as flaw
 use Rattle.awk_parse.specs.Flaws.{Flawed, memory, word, function, kind}
+use Rattle.awk_parse.proofs.Laws.{none_spelled}
 use Rattle.awk_parse.specs.Scripts.{IsRefused, by_grammar, by_memory}
 
 no_clash : (parts : List Section) (place : Place) → Agrees parts → GivesArrays parts → Clashes parts place → ⊥
@@ -27,5 +28,5 @@ only_memory parts f h (kind place placed defined m first) = absurd (no_clash par
 -- a fault of the grammar refuses the tokens
 pub refused : (tokens : List Token) (e : ParseError) → (e ≢ fault.Memory → grammar.script tokens ≡ Err e) → IsRefused tokens (places.refusal tokens e)
 refused tokens fault.Memory h = by_memory
-refused tokens (fault.Unexpected n) h = by_grammar (fault.Unexpected n) (h (λ (q : fault.Unexpected n ≡ fault.Memory). cc))
-refused tokens (fault.TooDeep n) h = by_grammar (fault.TooDeep n) (h (λ (q : fault.TooDeep n ≡ fault.Memory). cc))
+refused tokens (fault.Unexpected n) h = let is = h (λ (q : fault.Unexpected n ≡ fault.Memory). cc) in by_grammar (fault.Unexpected n) (none_spelled tokens (fault.Unexpected n) is) is
+refused tokens (fault.TooDeep n) h = let is = h (λ (q : fault.TooDeep n ≡ fault.Memory). cc) in by_grammar (fault.TooDeep n) (none_spelled tokens (fault.TooDeep n) is) is

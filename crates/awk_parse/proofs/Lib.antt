@@ -19,6 +19,14 @@ pub mod Steps
 pub mod StatementLaws
 pub mod Blocks
 pub mod ItemLaws
+pub mod ReadSteps
+pub mod Firsts
+pub mod ReadOperands
+pub mod ReadChains
+pub mod ReadDepths
+pub mod ReadSimple
+pub mod ReadStatements
+pub mod ReadItems
 pub mod Laws
 pub mod Making
 pub mod Flawless

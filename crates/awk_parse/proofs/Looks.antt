@@ -69,7 +69,7 @@ abbrev pub Begins : List Token → Type 0
 Begins [] = ⊥
 Begins (t ∷ ts) = begins_statement (terminal t) ≡ true
 
-simple_begins : (k : Terminal) → begins_simple k ≡ true → begins_statement k ≡ true
+pub simple_begins : (k : Terminal) → begins_simple k ≡ true → begins_statement k ≡ true
 simple_begins w.Semicolon h = refl
 simple_begins w.OpenBrace h = refl
 simple_begins w.If h = refl
@@ -78,7 +78,7 @@ simple_begins w.Do h = refl
 simple_begins w.For h = refl
 simple_begins _ h = h
 
-expression_begins : (k : Terminal) → begins_expression k ≡ true → begins_simple k ≡ true
+pub expression_begins : (k : Terminal) → begins_expression k ≡ true → begins_simple k ≡ true
 expression_begins w.Print h = refl
 expression_begins w.Printf h = refl
 expression_begins w.Delete h = refl
@@ -96,11 +96,11 @@ simple_steady w.Bar h = absurd cc
 simple_steady w.BarGetline h = absurd cc
 simple_steady _ h = refl
 
-no_newline : (k : Terminal) → begins_statement k ≡ true → is k w.Newline ≡ false
+pub no_newline : (k : Terminal) → begins_statement k ≡ true → is k w.Newline ≡ false
 no_newline w.Newline h = absurd cc
 no_newline _ h = refl
 
-no_brace : (k : Terminal) → begins_statement k ≡ true → is k w.CloseBrace ≡ false
+pub no_brace : (k : Terminal) → begins_statement k ≡ true → is k w.CloseBrace ≡ false
 no_brace w.CloseBrace h = absurd cc
 no_brace _ h = refl
 

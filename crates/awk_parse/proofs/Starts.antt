@@ -122,7 +122,7 @@ pub starts_some : (a : List Token) → Starts a → 1 ≤ length a
 starts_some [] h = absurd h
 starts_some (t ∷ ts) h = omega arith
 
-no_line : (kind : Terminal) → begins_expression kind ≡ true → is kind w.Newline ≡ false
+pub no_line : (kind : Terminal) → begins_expression kind ≡ true → is kind w.Newline ≡ false
 no_line w.Newline h = absurd cc
 no_line _ h = refl
 

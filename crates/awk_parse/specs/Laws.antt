@@ -31,9 +31,9 @@ abbrev pub SimpleStatementsAreReadAgain : Type 0
 SimpleStatementsAreReadAgain = (ts r : List Token) (s : Statement) → simple 200 (expr 200) ts ≡ Ok (s, r) → ahead r
     ≡ w.End → simple 200 (expr 200) (canon_statement s) ≡ Ok (bare_statement s, end)
 
--- the tree of a script: some tokens are read as it
+-- the tree of a script: some tokens spell it
 abbrev pub IsScript : List Entry → Type 0
-IsScript items = (ts : List Token) × (script ts ≡ Ok (items, []))
+IsScript items = (ts : List Token) × SpellsScript ts items
 
 -- a script is read to its end
 abbrev pub ScriptsAreWhole : Type 0
@@ -47,3 +47,29 @@ ScriptsAreSpelled = (ts : List Token) (items : List Entry) → script ts ≡ Ok 
 abbrev pub ScriptsAreReadAgain : Type 0
 ScriptsAreReadAgain =
     (items : List Entry) → IsScript items → script (canon_script items) ≡ Ok (map bare_entry items, [])
+
+-- ---- the other way round
+
+-- what is spelled as an expression is read so
+abbrev pub ExpressionsAreRead : Type 0
+ExpressionsAreRead = (in_print : Bool) (ts : List Token) (x : Tree) → Spells 0 (rule.expr in_print) ts x [] →
+    expression 200 (expr 200) in_print ts ≡ Ok (x, [])
+
+-- what is spelled as a simple statement is read so, where the statement ends there
+abbrev pub SimpleStatementsAreRead : Type 0
+SimpleStatementsAreRead = (us r : List Token) (s : Statement) → Simple 0 us s r → ahead r ≡ w.End →
+    simple 200 (expr 200) (us ++ r) ≡ Ok (s, r)
+
+-- what is spelled as a script is read so
+abbrev pub ScriptsAreRead : Type 0
+ScriptsAreRead = (ts : List Token) (items : List Entry) → SpellsScript ts items → script ts ≡ Ok (items, [])
+
+-- so tokens spell one tree at most, as an expression
+abbrev pub ExpressionsHaveOneTree : Type 0
+ExpressionsHaveOneTree = (in_print : Bool) (ts : List Token) (x y : Tree) → Spells 0 (rule.expr in_print) ts x [] →
+    Spells 0 (rule.expr in_print) ts y [] → x ≡ y
+
+-- and as a script
+abbrev pub ScriptsHaveOneTree : Type 0
+ScriptsHaveOneTree =
+    (ts : List Token) (items others : List Entry) → SpellsScript ts items → SpellsScript ts others → items ≡ others

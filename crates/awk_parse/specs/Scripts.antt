@@ -1,5 +1,5 @@
 -- What an accepted script is, and why others are refused.
-use Rattle.std.specs.Prelude.{◌≡◌, List, [], map, Result, Ok, Err}
+use Rattle.std.specs.Prelude.{◌≡◌, List, map, Result, Ok, Err}
 use Rattle.awk_tokens.specs.declared.token.Token.{Token}
 use Rattle.awk_tokens.specs.declared.syntax_error.SyntaxError.{SyntaxError}
 use Rattle.awk_tree.specs.declared.fault.ParseError.{ParseError}
@@ -43,18 +43,20 @@ pub record IsScriptOf (items : List Entry) (s : Script) : Type 0 where
 abbrev pub IsSpelled : List Token → Script → Type 0
 IsSpelled tokens s = (items : List Entry) × SpellsScript tokens items × IsScriptOf items s
 
--- of all the items that tokens may spell, those that the rules of the grammar read
-abbrev pub IsRead : List Token → Script → Type 0
-IsRead tokens s = (items : List Entry) × (grammar.script tokens ≡ Ok (items, [])) × IsScriptOf items s
-
--- some tokens are parsed as it
+-- some tokens spell it
 abbrev pub IsScript : Script → Type 0
-IsScript s = (tokens : List Token) × IsRead tokens s
+IsScript s = (tokens : List Token) × IsSpelled tokens s
 
--- a token that cannot stand there, or a level too much; or else a flaw of the items
+-- with at most 200 levels, the tokens spell no script
+abbrev pub SpellNone : List Token → Type 0
+SpellNone tokens = (items : List Entry) → SpellsScript tokens items → ⊥
+
+-- The tokens spell no script, and the place is where the rules of the grammar go no further: a token that cannot
+-- stand there, or a level too much. Or else the items have a flaw.
 pub data IsRefused (tokens : List Token) : SyntaxError → Type 0 where
-  by_grammar : (fault : ParseError) → grammar.script tokens ≡ Err fault → IsRefused tokens (places.refusal tokens fault)
-  by_flaw : (items : List Entry) (flaw : Flaw) → grammar.script tokens ≡ Ok (items, []) → Flawed (map part items) flaw →
+  by_grammar : (fault : ParseError) → SpellNone tokens → grammar.script tokens ≡ Err fault →
+      IsRefused tokens (places.refusal tokens fault)
+  by_flaw : (items : List Entry) (flaw : Flaw) → SpellsScript tokens items → Flawed (map part items) flaw →
       IsRefused tokens (flaws.refusal flaw)
   by_memory : IsRefused tokens (record { code = 9; place = record { line = 0; column = 0 } })
 

@@ -1,12 +1,13 @@
-//! The grammar of the language as a relation, and its laws: what the rules read is spelled so, and it
-//! is read again from its canonical spelling.
+//! The grammar of the language as a relation, and its laws: the rules read what is spelled, and that
+//! alone, so tokens spell one tree at most; and what is read is read again from its canonical spelling.
 //!
 //! specs/Spells.antt is the grammar of POSIX.1-2017 XCU awk ("Grammar"), a case for each form of each of its lines.
 //! The functions do nothing: each has a law as its contract.
 
 ghost use Rattle.awk_parse.specs.Laws.{ExpressionsAreSpelled, ExpressionsAreReadAgain, SimpleStatementsAreSpelled};
 ghost use Rattle.awk_parse.specs.Laws.{SimpleStatementsAreReadAgain, ScriptsAreWhole, ScriptsAreSpelled};
-ghost use Rattle.awk_parse.specs.Laws.{ScriptsAreReadAgain};
+ghost use Rattle.awk_parse.specs.Laws.{ScriptsAreReadAgain, ExpressionsAreRead, SimpleStatementsAreRead};
+ghost use Rattle.awk_parse.specs.Laws.{ScriptsAreRead, ExpressionsHaveOneTree, ScriptsHaveOneTree};
 
 /// Each list of tokens that the rules read as an expression is an expression by the grammar, with
 /// at most 200 levels of nesting, and its tree is the one that they spell. The canonical spelling
@@ -33,4 +34,20 @@ pub fn scripts()
     ensures whole { ScriptsAreWhole }
     ensures spelled { ScriptsAreSpelled }
     ensures again { ScriptsAreReadAgain }
+{}
+
+/// The rules read all that the grammar spells with at most 200 levels of nesting: an expression, a simple statement
+/// where it ends, a script. So they refuse tokens only where these spell nothing.
+#[tactic(auto, using(crate::proofs::Laws::expressions_are_read, crate::proofs::Laws::simple_statements_are_read, crate::proofs::Laws::scripts_are_read))]
+pub fn all_read()
+    ensures expressions { ExpressionsAreRead }
+    ensures simple_statements { SimpleStatementsAreRead }
+    ensures scripts { ScriptsAreRead }
+{}
+
+/// Tokens spell one expression at most, and one script at most.
+#[tactic(auto, using(crate::proofs::Laws::expressions_have_one_tree, crate::proofs::Laws::scripts_have_one_tree))]
+pub fn one_tree()
+    ensures expressions { ExpressionsHaveOneTree }
+    ensures scripts { ScriptsHaveOneTree }
 {}

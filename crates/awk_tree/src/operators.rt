@@ -1,7 +1,7 @@
 // What the signs and words of an expression do.
 
 /// `+`, `-`, `*`, `/` and `%`.
-#[derive(Clone, Copy, Debug, PartialEq, Eq, Drop)]
+#[derive(Clone, Copy, PartialEq, Eq, Drop)]
 pub enum Arithmetic {
     Add,
     Subtract,
@@ -11,7 +11,7 @@ pub enum Arithmetic {
 }
 
 /// `!`, `+` and `-` before an operand.
-#[derive(Clone, Copy, Debug, PartialEq, Eq, Drop)]
+#[derive(Clone, Copy, PartialEq, Eq, Drop)]
 pub enum Sign {
     Not,
     Plus,
@@ -19,7 +19,7 @@ pub enum Sign {
 }
 
 /// The six comparisons.
-#[derive(Clone, Copy, Debug, PartialEq, Eq, Drop)]
+#[derive(Clone, Copy, PartialEq, Eq, Drop)]
 pub enum Comparison {
     Less,
     LessOrEqual,
@@ -30,7 +30,7 @@ pub enum Comparison {
 }
 
 /// Where output goes.
-#[derive(Clone, Copy, Debug, PartialEq, Eq, Drop)]
+#[derive(Clone, Copy, PartialEq, Eq, Drop)]
 pub enum Redirect {
     /// `>`
     Write,

@@ -23,7 +23,7 @@ pub returns-in-Err-of-clause-refused : goal.returns-in-Err-of-clause-refused
 returns-in-Err-of-clause-refused c =
     let read : grammar.script c.args.tokens.now ≡ Ok (map view_item c.in-Ok.items, []) = c.in-Ok.ensures in
     let flawed : Flawed (map part (map view_item c.in-Ok.items)) c.in-Err-of.flaw = c.in-Err-of.ensures.flawed in
-    rw c.refusal-in-Err-of.ensures (by_flaw (map view_item c.in-Ok.items) c.in-Err-of.flaw read flawed)
+    rw c.refusal-in-Err-of.ensures (by_flaw (map view_item c.in-Ok.items) c.in-Err-of.flaw (scripts_are_spelled c.args.tokens.now (map view_item c.in-Ok.items) read) flawed)
 
 pub returns-in-Err-of-clause-again : goal.returns-in-Err-of-clause-again
 returns-in-Err-of-clause-again c =
@@ -31,12 +31,6 @@ returns-in-Err-of-clause-again c =
     let read : grammar.script c.args.tokens.now ≡ Ok (map view_item c.in-Ok.items, []) = c.in-Ok.ensures in
     let flawed : Flawed (map part (map view_item c.in-Ok.items)) c.in-Err-of.flaw = c.in-Err-of.ensures.flawed in
     rw c.refusal-in-Err-of.ensures (same_flaw c.args.tokens.now is.0 s is.1.0 (map view_item c.in-Ok.items) c.in-Err-of.flaw is.1.1 is.1.2 e read flawed)
-
-pub returns-in-Ok-of-clause-spelled : goal.returns-in-Ok-of-clause-spelled
-returns-in-Ok-of-clause-spelled c =
-    let read : grammar.script c.args.tokens.now ≡ Ok (map view_item c.in-Ok.items, []) = c.in-Ok.ensures in
-    let of : IsScriptOf (map view_item c.in-Ok.items) c.in-Ok-of.script = c.in-Ok-of.ensures.script in
-    (map view_item c.in-Ok.items, scripts_are_spelled c.args.tokens.now (map view_item c.in-Ok.items) read, of)
 
 pub returns-in-Ok-of-clause-again : goal.returns-in-Ok-of-clause-again
 returns-in-Ok-of-clause-again c =
