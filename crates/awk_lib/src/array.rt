@@ -7,6 +7,7 @@ ghost use Rattle.awk_lib.specs.Arrays.{element, has, put, with_element, without,
 use crate::elements::Elements;
 use crate::filling::elements_of;
 use crate::key::{Key, texts_of};
+use awk_hash::Seed;
 use awk_text::fault::Fault;
 use awk_text::octets::Octets;
 use awk_text::value::Value;
@@ -45,12 +46,20 @@ impl<V> Array<V> {
     ghost use Rattle.std.specs.Borrow.{sem};
     ghost use Rattle.awk_lib.specs.Lends.{lends_element};
 
-    /// An empty array. Takes no memory.
+    /// An empty array, which hashes keys by a fixed seed. Takes no memory.
     pub fn new(alloc: Global) -> Array<V>
         ensures { result ≡ [] }
     {
+        Array::with_seed(alloc, Seed::of(0))
+    }
+
+    /// An empty array, which hashes keys by this seed: whoever doesn't know it can't pick keys that collide. Takes no
+    /// memory.
+    pub fn with_seed(alloc: Global, seed: Seed) -> Array<V>
+        ensures { result ≡ [] }
+    {
         Array {
-            elements: Elements::new(alloc),
+            elements: Elements::new(alloc, seed),
             next: 0,
             settled: true,
         }
@@ -264,8 +273,9 @@ impl Array<Value> {
         }
         let alloc = *parts.allocator();
         let count = parts.len() as u64;
-        let old = mem::replace(self, Array::new(alloc));
-        let elements = elements_of(alloc, old.elements.into_room(), parts)?;
+        let seed = self.elements.seed();
+        let old = mem::replace(self, Array::with_seed(alloc, seed));
+        let elements = elements_of(alloc, seed, old.elements.into_room(), parts)?;
         *self = Array {
             elements,
             next: count,

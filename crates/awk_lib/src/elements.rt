@@ -17,6 +17,7 @@ use crate::key::{Key, Sought};
 use crate::same::is_same;
 use crate::slot::slot_of;
 use crate::steps::Steps;
+use awk_hash::Seed;
 use awk_text::Memory;
 use awk_text::fault::Fault;
 use indexmap::IndexMap;
@@ -51,7 +52,7 @@ pub(crate) struct Added {
 #[derive(Drop)]
 pub(crate) struct Elements<V> {
     pub(crate) dense: Dense<V>,
-    pub(crate) map: IndexMap<Key, Option<Numbered<V>>>,
+    pub(crate) map: IndexMap<Key, Option<Numbered<V>>, Seed>,
     pub(crate) count: usize,
     /// The look-ups in the map so far.
     steps: Cell<Steps>,
@@ -63,14 +64,14 @@ impl<V> Elements<V> {
     ghost use Rattle.awk_lib.specs.Lends.{lends_value};
 
     /// No elements. Takes no memory.
-    pub(crate) fn new(alloc: Global) -> Elements<V>
+    pub(crate) fn new(alloc: Global, seed: Seed) -> Elements<V>
         ensures rows { rows_of result ≡ [] }
         ensures count { result.count ≡ 0 }
         ensures apart { AreApart result }
     {
         Elements {
             dense: Dense::new(alloc),
-            map: IndexMap::new(alloc),
+            map: IndexMap::with_hasher(alloc, seed),
             count: 0,
             steps: Cell::new(Steps::new()),
         }
@@ -79,6 +80,7 @@ impl<V> Elements<V> {
     /// The elements that lie at these places of the dense part, and no others. Takes no memory.
     pub(crate) fn of_places(
         alloc: Global,
+        seed: Seed,
         places: Vec<Option<Numbered<V>>>,
         count: usize,
     ) -> Elements<V>
@@ -88,10 +90,15 @@ impl<V> Elements<V> {
     {
         Elements {
             dense: Dense { places },
-            map: IndexMap::new(alloc),
+            map: IndexMap::with_hasher(alloc, seed),
             count,
             steps: Cell::new(Steps::new()),
         }
+    }
+
+    /// What the keys are hashed by.
+    pub(crate) fn seed(&self) -> Seed {
+        *self.map.hasher()
     }
 
     /// What the places of the dense part lay in, for others. Takes no memory.

@@ -5,6 +5,7 @@ ghost use Rattle.std.specs.Prelude.{IfOk, length, ◌≤◌};
 
 use crate::dense::Numbered;
 use crate::elements::Elements;
+use awk_hash::Seed;
 use awk_text::Memory;
 use awk_text::octets::Octets;
 use awk_text::value::Value;
@@ -15,6 +16,7 @@ use std::alloc::Global;
 /// Fails where memory is refused.
 pub(crate) fn elements_of(
     alloc: Global,
+    seed: Seed,
     room: Vec<Option<Numbered<Value>>>,
     parts: Vec<Octets>,
 ) -> Result<Elements<Value>, Memory>
@@ -33,5 +35,5 @@ pub(crate) fn elements_of(
         }))?;
         number += 1;
     }
-    Ok(Elements::of_places(alloc, places, count))
+    Ok(Elements::of_places(alloc, seed, places, count))
 }

@@ -1,12 +1,14 @@
 // The keys of a map. A list of bytes would be hashed and compared byte by byte.
-ghost use Rattle.std.specs.Prelude.{◌≡◌, [], ◌∷◌, IfOk, IsOkUnless};
+ghost use Rattle.std.specs.Prelude.{◌≡◌, IfOk, IsOkUnless};
 ghost use Rattle.std.specs.Cmp as Cmp;
 ghost use Rattle.std.specs.Cmp.{on_equiv, on_per};
 ghost use Rattle.std.specs.Cmp.Lexicographic.{bytes_decides, nat_list_eq_equiv};
 ghost use Rattle.std.specs.Str.{bytes_eq};
 ghost use Rattle.std.proofs.Common.{ap};
+ghost use Rattle.awk_hash.specs.Pieces.{pieces};
 
 use crate::same::is_same;
+use awk_hash::write_text;
 use awk_text::Memory;
 use awk_text::fault::Fault;
 use awk_text::octets::Octets;
@@ -86,12 +88,12 @@ impl Eq for Key {
 }
 
 impl Hash for Key {
-    ghost hash_input = { λ k. k ∷ [] };
+    ghost hash_input = { λ k. pieces k };
 
-    ghost respects_eq = { λ x y h. ap (λ t. t ∷ []) ((bytes_decides x y).0 h) };
+    ghost respects_eq = { λ x y h. ap pieces ((bytes_decides x y).0 h) };
 
     fn hash<H: Hasher>(&self, state: &mut H) {
-        state.write(self.bytes());
+        write_text(state, self.bytes());
     }
 }
 
@@ -116,19 +118,19 @@ impl Eq for Sought<'_> {
 }
 
 impl Hash for Sought<'_> {
-    ghost hash_input = { λ k. k.text.now ∷ [] };
+    ghost hash_input = { λ k. pieces k.text.now };
 
-    ghost respects_eq = { λ x y h. ap (λ t. t ∷ []) ((bytes_decides x.text.now y.text.now).0 h) };
+    ghost respects_eq = { λ x y h. ap pieces ((bytes_decides x.text.now y.text.now).0 h) };
 
     fn hash<H: Hasher>(&self, state: &mut H) {
-        state.write(self.text);
+        write_text(state, self.text);
     }
 }
 
 impl Equivalent<Key> for Sought<'_> {
     ghost equivalent = { λ q k. bytes_eq q.text.now k };
 
-    ghost respects_hash = { λ q k h. ap (λ t. t ∷ []) ((bytes_decides q.text.now k).0 h) };
+    ghost respects_hash = { λ q k h. ap pieces ((bytes_decides q.text.now k).0 h) };
 
     ghost respects_eq = { λ q x y. nat_list_eq_equiv.congr q.text.now x y };
 

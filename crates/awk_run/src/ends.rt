@@ -18,7 +18,7 @@ use awk_text::place::Place;
 use box_world::world::World;
 
 /// How a run's own work has ended.
-#[derive(Clone, Copy, Debug, PartialEq, Eq, Drop)]
+#[derive(Clone, Copy, PartialEq, Eq, Drop)]
 pub enum End {
     /// So; the streams that are open are still to be shut.
     Open(Outcome),

@@ -66,7 +66,7 @@ pub fn run_program<W: World>(cx: &Context<'_>, start: &Start<'_>, world: &mut W)
     ensures { (g : Given) → IsGiven cx.now g → IsStart start.now g
         → Reported W.follows W.has_stopped W.stops g world.old (view_outcome result.outcome) result.used world.new }
 {
-    let Ok(store) = Store::new(cx.alloc, cx.program.variables.as_slice()) else {
+    let Ok(store) = Store::new(cx.alloc, start.seed, cx.program.variables.as_slice()) else {
         return Report {
             outcome: Outcome::Fault(Fault::Memory, Place { line: 0, column: 0 }),
             used: 0,
@@ -75,7 +75,7 @@ pub fn run_program<W: World>(cx: &Context<'_>, start: &Start<'_>, world: &mut W)
     let mut run = Run {
         store,
         streams: Streams::new(cx.alloc),
-        patterns: Patterns::new(cx.alloc),
+        patterns: Patterns::new(cx.alloc, start.seed),
         line: Line::new(cx.alloc),
         texts: Vec::new(cx.alloc),
     };

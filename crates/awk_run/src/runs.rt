@@ -26,6 +26,7 @@ fn start<'a>(script: &Script, setup: &'a Setup) -> Start<'a>
         assigns: setup.assigns(),
         separator: setup.separator(),
         names_environ: script.names_environ(),
+        seed: setup.seed(),
     }
 }
 

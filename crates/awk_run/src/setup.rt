@@ -3,6 +3,7 @@ ghost use Rattle.awk_run.specs.SetupParts.{ascends, first_unspelled, setup_error
 ghost use Rattle.std.specs.Option.{option_copied};
 ghost use Rattle.std.specs.Prelude.{MatchBool, MatchOption, Some, length, ◌<◌, ◌^◌, ◌≡◌};
 
+use awk_hash::Seed;
 use awk_text::octets::Octets;
 use awk_tokens::is_name;
 use std::cmp::Ordering;
@@ -11,13 +12,14 @@ use std::fmt;
 use std::marker::Model;
 
 /// What a run is started with: the operand words, the names of the environment that it may ask for,
-/// the pairs of `-v`, and the text of `-F`.
+/// the pairs of `-v`, the text of `-F`, and what its tables hash by, which no answer shows.
 #[derive(Drop)]
 pub struct Setup {
     operands: Vec<Octets>,
     names: Vec<Octets>,
     assigns: Vec<(Octets, Octets)>,
     separator: Option<Octets>,
+    seed: Seed,
 }
 
 impl Model for Setup {
@@ -94,7 +96,8 @@ fn ascends(names: &[Octets]) -> bool
 }
 
 impl Setup {
-    /// The setup of these words. Fewer than 2^32 pairs are the caller's duty. Takes no memory.
+    /// The setup of these words. Fewer than 2^32 pairs are the caller's duty. Its tables hash by a fixed seed
+    /// (`seeded`). Takes no memory.
     ///
     /// Refused as U1 where the name of a pair is not spelled as a name, and else as U2 where the names
     /// of the environment do not ascend.
@@ -133,7 +136,23 @@ impl Setup {
             names,
             assigns,
             separator,
+            seed: Seed::of(0),
         })
+    }
+
+    /// The same setup, whose tables hash by this seed: whoever writes the data and doesn't know it can't pick keys that
+    /// collide. Takes no memory.
+    pub fn seeded(self, seed: Seed) -> Setup
+        ensures { result ≡ self }
+    {
+        let mut setup = self;
+        setup.seed = seed;
+        setup
+    }
+
+    /// What the tables of the run hash by. Takes no memory.
+    pub fn seed(&self) -> Seed {
+        self.seed
     }
 
     /// The operand words, in order. Takes no memory.

@@ -18,6 +18,7 @@ ghost use Rattle.std.specs.Prelude.{List, [], codes, if◌then◌else◌, length
 ghost use Rattle.std.specs.Prelude.{◌≡◌};
 
 use awk_forms::Context;
+use awk_hash::Seed;
 use awk_input::Host;
 use awk_program::{Own, Variable};
 use awk_store::Store;
@@ -44,6 +45,8 @@ pub struct Start<'a> {
     pub separator: Option<&'a Octets>,
     /// Whether the script names ENVIRON
     pub names_environ: bool,
+    /// What the tables of the run hash by
+    pub seed: Seed,
 }
 
 /// Sets the element of ARGV with this number.

@@ -16,6 +16,7 @@ use crate::cell::{Cell, add_in, add_in_number, share_in};
 use crate::filling::{counted, fill_with};
 use crate::frame::{Bound, Reference};
 use crate::store::Store;
+use awk_hash::Seed;
 use awk_lib::array::Array;
 use awk_lib::key::Key;
 use awk_program::Variable;
@@ -48,6 +49,7 @@ fn found(cells: &[Cell], slot: usize) -> Option<&Array<Value>>
 /// Puts an array in place of the one at a slot, and answers that, or an empty one where there is no array.
 fn replace_in_cells(
     alloc: Global,
+    seed: Seed,
     cells: &mut Vec<Cell>,
     slot: usize,
     array: Array<Value>,
@@ -56,14 +58,15 @@ fn replace_in_cells(
     ensures after { cells.new.items ≡ change_at (given_array array) cells.old.items slot }
 {
     match cells.get_mut(slot) {
-        Some(cell) => cell.replace_array(alloc, array),
-        None => Array::new(alloc),
+        Some(cell) => cell.replace_array(alloc, seed, array),
+        None => Array::with_seed(alloc, seed),
     }
 }
 
 /// The same among the arrays that calls have made.
 fn replace_made(
     alloc: Global,
+    seed: Seed,
     made: &mut Vec<Array<Value>>,
     place: usize,
     array: Array<Value>,
@@ -74,7 +77,7 @@ fn replace_made(
     if place < made.len() {
         return mem::replace(&mut made[place], array);
     }
-    Array::new(alloc)
+    Array::with_seed(alloc, seed)
 }
 
 /// Fills the array at a slot with the parts. Where there is no array nothing changes.
@@ -286,16 +289,23 @@ impl Store {
         ensures value { result ≡ array_at self.old at }
         ensures after { self.new ≡ with_array at array self.old }
     {
-        let alloc = self.alloc;
+        let (alloc, seed) = (self.alloc, self.seed);
         match at {
             Reference::Shared(slot) => replace_in_cells(
                 alloc,
+                seed,
                 &mut self.cells,
                 slot as usize,
                 array,
             ),
-            Reference::Made(place) => replace_made(alloc, &mut self.made, place as usize, array),
-            Reference::Nothing => Array::new(alloc),
+            Reference::Made(place) => replace_made(
+                alloc,
+                seed,
+                &mut self.made,
+                place as usize,
+                array,
+            ),
+            Reference::Nothing => Array::with_seed(alloc, seed),
         }
     }
 
@@ -475,7 +485,7 @@ impl Store {
         ensures { self.new ≡ with_array (reference self.old name) (without (array self.old name) key.now) self.old }
     {
         let at = self.reference(name);
-        let mut elements = self.replace(at, Array::new(self.alloc));
+        let mut elements = self.replace(at, Array::with_seed(self.alloc, self.seed));
         elements.remove(key);
         self.replace(at, elements);
     }
@@ -486,7 +496,7 @@ impl Store {
         ensures { self.new ≡ with_array (reference self.old name) [] self.old }
     {
         let at = self.reference(name);
-        self.replace(at, Array::new(self.alloc));
+        self.replace(at, Array::with_seed(self.alloc, self.seed));
     }
 
     /// The keys, in the order in which they were added.
@@ -498,7 +508,7 @@ impl Store {
         ensures same { self.new ≡ self.old }
     {
         let at = self.reference(name);
-        let mut elements = self.replace(at, Array::new(self.alloc));
+        let mut elements = self.replace(at, Array::with_seed(self.alloc, self.seed));
         let result = elements.key_list();
         self.replace(at, elements);
         result

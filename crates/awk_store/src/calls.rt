@@ -5,6 +5,7 @@ ghost use Rattle.awk_store.specs.Changes.{entered, left, missing, new_arrays, un
 
 use crate::frame::{Bound, Caller, Passed, Reference};
 use crate::store::Store;
+use awk_hash::Seed;
 use awk_lib::array::Array;
 use awk_text::Memory;
 use awk_text::fault::Fault;
@@ -18,6 +19,7 @@ pub const MOST_DEPTH: u32 = 200;
 /// Adds a parameter without an argument, and the array that it is.
 fn add_missing(
     alloc: Global,
+    seed: Seed,
     frame: &mut Vec<Bound>,
     made: &mut Vec<Array<Value>>,
     is_array: bool,
@@ -33,13 +35,14 @@ fn add_missing(
         return Err(AllocError);
     };
     frame.push(Bound::Handed(Reference::Made(number)))?;
-    made.push(Array::new(alloc))?;
+    made.push(Array::with_seed(alloc, seed))?;
     Ok(())
 }
 
 /// Adds the parameters without an argument. Where memory is refused, the arrays are more than there were, or as many.
 fn add_all_missing(
     alloc: Global,
+    seed: Seed,
     frame: &mut Vec<Bound>,
     made: &mut Vec<Array<Value>>,
     others: &[bool],
@@ -49,7 +52,7 @@ fn add_all_missing(
     ensures err { OnErr result (take (length made.old.items) made.new.items ≡ made.old.items) }
 {
     for is_array in others {
-        add_missing(alloc, frame, made, *is_array)?;
+        add_missing(alloc, seed, frame, made, *is_array)?;
     }
     Ok(())
 }
@@ -96,7 +99,7 @@ impl Store {
         }
         let made = self.made.len();
         let mut frame = given;
-        if add_all_missing(self.alloc, &mut frame, &mut self.made, others).is_err() {
+        if add_all_missing(self.alloc, self.seed, &mut frame, &mut self.made, others).is_err() {
             self.made.truncate(made);
             return Err(Fault::Memory);
         }

@@ -10,6 +10,7 @@ ghost use Rattle.awk_store.specs.Changes.{Adds};
 ghost use Rattle.awk_store.specs.Filled.{Fills};
 
 use crate::filling::{counted, fill_with};
+use awk_hash::Seed;
 use awk_lib::array::Array;
 use awk_program::GlobalName;
 use awk_text::arithmetic::add;
@@ -33,12 +34,12 @@ impl Cell {
     /// A variable as it is when a run begins.
     ///
     /// Fails with `Fault::Memory` alone, where memory is refused.
-    pub(crate) fn first(alloc: Global, name: &GlobalName) -> Result<Cell, Fault>
+    pub(crate) fn first(alloc: Global, seed: Seed, name: &GlobalName) -> Result<Cell, Fault>
         ensures ok { IfOk result (λ cell. cell ≡ first_cell name.now) }
         ensures err { IsOkUnless result Fault.Memory }
     {
         if name.is_array {
-            return Ok(Cell::Array(Array::new(alloc)));
+            return Ok(Cell::Array(Array::with_seed(alloc, seed)));
         }
         Ok(Cell::Value(first_value(alloc, name.text.bytes())?))
     }
@@ -195,12 +196,17 @@ impl Cell {
 
     /// Puts an array in place of the one that it holds, and answers that. A value stays as it is, and the answer is
     /// empty.
-    pub(crate) fn replace_array(&mut self, alloc: Global, array: Array<Value>) -> Array<Value>
+    pub(crate) fn replace_array(
+        &mut self,
+        alloc: Global,
+        seed: Seed,
+        array: Array<Value>,
+    ) -> Array<Value>
         ensures value { result ≡ unwrap_or (listed (Some self.old)) [] }
         ensures after { self.new ≡ given_array array self.old }
     {
         match self {
-            Cell::Value(_) => Array::new(alloc),
+            Cell::Value(_) => Array::with_seed(alloc, seed),
             Cell::Array(old) => mem::replace(old, array),
         }
     }

@@ -10,7 +10,7 @@ use std::marker::Model;
 
 /// Which array is meant: that of a variable of the whole script, by its slot, or one that a call made; or none, where a
 /// parameter holds a value.
-#[derive(Clone, Copy, Debug, PartialEq, Eq, Drop)]
+#[derive(Clone, Copy, PartialEq, Eq, Drop)]
 pub enum Reference {
     Shared(u32),
     Made(u32),

@@ -1,7 +1,7 @@
 // The parts of a run.
 
 /// Which part of the program runs.
-#[derive(Clone, Copy, Debug, PartialEq, Eq, Drop)]
+#[derive(Clone, Copy, PartialEq, Eq, Drop)]
 pub enum Phase {
     /// The actions of BEGIN
     Beginning,

@@ -10,6 +10,7 @@ use crate::main_input::MainInput;
 use crate::phase::Phase;
 use crate::separators::Separators;
 use awk_fields::Record;
+use awk_hash::Seed;
 use awk_lib::array::Array;
 use awk_program::GlobalName;
 use awk_text::Memory;
@@ -23,6 +24,8 @@ use std::mem;
 #[derive(Drop)]
 pub struct Store {
     pub(crate) alloc: Global,
+    /// What the arrays hash by
+    pub(crate) seed: Seed,
     /// The variables of the whole script, by their slots
     pub(crate) cells: Vec<Cell>,
     /// The parameters of the present call
@@ -64,16 +67,17 @@ impl Model for Store {
 }
 
 impl Store {
-    /// What a run begins with, for a script with these variables.
+    /// What a run begins with, for a script with these variables. Its arrays hash by this seed.
     ///
     /// Fails with `Fault::Memory` alone, where memory is refused.
-    pub fn new(alloc: Global, names: &[GlobalName]) -> Result<Store, Fault>
+    pub fn new(alloc: Global, seed: Seed, names: &[GlobalName]) -> Result<Store, Fault>
         ensures ok { IfOk result (λ store. store ≡ first_kept names.now) }
         ensures err { IsOkUnless result Fault.Memory }
     {
         Ok(Store {
             alloc,
-            cells: first_cells(alloc, names)?,
+            seed,
+            cells: first_cells(alloc, seed, names)?,
             frame: Vec::new(alloc),
             depth: 0,
             made: Vec::new(alloc),
@@ -186,13 +190,13 @@ fn turn(flags: &mut Vec<bool>, at: usize, on: bool) -> Result<(), Memory>
 }
 
 /// The variables as they are when a run begins.
-fn first_cells(alloc: Global, names: &[GlobalName]) -> Result<Vec<Cell>, Fault>
+fn first_cells(alloc: Global, seed: Seed, names: &[GlobalName]) -> Result<Vec<Cell>, Fault>
     ensures ok { IfOk result (λ cells. cells.items ≡ map first_cell names.now) }
     ensures err { IsOkUnless result Fault.Memory }
 {
     let mut cells = Vec::with_capacity(alloc, names.len())?;
     for name in names {
-        cells.push(Cell::first(alloc, name)?)?;
+        cells.push(Cell::first(alloc, seed, name)?)?;
     }
     Ok(cells)
 }
