@@ -125,6 +125,7 @@ listed_below starts active items k same lt h = h.below (get_or items k 0) (subst
 
 -- `Takes` by `target_of`
 pub takes_target : (sets : List (List Bool)) (program : List Instruction) (b q r : ℕ) (x : Instruction) → slice_get program q ≡ Some x → target_of sets b x ≡ Some r → Takes sets program b q r
+unfolding target_of
 takes_target sets program b q r (Eat k to) at e =
     let f = cond_some (holds sets k b) to r e in
     record { class = k; step = subst (λ y. slice_get program q ≡ Some (Eat k y)) f.1 at; taken = f.0 }
@@ -135,6 +136,7 @@ takes_target sets program b q r Done at e = absurd (none-some r e)
 takes_target sets program b q r Hole at e = absurd (none-some r e)
 
 pub target_takes : (sets : List (List Bool)) (program : List Instruction) (b q r : ℕ) (x : Instruction) → slice_get program q ≡ Some x → Takes sets program b q r → target_of sets b x ≡ Some r
+unfolding target_of
 target_takes sets program b q r x at takes =
     let e = takes.step in
     let f : x ≡ Eat takes.class r = cc in

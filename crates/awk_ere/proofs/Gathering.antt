@@ -1,11 +1,11 @@
 -- How the states of a table are made.
-use Rattle.std.proofs.Common.{◌≡◌, ◌↔◌, ℕ, zero, suc, ◌+◌, ◌<◌, ◌≤◌, inl, inr, Bool, true, false, List, [], ◌∷◌, ◌++◌, length, get_or, map, Some, refl, sym, ◌∙◌, ap, subst, append_assoc, arith}
+use Rattle.std.proofs.Common.{◌≡◌, ◌↔◌, ℕ, zero, suc, ◌+◌, ◌<◌, ◌≤◌, inl, inr, Bool, true, false, List, [], ◌∷◌, ◌++◌, length, get_or, map, Some, None, refl, sym, ◌∙◌, ap, subst, append_assoc, arith}
 use Rattle.std.proofs.Math.ListN.{get_or-eq_default, set, length-append}
 use Rattle.std.specs.List.{slice_get, Contains}
 use Rattle.std.proofs.lemmas.Bool.{cases_lt, cases_eq}
 use Rattle.std.proofs.lemmas.List.{get_or_default, get_or-set_same, get_or-set_other}
 use Rattle.std.proofs.lemmas.List.Elements.{Contains-append_left, Contains-push, Contains-push_cases, Contains-get_or}
-use Rattle.std.proofs.lemmas.Option.{slice_get_within}
+use Rattle.std.proofs.lemmas.Option.{slice_get_within, none-some}
 use Rattle.awk_ere.specs.Program.{Skips, left, right, at_start, at_end, IsSound}
 use Rattle.awk_ere.specs.Search.{mark, target_of, IsClosed, IsBlank, LeadsTo, Reaches, Takes}
 use Rattle.awk_ere.specs.Table.{steps_of, cell, Gains, LeadsMore, IsLed, AreLed, AreMarked, AreTargets, IsCell, Later, IsNumber, IsKnown, AreEdges, AreRows, AreFlags, EndsAtLast, IsFirst, IsBegin, IsDead, IsTable}
@@ -45,6 +45,16 @@ module _ (P : ℕ → ℕ → Type 0) where
       | inr ne ↦ (gains p).1 (inl ((h p).1 (one.0, omega (arith, one.1), one.2)))
     ]),
   )
+
+-- a step that goes nowhere over the byte adds nothing, and one that goes on adds where it goes
+module _ (sets : List (List Bool)) (program : List Instruction) (b q : ℕ) (x : Instruction) where
+  pub gained_nowhere : (list : List ℕ) → slice_get program q ≡ Some x → target_of sets b x ≡ None → Gains (Takes sets program b q) list list
+  gained_nowhere list at is = gained_none (Takes sets program b q) list (λ r takes. none-some r (sym is ∙ target_takes sets program b q r x at takes))
+
+  pub gained_there : (r : ℕ) (old new : List ℕ) → slice_get program q ≡ Some x → target_of sets b x ≡ Some r → new ≡ old ++ r ∷ [] → Gains (Takes sets program b q) old new
+  gained_there r old new at is more =
+      subst (λ list. Gains (Takes sets program b q) old list) (sym more) (gained_one (Takes sets program b q) old r (takes_target sets program b q r x at is)
+      (λ p takes. let e = sym is ∙ target_takes sets program b q p x at takes in cc))
 
 -- targets
 module _ (sets : List (List Bool)) (program : List Instruction) (b : ℕ) (list : List ℕ) where

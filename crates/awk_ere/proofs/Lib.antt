@@ -19,7 +19,7 @@ pub mod Tables
 pub mod Beginnings
 pub mod Gathering
 pub mod Seeking
-pub mod Hoping
+pub mod Ending
 pub mod Meeting
 pub mod Literals
 pub mod Images

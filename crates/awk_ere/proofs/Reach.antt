@@ -25,7 +25,7 @@ one_of_two a b r (suc zero, lt, is) = inr is
 one_of_two a b r (suc (suc k), lt, is) = absurd (omega arith)
 
 module _ (program : List Instruction) (first last : Bool) (q r : ℕ) where
-  targets_skips : (x : Instruction) → slice_get program q ≡ Some x → Contains (targets first last x) r → Skips program first last q r
+  pub targets_skips : (x : Instruction) → slice_get program q ≡ Some x → Contains (targets first last x) r → Skips program first last q r
   targets_skips (Fork a b) at h = elim (one_of_two b a r h) [
     | inl is ↦ right a (subst (λ y. slice_get program q ≡ Some (Fork a y)) is at)
     | inr is ↦ left b (subst (λ y. slice_get program q ≡ Some (Fork y b)) is at)
@@ -42,7 +42,7 @@ module _ (program : List Instruction) (first last : Bool) (q r : ℕ) where
   targets_skips Done at h = absurd (not_in_none r h)
   targets_skips Hole at h = absurd (not_in_none r h)
 
-  skips_targets : (x : Instruction) → slice_get program q ≡ Some x → Skips program first last q r → Contains (targets first last x) r
+  pub skips_targets : (x : Instruction) → slice_get program q ≡ Some x → Skips program first last q r → Contains (targets first last x) r
   skips_targets x at (left other h) =
       let same : x ≡ Fork r other = cc in subst (λ y. Contains (targets first last y) r) (sym same) (1, omega arith, refl)
   skips_targets x at (right other h) =

@@ -1,5 +1,6 @@
 pub mod Pattern
 pub mod Best
+pub mod Ends
 pub mod Escape
 pub mod Interval
 pub mod Bracket
@@ -14,7 +15,6 @@ pub mod Search
 pub mod Runs
 pub mod Table
 pub mod Matcher
-pub mod Hopes
 pub mod Lazy
 pub mod Literal
 pub mod View

@@ -59,7 +59,7 @@ pub record Advances (sets : List (List Bool)) (program : List Instruction) (b : 
   pub complete : (p r : ℕ) → mark starts p ≤ cap → Takes sets program b p r → mark new r ≤ mark starts p
 
 -- where a step goes over the byte
-abbrev pub target_of : List (List Bool) → ℕ → Instruction → Option ℕ
+unfoldable pub target_of : List (List Bool) → ℕ → Instruction → Option ℕ
 target_of sets b (Eat k r) = if holds sets k b then Some r else None
 target_of sets b (Fork x y) = None
 target_of sets b (AtStart r) = None

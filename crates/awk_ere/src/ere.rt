@@ -5,8 +5,8 @@ ghost use Rattle.awk_ere.specs.Matcher.{StandsFor};
 ghost use Rattle.awk_ere.specs.Pattern.{Pattern};
 ghost use Rattle.awk_ere.specs.Spelled.{IsPattern, IsAccepted, IsRefused, Finds, HasMatch, code_of};
 
+use crate::ends::best_by;
 use crate::error::{EreError, EreFault};
-use crate::hopes::{Hopes, no_hopes};
 use crate::lazy::Lazy;
 use crate::literal::Literal;
 use crate::read::read_within;
@@ -111,7 +111,8 @@ impl Ere {
     fn is_match_left(&self, text: &[u8]) -> Result<bool, Memory>
         ensures { IfOk result (λ b. HasMatch self.now text.now b) }
     {
-        match self.has_match_from(text, 0)? {
+        let mut read = 0;
+        match self.has_match_from(text, 0, &mut read)? {
             Some(has_match) => Ok(has_match),
             None => {
                 let found = self.find(text, 0)?;
@@ -121,11 +122,16 @@ impl Ere {
     }
 
     /// The end of the longest match from the place, if there is one, by the states that are made as they are met;
-    /// `None` where that is too much work.
+    /// `None` where that is too much work. Else `read` is how many bytes were read.
     ///
     /// Errors: `Memory` where memory is refused.
     #[inline(never)]
-    fn longest_from(&self, text: &[u8], from: usize) -> Result<Option<Option<usize>>, Memory>
+    fn longest_from(
+        &self,
+        text: &[u8],
+        from: usize,
+        read: &mut usize,
+    ) -> Result<Option<Option<usize>>, Memory>
         requires { from ≤ length text.now }
         ensures { IfOk result (λ r. IfSome r (λ found. LongestFrom self.now text.now from found)) }
     {
@@ -137,17 +143,22 @@ impl Ere {
         };
         let lazy = &mut *lazy;
         match ready(&self.matcher, &self.source, lazy)? {
-            Some(lazy) => lazy.longest(text, from),
+            Some(lazy) => lazy.longest(text, from, read),
             None => Ok(None),
         }
     }
 
     /// Whether a match starts at the place or later, by the states that are made as they are met; `None` where that
-    /// is too much work.
+    /// is too much work. Else `read` is how many bytes were read.
     ///
     /// Errors: `Memory` where memory is refused.
     #[inline(never)]
-    fn has_match_from(&self, text: &[u8], from: usize) -> Result<Option<bool>, Memory>
+    fn has_match_from(
+        &self,
+        text: &[u8],
+        from: usize,
+        read: &mut usize,
+    ) -> Result<Option<bool>, Memory>
         requires { from ≤ length text.now }
         ensures { IfOk result (λ r. IfSome r (λ b. HasMatchFrom self.now text.now from b)) }
     {
@@ -159,7 +170,7 @@ impl Ere {
         };
         let lazy = &mut *lazy;
         match ready(&self.matcher, &self.source, lazy)? {
-            Some(lazy) => lazy.has_match(text, from),
+            Some(lazy) => lazy.has_match(text, from, read),
             None => Ok(None),
         }
     }
@@ -186,9 +197,12 @@ fn ready<'a>(
 /// How many starts are tried by the states that are made as they are met, before the program goes on alone.
 const LAZY_TRIES: usize = 16;
 
-/// Searches of one text by one pattern, one after the other. What they read past the matches that they find is bounded
-/// for all together, so that they take time linear in the text (by design; time is not proved). Contracts see the
-/// pattern's text and the text that is searched.
+/// What a byte costs of the budget that such states read: a look at a table costs one.
+const LAZY_COST: usize = 4;
+
+/// Searches of one text by one pattern, one after the other. What they read is bounded for all together, and after that
+/// the text is read backwards once and no more: so they take time linear in the text (by design; time is not proved).
+/// Contracts see the pattern's text and the text that is searched.
 #[derive(Drop)]
 pub struct Searches<'a> {
     ere: &'a Ere,
@@ -196,7 +210,8 @@ pub struct Searches<'a> {
     text: &'a [u8],
     /// How many bytes may still be looked at before the text is read backwards.
     budget: usize,
-    hopes: Hopes,
+    /// The ends of the longest matches, once the text was read backwards.
+    ends: Option<Vec<u32>>,
 }
 
 impl<'a> Model for Searches<'a> {
@@ -204,27 +219,28 @@ impl<'a> Model for Searches<'a> {
     ghost use Rattle.awk_ere.specs.Pattern.{Pattern};
     ghost use Rattle.awk_ere.specs.Matcher.{StandsFor};
     ghost use Rattle.awk_ere.specs.Spelled.{IsPattern};
-    ghost use Rattle.awk_ere.specs.Hopes.{AreHopes};
+    ghost use Rattle.awk_ere.specs.Ends.{AreFarthest};
+    ghost use Rattle.std.specs.Prelude.{IfSome};
 
     ghost Value = { List ℕ × List ℕ };
 
     ghost view = { λ s. (s.ere.now, s.text.now) };
 
     ghost invariant = { λ s. (p : Pattern) × IsPattern s.ere.now p × StandsFor s.matcher.now p
-        × AreHopes s.matcher.now.table s.text.now s.hopes };
+        × IfSome s.ends (λ ends. AreFarthest s.matcher.now.sets s.matcher.now.program s.text.now s.matcher.now.entry
+        ends.items) };
 }
 
 impl<'a> Searches<'a> {
     pub fn new(ere: &'a Ere, text: &'a [u8]) -> Searches<'a>
         ensures { result ≡ (ere.now, text.now) }
     {
-        let alloc = *ere.source.allocator();
         Searches {
             ere,
             matcher: &ere.matcher,
             text,
             budget: ere.matcher.whole_budget(text),
-            hopes: no_hopes(alloc),
+            ends: None,
         }
     }
 
@@ -255,17 +271,18 @@ impl<'a> Searches<'a> {
         ensures found { IfOk result (λ found. Finds self.old.0 self.old.1 from found) }
         ensures same { self.new ≡ self.old }
     {
-        if self.budget == 0 {
-            return self.find_read(from);
-        }
-        match self.find_lazily(from)? {
+        let mut budget = self.budget;
+        let sought = self.find_lazily(from, &mut budget)?;
+        self.budget = budget;
+        match sought {
             Sought::Match(start, end) => Ok(Some((start, end))),
             Sought::NoMatch => Ok(None),
             Sought::Left(start) => self.find_read(start),
         }
     }
 
-    /// The best match from the place on, by what the text read backwards shows, or by the program alone.
+    /// The best match from the place on, by the program alone, which reads slowly and so does it once, and after that by
+    /// the ends that the text shows read backwards.
     ///
     /// Errors: `Memory` where memory is refused.
     fn find_read(&mut self, from: usize) -> Result<Option<(usize, usize)>, Memory>
@@ -273,33 +290,52 @@ impl<'a> Searches<'a> {
         ensures found { IfOk result (λ found. Finds self.old.0 self.old.1 from found) }
         ensures same { self.new ≡ self.old }
     {
-        self.matcher
-            .find_left(self.text, from, self.budget, &mut self.hopes)
+        if let Some(ends) = &self.ends {
+            return Ok(best_by(ends, self.text, from));
+        }
+        if self.budget > 0 {
+            self.budget = 0;
+            return self.matcher.search(self.text, from);
+        }
+        match self.matcher.farthest(self.text)? {
+            None => self.matcher.search(self.text, from),
+            Some(ends) => {
+                let found = best_by(&ends, self.text, from);
+                self.ends = Some(ends);
+                Ok(found)
+            }
+        }
     }
 
-    /// The best match from the place on, as far as the states tell it that are made as they are met: some starts are
-    /// tried in turn, once the first one has failed only where there is any match.
+    /// The best match from the place on, as far as the states tell it that are made as they are met, and the budget
+    /// lasts: some starts are tried in turn, once the first one has failed only where there is any match.
     ///
     /// Errors: `Memory` where memory is refused.
-    fn find_lazily(&self, from: usize) -> Result<Sought, Memory>
+    fn find_lazily(&self, from: usize, budget: &mut usize) -> Result<Sought, Memory>
         requires { from ≤ length self.now.1 }
         ensures { IfOk result (λ sought. IsSoughtFor self.now.0 self.now.1 from sought) }
     {
         let mut at = from;
         for tried in 0..LAZY_TRIES {
             let start = self.matcher.first_start(self.text, at);
-            if start == self.text.len() {
+            if start == self.text.len() || *budget == 0 {
                 return Ok(Sought::Left(start));
             }
-            match self.ere.longest_from(self.text, start)? {
+            let mut read = 0;
+            let longest = self.ere.longest_from(self.text, start, &mut read)?;
+            *budget = budget.saturating_sub(read.saturating_mul(LAZY_COST));
+            match longest {
                 None => return Ok(Sought::Left(start)),
                 Some(Some(end)) => return Ok(Sought::Match(start, end)),
                 Some(None) => {}
             }
-            if tried == 0
-                && let Some(false) = self.ere.has_match_from(self.text, start)?
-            {
-                return Ok(Sought::NoMatch);
+            if tried == 0 {
+                let mut read = 0;
+                let any = self.ere.has_match_from(self.text, start, &mut read)?;
+                *budget = budget.saturating_sub(read.saturating_mul(LAZY_COST));
+                if let Some(false) = any {
+                    return Ok(Sought::NoMatch);
+                }
             }
             at = start + 1;
         }

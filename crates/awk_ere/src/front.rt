@@ -43,7 +43,7 @@ fn sign(is_open: bool, may_repeat: bool, byte: u8) -> Token
 }
 
 /// What a byte leads: a bracket expression, an escape, what may be an interval, or itself.
-#[derive(Clone, Copy, Debug, PartialEq, Eq)]
+#[derive(Clone, Copy, PartialEq, Eq)]
 pub enum Lead {
     Bracket,
     Escape,

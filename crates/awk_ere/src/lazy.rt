@@ -247,12 +247,14 @@ impl<'a> Machine<'a> {
         }
     }
 
-    /// Whether what begins at the step and the place ends anywhere; `None` where that is too much work.
+    /// Whether what begins at the step and the place ends anywhere; `None` where that is too much work. Tells how many
+    /// bytes were read.
     fn ends_somewhere(
         &self,
         met: &mut Met,
         text: &[u8],
         from: usize,
+        read: &mut usize,
     ) -> Result<Option<bool>, AllocError>
         requires sound { IsSound self.now.program.now }
         requires step { self.now.step < length self.now.program.now }
@@ -265,6 +267,7 @@ impl<'a> Machine<'a> {
         let mut state = self.begin(met, from == 0)?;
         for place in from..text.len() {
             if met.rows.accepts[state] {
+                *read = place - from;
                 return Ok(Some(true));
             }
             match self.next(met, state, text[place])? {
@@ -272,15 +275,18 @@ impl<'a> Machine<'a> {
                 Some(next) => state = next,
             }
         }
+        *read = text.len() - from;
         Ok(Some(met.rows.ends[state]))
     }
 
-    /// The end of the longest match from the place, if there is one; `None` where that is too much work.
+    /// The end of the longest match from the place, if there is one; `None` where that is too much work. Tells how many
+    /// bytes were read.
     fn longest(
         &self,
         met: &mut Met,
         text: &[u8],
         from: usize,
+        read: &mut usize,
     ) -> Result<Option<Option<usize>>, AllocError>
         requires sound { IsSound self.now.program.now }
         requires step { self.now.step < length self.now.program.now }
@@ -299,9 +305,11 @@ impl<'a> Machine<'a> {
                 Some(next) => state = next,
             }
             if met.lists.list(state).is_empty() {
+                *read = place - from;
                 return Ok(Some(best));
             }
         }
+        *read = text.len() - from;
         Ok(Some(noted(met.rows.ends[state], text.len(), best)))
     }
 }
@@ -396,10 +404,16 @@ impl Lazy {
         self.source.as_slice() == source
     }
 
-    /// The end of the longest match from the place, if there is one; `None` where that is too much work.
+    /// The end of the longest match from the place, if there is one; `None` where that is too much work. Else `read` is
+    /// how many bytes were read.
     ///
     /// Errors: `Memory` where memory is refused; the states are dropped then.
-    pub fn longest(&mut self, text: &[u8], from: usize) -> Result<Option<Option<usize>>, Memory>
+    pub fn longest(
+        &mut self,
+        text: &[u8],
+        from: usize,
+        read: &mut usize,
+    ) -> Result<Option<Option<usize>>, Memory>
         requires { from < length text.now }
         ensures longest { IfOk result (λ r. IfSome r (λ found. LongestFrom self.old text.now from found)) }
         ensures same { self.new ≡ self.old }
@@ -413,15 +427,21 @@ impl Lazy {
             program: &self.program,
             step: self.entry,
         };
-        let found = machine.longest(&mut met, text, from)?;
+        let found = machine.longest(&mut met, text, from, read)?;
         self.here = met;
         Ok(found)
     }
 
-    /// Whether a match starts at the place or later; `None` where that is too much work.
+    /// Whether a match starts at the place or later; `None` where that is too much work. Else `read` is how many bytes
+    /// were read.
     ///
     /// Errors: `Memory` where memory is refused; the states are dropped then.
-    pub fn has_match(&mut self, text: &[u8], from: usize) -> Result<Option<bool>, Memory>
+    pub fn has_match(
+        &mut self,
+        text: &[u8],
+        from: usize,
+        read: &mut usize,
+    ) -> Result<Option<bool>, Memory>
         requires { from < length text.now }
         ensures found { IfOk result (λ r. IfSome r (λ b. HasMatchFrom self.old text.now from b)) }
         ensures same { self.new ≡ self.old }
@@ -435,7 +455,7 @@ impl Lazy {
             program: &self.program,
             step: self.scan,
         };
-        let found = machine.ends_somewhere(&mut met, text, from)?;
+        let found = machine.ends_somewhere(&mut met, text, from, read)?;
         self.ahead = met;
         Ok(found)
     }

@@ -3,12 +3,12 @@
 
 mod bracket;
 mod compile;
+mod ends;
 pub mod ere;
 pub mod error;
 mod escape;
 mod front;
 mod heads;
-mod hopes;
 mod interval;
 pub mod laws;
 mod lazy;

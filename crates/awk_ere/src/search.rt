@@ -153,6 +153,7 @@ pub fn reach(
 }
 
 /// Where a step goes over the byte.
+#[tactic(auto, unfolding(crate::specs::Search::target_of))]
 pub fn target(sets: &[Set], step: Instruction, byte: u8) -> Option<usize>
     ensures { result ≡ target_of sets.now byte step }
 {

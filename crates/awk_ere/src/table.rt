@@ -1,7 +1,7 @@
 // The search by a table.
 ghost use Rattle.std.specs.Prelude.{◌≡◌, ◌≢◌, ◌==◌, ◌↔◌, ◌<◌, ◌≤◌, length, IfOk, IfSome, IsTrue, slice_index};
 ghost use Rattle.std.specs.Prelude.{if◌then◌else◌};
-ghost use Rattle.awk_ere.specs.Hopes.{AreHopes};
+ghost use Rattle.awk_ere.specs.Ends.{AreFarthest};
 ghost use Rattle.awk_ere.specs.Matcher.{BeginsIn, EndsFrom, Finds, IsAnchored, IsLater, IsLongest, IsSought, NoneTo};
 ghost use Rattle.awk_ere.specs.Matcher.{StandsFor, StartsAt, StartsFrom};
 ghost use Rattle.awk_ere.specs.Pattern.{Pattern};
@@ -11,8 +11,8 @@ ghost use Rattle.awk_ere.specs.View.{pattern};
 
 use crate::bracket::Set;
 use crate::compile::{compile, compile_scan};
+use crate::ends::farthest;
 use crate::heads::{LANES, is_open, next_head};
-use crate::hopes::{Hopes, is_hopeless, kept_rows};
 use crate::lazy::Lazy;
 use crate::node::Node;
 use crate::program::Instruction;
@@ -22,11 +22,11 @@ use awk_text::Memory;
 use std::alloc::Global;
 use std::marker::Model;
 
-/// How many bytes may be looked at for each byte of the text, by searches that find nothing.
+/// How many bytes may be looked at for each byte of the text, before it is read backwards.
 const BUDGET: usize = 4;
 
-/// A byte more for so many states: to read the text backwards takes a look at each state for each byte.
-const STATES_A_BYTE: usize = 8;
+/// A byte more for so many steps: to read the text backwards takes a look at each step for each byte.
+const STEPS_A_BYTE: usize = 8;
 
 /// How many bytes may be looked at so before it is asked whether there is any match.
 const FIRST_BUDGET: usize = 64;
@@ -171,7 +171,7 @@ impl Matcher {
 
     /// How many bytes the searches of a text may look at.
     pub fn whole_budget(&self, text: &[u8]) -> usize {
-        let each = BUDGET.max(self.table.cells.len() / STATES_A_BYTE);
+        let each = BUDGET.max(self.program.len() / STEPS_A_BYTE);
         text.len().saturating_mul(each).saturating_add(FIRST_BUDGET)
     }
 
@@ -218,6 +218,7 @@ impl Matcher {
             }
             state = next as usize;
             if state >= cells.len() {
+                *budget = budget.saturating_sub(place - from);
                 return None;
             }
         }
@@ -470,111 +471,16 @@ impl Matcher {
         }
     }
 
-    /// The end of the longest match from the place, if there is one, where nothing is read past it; `None` where the
-    /// table does not say.
-    fn longest_by(
-        &self,
-        text: &[u8],
-        from: usize,
-        hopes: &mut Hopes,
-    ) -> Result<Option<Option<usize>>, Memory>
-        requires from { from < length text.now }
-        requires hopes { AreHopes self.now.table text.now hopes.old }
-        ensures hopes { AreHopes self.now.table text.now hopes.new }
-        ensures longest { IfOk result (λ r. IfSome r (λ found. IsLongest self.now text.now from found)) }
-    {
-        let Some(first) = self.entry_state(from) else {
-            return Ok(None);
-        };
-        let (cells, accepts) = (self.table.cells.as_slice(), self.table.accepts.as_slice());
-        let ends = self.table.ends.as_slice();
-        let mut state = first;
-        let mut best = None;
-        for place in from..text.len() {
-            if is_hopeless(&self.table, text, text.len() - place, state, hopes)? {
-                return Ok(Some(best));
-            }
-            best = noted(accepts[state], place, best);
-            state = cells[state][text[place] as usize] as usize;
-            if state >= cells.len() {
-                return Ok(None);
-            }
-        }
-        Ok(Some(noted(ends[state], text.len(), best)))
-    }
-
-    /// The best match from the place on: each start in turn, where nothing is read past what is found.
-    fn leftmost_by(&self, text: &[u8], from: usize, hopes: &mut Hopes) -> Result<Sought, Memory>
-        requires from { from ≤ length text.now }
-        requires hopes { AreHopes self.now.table text.now hopes.old }
-        ensures hopes { AreHopes self.now.table text.now hopes.new }
-        ensures sought { IfOk result (λ r. IsSought self.now text.now from r) }
-    {
-        let mut at = from;
-        while at < text.len() {
-            let start = self.first_start(text, at);
-            if start == text.len() {
-                return Ok(self.find_at_end(text));
-            }
-            match self.longest_by(text, start, hopes)? {
-                None => return Ok(Sought::Left(start)),
-                Some(Some(end)) => return Ok(Sought::Match(start, end)),
-                Some(None) => {}
-            }
-            at = start + 1;
-        }
-        Ok(self.find_at_end(text))
-    }
-
-    /// The best match from the place on, where searches before it have cost the whole budget of the text.
-    #[inline(never)]
-    fn find_by(&self, text: &[u8], from: usize, hopes: &mut Hopes) -> Result<Sought, Memory>
-        requires from { from ≤ length text.now }
-        requires hopes { AreHopes self.now.table text.now hopes.old }
-        ensures hopes { AreHopes self.now.table text.now hopes.new }
-        ensures sought { IfOk result (λ r. IsSought self.now text.now from r) }
-    {
-        if !hopes.kept.is_empty() {
-            return self.leftmost_by(text, from, hopes);
-        }
-        match self.has_start(text, from) {
-            Some(false) => Ok(Sought::NoMatch),
-            Some(true) | None => {
-                let alloc = *self.program.allocator();
-                hopes.kept = kept_rows(alloc, &self.table, text)?;
-                self.leftmost_by(text, from, hopes)
-            }
-        }
-    }
-
-    /// The best match from the place on, where the table says no more, or not within the budget, of which this is left.
-    /// What the text read backwards shows is kept in `hopes`.
+    /// For each place one more than the end of the longest match from there, or 0; `None` where the text is too long for
+    /// that. A look at each step of the program is taken for each byte.
     ///
     /// Errors: `Memory` where memory is refused.
-    #[inline(never)]
-    pub fn find_left(
-        &self,
-        text: &[u8],
-        from: usize,
-        budget: usize,
-        hopes: &mut Hopes,
-    ) -> Result<Option<(usize, usize)>, Memory>
-        requires from { from ≤ length text.now }
-        requires hopes { AreHopes self.now.table text.now hopes.old }
-        ensures hopes { AreHopes self.now.table text.now hopes.new }
-        ensures found { IfOk result (λ found. Finds self.now text.now from found) }
+    pub fn farthest(&self, text: &[u8]) -> Result<Option<Vec<u32>>, Memory>
+        ensures { IfOk result (λ r. IfSome r (λ ends. AreFarthest self.now.sets self.now.program text.now self.now.entry
+            ends.items)) }
     {
-        if budget > 0 {
-            return self.search(text, from);
-        }
-        match self.find_by(text, from, hopes)? {
-            Sought::Match(start, end) => Ok(Some((start, end))),
-            Sought::NoMatch => Ok(None),
-            Sought::Left(start) => {
-                let found = self.search(text, start)?;
-                Ok(found)
-            }
-        }
+        let alloc = *self.program.allocator();
+        farthest(alloc, &self.sets, &self.program, text, self.entry)
     }
 
     /// The best match from the place on, by the program alone.

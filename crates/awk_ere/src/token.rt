@@ -5,7 +5,7 @@ ghost use Rattle.awk_ere.specs.Program.{holds};
 use crate::bracket::Set;
 
 /// The bytes that an atom takes.
-#[derive(Clone, Copy, Debug, PartialEq, Eq)]
+#[derive(Clone, Copy, PartialEq, Eq)]
 pub enum Class {
     /// This byte.
     One(u8),
@@ -16,7 +16,7 @@ pub enum Class {
 }
 
 /// How often something is repeated, and what that multiplies its size by.
-#[derive(Clone, Copy, Debug, PartialEq, Eq)]
+#[derive(Clone, Copy, PartialEq, Eq)]
 pub struct Times {
     pub least: u16,
     /// How many more at most; no bound where it is `None`.
@@ -24,7 +24,7 @@ pub struct Times {
     pub factor: u16,
 }
 
-#[derive(Clone, Copy, Debug, PartialEq, Eq)]
+#[derive(Clone, Copy, PartialEq, Eq)]
 pub enum Token {
     Atom(Class),
     Start,

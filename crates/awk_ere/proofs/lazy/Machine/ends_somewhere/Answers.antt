@@ -1,5 +1,5 @@
-use Rattle.std.proofs.Common.{◌+◌, ◌≤◌, ◌<◌, length, refl, sym, subst, arith}
-use Rattle.awk_ere.specs.Table.{IsFront, steps_of}
+use Rattle.std.proofs.Common.{◌≤◌, ◌<◌, length, refl, sym, subst, arith}
+use Rattle.awk_ere.specs.Table.{IsFront}
 use Rattle.awk_ere.proofs.Gathering.{later_steps}
 use Rattle.awk_ere.proofs.Meeting.{flag_at}
 use Rattle.awk_ere.proofs.Tables.{at_first, longest_begin, front_step, front_pass, front_accept, front_finish}

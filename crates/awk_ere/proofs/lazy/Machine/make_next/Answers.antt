@@ -1,6 +1,3 @@
-use Rattle.std.proofs.Common.{sym, subst}
-use Rattle.awk_ere.specs.Table.{IsCell}
-use Rattle.awk_ere.proofs.Gathering.{later_steps, later_length}
 use Rattle.awk_ere.proofs.Meeting.{rows_set, cell_of}
 use Rattle.awk_ere.proofs.lazy.Machine.make_next.Goals as goal
 
