@@ -13,7 +13,7 @@ use awk_text::numeral::leading_digits;
 const MOST_COLUMNS: u64 = 65_535;
 
 /// The flags of a conversion specification.
-#[derive(Clone, Copy, Debug, PartialEq, Eq, Drop)]
+#[derive(Clone, Copy, PartialEq, Eq, Drop)]
 pub struct Flags {
     /// `-`: the fill is on the right.
     pub left: bool,
@@ -50,7 +50,7 @@ impl Flags {
 }
 
 /// What a conversion specification makes of its value.
-#[derive(Clone, Copy, Debug, PartialEq, Eq, Drop)]
+#[derive(Clone, Copy, PartialEq, Eq, Drop)]
 pub enum Conversion {
     /// `d` and `i`.
     Signed,
@@ -69,7 +69,7 @@ pub enum Conversion {
 }
 
 /// A conversion specification. POSIX.1-2017, XBD 5, "File Format Notation".
-#[derive(Clone, Copy, Debug, PartialEq, Eq, Drop)]
+#[derive(Clone, Copy, PartialEq, Eq, Drop)]
 pub struct Directive {
     pub flags: Flags,
     /// The least number of bytes of the field.

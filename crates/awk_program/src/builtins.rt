@@ -4,7 +4,7 @@ ghost use Rattle.std.specs.Prelude.{◌≡◌};
 ghost use Rattle.awk_program.specs.Builtins.{word_of};
 
 /// A built-in function whose arguments are plain values. Those that take a pattern or an array have forms of their own.
-#[derive(Clone, Copy, Debug, PartialEq, Eq, Drop)]
+#[derive(Clone, Copy, PartialEq, Eq, Drop)]
 pub enum Builtin {
     Close,
     Fflush,

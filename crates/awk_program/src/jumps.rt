@@ -6,7 +6,7 @@ ghost use Rattle.awk_program.specs.Jumps.{place_of, word_of};
 use awk_text::place::Place;
 
 /// A statement that is a word alone, with its place where a fault names it.
-#[derive(Clone, Copy, Debug, PartialEq, Eq, Drop)]
+#[derive(Clone, Copy, PartialEq, Eq, Drop)]
 pub enum Jump {
     Break,
     Continue,

@@ -1,7 +1,7 @@
 // What the signs and words of an expression do.
 
 /// `+`, `-`, `*`, `/`, `%` and `^`.
-#[derive(Clone, Copy, Debug, PartialEq, Eq, Drop)]
+#[derive(Clone, Copy, PartialEq, Eq, Drop)]
 pub enum Operator {
     Add,
     Subtract,
@@ -12,7 +12,7 @@ pub enum Operator {
 }
 
 /// The six comparisons.
-#[derive(Clone, Copy, Debug, PartialEq, Eq, Drop)]
+#[derive(Clone, Copy, PartialEq, Eq, Drop)]
 pub enum Comparison {
     Less,
     LessOrEqual,
@@ -23,35 +23,35 @@ pub enum Comparison {
 }
 
 /// `+` and `-` before an operand.
-#[derive(Clone, Copy, Debug, PartialEq, Eq, Drop)]
+#[derive(Clone, Copy, PartialEq, Eq, Drop)]
 pub enum Sign {
     Plus,
     Minus,
 }
 
 /// `++` and `--`.
-#[derive(Clone, Copy, Debug, PartialEq, Eq, Drop)]
+#[derive(Clone, Copy, PartialEq, Eq, Drop)]
 pub enum Step {
     Increment,
     Decrement,
 }
 
 /// Which number a step gives: the one from before it, as `x++`, or the one from behind it, as `++x`.
-#[derive(Clone, Copy, Debug, PartialEq, Eq, Drop)]
+#[derive(Clone, Copy, PartialEq, Eq, Drop)]
 pub enum StepValue {
     Before,
     Behind,
 }
 
 /// How many matches are replaced: the first one, as by sub, or all, as by gsub.
-#[derive(Clone, Copy, Debug, PartialEq, Eq, Drop)]
+#[derive(Clone, Copy, PartialEq, Eq, Drop)]
 pub enum Extent {
     First,
     All,
 }
 
 /// Where output goes.
-#[derive(Clone, Copy, Debug, PartialEq, Eq, Drop)]
+#[derive(Clone, Copy, PartialEq, Eq, Drop)]
 pub enum Redirect {
     /// `>`
     Write,

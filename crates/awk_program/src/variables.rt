@@ -4,14 +4,14 @@ ghost use Rattle.std.specs.Prelude.{◌≡◌};
 ghost use Rattle.awk_program.specs.Slots.{slot_of};
 
 /// Where a variable is kept: among those of the whole script, or among the parameters of its function.
-#[derive(Clone, Copy, Debug, PartialEq, Eq, Drop)]
+#[derive(Clone, Copy, PartialEq, Eq, Drop)]
 pub enum Variable {
     Global(u32),
     Parameter(u32),
 }
 
 /// The variables that awk itself has.
-#[derive(Clone, Copy, Debug, PartialEq, Eq, Drop)]
+#[derive(Clone, Copy, PartialEq, Eq, Drop)]
 pub enum Own {
     Argc,
     Convfmt,

@@ -19,7 +19,7 @@ abbrev pub octal_value : List ℕ → ℕ
 octal_value digits = fold (λ n d. n * 8 + (d - 48)) 0 digits
 
 -- the byte that a letter or a sign after `\` stands for: `\"`, `\/`, `\\`, `\a`, `\b`, `\f`, `\n`, `\r`, `\t`, `\v`
-abbrev pub escaped_byte : ℕ → Option ℕ
+unfoldable pub escaped_byte : ℕ → Option ℕ
 escaped_byte b =
     if b == 0x22 then Some 0x22 else (if b == 0x2F then Some 0x2F else (if b == 0x5C then Some 0x5C else (
     if b == 0x61 then Some 7 else (if b == 0x62 then Some 8 else (if b == 0x66 then Some 12 else (
@@ -27,12 +27,12 @@ escaped_byte b =
     if b == 0x76 then Some 11 else None)))))))))
 
 -- a byte that has no escape stays, with its `\`
-abbrev pub one_byte : ℕ → Option ℕ → Escape
+unfoldable pub one_byte : ℕ → Option ℕ → Escape
 one_byte b (Some byte) = record { text = byte ∷ []; taken = 1 }
 one_byte b None = record { text = 0x5C ∷ b ∷ []; taken = 1 }
 
 -- the escape whose `\` stands before this text: `\` and a newline is nothing, and a `\` at the end stays
-abbrev pub escape_of : List ℕ → Escape
+unfoldable pub escape_of : List ℕ → Escape
 escape_of [] = record { text = 0x5C ∷ []; taken = 0 }
 escape_of (b ∷ bs) =
     if is_octal b then record

@@ -11,7 +11,7 @@ abbrev pub is_plain : ℕ → Bool
 is_plain b = nat_le 0x20 b && nat_le b 0x7E && not (b == 0x22) && not (b == 0x5C)
 
 -- a byte as itself where it is plain, else as `\xHH`
-abbrev pub quoted_byte : ℕ → List ℕ
+unfoldable pub quoted_byte : ℕ → List ℕ
 quoted_byte b = if is_plain b then b ∷ [] else 0x5C ∷ 0x78 ∷ hex_digit (b / 16) ∷ hex_digit (b % 16) ∷ []
 
 -- each byte in its turn

@@ -6,6 +6,7 @@ use crate::Memory;
 use crate::fault::Fault;
 use std::alloc::Global;
 
+#[tactic(auto, unfolding(crate::specs::Escapes::escaped_byte))]
 fn escaped_byte(b: u8) -> Option<u8>
     ensures { result ≡ escaped_byte b }
 {
@@ -47,6 +48,7 @@ fn octal(text: &[u8]) -> (usize, u8)
 
 /// Appends what the escape stands for whose `\` stands before this text, and gives the number of
 /// bytes that it takes of the text.
+#[tactic(auto, unfolding(crate::specs::Escapes::escape_of, crate::specs::Escapes::one_byte))]
 fn push_escape(out: &mut Vec<u8>, text: &[u8]) -> Result<usize, Memory>
     ensures ok { IfOk result (λ taken. taken ≡ (escape_of text.now).taken) }
     ensures text { OnOk result (out.new.items ≡ out.old.items ++ (escape_of text.now).text) }

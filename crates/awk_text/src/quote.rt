@@ -13,6 +13,7 @@ fn hex_digit(n: u8) -> u8
     if n < 10 { b'0' + n } else { b'a' - 10 + n }
 }
 
+#[tactic(auto, unfolding(crate::specs::Quoted::quoted_byte))]
 fn push_quoted(out: &mut Vec<u8>, b: u8) -> Result<(), Memory>
     ensures { OnOk result (out.new.items ≡ out.old.items ++ quoted_byte b) }
 {

@@ -421,6 +421,7 @@ unfolding sign
 sign_is b z = refl
 
 sign_found : (operand : Bool) (b : ℕ) (z : Text) (kind : TokenKind) (n : ℕ) → Plain operand b → sign (b ∷ z) ≡ Ok (kind, n) → First operand (b ∷ z) kind n
+unfolding sign_len
 sign_found operand b z kind n p e =
     let next = get_or z 0 0 in
     let e1 = sym (sign_is b z) ∙ e in
@@ -462,6 +463,7 @@ a_point operand b z h =
     subst (λ w. Stands operand 3 (b ∷ w)) (sym (cons_of z some)) (subst (λ c. Stands operand 3 (c ∷ next ∷ drop 1 z)) (sym (eqb-true b 46 both.0)) (point operand next (drop 1 z) both.1))
 
 sign_refused : (operand : Bool) (b : ℕ) (z : Text) (code : ℕ) → gap_len (b ∷ z) ≡ 0 → Plain operand b → sign (b ∷ z) ≡ Err code → Stands operand code (b ∷ z)
+unfolding sign_len
 sign_refused operand b z code none p e =
     let next = get_or z 0 0 in
     let e1 = sym (sign_is b z) ∙ e in

@@ -29,5 +29,5 @@ is_sign (b ∷ next ∷ []) = is_double b next
 is_sign (b ∷ next ∷ third ∷ z) = false
 
 -- how long the longest sign is that two bytes begin with, 0 where there is none
-abbrev pub sign_len : ℕ → ℕ → ℕ
+unfoldable pub sign_len : ℕ → ℕ → ℕ
 sign_len b next = if is_double b next then 2 else (if is_single b then 1 else 0)

@@ -1,7 +1,7 @@
 // The kinds of tokens.
 
 /// What a token is, in the terms of the grammar of POSIX.1-2017 XCU awk.
-#[derive(Clone, Copy, Debug, PartialEq, Eq, Drop)]
+#[derive(Clone, Copy, PartialEq, Eq, Drop)]
 pub enum TokenKind {
     /// NUMBER: decimal digits.
     Number,

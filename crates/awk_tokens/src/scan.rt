@@ -14,7 +14,7 @@ use crate::signs::sign_len;
 use crate::syntax_error::SyntaxError;
 
 /// Where in an extended regular expression a byte stands.
-#[derive(Clone, Copy, Debug)]
+#[derive(Clone, Copy)]
 enum ErePart {
     /// In no bracket expression.
     Outside,
@@ -25,7 +25,7 @@ enum ErePart {
 }
 
 /// What a byte of an extended regular expression leads to.
-#[derive(Clone, Copy, Debug)]
+#[derive(Clone, Copy)]
 enum EreStep {
     /// It ends the expression.
     Ends,

@@ -51,6 +51,7 @@ fn is_double(b: u8, next: u8) -> bool
     }
 }
 
+#[tactic(auto, unfolding(crate::specs::Signs::sign_len))]
 /// How long the sign is that these two bytes begin with, 0 where there is none.
 pub fn sign_len(b: u8, next: u8) -> usize
     ensures { result ≡ sign_len b next }

@@ -3,14 +3,14 @@
 use crate::words::{Builtin, Jump};
 
 /// `++` and `--`.
-#[derive(Clone, Copy, Debug, PartialEq, Eq, Drop)]
+#[derive(Clone, Copy, PartialEq, Eq, Drop)]
 pub enum Step {
     Increment,
     Decrement,
 }
 
 /// `=`, and the signs that compute with the old value first.
-#[derive(Clone, Copy, Debug, PartialEq, Eq, Drop)]
+#[derive(Clone, Copy, PartialEq, Eq, Drop)]
 pub enum Assignment {
     Set,
     Add,

@@ -7,7 +7,7 @@ use crate::kinds::TokenKind;
 use crate::terminals::Terminal;
 
 /// The statements that are a word alone.
-#[derive(Clone, Copy, Debug, PartialEq, Eq, Drop)]
+#[derive(Clone, Copy, PartialEq, Eq, Drop)]
 pub enum Jump {
     Break,
     Continue,
@@ -30,7 +30,7 @@ impl Jump {
 }
 
 /// The functions that the language brings.
-#[derive(Clone, Copy, Debug, PartialEq, Eq, Drop)]
+#[derive(Clone, Copy, PartialEq, Eq, Drop)]
 pub enum Builtin {
     Close,
     Fflush,
@@ -49,7 +49,7 @@ pub enum Builtin {
 }
 
 /// The parameters of a built-in function. All but the last three forms are plain expressions.
-#[derive(Clone, Copy, Debug, PartialEq, Eq, Drop)]
+#[derive(Clone, Copy, PartialEq, Eq, Drop)]
 pub enum Parameters {
     One,
     AtMostOne,
