@@ -18,7 +18,7 @@ same_run : (one : OneProgram) (text : List ℕ) (items : List Entry) (s r : Scri
     ReadsScript text r → (setup : SetupParts) (steps : ℕ) →
     IsOf s (given_of r setup steps)
 same_run one text items s r x y setup steps =
-    let same = one text y.tokens x.tokens r s y.reads y.read x.reads (items, x.read, x.of) in
+    let same = one text y.tokens x.tokens r s y.reads y.spelled x.reads (items, x.spells, x.of) in
     record { program = same.program; environ = same.environ }
 
 pub text_covered : OneProgram → ScriptCovered → TextCovered

@@ -4,7 +4,7 @@ use Rattle.std.specs.Str.{IsAscii, IsUtf8}
 use Rattle.std.proofs.lemmas.Bool.Decides.{nat_tests}
 use Rattle.std.proofs.lemmas.Str.{IsAscii-append, IsUtf8-from_ascii}
 use Rattle.std.proofs.lemmas.Str.Ascii.{IsAscii-nil, IsAscii-cons}
-use Rattle.awk_text.specs.Quoted.{hex_digit, is_plain, quoted}
+use Rattle.awk_text.specs.Quoted.{hex_digit, is_plain, quoted, quoted_byte}
 
 digit_is_ascii : (n : ℕ) → n < 16 → hex_digit n < 128
 digit_is_ascii n h = grind (arith, nat_tests)
@@ -21,6 +21,7 @@ byte_is_ascii b true h p = IsAscii-cons b [] (p refl) IsAscii-nil
 byte_is_ascii b false h p = escape_is_ascii _ _ (digit_is_ascii (b / 16) (omega arith)) (digit_is_ascii (b % 16) (omega arith))
 
 quoted_is_ascii : (bs : List ℕ) → ((k : ℕ) → get_or bs k 0 < 256) → IsAscii (quoted bs)
+unfolding quoted_byte
 quoted_is_ascii [] h = IsAscii-nil
 quoted_is_ascii (b ∷ bs) h = IsAscii-append _ _ (byte_is_ascii b (is_plain b) (h 0) (plain_is_ascii b)) (quoted_is_ascii bs (λ k. h (suc k)))
 

@@ -1,7 +1,6 @@
 -- What tokens spell, the text spells that is read as them.
 use Rattle.std.proofs.Common.{ℕ, List, Result, Ok, Err, IfOk, IfErr, inr}
-use Rattle.awk_parse.proofs.Laws.{scripts_are_spelled}
-use Rattle.awk_parse.specs.Scripts.{IsRead, IsRefused}
+use Rattle.awk_parse.specs.Scripts.{IsSpelled, IsRefused}
 use Rattle.awk_parse.specs.declared.script.Script.{Script}
 use Rattle.awk_tokens.specs.Reads.{Reads}
 use Rattle.awk_tokens.specs.declared.syntax_error.SyntaxError.{SyntaxError}
@@ -9,10 +8,10 @@ use Rattle.awk_tokens.specs.declared.token.Token.{Token}
 use Rattle.awk_tree.specs.Tree.{Entry}
 use Rattle.awkbox.specs.Scripts.{Spells, IsScriptRefused}
 
-pub spelled : (text : List ℕ) (tokens : List Token) (r : Result Script SyntaxError) → Reads text tokens → IfOk r (λ s. IsRead tokens s)
+pub spelled : (text : List ℕ) (tokens : List Token) (r : Result Script SyntaxError) → Reads text tokens → IfOk r (λ s. IsSpelled tokens s)
     → IfOk r (λ s. (items : List Entry) × Spells text items s)
 spelled text tokens (Ok s) reads h =
-    (h.0, record { tokens = tokens; reads = reads; spells = scripts_are_spelled tokens h.0 h.1; read = h.1; of = h.2 })
+    (h.0, record { tokens = tokens; reads = reads; spells = h.1; of = h.2 })
 spelled text tokens (Err e) reads h = tt
 
 pub refused : (text : List ℕ) (tokens : List Token) (r : Result Script SyntaxError) → Reads text tokens → IfErr r (λ e. IsRefused tokens e) → IfErr r (λ e. IsScriptRefused text e)

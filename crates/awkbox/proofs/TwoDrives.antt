@@ -50,7 +50,7 @@ same_given s r setup steps x = λ i. record {
 }
 
 same_script : OneProgram → (text : List ℕ) (s r : Script) → ReadsScript text s → ReadsScript text r → SameScript s r
-same_script one text s r x y = one text x.tokens y.tokens s r x.reads x.read y.reads y.read
+same_script one text s r x y = one text x.tokens y.tokens s r x.reads x.spelled y.reads y.spelled
 
 module _ {V W K L : Type 0}
     (follows : V → List Call → V → Type 0) (stops : V → List Call → Ask → V → Type 0) (contents : K → Option (List ℕ))

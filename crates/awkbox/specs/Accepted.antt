@@ -2,7 +2,7 @@
 use Rattle.std.specs.Prelude.{◌≡◌, ◌≢◌, ℕ, ◌+◌, List, [], ◌∷◌, Option, Some, None, ◌⊎◌, if◌then◌else◌}
 use Rattle.awk_resolve.specs.Assigns.{can_assign}
 use Rattle.awk_resolve.specs.declared.kinds.Kinds.{Kinds}
-use Rattle.awk_parse.specs.Scripts.{IsRead, IsSpelled, IsRefused as IsRefusedByGrammar}
+use Rattle.awk_parse.specs.Scripts.{IsSpelled, IsRefused as IsRefusedByGrammar}
 use Rattle.awk_parse.specs.declared.script.Script.{Script as Spelled}
 use Rattle.awk_tokens.specs.Reads.{Reads, Refuses}
 use Rattle.awk_tokens.specs.declared.syntax_error.SyntaxError.{SyntaxError}
@@ -18,7 +18,6 @@ pub record ReadsScript (script : List ℕ) (s : Spelled) : Type 0 where
   pub tokens : List Token
   pub reads : Reads script tokens
   pub spelled : IsSpelled tokens s
-  pub read : IsRead tokens s
 
 -- The number of the first pair of `-v` whose name is one that a host may not set; they are numbered from n.
 abbrev pub first_barred : Kinds → ℕ → List (List ℕ × List ℕ) → Option ℕ

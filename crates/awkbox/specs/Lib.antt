@@ -4,7 +4,6 @@ pub mod Answers
 pub mod Drives
 pub mod Endings
 pub mod Laws
-pub mod Limited
 pub mod Messages
 pub mod OwnFiles
 pub mod Scripts

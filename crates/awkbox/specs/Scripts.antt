@@ -1,21 +1,18 @@
 -- Which script a text spells, and why others are refused.
-use Rattle.std.specs.Prelude.{◌≡◌, ◌≢◌, ℕ, List, [], Ok, ◌⊎◌}
+use Rattle.std.specs.Prelude.{◌≢◌, ℕ, List, ◌⊎◌}
 use Rattle.awk_parse.specs.SpellsScripts.{SpellsScript}
 use Rattle.awk_parse.specs.Scripts.{IsScriptOf, IsRefused}
 use Rattle.awk_parse.specs.declared.script.Script.{Script}
 use Rattle.awk_tokens.specs.Reads.{Reads, Refuses}
 use Rattle.awk_tokens.specs.declared.syntax_error.SyntaxError.{SyntaxError}
 use Rattle.awk_tokens.specs.declared.token.Token.{Token}
-use Rattle.awk_tree.specs.Statements as grammar
 use Rattle.awk_tree.specs.Tree.{Entry}
 
--- The text is read as tokens that spell these items of this script: of all that they may spell, those that the rules of
--- the grammar read.
+-- the text is read as tokens that spell these items of this script
 pub record Spells (text : List ℕ) (items : List Entry) (script : Script) : Type 0 where
   pub tokens : List Token
   pub reads : Reads text tokens
   pub spells : SpellsScript tokens items
-  pub read : grammar.script tokens ≡ Ok (items, [])
   pub of : IsScriptOf items script
 
 -- S1 to S3 stand in the text where they say, and else the tokens of the text are refused so; S9 is want of memory

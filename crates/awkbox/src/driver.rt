@@ -55,7 +55,7 @@ impl Prepared {
             result.log }
     {
         let Prepared { policy, script } = self;
-        let mut monitor = Monitor::new(alloc, policy, world, log);
+        let mut monitor = Monitor::with_seed(alloc, setup.seed(), policy, world, log);
         let report = run(alloc, &script, setup, steps, &mut monitor);
         script.release();
         let log_end = monitor.log_end();

@@ -4,10 +4,12 @@ pub mod Denials
 pub mod Rulings
 pub mod Asked
 pub mod Judged
+pub mod Limited
 pub mod Lines
 pub mod Watch
 pub mod Leads
 pub mod Stops
+pub mod Lacks
 pub mod Refusals
 pub mod Laws
 pub mod Passed

@@ -1,15 +1,17 @@
 // What a policy decides, kept for what is asked again.
-ghost use Rattle.std.specs.Prelude.{◌≡◌, [], ◌∷◌, drop, IfOk, IfSome};
+ghost use Rattle.std.specs.Prelude.{◌≡◌, drop, IfOk, IfSome};
 ghost use Rattle.std.proofs.Common.{ap};
 ghost use Rattle.std.specs.Cmp as Cmp;
 ghost use Rattle.std.specs.Cmp.{on_equiv, on_per};
 ghost use Rattle.std.specs.Cmp.Lexicographic.{bytes_decides, nat_list_eq_equiv};
 ghost use Rattle.std.specs.Str.{bytes_eq};
+ghost use Rattle.awk_hash.specs.Pieces.{pieces};
 ghost use Rattle.box_policy.specs.Counts.{cleared, noted};
 ghost use Rattle.box_policy.specs.Decisions.{decision};
 ghost use Rattle.box_policy.specs.Rulebook.{Rulebook};
 ghost use Rattle.box_monitor.specs.Judged.{spelled, AreDecided};
 
+use awk_hash::{Seed, write_text};
 use awk_text::Memory;
 use box_policy::policy::{Decision, Kind, Policy};
 use lru::LruCache;
@@ -43,7 +45,7 @@ struct KeptQuestion {
 }
 
 /// The decisions that were asked for last.
-type Cache = LruCache<KeptQuestion, Decision>;
+type Cache = LruCache<KeptQuestion, Decision, Seed>;
 
 /// A policy, and what it decided last. Contracts see the policy alone.
 #[derive(Drop)]
@@ -51,6 +53,7 @@ pub struct Judge {
     policy: Policy,
     /// `None` until a decision is first kept, and once more where a rule is used up, which may change each one.
     cache: Option<Cache>,
+    seed: Seed,
 }
 
 impl Model for Judge {
@@ -116,13 +119,13 @@ impl Eq for KeptQuestion {
 }
 
 impl Hash for KeptQuestion {
-    ghost hash_input = { λ q. q.text.items ∷ [] };
+    ghost hash_input = { λ q. pieces q.text.items };
 
-    ghost respects_eq = { λ x y h. ap (λ l. drop 2 l ∷ [])
+    ghost respects_eq = { λ x y h. ap (λ l. pieces (drop 2 l))
         ((bytes_decides (spelled x.kind x.given x.text.items) (spelled y.kind y.given y.text.items)).0 h) };
 
     fn hash<H: Hasher>(&self, state: &mut H) {
-        state.write(self.text.as_slice());
+        write_text(state, self.text.as_slice());
     }
 }
 
@@ -141,20 +144,20 @@ impl Eq for Question<'_> {
 }
 
 impl Hash for Question<'_> {
-    ghost hash_input = { λ q. q.text.now ∷ [] };
+    ghost hash_input = { λ q. pieces q.text.now };
 
-    ghost respects_eq = { λ x y h. ap (λ l. drop 2 l ∷ [])
+    ghost respects_eq = { λ x y h. ap (λ l. pieces (drop 2 l))
         ((bytes_decides (spelled x.kind x.given x.text.now) (spelled y.kind y.given y.text.now)).0 h) };
 
     fn hash<H: Hasher>(&self, state: &mut H) {
-        state.write(self.text);
+        write_text(state, self.text);
     }
 }
 
 impl Equivalent<KeptQuestion> for Question<'_> {
     ghost equivalent = { λ q k. bytes_eq (spelled q.kind q.given q.text.now) (spelled k.kind k.given k.text.items) };
 
-    ghost respects_hash = { λ q k h. ap (λ l. drop 2 l ∷ [])
+    ghost respects_hash = { λ q k h. ap (λ l. pieces (drop 2 l))
         ((bytes_decides (spelled q.kind q.given q.text.now) (spelled k.kind k.given k.text.items)).0 h) };
 
     ghost respects_eq = { λ q x y. nat_list_eq_equiv.congr (spelled q.kind q.given q.text.now)
@@ -191,8 +194,9 @@ fn store(
 }
 
 impl Judge {
-    /// The policy, of which no rule has allowed anything yet. Takes no memory.
-    pub fn new(policy: Policy) -> Judge
+    /// The policy, of which no rule has allowed anything yet. What was decided on is hashed by this seed. Takes no
+    /// memory.
+    pub fn new(seed: Seed, policy: Policy) -> Judge
         ensures { result ≡ cleared policy }
     {
         let mut policy = policy;
@@ -200,6 +204,7 @@ impl Judge {
         Judge {
             policy,
             cache: None,
+            seed,
         }
     }
 
@@ -240,7 +245,8 @@ impl Judge {
         if let Some(cache) = &mut self.cache {
             return store(alloc, cache, question, made);
         }
-        let mut cache = LruCache::new(alloc, NonZeroUsize::new(MOST_KEPT).unwrap())?;
+        let most = NonZeroUsize::new(MOST_KEPT).unwrap();
+        let mut cache = LruCache::with_hasher(alloc, most, self.seed)?;
         store(alloc, &mut cache, question, made)?;
         self.cache = Some(cache);
         Ok(())

@@ -4,6 +4,7 @@
 
 mod denial;
 mod judge;
+pub mod limited_log;
 mod line;
 pub mod log_end;
 pub mod monitor;

@@ -6,6 +6,7 @@ ghost use Rattle.box_world.specs.declared.ask.Reply.TheVariants.{Failed};
 ghost use Rattle.box_policy.specs.Counts.{cleared};
 ghost use Rattle.box_monitor.specs.Denials.{after_ask, denial_of, with_noted};
 ghost use Rattle.box_monitor.specs.Laws.{Leads-none, Leads-append, Leads-open, Stops-later};
+ghost use Rattle.box_monitor.specs.Lacks.{Lacks};
 ghost use Rattle.box_monitor.specs.Leads.{Leads};
 ghost use Rattle.box_monitor.specs.Refusals.{Breaks, Tells};
 ghost use Rattle.box_monitor.specs.Stops.{Stops};
@@ -16,6 +17,7 @@ use crate::judge::Judge;
 use crate::line::line_of;
 use crate::log_end::LogEnd;
 use crate::write::write_line;
+use awk_hash::Seed;
 use box_policy::policy::Policy;
 use box_world::ask::{Ask, Reply, Stop};
 use box_world::world::World;
@@ -60,13 +62,21 @@ impl<W: World, L: Write> Model for Monitor<W, L> {
 
 impl<W: World, L: Write> Monitor<W, L> {
     /// A monitor before this world, which has denied nothing yet, and of whose policy no rule has
-    /// allowed anything. Takes no memory.
+    /// allowed anything. It keeps decisions in a table that hashes by a fixed seed. Takes no memory.
     pub fn new(alloc: Global, policy: Policy, world: W, log: L) -> Monitor<W, L>
         ensures { result ≡
             record { policy = cleared policy; world = world; log = log; denials = 0; stop = None } }
     {
+        Monitor::with_seed(alloc, Seed::of(0), policy, world, log)
+    }
+
+    /// The same, with a table that hashes by this seed. Takes no memory.
+    pub fn with_seed(alloc: Global, seed: Seed, policy: Policy, world: W, log: L) -> Monitor<W, L>
+        ensures { result ≡
+            record { policy = cleared policy; world = world; log = log; denials = 0; stop = None } }
+    {
         Monitor {
-            judge: Judge::new(policy),
+            judge: Judge::new(seed, policy),
             world,
             log,
             denials: 0,
@@ -134,6 +144,8 @@ impl<W: World, L: Write> Monitor<W, L> {
             (self.new.stop ≡ Some Whole) × W.stops self.old.world [] ask.now self.new.world }
         ensures goes { ¬ IsErrOf result Stop.Log → (self.new.stop ≡ self.old.stop)
             × (W.has_stopped self.new.world ≡ W.has_stopped self.old.world) }
+        ensures lacks { IsErrOf result Stop.Memory →
+            W.lacks self.old.world ask.now self.new.world }
     {
         match self.world.ask(ask) {
             Ok(reply) => {
@@ -168,6 +180,8 @@ impl<W: World, L: Write> World for Monitor<W, L> {
 
     ghost stops = { Stops W.stops L.contents };
 
+    ghost lacks = { Lacks W.lacks };
+
     /// Passes the ask on where the policy does not deny it, and else logs it and answers `Failed`.
     ///
     /// Answers `Stop::Memory` where memory for a line is refused, before anything is written, and
@@ -194,6 +208,9 @@ impl<W: World, L: Write> World for Monitor<W, L> {
             self.new.world ≡ self.old.world }
         ensures allowed { IsNone (denial_of self.old.policy ask.now) →
             (self.new.log ≡ self.old.log) × (self.new.denials ≡ self.old.denials) }
+
+        // Memory was wanting for a line of the log, or in the world behind.
+        ensures lacks { IsErrOf result Stop.Memory → Lacks W.lacks self.old ask.now self.new }
 
         // Want of memory changes neither the log nor what was counted.
         ensures memory { IsErrOf result Stop.Memory → (self.new.log ≡ self.old.log)

@@ -137,6 +137,8 @@ impl World for OsWorld {
 
     ghost stops = { λ _ _ _ _. ⊥ };
 
+    ghost lacks = { λ v _ w. w ≡ v };
+
     /// Answers the ask, or answers `Stop::Memory` with nothing done.
     fn ask(&mut self, ask: &Ask) -> Result<Reply, Stop>
         // What a world owes.

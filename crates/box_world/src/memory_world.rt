@@ -201,6 +201,8 @@ impl World for MemoryWorld {
 
     ghost stops = { λ _ _ _ _. ⊥ };
 
+    ghost lacks = { λ v _ w. w ≡ v };
+
     /// Answers the ask and keeps both, or answers `Stop::Memory` with nothing changed. An ask that
     /// was made to fail is answered `Failed` and does nothing else, but a `Shut` ends its number.
     fn ask(&mut self, ask: &Ask) -> Result<Reply, Stop>

@@ -1,6 +1,6 @@
 use Rattle.std.proofs.Common.{IfOk, IfErr, inl}
 use Rattle.std.proofs.lemmas.Result.{err_from_is_err_and}
-use Rattle.awk_parse.specs.Scripts.{IsRead, IsRefused}
+use Rattle.awk_parse.specs.Scripts.{IsSpelled, IsRefused}
 use Rattle.awkbox.proofs.Spelling.{spelled, refused}
 use Rattle.awkbox.proofs.listings.script_of.Goals as goal
 
@@ -10,8 +10,8 @@ returns-in_err-tokens-clause-refused c =
 
 pub returns-clause-ok : goal.returns-clause-ok
 returns-clause-ok c =
-    let read : IfOk c.parse.result (λ s. IsRead c.in_ok-tokens.tokens.items s) = rw c.as_slice.ensures.value at c.parse.ensures.read in
-    spelled c.args.text.now c.in_ok-tokens.tokens.items c.parse.result c.in_ok-tokens.ensures.read read
+    let is : IfOk c.parse.result (λ s. IsSpelled c.in_ok-tokens.tokens.items s) = rw c.as_slice.ensures.value at c.parse.ensures.spelled in
+    spelled c.args.text.now c.in_ok-tokens.tokens.items c.parse.result c.in_ok-tokens.ensures.read is
 
 pub returns-clause-refused : goal.returns-clause-refused
 returns-clause-refused c =

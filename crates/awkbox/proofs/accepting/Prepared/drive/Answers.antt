@@ -6,7 +6,7 @@ use Rattle.awkbox.proofs.accepting.Prepared.drive.Goals as goal
 
 pub returns : goal.returns
 returns g c =
-    let ran = rw c.new-monitor.ensures at c.run-report.ensures in
+    let ran = rw c.with_seed-monitor.ensures at c.run-report.ensures in
     rw (c.log_end-log_end.ensures, c.denials-denials.ensures, c.into_parts-world.ensures)
     (drives_counted g.W.World.follows g.W.World.has_stopped g.W.World.stops g.L.Write.contents (cleared c.args.self.policy)
     (given_of c.args.self.script c.args.setup.now c.args.steps) c.args.world c.args.log
