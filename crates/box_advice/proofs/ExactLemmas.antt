@@ -36,7 +36,7 @@ alone (p ∷ ps) (x ∷ xs) h =
     let parts = and_parts (bytes_eq p x) (fits (map base_symbol ps) xs) (sym (fits-more false (λ name. bytes_eq p name) (map base_symbol ps) x xs) ∙ h) in
     ap (λ y. y ∷ xs) (sym ((bytes_eq-Decides p x).0 parts.0)) ∙ ap (λ ys. p ∷ ys) (alone ps xs parts.1)
 
-all_plain : (pieces : List (List ℕ)) → list_all is_plain_component pieces ≡ true → map component_symbol pieces ≡ map base_symbol pieces
+pub all_plain : (pieces : List (List ℕ)) → list_all is_plain_component pieces ≡ true → map component_symbol pieces ≡ map base_symbol pieces
 all_plain [] h = refl
 all_plain (piece ∷ pieces) h =
     let parts = and_parts (is_plain_component piece) (list_all is_plain_component pieces) h in
@@ -118,7 +118,7 @@ same_name text subject plain fit = same_by_itself (map name_byte text) text subj
 
 -- ---- any kind
 
-parts_of : (base : List ℕ) (kind : Kind) (text : List ℕ) → is_exact base kind text ≡ true → (is_pattern base kind text ≡ true) × (is_literal kind text ≡ true)
+pub parts_of : (base : List ℕ) (kind : Kind) (text : List ℕ) → is_exact base kind text ≡ true → (is_pattern base kind text ≡ true) × (is_literal kind text ≡ true)
 parts_of base kind text exact =
     let inner = (and_parts (is_utf8 text) (is_pattern base kind text && is_literal kind text) (and_parts _ _ exact).1).1 in
     and_parts (is_pattern base kind text) (is_literal kind text) inner

@@ -1,5 +1,5 @@
 -- What a policy decides with exact rules behind its own.
-use Rattle.std.proofs.Common.{◌≡◌, ◌∙◌, ℕ, zero, suc, ◌+◌, Bool, true, false, not, ◌&&◌, ◌||◌, cond, List, [], ◌∷◌, ◌++◌, length, Option, Some, None, inl, inr, sym, ap, refl, subst, arith}
+use Rattle.std.proofs.Common.{◌≡◌, ◌∙◌, ℕ, zero, suc, ◌+◌, Bool, true, false, not, ◌&&◌, ◌||◌, cond, List, [], ◌∷◌, ◌++◌, length, Option, Some, None, inl, inr, sym, ap, refl, arith}
 use Rattle.std.specs.Prelude.{◌⊎◌, Contains, codes, option_and_then, ℤ, pos, negsuc, int_le, nat_le, unsigned_abs}
 use Rattle.std.specs.List.{list_all, AllZip}
 use Rattle.std.specs.Str.{bytes_eq}
@@ -11,7 +11,6 @@ use Rattle.box_policy.specs.declared.policy.Decision.TheVariants.{Allow, Deny, N
 use Rattle.box_policy.specs.declared.policy.Effect.{Effect}
 use Rattle.box_policy.specs.declared.policy.Effect.TheVariants.{Allow as AllowIt, Deny as DenyIt}
 use Rattle.box_policy.specs.declared.policy.Kind.{Kind}
-use Rattle.box_policy.specs.declared.policy.Outlook.{Outlook}
 use Rattle.box_policy.specs.declared.policy.Outlook.TheVariants.{Always, Never}
 use Rattle.box_policy.specs.declared.policy.Quota.{Quota}
 use Rattle.box_policy.specs.declared.policy.Rule.{Rule}
@@ -20,15 +19,15 @@ use Rattle.box_policy.specs.Decisions.{decided, decision, decision_from, is_any,
 use Rattle.box_policy.specs.Exact.{is_exact}
 use Rattle.box_policy.specs.Rulebook.{Rulebook}
 use Rattle.box_policy.specs.Tree.{text_at, tables_of}
-use Rattle.box_policy.specs.Words.{allowing, denying, effect_named, effect_of, quota_named}
-use Rattle.box_policy.specs.Written.{Written, WritesRule}
+use Rattle.box_policy.specs.Words.{allowing, denying, effect_named, quota_named}
+use Rattle.box_policy.specs.Written.{WritesRule}
 use Rattle.box_policy.proofs.OutlookLemmas.{allows, never}
-use Rattle.box_advice.specs.Proposals.{Extends, IsAdded, IsKeptOut, IsOwed, IsWished, Starts, with_gained}
-use Rattle.box_advice.specs.Wishes.{answer, answer_by, grant, grants_from, speak}
+use Rattle.box_advice.specs.Proposals.{Extends, IsAdded, IsKeptOut, IsOwed, IsWished, Starts, with_counts, with_gained}
+use Rattle.box_advice.specs.Wishes.{answer, answer_by, grants_from, speak}
 use Rattle.box_advice.specs.declared.proposing.Basis.{Basis}
 use Rattle.box_advice.specs.declared.proposing.Basis.TheVariants.{Base, Policy}
 use Rattle.box_advice.specs.declared.wishes.Wish.{Wish}
-use Rattle.box_advice.proofs.GrantsLemmas.{AreGrants, In, IsGrantOf, grants, in_from, spoken, wished}
+use Rattle.box_advice.proofs.GrantsLemmas.{AreGrants, IsGrantOf, grants, in_from, spoken, wished}
 
 -- ---- rules behind others
 
@@ -248,14 +247,19 @@ module _ (first : Rulebook) (wishes : List Wish) (fresh : are_fresh first.rules 
       always_by (decision_from is_any 1 first.base last.rules wish.kind text false) (decision_from is_lasting 1 first.base last.rules wish.kind text false) d.rule d.is
 
   -- what it decides otherwise
-  decides_by : (kind : Kind) (subject : List ℕ) (given : Bool) (one later now : Decision) → decision first kind subject given ≡ one → now ≡ or_later one later
-      → decision last kind subject given ≡ now
+  abbrev Decides : List Rule → Kind → List ℕ → Bool → Type 0
+  Decides counted kind subject given =
+      (decision (with_gained (with_counts first counted) gains) kind subject given ≡ decision (with_counts first counted) kind subject given)
+      ⊎ IsAdded (with_counts first counted) (with_gained (with_counts first counted) gains) wishes kind subject given
+
+  decides_by : (counted : List Rule) (kind : Kind) (subject : List ℕ) (given : Bool) (one later now : Decision) → decision (with_counts first counted) kind subject given ≡ one
+      → now ≡ or_later one later → decision (with_gained (with_counts first counted) gains) kind subject given ≡ now
       → (later ≡ NoRule) ⊎ Allowing later ((wish : Wish) × Contains wishes wish × IsWished first.base kind subject wish)
-      → (decision last kind subject given ≡ decision first kind subject given) ⊎ IsAdded first last wishes kind subject given
-  decides_by kind subject given (Allow n) later now was is of says = inl (of ∙ (is ∙ sym was))
-  decides_by kind subject given (Deny n) later now was is of says = inl (of ∙ (is ∙ sym was))
-  decides_by kind subject given NoRule later now was is of (inl none) = inl (of ∙ (is ∙ (none ∙ sym was)))
-  decides_by kind subject given NoRule later now was is of (inr some) = inr (record {
+      → Decides counted kind subject given
+  decides_by counted kind subject given (Allow n) later now was is of says = inl (of ∙ (is ∙ sym was))
+  decides_by counted kind subject given (Deny n) later now was is of says = inl (of ∙ (is ∙ sym was))
+  decides_by counted kind subject given NoRule later now was is of (inl none) = inl (of ∙ (is ∙ (none ∙ sym was)))
+  decides_by counted kind subject given NoRule later now was is of (inr some) = inr (record {
     undecided = was;
     rule = some.rule;
     allowed = of ∙ (is ∙ some.is);
@@ -264,11 +268,13 @@ module _ (first : Rulebook) (wishes : List Wish) (fresh : are_fresh first.rules 
     wished = some.reason.2;
   })
 
-  decides : (kind : Kind) (subject : List ℕ) (given : Bool) → (decision last kind subject given ≡ decision first kind subject given) ⊎ IsAdded first last wishes kind subject given
-  decides kind subject given =
-      decides_by kind subject given (decision first kind subject given) (decision_from is_left behind first.base gains kind subject given)
-      (decision last kind subject given) refl (whole is_left kind subject given) refl
-      (grants_say is_left left_sees first.base wishes behind gains kind subject given are_grants)
+  decides : (counted : List Rule) (kind : Kind) (subject : List ℕ) (given : Bool) → Decides counted kind subject given
+  decides counted kind subject given =
+      decides_by counted kind subject given (decision (with_counts first counted) kind subject given)
+      (decision_from is_left (1 + length counted) first.base gains kind subject given)
+      (decision (with_gained (with_counts first counted) gains) kind subject given) refl
+      (decision-append is_left first.base kind subject given 1 counted gains) refl
+      (grants_say is_left left_sees first.base wishes (1 + length counted) gains kind subject given are_grants)
 
   -- what it never allows
   answered_allow : (may_be_given : Bool) (plain given : Decision) (n : ℕ) → cond may_be_given (answer_by plain given) plain ≡ Allow n → plain ≡ Allow n
@@ -295,13 +301,13 @@ module _ (first : Rulebook) (wishes : List Wish) (fresh : are_fresh first.rules 
       let is_always : outlook last wish.kind text false ≡ Always = owed_allowed wish text (record { is_one = is_one; known = known; undecided = told; exact = is_so }) in
       cc
 
-  pub extends : Extends first last wishes
+  pub extends : Extends first gains wishes
   extends = record {
     allows = owed_allowed;
-    decides = decides;
+    decides = λ counted same. decides counted;
     refuses = λ wish text is_one known is_never. refuses_by wish text (answer first wish.kind text wish.may_be_given) (is_exact first.base wish.kind text)
         is_one known is_never refl refl;
   }
 
-pub extended : (start : Basis) (first : Rulebook) (wishes : List Wish) → Starts start first → Extends first (with_gained first (grants_from first [] wishes)) wishes
+pub extended : (start : Basis) (first : Rulebook) (wishes : List Wish) → Starts start first → Extends first (grants_from first [] wishes) wishes
 extended start first wishes starts = extends first wishes (fresh_start start first starts)

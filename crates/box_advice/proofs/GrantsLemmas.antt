@@ -1,7 +1,7 @@
 -- The rules that a policy gains are exact ones of the wishes, and each wish that is owed one has one that speaks of it.
-use Rattle.std.proofs.Common.{◌≡◌, ◌∙◌, ℕ, zero, suc, ◌<◌, ◌≤◌, Bool, true, false, not, ◌&&◌, ◌||◌, List, [], ◌∷◌, ◌++◌, length, Option, Some, None, inl, inr, sym, ap, refl, subst, arith, append-nil}
+use Rattle.std.proofs.Common.{◌≡◌, ◌∙◌, ℕ, zero, suc, ◌+◌, ◌<◌, ◌≤◌, Bool, true, false, ◌&&◌, ◌||◌, List, [], ◌∷◌, ◌++◌, length, length-append, get_or, drop, Option, Some, None, inl, inr, sym, ap, refl, subst, arith}
+use Rattle.std.proofs.lemmas.List.{drop_all}
 use Rattle.std.specs.Prelude.{◌⊎◌, Contains, nat_eq, nat_le, slice_index_or}
-use Rattle.std.specs.List.{list_any, list_all}
 use Rattle.std.proofs.lemmas.Bool.{true≢false, and_parts, and_from}
 use Rattle.std.proofs.lemmas.List.Folds.{list_any-append, list_all-append}
 use Rattle.box_policy.specs.declared.policy.Decision.{Decision}
@@ -14,8 +14,8 @@ use Rattle.box_policy.specs.Exact.{is_exact}
 use Rattle.box_policy.specs.Fits.{pattern_fits}
 use Rattle.box_policy.specs.Rulebook.{Rulebook}
 use Rattle.box_policy.specs.Short.{are_short}
-use Rattle.box_advice.specs.Proposals.{IsOwed, IsWished}
-use Rattle.box_advice.specs.Wishes.{answer, fate_at, fate_by, gained, gained_by, grant, grants_from, speak}
+use Rattle.box_advice.specs.Proposals.{IsWished}
+use Rattle.box_advice.specs.Wishes.{answer, fate_at, fate_by, gained, gained_by, grant, grants_from, speak, IsGained}
 use Rattle.box_advice.specs.declared.wishes.Wish.{Wish}
 use Rattle.box_advice.proofs.CoversLemmas.{speaks_parts}
 use Rattle.box_advice.proofs.ExactLemmas.{exact_alone, exact_fits, same_kind}
@@ -190,3 +190,40 @@ pub short_gained : (first : Rulebook) (rules : List Rule) (wish : Wish) → are_
 short_gained first rules wish short =
     list_all-append (λ rule. nat_le (length rule.pattern) 4096) rules (gained first rules wish)
     ∙ and_from (are_short rules) (are_short (gained first rules wish)) short (short_at first rules wish.kind wish.text wish.may_be_given)
+
+-- ---- rules become more
+
+drop_suc : {A : Type 0} (xs : List A) (i : ℕ) (d : A) → i < length xs → d ≡ get_or xs i d → drop i xs ≡ d ∷ drop (suc i) xs
+drop_suc [] i d h e = absurd (omega arith)
+drop_suc (x ∷ xs) zero d h e = ap (λ y. y ∷ xs) (sym e)
+drop_suc (x ∷ xs) (suc i) d h e = drop_suc xs i d (omega arith) e
+
+grants_grow : (first : Rulebook) (rules : List Rule) (wishes : List Wish) → length rules ≤ length (grants_from first rules wishes)
+grants_grow first rules [] = omega arith
+grants_grow first rules (wish ∷ wishes) =
+    let more : length (rules ++ gained first rules wish) ≤ length (grants_from first (rules ++ gained first rules wish) wishes) =
+    grants_grow first (rules ++ gained first rules wish) wishes in
+    let size : length (rules ++ gained first rules wish) ≡ length rules + length (gained first rules wish) = length-append rules (gained first rules wish) in
+    omega (arith, more, size)
+
+pub gained_next : (first : Rulebook) (wishes : List Wish) (i : ℕ) (wish : Wish) (old new whole : List Rule) → i < length wishes → wish ≡ get_or wishes i wish
+    → new ≡ old ++ gained first old wish → grants_from first old (drop i wishes) ≡ whole → grants_from first new (drop (i + 1) wishes) ≡ whole
+gained_next first wishes i wish old new whole below is added so_far =
+    let next : i + 1 ≡ suc i = omega arith in
+    ap (λ ns. grants_from first ns (drop (i + 1) wishes)) added
+    ∙ (ap (λ k. grants_from first (old ++ gained first old wish) (drop k wishes)) next
+    ∙ (sym (ap (grants_from first old) (drop_suc wishes i wish below is)) ∙ so_far))
+
+pub too_many : (first : Rulebook) (wishes rest : List Wish) (rules : List Rule) → grants_from first rules rest ≡ grants_from first [] wishes
+    → 1024 < length first.rules + length rules → 1024 < length first.rules + length (grants_from first [] wishes)
+too_many first wishes rest rules same many =
+    let grow : length rules ≤ length (grants_from first rules rest) = grants_grow first rules rest in
+    let size : length (grants_from first rules rest) ≡ length (grants_from first [] wishes) = ap length same in
+    omega (arith, grow, size, many)
+
+pub all_gained : (first : Rulebook) (wishes : List Wish) (i : ℕ) (rules : List Rule) → length wishes ≤ i → grants_from first rules (drop i wishes) ≡ grants_from first [] wishes
+    → length first.rules + length rules ≤ 1024 → IsGained first wishes rules
+all_gained first wishes i rules past same few = record {
+  is = sym (ap (grants_from first rules) (drop_all i wishes past)) ∙ same;
+  room = few;
+}

@@ -1,5 +1,7 @@
+pub mod TakingLemmas
 pub mod CoversLemmas
 pub mod ExactLemmas
 pub mod GrantsLemmas
 pub mod ExtendsLemmas
 pub mod ProposingLemmas
+pub mod UnreachedLemmas

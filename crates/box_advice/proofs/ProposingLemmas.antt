@@ -1,11 +1,16 @@
 -- What is read of a proposal is what it was made of.
-use Rattle.std.proofs.Common.{◌≡◌, ◌∙◌, ℕ, ◌+◌, ◌<◌, ◌≤◌, true, Bool, List, [], ◌∷◌, ◌++◌, length, get_or, take, drop, sym, ap, arith, refl, Some}
-use Rattle.std.specs.Str.{bytes_eq}
+use Rattle.std.proofs.Common.{◌≡◌, ◌∙◌, ℕ, ◌+◌, ◌<◌, ◌≤◌, true, List, [], ◌∷◌, ◌++◌, length, get_or, take, drop, subst, sym, ap, arith, refl, Some}
+use Rattle.std.specs.Prelude.{IfErr, Result, Ok, Err}
 use Rattle.std.proofs.lemmas.Slice.Eq.{bytes_eq-Decides}
 use Rattle.std.proofs.lemmas.List.{take-append-drop, take_all, take_more_same}
 use Rattle.box_policy.specs.declared.policy.Rule.{Rule}
 use Rattle.box_policy.specs.Rulebook.{Rulebook}
-use Rattle.box_advice.specs.Proposals.{has_base}
+use Rattle.box_policy.specs.Written.{Written}
+use Rattle.box_advice.specs.Proposals.{HasRoom, IsGainRefused, IsNotPrinted, has_base, with_gained}
+use Rattle.box_advice.specs.Wishes.{IsGained}
+use Rattle.box_advice.specs.declared.proposing.ProposalError.{ProposalError}
+use Rattle.box_advice.specs.declared.proposing.ProposalError.TheVariants as e
+use Rattle.box_advice.specs.declared.wishes.Wish.{Wish}
 
 -- two lists that are the parts of a third
 pub joined : (rules first others front back : List Rule) (n : ℕ) → front ≡ take n rules → back ≡ drop n rules → front ≡ first → back ≡ others → rules ≡ first ++ others
@@ -33,3 +38,23 @@ bare book base told none =
     let same : book.base ≡ base = (bytes_eq-Decides book.base base).0 told in
     let empty : book.rules ≡ [] = no_rules book.rules none in
     λ i. record { base = same i; rules = empty i }
+
+-- ---- what is not printed
+
+module _ (first : Rulebook) (wishes : List Wish) (gained : List Rule) (got : IsGained first wishes gained) where
+  has_room : HasRoom first wishes
+  has_room = subst (λ (rules : List Rule). length first.rules + length rules ≤ 1024) got.is got.room
+
+  refused_by : (error : ProposalError) → IsNotPrinted (with_gained first gained) error → IsGainRefused first wishes error
+  refused_by (e.Policy error) h = h
+  refused_by e.OtherBase h = h
+  refused_by e.TooManyRules h = absurd h
+  refused_by e.TooLong h =
+      (has_room, h.0, subst (λ (rules : List Rule). Written h.0 (with_gained first rules)) got.is h.1, h.2)
+  refused_by e.Misprinted h = has_room
+  refused_by e.Memory h = tt
+
+  pub not_printed : {T : Type 0} (result : Result T ProposalError) → IfErr result (IsNotPrinted (with_gained first gained))
+      → IfErr result (IsGainRefused first wishes)
+  not_printed (Ok v) h = tt
+  not_printed (Err error) h = refused_by error h

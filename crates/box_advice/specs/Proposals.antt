@@ -1,16 +1,18 @@
 -- A policy that is made of another one and of what it is to allow.
 use Rattle.std.specs.Prelude.{◌≡◌, ℕ, ◌<◌, ◌≤◌, Bool, true, false, List, [], ◌++◌, ◌+◌, length, Option, Some, None}
-use Rattle.std.specs.Prelude.{Contains, ◌⊎◌, option_map}
+use Rattle.std.specs.Prelude.{Contains, ◌⊎◌, map, option_map}
 use Rattle.std.specs.Str.{bytes_eq}
-use Rattle.box_policy.specs.declared.policy.Decision.{Decision}
 use Rattle.box_policy.specs.declared.policy.Decision.TheVariants.{Allow, Deny, NoRule}
 use Rattle.box_policy.specs.declared.policy.Kind.{Kind}
 use Rattle.box_policy.specs.declared.policy.Outlook.TheVariants.{Always, Never}
 use Rattle.box_policy.specs.declared.policy.Rule.{Rule}
+use Rattle.box_policy.specs.Counts.{rule_cleared}
+use Rattle.box_policy.specs.declared.error.PolicyError.{PolicyError}
 use Rattle.box_policy.specs.Decisions.{decision, outlook}
 use Rattle.box_policy.specs.Exact.{is_exact, Same}
-use Rattle.box_policy.specs.Refusals.{IsRefused}
+use Rattle.box_policy.specs.Refusals.{IsRefused, no_memory}
 use Rattle.box_policy.specs.Rulebook.{Rulebook}
+use Rattle.box_policy.specs.Words.{is_base}
 use Rattle.box_policy.specs.Written.{Written}
 use Rattle.box_advice.specs.Wishes.{answer, grants_from}
 use Rattle.box_advice.specs.declared.proposing.Basis.{Basis}
@@ -54,18 +56,24 @@ abbrev pub IsKeptOut : Rulebook → Wish → List ℕ → Type 0
 IsKeptOut first wish text =
     ((n : ℕ) × (answer first wish.kind text wish.may_be_given ≡ Deny n)) ⊎ (is_exact first.base wish.kind text ≡ false)
 
+-- the policy once its rules have allowed so often
+abbrev pub with_counts : Rulebook → List Rule → Rulebook
+with_counts book counted = record book { rules = counted }
+
 -- What is owed is allowed, however often rules have allowed. What is decided otherwise than the first policy does was
--- wished, and the first policy had no rule for it. So what is wished and never allowed, which makes `check` refuse a
--- script, is denied by a rule of the first policy, or no pattern can hold it.
-pub record Extends (first last : Rulebook) (wishes : List Wish) : Type 0 where
-  pub allows : (wish : Wish) (text : List ℕ) → IsOwed first wishes wish text → outlook last wish.kind text false
-      ≡ Always
-  pub decides : (kind : Kind) (subject : List ℕ) (given : Bool) →
-      (decision last kind subject given ≡ decision first kind subject given)
-      ⊎ IsAdded first last wishes kind subject given
-  pub refuses : (wish : Wish) (text : List ℕ) → Contains wishes wish → wish.text ≡ Some text →
-      outlook last wish.kind text false ≡ Never →
-      IsKeptOut first wish text
+-- wished, and the first policy had no rule for it, or none that was not used up: so it is however often its rules have
+-- allowed, since the rules that are gained have no limit. So what is wished and never allowed, which makes `check`
+-- refuse a script, is denied by a rule of the first policy, or no pattern can hold it.
+pub record Extends (first : Rulebook) (gains : List Rule) (wishes : List Wish) : Type 0 where
+  pub allows : (wish : Wish) (text : List ℕ) → IsOwed first wishes wish text
+      → outlook (with_gained first gains) wish.kind text false ≡ Always
+  pub decides : (counted : List Rule) → map rule_cleared counted ≡ map rule_cleared first.rules
+      → (kind : Kind) (subject : List ℕ) (given : Bool)
+      → (decision (with_gained (with_counts first counted) gains) kind subject given
+      ≡ decision (with_counts first counted) kind subject given)
+      ⊎ IsAdded (with_counts first counted) (with_gained (with_counts first counted) gains) wishes kind subject given
+  pub refuses : (wish : Wish) (text : List ℕ) → Contains wishes wish → wish.text ≡ Some text
+      → outlook (with_gained first gains) wish.kind text false ≡ Never → IsKeptOut first wish text
 
 -- ---- a proposal
 
@@ -86,22 +94,26 @@ IsText book text = Written text book × (length text ≤ 16777216)
 -- the text writes the first policy with what it gains, and that decides as it should
 pub record Proposes (first : Rulebook) (wishes : List Wish) (text : List ℕ) : Type 0 where
   pub accepted : IsText (with_gained first (grants_from first [] wishes)) text
-  pub extends : Extends first (with_gained first (grants_from first [] wishes)) wishes
+  pub extends : Extends first (grants_from first [] wishes) wishes
 
 -- ---- what is refused; memory may be refused whatever the texts are
 
--- a base: that it is none, no contract says, nor that what was written for it reads as it was meant
-abbrev pub IsBaseRefused : ProposalError → Type 0
-IsBaseRefused (e.Policy error) = Unit {0}
-IsBaseRefused e.OtherBase = ⊥
-IsBaseRefused e.TooManyRules = ⊥
-IsBaseRefused e.TooLong = ⊥
-IsBaseRefused e.Misprinted = Unit {0}
-IsBaseRefused e.Memory = Unit {0}
+-- the text is none that may be a base
+abbrev pub no_base : PolicyError
+no_base = record { code = 3; rule = 0 }
+
+-- a base: that it is none; that what was written for one does not read as it was meant, no contract rules out
+abbrev pub IsBaseRefused : List ℕ → ProposalError → Type 0
+IsBaseRefused base (e.Policy error) = (error ≡ no_base) × (is_base (Some base) ≡ false)
+IsBaseRefused base e.OtherBase = ⊥
+IsBaseRefused base e.TooManyRules = ⊥
+IsBaseRefused base e.TooLong = ⊥
+IsBaseRefused base e.Misprinted = is_base (Some base) ≡ true
+IsBaseRefused base e.Memory = Unit {0}
 
 -- a policy's text
 abbrev pub IsTextRefused : List ℕ → Option (List ℕ) → ProposalError → Type 0
-IsTextRefused text base (e.Policy error) = IsRefused text error
+IsTextRefused text base (e.Policy error) = IsRefused text error × (error ≡ no_memory → ⊥)
 IsTextRefused text base e.OtherBase = (first : Rulebook) × Written text first × (has_base first.base base ≡ false)
 IsTextRefused text base e.TooManyRules = ⊥
 IsTextRefused text base e.TooLong = ⊥
@@ -109,17 +121,33 @@ IsTextRefused text base e.Misprinted = ⊥
 IsTextRefused text base e.Memory = Unit {0}
 
 abbrev pub IsStartRefused : Basis → ProposalError → Type 0
-IsStartRefused (Base base) error = IsBaseRefused error
+IsStartRefused (Base base) error = IsBaseRefused base.now error
 IsStartRefused (Policy text base) error = IsTextRefused text.now (option_map (λ s. s.now) base) error
 
--- what a policy would gain: its rules are too many; that they are too long to be read, or misprinted, no contract rules
--- out
+-- the policy may have the rules that it gains
+abbrev pub HasRoom : Rulebook → List Wish → Type 0
+HasRoom first wishes = length first.rules + length (grants_from first [] wishes) ≤ 1024
+
+-- what is to be written for a policy: a text that writes it is too long to be read; that it is misprinted no contract
+-- rules out
+abbrev pub IsNotPrinted : Rulebook → ProposalError → Type 0
+IsNotPrinted last (e.Policy error) = ⊥
+IsNotPrinted last e.OtherBase = ⊥
+IsNotPrinted last e.TooManyRules = ⊥
+IsNotPrinted last e.TooLong = (text : List ℕ) × Written text last × (16777216 < length text)
+IsNotPrinted last e.Misprinted = Unit {0}
+IsNotPrinted last e.Memory = Unit {0}
+
+-- what a policy would gain: its rules are too many, or else a text that writes it is too long to be read; that it is
+-- misprinted no contract rules out
 abbrev pub IsGainRefused : Rulebook → List Wish → ProposalError → Type 0
 IsGainRefused first wishes (e.Policy error) = ⊥
 IsGainRefused first wishes e.OtherBase = ⊥
 IsGainRefused first wishes e.TooManyRules = 1024 < length first.rules + length (grants_from first [] wishes)
-IsGainRefused first wishes e.TooLong = Unit {0}
-IsGainRefused first wishes e.Misprinted = Unit {0}
+IsGainRefused first wishes e.TooLong =
+    HasRoom first wishes × (text : List ℕ) × Written text (with_gained first (grants_from first [] wishes))
+    × (16777216 < length text)
+IsGainRefused first wishes e.Misprinted = HasRoom first wishes
 IsGainRefused first wishes e.Memory = Unit {0}
 
 abbrev pub IsProposalRefused : Basis → List Wish → ProposalError → Type 0

@@ -1,5 +1,5 @@
 -- Which rules a policy gains by what it is to allow.
-use Rattle.std.specs.Prelude.{ℕ, Bool, true, false, List, [], ◌∷◌, ◌++◌, Option, Some, None, if◌then◌else◌}
+use Rattle.std.specs.Prelude.{◌≡◌, ℕ, ◌+◌, ◌≤◌, length, Bool, true, false, List, [], ◌∷◌, ◌++◌, Option, Some, None, if◌then◌else◌}
 use Rattle.std.specs.List.{list_any}
 use Rattle.box_policy.specs.declared.policy.Decision.{Decision}
 use Rattle.box_policy.specs.declared.policy.Decision.TheVariants.{Allow, Deny, NoRule}
@@ -67,3 +67,8 @@ gained book rules wish = gained_by (fate_of book rules wish) wish.kind wish.text
 abbrev pub grants_from : Rulebook → List Rule → List Wish → List Rule
 grants_from book rules [] = rules
 grants_from book rules (wish ∷ wishes) = grants_from book (rules ++ gained book rules wish) wishes
+
+-- the rules are those that the wishes gain, and the policy may have them
+pub record IsGained (book : Rulebook) (wishes : List Wish) (gained : List Rule) : Type 0 where
+  pub is : gained ≡ grants_from book [] wishes
+  pub room : length book.rules + length gained ≤ 1024

@@ -5,15 +5,19 @@
 //! [`propose`] writes a policy that allows more.
 #![tactic(auto)]
 
+mod commands;
 mod covers;
 mod denials;
 mod explaining;
 mod faults;
 mod linting;
+mod lookalikes;
 mod nearest;
+mod oddities;
 mod places;
 mod printing;
 mod proposing;
+mod unreached;
 mod wanting;
 mod warnings;
 mod wishes;
@@ -24,5 +28,6 @@ pub use denials::{LogError, read_log};
 pub use explaining::{Reasons, Wanted, explained, why};
 pub use linting::{Findings, lint};
 pub use proposing::{Basis, ProposalError, propose};
+pub use unreached::Unreached;
 pub use wishes::{Origin, Wish};
 pub use words::kind_named;

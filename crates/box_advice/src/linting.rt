@@ -1,20 +1,26 @@
 // What is wrong with a policy, in lines for its writer.
-ghost use Rattle.std.specs.Prelude.{IfOk};
+ghost use Rattle.std.specs.Prelude.{◌≡◌, false, IfOk};
+ghost use Rattle.box_policy.specs.Refusals.{IsRefused, no_memory};
+ghost use Rattle.box_policy.specs.Written.{Written};
 ghost use Rattle.box_advice.specs.Lints.{Lints};
 
 use crate::faults::{Mistake, fault_in, rules_of};
+use crate::lookalikes::lookalike_words;
 use crate::places::{Places, header_line, key_line};
-use crate::warnings::push_warnings;
+use crate::unreached::{Unreached, rules_unreached};
+use crate::warnings::{Read, push_warnings};
 use awk_text::Memory;
 use box_policy::error::PolicyError;
 use box_policy::policy::Policy;
 use std::alloc::{AllocError, Global};
 use toml::Table;
 
-/// What a policy's text is told: the lines, and why it is refused, where it is.
+/// What a policy's text is told: why it is refused, where it is, the rules that no request reaches, and the lines that
+/// tell of these and of whatever else is found.
 #[derive(Drop)]
 pub struct Findings {
     pub refusal: Option<PolicyError>,
+    pub unreached: Vec<Unreached>,
     pub lines: String,
 }
 
@@ -88,11 +94,14 @@ fn push_document(
     error: &toml::de::Error,
     lines: &mut String,
 ) -> Result<(), Memory> {
-    let line = match error.span() {
-        Some(span) => Some(line_at(text, span.start)),
-        None => None,
+    let Some(span) = error.span() else {
+        return push_line(alloc, name, None, refused, error.message(), lines);
     };
-    push_line(alloc, name, line, refused, error.message(), lines)
+    let line = Some(line_at(text, span.start));
+    let hint = lookalike_words(alloc, text, span.start)?;
+    let message = error.message();
+    let words = format!(in alloc; "{message}{hint}")?;
+    push_line(alloc, name, line, refused, words.as_str(), lines)
 }
 
 fn push_refusal(
@@ -113,27 +122,64 @@ fn push_refusal(
     }
 }
 
+// Whether memory was refused.
+fn is_memory(error: PolicyError) -> bool
+    ensures { result ≡ false → error ≡ no_memory → ⊥ }
+{
+    error.code == PolicyError::MEMORY
+}
+
 /// The lines for the policy of this text, which stands in the file of this name: nothing for one that is in order; why
 /// it is refused, with the line and what was meant; or what its rules say that may not be meant. `file` is the file's
 /// absolute name. `Memory` where memory is refused.
 pub fn lint(alloc: Global, name: &str, file: &str, text: &[u8]) -> Result<Findings, Memory>
     ensures { IfOk result (Lints text.now) }
 {
-    let mut lines = String::new(alloc);
     match Policy::read(alloc, text) {
-        Ok(policy) => {
-            push_warnings(alloc, name, file, text, &policy, &mut lines)?;
-            Ok(Findings {
-                refusal: None,
-                lines,
-            })
-        }
-        Err(error) => {
-            push_refusal(alloc, name, text, error, &mut lines)?;
-            Ok(Findings {
-                refusal: Some(error),
-                lines,
-            })
-        }
+        Ok(policy) => in_order(alloc, name, file, text, &policy),
+        Err(error) => refused(alloc, name, text, error),
     }
+}
+
+fn in_order(
+    alloc: Global,
+    name: &str,
+    file: &str,
+    text: &[u8],
+    policy: &Policy,
+) -> Result<Findings, Memory>
+    requires { Written text.now policy.now }
+    ensures { IfOk result (Lints text.now) }
+{
+    let unreached = rules_unreached(alloc, policy)?;
+    let mut lines = String::new(alloc);
+    let read = Read {
+        name,
+        file,
+        text,
+        policy,
+        unreached: unreached.as_slice(),
+    };
+    push_warnings(alloc, read, &mut lines)?;
+    Ok(Findings {
+        refusal: None,
+        unreached,
+        lines,
+    })
+}
+
+fn refused(alloc: Global, name: &str, text: &[u8], error: PolicyError) -> Result<Findings, Memory>
+    requires { IsRefused text.now error }
+    ensures { IfOk result (Lints text.now) }
+{
+    if is_memory(error) {
+        return Err(AllocError);
+    }
+    let mut lines = String::new(alloc);
+    push_refusal(alloc, name, text, error, &mut lines)?;
+    Ok(Findings {
+        refusal: Some(error),
+        unreached: Vec::new(alloc),
+        lines,
+    })
 }

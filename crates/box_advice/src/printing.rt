@@ -10,7 +10,18 @@ use std::alloc::Global;
 /// The most bytes of a text that a comment shows.
 const MOST_SHOWN: usize = 1024;
 
-// A string of TOML, between quotes.
+// A character of TOML by its number.
+fn push_escape(alloc: Global, code: u32, lines: &mut String) -> Result<(), Memory> {
+    let text = if code > 0xffff {
+        format!(in alloc; "\\U{code:08x}")?
+    } else {
+        format!(in alloc; "\\u{code:04x}")?
+    };
+    lines.push_str(text.as_str())?;
+    Ok(())
+}
+
+// A string of TOML, between quotes. What is no printable ASCII stands there by its number.
 fn push_string(alloc: Global, text: &str, lines: &mut String) -> Result<(), Memory> {
     lines.push_str("\"")?;
     for c in text.chars() {
@@ -19,11 +30,8 @@ fn push_string(alloc: Global, text: &str, lines: &mut String) -> Result<(), Memo
             '\\' => lines.push_str("\\\\")?,
             '\n' => lines.push_str("\\n")?,
             '\t' => lines.push_str("\\t")?,
-            '\0'..='\u{1f}' | '\u{7f}' => {
-                let code = c as u32;
-                lines.push_str(format!(in alloc; "\\u{code:04x}")?.as_str())?;
-            }
-            _ => lines.push(c)?,
+            ' '..='~' => lines.push(c)?,
+            _ => push_escape(alloc, c as u32, lines)?,
         }
     }
     lines.push_str("\"")?;

@@ -1,10 +1,13 @@
 // A policy that allows more.
-ghost use Rattle.std.specs.Prelude.{◌≡◌, ◌++◌, ◌+◌, ◌<◌, [], true, length, option_map, IfOk, IfErr, IfSome};
+ghost use Rattle.std.specs.Prelude.{◌≡◌, ◌⊎◌, ◌++◌, [], true, Some, option_map, IfOk, IfErr, IfSome};
+ghost use Rattle.box_policy.specs.Paths.{is_absolute};
 ghost use Rattle.box_policy.specs.Rulebook.{Rulebook};
+ghost use Rattle.box_policy.specs.Words.{has_wildcard, is_base};
 ghost use Rattle.box_policy.specs.Written.{Written};
-ghost use Rattle.box_advice.specs.Proposals.{IsBaseRefused, IsGainRefused, IsProposalRefused, IsStartRefused, IsText};
-ghost use Rattle.box_advice.specs.Proposals.{IsTextRefused, Proposes, Starts, has_base, with_gained};
+ghost use Rattle.box_advice.specs.Proposals.{IsBaseRefused, IsGainRefused, IsNotPrinted, IsProposalRefused, IsStartRefused};
+ghost use Rattle.box_advice.specs.Proposals.{IsText, IsTextRefused, Proposes, Starts, has_base, with_gained};
 ghost use Rattle.box_advice.specs.Wishes.{grants_from};
+ghost use Rattle.box_advice.specs.declared.proposing.ProposalError.TheVariants.{Memory as OutOfMemory, Misprinted};
 
 use crate::covers::{are_of_one_kind, are_one};
 use crate::printing::{head_of, policy_text};
@@ -12,7 +15,8 @@ use crate::wanting::Gains;
 use crate::wishes::Wish;
 use awk_text::Memory;
 use box_policy::error::PolicyError;
-use box_policy::policy::{Effect, MAX_RULES, Policy, Quota, Rule};
+use box_policy::path::normal;
+use box_policy::policy::{Effect, Policy, Quota, Rule};
 use std::alloc::{AllocError, Global};
 use std::error::Error;
 use std::fmt;
@@ -108,13 +112,63 @@ fn has_base(policy: &Policy, base: Option<&str>) -> bool
     }
 }
 
+fn is_absolute(text: &[u8]) -> bool
+    ensures { result ≡ is_absolute text.now }
+{
+    match text {
+        [first, ..] => *first == b'/',
+        [] => false,
+    }
+}
+
+fn has_wildcard(text: &[u8]) -> bool
+    ensures { result ≡ has_wildcard text.now }
+{
+    text.iter().any(|byte| *byte == b'*' || *byte == b'?')
+}
+
+/// Whether a policy may have this base.
+fn is_base(alloc: Global, base: &[u8]) -> Result<bool, Memory>
+    ensures { IfOk result (λ b. b ≡ is_base (Some base.now)) }
+{
+    if !is_absolute(base) || has_wildcard(base) {
+        return Ok(false);
+    }
+    Ok(normal(alloc, base, base)?.is_some())
+}
+
+/// The policy of this text, which was written for it to be one.
+fn read_back(alloc: Global, text: &[u8]) -> Result<Policy, ProposalError>
+    ensures ok { IfOk result (λ policy. Written text.now policy) }
+    ensures refused { IfErr result (λ error. (error ≡ Misprinted) ⊎ (error ≡ OutOfMemory)) }
+{
+    match Policy::read(alloc, text) {
+        Ok(policy) => Ok(policy),
+        Err(error) if error.code == PolicyError::MEMORY => Err(ProposalError::Memory),
+        Err(_) => Err(ProposalError::Misprinted),
+    }
+}
+
 /// The policy without rules under this base.
 fn begun_under(alloc: Global, base: &str) -> Result<WrittenPolicy, ProposalError>
     ensures ok { IfOk result (λ begun. begun.policy ≡ record { base = base.now; rules = [] }) }
-    ensures refused { IfErr result IsBaseRefused }
+    ensures refused { IfErr result (IsBaseRefused base.now) }
+{
+    if !is_base(alloc, base.as_bytes())? {
+        return Err(ProposalError::Policy(PolicyError {
+            code: PolicyError::BASE,
+            rule: 0,
+        }));
+    }
+    begun_at(alloc, base)
+}
+
+fn begun_at(alloc: Global, base: &str) -> Result<WrittenPolicy, ProposalError>
+    ensures ok { IfOk result (λ begun. begun.policy ≡ record { base = base.now; rules = [] }) }
+    ensures refused { IfErr result (λ error. (error ≡ Misprinted) ⊎ (error ≡ OutOfMemory)) }
 {
     let text = head_of(alloc, false, base)?.into_bytes();
-    let policy = Policy::read(alloc, text.as_slice())?;
+    let policy = read_back(alloc, text.as_slice())?;
     if !has_base(&policy, Some(base)) {
         return Err(ProposalError::Misprinted);
     }
@@ -250,13 +304,6 @@ fn written(
     Ok(None)
 }
 
-/// Whether a policy may not have so many rules more.
-fn has_no_room(first: &Policy, gained: &[Rule]) -> bool
-    ensures { result ≡ true → 1024 < length first.now.rules + length gained.now }
-{
-    gained.len() > MAX_RULES - first.count()
-}
-
 /// The text of the policy that begins so and gains what is wished.
 fn proposed(
     alloc: Global,
@@ -268,12 +315,22 @@ fn proposed(
         text.items) }
     ensures refused { IfErr result (IsGainRefused beginning.now.policy wishes.now) }
 {
-    let gains = Gains::of(alloc, &beginning.policy, wishes)?;
-    if has_no_room(&beginning.policy, gains.rules.as_slice()) {
-        return Err(ProposalError::TooManyRules);
+    match Gains::of(alloc, &beginning.policy, wishes)? {
+        Some(gains) => printed(alloc, beginning, &gains),
+        None => Err(ProposalError::TooManyRules),
     }
-    let found = written(alloc, beginning, &gains)?;
-    let Some(text) = found else {
+}
+
+/// The text of the policy that begins so and gains this.
+fn printed(
+    alloc: Global,
+    beginning: &WrittenPolicy,
+    gains: &Gains,
+) -> Result<Vec<u8>, ProposalError>
+    ensures ok { IfOk result (λ text. IsText (with_gained beginning.now.policy gains.now.rules.items) text.items) }
+    ensures refused { IfErr result (IsNotPrinted (with_gained beginning.now.policy gains.now.rules.items)) }
+{
+    let Some(text) = written(alloc, beginning, gains)? else {
         return Err(ProposalError::Misprinted);
     };
     if text.len() > MAX_TEXT {

@@ -1,14 +1,16 @@
 // Which rules a policy gains.
-ghost use Rattle.std.specs.Prelude.{◌≡◌, ◌++◌, [], true, IfOk, OnOk};
+ghost use Rattle.std.specs.Prelude.{◌≡◌, ◌++◌, ◌+◌, ◌<◌, [], true, length, IfOk, MatchOption, OnOk};
+ghost use Rattle.box_policy.specs.declared.policy.Decision.TheVariants.{NoRule};
+ghost use Rattle.box_policy.specs.Exact.{is_exact};
 ghost use Rattle.box_policy.specs.Short.{are_short};
-ghost use Rattle.box_advice.specs.Wishes.{answer, answer_by, fate_by, fate_of, grant, gained, grants_from, speak};
+ghost use Rattle.box_advice.specs.Wishes.{answer, answer_by, fate_by, fate_of, grant, gained, grants_from, speak, IsGained};
 
 use crate::printing::{push_fate, push_rule};
 use crate::wishes::Wish;
 use awk_text::Memory;
 use awk_text::octets::Octets;
 use box_policy::exact::is_exact;
-use box_policy::policy::{Decision, Effect, Kind, Policy, Rule};
+use box_policy::policy::{Decision, Effect, Kind, MAX_RULES, Policy, Rule};
 use std::alloc::Global;
 
 /// What becomes of a wish.
@@ -62,16 +64,19 @@ fn speak(policy: &Policy, rules: &[Rule], kind: Kind, text: &[u8]) -> bool
     false
 }
 
-fn fate_by(answer: Decision, is_exact: bool, is_met: bool) -> Fate
-    ensures { result ≡ fate_by answer is_exact is_met }
+/// What becomes of a wish that the policy has no rule for.
+fn undecided_fate(policy: &Policy, gained: &[Rule], kind: Kind, text: &[u8]) -> Fate
+    requires short { are_short gained.now ≡ true }
+    ensures { result ≡ fate_by NoRule (is_exact policy.now.base kind text.now)
+        (speak policy.now.base gained.now kind text.now) }
 {
-    match answer {
-        Decision::Deny(number) => Fate::Denied(number),
-        Decision::Allow(_) => Fate::Allowed,
-        Decision::NoRule if !is_exact => Fate::Unfit,
-        Decision::NoRule if is_met => Fate::Met,
-        Decision::NoRule => Fate::Gains,
+    if !is_exact(policy.base(), kind, text) {
+        return Fate::Unfit;
     }
+    if speak(policy, gained, kind, text) {
+        return Fate::Met;
+    }
+    Fate::Gains
 }
 
 /// What becomes of the wish, where these rules were gained before.
@@ -83,10 +88,11 @@ fn fate_of(policy: &Policy, gained: &[Rule], wish: &Wish) -> Fate
         return Fate::Unknown;
     };
     let text = text.bytes();
-    let answer = answer(policy, wish.kind, text, wish.may_be_given);
-    let is_exact = is_exact(policy.base(), wish.kind, text);
-    let is_met = speak(policy, gained, wish.kind, text);
-    fate_by(answer, is_exact, is_met)
+    match answer(policy, wish.kind, text, wish.may_be_given) {
+        Decision::Deny(number) => Fate::Denied(number),
+        Decision::Allow(_) => Fate::Allowed,
+        Decision::NoRule => undecided_fate(policy, gained, wish.kind, text),
+    }
 }
 
 /// The rule that allows what is asked for with just this text.
@@ -129,17 +135,27 @@ impl Gains {
         Ok(())
     }
 
-    /// What a policy gains by these wishes.
-    pub(crate) fn of(alloc: Global, policy: &Policy, wishes: &[Wish]) -> Result<Gains, Memory>
-        ensures { IfOk result (λ gains. gains.rules.items ≡ grants_from policy.now [] wishes.now) }
+    /// What a policy gains by these wishes; `None` where it may not have so many rules.
+    pub(crate) fn of(
+        alloc: Global,
+        policy: &Policy,
+        wishes: &[Wish],
+    ) -> Result<Option<Gains>, Memory>
+        ensures { IfOk result (λ gains. MatchOption gains
+            (1024 < length policy.now.rules + length (grants_from policy.now [] wishes.now))
+            (λ g. IsGained policy.now wishes.now g.rules.items)) }
     {
+        let room = MAX_RULES - policy.count();
         let mut gains = Gains {
             rules: Vec::new(alloc),
             lines: String::new(alloc),
         };
         for wish in wishes {
             gains.take(alloc, policy, wish)?;
+            if gains.rules.len() > room {
+                return Ok(None);
+            }
         }
-        Ok(gains)
+        Ok(Some(gains))
     }
 }

@@ -1,13 +1,12 @@
 // What the rules of a policy say that may not be meant.
-use crate::covers::covers;
+use crate::commands::command_words;
+use crate::oddities::{odd_words, wide_words};
 use crate::places::{Places, PolicyFile};
+use crate::unreached::Unreached;
 use crate::words::kind_word;
 use awk_text::Memory;
-use box_policy::policy::{Decision, Effect, Kind, Policy, Rule};
+use box_policy::policy::{Decision, Effect, Kind, Policy};
 use std::alloc::Global;
-
-/// Commands whose options write files or start other commands.
-const WIDE_COMMANDS: [&str; 8] = ["sort", "awk", "sed", "find", "tar", "xargs", "env", "sh"];
 
 const FILES: [Kind; 3] = [Kind::Read, Kind::Write, Kind::Append];
 
@@ -40,31 +39,18 @@ fn push_warning(
     Ok(())
 }
 
-// The number of the first rule that leaves nothing for this one.
-fn covering(policy: &Policy, earlier: &[Rule], later: &Rule) -> Option<usize> {
-    for (at, rule) in earlier.iter().enumerate() {
-        if covers(policy, rule, later) {
-            return Some(at.saturating_add(1));
-        }
-    }
-    None
-}
-
-fn push_unreachable(
+fn push_unreached(
     alloc: Global,
     source: PolicyFile<'_>,
+    unreached: &[Unreached],
     lines: &mut String,
 ) -> Result<(), Memory> {
-    let rules = source.policy.rules();
-    let mut number = 0u32;
-    for (at, rule) in rules.iter().enumerate() {
-        number = number.saturating_add(1);
-        if let Some(earlier) = covering(source.policy, rules.get(..at).unwrap_or(&[]), rule) {
-            let words = format!(in alloc;
-                "no request reaches it: rule {earlier} decides all that it speaks of"
-            )?;
-            push_warning(alloc, source, number, words.as_str(), lines)?;
-        }
+    for told in unreached {
+        let words = format!(in alloc;
+            "no request reaches it: rule {} decides all that it speaks of",
+            told.by
+        )?;
+        push_warning(alloc, source, told.rule, words.as_str(), lines)?;
     }
     Ok(())
 }
@@ -97,33 +83,6 @@ fn push_reached(
     Ok(())
 }
 
-// The last component of the first word of a command.
-fn program_of(command: &[u8]) -> &[u8] {
-    let word = command.split(|b| *b == b' ').next().unwrap_or(command);
-    word.rsplit(|b| *b == b'/').next().unwrap_or(word)
-}
-
-// What a command's pattern lets through that its writer may not have meant.
-fn command_words(alloc: Global, pattern: &[u8]) -> Result<Option<String>, Memory> {
-    if pattern.windows(2).any(|pair| pair == b"**".as_slice()) {
-        let words = String::from_str(alloc, "** lets a script run whatever the shell makes of it")?;
-        return Ok(Some(words));
-    }
-    if !pattern.contains(&b'*') {
-        return Ok(None);
-    }
-    let program = program_of(pattern);
-    for wide in WIDE_COMMANDS {
-        if program == wide.as_bytes() {
-            let words = format!(in alloc;
-                "* lets options of {wide} through, which write files or start commands"
-            )?;
-            return Ok(Some(words));
-        }
-    }
-    Ok(None)
-}
-
 fn push_commands(alloc: Global, source: PolicyFile<'_>, lines: &mut String) -> Result<(), Memory> {
     let mut number = 0u32;
     for rule in source.policy.rules() {
@@ -137,27 +96,58 @@ fn push_commands(alloc: Global, source: PolicyFile<'_>, lines: &mut String) -> R
     Ok(())
 }
 
-/// The warnings for the policy of this text: rules that no request reaches, rules that allow the policy itself,
-/// `/proc`, `/dev` or the root, and commands with more room than they seem to have. `file` is the absolute name of the
-/// policy's file.
-pub fn push_warnings(
-    alloc: Global,
-    name: &str,
-    file: &str,
-    text: &[u8],
-    policy: &Policy,
-    lines: &mut String,
-) -> Result<(), Memory> {
-    let places = Places::of(alloc, text, policy.count())?;
+// Warns where a rule fits all that there is of its kind. What the host gives, it has picked.
+fn push_wide(alloc: Global, source: PolicyFile<'_>, lines: &mut String) -> Result<(), Memory> {
+    let mut number = 0u32;
+    for rule in source.policy.rules() {
+        number = number.saturating_add(1);
+        if rule.effect != Effect::Deny && !rule.only_given {
+            if let Some(words) = wide_words(rule) {
+                push_warning(alloc, source, number, words, lines)?;
+            }
+        }
+    }
+    Ok(())
+}
+
+// Warns where a rule seems to say what it does not.
+fn push_odd(alloc: Global, source: PolicyFile<'_>, lines: &mut String) -> Result<(), Memory> {
+    let mut number = 0u32;
+    for rule in source.policy.rules() {
+        number = number.saturating_add(1);
+        if let Some(words) = odd_words(alloc, rule)? {
+            push_warning(alloc, source, number, words.as_str(), lines)?;
+        }
+    }
+    Ok(())
+}
+
+/// The policy of a file, and which of its rules no request reaches. `file` is the absolute name of the file.
+#[derive(Clone, Copy, Drop)]
+pub struct Read<'a> {
+    pub name: &'a str,
+    pub file: &'a str,
+    pub text: &'a [u8],
+    pub policy: &'a Policy,
+    pub unreached: &'a [Unreached],
+}
+
+/// The warnings for this policy: rules that no request reaches, rules that allow the policy itself, `/proc`, `/dev` or
+/// the root, commands with more room than they seem to have, rules for all that there is of a kind, and patterns that
+/// look like those of another language.
+pub fn push_warnings(alloc: Global, read: Read<'_>, lines: &mut String) -> Result<(), Memory> {
+    let places = Places::of(alloc, read.text, read.policy.count())?;
     let source = PolicyFile {
-        name,
-        policy,
+        name: read.name,
+        policy: read.policy,
         places: &places,
     };
-    push_unreachable(alloc, source, lines)?;
-    push_reached(alloc, source, &[file], "the policy", lines)?;
+    push_unreached(alloc, source, read.unreached, lines)?;
+    push_reached(alloc, source, &[read.file], "the policy", lines)?;
     push_reached(alloc, source, PROC.as_slice(), "/proc", lines)?;
     push_reached(alloc, source, DEV.as_slice(), "/dev", lines)?;
     push_reached(alloc, source, ROOT.as_slice(), "the root", lines)?;
-    push_commands(alloc, source, lines)
+    push_commands(alloc, source, lines)?;
+    push_wide(alloc, source, lines)?;
+    push_odd(alloc, source, lines)
 }

@@ -20,7 +20,7 @@ pub enum Found {
 }
 
 /// What an item of a script is: an action of BEGIN or of END, a rule for records, or a function.
-#[derive(Clone, Copy, Debug, PartialEq, Eq, Drop)]
+#[derive(Clone, Copy, PartialEq, Eq, Drop)]
 pub enum Sort {
     Begin,
     Rule,

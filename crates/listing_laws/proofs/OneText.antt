@@ -1,11 +1,13 @@
 -- A text writes one policy, and spells scripts of one program.
-use Rattle.std.proofs.Common.{◌≡◌, ◌∙◌, ℕ, Bool, true, false, ◌&&◌, not, List, [], ◌∷◌, Option, Result, Ok, Err, refl, sym, ap, subst}
+use Rattle.std.proofs.Common.{◌≡◌, ◌∙◌, ℕ, Bool, true, false, ◌&&◌, not, List, [], ◌∷◌, Option, refl, sym, ap, subst}
 use Rattle.std.specs.Prelude.{Some, None, codes, map, is_none}
 use Rattle.std.specs.List.{AllZip}
 use Rattle.toml.specs.Data.{Members, get_member}
 use Rattle.toml.specs.Parse.{parse_document}
 use Rattle.awk_lowering.specs.Programs.{program}
+use Rattle.awk_parse.proofs.Laws.{scripts_have_one_tree}
 use Rattle.awk_parse.specs.Scripts.{IsScriptOf}
+use Rattle.awk_parse.specs.SpellsScripts.{SpellsScript}
 use Rattle.awk_parse.specs.declared.script.Script.{Script}
 use Rattle.awk_program.specs.View.{view_program}
 use Rattle.awk_resolve.specs.Assigns.{can_assign}
@@ -20,9 +22,7 @@ use Rattle.awk_resolve.specs.declared.mention.Section.{Section}
 use Rattle.awk_tokens.proofs.Once.{read_once}
 use Rattle.awk_tokens.specs.Words.{is_name, reserved}
 use Rattle.awk_tokens.specs.declared.token.Token.{Token}
-use Rattle.awk_tree.specs.Statements as grammar
 use Rattle.awk_tree.specs.Tree.{Entry}
-use Rattle.awk_tree.specs.declared.fault.ParseError.{ParseError}
 use Rattle.box_policy.specs.Rulebook.{Rulebook}
 use Rattle.box_policy.specs.Tree.{text_at, tables_of}
 use Rattle.box_policy.specs.Words.{effect_of, kind_of, pattern_of, from_of}
@@ -98,17 +98,8 @@ same_script items s r x y =
     let environ : s.names_environ ≡ r.names_environ = x.environ ∙ sym y.environ in
     record { program = programs; assigns = assigns; environ = environ; main = x.main ∙ sym y.main }
 
-items_in : Result (List Entry × List Token) ParseError → List Entry
-items_in (Ok p) = p.0
-items_in (Err e) = []
-
--- the items that are read of the tokens
-one_reading : (tokens others : List Token) (xs ys : List Entry) → others ≡ tokens →
-    grammar.script tokens ≡ Ok (xs, []) → grammar.script others ≡ Ok (ys, []) → ys ≡ xs
-unfolding items_in
-one_reading tokens others xs ys same e f = ap items_in (sym f ∙ ap grammar.script same ∙ e)
-
 pub one_program : OneProgram
-one_program text tokens others s r reads read too again =
-    let items = one_reading tokens others read.0 again.0 (read_once text tokens others reads too) read.1 again.1 in
-    same_script read.0 s r read.2 (subst (λ z. IsScriptOf z r) items again.2)
+one_program text tokens others s r reads is too again =
+    let same : others ≡ tokens = read_once text tokens others reads too in
+    let items = scripts_have_one_tree tokens again.0 is.0 (subst (λ z. SpellsScript z again.0) same again.1) is.1 in
+    same_script is.0 s r is.2 (subst (λ z. IsScriptOf z r) items again.2)

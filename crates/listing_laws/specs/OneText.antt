@@ -1,6 +1,6 @@
 -- What a text says is one thing: it writes one policy, and it spells scripts of one program.
 use Rattle.std.specs.Prelude.{◌≡◌, ℕ, List}
-use Rattle.awk_parse.specs.Scripts.{IsRead}
+use Rattle.awk_parse.specs.Scripts.{IsSpelled}
 use Rattle.awk_parse.specs.declared.script.Script.{Script}
 use Rattle.awk_program.specs.View.{view_program}
 use Rattle.awk_resolve.specs.Assigns.{can_assign}
@@ -20,8 +20,8 @@ pub record SameScript (s r : Script) : Type 0 where
   pub environ : s.names_environ ≡ r.names_environ
   pub main : s.reads_main ≡ r.reads_main
 
--- so it is of the scripts that the rules of the grammar read of one text
+-- so it is of the scripts that one text spells
 abbrev pub OneProgram : Type 0
 OneProgram =
     (text : List ℕ) (tokens others : List Token) (s r : Script) →
-    Reads text tokens → IsRead tokens s → Reads text others → IsRead others r → SameScript s r
+    Reads text tokens → IsSpelled tokens s → Reads text others → IsSpelled others r → SameScript s r

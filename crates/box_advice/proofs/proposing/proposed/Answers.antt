@@ -1,16 +1,17 @@
-use Rattle.std.proofs.Common.{◌≡◌, ◌∙◌, ◌+◌, ◌<◌, true, List, length, subst, arith, rules}
+use Rattle.std.proofs.Common.{List, subst}
+use Rattle.std.specs.Prelude.{IfOk}
 use Rattle.box_policy.specs.declared.policy.Rule.{Rule}
-use Rattle.box_policy.specs.Written.{Written}
-use Rattle.box_advice.specs.Proposals.{with_gained}
+use Rattle.box_advice.specs.Proposals.{IsText, with_gained}
+use Rattle.box_advice.specs.Wishes.{IsGained}
+use Rattle.box_advice.proofs.ProposingLemmas.{not_printed}
 use Rattle.box_advice.proofs.proposing.proposed.Goals as goal
 
-pub returns-then-has_no_room-clause-refused : goal.returns-then-has_no_room-clause-refused
-returns-then-has_no_room-clause-refused c =
-    let told : c.has_no_room.result ≡ true = search rules in
-    subst (λ (rules : List Rule). 1024 < length c.args.beginning.now.policy.rules + length rules) (c.as_slice.ensures.value ∙ c.in_ok-gains.ensures)
-    (c.has_no_room.ensures told)
+pub returns-in-Some-clause-ok : goal.returns-in-Some-clause-ok
+returns-in-Some-clause-ok c =
+    let got : IsGained c.args.beginning.now.policy c.args.wishes.now c.in-Some.gains.rules.items = rw c.in-Some.is at c.in_ok-gains.ensures in
+    subst (λ (rules : List Rule). IfOk c.printed.result (λ text. IsText (with_gained c.args.beginning.now.policy rules) text.items)) got.is c.printed.ensures.ok
 
-pub returns-clause-ok : goal.returns-clause-ok
-returns-clause-ok c =
-    let read : Written c.in-Some.text.items (with_gained c.args.beginning.now.policy c.in_ok-gains.gains.rules.items) = rw c.in-Some.is at c.in_ok-found.ensures in
-    (subst (λ (rules : List Rule). Written c.in-Some.text.items (with_gained c.args.beginning.now.policy rules)) c.in_ok-gains.ensures read, omega arith)
+pub returns-in-Some-clause-refused : goal.returns-in-Some-clause-refused
+returns-in-Some-clause-refused c =
+    let got : IsGained c.args.beginning.now.policy c.args.wishes.now c.in-Some.gains.rules.items = rw c.in-Some.is at c.in_ok-gains.ensures in
+    not_printed c.args.beginning.now.policy c.args.wishes.now c.in-Some.gains.rules.items got c.printed.result c.printed.ensures.refused

@@ -1,6 +1,6 @@
 use Rattle.std.proofs.Common.{◌≡◌, ◌∙◌, true, length, sym, arith, rules}
 use Rattle.box_advice.proofs.ProposingLemmas.{bare}
-use Rattle.box_advice.proofs.proposing.begun_under.Goals as goal
+use Rattle.box_advice.proofs.proposing.begun_at.Goals as goal
 
 pub returns-clause-ok : goal.returns-clause-ok
 returns-clause-ok c =
