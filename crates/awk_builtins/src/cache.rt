@@ -4,6 +4,7 @@ ghost use Rattle.awk_fields.specs.Separators.{IsEre, IsNoEre};
 ghost use Rattle.std.specs.Prelude.{All, IfErr, IfOk, IfSome, ◌≡◌, ◌⊎◌};
 
 use awk_ere::Ere;
+use awk_hash::Seed;
 use awk_lib::is_same;
 use awk_text::Memory;
 use awk_text::fault::Fault;
@@ -27,7 +28,7 @@ struct Near {
 }
 
 /// The patterns that were used last, by their texts.
-type Cache = LruCache<Vec<u8>, Rc<Ere>>;
+type Cache = LruCache<Vec<u8>, Rc<Ere>, Seed>;
 
 /// The patterns of a run. The first few are kept, as compiled, and of the others those that were used last; which ones
 /// never shows.
@@ -36,6 +37,7 @@ pub struct Patterns {
     near: Vec<Near>,
     /// `None` until a pattern is first kept.
     cache: Option<Cache>,
+    seed: Seed,
 }
 
 impl Model for Patterns {
@@ -127,11 +129,12 @@ fn store(alloc: Global, cache: &mut Cache, source: &[u8], ere: &Rc<Ere>) -> Resu
 }
 
 impl Patterns {
-    /// No patterns yet. Takes no memory.
-    pub fn new(alloc: Global) -> Patterns {
+    /// No patterns yet. Their texts are hashed by this seed. Takes no memory.
+    pub fn new(alloc: Global, seed: Seed) -> Patterns {
         Patterns {
             near: Vec::new(alloc),
             cache: None,
+            seed,
         }
     }
 
@@ -146,7 +149,8 @@ impl Patterns {
         if let Some(cache) = &mut self.cache {
             return store(alloc, cache, source, ere);
         }
-        let mut cache = LruCache::new(alloc, NonZeroUsize::new(MOST_KEPT).unwrap())?;
+        let most = NonZeroUsize::new(MOST_KEPT).unwrap();
+        let mut cache = LruCache::with_hasher(alloc, most, self.seed)?;
         store(alloc, &mut cache, source, ere)?;
         self.cache = Some(cache);
         Ok(())

@@ -21,7 +21,7 @@ use box_world::world::World;
 use std::alloc::Global;
 
 /// A form of one operand.
-#[derive(Clone, Copy, Debug, PartialEq, Eq, Drop)]
+#[derive(Clone, Copy, PartialEq, Eq, Drop)]
 pub enum Unary {
     /// `! operand`
     Not,
@@ -32,7 +32,7 @@ pub enum Unary {
 }
 
 /// A form of two operands.
-#[derive(Clone, Copy, Debug, PartialEq, Eq, Drop)]
+#[derive(Clone, Copy, PartialEq, Eq, Drop)]
 pub enum Binary {
     /// `left < right`, and the other comparisons
     Compare(Comparison),

@@ -37,7 +37,7 @@ pub fn is_match(ere: &Ere, value: &Value) -> Result<bool, Memory>
 
 /// The values of RSTART and RLENGTH: where a match begins, counted from 1, and how many bytes it has; 0 and -1
 /// where there is none.
-#[derive(Clone, Copy, Debug, PartialEq, Eq, Drop)]
+#[derive(Clone, Copy, PartialEq, Eq, Drop)]
 pub struct Location {
     pub start: i64,
     pub length: i64,

@@ -21,7 +21,7 @@ use awk_text::value::Value;
 use std::alloc::Global;
 
 /// Which of awk's variables count a record: those of the main input, of a command, or none.
-#[derive(Clone, Copy, Debug, PartialEq, Eq, Drop)]
+#[derive(Clone, Copy, PartialEq, Eq, Drop)]
 pub enum Counted {
     Nothing,
     Nr,

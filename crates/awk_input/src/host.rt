@@ -12,7 +12,7 @@ use std::marker::Model;
 
 /// What a name is to the host of a run: a variable of the script that it may set, by its slot, or a
 /// name that it may not set.
-#[derive(Clone, Copy, Debug, PartialEq, Eq, Drop)]
+#[derive(Clone, Copy, PartialEq, Eq, Drop)]
 pub enum HostUse {
     Variable(u32),
     Barred,

@@ -8,7 +8,7 @@ use box_world::ask::Stop;
 use std::alloc::{AllocError, AllocFailed};
 
 /// Why a part of a run ends before it is done.
-#[derive(Clone, Copy, Debug, PartialEq, Eq, Drop)]
+#[derive(Clone, Copy, PartialEq, Eq, Drop)]
 pub enum Halt {
     /// The script has a fault at the place: the run shuts its streams.
     Fault(Fault, Place),

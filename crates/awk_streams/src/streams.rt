@@ -31,7 +31,7 @@ use std::marker::Model;
 use std::mem::replace;
 
 /// What sort of stream a text names. Streams of two classes are two, whatever their texts.
-#[derive(Clone, Copy, Debug, PartialEq, Eq, Drop)]
+#[derive(Clone, Copy, PartialEq, Eq, Drop)]
 pub enum Class {
     OperandFile,
     InputFile,

@@ -25,6 +25,8 @@ pub struct Run<'a> {
     pub steps: u64,
     /// The text that FS is set to.
     pub separator: Option<&'a str>,
+    /// Whether what the script prints is written in blocks.
+    pub is_block_buffered: bool,
     /// The words of `-v`, in order; whether they are `NAME=TEXT` is not looked at.
     pub assigns: Vec<&'a str>,
 }
@@ -41,6 +43,18 @@ pub struct Why<'a> {
     pub text: &'a str,
     /// Whether it is an operand that the run was started with.
     pub given: bool,
+}
+
+/// What `awkbox check` is asked for: what this policy says of this script, of which at most one is
+/// [`STANDARD_INPUT`].
+#[derive(Clone, Copy, Debug, Drop)]
+pub struct Check<'a> {
+    /// The name of the policy's file.
+    pub policy: &'a str,
+    /// The name of the script's file.
+    pub script: &'a str,
+    /// Whether it is enough that the policy denies nothing that is known before a run.
+    pub allows_open: bool,
 }
 
 /// What `awkbox propose` is asked for: a policy that allows what this script may ask for and what this log tells of,
@@ -66,7 +80,7 @@ pub enum Asked<'a> {
     /// To list where a run of this script may ask.
     List { script: &'a str },
     /// To tell whether this policy denies what this script may ask for.
-    Check { policy: &'a str, script: &'a str },
+    Check(Check<'a>),
     /// To tell which rules of a policy speak of a request.
     Why(Why<'a>),
     /// To tell what is wrong with this policy, or what its rules may not mean.
@@ -99,7 +113,7 @@ Exit status:
 const TOLD_STATUSES: &str = "\
 Exit status:
   0  The answer is printed; a check found the script clean
-  1  A check found the script refused or open
+  1  A check found the script refused, or open without --allow-open
   2  There was no memory for the answer
   3  The policy, the script or the command line was refused, or a file could not be read";
 
@@ -154,6 +168,19 @@ fn script<'a>(alloc: Global) -> Arg<'a> {
         .required(true)
 }
 
+// The words are read before these, and the file is told as that of `-f`: this one is for the help.
+fn last_script<'a>(alloc: Global) -> Arg<'a> {
+    let help = "The awk script, where all words behind it are operands";
+    option(alloc, "last-script", "FILE", help).short('E')
+}
+
+fn allow_open<'a>(alloc: Global) -> Arg<'a> {
+    Arg::new(alloc, "allow-open")
+        .action(ArgAction::SetTrue)
+        .long("allow-open")
+        .help("A script that is open ends with 0 too")
+}
+
 fn kind<'a>(alloc: Global) -> Arg<'a> {
     Arg::new(alloc, "kind")
         .required(true)
@@ -193,6 +220,13 @@ fn steps<'a>(alloc: Global) -> Arg<'a> {
         .default_value("10000000")
 }
 
+fn block_buffered<'a>(alloc: Global) -> Arg<'a> {
+    Arg::new(alloc, "block-buffered")
+        .action(ArgAction::SetTrue)
+        .long("block-buffered")
+        .help("What the script prints is written in blocks of up to 65536 bytes")
+}
+
 fn separator<'a>(alloc: Global) -> Arg<'a> {
     let help = "The text that FS is set to before BEGIN";
     option(alloc, "separator", "FS", help).short('F')
@@ -225,9 +259,11 @@ fn run_command<'a>(alloc: Global) -> Result<Command<'a>, AllocError> {
         .arg(report(alloc))?
         .arg(folder(alloc))?
         .arg(steps(alloc))?
+        .arg(block_buffered(alloc))?
         .arg(separator(alloc))?
         .arg(assigns(alloc))?
         .arg(script(alloc))?
+        .arg(last_script(alloc))?
         .arg(operands(alloc))
 }
 
@@ -243,6 +279,7 @@ fn check_command<'a>(alloc: Global) -> Result<Command<'a>, AllocError> {
         .about("Tells before any run whether a policy denies what a script may ask for")
         .after_help(TOLD_STATUSES)
         .arg(policy(alloc))?
+        .arg(allow_open(alloc))?
         .arg(script(alloc))
 }
 
@@ -373,6 +410,7 @@ fn run_of<'a>(alloc: Global, matches: &ArgMatches<'a>) -> Result<Run<'a>, Error>
         folder: matches.get_str("folder"),
         steps: steps_of(alloc, matches)?,
         separator: matches.get_str("separator"),
+        is_block_buffered: matches.get_flag("block-buffered"),
         assigns: assigns_of(alloc, matches)?,
     })
 }
@@ -424,7 +462,11 @@ fn asked_of<'a>(alloc: Global, matches: &ArgMatches<'a>) -> Result<Asked<'a>, Er
     }
     if name == "check" {
         let (policy, script) = sources_of(alloc, matches)?;
-        return Ok(Asked::Check { policy, script });
+        return Ok(Asked::Check(Check {
+            policy,
+            script,
+            allows_open: matches.get_flag("allow-open"),
+        }));
     }
     let policy = value_of(alloc, matches, "policy")?;
     if name == "why" {

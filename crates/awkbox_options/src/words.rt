@@ -8,7 +8,7 @@ use std::alloc::Global;
 
 /// The words before the operands, of which the first is the program's name, and the operands: what stands behind `--`,
 /// and what follows the script's file from the first word on that is no option, so that a script's first line may end
-/// with `-f`.
+/// with `-f`. All words behind the file of `-E` are operands, whatever they look like; it is told as the file of `-f`.
 ///
 /// A value that stands in one word with its short option is a word of its own here: of `-f=x` the file is
 /// `=x`, as the utility conventions of POSIX.1-2017 have it, where `clap` would drop the `=`.
@@ -23,6 +23,9 @@ pub struct Words {
 /// The option whose value is the script's file.
 const SCRIPT: &str = "-f";
 
+/// The same, where all words behind its value are operands.
+const LAST: &str = "-E";
+
 // What the next word is.
 #[derive(Clone, Copy, Debug, PartialEq, Eq, Drop)]
 enum Next {
@@ -32,7 +35,7 @@ enum Next {
     Operand,
 }
 
-const SHORT: [&str; 4] = [SCRIPT, "-v", "-F", "-C"];
+const SHORT: [&str; 5] = [SCRIPT, LAST, "-v", "-F", "-C"];
 
 const LONG: [&str; 6] = [
     "--policy",
@@ -58,6 +61,11 @@ fn cut(word: &str) -> Option<(&'static str, &str)> {
     None
 }
 
+// The option that this one is told as.
+fn told_as(option: &str) -> &str {
+    if option == LAST { SCRIPT } else { option }
+}
+
 // Whether this word is an option; `-` alone is none.
 fn is_option(word: &[u8]) -> bool {
     word.len() > 1 && word[0] == b'-'
@@ -70,6 +78,8 @@ struct Reading {
     next: Next,
     /// Whether the option of the script's file was met, so that operands may follow its value.
     has_script: bool,
+    /// Whether all words behind the value that comes next are operands.
+    is_last: bool,
 }
 
 impl Reading {
@@ -83,6 +93,7 @@ impl Reading {
             },
             next: Next::Option,
             has_script: false,
+            is_last: false,
         })
     }
 
@@ -92,21 +103,40 @@ impl Reading {
             && (word == b"--".as_slice() || self.has_script && !is_option(word))
     }
 
+    // Takes an option that has a value.
+    fn take_option(&mut self, alloc: Global, option: &str) -> Result<(), Memory> {
+        self.has_script = self.has_script || option == SCRIPT;
+        self.is_last = option == LAST;
+        self.next = Next::Value;
+        self.words
+            .options
+            .push(String::from_str(alloc, told_as(option))?)?;
+        Ok(())
+    }
+
+    // Takes a value.
+    fn take_value(&mut self, value: String) -> Result<(), Memory> {
+        self.next = if self.is_last {
+            Next::Operand
+        } else {
+            Next::Option
+        };
+        self.words.options.push(value)?;
+        Ok(())
+    }
+
     // Takes a word that is no operand.
     fn take(&mut self, alloc: Global, word: String) -> Result<(), Memory> {
+        if self.next == Next::Value {
+            return self.take_value(word);
+        }
         let text = word.as_str();
-        let is_value = self.next == Next::Value;
-        self.next = Next::Option;
-        if !is_value {
-            if wants_value(text) {
-                self.has_script = self.has_script || text == SCRIPT;
-                self.next = Next::Value;
-            } else if let Some((short, value)) = cut(text) {
-                self.has_script = self.has_script || short == SCRIPT;
-                self.words.options.push(String::from_str(alloc, short)?)?;
-                self.words.options.push(String::from_str(alloc, value)?)?;
-                return Ok(());
-            }
+        if wants_value(text) {
+            return self.take_option(alloc, text);
+        }
+        if let Some((short, value)) = cut(text) {
+            self.take_option(alloc, short)?;
+            return self.take_value(String::from_str(alloc, value)?);
         }
         self.words.options.push(word)?;
         Ok(())

@@ -2,8 +2,8 @@
 use awkbox::{Identity, ReadError, read_limited};
 use awkbox_options::STANDARD_INPUT;
 use std::fs::{File, Metadata, OpenOptions, metadata};
-use std::io;
-use std::os::unix::fs::MetadataExt;
+use std::io::{self, Write};
+use std::os::unix::fs::{FileExt, MetadataExt};
 
 /// The most bytes that a policy or a script may have.
 const MOST_BYTES: usize = 16_777_216;
@@ -53,6 +53,25 @@ pub fn read(rt: &HostRuntime, name: &str) -> Result<ReadFile, ReadError> {
     })
 }
 
+/// Whether the last line of this file has no end, as where a run was ended within a write. What cannot be read has one.
+fn is_torn(rt: &HostRuntime, name: &str, log: Identity) -> bool {
+    let Ok(file) = File::open(rt, name) else {
+        return false;
+    };
+    let Ok(metadata) = file.metadata() else {
+        return false;
+    };
+    let found = identity_of(&metadata);
+    if found.device != log.device || found.number != log.number {
+        return false;
+    }
+    let mut last = [b'\n'];
+    match metadata.len().checked_sub(1) {
+        Some(at) => file.read_at(&mut last, at).is_ok() && last[0] != b'\n',
+        None => false,
+    }
+}
+
 /// A log that is open for adding at its end alone, and still holds what it held.
 #[derive(Drop)]
 pub struct OpenLog {
@@ -60,6 +79,7 @@ pub struct OpenLog {
     pub identity: Identity,
     /// What is no regular file, as a terminal or a pipe, holds nothing that could be emptied.
     pub is_regular: bool,
+    is_torn: bool,
 }
 
 impl OpenLog {
@@ -67,21 +87,29 @@ impl OpenLog {
     pub fn open(rt: &HostRuntime, name: &str) -> io::Result<OpenLog> {
         let file = OpenOptions::new().append(true).create(true).open(rt, name)?;
         let metadata = file.metadata()?;
+        let identity = identity_of(&metadata);
+        let is_regular = metadata.is_file();
         Ok(OpenLog {
             file,
-            identity: identity_of(&metadata),
-            is_regular: metadata.is_file(),
+            identity,
+            is_regular,
+            is_torn: is_regular && is_torn(rt, name, identity),
         })
     }
 
-    /// The file for the lines of a run, emptied unless what it holds is kept.
+    /// The file for the lines of a run, emptied unless what it holds is kept; then a last line without an end is ended.
     pub fn begin(self, is_kept: bool) -> io::Result<File> {
         let OpenLog {
-            file,
+            mut file,
             is_regular,
+            is_torn,
             ..
         } = self;
-        if is_regular && !is_kept {
+        if is_kept {
+            if is_torn {
+                file.write_all(b"\n")?;
+            }
+        } else if is_regular {
             file.set_len(0)?;
         }
         Ok(file)

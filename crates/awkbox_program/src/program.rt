@@ -6,7 +6,7 @@ use crate::stack::has_small_stack;
 use crate::standard;
 use crate::standard::hold_closed;
 use awkbox::{Answer, ListingRefusal, Message, Octets, check, list};
-use awkbox_options::{Asked, NotAsked, Words, read_asked, read_words};
+use awkbox_options::{Asked, Check, NotAsked, Words, read_asked, read_words};
 
 /// Does what the words ask for, tells on standard error what went wrong, and gives the exit status.
 /// A message that cannot be written is passed over.
@@ -37,7 +37,7 @@ fn done(rt: &HostRuntime, asked: &Asked<'_>, operands: Vec<Octets>) -> Result<u8
     match asked {
         Asked::Run(run) => run_script(rt, run, operands),
         Asked::List { script } => list_file(rt, *script),
-        Asked::Check { policy, script } => check_files(rt, *policy, *script),
+        Asked::Check(asked) => check_files(rt, *asked),
         Asked::Why(why) => why_file(rt, why),
         Asked::Lint { policy } => lint_file(rt, *policy),
         Asked::Propose(asked) => propose_policy(rt, asked),
@@ -70,11 +70,21 @@ fn list_file(rt: &HostRuntime, script: &str) -> Result<u8, Message> {
     told(rt, list(rt.alloc(), script.bytes.as_slice()))
 }
 
-fn check_files(rt: &HostRuntime, policy: &str, script: &str) -> Result<u8, Message> {
-    let policy = read_source(rt, policy)?;
-    let script = read_source(rt, script)?;
+fn check_files(rt: &HostRuntime, asked: Check<'_>) -> Result<u8, Message> {
+    let policy = read_source(rt, asked.policy)?;
+    let script = read_source(rt, asked.script)?;
     let answer = check(rt.alloc(), policy.bytes.as_slice(), script.bytes.as_slice());
-    told(rt, answer)
+    let passes = asked.allows_open && is_open(&answer);
+    let status = told(rt, answer)?;
+    Ok(if passes { 0 } else { status })
+}
+
+// Whether a verdict says that the script is open.
+fn is_open(answer: &Result<Answer, ListingRefusal>) -> bool {
+    match answer {
+        Ok(answer) => answer.lines.as_slice().starts_with(b"open\n"),
+        Err(_) => false,
+    }
 }
 
 // Prints a listing or a verdict. That it cannot be written is passed over.

@@ -4,10 +4,12 @@ use crate::folders::{Folders, enter, resolved};
 use crate::setup::setup_of;
 use crate::standard;
 use awkbox::{
-    Account, Ending, Identity, LimitedLog, Memory, Message, Octets, OsWorld, OwnFile, Policy,
-    Setup, Warning, may_be_log, may_start, prepare, writing_rule,
+    Account, Ending, Fault, Identity, LimitedLog, Memory, Message, Octets, OsWorld, Outcome,
+    OwnFile, Place, Policy, Prepared, Report, Setup, Warning, may_be_log, may_start, prepare,
+    writing_rule,
 };
 use awkbox_options::{Run, STANDARD_INPUT};
+use box_blocks::buffered::{Buffered, NotWritten};
 use std::fs::File;
 use std::io::Write;
 
@@ -27,7 +29,25 @@ pub fn run_script(rt: &HostRuntime, run: &Run<'_>, operands: Vec<Octets>) -> Res
     };
     match ending {
         Ending::Quiet(status) => Ok(status),
-        Ending::Said(message) => Err(message),
+        Ending::Said(message) => said(rt, run, message),
+    }
+}
+
+// What is said where what was printed in blocks could not be written at the end.
+const UNWRITTEN: &str = "awkbox: cannot write the standard output";
+
+// A fault of writing that has no place in the script is that of the standard output: of what was held at the end, or of
+// a print that no action asks for.
+fn said(rt: &HostRuntime, run: &Run<'_>, message: Message) -> Result<u8, Message> {
+    if !run.is_block_buffered {
+        return Err(message);
+    }
+    match message {
+        Message::Fault(Fault::Output, Place { line: 0, .. }) => {
+            let _ = eprintln!(rt; "{UNWRITTEN}");
+            Ok(message.status())
+        }
+        _ => Err(message),
     }
 }
 
@@ -169,12 +189,66 @@ fn run_logged(
         return Err(message);
     }
     let log = LimitedLog::new(log, run.log_limit);
-    let ran = prepared.drive(alloc, setup, run.steps, OsWorld::new(host), log);
-    Ok(Account::Ran {
+    let world = OsWorld::new(host);
+    Ok(if run.is_block_buffered {
+        run_in_blocks(rt, run, setup, prepared, world, log)
+    } else {
+        run_at_once(rt, run, setup, prepared, world, log)
+    })
+}
+
+// A run of which each print is written at once.
+fn run_at_once(
+    rt: &HostRuntime,
+    run: &Run<'_>,
+    setup: &Setup,
+    prepared: Prepared,
+    world: OsWorld,
+    log: LimitedLog<File>,
+) -> Account {
+    let ran = prepared.drive(rt.alloc(), setup, run.steps, world, log);
+    Account::Ran {
         report: ran.report,
         denials: ran.denials,
         log_end: ran.log_end,
-    })
+    }
+}
+
+// A run whose prints are written in blocks.
+fn run_in_blocks(
+    rt: &HostRuntime,
+    run: &Run<'_>,
+    setup: &Setup,
+    prepared: Prepared,
+    world: OsWorld,
+    log: LimitedLog<File>,
+) -> Account {
+    let world = Buffered::new(rt.alloc(), world);
+    let ran = prepared.drive(rt.alloc(), setup, run.steps, world, log);
+    let (written, _) = ran.world.finish();
+    Account::Ran {
+        report: report_of(rt, ran.report, written),
+        denials: ran.denials,
+        log_end: ran.log_end,
+    }
+}
+
+// The report of a run that printed in blocks. Where not all could be written, that is the fault of a run that came to
+// its end, and else it is told beside what ended it.
+fn report_of(rt: &HostRuntime, report: Report, written: Result<(), NotWritten>) -> Report {
+    if written.is_ok() {
+        return report;
+    }
+    match report.outcome {
+        Outcome::Status(_) => Report {
+            outcome: Outcome::Fault(Fault::Output, Place { line: 0, column: 0 }),
+            used: report.used,
+        },
+        Outcome::Fault(_, _) | Outcome::Cut => {
+            let _ = eprintln!(rt; "{UNWRITTEN}");
+            report
+        }
+    }
 }
 
 /// Reads a policy or a script.

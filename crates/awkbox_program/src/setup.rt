@@ -1,5 +1,5 @@
 // What a run is started with.
-use awkbox::{Memory, Message, Octets, Setup};
+use awkbox::{Memory, Message, Octets, Seed, Setup};
 use awkbox_options::{Run, names};
 use std::alloc::Global;
 
@@ -38,8 +38,9 @@ pub fn setup_of(rt: &HostRuntime, run: &Run<'_>, operands: Vec<Octets>) -> Resul
     if assigns.len() > u32::MAX as usize {
         return Err(Message::OutOfMemory);
     }
+    let seed = Seed::random(rt).unwrap_or(Seed::of(0));
     match Setup::read(operands, names(rt)?, assigns, separator) {
-        Ok(setup) => Ok(setup),
+        Ok(setup) => Ok(setup.seeded(seed)),
         // the names ascend, so it is a pair that is refused
         Err(error) => Err(Message::Unspelled(error.pair)),
     }

@@ -1,0 +1,8 @@
+pub mod Parts
+pub mod HeldBytes
+pub mod Blocks
+pub mod Leads
+pub mod Stops
+pub mod Owes
+pub mod Written
+pub mod Laws
