@@ -34,6 +34,8 @@ impl World for FakeWorld {
 
     ghost stops = { λ v calls ask w. Unit {0} };
 
+    ghost lacks = { λ v ask w. Unit {0} };
+
     fn ask(&mut self, ask: &Ask) -> Result<Reply, Stop> {
         if self.has_stopped {
             return Err(Stop::Log);

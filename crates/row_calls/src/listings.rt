@@ -1,13 +1,13 @@
 // What scripts may ask, as it is listed, and as it stands to a policy.
-use crate::args::{name, text};
 use crate::parses::script;
-use crate::problem::Problem;
-use crate::row::{Arg, Row};
-use crate::shown::{Shown, told};
 use awk_parse::Script;
 use awk_text::octets::Octets;
 use box_listing::{check, lines_of, sites, verdict_lines};
 use box_policy::policy::Policy;
+use library_calls::args::{name, text};
+use library_calls::problem::Problem;
+use library_calls::row::{Arg, Row};
+use library_calls::shown::{Shown, told};
 use std::alloc::Global;
 
 /// The sites of the script, a line each.

@@ -2,10 +2,6 @@
 ghost use Rattle.box_world.specs.Calls.{IsDuty};
 ghost use Rattle.std.specs.Prelude.{IfOk, List, ℕ};
 
-use crate::args::{bare, name, octets, text};
-use crate::problem::Problem;
-use crate::row::{Arg, Row};
-use crate::shown::{Shown, bytes, show, told};
 use crate::worlds::{left, show_reply};
 use awk_text::numeral::leading_digits;
 use awk_text::octets::Octets;
@@ -15,6 +11,10 @@ use box_policy::policy::Policy;
 use box_world::ask::{Ask, Mode, Request};
 use box_world::memory_world::MemoryWorld;
 use box_world::world::World;
+use library_calls::args::{bare, name, octets, text};
+use library_calls::problem::Problem;
+use library_calls::row::{Arg, Row};
+use library_calls::shown::{Shown, bytes, show, told};
 use memchr::memchr;
 use std::alloc::Global;
 

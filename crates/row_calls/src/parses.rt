@@ -1,11 +1,11 @@
 // Scripts as they are parsed: which are accepted, how they are spelled, and what they ask of a host.
-use crate::args::{name, text};
-use crate::problem::Problem;
-use crate::row::Arg;
-use crate::shown::{Shown, bytes, yes_or_no};
 use awk_parse::{Script, canon, parse};
 use awk_text::Memory;
 use awk_tokens::{SyntaxError, Token, TokenKind, tokens};
+use library_calls::args::{name, text};
+use library_calls::problem::Problem;
+use library_calls::row::Arg;
+use library_calls::shown::{Shown, bytes, yes_or_no};
 use std::alloc::Global;
 
 /// The script of this text.

@@ -1,13 +1,13 @@
 // Policies: which texts are policies, what they decide, and how often their rules have allowed.
-use crate::args::{bare, name, number, text};
-use crate::problem::Problem;
-use crate::row::{Arg, Row};
-use crate::shown::{Shown, bracketed, bytes, show, told, yes_or_no};
 use awk_text::Memory;
 use awk_text::octets::Octets;
 use box_policy::error::PolicyError;
 use box_policy::path::normal;
 use box_policy::policy::{Decision, Kind, Outlook, Policy};
+use library_calls::args::{bare, name, number, text};
+use library_calls::problem::Problem;
+use library_calls::row::{Arg, Row};
+use library_calls::shown::{Shown, bracketed, bytes, show, told, yes_or_no};
 use std::alloc::Global;
 
 /// What stands before the lines of a policy's one rule.

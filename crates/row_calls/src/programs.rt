@@ -1,12 +1,12 @@
 // Scripts in the form that runs, as they are printed.
-use crate::args::{name, text};
 use crate::parses::script;
-use crate::problem::Problem;
-use crate::row::Arg;
-use crate::shown::Shown;
 use awk_printer::printed;
 use awk_text::Memory;
 use awk_text::numeral::leading_digits;
+use library_calls::args::{name, text};
+use library_calls::problem::Problem;
+use library_calls::row::Arg;
+use library_calls::shown::Shown;
 use std::alloc::Global;
 
 fn program(alloc: Global, text: &[u8]) -> Shown {

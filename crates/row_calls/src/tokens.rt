@@ -1,10 +1,10 @@
 // The tokens of scripts.
-use crate::args::{name, text};
-use crate::problem::Problem;
-use crate::row::Arg;
-use crate::shown::Shown;
 use awk_text::Memory;
 use awk_tokens::{Token, TokenKind, tokens};
+use library_calls::args::{name, text};
+use library_calls::problem::Problem;
+use library_calls::row::Arg;
+use library_calls::shown::Shown;
 use std::alloc::Global;
 
 fn kind_word(kind: TokenKind) -> &'static str {

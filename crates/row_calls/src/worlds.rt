@@ -2,15 +2,15 @@
 ghost use Rattle.box_world.specs.Calls.{IsDuty, IsStream, numbers_after};
 ghost use Rattle.std.specs.Prelude.{IfOk, OnOk, [], ◌++◌, ◌<◌, ◌∷◌, ◌≡◌};
 
-use crate::args::{name, number, octets, text};
-use crate::problem::Problem;
-use crate::row::{Arg, Row};
-use crate::shown::{Shown, bytes, show, told};
 use awk_text::octets::Octets;
 use awk_text::place::Place;
 use box_world::ask::{Ask, Mode, Reply, Request};
 use box_world::memory_world::MemoryWorld;
 use box_world::world::World;
+use library_calls::args::{name, number, octets, text};
+use library_calls::problem::Problem;
+use library_calls::row::{Arg, Row};
+use library_calls::shown::{Shown, bytes, show, told};
 use std::alloc::Global;
 
 /// A reply, as rows write it.

@@ -1,10 +1,10 @@
 // The requests of a run.
 
 use awkbox::{Ask, MemoryWorld, Mode, Reply, Request};
-use row_calls::args::{bare, number, text};
-use row_calls::problem::Problem;
-use row_calls::row::Arg;
-use row_calls::shown::{Shown, bytes};
+use library_calls::args::{bare, number, text};
+use library_calls::problem::Problem;
+use library_calls::row::Arg;
+use library_calls::shown::{Shown, bytes};
 use row_calls::worlds::show_reply;
 use std::alloc::Global;
 

@@ -3,11 +3,11 @@ ghost use Rattle.rows.specs.Printed.{Keeps, keeps-append, keeps-none};
 ghost use Rattle.std.proofs.Common.{sym};
 ghost use Rattle.std.specs.Prelude.{[], false};
 
-use awkbox::{Ask, Driven, Octets, Reply, Request, Setup, SetupError, Stop, World, drive};
-use row_calls::args::{name, octets, text};
-use row_calls::problem::Problem;
-use row_calls::row::Arg;
-use row_calls::shown::{Shown, bytes};
+use awkbox::{Ask, Driven, Octets, Reply, Request, Seed, Setup, SetupError, Stop, World, drive};
+use library_calls::args::{name, octets, text};
+use library_calls::problem::Problem;
+use library_calls::row::Arg;
+use library_calls::shown::{Shown, bytes};
 use std::alloc::Global;
 
 /// A report's data in memory: the script reads it as its standard input, and what it prints is kept.
@@ -25,6 +25,8 @@ impl World for ReportWorld {
     ghost has_stopped = { λ _. false };
 
     ghost stops = { λ _ _ _ _. ⊥ };
+
+    ghost lacks = { λ _ _ _. Unit {0} };
 
     fn ask(&mut self, ask: &Ask) -> Result<Reply, Stop> {
         match &ask.request {
@@ -51,14 +53,15 @@ impl World for ReportWorld {
     ghost stops_later = { λ _ _ _ _ _ _ _ _ never. never };
 }
 
-/// Runs the script over the data, under the policy, with no words of a command line.
+/// Runs the script over the data, under the policy, with no words of a command line. Its tables hash by the seed.
 fn report(
     alloc: Global,
     policy: &[u8],
     script: &[u8],
     data: Octets,
+    seed: Seed,
 ) -> Result<Driven<ReportWorld, Vec<u8>>, SetupError> {
-    let setup = Setup::read(Vec::new(alloc), Vec::new(alloc), Vec::new(alloc), None)?;
+    let setup = Setup::read(Vec::new(alloc), Vec::new(alloc), Vec::new(alloc), None)?.seeded(seed);
     let world = ReportWorld {
         data: Some(data),
         printed: Vec::new(alloc),
@@ -79,7 +82,7 @@ fn told(alloc: Global, driven: &Driven<ReportWorld, Vec<u8>>, args: &[Arg<'_>]) 
 /// The answer of the call.
 pub fn call(alloc: Global, args: &[Arg<'_>]) -> Shown {
     let data = octets(alloc, text(args, 3))?;
-    match report(alloc, text(args, 1), text(args, 2), data) {
+    match report(alloc, text(args, 1), text(args, 2), data, Seed::of(0)) {
         Ok(driven) => told(alloc, &driven, args),
         Err(_) => Err(Problem::NoSetup),
     }

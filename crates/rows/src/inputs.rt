@@ -1,10 +1,10 @@
 // Inputs that are read whole, up to a limit.
 
 use awkbox::{Fault, ReadError, read_limited};
-use row_calls::args::{name, number};
-use row_calls::problem::Problem;
-use row_calls::row::Arg;
-use row_calls::shown::{Shown, bytes};
+use library_calls::args::{name, number};
+use library_calls::problem::Problem;
+use library_calls::row::Arg;
+use library_calls::shown::{Shown, bytes};
 use std::alloc::Global;
 use std::io::{self, ErrorKind, Read};
 

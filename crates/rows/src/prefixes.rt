@@ -1,9 +1,9 @@
 // Scripts and policies that break off.
 
 use crate::table::Table;
-use row_calls::args::{name, text};
-use row_calls::problem::Problem;
-use row_calls::row::Row;
+use library_calls::args::{name, text};
+use library_calls::problem::Problem;
+use library_calls::row::Row;
 use row_calls::{parses, policies};
 use std::alloc::Global;
 

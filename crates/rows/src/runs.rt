@@ -5,10 +5,10 @@ use crate::run_log::RunLog;
 use crate::start::{Beginning, is_start};
 use awk_text::octets::Octets;
 use awkbox::{Driven, Ending, LogEnd, MemoryWorld, Refusal, Report};
-use row_calls::args::{name, text};
-use row_calls::problem::Problem;
-use row_calls::row::{Arg, Row};
-use row_calls::shown::{Shown, bytes, show, told};
+use library_calls::args::{name, text};
+use library_calls::problem::Problem;
+use library_calls::row::{Arg, Row};
+use library_calls::shown::{Shown, bytes, show, told};
 use row_calls::worlds::left;
 use std::alloc::Global;
 

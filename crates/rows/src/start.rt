@@ -3,10 +3,10 @@
 use crate::run_log::RunLog;
 use awk_text::octets::Octets;
 use awkbox::{Driven, MemoryWorld, Setup, drive};
-use row_calls::args::{name, number, octets, text};
-use row_calls::problem::Problem;
-use row_calls::row::Arg;
-use row_calls::shown::{Shown, bytes};
+use library_calls::args::{name, number, octets, text};
+use library_calls::problem::Problem;
+use library_calls::row::Arg;
+use library_calls::shown::{Shown, bytes};
 use row_calls::worlds::prepare;
 use std::alloc::Global;
 

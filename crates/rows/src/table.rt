@@ -1,25 +1,18 @@
 // The tables, and which calls stand in which.
 
+use crate::prefixes::read_prefixes;
 use crate::{embedding, inputs, runs};
 use awk_text::octets::Octets;
-use row_calls::problem::Problem;
-use row_calls::row::{Arg, Row};
-use row_calls::shown::Shown;
-use row_calls::{
-    fields, formats, library, listings, monitors, parses, patterns, policies, programs, records,
-    tokens, values, worlds,
-};
+use library_calls::problem::Problem;
+use library_calls::report::Subject;
+use library_calls::row::{Arg, Row};
+use library_calls::shown::Shown;
+use row_calls::{listings, monitors, parses, policies, programs, tokens, worlds};
 use std::alloc::Global;
 
 /// A table: a file of rows about one subject.
 #[derive(Clone, Copy, Drop)]
 pub enum Table {
-    Values,
-    Patterns,
-    Searches,
-    Fields,
-    Formats,
-    Library,
     Tokens,
     Parses,
     Programs,
@@ -37,13 +30,7 @@ pub enum Table {
     Embedding,
 }
 
-pub const TABLES: [Table; 21] = [
-    Table::Values,
-    Table::Patterns,
-    Table::Searches,
-    Table::Fields,
-    Table::Formats,
-    Table::Library,
+pub const TABLES: [Table; 15] = [
     Table::Tokens,
     Table::Parses,
     Table::Programs,
@@ -61,15 +48,9 @@ pub const TABLES: [Table; 21] = [
     Table::Embedding,
 ];
 
-impl Table {
-    pub fn file(self) -> &'static str {
-        match self {
-            Table::Values => "values.txt",
-            Table::Patterns => "patterns.txt",
-            Table::Searches => "searches.txt",
-            Table::Fields => "fields.txt",
-            Table::Formats => "formats.txt",
-            Table::Library => "library.txt",
+impl Subject for Table {
+    fn file(&self) -> &'static str {
+        match *self {
             Table::Tokens => "tokens.txt",
             Table::Parses => "parses.txt",
             Table::Programs => "programs.txt",
@@ -88,14 +69,8 @@ impl Table {
         }
     }
 
-    /// The answer of a call of one line.
-    pub fn call(self, alloc: Global, args: &[Arg<'_>]) -> Shown {
-        match self {
-            Table::Values => values::call(alloc, args),
-            Table::Patterns | Table::Searches => patterns::call(alloc, args),
-            Table::Fields => fields::call(alloc, args),
-            Table::Formats => formats::call(alloc, args),
-            Table::Library => library::call(alloc, args),
+    fn call(&self, alloc: Global, args: &[Arg<'_>]) -> Shown {
+        match *self {
             Table::Tokens => tokens::call(alloc, args),
             Table::Parses => parses::call(alloc, args),
             Table::Programs => programs::call(alloc, args),
@@ -107,16 +82,13 @@ impl Table {
         }
     }
 
-    /// The answers of the steps that follow a line.
-    pub fn block(
-        self,
+    fn block(
+        &self,
         alloc: Global,
         args: &[Arg<'_>],
         steps: &[Row<'_>],
     ) -> Result<Vec<Octets>, Problem> {
-        match self {
-            Table::Fields => records::block(alloc, args, steps),
-            Table::Library => library::block(alloc, steps),
+        match *self {
             Table::Policies => policies::block(alloc, args, steps),
             Table::Worlds => worlds::block(alloc, steps),
             Table::Monitors => monitors::block(alloc, args, steps),
@@ -129,5 +101,9 @@ impl Table {
             | Table::Operands => runs::block(alloc, args, steps),
             _ => Err(Problem::NoCall),
         }
+    }
+
+    fn read_prefixes(&self, alloc: Global, row: &Row<'_>) -> Result<(), Problem> {
+        read_prefixes(alloc, *self, row)
     }
 }

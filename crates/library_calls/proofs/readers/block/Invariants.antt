@@ -1,5 +1,5 @@
 use Rattle.std.proofs.Common.{◌≡◌, false}
-use Rattle.row_calls.proofs.readers.block.Given as goal
+use Rattle.library_calls.proofs.readers.block.Given as goal
 
 abbrev pub invariant-loop-row : goal.invariant-loop-row
 invariant-loop-row l = l.reader.input.ended ≡ false

@@ -1,16 +1,34 @@
 // Which rows hold.
 
-use crate::prefixes::read_prefixes;
-use crate::table::Table;
+use crate::cursor::Cursor;
+use crate::problem::Problem;
+use crate::row::{Arg, Row};
+use crate::shown::{Shown, told};
 use awk_text::octets::Octets;
 use awk_text::quote::quote_log;
-use row_calls::cursor::Cursor;
-use row_calls::problem::Problem;
-use row_calls::row::Row;
-use row_calls::shown::told;
 use std::alloc::Global;
 use std::rt::Files;
 use std::{fs, slice, str};
+
+/// What the rows of a table are about.
+pub trait Subject {
+    /// The name of the table's file.
+    fn file(&self) -> &'static str;
+
+    /// The answer of a call of one line.
+    fn call(&self, alloc: Global, args: &[Arg<'_>]) -> Shown;
+
+    /// The answers of the steps that follow a line.
+    fn block(
+        &self,
+        alloc: Global,
+        args: &[Arg<'_>],
+        steps: &[Row<'_>],
+    ) -> Result<Vec<Octets>, Problem>;
+
+    /// Reads the prefixes of the text that the row is about, where it has one to be broken off.
+    fn read_prefixes(&self, alloc: Global, row: &Row<'_>) -> Result<(), Problem>;
+}
 
 /// How many rows hold, and how many do not.
 #[derive(Clone, Copy, Drop)]
@@ -19,10 +37,10 @@ pub struct Tally {
     failed: u64,
 }
 
-/// A table and its text.
+/// A table's file and its text.
 #[derive(Clone, Copy, Drop)]
 struct TableText<'a> {
-    table: Table,
+    file: &'static str,
     text: &'a [u8],
 }
 
@@ -52,17 +70,17 @@ fn holds(row: &Row<'_>, came: &[u8]) -> bool {
 }
 
 /// The answers of a row and its steps.
-fn answers(
+fn answers<S: Subject>(
     alloc: Global,
-    table: Table,
+    subject: &S,
     row: &Row<'_>,
     steps: &[Row<'_>],
 ) -> Result<Vec<Octets>, Problem> {
     if !steps.is_empty() {
-        return table.block(alloc, &row.args, steps);
+        return subject.block(alloc, &row.args, steps);
     }
     let mut answers = Vec::new(alloc);
-    answers.push(told(alloc, table.call(alloc, &row.args))?)?;
+    answers.push(told(alloc, subject.call(alloc, &row.args))?)?;
     Ok(answers)
 }
 
@@ -79,7 +97,7 @@ impl Tally {
         came: &[u8],
     ) {
         self.failed = self.failed.saturating_add(1);
-        let (file, line) = (source.table.file(), source.line(left));
+        let (file, line) = (source.file, source.line(left));
         let came = came.get(..MOST_TOLD).unwrap_or(came);
         if let Ok(quoted) = quote_log(rt.alloc(), came) {
             let came = str::from_utf8(&quoted).unwrap_or("");
@@ -114,23 +132,25 @@ impl Tally {
     }
 
     /// Tells each row about a text of which a prefix is not read as it ought to be.
-    fn check_prefixes<P: Print + AllocGlobal>(
+    fn check_prefixes<P: Print + AllocGlobal, S: Subject>(
         &mut self,
         rt: &P,
+        subject: &S,
         source: TableText<'_>,
         rows: &[Row<'_>],
     ) {
         for row in rows {
-            if let Err(problem) = read_prefixes(rt.alloc(), source.table, row) {
+            if let Err(problem) = subject.read_prefixes(rt.alloc(), row) {
                 self.fail_by(rt, source, row.left, problem);
             }
         }
     }
 
     /// Judges the next row, with the steps that follow it, or says that the table has ended.
-    fn check_next<P: Print + AllocGlobal>(
+    fn check_next<P: Print + AllocGlobal, S: Subject>(
         &mut self,
         rt: &P,
+        subject: &S,
         source: TableText<'_>,
         cursor: &mut Cursor<'_>,
     ) -> Result<bool, Problem> {
@@ -139,15 +159,15 @@ impl Tally {
             return Ok(false);
         };
         let steps = cursor.steps(alloc)?;
-        match answers(alloc, source.table, &row, &steps) {
+        match answers(alloc, subject, &row, &steps) {
             Ok(answers) if steps.is_empty() => {
                 self.judge_all(rt, source, slice::from_ref(&row), &answers);
             }
             Ok(answers) => self.judge_all(rt, source, &steps, &answers),
             Err(problem) => self.fail_by(rt, source, row.left, problem),
         }
-        self.check_prefixes(rt, source, slice::from_ref(&row));
-        self.check_prefixes(rt, source, &steps);
+        self.check_prefixes(rt, subject, source, slice::from_ref(&row));
+        self.check_prefixes(rt, subject, source, &steps);
         Ok(true)
     }
 
@@ -164,10 +184,15 @@ impl Tally {
         }
     }
 
-    fn check_text<P: Print + AllocGlobal>(&mut self, rt: &P, source: TableText<'_>) {
+    fn check_text<P: Print + AllocGlobal, S: Subject>(
+        &mut self,
+        rt: &P,
+        subject: &S,
+        source: TableText<'_>,
+    ) {
         let mut cursor = Cursor::new(source.text);
         for _ in 0..source.text.len() {
-            match self.check_next(rt, source, &mut cursor) {
+            match self.check_next(rt, subject, source, &mut cursor) {
                 Ok(true) => {}
                 Ok(false) => return,
                 Err(problem) => return self.fail_by(rt, source, cursor.left(), problem),
@@ -176,12 +201,13 @@ impl Tally {
     }
 
     /// Judges the rows of the table, which lies in the folder of the process.
-    pub fn check_file<R: Files + Print + AllocGlobal>(&mut self, rt: &R, table: Table) {
-        match fs::read(rt, table.file()) {
-            Ok(text) => self.check_text(rt, TableText { table, text: &text }),
+    pub fn check_file<R: Files + Print + AllocGlobal, S: Subject>(&mut self, rt: &R, subject: &S) {
+        let file = subject.file();
+        match fs::read(rt, file) {
+            Ok(text) => self.check_text(rt, subject, TableText { file, text: &text }),
             Err(_) => {
                 self.failed = self.failed.saturating_add(1);
-                let _ = println!(rt; "{}: cannot read", table.file());
+                let _ = println!(rt; "{file}: cannot read");
             }
         }
     }
