@@ -15,7 +15,7 @@ _awkbox() {
         mapfile -t COMPREPLY < <(compgen -d -- "$word")
         return
         ;;
-    --policy | --log | --report | -f)
+    --policy | --log | --report | -f | -E)
         compopt -o filenames 2>/dev/null
         mapfile -t COMPREPLY < <(compgen -f -- "$word")
         return
@@ -34,9 +34,9 @@ _awkbox() {
         ;;
     esac
     case ${COMP_WORDS[1]} in
-    run) options='--policy --log --log-append --log-limit --report -C --steps -F -v -f --help --' ;;
+    run) options='--policy --log --log-append --log-limit --report -C --steps --block-buffered -F -v -f -E --help --' ;;
     list) options='-f --help' ;;
-    check) options='--policy -f --help' ;;
+    check) options='--policy --allow-open -f --help' ;;
     why) options='--policy --given read write append run env assign --help' ;;
     lint) options='--policy --help' ;;
     propose) options='--base --policy --log -f --help' ;;
