@@ -212,6 +212,8 @@ recipe() {
 # a clone with the program built
 clone=$work/clone
 mkdir -p "$clone/crates/awkbox_program/out"
+mkdir "$clone/docs"
+cp "$top/docs/awkbox-policy.schema.json" "$clone/docs"
 cp -R "$top/README.md" "$top/examples" "$top/man" "$top/completions" "$top/install" "$clone"
 ln -s "$program" "$clone/awkbox"
 ln -s "$program" "$clone/crates/awkbox_program/out/awkbox_program"
@@ -221,6 +223,23 @@ for folder in "${recipes[@]}"; do
     recipe "$folder"
     verdict "the commands of the README in $folder"
 done
+
+# counted COMMAND..: adds the cases of a script that tells them as this one does
+counted() {
+    "$@" >"$work/cases" 2>&1
+    local counts
+    counts=$(tail -n 1 "$work/cases" | grep -Ex '[0-9]+ passed, [0-9]+ failed') || counts="0 passed, 1 failed"
+    grep -vFx "$counts" "$work/cases"
+    passed=$((passed + ${counts%% *}))
+    counts=${counts#*, }
+    failed=$((failed + ${counts%% *}))
+}
+if command -v python3 >/dev/null; then
+    TMPDIR=$work counted "$top/scripts/teaching-page.py" "$program"
+    counted "$top/scripts/policy-schema.py" "$program"
+else
+    echo "no python3: neither the page of the teaching server nor the schema of policies is tried"
+fi
 
 # What docs/EMBEDDING.md shows is in files that are proved.
 if command -v python3 >/dev/null; then
@@ -296,6 +315,12 @@ echo "$forged" >"$base/out/a"
 closed 2 "awkbox: 1:51 F7 cannot open or write output$line" "" no_output
 [ $? -eq 0 ] && holds out/a "a$line" && holds out/b "b$line"
 verdict "a standard output that is closed is no file of the script"
+policy "effect = \"allow\"
+kind = \"write\"
+match = \"/dev/stdout\""
+script 'BEGIN { print "a" > "/dev/stdout" }'
+closed 2 "awkbox: 1:19 F7 cannot open or write output$line" "" no_output
+verdict "nor does it take anything by its name"
 
 # The log.
 
@@ -425,6 +450,10 @@ verdict "a log by a symbolic link"
 run --log-append
 is 0 "on$line" "" "from another run$line$denial"
 verdict "a log that is added to"
+printf '1:2 run no' >"$work/log"
+awkbox run --log-append --policy "$work/policy.toml" --log "$work/log" -f "$work/script.awk"
+is 0 "on$line" "" "1:2 run no$line$denial"
+verdict "a log that is added to behind a line without an end"
 script 'BEGIN { system("id"); system("id"); print "on" }'
 second="1:23 run none \"id\"$line"
 both=$((${#denial} + ${#second}))
@@ -467,6 +496,79 @@ printf x >>"$work/script.awk"
 run
 is 3 "" "awkbox: cannot read \"$work/script.awk\"$line" "from another run$line"
 verdict "a script of one byte more"
+
+# Output in blocks.
+
+policy 'effect = "allow"
+kind = "run"
+match = "**"' 'effect = "allow"
+kind = "write"
+match = "out/*"' 'effect = "allow"
+kind = "append"
+match = "/dev/stderr"'
+script 'BEGIN {
+    print "a"; system("echo b"); print "c"; "echo d" | getline x; print x; print "e" | "cat"; close("cat"); print "f"
+    print "g" >> "/dev/stderr"; print "h" > "out/a"; print "i"; close("out/a"); system("cat out/a"); print "j"
+}'
+run --block-buffered
+is 0 "a${line}b${line}c${line}d${line}e${line}f${line}i${line}h${line}j$line" "g$line" ""
+verdict "blocks before commands, pipes and files"
+script 'BEGIN { print "a"; system("echo b >&2"); print "c"; print "e"; print 1 / n }'
+echo "from another run" >"$work/log"
+"$program" run --policy "$work/policy.toml" --log "$work/log" --block-buffered -f "$work/script.awk" \
+    >"$work/output" 2>&1
+status=$?
+holds "$work/output" "a${line}b${line}c${line}e${line}awkbox: 1:72 F2 division by zero$line" && [ "$status" -eq 2 ]
+verdict "blocks before what a command writes to standard error, and before a fault is told"
+script 'BEGIN { for (i = 0; i < 30000; i++) printf "%d,", i; print "" }'
+run
+cp "$work/output" "$work/at-once"
+run --block-buffered
+cmp -s "$work/at-once" "$work/output" && is 0 "$(cat "$work/at-once")$line" "" ""
+verdict "blocks of a large output"
+script 'BEGIN { s = sprintf("%70000s", "x"); print "a"; print s; print "b" }'
+run
+cp "$work/output" "$work/at-once"
+run --block-buffered
+cmp -s "$work/at-once" "$work/output"
+verdict "a print that is longer than a block"
+script 'BEGIN { print "a"; while (1) n++ }'
+run --block-buffered --steps 100
+is 4 "a$line" "awkbox: F11 step bound reached$line" ""
+verdict "a block of a run that took its steps"
+script '{ print "read " $0 }'
+mkfifo "$work/in" "$work/out"
+"$program" run --policy "$work/policy.toml" --log "$work/log" --block-buffered -f "$work/script.awk" \
+    <"$work/in" >"$work/out" 2>"$work/errors" &
+exec 7>"$work/in" 8<"$work/out"
+answers=
+for n in 1 2 3; do
+    echo "$n" >&7
+    read -r -t 20 answer <&8
+    answers+="$answer,"
+done
+exec 7>&- 8<&-
+wait $!
+[ $? -eq 0 ] && [ "$answers" = "read 1,read 2,read 3," ]
+verdict "a block before the run waits for its input"
+rm -f "$work/in" "$work/out"
+script 'BEGIN { print "a"; exit 5 }'
+run --block-buffered
+is 5 "a$line" "" ""
+verdict "a block of a run with a status of its own"
+"$program" run --policy "$work/policy.toml" --log "$work/log" --report "$work/report" --block-buffered \
+    -f "$work/script.awk" >/dev/full 2>"$work/errors"
+status=$?
+: >"$work/output"
+is 2 "" "awkbox: cannot write the standard output$line" "" && grep -q '"code":"F7","column":0,"line":0' "$work/report"
+verdict "a block that cannot be written at the end"
+script 'BEGIN { print "a"; system(""); print "b"; print "c" }'
+"$program" run --policy "$work/policy.toml" --log "$work/log" --block-buffered -f "$work/script.awk" \
+    >/dev/full 2>"$work/errors"
+status=$?
+is 2 "" "awkbox: 1:32 F7 cannot open or write output$line" ""
+verdict "a block that cannot be written, told by the next print"
+no_rules
 
 # A stack that is too small.
 
@@ -859,6 +961,14 @@ chmod +x "$work/executable"
 status=$?
 is 0 "a${line}b c$line-x$line" "" ""
 verdict "a script with a first line that starts awkbox"
+sed -i '1s/-f$/-E/' "$work/executable"
+(cd "$work" && ./executable --report=x -x -- --help >output 2>errors)
+status=$?
+is 0 "--report=x$line-x$line--$line--help$line" "" "" && [ ! -e "$work/x" ]
+verdict "a script with a first line behind which all words are operands"
+awkbox run --policy "$work/policy.toml" --log "$work/log" "-E$work/script.awk" -v x=1
+is 0 "-v${line}x=1$line" "" ""
+verdict "words behind a script's file that stands in one word with its option"
 
 # The words of run: variables, separator, steps and operands.
 
@@ -1109,17 +1219,51 @@ attack() {
     base=$home no_rules
     [ $# -lt 4 ] || base=$home policy "${@:4}"
     local before=$SECONDS
-    awkbox=$program policy=$work/policy.toml logs=$work/host bash -c '. "$0" && host "$@"' "$work/recipe" \
-        "$home" "$work/script.awk" >"$work/output" 2>"$work/errors" </dev/null
-    status=$?
-    cp "$work/host/$name.log" "$work/log"
+    hosted host "$home" "$work/script.awk"
     took=$((SECONDS - before))
     [ "$took" -le "$most" ]
 }
+# hosted FUNCTION FOLDER SCRIPT [OPERAND..]: calls a function of the page, by whose name for it the log is taken then
+hosted() {
+    awkbox=$program policy=$work/policy.toml logs=$work/host bash -c '. "$0" && "$@"' "$work/recipe" "$@" \
+        >"$work/output" 2>"$work/errors" </dev/null
+    status=$?
+    cp "$(logs=$work/host bash -c '. "$0" && log_of "$1"' "$work/recipe" "$2")" "$work/log"
+}
 attack plain 5 'BEGIN { print "a" > "a"; system("id"); print "hi" }' 'effect = "allow"
 kind = "write"
-match = "a"' && is 0 "hi$line" "" "1:26 run none \"id\"$line" && holds "$work/host/plain/a" "a$line"
+match = "a"' && is 0 "hi$line" "" "1:26 run none \"id\"$line" && holds "$work/host/plain/a" "a$line" &&
+    grep -q '"outcome":"status"' "$work"/host/*plain.json
 verdict "a run by the recipe for hosts"
+sed -n '/^```sh$/,/^```$/{/^```sh/d;/^```/q;p}' "$top/docs/HOSTING.md" |
+    cmp -s - <(tail -n +4 "$examples/teaching-server/host.sh")
+verdict "the recipe of the teaching server is that of the page"
+mkdir -p "$work/host/one/same" "$work/host/two/same"
+base=$work/host/one/same no_rules
+script 'BEGIN { system("id") }'
+hosted host "$work/host/one/same/" "$work/script.awk"
+is 0 "" "" "1:9 run none \"id\"$line"
+verdict "a run by the recipe in a folder that is named with a slash behind it"
+base=$work/host/two/same no_rules
+script 'BEGIN { system("ls") }'
+hosted host "$work/host/two/same" "$work/script.awk" && is 0 "" "" "1:9 run none \"ls\"$line" &&
+    [ "$(cat "$work"/host/*one*same.log)" = '1:9 run none "id"' ]
+verdict "folders of one name have logs of their own"
+if command -v bwrap >/dev/null; then
+    # the program where ./install puts it, under a prefix of its own
+    mkdir -p "$work/prefix/bin"
+    cp "$program" "$work/prefix/bin/awkbox"
+    script 'BEGIN { print "a" > "a"; system("test -e /etc/passwd || echo boxed"); system("id") }'
+    base=$work/host/two/same policy 'effect = "allow"
+kind = "write"
+match = "a"' 'effect = "allow"
+kind = "run"
+match = "test -e /etc/passwd || echo boxed"'
+    program=$work/prefix/bin/awkbox hosted boxed "$work/host/two/same" "$work/script.awk"
+    is 0 "boxed$line" "" "1:71 run none \"id\"$line" && holds "$work/host/two/same/a" "a$line" &&
+        grep -q '"outcome":"status"' "$work"/host/*two*same.json
+    verdict "a run by the recipe in a box"
+fi
 attack memory 10 'BEGIN { for (s = "x"; i < 22; i++) s = s s; while (1) a[n++] = s n }' &&
     is 2 "" "awkbox: 0:0 F13 out of memory$line" ""
 verdict "an attack on memory"
@@ -1145,6 +1289,74 @@ verdict "an attack by calls without end"
 attack pattern 30 'BEGIN { for (s = "a"; i < 20; i++) s = s s; while (1) n += match(s, /((a?){141}){141}b/) }' &&
     [ "$status" -ge 124 ]
 verdict "an attack by a pattern that is slow"
+
+# Data and patterns that are made to be slow, beside others in the same run.
+
+# user_ms WORD..: the milliseconds of processor time that the program takes
+user_ms() {
+    local TIMEFORMAT=%3U took
+    took=$({ time "$program" "$@" >"$work/output" 2>"$work/errors" </dev/null; } 2>&1)
+    echo $((10#${took/./}))
+}
+if command -v python3 >/dev/null; then
+    # 80,000 keys of 16 bytes: any, such as have one hash by a known factor of it, and such as have one hash by a known seed
+    python3 - "$work" <<'END'
+import sys
+
+MASK, FACTOR, START = 2**64 - 1, 0x9E3779B97F4A7C15, 0x243F6A8885A308D3
+
+
+def after(state, word):
+    product = (state ^ word) * (FACTOR ^ 16)
+    return product & MASK ^ product >> 64
+
+
+def keys(tail):
+    texts = (b"%08d" % k for k in range(100000))
+    found = [text + tail(int.from_bytes(text, "little")) for text in texts]
+    return b"\n".join([key for key in found if b"\n" not in key][:80000]) + b"\n"
+
+
+seeded = after(START, 0)
+for name, tail in (
+    ("any", lambda word: b"abcdefgh"),
+    ("factor", lambda word: FACTOR.to_bytes(8, "little")),
+    ("seed", lambda word: (after(seeded, word) ^ 0x0123456789ABCDEF).to_bytes(8, "little")),
+):
+    with open(f"{sys.argv[1]}/keys.{name}", "wb") as out:
+        out.write(keys(tail))
+END
+    base=$work/elsewhere policy 'effect = "allow"
+kind = "read"
+match = "**"
+from = "given"'
+    script '{ c[$0]++ } END { print length(c[$0]) }'
+    count_ms() {
+        user_ms run --policy "$work/policy.toml" --log "$work/log" -C "$work/elsewhere" -f "$work/script.awk" -- "$work/keys.$1"
+    }
+    any=$(count_ms any)
+    for made in factor seed; do
+        status=$(count_ms "$made")
+        [ "$status" -le $((2 * any + 100)) ]
+        verdict "keys that are made for a known $made of the hash"
+    done
+fi
+
+# slow NAME LENGTH OPERATION: whether the operation on a text twice as long takes about twice as long
+slow() {
+    script 'BEGIN { for (t = "abbabaababbaababba"; length(t) < n; ) t = t t "b" substr(t, 7); s = substr(t, 1, n); '"$3"' }'
+    no_rules
+    local words=(run --policy "$work/policy.toml" --log "$work/log" -f "$work/script.awk" -v)
+    local once twice
+    once=$(user_ms "${words[@]}" "n=$2")
+    twice=$(user_ms "${words[@]}" "n=$((2 * $2))")
+    status=$twice
+    [ "$twice" -le $((3 * once + 100)) ]
+    verdict "$1"
+}
+slow "a gsub whose every search reads to the end" 100000 'gsub(/(a|b)*a(a|b){12}#|a/, "x", s)'
+slow "a split by such a pattern" 100000 'n = split(s, p, /(a|b)*a(a|b){12}#|a/)'
+slow "a gsub by such a pattern of the largest" 1000 'gsub(/((a?){141}){141}#|a/, "x", s)'
 
 # Listings and verdicts.
 
@@ -1182,6 +1394,13 @@ script 'BEGIN { f = "/x"; print "a" > f; print "b" | "sort -r" }'
 check
 told 1 "open${line}1:29 write *$line" ""
 verdict "a script that is open"
+awkbox check --allow-open --policy "$work/policy.toml" -f "$work/script.awk"
+told 0 "open${line}1:29 write *$line" ""
+verdict "a script that may be open"
+script '{ system("id"); print > $1 }'
+awkbox check --policy "$work/policy.toml" -f "$work/script.awk" --allow-open
+told 1 "refused${line}1:3 run \"id\"$line" ""
+verdict "a script that is refused where it may be open"
 
 script 'BEGIN { print ) }'
 check
@@ -1264,8 +1483,8 @@ told 0 "deny: no rule fits$line" ""
 verdict "why a name is denied"
 
 awkbox lint --policy "$p"
-told 0 "" ""
-verdict "nothing is wrong with a policy"
+told 0 "$p:20: warning: rule 4: * may stand for an option too$line" ""
+verdict "nothing is wrong with a policy but what a command lets through"
 
 # lints NAME LINES STATUS: whether lint tells this of the policy file
 lints() {
@@ -1385,7 +1604,70 @@ kind = "read"
 match = "/proc/**"'
 lints "warnings" "$p:9: warning: rule 2: no request reaches it: rule 1 decides all that it speaks of
 $p:19: warning: rule 4: allow read reaches /proc
-$p:14: warning: rule 3: * lets options of sort through, which write files or start commands$line" 0
+$p:14: warning: rule 3: * lets options of sort through, which write files or start commands
+$p:4: warning: rule 1: it fits every path under the base$line" 0
+
+unreached() { echo "$p:$1: warning: rule $2: no request reaches it: rule $3 decides all that it speaks of"; }
+policy 'effect = "deny"
+kind = "read"
+match = "in/**"' 'effect = "allow"
+kind = "read"
+match = "in/x/**"' 'effect = "deny"
+kind = "read"
+match = "./in//*.csv"' 'effect = "allow"
+kind = "read"
+match = "in/a.txt"' 'effect = "allow"
+kind = "write"
+match = "in/*"' 'effect = "allow"
+kind = "write"
+match = "in/*.txt"' 'effect = "allow"
+kind = "write"
+match = "in/*/*"' 'effect = "allow"
+kind = "write"
+match = "in/**"' 'effect = "allow"
+kind = "assign"
+match = "A*"' 'effect = "deny"
+kind = "assign"
+match = "AB"'
+lints "rules that no request reaches" "$(unreached 9 2 1)
+$(unreached 14 3 1)
+$(unreached 19 4 1)
+$(unreached 29 6 5)
+$(unreached 49 10 9)$line" 0
+
+# warns NAME KIND MATCH WORDS: whether lint has just this of a policy with one rule, which allows
+warns() {
+    lone_rule 1 "effect = \"allow\"${line}kind = \"$2\"${line}match = \"$3\""
+    lints "$1" "${4:+$p:4: warning: rule 1: $4$line}" 0
+}
+for case in 'git *|* lets options of git through, and git writes files or starts commands' \
+    'cat *|* may stand for an option too' 'xargs rm|xargs writes files or starts commands' \
+    '/usr/bin/python3 -|python3 does what its input says' 'sort -o f|sort writes a file here' 'sort -n|'; do
+    warns "the command ${case%%|*}" run "${case%%|*}" "${case#*|}"
+done
+for case in '~/a|~ is no home folder; write it out' '$HOME/a|$ names no variable; write its value' \
+    'in/{a,b}|{ and } stand for themselves; write a rule for each' \
+    'in/[ab]|[ and ] stand for themselves; ? is any one byte' \
+    'in/.*|.* fits names that begin with a dot; any name is *' \
+    'in/|it is the path without its last /; what is in the folder is /**' \
+    'in/\u200b|it holds a character that does not show, U+200B' '*|it fits every name in the base' 'in/a.b|'; do
+    warns "the path ${case%%|*}" read "${case%%|*}" "${case#*|}"
+done
+warns "any name" env '*' "it fits every name"
+
+printf 'version = 1\nbase = “/w”\n' >"$p"
+awkbox lint --policy "$p"
+[ "$status" -eq 3 ] && grep -q "^$p:2: P1: .*; column 8 has U+201C, which looks like a double quote$" "$work/output"
+verdict "a quotation mark that is none of TOML"
+
+deep=$(printf '%04000d' 0 | sed 's/0\{50\}/&\//g')
+{
+    printf 'version = 1\nbase = "/w"\n'
+    for number in {1..1024}; do
+        printf '\n[[rule]]\neffect = "allow"\nkind = "read"\nmatch = "%s%d"\n' "$deep" "$number"
+    done
+} >"$p"
+lints "1,024 rules of 4 KB" "" 0
 
 # Policies that are proposed.
 
@@ -1476,7 +1758,7 @@ proposed "a policy for a log" "$(cat "$p")
 $(rule_of read in/a)
 
 # line 3 of the log
-$(rule_of run "printf '\\\\n' \\\"\\nä\\\"")
+$(rule_of run "printf '\\\\n' \\\"\\n\\u00e4\\\"")
 
 # line 4 of the log run \"\\xff\": it is not UTF-8
 
@@ -1698,7 +1980,7 @@ usage='usage: ./install [PREFIX]'
         installs 2 "$usage" "install: unknown option --prefix" --prefix &&
         installs 2 "$usage" "install: unknown option -x" --uninstall -x &&
         installs 2 "$usage" "install: an empty PREFIX" "" &&
-        installs 2 "$usage" "install: too many words" prefix more && [ ! -e prefix ]
+        installs 2 "$usage" "install: too many words" nowhere more && [ ! -e nowhere ]
 )
 verdict "the words of the installation"
 
@@ -1709,36 +1991,43 @@ status=$?
     cmp -s "$prefix/share/man/man1/awkbox.1" "$top/man/awkbox.1" &&
     cmp -s "$prefix/share/man/man5/awkbox-policy.5" "$top/man/awkbox-policy.5" &&
     cmp -s "$prefix/share/zsh/site-functions/_awkbox" "$top/completions/_awkbox" &&
-    cmp -s "$prefix/share/bash-completion/completions/awkbox" "$top/completions/awkbox.bash"
+    cmp -s "$prefix/share/bash-completion/completions/awkbox" "$top/completions/awkbox.bash" &&
+    cmp -s "$prefix/share/awkbox/awkbox-policy.schema.json" "$top/docs/awkbox-policy.schema.json"
 verdict "the installation"
 
 touch "$prefix/bin/other"
-installs 0 "removed $prefix/bin/awkbox, its manual pages and its completions" "" --uninstall "$prefix" &&
-    [ "$(find "$prefix" -type f)" = "$prefix/bin/other" ]
+installs 0 "removed $prefix/bin/awkbox, its manual pages, its completions and its schema" "" --uninstall "$prefix" &&
+    [ ! -e "$prefix/share/awkbox" ] && [ "$(find "$prefix" -type f)" = "$prefix/bin/other" ]
 verdict "what was installed is taken away, and nothing else"
 
 # The wrapper and the build, over three crates and a prover that are made up.
 fresh=$work/fresh
-mkdir -p "$fresh"/{bin,docs} "$fresh"/crates/{low,high,aside,awkbox_program}/src
+kit=$work/kit
+mkdir -p "$kit/bin" "$fresh/docs" "$fresh"/crates/{low,high,aside,awkbox_program}/src
 cp "$top/awkbox" "$top/build" "$top/HANDLES" "$fresh"
 cp "$top/docs/GATE.md" "$fresh/docs"
 printf '%s\n' 'awkbox_program: high clap' 'aside: low' 'high: low' 'low: itoa' >"$fresh/crates.txt"
-cat >"$fresh/bin/rt" <<'END'
+cat >"$kit/bin/rt" <<'END'
 #!/bin/sh
+case $1 in
+version) exec echo "a kit" ;;
+doc) exec echo "$(dirname "$0")/../START-HERE.md" ;;
+esac
 name=$(basename "$PWD")
 echo "fn $name::main: proved"
 [ "$name" != "${FAILS:-}" ] || exit 1
 mkdir -p out/rlib
-if [ "$1" = run ]; then
-    [ -d ../low/out/rlib ] && printf '#!/bin/sh\necho ran "$@"\n' >out/awkbox_program &&
-        chmod +x out/awkbox_program
+if [ "$1" = run ] && [ -d ../low/out/rlib ]; then
+    printf '#!/bin/sh\necho ran "$@"\n' >out/awkbox_program
+    chmod +x out/awkbox_program
+    [ -z "${PROGRAM:-}" ] || cp "$PROGRAM" out/awkbox_program
 fi
 END
-chmod +x "$fresh/bin/rt"
+chmod +x "$kit/bin/rt"
 
 # wrapper [NAME]: runs the wrapper, with a prover that fails at this crate
 wrapper() {
-    PATH=$fresh/bin:$PATH FAILS=${1:-} "$fresh/awkbox" run "a b" >"$work/output" 2>"$work/errors"
+    PATH=$kit/bin:$PATH FAILS=${1:-} "$fresh/awkbox" run "a b" >"$work/output" 2>"$work/errors"
     status=$?
 }
 
@@ -1766,9 +2055,114 @@ echo '// new' >"$fresh/crates/low/src/lib.rt"
 wrapper
 [ "$status" -eq 0 ] && holds "$work/output" "ran run a b$line" && tells "older than its sources; run ./build"
 verdict "the wrapper where sources are newer"
-PATH=$fresh/bin:$PATH "$fresh/build" >"$work/output" 2>"$work/errors" && wrapper &&
+PATH=$kit/bin:$PATH "$fresh/build" >"$work/output" 2>"$work/errors" && wrapper &&
     [ "$status" -eq 0 ] && holds "$work/errors" "" && [ -z "$(find "$work" -maxdepth 1 -name '.awkbox-build-*')" ]
 verdict "the build of what has changed"
+echo 'echo not proved' >>"$fresh/crates/awkbox_program/out/awkbox_program"
+PATH=$kit/bin:$PATH "$fresh/build" >"$work/output" 2>"$work/errors" && tells "$begins: 1 of 3 crates $at_once" \
+    "built $fresh/crates/awkbox_program/out/awkbox_program" && wrapper && holds "$work/output" "ran run a b$line"
+verdict "the build where another program stands in the place of what was built"
+
+# The release of that clone, with the built program in the place of the made-up one.
+
+# releases FOLDER: makes a release
+releases() {
+    PATH=$kit/bin:$PATH "$fresh/release" "$1" >"$work/output" 2>"$work/errors"
+    status=$?
+}
+
+# refuses TEXT: whether no release is made, for what this line says
+refuses() {
+    releases "$work/none"
+    [ "$status" -eq 1 ] && [ ! -e "$work/none" ] && grep -qxF "release: $1" "$work/errors"
+}
+
+# commits: commits all that the clone holds
+commits() {
+    git -C "$fresh" add -A && git -C "$fresh" -c user.name="A maintainer" -c user.email=maintainer@awkbox.org \
+        -c commit.gpgsign=no commit -qm "all of it"
+}
+
+# greets FOLDER AT EXAMPLES: whether the first example of a release that was unpacked in a folder prints what it is to;
+# where bwrap runs, in a root of its own, in which the folder stands at another place and with the C library alone
+greets() {
+    local at=$1 log=$work/log command=()
+    if bwrap --ro-bind / / true 2>/dev/null; then
+        at=$2 log=/tmp/log
+        command=(bwrap --unshare-all --ro-bind "$1" "$2" --ro-bind /lib /lib --ro-bind-try /lib64 /lib64 --tmpfs /tmp)
+    fi
+    (cd /tmp && "${command[@]}" "$at/bin/awkbox" run --policy "$at/$3/hi/policy.toml" --log "$log" \
+        -f "$at/$3/hi/hi.awk") >"$work/output" 2>"$work/errors"
+    status=$?
+    : >"$work/log"
+    is 0 "hi$line" "" ""
+}
+
+if command -v git >/dev/null; then
+    cp -R "$top"/{release,CHANGELOG.md,LICENSE-MIT,LICENSE-APACHE,man,completions,examples} "$fresh"
+    cp "$top/docs/awkbox-policy.schema.json" "$fresh/docs"
+    echo out/ >"$fresh/.gitignore"
+    mkdir -p "$kit"/{rattle/itoa,rattle/strsim,rlibs/clap.rlib}
+    echo "dep strsim" >"$kit/rlibs/clap.rlib/format"
+    echo "the licence of itoa" >"$kit/rattle/itoa/LICENSE"
+    echo "the licence of strsim" >"$kit/rattle/strsim/LICENSE-MIT"
+    git init -q "$fresh"
+    refuses "the clone has changes that are not committed:"
+    verdict "no release of what is not committed"
+    echo '// newer' >"$fresh/crates/high/src/lib.rt"
+    commits && refuses "not built of what the clone holds: high, awkbox_program; run ./build"
+    verdict "no release of what is not built"
+    PROGRAM=$program PATH=$kit/bin:$PATH "$fresh/build" 2>"$work/errors" && releases "$work/release" && releases "$work/again"
+    [ "$status" -eq 0 ] && (cd "$work/again" && sha256sum --quiet -c "$work/release/SHA256SUMS") >>"$work/output" 2>&1 &&
+        [ "$(find "$work/again" -type f | wc -l)" -eq "$(wc -l <"$work/output")" ]
+    verdict "a release, and the same bytes once more"
+    commit=$(git -C "$fresh" rev-parse HEAD)
+
+    mkdir "$work/tar"
+    tar -xzf "$work/release/awkbox-$version+git"*".${commit:0:8}-x86_64-linux.tar.gz" -C "$work/tar"
+    unpacked=$(echo "$work"/tar/*)
+    cmp -s "$unpacked/bin/awkbox" "$program" && diff -r "$unpacked/examples" "$top/examples" >"$work/output" &&
+        cmp -s "$unpacked/LICENSE-MIT" "$top/LICENSE-MIT" && cmp -s "$unpacked/LICENSE-APACHE" "$top/LICENSE-APACHE" &&
+        cmp -s "$unpacked/share/man/man1/awkbox.1" "$top/man/awkbox.1" &&
+        cmp -s "$unpacked/share/man/man5/awkbox-policy.5" "$top/man/awkbox-policy.5" &&
+        cmp -s "$unpacked/share/zsh/site-functions/_awkbox" "$top/completions/_awkbox" &&
+        cmp -s "$unpacked/share/bash-completion/completions/awkbox" "$top/completions/awkbox.bash" &&
+        cmp -s "$unpacked/share/awkbox/awkbox-policy.schema.json" "$top/docs/awkbox-policy.schema.json" &&
+        [ "$(grep -c '^the licence of ' "$unpacked/LICENSE-LIBRARIES")" -eq 2 ]
+    verdict "the files of the tarball"
+    grep -qx "commit   $commit" "$unpacked/PROVED" && grep -qx "kit      a kit" "$unpacked/PROVED" &&
+        grep -qx "program  $(sha256sum <"$program" | cut -d ' ' -f 1)" "$unpacked/PROVED" &&
+        [ "$(grep -Ec '^(low|high|awkbox_program) +[0-9a-f]{64}$' "$unpacked/PROVED")" -eq 3 ]
+    verdict "what the tarball says was proved"
+    greets "$unpacked" /opt/awkbox examples
+    verdict "the program of the tarball"
+
+    package=$(echo "$work/release/awkbox_$version+git"*".${commit:0:8}_amd64.deb")
+    if command -v dpkg-deb >/dev/null; then
+        dpkg-deb -x "$package" "$work/deb"
+        documents=$work/deb/usr/share/doc/awkbox
+        cmp -s "$work/deb/usr/bin/awkbox" "$program" && cmp -s "$documents/PROVED" "$unpacked/PROVED" &&
+            diff -r "$documents/examples" "$top/examples" >"$work/output" &&
+            zcat "$work/deb/usr/share/man/man1/awkbox.1.gz" | cmp -s - "$top/man/awkbox.1" &&
+            zcat "$work/deb/usr/share/man/man5/awkbox-policy.5.gz" | cmp -s - "$top/man/awkbox-policy.5" &&
+            cmp -s "$work/deb/usr/share/awkbox/awkbox-policy.schema.json" "$top/docs/awkbox-policy.schema.json" &&
+            [ "$(grep -c '^the licence of ' "$documents/copyright")" -eq 2 ] &&
+            [ "$(dpkg-deb -f "$package" Version)" = "$(sed -n '1s/awkbox //p' "$unpacked/PROVED")" ]
+        verdict "the files of the package"
+        greets "$work/deb/usr" /usr share/doc/awkbox/examples
+        verdict "the program of the package"
+    else
+        echo "no dpkg-deb: no package is tried"
+    fi
+    if command -v lintian >/dev/null && [ -e "$package" ]; then
+        lintian "$package" >"$work/output" 2>"$work/errors" && ! grep '^E:' "$work/output"
+        verdict "the package as Debian wants it"
+    else
+        echo "no lintian, or no package: whether it is as Debian wants it is not tried"
+    fi
+else
+    echo "no git: no release is tried"
+fi
 
 # completed WORD..: what bash offers for the last of the words
 completed() {
@@ -1776,12 +2170,28 @@ completed() {
         echo "${COMPREPLY[@]}"' - "$top/completions/awkbox.bash" "$@" 2>&1
 }
 [ "$(completed awkbox r)" = run ] && [ "$(completed awkbox run --p)" = --policy ] &&
-    [ "$(completed awkbox check --)" = "--policy --help" ] &&
+    [ "$(completed awkbox check --)" = "--policy --allow-open --help" ] &&
     [ "$(completed awkbox run --log-l)" = --log-limit ] && [ "$(completed awkbox run -C "$work/elsew")" = "$work/elsewhere" ] &&
     [ "$(completed awkbox list -f a -)" = "-f --help" ] &&
     [ "$(completed awkbox run -f a -- "$work/kept.t")" = "$work/kept.toml" ] &&
     [ "$(completed awkbox run --policy "$work/kept.t")" = "$work/kept.toml" ]
 verdict "the completions for bash"
+
+# each command has the options of its help, and no others; zsh, where it is there, tells what it would show
+zsh_offers() {
+    zsh -f -c '_arguments() { print -rl -- "$@" }
+        () { words=(awkbox "$2" ""); CURRENT=3; . "$1" } "$@"' zsh "$top/completions/_awkbox" "$1" | sed 's/^\*//'
+}
+differing=
+for command in run list check why lint propose; do
+    said=$("$program" "$command" --help | sed -n '/^Options:/,/^$/p' | options | grep -vx -e -h)
+    [ "$(completed awkbox "$command" "" | tr ' ' '\n' | options)" = "$said" ] || differing="$differing bash:$command"
+    command -v zsh >/dev/null || continue
+    [ "$(zsh_offers "$command" | grep -oE -- '^--?[a-zA-Z][a-zA-Z-]*' | sort -u)" = "$said" ] || differing="$differing zsh:$command"
+done
+echo "differing:$differing" >"$work/output"
+[ -z "$differing" ]
+verdict "the completions offer each command the options of its help"
 
 # typed SHELL TEXT WORD..: whether the shell, where it is there, makes these words of the text and a tab
 typed() {

@@ -4,11 +4,13 @@
 Each case is an operation on a text that is hard for its pattern: starts that read on to the end and fail, or matches
 of which each reads on to the end. It is done as often as takes a tenth of a second, on 64, 128 and 256 KB; the
 milliseconds of one stand, without what the program takes to start and to make the text, and the exponent between the
-first and the last (1 is linear). A peer that takes over two seconds is left out from there on. --large has patterns
-at the limit of size, on 2, 4 and 8 KB and with ten seconds, and the nanoseconds that a byte takes."""
+first and the last (1 is linear), and the nanoseconds that a byte takes. A peer that takes over two seconds is left out
+from there on. --large has patterns at the limit of size, on 2, 4 and 8 KB and with ten seconds. The worst exponent and
+the worst time a byte stand last."""
 import argparse
 import math
 import os
+import random
 import resource
 import subprocess
 import tempfile
@@ -17,6 +19,8 @@ ENOUGH = 0.1
 # the sizes of the texts, and the seconds that a peer may take
 USUAL, LONG = ((65536, 131072, 262144), 2), ((2048, 4096, 8192), 10)
 POLICY = 'version = 1\nbase = "/tmp"\n'
+# a text in which nearly each place has other bytes before it
+MIXED = "".join(random.Random(1).choices("ab", k=8192))
 # what is repeated to make the text, what stands at its end, the operation on s
 CASES = [
     ("a", "", "match(s, /a*b/)"),
@@ -39,6 +43,11 @@ CASES = [
     ("a,", "", "split(s, p, /,.*;|,/)"),
     ("x", "", "FS = \"x.*y|x\"; $0 = s; n = NF"),
     ("a, ", "", "FS = \", *(.*;)?\"; $0 = s; n = NF"),
+    (MIXED, "", "match(s, /(a|b)*a(a|b){12}#/)"),
+    (MIXED, "", "gsub(/(a|b)*a(a|b){12}#|a/, \"x\", s)"),
+    (MIXED, "", "split(s, p, /(a|b)*a(a|b){12}#|a/)"),
+    (MIXED, "", "FS = \"(a|b)*a(a|b){12}#|a\"; $0 = s; n = NF"),
+    (MIXED, "", "gsub(/(a|b)*a(a|b){200}#|a/, \"x\", s)"),
 ]
 LARGE = [
     ("a", "", "match(s, /((a?){141}){141}b/)"),
@@ -47,6 +56,9 @@ LARGE = [
     ("ab", "c", "match(s, /((a|b){100}){99}c/)"),
     ("ab", "", "match(s, /([^c]{0,255}){78}c/)"),
     ("ab", "", "match(s, /(([ab]*c){141}){70}/)"),
+    ("a", "", "gsub(/((a?){141}){141}b|a/, \"x\", s)"),
+    ("ab", "", "split(s, p, /((a|b){100}){99}c|b/)"),
+    ("ab", "", "gsub(/(([ab]*c){141}){70}|b/, \"x\", s)"),
 ]
 
 
@@ -95,11 +107,15 @@ def times(command, folder, case, sizes, limit):
     return found
 
 
+def exponent(found, sizes):
+    return math.log(found[-1] / found[0]) / math.log(sizes[-1] / sizes[0]) if found[-1] < math.inf else math.inf
+
+
 def shown(found, sizes):
     cells = ["%9.3f" % (t * 1000) if t < math.inf else "        -" for t in found]
     if found[-1] == math.inf:
         return " ".join(cells) + "     -"
-    return " ".join(cells) + "%6.2f" % (math.log(found[-1] / found[0]) / math.log(sizes[-1] / sizes[0]))
+    return " ".join(cells) + "%6.2f" % exponent(found, sizes)
 
 
 def main():
@@ -117,11 +133,15 @@ def main():
         sizes, limit = LONG if a.large else USUAL
         title = "milliseconds for %d, %d, %d KB, exponent" % tuple(size // 1024 for size in sizes)
         print("%-44s %35s %35s" % (title, "awkbox", "gawk"))
+        worst = (0, 0)
         for case in LARGE if a.large else CASES:
             ours, theirs = (times(command, folder, case, sizes, limit) for command in (own, gawk))
-            each = "  %8.1f ns a byte" % (ours[-1] / sizes[-1] * 1e9) if a.large else ""
-            named = f"{case[2]}  on {case[0]}..{case[1]}"
-            print("%-44s %s %s%s" % (named, shown(ours, sizes), shown(theirs, sizes), each), flush=True)
+            found = (exponent(ours, sizes), ours[-1] / sizes[-1] * 1e9)
+            worst = tuple(max(pair) for pair in zip(worst, found))
+            named = f"{case[2]}  on {case[0][:9]}..{case[1]}"
+            row = (named, shown(ours, sizes), shown(theirs, sizes), found[1])
+            print("%-44s %s %s  %8.1f ns a byte" % row, flush=True)
+        print("the worst: exponent %.2f, %.1f ns a byte" % worst)
 
 
 if __name__ == "__main__":
