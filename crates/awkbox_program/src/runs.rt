@@ -1,4 +1,6 @@
 // The run of a script.
+ghost use Rattle.awk_parse.specs.Scripts.{IsScript};
+
 use crate::files::{OpenLog, ReadFile, look, read};
 use crate::folders::{Folders, enter, resolved};
 use crate::setup::setup_of;
@@ -205,7 +207,9 @@ fn run_at_once(
     prepared: Prepared,
     world: OsWorld,
     log: LimitedLog<File>,
-) -> Account {
+) -> Account
+    requires { IsScript prepared.script }
+{
     let ran = prepared.drive(rt.alloc(), setup, run.steps, world, log);
     Account::Ran {
         report: ran.report,
@@ -222,7 +226,9 @@ fn run_in_blocks(
     prepared: Prepared,
     world: OsWorld,
     log: LimitedLog<File>,
-) -> Account {
+) -> Account
+    requires { IsScript prepared.script }
+{
     let world = Buffered::new(rt.alloc(), world);
     let ran = prepared.drive(rt.alloc(), setup, run.steps, world, log);
     let (written, _) = ran.world.finish();
