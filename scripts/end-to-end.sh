@@ -36,10 +36,12 @@ script() {
     printf '%s\n' "$1" >"$work/script.awk"
 }
 
-# awkbox WORD..: runs the program, and keeps its status and what it wrote
+# awkbox WORD..: runs the program, and keeps its status and what it wrote, the hints apart from the messages
 awkbox() {
-    "$program" "$@" >"$work/output" 2>"$work/errors"
+    "$program" "$@" >"$work/output" 2>"$work/said"
     status=$?
+    sed '/^awkbox: hint: /d' "$work/said" >"$work/errors"
+    sed -n 's/^awkbox: hint: //p' "$work/said" >"$work/hints"
 }
 
 # run WORD..: runs the script file under the policy file, with these words more
@@ -1357,6 +1359,70 @@ slow() {
 slow "a gsub whose every search reads to the end" 100000 'gsub(/(a|b)*a(a|b){12}#|a/, "x", s)'
 slow "a split by such a pattern" 100000 'n = split(s, p, /(a|b)*a(a|b){12}#|a/)'
 slow "a gsub by such a pattern of the largest" 1000 'gsub(/((a?){141}){141}#|a/, "x", s)'
+
+# Hints behind messages.
+
+# hints NAME TEXT: whether the last run gave just this hint
+hints() {
+    holds "$work/hints" "$2$line"
+    verdict "a hint: $1"
+}
+
+no_rules
+while IFS='|' read -r name text hint; do
+    printf "$text" >"$work/script.awk"
+    run
+    hints "$name" "$hint"
+done <<'END'
+a sign of gawk|BEGIN { @ }|U+0040 is of gawk alone
+a byte order mark|\xef\xbb\xbfBEGIN { }|U+FEFF is a byte order mark: save the script without one
+a byte that is no text|BEGIN { \xff }|the byte 0xFF is no text of UTF-8
+a carriage return|BEGIN { }\r\n|U+000D is a carriage return: end each line with a newline alone
+an open string|BEGIN { print "a|the string that begins here is not closed on its line
+a fraction|BEGIN { x = 1.5 }|numbers are whole: no point and no exponent
+a large number|BEGIN { x = 9223372036854775808 }|a number is at most 9,223,372,036,854,775,807
+a sign|BEGIN { print ) }|`)` cannot stand here: an expression comes next, or the end of the statement
+a line that ends|BEGIN { x =\n}|the line ends too early: an expression comes next
+the end|BEGIN { if (|the script ends too early: an expression comes next
+a word of gawk|BEGIN { switch (x) { } }|`{` cannot stand here: `switch` is of gawk alone
+a word of fractions|BEGIN { print sin(1) }|`sin` is for numbers with fractions, and not there: an expression comes next, or the end of the statement
+two ways|BEGIN { x[1] = 1; x = 2 }|`x` is used in two ways, of these: array, variable, function
+a function|BEGIN { f(1) }|no function `f` takes these arguments: it is not there, or has fewer parameters
+a function of gawk|BEGIN { print gensub("a", "b", "g") }|`gensub` is of gawk alone: the script has no function of this name
+a word at a wrong place|BEGIN { next }|`next` stands in a rule for records, or in a function
+END
+
+script 'BEGIN { print ) }'
+awkbox list -f "$work/script.awk"
+hints "list" "\`)\` cannot stand here: an expression comes next, or the end of the statement"
+awkbox run --policy "$work/policy.toml" --log "$work/log" -C "$base" -f "$work/script.awk"
+hints "in another folder" "\`)\` cannot stand here: an expression comes next, or the end of the statement"
+script 'BEGIN { }'
+run -v 1=1
+hints "an assignment" "\`-v 1=1\` is not NAME=VALUE with the name of a variable"
+awkbox list -f "$work/not-there"
+hints "no file" "there is no such file"
+awkbox list -f "$work"
+hints "a folder" "it is a folder"
+truncate -s 16777217 "$work/large"
+awkbox list -f "$work/large"
+hints "a large file" "it has over 16 MiB"
+rm "$work/large"
+printf 'version = 1\nbase = "w"\n' >"$work/policy.toml"
+run
+hints "a policy" "\`awkbox lint --policy $work/policy.toml\` tells more"
+
+policy 'effect = "deny"
+kind = "write"
+match = "out/a"' 'effect = "allow"
+kind = "write"
+match = "**"'
+script 'BEGIN { print > "out/a" }'
+run
+hints "denied" 'the policy denies it; the log has: 1:15 write 1 "out/a"'
+script 'BEGIN { print > "no/a" }'
+run
+hints "not denied" "no rule denies it: the system refuses it"
 
 # Listings and verdicts.
 

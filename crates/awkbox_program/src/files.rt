@@ -1,12 +1,12 @@
 // The files that the program is given.
-use awkbox::{Identity, ReadError, read_limited};
+use awkbox::{Identity, Memory, ReadError, read_limited};
 use awkbox_options::STANDARD_INPUT;
 use std::fs::{File, Metadata, OpenOptions, metadata};
 use std::io::{self, Write};
 use std::os::unix::fs::{FileExt, MetadataExt};
 
 /// The most bytes that a policy or a script may have.
-const MOST_BYTES: usize = 16_777_216;
+pub const MOST_BYTES: usize = 16_777_216;
 
 fn identity_of(metadata: &Metadata) -> Identity {
     Identity {
@@ -51,6 +51,25 @@ pub fn read(rt: &HostRuntime, name: &str) -> Result<ReadFile, ReadError> {
         identity: Some(identity_of(&metadata)),
         bytes,
     })
+}
+
+/// The most bytes of a line of the log that is looked at once more.
+const MOST_OF_LINE: usize = 32_768;
+
+/// The last bytes of this file, so many that a line of the log has no more; none, where it cannot be read.
+pub fn last_bytes(rt: &HostRuntime, name: &str) -> Result<Vec<u8>, Memory> {
+    let mut bytes = Vec::new(rt.alloc());
+    let Ok(file) = File::open(rt, name) else {
+        return Ok(bytes);
+    };
+    let Ok(metadata) = file.metadata() else {
+        return Ok(bytes);
+    };
+    let start = metadata.len().saturating_sub(MOST_OF_LINE as u64);
+    bytes.resize(MOST_OF_LINE, 0)?;
+    let count = file.read_at(bytes.as_mut_slice(), start).unwrap_or(0);
+    bytes.truncate(count);
+    Ok(bytes)
 }
 
 /// Whether the last line of this file has no end, as where a run was ended within a write. What cannot be read has one.

@@ -7,6 +7,7 @@ mod files;
 mod folders;
 mod program;
 mod propose;
+mod reasons;
 mod runs;
 mod setup;
 mod stack;

@@ -1,6 +1,7 @@
 // The program from its words to its exit status.
 use crate::advice::{lint_file, why_file};
 use crate::propose::propose_policy;
+use crate::reasons::{Files, tell_why};
 use crate::runs::{read_source, run_script};
 use crate::stack::has_small_stack;
 use crate::standard;
@@ -27,8 +28,23 @@ pub fn run(rt: &HostRuntime) -> u8 {
 fn follow(rt: &HostRuntime, words: Words) -> u8 {
     let Words { options, operands } = words;
     match read_asked(rt, options.as_slice(), operands.as_slice()) {
-        Ok(asked) => status_of(rt, done(rt, &asked, operands)),
+        Ok(asked) => follow_asked(rt, &asked, operands),
         Err(end) => end_of(rt, end),
+    }
+}
+
+fn follow_asked(rt: &HostRuntime, asked: &Asked<'_>, operands: Vec<Octets>) -> u8 {
+    // told before the program may be in another folder
+    let Ok(files) = Files::of(rt, asked) else {
+        return say(rt, &Message::OutOfMemory);
+    };
+    match done(rt, asked, operands) {
+        Ok(status) => status,
+        Err(message) => {
+            let status = say(rt, &message);
+            tell_why(rt, asked, &files, &message);
+            status
+        }
     }
 }
 
@@ -41,13 +57,6 @@ fn done(rt: &HostRuntime, asked: &Asked<'_>, operands: Vec<Octets>) -> Result<u8
         Asked::Why(why) => why_file(rt, why),
         Asked::Lint { policy } => lint_file(rt, *policy),
         Asked::Propose(asked) => propose_policy(rt, asked),
-    }
-}
-
-fn status_of(rt: &HostRuntime, done: Result<u8, Message>) -> u8 {
-    match done {
-        Ok(status) => status,
-        Err(message) => say(rt, &message),
     }
 }
 

@@ -1,0 +1,183 @@
+// Why a message was said, on a line of its own behind it.
+use crate::files::{MOST_BYTES, ReadFile, last_bytes, read};
+use crate::folders::absolute;
+use awk_reasons::reason;
+use awkbox::{Fault, Memory, Message, Place, SyntaxError};
+use awkbox_options::{Asked, STANDARD_INPUT};
+use std::fs::{File, metadata};
+use std::io::{Error, ErrorKind};
+use std::path::PathBuf;
+
+/// The files that a message may be about, by names that hold in any folder.
+#[derive(Drop)]
+pub struct Files {
+    script: Option<PathBuf>,
+    log: Option<PathBuf>,
+}
+
+impl Files {
+    /// Those of the words of the command line.
+    pub fn of(rt: &HostRuntime, asked: &Asked<'_>) -> Result<Files, Memory> {
+        let (script, log) = match asked {
+            Asked::Run(run) => (Some(run.script), Some(run.log)),
+            Asked::List { script } => (Some(*script), None),
+            Asked::Check(check) => (Some(check.script), None),
+            Asked::Propose(propose) => (propose.script, propose.log),
+            Asked::Why(_) | Asked::Lint { .. } => (None, None),
+        };
+        Ok(Files {
+            script: absolute_of(rt, script)?,
+            log: absolute_of(rt, log)?,
+        })
+    }
+}
+
+fn policy_of<'a>(asked: &Asked<'a>) -> Option<&'a str> {
+    match asked {
+        Asked::Run(run) => Some(run.policy),
+        Asked::Check(check) => Some(check.policy),
+        Asked::Why(why) => Some(why.policy),
+        Asked::Lint { policy } => Some(*policy),
+        Asked::Propose(propose) => propose.policy,
+        Asked::List { .. } => None,
+    }
+}
+
+// None of the standard input.
+fn absolute_of(rt: &HostRuntime, name: Option<&str>) -> Result<Option<PathBuf>, Memory> {
+    match name {
+        Some(name) if name != STANDARD_INPUT => Ok(Some(absolute(rt, name)?)),
+        _ => Ok(None),
+    }
+}
+
+/// Tells more of the message, where there is more to be told. For want of memory there is not.
+pub fn tell_why(rt: &HostRuntime, asked: &Asked<'_>, files: &Files, message: &Message) {
+    if let Ok(Some(hint)) = hint(rt, asked, files, message) {
+        let _ = eprintln!(rt; "awkbox: hint: {hint}");
+    }
+}
+
+fn hint(
+    rt: &HostRuntime,
+    asked: &Asked<'_>,
+    files: &Files,
+    message: &Message,
+) -> Result<Option<String>, Memory> {
+    match message {
+        Message::Script(error) => of_script(rt, files, *error),
+        Message::Policy(_) => of_policy(rt, asked),
+        Message::Unspelled(pair) | Message::Assignment(pair) => of_assignment(rt, asked, *pair),
+        Message::CannotRead(_) => of_unread(rt, asked, files),
+        Message::Fault(Fault::Output, place) => of_unwritten(rt, files, *place),
+        _ => Ok(None),
+    }
+}
+
+// The script is read again. It cannot be, where it came from the standard input.
+fn of_script(
+    rt: &HostRuntime,
+    files: &Files,
+    error: SyntaxError,
+) -> Result<Option<String>, Memory> {
+    let Some(script) = &files.script else {
+        return Ok(None);
+    };
+    let Ok(ReadFile { bytes, .. }) = read(rt, script.as_str()) else {
+        return Ok(None);
+    };
+    let words = reason(rt.alloc(), bytes.as_slice(), error)?;
+    Ok(if words.as_str().is_empty() {
+        None
+    } else {
+        Some(words)
+    })
+}
+
+fn of_policy(rt: &HostRuntime, asked: &Asked<'_>) -> Result<Option<String>, Memory> {
+    match policy_of(asked) {
+        Some(policy) => {
+            let hint = format!(in rt.alloc(); "`awkbox lint --policy {policy}` tells more")?;
+            Ok(Some(hint))
+        }
+        None => Ok(None),
+    }
+}
+
+// Of the `-v` pair of this number, counted from 1.
+fn of_assignment(rt: &HostRuntime, asked: &Asked<'_>, pair: u32) -> Result<Option<String>, Memory> {
+    let Asked::Run(run) = asked else {
+        return Ok(None);
+    };
+    match run.assigns.as_slice().get(pair.saturating_sub(1) as usize) {
+        Some(words) => {
+            let hint = format!(in rt.alloc();
+                "`-v {words}` is not NAME=VALUE with the name of a variable"
+            )?;
+            Ok(Some(hint))
+        }
+        None => Ok(None),
+    }
+}
+
+fn of_unread(rt: &HostRuntime, asked: &Asked<'_>, files: &Files) -> Result<Option<String>, Memory> {
+    let policy = policy_of(asked).and_then(|name| unread(rt, name));
+    let script = files
+        .script
+        .as_ref()
+        .and_then(|name| unread(rt, name.as_str()));
+    let log = files
+        .log
+        .as_ref()
+        .and_then(|name| unread(rt, name.as_str()));
+    match policy.or(script).or(log) {
+        Some(words) => Ok(Some(String::from_str(rt.alloc(), words)?)),
+        None => Ok(None),
+    }
+}
+
+// Why the file of this name cannot be read, if it can't. Nothing is told of the standard input.
+fn unread(rt: &HostRuntime, name: &str) -> Option<&'static str> {
+    if name == STANDARD_INPUT {
+        return None;
+    }
+    match metadata(rt, name) {
+        Ok(metadata) if metadata.is_dir() => Some("it is a folder"),
+        Ok(metadata) if metadata.len() > MOST_BYTES as u64 => Some("it has over 16 MiB"),
+        Ok(_) => File::open(rt, name).err().map(|error| words_of(&error)),
+        Err(error) => Some(words_of(&error)),
+    }
+}
+
+fn words_of(error: &Error) -> &'static str {
+    match error.kind() {
+        ErrorKind::NotFound => "there is no such file",
+        ErrorKind::PermissionDenied => "the system does not allow it",
+        _ => "the system refuses it",
+    }
+}
+
+// An output that cannot be written was denied, where the last line of the log has its place.
+fn of_unwritten(rt: &HostRuntime, files: &Files, place: Place) -> Result<Option<String>, Memory> {
+    let Some(log) = &files.log else {
+        return Ok(None);
+    };
+    let bytes = last_bytes(rt, log.as_str())?;
+    let begins = format!(in rt.alloc(); "{}:{} ", place.line, place.column)?;
+    match last_line(bytes.as_slice()) {
+        Some(line) if line.starts_with(begins.as_str()) => {
+            Ok(Some(format!(in rt.alloc(); "the policy denies it; the log has: {line}")?))
+        }
+        _ => Ok(Some(String::from_str(rt.alloc(), "no rule denies it: the system refuses it")?)),
+    }
+}
+
+// The last line of the text, without its end, where it begins within the text.
+fn last_line(text: &[u8]) -> Option<&str> {
+    let lines = text.strip_suffix(b"\n".as_slice())?;
+    let line = match lines.iter().rposition(|b| *b == b'\n') {
+        Some(newline) => lines.get(newline.saturating_add(1)..)?,
+        None => lines,
+    };
+    std::str::from_utf8(line).ok()
+}
