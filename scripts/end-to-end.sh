@@ -36,12 +36,10 @@ script() {
     printf '%s\n' "$1" >"$work/script.awk"
 }
 
-# awkbox WORD..: runs the program, and keeps its status and what it wrote, the hints apart from the messages
+# awkbox WORD..: runs the program, and keeps its status and what it wrote
 awkbox() {
-    "$program" "$@" >"$work/output" 2>"$work/said"
+    "$program" "$@" >"$work/output" 2>"$work/errors"
     status=$?
-    sed '/^awkbox: hint: /d' "$work/said" >"$work/errors"
-    sed -n 's/^awkbox: hint: //p' "$work/said" >"$work/hints"
 }
 
 # run WORD..: runs the script file under the policy file, with these words more
@@ -55,9 +53,14 @@ holds() {
     printf '%s' "$2" | cmp -s - "$1"
 }
 
+# says TEXT: whether standard error has just this text, but for hints
+says() {
+    sed '/^awkbox: hint: /d' "$work/errors" | cmp -s - <(printf '%s' "$1")
+}
+
 # is STATUS OUTPUT ERRORS LOG: whether the run ended with these
 is() {
-    [ "$status" -eq "$1" ] && holds "$work/output" "$2" && holds "$work/errors" "$3" &&
+    [ "$status" -eq "$1" ] && holds "$work/output" "$2" && says "$3" &&
         holds "$work/log" "$4"
 }
 
@@ -154,7 +157,7 @@ no_rules
 script 'BEGIN { print ) }'
 run
 [ "$status" -eq 3 ] && [ ! -s "$work/output" ] && holds "$work/log" "" &&
-    [ "$(wc -l <"$work/errors")" -eq 1 ] &&
+    [ "$(grep -vc "^awkbox: hint: " "$work/errors")" -eq 1 ] &&
     grep -Eqx 'awkbox: script 1:[0-9]+ S[1-9]' "$work/errors"
 verdict "a refused script"
 
@@ -162,17 +165,17 @@ script 'BEGIN { print "hi" }'
 rm -f "$work/log"
 awkbox run --policy 'no "file' --log "$work/log" -f "$work/script.awk"
 [ "$status" -eq 3 ] && [ ! -s "$work/output" ] &&
-    holds "$work/errors" "awkbox: cannot read \"no \\x22file\"$line" && [ ! -e "$work/log" ]
+    says "awkbox: cannot read \"no \\x22file\"$line" && [ ! -e "$work/log" ]
 verdict "a policy file that is not there"
 
 awkbox run --policy "$work/policy.toml" --log "$work/log" -f "$work"
 [ "$status" -eq 3 ] && [ ! -s "$work/output" ] &&
-    holds "$work/errors" "awkbox: cannot read \"$work\"$line" && [ ! -e "$work/log" ]
+    says "awkbox: cannot read \"$work\"$line" && [ ! -e "$work/log" ]
 verdict "a script file that is a folder"
 
 awkbox run --policy "$work/policy.toml" --log "$work/none/log" -f "$work/script.awk"
 [ "$status" -eq 3 ] && [ ! -s "$work/output" ] &&
-    holds "$work/errors" "awkbox: cannot write \"$work/none/log\"$line"
+    says "awkbox: cannot write \"$work/none/log\"$line"
 verdict "a log file that cannot be made"
 
 echo "from another run" >"$work/log"
@@ -346,7 +349,7 @@ ln -sf "$work/script.awk" "$work/script.link"
 not_log() {
     awkbox run --policy "$work/policy.toml" --log "$1" -f "$work/script.awk"
     [ "$status" -eq 3 ] && [ ! -s "$work/output" ] &&
-        holds "$work/errors" "awkbox: cannot write \"$1\"$line" &&
+        says "awkbox: cannot write \"$1\"$line" &&
         cmp -s "$work/policy.toml" "$work/kept.toml" && cmp -s "$work/script.awk" "$work/kept.awk"
 }
 not_log "$work/policy.toml"
@@ -374,7 +377,7 @@ keeps_log() {
     shift
     awkbox run --policy "$work/policy.toml" --log "$name" -f "$work/script.awk" "$@"
     [ "$status" -eq 3 ] && [ ! -s "$work/output" ] &&
-        holds "$work/errors" "awkbox: cannot write \"$name\"$line" && holds "$work/log" "from another run$line"
+        says "awkbox: cannot write \"$name\"$line" && holds "$work/log" "from another run$line"
 }
 echo "from another run" >"$work/log"
 cp "$work/log" "$work/other"
@@ -486,7 +489,7 @@ for pair in "--policy $work/policy.toml -f /dev/zero" "--policy /dev/zero -f $wo
     rm -f "$work/log"
     # shellcheck disable=SC2086
     awkbox run --log "$work/log" $pair
-    [ "$status" -eq 3 ] && holds "$work/errors" "awkbox: cannot read \"/dev/zero\"$line" && [ ! -e "$work/log" ]
+    [ "$status" -eq 3 ] && says "awkbox: cannot read \"/dev/zero\"$line" && [ ! -e "$work/log" ]
     verdict "a text without end: ${pair//$work\//}"
 done
 printf 'BEGIN { print "hi" } #' >"$work/script.awk"
@@ -670,7 +673,7 @@ kind = "write"
 match = "out/*"'
 script 'BEGIN { print ) }'
 run
-[ "$status" -eq 3 ] && [ ! -s "$work/output" ] && [ "$(wc -l <"$work/errors")" -eq 1 ] &&
+[ "$status" -eq 3 ] && [ ! -s "$work/output" ] && [ "$(grep -vc "^awkbox: hint: " "$work/errors")" -eq 1 ] &&
     grep -Eqx 'awkbox: script 1:[0-9]+ S[1-9]' "$work/errors"
 verdict "a start in another folder, without a run"
 
@@ -852,7 +855,7 @@ not_report() {
     shift
     echo "from another run" >"$work/log"
     awkbox run --policy "$work/policy.toml" --log "$work/log" -f "$work/script.awk" --report "$name" "$@"
-    [ "$status" -eq 3 ] && [ ! -s "$work/output" ] && holds "$work/errors" "awkbox: cannot write \"$name\"$line" &&
+    [ "$status" -eq 3 ] && [ ! -s "$work/output" ] && says "awkbox: cannot write \"$name\"$line" &&
         holds "$work/log" "from another run$line" && cmp -s "$work/policy.toml" "$work/kept.toml" &&
         cmp -s "$work/script.awk" "$work/kept.awk"
 }
@@ -869,7 +872,7 @@ not_report "$work/none/report"
 verdict "a report that cannot be made"
 rm -f "$work/new"
 awkbox run --policy "$work/policy.toml" --log "$work/new" -f "$work/script.awk" --report "$work/new"
-[ "$status" -eq 3 ] && holds "$work/errors" "awkbox: cannot write \"$work/new\"$line"
+[ "$status" -eq 3 ] && says "awkbox: cannot write \"$work/new\"$line"
 verdict "a report that is the log, which was not there"
 "$program" run --policy "$work/policy.toml" --log "$work/log" -f "$work/script.awk" --report "$work/output" \
     >"$work/output" 2>"$work/errors"
@@ -1180,7 +1183,7 @@ verdict "a folder that a command lists"
 
 script 'BEGIN { for (i = 1000000; i > 0; i--) print i | "sort -n" }'
 run
-[ "$status" -eq 0 ] && seq 1000000 | cmp -s - "$work/output" && holds "$work/errors" ""
+[ "$status" -eq 0 ] && seq 1000000 | cmp -s - "$work/output" && says ""
 verdict "a million lines to a command"
 
 script 'BEGIN { for (i = 0; i < 1000; i++) { c = "echo " i; c | getline x; n += x; print i | "cat"; close(c); close("cat") } print n }'
@@ -1274,7 +1277,7 @@ kind = "run"
 match = "**"' && [ "$status" -eq 124 ] && ! pgrep -f "sleep 1000[.]$$" >/dev/null
 verdict "an attack by a command without end"
 attack log 10 'BEGIN { for (c = "id"; i < 12; i++) c = c c; while (1) system(c) }' && [ "$status" -eq 2 ] &&
-    holds "$work/errors" "awkbox: 1:56 F12 cannot write the denial log$line" &&
+    says "awkbox: 1:56 F12 cannot write the denial log$line" &&
     [ "$(wc -c <"$work/log")" -le 1000000 ] && [ "$(tail -c 3 "$work/log")" = 'd"' ]
 verdict "an attack that floods the log"
 attack file 10 'BEGIN { for (s = "x"; i < 20; i++) s = s s; while (1) print s > "a" }' 'effect = "allow"
@@ -1364,7 +1367,7 @@ slow "a gsub by such a pattern of the largest" 1000 'gsub(/((a?){141}){141}#|a/,
 
 # hints NAME TEXT: whether the last run gave just this hint
 hints() {
-    holds "$work/hints" "$2$line"
+    [ "$(grep '^awkbox: hint: ' "$work/errors")" = "awkbox: hint: $2" ]
     verdict "a hint: $1"
 }
 
@@ -1428,7 +1431,7 @@ hints "not denied" "no rule denies it: the system refuses it"
 
 # told STATUS OUTPUT ERRORS: whether the program ended with these
 told() {
-    [ "$status" -eq "$1" ] && holds "$work/output" "$2" && holds "$work/errors" "$3"
+    [ "$status" -eq "$1" ] && holds "$work/output" "$2" && says "$3"
 }
 
 script '{ print $1 | "sort -r" }'
@@ -1491,11 +1494,11 @@ verdict "a listing of a script that is not there"
 for example in hi/hi report-host/report teaching-server/exercise log-pipeline/step many-machines/count; do
     folder=$examples/${example%/*}
     awkbox list -f "$examples/$example.awk"
-    [ "$status" -eq 0 ] && cmp -s "$work/output" "$folder/listing.txt" && holds "$work/errors" ""
+    [ "$status" -eq 0 ] && cmp -s "$work/output" "$folder/listing.txt" && says ""
     verdict "the listing of the example $example"
     awkbox check --policy "$folder/policy.toml" -f "$examples/$example.awk"
     [ "$status" -eq "$([ "$example" = hi/hi ]; echo $?)" ] &&
-        cmp -s "$work/output" "$folder/verdict.txt" && holds "$work/errors" ""
+        cmp -s "$work/output" "$folder/verdict.txt" && says ""
     verdict "what the policy says of the example $example"
 done
 
@@ -2114,7 +2117,7 @@ wrapper
     tells "not built; run ./build" "$begins: 2 of 3 crates $at_once" "built $fresh/crates/awkbox_program/out/awkbox_program"
 verdict "the wrapper goes on where the build ended"
 wrapper
-[ "$status" -eq 0 ] && holds "$work/output" "ran run a b$line" && holds "$work/errors" ""
+[ "$status" -eq 0 ] && holds "$work/output" "ran run a b$line" && says ""
 verdict "the wrapper once the program is built"
 sleep 0.1
 echo '// new' >"$fresh/crates/low/src/lib.rt"
@@ -2122,7 +2125,7 @@ wrapper
 [ "$status" -eq 0 ] && holds "$work/output" "ran run a b$line" && tells "older than its sources; run ./build"
 verdict "the wrapper where sources are newer"
 PATH=$kit/bin:$PATH "$fresh/build" >"$work/output" 2>"$work/errors" && wrapper &&
-    [ "$status" -eq 0 ] && holds "$work/errors" "" && [ -z "$(find "$work" -maxdepth 1 -name '.awkbox-build-*')" ]
+    [ "$status" -eq 0 ] && says "" && [ -z "$(find "$work" -maxdepth 1 -name '.awkbox-build-*')" ]
 verdict "the build of what has changed"
 echo 'echo not proved' >>"$fresh/crates/awkbox_program/out/awkbox_program"
 PATH=$kit/bin:$PATH "$fresh/build" >"$work/output" 2>"$work/errors" && tells "$begins: 1 of 3 crates $at_once" \
