@@ -53,9 +53,9 @@ holds() {
     printf '%s' "$2" | cmp -s - "$1"
 }
 
-# says TEXT: whether standard error has just this text, but for hints
+# says TEXT: whether standard error has just this text, but for notes
 says() {
-    sed '/^awkbox: hint: /d' "$work/errors" | cmp -s - <(printf '%s' "$1")
+    sed '/^awkbox: note: /d' "$work/errors" | cmp -s - <(printf '%s' "$1")
 }
 
 # is STATUS OUTPUT ERRORS LOG: whether the run ended with these
@@ -157,7 +157,7 @@ no_rules
 script 'BEGIN { print ) }'
 run
 [ "$status" -eq 3 ] && [ ! -s "$work/output" ] && holds "$work/log" "" &&
-    [ "$(grep -vc "^awkbox: hint: " "$work/errors")" -eq 1 ] &&
+    [ "$(grep -vc "^awkbox: note: " "$work/errors")" -eq 1 ] &&
     grep -Eqx 'awkbox: script 1:[0-9]+ S[1-9]' "$work/errors"
 verdict "a refused script"
 
@@ -673,7 +673,7 @@ kind = "write"
 match = "out/*"'
 script 'BEGIN { print ) }'
 run
-[ "$status" -eq 3 ] && [ ! -s "$work/output" ] && [ "$(grep -vc "^awkbox: hint: " "$work/errors")" -eq 1 ] &&
+[ "$status" -eq 3 ] && [ ! -s "$work/output" ] && [ "$(grep -vc "^awkbox: note: " "$work/errors")" -eq 1 ] &&
     grep -Eqx 'awkbox: script 1:[0-9]+ S[1-9]' "$work/errors"
 verdict "a start in another folder, without a run"
 
@@ -1363,19 +1363,19 @@ slow "a gsub whose every search reads to the end" 100000 'gsub(/(a|b)*a(a|b){12}
 slow "a split by such a pattern" 100000 'n = split(s, p, /(a|b)*a(a|b){12}#|a/)'
 slow "a gsub by such a pattern of the largest" 1000 'gsub(/((a?){141}){141}#|a/, "x", s)'
 
-# Hints behind messages.
+# Notes behind messages.
 
-# hints NAME TEXT: whether the last run gave just this hint
-hints() {
-    [ "$(grep '^awkbox: hint: ' "$work/errors")" = "awkbox: hint: $2" ]
-    verdict "a hint: $1"
+# notes NAME TEXT: whether the last run gave just this note
+notes() {
+    [ "$(grep '^awkbox: note: ' "$work/errors")" = "awkbox: note: $2" ]
+    verdict "a note: $1"
 }
 
 no_rules
-while IFS='|' read -r name text hint; do
+while IFS='|' read -r name text note; do
     printf "$text" >"$work/script.awk"
     run
-    hints "$name" "$hint"
+    notes "$name" "$note"
 done <<'END'
 a sign of gawk|BEGIN { @ }|U+0040 is of gawk alone
 a byte order mark|\xef\xbb\xbfBEGIN { }|U+FEFF is a byte order mark: save the script without one
@@ -1397,23 +1397,23 @@ END
 
 script 'BEGIN { print ) }'
 awkbox list -f "$work/script.awk"
-hints "list" "\`)\` cannot stand here: an expression comes next, or the end of the statement"
+notes "list" "\`)\` cannot stand here: an expression comes next, or the end of the statement"
 awkbox run --policy "$work/policy.toml" --log "$work/log" -C "$base" -f "$work/script.awk"
-hints "in another folder" "\`)\` cannot stand here: an expression comes next, or the end of the statement"
+notes "in another folder" "\`)\` cannot stand here: an expression comes next, or the end of the statement"
 script 'BEGIN { }'
 run -v 1=1
-hints "an assignment" "\`-v 1=1\` is not NAME=VALUE with the name of a variable"
+notes "an assignment" "\`-v 1=1\` is not NAME=VALUE with the name of a variable"
 awkbox list -f "$work/not-there"
-hints "no file" "there is no such file"
+notes "no file" "there is no such file"
 awkbox list -f "$work"
-hints "a folder" "it is a folder"
+notes "a folder" "it is a folder"
 truncate -s 16777217 "$work/large"
 awkbox list -f "$work/large"
-hints "a large file" "it has over 16 MiB"
+notes "a large file" "it has over 16 MiB"
 rm "$work/large"
 printf 'version = 1\nbase = "w"\n' >"$work/policy.toml"
 run
-hints "a policy" "\`awkbox lint --policy $work/policy.toml\` tells more"
+notes "a policy" "\`awkbox lint --policy $work/policy.toml\` tells more"
 
 policy 'effect = "deny"
 kind = "write"
@@ -1422,10 +1422,10 @@ kind = "write"
 match = "**"'
 script 'BEGIN { print > "out/a" }'
 run
-hints "denied" 'the policy denies it; the log has: 1:15 write 1 "out/a"'
+notes "denied" 'the policy denies it; the log has: 1:15 write 1 "out/a"'
 script 'BEGIN { print > "no/a" }'
 run
-hints "not denied" "no rule denies it: the system refuses it"
+notes "not denied" "no rule denies it: the system refuses it"
 
 # Listings and verdicts.
 

@@ -53,12 +53,12 @@ fn absolute_of(rt: &HostRuntime, name: Option<&str>) -> Result<Option<PathBuf>, 
 
 /// Tells more of the message, where there is more to be told. For want of memory there is not.
 pub fn tell_why(rt: &HostRuntime, asked: &Asked<'_>, files: &Files, message: &Message) {
-    if let Ok(Some(hint)) = hint(rt, asked, files, message) {
-        let _ = eprintln!(rt; "awkbox: hint: {hint}");
+    if let Ok(Some(note)) = note(rt, asked, files, message) {
+        let _ = eprintln!(rt; "awkbox: note: {note}");
     }
 }
 
-fn hint(
+fn note(
     rt: &HostRuntime,
     asked: &Asked<'_>,
     files: &Files,
@@ -97,8 +97,8 @@ fn of_script(
 fn of_policy(rt: &HostRuntime, asked: &Asked<'_>) -> Result<Option<String>, Memory> {
     match policy_of(asked) {
         Some(policy) => {
-            let hint = format!(in rt.alloc(); "`awkbox lint --policy {policy}` tells more")?;
-            Ok(Some(hint))
+            let note = format!(in rt.alloc(); "`awkbox lint --policy {policy}` tells more")?;
+            Ok(Some(note))
         }
         None => Ok(None),
     }
@@ -111,10 +111,10 @@ fn of_assignment(rt: &HostRuntime, asked: &Asked<'_>, pair: u32) -> Result<Optio
     };
     match run.assigns.as_slice().get(pair.saturating_sub(1) as usize) {
         Some(words) => {
-            let hint = format!(in rt.alloc();
+            let note = format!(in rt.alloc();
                 "`-v {words}` is not NAME=VALUE with the name of a variable"
             )?;
-            Ok(Some(hint))
+            Ok(Some(note))
         }
         None => Ok(None),
     }
