@@ -1,5 +1,5 @@
 -- What contracts see of an audit.
-use Rattle.std.specs.Prelude.{ℕ, ◌-◌, Bool, false, List, length, take, Option, None, Some, if◌then◌else◌}
+use Rattle.std.specs.Prelude.{ℕ, ◌-◌, false, List, length, take, Option, None, Some, if◌then◌else◌}
 use Rattle.std.specs.Io.KnownBytes.{Appends}
 use Rattle.box_monitor.specs.Stops.{LogEnds}
 use Rattle.box_monitor.specs.declared.log_end.LogEnd.{LogEnd}

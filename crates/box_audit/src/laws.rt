@@ -9,5 +9,4 @@ use std::io::Write;
 /// order, as long as it has not stopped.
 pub fn names_allowed<W: World, L: Write>()
     ensures { NamesAllowed W.follows W.has_stopped L.contents }
-{
-}
+{}

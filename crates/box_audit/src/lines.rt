@@ -16,7 +16,7 @@ use std::alloc::{AllocError, Global};
 use std::marker::Model;
 
 /// What a policy decides on: a path, a command or a name, and what is to be done with it.
-#[derive(Clone, Copy, Drop)]
+#[derive(Drop)]
 struct Subject<'a> {
     kind: Kind,
     text: &'a [u8],

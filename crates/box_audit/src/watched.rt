@@ -1,5 +1,5 @@
 // A world that asks another world, and writes a line for each request that a policy decides on.
-ghost use Rattle.std.specs.Prelude.{◌≡◌, [], None, is_some, IfNone, IfOk, IfSome, IsSome, OnErr};
+ghost use Rattle.std.specs.Prelude.{◌≡◌, [], None, Some, is_some, IfNone, IfOk, IfSome, IsSome, OnErr};
 ghost use Rattle.box_world.specs.Calls.{IsDuty};
 ghost use Rattle.box_audit.specs.Audit.{BreaksOff, Grows, log_end_of, numbers_told};
 ghost use Rattle.box_audit.specs.Laws.{Leads-append, Leads-none, Leads-open, Stops-later};
@@ -156,14 +156,23 @@ impl<W: World, L: Write> Watched<W, L> {
         match self.tell(lines.line(&reply)) {
             LogEnd::Whole => Ok(reply),
             log_end => {
-                let has_opened = has_opened(&ask.request, &reply);
-                self.halt = Some(Halt {
-                    log_end,
-                    has_opened,
-                });
+                self.stop_untold(ask, reply, log_end);
                 Err(Stop::Log)
             }
         }
+    }
+
+    // Stops at an ask whose line the log did not take; its reply goes to nobody.
+    fn stop_untold(&mut self, ask: &Ask, reply: Reply, log_end: LogEnd)
+        ensures { self.new ≡ record self.old {
+          halt = Some (record { log_end = log_end; has_opened = opens ask.now.request reply });
+        } }
+    {
+        let has_opened = has_opened(&ask.request, &reply);
+        self.halt = Some(Halt {
+            log_end,
+            has_opened,
+        });
     }
 
     // Asks the world behind for what has no line.
