@@ -15,7 +15,7 @@ _awkbox() {
         mapfile -t COMPREPLY < <(compgen -d -- "$word")
         return
         ;;
-    --policy | --log | --report | -f | -E)
+    --policy | --log | --audit | --report | -f | -E)
         compopt -o filenames 2>/dev/null
         mapfile -t COMPREPLY < <(compgen -f -- "$word")
         return
@@ -34,7 +34,7 @@ _awkbox() {
         ;;
     esac
     case ${COMP_WORDS[1]} in
-    run) options='--policy --log --log-append --log-limit --report -C --steps --block-buffered -F -v -f -E --help --' ;;
+    run) options='--policy --log --log-append --log-limit --audit --report -C --steps --block-buffered -F -v -f -E --help --' ;;
     list) options='-f --help' ;;
     check) options='--policy --allow-open -f --help' ;;
     why) options='--policy --given read write append run env assign --help' ;;

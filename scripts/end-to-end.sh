@@ -905,6 +905,167 @@ if command -v timeout >/dev/null; then
     verdict "a run that is ended leaves an empty report"
 fi
 
+# What is passed on.
+
+# audited STATUS LINES WORD..: whether a run with these words ended so, and its audit has these lines
+audited() {
+    local wanted=$1 lines=$2
+    shift 2
+    echo "from another run" >"$work/audit"
+    run --audit "$work/audit" "$@"
+    [ "$status" -eq "$wanted" ] && holds "$work/audit" "$lines"
+}
+policy 'effect = "allow"
+kind = "read"
+match = "**"' 'effect = "allow"
+kind = "write"
+match = "out/**"' 'effect = "allow"
+kind = "append"
+match = "out/**"' 'effect = "allow"
+kind = "run"
+match = "**"' 'effect = "allow"
+kind = "env"
+match = "LANG"' 'effect = "allow"
+kind = "assign"
+match = "n"'
+script 'BEGIN {
+    print "a" > "out/a"; close("out/a")
+    while ((getline x < "out/a") > 0) print x
+    if ((getline x < "out/none") < 0) print "no"
+    system("echo b; exit 3")
+    "echo c" | getline x; print x
+    print "d" | "cat"; close("cat")
+    print ENVIRON["LANG"]
+    print "e" >> "out/\303\251"
+    if ((getline x < "/etc/passwd") < 0) print "denied"
+    system("echo again"); system("echo again")
+}
+{ print FILENAME, n, $0 }'
+echo 5 >in.txt
+passed_on="0:0 env ok \"LANG\"
+2:15 write ok \"out/a\"
+3:13 read ok \"out/a\"
+4:10 read failed \"out/none\"
+5:5 run ok \"echo b; exit 3\"
+6:16 run ok \"echo c\"
+7:15 run ok \"cat\"
+9:15 append ok \"out/\\xc3\\xa9\"
+11:5 run ok \"echo again\"
+11:27 run ok \"echo again\"
+0:0 assign ok \"n\"
+0:0 read ok \"in.txt\"
+0:0 read failed \"none.txt\"
+0:0 read ok \"./in.txt\"
+"
+for words in '' --block-buffered; do
+    rm -f out/*
+    # shellcheck disable=SC2086 # no word, or one
+    env -i LANG=C Z=1 "$program" run --policy "$work/policy.toml" --log "$work/log" --audit "$work/audit" $words \
+        -f "$work/script.awk" -- n=7 in.txt m=8 none.txt ./in.txt >"$work/output" 2>"$work/errors"
+    status=$?
+    is 2 "a${line}no${line}b${line}c${line}d${line}C${line}denied${line}again${line}again${line}in.txt 7 5${line}./in.txt 7 5$line" \
+        "awkbox: cannot open \"none.txt\"$line" \
+        "0:0 env none \"Z\"${line}10:10 read none \"/etc/passwd\"${line}0:0 assign none \"m\"$line" &&
+        holds "$work/audit" "$passed_on"
+    verdict "an audit has a line for each allowed request, in order${words:+, with $words}"
+done
+rm -f out/*
+script 'BEGIN { print "a" > "out/none/a" }'
+audited 2 "1:19 write failed \"out/none/a\"$line"
+is 2 "" "awkbox: 1:19 F7 cannot open or write output$line" ""
+verdict "an audit of a run that a failed request ends"
+script 'BEGIN { print "a" > "/etc/x" }'
+audited 2 ""
+is 2 "" "awkbox: 1:19 F7 cannot open or write output$line" "1:19 write none \"/etc/x\"$line"
+verdict "an audit does not name what is denied"
+script 'BEGIN { print "hi" }'
+audited 0 ""
+is 0 "hi$line" "" ""
+verdict "an audit of a run that asks for nothing"
+no_audit="awkbox: cannot write the audit$line"
+run --audit /dev/full
+is 0 "hi$line" "" ""
+verdict "an audit without room, of a run that asks for nothing"
+script 'BEGIN { print "a"; system("echo b"); print "c" }'
+for words in '' --block-buffered; do
+    # shellcheck disable=SC2086 # no word, or one
+    run --audit /dev/full --report "$work/report" $words
+    is 2 "a${line}b$line" "${no_audit}awkbox: 1:20 F12 cannot write the denial log$line" "" &&
+        holds "$work/report" '{"denials":0,"exit_status":2,"fault":{"code":"F12","column":20,"line":1,"text":"cannot write the denial log"},"log":"whole","outcome":"fault","refusal":null,"steps":2}'"$line"
+    verdict "an audit that cannot be written ends the run${words:+, with $words}"
+done
+script 'BEGIN { while ((getline x < "in.txt") > 0) print x; system("echo b"); system("id >/dev/null"); system("echo c") }'
+first="1:17 read ok \"in.txt\"${line}1:53 run ok \"echo b\"$line"
+audited 2 "$first" --log-limit "${#first}"
+is 2 "5${line}b$line" "${no_audit}awkbox: 1:71 F12 cannot write the denial log$line" ""
+verdict "an audit that would pass the limit has no part of the line"
+script "BEGIN { system(\":\"); system(\": >'$work/audit'\"); system(\": 2\") }"
+audited 0 "1:22 run ok \": >'$work/audit'\"${line}1:$((45 + ${#work})) run ok \": 2\"$line"
+verdict "an audit that a command empties goes on at its end, with that command's line"
+policy 'effect = "allow"
+kind = "run"
+match = ":"'
+script 'BEGIN { system("a"); system(":") }'
+audited 0 "1:22 run ok \":\"$line" --log-limit 17
+is 0 "" "" "1:9 run none \"a\"$line"
+verdict "log and audit may each have as many bytes as the limit"
+script 'BEGIN { print "a" > "own.audit"; close("own.audit"); print "b" >> "own.audit" }'
+policy 'effect = "allow"
+kind = "write"
+match = "own.*"'
+run --audit own.audit
+is 2 "" "$(writable 1 audit own.audit)
+awkbox: 1:64 F7 cannot open or write output$line" "1:64 append none \"own.audit\"$line"
+verdict "a rule that allows writing to the audit"
+rm -f own.audit
+script 'BEGIN { print "a" > "own.audit" }'
+no_rules
+run --audit own.audit
+is 2 "" "awkbox: 1:19 F7 cannot open or write output$line" "1:19 write none \"own.audit\"$line" && holds own.audit ""
+verdict "an audit that the script may not write"
+rm -f own.audit
+
+# not_audit NAME WORD..: whether a run with this audit and these words is refused, and all stays as it was
+not_audit() {
+    local name=$1
+    shift
+    echo "from another run" >"$work/log"
+    awkbox run --policy "$work/policy.toml" --log /dev/null -f "$work/script.awk" --audit "$name" "$@"
+    [ "$status" -eq 3 ] && [ ! -s "$work/output" ] && holds "$work/errors" "awkbox: cannot write \"$name\"$line" &&
+        cmp -s "$work/policy.toml" "$work/kept.toml" && cmp -s "$work/script.awk" "$work/kept.awk"
+}
+script 'BEGIN { print "hi" }'
+cp "$work/policy.toml" "$work/kept.toml"
+cp "$work/script.awk" "$work/kept.awk"
+for name in policy.toml script.awk policy.link script.link; do
+    not_audit "$work/$name"
+    verdict "an audit that is the run's $name"
+done
+not_audit "$work/kept.awk" -- "$work/kept.awk"
+verdict "an audit that is an operand's file"
+not_audit "$work/none/audit"
+verdict "an audit that cannot be made"
+awkbox run --policy "$work/policy.toml" --log /dev/null -f "$work/script.awk" --audit "$work/report" \
+    --report "$work/report"
+[ "$status" -eq 3 ] && [ ! -s "$work/output" ] && holds "$work/errors" "awkbox: cannot write \"$work/report\"$line"
+verdict "an audit that is the report"
+for name in log log.link; do
+    echo "from another run" >"$work/log"
+    awkbox run --policy "$work/policy.toml" --log "$work/log" -f "$work/script.awk" --audit "$work/$name"
+    is 3 "" "awkbox: cannot write \"$work/log\"$line" "from another run$line"
+    verdict "an audit that is the log, as $name"
+done
+run --audit /dev/null
+is 0 "hi$line" "" ""
+verdict "an audit that is no regular file"
+cd "$work/start" || exit 2
+rm -f its.audit
+awkbox run -C "$base" --policy "$work/policy.toml" --log "$work/log" --audit its.audit -f "$work/script.awk"
+is 0 "hi$line" "" "" && holds its.audit "" && [ ! -e "$base/its.audit" ]
+verdict "an audit in the folder of the start"
+rm -f its.audit
+cd "$base" || exit 2
+
 # A policy or a script that is the standard input.
 
 script 'BEGIN { print "hi" }'

@@ -12,7 +12,8 @@ use Rattle.awkbox.specs.declared.messages.Message.TheVariants.{CannotRead, Canno
 use Rattle.awkbox.specs.declared.messages.Message.TheVariants.{NotInBase, SmallStack, OutOfMemory}
 use Rattle.awkbox.specs.declared.messages.Warning.{Warning}
 use Rattle.awkbox.specs.declared.messages.OwnFile.{OwnFile}
-use Rattle.awkbox.specs.declared.messages.OwnFile.TheVariants.{Log, Report, Policy as PolicyFile, Script as ScriptFile}
+use Rattle.awkbox.specs.declared.messages.OwnFile.TheVariants.{Log, Audit, Report}
+use Rattle.awkbox.specs.declared.messages.OwnFile.TheVariants.{Policy as PolicyFile, Script as ScriptFile}
 use Rattle.box_policy.specs.Refusals.{refusal_text as policy_text}
 
 -- the line, without its newline
@@ -81,6 +82,7 @@ SaysNotInBase base message = ⊥
 -- the word for a file that a run is given
 abbrev pub own_word : OwnFile → List ℕ
 own_word Log = codes "log"
+own_word Audit = codes "audit"
 own_word Report = codes "report"
 own_word PolicyFile = codes "policy"
 own_word ScriptFile = codes "script"

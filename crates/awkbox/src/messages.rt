@@ -49,6 +49,7 @@ pub enum Message {
 #[derive(Clone, Copy, Debug, PartialEq, Eq, Drop)]
 pub enum OwnFile {
     Log,
+    Audit,
     Report,
     Policy,
     Script,
@@ -231,6 +232,7 @@ impl OwnFile {
     {
         match self {
             OwnFile::Log => "log",
+            OwnFile::Audit => "audit",
             OwnFile::Report => "report",
             OwnFile::Policy => "policy",
             OwnFile::Script => "script",

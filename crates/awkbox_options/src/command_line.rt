@@ -13,8 +13,10 @@ pub struct Run<'a> {
     pub log: &'a str,
     /// Whether what the log holds is kept.
     pub adds_to_log: bool,
-    /// How many bytes the run may add to the log; `u64::MAX` where the words set no limit.
+    /// How many bytes the run may add to the log, and to the audit; `u64::MAX` where the words set no limit.
     pub log_limit: u64,
+    /// The name of the file for what was passed on.
+    pub audit: Option<&'a str>,
     /// The name of the file that the run is reported in.
     pub report: Option<&'a str>,
     /// The name of the script's file, or [`STANDARD_INPUT`].
@@ -106,7 +108,7 @@ const MOST_STEPS: u64 = 1_000_000_000_000;
 const RUN_STATUSES: &str = "\
 Exit status:
   The script's own, where it came to its end; else
-  2  A fault ended the run, or the log or the report could not be written
+  2  A fault ended the run, or the log, the audit or the report could not be written
   3  Nothing was run: the policy, the script or the command line was refused, or a file could not be read or made
   4  The step bound ended the run";
 
@@ -150,6 +152,11 @@ fn log_append<'a>(alloc: Global) -> Arg<'a> {
 fn log_limit<'a>(alloc: Global) -> Arg<'a> {
     let help = "How many bytes the run may add to the log";
     option(alloc, "log-limit", "BYTES", help).long("log-limit")
+}
+
+fn audit<'a>(alloc: Global) -> Arg<'a> {
+    let help = "Where each allowed request is told, and whether it failed; made or emptied";
+    option(alloc, "audit", "FILE", help).long("audit")
 }
 
 fn report<'a>(alloc: Global) -> Arg<'a> {
@@ -256,6 +263,7 @@ fn run_command<'a>(alloc: Global) -> Result<Command<'a>, AllocError> {
         .arg(log(alloc))?
         .arg(log_append(alloc))?
         .arg(log_limit(alloc))?
+        .arg(audit(alloc))?
         .arg(report(alloc))?
         .arg(folder(alloc))?
         .arg(steps(alloc))?
@@ -405,6 +413,7 @@ fn run_of<'a>(alloc: Global, matches: &ArgMatches<'a>) -> Result<Run<'a>, Error>
         log: value_of(alloc, matches, "log")?,
         adds_to_log: matches.get_flag("log-append"),
         log_limit: log_limit_of(alloc, matches)?,
+        audit: matches.get_str("audit"),
         report: matches.get_str("report"),
         script,
         folder: matches.get_str("folder"),

@@ -37,10 +37,11 @@ enum Next {
 
 const SHORT: [&str; 5] = [SCRIPT, LAST, "-v", "-F", "-C"];
 
-const LONG: [&str; 6] = [
+const LONG: [&str; 7] = [
     "--policy",
     "--log",
     "--log-limit",
+    "--audit",
     "--report",
     "--steps",
     "--base",

@@ -6,11 +6,12 @@ use crate::folders::{Folders, enter, resolved};
 use crate::setup::setup_of;
 use crate::standard;
 use awkbox::{
-    Account, Ending, Fault, Identity, LimitedLog, Memory, Message, Octets, OsWorld, Outcome,
-    OwnFile, Place, Policy, Prepared, Report, Setup, Warning, may_be_log, may_start, prepare,
-    writing_rule,
+    Account, Ending, Fault, Identity, LimitedLog, LogEnd, Memory, Message, Octets, OsWorld,
+    Outcome, OwnFile, Place, Policy, Prepared, Report, Setup, Warning, may_be_log, may_start,
+    prepare, writing_rule,
 };
 use awkbox_options::{Run, STANDARD_INPUT};
+use box_audit::watched::Watched;
 use box_blocks::buffered::{Buffered, NotWritten};
 use std::fs::File;
 use std::io::Write;
@@ -84,19 +85,16 @@ fn open_report(
     name: &str,
     operands: &[Octets],
 ) -> Result<ReportFile, Message> {
-    let Ok(opened) = OpenLog::open(rt, name) else {
-        return Err(Message::cannot_write(rt.alloc(), name));
-    };
+    let opened = open_log(rt, name)?;
     let named = [
         look_source(rt, run.policy),
         look_source(rt, run.script),
         look(rt, run.log),
+        look_audit(rt, run),
     ];
     let identity = opened.identity;
-    match claim(rt, opened, named, operands, false)? {
-        Some(file) => Ok(ReportFile { identity, file }),
-        None => Err(Message::cannot_write(rt.alloc(), name)),
-    }
+    let file = claim(rt, name, opened, named, operands, false)?;
+    Ok(ReportFile { identity, file })
 }
 
 // Whether the account stands whole in the file.
@@ -155,7 +153,7 @@ fn read_sources(rt: &HostRuntime, run: &Run<'_>) -> Result<Sources, Message> {
     Ok(Sources { policy, script })
 }
 
-// The log is open before the folder is entered, and emptied after that.
+// The log and the audit are open before the folder is entered, and emptied after that.
 fn run_sources(
     rt: &HostRuntime,
     run: &Run<'_>,
@@ -163,14 +161,80 @@ fn run_sources(
     sources: &Sources,
     named: [Option<Identity>; 3],
 ) -> Result<Account, Message> {
-    let Ok(opened) = OpenLog::open(rt, run.log) else {
-        return Err(Message::cannot_write(rt.alloc(), run.log));
-    };
+    let opened = open_logs(rt, run)?;
     let folders = enter(rt, run.folder)?;
-    match claim(rt, opened, named, setup.operands(), run.adds_to_log)? {
-        Some(log) => run_logged(rt, run, setup, sources, &folders, log),
-        None => Err(Message::cannot_write(rt.alloc(), run.log)),
+    let logs = claim_logs(rt, run, opened, named, setup.operands())?;
+    run_logged(rt, run, setup, sources, &folders, logs)
+}
+
+// The log of denials, and the one of what is allowed where there is to be one.
+#[derive(Drop)]
+struct OpenLogs {
+    denials: OpenLog,
+    audit: Option<OpenLog>,
+}
+
+#[derive(Drop)]
+struct Logs {
+    denials: LimitedLog<File>,
+    audit: Option<LimitedLog<File>>,
+}
+
+fn open_logs(rt: &HostRuntime, run: &Run<'_>) -> Result<OpenLogs, Message> {
+    let denials = open_log(rt, run.log)?;
+    let audit = match run.audit {
+        Some(name) => Some(open_log(rt, name)?),
+        None => None,
+    };
+    Ok(OpenLogs { denials, audit })
+}
+
+fn open_log(rt: &HostRuntime, name: &str) -> Result<OpenLog, Message> {
+    match OpenLog::open(rt, name) {
+        Ok(opened) => Ok(opened),
+        Err(_) => Err(Message::cannot_write(rt.alloc(), name)),
     }
+}
+
+// Neither may be the other one, nor one of these files.
+fn claim_logs(
+    rt: &HostRuntime,
+    run: &Run<'_>,
+    opened: OpenLogs,
+    named: [Option<Identity>; 3],
+    operands: &[Octets],
+) -> Result<Logs, Message> {
+    let OpenLogs { denials, audit } = opened;
+    let [policy, script, report] = named;
+    let beside_audit = [policy, script, report, Some(denials.identity)];
+    let beside_log = [policy, script, report, audit_identity(&audit)];
+    let log = claim(rt, run.log, denials, beside_log, operands, run.adds_to_log)?;
+    let audit = claim_audit(rt, run, audit, beside_audit, operands)?;
+    Ok(Logs {
+        denials: LimitedLog::new(log, run.log_limit),
+        audit,
+    })
+}
+
+fn audit_identity(audit: &Option<OpenLog>) -> Option<Identity> {
+    match audit {
+        Some(opened) => Some(opened.identity),
+        None => None,
+    }
+}
+
+fn claim_audit(
+    rt: &HostRuntime,
+    run: &Run<'_>,
+    audit: Option<OpenLog>,
+    named: [Option<Identity>; 4],
+    operands: &[Octets],
+) -> Result<Option<LimitedLog<File>>, Message> {
+    let (Some(name), Some(opened)) = (run.audit, audit) else {
+        return Ok(None);
+    };
+    let file = claim(rt, name, opened, named, operands, false)?;
+    Ok(Some(LimitedLog::new(file, run.log_limit)))
 }
 
 fn run_logged(
@@ -179,7 +243,7 @@ fn run_logged(
     setup: &Setup,
     sources: &Sources,
     folders: &Folders,
-    log: File,
+    logs: Logs,
 ) -> Result<Account, Message> {
     let alloc = rt.alloc();
     let host = rt.clone()?;
@@ -190,12 +254,11 @@ fn run_logged(
         prepared.release();
         return Err(message);
     }
-    let log = LimitedLog::new(log, run.log_limit);
     let world = OsWorld::new(host);
     Ok(if run.is_block_buffered {
-        run_in_blocks(rt, run, setup, prepared, world, log)
+        run_in_blocks(rt, run, setup, prepared, world, logs)
     } else {
-        run_at_once(rt, run, setup, prepared, world, log)
+        run_at_once(rt, run, setup, prepared, world, logs)
     })
 }
 
@@ -206,11 +269,14 @@ fn run_at_once(
     setup: &Setup,
     prepared: Prepared,
     world: OsWorld,
-    log: LimitedLog<File>,
+    logs: Logs,
 ) -> Account
     requires { IsScript prepared.script }
 {
-    let ran = prepared.drive(rt.alloc(), setup, run.steps, world, log);
+    let Logs { denials, audit } = logs;
+    let world = Watched::new(rt.alloc(), world, audit);
+    let ran = prepared.drive(rt.alloc(), setup, run.steps, world, denials);
+    tell_of_audit(rt, ran.world.log_end());
     Account::Ran {
         report: ran.report,
         denials: ran.denials,
@@ -225,17 +291,27 @@ fn run_in_blocks(
     setup: &Setup,
     prepared: Prepared,
     world: OsWorld,
-    log: LimitedLog<File>,
+    logs: Logs,
 ) -> Account
     requires { IsScript prepared.script }
 {
-    let world = Buffered::new(rt.alloc(), world);
-    let ran = prepared.drive(rt.alloc(), setup, run.steps, world, log);
-    let (written, _) = ran.world.finish();
+    let Logs { denials, audit } = logs;
+    let world = Watched::new(rt.alloc(), Buffered::new(rt.alloc(), world), audit);
+    let ran = prepared.drive(rt.alloc(), setup, run.steps, world, denials);
+    tell_of_audit(rt, ran.world.log_end());
+    let (world, _) = ran.world.into_parts();
+    let (written, _) = world.finish();
     Account::Ran {
         report: report_of(rt, ran.report, written),
         denials: ran.denials,
         log_end: ran.log_end,
+    }
+}
+
+// Which log it was that ended a run by F12, where it was not that of denials.
+fn tell_of_audit(rt: &HostRuntime, audit_end: LogEnd) {
+    if audit_end != LogEnd::Whole {
+        let _ = eprintln!(rt; "awkbox: cannot write the audit");
     }
 }
 
@@ -265,6 +341,10 @@ pub fn read_source(rt: &HostRuntime, name: &str) -> Result<ReadFile, Message> {
     }
 }
 
+fn look_audit(rt: &HostRuntime, run: &Run<'_>) -> Option<Identity> {
+    look(rt, run.audit?)
+}
+
 // Which file a policy or a script of this name is; the standard input is looked at as a stream.
 fn look_source(rt: &HostRuntime, name: &str) -> Option<Identity> {
     match name {
@@ -273,11 +353,11 @@ fn look_source(rt: &HostRuntime, name: &str) -> Option<Identity> {
     }
 }
 
-// The files that are not to be the log or the report: these, those that the standard streams lead to and those that the
+// The files that are not to be the log, the audit or the report: these, those that the standard streams lead to and those that the
 // operands name. A word that may set a variable counts as the name of a file too.
 fn others(
     rt: &HostRuntime,
-    named: [Option<Identity>; 3],
+    named: [Option<Identity>; 4],
     operands: &[Octets],
 ) -> Result<Vec<Identity>, Memory> {
     let mut others = Vec::new(rt.alloc());
@@ -307,20 +387,23 @@ fn look_operand(rt: &HostRuntime, operand: &[u8]) -> Option<Identity> {
     }
 }
 
-// The file for the lines of a log or a report, where it is none of the files that are named or that the standard
-// streams and the operands lead to. One that is refused stays as it was.
+// The file of this name for the lines of a log or a report, where it is none of the files that are named or that the
+// standard streams and the operands lead to. One that is refused stays as it was.
 fn claim(
     rt: &HostRuntime,
+    name: &str,
     opened: OpenLog,
-    named: [Option<Identity>; 3],
+    named: [Option<Identity>; 4],
     operands: &[Octets],
     is_kept: bool,
-) -> Result<Option<File>, Memory> {
+) -> Result<File, Message> {
     let others = others(rt, named, operands)?;
-    match may_be_log(opened.identity, opened.is_regular, others.as_slice()) {
-        true => Ok(opened.begin(is_kept).ok()),
-        false => Ok(None),
+    if may_be_log(opened.identity, opened.is_regular, others.as_slice()) {
+        if let Ok(file) = opened.begin(is_kept) {
+            return Ok(file);
+        }
     }
+    Err(Message::cannot_write(rt.alloc(), name))
 }
 
 // Refuses a start in another folder than the policy's base, where the names that rules allow are not those that the run
@@ -346,6 +429,9 @@ fn warn_of_all(
     folders: &Folders,
 ) -> Result<(), Memory> {
     warn(rt, policy, folders, OwnFile::Log, run.log)?;
+    if let Some(audit) = run.audit {
+        warn(rt, policy, folders, OwnFile::Audit, audit)?;
+    }
     if let Some(report) = run.report {
         warn(rt, policy, folders, OwnFile::Report, report)?;
     }
