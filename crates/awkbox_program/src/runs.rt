@@ -230,7 +230,10 @@ fn claim_audit(
     named: [Option<Identity>; 4],
     operands: &[Octets],
 ) -> Result<Option<LimitedLog<File>>, Message> {
-    let (Some(name), Some(opened)) = (run.audit, audit) else {
+    let Some(name) = run.audit else {
+        return Ok(None);
+    };
+    let Some(opened) = audit else {
         return Ok(None);
     };
     let file = claim(rt, name, opened, named, operands, false)?;
@@ -353,8 +356,8 @@ fn look_source(rt: &HostRuntime, name: &str) -> Option<Identity> {
     }
 }
 
-// The files that are not to be the log, the audit or the report: these, those that the standard streams lead to and those that the
-// operands name. A word that may set a variable counts as the name of a file too.
+// The files that are not to be the log, the audit or the report: these, those that the standard streams lead to and
+// those that the operands name. A word that may set a variable counts as the name of a file too.
 fn others(
     rt: &HostRuntime,
     named: [Option<Identity>; 4],

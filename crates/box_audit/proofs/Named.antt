@@ -1,11 +1,13 @@
 -- What is told of the calls that events are.
-use Rattle.std.proofs.Common.{◌≡◌, ℕ, Bool, true, false, List, [], ◌∷◌, ◌++◌, Option, None, is_some, refl, ap, ◌∙◌, subst, inl, inr}
+use Rattle.std.proofs.Common.{◌≡◌, ℕ, Bool, true, false, List, [], ◌∷◌, ◌++◌, Option, None, is_some, refl, ap, ◌∙◌}
+use Rattle.std.proofs.Common.{subst, inl, inr}
 use Rattle.std.specs.Prelude.{option_to_list}
 use Rattle.std.proofs.lemmas.List.{append-nil}
 use Rattle.box_monitor.specs.Passed.{passed_on, subject_of_wish}
 use Rattle.box_monitor.specs.Subjects.{subject_of}
 use Rattle.box_world.specs.Calls.{Call}
-use Rattle.box_world.specs.Events.{Event, Stream, Wish, Opens, Reads, Writes, Shuts, Runs, Looks, Assigns, ask_of, calls, open_streams, request_of}
+use Rattle.box_world.specs.Events.{Event, Stream, ask_of, calls, open_streams, request_of}
+use Rattle.box_world.specs.Events.{Wish, Opens, Reads, Writes, Shuts, Runs, Looks, Assigns}
 use Rattle.box_audit.specs.Audit.{Audit, Grows}
 use Rattle.box_audit.specs.Audited.{audit_text, audited, audited_at, audited_of}
 use Rattle.box_audit.specs.Events.{NamesAllowed, audited_event, audited_events}
@@ -35,7 +37,8 @@ audited_calls (e ∷ es) =
 module _ {W L : Type 0} (follows : W → List Call → W → Type 0) (has_stopped : W → Bool) (contents : L → Option (List ℕ))
   where
     -- what has not stopped has written the lines of its calls
-    lines_written : (old new : Audit W L) (done : List Call) → Leads follows has_stopped contents old done new → new.halt ≡ None
+    lines_written : (old new : Audit W L) (done : List Call) → Leads follows has_stopped contents old done new
+        → new.halt ≡ None
         → Grows contents old.log new.log (audit_text (audited done))
     lines_written old new done p going = elim p [
       | inl a ↦ a.log

@@ -1,5 +1,6 @@
 -- What an ask whose line the log did not take leads to.
-use Rattle.std.proofs.Common.{◌≡◌, ℕ, Bool, true, false, if◌then◌else◌, List, [], ◌∷◌, Option, None, Some, ap, sym, subst}
+use Rattle.std.proofs.Common.{◌≡◌, ℕ, Bool, true, false, if◌then◌else◌, List, [], ◌∷◌, Option, None, Some}
+use Rattle.std.proofs.Common.{ap, sym, subst}
 use Rattle.box_monitor.specs.declared.log_end.LogEnd.{LogEnd}
 use Rattle.box_world.specs.Calls.{Call}
 use Rattle.box_world.specs.declared.ask.Ask.{Ask}
@@ -32,6 +33,7 @@ module _ {W L : Type 0} (follows : W → List Call → W → Type 0) (has_stoppe
       end = end;
       after = ap (λ (z : Audit W L). z.halt) left;
       log = subst (λ z. BreaksOff contents end old.log new.log [] z) (picked ask lines (is_failed reply) are)
-          (subst (λ z. BreaksOff contents end old.log z [] (if is_failed reply then lines.failed.items else lines.ok.items))
+          (subst (λ z. BreaksOff contents end old.log z []
+          (if is_failed reply then lines.failed.items else lines.ok.items))
           (sym (ap (λ (z : Audit W L). z.log) left)) broken);
     }

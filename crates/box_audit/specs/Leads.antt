@@ -16,8 +16,8 @@ opens request reply = false
 
 module _ {W L : Type 0} (follows : W → List Call → W → Type 0) (has_stopped : W → Bool) (contents : L → Option (List ℕ))
   where
-    -- The world behind was asked these calls, and no others, and the log has their lines, each written once its reply was
-    -- there. Neither has stopped.
+    -- The world behind was asked these calls, and no others, and the log has their lines, each written once its reply
+    -- was there. Neither has stopped.
     pub record Goes (old : Audit W L) (calls : List Call) (new : Audit W L) : Type 0 where
       pub before : old.halt ≡ None
       pub after : new.halt ≡ None
@@ -32,8 +32,8 @@ module _ {W L : Type 0} (follows : W → List Call → W → Type 0) (has_stoppe
       pub inner : follows old.world calls new.world
       pub log : Grows contents old.log new.log (audit_text (audited calls))
 
-    -- After these calls the log did not take the line of one more. The world behind was asked that one too, and its reply
-    -- was not handed on.
+    -- After these calls the log did not take the line of one more. The world behind was asked that one too, and its
+    -- reply was not handed on.
     pub record GoesToLine (old : Audit W L) (calls : List Call) (last : Call) (new : Audit W L) : Type 0 where
       pub before : old.halt ≡ None
       pub inner : follows old.world (calls ++ last ∷ []) new.world

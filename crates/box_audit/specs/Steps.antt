@@ -1,5 +1,6 @@
 -- What each step of an audit does.
-use Rattle.std.specs.Prelude.{◌≡◌, ℕ, Bool, true, false, List, [], ◌∷◌, Option, Some, None, IsSome, Result, Ok, Err, ◌⊎◌}
+use Rattle.std.specs.Prelude.{◌≡◌, ℕ, Bool, true, false, List, [], ◌∷◌, Option, Some, None, IsSome}
+use Rattle.std.specs.Prelude.{Result, Ok, Err, ◌⊎◌}
 use Rattle.box_monitor.specs.Subjects.{Subject, subject_of}
 use Rattle.box_world.specs.Calls.{Call, IsFitting}
 use Rattle.box_world.specs.declared.ask.Ask.{Ask}

@@ -34,8 +34,8 @@ pub struct Halt {
 /// before that is handed on: its place, its kind, `ok` or `failed`, and its path, command or name. So where the machine
 /// stops between a request and its line, that line is not in the log. Where there is no log, none is written.
 ///
-/// Where a write or a flush of the log fails, the answer is `Stop::Log`: the world behind was asked, and its reply is not
-/// handed on. From then on, and after a `Stop::Log` of the world behind, every ask is answered `Stop::Log` and does
+/// Where a write or a flush of the log fails, the answer is `Stop::Log`: the world behind was asked, and its reply is
+/// not handed on. From then on, and after a `Stop::Log` of the world behind, every ask is answered `Stop::Log` and does
 /// nothing.
 #[derive(Drop)]
 pub struct Watched<W: World, L: Write> {
