@@ -81,7 +81,7 @@ pub fn redirect_text(redirect: Redirect) -> &'static str
 }
 
 pub fn substituting(is_all: bool) -> Builtin
-    ensures { result ≡ spec.substituting is_all }
+    ensures { result ≡ terminals.substituting is_all }
 {
     if is_all { Builtin::Gsub } else { Builtin::Sub }
 }

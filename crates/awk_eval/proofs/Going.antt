@@ -14,10 +14,10 @@ use Rattle.awk_lib.specs.Arrays.{keys}
 use Rattle.awk_machine.specs.State.{Array, State, Given}
 use Rattle.awk_machine.specs.Statements.{body, in_order, stepping, test, then_test}
 use Rattle.awk_machine.specs.Variables.{array}
-use Rattle.awk_store.specs.Flows.{flows}
-use Rattle.awk_store.specs.declared.flow.Flow.{Flow}
-use Rattle.awk_store.specs.declared.flow.Flow.TheVariants as flow
-use Rattle.awk_store.specs.Ends.{is_on, end_of}
+use Rattle.awk_streams.specs.Flows.{flows}
+use Rattle.awk_streams.specs.declared.flow.Flow.{Flow}
+use Rattle.awk_streams.specs.declared.flow.Flow.TheVariants as flow
+use Rattle.awk_streams.specs.Ends.{is_on, end_of}
 use Rattle.awk_eval.specs.Loops.{tested}
 
 -- ---- behind a statement

@@ -5,8 +5,8 @@ use Rattle.awk_text.specs.declared.value.Value.{Value}
 use Rattle.box_world.specs.declared.world.World.{Ghosts}
 use Rattle.awk_streams.specs.Tasks.{Owns}
 use Rattle.awk_streams.specs.declared.halt.Halt.{Halt}
-use Rattle.awk_store.specs.Flows.{flows}
-use Rattle.awk_store.specs.declared.flow.Flow.{Flow}
+use Rattle.awk_streams.specs.Flows.{flows}
+use Rattle.awk_streams.specs.declared.flow.Flow.{Flow}
 use Rattle.awk_machine.specs.Forms.{value}
 use Rattle.awk_machine.specs.Pieces.{Do, Start, give}
 use Rattle.awk_forms.specs.Runs.{Does}

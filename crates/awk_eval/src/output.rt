@@ -5,7 +5,7 @@ ghost use Rattle.awk_machine.specs.Pieces.{At, Doing};
 ghost use Rattle.awk_program.specs.Program as p;
 ghost use Rattle.awk_program.specs.View.{view, view_redirection};
 ghost use Rattle.awk_store.specs.Wholes.{names_in};
-ghost use Rattle.awk_store.specs.Flows.{flows};
+ghost use Rattle.awk_streams.specs.Flows.{flows};
 ghost use Rattle.awk_forms.specs.Runs.{Does, whole_of};
 
 use awk_builtins::items::{printed_at_hand, redirected_at_hand, split_for_items};
@@ -17,7 +17,7 @@ use awk_forms::evaluates::Evaluates;
 use awk_forms::lists::fill;
 use awk_input::outputs::put_to;
 use awk_program::{Expr, Redirection};
-use awk_store::Flow;
+use awk_streams::flow::Flow;
 use awk_streams::halt::Halt;
 use awk_streams::requests::put;
 use awk_text::lent::Lent;

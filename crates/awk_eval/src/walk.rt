@@ -1,7 +1,7 @@
 // Expressions and statements, no deeper than the stack lets them be.
 ghost use Rattle.std.specs.Prelude.{map};
 ghost use Rattle.awk_streams.specs.Tasks.{Owns};
-ghost use Rattle.awk_store.specs.Flows.{flows};
+ghost use Rattle.awk_streams.specs.Flows.{flows};
 ghost use Rattle.awk_eval.specs.Nests.{Nests};
 ghost use Rattle.awk_machine.specs.Forms.{value};
 ghost use Rattle.awk_machine.specs.Pieces.{Do, Each, Start, give};
@@ -21,8 +21,8 @@ use awk_forms::targets::value_of_variable;
 use awk_forms::tests;
 use awk_forms::units::{units_of, units_of_statement};
 use awk_program::{Expr, Statement, Target};
-use awk_store::Flow;
 use awk_store::steps::{is_one, step};
+use awk_streams::flow::Flow;
 use awk_streams::halt::Halt;
 use awk_text::value::Value;
 use box_world::world::World;

@@ -5,12 +5,12 @@ ghost use Rattle.awk_machine.specs.Forms.{value};
 ghost use Rattle.awk_machine.specs.Pieces.{Do, Start, give};
 ghost use Rattle.awk_program.specs.View.{view, view_statement};
 ghost use Rattle.awk_store.specs.Wholes.{names_in};
-ghost use Rattle.awk_store.specs.Flows.{flows};
+ghost use Rattle.awk_streams.specs.Flows.{flows};
 ghost use Rattle.awk_forms.specs.Runs.{Does, whole_of};
 
 use crate::context::{Context, Run};
 use awk_program::{Expr, Statement};
-use awk_store::Flow;
+use awk_streams::flow::Flow;
 use awk_streams::halt::Halt;
 use awk_text::value::Value;
 use box_world::world::World;

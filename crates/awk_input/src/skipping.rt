@@ -5,7 +5,7 @@ ghost use Rattle.awk_machine.specs.State.{Given};
 ghost use Rattle.awk_machine.specs.Statements.{skipping};
 ghost use Rattle.awk_program.specs.Program as p;
 ghost use Rattle.awk_program.specs.declared.jumps.Jump.TheVariants as j;
-ghost use Rattle.awk_store.specs.Flows.{flows};
+ghost use Rattle.awk_streams.specs.Flows.{flows};
 ghost use Rattle.awk_store.specs.Wholes.{Whole};
 ghost use Rattle.awk_streams.specs.Tasks.{Owns};
 ghost use Rattle.awk_input.specs.Inputs.{Onward};

@@ -6,7 +6,7 @@ use Rattle.awk_tokens.specs.declared.terminals.Terminal.{Terminal}
 use Rattle.awk_tokens.specs.declared.terminals.Terminal.TheVariants as w
 use Rattle.awk_tree.specs.Looks.{sign, step}
 use Rattle.awk_tree.specs.declared.operators.Sign.{Sign}
-use Rattle.awk_tree.specs.Canon.{substituting}
+use Rattle.awk_tree.specs.Terminals.{substituting}
 use Rattle.awk_tree.specs.Tree.{Tree}
 use Rattle.awk_tree.specs.Terminals.{terminal, look, ahead}
 use Rattle.awk_parse.specs.Rules as rule

@@ -17,7 +17,8 @@ use Rattle.awk_tokens.specs.declared.words.Parameters.{Parameters}
 use Rattle.awk_tokens.specs.declared.words.Parameters.TheVariants as takes
 use Rattle.awk_tree.specs.Input.{Parser, ◌>>=◌, any, one, pure, inside, skipped}
 use Rattle.awk_tree.specs.Expressions as e
-use Rattle.awk_tree.specs.Canon.{canon, bare, bare_name, canon_list, builtin_word, substituting}
+use Rattle.awk_tree.specs.Canon.{canon, bare, bare_name, canon_list, builtin_word}
+use Rattle.awk_tree.specs.Terminals.{substituting}
 use Rattle.awk_parse.specs.Rules as rule
 use Rattle.awk_parse.specs.Rules.{Rule}
 use Rattle.awk_parse.specs.Spells as g

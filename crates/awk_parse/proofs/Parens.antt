@@ -16,7 +16,8 @@ use Rattle.awk_tree.specs.Tree as t
 use Rattle.awk_tree.specs.Tree.{Tree, Trees, Perhaps, Terms, Pipes}
 use Rattle.awk_tree.specs.Terminals.{terminal, terminal_of, is, sign}
 use Rattle.awk_tokens.specs.Words.{builtin_text}
-use Rattle.awk_tree.specs.Canon.{canon, canon_list, canon_commas, canon_comma, canon_target, canon_file, canon_parts, canon_ands, canon_ors, canon_terms, canon_pipes, canon_members, canon_perhaps, builtin_word, arithmetic_text, comparison_text, prefix_text, match_text, substituting}
+use Rattle.awk_tree.specs.Canon.{canon, canon_list, canon_commas, canon_comma, canon_target, canon_file, canon_parts, canon_ands, canon_ors, canon_terms, canon_pipes, canon_members, canon_perhaps, builtin_word, arithmetic_text, comparison_text, prefix_text, match_text}
+use Rattle.awk_tree.specs.Terminals.{substituting}
 use Rattle.awk_parse.proofs.TerminalLemmas.{both_true, is-true}
 use Rattle.awk_parse.proofs.Law.{decided}
 use Rattle.awk_parse.proofs.Starts.{step_is, assignment_is, builtin_is}

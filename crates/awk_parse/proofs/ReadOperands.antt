@@ -10,7 +10,7 @@ use Rattle.awk_tokens.specs.declared.words.Parameters.TheVariants as takes
 use Rattle.awk_tokens.specs.declared.terminals.Step.{Step}
 use Rattle.awk_tokens.specs.declared.terminals.Terminal.{Terminal}
 use Rattle.awk_tokens.specs.declared.terminals.Terminal.TheVariants as w
-use Rattle.awk_tree.specs.Canon.{substituting}
+use Rattle.awk_tree.specs.Terminals.{substituting}
 use Rattle.awk_tree.specs.Looks as looks
 use Rattle.awk_tree.specs.Looks.{is_lvalue, name_of, sign, skip, step}
 use Rattle.awk_tree.specs.declared.operators.Sign.{Sign}

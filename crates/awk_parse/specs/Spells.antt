@@ -22,7 +22,7 @@ use Rattle.awk_tree.specs.declared.expressions.Piped.{Piped}
 use Rattle.awk_tokens.specs.declared.terminals.Terminal.TheVariants as w
 use Rattle.awk_tree.specs.Tree as tree
 use Rattle.awk_tree.specs.Tree.{Tree, trees_of, perhaps_of}
-use Rattle.awk_tree.specs.Canon.{substituting}
+use Rattle.awk_tree.specs.Terminals.{substituting}
 use Rattle.awk_tree.specs.Terminals.{terminal, is, ahead}
 use Rattle.awk_parse.specs.Rules as rule
 use Rattle.awk_parse.specs.Rules.{Rule}

@@ -15,7 +15,8 @@ use Rattle.awk_resolve.specs.declared.mention.Section.{Section}
 use Rattle.awk_resolve.proofs.Lists.{contains_none, contains_cases}
 use Rattle.awk_resolve.proofs.Naming.{contains_among}
 use Rattle.awk_resolve.specs.Clash.{has_in, HasTwo, IsFirst, OneOf, NameAt, CallAt, MentionAt, RoleAt, PartAt}
-use Rattle.awk_resolve.specs.Numbering.{number, number_in, numbers}
+use Rattle.awk_resolve.specs.Numbering.{number_in, numbers}
+use Rattle.awk_resolve.specs.Numbers.{number, is_function}
 use Rattle.awk_resolve.specs.Uses as u
 use Rattle.awk_resolve.specs.Marks.{is_marked, has, AreKinds}
 use Rattle.awk_resolve.specs.declared.kinds.Kinds.{Kinds}
@@ -99,26 +100,26 @@ module _ (parts : List Section) (well : (place : Place) → Misdefined parts pla
   number_same : (p : Section) (x : Text) → Contains parts p → number_in c.numbers p.role x ≡ number c.numbers (meant p.role x)
   number_same p x d = ap (λ z. number_in z p.role x) is ∙ (here parts well p x d ∙ ap (λ z. number z (meant p.role x)) (sym is))
 
-  function_same : (p : Section) (x : Text) → Contains parts p → u.is_function c.numbers x ≡ has c (meant p.role x) k.function
+  function_same : (p : Section) (x : Text) → Contains parts p → is_function c.numbers x ≡ has c (meant p.role x) k.function
   function_same p x d = by p.role refl
     where
-      in_function : (f : Name) (ps : List Name) (b g : Bool) → p.role ≡ role.Function f ps → is_among (texts ps) x ≡ b → u.is_function c.numbers x ≡ g
-          → u.is_function c.numbers x ≡ has c (if b then parameter f.text x else global x) k.function
+      in_function : (f : Name) (ps : List Name) (b g : Bool) → p.role ≡ role.Function f ps → is_among (texts ps) x ≡ b → is_function c.numbers x ≡ g
+          → is_function c.numbers x ≡ has c (if b then parameter f.text x else global x) k.function
       in_function f ps false g e h i = refl
       in_function f ps true false e h i = i
       in_function f ps true true e h i =
-          let (g, qs, def, same) = function_known parts well x (ap (λ z. u.is_function z x) (sym is) ∙ i) in
+          let (g, qs, def, same) = function_known parts well x (ap (λ z. is_function z x) (sym is) ∙ i) in
           let meaning = meant_function parts well p g qs x d def same in
           let plain : meant p.role x ≡ meant (role.Function f ps) x = ap (λ r. meant r x) e in
           let inside : meant (role.Function f ps) x ≡ parameter f.text x = ap (λ b. if b then parameter f.text x else global x) h in
           let wrong : parameter f.text x ≡ global g.text = sym inside ∙ (sym plain ∙ meaning) in
           absurd (cc)
 
-      by : (r : Role) → p.role ≡ r → u.is_function c.numbers x ≡ has c (meant r x) k.function
+      by : (r : Role) → p.role ≡ r → is_function c.numbers x ≡ has c (meant r x) k.function
       by role.Begin e = refl
       by role.End e = refl
       by role.Rule e = refl
-      by (role.Function f ps) e = in_function f ps (is_among (texts ps) x) (u.is_function c.numbers x) e refl refl
+      by (role.Function f ps) e = in_function f ps (is_among (texts ps) x) (is_function c.numbers x) e refl refl
 
   kind_same : (p : Section) (x : Text) → Contains parts p → (kind : Kind) → has_in c p.role x kind ≡ has c (meant p.role x) kind
   kind_same p x d k.scalar = ap (is_marked c.scalars) (number_same p x d)

@@ -8,7 +8,7 @@ use Rattle.awk_resolve.specs.Kinds.{Kind, Named, global, parameter, Defines, tex
 use Rattle.awk_resolve.specs.Faults.{Misdefined}
 use Rattle.awk_resolve.specs.declared.mention.Section.{Section}
 use Rattle.awk_resolve.specs.Numbering as s
-use Rattle.awk_resolve.specs.Numbering.{number}
+use Rattle.awk_resolve.specs.Numbers.{number, is_function}
 use Rattle.awk_resolve.specs.Uses as u
 use Rattle.awk_resolve.specs.Reached.{Reached}
 use Rattle.awk_resolve.specs.Marks.{is_set, is_marked, has, AreKinds, Marks, AreArrays}
@@ -72,13 +72,13 @@ module _ (parts : List Section) (well : (place : Place) → Misdefined parts pla
       back : P a → is_marked marks (number t a) ≡ true
       back holds = let (n, is, there) = all a holds in true_mark marks (number t a) n is ((h n).1 there)
 
-  functions_kind : (x : Text) → (u.is_function t x ≡ true) ↔ Forced parts (global x) k.function
+  functions_kind : (x : Text) → (is_function t x ≡ true) ↔ Forced parts (global x) k.function
   functions_kind x = (forward, back)
     where
-      forward : u.is_function t x ≡ true → Forced parts (global x) k.function
+      forward : is_function t x ≡ true → Forced parts (global x) k.function
       forward e = let (g, ps, d, same) = function_known parts well x e in rw (← same) (k.defined g ps d)
 
-      back : Forced parts (global x) k.function → u.is_function t x ≡ true
+      back : Forced parts (global x) k.function → is_function t x ≡ true
       back forced =
           let (g, ps, d, same) = function_only parts (global x) k.function refl forced in
           rw (global_text x g.text same) (function_found parts well g ps d)
@@ -105,7 +105,7 @@ module _ (parts : List Section) (well : (place : Place) → Misdefined parts pla
           let same : is_marked c.arrays (number c.numbers a) ≡ is_marked c.arrays (number t a) = ap (λ z. is_marked c.arrays (number z a)) e in
           ((λ h. (arrays_kind a).0 (sym same ∙ h)), (λ f. same ∙ (arrays_kind a).1 f))
       by (global x) k.function =
-          let same : u.is_function c.numbers x ≡ u.is_function t x = ap (λ z. u.is_function z x) e in
+          let same : is_function c.numbers x ≡ is_function t x = ap (λ z. is_function z x) e in
           ((λ h. (functions_kind x).0 (sym same ∙ h)), (λ f. same ∙ (functions_kind x).1 f))
       by (parameter f x) k.function = no_parameter f x
 

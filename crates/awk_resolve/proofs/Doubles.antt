@@ -13,8 +13,8 @@ use Rattle.awk_resolve.specs.Faults.{Misdefined}
 use Rattle.awk_resolve.specs.Kinds as k
 use Rattle.awk_resolve.specs.Kinds.{Kind, global}
 use Rattle.awk_resolve.specs.Marks.{is_marked}
-use Rattle.awk_resolve.specs.Numbering.{number, number_in, numbers, in_scope, in_perhaps}
-use Rattle.awk_resolve.specs.Uses.{is_function}
+use Rattle.awk_resolve.specs.Numbering.{number_in, numbers}
+use Rattle.awk_resolve.specs.Numbers.{number, in_scope, in_perhaps, is_function}
 use Rattle.awk_resolve.specs.declared.kinds.Kinds.{Kinds}
 use Rattle.awk_resolve.specs.declared.mention.Role.{Role}
 use Rattle.awk_resolve.specs.declared.mention.Role.TheVariants as role

@@ -19,7 +19,8 @@ use Rattle.awk_resolve.specs.declared.mention.Role.TheVariants as role
 use Rattle.awk_resolve.specs.declared.mention.Section.{Section}
 use Rattle.awk_resolve.proofs.Naming.{among_contains}
 use Rattle.awk_resolve.specs.Numbering as s
-use Rattle.awk_resolve.specs.Numbering.{number, number_in}
+use Rattle.awk_resolve.specs.Numbering.{number_in}
+use Rattle.awk_resolve.specs.Numbers.{number, is_function}
 use Rattle.awk_resolve.specs.Uses as u
 use Rattle.awk_resolve.specs.Marks.{Marks}
 use Rattle.awk_resolve.specs.Reached.{Reached, seed, link}
@@ -89,14 +90,14 @@ module _ (parts : List Section) (well : (place : Place) → Misdefined parts pla
       by role.Rule e = ap global (sym same)
       by (role.Function f qs) e = in_function f qs (is_among (texts qs) x) e refl
 
-  pub function_known : (x : Text) → u.is_function t x ≡ true → (g : Name) × (ps : List Name) × Defines parts g ps × (g.text ≡ x)
+  pub function_known : (x : Text) → is_function t x ≡ true → (g : Name) × (ps : List Name) × Defines parts g ps × (g.text ≡ x)
   function_known x e = by (lookup (bytes_eq x) t.functions) refl e
     where
       by : (o : Option Scope) → lookup (bytes_eq x) t.functions ≡ o → is_some o ≡ true → (g : Name) × (ps : List Name) × Defines parts g ps × (g.text ≡ x)
       by None l h = cc
       by (Some c) l h = let (g, ps, base, d, same, scoped) = scopes parts well x c l in (g, ps, d, same)
 
-  pub function_found : (g : Name) (ps : List Name) → Defines parts g ps → u.is_function t g.text ≡ true
+  pub function_found : (g : Name) (ps : List Name) → Defines parts g ps → is_function t g.text ≡ true
   function_found g ps d = let (c, base, l, scoped) = defined parts well g ps d in ap is_some l
 
   -- ---- what is reached is forced
@@ -114,7 +115,7 @@ module _ (parts : List Section) (well : (place : Place) → Misdefined parts pla
   call_right p f args v c d e = by (found_argument t p.role (u.parameters t f.text) 0 args v e)
     where
       said_by : (i : ℕ) (x : Name) → slice_get args i ≡ Some (Some x)
-          → (((u.is_function t x.text ≡ true) × Contains (u.scalar t p.role x.text) v) ⊎ Contains (u.handed t p.role (slice_get (u.parameters t f.text) i) x.text) v) → Right v
+          → (((is_function t x.text ≡ true) × Contains (u.scalar t p.role x.text) v) ⊎ Contains (u.handed t p.role (slice_get (u.parameters t f.text) i) x.text) v) → Right v
       said_by i x at2 (inl (is, g)) =
           let (n, there, same) = scalar_is t p.role x.text v g in
           let (h, ps, def, texts_same) = function_known x.text is in
@@ -137,7 +138,7 @@ module _ (parts : List Section) (well : (place : Place) → Misdefined parts pla
     | inr g ↦ let (n, there, same) = measured_is t p.role x.text v g in rw (← same) (meant p.role x.text, named p x.text n c there, k.asked p x c d)
   ]
     where
-      of_function : u.is_function t x.text ≡ true → Contains (u.scalar t p.role x.text) v → Right v
+      of_function : is_function t x.text ≡ true → Contains (u.scalar t p.role x.text) v → Right v
       of_function is g =
           let (n, there, same) = scalar_is t p.role x.text v g in
           let (h, ps, def, texts_same) = function_known x.text is in
@@ -248,7 +249,7 @@ module _ (parts : List Section) (well : (place : Place) → Misdefined parts pla
   handed_in : (r : Role) (p : Option ℕ) (x : Text) (q n : ℕ) → p ≡ Some q → number_in t r x ≡ Some n → Contains (u.handed t r p x) (Handed q n)
   handed_in r p x q n e f = rw (e, f) (0, omega arith, refl)
 
-  function_in : (r : Role) (x : Text) (n : ℕ) → u.is_function t x ≡ true → number_in t r x ≡ Some n → Contains (u.function t r x) (Scalar n)
+  function_in : (r : Role) (x : Text) (n : ℕ) → is_function t x ≡ true → number_in t r x ≡ Some n → Contains (u.function t r x) (Scalar n)
   function_in r x n e f = rw e (scalar_in r x n f)
 
   -- a name with a number that is reached
@@ -277,7 +278,7 @@ module _ (parts : List Section) (well : (place : Place) → Misdefined parts pla
       let (i, below, at2) = found_at args (Some x) e in
       let numbered : number t (global g.text) ≡ Some n = rw meaning at (named p x.text n c there) in
       let same : x.text ≡ g.text = meant_text p.role x.text g.text meaning in
-      let is_one : u.is_function t x.text ≡ true = rw same (function_found g ps def) in
+      let is_one : is_function t x.text ≡ true = rw same (function_found g ps def) in
       from_scalar (global g.text) n numbered (in_call p f args i x (Scalar n) c d at2 (Contains-append_left (u.function t p.role x.text) _ (Scalar n) (function_in p.role x.text n is_one there)))
 
   from_measured_function : (p : Section) (x g : Name) (ps : List Name) → Contains parts p → Contains p.mentions (said.Measured x) → Defines parts g ps → meant p.role x.text ≡ global g.text
@@ -286,7 +287,7 @@ module _ (parts : List Section) (well : (place : Place) → Misdefined parts pla
       let (n, there) = known parts well p (said.Measured x) x c d refl in
       let numbered : number t (global g.text) ≡ Some n = rw meaning at (named p x.text n c there) in
       let same : x.text ≡ g.text = meant_text p.role x.text g.text meaning in
-      let is_one : u.is_function t x.text ≡ true = rw same (function_found g ps def) in
+      let is_one : is_function t x.text ≡ true = rw same (function_found g ps def) in
       from_scalar (global g.text) n numbered (in_parts p (said.Measured x) (Scalar n) c d (Contains-append_left (u.function t p.role x.text) _ (Scalar n) (function_in p.role x.text n is_one there)))
 
   -- the numbers of a parameter and of what is handed to it

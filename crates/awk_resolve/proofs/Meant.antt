@@ -20,7 +20,8 @@ use Rattle.awk_resolve.specs.declared.mention.Section.{Section}
 use Rattle.awk_resolve.proofs.Lists.{contains_first, contains_cases}
 use Rattle.awk_resolve.proofs.Naming.{among_contains, contains_among, split_at}
 use Rattle.awk_resolve.specs.Numbering as s
-use Rattle.awk_resolve.specs.Numbering.{number, number_in, in_scope, in_perhaps}
+use Rattle.awk_resolve.specs.Numbering.{number_in}
+use Rattle.awk_resolve.specs.Numbers.{number, in_scope, in_perhaps, at_position}
 use Rattle.awk_resolve.specs.Said.{Names}
 use Rattle.awk_resolve.specs.declared.numbers.Scope.{Scope}
 use Rattle.awk_resolve.specs.declared.numbers.Numbers.{Numbers}
@@ -173,7 +174,7 @@ module _ (parts : List Section) (well : (place : Place) → Misdefined parts pla
       let (j, there) = k.complete i q at in
       let (r, at2, is) = k.sound q.text j there in
       let one = parameter_once g ps j i r q d at2 at is in
-      let found : in_scope c q.text ≡ Some n = ap (s.at_position c.numbers) there ∙ (rw (sym one) at e) in
+      let found : in_scope c q.text ≡ Some n = ap (at_position c.numbers) there ∙ (rw (sym one) at e) in
       (q, (g, ps, d, same, at), ap (λ o. in_perhaps o q.text) l ∙ found)
 
   pub takes : (f : Text) (i : ℕ) (q : Name) → Takes parts f i q

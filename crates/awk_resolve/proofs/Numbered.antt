@@ -18,7 +18,8 @@ use Rattle.awk_resolve.specs.declared.mention.Section.{Section}
 use Rattle.awk_resolve.proofs.TableLemmas.{put_same, put_other}
 use Rattle.awk_resolve.proofs.Lists.{contains_first, contains_later, contains_none, contains_cases}
 use Rattle.awk_resolve.specs.Numbering as s
-use Rattle.awk_resolve.specs.Numbering.{number, number_in, in_scope, at_position, in_perhaps}
+use Rattle.awk_resolve.specs.Numbering.{number_in}
+use Rattle.awk_resolve.specs.Numbers.{number, in_scope, at_position, in_perhaps}
 use Rattle.awk_resolve.specs.Said.{Names}
 use Rattle.awk_resolve.specs.declared.numbers.Scope.{Scope}
 use Rattle.awk_resolve.specs.declared.numbers.Numbers.{Numbers}

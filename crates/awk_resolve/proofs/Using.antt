@@ -13,6 +13,7 @@ use Rattle.awk_resolve.specs.Uses as u
 use Rattle.awk_resolve.specs.declared.numbers.Numbers.{Numbers}
 use Rattle.awk_resolve.specs.declared.uses.Use.{Use}
 use Rattle.awk_resolve.specs.declared.uses.Use.TheVariants.{Scalar, Array, Measured, Handed}
+use Rattle.awk_resolve.specs.Numbers.{is_function}
 
 only_one : {A : Type 0} (x y : A) → Contains (x ∷ []) y → x ≡ y
 only_one x y c = by (contains_cases x [] y c)
@@ -113,16 +114,16 @@ module _ (t : Numbers) where
       by None e d = absurd (contains_none v d)
       by (Some n) e d = (q, n, refl, e, only_one (Handed q n) v d)
 
-  pub function_is : (r : Role) (x : Text) (v : Use) → Contains (u.function t r x) v → (u.is_function t x ≡ true) × Contains (u.scalar t r x) v
-  function_is r x v c = by (u.is_function t x) refl c
+  pub function_is : (r : Role) (x : Text) (v : Use) → Contains (u.function t r x) v → (is_function t x ≡ true) × Contains (u.scalar t r x) v
+  function_is r x v c = by (is_function t x) refl c
     where
-      by : (b : Bool) → u.is_function t x ≡ b → Contains (if b then u.scalar t r x else []) v → (u.is_function t x ≡ true) × Contains (u.scalar t r x) v
+      by : (b : Bool) → is_function t x ≡ b → Contains (if b then u.scalar t r x else []) v → (is_function t x ≡ true) × Contains (u.scalar t r x) v
       by true e d = (e, d)
       by false e d = absurd (contains_none v d)
 
   -- what an argument says
   abbrev pub Says : Role → Option ℕ → Option Name → Use → Type 0
-  Says r p a v = (n : Name) × (a ≡ Some n) × (((u.is_function t n.text ≡ true) × Contains (u.scalar t r n.text) v) ⊎ Contains (u.handed t r p n.text) v)
+  Says r p a v = (n : Name) × (a ≡ Some n) × (((is_function t n.text ≡ true) × Contains (u.scalar t r n.text) v) ⊎ Contains (u.handed t r p n.text) v)
 
   pub argument_is : (r : Role) (p : Option ℕ) (a : Option Name) (v : Use) → Contains (u.argument t r p a) v → Says r p a v
   argument_is r p None v c = absurd (contains_none v c)

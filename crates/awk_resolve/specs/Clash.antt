@@ -11,7 +11,8 @@ use Rattle.awk_resolve.specs.declared.mention.Role.{Role}
 use Rattle.awk_resolve.specs.declared.mention.Role.TheVariants as role
 use Rattle.awk_resolve.specs.declared.mention.Section.{Section}
 use Rattle.awk_resolve.specs.Numbering.{number_in}
-use Rattle.awk_resolve.specs.Uses.{is_function, parameters}
+use Rattle.awk_resolve.specs.Uses.{parameters}
+use Rattle.awk_resolve.specs.Numbers.{is_function}
 use Rattle.awk_resolve.specs.Marks.{is_marked}
 use Rattle.awk_resolve.specs.declared.kinds.Kinds.{Kinds}
 

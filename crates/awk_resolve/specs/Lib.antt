@@ -7,6 +7,7 @@ pub mod Bare
 pub mod Faultless
 pub mod Reached
 pub mod Marking
+pub mod Numbers
 pub mod Numbering
 pub mod Uses
 pub mod Marks

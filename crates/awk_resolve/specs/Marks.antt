@@ -3,10 +3,9 @@ use Rattle.std.specs.Prelude.{◌≡◌, ◌↔◌, ℕ, Bool, true, false, List
 use Rattle.awk_resolve.specs.Kinds as k
 use Rattle.awk_resolve.specs.Kinds.{Kind, Named, global, parameter, Forced}
 use Rattle.awk_resolve.specs.declared.mention.Section.{Section}
-use Rattle.awk_resolve.specs.Numbering.{number}
+use Rattle.awk_resolve.specs.Numbers.{number, is_function}
 use Rattle.awk_resolve.specs.Reached.{Reached}
 use Rattle.awk_resolve.specs.Uses as u
-use Rattle.awk_resolve.specs.Uses.{is_function}
 use Rattle.awk_resolve.specs.declared.uses.Use.{Use}
 use Rattle.awk_resolve.specs.declared.kinds.Kinds.{Kinds}
 

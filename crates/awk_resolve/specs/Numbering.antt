@@ -1,12 +1,13 @@
 -- How the names of a script are numbered: parameters first, function by function, and then each
 -- other name where it stands first.
-use Rattle.std.specs.Prelude.{ℕ, ◌+◌, List, [], ◌∷◌, ◌++◌, length, slice_get, Option, Some, None}
+use Rattle.std.specs.Prelude.{ℕ, ◌+◌, List, [], ◌∷◌, ◌++◌, length, Option, Some, None}
 use Rattle.std.specs.Map.{lookup}
 use Rattle.std.specs.Option.{option_or}
 use Rattle.std.specs.Str.{bytes_eq}
 use Rattle.awk_tree.specs.Tree.{Text}
 use Rattle.awk_tree.specs.declared.names.Name.{Name}
-use Rattle.awk_resolve.specs.Kinds.{Named, global, parameter, scalars, arrays}
+use Rattle.awk_resolve.specs.Kinds.{global, parameter, scalars, arrays}
+use Rattle.awk_resolve.specs.Numbers.{number}
 use Rattle.awk_resolve.specs.TextTables.{with_text}
 use Rattle.awk_resolve.specs.declared.mention.Mention.{Mention}
 use Rattle.awk_resolve.specs.declared.mention.Mention.TheVariants.{Scalar, Array, Measured, Call}
@@ -17,22 +18,7 @@ use Rattle.awk_resolve.specs.declared.globals.Globals.{Globals}
 use Rattle.awk_resolve.specs.declared.numbers.Scope.{Scope}
 use Rattle.awk_resolve.specs.declared.numbers.Numbers.{Numbers}
 
--- ---- the number of a name
-
-abbrev pub at_position : List ℕ → Option ℕ → Option ℕ
-at_position ns None = None
-at_position ns (Some i) = slice_get ns i
-
-abbrev pub in_scope : Scope → Text → Option ℕ
-in_scope s x = at_position s.numbers (lookup (bytes_eq x) s.positions)
-
-abbrev pub in_perhaps : Option Scope → Text → Option ℕ
-in_perhaps None x = None
-in_perhaps (Some s) x = in_scope s x
-
-abbrev pub number : Numbers → Named → Option ℕ
-number t (global x) = lookup (bytes_eq x) t.globals
-number t (parameter f x) = in_perhaps (lookup (bytes_eq f) t.functions) x
+-- ---- the number of a name in an item
 
 -- the parameters of the function that an item of this role is
 abbrev pub scope_in : List (Text × Scope) → Role → Option Scope

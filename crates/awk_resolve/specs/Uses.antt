@@ -1,6 +1,6 @@
 -- What the items of a script make of the numbers of its names.
 use Rattle.std.specs.Prelude.{ℕ, zero, suc, ◌+◌, Bool, true, false, if◌then◌else◌, List, [], ◌∷◌, ◌++◌, slice_get}
-use Rattle.std.specs.Prelude.{Option, Some, None, is_some}
+use Rattle.std.specs.Prelude.{Option, Some, None}
 use Rattle.std.specs.Map.{lookup}
 use Rattle.std.specs.Str.{bytes_eq}
 use Rattle.awk_tree.specs.Tree.{Text}
@@ -12,6 +12,7 @@ use Rattle.awk_resolve.specs.declared.mention.Role.{Role}
 use Rattle.awk_resolve.specs.declared.mention.Role.TheVariants as role
 use Rattle.awk_resolve.specs.declared.mention.Section.{Section}
 use Rattle.awk_resolve.specs.Numbering.{number_in}
+use Rattle.awk_resolve.specs.Numbers.{is_function}
 use Rattle.awk_resolve.specs.declared.numbers.Scope.{Scope}
 use Rattle.awk_resolve.specs.declared.numbers.Numbers.{Numbers}
 use Rattle.awk_resolve.specs.declared.uses.Use.{Use}
@@ -45,9 +46,6 @@ handed_of (Some p) (Some a) = Handed p a ∷ []
 
 abbrev pub handed : Numbers → Role → Option ℕ → Text → List Use
 handed t r p x = handed_of p (number_in t r x)
-
-abbrev pub is_function : Numbers → Text → Bool
-is_function t x = is_some (lookup (bytes_eq x) t.functions)
 
 abbrev pub function : Numbers → Role → Text → List Use
 function t r x = if is_function t x then scalar t r x else []

@@ -3,6 +3,7 @@
 ghost use Rattle.std.specs.Prelude.{◌≡◌, ◌+◌, map, OnOk};
 ghost use Rattle.std.specs.Option.{option_copied};
 ghost use Rattle.awk_resolve.specs.Numbering as spec;
+ghost use Rattle.awk_resolve.specs.Numbers as named;
 ghost use Rattle.awk_resolve.specs.TextTables.{with_text};
 
 use crate::mention::{Mention, Role, Section};
@@ -43,7 +44,7 @@ impl<'a> Within<'a> {
 
     /// The number of the parameter of this text.
     fn parameter(&self, text: &[u8]) -> Option<usize>
-        ensures { result ≡ spec.in_perhaps (spec.scope_in self.now.functions.now self.now.role.now) text.now }
+        ensures { result ≡ named.in_perhaps (spec.scope_in self.now.functions.now self.now.role.now) text.now }
     {
         match self.scope {
             Some(scope) => scope.number(text),

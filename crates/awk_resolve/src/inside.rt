@@ -3,6 +3,7 @@
 ghost use Rattle.std.specs.Prelude.{◌≡◌};
 ghost use Rattle.std.specs.Option.{option_copied};
 ghost use Rattle.awk_resolve.specs.Numbering as spec;
+ghost use Rattle.awk_resolve.specs.Numbers as named;
 
 use crate::mention::Role;
 use crate::numbers::{Numbers, Scope};
@@ -30,7 +31,7 @@ impl<'a> Inside<'a> {
 
     /// The number of the parameter of this text.
     fn parameter(&self, text: &[u8]) -> Option<usize>
-        ensures { result ≡ spec.in_perhaps (spec.scope_of self.now.numbers.now self.now.role.now) text.now }
+        ensures { result ≡ named.in_perhaps (spec.scope_of self.now.numbers.now self.now.role.now) text.now }
     {
         match self.scope {
             Some(scope) => scope.number(text),

@@ -5,6 +5,7 @@ ghost use Rattle.std.specs.Option.{option_copied};
 ghost use Rattle.awk_resolve.specs.Kinds.{global, parameter};
 ghost use Rattle.awk_resolve.specs.Numbering as spec;
 ghost use Rattle.awk_resolve.specs.Uses as uses;
+ghost use Rattle.awk_resolve.specs.Numbers as named;
 
 use crate::globals::Globals;
 use crate::inside::Inside;
@@ -56,7 +57,7 @@ impl Scope {
 
     /// The number of the parameter of this text.
     pub fn number(&self, text: &[u8]) -> Option<usize>
-        ensures { result ≡ spec.in_scope self.now text.now }
+        ensures { result ≡ named.in_scope self.now text.now }
     {
         match self.positions.get(text) {
             Some(position) => self.numbers.get(*position).copied(),
@@ -98,14 +99,14 @@ impl Numbers {
 
     /// The number of a variable of the whole script.
     pub fn global(&self, text: &[u8]) -> Option<usize>
-        ensures { result ≡ spec.number self.now (global text.now) }
+        ensures { result ≡ named.number self.now (global text.now) }
     {
         self.globals.get(text).copied()
     }
 
     /// The number of a parameter of this function.
     pub fn parameter(&self, function: &[u8], text: &[u8]) -> Option<usize>
-        ensures { result ≡ spec.number self.now (parameter function.now text.now) }
+        ensures { result ≡ named.number self.now (parameter function.now text.now) }
     {
         match self.functions.get(function) {
             Some(scope) => scope.number(text),
@@ -128,7 +129,7 @@ impl Numbers {
     }
 
     pub fn is_function(&self, text: &[u8]) -> bool
-        ensures { result ≡ uses.is_function self.now text.now }
+        ensures { result ≡ named.is_function self.now text.now }
     {
         self.functions.get(text).is_some()
     }

@@ -23,7 +23,8 @@ use Rattle.awk_streams.specs.declared.halt.Halt.TheVariants as halt
 use Rattle.awk_streams.specs.Chains.{Lacks, Unlogged}
 use Rattle.awk_streams.specs.Tables.{Entry}
 use Rattle.awk_store.specs.Wholes.{Whole, Agreeing, base, used}
-use Rattle.awk_run.specs.Outcomes.{at_once, goes_to_end, is_before_end, last, last_exit, own, own_fault, own_status, view_outcome}
+use Rattle.awk_run.specs.Outcomes.{at_once, goes_to_end, is_before_end, last, last_exit, own, own_fault, own_status}
+use Rattle.awk_run.specs.View.{view_outcome}
 use Rattle.awk_run.specs.Reports.{Reported}
 use Rattle.awk_run.specs.Runs.{Finished, Reached, Stopped}
 use Rattle.awk_run.specs.declared.report.Outcome.{Outcome}

@@ -18,10 +18,10 @@ use Rattle.awk_store.specs.declared.phase.Phase.TheVariants as phase
 use Rattle.awk_streams.specs.Chains.{Leads, Meets}
 use Rattle.awk_streams.specs.Tables.{Table}
 use Rattle.awk_streams.proofs.Chain.{at_once, changes, done}
-use Rattle.awk_store.specs.Ends.{is_on}
-use Rattle.awk_store.specs.Flows.{flows}
-use Rattle.awk_store.specs.declared.flow.Flow.{Flow}
-use Rattle.awk_store.specs.declared.flow.Flow.TheVariants as flow
+use Rattle.awk_streams.specs.Ends.{is_on}
+use Rattle.awk_streams.specs.Flows.{flows}
+use Rattle.awk_streams.specs.declared.flow.Flow.{Flow}
+use Rattle.awk_streams.specs.declared.flow.Flow.TheVariants as flow
 use Rattle.awk_store.specs.Wholes.{Whole, Agreeing, base, names_in, used}
 use Rattle.awk_forms.specs.Runs.{IsGiven}
 use Rattle.awk_eval.proofs.Going.{each_off}

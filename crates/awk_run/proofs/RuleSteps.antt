@@ -20,9 +20,9 @@ use Rattle.awk_forms.specs.declared.context.Context.{Context}
 use Rattle.awk_streams.specs.declared.halt.Halt.{Halt}
 use Rattle.awk_streams.specs.declared.halt.Halt.TheVariants as halt
 use Rattle.awk_streams.specs.Chains.{Comes, Halted}
-use Rattle.awk_store.specs.Flows.{flows}
-use Rattle.awk_store.specs.declared.flow.Flow.{Flow}
-use Rattle.awk_store.specs.declared.flow.Flow.TheVariants as flow
+use Rattle.awk_streams.specs.Flows.{flows}
+use Rattle.awk_streams.specs.declared.flow.Flow.{Flow}
+use Rattle.awk_streams.specs.declared.flow.Flow.TheVariants as flow
 use Rattle.awk_store.specs.States.{Hidden}
 use Rattle.awk_store.specs.Wholes.{Whole, Agreeing, base, names_in, used}
 use Rattle.awk_input.specs.Inputs.{at_records, more}

@@ -2,7 +2,6 @@
 use Rattle.std.specs.Prelude.{Bool, true, false, ℕ, unwrap_or, if◌then◌else◌}
 use Rattle.awk_streams.specs.declared.halt.Halt.{Halt}
 use Rattle.awk_streams.specs.declared.halt.Halt.TheVariants as halt
-use Rattle.awk_machine.specs.Pieces as machine
 use Rattle.awk_store.specs.Kept.{Kept}
 use Rattle.awk_store.specs.declared.phase.Phase.{Phase}
 use Rattle.awk_store.specs.declared.phase.Phase.TheVariants.{Ending}
@@ -20,12 +19,6 @@ abbrev pub status_of : Outcome → ℕ
 status_of (Status status) = status
 status_of (Fault fault place) = 2
 status_of Cut = 4
-
--- as plain awk has it
-abbrev pub view_outcome : Outcome → machine.Outcome
-view_outcome (Status status) = machine.Status status
-view_outcome (Fault fault place) = machine.Faulted fault place
-view_outcome Cut = machine.Cut
 
 -- the status that an `exit` gave, or 2 where an operand failed
 abbrev pub own_status : Kept → ℕ

@@ -11,7 +11,7 @@ use Rattle.awk_input.specs.Performs.{PerformsIn}
 use Rattle.awk_streams.specs.Tasks.{Owns}
 use Rattle.awk_forms.specs.Runs.{IsGiven}
 use Rattle.awk_forms.specs.declared.context.Context.{Context}
-use Rattle.awk_run.specs.Outcomes.{view_outcome}
+use Rattle.awk_run.specs.View.{view_outcome}
 use Rattle.awk_run.specs.declared.ends.End.{End}
 use Rattle.awk_run.specs.declared.ends.End.TheVariants.{Open, Memory, Log}
 

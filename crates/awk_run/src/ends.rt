@@ -1,7 +1,8 @@
 // How a run ends.
 ghost use Rattle.awk_machine.specs.State.{Given};
 ghost use Rattle.awk_run.specs.Outcomes as spec;
-ghost use Rattle.awk_run.specs.Outcomes.{own_status, view_outcome};
+ghost use Rattle.awk_run.specs.Outcomes.{own_status};
+ghost use Rattle.awk_run.specs.View.{view_outcome};
 ghost use Rattle.awk_run.specs.Reports.{Reported};
 ghost use Rattle.awk_run.specs.Runs.{Finished};
 ghost use Rattle.awk_store.specs.Kept.{Kept};

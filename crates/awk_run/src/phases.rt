@@ -3,7 +3,7 @@ ghost use Rattle.awk_forms.specs.Runs.{Does, IsGiven, whole_of};
 ghost use Rattle.awk_machine.specs.Pieces.{Do, Enter, Finish};
 ghost use Rattle.awk_machine.specs.State.{Beginning, Ending, Given, Ruling};
 ghost use Rattle.awk_run.specs.Runs.{Finished, Goes_on, Reached, Stopped};
-ghost use Rattle.awk_store.specs.Flows.{flows};
+ghost use Rattle.awk_streams.specs.Flows.{flows};
 ghost use Rattle.awk_streams.specs.Tasks.{Owns, goes_on};
 ghost use Rattle.std.specs.Prelude.{[], ◌∷◌};
 
@@ -12,7 +12,8 @@ use crate::ends::{End, done, goes_to_end, last};
 use crate::records::records;
 use awk_forms::{Context, Run};
 use awk_input::reads::reads;
-use awk_store::{Flow, Phase};
+use awk_store::Phase;
+use awk_streams::flow::Flow;
 use awk_streams::halt::Halt;
 use box_world::world::World;
 

@@ -4,7 +4,7 @@ ghost use Rattle.awk_machine.specs.Begins.{first_pieces};
 ghost use Rattle.awk_machine.specs.Pieces.{Do, Enter};
 ghost use Rattle.awk_machine.specs.State.{Beginning, Ending, Given, Ruling};
 ghost use Rattle.awk_program.specs.View.{names_of};
-ghost use Rattle.awk_run.specs.Outcomes.{view_outcome};
+ghost use Rattle.awk_run.specs.View.{view_outcome};
 ghost use Rattle.awk_run.specs.Reports.{Reported};
 ghost use Rattle.awk_run.specs.Runs.{Finished, Goes_on, Reached};
 ghost use Rattle.awk_run.specs.Starts.{IsStart};

@@ -5,7 +5,7 @@ ghost use Rattle.awk_machine.specs.Pieces.{At, Choosing, Do};
 ghost use Rattle.awk_program.specs.Program as p;
 ghost use Rattle.awk_program.specs.View.{view, view_rule, view_statement};
 ghost use Rattle.awk_run.specs.Rules.{met, rule_of};
-ghost use Rattle.awk_store.specs.Flows.{flows};
+ghost use Rattle.awk_streams.specs.Flows.{flows};
 ghost use Rattle.awk_store.specs.Wholes.{names_in};
 ghost use Rattle.awk_streams.specs.Tasks.{Owns, goes_on};
 ghost use Rattle.std.specs.Prelude.{[], if◌then◌else◌, map, ◌≡◌};
@@ -14,7 +14,7 @@ use awk_eval::{body, truth_of};
 use awk_forms::{Context, MOST_UNITS, Run};
 use awk_input::ranges::{begin_range, end_range};
 use awk_program::{Expr, Rule, Statement, When};
-use awk_store::Flow;
+use awk_streams::flow::Flow;
 use awk_streams::halt::Halt;
 use box_world::world::World;
 

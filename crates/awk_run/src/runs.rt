@@ -1,7 +1,7 @@
 // Runs of scripts.
 ghost use Rattle.std.specs.Prelude.{◌≡◌, ℕ};
 ghost use Rattle.awk_parse.specs.Scripts.{IsScript};
-ghost use Rattle.awk_run.specs.Outcomes.{view_outcome};
+ghost use Rattle.awk_run.specs.View.{view_outcome};
 ghost use Rattle.awk_run.specs.Reports.{Reported};
 ghost use Rattle.awk_run.specs.Starts.{IsStart};
 ghost use Rattle.awk_run.specs.Givens.{given_of};

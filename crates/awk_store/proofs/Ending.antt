@@ -10,9 +10,9 @@ use Rattle.awk_store.specs.declared.frame.Caller.{Caller}
 use Rattle.awk_store.specs.Calling.{ending}
 use Rattle.awk_store.specs.Wholes.{names_in}
 use Rattle.awk_store.specs.Calls.{returned}
-use Rattle.awk_store.specs.Flows.{flows}
-use Rattle.awk_store.specs.declared.flow.Flow.{Flow}
-use Rattle.awk_store.specs.declared.flow.Flow.TheVariants as flow
+use Rattle.awk_streams.specs.Flows.{flows}
+use Rattle.awk_streams.specs.declared.flow.Flow.{Flow}
+use Rattle.awk_streams.specs.declared.flow.Flow.TheVariants as flow
 
 -- what the end of the call has by then
 abbrev pub answers : Flow → List Value

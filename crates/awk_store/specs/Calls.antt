@@ -8,8 +8,8 @@ use Rattle.awk_program.specs.declared.expressions.Argument.TheVariants as argume
 use Rattle.awk_program.specs.declared.expressions.Expr.{Expr}
 use Rattle.awk_program.specs.declared.variables.Variable.{Variable}
 use Rattle.awk_machine.specs.Calls.{Argument, by_value, by_name, by_nothing}
-use Rattle.awk_store.specs.declared.flow.Flow.{Flow}
-use Rattle.awk_store.specs.declared.flow.Flow.TheVariants as flow
+use Rattle.awk_streams.specs.declared.flow.Flow.{Flow}
+use Rattle.awk_streams.specs.declared.flow.Flow.TheVariants as flow
 
 abbrev pub argument_of : Names → code.Argument Expr → Argument
 argument_of names (argument.Value x) = by_value (view names x)

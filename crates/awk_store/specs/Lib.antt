@@ -2,9 +2,7 @@ pub mod Acts
 pub mod Calling
 pub mod Calls
 pub mod Changes
-pub mod Ends
 pub mod Filled
-pub mod Flows
 pub mod Inputs
 pub mod Jumps
 pub mod Kept

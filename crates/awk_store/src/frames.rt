@@ -18,9 +18,9 @@ ghost use Rattle.awk_text.specs.declared.value.Value.{Value, Value as Val};
 ghost use Rattle.std.specs.Prelude.{IfErr, IfSome, List, None, Ok, OnOk, [], drop, length, map, slice_set, ℕ, ◌++◌};
 ghost use Rattle.std.specs.Prelude.{◌∷◌, ◌≡◌};
 
-use crate::flow::Flow;
 use crate::{Bound, Caller, Passed, Reference, Store};
 use awk_program::{Argument, Expr, Program, Statement};
+use awk_streams::flow::Flow;
 use awk_streams::halt::{Halt, at};
 use awk_text::place::Place;
 use awk_text::value::Value;

@@ -15,7 +15,6 @@ pub mod counters;
 pub mod elements;
 pub mod fields;
 mod filling;
-pub mod flow;
 mod frame;
 pub mod frames;
 pub mod jumps;
@@ -34,7 +33,6 @@ pub mod variables;
 
 pub use calls::MOST_DEPTH as MOST_DEPTH;
 pub use cell::Cell;
-pub use flow::Flow;
 pub use frame::{Bound, Caller, Passed, Reference};
 pub use main_input::{CurrentInput, MainInput};
 pub use phase::Phase;

@@ -3,6 +3,7 @@
 #![tactic(auto)]
 
 pub mod closing;
+pub mod flow;
 pub mod getline;
 pub mod halt;
 pub mod inputs;

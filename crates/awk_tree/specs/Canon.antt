@@ -5,7 +5,6 @@ use Rattle.std.specs.List.{flat_map}
 use Rattle.awk_tokens.specs.Words.{builtin_text, jump_text}
 use Rattle.awk_tokens.specs.declared.token.Token.{Token}
 use Rattle.awk_tokens.specs.declared.kinds.TokenKind.TheVariants as kind
-use Rattle.awk_tokens.specs.declared.words.Builtin.{Builtin}
 use Rattle.awk_tokens.specs.declared.words.Builtin.TheVariants as b
 use Rattle.awk_tree.specs.declared.names.Name.{Name}
 use Rattle.awk_tree.specs.declared.names.Member.{Member}
@@ -22,7 +21,7 @@ use Rattle.awk_tree.specs.declared.statements.Redirection.{Redirection}
 use Rattle.awk_tree.specs.Tree as t
 use Rattle.awk_tree.specs.Tree.{Text, Tree, Trees, none, more, Perhaps, absent, present, Terms, no_terms, term, Pipes}
 use Rattle.awk_tree.specs.Tree.{no_pipes, piped, Statement, Statements, no_more, then_also, Condition, Entry}
-use Rattle.awk_tree.specs.Terminals.{assignment_text, step_text, nowhere, token, sign, keyword}
+use Rattle.awk_tree.specs.Terminals.{assignment_text, step_text, substituting, nowhere, token, sign, keyword}
 
 -- ---- how operators are spelled
 
@@ -53,11 +52,6 @@ abbrev pub redirect_text : Redirect → Text
 redirect_text to.Write = codes ">"
 redirect_text to.Append = codes ">>"
 redirect_text to.Command = codes "|"
-
--- `sub`, and with true `gsub`
-abbrev pub substituting : Bool → Builtin
-substituting true = b.Gsub
-substituting false = b.Sub
 
 abbrev pub word : Name → Token
 word n = token kind.Name n.text

@@ -1,5 +1,5 @@
 -- What a token is to the grammar (POSIX.1-2017 XCU awk, "Grammar": its terminal symbols).
-use Rattle.std.specs.Prelude.{ℕ, Bool, true, if◌then◌else◌, ◌==◌, List, [], ◌∷◌, codes}
+use Rattle.std.specs.Prelude.{ℕ, Bool, true, false, if◌then◌else◌, ◌==◌, List, [], ◌∷◌, codes}
 use Rattle.std.specs.Str.{bytes_eq}
 use Rattle.awk_text.specs.declared.place.Place.{Place}
 use Rattle.awk_tokens.specs.Words as words
@@ -12,6 +12,8 @@ use Rattle.awk_tokens.specs.declared.terminals.Step.{Step}
 use Rattle.awk_tokens.specs.declared.terminals.Step.TheVariants as step
 use Rattle.awk_tokens.specs.declared.terminals.Terminal.{Terminal}
 use Rattle.awk_tokens.specs.declared.terminals.Terminal.TheVariants as w
+use Rattle.awk_tokens.specs.declared.words.Builtin.{Builtin}
+use Rattle.awk_tokens.specs.declared.words.Builtin.TheVariants as b
 use Rattle.awk_tree.specs.Tree.{Text}
 
 -- ---- how each sign is spelled; awk_tokens has the words
@@ -28,6 +30,11 @@ assignment_text set.Power = codes "^="
 abbrev pub step_text : Step → Text
 step_text step.Increment = codes "++"
 step_text step.Decrement = codes "--"
+
+-- `sub`, and with true `gsub`
+abbrev pub substituting : Bool → Builtin
+substituting true = b.Gsub
+substituting false = b.Sub
 
 -- the signs of one byte, by their bytes; 10 is the newline
 abbrev pub singles : List (ℕ × Terminal)

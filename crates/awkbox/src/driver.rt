@@ -1,7 +1,7 @@
 // A script's run under a policy.
 ghost use Rattle.std.specs.Prelude.{◌≡◌, IfOk, IfErr};
 ghost use Rattle.awk_parse.specs.Scripts.{IsScript};
-ghost use Rattle.awk_run.specs.Outcomes.{view_outcome};
+ghost use Rattle.awk_run.specs.View.{view_outcome};
 ghost use Rattle.awkbox.specs.Accepted.{IsRefused};
 ghost use Rattle.awk_run.specs.Givens.{given_of};
 ghost use Rattle.awkbox.specs.Drives.{DrivesCounted, DrivesText};

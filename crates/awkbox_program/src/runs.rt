@@ -1,4 +1,6 @@
 // The run of a script.
+ghost use Rattle.awk_parse.specs.Scripts.{IsScript};
+
 use crate::files::{OpenLog, ReadFile, look, read};
 use crate::folders::{Folders, enter, resolved};
 use crate::setup::setup_of;
@@ -271,7 +273,9 @@ fn run_at_once(
     prepared: Prepared,
     world: OsWorld,
     logs: Logs,
-) -> Account {
+) -> Account
+    requires { IsScript prepared.script }
+{
     let Logs { denials, audit } = logs;
     let world = Watched::new(rt.alloc(), world, audit);
     let ran = prepared.drive(rt.alloc(), setup, run.steps, world, denials);
@@ -291,7 +295,9 @@ fn run_in_blocks(
     prepared: Prepared,
     world: OsWorld,
     logs: Logs,
-) -> Account {
+) -> Account
+    requires { IsScript prepared.script }
+{
     let Logs { denials, audit } = logs;
     let world = Watched::new(rt.alloc(), Buffered::new(rt.alloc(), world), audit);
     let ran = prepared.drive(rt.alloc(), setup, run.steps, world, denials);

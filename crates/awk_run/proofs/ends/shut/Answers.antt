@@ -1,6 +1,6 @@
 use Rattle.std.proofs.Common.{refl}
 use Rattle.awk_store.proofs.Lifting.{lifted}
-use Rattle.awk_run.specs.Outcomes.{view_outcome}
+use Rattle.awk_run.specs.View.{view_outcome}
 use Rattle.awk_run.proofs.Ending.{reported_at_once, reported_over}
 use Rattle.awk_run.proofs.Reaching.{then_halt, then_part}
 use Rattle.awk_run.proofs.ends.shut.Goals as goal

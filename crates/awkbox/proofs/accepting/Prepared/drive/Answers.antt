@@ -1,6 +1,6 @@
 use Rattle.awkbox.proofs.Driving.{drives_counted}
 use Rattle.awk_run.specs.Givens.{given_of}
-use Rattle.awk_run.specs.Outcomes.{view_outcome}
+use Rattle.awk_run.specs.View.{view_outcome}
 use Rattle.box_policy.specs.Counts.{cleared}
 use Rattle.awkbox.proofs.accepting.Prepared.drive.Goals as goal
 

@@ -1,5 +1,5 @@
 // How statements end, and how a statement's end ends a list of statements, or a loop.
-ghost use Rattle.awk_store.specs.Ends as spec;
+ghost use Rattle.awk_streams.specs.Ends as spec;
 ghost use Rattle.std.specs.Prelude.{◌≡◌};
 
 use awk_text::Memory;
@@ -27,7 +27,7 @@ impl Flow {
     ghost use Rattle.std.specs.Prelude.{List, IfOk};
     ghost use Rattle.awk_machine.specs.Pieces.{Piece};
     ghost use Rattle.awk_machine.specs.Statements.{to_leave, leave_with};
-    ghost use Rattle.awk_store.specs.Flows.{flows};
+    ghost use Rattle.awk_streams.specs.Flows.{flows};
 
     /// `return` with this value.
     ///

@@ -3,8 +3,8 @@ use Rattle.std.specs.Prelude.{List}
 use Rattle.awk_text.specs.declared.value.Value.TheVariants as v
 use Rattle.awk_machine.specs.Pieces.{Piece}
 use Rattle.awk_machine.specs.Statements.{after_break, after_continue, to_leave, leave_with}
-use Rattle.awk_store.specs.declared.flow.Flow.{Flow}
-use Rattle.awk_store.specs.declared.flow.Flow.TheVariants as flow
+use Rattle.awk_streams.specs.declared.flow.Flow.{Flow}
+use Rattle.awk_streams.specs.declared.flow.Flow.TheVariants as flow
 
 abbrev pub flows : Flow → List Piece → List Piece
 flows flow.On k = k

@@ -1,7 +1,7 @@
 -- How a statement's end ends a list of statements, or a loop (POSIX.1-2017 XCU awk, "Actions").
 use Rattle.std.specs.Prelude.{Bool, true, false, Option, Some, None}
-use Rattle.awk_store.specs.declared.flow.Flow.{Flow}
-use Rattle.awk_store.specs.declared.flow.Flow.TheVariants as flow
+use Rattle.awk_streams.specs.declared.flow.Flow.{Flow}
+use Rattle.awk_streams.specs.declared.flow.Flow.TheVariants as flow
 
 -- the next statement follows
 abbrev pub is_on : Flow → Bool
