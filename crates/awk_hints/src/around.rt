@@ -1,4 +1,8 @@
 // A token among its neighbours.
+ghost use Rattle.std.specs.Prelude.{◌≡◌, is_some};
+ghost use Rattle.std.specs.Option.{option_copied};
+ghost use Rattle.awk_hints.specs.Causes as spec;
+
 use awk_tokens::{Token, TokenKind};
 
 /// A token, and what stands before and behind it.
@@ -27,27 +31,33 @@ impl<'a> Around<'a> {
     }
 }
 
-/// The bytes of a sign, or else none.
-pub fn sign(token: &Token) -> &[u8] {
-    if token.kind == TokenKind::Sign {
-        token.text.bytes()
-    } else {
-        &[]
+/// The bytes of a sign: the second is 0 of one that has one, and both are of what is none.
+pub fn sign(token: &Token) -> (u8, u8) {
+    match token.kind {
+        TokenKind::Sign => match token.text.bytes() {
+            [a] => (*a, 0),
+            [a, b] => (*a, *b),
+            _ => (0, 0),
+        },
+        _ => (0, 0),
     }
 }
 
-/// The bytes of a sign, or none where there is no token or another one.
-pub fn sign_of(token: Option<&Token>) -> &[u8] {
+/// The same, where there may be no token.
+pub fn sign_of(token: Option<&Token>) -> (u8, u8) {
     match token {
         Some(token) => sign(token),
-        None => &[],
+        None => (0, 0),
     }
 }
 
 /// Whether it is the word of the grammar that is spelled so.
 pub fn is_word(token: Option<&Token>, word: &[u8]) -> bool {
     match token {
-        Some(token) => token.kind == TokenKind::Keyword && token.text.bytes() == word,
+        Some(token) => match token.kind {
+            TokenKind::Keyword => token.text.bytes() == word,
+            _ => false,
+        },
         None => false,
     }
 }
@@ -55,16 +65,24 @@ pub fn is_word(token: Option<&Token>, word: &[u8]) -> bool {
 /// Whether it is the word of this built-in function.
 pub fn is_builtin(token: Option<&Token>, word: &[u8]) -> bool {
     match token {
-        Some(token) => token.kind == TokenKind::Builtin && token.text.bytes() == word,
+        Some(token) => match token.kind {
+            TokenKind::Builtin => token.text.bytes() == word,
+            _ => false,
+        },
         None => false,
     }
 }
 
 /// The value of a number, where it is one; at most `u64::MAX`.
-pub fn number_of(token: Option<&Token>) -> Option<u64> {
+pub fn number_of(token: Option<&Token>) -> Option<u64>
+    ensures { is_some result ≡ spec.is_number (option_copied token.entry) }
+{
     match token {
-        Some(token) if token.kind == TokenKind::Number => Some(value_of(token.text.bytes())),
-        _ => None,
+        Some(token) => match token.kind {
+            TokenKind::Number => Some(value_of(token.text.bytes())),
+            _ => None,
+        },
+        None => None,
     }
 }
 
@@ -81,7 +99,7 @@ fn value_of(digits: &[u8]) -> u64 {
 /// Whether an argument ends before this token.
 pub fn ends_argument(token: Option<&Token>) -> bool {
     match token {
-        Some(token) => matches!(sign(token), [b',' | b')' | b';' | b'}' | b'\n']),
+        Some(token) => matches!(sign(token).0, b',' | b')' | b';' | b'}' | b'\n'),
         None => true,
     }
 }

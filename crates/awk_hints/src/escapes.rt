@@ -1,50 +1,99 @@
 // Escapes in EREs that gawk reads as operators.
 
-/// The letters behind the `\`.
-pub const LETTERS: [u8; 7] = [b's', b'S', b'w', b'W', b'y', b'<', b'>'];
-
-/// How far an ERE is read.
-#[derive(Clone, Copy, PartialEq, Eq, Drop)]
-enum Part {
+/// What of an ERE the next byte goes on with.
+#[derive(Clone, Copy, Drop)]
+pub enum Part {
     Outside,
-    /// Directly behind a `[`, or behind its `^`, where a `]` is itself.
+    /// Behind a `\` outside bracket expressions.
+    Escape,
+    /// Directly behind a `[`, where a `]` is itself.
     Begun,
-    Inside,
-    /// Behind the `[:` of a class.
+    /// In a bracket expression.
+    Bracket,
+    /// The same behind a `[^`.
+    Negated,
+    /// Behind a `\` in a bracket expression.
+    BracketEscape,
+    /// Behind a `[` in a bracket expression, which a class may begin with.
+    ClassBegun,
     Class,
+    /// Behind a `:` in a class.
+    ClassEnd,
 }
 
-fn part_after(part: Part, text: &[u8]) -> Part {
-    match (part, text) {
-        (Part::Outside, [b'[', ..]) => Part::Begun,
-        (Part::Outside, _) => Part::Outside,
-        (Part::Begun, [b'^', ..]) => Part::Begun,
-        (Part::Inside, [b']', ..]) => Part::Outside,
-        (Part::Class, [b':', b']', ..]) => Part::Inside,
-        (Part::Class, _) => Part::Class,
-        (Part::Begun | Part::Inside, [b'[', b':', ..]) => Part::Class,
-        (Part::Begun | Part::Inside, _) => Part::Inside,
+fn outside(b: u8) -> Part {
+    match b {
+        b'\\' => Part::Escape,
+        b'[' => Part::Begun,
+        _ => Part::Outside,
     }
 }
 
-/// Whether `\` and this letter stand in the ERE outside bracket expressions.
-pub fn has_escape(pattern: &[u8], letter: u8) -> bool {
-    let mut part = Part::Outside;
-    let mut rest = pattern;
-    while let [b, after @ ..] = rest {
-        match (*b, after) {
-            (b'\\', [next, behind @ ..]) => {
-                if part == Part::Outside && *next == letter {
-                    return true;
-                }
-                part = part_after(part, b"\\");
-                rest = behind;
-            }
-            _ => {
-                part = part_after(part, rest);
-                rest = after;
-            }
-        }
+fn in_bracket(b: u8) -> Part {
+    match b {
+        b']' => Part::Outside,
+        b'\\' => Part::BracketEscape,
+        b'[' => Part::ClassBegun,
+        _ => Part::Bracket,
     }
-    false
+}
+
+fn begun(b: u8) -> Part {
+    match b {
+        b'^' => Part::Negated,
+        b']' => Part::Bracket,
+        _ => in_bracket(b),
+    }
+}
+
+fn negated(b: u8) -> Part {
+    if b == b']' {
+        Part::Bracket
+    } else {
+        in_bracket(b)
+    }
+}
+
+fn class_begun(b: u8) -> Part {
+    if b == b':' {
+        Part::Class
+    } else {
+        in_bracket(b)
+    }
+}
+
+fn in_class(b: u8) -> Part {
+    if b == b':' {
+        Part::ClassEnd
+    } else {
+        Part::Class
+    }
+}
+
+fn class_end(b: u8) -> Part {
+    if b == b']' {
+        Part::Bracket
+    } else {
+        in_class(b)
+    }
+}
+
+/// What follows behind this byte.
+pub fn behind(part: Part, b: u8) -> Part {
+    match part {
+        Part::Outside => outside(b),
+        Part::Escape => Part::Outside,
+        Part::Begun => begun(b),
+        Part::Negated => negated(b),
+        Part::Bracket => in_bracket(b),
+        Part::BracketEscape => Part::Bracket,
+        Part::ClassBegun => class_begun(b),
+        Part::Class => in_class(b),
+        Part::ClassEnd => class_end(b),
+    }
+}
+
+/// Whether gawk reads `\` before this letter as an operator.
+pub fn is_operator(letter: u8) -> bool {
+    matches!(letter, b's' | b'S' | b'w' | b'W' | b'y' | b'<' | b'>')
 }

@@ -2,32 +2,39 @@
 use crate::around::{Around, number_of, sign, sign_of};
 use awk_tokens::{Token, TokenKind};
 
+/// Whether the sign can stand on both sides of a comparison.
+fn is_loose(sign: (u8, u8)) -> bool {
+    match sign {
+        (b'\n' | b';' | b'{' | b'}' | b',' | b'?' | b':', 0) => true,
+        (b'&', b'&') | (b'|', b'|') => true,
+        _ => false,
+    }
+}
+
 /// Whether a comparison may begin directly behind this token.
 fn begins_behind(token: Option<&Token>) -> bool {
-    let Some(token) = token else {
-        return true;
-    };
-    match token.kind {
-        TokenKind::Sign => matches!(
-            sign(token),
-            [b'\n' | b';' | b'{' | b'}' | b'(' | b'[' | b',' | b'?' | b':' | b'=']
-                | [b'&', b'&']
-                | [b'|', b'|']
-        ),
-        TokenKind::Keyword => matches!(token.text.bytes(), b"return" | b"print" | b"do" | b"else"),
-        _ => false,
+    match token {
+        Some(token) => match token.kind {
+            TokenKind::Sign => {
+                let sign = sign(token);
+                is_loose(sign) || matches!(sign, (b'(' | b'[' | b'=', 0))
+            }
+            // the words behind which an operand may stand: `print`, `return` and their like; getline alone makes
+            // an expression of what follows
+            TokenKind::Keyword => token.text.bytes() != b"getline".as_slice(),
+            _ => false,
+        },
+        None => true,
     }
 }
 
 /// Whether a comparison may end directly before this token.
 fn ends_before(token: Option<&Token>) -> bool {
     match token {
-        Some(token) => matches!(
-            sign(token),
-            [b'\n' | b';' | b'{' | b'}' | b')' | b']' | b',' | b'?' | b':']
-                | [b'&', b'&']
-                | [b'|', b'|']
-        ),
+        Some(token) => {
+            let sign = sign(token);
+            is_loose(sign) || matches!(sign, (b')' | b']', 0))
+        }
         None => true,
     }
 }
@@ -35,11 +42,12 @@ fn ends_before(token: Option<&Token>) -> bool {
 /// Whether `$` before this token may name a field that is not there: not `$0`, and not `$NF`.
 fn may_be_unset(token: Option<&Token>) -> bool {
     match token {
-        Some(token) if token.kind == TokenKind::Name => token.text.bytes() != b"NF".as_slice(),
-        _ => match number_of(token) {
-            Some(number) => number != 0,
-            None => false,
+        Some(token) => match token.kind {
+            TokenKind::Name => token.text.bytes() != b"NF".as_slice(),
+            TokenKind::Number => !is_zero(Some(token)),
+            _ => false,
         },
+        None => false,
     }
 }
 
@@ -50,18 +58,18 @@ fn is_zero(token: Option<&Token>) -> bool {
 /// Whether a field stands on the left of this sign, and 0 on its right.
 fn is_field_first(around: Around<'_>) -> bool {
     is_zero(around.next(1))
-        && ends_before(around.next(2))
         && may_be_unset(around.back(1))
-        && matches!(sign_of(around.back(2)), [b'$'])
+        && sign_of(around.back(2)).0 == b'$'
         && begins_behind(around.back(3))
+        && ends_before(around.next(2))
 }
 
 /// Whether 0 stands on the left of this sign, and a field on its right.
 fn is_field_last(around: Around<'_>) -> bool {
     is_zero(around.back(1))
-        && begins_behind(around.back(2))
-        && matches!(sign_of(around.next(1)), [b'$'])
+        && sign_of(around.next(1)).0 == b'$'
         && may_be_unset(around.next(2))
+        && begins_behind(around.back(2))
         && ends_before(around.next(3))
 }
 
@@ -69,9 +77,9 @@ fn is_field_last(around: Around<'_>) -> bool {
 /// it is compared as an empty text.
 pub fn compares_unset(around: Around<'_>) -> bool {
     match sign(around.token) {
-        [b'=', b'='] | [b'!', b'='] => is_field_first(around) || is_field_last(around),
-        [b'<'] | [b'>', b'='] => is_field_first(around),
-        [b'>'] | [b'<', b'='] => is_field_last(around),
+        (b'=', b'=') | (b'!', b'=') => is_field_first(around) || is_field_last(around),
+        (b'<', 0) | (b'>', b'=') => is_field_first(around),
+        (b'>', 0) | (b'<', b'=') => is_field_last(around),
         _ => false,
     }
 }

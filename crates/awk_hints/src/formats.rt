@@ -1,13 +1,19 @@
 // Constant formats of `printf` and `sprintf`.
+ghost use Rattle.std.specs.Prelude.{◌≡◌, true, IfSome};
+ghost use Rattle.awk_hints.specs.Causes.{is_of_format};
+
 use crate::around::{Around, ends_argument, is_builtin, is_word, number_of, sign, sign_of};
 use crate::hint::HintKind;
 use awk_tokens::Token;
 
-/// What a `%` of a format begins.
+/// How far a format is read.
 #[derive(Clone, Copy, Drop)]
-struct Directive {
-    has_star: bool,
-    conversion: u8,
+enum Reading {
+    Text,
+    /// Behind a `%`, with a `*` or without one.
+    Directive(bool),
+    /// Directly behind the conversion of a directive.
+    Conversion(bool, u8),
 }
 
 /// Whether the byte may stand between `%` and the conversion, in C too.
@@ -18,59 +24,51 @@ fn is_inner(b: u8) -> bool {
     )
 }
 
-/// The directive that stands behind a `%`, and what is left of the format.
-fn directive_behind(text: &[u8]) -> Option<(Directive, &[u8])> {
-    let mut has_star = false;
-    let mut rest = text;
-    while let [b, after @ ..] = rest {
-        if !is_inner(*b) {
-            let conversion = *b;
-            return Some((
-                Directive {
-                    has_star,
-                    conversion,
-                },
-                after,
-            ));
+fn read(reading: Reading, b: u8) -> Reading {
+    match reading {
+        Reading::Directive(has_star) => {
+            if is_inner(b) {
+                Reading::Directive(has_star || b == b'*')
+            } else {
+                Reading::Conversion(has_star, b)
+            }
         }
-        has_star = has_star || *b == b'*';
-        rest = after;
+        Reading::Text | Reading::Conversion(_, _) => {
+            if b == b'%' {
+                Reading::Directive(false)
+            } else {
+                Reading::Text
+            }
+        }
     }
-    None
 }
 
-/// The first directive of a format, and what is left of it.
-fn next_directive(format: &[u8]) -> Option<(Directive, &[u8])> {
-    let mut rest = format;
-    while let [b, after @ ..] = rest {
-        if *b == b'%' {
-            return directive_behind(after);
-        }
-        rest = after;
-    }
-    None
-}
-
-fn flaw_of(directive: Directive) -> Option<HintKind> {
-    if directive.has_star {
+fn flaw_of(has_star: bool, conversion: u8) -> Option<HintKind>
+    ensures { IfSome result (λ kind. is_of_format kind ≡ true) }
+{
+    if has_star {
         return Some(HintKind::Star);
     }
-    match directive.conversion {
+    match conversion {
         b'e' | b'f' | b'g' | b'a' | b'E' | b'F' | b'G' | b'A' => {
-            Some(HintKind::Fraction(directive.conversion))
+            Some(HintKind::Fraction(conversion))
         }
         _ => None,
     }
 }
 
 /// The first directive that whole numbers have not.
-fn flaw(format: &[u8]) -> Option<HintKind> {
-    let mut rest = format;
-    while let Some((directive, after)) = next_directive(rest) {
-        if let Some(kind) = flaw_of(directive) {
-            return Some(kind);
+pub fn flaw_in(format: &[u8]) -> Option<HintKind>
+    ensures { IfSome result (λ kind. is_of_format kind ≡ true) }
+{
+    let mut reading = Reading::Text;
+    for b in format {
+        reading = read(reading, *b);
+        if let Reading::Conversion(has_star, conversion) = reading {
+            if let Some(kind) = flaw_of(has_star, conversion) {
+                return Some(kind);
+            }
         }
-        rest = after;
     }
     None
 }
@@ -80,17 +78,16 @@ fn behind_comma(tokens: &[Token]) -> &[Token] {
     let mut depth = 0usize;
     let mut rest = tokens;
     while let [token, after @ ..] = rest {
-        match sign(token) {
-            [b'(' | b'['] => depth = depth.saturating_add(1),
-            [b')' | b']'] if depth == 0 => return &[],
-            [b')' | b']'] => depth = depth.saturating_sub(1),
-            [b','] if depth == 0 => return after,
-            [b';' | b'{' | b'}'] => return &[],
+        rest = after;
+        match sign(token).0 {
+            b'(' | b'[' => depth = depth.saturating_add(1),
+            b')' | b']' if depth != 0 => depth = depth.saturating_sub(1),
+            b',' if depth == 0 => return after,
+            b')' | b']' | b';' | b'{' | b'}' => return &[],
             _ => {}
         }
-        rest = after;
     }
-    &[]
+    rest
 }
 
 /// Whether the first argument of these is a constant above 255.
@@ -102,15 +99,17 @@ fn is_wide(arguments: &[Token]) -> bool {
 }
 
 /// Whether a `%c` of the format takes a constant above 255, where these tokens stand behind the format.
-fn has_wide(format: &[u8], after: &[Token]) -> bool {
-    let mut rest = format;
+pub fn has_wide(format: &[u8], after: &[Token]) -> bool {
+    let mut reading = Reading::Text;
     let mut arguments = after;
-    while let Some((directive, behind)) = next_directive(rest) {
-        rest = behind;
-        if directive.conversion != b'%' {
-            arguments = behind_comma(arguments);
-            if directive.conversion == b'c' && is_wide(arguments) {
-                return true;
+    for b in format {
+        reading = read(reading, *b);
+        if let Reading::Conversion(_, conversion) = reading {
+            if conversion != b'%' {
+                arguments = behind_comma(arguments);
+                if conversion == b'c' && is_wide(arguments) {
+                    return true;
+                }
             }
         }
     }
@@ -118,25 +117,11 @@ fn has_wide(format: &[u8], after: &[Token]) -> bool {
 }
 
 /// Whether a string is the format of `printf` or `sprintf`, or begins it.
-fn is_format(around: Around<'_>) -> bool {
-    if is_word(around.back(1), b"printf") {
+pub fn is_format(around: Around<'_>) -> bool {
+    let before = around.back(1);
+    if is_word(before, b"printf") {
         return true;
     }
     let word = around.back(2);
-    matches!(sign_of(around.back(1)), [b'('])
-        && (is_word(word, b"printf") || is_builtin(word, b"sprintf"))
-}
-
-/// What is told of a string: of its first directive that whole numbers have not, and of characters.
-pub fn told_of_format(around: Around<'_>) -> (Option<HintKind>, Option<HintKind>) {
-    if !is_format(around) {
-        return (None, None);
-    }
-    let format = around.token.text.bytes();
-    let wide = if has_wide(format, around.after) {
-        Some(HintKind::WideCharacter)
-    } else {
-        None
-    };
-    (flaw(format), wide)
+    sign_of(before).0 == b'(' && (is_word(word, b"printf") || is_builtin(word, b"sprintf"))
 }

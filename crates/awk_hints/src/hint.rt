@@ -3,7 +3,7 @@ use awk_text::octets::Octets;
 use awk_text::place::Place;
 
 /// What a hint is about.
-#[derive(Clone, Copy, PartialEq, Eq, Drop)]
+#[derive(Clone, Copy, Drop)]
 pub enum HintKind {
     /// `/` or `/=`, whose fraction is dropped.
     Division,
@@ -21,15 +21,17 @@ pub enum HintKind {
     GawkName,
     /// `\` and this letter in an ERE, which gawk reads as an operator.
     GawkEscape(u8),
-    /// A number directly before a name that begins with `x`.
+    /// A 0 directly before a name as `x1f`.
     HexNumber,
     /// A field compared with 0, where one that is not there is 0.
     UnsetField,
     /// `=` as a condition.
     Assignment,
-    /// A variable that stands once in the script.
-    Once,
-    /// A variable that is only read.
+    /// A variable that stands once in the script, where it is set.
+    SetOnce,
+    /// A variable that stands once in the script, where it is read.
+    ReadOnce,
+    /// A variable that is read more than once, and never set.
     OnlyRead,
     /// A function that is not called.
     Uncalled,

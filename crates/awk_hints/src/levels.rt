@@ -6,14 +6,12 @@ use awk_tokens::{Token, TokenKind};
 use std::alloc::Global;
 
 /// What an open bracket encloses.
-#[derive(Clone, Copy, PartialEq, Eq, Drop)]
+#[derive(Clone, Copy, Drop)]
 pub enum Opening {
     /// The condition of `if` or `while`.
     Condition,
     /// The three parts of `for`, or `key in array`.
     Header,
-    /// The parameters of a function that is defined.
-    Parameters,
     /// The arguments of a function of the script.
     Call,
     /// The argument of `int`, where it is a division.
@@ -24,8 +22,6 @@ pub enum Opening {
     Split,
     /// Those of `sub` or `gsub`.
     Replaced,
-    /// Statements.
-    Block,
     Other,
 }
 
@@ -37,33 +33,31 @@ pub struct Level {
     pub part: usize,
 }
 
-impl Level {
-    /// Whether it is the part of this number, from 0, of what was opened so.
-    pub fn is_part(&self, opening: Opening, part: usize) -> bool {
-        self.opening == opening && self.part == part
-    }
-}
-
 /// The open brackets, the innermost one last.
 #[derive(Drop)]
 pub struct Levels {
     open: Vec<Level>,
 }
 
-fn opened_by(word: &Token, before: Option<&Token>) -> Opening {
-    let word = Some(word);
-    if is_word(before, b"function") || is_word(before, b"func") {
-        Opening::Parameters
+fn opened_by_word(word: Option<&Token>) -> Opening {
+    if is_word(word, b"for") {
+        Opening::Header
     } else if is_word(word, b"if") || is_word(word, b"while") {
         Opening::Condition
-    } else if is_word(word, b"for") {
-        Opening::Header
-    } else if is_builtin(word, b"substr") {
+    } else {
+        Opening::Other
+    }
+}
+
+fn opened_by_builtin(word: Option<&Token>, after: &[Token]) -> Opening {
+    if is_builtin(word, b"substr") {
         Opening::Substr
     } else if is_builtin(word, b"split") {
         Opening::Split
     } else if is_builtin(word, b"sub") || is_builtin(word, b"gsub") {
         Opening::Replaced
+    } else if is_builtin(word, b"int") && is_quotient(after) {
+        Opening::Quotient
     } else {
         Opening::Other
     }
@@ -71,15 +65,15 @@ fn opened_by(word: &Token, before: Option<&Token>) -> Opening {
 
 /// What a `(` opens.
 fn paren(around: Around<'_>) -> Opening {
-    let Some(word) = around.back(1) else {
-        return Opening::Other;
-    };
-    match opened_by(word, around.back(2)) {
-        Opening::Other if word.kind == TokenKind::CallName => Opening::Call,
-        Opening::Other if is_builtin(Some(word), b"int") && is_quotient(around.after) => {
-            Opening::Quotient
-        }
-        opening => opening,
+    let word = around.back(1);
+    match word {
+        Some(token) => match token.kind {
+            TokenKind::CallName => Opening::Call,
+            TokenKind::Keyword => opened_by_word(word),
+            TokenKind::Builtin => opened_by_builtin(word, around.after),
+            _ => Opening::Other,
+        },
+        None => Opening::Other,
     }
 }
 
@@ -95,11 +89,6 @@ impl Levels {
         self.open.last().copied()
     }
 
-    /// Whether no bracket is open.
-    pub fn is_outside(&self) -> bool {
-        self.open.is_empty()
-    }
-
     fn push(&mut self, opening: Opening) -> Result<(), Memory> {
         Ok(self.open.push(Level { opening, part: 0 })?)
     }
@@ -112,15 +101,14 @@ impl Levels {
 
     /// Goes on behind this token.
     pub fn pass(&mut self, around: Around<'_>) -> Result<(), Memory> {
-        match sign(around.token) {
-            [b'('] => self.push(paren(around)),
-            [b'{'] => self.push(Opening::Block),
-            [b'['] => self.push(Opening::Other),
-            [b')' | b']' | b'}'] => {
+        match sign(around.token).0 {
+            b'(' => self.push(paren(around)),
+            b'{' | b'[' => self.push(Opening::Other),
+            b')' | b']' | b'}' => {
                 let _ = self.open.pop();
                 Ok(())
             }
-            [b',' | b';'] => {
+            b',' | b';' => {
                 self.separate();
                 Ok(())
             }

@@ -10,6 +10,7 @@ mod escapes;
 mod fields;
 mod formats;
 mod hint;
+mod known;
 mod levels;
 mod names;
 mod numbers;

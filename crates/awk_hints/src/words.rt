@@ -3,29 +3,29 @@ use crate::hint::{Hint, HintKind};
 use awk_text::Memory;
 use std::alloc::Global;
 
-/// Names that mean something to gawk, and what to write instead.
-const GAWK_NAMES: [(&str, &str); 11] = [
-    ("ARGIND", "count where FNR is 1"),
-    ("BEGINFILE", "FNR == 1 { .. }"),
-    ("ENDFILE", "FNR == 1 && NR > 1 { .. }, and the same in END"),
-    ("ERRNO", "a test of what getline or close gives"),
-    ("FIELDWIDTHS", "substr($0, start, length) for each field"),
-    ("FPAT", "a loop of match and substr"),
-    ("FUNCTAB", "the calls themselves"),
-    ("IGNORECASE", "tolower(text) ~ /a pattern in small letters/"),
-    ("PROCINFO", "a list of the keys in the order that is meant"),
-    ("RT", "RS, which ends all records but the last"),
-    ("SYMTAB", "an array with these keys"),
+/// What to write instead of names that mean something to gawk.
+const INSTEAD: [(&[u8], &str); 11] = [
+    (b"ARGIND", "a count of the records whose FNR is 1"),
+    (b"BEGINFILE", "FNR == 1 { .. }"),
+    (b"ENDFILE", "FNR == 1 && NR > 1 { .. }, and the same in END"),
+    (b"ERRNO", "a test of what getline or close gives"),
+    (b"FIELDWIDTHS", "substr($0, start, length) for each field"),
+    (b"FPAT", "a loop of match and substr"),
+    (b"FUNCTAB", "the calls themselves"),
+    (b"IGNORECASE", "tolower on both sides"),
+    (b"PROCINFO", "a list of the keys in the order that is meant"),
+    (b"RT", "RS, which ends all records but the last"),
+    (b"SYMTAB", "an array with these keys"),
 ];
 
-/// What to write instead of a name that means something to gawk.
-pub fn gawk_instead(name: &[u8]) -> Option<&'static str> {
-    for (known, instead) in GAWK_NAMES {
-        if known.as_bytes() == name {
-            return Some(instead);
+fn instead_in(mut table: &[(&'static [u8], &'static str)], name: &[u8]) -> &'static str {
+    while let [entry, rest @ ..] = table {
+        if entry.0 == name {
+            return entry.1;
         }
+        table = rest;
     }
-    None
+    "another name"
 }
 
 /// What to write instead of `\` and this letter in an ERE.
@@ -62,10 +62,7 @@ fn told(kind: HintKind, name: &[u8]) -> (&'static str, &'static str) {
             "ends records by the first byte alone",
             "one byte, or \"\" for records between empty lines",
         ),
-        HintKind::GawkName => (
-            "is a variable like any other",
-            gawk_instead(name).unwrap_or("another name"),
-        ),
+        HintKind::GawkName => ("is a variable like any other", instead_in(&INSTEAD, name)),
         HintKind::GawkEscape(letter) => ("stands for its letter alone", escape_instead(letter)),
         HintKind::HexNumber => (
             "is the number 0 and a name behind it",
@@ -76,8 +73,15 @@ fn told(kind: HintKind, name: &[u8]) -> (&'static str, &'static str) {
             "NF >= n && $n == 0",
         ),
         HintKind::Assignment => ("as a condition sets what is left of it", "==, or (a = b)"),
-        HintKind::Once => ("stands here alone", "the name that is meant"),
-        HintKind::OnlyRead => ("is only read", "what sets it, or give it by -v"),
+        HintKind::SetOnce => (
+            "is set here and stands nowhere else",
+            "the name that is meant",
+        ),
+        HintKind::ReadOnce => (
+            "stands here alone and is never set",
+            "the name that is meant, or give it by -v",
+        ),
+        HintKind::OnlyRead => ("is read and never set", "what sets it, or give it by -v"),
         HintKind::Uncalled => ("is never called", "a call of it, or leave it out"),
         HintKind::Unused => ("is not used by its function", "the function without it"),
     }
