@@ -38,7 +38,7 @@ _awkbox() {
     list) options='-f --help' ;;
     check) options='--policy --allow-open -f --help' ;;
     why) options='--policy --given read write append run env assign --help' ;;
-    lint) options='--policy --help' ;;
+    lint) options='--policy --strict -f --help' ;;
     propose) options='--base --policy --log -f --help' ;;
     help) options=$commands ;;
     *) options= ;;

@@ -26,7 +26,8 @@ SUBJECTS = [
     ("#e2f0d9", "awk_tokens awk_tree awk_expressions awk_statements awk_canon awk_resolve awk_program awk_lowering"),
     ("#e2f0d9", "awk_parse awk_printer"),
     ("#fff2cc", "awk_machine awk_streams awk_store awk_builtins awk_input awk_forms awk_eval awk_run"),
-    ("#f8dcd4", "box_world box_policy box_monitor box_audit box_blocks box_os box_listing box_advice listing_laws"),
+    ("#f8dcd4", "box_world box_policy box_monitor box_audit box_blocks box_os box_listing awk_hints awk_reasons box_advice "
+     "listing_laws"),
     ("#e6dcf0", "awkbox awkbox_options awkbox_program"),
     ("#eeeeee", ""),
 ]

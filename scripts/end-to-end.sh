@@ -1899,6 +1899,127 @@ deep=$(printf '%04000d' 0 | sed 's/0\{50\}/&\//g')
 } >"$p"
 lints "1,024 rules of 4 KB" "" 0
 
+# What of a script other awks do otherwise, or its writer may not mean.
+
+# hints NAME SCRIPT LINES: whether lint tells this of the script
+hints() {
+    script "$2"
+    awkbox lint -f "$work/script.awk"
+    told 0 "${3:+$3$line}" ""
+    verdict "$1"
+}
+divides='drops the fraction; write int(a / b) where that is meant, or multiply before'
+hints "divisions" 'BEGIN { print 7 / 2 }
+{ $2 /= 2 } { print int(7 / 2 * 3), int(1 + 7 / 2) }' "1:17 / $divides
+2:6 /= $divides
+2:27 / $divides
+2:47 / $divides"
+hints "divisions without a fraction, or whose fraction is dropped by int" \
+    '{ print int(7 / 2), int(($1 + $2) / 2), int($1 * 100 / $2 / 3), 6 / 3, 2 + 60 / 4 - 1 }' ""
+hints "divisions by what another one leaves" 'BEGIN { print 9 / 6 / 3, 6 / 3 ^ 2, 7 % 4 / 2, 6 / 0 }' "1:17 / $divides
+1:21 / $divides
+1:28 / $divides
+1:43 / $divides
+1:50 / $divides"
+hints "formats" '{ printf "%5.2f%d\n", $1, 2 }
+{ print sprintf("%d %*d %e", 1, 2, 3); printf("%%f %s%G", "%f", 1) }' \
+    "1:10 %f shows a fraction, and no number has one; write %d
+2:17 * in a format takes no width from the arguments; write the width itself
+2:47 %G shows a fraction, and no number has one; write %d"
+hints "characters" 'BEGIN { printf "%d%c", 1, 300
+printf("%s%c%c", substr("a", 1), 255, x "b"); x = sprintf("%c", 0256) "c" x }' \
+    "1:16 %c takes a number modulo 256; write the character itself between quotes
+2:59 %c takes a number modulo 256; write the character itself between quotes"
+early='a number below 1 as the start of substr is before the text; write 1'
+hints "starts of substr" '{ print substr($0, 0, 2), substr($0, -1), substr($0, 1), substr($0, 0 + 1) }' \
+    "1:20 $early
+1:38 $early"
+hints "separators of records" 'BEGIN { RS = "\r\n"; RS = "\n"; RS = "\011"; RS = ""; RS = "ab" }' \
+    "1:9 RS ends records by the first byte alone; write one byte, or \"\" for records between empty lines
+1:55 RS ends records by the first byte alone; write one byte, or \"\" for records between empty lines"
+like='is a variable like any other; write'
+hints "names of gawk" 'BEGIN { FPAT = "a+"; FIELDWIDTHS = "1 2"; IGNORECASE = 1 }
+BEGINFILE { print }
+ENDFILE { print RT }
+END { print PROCINFO["pid"] }' "1:9 FPAT $like a loop of match and substr
+1:22 FIELDWIDTHS $like substr(\$0, start, length) for each field
+1:43 IGNORECASE $like tolower on both sides
+2:1 BEGINFILE $like FNR == 1 { .. }
+3:1 ENDFILE $like FNR == 1 && NR > 1 { .. }, and the same in END
+3:17 RT $like RS, which ends all records but the last
+4:13 PROCINFO $like a list of the keys in the order that is meant"
+alone='stands for its letter alone; write'
+hints "escapes of gawk" '/^\s*\w+$/ || /\<a\>/ || /[\w]\y/ || /[]\s[:alpha:]\s]a\\s/
+$0 !~ /\S\W\S\./' "1:1 \\s $alone [[:space:]]
+1:1 \\w $alone [[:alnum:]_]
+1:15 \\< $alone (^|[^[:alnum:]_])
+1:15 \\> $alone ([^[:alnum:]_]|\$)
+1:26 \\y $alone (^|[^[:alnum:]_]) or ([^[:alnum:]_]|\$)
+2:7 \\S $alone [^[:space:]]
+2:7 \\W $alone [^[:alnum:]_]"
+hints "hexadecimal numbers" 'BEGIN { x = 1; print 0x1F + 1, 0 x, 10 x }' \
+    "1:22 0x is the number 0 and a name behind it; write its digits to base 10"
+unset='takes a field that is not there for 0; write NF >= n && $n == 0'
+hints "fields that are not there" '$3 == 0 { print } 0 != $2
+$1 >= 0 && $0 == 0 || $NF == 0 || $2 <= 0 { print ($1 < 0), $1 + $2 == 0 }' "1:4 == $unset
+1:21 != $unset
+2:4 >= $unset
+2:55 < $unset"
+hints "conditions that set" '{ if (x = $1) print x; while (y = z) z = y
+for (i = 0; i = x; i++) print i; do print; while (x = 0); if ((x = 1)) print x }
+$1 = 2 { print }' "1:9 = as a condition sets what is left of it; write ==, or (a = b)
+1:33 = as a condition sets what is left of it; write ==, or (a = b)
+2:15 = as a condition sets what is left of it; write ==, or (a = b)
+2:53 = as a condition sets what is left of it; write ==, or (a = b)
+3:4 = as a condition sets what is left of it; write ==, or (a = b)"
+hints "names that stand once" '{ count = $1; total += $1 } END { print totl }' \
+    "1:3 count is set here and stands nowhere else; write the name that is meant
+1:41 totl stands here alone and is never set; write the name that is meant, or give it by -v"
+hints "a name that is only read" '$1 > limit { print limit }' \
+    "1:6 limit is read and never set; write what sets it, or give it by -v"
+hints "functions and parameters" 'function f(a, b, c) { c = a; return c }
+function g(a) { return a + f(a) }' "1:15 b is not used by its function; write the function without it
+2:10 g is never called; write a call of it, or leave it out"
+hints "names that serve though they stand once" '!seen[$0]++ || !n++ || NF < 2
+function f(to, m) { to[1] = 1; m[to[1]] }
+END { f(a); split($0, b); while ((getline l) > 0) ARGC++; for (k in ENVIRON) print; sub(/a/, "b", t) }' ""
+script '{ print $1 / $2 }'
+awkbox lint --strict -f "$work/script.awk"
+told 1 "1:12 / $divides$line" ""
+verdict "a strict lint of a script"
+no_rules
+awkbox lint --policy "$p" --strict -f "$work/script.awk"
+told 1 "1:12 / $divides$line" ""
+verdict "a strict lint of a policy and a script"
+awkbox lint --policy "$p" -f - <"$work/script.awk"
+told 0 "1:12 / $divides$line" ""
+verdict "lint of a policy and a script that is the standard input"
+lone_rule 1 'effect = "allow"
+kind = "env"
+match = "*"'
+script '{ print $1 }'
+awkbox lint --strict --policy "$p" -f "$work/script.awk"
+told 1 "$p:4: warning: rule 1: it fits every name$line" ""
+verdict "a strict lint of a policy that has a warning"
+awkbox lint --strict -f "$work/script.awk"
+told 0 "" ""
+verdict "a strict lint of a script of which nothing is told"
+printf 'version = 3\nbase = "/w"\n' >"$p"
+awkbox lint --strict --policy "$p" -f "$work/script.awk"
+told 3 "$p:1: P2: version is neither 1 nor 2$line" ""
+verdict "a strict lint of a policy that is refused"
+: >"$work/script.awk"
+awkbox lint --strict -f "$work/script.awk"
+told 0 "" ""
+verdict "lint of an empty script"
+script 'BEGIN { print ) }'
+awkbox lint --strict -f "$work/script.awk"
+told 3 "" "awkbox: script 1:15 S4$line"
+verdict "lint of a script that is refused"
+awkbox lint -f "$work/none.awk"
+told 3 "" "awkbox: cannot read \"$work/none.awk\"$line"
+verdict "lint of a script that is not there"
+
 # Policies that are proposed.
 
 # proposed NAME LINES STATUS ERRORS WORD..: whether a proposal is this
@@ -2499,7 +2620,8 @@ fault "an operand of check" check --policy p -f f -- a
 fault "a policy of list" list --policy p -f f
 fault "a kind that is not known" why --policy p open a
 fault "a text that is missing" why --policy p read
-fault "a script of lint" lint --policy p -f f
+fault "a lint of nothing" lint --strict
+fault "a lint of a policy and a script that are the standard input" lint --policy - -f -
 fault "a proposal under no base" propose -f f
 fault "an operand of a proposal" propose --base /w -- a
 fault "a policy and a script of a proposal that are the standard input" propose --policy - -f -

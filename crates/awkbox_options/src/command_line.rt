@@ -59,6 +59,18 @@ pub struct Check<'a> {
     pub allows_open: bool,
 }
 
+/// What `awkbox lint` is asked for: what is wrong with this policy, or what of this script other awks do otherwise. One of
+/// the files is there, and at most one is [`STANDARD_INPUT`].
+#[derive(Clone, Copy, Debug, Drop)]
+pub struct Lint<'a> {
+    /// The name of the policy's file.
+    pub policy: Option<&'a str>,
+    /// The name of the script's file.
+    pub script: Option<&'a str>,
+    /// Whether whatever is told makes the exit status 1.
+    pub is_strict: bool,
+}
+
 /// What `awkbox propose` is asked for: a policy that allows what this script may ask for and what this log tells of,
 /// under this base, or behind the rules of the policy of this file. One of base and policy is there, and at most one
 /// of the files is [`STANDARD_INPUT`].
@@ -85,8 +97,8 @@ pub enum Asked<'a> {
     Check(Check<'a>),
     /// To tell which rules of a policy speak of a request.
     Why(Why<'a>),
-    /// To tell what is wrong with this policy, or what its rules may not mean.
-    Lint { policy: &'a str },
+    /// To tell what is wrong with a policy, or what its rules or a script may not mean.
+    Lint(Lint<'a>),
     /// To write a policy that allows more.
     Propose(Propose<'a>),
 }
@@ -115,7 +127,7 @@ Exit status:
 const TOLD_STATUSES: &str = "\
 Exit status:
   0  The answer is printed; a check found the script clean
-  1  A check found the script refused, or open without --allow-open
+  1  A check found the script refused, or open without --allow-open; a lint with --strict told of anything
   2  There was no memory for the answer
   3  The policy, the script or the command line was refused, or a file could not be read";
 
@@ -186,6 +198,13 @@ fn allow_open<'a>(alloc: Global) -> Arg<'a> {
         .action(ArgAction::SetTrue)
         .long("allow-open")
         .help("A script that is open ends with 0 too")
+}
+
+fn strict<'a>(alloc: Global) -> Arg<'a> {
+    Arg::new(alloc, "strict")
+        .action(ArgAction::SetTrue)
+        .long("strict")
+        .help("A line that tells of anything makes the exit status 1")
 }
 
 fn kind<'a>(alloc: Global) -> Arg<'a> {
@@ -303,9 +322,11 @@ fn why_command<'a>(alloc: Global) -> Result<Command<'a>, AllocError> {
 
 fn lint_command<'a>(alloc: Global) -> Result<Command<'a>, AllocError> {
     Command::new(alloc, "lint")
-        .about("Tells what is wrong with a policy, and what its rules may not mean")
+        .about("Tells what is wrong with a policy, and what its rules or a script may not mean")
         .after_help(TOLD_STATUSES)
-        .arg(policy(alloc))
+        .arg(policy(alloc).required(false))?
+        .arg(strict(alloc))?
+        .arg(script(alloc).required(false))
 }
 
 fn propose_command<'a>(alloc: Global) -> Result<Command<'a>, AllocError> {
@@ -439,6 +460,21 @@ fn why_of<'a>(alloc: Global, matches: &ArgMatches<'a>, policy: &'a str) -> Resul
     })
 }
 
+fn lint_of<'a>(alloc: Global, matches: &ArgMatches<'a>) -> Result<Lint<'a>, Error> {
+    let asked = Lint {
+        policy: matches.get_str("policy"),
+        script: matches.get_str("script"),
+        is_strict: matches.get_flag("strict"),
+    };
+    if asked.policy.is_none() && asked.script.is_none() {
+        return Err(fault(alloc, "one of --policy and -f is needed"));
+    }
+    if share_input([asked.policy, asked.script, None]) {
+        return Err(fault(alloc, "policy and script are not both the standard input"));
+    }
+    Ok(asked)
+}
+
 fn propose_of<'a>(alloc: Global, matches: &ArgMatches<'a>) -> Result<Propose<'a>, Error> {
     let asked = Propose {
         base: matches.get_str("base"),
@@ -469,6 +505,9 @@ fn asked_of<'a>(alloc: Global, matches: &ArgMatches<'a>) -> Result<Asked<'a>, Er
     if name == "propose" {
         return Ok(Asked::Propose(propose_of(alloc, matches)?));
     }
+    if name == "lint" {
+        return Ok(Asked::Lint(lint_of(alloc, matches)?));
+    }
     if name == "check" {
         let (policy, script) = sources_of(alloc, matches)?;
         return Ok(Asked::Check(Check {
@@ -478,10 +517,7 @@ fn asked_of<'a>(alloc: Global, matches: &ArgMatches<'a>) -> Result<Asked<'a>, Er
         }));
     }
     let policy = value_of(alloc, matches, "policy")?;
-    if name == "why" {
-        return Ok(Asked::Why(why_of(alloc, matches, policy)?));
-    }
-    Ok(Asked::Lint { policy })
+    Ok(Asked::Why(why_of(alloc, matches, policy)?))
 }
 
 /// Reads the words before `--`, of which the first is the program's own name.

@@ -1,8 +1,9 @@
-// A policy explained.
+// A policy explained, and what a policy or a script may not mean.
 use crate::folders::absolute;
 use crate::runs::read_source;
-use awkbox::{Memory, Message};
-use awkbox_options::Why;
+use awk_hints::script_lines;
+use awkbox::{ListingRefusal, Memory, Message, list};
+use awkbox_options::{Lint, Why};
 use box_advice::{Findings, Wanted, explained, lint};
 
 /// The exit status where a policy is refused.
@@ -27,15 +28,67 @@ pub fn why_file(rt: &HostRuntime, asked: &Why<'_>) -> Result<u8, Message> {
     }
 }
 
-/// Prints what is wrong with the policy, or what its rules may not mean, and gives the exit status. That it cannot be
-/// written is passed over.
-pub fn lint_file(rt: &HostRuntime, policy: &str) -> Result<u8, Message> {
+/// What was told of a file.
+#[derive(Clone, Copy, Drop)]
+enum Told {
+    Nothing,
+    Lines,
+    Refusal,
+}
+
+/// Prints what is wrong with the policy, and what its rules and the script may not mean, and gives the exit status.
+/// That it cannot be written is passed over.
+pub fn lint_files(rt: &HostRuntime, asked: Lint<'_>) -> Result<u8, Message> {
+    let policy = match asked.policy {
+        Some(policy) => lint_policy(rt, policy)?,
+        None => Told::Nothing,
+    };
+    let script = match asked.script {
+        Some(script) => lint_script(rt, script)?,
+        None => Told::Nothing,
+    };
+    match (policy, script) {
+        (Told::Refusal, _) => Ok(REFUSED),
+        (Told::Lines, _) | (_, Told::Lines) if asked.is_strict => Ok(1),
+        _ => Ok(0),
+    }
+}
+
+fn print_lines(rt: &HostRuntime, lines: &str) -> Told {
+    let _ = rt.stdout().write_all(lines.as_bytes());
+    if lines.is_empty() {
+        Told::Nothing
+    } else {
+        Told::Lines
+    }
+}
+
+fn lint_policy(rt: &HostRuntime, policy: &str) -> Result<Told, Message> {
     let source = read_source(rt, policy)?;
     let found = found_in(rt, policy, source.bytes.as_slice())?;
-    let _ = rt.stdout().write_all(found.lines.as_str().as_bytes());
+    let told = print_lines(rt, found.lines.as_str());
     match found.refusal {
-        Some(_) => Ok(REFUSED),
-        None => Ok(0),
+        Some(_) => Ok(Told::Refusal),
+        None => Ok(told),
+    }
+}
+
+// Whether the script is accepted, as a listing of it tells.
+fn accept(rt: &HostRuntime, script: &[u8]) -> Result<(), Message> {
+    match list(rt.alloc(), script) {
+        Ok(_) => Ok(()),
+        Err(ListingRefusal::Policy(error)) => Err(Message::Policy(error)),
+        Err(ListingRefusal::Script(error)) => Err(Message::Script(error)),
+        Err(ListingRefusal::Memory) => Err(Message::OutOfMemory),
+    }
+}
+
+fn lint_script(rt: &HostRuntime, script: &str) -> Result<Told, Message> {
+    let source = read_source(rt, script)?;
+    accept(rt, source.bytes.as_slice())?;
+    match script_lines(rt.alloc(), source.bytes.as_slice()) {
+        Ok(lines) => Ok(print_lines(rt, lines.as_str())),
+        Err(error) => Err(Message::Script(error)),
     }
 }
 

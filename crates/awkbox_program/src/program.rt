@@ -1,5 +1,5 @@
 // The program from its words to its exit status.
-use crate::advice::{lint_file, why_file};
+use crate::advice::{lint_files, why_file};
 use crate::propose::propose_policy;
 use crate::reasons::{Files, tell_why};
 use crate::runs::{read_source, run_script};
@@ -55,7 +55,7 @@ fn done(rt: &HostRuntime, asked: &Asked<'_>, operands: Vec<Octets>) -> Result<u8
         Asked::List { script } => list_file(rt, *script),
         Asked::Check(asked) => check_files(rt, *asked),
         Asked::Why(why) => why_file(rt, why),
-        Asked::Lint { policy } => lint_file(rt, *policy),
+        Asked::Lint(asked) => lint_files(rt, *asked),
         Asked::Propose(asked) => propose_policy(rt, asked),
     }
 }
