@@ -23,7 +23,8 @@ impl Files {
             Asked::List { script } => (Some(*script), None),
             Asked::Check(check) => (Some(check.script), None),
             Asked::Propose(propose) => (propose.script, propose.log),
-            Asked::Why(_) | Asked::Lint { .. } => (None, None),
+            Asked::Lint(lint) => (lint.script, None),
+            Asked::Why(_) => (None, None),
         };
         Ok(Files {
             script: absolute_of(rt, script)?,
@@ -37,7 +38,7 @@ fn policy_of<'a>(asked: &Asked<'a>) -> Option<&'a str> {
         Asked::Run(run) => Some(run.policy),
         Asked::Check(check) => Some(check.policy),
         Asked::Why(why) => Some(why.policy),
-        Asked::Lint { policy } => Some(*policy),
+        Asked::Lint(lint) => lint.policy,
         Asked::Propose(propose) => propose.policy,
         Asked::List { .. } => None,
     }
