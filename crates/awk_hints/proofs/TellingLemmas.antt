@@ -128,3 +128,32 @@ next_told tokens i t old new excused kinds below is excuse told added so_far =
     let whole : Tells tokens (take i tokens ++ t ∷ []) (old ++ map (hint_of t) kinds) =
     next (take i tokens) t (drop (i + 1) tokens) old excused kinds (split_here tokens i t below is) so_far excuse told in
     subst (λ ys. Tells tokens ys new) (sym (take_here tokens i t below is)) (subst (λ hs. Tells tokens (take i tokens ++ t ∷ []) hs) (sym added) whole)
+
+-- ---- tokens that are no signs and no variables
+
+pub format_told : (before : List Token) (t : Token) (after : List Token) (excused : Bool) (kinds : List HintKind) → t.kind ≡ kind.Quoted → All (λ k. is_of_format k ≡ true) kinds →
+    AreTold before t after excused kinds
+format_told before t after excused kinds q all = record {
+  caused = formats_cause t kinds q all;
+  names = λ n _. absurd (cc);
+  sets = λ s _. absurd (cc);
+  divides = λ s _ _ _. absurd (cc);
+}
+
+pub pattern_told : (before : List Token) (t : Token) (after : List Token) (excused : Bool) (kinds : List HintKind) → t.kind ≡ kind.Pattern → All (λ k. is_of_pattern k ≡ true) kinds →
+    AreTold before t after excused kinds
+pattern_told before t after excused kinds q all = record {
+  caused = patterns_cause t kinds q all;
+  names = λ n _. absurd (cc);
+  sets = λ s _. absurd (cc);
+  divides = λ s _ _ _. absurd (cc);
+}
+
+pub function_told : (before : List Token) (t : Token) (after : List Token) (excused : Bool) (k : Option HintKind) (kinds : List HintKind) → t.kind ≡ kind.CallName → kinds ≡ option_to_list k →
+    IfSome k (λ x. is_of_name x ≡ true) → AreTold before t after excused kinds
+function_told before t after excused k kinds q e c = record {
+  caused = one_caused t k kinds e (name_may_cause t k (as_function q) c);
+  names = λ n _. absurd (cc);
+  sets = λ s _. absurd (cc);
+  divides = λ s _ _ _. absurd (cc);
+}

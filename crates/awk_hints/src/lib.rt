@@ -15,9 +15,10 @@ mod levels;
 mod names;
 mod numbers;
 mod roles;
+mod scripts;
 mod telling;
 mod words;
 
 pub use hint::{Hint, HintKind};
+pub use scripts::script_lines;
 pub use telling::hints;
-pub use words::line;

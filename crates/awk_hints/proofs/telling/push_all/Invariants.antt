@@ -3,5 +3,5 @@ use Rattle.awk_hints.specs.Hints.{Tells}
 use Rattle.awk_hints.proofs.telling.push_all.Given as goal
 
 -- the tokens before this one are told of
-abbrev pub invariant-loop-token : goal.invariant-loop-token
-invariant-loop-token l = Tells l.tokens (take l.token-index l.tokens) l.out.items
+abbrev pub invariant-loop-at : goal.invariant-loop-at
+invariant-loop-at l = Tells l.tokens (take l.at l.tokens) l.out.items
