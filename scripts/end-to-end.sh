@@ -957,17 +957,17 @@ passed_on="0:0 env ok \"LANG\"
 0:0 read failed \"none.txt\"
 0:0 read ok \"./in.txt\"
 "
-for words in '' --block-buffered; do
+for blocks in '' --block-buffered; do
     rm -f out/*
-    # shellcheck disable=SC2086 # no word, or one
-    env -i LANG=C Z=1 "$program" run --policy "$work/policy.toml" --log "$work/log" --audit "$work/audit" $words \
+    # shellcheck disable=SC2086 # none, or one
+    env -i LANG=C Z=1 "$program" run --policy "$work/policy.toml" --log "$work/log" --audit "$work/audit" $blocks \
         -f "$work/script.awk" -- n=7 in.txt m=8 none.txt ./in.txt >"$work/output" 2>"$work/errors"
     status=$?
     is 2 "a${line}no${line}b${line}c${line}d${line}C${line}denied${line}again${line}again${line}in.txt 7 5${line}./in.txt 7 5$line" \
         "awkbox: cannot open \"none.txt\"$line" \
         "0:0 env none \"Z\"${line}10:10 read none \"/etc/passwd\"${line}0:0 assign none \"m\"$line" &&
         holds "$work/audit" "$passed_on"
-    verdict "an audit has a line for each allowed request, in order${words:+, with $words}"
+    verdict "an audit has a line for each allowed request, in order${blocks:+, with $blocks}"
 done
 rm -f out/*
 script 'BEGIN { print "a" > "out/none/a" }'
@@ -987,12 +987,12 @@ run --audit /dev/full
 is 0 "hi$line" "" ""
 verdict "an audit without room, of a run that asks for nothing"
 script 'BEGIN { print "a"; system("echo b"); print "c" }'
-for words in '' --block-buffered; do
-    # shellcheck disable=SC2086 # no word, or one
-    run --audit /dev/full --report "$work/report" $words
+for blocks in '' --block-buffered; do
+    # shellcheck disable=SC2086 # none, or one
+    run --audit /dev/full --report "$work/report" $blocks
     is 2 "a${line}b$line" "${no_audit}awkbox: 1:20 F12 cannot write the denial log$line" "" &&
         holds "$work/report" '{"denials":0,"exit_status":2,"fault":{"code":"F12","column":20,"line":1,"text":"cannot write the denial log"},"log":"whole","outcome":"fault","refusal":null,"steps":2}'"$line"
-    verdict "an audit that cannot be written ends the run${words:+, with $words}"
+    verdict "an audit that cannot be written ends the run${blocks:+, with $blocks}"
 done
 script 'BEGIN { while ((getline x < "in.txt") > 0) print x; system("echo b"); system("id >/dev/null"); system("echo c") }'
 first="1:17 read ok \"in.txt\"${line}1:53 run ok \"echo b\"$line"
