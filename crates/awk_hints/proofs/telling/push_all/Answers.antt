@@ -1,4 +1,4 @@
-use Rattle.std.proofs.Common.{◌≡◌, ◌∙◌, ◌+◌, ◌++◌, [], ap, map, sym, subst, take, drop, length, arith}
+use Rattle.std.proofs.Common.{◌∙◌, ◌+◌, ◌++◌, [], ap, map, sym, subst, drop, arith}
 use Rattle.std.proofs.lemmas.List.{take_all}
 use Rattle.awk_hints.specs.Hints.{AreTold, Tells, begun, hint_of}
 use Rattle.awk_hints.proofs.TellingLemmas.{next_told}

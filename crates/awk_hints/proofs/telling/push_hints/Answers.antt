@@ -1,6 +1,6 @@
 use Rattle.std.proofs.Common.{refl, arith}
 use Rattle.awk_hints.specs.Hints.{hint_of}
-use Rattle.awk_hints.proofs.Lists.{next_made, all_made}
+use Rattle.awk_hints.proofs.Lists.{all_made}
 use Rattle.awk_hints.proofs.telling.push_hints.Goals as goal
 
 pub loop-kind-init : goal.loop-kind-init
