@@ -1541,7 +1541,6 @@ done <<'END'
 a sign of gawk|BEGIN { @ }|U+0040 is of gawk alone
 a byte order mark|\xef\xbb\xbfBEGIN { }|U+FEFF is a byte order mark: save the script without one
 a byte that is no text|BEGIN { \xff }|the byte 0xFF is no text of UTF-8
-a carriage return|BEGIN { }\r\n|U+000D is a carriage return: end each line with a newline alone
 an open string|BEGIN { print "a|the string that begins here is not closed on its line
 a fraction|BEGIN { x = 1.5 }|numbers are whole: no point and no exponent
 a large number|BEGIN { x = 9223372036854775808 }|a number is at most 9,223,372,036,854,775,807

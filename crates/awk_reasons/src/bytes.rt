@@ -3,11 +3,7 @@ use awk_text::Memory;
 use std::alloc::Global;
 
 /// Characters that scripts have by mistake, and what to write.
-const CHARACTERS: [(char, &str); 16] = [
-    (
-        '\r',
-        "a carriage return: end each line with a newline alone",
-    ),
+const CHARACTERS: [(char, &str); 15] = [
     (
         '\'',
         "a single quote: a string stands between double quotes",

@@ -70,7 +70,9 @@ fn unexpected(alloc: Global, tokens: &[Token], place: Place) -> Result<String, M
 fn of_token(alloc: Global, code: u8, token: &Token) -> Result<String, Memory> {
     let text = shown(token);
     if code == SyntaxError::KIND {
-        return format!(in alloc; "`{text}` is used in two ways, of these: array, variable, function");
+        return format!(in alloc;
+            "`{text}` is used in two ways, of these: array, variable, function"
+        );
     }
     if code == SyntaxError::WORD {
         return format!(in alloc; "`{text}` {}", where_it_stands(text));
