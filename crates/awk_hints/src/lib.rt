@@ -1,7 +1,7 @@
 //! What of an awk script other awks do otherwise, or its writer may not mean: a hint for each, with its place.
 //!
-//! [`hints`] looks at the tokens of a script that is accepted. specs/Hints.antt says which token each hint is caused by,
-//! and which tokens are never passed over.
+//! [`hints`] looks at the tokens of a script that is accepted, and [`script_lines`] tells them in lines.
+//! specs/Hints.antt says which token each hint is caused by, and which tokens are never passed over.
 #![tactic(auto)]
 
 mod around;

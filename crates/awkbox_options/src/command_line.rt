@@ -59,8 +59,8 @@ pub struct Check<'a> {
     pub allows_open: bool,
 }
 
-/// What `awkbox lint` is asked for: what is wrong with this policy, or what of this script other awks do otherwise. One of
-/// the files is there, and at most one is [`STANDARD_INPUT`].
+/// What `awkbox lint` is asked for: what is wrong with this policy, or what of this script other awks do otherwise. One
+/// of the files is there, and at most one is [`STANDARD_INPUT`].
 #[derive(Clone, Copy, Debug, Drop)]
 pub struct Lint<'a> {
     /// The name of the policy's file.
