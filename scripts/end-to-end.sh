@@ -1898,6 +1898,25 @@ deep=$(printf '%04000d' 0 | sed 's/0\{50\}/&\//g')
 } >"$p"
 lints "1,024 rules of 4 KB" "" 0
 
+# large NAME KIND_OF_PATTERN..: lint of 1,024 rules for read, whose patterns begin alike, is silent within seconds
+large() {
+    local name=$1 before=$SECONDS pattern number
+    shift
+    {
+        printf 'version = 1\nbase = "/w"\n'
+        for number in {1..512}; do
+            for pattern in "$@"; do
+                printf '\n[[rule]]\neffect = "allow"\nkind = "read"\nmatch = "%s%s"\n' "${deep%?????????????}" "${pattern/N/$number}"
+            done
+        done
+    } >"$p"
+    awkbox lint --policy "$p"
+    [ $((SECONDS - before)) -le 10 ] && told 0 "" ""
+    verdict "$name"
+}
+large "512 folders of 4 KB, and as many files beside them" 'dN/**' 'eN/a'
+large "the names of 512 folders of 4 KB, and as many files beside them" 'dN/*' 'eN/a'
+
 # What of a script other awks do otherwise, or its writer may not mean.
 
 # hints NAME SCRIPT LINES: whether lint tells this of the script
@@ -2031,6 +2050,9 @@ proposed() {
 }
 # rule_of KIND MATCH: an allow rule as it is proposed
 rule_of() { printf '[[rule]]\neffect = "allow"\nkind = "%s"\nmatch = "%s"\n' "$1" "$2"; }
+# given_of KIND MATCH: the same for an operand; offer_of KIND MATCH: a rule that is offered
+given_of() { printf '%s\nfrom = "given"\n' "$(rule_of "$@")"; }
+offer_of() { rule_of "$@" | sed 's/^/#/'; }
 script 'BEGIN {
     print > "out/a"
     print > "./out//a"
@@ -2049,8 +2071,8 @@ $(rule_of write out/a)
 
 # 4:11 append \"out/b*\": a pattern has no escapes, so that * and ? stand for other bytes
 
-# 5:5
-$(rule_of run 'sort \"-n\"')
+# allow? 5:5
+$(offer_of run 'sort \"-n\"')
 
 # 6:11 run *: only a run can tell the text
 
@@ -2066,11 +2088,21 @@ verdict "a proposal is a policy"
 awkbox check --policy "$work/proposed.toml" -f "$f"
 told 1 "refused
 4:11 append \"out/b*\"
+5:5 run \"sort \\x22-n\\x22\"
 7:13 read \"../in\"$line" ""
-verdict "a proposal allows what a pattern can hold"
+verdict "a proposal allows what a pattern can hold, but for commands"
+sed 's/^#\([^ ]\)/\1/' "$work/proposed.toml" >"$work/taken.toml"
+awkbox check --policy "$work/taken.toml" -f "$f"
+told 1 "refused
+4:11 append \"out/b*\"
+7:13 read \"../in\"$line" ""
+verdict "a command is allowed once the # is taken from its rule"
 proposed "a proposal of a proposal adds comments alone" "$(cat "$work/proposed.toml")
 
 # 4:11 append \"out/b*\": a pattern has no escapes, so that * and ? stand for other bytes
+
+# allow? 5:5
+$(offer_of run 'sort \"-n\"')
 
 # 6:11 run *: only a run can tell the text
 
@@ -2105,24 +2137,24 @@ END
 proposed "a policy for a log" "$(cat "$p")
 
 # line 1 of the log
-$(rule_of read in/a)
+$(given_of read in/a)
 
-# line 3 of the log
-$(rule_of run "printf '\\\\n' \\\"\\n\\u00e4\\\"")
+# allow? line 3 of the log
+$(offer_of run "printf '\\\\n' \\\"\\u000a\\u00e4\\\"")
 
 # line 4 of the log run \"\\xff\": it is not UTF-8
 
-# line 5 of the log
-$(rule_of env HOME)
+# allow? line 5 of the log
+$(offer_of env HOME)
 
 # line 6 of the log env \"A.B\": a name's pattern has letters, digits and _ alone
 
 # line 8 of the log write \"./out/archive/d\": rule 1 denies it$line" 0 "" --policy "$p" --log "$work/log"
 awkbox propose --policy "$p" --log "$work/log"
-cp "$work/output" "$work/proposed.toml"
+sed 's/^#\([^ ]\)/\1/' "$work/output" >"$work/proposed.toml"
 awkbox why --policy "$work/proposed.toml" run "$(printf 'printf '"'"'\\n'"'"' "\nä"')"
 [ "$status" -eq 0 ] && tail -n 1 "$work/output" | grep -q "^allow: rule 4 "
-verdict "a command of a log is allowed"
+verdict "a command of a log is allowed once the # is taken from its rule"
 
 printf 'version = 1\nbase = "/w"\n[[rule]]\neffect = "deny"\nkind = "read"\nmatch = "**"\nfrom = "given"\n' >"$p"
 printf '0:0 read none "a"\n1:1 read none "b"\n' >"$work/log"
@@ -2134,14 +2166,14 @@ proposed "an operand may have been given" "$(cat "$p")
 $(rule_of read b)$line" 0 "" --policy "$p" --log "$work/log"
 
 printf 'version = 1\nbase = "/w"\nrule = [{ effect = "allow", kind = "env", match = "A" }] # in one value\n' >"$p"
-printf '0:0 env none "B"\n' >"$work/log"
+printf '1:1 read none "B"\n' >"$work/log"
 proposed "rules in one value are written anew" "version = 1
 base = \"/w\"
 
 $(rule_of env A)
 
 # line 1 of the log
-$(rule_of env B)$line" 0 "" --policy "$p" --log "$work/log"
+$(rule_of read B)$line" 0 "" --policy "$p" --log "$work/log"
 
 for wrong in 'a' '1:1 read none a' '1:1 read none "a' '1:1 read none "\x61"' '1:1 read none "\x2"' '1:1 reed none "a"' '1:x read none "a"' '1:1 read some "a"' '1:1 read none "a" '; do
     printf '0:0 env none "B"\n%s\n' "$wrong" >"$work/log"
@@ -2155,7 +2187,7 @@ proposed "a base that is none" "" 3 "awkbox: policy P3$line" --base w
 printf 'version = 1\nbase = "/w"\nrules = 1\n' >"$p"
 proposed "a policy that is refused" "" 3 "awkbox: policy P4$line" --policy "$p"
 for number in {1..1025}; do
-    printf '0:0 env none "A%d"\n' "$number"
+    printf '1:1 read none "a%d"\n' "$number"
 done >"$work/log"
 proposed "a proposal of too many rules" "" 3 "awkbox: the policy would have more than 1024 rules$line" --base /w --log "$work/log"
 head -n 1024 "$work/log" >"$work/less"
@@ -2164,6 +2196,94 @@ cp "$work/output" "$work/proposed.toml"
 awkbox lint --policy "$work/proposed.toml"
 [ "$status" -eq 0 ] && [ "$(grep -c '^\[\[rule\]\]$' "$work/proposed.toml")" -eq 1024 ]
 verdict "a proposal of as many rules as a policy may have"
+sed 's/read none "a/env none "A/' "$work/log" >"$work/more"
+awkbox propose --base /w --log "$work/more"
+[ "$status" -eq 0 ] && [ "$(grep -c '^# allow? ' "$work/output")" -eq 1025 ]
+verdict "what is only offered is no rule too many"
+
+cat >"$work/log" <<'END'
+0:0 read none "in/a.csv"
+2:1 read none "in/b.csv"
+0:0 assign none "n"
+2:1 read none "in/a.csv"
+2:1 run none "sort a"
+3:1 run none "sort a"
+0:0 read none "in/b.csv"
+END
+proposed "an operand is allowed as one that was given" "version = 1
+base = \"/w\"
+
+# line 1 of the log
+$(given_of read in/a.csv)
+
+# line 2 of the log
+$(rule_of read in/b.csv)
+
+# line 3 of the log
+$(given_of assign n)
+
+# line 4 of the log
+$(rule_of read in/a.csv)
+
+# allow? line 5 of the log
+$(offer_of run 'sort a')$line" 0 "" --base /w --log "$work/log"
+
+cat >"$work/log" <<'END'
+1:1 read none "in/a.csv"
+1:1 read none "in/b.csv"
+1:1 read none "in/c.csv"
+1:1 write none "in/d.csv"
+1:1 read none "in/d.txt"
+1:1 read none "in/deep/d.csv"
+1:1 read none ".csv"
+1:1 read none "in/d.csv"
+END
+names() {
+    for number in "$@"; do
+        printf '\n# line %d of the log\n' "$number"
+        eval "$(sed -n "${number}s/^1:1 \\([a-z]*\\) none \\(.*\\)\$/rule_of \\1 \\2/p" "$work/log")"
+    done
+}
+proposed "four names of a folder with one ending" "version = 1
+base = \"/w\"
+$(names 1 2 3 4 5 6 7 8)
+
+# allow? this in the place of 4 rules
+$(offer_of read 'in/*.csv')$line" 0 "" --base /w --log "$work/log"
+head -n 7 "$work/log" >"$work/less"
+proposed "three names of a folder with one ending" "version = 1
+base = \"/w\"
+$(names 1 2 3 4 5 6 7)$line" 0 "" --base /w --log "$work/less"
+
+printf '1:1 read none "a\\x09\\x7f\\xf0\\x9f\\x98\\x80\\x5cb"\n' >"$work/log"
+proposed "what is no printable ASCII stands as its number" "version = 1
+base = \"/w\"
+
+# line 1 of the log
+$(rule_of read 'a\u0009\u007f\U0001f600\\b')$line" 0 "" --base /w --log "$work/log"
+
+# within SECONDS NAME STATUS WORD..: whether propose ends so, and in time
+within() {
+    local most=$1 name=$2 wanted=$3 before=$SECONDS
+    shift 3
+    awkbox propose "$@"
+    [ "$status" -eq "$wanted" ] && [ $((SECONDS - before)) -le "$most" ]
+    verdict "$name"
+}
+seq -f '1:1 read none "in/%05.0f"' 44000 >"$work/log"
+within 10 "44,000 lines, and too many rules" 3 --base /w --log "$work/log"
+sed 's/none/1/' "$work/log" >"$work/more"
+printf 'version = 1\nbase = "/w"\n[[rule]]\neffect = "deny"\nkind = "read"\nmatch = "in/**"\n' >"$p"
+within 10 "44,000 lines that a rule denies" 0 --policy "$p" --log "$work/more"
+[ "$(grep -c ': rule 1 denies it$' "$work/output")" -eq 44000 ]
+verdict "each of 44,000 lines is told of"
+for spelling in . ./. ././.; do
+    sed -n "1,1000s|\"in/|\"$spelling/in/|p" "$work/log"
+done >"$work/more"
+sed -n 1,1000p "$work/log" >>"$work/more"
+within 10 "1,000 names in four spellings" 0 --base /w --log "$work/more"
+[ "$(grep -c '^\[\[rule\]\]$' "$work/output")" -eq 1000 ]
+verdict "a name in four spellings has one rule"
 script 'BEGIN { print > }'
 proposed "a proposal for a script that is refused" "" 3 "awkbox: script 1:17 S4$line" --base /w -f "$f"
 

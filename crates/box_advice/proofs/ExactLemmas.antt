@@ -108,12 +108,12 @@ same_by_itself : (symbols : List (Symbol ℕ)) (text subject : List ℕ) → sym
 same_by_itself symbols text subject is fit =
     sym ((bytes_eq-Decides subject text).0 (sym (ap (λ ss. fits ss subject) is ∙ fits-itself text subject) ∙ fit))
 
-same_command : (text subject : List ℕ) → has_no_star text ≡ true → (is_text subject && fits (command_symbols text) subject) ≡ true → text ≡ subject
+pub same_command : (text subject : List ℕ) → has_no_star text ≡ true → (is_text subject && fits (command_symbols text) subject) ≡ true → text ≡ subject
 same_command text subject plain fit =
     same_by_itself (command_symbols text) text subject (command_symbols_itself text plain)
     (and_parts (is_text subject) (fits (command_symbols text) subject) fit).1
 
-same_name : (text subject : List ℕ) → has_no_star text ≡ true → fits (map name_byte text) subject ≡ true → text ≡ subject
+pub same_name : (text subject : List ℕ) → has_no_star text ≡ true → fits (map name_byte text) subject ≡ true → text ≡ subject
 same_name text subject plain fit = same_by_itself (map name_byte text) text subject (name_symbols_itself text plain) fit
 
 -- ---- any kind
@@ -186,6 +186,14 @@ same_fits base Env pattern one other same = ap (pattern_fits base Env pattern) s
 same_fits base Assign pattern one other same = ap (pattern_fits base Assign pattern) same
 
 -- ---- kinds
+
+pub one_number : (kind : Kind) → nat_eq (kind_number kind) (kind_number kind) ≡ true
+one_number Read = refl
+one_number Write = refl
+one_number Append = refl
+one_number Run = refl
+one_number Env = refl
+one_number Assign = refl
 
 -- kinds of one number are one
 pub same_kind : (one other : Kind) → nat_eq (kind_number one) (kind_number other) ≡ true → one ≡ other

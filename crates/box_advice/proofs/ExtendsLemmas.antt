@@ -23,7 +23,7 @@ use Rattle.box_policy.specs.Words.{allowing, denying, effect_named, quota_named}
 use Rattle.box_policy.specs.Written.{WritesRule}
 use Rattle.box_policy.proofs.OutlookLemmas.{allows, never}
 use Rattle.box_advice.specs.Proposals.{Extends, IsAdded, IsKeptOut, IsOwed, IsWished, Starts, with_counts, with_gained}
-use Rattle.box_advice.specs.Wishes.{answer, answer_by, grants_from, speak}
+use Rattle.box_advice.specs.Wishes.{answer, grants_from, is_given, is_offered, speak}
 use Rattle.box_advice.specs.declared.proposing.Basis.{Basis}
 use Rattle.box_advice.specs.declared.proposing.Basis.TheVariants.{Base, Policy}
 use Rattle.box_advice.specs.declared.wishes.Wish.{Wish}
@@ -105,25 +105,25 @@ module _ (looked : Rule → Bool) (sees : SeesLasting looked) (base : List ℕ) 
   allowed : (rule : Rule) → IsGrantOf base wishes rule → rule.effect ≡ AllowIt None
   allowed rule of = ap (λ r. r.effect) of.is
 
-  abbrev IsAsked : Kind → List ℕ → Type 0
-  IsAsked kind subject = (wish : Wish) × Contains wishes wish × IsWished base kind subject wish
+  abbrev IsAsked : Kind → List ℕ → Bool → Type 0
+  IsAsked kind subject given = (wish : Wish) × Contains wishes wish × IsWished base kind subject given wish
 
   -- where one of them decides, a wish asked for it
   grants_say : (n : ℕ) (rules : List Rule) (kind : Kind) (subject : List ℕ) (given : Bool) → AreGrants base wishes rules
-      → (decision_from looked n base rules kind subject given ≡ NoRule) ⊎ Allowing (decision_from looked n base rules kind subject given) (IsAsked kind subject)
+      → (decision_from looked n base rules kind subject given ≡ NoRule) ⊎ Allowing (decision_from looked n base rules kind subject given) (IsAsked kind subject given)
   grants_say n [] kind subject given are = inl refl
   grants_say n (rule ∷ rules) kind subject given are =
-      say_step (looked rule) (speaks base rule kind subject given) rule.effect n (decision_from looked (n + 1) base rules kind subject given) (IsAsked kind subject)
+      say_step (looked rule) (speaks base rule kind subject given) rule.effect n (decision_from looked (n + 1) base rules kind subject given) (IsAsked kind subject given)
       (seen rule are.0) (allowed rule are.0) (λ says. (are.0.wish, are.0.is_one, wished base wishes rule are.0 kind subject given says))
       (grants_say (n + 1) rules kind subject given are.1)
 
   -- where one of them speaks, they allow
-  grants_allow : (n : ℕ) (rules : List Rule) (kind : Kind) (text : List ℕ) → AreGrants base wishes rules → speak base rules kind text ≡ true
-      → Allowing (decision_from looked n base rules kind text false) (Unit {0})
-  grants_allow n [] kind text are some = absurd (true≢false (sym some))
-  grants_allow n (rule ∷ rules) kind text are some =
-      allow_step (looked rule) (speaks base rule kind text false) (speak base rules kind text) rule.effect n (decision_from looked (n + 1) base rules kind text false)
-      (seen rule are.0) (allowed rule are.0) some (grants_allow (n + 1) rules kind text are.1)
+  grants_allow : (n : ℕ) (rules : List Rule) (kind : Kind) (text : List ℕ) (given : Bool) → AreGrants base wishes rules → speak base rules kind text given ≡ true
+      → Allowing (decision_from looked n base rules kind text given) (Unit {0})
+  grants_allow n [] kind text given are some = absurd (true≢false (sym some))
+  grants_allow n (rule ∷ rules) kind text given are some =
+      allow_step (looked rule) (speaks base rule kind text given) (speak base rules kind text given) rule.effect n
+      (decision_from looked (n + 1) base rules kind text given) (seen rule are.0) (allowed rule are.0) some (grants_allow (n + 1) rules kind text given are.1)
 
 -- ---- before any request no rule is used up
 
@@ -216,14 +216,14 @@ module _ (first : Rulebook) (wishes : List Wish) (fresh : are_fresh first.rules 
       ≡ or_later (decision_from looked 1 first.base first.rules kind subject given) (decision_from looked behind first.base gains kind subject given)
   whole looked kind subject given = decision-append looked first.base kind subject given 1 first.rules gains
 
-  lasting_allows : (kind : Kind) (text : List ℕ) → decision first kind text false ≡ NoRule → speak first.base gains kind text ≡ true
-      → Allowing (decision_from is_lasting 1 first.base last.rules kind text false) (Unit {0})
-  lasting_allows kind text none says =
-      let d = grants_allow is_lasting lasting_sees first.base wishes behind gains kind text are_grants says in
+  lasting_allows : (kind : Kind) (text : List ℕ) (given : Bool) → decision first kind text given ≡ NoRule → speak first.base gains kind text given ≡ true
+      → Allowing (decision_from is_lasting 1 first.base last.rules kind text given) (Unit {0})
+  lasting_allows kind text given none says =
+      let d = grants_allow is_lasting lasting_sees first.base wishes behind gains kind text given are_grants says in
       record {
         rule = d.rule;
-        is = whole is_lasting kind text false ∙ (ap (λ e. or_later e (decision_from is_lasting behind first.base gains kind text false))
-            (none_from is_lasting 1 1 first.base first.rules kind text false fresh none) ∙ d.is);
+        is = whole is_lasting kind text given ∙ (ap (λ e. or_later e (decision_from is_lasting behind first.base gains kind text given))
+            (none_from is_lasting 1 1 first.base first.rules kind text given fresh none) ∙ d.is);
         reason = tt;
       }
 
@@ -232,19 +232,12 @@ module _ (first : Rulebook) (wishes : List Wish) (fresh : are_fresh first.rules 
   always_by (Deny m) lasting n h = ap (outlook_by (Deny m)) h
   always_by NoRule lasting n h = ap (outlook_by NoRule) h
 
-  plain_none : (may_be_given : Bool) (plain given : Decision) → cond may_be_given (answer_by plain given) plain ≡ NoRule → plain ≡ NoRule
-  plain_none true (Allow n) given h = cc
-  plain_none true (Deny n) given h = cc
-  plain_none true NoRule given h = refl
-  plain_none false plain given h = h
-
-  owed_allowed : (wish : Wish) (text : List ℕ) → IsOwed first wishes wish text → outlook last wish.kind text false ≡ Always
+  owed_allowed : (wish : Wish) (text : List ℕ) → IsOwed first wishes wish text → outlook last wish.kind text (is_given wish) ≡ Always
   owed_allowed wish text owed =
-      let none : decision first wish.kind text false ≡ NoRule =
-      plain_none wish.may_be_given (decision first wish.kind text false) (decision first wish.kind text true) owed.undecided in
-      let d = lasting_allows wish.kind text none
-      (spoken first [] wishes wish text (in_from wishes wish owed.is_one) owed.known owed.undecided owed.exact) in
-      always_by (decision_from is_any 1 first.base last.rules wish.kind text false) (decision_from is_lasting 1 first.base last.rules wish.kind text false) d.rule d.is
+      let d = lasting_allows wish.kind text (is_given wish) owed.undecided
+      (spoken first [] wishes wish text (in_from wishes wish owed.is_one) owed.known owed.undecided owed.exact owed.asked) in
+      always_by (decision_from is_any 1 first.base last.rules wish.kind text (is_given wish))
+      (decision_from is_lasting 1 first.base last.rules wish.kind text (is_given wish)) d.rule d.is
 
   -- what it decides otherwise
   abbrev Decides : List Rule → Kind → List ℕ → Bool → Type 0
@@ -254,7 +247,7 @@ module _ (first : Rulebook) (wishes : List Wish) (fresh : are_fresh first.rules 
 
   decides_by : (counted : List Rule) (kind : Kind) (subject : List ℕ) (given : Bool) (one later now : Decision) → decision (with_counts first counted) kind subject given ≡ one
       → now ≡ or_later one later → decision (with_gained (with_counts first counted) gains) kind subject given ≡ now
-      → (later ≡ NoRule) ⊎ Allowing later ((wish : Wish) × Contains wishes wish × IsWished first.base kind subject wish)
+      → (later ≡ NoRule) ⊎ Allowing later ((wish : Wish) × Contains wishes wish × IsWished first.base kind subject given wish)
       → Decides counted kind subject given
   decides_by counted kind subject given (Allow n) later now was is of says = inl (of ∙ (is ∙ sym was))
   decides_by counted kind subject given (Deny n) later now was is of says = inl (of ∙ (is ∙ sym was))
@@ -276,37 +269,37 @@ module _ (first : Rulebook) (wishes : List Wish) (fresh : are_fresh first.rules 
       (decision-append is_left first.base kind subject given 1 counted gains) refl
       (grants_say is_left left_sees first.base wishes (1 + length counted) gains kind subject given are_grants)
 
+  -- what it leaves as it was
+  left_by : (counted : List Rule) (kind : Kind) (subject : List ℕ) (given : Bool) → is_offered kind ≡ true → Decides counted kind subject given
+      → decision (with_gained (with_counts first counted) gains) kind subject given ≡ decision (with_counts first counted) kind subject given
+  left_by counted kind subject given offered (inl same) = same
+  left_by counted kind subject given offered (inr added) = absurd (true≢false (sym offered ∙ added.wished.asked))
+
   -- what it never allows
-  answered_allow : (may_be_given : Bool) (plain given : Decision) (n : ℕ) → cond may_be_given (answer_by plain given) plain ≡ Allow n → plain ≡ Allow n
-  answered_allow true (Allow m) given n h = h
-  answered_allow true (Deny m) given n h = cc
-  answered_allow true NoRule (Allow m) n h = cc
-  answered_allow true NoRule (Deny m) n h = cc
-  answered_allow true NoRule NoRule n h = cc
-  answered_allow false plain given n h = h
+  kept_allowed : (kind : Kind) (text : List ℕ) (given : Bool) (n : ℕ) → decision first kind text given ≡ Allow n → allows (decision last kind text given) ≡ true
+  kept_allowed kind text given n h =
+      ap allows (whole is_left kind text given ∙ ap (λ d. or_later d (decision_from is_left behind first.base gains kind text given)) h)
 
-  kept_allowed : (kind : Kind) (text : List ℕ) (n : ℕ) → decision first kind text false ≡ Allow n → allows (decision last kind text false) ≡ true
-  kept_allowed kind text n h =
-      ap allows (whole is_left kind text false ∙ ap (λ d. or_later d (decision_from is_left behind first.base gains kind text false)) h)
-
-  refuses_by : (wish : Wish) (text : List ℕ) (told : Decision) (exact : Bool) → Contains wishes wish → wish.text ≡ Some text
-      → outlook last wish.kind text false ≡ Never → answer first wish.kind text wish.may_be_given ≡ told → is_exact first.base wish.kind text ≡ exact
-      → IsKeptOut first wish text
-  refuses_by wish text (Deny n) exact is_one known is_never told is_so = inl (n, told)
-  refuses_by wish text (Allow n) exact is_one known is_never told is_so =
-      absurd (true≢false (sym (kept_allowed wish.kind text n
-      (answered_allow wish.may_be_given (decision first wish.kind text false) (decision first wish.kind text true) n told)) ∙ never last wish.kind text false is_never))
-  refuses_by wish text NoRule false is_one known is_never told is_so = inr is_so
-  refuses_by wish text NoRule true is_one known is_never told is_so =
-      let is_always : outlook last wish.kind text false ≡ Always = owed_allowed wish text (record { is_one = is_one; known = known; undecided = told; exact = is_so }) in
+  refuses_by : (wish : Wish) (text : List ℕ) (told : Decision) (exact offered : Bool) → Contains wishes wish → wish.text ≡ Some text
+      → outlook last wish.kind text (is_given wish) ≡ Never → answer first wish text ≡ told → is_exact first.base wish.kind text ≡ exact
+      → is_offered wish.kind ≡ offered → IsKeptOut first wish text
+  refuses_by wish text (Deny n) exact offered is_one known is_never told is_so asked = inl (n, told)
+  refuses_by wish text (Allow n) exact offered is_one known is_never told is_so asked =
+      absurd (true≢false (sym (kept_allowed wish.kind text (is_given wish) n told) ∙ never last wish.kind text (is_given wish) is_never))
+  refuses_by wish text NoRule false offered is_one known is_never told is_so asked = inr (inl is_so)
+  refuses_by wish text NoRule true true is_one known is_never told is_so asked = inr (inr asked)
+  refuses_by wish text NoRule true false is_one known is_never told is_so asked =
+      let is_always : outlook last wish.kind text (is_given wish) ≡ Always =
+      owed_allowed wish text (record { is_one = is_one; known = known; undecided = told; exact = is_so; asked = asked }) in
       cc
 
   pub extends : Extends first gains wishes
   extends = record {
     allows = owed_allowed;
     decides = λ counted same. decides counted;
-    refuses = λ wish text is_one known is_never. refuses_by wish text (answer first wish.kind text wish.may_be_given) (is_exact first.base wish.kind text)
-        is_one known is_never refl refl;
+    leaves = λ counted same kind subject given offered. left_by counted kind subject given offered (decides counted kind subject given);
+    refuses = λ wish text is_one known is_never. refuses_by wish text (answer first wish text) (is_exact first.base wish.kind text) (is_offered wish.kind)
+        is_one known is_never refl refl refl;
   }
 
 pub extended : (start : Basis) (first : Rulebook) (wishes : List Wish) → Starts start first → Extends first (grants_from first [] wishes) wishes

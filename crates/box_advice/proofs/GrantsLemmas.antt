@@ -1,9 +1,9 @@
 -- The rules that a policy gains are exact ones of the wishes, and each wish that is owed one has one that speaks of it.
-use Rattle.std.proofs.Common.{◌≡◌, ◌∙◌, ℕ, zero, suc, ◌+◌, ◌<◌, ◌≤◌, Bool, true, false, ◌&&◌, ◌||◌, List, [], ◌∷◌, ◌++◌, length, length-append, get_or, drop, Option, Some, None, inl, inr, sym, ap, refl, subst, arith}
+use Rattle.std.proofs.Common.{◌≡◌, ◌∙◌, ℕ, zero, suc, ◌+◌, ◌<◌, ◌≤◌, Bool, true, false, not, ◌&&◌, ◌||◌, List, [], ◌∷◌, ◌++◌, length, length-append, get_or, drop, Option, Some, None, inl, inr, sym, ap, refl, subst, arith}
 use Rattle.std.proofs.lemmas.List.{drop_all}
-use Rattle.std.specs.Prelude.{◌⊎◌, Contains, nat_eq, nat_le, slice_index_or}
-use Rattle.std.proofs.lemmas.Bool.{true≢false, and_parts, and_from}
-use Rattle.std.proofs.lemmas.List.Folds.{list_any-append, list_all-append}
+use Rattle.std.specs.Prelude.{◌⊎◌, Contains, IfSome, nat_eq, nat_le, slice_index_or}
+use Rattle.std.proofs.lemmas.Bool.{true≢false, and_parts, and_from, leb-true}
+use Rattle.std.proofs.lemmas.List.Folds.{list_any-append}
 use Rattle.box_policy.specs.declared.policy.Decision.{Decision}
 use Rattle.box_policy.specs.declared.policy.Decision.TheVariants.{Allow, Deny, NoRule}
 use Rattle.box_policy.specs.declared.policy.Kind.{Kind}
@@ -13,12 +13,13 @@ use Rattle.box_policy.specs.Decisions.{kind_number, speaks}
 use Rattle.box_policy.specs.Exact.{is_exact}
 use Rattle.box_policy.specs.Fits.{pattern_fits}
 use Rattle.box_policy.specs.Rulebook.{Rulebook}
-use Rattle.box_policy.specs.Short.{are_short}
 use Rattle.box_advice.specs.Proposals.{IsWished}
-use Rattle.box_advice.specs.Wishes.{answer, fate_at, fate_by, gained, gained_by, grant, grants_from, speak, IsGained}
+use Rattle.box_advice.specs.Wishes.{answer, fate_at, fate_by, fate_of, gained, gained_by, grant, grants_from, is_given, is_offered, speak, IsGained}
+use Rattle.box_advice.specs.declared.wanting.Fate.{Fate}
+use Rattle.box_advice.specs.declared.wanting.Fate.TheVariants.{Unknown, Gains}
 use Rattle.box_advice.specs.declared.wishes.Wish.{Wish}
 use Rattle.box_advice.proofs.CoversLemmas.{speaks_parts}
-use Rattle.box_advice.proofs.ExactLemmas.{exact_alone, exact_fits, same_kind}
+use Rattle.box_advice.proofs.ExactLemmas.{exact_alone, exact_fits, one_number, same_kind}
 
 -- ---- a wish among the wishes
 
@@ -44,19 +45,15 @@ contains_from (x ∷ xs) wish (inr more) = contains_next x xs wish (contains_fro
 
 -- ---- an exact rule
 
-one_number : (kind : Kind) → nat_eq (kind_number kind) (kind_number kind) ≡ true
-one_number Read = refl
-one_number Write = refl
-one_number Append = refl
-one_number Run = refl
-one_number Env = refl
-one_number Assign = refl
-
 -- it speaks of its own text
-pub grant_speaks : (base : List ℕ) (kind : Kind) (text : List ℕ) → is_exact base kind text ≡ true → speaks base (grant kind text) kind text false ≡ true
-grant_speaks base kind text exact =
-    and_from (nat_eq (kind_number kind) (kind_number kind) && true) (pattern_fits base kind text text)
-    (and_from (nat_eq (kind_number kind) (kind_number kind)) true (one_number kind) refl) (exact_fits base kind text exact)
+own_source : (given : Bool) → (given || not given) ≡ true
+own_source true = refl
+own_source false = refl
+
+pub grant_speaks : (base : List ℕ) (kind : Kind) (text : List ℕ) (given : Bool) → is_exact base kind text ≡ true → speaks base (grant kind text given) kind text given ≡ true
+grant_speaks base kind text given exact =
+    and_from (nat_eq (kind_number kind) (kind_number kind) && (given || not given)) (pattern_fits base kind text text)
+    (and_from (nat_eq (kind_number kind) (kind_number kind)) (given || not given) (one_number kind) (own_source given)) (exact_fits base kind text exact)
 
 -- the rule is the exact one of a wish
 pub record IsGrantOf (base : List ℕ) (wishes : List Wish) (rule : Rule) : Type 0 where
@@ -65,15 +62,23 @@ pub record IsGrantOf (base : List ℕ) (wishes : List Wish) (rule : Rule) : Type
   pub is_one : Contains wishes wish
   pub known : wish.text ≡ Some text
   pub exact : is_exact base wish.kind text ≡ true
-  pub is : rule ≡ grant wish.kind text
+  pub asked : is_offered wish.kind ≡ false
+  pub is : rule ≡ grant wish.kind text (is_given wish)
+
+source_of : (given only : Bool) → (given || not only) ≡ true → only ≡ true → given ≡ true
+source_of true only h is = refl
+source_of false true h is = absurd (true≢false (sym h))
+source_of false false h is = absurd (true≢false (sym is))
 
 wished_by : (base : List ℕ) (wish : Wish) (text : List ℕ) (kind : Kind) (subject : List ℕ) (given : Bool) → wish.text ≡ Some text → is_exact base wish.kind text ≡ true
-    → speaks base (grant wish.kind text) kind subject given ≡ true → IsWished base kind subject wish
-wished_by base wish text kind subject given known exact spoken =
-    let p = speaks_parts (nat_eq (kind_number wish.kind) (kind_number kind)) (given || true) (pattern_fits base kind text subject) spoken in
+    → is_offered wish.kind ≡ false → speaks base (grant wish.kind text (is_given wish)) kind subject given ≡ true → IsWished base kind subject given wish
+wished_by base wish text kind subject given known exact asked spoken =
+    let p = speaks_parts (nat_eq (kind_number wish.kind) (kind_number kind)) (given || not (is_given wish)) (pattern_fits base kind text subject) spoken in
     let same : wish.kind ≡ kind = same_kind wish.kind kind p.0 in
     record {
       of_kind = same;
+      asked = ap is_offered (sym same) ∙ asked;
+      as_given = source_of given (is_given wish) p.1.0;
       text = text;
       known = known;
       same = exact_alone base kind text subject (ap (λ k. is_exact base k text) (sym same) ∙ exact) p.1.1;
@@ -81,9 +86,9 @@ wished_by base wish text kind subject given known exact spoken =
 
 -- what it speaks of was wished
 pub wished : (base : List ℕ) (wishes : List Wish) (rule : Rule) (of : IsGrantOf base wishes rule) (kind : Kind) (subject : List ℕ) (given : Bool)
-    → speaks base rule kind subject given ≡ true → IsWished base kind subject of.wish
+    → speaks base rule kind subject given ≡ true → IsWished base kind subject given of.wish
 wished base wishes rule of kind subject given spoken =
-    wished_by base of.wish of.text kind subject given of.known of.exact (ap (λ r. speaks base r kind subject given) (sym of.is) ∙ spoken)
+    wished_by base of.wish of.text kind subject given of.known of.exact of.asked (ap (λ r. speaks base r kind subject given) (sym of.is) ∙ spoken)
 
 -- ---- the rules that are gained
 
@@ -95,21 +100,28 @@ AreGrants-append : (base : List ℕ) (wishes : List Wish) (xs ys : List Rule) �
 AreGrants-append base wishes [] ys h k = k
 AreGrants-append base wishes (x ∷ xs) ys h k = (h.0, AreGrants-append base wishes xs ys h.1 k)
 
-gained_by_fate : (base : List ℕ) (wishes : List Wish) (kind : Kind) (text : List ℕ) (decided : Decision) (exact met : Bool)
-    → (exact ≡ true → IsGrantOf base wishes (grant kind text)) → AreGrants base wishes (gained_by (fate_by decided exact met) kind (Some text))
-gained_by_fate base wishes kind text (Allow n) exact met one = tt
-gained_by_fate base wishes kind text (Deny n) exact met one = tt
-gained_by_fate base wishes kind text NoRule false met one = tt
-gained_by_fate base wishes kind text NoRule true true one = tt
-gained_by_fate base wishes kind text NoRule true false one = (one refl, tt)
+gained_by_fate : (base : List ℕ) (wishes : List Wish) (wish : Wish) (text : List ℕ) (decided : Decision) (exact offered met : Bool)
+    → (exact ≡ true → offered ≡ false → IsGrantOf base wishes (grant wish.kind text (is_given wish)))
+    → AreGrants base wishes (gained_by (fate_by decided exact offered met) wish (Some text))
+unfolding fate_by gained_by
+gained_by_fate base wishes wish text (Allow n) exact offered met one = tt
+gained_by_fate base wishes wish text (Deny n) exact offered met one = tt
+gained_by_fate base wishes wish text NoRule false offered met one = tt
+gained_by_fate base wishes wish text NoRule true true met one = tt
+gained_by_fate base wishes wish text NoRule true false true one = tt
+gained_by_fate base wishes wish text NoRule true false false one = (one refl refl, tt)
+
+gained_none : (base : List ℕ) (wishes : List Wish) (wish : Wish) → AreGrants base wishes (gained_by Unknown wish None)
+unfolding gained_by
+gained_none base wishes wish = tt
 
 gained_at : (first : Rulebook) (rules : List Rule) (wishes : List Wish) (wish : Wish) (text : Option (List ℕ)) → Contains wishes wish → wish.text ≡ text
-    → AreGrants first.base wishes (gained_by (fate_at first rules wish.kind text wish.may_be_given) wish.kind text)
-gained_at first rules wishes wish None is_one known = tt
+    → AreGrants first.base wishes (gained_by (fate_at first rules wish text) wish text)
+gained_at first rules wishes wish None is_one known = gained_none first.base wishes wish
 gained_at first rules wishes wish (Some text) is_one known =
-    gained_by_fate first.base wishes wish.kind text (answer first wish.kind text wish.may_be_given) (is_exact first.base wish.kind text)
-    (speak first.base rules wish.kind text)
-    (λ exact. record { wish = wish; text = text; is_one = is_one; known = known; exact = exact; is = refl })
+    gained_by_fate first.base wishes wish text (answer first wish text) (is_exact first.base wish.kind text) (is_offered wish.kind)
+    (speak first.base rules wish.kind text (is_given wish))
+    (λ exact asked. record { wish = wish; text = text; is_one = is_one; known = known; exact = exact; asked = asked; is = refl })
 
 pub grants : (first : Rulebook) (all : List Wish) (rules : List Rule) (wishes : List Wish) → ((wish : Wish) → In wishes wish → In all wish)
     → AreGrants first.base all rules → AreGrants first.base all (grants_from first rules wishes)
@@ -129,67 +141,72 @@ or_right : (a b : Bool) → b ≡ true → (a || b) ≡ true
 or_right true b h = refl
 or_right false b h = h
 
-speak-more : (base : List ℕ) (xs ys : List Rule) (kind : Kind) (text : List ℕ) → speak base xs kind text ≡ true → speak base (xs ++ ys) kind text ≡ true
-speak-more base xs ys kind text h =
-    list_any-append (λ rule. speaks base rule kind text false) xs ys ∙ or_left (speak base xs kind text) (speak base ys kind text) h
+speak-more : (base : List ℕ) (xs ys : List Rule) (kind : Kind) (text : List ℕ) (given : Bool) → speak base xs kind text given ≡ true
+    → speak base (xs ++ ys) kind text given ≡ true
+speak-more base xs ys kind text given h =
+    list_any-append (λ rule. speaks base rule kind text given) xs ys ∙ or_left (speak base xs kind text given) (speak base ys kind text given) h
 
-speak-new : (base : List ℕ) (xs ys : List Rule) (kind : Kind) (text : List ℕ) → speak base ys kind text ≡ true → speak base (xs ++ ys) kind text ≡ true
-speak-new base xs ys kind text h =
-    list_any-append (λ rule. speaks base rule kind text false) xs ys ∙ or_right (speak base xs kind text) (speak base ys kind text) h
+speak-new : (base : List ℕ) (xs ys : List Rule) (kind : Kind) (text : List ℕ) (given : Bool) → speak base ys kind text given ≡ true
+    → speak base (xs ++ ys) kind text given ≡ true
+speak-new base xs ys kind text given h =
+    list_any-append (λ rule. speaks base rule kind text given) xs ys ∙ or_right (speak base xs kind text given) (speak base ys kind text given) h
 
-stays : (first : Rulebook) (rules : List Rule) (wishes : List Wish) (kind : Kind) (text : List ℕ) → speak first.base rules kind text ≡ true
-    → speak first.base (grants_from first rules wishes) kind text ≡ true
-stays first rules [] kind text h = h
-stays first rules (wish ∷ wishes) kind text h =
-    stays first (rules ++ gained first rules wish) wishes kind text (speak-more first.base rules (gained first rules wish) kind text h)
+stays : (first : Rulebook) (rules : List Rule) (wishes : List Wish) (kind : Kind) (text : List ℕ) (given : Bool) → speak first.base rules kind text given ≡ true
+    → speak first.base (grants_from first rules wishes) kind text given ≡ true
+stays first rules [] kind text given h = h
+stays first rules (wish ∷ wishes) kind text given h =
+    stays first (rules ++ gained first rules wish) wishes kind text given (speak-more first.base rules (gained first rules wish) kind text given h)
 
-spoken_by_fate : (base : List ℕ) (rules : List Rule) (kind : Kind) (text : List ℕ) (decided : Decision) (exact met : Bool) → decided ≡ NoRule → exact ≡ true
-    → is_exact base kind text ≡ true → speak base rules kind text ≡ met → speak base (rules ++ gained_by (fate_by decided exact met) kind (Some text)) kind text ≡ true
-spoken_by_fate base rules kind text (Allow n) exact met undecided is_so of spoken = cc
-spoken_by_fate base rules kind text (Deny n) exact met undecided is_so of spoken = cc
-spoken_by_fate base rules kind text NoRule false met undecided is_so of spoken = absurd (true≢false (sym is_so))
-spoken_by_fate base rules kind text NoRule true true undecided is_so of spoken = speak-more base rules [] kind text spoken
-spoken_by_fate base rules kind text NoRule true false undecided is_so of spoken =
-    speak-new base rules (grant kind text ∷ []) kind text (or_left (speaks base (grant kind text) kind text false) false (grant_speaks base kind text of))
+spoken_by_fate : (base : List ℕ) (rules : List Rule) (wish : Wish) (text : List ℕ) (decided : Decision) (exact offered met : Bool) → decided ≡ NoRule → exact ≡ true
+    → offered ≡ false → is_exact base wish.kind text ≡ true → speak base rules wish.kind text (is_given wish) ≡ met
+    → speak base (rules ++ gained_by (fate_by decided exact offered met) wish (Some text)) wish.kind text (is_given wish) ≡ true
+unfolding fate_by gained_by
+spoken_by_fate base rules wish text (Allow n) exact offered met undecided is_so asked of spoken = cc
+spoken_by_fate base rules wish text (Deny n) exact offered met undecided is_so asked of spoken = cc
+spoken_by_fate base rules wish text NoRule false offered met undecided is_so asked of spoken = absurd (true≢false (sym is_so))
+spoken_by_fate base rules wish text NoRule true true met undecided is_so asked of spoken = absurd (true≢false asked)
+spoken_by_fate base rules wish text NoRule true false true undecided is_so asked of spoken = speak-more base rules [] wish.kind text (is_given wish) spoken
+spoken_by_fate base rules wish text NoRule true false false undecided is_so asked of spoken =
+    speak-new base rules (grant wish.kind text (is_given wish) ∷ []) wish.kind text (is_given wish)
+    (or_left (speaks base (grant wish.kind text (is_given wish)) wish.kind text (is_given wish)) false (grant_speaks base wish.kind text (is_given wish) of))
 
 spoken_at : (first : Rulebook) (rules : List Rule) (wish : Wish) (text : List ℕ) (known : Option (List ℕ)) → known ≡ Some text
-    → answer first wish.kind text wish.may_be_given ≡ NoRule → is_exact first.base wish.kind text ≡ true
-    → speak first.base (rules ++ gained_by (fate_at first rules wish.kind known wish.may_be_given) wish.kind known) wish.kind text ≡ true
-spoken_at first rules wish text known is undecided exact =
-    subst (λ (t : Option (List ℕ)). speak first.base (rules ++ gained_by (fate_at first rules wish.kind t wish.may_be_given) wish.kind t) wish.kind text ≡ true) (sym is)
-    (spoken_by_fate first.base rules wish.kind text (answer first wish.kind text wish.may_be_given) (is_exact first.base wish.kind text)
-    (speak first.base rules wish.kind text) undecided exact exact refl)
+    → answer first wish text ≡ NoRule → is_exact first.base wish.kind text ≡ true → is_offered wish.kind ≡ false
+    → speak first.base (rules ++ gained_by (fate_at first rules wish known) wish known) wish.kind text (is_given wish) ≡ true
+spoken_at first rules wish text known is undecided exact asked =
+    subst (λ (t : Option (List ℕ)). speak first.base (rules ++ gained_by (fate_at first rules wish t) wish t) wish.kind text (is_given wish) ≡ true) (sym is)
+    (spoken_by_fate first.base rules wish text (answer first wish text) (is_exact first.base wish.kind text) (is_offered wish.kind)
+    (speak first.base rules wish.kind text (is_given wish)) undecided exact asked exact refl)
 
 pub spoken : (first : Rulebook) (rules : List Rule) (wishes : List Wish) (wish : Wish) (text : List ℕ) → In wishes wish → wish.text ≡ Some text
-    → answer first wish.kind text wish.may_be_given ≡ NoRule → is_exact first.base wish.kind text ≡ true
-    → speak first.base (grants_from first rules wishes) wish.kind text ≡ true
-spoken first rules [] wish text h known undecided exact = absurd h
-spoken first rules (x ∷ xs) wish text (inl is) known undecided exact =
-    stays first (rules ++ gained first rules x) xs wish.kind text
-    (subst (λ (y : Wish). speak first.base (rules ++ gained first rules y) wish.kind text ≡ true) (sym is) (spoken_at first rules wish text wish.text known undecided exact))
-spoken first rules (x ∷ xs) wish text (inr more) known undecided exact = spoken first (rules ++ gained first rules x) xs wish text more known undecided exact
+    → answer first wish text ≡ NoRule → is_exact first.base wish.kind text ≡ true → is_offered wish.kind ≡ false
+    → speak first.base (grants_from first rules wishes) wish.kind text (is_given wish) ≡ true
+spoken first rules [] wish text h known undecided exact asked = absurd h
+spoken first rules (x ∷ xs) wish text (inl is) known undecided exact asked =
+    stays first (rules ++ gained first rules x) xs wish.kind text (is_given wish)
+    (subst (λ (y : Wish). speak first.base (rules ++ gained first rules y) wish.kind text (is_given wish) ≡ true) (sym is)
+    (spoken_at first rules wish text wish.text known undecided exact asked))
+spoken first rules (x ∷ xs) wish text (inr more) known undecided exact asked =
+    spoken first (rules ++ gained first rules x) xs wish text more known undecided exact asked
 
--- ---- patterns stay short
+-- what gains a rule may be the pattern of one
+gains_by : (decided : Decision) (exact offered met : Bool) → fate_by decided exact offered met ≡ Gains → exact ≡ true
+unfolding fate_by
+gains_by (Allow n) exact offered met h = cc
+gains_by (Deny n) exact offered met h = cc
+gains_by NoRule false offered met h = cc
+gains_by NoRule true offered met h = refl
 
-short_by_fate : (kind : Kind) (text : List ℕ) (decided : Decision) (exact met : Bool) → (exact ≡ true → nat_le (length text) 4096 ≡ true)
-    → are_short (gained_by (fate_by decided exact met) kind (Some text)) ≡ true
-short_by_fate kind text (Allow n) exact met short = refl
-short_by_fate kind text (Deny n) exact met short = refl
-short_by_fate kind text NoRule false met short = refl
-short_by_fate kind text NoRule true true short = refl
-short_by_fate kind text NoRule true false short = and_from (nat_le (length text) 4096) true (short refl) refl
+gains_short_at : (first : Rulebook) (rules : List Rule) (wish : Wish) (text : Option (List ℕ)) → fate_at first rules wish text ≡ Gains → IfSome text (λ t. length t ≤ 4096)
+gains_short_at first rules wish None h = tt
+gains_short_at first rules wish (Some text) h =
+    leb-true (length text) 4096
+    (and_parts (nat_le (length text) 4096) _
+    (gains_by (answer first wish text) (is_exact first.base wish.kind text) (is_offered wish.kind) (speak first.base rules wish.kind text (is_given wish)) h)).0
 
-short_at : (first : Rulebook) (rules : List Rule) (kind : Kind) (text : Option (List ℕ)) (may_be_given : Bool)
-    → are_short (gained_by (fate_at first rules kind text may_be_given) kind text) ≡ true
-short_at first rules kind None may_be_given = refl
-short_at first rules kind (Some text) may_be_given =
-    short_by_fate kind text (answer first kind text may_be_given) (is_exact first.base kind text) (speak first.base rules kind text)
-    (λ exact. (and_parts (nat_le (length text) 4096) _ exact).0)
-
-pub short_gained : (first : Rulebook) (rules : List Rule) (wish : Wish) → are_short rules ≡ true → are_short (rules ++ gained first rules wish) ≡ true
-short_gained first rules wish short =
-    list_all-append (λ rule. nat_le (length rule.pattern) 4096) rules (gained first rules wish)
-    ∙ and_from (are_short rules) (are_short (gained first rules wish)) short (short_at first rules wish.kind wish.text wish.may_be_given)
+pub gains_short : (first : Rulebook) (rules : List Rule) (wish : Wish) (fate : Fate) → fate ≡ fate_of first rules wish → fate ≡ Gains
+    → IfSome wish.text (λ t. length t ≤ 4096)
+gains_short first rules wish fate is gains = gains_short_at first rules wish wish.text (sym is ∙ gains)
 
 -- ---- rules become more
 

@@ -5,3 +5,4 @@ pub mod GrantsLemmas
 pub mod ExtendsLemmas
 pub mod ProposingLemmas
 pub mod UnreachedLemmas
+pub mod HeadsLemmas

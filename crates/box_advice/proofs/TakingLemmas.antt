@@ -31,10 +31,10 @@ itself_takes s = (λ x h. h, λ h. h)
 all_takes : {A : Type 0} (other : Symbol A) → Takes other (symbol true (λ _. true))
 all_takes other = (λ x h. refl, λ h. absurd (true≢false h))
 
-before_none : {A : Type 0} (s : Symbol A) (ss : List (Symbol A)) → fits (s ∷ ss) [] ≡ true → (s.is_run ≡ true) × (fits ss [] ≡ true)
+pub before_none : {A : Type 0} (s : Symbol A) (ss : List (Symbol A)) → fits (s ∷ ss) [] ≡ true → (s.is_run ≡ true) × (fits ss [] ≡ true)
 before_none s ss h = and_parts s.is_run (fits ss []) (sym (fits-none s.is_run s.test ss) ∙ h)
 
-before_more : {A : Type 0} (s : Symbol A) (ss : List (Symbol A)) (x : A) (xs : List A) → fits (s ∷ ss) (x ∷ xs) ≡ true
+pub before_more : {A : Type 0} (s : Symbol A) (ss : List (Symbol A)) (x : A) (xs : List A) → fits (s ∷ ss) (x ∷ xs) ≡ true
     → ((s.is_run ≡ true) × (fits ss (x ∷ xs) ≡ true)) ⊎ ((s.test x ≡ true) × (fits (cond s.is_run (s ∷ ss) ss) xs ≡ true))
 before_more s ss x xs h =
     elim (or_cases (s.is_run && fits ss (x ∷ xs)) (s.test x && fits (cond s.is_run (s ∷ ss) ss) xs) (sym (fits-more s.is_run s.test ss x xs) ∙ h)) [

@@ -1,24 +1,20 @@
 -- Rules that no request reaches are found one by one.
-use Rattle.std.proofs.Common.{◌≡◌, ◌∙◌, ℕ, zero, suc, add-one, ◌+◌, ◌-◌, ◌<◌, ◌≤◌, Bool, true, false, not, ◌&&◌, ◌||◌, cond, List, [], ◌∷◌, ◌++◌, length, min, get_or, take, drop, Option, Some, None, sym, ap, refl, subst, arith}
-use Rattle.std.specs.Prelude.{slice_get, nat_le}
+use Rattle.std.proofs.Common.{◌≡◌, ◌∙◌, ℕ, zero, suc, add-one, ◌+◌, ◌-◌, ◌<◌, ◌≤◌, Bool, true, false, not, ◌&&◌, ◌||◌, cond, List, [], ◌∷◌, ◌++◌, length, min, get_or, take, drop, Option, Some, None, inl, inr, sym, ap, refl, subst, arith}
+use Rattle.std.specs.Prelude.{◌⊎◌, slice_get, nat_le}
 use Rattle.std.proofs.lemmas.Bool.{true≢false, and_parts, and_from, not-true}
 use Rattle.std.proofs.lemmas.List.{drop_all, get_or-take, length-take}
 use Rattle.std.proofs.lemmas.Option.{get_or_from_slice_get, slice_get_read, slice_get_within}
-use Rattle.box_policy.specs.declared.policy.Decision.{Decision}
-use Rattle.box_policy.specs.declared.policy.Effect.{Effect}
-use Rattle.box_policy.specs.declared.policy.Effect.TheVariants.{Allow as AllowIt, Deny as DenyIt}
-use Rattle.box_policy.specs.declared.policy.Kind.{Kind}
 use Rattle.box_policy.specs.declared.policy.Rule.{Rule}
-use Rattle.box_policy.specs.Counts.{is_limited, is_used_up_by, is_limited_by}
-use Rattle.box_policy.specs.Decisions.{decided, decision, decision_from, is_left, speaks}
-use Rattle.box_policy.specs.Exact.{is_exact}
 use Rattle.box_policy.specs.Rulebook.{Rulebook}
 use Rattle.box_policy.specs.Shelves.{first_of}
 use Rattle.box_policy.specs.Short.{are_short}
-use Rattle.box_advice.specs.Covers.{covers, is_same, speaks_of, takes_over}
-use Rattle.box_advice.specs.Unreached.{AreUnreached, first_covering, number_in, unreached_at, unreached_by, unreached_in}
+use Rattle.box_advice.specs.Covers.{covers}
+use Rattle.box_advice.specs.Heads.{AreHeads, IsHeadOf, pieces}
+use Rattle.box_advice.specs.Unreached.{AreUnreached, first_covering, unreached_at, unreached_by, unreached_in}
+use Rattle.box_advice.specs.declared.heads.Head.{Head}
 use Rattle.box_advice.specs.declared.unreached.Unreached.{Unreached}
 use Rattle.box_advice.proofs.CoversLemmas.{sound}
+use Rattle.box_advice.proofs.HeadsLemmas.{get_push}
 
 drop_suc : {A : Type 0} (xs : List A) (i : ℕ) (d : A) → i < length xs → d ≡ get_or xs i d → drop i xs ≡ d ∷ drop (suc i) xs
 drop_suc [] i d h e = absurd (omega arith)
@@ -66,91 +62,6 @@ module _ (test : Rule → Bool) where
   pub ended : (n i : ℕ) (rules : List Rule) (whole : Option ℕ) → length rules ≤ i → first_of test n (drop i rules) ≡ whole → None ≡ whole
   ended n i rules whole past so_far = sym (ap (first_of test n) (drop_all i rules past)) ∙ so_far
 
--- ---- a test that is met only where another one is
-
-module _ (more test : Rule → Bool) (weaker : (rule : Rule) → test rule ≡ true → more rule ≡ true) where
-  differs : (rule : Rule) → more rule ≡ false → test rule ≡ false
-  differs rule h = by (test rule) refl
-    where
-      by : (b : Bool) → test rule ≡ b → test rule ≡ false
-      by true is = absurd (true≢false (sym (weaker rule is) ∙ h))
-      by false is = is
-
-  none_by : (rule : Rule) (rules : List Rule) (n count : ℕ) (b : Bool) → more rule ≡ b → cond b (Some n) (first_of more (n + 1) rules) ≡ None
-      → (first_of more (n + 1) rules ≡ None → first_of test (n + 1) (take count rules) ≡ None) → first_of test n (rule ∷ take count rules) ≡ None
-  none_by rule rules n count true is h after = absurd (some_none h)
-  none_by rule rules n count false is h after = ap (λ b. cond b (Some n) (first_of test (n + 1) (take count rules))) (differs rule is) ∙ after h
-
-  pub none_before : (rules : List Rule) (n count : ℕ) → first_of more n rules ≡ None → first_of test n (take count rules) ≡ None
-  none_before [] n zero h = refl
-  none_before [] n (suc count) h = refl
-  none_before (rule ∷ rules) n zero h = refl
-  none_before (rule ∷ rules) n (suc count) h = none_by rule rules n count (more rule) refl h (none_before rules (n + 1) count)
-
-  until_by : (rule : Rule) (rules : List Rule) (n count m : ℕ) (b : Bool) → more rule ≡ b → cond b (Some n) (first_of more (n + 1) rules) ≡ Some m → n + suc count ≤ m
-      → (first_of more (n + 1) rules ≡ Some m → (n + 1) + count ≤ m → first_of test (n + 1) (take count rules) ≡ None) → first_of test n (rule ∷ take count rules) ≡ None
-  until_by rule rules n count m true is h past after = let same : n ≡ m = some_is n m h in absurd (omega (arith, same, past))
-  until_by rule rules n count m false is h past after =
-      ap (λ b. cond b (Some n) (first_of test (n + 1) (take count rules))) (differs rule is) ∙ after h (omega (arith, past))
-
-  pub none_until : (rules : List Rule) (n count m : ℕ) → first_of more n rules ≡ Some m → n + count ≤ m → first_of test n (take count rules) ≡ None
-  none_until [] n zero m h past = refl
-  none_until [] n (suc count) m h past = refl
-  none_until (rule ∷ rules) n zero m h past = refl
-  none_until (rule ∷ rules) n (suc count) m h past = until_by rule rules n count m (more rule) refl h past (none_until rules (n + 1) count m)
-
-  met_by : (rule : Rule) (rules : List Rule) (n count i : ℕ) (b : Bool) → more rule ≡ b → cond b (Some n) (first_of more (n + 1) rules) ≡ Some (n + suc i)
-      → (first_of more (n + 1) rules ≡ Some ((n + 1) + i) → first_of test (n + 1) (take count rules) ≡ Some ((n + 1) + i))
-      → first_of test n (rule ∷ take count rules) ≡ Some (n + suc i)
-  met_by rule rules n count i true is h after = let same : n ≡ n + suc i = some_is n (n + suc i) h in absurd (omega (arith, same))
-  met_by rule rules n count i false is h after =
-      let next : n + suc i ≡ (n + 1) + i = omega arith in
-      ap (λ b. cond b (Some n) (first_of test (n + 1) (take count rules))) (differs rule is) ∙ (after (h ∙ ap Some next) ∙ ap Some (sym next))
-
-  pub first_met : (rules : List Rule) (n count i : ℕ) (rule : Rule) → first_of more n rules ≡ Some (n + i) → i < count → i < length rules → rule ≡ get_or rules i rule
-      → test rule ≡ true → first_of test n (take count rules) ≡ Some (n + i)
-  first_met [] n count i rule h below inside is passes = absurd (omega (arith, inside))
-  first_met (r ∷ rules) n zero i rule h below inside is passes = absurd (omega (arith, below))
-  first_met (r ∷ rules) n (suc count) zero rule h below inside is passes =
-      let same : n ≡ n + 0 = omega arith in
-      ap (λ b. cond b (Some n) (first_of test (n + 1) (take count rules))) (ap test (sym is) ∙ passes) ∙ ap Some same
-  first_met (r ∷ rules) n (suc count) (suc i) rule h below inside is passes =
-      met_by r rules n count i (more r) refl h
-      (λ k. first_met rules (n + 1) count i rule k (omega (arith, below)) (omega (arith, inside)) is passes)
-
--- ---- a rule that fits one text alone
-
-decided_number : (effect : Effect) (n : ℕ) → number_in (decided effect n) ≡ Some n
-decided_number (AllowIt quota) n = refl
-decided_number DenyIt n = refl
-
-number_by : (base : List ℕ) (rule : Rule) (n : ℕ) (b : Bool) (later : Decision) (more : Option ℕ) → number_in later ≡ more
-    → number_in (cond b (decided rule.effect n) later) ≡ cond b (Some n) more
-number_by base rule n true later more h = decided_number rule.effect n
-number_by base rule n false later more h = h
-
-number_from : (looked : Rule → Bool) (n : ℕ) (base : List ℕ) (rules : List Rule) (kind : Kind) (subject : List ℕ) (given : Bool)
-    → number_in (decision_from looked n base rules kind subject given) ≡ first_of (λ rule. looked rule && speaks base rule kind subject given) n rules
-number_from looked n base [] kind subject given = refl
-number_from looked n base (rule ∷ rules) kind subject given =
-    number_by base rule n (looked rule && speaks base rule kind subject given) (decision_from looked (n + 1) base rules kind subject given)
-    (first_of (λ r. looked r && speaks base r kind subject given) (n + 1) rules) (number_from looked (n + 1) base rules kind subject given)
-
-left_by : (effect : Effect) → is_limited_by effect ≡ false → is_used_up_by effect ≡ false
-left_by (AllowIt None) h = refl
-left_by (AllowIt (Some quota)) h = absurd (true≢false h)
-left_by DenyIt h = refl
-
--- the rule speaks of the later one's pattern, and is not used up
-abbrev pub decides : List ℕ → Rule → Rule → Bool
-decides base later rule = is_left rule && speaks base rule later.kind later.pattern later.only_given
-
-covers_alone : (base : List ℕ) (later rule : Rule) → is_exact base later.kind later.pattern ≡ true → covers base rule later ≡ true → decides base later rule ≡ true
-covers_alone base later rule alone h =
-    let p = and_parts (not (is_limited rule)) (speaks_of base rule later)
-    (sym (ap (λ b. not (is_limited rule) && cond b (speaks_of base rule later) (is_same rule later || (speaks_of base rule later && takes_over base later.kind rule later))) alone) ∙ h) in
-    and_from (is_left rule) (speaks base rule later.kind later.pattern later.only_given) (ap not (left_by rule.effect (not-true (is_limited rule) p.0))) p.1
-
 from_by : (n m : ℕ) (b : Bool) (more : Option ℕ) → cond b (Some n) more ≡ Some m → (more ≡ Some m → n + 1 ≤ m) → n ≤ m
 from_by n m true more e after = let same : n ≡ m = some_is n m e in omega (arith, same)
 from_by n m false more e after = let later : n + 1 ≤ m = after e in omega (arith, later)
@@ -158,34 +69,6 @@ from_by n m false more e after = let later : n + 1 ≤ m = after e in omega (ari
 from_first : (test : Rule → Bool) (rules : List Rule) (n m : ℕ) → first_of test n rules ≡ Some m → n ≤ m
 from_first test [] n m h = absurd (some_none (sym h))
 from_first test (rule ∷ rules) n m h = from_by n m (test rule) (first_of test (n + 1) rules) h (from_first test rules (n + 1) m)
-
-module _ (book : Rulebook) (later : Rule) (alone : is_exact book.base later.kind later.pattern ≡ true) where
-  abbrev it : Rule → Bool
-  it rule = covers book.base rule later
-
-  first_is : (found : Option ℕ) → found ≡ number_in (decision book later.kind later.pattern later.only_given) → first_of (decides book.base later) 1 book.rules ≡ found
-  first_is found is = sym (is ∙ number_from is_left 1 book.base book.rules later.kind later.pattern later.only_given)
-
-  pub none_alone : (found : Option ℕ) (count : ℕ) → found ≡ number_in (decision book later.kind later.pattern later.only_given) → found ≡ None
-      → None ≡ first_covering book.base (take count book.rules) later
-  none_alone found count is none =
-      sym (none_before (decides book.base later) it (λ rule. covers_alone book.base later rule alone) book.rules 1 count (first_is found is ∙ none))
-
-  pub later_alone : (found : Option ℕ) (n count : ℕ) → found ≡ number_in (decision book later.kind later.pattern later.only_given) → found ≡ Some n → count ≤ n - 1
-      → None ≡ first_covering book.base (take count book.rules) later
-  later_alone found n count is some past =
-      let one : 1 ≤ n = from_first (decides book.base later) book.rules 1 n (first_is found is ∙ some) in
-      sym (none_until (decides book.base later) it (λ rule. covers_alone book.base later rule alone) book.rules 1 count n (first_is found is ∙ some) (omega (arith, past, one)))
-
-  pub met_alone : (found : Option ℕ) (n count : ℕ) (rule : Rule) → found ≡ number_in (decision book later.kind later.pattern later.only_given) → found ≡ Some n → n - 1 < count
-      → n - 1 < length book.rules → rule ≡ get_or book.rules (n - 1) rule → covers book.base rule later ≡ true
-      → Some n ≡ first_covering book.base (take count book.rules) later
-  met_alone found n count rule is some below inside at passes =
-      let one : 1 ≤ n = from_first (decides book.base later) book.rules 1 n (first_is found is ∙ some) in
-      let same : n ≡ 1 + (n - 1) = omega (arith, one) in
-      ap Some same
-      ∙ sym (first_met (decides book.base later) it (λ r. covers_alone book.base later r alone) book.rules 1 count (n - 1) rule
-      (first_is found is ∙ (some ∙ ap Some same)) below inside at passes)
 
 -- ---- the rules that are looked at
 
@@ -274,3 +157,30 @@ told_sound book (suc n) =
 
 pub told_sound_by : (book : Rulebook) (n : ℕ) (told : List Unreached) → told ≡ unreached_in book.base book.rules n → AreUnreached book told
 told_sound_by book n told is = subst (AreUnreached book) (sym is) (told_sound book n)
+
+-- ---- heads
+
+-- one more rule has its head
+pub heads_more : (base : List ℕ) (rules : List Rule) (heads : List (Option Head)) (rule : Rule) (head : Option Head) → length heads < length rules
+    → rule ≡ get_or rules (length heads) rule → IsHeadOf rule.kind (pieces base rule.kind rule.pattern) head → AreHeads base rules heads
+    → AreHeads base rules (heads ++ head ∷ [])
+heads_more base rules heads rule head below is of so_far k r h at_rule at_head =
+    elim (get_push heads head h k at_head) [
+      | inl before ↦ so_far k r h at_rule before
+      | inr last ↦
+          let there : slice_get rules (length heads) ≡ Some rule = slice_get_read rules (length rules) (length heads) rule refl below is in
+          let same : rule ≡ r = some_same rule r (sym there ∙ (ap (slice_get rules) (sym last.0) ∙ at_rule)) in
+          subst (λ (x : Rule). IsHeadOf x.kind (pieces base x.kind x.pattern) h) same
+          (subst (λ (x : Option Head). IsHeadOf rule.kind (pieces base rule.kind rule.pattern) x) last.1 of)
+    ]
+  where
+    some_same : (a b : Rule) → Some a ≡ Some b → a ≡ b
+    some_same a b e = cc
+
+-- the head of a rule that is looked at
+pub head_at : (base : List ℕ) (rules : List Rule) (heads : List (Option Head)) (k n : ℕ) (rule : Rule) (head : Option Head) → AreHeads base rules heads
+    → k < length (take n rules) → rule ≡ get_or (take n rules) k rule → k < length heads → head ≡ get_or heads k head
+    → IsHeadOf rule.kind (pieces base rule.kind rule.pattern) head
+head_at base rules heads k n rule head are inside is below at =
+    are k rule head (get_take rules n k rule (slice_get_read (take n rules) (length (take n rules)) k rule refl inside is)).1
+    (slice_get_read heads (length heads) k head refl below at)

@@ -1,5 +1,6 @@
 pub mod Reasons
 pub mod Covers
+pub mod Heads
 pub mod Unreached
 pub mod Lints
 pub mod Wishes

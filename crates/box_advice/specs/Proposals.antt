@@ -14,7 +14,7 @@ use Rattle.box_policy.specs.Refusals.{IsRefused, no_memory}
 use Rattle.box_policy.specs.Rulebook.{Rulebook}
 use Rattle.box_policy.specs.Words.{is_base}
 use Rattle.box_policy.specs.Written.{Written}
-use Rattle.box_advice.specs.Wishes.{answer, grants_from}
+use Rattle.box_advice.specs.Wishes.{answer, grants_from, is_given, is_offered}
 use Rattle.box_advice.specs.declared.proposing.Basis.{Basis}
 use Rattle.box_advice.specs.declared.proposing.Basis.TheVariants.{Base, Policy}
 use Rattle.box_advice.specs.declared.proposing.ProposalError.{ProposalError}
@@ -27,9 +27,12 @@ with_gained book rules = record book { rules = book.rules ++ rules }
 
 -- ---- what a proposal does to decisions
 
--- the wish is of this kind and its text is no other subject to an exact rule
-pub record IsWished (base : List ℕ) (kind : Kind) (subject : List ℕ) (wish : Wish) : Type 0 where
+-- the wish is of this kind and its text is no other subject to an exact rule; it is not just offered, and where it may
+-- be an operand word, so is the subject
+pub record IsWished (base : List ℕ) (kind : Kind) (subject : List ℕ) (given : Bool) (wish : Wish) : Type 0 where
   pub of_kind : wish.kind ≡ kind
+  pub asked : is_offered kind ≡ false
+  pub as_given : is_given wish ≡ true → given ≡ true
   pub text : List ℕ
   pub known : wish.text ≡ Some text
   pub same : Same base kind text subject
@@ -42,38 +45,45 @@ pub record IsAdded (first last : Rulebook) (wishes : List Wish) (kind : Kind) (s
     pub allowed : decision last kind subject given ≡ Allow rule
     pub wish : Wish
     pub is_one : Contains wishes wish
-    pub wished : IsWished first.base kind subject wish
+    pub wished : IsWished first.base kind subject given wish
 
--- a wish that the first policy has no rule for, and whose text a pattern may hold
+-- a wish that the first policy has no rule for, that is not just offered, and whose text a pattern may hold
 pub record IsOwed (first : Rulebook) (wishes : List Wish) (wish : Wish) (text : List ℕ) : Type 0 where
   pub is_one : Contains wishes wish
   pub known : wish.text ≡ Some text
-  pub undecided : answer first wish.kind text wish.may_be_given ≡ NoRule
+  pub undecided : answer first wish text ≡ NoRule
   pub exact : is_exact first.base wish.kind text ≡ true
+  pub asked : is_offered wish.kind ≡ false
 
--- a rule of the first policy denies the wish, or no pattern stands for its text alone
+-- a rule of the first policy denies the wish, no pattern stands for its text alone, or it is just offered
 abbrev pub IsKeptOut : Rulebook → Wish → List ℕ → Type 0
 IsKeptOut first wish text =
-    ((n : ℕ) × (answer first wish.kind text wish.may_be_given ≡ Deny n)) ⊎ (is_exact first.base wish.kind text ≡ false)
+    ((n : ℕ) × (answer first wish text ≡ Deny n))
+    ⊎ ((is_exact first.base wish.kind text ≡ false) ⊎ (is_offered wish.kind ≡ true))
 
 -- the policy once its rules have allowed so often
 abbrev pub with_counts : Rulebook → List Rule → Rulebook
 with_counts book counted = record book { rules = counted }
 
--- What is owed is allowed, however often rules have allowed. What is decided otherwise than the first policy does was
--- wished, and the first policy had no rule for it, or none that was not used up: so it is however often its rules have
--- allowed, since the rules that are gained have no limit. So what is wished and never allowed, which makes `check`
--- refuse a script, is denied by a rule of the first policy, or no pattern can hold it.
+-- What is owed is allowed, however often rules have allowed: as an operand word where it may be one. What is decided
+-- otherwise than the first policy does was wished, and the first policy had no rule for it, or none that was not used
+-- up: so it is however often its rules have allowed, since the rules that are gained have no limit. Of commands and
+-- names of the environment nothing is decided otherwise. So what is wished and never allowed, which makes `check` refuse
+-- a script, is denied by a rule of the first policy, or no pattern can hold it, or it is just offered.
 pub record Extends (first : Rulebook) (gains : List Rule) (wishes : List Wish) : Type 0 where
   pub allows : (wish : Wish) (text : List ℕ) → IsOwed first wishes wish text
-      → outlook (with_gained first gains) wish.kind text false ≡ Always
+      → outlook (with_gained first gains) wish.kind text (is_given wish) ≡ Always
   pub decides : (counted : List Rule) → map rule_cleared counted ≡ map rule_cleared first.rules
       → (kind : Kind) (subject : List ℕ) (given : Bool)
       → (decision (with_gained (with_counts first counted) gains) kind subject given
       ≡ decision (with_counts first counted) kind subject given)
       ⊎ IsAdded (with_counts first counted) (with_gained (with_counts first counted) gains) wishes kind subject given
+  pub leaves : (counted : List Rule) → map rule_cleared counted ≡ map rule_cleared first.rules
+      → (kind : Kind) (subject : List ℕ) (given : Bool) → is_offered kind ≡ true
+      → decision (with_gained (with_counts first counted) gains) kind subject given
+      ≡ decision (with_counts first counted) kind subject given
   pub refuses : (wish : Wish) (text : List ℕ) → Contains wishes wish → wish.text ≡ Some text
-      → outlook (with_gained first gains) wish.kind text false ≡ Never → IsKeptOut first wish text
+      → outlook (with_gained first gains) wish.kind text (is_given wish) ≡ Never → IsKeptOut first wish text
 
 -- ---- a proposal
 

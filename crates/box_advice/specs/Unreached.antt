@@ -1,18 +1,10 @@
 -- Which rules of a policy no request reaches.
 use Rattle.std.specs.Prelude.{◌≡◌, ℕ, ◌+◌, ◌-◌, ◌<◌, zero, suc, List, [], ◌∷◌, ◌++◌, take, slice_get, Option, Some, None}
-use Rattle.box_policy.specs.declared.policy.Decision.{Decision}
-use Rattle.box_policy.specs.declared.policy.Decision.TheVariants.{Allow, Deny, NoRule}
 use Rattle.box_policy.specs.declared.policy.Rule.{Rule}
 use Rattle.box_policy.specs.Rulebook.{Rulebook}
 use Rattle.box_policy.specs.Shelves.{first_of}
 use Rattle.box_advice.specs.Covers.{Covers, covers}
 use Rattle.box_advice.specs.declared.unreached.Unreached.{Unreached}
-
--- the rule that decides
-abbrev pub number_in : Decision → Option ℕ
-number_in (Allow n) = Some n
-number_in (Deny n) = Some n
-number_in NoRule = None
 
 -- the number of the first of these rules that is found to cover the later one
 abbrev pub first_covering : List ℕ → List Rule → Rule → Option ℕ

@@ -1,67 +1,83 @@
 -- Which rules a policy gains by what it is to allow.
-use Rattle.std.specs.Prelude.{◌≡◌, ℕ, ◌+◌, ◌≤◌, length, Bool, true, false, List, [], ◌∷◌, ◌++◌, Option, Some, None, if◌then◌else◌}
+use Rattle.std.specs.Prelude.{◌≡◌, ℕ, ◌+◌, ◌≤◌, length, Bool, true, false, List, [], ◌∷◌, ◌++◌, Option, Some, None}
 use Rattle.std.specs.List.{list_any}
 use Rattle.box_policy.specs.declared.policy.Decision.{Decision}
 use Rattle.box_policy.specs.declared.policy.Decision.TheVariants.{Allow, Deny, NoRule}
 use Rattle.box_policy.specs.declared.policy.Effect.TheVariants.{Allow as AllowIt}
 use Rattle.box_policy.specs.declared.policy.Kind.{Kind}
+use Rattle.box_policy.specs.declared.policy.Kind.TheVariants.{Read, Write, Append, Run, Env, Assign}
 use Rattle.box_policy.specs.declared.policy.Rule.{Rule}
 use Rattle.box_policy.specs.Decisions.{decision, speaks}
 use Rattle.box_policy.specs.Exact.{is_exact}
 use Rattle.box_policy.specs.Rulebook.{Rulebook}
 use Rattle.box_advice.specs.declared.wanting.Fate.{Fate}
-use Rattle.box_advice.specs.declared.wanting.Fate.TheVariants.{Unknown, Denied, Allowed, Unfit, Met, Gains}
+use Rattle.box_advice.specs.declared.wanting.Fate.TheVariants.{Unknown, Denied, Allowed, Unfit, Offered, Met, Gains}
 use Rattle.box_advice.specs.declared.wishes.Wish.{Wish}
 
--- what is decided of a request that is no operand, or, where no rule speaks of that, the rule that denies the operand
-abbrev pub answer_by : (plain given : Decision) → Decision
-answer_by (Allow n) given = Allow n
-answer_by (Deny n) given = Deny n
-answer_by NoRule (Allow n) = NoRule
-answer_by NoRule (Deny n) = Deny n
-answer_by NoRule NoRule = NoRule
+-- a wish for a command or a name of the environment gains no rule: it is offered, and a person may allow it
+unfoldable pub is_offered : Kind → Bool
+is_offered Read = false
+is_offered Write = false
+is_offered Append = false
+is_offered Run = true
+is_offered Env = true
+is_offered Assign = false
 
-abbrev pub answer : Rulebook → Kind → List ℕ → Bool → Decision
-answer book kind text may_be_given =
-    if may_be_given then answer_by (decision book kind text false) (decision book kind text true)
-    else decision book kind text false
+-- only what is read and what is assigned may be an operand word that the run was started with
+unfoldable pub given_of : Kind → Bool → Bool
+given_of Read may_be_given = may_be_given
+given_of Write may_be_given = false
+given_of Append may_be_given = false
+given_of Run may_be_given = false
+given_of Env may_be_given = false
+given_of Assign may_be_given = may_be_given
+
+abbrev pub is_given : Wish → Bool
+is_given wish = given_of wish.kind wish.may_be_given
+
+-- what is decided of it; where it may be an operand word, of such a word
+abbrev pub answer : Rulebook → Wish → List ℕ → Decision
+answer book wish text = decision book wish.kind text (is_given wish)
 
 -- one of the rules speaks of the text
-abbrev pub speak : List ℕ → List Rule → Kind → List ℕ → Bool
-speak base rules kind text = list_any (λ rule. speaks base rule kind text false) rules
+abbrev pub speak : List ℕ → List Rule → Kind → List ℕ → Bool → Bool
+speak base rules kind text given = list_any (λ rule. speaks base rule kind text given) rules
 
--- what becomes of a wish: it gains a rule where the policy has none, a pattern may hold the text, and no rule that was
--- gained speaks of it
-abbrev pub fate_by : (answer : Decision) (is_exact is_met : Bool) → Fate
-fate_by (Allow n) exact met = Allowed
-fate_by (Deny n) exact met = Denied n
-fate_by NoRule false met = Unfit
-fate_by NoRule true true = Met
-fate_by NoRule true false = Gains
+-- what becomes of a wish: it gains a rule where the policy has none, a pattern may hold the text, it is not just
+-- offered, and no rule that was gained speaks of it
+unfoldable pub fate_by : (answer : Decision) (is_exact offered is_met : Bool) → Fate
+fate_by (Allow n) exact offered met = Allowed
+fate_by (Deny n) exact offered met = Denied n
+fate_by NoRule false offered met = Unfit
+fate_by NoRule true true met = Offered
+fate_by NoRule true false true = Met
+fate_by NoRule true false false = Gains
 
-abbrev pub fate_at : Rulebook → List Rule → Kind → Option (List ℕ) → Bool → Fate
-fate_at book rules kind None may_be_given = Unknown
-fate_at book rules kind (Some text) may_be_given =
-    fate_by (answer book kind text may_be_given) (is_exact book.base kind text) (speak book.base rules kind text)
+abbrev pub fate_at : Rulebook → List Rule → Wish → Option (List ℕ) → Fate
+fate_at book rules wish None = Unknown
+fate_at book rules wish (Some text) =
+    fate_by (answer book wish text) (is_exact book.base wish.kind text) (is_offered wish.kind)
+    (speak book.base rules wish.kind text (is_given wish))
 
 abbrev pub fate_of : Rulebook → List Rule → Wish → Fate
-fate_of book rules wish = fate_at book rules wish.kind wish.text wish.may_be_given
+fate_of book rules wish = fate_at book rules wish wish.text
 
--- the rule that allows what is asked for with this text
-abbrev pub grant : Kind → List ℕ → Rule
-grant kind text = record { effect = AllowIt None; kind = kind; only_given = false; pattern = text }
+-- the rule that allows what is asked for with this text; of an operand word no more than that
+abbrev pub grant : Kind → List ℕ → Bool → Rule
+grant kind text given = record { effect = AllowIt None; kind = kind; only_given = given; pattern = text }
 
-abbrev pub gained_by : Fate → Kind → Option (List ℕ) → List Rule
-gained_by Gains kind (Some text) = grant kind text ∷ []
-gained_by Gains kind None = []
-gained_by Unknown kind text = []
-gained_by (Denied n) kind text = []
-gained_by Allowed kind text = []
-gained_by Unfit kind text = []
-gained_by Met kind text = []
+unfoldable pub gained_by : Fate → Wish → Option (List ℕ) → List Rule
+gained_by Gains wish (Some text) = grant wish.kind text (is_given wish) ∷ []
+gained_by Gains wish None = []
+gained_by Unknown wish text = []
+gained_by (Denied n) wish text = []
+gained_by Allowed wish text = []
+gained_by Unfit wish text = []
+gained_by Offered wish text = []
+gained_by Met wish text = []
 
 abbrev pub gained : Rulebook → List Rule → Wish → List Rule
-gained book rules wish = gained_by (fate_of book rules wish) wish.kind wish.text
+gained book rules wish = gained_by (fate_of book rules wish) wish wish.text
 
 -- the rules that are gained by each wish in its turn, behind these
 abbrev pub grants_from : Rulebook → List Rule → List Wish → List Rule

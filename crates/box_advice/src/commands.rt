@@ -1,6 +1,5 @@
 // Commands that let more through than they seem to.
-use awk_text::Memory;
-use std::alloc::Global;
+use crate::page::Page;
 
 const READS: &str = "does what its input says";
 
@@ -78,36 +77,62 @@ fn known_program(command: &[u8]) -> Option<(&'static str, &'static str)> {
     None
 }
 
+/// What a command's pattern lets through that its writer may not have meant.
+#[derive(Clone, Copy, Drop)]
+pub(crate) enum Remark {
+    /// These words.
+    Words(&'static str),
+    /// What the program of this name does.
+    Does(&'static str, &'static str),
+    /// The same, by options that the script picks.
+    Lets(&'static str, &'static str),
+}
+
 // With a `*` the options are the script's.
-fn open_words(alloc: Global, pattern: &[u8]) -> Result<String, Memory> {
+fn open_remark(pattern: &[u8]) -> Remark {
     if program_of(pattern) == b"sort".as_slice() {
-        return String::from_str(
-            alloc,
-            "* lets options of sort through, which write files or start commands",
-        );
+        return Remark::Words("* lets options of sort through, which write files or start commands");
     }
     match known_program(pattern) {
-        Some((name, deed)) => {
-            format!(in alloc; "* lets options of {name} through, and {name} {deed}")
-        }
-        None => String::from_str(alloc, "* may stand for an option too"),
+        Some((name, deed)) => Remark::Lets(name, deed),
+        None => Remark::Words("* may stand for an option too"),
     }
 }
 
-/// What the command's pattern lets through that its writer may not have meant.
-pub(crate) fn command_words(alloc: Global, pattern: &[u8]) -> Result<Option<String>, Memory> {
-    if pattern.windows(2).any(|pair| pair == b"**".as_slice()) {
-        let words = "** lets a script run whatever the shell makes of it";
-        return Ok(Some(String::from_str(alloc, words)?));
-    }
-    if pattern.contains(&b'*') {
-        return Ok(Some(open_words(alloc, pattern)?));
-    }
+// No `*` is in it.
+fn closed_remark(pattern: &[u8]) -> Option<Remark> {
     if program_of(pattern) == b"sort".as_slice() && has_output(pattern) {
-        return Ok(Some(String::from_str(alloc, "sort writes a file here")?));
+        return Some(Remark::Words("sort writes a file here"));
     }
     match known_program(pattern) {
-        Some((name, deed)) => Ok(Some(format!(in alloc; "{name} {deed}")?)),
-        None => Ok(None),
+        Some((name, deed)) => Some(Remark::Does(name, deed)),
+        None => None,
+    }
+}
+
+pub(crate) fn remark_on(pattern: &[u8]) -> Option<Remark> {
+    if pattern.windows(2).any(|pair| pair == b"**".as_slice()) {
+        return Some(Remark::Words("** lets a script run whatever the shell makes of it"));
+    }
+    if pattern.contains(&b'*') {
+        return Some(open_remark(pattern));
+    }
+    closed_remark(pattern)
+}
+
+pub(crate) fn put_remark(remark: Remark, page: &mut Page) {
+    match remark {
+        Remark::Words(words) => page.put(words),
+        Remark::Does(name, deed) => page.put_all(&[name, " ", deed]),
+        Remark::Lets(name, deed) => {
+            page.put_all(&[
+                "* lets options of ",
+                name,
+                " through, and ",
+                name,
+                " ",
+                deed,
+            ]);
+        }
     }
 }

@@ -22,7 +22,7 @@ fn is_double_star(piece: &[u8]) -> bool
 }
 
 /// Whether each byte of the component stands for itself.
-fn is_plain(piece: &[u8]) -> bool
+pub(crate) fn is_plain(piece: &[u8]) -> bool
     ensures { result ≡ is_plain_piece piece.now }
 {
     piece.iter().all(|byte| !(*byte == b'*' || *byte == b'?'))
@@ -62,7 +62,7 @@ fn have_no_marks(components: &[Octets]) -> bool
     true
 }
 
-fn are_flat(components: &[Octets]) -> bool
+pub(crate) fn are_flat(components: &[Octets]) -> bool
     ensures { result ≡ list_all is_flat components.now }
 {
     for piece in components {

@@ -14,7 +14,7 @@ use std::error::Error;
 use std::fmt;
 
 /// Why a log is not read: the line of this number, counted from 1, is none that a run writes, or memory was refused.
-#[derive(Clone, Copy, Debug, PartialEq, Eq, Drop)]
+#[derive(Clone, Copy, Debug, Drop)]
 pub enum LogError {
     Line(usize),
     Memory,
@@ -177,7 +177,7 @@ fn wish_of(alloc: Global, line: &[u8], number: usize) -> Result<Option<Wish>, Me
 }
 
 // What tells wishes of a log apart.
-fn key_of(alloc: Global, wish: &Wish) -> Result<Vec<u8>, Memory> {
+pub(crate) fn key_of(alloc: Global, wish: &Wish) -> Result<Vec<u8>, Memory> {
     let mut key = Vec::new(alloc);
     key.push(u8::from(wish.may_be_given))?;
     key.extend_from_slice(crate::words::kind_word(wish.kind).as_bytes())?;

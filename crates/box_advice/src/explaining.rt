@@ -3,9 +3,11 @@ ghost use Rattle.std.specs.Prelude.{◌≡◌, IfOk};
 ghost use Rattle.box_policy.specs.Files.{is_of_files};
 ghost use Rattle.box_advice.specs.Reasons.{IsWhy, path_of};
 
+use crate::page::Page;
 use crate::places::{Places, PolicyFile};
-use crate::words::{quoted, rule_text};
+use crate::words::put_rule_text;
 use awk_text::Memory;
+use awk_text::octets::Octets;
 use box_policy::error::PolicyError;
 use box_policy::path::{Path, normal};
 use box_policy::policy::{Decision, Kind, Policy};
@@ -31,7 +33,7 @@ pub struct Wanted<'a> {
     pub given: bool,
 }
 
-fn is_of_files(kind: Kind) -> bool
+pub(crate) fn is_of_files(kind: Kind) -> bool
     ensures { result ≡ is_of_files kind }
 {
     match kind {
@@ -73,87 +75,75 @@ pub fn why(
 
 impl PolicyFile<'_> {
     // `rule 4 (F:17)`, or `rule 4` where its line cannot be told.
-    fn rule(self, alloc: Global, number: u32) -> Result<String, Memory> {
-        match self.places.line(number) {
-            Some(line) => format!(in alloc; "rule {number} ({}:{line})", self.name),
-            None => format!(in alloc; "rule {number}"),
+    fn put_rule(self, number: u32, page: &mut Page) {
+        page.put("rule ");
+        page.put_number(u64::from(number));
+        if let Some(line) = self.places.line(number) {
+            page.put_all(&[" (", self.name, ":"]);
+            page.put_number(line as u64);
+            page.put(")");
         }
     }
 
-    fn push_told(self, alloc: Global, told: Told, lines: &mut String) -> Result<(), Memory> {
-        let Some(rule) = self
-            .policy
-            .rules()
-            .get((told.number as usize).saturating_sub(1))
-        else {
-            return Ok(());
-        };
-        lines.push_str(self.rule(alloc, told.number)?.as_str())?;
-        lines.push_str(": ")?;
-        lines.push_str(rule_text(alloc, rule)?.as_str())?;
-        lines.push_str(if told.fits {
-            ": fits\n"
-        } else {
-            ": does not fit\n"
-        })?;
-        Ok(())
+    fn put_told(self, told: Told, page: &mut Page) {
+        let at = (told.number as usize).saturating_sub(1);
+        if let Some(rule) = self.policy.rules().get(at) {
+            self.put_rule(told.number, page);
+            page.put(": ");
+            put_rule_text(rule, page);
+            page.put(if told.fits {
+                ": fits\n"
+            } else {
+                ": does not fit\n"
+            });
+        }
     }
 
-    fn push_decision(
-        self,
-        alloc: Global,
-        decision: Decision,
-        lines: &mut String,
-    ) -> Result<(), Memory> {
+    fn put_decided(self, word: &str, number: u32, page: &mut Page) {
+        page.put(word);
+        self.put_rule(number, page);
+        page.put("\n");
+    }
+
+    fn put_decision(self, decision: Decision, page: &mut Page) {
         match decision {
-            Decision::Allow(number) => {
-                lines.push_str("allow: ")?;
-                lines.push_str(self.rule(alloc, number)?.as_str())?;
-            }
-            Decision::Deny(number) => {
-                lines.push_str("deny: ")?;
-                lines.push_str(self.rule(alloc, number)?.as_str())?;
-            }
-            Decision::NoRule => lines.push_str("deny: no rule fits")?,
+            Decision::Allow(number) => self.put_decided("allow: ", number, page),
+            Decision::Deny(number) => self.put_decided("deny: ", number, page),
+            Decision::NoRule => page.put("deny: no rule fits\n"),
         }
-        lines.push_str("\n")?;
-        Ok(())
+    }
+}
+
+fn put_components(components: &[Octets], page: &mut Page) {
+    if components.is_empty() {
+        page.put("/");
+    }
+    for component in components {
+        page.put("/");
+        page.put_quoted(component.bytes());
     }
 }
 
 // `normal form: "/srv/reports/out/a"`, or that there is none.
-fn push_path(alloc: Global, path: &Option<Path>, lines: &mut String) -> Result<(), Memory> {
-    let Some(path) = path else {
-        lines.push_str("normal form: none\n")?;
-        return Ok(());
-    };
-    lines.push_str("normal form: \"")?;
-    if path.components().is_empty() {
-        lines.push_str("/")?;
+fn put_path(path: &Option<Path>, page: &mut Page) {
+    match path {
+        Some(path) => {
+            page.put("normal form: \"");
+            put_components(path.components(), page);
+            page.put("\"\n");
+        }
+        None => page.put("normal form: none\n"),
     }
-    for component in path.components() {
-        lines.push_str("/")?;
-        lines.push_str(quoted(alloc, component.bytes())?.as_str())?;
-    }
-    lines.push_str("\"\n")?;
-    Ok(())
 }
 
-fn lines_of(
-    alloc: Global,
-    source: PolicyFile<'_>,
-    kind: Kind,
-    why: &Reasons,
-) -> Result<String, Memory> {
-    let mut lines = String::new(alloc);
+fn put_lines(source: PolicyFile<'_>, kind: Kind, why: &Reasons, page: &mut Page) {
     if is_of_files(kind) {
-        push_path(alloc, &why.path, &mut lines)?;
+        put_path(&why.path, page);
     }
     for told in why.rules.as_slice() {
-        source.push_told(alloc, *told, &mut lines)?;
+        source.put_told(*told, page);
     }
-    source.push_decision(alloc, why.decision, &mut lines)?;
-    Ok(lines)
+    source.put_decision(why.decision, page);
 }
 
 fn explanation(
@@ -170,7 +160,9 @@ fn explanation(
         policy,
         places: &places,
     };
-    lines_of(alloc, source, wanted.kind, &why)
+    let mut page = Page::new(alloc);
+    put_lines(source, wanted.kind, &why, &mut page);
+    page.end()
 }
 
 /// The lines that tell a person what [`why`] answers of the policy of this text, which stands in the file of this name:

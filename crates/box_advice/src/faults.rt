@@ -1,11 +1,10 @@
 // What is wrong with a policy that is refused, in words. `Policy::read` says which code and which rule it is; here is
 // looked up what stands there.
-use crate::nearest::hint;
-use crate::words::quoted;
-use awk_text::Memory;
+use crate::nearest::put_hint;
+use crate::page::Page;
 use box_policy::error::PolicyError;
 use box_policy::policy::MAX_RULES;
-use std::alloc::{AllocError, Global};
+use std::alloc::Global;
 use toml::{Table, Value};
 
 const TOP_KEYS: [&str; 3] = ["version", "base", "rule"];
@@ -25,35 +24,27 @@ const SOURCES: [&str; 2] = ["any", "given"];
 /// The first rule that a policy may not have.
 const FIRST_ABOVE: u32 = MAX_RULES as u32 + 1;
 
-/// What is wrong, and where it stands: in the rule of this number, or in none where that is 0, and there at this key,
-/// where it does.
-#[derive(Drop)]
-pub struct Mistake {
-    pub rule: u32,
-    pub key: Option<String>,
-    pub words: String,
+/// Where something is wrong: in the rule of this number, or in none where that is 0, and there at this key, where it
+/// stands at one.
+#[derive(Clone, Copy, Drop)]
+pub(crate) struct Mistake<'a> {
+    pub(crate) rule: u32,
+    pub(crate) key: Option<&'a str>,
 }
 
-impl Mistake {
-    fn in_rule(self, rule: u32) -> Mistake {
-        Mistake { rule, ..self }
+fn at(key: &str) -> Mistake<'_> {
+    Mistake {
+        rule: 0,
+        key: Some(key),
     }
 }
 
-fn at(alloc: Global, key: &str, words: &str) -> Result<Mistake, Memory> {
-    Ok(Mistake {
-        rule: 0,
-        key: Some(String::from_str(alloc, key)?),
-        words: String::from_str(alloc, words)?,
-    })
+fn nowhere<'a>() -> Mistake<'a> {
+    Mistake { rule: 0, key: None }
 }
 
-fn nowhere(alloc: Global, words: &str) -> Result<Mistake, Memory> {
-    Ok(Mistake {
-        rule: 0,
-        key: None,
-        words: String::from_str(alloc, words)?,
-    })
+fn in_rule<'a>(rule: u32) -> Mistake<'a> {
+    Mistake { rule, key: None }
 }
 
 // The first key that is none of these.
@@ -66,11 +57,12 @@ fn unknown_key<'a>(table: &'a Table, known: &[&str]) -> Option<&'a str> {
     None
 }
 
-fn unknown(alloc: Global, key: &str, known: &[&str], those: &str) -> Result<Mistake, Memory> {
-    let shown = quoted(alloc, key.as_bytes())?;
-    let hint = hint(alloc, key, known)?;
-    let words = format!(in alloc; "unknown key \"{shown}\"{hint}; {those}")?;
-    at(alloc, key, words.as_str())
+fn put_unknown(alloc: Global, key: &str, known: &[&str], page: &mut Page) {
+    page.put("unknown key \"");
+    page.put_quoted(key.as_bytes());
+    page.put("\"");
+    put_hint(alloc, key, known, page);
+    page.put("; ");
 }
 
 fn has_limits(table: &Table) -> bool {
@@ -104,32 +96,45 @@ fn rule_with(rules: &[Value], key: &str) -> Option<u32> {
     None
 }
 
-// A key that the policy lacks, of which these words tell. It may stand below the header of a rule: then it is a key of
-// that.
-fn missing(alloc: Global, table: &Table, key: &str, words: &str) -> Result<Mistake, Memory> {
+// A key that the policy lacks. It may stand below the header of a rule: then it is a key of that.
+fn missing<'a>(table: &Table, key: &'a str, words: &str, page: &mut Page) -> Mistake<'a> {
     match rule_with(rules_of(table), key) {
         Some(rule) => {
-            let words = format!(in alloc;
-                "rule {rule}: {key} is a key of the policy; write it above the first [[rule]]"
-            )?;
-            Ok(at(alloc, key, words.as_str())?.in_rule(rule))
+            page.put("rule ");
+            page.put_number(u64::from(rule));
+            page.put_all(&[
+                ": ",
+                key,
+                " is a key of the policy; write it above the first [[rule]]",
+            ]);
+            Mistake {
+                rule,
+                key: Some(key),
+            }
         }
-        None => nowhere(alloc, words),
+        None => {
+            page.put_all(&[key, " is missing; ", words]);
+            nowhere()
+        }
     }
 }
 
-fn version_fault(alloc: Global, table: &Table) -> Result<Mistake, Memory> {
-    let those = "it is 1, or 2 where rules have limits";
+fn version_fault<'a>(table: &'a Table, page: &mut Page) -> Mistake<'a> {
     match table.get("version") {
-        Some(value) if value.is_integer() => at(alloc, "version", "version is neither 1 nor 2"),
-        Some(_) => {
-            let words = format!(in alloc; "version is no whole number; {those}")?;
-            at(alloc, "version", words.as_str())
+        Some(value) => {
+            page.put(if value.is_integer() {
+                "version is neither 1 nor 2"
+            } else {
+                "version is no whole number; it is 1, or 2 where rules have limits"
+            });
+            at("version")
         }
-        None => {
-            let words = format!(in alloc; "version is missing; {those}")?;
-            missing(alloc, table, "version", words.as_str())
-        }
+        None => missing(
+            table,
+            "version",
+            "it is 1, or 2 where rules have limits",
+            page,
+        ),
     }
 }
 
@@ -148,19 +153,15 @@ fn base_reason(base: &str) -> &'static str {
     "base has a component .., which is never folded"
 }
 
-fn base_fault(alloc: Global, table: &Table) -> Result<Mistake, Memory> {
+fn base_fault<'a>(table: &'a Table, page: &mut Page) -> Mistake<'a> {
     let Some(value) = table.get("base") else {
-        return missing(
-            alloc,
-            table,
-            "base",
-            "base is missing; it is an absolute path",
-        );
+        return missing(table, "base", "it is an absolute path", page);
     };
-    match value.as_str() {
-        Some(base) => at(alloc, "base", base_reason(base)),
-        None => at(alloc, "base", "base is no text; it is an absolute path"),
-    }
+    page.put(match value.as_str() {
+        Some(base) => base_reason(base),
+        None => "base is no text; it is an absolute path",
+    });
+    at("base")
 }
 
 // The number of the first of these that is no table, counted from 1.
@@ -173,118 +174,199 @@ fn first_other(rules: &[Value]) -> Option<usize> {
     None
 }
 
-fn rules_fault(alloc: Global, table: &Table) -> Result<Mistake, Memory> {
-    let those = "write [[rule]] above each rule";
-    let words = match first_other(rules_of(table)) {
-        Some(number) => format!(in alloc; "rule {number}: no table; {those}")?,
-        None => format!(in alloc; "rule is no array of tables; {those}")?,
-    };
-    at(alloc, "rule", words.as_str())
-}
-
-fn count_fault(alloc: Global, table: &Table) -> Result<Mistake, Memory> {
-    let count = rules_of(table).len();
-    let words = format!(in alloc;
-        "rule {FIRST_ABOVE}: a policy has at most {MAX_RULES} rules, and this one has {count}"
-    )?;
-    Ok(nowhere(alloc, words.as_str())?.in_rule(FIRST_ABOVE))
-}
-
-fn top_fault(alloc: Global, table: &Table, code: u8) -> Result<Mistake, Memory> {
-    match code {
-        PolicyError::KEY => match unknown_key(table, TOP_KEYS.as_slice()) {
-            Some(key) => unknown(
-                alloc,
-                key,
-                TOP_KEYS.as_slice(),
-                "a policy has version, base, rule",
-            ),
-            None => nowhere(alloc, "unknown key"),
-        },
-        PolicyError::VERSION => version_fault(alloc, table),
-        PolicyError::BASE => base_fault(alloc, table),
-        PolicyError::VALUE => rules_fault(alloc, table),
-        _ => count_fault(alloc, table),
+fn rules_fault<'a>(table: &'a Table, page: &mut Page) -> Mistake<'a> {
+    match first_other(rules_of(table)) {
+        Some(number) => {
+            page.put("rule ");
+            page.put_number(number as u64);
+            page.put(": no table");
+        }
+        None => page.put("rule is no array of tables"),
     }
+    page.put("; write [[rule]] above each rule");
+    at("rule")
 }
 
-fn rule_key_fault(alloc: Global, rule: &Table, limits: bool) -> Result<Mistake, Memory> {
-    let (known, those) = if limits {
-        (
-            LIMITED_KEYS.as_slice(),
-            "a rule has effect, kind, match, from, limit",
-        )
-    } else {
-        (RULE_KEYS.as_slice(), "a rule has effect, kind, match, from")
-    };
-    match unknown_key(rule, known) {
-        Some("limit") => at(alloc, "limit", "a rule has a limit in version 2 alone"),
-        Some(key) => unknown(alloc, key, known, those),
+fn count_fault<'a>(table: &'a Table, page: &mut Page) -> Mistake<'a> {
+    page.put("rule ");
+    page.put_number(u64::from(FIRST_ABOVE));
+    page.put(": a policy has at most ");
+    page.put_number(MAX_RULES as u64);
+    page.put(" rules, and this one has ");
+    page.put_number(rules_of(table).len() as u64);
+    in_rule(FIRST_ABOVE)
+}
+
+fn top_key_fault<'a>(alloc: Global, table: &'a Table, page: &mut Page) -> Mistake<'a> {
+    match unknown_key(table, TOP_KEYS.as_slice()) {
+        Some(key) => {
+            put_unknown(alloc, key, TOP_KEYS.as_slice(), page);
+            page.put("a policy has version, base, rule");
+            at(key)
+        }
         None => {
-            for key in NEEDED {
-                if rule.get(key).is_none() {
-                    let words = format!(in alloc; "{key} is missing; {those}")?;
-                    return nowhere(alloc, words.as_str());
-                }
-            }
-            nowhere(alloc, those)
+            page.put("unknown key");
+            nowhere()
         }
     }
 }
 
-// What is wrong with a value that is to be one of these words, where it is none.
-fn word_fault(
+fn top_fault<'a>(alloc: Global, table: &'a Table, code: u8, page: &mut Page) -> Mistake<'a> {
+    match code {
+        PolicyError::KEY => top_key_fault(alloc, table, page),
+        PolicyError::VERSION => version_fault(table, page),
+        PolicyError::BASE => base_fault(table, page),
+        PolicyError::VALUE => rules_fault(table, page),
+        _ => count_fault(table, page),
+    }
+}
+
+fn first_missing(rule: &Table) -> Option<&'static str> {
+    for key in NEEDED {
+        if rule.get(key).is_none() {
+            return Some(key);
+        }
+    }
+    None
+}
+
+// Of a rule whose keys are all known.
+fn lacking_fault<'a>(rule: &Table, those: &str, page: &mut Page) -> Mistake<'a> {
+    if let Some(key) = first_missing(rule) {
+        page.put_all(&[key, " is missing; "]);
+    }
+    page.put(those);
+    nowhere()
+}
+
+fn unknown_fault<'a>(
     alloc: Global,
-    rule: &Table,
-    key: &str,
-    words: &[&str],
+    key: &'a str,
+    known: &[&str],
     those: &str,
-) -> Result<Option<Mistake>, Memory> {
-    let Some(value) = rule.get(key) else {
-        return Ok(None);
-    };
-    let Some(word) = value.as_str() else {
-        let text = format!(in alloc; "{key} is no text; it is {those}")?;
-        return Ok(Some(at(alloc, key, text.as_str())?));
-    };
-    if (&*words).contains(&word) {
-        return Ok(None);
+    page: &mut Page,
+) -> Mistake<'a> {
+    if key == "limit" {
+        page.put("a rule has a limit in version 2 alone");
+    } else {
+        put_unknown(alloc, key, known, page);
+        page.put(those);
     }
-    let shown = quoted(alloc, word.as_bytes())?;
-    let hint = hint(alloc, word, words)?;
-    let text = format!(in alloc; "unknown {key} \"{shown}\"{hint}; it is {those}")?;
-    Ok(Some(at(alloc, key, text.as_str())?))
+    at(key)
 }
 
-fn limit_fault(alloc: Global, rule: &Table) -> Result<Mistake, Memory> {
-    if rule.get("effect").and_then(Value::as_str) == Some("deny") {
-        return at(alloc, "limit", "limit stands beside an effect that denies");
+fn rule_key_fault<'a>(
+    alloc: Global,
+    rule: &'a Table,
+    limits: bool,
+    page: &mut Page,
+) -> Mistake<'a> {
+    let known = if limits {
+        LIMITED_KEYS.as_slice()
+    } else {
+        RULE_KEYS.as_slice()
+    };
+    let those = if limits {
+        "a rule has effect, kind, match, from, limit"
+    } else {
+        "a rule has effect, kind, match, from"
+    };
+    match unknown_key(rule, known) {
+        Some(key) => unknown_fault(alloc, key, known, those, page),
+        None => lacking_fault(rule, those, page),
     }
-    at(alloc, "limit", "limit is no whole number from 1 to 1000000")
 }
 
-fn value_fault(alloc: Global, rule: &Table) -> Result<Mistake, Memory> {
-    if let Some(fault) = word_fault(alloc, rule, "effect", EFFECTS.as_slice(), "allow or deny")? {
-        return Ok(fault);
+// A key whose value is to be one of these words.
+#[derive(Clone, Copy, Drop)]
+struct Choice<'a> {
+    key: &'static str,
+    words: &'a [&'static str],
+    those: &'static str,
+}
+
+fn put_no_word(alloc: Global, choice: Choice<'_>, word: &str, page: &mut Page) {
+    page.put_all(&["unknown ", choice.key, " \""]);
+    page.put_quoted(word.as_bytes());
+    page.put("\"");
+    put_hint(alloc, word, choice.words, page);
+    page.put_all(&["; it is ", choice.those]);
+}
+
+// Whether the value is there and is none of the words; then that is told.
+fn is_no_choice(alloc: Global, rule: &Table, choice: Choice<'_>, page: &mut Page) -> bool {
+    let Some(value) = rule.get(choice.key) else {
+        return false;
+    };
+    match value.as_str() {
+        Some(word) if (&*choice.words).contains(&word) => false,
+        Some(word) => {
+            put_no_word(alloc, choice, word, page);
+            true
+        }
+        None => {
+            page.put_all(&[choice.key, " is no text; it is ", choice.those]);
+            true
+        }
     }
-    let kinds = "read, write, append, run, env or assign";
-    if let Some(fault) = word_fault(alloc, rule, "kind", KINDS.as_slice(), kinds)? {
-        return Ok(fault);
-    }
-    if rule.get("match").and_then(Value::as_str).is_none() {
-        return at(alloc, "match", "match is no text");
-    }
-    let kind = rule.get("kind").and_then(Value::as_str).unwrap_or("");
+}
+
+fn text_of<'a>(rule: &'a Table, key: &str) -> Option<&'a str> {
+    rule.get(key).and_then(Value::as_str)
+}
+
+fn limit_fault<'a>(rule: &Table, page: &mut Page) -> Mistake<'a> {
+    page.put(if text_of(rule, "effect") == Some("deny") {
+        "limit stands beside an effect that denies"
+    } else {
+        "limit is no whole number from 1 to 1000000"
+    });
+    at("limit")
+}
+
+fn from_fault<'a>(alloc: Global, rule: &Table, page: &mut Page) -> Mistake<'a> {
+    let kind = text_of(rule, "kind").unwrap_or("");
     if rule.get("from").is_some() && kind != "read" && kind != "assign" {
-        let words = format!(in alloc;
-            "from stands beside kind \"{kind}\"; it is for read and assign"
-        )?;
-        return at(alloc, "from", words.as_str());
+        page.put_all(&[
+            "from stands beside kind \"",
+            kind,
+            "\"; it is for read and assign",
+        ]);
+        return at("from");
     }
-    if let Some(fault) = word_fault(alloc, rule, "from", SOURCES.as_slice(), "any or given")? {
-        return Ok(fault);
+    let sources = Choice {
+        key: "from",
+        words: SOURCES.as_slice(),
+        those: "any or given",
+    };
+    if is_no_choice(alloc, rule, sources, page) {
+        return at("from");
     }
-    limit_fault(alloc, rule)
+    limit_fault(rule, page)
+}
+
+fn value_fault<'a>(alloc: Global, rule: &Table, page: &mut Page) -> Mistake<'a> {
+    let effects = Choice {
+        key: "effect",
+        words: EFFECTS.as_slice(),
+        those: "allow or deny",
+    };
+    if is_no_choice(alloc, rule, effects, page) {
+        return at("effect");
+    }
+    let kinds = Choice {
+        key: "kind",
+        words: KINDS.as_slice(),
+        those: "read, write, append, run, env or assign",
+    };
+    if is_no_choice(alloc, rule, kinds, page) {
+        return at("kind");
+    }
+    if text_of(rule, "match").is_none() {
+        page.put("match is no text");
+        return at("match");
+    }
+    from_fault(alloc, rule, page)
 }
 
 // The reason why this is no pattern of its kind.
@@ -311,21 +393,35 @@ fn pattern_reason(kind: &str, pattern: &str) -> &'static str {
     "** stands inside a longer component; write it as a component of its own"
 }
 
-fn pattern_fault(alloc: Global, rule: &Table) -> Result<Mistake, Memory> {
-    let kind = rule.get("kind").and_then(Value::as_str).unwrap_or("");
-    let pattern = rule.get("match").and_then(Value::as_str).unwrap_or("");
-    let shown = quoted(alloc, pattern.as_bytes())?;
-    let reason = pattern_reason(kind, pattern);
-    let words = format!(in alloc; "match \"{shown}\" is no pattern of kind {kind}: {reason}")?;
-    at(alloc, "match", words.as_str())
+fn pattern_fault<'a>(rule: &Table, page: &mut Page) -> Mistake<'a> {
+    let kind = text_of(rule, "kind").unwrap_or("");
+    let pattern = text_of(rule, "match").unwrap_or("");
+    page.put("match \"");
+    page.put_quoted(pattern.as_bytes());
+    page.put("\" is no pattern of kind ");
+    page.put(kind);
+    page.put(": ");
+    page.put(pattern_reason(kind, pattern));
+    at("match")
 }
 
-fn rule_fault(alloc: Global, rule: &Table, code: u8, limits: bool) -> Result<Mistake, Memory> {
+fn long_fault<'a>(page: &mut Page) -> Mistake<'a> {
+    page.put("match has more than 4096 bytes");
+    at("match")
+}
+
+fn rule_fault<'a>(
+    alloc: Global,
+    rule: &'a Table,
+    code: u8,
+    limits: bool,
+    page: &mut Page,
+) -> Mistake<'a> {
     match code {
-        PolicyError::KEY => rule_key_fault(alloc, rule, limits),
-        PolicyError::VALUE => value_fault(alloc, rule),
-        PolicyError::LIMIT => at(alloc, "match", "match has more than 4096 bytes"),
-        _ => pattern_fault(alloc, rule),
+        PolicyError::KEY => rule_key_fault(alloc, rule, limits, page),
+        PolicyError::VALUE => value_fault(alloc, rule, page),
+        PolicyError::LIMIT => long_fault(page),
+        _ => pattern_fault(rule, page),
     }
 }
 
@@ -336,19 +432,27 @@ fn rule_at(table: &Table, number: u32) -> Option<&Table> {
         .as_table()
 }
 
-/// What is wrong in the table of a document that was refused for this.
-pub fn fault_in(alloc: Global, table: &Table, error: PolicyError) -> Result<Mistake, Memory> {
-    if error.code == PolicyError::MEMORY {
-        return Err(AllocError);
-    }
+/// Where the table of a document that was refused for this is wrong; what is wrong there is written.
+pub(crate) fn fault_in<'a>(
+    alloc: Global,
+    table: &'a Table,
+    error: PolicyError,
+    page: &mut Page,
+) -> Mistake<'a> {
     if error.rule == 0 {
-        return top_fault(alloc, table, error.code);
+        return top_fault(alloc, table, error.code, page);
     }
     match rule_at(table, error.rule) {
         Some(rule) => {
-            let fault = rule_fault(alloc, rule, error.code, has_limits(table))?;
-            Ok(fault.in_rule(error.rule))
+            let fault = rule_fault(alloc, rule, error.code, has_limits(table), page);
+            Mistake {
+                rule: error.rule,
+                ..fault
+            }
         }
-        None => nowhere(alloc, "the rule is refused"),
+        None => {
+            page.put("the rule is refused");
+            nowhere()
+        }
     }
 }

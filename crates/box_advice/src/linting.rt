@@ -5,10 +5,11 @@ ghost use Rattle.box_policy.specs.Written.{Written};
 ghost use Rattle.box_advice.specs.Lints.{Lints};
 
 use crate::faults::{Mistake, fault_in, rules_of};
-use crate::lookalikes::lookalike_words;
+use crate::lookalikes::put_lookalike;
+use crate::page::Page;
 use crate::places::{Places, header_line, key_line};
 use crate::unreached::{Unreached, rules_unreached};
-use crate::warnings::{Read, push_warnings};
+use crate::warnings::{Read, warnings};
 use awk_text::Memory;
 use box_policy::error::PolicyError;
 use box_policy::policy::Policy;
@@ -34,20 +35,20 @@ fn line_at(text: &[u8], at: usize) -> usize {
 }
 
 // The line of a mistake above the rules: of its key, or else the first one, where a key may be written.
-fn top_line(text: &[u8], key: &Option<String>) -> Option<usize> {
+fn top_line(text: &[u8], key: Option<&str>) -> Option<usize> {
     let Some(key) = key else {
         return Some(1);
     };
-    match key_line(text, 0, key.as_str()) {
+    match key_line(text, 0, key) {
         Some(line) => Some(line),
-        None => header_line(text, key.as_str()),
+        None => header_line(text, key),
     }
 }
 
 // The line of a mistake in the rule that begins on this line: of its key, or else the rule's own.
-fn rule_line(text: &[u8], start: usize, key: &Option<String>) -> usize {
+fn rule_line(text: &[u8], start: usize, key: Option<&str>) -> usize {
     match key {
-        Some(key) => key_line(text, start, key.as_str()).unwrap_or(start),
+        Some(key) => key_line(text, start, key).unwrap_or(start),
         None => start,
     }
 }
@@ -58,68 +59,84 @@ fn line_of(
     alloc: Global,
     text: &[u8],
     table: &Table,
-    mistake: &Mistake,
+    mistake: Mistake<'_>,
 ) -> Result<Option<usize>, Memory> {
     if mistake.rule == 0 {
-        return Ok(top_line(text, &mistake.key));
+        return Ok(top_line(text, mistake.key));
     }
     match Places::of(alloc, text, rules_of(table).len())?.line(mistake.rule) {
-        Some(start) => Ok(Some(rule_line(text, start, &mistake.key))),
+        Some(start) => Ok(Some(rule_line(text, start, mistake.key))),
         None => Ok(key_line(text, 0, "rule")),
     }
 }
 
-fn push_line(
-    alloc: Global,
-    name: &str,
-    line: Option<usize>,
+/// A file that is refused.
+#[derive(Clone, Copy, Drop)]
+struct RefusedFile<'a> {
+    name: &'a str,
+    text: &'a [u8],
     error: PolicyError,
-    words: &str,
-    lines: &mut String,
-) -> Result<(), Memory> {
-    let text = match line {
-        Some(line) => format!(in alloc; "{name}:{line}: {error}: {words}\n")?,
-        None => format!(in alloc; "{name}: {error}: {words}\n")?,
-    };
-    lines.push_str(text.as_str())?;
-    Ok(())
+}
+
+// `F:3: P4 rule 1: `, the place of a refusal.
+fn put_place(refused: RefusedFile<'_>, line: Option<usize>, page: &mut Page) {
+    page.put(refused.name);
+    if let Some(line) = line {
+        page.put(":");
+        page.put_number(line as u64);
+    }
+    page.put(": ");
+    page.put_error(refused.error);
+    page.put(": ");
 }
 
 // The text is no document.
-fn push_document(
-    alloc: Global,
-    name: &str,
-    text: &[u8],
-    refused: PolicyError,
-    error: &toml::de::Error,
-    lines: &mut String,
-) -> Result<(), Memory> {
-    let Some(span) = error.span() else {
-        return push_line(alloc, name, None, refused, error.message(), lines);
-    };
-    let line = Some(line_at(text, span.start));
-    let hint = lookalike_words(alloc, text, span.start)?;
-    let message = error.message();
-    let words = format!(in alloc; "{message}{hint}")?;
-    push_line(alloc, name, line, refused, words.as_str(), lines)
-}
-
-fn push_refusal(
-    alloc: Global,
-    name: &str,
-    text: &[u8],
-    refused: PolicyError,
-    lines: &mut String,
-) -> Result<(), Memory> {
-    match toml::table_from_slice(alloc, text) {
-        Err(error) if error.is_memory() => Err(AllocError),
-        Err(error) => push_document(alloc, name, text, refused, &error, lines),
-        Ok(table) => {
-            let mistake = fault_in(alloc, &table, refused)?;
-            let line = line_of(alloc, text, &table, &mistake)?;
-            push_line(alloc, name, line, refused, mistake.words.as_str(), lines)
+fn put_document(refused: RefusedFile<'_>, error: &toml::de::Error, page: &mut Page) {
+    match error.span() {
+        Some(span) => {
+            put_place(refused, Some(line_at(refused.text, span.start)), page);
+            page.put(error.message());
+            put_lookalike(refused.text, span.start, page);
+        }
+        None => {
+            put_place(refused, None, page);
+            page.put(error.message());
         }
     }
+    page.put("\n");
+}
+
+// The text is a document that is no policy.
+fn put_table(
+    alloc: Global,
+    refused: RefusedFile<'_>,
+    table: &Table,
+    page: &mut Page,
+) -> Result<(), Memory> {
+    let mut words = Page::new(alloc);
+    let mistake = fault_in(alloc, table, refused.error, &mut words);
+    let words = words.end()?;
+    let line = line_of(alloc, refused.text, table, mistake)?;
+    put_place(refused, line, page);
+    page.put_all(&[words.as_str(), "\n"]);
+    Ok(())
+}
+
+fn put_refusal(alloc: Global, refused: RefusedFile<'_>, page: &mut Page) -> Result<(), Memory> {
+    match toml::table_from_slice(alloc, refused.text) {
+        Err(error) if error.is_memory() => Err(AllocError),
+        Err(error) => {
+            put_document(refused, &error, page);
+            Ok(())
+        }
+        Ok(table) => put_table(alloc, refused, &table, page),
+    }
+}
+
+fn refusal_lines(alloc: Global, refused: RefusedFile<'_>) -> Result<String, Memory> {
+    let mut page = Page::new(alloc);
+    put_refusal(alloc, refused, &mut page)?;
+    page.end()
 }
 
 // Whether memory was refused.
@@ -152,7 +169,6 @@ fn in_order(
     ensures { IfOk result (Lints text.now) }
 {
     let unreached = rules_unreached(alloc, policy)?;
-    let mut lines = String::new(alloc);
     let read = Read {
         name,
         file,
@@ -160,7 +176,7 @@ fn in_order(
         policy,
         unreached: unreached.as_slice(),
     };
-    push_warnings(alloc, read, &mut lines)?;
+    let lines = warnings(alloc, read)?;
     Ok(Findings {
         refusal: None,
         unreached,
@@ -175,8 +191,7 @@ fn refused(alloc: Global, name: &str, text: &[u8], error: PolicyError) -> Result
     if is_memory(error) {
         return Err(AllocError);
     }
-    let mut lines = String::new(alloc);
-    push_refusal(alloc, name, text, error, &mut lines)?;
+    let lines = refusal_lines(alloc, RefusedFile { name, text, error })?;
     Ok(Findings {
         refusal: Some(error),
         unreached: Vec::new(alloc),

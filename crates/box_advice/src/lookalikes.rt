@@ -1,6 +1,5 @@
 // Characters that look like those of TOML, and are none.
-use awk_text::Memory;
-use std::alloc::Global;
+use crate::page::Page;
 
 /// Characters, and what they are taken for.
 const LOOKALIKES: [(char, &str); 12] = [
@@ -38,17 +37,39 @@ fn line_with(text: &[u8], at: usize) -> &[u8] {
     rest.split(|b| *b == b'\n').next().unwrap_or(rest)
 }
 
-/// The first such character of the line that this place of the text stands on, with its column, in words that follow
-/// those of a fault; no words, where there is none.
-pub(crate) fn lookalike_words(alloc: Global, text: &[u8], at: usize) -> Result<String, Memory> {
-    let line = std::str::from_utf8(line_with(text, at)).unwrap_or("");
+/// Such a character, the column where it stands, and what it is taken for.
+#[derive(Clone, Copy, Drop)]
+struct Lookalike {
+    character: char,
+    column: u32,
+    like: &'static str,
+}
+
+fn first_lookalike(line: &str) -> Option<Lookalike> {
     let mut column = 0u32;
-    for c in line.chars() {
+    for character in line.chars() {
         column = column.saturating_add(1);
-        if let Some(like) = like_of(c) {
-            let code = c as u32;
-            return format!(in alloc; "; column {column} has U+{code:04X}, which looks like {like}");
+        if let Some(like) = like_of(character) {
+            return Some(Lookalike {
+                character,
+                column,
+                like,
+            });
         }
     }
-    Ok(String::new(alloc))
+    None
+}
+
+/// The first such character of the line that this place of the text stands on, with its column, in words that follow
+/// those of a fault; no words, where there is none.
+pub(crate) fn put_lookalike(text: &[u8], at: usize, page: &mut Page) {
+    let line = std::str::from_utf8(line_with(text, at)).unwrap_or("");
+    if let Some(found) = first_lookalike(line) {
+        page.put("; column ");
+        page.put_number(u64::from(found.column));
+        page.put(" has ");
+        page.put_code(found.character);
+        page.put(", which looks like ");
+        page.put(found.like);
+    }
 }

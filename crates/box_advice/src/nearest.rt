@@ -1,4 +1,5 @@
 // The word that a misspelled one was meant to be.
+use crate::page::Page;
 use awk_text::Memory;
 use std::alloc::Global;
 use strsim::levenshtein;
@@ -27,9 +28,10 @@ fn nearest<'a>(alloc: Global, word: &str, words: &[&'a str]) -> Result<Option<&'
 }
 
 /// ` (did you mean "match"?)`, or nothing.
-pub fn hint(alloc: Global, word: &str, words: &[&str]) -> Result<String, Memory> {
-    match nearest(alloc, word, words)? {
-        Some(best) => format!(in alloc; " (did you mean \"{best}\"?)"),
-        None => Ok(String::new(alloc)),
+pub(crate) fn put_hint(alloc: Global, word: &str, words: &[&str], page: &mut Page) {
+    match nearest(alloc, word, words) {
+        Ok(Some(best)) => page.put_all(&[" (did you mean \"", best, "\"?)"]),
+        Ok(None) => {}
+        Err(_) => page.cut(),
     }
 }

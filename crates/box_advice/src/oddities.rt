@@ -1,11 +1,7 @@
 // Patterns that look like those of another language, or not like what they are.
-use awk_text::Memory;
+use crate::explaining::is_of_files;
+use crate::page::Page;
 use box_policy::policy::{Kind, Rule};
-use std::alloc::Global;
-
-fn is_of_files(kind: Kind) -> bool {
-    matches!(kind, Kind::Read | Kind::Write | Kind::Append)
-}
 
 fn has_between(text: &[u8], open: u8, close: u8) -> bool {
     match text.iter().position(|b| *b == open) {
@@ -60,20 +56,6 @@ fn hidden_in(text: &str) -> Option<char> {
     None
 }
 
-fn hidden_words(alloc: Global, pattern: &[u8]) -> Result<Option<String>, Memory> {
-    let Ok(text) = std::str::from_utf8(pattern) else {
-        return Ok(None);
-    };
-    match hidden_in(text) {
-        Some(c) => {
-            let code = c as u32;
-            let words = format!(in alloc; "it holds a character that does not show, U+{code:04X}")?;
-            Ok(Some(words))
-        }
-        None => Ok(None),
-    }
-}
-
 /// What a rule of this kind allows with just `*` or `**`.
 fn everything(kind: Kind, pattern: &[u8]) -> Option<&'static str> {
     let is_all = pattern == b"**".as_slice();
@@ -95,13 +77,33 @@ pub(crate) fn wide_words(rule: &Rule) -> Option<&'static str> {
     everything(rule.kind, rule.pattern.bytes())
 }
 
-/// What the rule's pattern does not say that it seems to say.
-pub(crate) fn odd_words(alloc: Global, rule: &Rule) -> Result<Option<String>, Memory> {
+/// What a rule's pattern does not say that it seems to say, or the character in it that does not show.
+#[derive(Clone, Copy, Drop)]
+pub(crate) enum Oddity {
+    Words(&'static str),
+    Hidden(char),
+}
+
+pub(crate) fn oddity_of(rule: &Rule) -> Option<Oddity> {
     let pattern = rule.pattern.bytes();
     if is_of_files(rule.kind) {
         if let Some(words) = path_words(pattern) {
-            return Ok(Some(String::from_str(alloc, words)?));
+            return Some(Oddity::Words(words));
         }
     }
-    hidden_words(alloc, pattern)
+    let text = std::str::from_utf8(pattern).unwrap_or("");
+    match hidden_in(text) {
+        Some(c) => Some(Oddity::Hidden(c)),
+        None => None,
+    }
+}
+
+pub(crate) fn put_oddity(oddity: Oddity, page: &mut Page) {
+    match oddity {
+        Oddity::Words(words) => page.put(words),
+        Oddity::Hidden(c) => {
+            page.put("it holds a character that does not show, ");
+            page.put_code(c);
+        }
+    }
 }

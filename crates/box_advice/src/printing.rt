@@ -1,8 +1,10 @@
 // Rules and comments as they are written in a policy's text. What is written is read again before it is handed out, so
 // that no claim rests on this.
+use crate::folders::Names;
+use crate::page::Page;
 use crate::wanting::Fate;
 use crate::wishes::{Origin, Wish};
-use crate::words::{effect_word, kind_word, quoted};
+use crate::words::{effect_word, kind_word};
 use awk_text::Memory;
 use box_policy::policy::{Effect, Kind, MAX_PATTERN, Policy, Rule};
 use std::alloc::Global;
@@ -10,68 +12,87 @@ use std::alloc::Global;
 /// The most bytes of a text that a comment shows.
 const MOST_SHOWN: usize = 1024;
 
-// A character of TOML by its number.
-fn push_escape(alloc: Global, code: u32, lines: &mut String) -> Result<(), Memory> {
-    let text = if code > 0xffff {
-        format!(in alloc; "\\U{code:08x}")?
-    } else {
-        format!(in alloc; "\\u{code:04x}")?
-    };
-    lines.push_str(text.as_str())?;
-    Ok(())
-}
-
 // A string of TOML, between quotes. What is no printable ASCII stands there by its number.
-fn push_string(alloc: Global, text: &str, lines: &mut String) -> Result<(), Memory> {
-    lines.push_str("\"")?;
+fn put_string(text: &str, page: &mut Page) {
+    page.put("\"");
     for c in text.chars() {
-        match c {
-            '"' => lines.push_str("\\\"")?,
-            '\\' => lines.push_str("\\\\")?,
-            '\n' => lines.push_str("\\n")?,
-            '\t' => lines.push_str("\\t")?,
-            ' '..='~' => lines.push(c)?,
-            _ => push_escape(alloc, c as u32, lines)?,
-        }
+        put_character(c, page);
     }
-    lines.push_str("\"")?;
-    Ok(())
+    page.put("\"");
 }
 
-fn push_line(alloc: Global, key: &str, text: &str, lines: &mut String) -> Result<(), Memory> {
-    lines.push_str(key)?;
-    lines.push_str(" = ")?;
-    push_string(alloc, text, lines)?;
-    lines.push_str("\n")?;
-    Ok(())
+fn put_character(c: char, page: &mut Page) {
+    match c {
+        '"' => page.put("\\\""),
+        '\\' => page.put("\\\\"),
+        ' '..='~' => page.put_char(c),
+        _ => page.put_escape(c),
+    }
 }
 
-/// The table of the rule. A pattern that is not UTF-8 is left empty, which no policy has.
-pub(crate) fn push_rule(alloc: Global, rule: &Rule, lines: &mut String) -> Result<(), Memory> {
-    let pattern = std::str::from_utf8(rule.pattern.bytes()).unwrap_or("");
-    lines.push_str("[[rule]]\n")?;
-    push_line(alloc, "effect", effect_word(rule.effect), lines)?;
-    push_line(alloc, "kind", kind_word(rule.kind), lines)?;
-    push_line(alloc, "match", pattern, lines)?;
-    if rule.only_given {
-        push_line(alloc, "from", "given", lines)?;
+// The key's line, behind this mark.
+fn put_line(mark: &str, key: &str, text: &str, page: &mut Page) {
+    page.put(mark);
+    page.put(key);
+    page.put(" = ");
+    put_string(text, page);
+    page.put("\n");
+}
+
+/// The lines of a rule. A pattern that is not UTF-8 is left empty, which no policy has.
+#[derive(Clone, Copy, Drop)]
+struct Lines<'a> {
+    /// What stands before each of them.
+    mark: &'static str,
+    effect: &'static str,
+    kind: Kind,
+    given: bool,
+    pattern: &'a [u8],
+}
+
+fn put_lines(lines: Lines<'_>, page: &mut Page) {
+    page.put(lines.mark);
+    page.put("[[rule]]\n");
+    put_line(lines.mark, "effect", lines.effect, page);
+    put_line(lines.mark, "kind", kind_word(lines.kind), page);
+    let pattern = std::str::from_utf8(lines.pattern).unwrap_or("");
+    put_line(lines.mark, "match", pattern, page);
+    if lines.given {
+        put_line(lines.mark, "from", "given", page);
     }
+}
+
+/// The table of the rule.
+pub(crate) fn put_rule(rule: &Rule, page: &mut Page) {
+    let lines = Lines {
+        mark: "",
+        effect: effect_word(rule.effect),
+        kind: rule.kind,
+        given: rule.only_given,
+        pattern: rule.pattern.bytes(),
+    };
+    put_lines(lines, page);
     if let Effect::Allow(Some(quota)) = rule.effect {
-        lines.push_str(format!(in alloc; "limit = {}\n", quota.limit)?.as_str())?;
+        page.put("limit = ");
+        page.put_number(u64::from(quota.limit));
+        page.put("\n");
     }
-    Ok(())
 }
 
-/// What stands above the rules.
-pub(crate) fn head_of(alloc: Global, has_limits: bool, base: &str) -> Result<String, Memory> {
-    let mut lines = String::new(alloc);
-    lines.push_str(if has_limits {
+fn put_head(has_limits: bool, base: &str, page: &mut Page) {
+    page.put(if has_limits {
         "version = 2\n"
     } else {
         "version = 1\n"
-    })?;
-    push_line(alloc, "base", base, &mut lines)?;
-    Ok(lines)
+    });
+    put_line("", "base", base, page);
+}
+
+/// The policy without rules.
+pub(crate) fn bare_text(alloc: Global, base: &str) -> Result<String, Memory> {
+    let mut page = Page::new(alloc);
+    put_head(false, base, &mut page);
+    page.end()
 }
 
 fn has_limits(policy: &Policy) -> bool {
@@ -84,35 +105,47 @@ fn has_limits(policy: &Policy) -> bool {
 /// The policy, written anew.
 pub(crate) fn policy_text(alloc: Global, policy: &Policy) -> Result<String, Memory> {
     let base = std::str::from_utf8(policy.base()).unwrap_or("");
-    let mut lines = head_of(alloc, has_limits(policy), base)?;
+    let mut page = Page::new(alloc);
+    put_head(has_limits(policy), base, &mut page);
     for rule in policy.rules() {
-        lines.push_str("\n")?;
-        push_rule(alloc, rule, &mut lines)?;
+        page.put("\n");
+        put_rule(rule, &mut page);
     }
-    Ok(lines)
+    page.end()
 }
 
-// Where a request was met, as `# 3:7` or `# line 3 of the log`.
-fn push_origin(alloc: Global, origin: Origin, lines: &mut String) -> Result<(), Memory> {
-    let text = match origin {
-        Origin::Script(place) => format!(in alloc; "\n# {}:{}", place.line, place.column)?,
-        Origin::Log(line) => format!(in alloc; "\n# line {line} of the log")?,
-    };
-    lines.push_str(text.as_str())?;
-    Ok(())
+// Where a request was met, as `3:7` or `line 3 of the log`.
+fn put_origin(origin: Origin, page: &mut Page) {
+    match origin {
+        Origin::Script(place) => {
+            page.put_number(u64::from(place.line));
+            page.put(":");
+            page.put_number(u64::from(place.column));
+        }
+        Origin::Log(line) => {
+            page.put("line ");
+            page.put_number(line as u64);
+            page.put(" of the log");
+        }
+    }
+}
+
+// How a comment begins that tells of a wish.
+fn put_comment(origin: Origin, page: &mut Page) {
+    page.put("\n# ");
+    put_origin(origin, page);
 }
 
 // The text as the log of denials quotes it, cut where it is long.
-fn push_text(alloc: Global, text: &[u8], lines: &mut String) -> Result<(), Memory> {
+fn put_text(text: &[u8], page: &mut Page) {
     let shown = text.get(..MOST_SHOWN).unwrap_or(text);
-    lines.push_str("\"")?;
-    lines.push_str(quoted(alloc, shown)?.as_str())?;
-    lines.push_str(if shown.len() < text.len() {
+    page.put("\"");
+    page.put_quoted(shown);
+    page.put(if shown.len() < text.len() {
         "\" and more"
     } else {
         "\""
-    })?;
-    Ok(())
+    });
 }
 
 fn has_wildcard(kind: Kind, text: &[u8]) -> bool {
@@ -146,55 +179,89 @@ fn reason(kind: Kind, text: &[u8]) -> &'static str {
     }
 }
 
-fn push_unknown(alloc: Global, wish: &Wish, lines: &mut String) -> Result<(), Memory> {
-    push_origin(alloc, wish.origin, lines)?;
-    let kind = kind_word(wish.kind);
-    let text = format!(in alloc; " {kind} *: only a run can tell the text\n")?;
-    lines.push_str(text.as_str())?;
-    Ok(())
-}
-
-fn push_denied(
-    alloc: Global,
-    wish: &Wish,
-    text: &[u8],
-    why: &str,
-    lines: &mut String,
-) -> Result<(), Memory> {
-    push_origin(alloc, wish.origin, lines)?;
-    lines.push_str(" ")?;
-    lines.push_str(kind_word(wish.kind))?;
-    lines.push_str(" ")?;
-    push_text(alloc, text, lines)?;
-    lines.push_str(": ")?;
-    lines.push_str(why)?;
-    lines.push_str("\n")?;
-    Ok(())
-}
-
-/// The comment that tells what becomes of the wish. One that is allowed already is not told of.
-pub(crate) fn push_fate(
-    alloc: Global,
-    wish: &Wish,
-    fate: Fate,
-    lines: &mut String,
-) -> Result<(), Memory> {
+// What becomes of no rule, and why: words behind the number of a rule, where that is told.
+fn put_kept(wish: &Wish, rule: Option<u32>, why: &str, page: &mut Page) {
     let text = match &wish.text {
         Some(text) => text.bytes(),
         None => &[],
     };
+    put_comment(wish.origin, page);
+    page.put_all(&[" ", kind_word(wish.kind), " "]);
+    put_text(text, page);
+    page.put(": ");
+    if let Some(number) = rule {
+        page.put("rule ");
+        page.put_number(u64::from(number));
+    }
+    page.put_all(&[why, "\n"]);
+}
+
+fn put_unknown(wish: &Wish, page: &mut Page) {
+    put_comment(wish.origin, page);
+    page.put_all(&[
+        " ",
+        kind_word(wish.kind),
+        " *: only a run can tell the text\n",
+    ]);
+}
+
+fn put_unfit(wish: &Wish, page: &mut Page) {
+    let why = match &wish.text {
+        Some(text) => reason(wish.kind, text.bytes()),
+        None => "",
+    };
+    put_kept(wish, None, why, page);
+}
+
+/// The comment that tells what becomes of the wish. One that is allowed already is not told of.
+pub(crate) fn put_fate(wish: &Wish, fate: Fate, page: &mut Page) {
     match fate {
-        Fate::Unknown => push_unknown(alloc, wish, lines),
-        Fate::Denied(number) => {
-            let why = format!(in alloc; "rule {number} denies it")?;
-            push_denied(alloc, wish, text, why.as_str(), lines)
-        }
-        Fate::Unfit => push_denied(alloc, wish, text, reason(wish.kind, text), lines),
-        Fate::Allowed | Fate::Met => Ok(()),
+        Fate::Unknown => put_unknown(wish, page),
+        Fate::Denied(number) => put_kept(wish, Some(number), " denies it", page),
+        Fate::Unfit => put_unfit(wish, page),
+        Fate::Allowed | Fate::Offered | Fate::Met => {}
         Fate::Gains => {
-            push_origin(alloc, wish.origin, lines)?;
-            lines.push_str("\n")?;
-            Ok(())
+            put_comment(wish.origin, page);
+            page.put("\n");
         }
     }
+}
+
+// A rule in comments, one for each of its lines. Who takes the `#` from them has the rule.
+fn put_commented(kind: Kind, given: bool, pattern: &[u8], page: &mut Page) {
+    let lines = Lines {
+        mark: "#",
+        effect: "allow",
+        kind,
+        given,
+        pattern,
+    };
+    put_lines(lines, page);
+}
+
+/// Offers what is wished, for a person to allow.
+pub(crate) fn put_offer(wish: &Wish, page: &mut Page) {
+    if let Some(text) = &wish.text {
+        page.put("\n# allow? ");
+        put_origin(wish.origin, page);
+        page.put("\n");
+        put_commented(wish.kind, false, text.bytes(), page);
+    }
+}
+
+/// Offers one rule for these names, which are so many, in the place of theirs.
+pub(crate) fn put_names(
+    alloc: Global,
+    names: Names<'_>,
+    many: u32,
+    page: &mut Page,
+) -> Result<(), Memory> {
+    let mut pattern = Vec::from_slice(alloc, names.folder)?;
+    pattern.push(b'*')?;
+    pattern.extend_from_slice(names.ending)?;
+    page.put("\n# allow? this in the place of ");
+    page.put_number(u64::from(many));
+    page.put(" rules\n");
+    put_commented(names.kind, names.given, pattern.as_slice(), page);
+    Ok(())
 }

@@ -10,7 +10,7 @@ ghost use Rattle.box_advice.specs.Wishes.{grants_from};
 ghost use Rattle.box_advice.specs.declared.proposing.ProposalError.TheVariants.{Memory as OutOfMemory, Misprinted};
 
 use crate::covers::{are_of_one_kind, are_one};
-use crate::printing::{head_of, policy_text};
+use crate::printing::{bare_text, policy_text};
 use crate::wanting::Gains;
 use crate::wishes::Wish;
 use awk_text::Memory;
@@ -36,7 +36,7 @@ pub enum Basis<'a> {
 }
 
 /// Why nothing is proposed.
-#[derive(Clone, Copy, Debug, PartialEq, Eq, Drop)]
+#[derive(Clone, Copy, Debug, Drop)]
 pub enum ProposalError {
     /// The policy is refused, or the base is none.
     Policy(PolicyError),
@@ -167,7 +167,7 @@ fn begun_at(alloc: Global, base: &str) -> Result<WrittenPolicy, ProposalError>
     ensures ok { IfOk result (λ begun. begun.policy ≡ record { base = base.now; rules = [] }) }
     ensures refused { IfErr result (λ error. (error ≡ Misprinted) ⊎ (error ≡ OutOfMemory)) }
 {
-    let text = head_of(alloc, false, base)?.into_bytes();
+    let text = bare_text(alloc, base)?.into_bytes();
     let policy = read_back(alloc, text.as_slice())?;
     if !has_base(&policy, Some(base)) {
         return Err(ProposalError::Misprinted);
@@ -292,7 +292,8 @@ fn written(
         (λ found. IfSome found (λ text. Written text.items (with_gained beginning.now.policy gains.now.rules.items))) }
 {
     let first = &beginning.policy;
-    let (rules, lines) = (gains.rules.as_slice(), gains.lines.as_str());
+    let rules = gains.rules.as_slice();
+    let lines = gains.page.text()?;
     let text = joined(alloc, beginning.text.as_slice(), lines)?;
     if reads(alloc, text.as_slice(), first, rules)? {
         return Ok(Some(text));

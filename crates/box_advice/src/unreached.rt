@@ -1,100 +1,82 @@
 // Rules that no request reaches.
-ghost use Rattle.std.specs.Prelude.{◌≡◌, ◌≤◌, true, length, take, ◌++◌, IfOk, OnOk};
-ghost use Rattle.box_policy.specs.Decisions.{decision};
-ghost use Rattle.box_policy.specs.Exact.{is_exact};
-ghost use Rattle.box_policy.specs.Short.{are_short};
-ghost use Rattle.box_advice.specs.Unreached.{AreUnreached, first_covering, number_in, unreached_by, unreached_in};
+ghost use Rattle.std.specs.Prelude.{◌≡◌, ◌≤◌, false, true, length, take, ◌++◌, IfOk, OnOk};
+ghost use Rattle.box_advice.specs.Covers.{covers};
+ghost use Rattle.box_advice.specs.Heads.{AreHeads, IsHeadOf, IsTrailOf, pieces};
+ghost use Rattle.box_advice.specs.Unreached.{AreUnreached, first_covering, unreached_by, unreached_in};
 
 use crate::covers::covers;
+use crate::heads::{Head, Trail, may_fit, outline_of};
 use awk_text::Memory;
-use box_policy::exact::is_exact;
-use box_policy::policy::{Decision, Policy, Rule};
+use box_policy::policy::{Policy, Rule};
 use std::alloc::Global;
 
 /// A rule that decides nothing, since an earlier one speaks of all that it speaks of: the numbers of both.
-#[derive(Clone, Copy, Debug, PartialEq, Eq, Drop)]
+#[derive(Clone, Copy, Drop)]
 pub struct Unreached {
     pub rule: u32,
     pub by: u32,
 }
 
-/// The number of the first of these rules that covers the later one.
-fn scanned(
+/// Whether the head of the earlier rule and the trail of the later one tell that it does not cover that.
+fn is_apart(
+    policy: &Policy,
+    earlier: &Rule,
+    head: &Option<Head>,
+    later: &Rule,
+    trail: &Option<Trail>,
+) -> bool
+    requires head { IsHeadOf earlier.now.kind (pieces policy.now.base earlier.now.kind earlier.now.pattern) head.now }
+    requires trail { IsTrailOf later.now.kind (pieces policy.now.base later.now.kind later.now.pattern) trail.now }
+    ensures { result ≡ true → covers policy.now.base earlier.now later.now ≡ false }
+{
+    !may_fit(head, trail)
+}
+
+/// Whether the earlier rule, of this head, covers the later one, of this trail.
+fn covers_at(
     alloc: Global,
     policy: &Policy,
-    earlier: &[Rule],
+    earlier: &Rule,
+    head: &Option<Head>,
     later: &Rule,
-) -> Result<Option<u32>, Memory>
-    requires short { are_short earlier.now ≡ true }
-    requires few { length earlier.now ≤ 1024 }
-    ensures { IfOk result (λ n. n ≡ first_covering policy.now.base earlier.now later.now) }
+    trail: &Option<Trail>,
+) -> Result<bool, Memory>
+    requires short { length earlier.now.pattern ≤ 4096 }
+    requires head { IsHeadOf earlier.now.kind (pieces policy.now.base earlier.now.kind earlier.now.pattern) head.now }
+    requires trail { IsTrailOf later.now.kind (pieces policy.now.base later.now.kind later.now.pattern) trail.now }
+    ensures { IfOk result (λ b. b ≡ covers policy.now.base earlier.now later.now) }
 {
+    if is_apart(policy, earlier, head, later, trail) {
+        return Ok(false);
+    }
+    covers(alloc, policy, earlier, later)
+}
+
+/// The number of the first rule that covers the later one, of those that have these heads. Patterns are matched only
+/// where head and trail fit.
+fn first_covering(
+    alloc: Global,
+    policy: &Policy,
+    heads: &[Option<Head>],
+    later: &Rule,
+    trail: &Option<Trail>,
+) -> Result<Option<u32>, Memory>
+    requires few { length heads.now ≤ length policy.now.rules }
+    requires heads { AreHeads policy.now.base policy.now.rules heads.now }
+    requires trail { IsTrailOf later.now.kind (pieces policy.now.base later.now.kind later.now.pattern) trail.now }
+    ensures { IfOk result
+        (λ n. n ≡ first_covering policy.now.base (take (length heads.now) policy.now.rules) later.now) }
+{
+    let earlier = &policy.rules()[..heads.len()];
     let mut number = 0u32;
     for rule in earlier {
+        let head = &heads[number as usize];
         number += 1;
-        if covers(alloc, policy, rule, later)? {
+        if covers_at(alloc, policy, rule, head, later, trail)? {
             return Ok(Some(number));
         }
     }
     Ok(None)
-}
-
-fn number_in(decision: Decision) -> Option<u32>
-    ensures { result ≡ number_in decision }
-{
-    match decision {
-        Decision::Allow(number) | Decision::Deny(number) => Some(number),
-        Decision::NoRule => None,
-    }
-}
-
-/// The number of the first rule of all that speaks of the pattern of this one.
-fn deciding(policy: &Policy, rule: &Rule) -> Option<u32>
-    ensures { result ≡ number_in (decision policy.now rule.now.kind rule.now.pattern rule.now.only_given) }
-{
-    number_in(policy.decide(rule.kind, rule.pattern.bytes(), rule.only_given))
-}
-
-/// The number of the first of so many rules that covers the later one, which fits one text alone. The index of the
-/// policy tells which rule is the first to speak of that; only where that has a limit are the others looked at.
-fn first_alone(
-    alloc: Global,
-    policy: &Policy,
-    count: usize,
-    later: &Rule,
-) -> Result<Option<u32>, Memory>
-    requires alone { is_exact policy.now.base later.now.kind later.now.pattern ≡ true }
-    requires few { count ≤ length policy.now.rules }
-    ensures { IfOk result (λ n. n ≡ first_covering policy.now.base (take count policy.now.rules) later.now) }
-{
-    let rules = policy.rules();
-    let Some(number) = deciding(policy, later) else {
-        return Ok(None);
-    };
-    let at = (number as usize).saturating_sub(1);
-    if at >= count {
-        return Ok(None);
-    }
-    if covers(alloc, policy, &rules[at], later)? {
-        return Ok(Some(number));
-    }
-    scanned(alloc, policy, &rules[..count], later)
-}
-
-/// The number of the first of so many rules that covers the later one.
-fn first_covering(
-    alloc: Global,
-    policy: &Policy,
-    count: usize,
-    later: &Rule,
-) -> Result<Option<u32>, Memory>
-    requires few { count ≤ length policy.now.rules }
-    ensures { IfOk result (λ n. n ≡ first_covering policy.now.base (take count policy.now.rules) later.now) }
-{
-    if is_exact(policy.base(), later.kind, later.pattern.bytes()) {
-        return first_alone(alloc, policy, count, later);
-    }
-    scanned(alloc, policy, &policy.rules()[..count], later)
 }
 
 fn push_unreached(told: &mut Vec<Unreached>, rule: u32, by: Option<u32>) -> Result<(), Memory>
@@ -118,11 +100,13 @@ pub(crate) fn rules_unreached(alloc: Global, policy: &Policy) -> Result<Vec<Unre
 fn found(alloc: Global, policy: &Policy) -> Result<Vec<Unreached>, Memory>
     ensures { IfOk result (λ told. told.items ≡ unreached_in policy.now.base policy.now.rules (length policy.now.rules)) }
 {
-    let rules = policy.rules();
     let mut told = Vec::new(alloc);
-    for at in 0..rules.len() {
-        let by = first_covering(alloc, policy, at, &rules[at])?;
-        push_unreached(&mut told, at as u32 + 1, by)?;
+    let mut heads = Vec::new(alloc);
+    for rule in policy.rules() {
+        let outline = outline_of(alloc, policy.base(), rule.kind, rule.pattern.bytes())?;
+        let by = first_covering(alloc, policy, heads.as_slice(), rule, &outline.trail)?;
+        heads.push(outline.head)?;
+        push_unreached(&mut told, heads.len() as u32, by)?;
     }
     Ok(told)
 }

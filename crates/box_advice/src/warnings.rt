@@ -1,11 +1,12 @@
 // What the rules of a policy say that may not be meant.
-use crate::commands::command_words;
-use crate::oddities::{odd_words, wide_words};
+use crate::commands::{put_remark, remark_on};
+use crate::oddities::{oddity_of, put_oddity, wide_words};
+use crate::page::Page;
 use crate::places::{Places, PolicyFile};
 use crate::unreached::Unreached;
 use crate::words::kind_word;
 use awk_text::Memory;
-use box_policy::policy::{Decision, Effect, Kind, Policy};
+use box_policy::policy::{Decision, Effect, Kind, Policy, Rule};
 use std::alloc::Global;
 
 const FILES: [Kind; 3] = [Kind::Read, Kind::Write, Kind::Append];
@@ -23,36 +24,23 @@ const DEV: [&str; 2] = ["/dev/fd/3", "/dev/mem"];
 /// Nobody has this name: a rule that fits it fits whatever stands in the root.
 const ROOT: [&str; 1] = ["/.awkbox-lint"];
 
-fn push_warning(
-    alloc: Global,
-    source: PolicyFile<'_>,
-    number: u32,
-    words: &str,
-    lines: &mut String,
-) -> Result<(), Memory> {
-    let name = source.name;
-    let text = match source.places.line(number) {
-        Some(line) => format!(in alloc; "{name}:{line}: warning: rule {number}: {words}\n")?,
-        None => format!(in alloc; "{name}: warning: rule {number}: {words}\n")?,
-    };
-    lines.push_str(text.as_str())?;
-    Ok(())
+// How a warning begins.
+fn begin(source: PolicyFile<'_>, number: u32, page: &mut Page) {
+    page.put(source.name);
+    if let Some(line) = source.places.line(number) {
+        page.put(":");
+        page.put_number(line as u64);
+    }
+    page.put(": warning: rule ");
+    page.put_number(u64::from(number));
+    page.put(": ");
 }
 
-fn push_unreached(
-    alloc: Global,
-    source: PolicyFile<'_>,
-    unreached: &[Unreached],
-    lines: &mut String,
-) -> Result<(), Memory> {
-    for told in unreached {
-        let words = format!(in alloc;
-            "no request reaches it: rule {} decides all that it speaks of",
-            told.by
-        )?;
-        push_warning(alloc, source, told.rule, words.as_str(), lines)?;
-    }
-    Ok(())
+fn put_unreached(source: PolicyFile<'_>, told: Unreached, page: &mut Page) {
+    begin(source, told.rule, page);
+    page.put("no request reaches it: rule ");
+    page.put_number(u64::from(told.by));
+    page.put(" decides all that it speaks of\n");
 }
 
 // The rule that allows one of these names.
@@ -66,60 +54,69 @@ fn allowing(policy: &Policy, kind: Kind, names: &[&str]) -> Option<u32> {
 }
 
 // Warns where a rule allows one of the names of this place.
-fn push_reached(
-    alloc: Global,
-    source: PolicyFile<'_>,
-    names: &[&str],
-    place: &str,
-    lines: &mut String,
-) -> Result<(), Memory> {
+fn put_reached(source: PolicyFile<'_>, names: &[&str], place: &str, page: &mut Page) {
     for kind in FILES {
         if let Some(number) = allowing(source.policy, kind, names) {
-            let kind = kind_word(kind);
-            let words = format!(in alloc; "allow {kind} reaches {place}")?;
-            push_warning(alloc, source, number, words.as_str(), lines)?;
+            begin(source, number, page);
+            page.put_all(&["allow ", kind_word(kind), " reaches "]);
+            page.put(place);
+            page.put("\n");
         }
     }
-    Ok(())
 }
 
-fn push_commands(alloc: Global, source: PolicyFile<'_>, lines: &mut String) -> Result<(), Memory> {
+fn put_command(source: PolicyFile<'_>, number: u32, rule: &Rule, page: &mut Page) {
+    if rule.kind == Kind::Run && rule.effect != Effect::Deny {
+        if let Some(remark) = remark_on(rule.pattern.bytes()) {
+            begin(source, number, page);
+            put_remark(remark, page);
+            page.put("\n");
+        }
+    }
+}
+
+fn put_commands(source: PolicyFile<'_>, page: &mut Page) {
     let mut number = 0u32;
     for rule in source.policy.rules() {
         number = number.saturating_add(1);
-        if rule.kind == Kind::Run && rule.effect != Effect::Deny {
-            if let Some(words) = command_words(alloc, rule.pattern.bytes())? {
-                push_warning(alloc, source, number, words.as_str(), lines)?;
-            }
-        }
+        put_command(source, number, rule, page);
     }
-    Ok(())
 }
 
 // Warns where a rule fits all that there is of its kind. What the host gives, it has picked.
-fn push_wide(alloc: Global, source: PolicyFile<'_>, lines: &mut String) -> Result<(), Memory> {
+fn put_wide(source: PolicyFile<'_>, number: u32, rule: &Rule, page: &mut Page) {
+    if rule.effect != Effect::Deny && !rule.only_given {
+        if let Some(words) = wide_words(rule) {
+            begin(source, number, page);
+            page.put(words);
+            page.put("\n");
+        }
+    }
+}
+
+fn put_wides(source: PolicyFile<'_>, page: &mut Page) {
     let mut number = 0u32;
     for rule in source.policy.rules() {
         number = number.saturating_add(1);
-        if rule.effect != Effect::Deny && !rule.only_given {
-            if let Some(words) = wide_words(rule) {
-                push_warning(alloc, source, number, words, lines)?;
-            }
-        }
+        put_wide(source, number, rule, page);
     }
-    Ok(())
 }
 
 // Warns where a rule seems to say what it does not.
-fn push_odd(alloc: Global, source: PolicyFile<'_>, lines: &mut String) -> Result<(), Memory> {
+fn put_odd(source: PolicyFile<'_>, number: u32, rule: &Rule, page: &mut Page) {
+    if let Some(oddity) = oddity_of(rule) {
+        begin(source, number, page);
+        put_oddity(oddity, page);
+        page.put("\n");
+    }
+}
+
+fn put_odds(source: PolicyFile<'_>, page: &mut Page) {
     let mut number = 0u32;
     for rule in source.policy.rules() {
         number = number.saturating_add(1);
-        if let Some(words) = odd_words(alloc, rule)? {
-            push_warning(alloc, source, number, words.as_str(), lines)?;
-        }
+        put_odd(source, number, rule, page);
     }
-    Ok(())
 }
 
 /// The policy of a file, and which of its rules no request reaches. `file` is the absolute name of the file.
@@ -135,19 +132,27 @@ pub struct Read<'a> {
 /// The warnings for this policy: rules that no request reaches, rules that allow the policy itself, `/proc`, `/dev` or
 /// the root, commands with more room than they seem to have, rules for all that there is of a kind, and patterns that
 /// look like those of another language.
-pub fn push_warnings(alloc: Global, read: Read<'_>, lines: &mut String) -> Result<(), Memory> {
+pub(crate) fn warnings(alloc: Global, read: Read<'_>) -> Result<String, Memory> {
     let places = Places::of(alloc, read.text, read.policy.count())?;
     let source = PolicyFile {
         name: read.name,
         policy: read.policy,
         places: &places,
     };
-    push_unreached(alloc, source, read.unreached, lines)?;
-    push_reached(alloc, source, &[read.file], "the policy", lines)?;
-    push_reached(alloc, source, PROC.as_slice(), "/proc", lines)?;
-    push_reached(alloc, source, DEV.as_slice(), "/dev", lines)?;
-    push_reached(alloc, source, ROOT.as_slice(), "the root", lines)?;
-    push_commands(alloc, source, lines)?;
-    push_wide(alloc, source, lines)?;
-    push_odd(alloc, source, lines)
+    let mut page = Page::new(alloc);
+    put_sorts(source, read, &mut page);
+    page.end()
+}
+
+fn put_sorts(source: PolicyFile<'_>, read: Read<'_>, page: &mut Page) {
+    for told in read.unreached {
+        put_unreached(source, *told, page);
+    }
+    put_reached(source, &[read.file], "the policy", page);
+    put_reached(source, PROC.as_slice(), "/proc", page);
+    put_reached(source, DEV.as_slice(), "/dev", page);
+    put_reached(source, ROOT.as_slice(), "the root", page);
+    put_commands(source, page);
+    put_wides(source, page);
+    put_odds(source, page);
 }

@@ -4,7 +4,7 @@ use awk_text::place::Place;
 use box_policy::policy::Kind;
 
 /// Where a request was met: at a place of a script, or on a line of a log, counted from 1.
-#[derive(Clone, Copy, Debug, PartialEq, Eq, Drop)]
+#[derive(Clone, Copy, Drop)]
 pub enum Origin {
     Script(Place),
     Log(usize),

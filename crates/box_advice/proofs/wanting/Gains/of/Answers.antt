@@ -13,7 +13,7 @@ returns-then-len-room c =
 
 pub loop-wish-preserved : goal.loop-wish-preserved
 loop-wish-preserved c = record {
-  short = c.in_ok-take.ensures.short;
+  kept = c.in_ok-take.ensures.kept;
   rest = gained_next c.args.policy.now c.args.wishes.now c.loop-wish.wish-index c.wish-item.result c.loop-wish.gains.rules.items c.take.new.self.rules.items
       (grants_from c.args.policy.now [] c.args.wishes.now) c.loop-wish-test.true c.wish-item.is c.in_ok-take.ensures.gained c.loop-wish.invariant.rest;
   few = omega (arith, c.if-len-room.false, c.len.ensures);
