@@ -5,13 +5,14 @@ Each case is an operation on a text that is hard for its pattern: starts that re
 of which each reads on to the end. It is done as often as takes a tenth of a second, on 64, 128 and 256 KB; the
 milliseconds of one stand, without what the program takes to start and to make the text, and the exponent between the
 first and the last (1 is linear), and the nanoseconds that a byte takes. A peer that takes over two seconds is left out
-from there on. --large has patterns at the limit of size, on 2, 4 and 8 KB and with ten seconds. The worst exponent and
+from there on, and gawk where it isn't installed. --large has patterns at the limit of size, on 2, 4 and 8 KB and with ten seconds. The worst exponent and
 the worst time a byte stand last."""
 import argparse
 import math
 import os
 import random
 import resource
+import shutil
 import subprocess
 import tempfile
 
@@ -129,13 +130,14 @@ def main():
         script = ["-f", f"{folder}/s.awk"]
         under = ["--policy", f"{folder}/policy.toml", "--log", f"{folder}/log"]
         own = [os.path.abspath(a.program), "run", *under, *script]
-        gawk = ["gawk", *script]
+        gawk = ["gawk", *script] if shutil.which("gawk") else None
         sizes, limit = LONG if a.large else USUAL
         title = "milliseconds for %d, %d, %d KB, exponent" % tuple(size // 1024 for size in sizes)
         print("%-44s %35s %35s" % (title, "awkbox", "gawk"))
         worst = (0, 0)
         for case in LARGE if a.large else CASES:
-            ours, theirs = (times(command, folder, case, sizes, limit) for command in (own, gawk))
+            ours = times(own, folder, case, sizes, limit)
+            theirs = times(gawk, folder, case, sizes, limit) if gawk else [math.inf] * len(sizes)
             found = (exponent(ours, sizes), ours[-1] / sizes[-1] * 1e9)
             worst = tuple(max(pair) for pair in zip(worst, found))
             named = f"{case[2]}  on {case[0][:9]}..{case[1]}"
