@@ -1,9 +1,9 @@
 // The end of the longest match from each place. A text is read backwards for them once, so that all searches of it take
 // no longer together than this reading.
-ghost use Rattle.std.specs.Prelude.{◌≡◌, ◌==◌, ◌+◌, ◌<◌, ◌≤◌, ◌^◌, ◌-◌, [], ℕ, Bool, List, Some, true, false, length, IfOk, IfSome};
-ghost use Rattle.std.specs.Prelude.{Contains, replicate, slice_get, slice_index};
-ghost use Rattle.awk_ere.specs.Ends.{over, AreEnds, AreFarthest, AreFarthestTo, AreOver, IsAbove, IsBegun, IsBehind, IsRow};
-ghost use Rattle.awk_ere.specs.Ends.{IsSettled, IsSettledAt};
+ghost use Rattle.std.specs.Prelude.{◌≡◌, ◌==◌, ◌+◌, ◌<◌, ◌≤◌, ◌^◌, ◌-◌, [], ℕ, Bool, List, Some, true, false};
+ghost use Rattle.std.specs.Prelude.{length, IfOk, IfSome, Contains, replicate, slice_get, slice_index};
+ghost use Rattle.awk_ere.specs.Ends.{over, AreEnds, AreFarthest, AreFarthestTo, AreOver, IsAbove, IsBegun, IsBehind};
+ghost use Rattle.awk_ere.specs.Ends.{IsRow, IsSettled, IsSettledAt};
 ghost use Rattle.awk_ere.specs.Program.{Skips};
 ghost use Rattle.awk_ere.specs.Search.{targets, Finds};
 ghost use Rattle.awk_ere.specs.declared.program.Instruction.{Instruction};

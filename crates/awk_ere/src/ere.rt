@@ -281,8 +281,8 @@ impl<'a> Searches<'a> {
         }
     }
 
-    /// The best match from the place on, by the program alone, which reads slowly and so does it once, and after that by
-    /// the ends that the text shows read backwards.
+    /// The best match from the place on, by the program alone, which reads slowly and so does it once, and after that
+    /// by the ends that the text shows read backwards.
     ///
     /// Errors: `Memory` where memory is refused.
     fn find_read(&mut self, from: usize) -> Result<Option<(usize, usize)>, Memory>

@@ -471,8 +471,8 @@ impl Matcher {
         }
     }
 
-    /// For each place one more than the end of the longest match from there, or 0; `None` where the text is too long for
-    /// that. A look at each step of the program is taken for each byte.
+    /// For each place one more than the end of the longest match from there, or 0; `None` where the text is too long
+    /// for that. A look at each step of the program is taken for each byte.
     ///
     /// Errors: `Memory` where memory is refused.
     pub fn farthest(&self, text: &[u8]) -> Result<Option<Vec<u32>>, Memory>

@@ -1,6 +1,6 @@
 -- What tells at a glance that a pattern does not fit a text: how it begins, where that stands for itself.
-use Rattle.std.specs.Prelude.{◌≡◌, ℕ, ◌+◌, ◌*◌, ◌%◌, ◌^◌, ◌==◌, Bool, true, false, not, ◌&&◌, if◌then◌else◌, List, [], ◌∷◌, length}
-use Rattle.std.specs.Prelude.{Option, Some, None, nat_eq, slice_get}
+use Rattle.std.specs.Prelude.{◌≡◌, ℕ, ◌+◌, ◌*◌, ◌%◌, ◌^◌, ◌==◌, Bool, true, false, not, ◌&&◌}
+use Rattle.std.specs.Prelude.{if◌then◌else◌, List, [], ◌∷◌, length, Option, Some, None, nat_eq, slice_get}
 use Rattle.std.specs.List.{list_all}
 use Rattle.box_policy.specs.declared.policy.Kind.{Kind}
 use Rattle.box_policy.specs.declared.policy.Rule.{Rule}

@@ -68,8 +68,8 @@ with_counts book counted = record book { rules = counted }
 -- What is owed is allowed, however often rules have allowed: as an operand word where it may be one. What is decided
 -- otherwise than the first policy does was wished, and the first policy had no rule for it, or none that was not used
 -- up: so it is however often its rules have allowed, since the rules that are gained have no limit. Of commands and
--- names of the environment nothing is decided otherwise. So what is wished and never allowed, which makes `check` refuse
--- a script, is denied by a rule of the first policy, or no pattern can hold it, or it is just offered.
+-- names of the environment nothing is decided otherwise. So what is wished and never allowed, which makes `check`
+-- refuse a script, is denied by a rule of the first policy, or no pattern can hold it, or it is just offered.
 pub record Extends (first : Rulebook) (gains : List Rule) (wishes : List Wish) : Type 0 where
   pub allows : (wish : Wish) (text : List ℕ) → IsOwed first wishes wish text
       → outlook (with_gained first gains) wish.kind text (is_given wish) ≡ Always

@@ -1,5 +1,6 @@
 -- Which rules of a policy no request reaches.
-use Rattle.std.specs.Prelude.{◌≡◌, ℕ, ◌+◌, ◌-◌, ◌<◌, zero, suc, List, [], ◌∷◌, ◌++◌, take, slice_get, Option, Some, None}
+use Rattle.std.specs.Prelude.{◌≡◌, ℕ, ◌+◌, ◌-◌, ◌<◌, zero, suc, List, [], ◌∷◌, ◌++◌, take, slice_get, Option}
+use Rattle.std.specs.Prelude.{Some, None}
 use Rattle.box_policy.specs.declared.policy.Rule.{Rule}
 use Rattle.box_policy.specs.Rulebook.{Rulebook}
 use Rattle.box_policy.specs.Shelves.{first_of}

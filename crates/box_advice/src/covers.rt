@@ -5,8 +5,8 @@ ghost use Rattle.std.specs.Str.{bytes_eq};
 ghost use Rattle.box_policy.specs.Counts.{is_limited};
 ghost use Rattle.box_policy.specs.Decisions.{kind_number};
 ghost use Rattle.box_policy.specs.Exact.{is_exact};
-ghost use Rattle.box_advice.specs.Covers.{Covers, covers, has_no_mark, is_flat, is_plain_piece, is_same, is_tree, speaks_of, takes_over};
-ghost use Rattle.box_advice.specs.Covers.{takes_paths, takes_wildcards};
+ghost use Rattle.box_advice.specs.Covers.{Covers, covers, has_no_mark, is_flat, is_plain_piece, is_same, is_tree};
+ghost use Rattle.box_advice.specs.Covers.{speaks_of, takes_over, takes_paths, takes_wildcards};
 
 use awk_text::Memory;
 use awk_text::octets::Octets;
@@ -165,8 +165,8 @@ fn covers_pattern(
 /// Whether the earlier rule is found to speak of all that the later one speaks of, so that this never decides: where
 /// the later one fits one text alone, whether the earlier one speaks of it. Else their patterns are the same; or the
 /// earlier one's components stand for themselves but for a last `**`, and the later one's begin with them; or the
-/// earlier path, without `?`, fits the text of the later one, which has no `**`; or the earlier one is the command `**`.
-/// It may be so in other cases as well, of which this does not tell. `Memory` where memory is refused.
+/// earlier path, without `?`, fits the text of the later one, which has no `**`; or the earlier one is the command
+/// `**`. It may be so in other cases as well, of which this does not tell. `Memory` where memory is refused.
 pub(crate) fn covers(
     alloc: Global,
     policy: &Policy,

@@ -4,8 +4,8 @@ ghost use Rattle.box_policy.specs.Paths.{is_absolute};
 ghost use Rattle.box_policy.specs.Rulebook.{Rulebook};
 ghost use Rattle.box_policy.specs.Words.{has_wildcard, is_base};
 ghost use Rattle.box_policy.specs.Written.{Written};
-ghost use Rattle.box_advice.specs.Proposals.{IsBaseRefused, IsGainRefused, IsNotPrinted, IsProposalRefused, IsStartRefused};
-ghost use Rattle.box_advice.specs.Proposals.{IsText, IsTextRefused, Proposes, Starts, has_base, with_gained};
+ghost use Rattle.box_advice.specs.Proposals.{IsBaseRefused, IsGainRefused, IsNotPrinted, IsProposalRefused};
+ghost use Rattle.box_advice.specs.Proposals.{IsStartRefused, IsText, IsTextRefused, Proposes, Starts, has_base, with_gained};
 ghost use Rattle.box_advice.specs.Wishes.{grants_from};
 ghost use Rattle.box_advice.specs.declared.proposing.ProposalError.TheVariants.{Memory as OutOfMemory, Misprinted};
 

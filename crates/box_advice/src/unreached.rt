@@ -91,14 +91,16 @@ fn push_unreached(told: &mut Vec<Unreached>, rule: u32, by: Option<u32>) -> Resu
 #[tactic(auto, using(crate::proofs::UnreachedLemmas::told_sound_by))]
 /// Each rule that an earlier one is found to cover, with the first that does, in order.
 pub(crate) fn rules_unreached(alloc: Global, policy: &Policy) -> Result<Vec<Unreached>, Memory>
-    ensures all { IfOk result (λ told. told.items ≡ unreached_in policy.now.base policy.now.rules (length policy.now.rules)) }
+    ensures all { IfOk result (λ told.
+        told.items ≡ unreached_in policy.now.base policy.now.rules (length policy.now.rules)) }
     ensures sound { IfOk result (λ told. AreUnreached policy.now told.items) }
 {
     found(alloc, policy)
 }
 
 fn found(alloc: Global, policy: &Policy) -> Result<Vec<Unreached>, Memory>
-    ensures { IfOk result (λ told. told.items ≡ unreached_in policy.now.base policy.now.rules (length policy.now.rules)) }
+    ensures { IfOk result (λ told.
+        told.items ≡ unreached_in policy.now.base policy.now.rules (length policy.now.rules)) }
 {
     let mut told = Vec::new(alloc);
     let mut heads = Vec::new(alloc);

@@ -1,5 +1,6 @@
 // Which rules a policy gains.
-ghost use Rattle.std.specs.Prelude.{◌≡◌, ◌++◌, ◌∷◌, ◌+◌, ◌≤◌, ◌<◌, [], true, false, length, IfOk, IfSome, MatchOption, OnOk};
+ghost use Rattle.std.specs.Prelude.{◌≡◌, ◌++◌, ◌∷◌, ◌+◌, ◌≤◌, ◌<◌, [], true, false, length};
+ghost use Rattle.std.specs.Prelude.{IfOk, IfSome, MatchOption, OnOk};
 ghost use Rattle.box_policy.specs.declared.policy.Decision.TheVariants.{NoRule};
 ghost use Rattle.box_policy.specs.Decisions.{speaks};
 ghost use Rattle.box_policy.specs.Exact.{is_exact};
@@ -85,7 +86,8 @@ fn is_mute(
 ) -> bool
     requires head { IsHeadOf rule.now.kind (pieces policy.now.base rule.now.kind rule.now.pattern) head.now }
     requires trail { IsTrailOf asked.kind (pieces policy.now.base asked.kind asked.text.now) trail.now }
-    ensures { result ≡ true → speaks policy.now.base rule.now asked.entry.kind asked.entry.text.now asked.entry.given ≡ false }
+    ensures { result ≡ true
+        → speaks policy.now.base rule.now asked.entry.kind asked.entry.text.now asked.entry.given ≡ false }
 {
     !may_fit(head, trail)
 }
@@ -192,8 +194,10 @@ impl Gains {
         asked: Asked<'_>,
     ) -> Result<Fate, Memory>
         requires { HasHeads policy.now.base self.now.rules.items self.now.heads.items }
-        ensures { IfOk result (λ fate. fate ≡ fate_by NoRule (is_exact policy.now.base asked.entry.kind asked.entry.text.now)
-            (is_offered asked.entry.kind) (speak policy.now.base self.now.rules.items asked.entry.kind asked.entry.text.now asked.entry.given)) }
+        ensures { IfOk result (λ fate. fate ≡ fate_by NoRule
+            (is_exact policy.now.base asked.entry.kind asked.entry.text.now) (is_offered asked.entry.kind)
+            (speak policy.now.base self.now.rules.items asked.entry.kind asked.entry.text.now
+            asked.entry.given)) }
     {
         if !is_exact(policy.base(), asked.kind, asked.text) {
             return Ok(Fate::Unfit);
@@ -210,7 +214,8 @@ impl Gains {
     fn allow(&self, alloc: Global, policy: &Policy, asked: Asked<'_>) -> Result<bool, Memory>
         requires { HasHeads policy.now.base self.now.rules.items self.now.heads.items }
         ensures { IfOk result
-            (λ b. b ≡ speak policy.now.base self.now.rules.items asked.entry.kind asked.entry.text.now asked.entry.given) }
+            (λ b. b ≡ speak policy.now.base self.now.rules.items asked.entry.kind asked.entry.text.now
+            asked.entry.given) }
     {
         let outline = outline_of(alloc, policy.base(), asked.kind, asked.text)?;
         Ok(speak(

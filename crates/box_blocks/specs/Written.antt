@@ -33,7 +33,8 @@ pub record NotAllWritten {W : Type 0} (follows : W → List Call → W → Type 
   pub follows_by : follows first inner last
   pub lost : IsSome untold ⊎ ((held : Writing) × Holds held rest)
 
-abbrev pub Ends : {W : Type 0} → (W → List Call → W → Type 0) → W → List Call → Result (Unit {0}) NotWritten → W → Type 0
+abbrev pub Ends : {W : Type 0} → (W → List Call → W → Type 0) → W → List Call → Result (Unit {0}) NotWritten → W
+    → Type 0
 Ends follows first calls (Ok done) last = AllWritten follows first calls last
 Ends follows first calls (Err error) last = NotAllWritten follows first calls last
 

@@ -9,8 +9,8 @@ use std::fs::File;
 use std::io::{self, ErrorKind, Write};
 use std::marker::Model;
 
-/// A writer whose calls contracts can name, where those of [`Write`] speak of its bytes alone. `put` is its `write`, and
-/// `settle` its `flush`.
+/// A writer whose calls contracts can name, where those of [`Write`] speak of its bytes alone. `put` is its `write`,
+/// and `settle` its `flush`.
 pub trait Sink: Write {
     /// The one writer, asked to write these bytes, may answer so and be the other then.
     ghost puts: { Self → List ℕ → Result ℕ Error → Self → Type 0 };

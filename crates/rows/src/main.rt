@@ -1,5 +1,5 @@
-//! Checks the worked rows of all but the libraries. Each line of a table of the folder that this is started in names a call,
-//! its arguments and the answer that it is to have; the program makes the call, and tells each line
+//! Checks the worked rows of all but the libraries. Each line of a table of the folder that this is started in names a
+//! call, its arguments and the answer that it is to have; the program makes the call, and tells each line
 //! that does not hold and how many do. The tables begin with what a user needs to add one.
 #![tactic(auto)]
 
