@@ -4,4 +4,3 @@
 pub mod laws;
 mod lines;
 pub mod watched;
-mod write;

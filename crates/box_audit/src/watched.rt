@@ -9,9 +9,9 @@ ghost use Rattle.box_audit.specs.Stops.{Stops};
 ghost use Rattle.box_monitor.specs.Subjects.{subject_of};
 
 use crate::lines::{Lines, lines_of};
-use crate::write::write_line;
 use awk_text::Memory;
 use box_monitor::log_end::LogEnd;
+use box_monitor::write::write_line;
 use box_world::ask::{Ask, Reply, Request, Stop};
 use box_world::world::World;
 use std::alloc::Global;

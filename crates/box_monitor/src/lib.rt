@@ -8,4 +8,4 @@ pub mod limited_log;
 mod line;
 pub mod log_end;
 pub mod monitor;
-mod write;
+pub mod write;

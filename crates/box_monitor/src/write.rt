@@ -1,4 +1,4 @@
-// Writing a line to the log.
+// Writing a line to a log.
 ghost use Rattle.std.specs.Prelude.{◌≡◌, [], IsTrue, false};
 ghost use Rattle.std.specs.Io.KnownBytes.{Appends};
 ghost use Rattle.box_monitor.specs.Stops.{AppendsPart};
