@@ -13,11 +13,13 @@ use Rattle.awk_resolve.specs.Tables.{Tables}
 pub in_scope : (F : Names → Scope → Type 0) (t u : Names) (s r : Scope) → t ≡ u → s ≡ r → F t s → F u r
 in_scope F t u s r e f h = subst (λ y. F u y) f (subst (λ x. F x s) e h)
 
-abbrev pub of_lists : List GlobalName → List Function → List (List Statement) → List Rule → List (List Statement) → Program
+abbrev pub of_lists : List GlobalName → List Function → List (List Statement) → List Rule → List (List Statement)
+    → Program
 of_lists vs fs bs rs es = record { variables = vs; functions = fs; begin = bs; rules = rs; end = es }
 
 entries_are : (n : Tables) (es : List Entry) (q : Program)
-    → with_entries n es q ≡ of_lists q.variables (q.functions ++ each (functions_of n) es) (q.begin ++ each (begins_of n) es) (q.rules ++ each (rules_of n) es) (q.end ++ each (ends_of n) es)
+    → with_entries n es q ≡ of_lists q.variables (q.functions ++ each (functions_of n) es)
+    (q.begin ++ each (begins_of n) es) (q.rules ++ each (rules_of n) es) (q.end ++ each (ends_of n) es)
 entries_are n [] q = rw (append-nil q.functions, append-nil q.begin, append-nil q.rules, append-nil q.end) refl
 entries_are n (e ∷ es) q =
     entries_are n es (with_entry n e q)
@@ -37,14 +39,20 @@ texts_are (x ∷ xs) (a ∷ are) = ap (λ ys. x ∷ ys) (texts_are xs are)
 
 -- a program is of its items, whose variables are the names of its tables
 pub whole_program : (n : Tables) (es : List Entry) (out : code.Program)
-    → view_by n.variables out ≡ with_entries n es (of_lists (names n.variables n.script_arrays) [] [] [] []) → view_program out ≡ program n es
+    → view_by n.variables out ≡ with_entries n es (of_lists (names n.variables n.script_arrays) [] [] [] [])
+    → view_program out ≡ program n es
 whole_program n es out e =
-    let all : view_by n.variables out ≡ program n es = e ∙ entries_are n es (of_lists (names n.variables n.script_arrays) [] [] [] []) in
-    let of : map (λ m. m.text) out.variables ≡ n.variables = ap (λ q. map (λ m. m.text) q.variables) all ∙ texts_are n.variables n.script_arrays in
+    let all : view_by n.variables out ≡ program n es =
+    e ∙ entries_are n es (of_lists (names n.variables n.script_arrays) [] [] [] []) in
+    let of : map (λ m. m.text) out.variables ≡ n.variables = ap (λ q. map (λ m. m.text) q.variables) all
+    ∙ texts_are n.variables n.script_arrays in
     ap (λ t. view_by t out) of ∙ all
 
-pub finished_program : {E : Type 0} (n : Tables) (es : List Entry) (out : code.Program) (filled : Result Unit E) (made : Result code.Program E)
-    → IfOk made (λ w. (w ≡ out) × (filled ≡ Ok tt)) → OnOk filled (view_by n.variables out ≡ with_entries n es (of_lists (names n.variables n.script_arrays) [] [] [] []))
+pub finished_program : {E : Type 0} (n : Tables) (es : List Entry) (out : code.Program) (filled : Result Unit E)
+    (made : Result code.Program E)
+    → IfOk made (λ w. (w ≡ out) × (filled ≡ Ok tt))
+    → OnOk filled (view_by n.variables out ≡ with_entries n es (of_lists (names n.variables n.script_arrays) [] []
+    [] []))
     → IfOk made (λ w. view_program w ≡ program n es)
 finished_program n es out filled (Ok w) (is, was) h = ap view_program is ∙ whole_program n es out (rw was at h)
 finished_program n es out filled (Err e) is h = tt

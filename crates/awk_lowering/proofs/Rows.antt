@@ -34,30 +34,44 @@ within = record {
 }
 
 -- -12 " " -24
-row_signs : lowered within (t.concat (t.signed (at 1) tree_sign.Minus (t.number (at 2) (codes "12"))) (t.more (t.sum (t.quoted (at 5) (codes " ")) (t.term arithmetic.Subtract (at 9) (t.number (at 10) (codes "24")) t.no_terms)) t.none))
-    ≡ p.concat (p.signed (at 1) sign.Minus (p.number (pos 12))) (p.join (at 5) (p.chain (p.text (codes " ")) (p.term operator.Subtract (at 9) (p.number (pos 24)) p.no_terms)) p.no_joins)
+row_signs : lowered within (t.concat (t.signed (at 1) tree_sign.Minus (t.number (at 2) (codes "12")))
+    (t.more (t.sum (t.quoted (at 5) (codes " ")) (t.term arithmetic.Subtract (at 9) (t.number (at 10) (codes "24"))
+    t.no_terms)) t.none))
+    ≡ p.concat (p.signed (at 1) sign.Minus (p.number (pos 12)))
+    (p.join (at 5) (p.chain (p.text (codes " ")) (p.term operator.Subtract (at 9) (p.number (pos 24)) p.no_terms))
+    p.no_joins)
 row_signs = refl
 
 -- $++x++
-row_steps : lowered within (t.after (t.field (at 1) (t.before (at 2) tree_step.Increment (t.name (name 4 (codes "x"))))) (at 5) tree_step.Increment)
-    ≡ p.step (at 5) step.Increment taken.Before (p.field (at 1) (p.step (at 2) step.Increment taken.Behind (p.variable (p.parameter 0))))
+row_steps : lowered within (t.after (t.field (at 1) (t.before (at 2) tree_step.Increment (t.name (name 4 (codes "x")))))
+    (at 5) tree_step.Increment)
+    ≡ p.step (at 5) step.Increment taken.Before
+    (p.field (at 1) (p.step (at 2) step.Increment taken.Behind (p.variable (p.parameter 0))))
 row_steps = refl
 
 -- a[i] += f(a, i)
-row_calls : lowered within (t.assign (t.element (name 1 (codes "a")) (t.more (t.name (name 3 (codes "i"))) t.none)) (at 6) assignment.Add
-    (t.call (name 9 (codes "f")) (t.more (t.name (name 11 (codes "a"))) (t.more (t.name (name 14 (codes "i"))) t.none))))
-    ≡ p.change (at 6) operator.Add (p.element (at 1) (p.global (codes "a")) (p.more (p.read (p.variable (p.global (codes "i")))) p.none))
-    (p.call (at 9) 0 (p.by_name (p.global (codes "a")) (p.by_value (p.read (p.variable (p.global (codes "i")))) p.no_arguments)))
+row_calls : lowered within (t.assign (t.element (name 1 (codes "a")) (t.more (t.name (name 3 (codes "i"))) t.none))
+    (at 6) assignment.Add
+    (t.call (name 9 (codes "f")) (t.more (t.name (name 11 (codes "a")))
+    (t.more (t.name (name 14 (codes "i"))) t.none))))
+    ≡ p.change (at 6) operator.Add (p.element (at 1) (p.global (codes "a"))
+    (p.more (p.read (p.variable (p.global (codes "i")))) p.none))
+    (p.call (at 9) 0 (p.by_name (p.global (codes "a")) (p.by_value (p.read (p.variable (p.global (codes "i"))))
+    p.no_arguments)))
 row_calls = refl
 
 -- f(a, a): an array that is handed to a value's parameter passes nothing
-row_nothing : lowered within (t.call (name 1 (codes "f")) (t.more (t.name (name 3 (codes "a"))) (t.more (t.name (name 6 (codes "a"))) t.none)))
+row_nothing : lowered within
+    (t.call (name 1 (codes "f")) (t.more (t.name (name 3 (codes "a"))) (t.more (t.name (name 6 (codes "a"))) t.none)))
     ≡ p.call (at 1) 0 (p.by_name (p.global (codes "a")) (p.by_nothing p.no_arguments))
 row_nothing = refl
 
 -- x ~ /b/, and x ~ (/b/)
-row_pattern : lowered within (t.matched (t.name (name 1 (codes "x"))) (at 3) false (t.pattern (at 5) (codes "b"))) ≡ p.matched (at 3) (p.read (p.variable (p.parameter 0))) (p.constant (at 5) (codes "b"))
+row_pattern : lowered within (t.matched (t.name (name 1 (codes "x"))) (at 3) false (t.pattern (at 5) (codes "b")))
+    ≡ p.matched (at 3) (p.read (p.variable (p.parameter 0))) (p.constant (at 5) (codes "b"))
 row_pattern = refl
 
-row_computed : lowered within (t.matched (t.name (name 1 (codes "x"))) (at 3) false (t.paren (at 5) (t.pattern (at 6) (codes "b")))) ≡ p.matched (at 3) (p.read (p.variable (p.parameter 0))) (p.computed (p.pattern (at 6) (codes "b")))
+row_computed : lowered within (t.matched (t.name (name 1 (codes "x"))) (at 3) false
+    (t.paren (at 5) (t.pattern (at 6) (codes "b")))) ≡ p.matched (at 3) (p.read (p.variable (p.parameter 0)))
+    (p.computed (p.pattern (at 6) (codes "b")))
 row_computed = refl

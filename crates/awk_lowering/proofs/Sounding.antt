@@ -9,10 +9,13 @@ use Rattle.awk_lowering.specs.Programs.{program}
 use Rattle.awk_lowering.proofs.Adding.{texts_are}
 
 -- a program has the names of its tables
-pub sound_program : {E : Type 0} (n : Tables) (es : List Entry) (made : Result code.Program E) → IfOk made (λ q. view_program q ≡ program n es) → Sound n.variables → IfOk made (λ q. Sound (names_of q))
-sound_program n es (Ok q) e h = subst Sound (sym (ap (λ r. map (λ m. m.text) r.variables) e ∙ texts_are n.variables n.script_arrays)) h
+pub sound_program : {E : Type 0} (n : Tables) (es : List Entry) (made : Result code.Program E)
+    → IfOk made (λ q. view_program q ≡ program n es) → Sound n.variables → IfOk made (λ q. Sound (names_of q))
+sound_program n es (Ok q) e h =
+    subst Sound (sym (ap (λ r. map (λ m. m.text) r.variables) e ∙ texts_are n.variables n.script_arrays)) h
 sound_program n es (Err f) e h = tt
 
 -- and the items of them
-pub of_tables : {E : Type 0} (n m : Tables) (es : List Entry) (made : Result code.Program E) → n ≡ m → IfOk made (λ q. view_program q ≡ program n es) → IfOk made (λ q. view_program q ≡ program m es)
+pub of_tables : {E : Type 0} (n m : Tables) (es : List Entry) (made : Result code.Program E) → n ≡ m
+    → IfOk made (λ q. view_program q ≡ program n es) → IfOk made (λ q. view_program q ≡ program m es)
 of_tables n m es made e h = subst (λ t. IfOk made (λ q. view_program q ≡ program t es)) e h

@@ -1,5 +1,6 @@
 -- What the tokens that spell an expression begin with.
-use Rattle.std.proofs.Common.{◌≡◌, ℕ, ◌≤◌, Bool, true, false, ◌||◌, List, [], ◌∷◌, ◌++◌, length, Some, None, refl, ap, ◌∙◌, arith}
+use Rattle.std.proofs.Common.{◌≡◌, ℕ, ◌≤◌, Bool, true, false, ◌||◌, List, [], ◌∷◌, ◌++◌, length, Some, None, refl, ap}
+use Rattle.std.proofs.Common.{◌∙◌, arith}
 use Rattle.awk_tokens.specs.declared.token.Token.{Token}
 use Rattle.awk_tokens.specs.declared.terminals.Step.{Step}
 use Rattle.awk_tokens.specs.declared.terminals.Terminal.{Terminal}
@@ -50,7 +51,8 @@ pub heads_append : (f : Terminal → Bool) (us vs : List Token) → Heads f us �
 heads_append f [] vs h = absurd h
 heads_append f (t ∷ us) vs h = h
 
-pub heads_more : (f g : Terminal → Bool) (us : List Token) → ((k : Terminal) → f k ≡ true → g k ≡ true) → Heads f us → Heads g us
+pub heads_more : (f g : Terminal → Bool) (us : List Token) → ((k : Terminal) → f k ≡ true → g k ≡ true) → Heads f us
+    → Heads g us
 heads_more f g [] more h = absurd h
 heads_more f g (t ∷ us) more h = more (terminal t) h
 
@@ -97,7 +99,8 @@ sign_begins which w.Plus h = refl
 sign_begins which w.Minus h = refl
 sign_begins which _ h = absurd cc
 
-pub heads_ahead : (f : Terminal → Bool) (us vs : List Token) → ((k : Terminal) → f k ≡ true → steady k ≡ true) → Heads f us → f (ahead (us ++ vs)) ≡ true
+pub heads_ahead : (f : Terminal → Bool) (us vs : List Token) → ((k : Terminal) → f k ≡ true → steady k ≡ true)
+    → Heads f us → f (ahead (us ++ vs)) ≡ true
 heads_ahead f [] vs s h = absurd h
 heads_ahead f (t ∷ us) vs s h = ap f (ahead_is (terminal t) t (us ++ vs) (s (terminal t) h) refl) ∙ h
 
@@ -136,27 +139,33 @@ sign_steady which w.Plus h = refl
 sign_steady which w.Minus h = refl
 sign_steady which _ h = absurd cc
 
-a_sign : (t : Token) (us : List Token) (which : Sign) → sign (terminal t) ≡ Some which → Heads begins_expression (t ∷ us)
+a_sign : (t : Token) (us : List Token) (which : Sign) → sign (terminal t) ≡ Some which
+    → Heads begins_expression (t ∷ us)
 a_sign t us which h = sign_begins which (terminal t) h
 
 a_step : (t : Token) (us : List Token) (which : Step) → step (terminal t) ≡ Some which → Heads begins_inc (t ∷ us)
 a_step t us which h = right_or (begins_prim (terminal t)) (is_some (step (terminal t))) (ap is_some h)
 
-pub step_begins : (which : Step) (t : Token) (ts : List Token) → step (terminal t) ≡ Some which → begins_inc (ahead (t ∷ ts)) ≡ true
-step_begins which t ts h = ap begins_inc (ahead_is (terminal t) t ts (step_steady which (terminal t) h) refl) ∙ a_step t ts which h
+pub step_begins : (which : Step) (t : Token) (ts : List Token) → step (terminal t) ≡ Some which
+    → begins_inc (ahead (t ∷ ts)) ≡ true
+step_begins which t ts h = ap begins_inc (ahead_is (terminal t) t ts (step_steady which (terminal t) h) refl)
+    ∙ a_step t ts which h
 
-a_builtin : (t : Token) (us : List Token) (k : Terminal) → terminal t ≡ k → begins_prim k ≡ true → Heads begins_prim (t ∷ us)
+a_builtin : (t : Token) (us : List Token) (k : Terminal) → terminal t ≡ k → begins_prim k ≡ true
+    → Heads begins_prim (t ∷ us)
 a_builtin t us k h b = ap begins_prim h ∙ b
 
 substituting_is : (all : Bool) → begins_prim (w.Builtin (substituting all)) ≡ true
 substituting_is true = refl
 substituting_is false = refl
 
-pub first : (n : ℕ) (r : Rule) (us : List Token) (x : Tree) (rest : List Token) → Spells n r us x rest → Heads (begins r) us
+pub first : (n : ℕ) (r : Rule) (us : List Token) (x : Tree) (rest : List Token) → Spells n r us x rest
+    → Heads (begins r) us
 first _ _ _ _ _ (g.a_number n t rest h) = ap begins_prim h
 first _ _ _ _ _ (g.a_string n t rest h) = ap begins_prim h
 first _ _ _ _ _ (g.an_ere n t rest h) = ap begins_prim h
-first _ _ _ _ _ (g.an_lvalue n us x rest s) = heads_more begins_lvalue begins_prim us lvalue_prim (first n rule.lvalue us x rest s)
+first _ _ _ _ _ (g.an_lvalue n us x rest s) = heads_more begins_lvalue begins_prim us lvalue_prim
+    (first n rule.lvalue us x rest s)
 first _ _ _ _ _ (g.a_paren n o c us x rest h _ _ _) = ap begins_prim h
 first _ _ _ _ _ (g.a_call n t o c us xs rest h _ _ _ _) = ap begins_prim h
 first _ _ _ _ _ (g.a_bare_length n t rest h _) = ap begins_prim h
@@ -173,30 +182,46 @@ first _ _ _ _ _ (g.an_element n t o c us xs rest h _ _ _ _) = ap begins_lvalue h
 first _ _ _ _ _ (g.a_field n t us x rest h _ _) = ap begins_lvalue h
 first _ _ _ _ _ (g.a_signed_dol n which t us x rest h _ _) = a_sign t us which h
 first _ _ _ _ _ (g.a_step_dol n which t us x rest h _ _) = inc_unary (terminal t) (a_step t us which h)
-first _ _ _ _ _ (g.only_prim n us x rest s) = heads_more begins_inc begins_expression us inc_unary (heads_more begins_prim begins_inc us prim_inc (first n rule.prim us x rest s))
+first _ _ _ _ _ (g.only_prim n us x rest s) = heads_more begins_inc begins_expression us inc_unary
+    (heads_more begins_prim begins_inc us prim_inc (first n rule.prim us x rest s))
 first _ _ _ _ _ (g.a_step_before n which t us x rest h _ _) = a_step t us which h
-first _ _ _ _ _ (g.a_step_after n which t us x rest s _ _) = heads_append begins_inc us (t ∷ []) (heads_more begins_prim begins_inc us prim_inc (first n rule.prim us x (t ∷ rest) s))
-first _ _ _ _ _ (g.no_step n us x rest s _) = heads_more begins_prim begins_inc us prim_inc (first n rule.prim us x rest s)
+first _ _ _ _ _ (g.a_step_after n which t us x rest s _ _) = heads_append begins_inc us (t ∷ [])
+    (heads_more begins_prim begins_inc us prim_inc (first n rule.prim us x (t ∷ rest) s))
+first _ _ _ _ _ (g.no_step n us x rest s _) = heads_more begins_prim begins_inc us prim_inc
+    (first n rule.prim us x rest s)
 first _ _ _ _ _ (g.only_inc n us x rest s) = first n rule.inc us x rest s
-first _ _ _ _ _ (g.a_power n t us vs x y rest _ s _ _) = heads_append begins_inc us (t ∷ vs) (first n rule.inc us x (t ∷ vs ++ rest) s)
+first _ _ _ _ _ (g.a_power n t us vs x y rest _ s _ _) = heads_append begins_inc us (t ∷ vs)
+    (first n rule.inc us x (t ∷ vs ++ rest) s)
 first _ _ _ _ _ (g.a_signed n which t us x rest h _ _) = a_sign t us which h
-first _ _ _ _ _ (g.only_pow n us x rest s) = heads_more begins_inc begins_expression us inc_unary (first n rule.pow us x rest s)
-first _ _ _ _ _ (g.a_product n us vs x xs rest s _) = heads_append begins_expression us vs (first n rule.unary us x (vs ++ rest) s)
-first _ _ _ _ _ (g.a_sum n us vs x xs rest s _) = heads_append begins_expression us vs (first n rule.mul us x (vs ++ rest) s)
-first _ _ _ _ _ (g.a_concat n us vs x xs rest s _) = heads_append begins_expression us vs (first n rule.add us x (vs ++ rest) s)
-first _ _ _ _ _ (g.a_pipe n us vs x xs rest s _) = heads_append begins_expression us vs (first n rule.cat us x (vs ++ rest) s)
+first _ _ _ _ _ (g.only_pow n us x rest s) = heads_more begins_inc begins_expression us inc_unary
+    (first n rule.pow us x rest s)
+first _ _ _ _ _ (g.a_product n us vs x xs rest s _) = heads_append begins_expression us vs
+    (first n rule.unary us x (vs ++ rest) s)
+first _ _ _ _ _ (g.a_sum n us vs x xs rest s _) = heads_append begins_expression us vs
+    (first n rule.mul us x (vs ++ rest) s)
+first _ _ _ _ _ (g.a_concat n us vs x xs rest s _) = heads_append begins_expression us vs
+    (first n rule.add us x (vs ++ rest) s)
+first _ _ _ _ _ (g.a_pipe n us vs x xs rest s _) = heads_append begins_expression us vs
+    (first n rule.cat us x (vs ++ rest) s)
 first _ _ _ _ _ (g.only_pipe n p us x rest s) = first n rule.pipe us x rest s
-first _ _ _ _ _ (g.a_comparison n p how t us vs x y rest _ s _) = heads_append begins_expression us (t ∷ vs) (first n rule.pipe us x (t ∷ vs ++ rest) s)
+first _ _ _ _ _ (g.a_comparison n p how t us vs x y rest _ s _) = heads_append begins_expression us (t ∷ vs)
+    (first n rule.pipe us x (t ∷ vs ++ rest) s)
 first _ _ _ _ _ (g.only_cmp n p us x rest s) = first n (rule.cmp p) us x rest s
-first _ _ _ _ _ (g.a_match n p unlike t us vs x y rest _ s _) = heads_append begins_expression us (t ∷ vs) (first n (rule.cmp p) us x (t ∷ vs ++ rest) s)
-first _ _ _ _ _ (g.a_member n p us vs x ms rest s _) = heads_append begins_expression us vs (first n (rule.match p) us x (vs ++ rest) s)
+first _ _ _ _ _ (g.a_match n p unlike t us vs x y rest _ s _) = heads_append begins_expression us (t ∷ vs)
+    (first n (rule.cmp p) us x (t ∷ vs ++ rest) s)
+first _ _ _ _ _ (g.a_member n p us vs x ms rest s _) = heads_append begins_expression us vs
+    (first n (rule.match p) us x (vs ++ rest) s)
 first _ _ _ _ _ (g.a_group n p o c us vs x y zs m ms rest h _ _ _ _) = ap begins_expression h
-first _ _ _ _ _ (g.an_assignment n p how t us vs x y rest _ _ s _ _) = heads_append begins_expression us (t ∷ vs) (first n (rule.isin p) us x (t ∷ vs ++ rest) s)
-first _ _ _ _ _ (g.an_and n p last us vs x xs rest s _) = heads_append begins_expression us vs (first n (rule.isin p) us x (vs ++ rest) s)
+first _ _ _ _ _ (g.an_assignment n p how t us vs x y rest _ _ s _ _) = heads_append begins_expression us (t ∷ vs)
+    (first n (rule.isin p) us x (t ∷ vs ++ rest) s)
+first _ _ _ _ _ (g.an_and n p last us vs x xs rest s _) = heads_append begins_expression us vs
+    (first n (rule.isin p) us x (vs ++ rest) s)
 first _ _ _ _ _ (g.only_set n p us x rest s) = first n (rule.set p) us x rest s
-first _ _ _ _ _ (g.an_or n p last us vs x xs rest s _) = heads_append begins_expression us vs (first n (rule.and p false) us x (vs ++ rest) s)
+first _ _ _ _ _ (g.an_or n p last us vs x xs rest s _) = heads_append begins_expression us vs
+    (first n (rule.and p false) us x (vs ++ rest) s)
 first _ _ _ _ _ (g.only_and n p us x rest s) = first n (rule.and p true) us x rest s
 first _ _ _ _ _ (g.only_or n p us x rest s) = first n (rule.or p false) us x rest s
-first _ _ _ _ _ (g.a_choice n p t u us vs ws x y z rest _ _ s _ _ _) = heads_append begins_expression us (t ∷ (vs ++ u ∷ ws)) (first n (rule.or p false) us x (t ∷ (vs ++ u ∷ (ws ++ rest))) s)
+first _ _ _ _ _ (g.a_choice n p t u us vs ws x y z rest _ _ s _ _ _) = heads_append begins_expression us
+    (t ∷ (vs ++ u ∷ ws)) (first n (rule.or p false) us x (t ∷ (vs ++ u ∷ (ws ++ rest))) s)
 first _ _ _ _ _ (g.only_cond n p us x rest s) = first n (rule.cond p) us x rest s
 first _ _ _ _ _ (g.an_assigning n p us x rest s) = first n (rule.or p true) us x rest s

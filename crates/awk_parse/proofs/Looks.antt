@@ -1,5 +1,6 @@
 -- What is told of tokens as they stand: what a statement begins with, and whether an `else` comes next.
-use Rattle.std.proofs.Common.{◌≡◌, ◌≢◌, ℕ, ◌≤◌, Bool, true, false, ◌||◌, List, [], ◌∷◌, ◌++◌, length, refl, sym, ap, ◌∙◌, ◌⊎◌, inl, inr, arith}
+use Rattle.std.proofs.Common.{◌≡◌, ◌≢◌, ℕ, ◌≤◌, Bool, true, false, ◌||◌, List, [], ◌∷◌, ◌++◌, length, refl, sym, ap}
+use Rattle.std.proofs.Common.{◌∙◌, ◌⊎◌, inl, inr, arith}
 use Rattle.awk_tokens.specs.declared.token.Token.{Token}
 use Rattle.awk_tokens.specs.declared.terminals.Terminal.{Terminal}
 use Rattle.awk_tokens.specs.declared.terminals.Terminal.TheVariants as w
@@ -42,7 +43,8 @@ ahead_looks k (t ∷ ts) s h = ahead_is k t ts s h
 pub near_looks : (ts us : List Token) → ahead ts ≡ ahead us → steady (look us) ≡ true → look ts ≡ look us
 near_looks ts us h s = look_is (look us) ts s (h ∙ ahead_looks (look us) us s refl)
 
-pub near_same : (k : Terminal) (ts us : List Token) → steady k ≡ true → look ts ≡ k → ahead ts ≡ ahead us → look ts ≡ look us
+pub near_same : (k : Terminal) (ts us : List Token) → steady k ≡ true → look ts ≡ k → ahead ts ≡ ahead us
+    → look ts ≡ look us
 near_same k ts us s h near = h ∙ sym (look_is k us s (sym near ∙ ahead_looks k ts s h))
 
 -- ---- what a statement begins with
@@ -148,7 +150,8 @@ begins_look [] s h = absurd h
 begins_look (t ∷ ts) s h = h
 
 -- a simple statement, by its first token
-pub simple_look : (n : ℕ) (us : List Token) (x : Statement) (rest s : List Token) → Simple n us x rest → begins_simple (look (canon_statement x ++ s)) ≡ true
+pub simple_look : (n : ℕ) (us : List Token) (x : Statement) (rest s : List Token) → Simple n us x rest
+    → begins_simple (look (canon_statement x ++ s)) ≡ true
 unfolding terminal_of
 simple_look _ _ _ _ s (r.an_expression n us x rest _) = plain_look (canon x) _ s (starts x) where
   plain_look : (a b s : List Token) → Starts a → begins_simple (look ((a ++ b) ++ s)) ≡ true
@@ -165,7 +168,8 @@ simple_look _ _ _ _ s (r.a_return n t us x rest _ _) = refl
 
 -- ---- the empty statement
 
-semicolon_or : (x : Statement) (s : List Token) → (x ≡ tree.empty) ⊎ (is (look (canon_statement x ++ s)) w.Semicolon ≡ false)
+semicolon_or : (x : Statement) (s : List Token) → (x ≡ tree.empty)
+    ⊎ (is (look (canon_statement x ++ s)) w.Semicolon ≡ false)
 unfolding terminal_of
 semicolon_or tree.empty s = inl refl
 semicolon_or (tree.plain x) s = inr (plain_look (canon x) _ s (starts x)) where
@@ -203,7 +207,8 @@ not_simple _ _ _ _ (r.an_exit n t us x rest _ _) h = absurd cc
 not_simple _ _ _ _ (r.a_return n t us x rest _ _) h = absurd cc
 
 -- it is one `;`
-lone : (n : ℕ) (us : List Token) (x : Statement) (rest : List Token) → SpellsStatement n us x rest → x ≡ tree.empty → (t : Token) × (us ≡ t ∷ []) × (terminal t ≡ w.Semicolon)
+lone : (n : ℕ) (us : List Token) (x : Statement) (rest : List Token) → SpellsStatement n us x rest → x ≡ tree.empty
+    → (t : Token) × (us ≡ t ∷ []) × (terminal t ≡ w.Semicolon)
 lone _ _ _ _ (r.an_empty n t rest h) e = (t, refl, h)
 lone _ _ _ _ (r.a_simple n us vs s rest k _) e = absurd (not_simple n us s (vs ++ rest) k e)
 lone _ _ _ _ (r.a_block n o c us xs rest _ _ _ _) e = absurd cc
@@ -216,7 +221,8 @@ lone _ _ _ _ (r.a_for_in n t o k i a c bs s rest _ _ _ _ _ _ _ _) e = absurd cc
 
 -- ---- whether an `else` comes next
 
-else_here : (us : List Token) → is (look us) w.Newline ≡ false → is (look us) w.Semicolon ≡ false → else_next us ≡ is (look us) w.Else
+else_here : (us : List Token) → is (look us) w.Newline ≡ false → is (look us) w.Semicolon ≡ false
+    → else_next us ≡ is (look us) w.Else
 else_here [] a b = refl
 else_here (t ∷ ts) a b = rw (a, b) refl
 
@@ -231,23 +237,29 @@ else_skip (t ∷ ts) =
       | inr h ↦ rw h (rw h refl)
     ]
 
-pub no_else_at : (k : Terminal) (us : List Token) → look us ≡ k → is k w.Newline ≡ false → is k w.Semicolon ≡ false → is k w.Else ≡ false → else_next us ≡ false
-no_else_at k us h a b c = else_here us (ap (λ (v : Terminal). is v w.Newline) h ∙ a) (ap (λ (v : Terminal). is v w.Semicolon) h ∙ b) ∙ ap (λ (v : Terminal). is v w.Else) h ∙ c
+pub no_else_at : (k : Terminal) (us : List Token) → look us ≡ k → is k w.Newline ≡ false → is k w.Semicolon ≡ false
+    → is k w.Else ≡ false → else_next us ≡ false
+no_else_at k us h a b c = else_here us (ap (λ (v : Terminal). is v w.Newline) h ∙ a)
+    (ap (λ (v : Terminal). is v w.Semicolon) h ∙ b) ∙ ap (λ (v : Terminal). is v w.Else) h ∙ c
 
 -- an `else` comes next before a statement just where one does before its canonical spelling
-pub elses_before : (n : ℕ) (ts used rest s : List Token) (x : Statement) → ts ≡ used ++ rest → SpellsStatement n used x rest → look ts ≡ look (canon_statement x ++ s) → else_next rest ≡ else_next s → else_next ts ≡ else_next (canon_statement x ++ s)
+pub elses_before : (n : ℕ) (ts used rest s : List Token) (x : Statement) → ts ≡ used ++ rest
+    → SpellsStatement n used x rest → look ts ≡ look (canon_statement x ++ s) → else_next rest ≡ else_next s
+    → else_next ts ≡ else_next (canon_statement x ++ s)
 unfolding terminal_of
 elses_before n ts used rest s x parts spelled sees like =
     elim (semicolon_or x s) [
       | inl h ↦
           let l = lone n used x rest spelled h in
-          let e : else_next ts ≡ else_next rest = ap else_next (parts ∙ ap (λ (m : List Token). m ++ rest) l.1) ∙ else_behind l.0 rest l.2 in
+          let e : else_next ts ≡ else_next rest = ap else_next (parts ∙ ap (λ (m : List Token). m ++ rest) l.1)
+          ∙ else_behind l.0 rest l.2 in
           e ∙ like ∙ ap (λ (z : Statement). else_next (canon_statement z ++ s)) (sym h)
       | inr h ↦
           let us = canon_statement x ++ s in
           let k = begins_look (canon_statement x) s (begins x) in
           let a = no_newline (look us) k in
-          else_here ts (ap (λ (v : Terminal). is v w.Newline) sees ∙ a) (ap (λ (v : Terminal). is v w.Semicolon) sees ∙ h) ∙ ap (λ (v : Terminal). is v w.Else) sees ∙ sym (else_here us a h)
+          else_here ts (ap (λ (v : Terminal). is v w.Newline) sees ∙ a) (ap (λ (v : Terminal). is v w.Semicolon) sees
+          ∙ h) ∙ ap (λ (v : Terminal). is v w.Else) sees ∙ sym (else_here us a h)
     ]
 
 -- ---- newlines and `;` that mean nothing
@@ -256,7 +268,8 @@ either : (a b : Bool) → (a || b) ≡ true → (a ≡ true) ⊎ (b ≡ true)
 either true b h = inl refl
 either false b h = inr h
 
-pub gap_token : (t : Token) → (is (terminal t) w.Newline || is (terminal t) w.Semicolon) ≡ true → (terminal t ≡ w.Newline) ⊎ (terminal t ≡ w.Semicolon)
+pub gap_token : (t : Token) → (is (terminal t) w.Newline || is (terminal t) w.Semicolon) ≡ true
+    → (terminal t ≡ w.Newline) ⊎ (terminal t ≡ w.Semicolon)
 gap_token t h =
     elim (either (is (terminal t) w.Newline) (is (terminal t) w.Semicolon) h) [
       | inl a ↦ inl (is-true (terminal t) w.Newline refl a)

@@ -21,7 +21,8 @@ use Rattle.awk_parse.specs.Scripts.{IsScriptOf, IsSpelled}
 pub made : (xs : List Item) (parts : List Section) (s : Script) → parts ≡ map part (map view_item xs)
     → Faultless parts → AreKinds parts s.kinds → s.tree.items ≡ xs
     → view_program s.program ≡ program (tables s.kinds parts) (map view_item xs) → Sound (names_of s.program)
-    → s.names_environ ≡ names.names_environ parts → s.reads_main ≡ names.reads_main parts → IsScriptOf (map view_item xs) s
+    → s.names_environ ≡ names.names_environ parts → s.reads_main ≡ names.reads_main parts
+    → IsScriptOf (map view_item xs) s
 made xs parts s of faultless kinds same is_program sound environ main =
     record {
       faultless = rw of at faultless;
@@ -34,5 +35,6 @@ made xs parts s of faultless kinds same is_program sound environ main =
     }
 
 -- what is read is spelled
-pub spelled : (tokens : List Token) (items : List Entry) (s : Script) → grammar.script tokens ≡ Ok (items, []) → IsScriptOf items s → IsSpelled tokens s
+pub spelled : (tokens : List Token) (items : List Entry) (s : Script) → grammar.script tokens ≡ Ok (items, [])
+    → IsScriptOf items s → IsSpelled tokens s
 spelled tokens items s read of = (items, scripts_are_spelled tokens items read, of)

@@ -1,5 +1,6 @@
 -- What is spelled is read: the steps of a rule, and what may follow each level.
-use Rattle.std.proofs.Common.{◌≡◌, ℕ, zero, suc, ◌≤◌, ◌<◌, Bool, true, false, ◌||◌, List, [], ◌∷◌, ◌++◌, length, Option, Some, None, Ok, refl, sym, ap, ◌∙◌, append_assoc, arith, inl, inr}
+use Rattle.std.proofs.Common.{◌≡◌, ℕ, zero, suc, ◌≤◌, ◌<◌, Bool, true, false, ◌||◌, List, [], ◌∷◌, ◌++◌, length, Option}
+use Rattle.std.proofs.Common.{Some, None, Ok, refl, sym, ap, ◌∙◌, append_assoc, arith, inl, inr}
 use Rattle.std.proofs.lemmas.List.{length-append}
 use Rattle.awk_tokens.specs.declared.token.Token.{Token}
 use Rattle.awk_tokens.specs.declared.terminals.Terminal.{Terminal}
@@ -14,7 +15,8 @@ use Rattle.awk_parse.proofs.TerminalLemmas.{steady, single, ahead_is, is-true}
 
 -- ---- one token
 
-pub one_reads : (k : Terminal) (t : Token) (ts : List Token) → steady k ≡ true → is k k ≡ true → terminal t ≡ k → one k (t ∷ ts) ≡ Ok (t, ts)
+pub one_reads : (k : Terminal) (t : Token) (ts : List Token) → steady k ≡ true → is k k ≡ true → terminal t ≡ k
+    → one k (t ∷ ts) ≡ Ok (t, ts)
 unfolding one any
 one_reads k t ts s i h = rw (ahead_is k t ts s h, i) refl
 
@@ -26,10 +28,12 @@ skip_reads (t ∷ ns) ts l h = rw l.0 (skip_reads ns ts l.1 h)
 
 -- ---- what the next token is, and is not
 
-pub follows : (f : Terminal → Bool) (k : Terminal) (t : Token) (ts : List Token) → steady k ≡ true → terminal t ≡ k → f (ahead (t ∷ ts)) ≡ f k
+pub follows : (f : Terminal → Bool) (k : Terminal) (t : Token) (ts : List Token) → steady k ≡ true → terminal t ≡ k
+    → f (ahead (t ∷ ts)) ≡ f k
 follows f k t ts s h = ap f (ahead_is k t ts s h)
 
-pub seen_as : {A : Type 0} (f : Terminal → A) (a : A) (t : Token) (ts : List Token) → ((k : Terminal) → f k ≡ a → steady k ≡ true) → f (terminal t) ≡ a → f (ahead (t ∷ ts)) ≡ a
+pub seen_as : {A : Type 0} (f : Terminal → A) (a : A) (t : Token) (ts : List Token)
+    → ((k : Terminal) → f k ≡ a → steady k ≡ true) → f (terminal t) ≡ a → f (ahead (t ∷ ts)) ≡ a
 seen_as f a t ts s h = ap f (ahead_is (terminal t) t ts (s (terminal t) h) refl) ∙ h
 
 pub is_not : (f : Terminal → Bool) (k j : Terminal) → single j ≡ true → f k ≡ true → f j ≡ false → is k j ≡ false
@@ -43,37 +47,50 @@ is_not f k j s h l =
 
 pub data Turns {Y : Type 0} (test : Terminal → Bool) (p : Parser Y) : List Token → List Y → List Token → Type 0 where
   stop : (r : List Token) → test (ahead r) ≡ false → Turns test p r [] r
-  turn : (ts m r : List Token) (y : Y) (ys : List Y) → test (ahead ts) ≡ true → p ts ≡ Ok (y, m) → length m < length ts → Turns test p m ys r → Turns test p ts (y ∷ ys) r
+  turn : (ts m r : List Token) (y : Y) (ys : List Y) → test (ahead ts) ≡ true → p ts ≡ Ok (y, m) → length m < length ts
+      → Turns test p m ys r → Turns test p ts (y ∷ ys) r
 
-many_from_reads : {Y : Type 0} (test : Terminal → Bool) (p : Parser Y) (ts : List Token) (ys : List Y) (r : List Token) → Turns test p ts ys r → (n : ℕ) → length ts ≤ n → many_from test p n ts ≡ Ok (ys, r)
+many_from_reads : {Y : Type 0} (test : Terminal → Bool) (p : Parser Y) (ts : List Token) (ys : List Y) (r : List Token)
+    → Turns test p ts ys r → (n : ℕ) → length ts ≤ n → many_from test p n ts ≡ Ok (ys, r)
 unfolding many_from
 many_from_reads test p _ _ _ (stop r h) zero le = rw h refl
 many_from_reads test p _ _ _ (stop r h) (suc n) le = rw h refl
 many_from_reads test p _ _ _ (turn ts m r y ys h k l rest) zero le = absurd (omega arith)
-many_from_reads test p _ _ _ (turn ts m r y ys h k l rest) (suc n) le = rw (h, k, many_from_reads test p m ys r rest n (omega arith)) refl
+many_from_reads test p _ _ _ (turn ts m r y ys h k l rest) (suc n) le =
+    rw (h, k, many_from_reads test p m ys r rest n (omega arith)) refl
 
-pub many_reads : {Y : Type 0} (test : Terminal → Bool) (p : Parser Y) (ts : List Token) (ys : List Y) (r : List Token) → Turns test p ts ys r → many test p ts ≡ Ok (ys, r)
+pub many_reads : {Y : Type 0} (test : Terminal → Bool) (p : Parser Y) (ts : List Token) (ys : List Y) (r : List Token)
+    → Turns test p ts ys r → many test p ts ≡ Ok (ys, r)
 many_reads test p ts ys r h = many_from_reads test p ts ys r h (length ts) (omega arith)
 
-pub turn_on : {Y : Type 0} (test : Terminal → Bool) (p : Parser Y) (us vs rest : List Token) (y : Y) (ys : List Y) → 1 ≤ length us → test (ahead (us ++ (vs ++ rest))) ≡ true → p (us ++ (vs ++ rest)) ≡ Ok (y, vs ++ rest) → Turns test p (vs ++ rest) ys rest
+pub turn_on : {Y : Type 0} (test : Terminal → Bool) (p : Parser Y) (us vs rest : List Token) (y : Y) (ys : List Y)
+    → 1 ≤ length us → test (ahead (us ++ (vs ++ rest))) ≡ true → p (us ++ (vs ++ rest)) ≡ Ok (y, vs ++ rest)
+    → Turns test p (vs ++ rest) ys rest
     → Turns test p ((us ++ vs) ++ rest) (y ∷ ys) rest
 turn_on test p us vs rest y ys some h k more =
-    rw (append_assoc us vs rest) (turn (us ++ (vs ++ rest)) (vs ++ rest) rest y ys h k (omega (arith, some, length-append us (vs ++ rest))) more)
+    rw (append_assoc us vs rest) (turn (us ++ (vs ++ rest)) (vs ++ rest) rest y ys h k
+    (omega (arith, some, length-append us (vs ++ rest))) more)
 
 -- ---- up to where a list ends
 
-pub data Untils {Y : Type 0} (gap : List Token → List Token) (ends : List Token → Bool) (p : Parser Y) : List Token → List Y → List Token → Type 0 where
+pub data Untils {Y : Type 0} (gap : List Token → List Token) (ends : List Token → Bool) (p : Parser Y) : List Token
+    → List Y → List Token → Type 0 where
   end_until : (ts r : List Token) → gap ts ≡ r → ends r ≡ true → Untils gap ends p ts [] r
-  turn_until : (ts m k r : List Token) (y : Y) (ys : List Y) → gap ts ≡ m → ends m ≡ false → p m ≡ Ok (y, k) → length k < length ts → Untils gap ends p k ys r → Untils gap ends p ts (y ∷ ys) r
+  turn_until : (ts m k r : List Token) (y : Y) (ys : List Y) → gap ts ≡ m → ends m ≡ false → p m ≡ Ok (y, k)
+      → length k < length ts → Untils gap ends p k ys r → Untils gap ends p ts (y ∷ ys) r
 
-until_from_reads : {Y : Type 0} (gap : List Token → List Token) (ends : List Token → Bool) (p : Parser Y) (ts : List Token) (ys : List Y) (r : List Token) → Untils gap ends p ts ys r → (n : ℕ) → length ts ≤ n → until_from gap ends p n ts ≡ Ok (ys, r)
+until_from_reads : {Y : Type 0} (gap : List Token → List Token) (ends : List Token → Bool) (p : Parser Y)
+    (ts : List Token) (ys : List Y) (r : List Token) → Untils gap ends p ts ys r → (n : ℕ) → length ts ≤ n
+    → until_from gap ends p n ts ≡ Ok (ys, r)
 unfolding until_from
 until_from_reads gap ends p _ _ _ (end_until ts r h k) zero le = rw (h, k) refl
 until_from_reads gap ends p _ _ _ (end_until ts r h k) (suc n) le = rw (h, k) refl
 until_from_reads gap ends p _ _ _ (turn_until ts m k r y ys h i j l rest) zero le = absurd (omega arith)
-until_from_reads gap ends p _ _ _ (turn_until ts m k r y ys h i j l rest) (suc n) le = rw (h, i, j, until_from_reads gap ends p k ys r rest n (omega arith)) refl
+until_from_reads gap ends p _ _ _ (turn_until ts m k r y ys h i j l rest) (suc n) le =
+    rw (h, i, j, until_from_reads gap ends p k ys r rest n (omega arith)) refl
 
-pub until_reads : {Y : Type 0} (gap : List Token → List Token) (ends : List Token → Bool) (p : Parser Y) (ts : List Token) (ys : List Y) (r : List Token) → Untils gap ends p ts ys r → many_until gap ends p ts ≡ Ok (ys, r)
+pub until_reads : {Y : Type 0} (gap : List Token → List Token) (ends : List Token → Bool) (p : Parser Y)
+    (ts : List Token) (ys : List Y) (r : List Token) → Untils gap ends p ts ys r → many_until gap ends p ts ≡ Ok (ys, r)
 until_reads gap ends p ts ys r h = until_from_reads gap ends p ts ys r h (length ts) (omega arith)
 
 -- ---- what goes on from each level

@@ -115,7 +115,8 @@ starts (t.group p xs ms) = refl
 starts (t.member x ms) = starts_append (canon x) _ (starts x)
 starts (t.and x xs) = starts_append (canon x) _ (starts x)
 starts (t.or x xs) = starts_append (canon x) _ (starts x)
-starts (t.choose x y z) = starts_append (canon x ++ terminals.sign (codes "?") ∷ canon y) _ (starts_append (canon x) _ (starts x))
+starts (t.choose x y z) = starts_append (canon x ++ terminals.sign (codes "?") ∷ canon y) _
+    (starts_append (canon x) _ (starts x))
 starts (t.assign x p how y) = starts_append (canon x) _ (starts x)
 
 pub starts_some : (a : List Token) → Starts a → 1 ≤ length a

@@ -6,13 +6,16 @@ use Rattle.awk_tree.specs.declared.statements.Printed.{Printed}
 use Rattle.awk_tree.specs.declared.statements.Redirection.{Redirection}
 use Rattle.awk_tree.specs.Tree as t
 use Rattle.awk_tree.specs.Tree.{Tree, Trees, Perhaps, Terms, Pipes, Statement, Statements, Condition, Entry}
-use Rattle.awk_tree.specs.Canon.{bare, bare_all, bare_perhaps, bare_terms, bare_pipes, bare_name, bare_member, bare_printed, bare_redirection, bare_statement, bare_statements, bare_condition, bare_entry}
+use Rattle.awk_tree.specs.Canon.{bare, bare_all, bare_perhaps, bare_terms, bare_pipes, bare_name, bare_member}
+use Rattle.awk_tree.specs.Canon.{bare_printed, bare_redirection, bare_statement, bare_statements, bare_condition}
+use Rattle.awk_tree.specs.Canon.{bare_entry}
 
 each : {A : Type 0} (f : A → A) → ((x : A) → f (f x) ≡ f x) → (xs : List A) → map f (map f xs) ≡ map f xs
 each f h [] = refl
 each f h (x ∷ xs) = rw (h x, each f h xs) refl
 
-perhaps : {A : Type 0} (f : A → A) → ((x : A) → f (f x) ≡ f x) → (x : Option A) → option_map f (option_map f x) ≡ option_map f x
+perhaps : {A : Type 0} (f : A → A) → ((x : A) → f (f x) ≡ f x) → (x : Option A) → option_map f (option_map f x)
+    ≡ option_map f x
 perhaps f h None = refl
 perhaps f h (Some x) = ap Some (h x)
 
@@ -93,7 +96,12 @@ mutual
   statement_twice (t.while_do x s) = rw (tree_twice x, statement_twice s) refl
   statement_twice (t.do_while s x) = rw (tree_twice x, statement_twice s) refl
   statement_twice (t.for_each p key array s) = rw (statement_twice s) refl
-  statement_twice (t.for_loop x y z s) = rw (perhaps bare tree_twice x, perhaps bare tree_twice y, perhaps bare tree_twice z, statement_twice s) refl
+  statement_twice (t.for_loop x y z s) = rw (
+    perhaps bare tree_twice x,
+    perhaps bare tree_twice y,
+    perhaps bare tree_twice z,
+    statement_twice s,
+  ) refl
 
   statements_twice : (xs : Statements) → bare_statements (bare_statements xs) ≡ bare_statements xs
   statements_twice t.no_more = refl

@@ -61,21 +61,33 @@ in_law o = one_law w.In (λ _. keyword (codes "in")) refl refl (λ _ _. refl) o
 
 -- in NAME
 pub data InName : List Token → Member → List Token → Type 0 where
-  in_one : (t u : Token) (rest : List Token) → terminal t ≡ w.In → terminal u ≡ w.Name → InName (t ∷ u ∷ []) (record { place = t.place; array = name_of u }) rest
+  in_one : (t u : Token) (rest : List Token) → terminal t ≡ w.In → terminal u ≡ w.Name
+      → InName (t ∷ u ∷ []) (record { place = t.place; array = name_of u }) rest
 
 abbrev pub in_form : Form Member
-in_form = record { plain = λ m. keyword (codes "in") ∷ token kind.Name m.array.text ∷ []; bare = bare_member; spells = InName }
+in_form = record {
+  plain = λ m. keyword (codes "in") ∷ token kind.Name m.array.text ∷ [];
+  bare = bare_member;
+  spells =
+      InName;
+}
 
-in_name_spells : (us : List Token) (p : Token × Token) (rest : List Token) → Both in_word a_name us p rest → InName us (record { place = p.0.place; array = name_of p.1 }) rest
+in_name_spells : (us : List Token) (p : Token × Token) (rest : List Token) → Both in_word a_name us p rest
+    → InName us (record { place = p.0.place; array = name_of p.1 }) rest
 in_name_spells _ _ _ (both _ _ rest _ _ (this t _ h) (this u _ k)) = in_one t u rest h k
 
 pub in_name_law : Law Near Near in_form in_name
 unfolding in_name
-in_name_law ts = then_at Near Near Near in_word in_form (one w.In) _ ts (in_law Near ts) (λ x ts. seq_at Near Near Near in_word a_name in_form (one w.Name) (λ (t u : Token). pure (record { place = t.place; array = name_of u })) x ts (name_law Near ts)
-    (pure_on Near (pair in_word a_name) in_form (λ p. record { place = p.0.place; array = name_of p.1 }) (λ p. refl) (λ p. refl) in_name_spells))
+in_name_law ts = then_at Near Near Near in_word in_form (one w.In) _ ts (in_law Near ts)
+    (λ x ts. seq_at Near Near Near in_word a_name in_form (one w.Name)
+    (λ (t u : Token). pure (record { place = t.place; array = name_of u })) x ts (name_law Near ts)
+    (pure_on Near (pair in_word a_name) in_form (λ p. record { place = p.0.place; array = name_of p.1 }) (λ p. refl)
+    (λ p. refl) in_name_spells))
 
 -- { in NAME }
-names_spells : (us vs : List Token) (m : Member) (ms : List Member) (rest : List Token) → is w.In (ahead (us ++ (vs ++ rest))) ≡ true → InName us m (vs ++ rest) → Names vs ms rest → Names (us ++ vs) (m ∷ ms) rest
+names_spells : (us vs : List Token) (m : Member) (ms : List Member) (rest : List Token)
+    → is w.In (ahead (us ++ (vs ++ rest))) ≡ true → InName us m (vs ++ rest) → Names vs ms rest
+    → Names (us ++ vs) (m ∷ ms) rest
 names_spells _ vs _ ms rest _ (in_one t u _ h k) g = one_name t u vs ms rest h k g
 
 abbrev pub names : Form (List Member)
@@ -87,7 +99,8 @@ names_law = many_law in_form Names (is w.In) no_name names_spells (λ m. omega a
 
 pub canon_members-of : (ms : List Member) → canon_members ms ≡ flat_map in_form.plain ms
 canon_members-of [] = refl
-canon_members-of (m ∷ ms) = ap (λ (r : List Token). keyword (codes "in") ∷ token kind.Name m.array.text ∷ r) (canon_members-of ms)
+canon_members-of (m ∷ ms) = ap (λ (r : List Token). keyword (codes "in") ∷ token kind.Name m.array.text ∷ r)
+    (canon_members-of ms)
 
 pub canon-member_of : (l : Tree) (ms : List Member) → canon (member_of l ms) ≡ canon l ++ flat_map in_form.plain ms
 canon-member_of l [] = sym (append-nil (canon l))

@@ -14,7 +14,8 @@ pub both : {a b c : Page} {x y : Text} → Adds a b x → Adds b c y → Adds a 
 both f g = record { whole = λ e. let k = g.whole e in let h = f.whole k.0 in (h.0, rw (k.1, h.1, append_assoc)) }
 
 -- what stands in a form behind its place
-pub behind : {a b c : Page} {x : Text} (head : Text) (q : Place) → Adds a b (opening_at head q) → Adds b c x → Adds a c (opening head ++ (placed q ++ x))
+pub behind : {a b c : Page} {x : Text} (head : Text) (q : Place) → Adds a b (opening_at head q) → Adds b c x
+    → Adds a c (opening head ++ (placed q ++ x))
 behind {a} {b} {c} {x} head q f g =
     let h : Adds a c ((opening head ++ placed q) ++ x) = both f g in rw (append_assoc (opening head) (placed q) x) at h
 

@@ -42,20 +42,27 @@ other_way_by x y false e f = f
 pub other_way : (x y : Text) → bytes_eq x y ≡ false → bytes_eq y x ≡ false
 other_way x y e = other_way_by x y (bytes_eq y x) e refl
 
-no_cell_by : (n name : Text) (c : Cell) (x : Option Cell) → bytes_eq n name ≡ false → x ≡ None → (if bytes_eq n name then Some c else x) ≡ None
+no_cell_by : (n name : Text) (c : Cell) (x : Option Cell) → bytes_eq n name ≡ false → x ≡ None
+    → (if bytes_eq n name then Some c else x) ≡ None
 no_cell_by n name c x e none = rw e none
 
-no_cell : (names : List Text) (cells : List Cell) (name : Text) → list_any (bytes_eq name) names ≡ false → cell_named names cells name ≡ None
+no_cell : (names : List Text) (cells : List Cell) (name : Text) → list_any (bytes_eq name) names ≡ false
+    → cell_named names cells name ≡ None
 no_cell [] cells name e = refl
 no_cell (n ∷ ns) [] name e = refl
 no_cell (n ∷ ns) (c ∷ cs) name e =
-    no_cell_by n name c (cell_named ns cs name) (other_way name n (not_first_by (bytes_eq name n) (list_any (bytes_eq name) ns) e)) (no_cell ns cs name (not_later_by (bytes_eq name n) (list_any (bytes_eq name) ns) e))
+    no_cell_by n name c (cell_named ns cs name)
+    (other_way name n (not_first_by (bytes_eq name n) (list_any (bytes_eq name) ns) e))
+    (no_cell ns cs name (not_later_by (bytes_eq name n) (list_any (bytes_eq name) ns) e))
 
 -- a name that one of them has is another one
-not_named : (names : List Text) (name other : Text) (k : ℕ) → list_any (bytes_eq name) names ≡ false → get_or names k [] ≡ other → ([] ≡ other → ⊥) → bytes_eq name other ≡ false
+not_named : (names : List Text) (name other : Text) (k : ℕ) → list_any (bytes_eq name) names ≡ false
+    → get_or names k [] ≡ other → ([] ≡ other → ⊥) → bytes_eq name other ≡ false
 not_named [] name other k e is some = absurd (some is)
-not_named (n ∷ ns) name other zero e is some = ap (bytes_eq name) (sym is) ∙ not_first_by (bytes_eq name n) (list_any (bytes_eq name) ns) e
-not_named (n ∷ ns) name other (suc k) e is some = not_named ns name other k (not_later_by (bytes_eq name n) (list_any (bytes_eq name) ns) e) is some
+not_named (n ∷ ns) name other zero e is some = ap (bytes_eq name) (sym is) ∙ not_first_by (bytes_eq name n)
+    (list_any (bytes_eq name) ns) e
+not_named (n ∷ ns) name other (suc k) e is some =
+    not_named ns name other k (not_later_by (bytes_eq name n) (list_any (bytes_eq name) ns) e) is some
 
 -- ---- to set it changes nothing
 
@@ -63,8 +70,10 @@ kept_by : {A : Type 0} (b : Bool) (a : A) (x : Option A) → x ≡ None → (if 
 kept_by true a x none = rw none refl
 kept_by false a x none = refl
 
-unchanged_at : (f : Text → Option Value) (name other : Text) (a : Value) → f name ≡ None → (b : Bool) → bytes_eq name other ≡ b → changed f name a other ≡ f other
-unchanged_at f name other a none true e = rw e (kept_by true a (f other) (ap f (sym ((bytes_eq-Decides name other).0 e)) ∙ none))
+unchanged_at : (f : Text → Option Value) (name other : Text) (a : Value) → f name ≡ None → (b : Bool)
+    → bytes_eq name other ≡ b → changed f name a other ≡ f other
+unchanged_at f name other a none true e =
+    rw e (kept_by true a (f other) (ap f (sym ((bytes_eq-Decides name other).0 e)) ∙ none))
 unchanged_at f name other a none false e = rw e refl
 
 unchanged : (f : Text → Option Value) (name : Text) (a : Value) → f name ≡ None → changed f name a ≡ f
@@ -73,12 +82,18 @@ unchanged f name a none = fun_ext (λ other. unchanged_at f name other a none (b
 some_nf : [] ≡ codes "NF" → ⊥
 some_nf e = absurd (cc)
 
-module _ (g : Given) (old : Whole) (name : Text) (x : Value) (none : list_any (bytes_eq name) (names_in g) ≡ false) where
-  set_moves : (k : List Piece) (hid : Hidden) (c : Course) → Agreeing g old hid c → advance g (set_at_start (machine.Variable (global name)) x ∷ k) (seen (base g old hid) c) ≡ Goes k (seen (base g old hid) c)
-  set_moves k hid c a =
-      let s = seen (base g old hid) c in
-      ap (λ b. held g s (if b then set_nf nowhere x k s else Goes k (with_variable (global name) x s))) (not_named (names_in g) name (codes "NF") (slot_of own.Nf) none (a.sound.own own.Nf) some_nf)
-      ∙ ap (λ vs. Goes k (seen (record (base g old hid) { values = vs }) c)) (unchanged (values_of (names_in g) old.0.cells) name x (ap scalar (no_cell (names_in g) old.0.cells name none)))
+module _ (g : Given) (old : Whole) (name : Text) (x : Value) (none : list_any (bytes_eq name) (names_in g) ≡ false)
+  where
+    set_moves : (k : List Piece) (hid : Hidden) (c : Course) → Agreeing g old hid c
+        → advance g (set_at_start (machine.Variable (global name)) x ∷ k) (seen (base g old hid) c)
+        ≡ Goes k (seen (base g old hid) c)
+    set_moves k hid c a =
+        let s = seen (base g old hid) c in
+        ap (λ b. held g s (if b then set_nf nowhere x k s else Goes k (with_variable (global name) x s)))
+        (not_named (names_in g) name (codes "NF") (slot_of own.Nf) none (a.sound.own own.Nf) some_nf)
+        ∙ ap (λ vs. Goes k (seen (record (base g old hid) { values = vs }) c))
+        (unchanged (values_of (names_in g) old.0.cells) name x
+        (ap scalar (no_cell (names_in g) old.0.cells name none)))
 
-  pub sets_none : Acts g (set_at_start (machine.Variable (global name)) x) goes_on old (Ok (tt {0})) old
-  sets_none = done (moves (at_rest _ old) set_moves)
+    pub sets_none : Acts g (set_at_start (machine.Variable (global name)) x) goes_on old (Ok (tt {0})) old
+    sets_none = done (moves (at_rest _ old) set_moves)

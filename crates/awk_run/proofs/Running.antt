@@ -11,7 +11,8 @@ use Rattle.awk_parse.specs.Scripts.{IsScript, IsScriptOf}
 use Rattle.awk_parse.specs.declared.script.Script.{Script}
 
 -- a script's run is told whether it names ENVIRON
-pub environ_so : (s : Script) (b : Bool) → IsScript s → ((items : List Entry) → IsScriptOf items s → b ≡ names_environ (map part items)) → s.names_environ ≡ b
+pub environ_so : (s : Script) (b : Bool) → IsScript s → ((items : List Entry) → IsScriptOf items s
+    → b ≡ names_environ (map part items)) → s.names_environ ≡ b
 environ_so s b (tokens, (items, read, of)) says = of.environ ∙ sym (says items of)
 
 -- the names of a script's program are told apart

@@ -460,7 +460,8 @@ module _ {W : Type 0} (follows : W → List Call → W → Type 0) (has_stopped 
   unemptied_owes old new ask Log p = (p.0, p.3 ask, p.2)
 
   module _ (append : (u v w : W) (xs ys : List Call) → follows u xs v → follows v ys w → follows u (xs ++ ys) w)
-      (leads_open : (v w : W) (calls : List Call) → follows v calls w → open_numbers w ≡ open_after calls (open_numbers v))
+      (leads_open : (v w : W) (calls : List Call) → follows v calls w
+      → open_numbers w ≡ open_after calls (open_numbers v))
       (later : (u v w : W) (xs ys : List Call) (ask : Ask) → follows u xs v → has_stopped v ≡ has_stopped u
       → stops v ys ask w → stops u (xs ++ ys) ask w) where
     -- the same numbers are open once what is held is put
@@ -516,7 +517,8 @@ module _ {W : Type 0} (follows : W → List Call → W → Type 0) (has_stopped 
         → IsDuty (open_numbers mid.world) ask.request
     duty_taken old mid ask t =
         subst (λ (z : Ask). IsDuty (open_numbers mid.world) z.request) (sym t.is_ask)
-        (subst (λ z. IsDuty (open_numbers z) (put_of t.held).request) (sym (ap (λ (z : Blocks W). z.world) t.left)) t.may.stream)
+        (subst (λ z. IsDuty (open_numbers z) (put_of t.held).request) (sym (ap (λ (z : Blocks W). z.world) t.left))
+        t.may.stream)
 
     pub sound_again : (old mid last : Blocks W) (ask : Ask) (e : Stop) (held : Option Writing)
         → Takes open_numbers old mid ask → Passes follows has_stopped open_numbers stops lacks mid ask (Err e) last
@@ -525,7 +527,8 @@ module _ {W : Type 0} (follows : W → List Call → W → Type 0) (has_stopped 
         let inner : follows mid.world [] last.world = waited mid last ask e p in
         let numbers : open_numbers last.world ≡ open_numbers old.world =
         leads_open mid.world last.world [] inner ∙ ap (λ (z : Blocks W). open_numbers z.world) t.left in
-        let untold : last.untold ≡ None = untold_still mid last ask e p ∙ ap (λ (z : Blocks W). z.untold) t.left ∙ t.may.told in
+        let untold : last.untold ≡ None = untold_still mid last ask e p ∙ ap (λ (z : Blocks W). z.untold) t.left
+        ∙ t.may.told in
         subst (λ z. IsSound (open_numbers last.world) last.untold z) (sym (tells t.held t.is_ask))
         (record {
           told = untold;

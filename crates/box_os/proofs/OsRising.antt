@@ -22,14 +22,16 @@ pub rises-given : (low next : ℕ) (ks : List ℕ) → Rises low next ks → Ris
 rises-given low next [] h = (h, omega arith)
 rises-given low next (k ∷ ks) p = (p.0, rises-given (k + 1) next ks p.1)
 
-without-step : (low next m k : ℕ) (ks : List ℕ) (b : Bool) → low ≤ k → Rises (k + 1) next ks → Rises (k + 1) next (without m ks) → Rises low next (cond b ks (k ∷ without m ks))
+without-step : (low next m k : ℕ) (ks : List ℕ) (b : Bool) → low ≤ k → Rises (k + 1) next ks
+    → Rises (k + 1) next (without m ks) → Rises low next (cond b ks (k ∷ without m ks))
 without-step low next m k ks true h p q = rises-lower low (k + 1) next ks (omega arith) p
 without-step low next m k ks false h p q = (h, q)
 
 -- a number is no longer open
 pub rises-without : (low next m : ℕ) (ks : List ℕ) → Rises low next ks → Rises low next (without m ks)
 rises-without low next m [] p = p
-rises-without low next m (k ∷ ks) p = without-step low next m k ks (nat_eq k m) p.0 p.1 (rises-without (k + 1) next m ks p.1)
+rises-without low next m (k ∷ ks) p = without-step low next m k ks (nat_eq k m) p.0 p.1
+    (rises-without (k + 1) next m ks p.1)
 
 -- the number that is given next is none of them
 pub next-is_new : (low next : ℕ) (ks : List ℕ) → Rises low next ks → is_among ks next ≡ false
@@ -52,26 +54,31 @@ or-true true b h = refl
 or-true false b h = h
 
 module _ {X : Type 0} (key : X → ℕ) where
-  at-least : (low next : ℕ) (xs : List X) (i : ℕ) (d : X) → Rises low next (map key xs) → i < length xs → low ≤ key (get_or xs i d)
+  at-least : (low next : ℕ) (xs : List X) (i : ℕ) (d : X) → Rises low next (map key xs) → i < length xs
+      → low ≤ key (get_or xs i d)
   at-least low next [] i d p h = absurd (omega arith)
   at-least low next (x ∷ xs) zero d p h = p.0
   at-least low next (x ∷ xs) (suc i) d p h = omega (arith, p.0, at-least (key x + 1) next xs i d p.1 (omega arith))
 
-  keys-rise : (low next : ℕ) (xs : List X) (i j : ℕ) (d : X) → Rises low next (map key xs) → i ≤ j → j < length xs → key (get_or xs i d) ≤ key (get_or xs j d)
+  keys-rise : (low next : ℕ) (xs : List X) (i j : ℕ) (d : X) → Rises low next (map key xs) → i ≤ j → j < length xs
+      → key (get_or xs i d) ≤ key (get_or xs j d)
   keys-rise low next [] i j d p le h = absurd (omega arith)
   keys-rise low next (x ∷ xs) zero zero d p le h = omega arith
   keys-rise low next (x ∷ xs) zero (suc j) d p le h = omega (arith, at-least (key x + 1) next xs j d p.1 (omega arith))
   keys-rise low next (x ∷ xs) (suc i) zero d p le h = absurd (omega arith)
-  keys-rise low next (x ∷ xs) (suc i) (suc j) d p le h = keys-rise (key x + 1) next xs i j d p.1 (omega arith) (omega arith)
+  keys-rise low next (x ∷ xs) (suc i) (suc j) d p le h = keys-rise (key x + 1) next xs i j d p.1 (omega arith)
+      (omega arith)
 
   -- the comparisons with n rise along the list, as a binary search asks
-  comparisons-rise : (low next n : ℕ) (xs : List X) → Rises low next (map key xs) → IsNonDecreasingBy (λ y. ordering_index (nat_cmp (key y) n)) xs
+  comparisons-rise : (low next n : ℕ) (xs : List X) → Rises low next (map key xs)
+      → IsNonDecreasingBy (λ y. ordering_index (nat_cmp (key y) n)) xs
   comparisons-rise low next n xs p i j d le h =
       let rise = keys-rise low next xs i j d p le h in
       grind (arith, nat_tests)
 
   -- at the place where n stands, it is taken out
-  without-at : (low next n : ℕ) (xs : List X) (i : ℕ) → Rises low next (map key xs) → i < length xs → HoldsAt (λ y. key y ≡ n) xs i → without n (map key xs) ≡ map key (take i xs) ++ map key (drop (suc i) xs)
+  without-at : (low next n : ℕ) (xs : List X) (i : ℕ) → Rises low next (map key xs) → i < length xs
+      → HoldsAt (λ y. key y ≡ n) xs i → without n (map key xs) ≡ map key (take i xs) ++ map key (drop (suc i) xs)
   without-at low next n [] i p h at = absurd (omega arith)
   without-at low next n (x ∷ xs) zero p h at =
       let e : nat_eq (key x) n ≡ true = grind (arith, nat_tests, at x) in
@@ -82,26 +89,32 @@ module _ {X : Type 0} (key : X → ℕ) where
       rw e (ap (λ ks. key x ∷ ks) (without-at (key x + 1) next n xs i p.1 (omega arith) at))
 
   -- at the place where n stands, it is among them
-  among-at : (n : ℕ) (xs : List X) (i : ℕ) → i < length xs → HoldsAt (λ y. key y ≡ n) xs i → is_among (map key xs) n ≡ true
+  among-at : (n : ℕ) (xs : List X) (i : ℕ) → i < length xs → HoldsAt (λ y. key y ≡ n) xs i
+      → is_among (map key xs) n ≡ true
   among-at n [] i h at = absurd (omega arith)
   among-at n (x ∷ xs) zero h at =
       let e : nat_eq (key x) n ≡ true = grind (arith, nat_tests, at x) in
       rw e refl
-  among-at n (x ∷ xs) (suc i) h at = or-true (nat_eq (key x) n) (is_among (map key xs) n) (among-at n xs i (omega arith) at)
+  among-at n (x ∷ xs) (suc i) h at = or-true (nat_eq (key x) n) (is_among (map key xs) n)
+      (among-at n xs i (omega arith) at)
 
   -- where n is none of them, nothing is taken out
-  without-absent : (n : ℕ) (xs : List X) → ((i : ℕ) (d : X) → i < length xs → key (get_or xs i d) ≡ n → ⊥) → without n (map key xs) ≡ map key xs
+  without-absent : (n : ℕ) (xs : List X) → ((i : ℕ) (d : X) → i < length xs → key (get_or xs i d) ≡ n → ⊥)
+      → without n (map key xs) ≡ map key xs
   without-absent n [] none = refl
   without-absent n (x ∷ xs) none =
       let e : nat_eq (key x) n ≡ false = grind (arith, nat_tests, none zero x (omega arith)) in
       rw e (ap (λ ks. key x ∷ ks) (without-absent n xs (λ i d h. none (suc i) d (omega arith))))
 
   -- where a binary search for n ends at it, it is taken out there
-  found-without : (low next n : ℕ) (xs : List X) (i : ℕ) → Rises low next (map key xs) → i < length xs → HoldsAt (λ y. nat_cmp (key y) n ≡ Equal) xs i → without n (map key xs) ≡ map key (take i xs) ++ map key (drop (i + 1) xs)
+  found-without : (low next n : ℕ) (xs : List X) (i : ℕ) → Rises low next (map key xs) → i < length xs
+      → HoldsAt (λ y. nat_cmp (key y) n ≡ Equal) xs i → without n (map key xs) ≡ map key (take i xs)
+      ++ map key (drop (i + 1) xs)
   found-without low next n xs i p h at = rw add-one (without-at low next n xs i p h (λ d. ranked _ n _ (sym (at d))))
 
   -- where it ends at a gap, nothing is taken out
-  gap-without : (low next n : ℕ) (xs : List X) (i : ℕ) → Rises low next (map key xs) → IsBinarySearchResult (λ y. nat_cmp (key y) n) xs (Err i) → without n (map key xs) ≡ map key xs
+  gap-without : (low next n : ℕ) (xs : List X) (i : ℕ) → Rises low next (map key xs)
+      → IsBinarySearchResult (λ y. nat_cmp (key y) n) xs (Err i) → without n (map key xs) ≡ map key xs
   gap-without low next n xs i p gap =
       let parted = gap (comparisons-rise low next n xs p) in
       without-absent n xs (λ k d h same.
@@ -110,7 +123,26 @@ module _ {X : Type 0} (key : X → ℕ) where
       grind (arith, before, after))
 
   -- what a binary search for n answers says whether it is among the numbers, and what they are without it
-  pub searched : (low next n : ℕ) (xs : List X) (r : Result ℕ ℕ) → Rises low next (map key xs) → IsSearchInRange r (length xs) → IsBinarySearchResult (λ y. nat_cmp (key y) n) xs r
-      → record { within : IfOk r (λ at. at < length xs); among : IfOk r (λ _. is_among (map key xs) n ≡ true); found : IfOk r (λ at. without n (map key xs) ≡ map key (take at xs) ++ map key (drop (at + 1) xs)); absent : IfErr r (λ _. without n (map key xs) ≡ map key xs) }
-  searched low next n xs (Ok at) p h result = record { within = h; among = among-at n xs at h (λ d. ranked _ n _ (sym (result d))); found = found-without low next n xs at p h result; absent = tt }
-  searched low next n xs (Err at) p h result = record { within = tt; among = tt; found = tt; absent = gap-without low next n xs at p result }
+  pub searched : (low next n : ℕ) (xs : List X) (r : Result ℕ ℕ) → Rises low next (map key xs)
+      → IsSearchInRange r (length xs) → IsBinarySearchResult (λ y. nat_cmp (key y) n) xs r
+      → record {
+        within : IfOk r (λ at. at < length xs);
+        among : IfOk r (λ _. is_among (map key xs) n ≡ true);
+        found : IfOk r (λ at. without n (map key xs) ≡ map key (take at xs) ++ map key (drop (at + 1) xs));
+        absent : IfErr r (λ _. without n (map key xs) ≡ map key xs);
+      }
+  searched low next n xs (Ok at) p h result =
+      record {
+        within = h;
+        among = among-at n xs at h (λ d. ranked _ n _ (sym (result d)));
+        found =
+            found-without low next n xs at p h result;
+        absent = tt;
+      }
+  searched low next n xs (Err at) p h result = record {
+    within = tt;
+    among = tt;
+    found = tt;
+    absent =
+        gap-without low next n xs at p result;
+  }

@@ -1,5 +1,6 @@
 -- Each request of a run is covered: so it is of each move, and from the first pieces on.
-use Rattle.std.proofs.Common.{◌≡◌, ◌∙◌, ◌+◌, ℕ, Bool, true, false, List, [], ◌∷◌, ◌++◌, map, refl, sym, subst, true≢false, append_assoc, arith}
+use Rattle.std.proofs.Common.{◌≡◌, ◌∙◌, ◌+◌, ℕ, Bool, true, false, List, [], ◌∷◌, ◌++◌, map, refl, sym, subst}
+use Rattle.std.proofs.Common.{true≢false, append_assoc, arith}
 use Rattle.std.specs.Prelude.{Option, Some, None, if◌then◌else◌, codes, nat_lt, All, Contains, filter}
 use Rattle.std.proofs.lemmas.List.Elements.{All-nil, All-cons, Contains-append_left, Contains-append_right}
 use Rattle.std.proofs.lemmas.List.Sorted.{Contains-permutation}
@@ -11,7 +12,8 @@ use Rattle.awk_program.specs.Slots.{Text}
 use Rattle.awk_program.specs.Program.{Statement, Rule, Function, global}
 use Rattle.box_policy.specs.declared.policy.Kind.TheVariants.{Read, Env, Assign}
 use Rattle.box_world.specs.declared.ask.Reply.{Reply}
-use Rattle.box_world.specs.Events.{Named, Wish, Opens, Reads, Writes, Shuts, Runs, Looks, Assigns, Want, Event, Stream, open_streams, request_of}
+use Rattle.box_world.specs.Events.{Named, Wish, Opens, Reads, Writes, Shuts, Runs, Looks, Assigns, Want, Event, Stream}
+use Rattle.box_world.specs.Events.{open_streams, request_of}
 use Rattle.box_monitor.specs.Subjects.{subject_of}
 use Rattle.awk_machine.specs.Advances.{known, asked_by, over_by, held}
 use Rattle.awk_machine.specs.Begins as b
@@ -21,7 +23,9 @@ use Rattle.awk_machine.specs.Getline.{first_record}
 use Rattle.awk_machine.specs.Moves.{do_part, do_task, move}
 use Rattle.awk_machine.specs.Operators.{of_truth}
 use Rattle.awk_machine.specs.Pieces as m
-use Rattle.awk_machine.specs.Pieces.{nowhere, Part, Value_of, Target_of, Pattern_of, Terms_of, Texts_of, Ands_of, Ors_of, Members_of, Pipes_of, Doing, Test, Turn, Leave, Records, Choosing, Task, Piece, At, Do, Next, Goes, Steps, Asks, Seeks, Over, Outcome, Cut, ends}
+use Rattle.awk_machine.specs.Pieces.{nowhere, Part, Value_of, Target_of, Pattern_of, Terms_of, Texts_of, Ands_of}
+use Rattle.awk_machine.specs.Pieces.{Ors_of, Members_of, Pipes_of, Doing, Test, Turn, Leave, Records, Choosing, Task}
+use Rattle.awk_machine.specs.Pieces.{Piece, At, Do, Next, Goes, Steps, Asks, Seeks, Over, Outcome, Cut, ends}
 use Rattle.awk_machine.specs.Plays.{Plays, Reaches, here, goes, steps, asks, seeks}
 use Rattle.awk_machine.specs.Questions as q
 use Rattle.awk_machine.specs.State.{State, Course, Given, Beginning, Ruling, Ending}
@@ -35,7 +39,8 @@ use Rattle.box_listing.specs.Listings as l
 use Rattle.box_listing.specs.Listings.{IsListing, at_start, sites_of}
 use Rattle.box_listing.specs.Sites as s
 use Rattle.listing_laws.specs.Covers.{IsCoveredAt, IsCovered, AllCovered}
-use Rattle.listing_laws.proofs.Standing.{Listed, Holds, Sub, WantedBy, IsWanted, handed_by, done_by, Kept, Knows, Fit, EnvironFit, Stack, Ready, Keeps, Whole}
+use Rattle.listing_laws.proofs.Standing.{Listed, Holds, Sub, WantedBy, IsWanted, handed_by, done_by, Kept, Knows, Fit}
+use Rattle.listing_laws.proofs.Standing.{EnvironFit, Stack, Ready, Keeps, Whole}
 use Rattle.listing_laws.proofs.Steps.{front, back, both, hand, ended}
 use Rattle.listing_laws.proofs.Forms.{values, targets, patterns, terms, texts, ands, ors, members, pipes}
 use Rattle.listing_laws.proofs.Doing.{statements, tested, behind}
@@ -44,7 +49,8 @@ use Rattle.listing_laws.proofs.Tasks as t
 module _ (S : Listed) where
   -- ---- moves
 
-  part_keeps : (g : Given) (part : Part) (vs : List Value) (k : List Piece) (st : State) → Whole S g → Kept S part → Knows S part vs → Stack S (handed_by part) k → Keeps S (do_part g part vs k st)
+  part_keeps : (g : Given) (part : Part) (vs : List Value) (k : List Piece) (st : State) → Whole S g → Kept S part
+      → Knows S part vs → Stack S (handed_by part) k → Keeps S (do_part g part vs k st)
   part_keeps g (Value_of x) vs k st w h n rest = values S x vs k st h n rest
   part_keeps g (Target_of r) vs k st w h n rest = targets S r vs k st h rest
   part_keeps g (Pattern_of y) vs k st w h n rest = patterns S y k st h rest
@@ -61,7 +67,8 @@ module _ (S : Listed) where
   part_keeps g Records vs k st w h n rest = t.reads_records S g vs k st w h rest
   part_keeps g (Choosing n x) vs k st w h i rest = t.chooses S n x vs k st h rest
 
-  task_keeps : (g : Given) (task : Task) (k : List Piece) (st : State) → Whole S g → Fit S task → Stack S (done_by task) k → Keeps S (do_task g task k st)
+  task_keeps : (g : Given) (task : Task) (k : List Piece) (st : State) → Whole S g → Fit S task
+      → Stack S (done_by task) k → Keeps S (do_task g task k st)
   task_keeps g (m.Give x) k st w fit rest = hand S None x k tt rest
   task_keeps g (m.Get from) k st w fit rest = t.gets S from k st rest
   task_keeps g (m.Set to place x) k st w fit rest = t.sets S to place x k st rest
@@ -85,7 +92,8 @@ module _ (S : Listed) where
   task_keeps g (m.Read place key) k st w fit rest = t.reads S place key (first_record key st) k st rest
   task_keeps g (m.Fetch place class text) k st w fit rest = t.fetches S place class text k st fit rest
   task_keeps g (m.Count place name) k st w fit rest = t.counts S place name k st rest
-  task_keeps g (m.Close place text so_far) k st w fit rest = t.closes S place text so_far (first_stream text (open_streams st.course.events)) k st rest
+  task_keeps g (m.Close place text so_far) k st w fit rest =
+      t.closes S place text so_far (first_stream text (open_streams st.course.events)) k st rest
   task_keeps g (m.Run place text) k st w fit rest = (fit, λ r. hand S None (status_of r) k tt rest)
   task_keeps g m.Take k st w fit rest = t.takes S k st fit rest
   task_keeps g m.Operand k st w fit rest = t.operands S k st fit rest
@@ -107,15 +115,18 @@ module _ (S : Listed) where
 
   -- ---- held against what is open and the bound
 
-  asked_keeps : (o : Option Reply) (w : Want) (then_ : Reply → List Piece) (st : State) → IsWanted S w → ((r : Reply) → Ready S (then_ r)) → Keeps S (asked_by o w then_ st)
+  asked_keeps : (o : Option Reply) (w : Want) (then_ : Reply → List Piece) (st : State) → IsWanted S w
+      → ((r : Reply) → Ready S (then_ r)) → Keeps S (asked_by o w then_ st)
   asked_keeps (Some r) w then_ st h i = i r
   asked_keeps None w then_ st h i = (h, i)
 
   over_keeps : (xs : List Stream) (o : Outcome) (st : State) → Keeps S (over_by xs o st)
   over_keeps [] o st = tt
-  over_keeps (x ∷ xs) o st = asked_keeps (known (Shuts (Named x.class x.text)) st.course.events) (want nowhere (Shuts (Named x.class x.text))) (λ r. ends o) st tt (λ r. ended S o)
+  over_keeps (x ∷ xs) o st = asked_keeps (known (Shuts (Named x.class x.text)) st.course.events)
+      (want nowhere (Shuts (Named x.class x.text))) (λ r. ends o) st tt (λ r. ended S o)
 
-  step_keeps : (c : Bool) (k : List Piece) (st : State) → Ready S k → Keeps S (if c then Steps k st else Goes (ends Cut) st)
+  step_keeps : (c : Bool) (k : List Piece) (st : State) → Ready S k
+      → Keeps S (if c then Steps k st else Goes (ends Cut) st)
   step_keeps true k st h = h
   step_keeps false k st h = ended S Cut
 
@@ -132,17 +143,21 @@ module _ (S : Listed) where
   AllWanted [] = Unit {0}
   AllWanted (e ∷ es) = IsWanted S e.want × AllWanted es
 
-  pub chained : {g : Given} {k n : List Piece} {st u : State} {c d : Course} → Whole S g → Reaches g k st c n u d → Ready S k → AllWanted c.events → AllWanted d.events
+  pub chained : {g : Given} {k n : List Piece} {st u : State} {c d : Course} → Whole S g → Reaches g k st c n u d
+      → Ready S k → AllWanted c.events → AllWanted d.events
   chained w here h all = all
   chained {g = g} {k = k} {st = st} {c = c} w (goes {l = l} {t = u} e x) h all =
-      chained w x (subst (λ z. Keeps S z) e (held_keeps g (seen st c) (move g k (seen st c)) (keeps g k (seen st c) w h))) all
+      chained w x (subst (λ z. Keeps S z) e (held_keeps g (seen st c) (move g k (seen st c))
+      (keeps g k (seen st c) w h))) all
   chained {g = g} {k = k} {st = st} {c = c} w (steps {l = l} {t = u} e x) h all =
-      chained w x (subst (λ z. Keeps S z) e (held_keeps g (seen st c) (move g k (seen st c)) (keeps g k (seen st c) w h))) all
+      chained w x (subst (λ z. Keeps S z) e (held_keeps g (seen st c) (move g k (seen st c))
+      (keeps g k (seen st c) w h))) all
   chained {g = g} {k = k} {st = st} {c = c} w (asks {t = u} {w = v} {then_ = then_} r e fits x) h all =
       let i = subst (λ z. Keeps S z) e (held_keeps g (seen st c) (move g k (seen st c)) (keeps g k (seen st c) w h)) in
       chained w x (i.1 r) (i.0, all)
   chained {g = g} {k = k} {st = st} {c = c} w (seeks a e is x) h all =
-      chained w x (subst (λ z. Keeps S z) e (held_keeps g (seen st c) (move g k (seen st c)) (keeps g k (seen st c) w h)) a) all
+      chained w x (subst (λ z. Keeps S z) e (held_keeps g (seen st c) (move g k (seen st c))
+      (keeps g k (seen st c) w h)) a) all
 
   -- ---- the first pieces
 
@@ -154,7 +169,8 @@ module _ (S : Listed) where
   separators_ready None k h = h
   separators_ready (Some text) k h = (tt, h)
 
-  assigns_ready : (xs : List (Text × Text)) (k : List Piece) → Ready S k → Ready S (map (λ a. b.set_at_start (m.Variable (global a.0)) (v.Input (unescaped a.1))) xs ++ k)
+  assigns_ready : (xs : List (Text × Text)) (k : List Piece) → Ready S k
+      → Ready S (map (λ a. b.set_at_start (m.Variable (global a.0)) (v.Input (unescaped a.1))) xs ++ k)
   assigns_ready [] k h = h
   assigns_ready (x ∷ xs) k h = (tt, assigns_ready xs k h)
 
@@ -162,22 +178,26 @@ module _ (S : Listed) where
   environ_fit [] h = tt
   environ_fit (name ∷ names) h = h
 
-  environ_ready : (c : Bool) (names : List Text) → (c ≡ true → S (at_start Env)) → EnvironFit S (if c then names else [])
+  environ_ready : (c : Bool) (names : List Text) → (c ≡ true → S (at_start Env))
+      → EnvironFit S (if c then names else [])
   environ_ready true names h = environ_fit names (h refl)
   environ_ready false names h = tt
 
   first_ready : (g : Given) → Whole S g → Ready S (b.first_pieces g)
   first_ready g w =
-      let rest : List Piece = Do (m.Environ (if g.names_environ then g.environment else [])) ∷ Do (m.Enter Beginning) ∷ Do (m.Enter Ruling) ∷ Do (m.Enter Ending) ∷ [] in
+      let rest : List Piece = Do (m.Environ (if g.names_environ then g.environment else [])) ∷ Do (m.Enter Beginning) ∷
+      Do (m.Enter Ruling) ∷ Do (m.Enter Ending) ∷ [] in
       let h : Ready S rest = (environ_ready g.names_environ g.environment w.environ, (tt, (tt, (tt, tt)))) in
       let i : Ready S (b.operands 0 (codes "awk" ∷ g.operands) ++ (b.separators g.separator ++ (b.assigns g ++ rest))) =
       operands_ready 0 (codes "awk" ∷ g.operands) (b.separators g.separator ++ (b.assigns g ++ rest))
-      (separators_ready g.separator (b.assigns g ++ rest) (assigns_ready (filter (λ a. g.can_assign a.0) g.assigns) rest h)) in
+      (separators_ready g.separator (b.assigns g ++ rest) (assigns_ready (filter (λ a. g.can_assign a.0) g.assigns) rest
+      h)) in
       let e = append_assoc (b.operands 0 (codes "awk" ∷ g.operands) ++ b.separators g.separator) (b.assigns g) rest
       ∙ append_assoc (b.operands 0 (codes "awk" ∷ g.operands)) (b.separators g.separator) (b.assigns g ++ rest) in
       subst (λ z. Ready S z) (sym e) i
 
-  pub all_wanted : (g : Given) (events : List Event) (o : Outcome) (n : ℕ) (last : Option Want) → Whole S g → Plays g events o n last → AllWanted events
+  pub all_wanted : (g : Given) (events : List Event) (o : Outcome) (n : ℕ) (last : Option Want) → Whole S g
+      → Plays g events o n last → AllWanted events
   all_wanted g events o n last w x = chained w x.chain (first_ready g w) tt
 
 -- ---- the whole listing
@@ -186,28 +206,36 @@ module _ (sites : List Site) where
   abbrev pub Is : Listed
   Is site = Contains sites site
 
-  held_main : (reads names : Bool) → ((site : Site) → Contains (l.started reads names) site → Contains sites site) → reads ≡ true → Holds Is found.MainInput
+  held_main : (reads names : Bool) → ((site : Site) → Contains (l.started reads names) site → Contains sites site)
+      → reads ≡ true → Holds Is found.MainInput
   held_main true names h e = (
     h (at_start Read) (0, omega arith, refl),
-    h (at_start Assign) (Contains-append_right (l.if_so true Read) (l.if_so names Env ++ l.if_so true Assign) (at_start Assign)
+    h (at_start Assign) (Contains-append_right (l.if_so true Read) (l.if_so names Env ++ l.if_so true Assign)
+        (at_start Assign)
         (Contains-append_right (l.if_so names Env) (l.if_so true Assign) (at_start Assign) (0, omega arith, refl))),
   )
   held_main false names h e = absurd (true≢false (sym e))
 
-  held_environ : (reads names : Bool) → ((site : Site) → Contains (l.started reads names) site → Contains sites site) → names ≡ true → Contains sites (at_start Env)
+  held_environ : (reads names : Bool) → ((site : Site) → Contains (l.started reads names) site → Contains sites site)
+      → names ≡ true → Contains sites (at_start Env)
   held_environ reads true h e =
-      h (at_start Env) (Contains-append_right (l.if_so reads Read) (l.if_so true Env ++ l.if_so reads Assign) (at_start Env)
+      h (at_start Env) (Contains-append_right (l.if_so reads Read) (l.if_so true Env ++ l.if_so reads Assign)
+      (at_start Env)
       (Contains-append_left (l.if_so true Env) (l.if_so reads Assign) (at_start Env) (0, omega arith, refl)))
   held_environ reads false h e = absurd (true≢false (sym e))
 
-  all_held : (xs : List Found) → ((site : Site) → Contains (l.placed xs) site → Contains sites site) → (l.reads_main xs ≡ true → Holds Is found.MainInput) → Sub Is xs
+  all_held : (xs : List Found) → ((site : Site) → Contains (l.placed xs) site → Contains sites site)
+      → (l.reads_main xs ≡ true → Holds Is found.MainInput) → Sub Is xs
   all_held [] h main = tt
   all_held (found.MainInput ∷ xs) h main = (main refl, all_held xs h (λ e. main refl))
-  all_held (found.At site ∷ xs) h main =
-      (h site (0, omega arith, refl), all_held xs (λ other c. h other (Contains-append_right (site ∷ []) (l.placed xs) other c)) main)
+  all_held (found.At site ∷ xs) h main = (
+    h site (0, omega arith, refl),
+    all_held xs (λ other c. h other (Contains-append_right (site ∷ []) (l.placed xs) other c)) main,
+  )
 
   -- in whatever order, no item is left out
-  all_items : (order : List Sort) (begin : List (List Statement)) (rs : List Rule) (end : List (List Statement)) (fs : List Function) → Sub Is (s.items order begin rs end fs) →
+  all_items : (order : List Sort) (begin : List (List Statement)) (rs : List Rule) (end : List (List Statement))
+      (fs : List Function) → Sub Is (s.items order begin rs end fs) →
       Sub Is (s.actions begin) × Sub Is (s.rules rs) × Sub Is (s.actions end) × Sub Is (s.functions fs)
   all_items [] begin rs end fs h =
       let i = back Is (s.actions begin) (s.rules rs ++ (s.actions end ++ s.functions fs)) h in
@@ -219,20 +247,33 @@ module _ (sites : List Site) where
       )
   all_items (sort.Begin ∷ more) [] rs end fs h = all_items more [] rs end fs h
   all_items (sort.Begin ∷ more) (x ∷ begin) rs end fs h =
-      let i = all_items more begin rs end fs (back Is (s.all_done x) (s.items more begin rs end fs) h) in
-      (both Is (s.all_done x) (s.actions begin) (front Is (s.all_done x) (s.items more begin rs end fs) h) i.0, i.1, i.2, i.3)
+      let i = all_items more begin rs end fs (back Is (s.all_done x) (s.items more begin rs end fs) h) in (
+        both Is (s.all_done x) (s.actions begin) (front Is (s.all_done x) (s.items more begin rs end fs) h) i.0,
+        i.1,
+        i.2,
+        i.3,
+      )
   all_items (sort.Rule ∷ more) begin [] end fs h = all_items more begin [] end fs h
   all_items (sort.Rule ∷ more) begin (x ∷ rs) end fs h =
       let i = all_items more begin rs end fs (back Is (s.rule x) (s.items more begin rs end fs) h) in
       (i.0, both Is (s.rule x) (s.rules rs) (front Is (s.rule x) (s.items more begin rs end fs) h) i.1, i.2, i.3)
   all_items (sort.End ∷ more) begin rs [] fs h = all_items more begin rs [] fs h
   all_items (sort.End ∷ more) begin rs (x ∷ end) fs h =
-      let i = all_items more begin rs end fs (back Is (s.all_done x) (s.items more begin rs end fs) h) in
-      (i.0, i.1, both Is (s.all_done x) (s.actions end) (front Is (s.all_done x) (s.items more begin rs end fs) h) i.2, i.3)
+      let i = all_items more begin rs end fs (back Is (s.all_done x) (s.items more begin rs end fs) h) in (
+        i.0,
+        i.1,
+        both Is (s.all_done x) (s.actions end) (front Is (s.all_done x) (s.items more begin rs end fs) h) i.2,
+        i.3,
+      )
   all_items (sort.Function ∷ more) begin rs end [] h = all_items more begin rs end [] h
   all_items (sort.Function ∷ more) begin rs end (f ∷ fs) h =
-      let i = all_items more begin rs end fs (back Is (s.all_done f.body) (s.items more begin rs end fs) h) in
-      (i.0, i.1, i.2, both Is (s.all_done f.body) (s.functions fs) (front Is (s.all_done f.body) (s.items more begin rs end fs) h) i.3)
+      let i = all_items more begin rs end fs (back Is (s.all_done f.body) (s.items more begin rs end fs) h) in (
+        i.0,
+        i.1,
+        i.2,
+        both Is (s.all_done f.body) (s.functions fs)
+            (front Is (s.all_done f.body) (s.items more begin rs end fs) h) i.3,
+      )
 
   whole : (g : Given) (order : List Sort) → IsListing g.program order g.names_environ sites → Whole Is g
   whole g order listing =
@@ -246,9 +287,11 @@ module _ (sites : List Site) where
       λ site c. into site (Contains-append_right (l.started reads g.names_environ) (l.placed xs) site c) in
       let all = all_held xs others (held_main reads g.names_environ first_ones) in
       let i = all_items order g.program.begin g.program.rules g.program.end g.program.functions
-      (back Is (s.records g.program.rules g.program.end) (s.items order g.program.begin g.program.rules g.program.end g.program.functions) all) in
+      (back Is (s.records g.program.rules g.program.end) (s.items order g.program.begin g.program.rules g.program.end
+      g.program.functions) all) in
       record {
-        records = front Is (s.records g.program.rules g.program.end) (s.items order g.program.begin g.program.rules g.program.end g.program.functions) all;
+        records = front Is (s.records g.program.rules g.program.end)
+            (s.items order g.program.begin g.program.rules g.program.end g.program.functions) all;
         begin = i.0;
         rules = i.1;
         end = i.2;
@@ -256,10 +299,12 @@ module _ (sites : List Site) where
         environ = held_environ reads g.names_environ first_ones;
       }
 
-  pub wanted : (g : Given) (order : List Sort) (events : List Event) (o : Outcome) (n : ℕ) (last : Option Want) → IsListing g.program order g.names_environ sites → Plays g events o n last → AllWanted Is events
+  pub wanted : (g : Given) (order : List Sort) (events : List Event) (o : Outcome) (n : ℕ) (last : Option Want)
+      → IsListing g.program order g.names_environ sites → Plays g events o n last → AllWanted Is events
   wanted g order events o n last listing x = all_wanted Is g events o n last (whole g order listing) x
 
-  plain : (place : Place) (given : Bool) (wish : Wish) → WantedBy Is place given wish → IsCoveredAt sites place (subject_of (request_of wish []))
+  plain : (place : Place) (given : Bool) (wish : Wish) → WantedBy Is place given wish
+      → IsCoveredAt sites place (subject_of (request_of wish []))
   plain place given (Opens mode class text) h = (h.0, h.1, h.2)
   plain place given (Reads key) h = tt
   plain place given (Writes key bytes) h = tt
@@ -270,7 +315,9 @@ module _ (sites : List Site) where
 
   each_covered : (es : List Event) → AllWanted Is es → All (IsCovered sites) es
   each_covered [] h = All-nil (IsCovered sites)
-  each_covered (e ∷ es) h = All-cons (IsCovered sites) e es (plain e.want.place e.want.given e.want.wish h.0) (each_covered es h.1)
+  each_covered (e ∷ es) h = All-cons (IsCovered sites) e es (plain e.want.place e.want.given e.want.wish h.0)
+      (each_covered es h.1)
 
 pub all_covered : AllCovered
-all_covered g order sites events o n last listing x = each_covered sites events (wanted sites g order events o n last listing x)
+all_covered g order sites events o n last listing x =
+    each_covered sites events (wanted sites g order events o n last listing x)

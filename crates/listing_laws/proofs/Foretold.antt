@@ -28,7 +28,8 @@ listing_of : (items : List Entry) (s : Script) (sites : List Site) (g : Given) �
     IsListing g.program (map sort_of (tree s)) g.names_environ sites
 listing_of items s sites g is of listing =
     subst (λ p. IsListing p (map sort_of (tree s)) g.names_environ sites) (sym of.program)
-    (subst (λ b. IsListing (view_program s.program) (map sort_of (tree s)) b sites) (sym (of.environ ∙ is.environ)) listing)
+    (subst (λ b. IsListing (view_program s.program) (map sort_of (tree s)) b sites) (sym (of.environ ∙ is.environ))
+    listing)
 
 pub script_covered : ScriptCovered
 script_covered items s sites is listing g events o used last of plays =
@@ -36,7 +37,8 @@ script_covered items s sites is listing g events o used last of plays =
 
 pub script_allowed : ScriptAllowed
 script_allowed items s book is judged g events o used last of plays =
-    none_denied g (map sort_of (tree s)) book judged.sites events o used last (listing_of items s judged.sites g is of judged.listing) (sym judged.is) plays
+    none_denied g (map sort_of (tree s)) book judged.sites events o used last
+    (listing_of items s judged.sites g is of judged.listing) (sym judged.is) plays
 
 -- ---- the sites that are refused
 
@@ -57,12 +59,14 @@ covers_own : (site : Site) → Covers site site.place (own_subject site)
 unfolding own_subject
 covers_own site = record { same_place = refl; same_kind = refl; same_text = own_is site.text }
 
-module _ (book : Rulebook) (sites refused : List Site) (site : Site) (is : verdict book sites ≡ Refused refused) (c : Contains refused site) where
+module _ (book : Rulebook) (sites refused : List Site) (site : Site) (is : verdict book sites ≡ Refused refused)
+    (c : Contains refused site) where
   denied_at : (events : List Event) (place : Place) (given : Bool) (o : Option Subject) → CoversAt site place o →
       given ≡ false → IsSome (denial_at (after_events book events) place given o)
   denied_at events place given None covers e = absurd covers
   denied_at events place given (Some subject) covers e =
-      subst (λ b. IsSome (denial_at (after_events book events) place b (Some subject))) (sym e) (refused_denied book sites refused site events place subject is c covers).1
+      subst (λ b. IsSome (denial_at (after_events book events) place b (Some subject))) (sym e)
+      (refused_denied book sites refused site events place subject is c covers).1
 
   refused_site : IsRefusedSite book site
   refused_site = (

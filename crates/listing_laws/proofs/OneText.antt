@@ -75,9 +75,11 @@ both_ways false false f g = refl
 same_kind : (parts : List Section) (c d : Kinds) → AreKinds parts c → AreKinds parts d → (name : Named) (kind : Kind) →
     has c name kind ≡ has d name kind
 same_kind parts c d x y name kind =
-    both_ways (has c name kind) (has d name kind) (λ h. (y name kind).1 ((x name kind).0 h)) (λ h. (x name kind).1 ((y name kind).0 h))
+    both_ways (has c name kind) (has d name kind) (λ h. (y name kind).1 ((x name kind).0 h))
+    (λ h. (x name kind).1 ((y name kind).0 h))
 
-same_tables : (parts : List Section) (c d : Kinds) → AreKinds parts c → AreKinds parts d → tables c parts ≡ tables d parts
+same_tables : (parts : List Section) (c d : Kinds) → AreKinds parts c → AreKinds parts d
+    → tables c parts ≡ tables d parts
 same_tables parts c d x y =
     let e : arrays_by c ≡ arrays_by d = λ i name. same_kind parts c d x y name k.array i in
     λ i. record {
@@ -90,11 +92,13 @@ same_tables parts c d x y =
 pub same_script : (items : List Entry) (s r : Script) → IsScriptOf items s → IsScriptOf items r → SameScript s r
 same_script items s r x y =
     let parts = map part items in
-    let same : (name : Named) (kind : Kind) → has s.kinds name kind ≡ has r.kinds name kind = λ name kind. same_kind parts s.kinds r.kinds x.kinds y.kinds name kind in
+    let same : (name : Named) (kind : Kind) → has s.kinds name kind ≡ has r.kinds name kind =
+    λ name kind. same_kind parts s.kinds r.kinds x.kinds y.kinds name kind in
     let programs : view_program s.program ≡ view_program r.program =
     x.program ∙ ap (λ t. program t items) (same_tables parts s.kinds r.kinds x.kinds y.kinds) ∙ sym y.program in
     let assigns : (name : List ℕ) → can_assign s.kinds name ≡ can_assign r.kinds name =
-    λ name i. is_name name && (is_none (reserved name) && (not (same (global name) k.array i) && not (same (global name) k.function i))) in
+    λ name i. is_name name
+    && (is_none (reserved name) && (not (same (global name) k.array i) && not (same (global name) k.function i))) in
     let environ : s.names_environ ≡ r.names_environ = x.environ ∙ sym y.environ in
     record { program = programs; assigns = assigns; environ = environ; main = x.main ∙ sym y.main }
 

@@ -1,5 +1,6 @@
 -- What a verdict says of the requests that a site covers.
-use Rattle.std.proofs.Common.{◌≡◌, ◌∙◌, ◌<◌, ℕ, zero, suc, Bool, true, false, List, [], ◌∷◌, length, refl, sym, ap, subst, true≢false, arith}
+use Rattle.std.proofs.Common.{◌≡◌, ◌∙◌, ◌<◌, ℕ, zero, suc, Bool, true, false, List, [], ◌∷◌, length, refl, sym, ap}
+use Rattle.std.proofs.Common.{subst, true≢false, arith}
 use Rattle.std.specs.Prelude.{Option, Some, None, if◌then◌else◌, Contains, filter, slice_index_or, IsSome}
 use Rattle.awk_text.specs.declared.place.Place.{Place}
 use Rattle.awk_program.specs.Slots.{Text}
@@ -25,22 +26,28 @@ use Rattle.listing_laws.proofs.Coverage.{Is, AllWanted, wanted}
 
 -- ---- lists that are filtered
 
-none_passes_by : (p : Site → Bool) (y : Site) (ys : List Site) (b : Bool) → p y ≡ b → (if b then y ∷ filter p ys else filter p ys) ≡ [] → (p y ≡ false) × (filter p ys ≡ [])
+none_passes_by : (p : Site → Bool) (y : Site) (ys : List Site) (b : Bool) → p y ≡ b
+    → (if b then y ∷ filter p ys else filter p ys) ≡ [] → (p y ≡ false) × (filter p ys ≡ [])
 none_passes_by p y ys true e h = absurd (cc)
 none_passes_by p y ys false e h = (e, h)
 
-none_passes : (p : Site → Bool) (xs : List Site) (x : Site) (k : ℕ) → filter p xs ≡ [] → k < length xs → slice_index_or xs k x ≡ x → p x ≡ false
+none_passes : (p : Site → Bool) (xs : List Site) (x : Site) (k : ℕ) → filter p xs ≡ [] → k < length xs
+    → slice_index_or xs k x ≡ x → p x ≡ false
 none_passes p [] x k h below e = absurd (omega (arith, below))
 none_passes p (y ∷ ys) x zero h below e = subst (λ z. p z ≡ false) e (none_passes_by p y ys (p y) refl h).0
-none_passes p (y ∷ ys) x (suc k) h below e = none_passes p ys x k (none_passes_by p y ys (p y) refl h).1 (omega (arith, below)) e
+none_passes p (y ∷ ys) x (suc k) h below e = none_passes p ys x k (none_passes_by p y ys (p y) refl h).1
+    (omega (arith, below)) e
 
-mutual_pass : (p : Site → Bool) (y : Site) (ys : List Site) (b : Bool) (x : Site) (k : ℕ) → p y ≡ b → k < length (if b then y ∷ filter p ys else filter p ys) →
-    slice_index_or (if b then y ∷ filter p ys else filter p ys) k x ≡ x → ((j : ℕ) → j < length (filter p ys) → slice_index_or (filter p ys) j x ≡ x → p x ≡ true) → p x ≡ true
+mutual_pass : (p : Site → Bool) (y : Site) (ys : List Site) (b : Bool) (x : Site) (k : ℕ) → p y ≡ b
+    → k < length (if b then y ∷ filter p ys else filter p ys) →
+    slice_index_or (if b then y ∷ filter p ys else filter p ys) k x ≡ x → ((j : ℕ) → j < length (filter p ys)
+    → slice_index_or (filter p ys) j x ≡ x → p x ≡ true) → p x ≡ true
 mutual_pass p y ys true x zero is below e ih = subst (λ z. p z ≡ true) e is
 mutual_pass p y ys true x (suc k) is below e ih = ih k (omega (arith, below)) e
 mutual_pass p y ys false x k is below e ih = ih k below e
 
-passes : (p : Site → Bool) (xs : List Site) (x : Site) (k : ℕ) → k < length (filter p xs) → slice_index_or (filter p xs) k x ≡ x → p x ≡ true
+passes : (p : Site → Bool) (xs : List Site) (x : Site) (k : ℕ) → k < length (filter p xs)
+    → slice_index_or (filter p xs) k x ≡ x → p x ≡ true
 passes p [] x k below e = absurd (omega (arith, below))
 passes p (y ∷ ys) x k below e = mutual_pass p y ys (p y) x k refl below e (passes p ys x)
 
@@ -86,29 +93,41 @@ with-cleared (Some n) book = noted-cleared n book
 after-cleared : (book : Rulebook) (es : List Event) → cleared (after_events book es) ≡ cleared book
 after-cleared book [] = refl
 after-cleared book (e ∷ es) =
-    with-cleared (rule_for (after_events book es) e.want.given (subject_of_wish e.want.wish)) (after_events book es) ∙ after-cleared book es
+    with-cleared (rule_for (after_events book es) e.want.given (subject_of_wish e.want.wish)) (after_events book es)
+    ∙ after-cleared book es
 
 -- so what is said of a subject stays
-outlook-later : (book : Rulebook) (es : List Event) (kind : Kind) (text : Text) (subject : Subject) → kind ≡ subject.kind → text ≡ subject.text
+outlook-later : (book : Rulebook) (es : List Event) (kind : Kind) (text : Text) (subject : Subject)
+    → kind ≡ subject.kind → text ≡ subject.text
     → outlook (after_events book es) subject.kind subject.text false ≡ outlook book kind text false
 outlook-later book es kind text subject e f =
-    outlook-same (after_events book es) book subject.kind subject.text false (after-cleared book es) ∙ (λ i. outlook book (sym e i) (sym f i) false)
+    outlook-same (after_events book es) book subject.kind subject.text false (after-cleared book es)
+    ∙ (λ i. outlook book (sym e i) (sym f i) false)
 
-allowed_by : (book : Rulebook) (es : List Event) (kind : Kind) (c : Option Text) (place : Place) (given : Bool) (subject : Subject)
-    → leaves_open (outlook_at book kind c) ≡ false → denies (outlook_at book kind c) ≡ false → kind ≡ subject.kind → IsText c subject.text
+allowed_by : (book : Rulebook) (es : List Event) (kind : Kind) (c : Option Text) (place : Place) (given : Bool)
+    (subject : Subject)
+    → leaves_open (outlook_at book kind c) ≡ false → denies (outlook_at book kind c) ≡ false → kind ≡ subject.kind
+    → IsText c subject.text
     → (given ≡ true → c ≡ None) → denial_at (after_events book es) place given (Some subject) ≡ None
 allowed_by book es kind None place given subject known allowed e f g = absurd (true≢false known)
-allowed_by book es kind (Some text) place true subject known allowed e f g = let z : Some text ≡ None = g refl in absurd (cc)
+allowed_by book es kind (Some text) place true subject known allowed e f g =
+    let z : Some text ≡ None = g refl in absurd (cc)
 allowed_by book es kind (Some text) place false subject known allowed e f g =
     let now = outlook-later book es kind text subject e f ∙ is_always (outlook book kind text false) allowed known in
-    untold place subject (decision (after_events book es) subject.kind subject.text false) (always (after_events book es) subject.kind subject.text false now)
+    untold place subject (decision (after_events book es) subject.kind subject.text false)
+    (always (after_events book es) subject.kind subject.text false now)
 
-denied_by : (book : Rulebook) (es : List Event) (kind : Kind) (c : Option Text) (place : Place) (subject : Subject) → denies (outlook_at book kind c) ≡ true
-    → kind ≡ subject.kind → IsText c subject.text → IsSome c × IsSome (denial_at (after_events book es) place false (Some subject))
+denied_by : (book : Rulebook) (es : List Event) (kind : Kind) (c : Option Text) (place : Place) (subject : Subject)
+    → denies (outlook_at book kind c) ≡ true
+    → kind ≡ subject.kind → IsText c subject.text → IsSome c
+    × IsSome (denial_at (after_events book es) place false (Some subject))
 denied_by book es kind None place subject denied e f = absurd (true≢false (sym denied))
 denied_by book es kind (Some text) place subject denied e f =
-    let now = outlook-later book es kind text subject e f ∙ is_never (outlook book kind text false) denied in
-    (refl, told place subject (decision (after_events book es) subject.kind subject.text false) (never (after_events book es) subject.kind subject.text false now))
+    let now = outlook-later book es kind text subject e f ∙ is_never (outlook book kind text false) denied in (
+      refl,
+      told place subject (decision (after_events book es) subject.kind subject.text false)
+          (never (after_events book es) subject.kind subject.text false now),
+    )
 
 -- ---- the laws
 
@@ -122,7 +141,8 @@ subject-same (Runs command) = refl
 subject-same (Looks name) = refl
 subject-same (Assigns name text) = refl
 
-wanted-subject : (S : Listed) (place : Place) (given : Bool) (wish : Wish) → WantedBy S place given wish → Wanted S place given (subject_of (request_of wish []))
+wanted-subject : (S : Listed) (place : Place) (given : Bool) (wish : Wish) → WantedBy S place given wish
+    → Wanted S place given (subject_of (request_of wish []))
 wanted-subject S place given (Opens mode class text) h = h
 wanted-subject S place given (Reads key) h = tt
 wanted-subject S place given (Writes key bytes) h = tt
@@ -132,20 +152,24 @@ wanted-subject S place given (Looks name) h = h
 wanted-subject S place given (Assigns name text) h = h
 
 module _ (book : Rulebook) (sites : List Site) where
-  allowed : (es : List Event) (place : Place) (given : Bool) (o : Option Subject) → filter (is_denied book) sites ≡ [] → filter (is_open book) sites ≡ []
+  allowed : (es : List Event) (place : Place) (given : Bool) (o : Option Subject) → filter (is_denied book) sites ≡ []
+      → filter (is_open book) sites ≡ []
       → Wanted (Is sites) place given o → denial_at (after_events book es) place given o ≡ None
   allowed es place given None none known h = refl
   allowed es place given (Some subject) none known h =
       let site = h.0 in
       let c = h.1 in
-      allowed_by book es site.kind site.text place given subject (none_passes (is_open book) sites site c.0 known c.1 c.2)
+      allowed_by book es site.kind site.text place given subject (none_passes (is_open book) sites site c.0 known c.1
+      c.2)
       (none_passes (is_denied book) sites site c.0 none c.1 c.2) h.2.same_kind h.2.same_text h.3
 
-  each_allowed : (es : List Event) → filter (is_denied book) sites ≡ [] → filter (is_open book) sites ≡ [] → AllWanted (Is sites) es → AllAllowed book es
+  each_allowed : (es : List Event) → filter (is_denied book) sites ≡ [] → filter (is_open book) sites ≡ []
+      → AllWanted (Is sites) es → AllAllowed book es
   each_allowed [] none known h = tt
   each_allowed (e ∷ es) none known h = (
     sym (ap (denial_at (after_events book es) e.want.place e.want.given) (subject-same e.want.wish))
-        ∙ allowed es e.want.place e.want.given (subject_of_want e.want) none known (wanted-subject (Is sites) e.want.place e.want.given e.want.wish h.0),
+        ∙ allowed es e.want.place e.want.given (subject_of_want e.want) none known
+        (wanted-subject (Is sites) e.want.place e.want.given e.want.wish h.0),
     each_allowed es none known h.1,
   )
 
@@ -158,4 +182,5 @@ pub refused_denied : RefusedDenied
 refused_denied book sites refused site events place subject is c covers =
     let e = refused_by (filter (is_denied book) sites) (filter (is_open book) sites) refused is in
     let d : Contains (filter (is_denied book) sites) site = subst (λ z. Contains z site) (sym e) c in
-    denied_by book events site.kind site.text place subject (passes (is_denied book) sites site d.0 d.1 d.2) covers.same_kind covers.same_text
+    denied_by book events site.kind site.text place subject (passes (is_denied book) sites site d.0 d.1 d.2)
+    covers.same_kind covers.same_text

@@ -16,7 +16,9 @@ use Rattle.box_monitor.specs.Subjects.{Subject, kind_of, subject_of}
 use Rattle.awk_machine.specs.Builtins.{first}
 use Rattle.awk_machine.specs.Getline.{input_mode}
 use Rattle.awk_machine.specs.Pieces as m
-use Rattle.awk_machine.specs.Pieces.{Loop, Part, Value_of, Target_of, Pattern_of, Terms_of, Texts_of, Ands_of, Ors_of, Members_of, Pipes_of, Doing, Test, Turn, Leave, Records, Choosing, Task, Piece, At, Do, Next, Goes, Steps, Asks, Seeks, Over}
+use Rattle.awk_machine.specs.Pieces.{Loop, Part, Value_of, Target_of, Pattern_of, Terms_of, Texts_of, Ands_of, Ors_of}
+use Rattle.awk_machine.specs.Pieces.{Members_of, Pipes_of, Doing, Test, Turn, Leave, Records, Choosing, Task, Piece, At}
+use Rattle.awk_machine.specs.Pieces.{Do, Next, Goes, Steps, Asks, Seeks, Over}
 use Rattle.awk_machine.specs.Questions.{Answer}
 use Rattle.awk_machine.specs.State.{Given}
 use Rattle.box_listing.specs.declared.site.Site.{Site}
@@ -44,7 +46,8 @@ Sub S (x ∷ xs) = Holds S x × Sub S xs
 
 abbrev pub Wanted : Listed → Place → Bool → Option Subject → Type 0
 Wanted S place given None = Unit {0}
-Wanted S place given (Some subject) = (site : Site) × S site × Covers site place subject × (given ≡ true → site.text ≡ None)
+Wanted S place given (Some subject) = (site : Site) × S site × Covers site place subject
+    × (given ≡ true → site.text ≡ None)
 
 -- besides, no standard stream is shut
 abbrev pub WantedBy : Listed → Place → Bool → Wish → Type 0
@@ -216,7 +219,8 @@ Fit S (m.Start x) = Sub S (s.done x)
 Fit S (m.Each xs) = Sub S (s.all_done xs)
 Fit S (m.Keys place a x rest) = Sub S (s.done x)
 Fit S (m.Open place mode class text) = Wanted S place false (Some (record { kind = kind_of mode; text = text }))
-Fit S (m.Fetch place class text) = Wanted S place false (Some (record { kind = kind_of (input_mode class); text = text }))
+Fit S (m.Fetch place class text) =
+    Wanted S place false (Some (record { kind = kind_of (input_mode class); text = text }))
 Fit S (m.Run place text) = Wanted S place false (Some (record { kind = Run; text = text }))
 Fit S m.Take = Holds S found.MainInput
 Fit S m.Operand = Holds S found.MainInput

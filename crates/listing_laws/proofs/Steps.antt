@@ -13,12 +13,14 @@ use Rattle.box_policy.specs.declared.policy.Kind.{Kind}
 use Rattle.awk_machine.specs.Forms.{unary, binary, listed, each_by, each_of, if_true, deliver, checked}
 use Rattle.awk_machine.specs.Getline.{counting, got}
 use Rattle.awk_machine.specs.Pieces as m
-use Rattle.awk_machine.specs.Pieces.{Part, Value_of, Target_of, Pattern_of, Piece, At, Do, Outcome, Next, Then, Goes, ends, give, granted}
+use Rattle.awk_machine.specs.Pieces.{Part, Value_of, Target_of, Pattern_of, Piece, At, Do, Outcome, Next, Then, Goes}
+use Rattle.awk_machine.specs.Pieces.{ends, give, granted}
 use Rattle.awk_machine.specs.State.{State}
 use Rattle.box_listing.specs.declared.site.Found.{Found}
 use Rattle.box_listing.specs.Sites as s
 use Rattle.listing_laws.specs.Covers.{IsText}
-use Rattle.listing_laws.proofs.Standing.{Listed, Sub, Wanted, Says, hands, handed_by, Kept, Has, KnowsBy, Stack, Ready, Keeps}
+use Rattle.listing_laws.proofs.Standing.{Listed, Sub, Wanted, Says, hands, handed_by, Kept, Has, KnowsBy, Stack, Ready}
+use Rattle.listing_laws.proofs.Standing.{Keeps}
 
 -- each element of a list
 abbrev pub Each : {A : Type 0} → (A → Type 0) → List A → Type 0
@@ -63,14 +65,27 @@ module _ (S : Listed) where
 
   pub each_of_list : (xs : List Expression) → Sub S (s.all xs) → Each (λ x. Sub S (s.value x)) xs
   each_of_list [] h = tt
-  each_of_list (x ∷ xs) h = (front (s.value x) (s.each (expressions_of xs)) h, each_of_list xs (back (s.value x) (s.each (expressions_of xs)) h))
+  each_of_list (x ∷ xs) h = (
+    front (s.value x) (s.each (expressions_of xs)) h,
+    each_of_list xs (back (s.value x) (s.each (expressions_of xs)) h),
+  )
 
   -- ---- what is wanted at a site
 
-  pub at_site : (place : Place) (kind : Kind) (c : Option Text) (text : Text) → Sub S (s.site place kind c) → IsText c text →
+  pub at_site : (place : Place) (kind : Kind) (c : Option Text) (text : Text) → Sub S (s.site place kind c)
+      → IsText c text →
       Wanted S place false (Some (record { kind = kind; text = text }))
-  at_site place kind c text h e =
-      (record { place = place; kind = kind; text = c }, h.0, record { same_place = refl; same_kind = refl; same_text = e }, λ f. absurd (true≢false (sym f)))
+  at_site place kind c text h e = (
+    record { place = place; kind = kind; text = c },
+    h.0,
+    record {
+      same_place = refl;
+      same_kind = refl;
+      same_text =
+          e;
+    },
+    λ f. absurd (true≢false (sym f)),
+  )
 
   -- ---- pieces
 
@@ -88,10 +103,12 @@ module _ (S : Listed) where
   ended o = (tt, tt)
 
   pub push_value : (x : Expression) (part : Part) (vs : List Value) (k : List Piece) → Sub S (s.value x) → Kept S part →
-      KnowsBy S (hands (s.constant x)) part vs → Stack S (handed_by part) k → Ready S (At (Value_of x) [] ∷ At part vs ∷ k)
+      KnowsBy S (hands (s.constant x)) part vs → Stack S (handed_by part) k
+      → Ready S (At (Value_of x) [] ∷ At part vs ∷ k)
   push_value x part vs k a b c d = (a, tt, (b, c, d))
 
-  pub push_target : (r : p.Reference) (part : Part) (vs : List Value) (k : List Piece) → Sub S (s.target r) → Kept S part →
+  pub push_target : (r : p.Reference) (part : Part) (vs : List Value) (k : List Piece) → Sub S (s.target r)
+      → Kept S part →
       KnowsBy S (hands None) part vs → Stack S (handed_by part) k → Ready S (At (Target_of r) [] ∷ At part vs ∷ k)
   push_target r part vs k a b c d = (a, tt, (b, c, d))
 
@@ -101,35 +118,46 @@ module _ (S : Listed) where
 
   -- ---- moves
 
-  pub through : {A : Type 0} (place : Place) (r : Result A Fault) (f : A → Then) (k : List Piece) (t : State) → ((x : A) → Keeps S (f x k t)) → Keeps S (granted place r f k t)
+  pub through : {A : Type 0} (place : Place) (r : Result A Fault) (f : A → Then) (k : List Piece) (t : State)
+      → ((x : A) → Keeps S (f x k t)) → Keeps S (granted place r f k t)
   through place (Ok x) f k t h = h x
   through place (Err fault) f k t h = ended (m.Faulted fault place)
 
-  pub delivered : (place : Place) (r : Result Value Fault) (k : List Piece) (t : State) → Stack S (hands None) k → Keeps S (deliver place r k t)
+  pub delivered : (place : Place) (r : Result Value Fault) (k : List Piece) (t : State) → Stack S (hands None) k
+      → Keeps S (deliver place r k t)
   delivered place (Ok x) k t h = hand None x k tt h
   delivered place (Err fault) k t h = ended (m.Faulted fault place)
 
-  pub one : (a : Piece) (part : Part) (f : Value → Then) (vs : List Value) (k : List Piece) (t : State) → Ready S (a ∷ At part [] ∷ k) →
+  pub one : (a : Piece) (part : Part) (f : Value → Then) (vs : List Value) (k : List Piece) (t : State)
+      → Ready S (a ∷ At part [] ∷ k) →
       ((x : Value) → Keeps S (f x k t)) → Keeps S (unary a part f vs k t)
   one a part f [] k t h i = h
   one a part f (x ∷ vs) k t h i = i x
 
-  pub two : (a b : Piece) (part : Part) (f : Value → Value → Then) (vs : List Value) (k : List Piece) (t : State) → Ready S (a ∷ At part [] ∷ k) →
-      ((x : Value) → Ready S (b ∷ At part (x ∷ []) ∷ k)) → ((x y : Value) → Keeps S (f x y k t)) → Keeps S (binary a b part f vs k t)
+  pub two : (a b : Piece) (part : Part) (f : Value → Value → Then) (vs : List Value) (k : List Piece) (t : State)
+      → Ready S (a ∷ At part [] ∷ k) →
+      ((x : Value) → Ready S (b ∷ At part (x ∷ []) ∷ k)) → ((x y : Value) → Keeps S (f x y k t))
+      → Keeps S (binary a b part f vs k t)
   two a b part f [] k t h i j = h
   two a b part f (x ∷ []) k t h i j = i x
   two a b part f (y ∷ x ∷ vs) k t h i j = j x y
 
-  next_by : (o : Option Expression) (part : Part) (f : List Value → Then) (vs : List Value) (k : List Piece) (t : State) → Perhaps (λ x. Sub S (s.value x)) o → Kept S part →
-      ((x : Value) → Has S part x vs) → Stack S (handed_by part) k → ((ws : List Value) → Keeps S (f ws k t)) → Keeps S (each_by o part f vs k t)
+  next_by : (o : Option Expression) (part : Part) (f : List Value → Then) (vs : List Value) (k : List Piece) (t : State)
+      → Perhaps (λ x. Sub S (s.value x)) o → Kept S part →
+      ((x : Value) → Has S part x vs) → Stack S (handed_by part) k → ((ws : List Value) → Keeps S (f ws k t))
+      → Keeps S (each_by o part f vs k t)
   next_by None part f vs k t h kept has rest i = i (reverse vs)
   next_by (Some x) part f vs k t h kept has rest i = push_value x part vs k h kept (λ y says. has y) rest
 
-  pub each : (xs : List Expression) (part : Part) (f : List Value → Then) (vs : List Value) (k : List Piece) (t : State) → Each (λ x. Sub S (s.value x)) xs → Kept S part →
-      ((x : Value) → Has S part x vs) → Stack S (handed_by part) k → ((ws : List Value) → Keeps S (f ws k t)) → Keeps S (each_of xs part f vs k t)
-  each xs part f vs k t h kept has rest i = next_by (slice_get xs (length vs)) part f vs k t (at_index (λ x. Sub S (s.value x)) xs (length vs) h) kept has rest i
+  pub each : (xs : List Expression) (part : Part) (f : List Value → Then) (vs : List Value) (k : List Piece) (t : State)
+      → Each (λ x. Sub S (s.value x)) xs → Kept S part →
+      ((x : Value) → Has S part x vs) → Stack S (handed_by part) k → ((ws : List Value) → Keeps S (f ws k t))
+      → Keeps S (each_of xs part f vs k t)
+  each xs part f vs k t h kept has rest i = next_by (slice_get xs (length vs)) part f vs k t
+      (at_index (λ x. Sub S (s.value x)) xs (length vs) h) kept has rest i
 
-  either_by : (b : Bool) (k l : List Piece) (t : State) → Ready S k → Ready S l → Keeps S (if b then Goes k t else Goes l t)
+  either_by : (b : Bool) (k l : List Piece) (t : State) → Ready S k → Ready S l
+      → Keeps S (if b then Goes k t else Goes l t)
   either_by true k l t h i = h
   either_by false k l t h i = i
 
@@ -149,7 +177,8 @@ module _ (S : Listed) where
   counted place (name ∷ names) k h = (tt, counted place names k h)
 
   -- what a getline gives
-  pub came : (place : Place) (to : m.Target) (counters : List Text) (x : Value) (k : List Piece) (t : State) → Stack S (hands None) k → Keeps S (got place to counters x k t)
+  pub came : (place : Place) (to : m.Target) (counters : List Text) (x : Value) (k : List Piece) (t : State)
+      → Stack S (hands None) k → Keeps S (got place to counters x k t)
   came place to counters (v.Input text) k t h = (tt, counted place counters _ (tt, h))
   came place to counters (v.Text text) k t h = hand None (v.Text text) k tt h
   came place to counters (v.Num n) k t h = hand None (v.Num n) k tt h

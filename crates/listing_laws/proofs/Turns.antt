@@ -1,5 +1,6 @@
 -- The numbers of a run's streams are opened and shut in turn: those that are open are the numbers of the open streams.
-use Rattle.std.proofs.Common.{◌≡◌, ◌∙◌, ◌+◌, ◌-◌, ◌≤◌, ℕ, Bool, true, false, not, ◌||◌, List, [], ◌∷◌, ◌++◌, map, Option, refl, sym, ap, subst, arith, true≢false, nat_eq, nat_lt, cond}
+use Rattle.std.proofs.Common.{◌≡◌, ◌∙◌, ◌+◌, ◌-◌, ◌≤◌, ℕ, Bool, true, false, not, ◌||◌, List, [], ◌∷◌, ◌++◌, map}
+use Rattle.std.proofs.Common.{Option, refl, sym, ap, subst, arith, true≢false, nat_eq, nat_lt, cond}
 use Rattle.std.specs.Prelude.{Some, None, if◌then◌else◌, is_some, is_none, unwrap_or, IsSome}
 use Rattle.std.proofs.lemmas.Bool.Decides.{nat_tests}
 use Rattle.awk_machine.specs.Advances.{known, asked_by, asked, over_by, held}
@@ -13,7 +14,9 @@ use Rattle.awk_streams.proofs.Numbers.{times-append, times-without, times-withou
 use Rattle.awk_streams.specs.Tasks.{one_if, times}
 use Rattle.awk_text.specs.declared.place.Place.{Place}
 use Rattle.box_world.specs.Calls.{Call, is_among, without, numbers_after, open_after, open_after-append, IsFitting}
-use Rattle.box_world.specs.Events.{Class, Standard, Named, Wish, Opens, Reads, Writes, Shuts, Runs, Looks, Assigns, Want, Event, Stream, find_stream, without_stream, no_stream, request_of, ask_of, calls, open_streams, streams_after}
+use Rattle.box_world.specs.Events.{Class, Standard, Named, Wish, Opens, Reads, Writes, Shuts, Runs, Looks, Assigns}
+use Rattle.box_world.specs.Events.{Want, Event, Stream, find_stream, without_stream, no_stream, request_of, ask_of}
+use Rattle.box_world.specs.Events.{calls, open_streams, streams_after}
 use Rattle.box_world.specs.declared.ask.Reply.{Reply}
 use Rattle.box_world.specs.declared.ask.Reply.TheVariants as reply
 use Rattle.box_world.specs.declared.ask.Request.{Request}
@@ -34,7 +37,8 @@ abbrev AreLawful : List ℕ → List Call → Type 0
 AreLawful ns [] = Unit {0}
 AreLawful ns (c ∷ cs) = Lawful ns c.0.request c.1 × AreLawful (numbers_after c.0.request c.1 ns) cs
 
-lawful_append : (xs : List Call) (y : Call) (ns : List ℕ) → AreLawful ns xs → Lawful (open_after xs ns) y.0.request y.1 → AreLawful ns (xs ++ y ∷ [])
+lawful_append : (xs : List Call) (y : Call) (ns : List ℕ) → AreLawful ns xs → Lawful (open_after xs ns) y.0.request y.1
+    → AreLawful ns (xs ++ y ∷ [])
 lawful_append [] y ns h i = (i, tt)
 lawful_append (x ∷ xs) y ns h i = (h.0, lawful_append xs y (numbers_after x.0.request x.1 ns) h.1 i)
 
@@ -64,11 +68,13 @@ abbrev IsOpen : ℕ → Bool → List ℕ → Type 0
 IsOpen n b ns = times n ns ≡ one_if b
 
 opened_by : (n k : ℕ) (b : Bool) (ns : List ℕ) → nat_eq k n ≡ b → IsOpen n true ns → is_among ns k ≡ false → b ≡ false
-opened_by n k true ns e h i = let s = same k n e in let z = absent n ns (subst (λ m. is_among ns m ≡ false) s i) in absurd (omega arith)
+opened_by n k true ns e h i =
+    let s = same k n e in let z = absent n ns (subst (λ m. is_among ns m ≡ false) s i) in absurd (omega arith)
 opened_by n k false ns e h i = refl
 
 shut_by : (n k : ℕ) (b : Bool) (ns : List ℕ) → nat_eq k n ≡ b → IsOpen n false ns → is_among ns k ≡ true → b ≡ false
-shut_by n k true ns e h i = let s = same k n e in let z = there n ns (subst (λ m. is_among ns m ≡ true) s i) in absurd (omega arith)
+shut_by n k true ns e h i =
+    let s = same k n e in let z = there n ns (subst (λ m. is_among ns m ≡ true) s i) in absurd (omega arith)
 shut_by n k false ns e h i = refl
 
 less : (b : Bool) (t : ℕ) → t ≡ 1 → t - one_if b ≡ one_if (not b)
@@ -106,7 +112,8 @@ abbrev ShutTurn : ℕ → List ℕ → Request → Reply → Type 0
 ShutTurn n ns q r = (shuts n q ≡ false) × IsOpen n (opens n q r) (numbers_after q r ns)
 
 shut_turn : (n : ℕ) (ns : List ℕ) (q : Request) (r : Reply) → IsOpen n false ns → Lawful ns q r → ShutTurn n ns q r
-shut_turn n ns (Open mode text) (reply.Opened k) h i = let f = times-append n ns (k ∷ []) in (refl, rw (f, h) (omega arith))
+shut_turn n ns (Open mode text) (reply.Opened k) h i =
+    let f = times-append n ns (k ∷ []) in (refl, rw (f, h) (omega arith))
 shut_turn n ns (Open mode text) (reply.Bytes x) h i = (refl, h)
 shut_turn n ns (Open mode text) reply.End h i = (refl, h)
 shut_turn n ns (Open mode text) reply.Done h i = (refl, h)
@@ -115,7 +122,11 @@ shut_turn n ns (Open mode text) (reply.Value x) h i = (refl, h)
 shut_turn n ns (Open mode text) reply.Failed h i = (refl, h)
 shut_turn n ns (Reading k) r h i = (refl, h)
 shut_turn n ns (Put k x) r h i = (refl, h)
-shut_turn n ns (Shut k) r h i = (shut_by n k (nat_eq k n) ns refl h i, times-without k n ns ∙ none_less (nat_eq k n) (times n ns) h)
+shut_turn n ns (Shut k) r h i = (
+  shut_by n k (nat_eq k n) ns refl h i,
+  times-without k n ns ∙ none_less (nat_eq k n)
+      (times n ns) h,
+)
 shut_turn n ns (System x) r h i = (refl, h)
 shut_turn n ns (Env x) r h i = (refl, h)
 shut_turn n ns (Assign x y) r h i = (refl, h)
@@ -143,12 +154,14 @@ asked_due None w v then_ h s t e = (refl, cc)
 
 due_of : (es : List Event) (w v : Want) (then_ h : Reply → List Piece) (s t : State) →
     asked es w then_ s ≡ Asks v h t → known v.wish es ≡ None
-due_of es w v then_ h s t e = let d = asked_due (known w.wish es) w v then_ h s t e in subst (λ z. known z.wish es ≡ None) d.1 d.0
+due_of es w v then_ h s t e =
+    let d = asked_due (known w.wish es) w v then_ h s t e in subst (λ z. known z.wish es ≡ None) d.1 d.0
 
 due_over : (xs : List Stream) (o : Outcome) (v : Want) (h : Reply → List Piece) (s t : State) →
     over_by xs o s ≡ Asks v h t → known v.wish s.course.events ≡ None
 due_over [] o v h s t e = absurd (cc)
-due_over (x ∷ xs) o v h s t e = due_of s.course.events (want nowhere (Shuts (Named x.class x.text))) v (λ r. ends o) h s t e
+due_over (x ∷ xs) o v h s t e = due_of s.course.events (want nowhere (Shuts (Named x.class x.text))) v (λ r. ends o) h s
+    t e
 
 due_step : (b : Bool) (k l : List Piece) (t u : State) (v : Want) (h : Reply → List Piece) →
     (if b then Steps k t else Goes l t) ≡ Asks v h u → ⊥
@@ -163,14 +176,16 @@ due g s (Asks w then_ u) v h t e = due_of s.course.events w v then_ h u t e
 due g s (Seeks q then_ u) v h t e = absurd (cc)
 due g s (Over o) v h t e = due_over (open_streams s.course.events) o v h s t e
 
-over_asked : (o : Option Reply) (w : Want) (then_ : Reply → List Piece) (s : State) (p : Outcome) → asked_by o w then_ s ≡ Over p → ⊥
+over_asked : (o : Option Reply) (w : Want) (then_ : Reply → List Piece) (s : State) (p : Outcome)
+    → asked_by o w then_ s ≡ Over p → ⊥
 over_asked (Some r) w then_ s p e = cc
 over_asked None w then_ s p e = cc
 
 none_by : (xs : List Stream) (o p : Outcome) (s : State) → over_by xs o s ≡ Over p → xs ≡ []
 none_by [] o p s e = refl
 none_by (x ∷ xs) o p s e =
-    absurd (over_asked (known (Shuts (Named x.class x.text)) s.course.events) (want nowhere (Shuts (Named x.class x.text))) (λ r. ends o) s p e)
+    absurd (over_asked (known (Shuts (Named x.class x.text)) s.course.events)
+    (want nowhere (Shuts (Named x.class x.text))) (λ r. ends o) s p e)
 
 over_step : (b : Bool) (k l : List Piece) (t : State) (p : Outcome) → (if b then Steps k t else Goes l t) ≡ Over p → ⊥
 over_step true k l t p e = cc
@@ -183,8 +198,10 @@ none_open g s (Asks w then_ u) p e = absurd (over_asked (known w.wish s.course.e
 none_open g s (Seeks q then_ u) p e = absurd (cc)
 none_open g s (Over o) p e = none_by (open_streams s.course.events) o p s e
 
-none_left : (g : Given) (es : List Event) (o : Outcome) (n : ℕ) (w : Option Want) (k : List Piece) (s : State) → Stands g k s (record { events = es; used = n }) o w → IsWhole o → open_streams es ≡ []
-none_left g es o n w k s (over e) whole = none_open g (seen s (record { events = es; used = n })) (move g k (seen s (record { events = es; used = n }))) o e
+none_left : (g : Given) (es : List Event) (o : Outcome) (n : ℕ) (w : Option Want) (k : List Piece) (s : State)
+    → Stands g k s (record { events = es; used = n }) o w → IsWhole o → open_streams es ≡ []
+none_left g es o n w k s (over e) whole = none_open g (seen s (record { events = es; used = n }))
+    (move g k (seen s (record { events = es; used = n }))) o e
 none_left g es o n w k s lacks whole = absurd whole
 none_left g es o n w k s (unlogged e) whole = absurd whole
 
@@ -201,7 +218,8 @@ numbers_append [] s = refl
 numbers_append (t ∷ ss) s = ap (λ z. t.number ∷ z) (numbers_append ss s)
 
 abbrev StillSame : Wish → Reply → List Stream → List ℕ → Type 0
-StillSame wish r ss ns = Lawful ns (request_of wish ss) r × AreSame (numbers_after (request_of wish ss) r ns) (streams_after wish r ss)
+StillSame wish r ss ns = Lawful ns (request_of wish ss) r × AreSame (numbers_after (request_of wish ss) r ns)
+    (streams_after wish r ss)
 
 shutting : (c : Class) (t : List ℕ) (ss : List Stream) (ns : List ℕ) (o : Option ℕ) → find_stream c t ss ≡ o →
     is_some o ≡ true → AreSame ns ss →
@@ -209,8 +227,11 @@ shutting : (c : Class) (t : List ℕ) (ss : List Stream) (ns : List ℕ) (o : Op
 shutting c t ss ns None e h is = absurd (true≢false (sym h))
 shutting c t ss ns (Some n) e h is =
     let once = found_once c t ss n e in
-    let f = is n in
-    (among_all n ns (omega (arith, once, f)), λ m. times-without n m ns ∙ ap (λ z. z - one_if (nat_eq n m)) (is m) ∙ sym (times-without_stream m c t ss n e))
+    let f = is n in (
+      among_all n ns (omega (arith, once, f)),
+      λ m. times-without n m ns ∙ ap (λ z. z - one_if (nat_eq n m)) (is m)
+          ∙ sym (times-without_stream m c t ss n e),
+    )
 
 live_by : (b : Bool) → (if b then None else Some reply.Failed) ≡ None → b ≡ true
 live_by true h = refl
@@ -222,7 +243,8 @@ step : (wish : Wish) (r : Reply) (es : List Event) (ns : List ℕ) → known wis
     StillSame wish r (open_streams es) ns
 step (Opens m c t) (reply.Opened k) es ns d named fits is = (
   fits.1,
-  λ j. times-append j ns (k ∷ []) ∙ ap (λ z. z + times j (k ∷ [])) (is j) ∙ sym (times-append j (numbers_of (open_streams es)) (k ∷ []))
+  λ j. times-append j ns (k ∷ []) ∙ ap (λ z. z + times j (k ∷ [])) (is j)
+      ∙ sym (times-append j (numbers_of (open_streams es)) (k ∷ []))
       ∙ ap (times j) (sym (numbers_append (open_streams es) (record { class = c; text = t; number = k }))),
 )
 step (Opens m c t) (reply.Bytes b) es ns d named fits is = (tt, is)
@@ -269,7 +291,8 @@ in_turn here named h = h
 in_turn (goes e x) named h = in_turn x named h
 in_turn (steps e x) named h = in_turn x named h
 in_turn {g = g} {k = k} {s = s} {c = c} (asks {t = t} {w = w} {then_ = then_} r e fits x) named h =
-    in_turn x named (one_more w r c.events (due g (seen s c) (move g k (seen s c)) w then_ t e) (earlier x named).0 fits h)
+    in_turn x named (one_more w r c.events (due g (seen s c) (move g k (seen s c)) w then_ t e) (earlier x named).0 fits
+    h)
 in_turn (seeks a e is x) named h = in_turn x named h
 
 no_more : (ns : List ℕ) → ((m : ℕ) → times m ns ≡ 0) → ns ≡ []
@@ -283,8 +306,10 @@ no_more (n ∷ ns) h =
 
 all_turns : (es : List Event) → InTurn es → open_streams es ≡ [] → AreShutOnce (calls es)
 all_turns es x e =
-    λ n. turns n false (calls es) [] refl x.0 (no_more (open_now es) (λ m. x.1 m ∙ ap (λ ss. times m (numbers_of ss)) e))
+    λ n. turns n false (calls es) [] refl x.0
+    (no_more (open_now es) (λ m. x.1 m ∙ ap (λ ss. times m (numbers_of ss)) e))
 
 pub numbers_shut : NumbersShut
 numbers_shut g es o n w x whole =
-    all_turns es (in_turn x.chain (standards_kept g es o n w x) (tt, λ m. refl)) (none_left g es o n w x.todo x.end x.stands whole)
+    all_turns es (in_turn x.chain (standards_kept g es o n w x) (tt, λ m. refl))
+    (none_left g es o n w x.todo x.end x.stands whole)

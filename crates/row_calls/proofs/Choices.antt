@@ -17,7 +17,8 @@ use Rattle.row_calls.proofs.Playing.{replayed}
 use Rattle.row_calls.proofs.Scripts.{program_of, rules}
 
 -- parameters that are arrays, names that may be assigned, whether ENVIRON is named, the setup, the bound, and the script
-abbrev given : List (Text × Text) → List Text → Bool → List Text → List Text → List (Text × Text) → Option Text → ℕ → Text → Given
+abbrev given : List (Text × Text) → List Text → Bool → List Text → List Text → List (Text × Text) → Option Text → ℕ
+    → Text → Given
 given arrays names environ operands environment assigns separator bound source = record {
   program = program_of arrays source;
   can_assign = λ name. list_any (bytes_eq name) names;
@@ -67,7 +68,8 @@ unfolding rules
 row_2 = refl
 
 row_3 :
-    replay (given [] [] false [] [] [] None 100000 (codes "BEGIN { print 1 # x \\\nprint 2 }")) (reply.Done ∷ reply.Done ∷ [])
+    replay (given [] [] false [] [] [] None 100000 (codes "BEGIN { print 1 # x \\\nprint 2 }"))
+    (reply.Done ∷ reply.Done ∷ [])
     ≡ Some (
       (Status 0),
       2,
@@ -101,7 +103,8 @@ unfolding rules
 row_5 = refl
 
 row_6 :
-    replay (given [] [] false [] [] [] None 100000 (codes "BEGIN { x = 1; $2 = 5; $++x++; print $2, x }")) (reply.Done ∷ [])
+    replay (given [] [] false [] [] [] None 100000 (codes "BEGIN { x = 1; $2 = 5; $++x++; print $2, x }"))
+    (reply.Done ∷ [])
     ≡ Some (
       (Status 0),
       4,
@@ -134,7 +137,8 @@ unfolding rules
 row_8 = refl
 
 row_9 :
-    replay (given [] [] false [] [] [] None 100000 (codes "BEGIN { print getline < \"a\" \"b\" }")) ((reply.Opened 3) ∷ (reply.Bytes (codes "q\n")) ∷ reply.Done ∷ reply.Done ∷ [])
+    replay (given [] [] false [] [] [] None 100000 (codes "BEGIN { print getline < \"a\" \"b\" }"))
+    ((reply.Opened 3) ∷ (reply.Bytes (codes "q\n")) ∷ reply.Done ∷ reply.Done ∷ [])
     ≡ Some (
       (Status 0),
       1,
@@ -148,7 +152,8 @@ unfolding rules
 row_9 = refl
 
 row_10 :
-    replay (given [] [] false [] [] [] None 100000 (codes "BEGIN { print \"x\" > \"a\" \"b\" }")) ((reply.Opened 3) ∷ reply.Done ∷ reply.Done ∷ [])
+    replay (given [] [] false [] [] [] None 100000 (codes "BEGIN { print \"x\" > \"a\" \"b\" }"))
+    ((reply.Opened 3) ∷ reply.Done ∷ reply.Done ∷ [])
     ≡ Some (
       (Status 0),
       1,
@@ -161,7 +166,8 @@ unfolding rules
 row_10 = refl
 
 row_11 :
-    replay (given [] [] false [] [] [] None 100000 (codes "BEGIN { while (getline l < \"f\" > 0) print l }")) ((reply.Opened 3) ∷ (reply.Bytes (codes "1\n2\n")) ∷ reply.Done ∷ reply.Done ∷ reply.End ∷ reply.Done ∷ [])
+    replay (given [] [] false [] [] [] None 100000 (codes "BEGIN { while (getline l < \"f\" > 0) print l }"))
+    ((reply.Opened 3) ∷ (reply.Bytes (codes "1\n2\n")) ∷ reply.Done ∷ reply.Done ∷ reply.End ∷ reply.Done ∷ [])
     ≡ Some (
       (Status 0),
       3,
@@ -177,7 +183,8 @@ unfolding rules
 row_11 = refl
 
 row_12 :
-    replay (given [] [] false [] [] [] None 100000 (codes "BEGIN { print getline x + 1 }")) ((reply.Bytes (codes "a\n")) ∷ reply.Done ∷ [])
+    replay (given [] [] false [] [] [] None 100000 (codes "BEGIN { print getline x + 1 }"))
+    ((reply.Bytes (codes "a\n")) ∷ reply.Done ∷ [])
     ≡ Some (
       (Status 0),
       1,
@@ -189,7 +196,8 @@ unfolding rules
 row_12 = refl
 
 row_13 :
-    replay (given [] [] false [] [] [] None 100000 (codes "BEGIN { print getline x y }")) ((reply.Bytes (codes "a\n")) ∷ reply.Done ∷ [])
+    replay (given [] [] false [] [] [] None 100000 (codes "BEGIN { print getline x y }"))
+    ((reply.Bytes (codes "a\n")) ∷ reply.Done ∷ [])
     ≡ Some (
       (Status 0),
       1,
@@ -212,7 +220,9 @@ unfolding rules
 row_14 = refl
 
 row_15 :
-    replay (given [] [] false [] [] [] None 100000 (codes "{ print \"x\" ~ (/a/), \"1\" ~ (/a/), \"1x\" ~ /a/ \"x\", \"a\" ~ !/b/ }")) ((reply.Bytes (codes "a\n")) ∷ reply.Done ∷ reply.End ∷ [])
+    replay (given [] [] false [] [] [] None 100000
+    (codes "{ print \"x\" ~ (/a/), \"1\" ~ (/a/), \"1x\" ~ /a/ \"x\", \"a\" ~ !/b/ }"))
+    ((reply.Bytes (codes "a\n")) ∷ reply.Done ∷ reply.End ∷ [])
     ≡ Some (
       (Status 0),
       2,
@@ -225,7 +235,8 @@ unfolding rules
 row_15 = refl
 
 row_16 :
-    replay (given [] [] false [] [] [] None 100000 (codes "BEGIN { if (1) { } ; ; else y; print \"ok\" }")) (reply.Done ∷ [])
+    replay (given [] [] false [] [] [] None 100000 (codes "BEGIN { if (1) { } ; ; else y; print \"ok\" }"))
+    (reply.Done ∷ [])
     ≡ Some (
       (Status 0),
       3,
@@ -236,7 +247,8 @@ unfolding rules
 row_16 = refl
 
 row_17 :
-    replay (given [] [] false [] [] [] None 100000 (codes "BEGIN { for (x in a; y < 1; y++) print \"ok\" }")) (reply.Done ∷ [])
+    replay (given [] [] false [] [] [] None 100000 (codes "BEGIN { for (x in a; y < 1; y++) print \"ok\" }"))
+    (reply.Done ∷ [])
     ≡ Some (
       (Status 0),
       2,
@@ -269,7 +281,8 @@ unfolding rules
 row_19 = refl
 
 row_20 :
-    replay (given [] [] false [] [] [] None 100000 (codes "BEGIN { c || d ? x = 1 : y = 2; print y }")) (reply.Done ∷ [])
+    replay (given [] [] false [] [] [] None 100000 (codes "BEGIN { c || d ? x = 1 : y = 2; print y }"))
+    (reply.Done ∷ [])
     ≡ Some (
       (Status 0),
       2,
@@ -280,13 +293,17 @@ unfolding rules
 row_20 = refl
 
 row_21 :
-    replay (given [] [] false [] [] [] None 100000 (codes "BEGIN {if (1) if (1) if (1) if (1) if (1) if (1) if (1) if (1) if (1) if (1) if (1) if (1) if (1) if (1) if (1) if (1) if (1) if (1) if (1) if (1) if (1) if (1) if (1) if (1) if (1) if (1) if (1) if (1) if (1) if (1) if (1) if (1) if (1) if (1) if (1) if (1) if (1) if (1) if (1) if (1) if (1) if (1) if (1) if (1) if (1) if (1) if (1) if (1) if (1) if (1) if (1) if (1) if (1) if (1) if (1) if (1) if (1) if (1) if (1) if (1) if (1) if (1) if (1) if (1) if (1) if (1) if (1) if (1) if (1) if (1) if (1) if (1) if (1) if (1) if (1) if (1) if (1) if (1) if (1) if (1) if (1) if (1) if (1) if (1) if (1) if (1) if (1) if (1) if (1) if (1) if (1) if (1) if (1) if (1) if (1) if (1) if (1) if (1) if (1) if (1) if (1) if (1) if (1) if (1) if (1) if (1) if (1) if (1) if (1) if (1) if (1) if (1) if (1) if (1) if (1) if (1) if (1) if (1) if (1) if (1) if (1) if (1) if (1) if (1) if (1) if (1) if (1) if (1) if (1) if (1) if (1) if (1) if (1) if (1) if (1) if (1) if (1) if (1) if (1) if (1) if (1) if (1) if (1) if (1) if (1) if (1) if (1) if (1) if (1) if (1) if (1) if (1) if (1) if (1) if (1) if (1) if (1) if (1) if (1) if (1) if (1) if (1) if (1) if (1) if (1) if (1) if (1) if (1) if (1) if (1) if (1) if (1) if (1) if (1) if (1) if (1) if (1) if (1) if (1) if (1) if (1) if (1) if (1) if (1) if (1) if (1) if (1) if (1) if (1) if (1) if (1) if (1) if (1) if (1) if (1) if (1) if (1) if (1) if (1) if (1) x }")) ([])
+    replay (given [] [] false [] [] [] None 100000
+    (codes
+    "BEGIN {if (1) if (1) if (1) if (1) if (1) if (1) if (1) if (1) if (1) if (1) if (1) if (1) if (1) if (1) if (1) if (1) if (1) if (1) if (1) if (1) if (1) if (1) if (1) if (1) if (1) if (1) if (1) if (1) if (1) if (1) if (1) if (1) if (1) if (1) if (1) if (1) if (1) if (1) if (1) if (1) if (1) if (1) if (1) if (1) if (1) if (1) if (1) if (1) if (1) if (1) if (1) if (1) if (1) if (1) if (1) if (1) if (1) if (1) if (1) if (1) if (1) if (1) if (1) if (1) if (1) if (1) if (1) if (1) if (1) if (1) if (1) if (1) if (1) if (1) if (1) if (1) if (1) if (1) if (1) if (1) if (1) if (1) if (1) if (1) if (1) if (1) if (1) if (1) if (1) if (1) if (1) if (1) if (1) if (1) if (1) if (1) if (1) if (1) if (1) if (1) if (1) if (1) if (1) if (1) if (1) if (1) if (1) if (1) if (1) if (1) if (1) if (1) if (1) if (1) if (1) if (1) if (1) if (1) if (1) if (1) if (1) if (1) if (1) if (1) if (1) if (1) if (1) if (1) if (1) if (1) if (1) if (1) if (1) if (1) if (1) if (1) if (1) if (1) if (1) if (1) if (1) if (1) if (1) if (1) if (1) if (1) if (1) if (1) if (1) if (1) if (1) if (1) if (1) if (1) if (1) if (1) if (1) if (1) if (1) if (1) if (1) if (1) if (1) if (1) if (1) if (1) if (1) if (1) if (1) if (1) if (1) if (1) if (1) if (1) if (1) if (1) if (1) if (1) if (1) if (1) if (1) if (1) if (1) if (1) if (1) if (1) if (1) if (1) if (1) if (1) if (1) if (1) if (1) if (1) if (1) if (1) if (1) if (1) if (1) if (1) x }"))
+    ([])
     ≡ Some ((Status 0), 201, [])
 unfolding rules
 row_21 = refl
 
 row_22 :
-    replay (given [] [] false [] [] [] None 100000 (codes "/a/ { print 1 } /b/ { print 2 }; NR\nNR")) ((reply.Bytes (codes "ab\n")) ∷ reply.Done ∷ reply.Done ∷ reply.Done ∷ reply.Done ∷ reply.End ∷ [])
+    replay (given [] [] false [] [] [] None 100000 (codes "/a/ { print 1 } /b/ { print 2 }; NR\nNR"))
+    ((reply.Bytes (codes "ab\n")) ∷ reply.Done ∷ reply.Done ∷ reply.Done ∷ reply.Done ∷ reply.End ∷ [])
     ≡ Some (
       (Status 0),
       5,
@@ -302,7 +319,8 @@ unfolding rules
 row_22 = refl
 
 row_23 :
-    replay (given [] [] false [] [] [] None 100000 (codes "NR NR; NR")) ((reply.Bytes (codes "ab\n")) ∷ reply.Done ∷ reply.Done ∷ reply.End ∷ [])
+    replay (given [] [] false [] [] [] None 100000 (codes "NR NR; NR"))
+    ((reply.Bytes (codes "ab\n")) ∷ reply.Done ∷ reply.Done ∷ reply.End ∷ [])
     ≡ Some (
       (Status 0),
       3,
@@ -340,7 +358,8 @@ unfolding rules
 row_26 = refl
 
 row_27 :
-    replay (given [] [] false [] [] [] None 100000 (codes "NR")) ((reply.Bytes (codes "a\n")) ∷ reply.Done ∷ reply.End ∷ [])
+    replay (given [] [] false [] [] [] None 100000 (codes "NR")) ((reply.Bytes (codes "a\n")) ∷ reply.Done ∷ reply.End ∷
+    [])
     ≡ Some (
       (Status 0),
       2,
@@ -359,7 +378,8 @@ unfolding rules
 row_28 = refl
 
 row_29 :
-    replay (given [] [] false [] [] [] None 100000 (codes "function g(y) { } function f(x) { g(x) } BEGIN { f(a); a[1]; print \"ok\" }")) (reply.Done ∷ [])
+    replay (given [] [] false [] [] [] None 100000
+    (codes "function g(y) { } function f(x) { g(x) } BEGIN { f(a); a[1]; print \"ok\" }")) (reply.Done ∷ [])
     ≡ Some (
       (Status 0),
       6,
@@ -370,7 +390,8 @@ unfolding rules
 row_29 = refl
 
 row_30 :
-    replay (given [] [] false [] [] [] None 100000 (codes "BEGIN { x = $0 = \"3x\"; y = (NF = \"2x\"); print x, y, ($0 = \" 7\") == 7 }")) (reply.Done ∷ [])
+    replay (given [] [] false [] [] [] None 100000
+    (codes "BEGIN { x = $0 = \"3x\"; y = (NF = \"2x\"); print x, y, ($0 = \" 7\") == 7 }")) (reply.Done ∷ [])
     ≡ Some (
       (Status 0),
       3,
@@ -381,7 +402,8 @@ unfolding rules
 row_30 = refl
 
 row_31 :
-    replay (given [] [] false [] [] [] None 100000 (codes "BEGIN { $3 = \"05\"; print ($3 == 5); $0 = $0; print ($1 == 5) }")) (reply.Done ∷ reply.Done ∷ [])
+    replay (given [] [] false [] [] [] None 100000
+    (codes "BEGIN { $3 = \"05\"; print ($3 == 5); $0 = $0; print ($1 == 5) }")) (reply.Done ∷ reply.Done ∷ [])
     ≡ Some (
       (Status 0),
       4,
@@ -399,7 +421,8 @@ unfolding rules
 row_32 = refl
 
 row_33 :
-    replay (given [] [] false [] [] [] None 100000 (codes "BEGIN { print \"99999999999999999999\" + system(\"x\") }")) ((reply.Status (pos 127)) ∷ [])
+    replay (given [] [] false [] [] [] None 100000 (codes "BEGIN { print \"99999999999999999999\" + system(\"x\") }"))
+    ((reply.Status (pos 127)) ∷ [])
     ≡ Some (
       (Faulted f.OutOfRange (at 1 38)),
       1,
@@ -428,7 +451,8 @@ unfolding rules
 row_36 = refl
 
 row_37 :
-    replay (given [] [] false [] [] [] None 100000 (codes "BEGIN { getline NR; print NR }")) ((reply.Bytes (codes "5\n")) ∷ reply.Done ∷ [])
+    replay (given [] [] false [] [] [] None 100000 (codes "BEGIN { getline NR; print NR }"))
+    ((reply.Bytes (codes "5\n")) ∷ reply.Done ∷ [])
     ≡ Some (
       (Status 0),
       2,
@@ -440,7 +464,8 @@ unfolding rules
 row_37 = refl
 
 row_38 :
-    replay (given [] [] false [] [] [] None 100000 (codes "BEGIN { getline NF; print NF, $0 \"|\" }")) ((reply.Bytes (codes "2\n")) ∷ reply.Done ∷ [])
+    replay (given [] [] false [] [] [] None 100000 (codes "BEGIN { getline NF; print NF, $0 \"|\" }"))
+    ((reply.Bytes (codes "2\n")) ∷ reply.Done ∷ [])
     ≡ Some (
       (Status 0),
       2,
@@ -452,7 +477,8 @@ unfolding rules
 row_38 = refl
 
 row_39 :
-    replay (given [] [] false [] [] [] None 100000 (codes "BEGIN { $0 = \"q\"; print > ($0 = \"x\") }")) ((reply.Opened 3) ∷ reply.Done ∷ reply.Done ∷ [])
+    replay (given [] [] false [] [] [] None 100000 (codes "BEGIN { $0 = \"q\"; print > ($0 = \"x\") }"))
+    ((reply.Opened 3) ∷ reply.Done ∷ reply.Done ∷ [])
     ≡ Some (
       (Status 0),
       2,
@@ -465,7 +491,8 @@ unfolding rules
 row_39 = refl
 
 row_40 :
-    replay (given [] [] false [] [] [] None 100000 (codes "BEGIN { print \"a\", \"b\" > (OFS = \"-\") }")) ((reply.Opened 3) ∷ reply.Done ∷ reply.Done ∷ [])
+    replay (given [] [] false [] [] [] None 100000 (codes "BEGIN { print \"a\", \"b\" > (OFS = \"-\") }"))
+    ((reply.Opened 3) ∷ reply.Done ∷ reply.Done ∷ [])
     ≡ Some (
       (Status 0),
       1,
@@ -478,7 +505,8 @@ unfolding rules
 row_40 = refl
 
 row_41 :
-    replay (given [] [] false [] [] [] None 100000 (codes "BEGIN { a[1, SUBSEP = \":\"]; for (k in a) print k }")) (reply.Done ∷ [])
+    replay (given [] [] false [] [] [] None 100000 (codes "BEGIN { a[1, SUBSEP = \":\"]; for (k in a) print k }"))
+    (reply.Done ∷ [])
     ≡ Some (
       (Status 0),
       3,
@@ -489,7 +517,8 @@ unfolding rules
 row_41 = refl
 
 row_42 :
-    replay (given [] [] false [] [] [] None 100000 (codes "BEGIN { x += x++; print x; $(NF + 1) = ($0 = \"a b c\"); print }")) (reply.Done ∷ reply.Done ∷ [])
+    replay (given [] [] false [] [] [] None 100000
+    (codes "BEGIN { x += x++; print x; $(NF + 1) = ($0 = \"a b c\"); print }")) (reply.Done ∷ reply.Done ∷ [])
     ≡ Some (
       (Status 0),
       4,
@@ -501,7 +530,9 @@ unfolding rules
 row_42 = refl
 
 row_43 :
-    replay (given [] [] false [] [] [] None 100000 (codes "BEGIN { x[\"a\"]; x[\"b\"]; for (k in x) { delete x[\"b\"]; x[\"c\"]; print k, (k in x) } }")) (reply.Done ∷ reply.Done ∷ [])
+    replay (given [] [] false [] [] [] None 100000
+    (codes "BEGIN { x[\"a\"]; x[\"b\"]; for (k in x) { delete x[\"b\"]; x[\"c\"]; print k, (k in x) } }"))
+    (reply.Done ∷ reply.Done ∷ [])
     ≡ Some (
       (Status 0),
       9,
@@ -519,7 +550,10 @@ unfolding rules
 row_44 = refl
 
 row_45 :
-    replay (given [] [] false [] [] [] None 100000 (codes "BEGIN { print index(\"abc\", \"\"), substr(\"hello\", -1, 3) \"|\" substr(\"hello\", 0) \"|\" substr(\"hello\", 2, -1) \"|\" }")) (reply.Done ∷ [])
+    replay (given [] [] false [] [] [] None 100000
+    (codes
+    "BEGIN { print index(\"abc\", \"\"), substr(\"hello\", -1, 3) \"|\" substr(\"hello\", 0) \"|\" substr(\"hello\", 2, -1) \"|\" }"))
+    (reply.Done ∷ [])
     ≡ Some (
       (Status 0),
       1,
@@ -530,7 +564,8 @@ unfolding rules
 row_45 = refl
 
 row_46 :
-    replay (given [] [] false [] [] [] None 100000 (codes "BEGIN { printf \"%c|%3c|%.0c|%c|%c\\n\", u, \"\", \"abc\", -1 + 66, 65 + 256 }")) (reply.Done ∷ [])
+    replay (given [] [] false [] [] [] None 100000
+    (codes "BEGIN { printf \"%c|%3c|%.0c|%c|%c\\n\", u, \"\", \"abc\", -1 + 66, 65 + 256 }")) (reply.Done ∷ [])
     ≡ Some (
       (Status 0),
       1,
@@ -547,7 +582,8 @@ unfolding rules
 row_47 = refl
 
 row_48 :
-    replay (given [] [] false [] [] [] None 100000 (codes "BEGIN { printf \"[%+d][% d][%#o][%#.0o][%#x][%-05d][%+.0d]\", 0, 0, 0, 0, 0, 7, 0 }")) (reply.Done ∷ [])
+    replay (given [] [] false [] [] [] None 100000
+    (codes "BEGIN { printf \"[%+d][% d][%#o][%#.0o][%#x][%-05d][%+.0d]\", 0, 0, 0, 0, 0, 7, 0 }")) (reply.Done ∷ [])
     ≡ Some (
       (Status 0),
       1,
@@ -558,7 +594,8 @@ unfolding rules
 row_48 = refl
 
 row_49 :
-    replay (given [] [] false [] [] [] None 100000 (codes "BEGIN { $3 = \"\"; print ($1 == 0), ($9 == 0), ($9 == \"\"), (u == 0) }")) (reply.Done ∷ [])
+    replay (given [] [] false [] [] [] None 100000
+    (codes "BEGIN { $3 = \"\"; print ($1 == 0), ($9 == 0), ($9 == \"\"), (u == 0) }")) (reply.Done ∷ [])
     ≡ Some (
       (Status 0),
       2,
@@ -569,7 +606,10 @@ unfolding rules
 row_49 = refl
 
 row_50 :
-    replay (given [] [] false [] [] [] None 100000 (codes "BEGIN { print getline < \"none\", close(\"none\"), close(\"f\") ; getline < \"f\"; print close(\"f\"), close(\"f\") }")) (reply.Failed ∷ reply.Done ∷ (reply.Opened 3) ∷ (reply.Bytes (codes "1\n2\n")) ∷ reply.Done ∷ reply.Done ∷ [])
+    replay (given [] [] false [] [] [] None 100000
+    (codes
+    "BEGIN { print getline < \"none\", close(\"none\"), close(\"f\") ; getline < \"f\"; print close(\"f\"), close(\"f\") }"))
+    (reply.Failed ∷ reply.Done ∷ (reply.Opened 3) ∷ (reply.Bytes (codes "1\n2\n")) ∷ reply.Done ∷ reply.Done ∷ [])
     ≡ Some (
       (Status 0),
       3,
@@ -585,7 +625,11 @@ unfolding rules
 row_50 = refl
 
 row_51 :
-    replay (given [] [] false [] [] [] None 100000 (codes "BEGIN { RS = \"\"; print (getline x < \"g\"), x; print (getline x < \"g\"); RS = \"\\n\"; print (getline x < \"g\"), \"[\" x \"]\" }")) ((reply.Opened 3) ∷ (reply.Bytes (codes "a\n\n\n\n")) ∷ reply.Done ∷ reply.End ∷ reply.Done ∷ reply.Done ∷ reply.Done ∷ [])
+    replay (given [] [] false [] [] [] None 100000
+    (codes
+    "BEGIN { RS = \"\"; print (getline x < \"g\"), x; print (getline x < \"g\"); RS = \"\\n\"; print (getline x < \"g\"), \"[\" x \"]\" }"))
+    ((reply.Opened 3) ∷ (reply.Bytes (codes "a\n\n\n\n")) ∷ reply.Done ∷ reply.End ∷ reply.Done ∷ reply.Done ∷
+    reply.Done ∷ [])
     ≡ Some (
       (Status 0),
       5,
@@ -602,7 +646,8 @@ unfolding rules
 row_51 = refl
 
 row_52 :
-    replay (given [] [] false [] [] [] None 100000 (codes "BEGIN { RS = \"ab\" } { print }")) ((reply.Bytes (codes "xaybz\n")) ∷ reply.Done ∷ reply.End ∷ reply.Done ∷ [])
+    replay (given [] [] false [] [] [] None 100000 (codes "BEGIN { RS = \"ab\" } { print }"))
+    ((reply.Bytes (codes "xaybz\n")) ∷ reply.Done ∷ reply.End ∷ reply.Done ∷ [])
     ≡ Some (
       (Status 0),
       5,
@@ -616,7 +661,8 @@ unfolding rules
 row_52 = refl
 
 row_53 :
-    replay (given [] [] false [] [] [] None 100000 (codes "BEGIN { FS = \"|\" } { print $2; FS = \"\"; }")) ((reply.Bytes (codes "a|b\nxyz\n")) ∷ reply.Done ∷ reply.Done ∷ reply.End ∷ [])
+    replay (given [] [] false [] [] [] None 100000 (codes "BEGIN { FS = \"|\" } { print $2; FS = \"\"; }"))
+    ((reply.Bytes (codes "a|b\nxyz\n")) ∷ reply.Done ∷ reply.Done ∷ reply.End ∷ [])
     ≡ Some (
       (Status 0),
       7,
@@ -630,7 +676,8 @@ unfolding rules
 row_53 = refl
 
 row_54 :
-    replay (given [] [] false [] [] [] None 100000 (codes "BEGIN { RS = \"\"; FS = \":\" } { print NF, $2 }")) ((reply.Bytes (codes "a:b\nc\n")) ∷ reply.End ∷ reply.Done ∷ [])
+    replay (given [] [] false [] [] [] None 100000 (codes "BEGIN { RS = \"\"; FS = \":\" } { print NF, $2 }"))
+    ((reply.Bytes (codes "a:b\nc\n")) ∷ reply.End ∷ reply.Done ∷ [])
     ≡ Some (
       (Status 0),
       4,
@@ -643,7 +690,8 @@ unfolding rules
 row_54 = refl
 
 row_55 :
-    replay (given [] [] false [] [] [] None 100000 (codes "BEGIN { RS = \"\"; FS = \"x+\" } { print NF, $2 }")) ((reply.Bytes (codes "axb\nc\n")) ∷ reply.End ∷ reply.Done ∷ [])
+    replay (given [] [] false [] [] [] None 100000 (codes "BEGIN { RS = \"\"; FS = \"x+\" } { print NF, $2 }"))
+    ((reply.Bytes (codes "axb\nc\n")) ∷ reply.End ∷ reply.Done ∷ [])
     ≡ Some (
       (Status 0),
       4,
@@ -656,7 +704,8 @@ unfolding rules
 row_55 = refl
 
 row_56 :
-    replay (given [] [] false [] [] [] None 100000 (codes "BEGIN { RS = \"\"; FS = \"\" } { print NF }")) ((reply.Bytes (codes "ab\nc\n")) ∷ reply.End ∷ reply.Done ∷ [])
+    replay (given [] [] false [] [] [] None 100000 (codes "BEGIN { RS = \"\"; FS = \"\" } { print NF }"))
+    ((reply.Bytes (codes "ab\nc\n")) ∷ reply.End ∷ reply.Done ∷ [])
     ≡ Some (
       (Status 0),
       4,
@@ -669,7 +718,10 @@ unfolding rules
 row_56 = refl
 
 row_57 :
-    replay (given [] [] false [] [] [] None 100000 (codes "BEGIN { print split(\"a b\", a, \" \"), split(\" a b\", a, / /), split(\"a1b\", a, \"[0-9]\"), split(\"abc\", a, \"\"), split(\"\", a), split(\"a.b\", a, \".\") }")) (reply.Done ∷ [])
+    replay (given [] [] false [] [] [] None 100000
+    (codes
+    "BEGIN { print split(\"a b\", a, \" \"), split(\" a b\", a, / /), split(\"a1b\", a, \"[0-9]\"), split(\"abc\", a, \"\"), split(\"\", a), split(\"a.b\", a, \".\") }"))
+    (reply.Done ∷ [])
     ≡ Some (
       (Status 0),
       1,
@@ -692,7 +744,8 @@ unfolding rules
 row_58 = refl
 
 row_59 :
-    replay (given [] [] false [] [] [] None 100000 (codes "NR == 1")) ((reply.Bytes (codes "a\n")) ∷ reply.Done ∷ reply.End ∷ [])
+    replay (given [] [] false [] [] [] None 100000 (codes "NR == 1"))
+    ((reply.Bytes (codes "a\n")) ∷ reply.Done ∷ reply.End ∷ [])
     ≡ Some (
       (Status 0),
       2,
@@ -705,7 +758,8 @@ unfolding rules
 row_59 = refl
 
 row_60 :
-    replay (given [] [] false [] [] [] None 100000 (codes "BEGIN { FS = \"(\"; getline }")) ((reply.Bytes (codes "a\n")) ∷ [])
+    replay (given [] [] false [] [] [] None 100000 (codes "BEGIN { FS = \"(\"; getline }"))
+    ((reply.Bytes (codes "a\n")) ∷ [])
     ≡ Some (
       (Status 0),
       2,
@@ -716,7 +770,8 @@ unfolding rules
 row_60 = refl
 
 row_61 :
-    replay (given [] [] false [] [] [] None 100000 (codes "BEGIN { FS = \"((\"; getline }")) ((reply.Bytes (codes "a\n")) ∷ [])
+    replay (given [] [] false [] [] [] None 100000 (codes "BEGIN { FS = \"((\"; getline }"))
+    ((reply.Bytes (codes "a\n")) ∷ [])
     ≡ Some (
       (Faulted f.Pattern (at 1 20)),
       2,
@@ -727,7 +782,8 @@ unfolding rules
 row_61 = refl
 
 row_62 :
-    replay (given [] [] false [] [] [] None 100000 (codes "BEGIN { NR = 9223372036854775807; getline }")) ((reply.Bytes (codes "a\n")) ∷ [])
+    replay (given [] [] false [] [] [] None 100000 (codes "BEGIN { NR = 9223372036854775807; getline }"))
+    ((reply.Bytes (codes "a\n")) ∷ [])
     ≡ Some (
       (Faulted f.OutOfRange (at 1 35)),
       2,
@@ -738,7 +794,8 @@ unfolding rules
 row_62 = refl
 
 row_63 :
-    replay (given [] [] false [] [] [] None 100000 (codes "BEGIN { NR = 9223372036854775807 } { }")) ((reply.Bytes (codes "a\n")) ∷ [])
+    replay (given [] [] false [] [] [] None 100000 (codes "BEGIN { NR = 9223372036854775807 } { }"))
+    ((reply.Bytes (codes "a\n")) ∷ [])
     ≡ Some (
       (Faulted f.OutOfRange (at 0 0)),
       1,
@@ -755,7 +812,8 @@ unfolding rules
 row_64 = refl
 
 row_65 :
-    replay (given [] ((codes "NF") ∷ []) false ((codes "NF=70000") ∷ []) [] [] None 100000 (codes "BEGIN { getline }")) (reply.Done ∷ [])
+    replay (given [] ((codes "NF") ∷ []) false ((codes "NF=70000") ∷ []) [] [] None 100000 (codes "BEGIN { getline }"))
+    (reply.Done ∷ [])
     ≡ Some (
       (Faulted f.FieldNumber (at 0 0)),
       2,
@@ -766,7 +824,10 @@ unfolding rules
 row_65 = refl
 
 row_66 :
-    replay (given [] ((codes "p") ∷ []) false ((codes "f=3") ∷ (codes "in=4") ∷ (codes "p=5") ∷ []) [] [] None 100000 (codes "function f() { } { print FILENAME, $0 }")) ((reply.Opened 3) ∷ (reply.Bytes (codes "x\n")) ∷ reply.Done ∷ reply.End ∷ reply.Done ∷ (reply.Opened 4) ∷ (reply.Bytes (codes "y\n")) ∷ reply.Done ∷ reply.End ∷ reply.Done ∷ reply.Done ∷ [])
+    replay (given [] ((codes "p") ∷ []) false ((codes "f=3") ∷ (codes "in=4") ∷ (codes "p=5") ∷ []) [] [] None 100000
+    (codes "function f() { } { print FILENAME, $0 }")) ((reply.Opened 3) ∷ (reply.Bytes (codes "x\n")) ∷ reply.Done
+    ∷ reply.End ∷ reply.Done ∷ (reply.Opened 4) ∷ (reply.Bytes (codes "y\n")) ∷ reply.Done ∷ reply.End ∷ reply.Done
+    ∷ reply.Done ∷ [])
     ≡ Some (
       (Status 0),
       7,
@@ -787,7 +848,8 @@ unfolding rules
 row_66 = refl
 
 row_67 :
-    replay (given [] [] false ((codes "-") ∷ (codes "-") ∷ []) [] [] None 100000 (codes "{ print FILENAME, FNR }")) ((reply.Bytes (codes "a\n")) ∷ reply.Done ∷ reply.End ∷ [])
+    replay (given [] [] false ((codes "-") ∷ (codes "-") ∷ []) [] [] None 100000 (codes "{ print FILENAME, FNR }"))
+    ((reply.Bytes (codes "a\n")) ∷ reply.Done ∷ reply.End ∷ [])
     ≡ Some (
       (Status 0),
       4,
@@ -800,7 +862,9 @@ unfolding rules
 row_67 = refl
 
 row_68 :
-    replay (given [] [] false [] [] [] None 100000 (codes "{ print } END { print getline l < \"-\", l }")) ((reply.Bytes (codes "a\nb")) ∷ reply.Done ∷ reply.Failed ∷ reply.Done ∷ (reply.Bytes (codes "\n")) ∷ reply.Done ∷ [])
+    replay (given [] [] false [] [] [] None 100000 (codes "{ print } END { print getline l < \"-\", l }"))
+    ((reply.Bytes (codes "a\nb")) ∷ reply.Done ∷ reply.Failed ∷ reply.Done ∷ (reply.Bytes (codes "\n")) ∷ reply.Done
+    ∷ [])
     ≡ Some (
       (Status 2),
       3,
@@ -816,7 +880,8 @@ unfolding rules
 row_68 = refl
 
 row_69 :
-    replay (given [] ((codes "none") ∷ []) false ((codes "none") ∷ []) [] [] None 100000 (codes "BEGIN { exit 3 } END { getline }")) (reply.Failed ∷ reply.Done ∷ [])
+    replay (given [] ((codes "none") ∷ []) false ((codes "none") ∷ []) [] [] None 100000
+    (codes "BEGIN { exit 3 } END { getline }")) (reply.Failed ∷ reply.Done ∷ [])
     ≡ Some (
       (Status 3),
       3,
@@ -828,7 +893,8 @@ unfolding rules
 row_69 = refl
 
 row_70 :
-    replay (given [] ((codes "none") ∷ []) false ((codes "none") ∷ []) [] [] None 100000 (codes "END { exit }")) (reply.Failed ∷ reply.Done ∷ [])
+    replay (given [] ((codes "none") ∷ []) false ((codes "none") ∷ []) [] [] None 100000 (codes "END { exit }"))
+    (reply.Failed ∷ reply.Done ∷ [])
     ≡ Some (
       (Status 2),
       2,
@@ -840,7 +906,9 @@ unfolding rules
 row_70 = refl
 
 row_71 :
-    replay (given [] [] false [] [] [] None 100000 (codes "BEGIN { print \"x\" > \"-\"; print close(\"-\"); getline < \"-\"; print close(\"-\") }")) ((reply.Opened 3) ∷ reply.Done ∷ reply.Done ∷ reply.Done ∷ reply.End ∷ reply.Done ∷ [])
+    replay (given [] [] false [] [] [] None 100000
+    (codes "BEGIN { print \"x\" > \"-\"; print close(\"-\"); getline < \"-\"; print close(\"-\") }"))
+    ((reply.Opened 3) ∷ reply.Done ∷ reply.Done ∷ reply.Done ∷ reply.End ∷ reply.Done ∷ [])
     ≡ Some (
       (Status 0),
       4,
@@ -856,7 +924,10 @@ unfolding rules
 row_71 = refl
 
 row_72 :
-    replay (given [] [] false [] [] [] None 100000 (codes "BEGIN { \"echo p\" | getline; print NR; getline < \"f\"; print NR }")) ((reply.Opened 3) ∷ (reply.Bytes (codes "p\n")) ∷ reply.Done ∷ (reply.Opened 4) ∷ (reply.Bytes (codes "1\n2\n")) ∷ reply.Done ∷ (reply.Status (pos 0)) ∷ reply.Done ∷ [])
+    replay (given [] [] false [] [] [] None 100000
+    (codes "BEGIN { \"echo p\" | getline; print NR; getline < \"f\"; print NR }"))
+    ((reply.Opened 3) ∷ (reply.Bytes (codes "p\n")) ∷ reply.Done ∷ (reply.Opened 4) ∷ (reply.Bytes (codes "1\n2\n"))
+    ∷ reply.Done ∷ (reply.Status (pos 0)) ∷ reply.Done ∷ [])
     ≡ Some (
       (Status 0),
       4,
@@ -885,7 +956,8 @@ unfolding rules
 row_73 = refl
 
 row_74 :
-    replay (given [] [] false [] [] [] None 100000 (codes "BEGIN { print (getline < x) }")) (reply.Failed ∷ reply.Done ∷ [])
+    replay (given [] [] false [] [] [] None 100000 (codes "BEGIN { print (getline < x) }"))
+    (reply.Failed ∷ reply.Done ∷ [])
     ≡ Some (
       (Status 0),
       1,
@@ -908,7 +980,9 @@ unfolding rules
 row_75 = refl
 
 row_76 :
-    replay (given [] [] false [] [] [] None 100000 (codes "function f() { next } f(), 0 { print \"a\" } { print \"b\" }")) ((reply.Bytes (codes "1\n2\n")) ∷ reply.End ∷ [])
+    replay (given [] [] false [] [] [] None 100000
+    (codes "function f() { next } f(), 0 { print \"a\" } { print \"b\" }"))
+    ((reply.Bytes (codes "1\n2\n")) ∷ reply.End ∷ [])
     ≡ Some (
       (Status 0),
       6,
@@ -938,7 +1012,9 @@ unfolding rules
 row_79 = refl
 
 row_80 :
-    replay (given [] [] false [] [] [] None 100000 (codes "BEGIN { print \"a\" > \"x\"; print \"b\" > \"x\"; close(\"x\"); print \"c\" >> \"x\" }")) ((reply.Opened 3) ∷ reply.Done ∷ reply.Done ∷ reply.Done ∷ (reply.Opened 4) ∷ reply.Done ∷ reply.Done ∷ [])
+    replay (given [] [] false [] [] [] None 100000
+    (codes "BEGIN { print \"a\" > \"x\"; print \"b\" > \"x\"; close(\"x\"); print \"c\" >> \"x\" }"))
+    ((reply.Opened 3) ∷ reply.Done ∷ reply.Done ∷ reply.Done ∷ (reply.Opened 4) ∷ reply.Done ∷ reply.Done ∷ [])
     ≡ Some (
       (Status 0),
       4,

@@ -1,5 +1,6 @@
 -- Patterns read and matched by computing, for the rows of the definition alone: what is claimed of patterns is in their own crate.
-use Rattle.std.specs.Prelude.{ℕ, zero, suc, ◌+◌, ◌-◌, ◌==◌, nat_lt, nat_le, ◌&&◌, Bool, true, false, if◌then◌else◌, List, [], ◌∷◌, length, max, slice_index, Option, Some, None}
+use Rattle.std.specs.Prelude.{ℕ, zero, suc, ◌+◌, ◌-◌, ◌==◌, nat_lt, nat_le, ◌&&◌, Bool, true, false, if◌then◌else◌}
+use Rattle.std.specs.Prelude.{List, [], ◌∷◌, length, max, slice_index, Option, Some, None}
 use Rattle.std.specs.List.{flat_map, list_any}
 use Rattle.awk_ere.specs.Pattern.{Pattern, empty, bytes, start, finish, cat, alt, repeat}
 use Rattle.awk_ere.specs.Reading.{Spot, front_at, spot_after, first_spot}
@@ -40,7 +41,8 @@ union (m ∷ ms) ns = with_place (union ms ns) m
 abbrev rounds : (ℕ → List ℕ) → ℕ → ℕ → ℕ → Option ℕ → List ℕ → List ℕ → List ℕ
 rounds step zero at least most now found = found
 rounds step (suc n) at least most now found =
-    rounds step n (at + 1) least most (union (flat_map step now) []) (if nat_le least at && within most at then union now found else found)
+    rounds step n (at + 1) least most (union (flat_map step now) [])
+    (if nat_le least at && within most at then union now found else found)
   where
     within : Option ℕ → ℕ → Bool
     within None at = true

@@ -1,5 +1,6 @@
 -- For the rows of the definition: running it, moves one after the other, over replies that are given.
-use Rattle.std.specs.Prelude.{ℕ, zero, suc, ℤ, pos, negsuc, nat_le, nat_lt, Bool, true, false, not, ◌&&◌, List, [], ◌∷◌, length, map, is_some, Option, Some, None}
+use Rattle.std.specs.Prelude.{ℕ, zero, suc, ℤ, pos, negsuc, nat_le, nat_lt, Bool, true, false, not, ◌&&◌, List, [], ◌∷◌}
+use Rattle.std.specs.Prelude.{length, map, is_some, Option, Some, None}
 use Rattle.std.specs.List.{slice_split}
 use Rattle.awk_text.specs.declared.value.Value.TheVariants as v
 use Rattle.awk_ere.specs.Pattern.{Pattern}
@@ -124,7 +125,8 @@ abbrev pub met : Replaying → Move → Course → List Reply → Option (Outcom
 met go (Goes k t) c rs = go k (seen t c) c rs
 met go (Steps k t) c rs = go k (seen t (with_step c)) (with_step c) rs
 met go (Asks w then_ t) c [] = None
-met go (Asks w then_ t) c (r ∷ rs) = answered (fits c.events w r) go (then_ r) (seen t (with_event w r c)) (with_event w r c) rs
+met go (Asks w then_ t) c (r ∷ rs) = answered (fits c.events w r) go (then_ r) (seen t (with_event w r c))
+    (with_event w r c) rs
 met go (Seeks question then_ t) c rs = go (then_ (answer_to question)) (seen t c) c rs
 met go (Over outcome) c rs = Some (outcome, c.used, calls c.events)
 
@@ -167,7 +169,8 @@ asked_of go (Goes k t) c rs = go k (seen t c) c rs
 asked_of go (Steps k t) c rs = go k (seen t (with_step c)) (with_step c) rs
 asked_of go (Asks w then_ t) c [] = []
 asked_of go (Asks w then_ t) c (r ∷ rs) = go (then_ r) (seen t (with_event w r c)) (with_event w r c) rs
-asked_of go (Seeks question then_ t) c rs = with_question (is_of_ere question) question (go (then_ (answer_to question)) (seen t c) c rs)
+asked_of go (Seeks question then_ t) c rs = with_question (is_of_ere question) question
+    (go (then_ (answer_to question)) (seen t c) c rs)
 asked_of go (Over outcome) c rs = []
 
 abbrev pub questions : ℕ → Given → Questioning

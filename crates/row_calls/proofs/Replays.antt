@@ -17,7 +17,8 @@ use Rattle.row_calls.proofs.Playing.{replayed}
 use Rattle.row_calls.proofs.Scripts.{program_of, rules}
 
 -- parameters that are arrays, names that may be assigned, whether ENVIRON is named, the setup, the bound, and the script
-abbrev given : List (Text × Text) → List Text → Bool → List Text → List Text → List (Text × Text) → Option Text → ℕ → Text → Given
+abbrev given : List (Text × Text) → List Text → Bool → List Text → List Text → List (Text × Text) → Option Text → ℕ
+    → Text → Given
 given arrays names environ operands environment assigns separator bound source = record {
   program = program_of arrays source;
   can_assign = λ name. list_any (bytes_eq name) names;
@@ -50,7 +51,8 @@ unfolding rules
 row_0 = refl
 
 row_1 :
-    replay (given [] [] false [] [] [] None 1000 (codes "BEGIN { print \"a\" > \"/w/out/a\" }")) ((reply.Opened 3) ∷ reply.Done ∷ reply.Done ∷ [])
+    replay (given [] [] false [] [] [] None 1000 (codes "BEGIN { print \"a\" > \"/w/out/a\" }"))
+    ((reply.Opened 3) ∷ reply.Done ∷ reply.Done ∷ [])
     ≡ Some (
       (Status 0),
       1,
@@ -74,7 +76,8 @@ unfolding rules
 row_2 = refl
 
 row_3 :
-    replay (given [] [] false [] [] [] None 1000 (codes "BEGIN { r = (getline l < \"in/secret1\"); print r }")) (reply.Failed ∷ reply.Done ∷ [])
+    replay (given [] [] false [] [] [] None 1000 (codes "BEGIN { r = (getline l < \"in/secret1\"); print r }"))
+    (reply.Failed ∷ reply.Done ∷ [])
     ≡ Some (
       (Status 0),
       2,
@@ -86,7 +89,8 @@ unfolding rules
 row_3 = refl
 
 row_4 :
-    replay (given [] [] false [] [] [] None 1000 (codes "BEGIN { r = (getline l < \"in/secret1\"); print r }")) (reply.Failed ∷ reply.Done ∷ [])
+    replay (given [] [] false [] [] [] None 1000 (codes "BEGIN { r = (getline l < \"in/secret1\"); print r }"))
+    (reply.Failed ∷ reply.Done ∷ [])
     ≡ Some (
       (Status 0),
       2,
@@ -98,7 +102,10 @@ unfolding rules
 row_4 = refl
 
 row_5 :
-    replay (given [] [] false [] [] [] None 1000 (codes "BEGIN { getline a < \"in//a\"; getline b < \"in/./a\"; getline c < \"in/../../etc/x\"; print a b }")) ((reply.Opened 3) ∷ (reply.Bytes (codes "1\n")) ∷ (reply.Opened 4) ∷ (reply.Bytes (codes "2\n")) ∷ reply.Failed ∷ reply.Done ∷ reply.Done ∷ reply.Done ∷ [])
+    replay (given [] [] false [] [] [] None 1000
+    (codes "BEGIN { getline a < \"in//a\"; getline b < \"in/./a\"; getline c < \"in/../../etc/x\"; print a b }"))
+    ((reply.Opened 3) ∷ (reply.Bytes (codes "1\n")) ∷ (reply.Opened 4) ∷ (reply.Bytes (codes "2\n")) ∷ reply.Failed
+    ∷ reply.Done ∷ reply.Done ∷ reply.Done ∷ [])
     ≡ Some (
       (Status 0),
       4,
@@ -116,7 +123,9 @@ unfolding rules
 row_5 = refl
 
 row_6 :
-    replay (given [] [] false [] [] [] None 1000 (codes "BEGIN { print system(\"sort -r\"); print system(\"sort -r;id\") }")) ((reply.Status (pos 0)) ∷ reply.Done ∷ reply.Failed ∷ reply.Done ∷ [])
+    replay (given [] [] false [] [] [] None 1000
+    (codes "BEGIN { print system(\"sort -r\"); print system(\"sort -r;id\") }"))
+    ((reply.Status (pos 0)) ∷ reply.Done ∷ reply.Failed ∷ reply.Done ∷ [])
     ≡ Some (
       (Status 0),
       2,
@@ -130,7 +139,8 @@ unfolding rules
 row_6 = refl
 
 row_7 :
-    replay (given [] [] false [] [] [] None 5 (codes "BEGIN { while ((getline l < \"/x\") != 0) n++ }")) (reply.Failed ∷ reply.Failed ∷ reply.Failed ∷ reply.Failed ∷ reply.Failed ∷ [])
+    replay (given [] [] false [] [] [] None 5 (codes "BEGIN { while ((getline l < \"/x\") != 0) n++ }"))
+    (reply.Failed ∷ reply.Failed ∷ reply.Failed ∷ reply.Failed ∷ reply.Failed ∷ [])
     ≡ Some (
       Cut,
       5,
@@ -145,7 +155,8 @@ unfolding rules
 row_7 = refl
 
 row_8 :
-    replay (given [] [] false [] [] [] None 1000 (codes "BEGIN { r = system(\"id\"); print r; print \"on\" }")) (reply.Failed ∷ reply.Done ∷ reply.Done ∷ [])
+    replay (given [] [] false [] [] [] None 1000 (codes "BEGIN { r = system(\"id\"); print r; print \"on\" }"))
+    (reply.Failed ∷ reply.Done ∷ reply.Done ∷ [])
     ≡ Some (
       (Status 0),
       3,
@@ -158,7 +169,8 @@ unfolding rules
 row_8 = refl
 
 row_9 :
-    replay (given [] [] true [] ((codes "HOME") ∷ (codes "LANG") ∷ []) [] None 1000 (codes "BEGIN { for (k in ENVIRON) print k }")) (reply.Failed ∷ (reply.Value (codes "C")) ∷ reply.Done ∷ [])
+    replay (given [] [] true [] ((codes "HOME") ∷ (codes "LANG") ∷ []) [] None 1000
+    (codes "BEGIN { for (k in ENVIRON) print k }")) (reply.Failed ∷ (reply.Value (codes "C")) ∷ reply.Done ∷ [])
     ≡ Some (
       (Status 0),
       2,
@@ -171,7 +183,10 @@ unfolding rules
 row_9 = refl
 
 row_10 :
-    replay (given [] [] false ((codes "in/a") ∷ []) [] [] None 1000 (codes "BEGIN { ARGV[2] = \"in/b\"; ARGC = 3 } { print FILENAME, $0 }")) ((reply.Opened 3) ∷ (reply.Bytes (codes "x\n")) ∷ reply.Done ∷ reply.End ∷ reply.Done ∷ reply.Failed ∷ reply.Done ∷ [])
+    replay (given [] [] false ((codes "in/a") ∷ []) [] [] None 1000
+    (codes "BEGIN { ARGV[2] = \"in/b\"; ARGC = 3 } { print FILENAME, $0 }"))
+    ((reply.Opened 3) ∷ (reply.Bytes (codes "x\n")) ∷ reply.Done ∷ reply.End ∷ reply.Done ∷ reply.Failed ∷
+    reply.Done ∷ [])
     ≡ Some (
       (Status 2),
       6,
@@ -188,7 +203,9 @@ unfolding rules
 row_10 = refl
 
 row_11 :
-    replay (given [] ((codes "FS") ∷ []) false ((codes "FS=:") ∷ (codes "in/a") ∷ []) [] [] None 1000 (codes "{ print $1 }")) (reply.Failed ∷ (reply.Opened 3) ∷ (reply.Bytes (codes "a:b c\n")) ∷ reply.Done ∷ reply.End ∷ reply.Done ∷ [])
+    replay (given [] ((codes "FS") ∷ []) false ((codes "FS=:") ∷ (codes "in/a") ∷ []) [] [] None 1000
+    (codes "{ print $1 }")) (reply.Failed ∷ (reply.Opened 3) ∷ (reply.Bytes (codes "a:b c\n")) ∷ reply.Done ∷
+    reply.End ∷ reply.Done ∷ [])
     ≡ Some (
       (Status 0),
       4,
@@ -215,7 +232,10 @@ unfolding rules
 row_12 = refl
 
 row_13 :
-    replay (given [] [] false [] [] [] None 1000 (codes "BEGIN { s = \"abc\"; n = gsub(/x*/, \"-\", s); print n, s; t = \"abc\"; gsub(/b*/, \"-\", t); print t }")) (reply.Done ∷ reply.Done ∷ [])
+    replay (given [] [] false [] [] [] None 1000
+    (codes
+    "BEGIN { s = \"abc\"; n = gsub(/x*/, \"-\", s); print n, s; t = \"abc\"; gsub(/b*/, \"-\", t); print t }"))
+    (reply.Done ∷ reply.Done ∷ [])
     ≡ Some (
       (Status 0),
       6,
@@ -227,7 +247,8 @@ unfolding rules
 row_13 = refl
 
 row_14 :
-    replay (given [] [] false [] [] [] None 1000 (codes "BEGIN { print match(\"xyabab\", /ab|abab/), RSTART, RLENGTH }")) (reply.Done ∷ [])
+    replay (given [] [] false [] [] [] None 1000
+    (codes "BEGIN { print match(\"xyabab\", /ab|abab/), RSTART, RLENGTH }")) (reply.Done ∷ [])
     ≡ Some (
       (Status 0),
       1,
@@ -238,7 +259,8 @@ unfolding rules
 row_14 = refl
 
 row_15 :
-    replay (given [] [] false [] [] [] None 1000 (codes "BEGIN { print 7/2; print -7%3; print 9223372036854775807+1 }")) (reply.Done ∷ reply.Done ∷ [])
+    replay (given [] [] false [] [] [] None 1000 (codes "BEGIN { print 7/2; print -7%3; print 9223372036854775807+1 }"))
+    (reply.Done ∷ reply.Done ∷ [])
     ≡ Some (
       (Faulted f.OutOfRange (at 1 57)),
       3,
@@ -262,7 +284,9 @@ unfolding rules
 row_16 = refl
 
 row_17 :
-    replay (given [] [] false [] [] [] None 1000 (codes "END { print NR }")) ((reply.Bytes (codes "a")) ∷ (reply.Bytes (codes "\n")) ∷ (reply.Bytes (codes "b")) ∷ reply.End ∷ reply.Done ∷ [])
+    replay (given [] [] false [] [] [] None 1000 (codes "END { print NR }"))
+    ((reply.Bytes (codes "a")) ∷ (reply.Bytes (codes "\n")) ∷ (reply.Bytes (codes "b")) ∷ reply.End ∷ reply.Done ∷
+    [])
     ≡ Some (
       (Status 0),
       3,
@@ -277,7 +301,11 @@ unfolding rules
 row_17 = refl
 
 row_18 :
-    replay (given [] [] false [] [] [] None 1000 (codes "BEGIN { RS = \"\" } { print NF } END { print NR }")) ((reply.Bytes (codes "\n")) ∷ (reply.Bytes (codes "\n")) ∷ (reply.Bytes (codes "a")) ∷ (reply.Bytes (codes "\n")) ∷ (reply.Bytes (codes "b")) ∷ (reply.Bytes (codes "\n")) ∷ (reply.Bytes (codes "\n")) ∷ reply.Done ∷ (reply.Bytes (codes "\n")) ∷ (reply.Bytes (codes "c")) ∷ (reply.Bytes (codes "\n")) ∷ (reply.Bytes (codes "\n")) ∷ reply.Done ∷ reply.End ∷ reply.Done ∷ [])
+    replay (given [] [] false [] [] [] None 1000 (codes "BEGIN { RS = \"\" } { print NF } END { print NR }"))
+    ((reply.Bytes (codes "\n")) ∷ (reply.Bytes (codes "\n")) ∷ (reply.Bytes (codes "a")) ∷
+    (reply.Bytes (codes "\n")) ∷ (reply.Bytes (codes "b")) ∷ (reply.Bytes (codes "\n")) ∷ (reply.Bytes (codes "\n"))
+    ∷ reply.Done ∷ (reply.Bytes (codes "\n")) ∷ (reply.Bytes (codes "c")) ∷ (reply.Bytes (codes "\n")) ∷
+    (reply.Bytes (codes "\n")) ∷ reply.Done ∷ reply.End ∷ reply.Done ∷ [])
     ≡ Some (
       (Status 0),
       6,
@@ -314,7 +342,8 @@ unfolding rules
 row_19 = refl
 
 row_20 :
-    replay (given [] [] false [] [] [] None 1000 (codes "END { print NR }")) ((reply.Bytes (codes "a\n")) ∷ (reply.Bytes (codes "b")) ∷ reply.End ∷ reply.Done ∷ [])
+    replay (given [] [] false [] [] [] None 1000 (codes "END { print NR }"))
+    ((reply.Bytes (codes "a\n")) ∷ (reply.Bytes (codes "b")) ∷ reply.End ∷ reply.Done ∷ [])
     ≡ Some (
       (Status 0),
       3,
@@ -328,7 +357,10 @@ unfolding rules
 row_20 = refl
 
 row_21 :
-    replay (given [] [] false [] [] [] None 1000 (codes "BEGIN { RS = \"\" } { print NF } END { print NR }")) ((reply.Bytes (codes "\n\n")) ∷ (reply.Bytes (codes "a\n")) ∷ (reply.Bytes (codes "b\n")) ∷ (reply.Bytes (codes "\n\n")) ∷ reply.Done ∷ (reply.Bytes (codes "c\n")) ∷ (reply.Bytes (codes "\n")) ∷ reply.Done ∷ reply.End ∷ reply.Done ∷ [])
+    replay (given [] [] false [] [] [] None 1000 (codes "BEGIN { RS = \"\" } { print NF } END { print NR }"))
+    ((reply.Bytes (codes "\n\n")) ∷ (reply.Bytes (codes "a\n")) ∷ (reply.Bytes (codes "b\n")) ∷
+    (reply.Bytes (codes "\n\n")) ∷ reply.Done ∷ (reply.Bytes (codes "c\n")) ∷ (reply.Bytes (codes "\n")) ∷
+    reply.Done ∷ reply.End ∷ reply.Done ∷ [])
     ≡ Some (
       (Status 0),
       6,
@@ -360,7 +392,8 @@ unfolding rules
 row_22 = refl
 
 row_23 :
-    replay (given [] [] false [] [] [] None 1000 (codes "END { print NR }")) ((reply.Bytes (codes "a\nb")) ∷ reply.End ∷ reply.Done ∷ [])
+    replay (given [] [] false [] [] [] None 1000 (codes "END { print NR }"))
+    ((reply.Bytes (codes "a\nb")) ∷ reply.End ∷ reply.Done ∷ [])
     ≡ Some (
       (Status 0),
       3,
@@ -373,7 +406,8 @@ unfolding rules
 row_23 = refl
 
 row_24 :
-    replay (given [] [] false [] [] [] None 1000 (codes "BEGIN { RS = \"\" } { print NF } END { print NR }")) ((reply.Bytes (codes "\n\na\nb\n\n\nc\n\n")) ∷ reply.Done ∷ reply.Done ∷ reply.End ∷ reply.Done ∷ [])
+    replay (given [] [] false [] [] [] None 1000 (codes "BEGIN { RS = \"\" } { print NF } END { print NR }"))
+    ((reply.Bytes (codes "\n\na\nb\n\n\nc\n\n")) ∷ reply.Done ∷ reply.Done ∷ reply.End ∷ reply.Done ∷ [])
     ≡ Some (
       (Status 0),
       6,
@@ -388,7 +422,10 @@ unfolding rules
 row_24 = refl
 
 row_25 :
-    replay (given [] [] false [] [] [] None 1000 (codes "BEGIN { getline a < \"in/a\"; close(\"in/a\"); r = (getline b < \"in/a\"); print r }")) ((reply.Opened 3) ∷ (reply.Bytes (codes "1\n")) ∷ reply.Done ∷ (reply.Opened 4) ∷ (reply.Bytes (codes "1\n")) ∷ reply.Done ∷ reply.Done ∷ [])
+    replay (given [] [] false [] [] [] None 1000
+    (codes "BEGIN { getline a < \"in/a\"; close(\"in/a\"); r = (getline b < \"in/a\"); print r }"))
+    ((reply.Opened 3) ∷ (reply.Bytes (codes "1\n")) ∷ reply.Done ∷ (reply.Opened 4) ∷ (reply.Bytes (codes "1\n")) ∷
+    reply.Done ∷ reply.Done ∷ [])
     ≡ Some (
       (Status 0),
       4,
@@ -405,7 +442,9 @@ unfolding rules
 row_25 = refl
 
 row_26 :
-    replay (given [] [] false ((codes "in/a") ∷ []) [] [] None 1000 (codes "{ print $1 | \"sort -r\" } END { print \"end\" }")) ((reply.Opened 3) ∷ (reply.Bytes (codes "b\na\n")) ∷ (reply.Opened 4) ∷ reply.Done ∷ reply.Done ∷ reply.End ∷ reply.Done ∷ reply.Done ∷ (reply.Status (pos 0)) ∷ [])
+    replay (given [] [] false ((codes "in/a") ∷ []) [] [] None 1000
+    (codes "{ print $1 | \"sort -r\" } END { print \"end\" }")) ((reply.Opened 3) ∷ (reply.Bytes (codes "b\na\n")) ∷
+    (reply.Opened 4) ∷ reply.Done ∷ reply.Done ∷ reply.End ∷ reply.Done ∷ reply.Done ∷ (reply.Status (pos 0)) ∷ [])
     ≡ Some (
       (Status 0),
       6,
@@ -457,13 +496,17 @@ unfolding rules
 row_29 = refl
 
 row_30 :
-    replay (given [] [] false [] [] [] None 1000 (codes "BEGIN { x = (((((((((((((((((((((((((((((((((((((((((((((((((((((((((((((((((((((((((((((((((((((((((((((((((((((((((((((((((((((((((((((((((((((((((((((((((((((((((((((((((((((((((((((((((((((((((((((((((((((((1))))))))))))))))))))))))))))))))))))))))))))))))))))))))))))))))))))))))))))))))))))))))))))))))))))))))))))))))))))))))))))))))))))))))))))))))))))))))))))))))))))))))))))))))))))))))))))))))))))))) }")) ([])
+    replay (given [] [] false [] [] [] None 1000
+    (codes
+    "BEGIN { x = (((((((((((((((((((((((((((((((((((((((((((((((((((((((((((((((((((((((((((((((((((((((((((((((((((((((((((((((((((((((((((((((((((((((((((((((((((((((((((((((((((((((((((((((((((((((((((((((((((((((1))))))))))))))))))))))))))))))))))))))))))))))))))))))))))))))))))))))))))))))))))))))))))))))))))))))))))))))))))))))))))))))))))))))))))))))))))))))))))))))))))))))))))))))))))))))))))))))))))))))) }"))
+    ([])
     ≡ Some ((Status 0), 1, [])
 unfolding rules
 row_30 = refl
 
 row_31 :
-    replay (given [] [] false [] [] [] None 1000 (codes "BEGIN { printf \"%5d|%-5s|%05d|%x|%c\\n\", 42, \"ab\", -7, 255, 65 }")) (reply.Done ∷ [])
+    replay (given [] [] false [] [] [] None 1000
+    (codes "BEGIN { printf \"%5d|%-5s|%05d|%x|%c\\n\", 42, \"ab\", -7, 255, 65 }")) (reply.Done ∷ [])
     ≡ Some (
       (Status 0),
       1,
@@ -486,7 +529,8 @@ unfolding rules
 row_33 = refl
 
 row_34 :
-    replay (given [] [] false [] [] [] None 1000 (codes "{ $4 = \"z\"; print; print NF }")) ((reply.Bytes (codes " a  b \n")) ∷ reply.Done ∷ reply.Done ∷ reply.End ∷ [])
+    replay (given [] [] false [] [] [] None 1000 (codes "{ $4 = \"z\"; print; print NF }"))
+    ((reply.Bytes (codes " a  b \n")) ∷ reply.Done ∷ reply.Done ∷ reply.End ∷ [])
     ≡ Some (
       (Status 0),
       4,
@@ -500,7 +544,8 @@ unfolding rules
 row_34 = refl
 
 row_35 :
-    replay (given [] [] false [] [] [] None 1000 (codes "BEGIN { n = split(\"a:b\", x, \":\"); print n, x[2] }")) (reply.Done ∷ [])
+    replay (given [] [] false [] [] [] None 1000 (codes "BEGIN { n = split(\"a:b\", x, \":\"); print n, x[2] }"))
+    (reply.Done ∷ [])
     ≡ Some (
       (Status 0),
       2,
@@ -523,7 +568,8 @@ unfolding rules
 row_37 = refl
 
 row_38 :
-    replay (given [] [] false [] [] [] None 1000 (codes "{ print ($1 > $2), ($1 > \"9\") }")) ((reply.Bytes (codes "10 9\n")) ∷ reply.Done ∷ reply.End ∷ [])
+    replay (given [] [] false [] [] [] None 1000 (codes "{ print ($1 > $2), ($1 > \"9\") }"))
+    ((reply.Bytes (codes "10 9\n")) ∷ reply.Done ∷ reply.End ∷ [])
     ≡ Some (
       (Status 0),
       2,
@@ -536,7 +582,8 @@ unfolding rules
 row_38 = refl
 
 row_39 :
-    replay (given [] [] false [] [] [] None 1000 (codes "BEGIN { a[\"b\"]; a[\"a\"]; a[\"b\"] = 1; for (k in a) print k }")) (reply.Done ∷ reply.Done ∷ [])
+    replay (given [] [] false [] [] [] None 1000
+    (codes "BEGIN { a[\"b\"]; a[\"a\"]; a[\"b\"] = 1; for (k in a) print k }")) (reply.Done ∷ reply.Done ∷ [])
     ≡ Some (
       (Status 0),
       6,
@@ -565,7 +612,10 @@ unfolding rules
 row_41 = refl
 
 row_42 :
-    replay (given [] [] false [] [] [] None 1000 (codes "BEGIN { while (c < 4) { r = (getline l < \"in/a\"); print r, l; c++ } }")) ((reply.Opened 3) ∷ (reply.Bytes (codes "x\ny")) ∷ reply.Done ∷ reply.Failed ∷ reply.Done ∷ (reply.Bytes (codes "\n")) ∷ reply.Done ∷ reply.End ∷ reply.Done ∷ reply.Done ∷ [])
+    replay (given [] [] false [] [] [] None 1000
+    (codes "BEGIN { while (c < 4) { r = (getline l < \"in/a\"); print r, l; c++ } }"))
+    ((reply.Opened 3) ∷ (reply.Bytes (codes "x\ny")) ∷ reply.Done ∷ reply.Failed ∷ reply.Done ∷
+    (reply.Bytes (codes "\n")) ∷ reply.Done ∷ reply.End ∷ reply.Done ∷ reply.Done ∷ [])
     ≡ Some (
       (Status 0),
       13,
@@ -596,7 +646,8 @@ unfolding rules
 row_43 = refl
 
 row_44 :
-    replay (given [] [] false [] [] [] None 1000 (codes "BEGIN { system(\"id\"); print \"on\" }")) (reply.Failed ∷ reply.Done ∷ [])
+    replay (given [] [] false [] [] [] None 1000 (codes "BEGIN { system(\"id\"); print \"on\" }"))
+    (reply.Failed ∷ reply.Done ∷ [])
     ≡ Some (
       (Status 0),
       2,
@@ -608,7 +659,8 @@ unfolding rules
 row_44 = refl
 
 row_45 :
-    replay (given [] [] false [] [] [] None 1000 (codes "BEGIN { x = 5; x ^= 2; print x, -2^2, 2^3^2, 1 - 1 - 1, !0 + 1 }")) (reply.Done ∷ [])
+    replay (given [] [] false [] [] [] None 1000
+    (codes "BEGIN { x = 5; x ^= 2; print x, -2^2, 2^3^2, 1 - 1 - 1, !0 + 1 }")) (reply.Done ∷ [])
     ≡ Some (
       (Status 0),
       3,
@@ -619,7 +671,8 @@ unfolding rules
 row_45 = refl
 
 row_46 :
-    replay (given [] [] false [] [] [] None 1000 (codes "BEGIN { a = 1; if (a && b = 2) print b; print 1 !c }")) (reply.Done ∷ reply.Done ∷ [])
+    replay (given [] [] false [] [] [] None 1000 (codes "BEGIN { a = 1; if (a && b = 2) print b; print 1 !c }"))
+    (reply.Done ∷ reply.Done ∷ [])
     ≡ Some (
       (Status 0),
       4,
@@ -631,7 +684,9 @@ unfolding rules
 row_46 = refl
 
 row_47 :
-    replay (given (((codes "g"), (codes "a")) ∷ []) [] false [] [] [] None 1000 (codes "function g(a, n) { a[\"k\"] = n; n = 9 } BEGIN { m = 1; g(t, m); print t[\"k\"], m }")) (reply.Done ∷ [])
+    replay (given (((codes "g"), (codes "a")) ∷ []) [] false [] [] [] None 1000
+    (codes "function g(a, n) { a[\"k\"] = n; n = 9 } BEGIN { m = 1; g(t, m); print t[\"k\"], m }"))
+    (reply.Done ∷ [])
     ≡ Some (
       (Status 0),
       6,
@@ -648,7 +703,8 @@ unfolding rules
 row_48 = refl
 
 row_49 :
-    replay (given [] [] false [] [] [] None 1000 (codes "/b/, /c/")) ((reply.Bytes (codes "a\nb\nc\nb\n")) ∷ reply.Done ∷ reply.Done ∷ reply.Done ∷ reply.End ∷ [])
+    replay (given [] [] false [] [] [] None 1000 (codes "/b/, /c/"))
+    ((reply.Bytes (codes "a\nb\nc\nb\n")) ∷ reply.Done ∷ reply.Done ∷ reply.Done ∷ reply.End ∷ [])
     ≡ Some (
       (Status 0),
       7,
@@ -663,7 +719,8 @@ unfolding rules
 row_49 = refl
 
 row_50 :
-    replay (given [] [] false [] [] [] None 1000 (codes "BEGIN { a[\"x\"] = (\"x\" in a); print a[\"x\"] }")) (reply.Done ∷ [])
+    replay (given [] [] false [] [] [] None 1000 (codes "BEGIN { a[\"x\"] = (\"x\" in a); print a[\"x\"] }"))
+    (reply.Done ∷ [])
     ≡ Some (
       (Status 0),
       2,
@@ -680,7 +737,8 @@ unfolding rules
 row_51 = refl
 
 row_52 :
-    replay (given [] [] false [] [] [] None 1000 (codes "BEGIN { print toupper(\"aZ1\"), index(\"abc\", \"c\"), substr(\"hello\", 2, 3) }")) (reply.Done ∷ [])
+    replay (given [] [] false [] [] [] None 1000
+    (codes "BEGIN { print toupper(\"aZ1\"), index(\"abc\", \"c\"), substr(\"hello\", 2, 3) }")) (reply.Done ∷ [])
     ≡ Some (
       (Status 0),
       1,
@@ -691,7 +749,10 @@ unfolding rules
 row_52 = refl
 
 row_53 :
-    replay (given [] [] false [] [] [] None 1000 (codes "BEGIN { print \"a\" > \"/w/out/a\"; print \"b\" >> \"/w/out/a\"; close(\"/w/out/a\"); print \"c\" > \"/w/out/a\" }")) ((reply.Opened 3) ∷ reply.Done ∷ reply.Done ∷ reply.Done ∷ (reply.Opened 4) ∷ reply.Done ∷ reply.Done ∷ [])
+    replay (given [] [] false [] [] [] None 1000
+    (codes
+    "BEGIN { print \"a\" > \"/w/out/a\"; print \"b\" >> \"/w/out/a\"; close(\"/w/out/a\"); print \"c\" > \"/w/out/a\" }"))
+    ((reply.Opened 3) ∷ reply.Done ∷ reply.Done ∷ reply.Done ∷ (reply.Opened 4) ∷ reply.Done ∷ reply.Done ∷ [])
     ≡ Some (
       (Status 0),
       4,
@@ -708,7 +769,10 @@ unfolding rules
 row_53 = refl
 
 row_54 :
-    replay (given [] [] false [] [] [] None 1000 (codes "BEGIN { while ((\"sort -n\" | getline x) > 0) print x; print close(\"sort -n\") }")) ((reply.Opened 3) ∷ (reply.Bytes (codes "1\n2\n")) ∷ reply.Done ∷ reply.Done ∷ reply.End ∷ (reply.Status (pos 3)) ∷ reply.Done ∷ [])
+    replay (given [] [] false [] [] [] None 1000
+    (codes "BEGIN { while ((\"sort -n\" | getline x) > 0) print x; print close(\"sort -n\") }"))
+    ((reply.Opened 3) ∷ (reply.Bytes (codes "1\n2\n")) ∷ reply.Done ∷ reply.Done ∷ reply.End ∷
+    (reply.Status (pos 3)) ∷ reply.Done ∷ [])
     ≡ Some (
       (Status 0),
       4,
@@ -725,7 +789,8 @@ unfolding rules
 row_54 = refl
 
 row_55 :
-    replay (given [] [] false [] [] [] None 1000 (codes "{ print; getline l < \"-\"; print l }")) ((reply.Bytes (codes "p\nq\n")) ∷ reply.Done ∷ reply.Done ∷ reply.End ∷ [])
+    replay (given [] [] false [] [] [] None 1000 (codes "{ print; getline l < \"-\"; print l }"))
+    ((reply.Bytes (codes "p\nq\n")) ∷ reply.Done ∷ reply.Done ∷ reply.End ∷ [])
     ≡ Some (
       (Status 0),
       4,
@@ -739,7 +804,8 @@ unfolding rules
 row_55 = refl
 
 row_56 :
-    replay (given [] [] false ((codes "in/no") ∷ []) [] [] None 1000 (codes "{ print } END { print \"e\" }")) (reply.Failed ∷ reply.Done ∷ reply.Done ∷ [])
+    replay (given [] [] false ((codes "in/no") ∷ []) [] [] None 1000 (codes "{ print } END { print \"e\" }"))
+    (reply.Failed ∷ reply.Done ∷ reply.Done ∷ [])
     ≡ Some (
       (Status 2),
       2,
@@ -752,7 +818,8 @@ unfolding rules
 row_56 = refl
 
 row_57 :
-    replay (given [] [] false ((codes "in/no") ∷ []) [] [] None 1000 (codes "{ print } END { exit 0 }")) (reply.Failed ∷ reply.Done ∷ [])
+    replay (given [] [] false ((codes "in/no") ∷ []) [] [] None 1000 (codes "{ print } END { exit 0 }"))
+    (reply.Failed ∷ reply.Done ∷ [])
     ≡ Some (
       (Status 0),
       2,
@@ -764,7 +831,8 @@ unfolding rules
 row_57 = refl
 
 row_58 :
-    replay (given [] ((codes "v") ∷ []) false ((codes "v=1") ∷ []) [] [] None 1000 (codes "END { print v }")) (reply.Done ∷ reply.End ∷ reply.Done ∷ [])
+    replay (given [] ((codes "v") ∷ []) false ((codes "v=1") ∷ []) [] [] None 1000 (codes "END { print v }"))
+    (reply.Done ∷ reply.End ∷ reply.Done ∷ [])
     ≡ Some (
       (Status 0),
       2,
@@ -777,7 +845,8 @@ unfolding rules
 row_58 = refl
 
 row_59 :
-    replay (given [] [] false ((codes "-") ∷ []) [] [] None 1000 (codes "{ print FILENAME, FNR }")) ((reply.Bytes (codes "p\n")) ∷ reply.Done ∷ reply.End ∷ [])
+    replay (given [] [] false ((codes "-") ∷ []) [] [] None 1000 (codes "{ print FILENAME, FNR }"))
+    ((reply.Bytes (codes "p\n")) ∷ reply.Done ∷ reply.End ∷ [])
     ≡ Some (
       (Status 0),
       3,
@@ -790,7 +859,8 @@ unfolding rules
 row_59 = refl
 
 row_60 :
-    replay (given [] [] false ((codes "in/a") ∷ []) [] [] None 1000 (codes "{ r = (getline l < \"in/a\"); print r }")) ((reply.Opened 3) ∷ (reply.Bytes (codes "x\n")) ∷ reply.Failed ∷ reply.Done ∷ reply.End ∷ reply.Done ∷ [])
+    replay (given [] [] false ((codes "in/a") ∷ []) [] [] None 1000 (codes "{ r = (getline l < \"in/a\"); print r }"))
+    ((reply.Opened 3) ∷ (reply.Bytes (codes "x\n")) ∷ reply.Failed ∷ reply.Done ∷ reply.End ∷ reply.Done ∷ [])
     ≡ Some (
       (Status 0),
       4,
@@ -806,7 +876,8 @@ unfolding rules
 row_60 = refl
 
 row_61 :
-    replay (given [] [] false [] [] [] None 1000 (codes "{ FS = \":\"; print $1 }")) ((reply.Bytes (codes "a:b c\nd:e f\n")) ∷ reply.Done ∷ reply.Done ∷ reply.End ∷ [])
+    replay (given [] [] false [] [] [] None 1000 (codes "{ FS = \":\"; print $1 }"))
+    ((reply.Bytes (codes "a:b c\nd:e f\n")) ∷ reply.Done ∷ reply.Done ∷ reply.End ∷ [])
     ≡ Some (
       (Status 0),
       6,
@@ -820,7 +891,8 @@ unfolding rules
 row_61 = refl
 
 row_62 :
-    replay (given [] [] false [] [] [] None 1000 (codes "{ FS = \"(a\"; print \"x\" }")) ((reply.Bytes (codes "a\nb\n")) ∷ reply.Done ∷ [])
+    replay (given [] [] false [] [] [] None 1000 (codes "{ FS = \"(a\"; print \"x\" }"))
+    ((reply.Bytes (codes "a\nb\n")) ∷ reply.Done ∷ [])
     ≡ Some (
       (Faulted f.Pattern (at 0 0)),
       3,
@@ -832,7 +904,8 @@ unfolding rules
 row_62 = refl
 
 row_63 :
-    replay (given [] [] false ((codes "in/a") ∷ []) [] [] None 1000 (codes "{ print $1 | \"sort -r\" } END { print \"end\" }")) (reply.Failed ∷ reply.Done ∷ reply.Done ∷ [])
+    replay (given [] [] false ((codes "in/a") ∷ []) [] [] None 1000
+    (codes "{ print $1 | \"sort -r\" } END { print \"end\" }")) (reply.Failed ∷ reply.Done ∷ reply.Done ∷ [])
     ≡ Some (
       (Status 2),
       2,
@@ -845,7 +918,9 @@ unfolding rules
 row_63 = refl
 
 row_64 :
-    replay (given [] [] false ((codes "in/a") ∷ []) [] [] None 1000 (codes "{ print $1 | \"sort -r\" } END { print \"end\" }")) ((reply.Opened 3) ∷ reply.Failed ∷ reply.Done ∷ reply.Done ∷ reply.Done ∷ [])
+    replay (given [] [] false ((codes "in/a") ∷ []) [] [] None 1000
+    (codes "{ print $1 | \"sort -r\" } END { print \"end\" }"))
+    ((reply.Opened 3) ∷ reply.Failed ∷ reply.Done ∷ reply.Done ∷ reply.Done ∷ [])
     ≡ Some (
       (Status 2),
       2,
@@ -860,7 +935,9 @@ unfolding rules
 row_64 = refl
 
 row_65 :
-    replay (given [] [] false ((codes "in/a") ∷ []) [] [] None 1000 (codes "{ print $1 | \"sort -r\" } END { print \"end\" }")) ((reply.Opened 3) ∷ (reply.Bytes (codes "b\na\n")) ∷ reply.Failed ∷ reply.Done ∷ [])
+    replay (given [] [] false ((codes "in/a") ∷ []) [] [] None 1000
+    (codes "{ print $1 | \"sort -r\" } END { print \"end\" }")) ((reply.Opened 3) ∷ (reply.Bytes (codes "b\na\n")) ∷
+    reply.Failed ∷ reply.Done ∷ [])
     ≡ Some (
       (Faulted f.Output (at 1 12)),
       3,
@@ -874,7 +951,9 @@ unfolding rules
 row_65 = refl
 
 row_66 :
-    replay (given [] [] false ((codes "in/a") ∷ []) [] [] None 1000 (codes "{ print $1 | \"sort -r\" } END { print \"end\" }")) ((reply.Opened 3) ∷ (reply.Bytes (codes "b\na\n")) ∷ (reply.Opened 4) ∷ reply.Failed ∷ reply.Done ∷ (reply.Status (pos 0)) ∷ [])
+    replay (given [] [] false ((codes "in/a") ∷ []) [] [] None 1000
+    (codes "{ print $1 | \"sort -r\" } END { print \"end\" }")) ((reply.Opened 3) ∷ (reply.Bytes (codes "b\na\n")) ∷
+    (reply.Opened 4) ∷ reply.Failed ∷ reply.Done ∷ (reply.Status (pos 0)) ∷ [])
     ≡ Some (
       (Faulted f.Output (at 1 12)),
       3,
@@ -890,7 +969,9 @@ unfolding rules
 row_66 = refl
 
 row_67 :
-    replay (given [] [] false ((codes "in/a") ∷ []) [] [] None 1000 (codes "{ print $1 | \"sort -r\" } END { print \"end\" }")) ((reply.Opened 3) ∷ (reply.Bytes (codes "b\na\n")) ∷ (reply.Opened 4) ∷ reply.Done ∷ reply.Failed ∷ reply.Done ∷ (reply.Status (pos 0)) ∷ [])
+    replay (given [] [] false ((codes "in/a") ∷ []) [] [] None 1000
+    (codes "{ print $1 | \"sort -r\" } END { print \"end\" }")) ((reply.Opened 3) ∷ (reply.Bytes (codes "b\na\n")) ∷
+    (reply.Opened 4) ∷ reply.Done ∷ reply.Failed ∷ reply.Done ∷ (reply.Status (pos 0)) ∷ [])
     ≡ Some (
       (Faulted f.Output (at 1 12)),
       5,
@@ -907,7 +988,10 @@ unfolding rules
 row_67 = refl
 
 row_68 :
-    replay (given [] [] false ((codes "in/a") ∷ []) [] [] None 1000 (codes "{ print $1 | \"sort -r\" } END { print \"end\" }")) ((reply.Opened 3) ∷ (reply.Bytes (codes "b\na\n")) ∷ (reply.Opened 4) ∷ reply.Done ∷ reply.Done ∷ reply.Failed ∷ reply.Done ∷ reply.Done ∷ reply.Done ∷ (reply.Status (pos 0)) ∷ [])
+    replay (given [] [] false ((codes "in/a") ∷ []) [] [] None 1000
+    (codes "{ print $1 | \"sort -r\" } END { print \"end\" }")) ((reply.Opened 3) ∷ (reply.Bytes (codes "b\na\n")) ∷
+    (reply.Opened 4) ∷ reply.Done ∷ reply.Done ∷ reply.Failed ∷ reply.Done ∷ reply.Done ∷ reply.Done ∷
+    (reply.Status (pos 0)) ∷ [])
     ≡ Some (
       (Status 2),
       6,
@@ -927,7 +1011,10 @@ unfolding rules
 row_68 = refl
 
 row_69 :
-    replay (given [] [] false ((codes "in/a") ∷ []) [] [] None 1000 (codes "{ print $1 | \"sort -r\" } END { print \"end\" }")) ((reply.Opened 3) ∷ (reply.Bytes (codes "b\na\n")) ∷ (reply.Opened 4) ∷ reply.Done ∷ reply.Done ∷ reply.End ∷ reply.Failed ∷ reply.Done ∷ (reply.Status (pos 0)) ∷ [])
+    replay (given [] [] false ((codes "in/a") ∷ []) [] [] None 1000
+    (codes "{ print $1 | \"sort -r\" } END { print \"end\" }")) ((reply.Opened 3) ∷ (reply.Bytes (codes "b\na\n")) ∷
+    (reply.Opened 4) ∷ reply.Done ∷ reply.Done ∷ reply.End ∷ reply.Failed ∷ reply.Done ∷ (reply.Status (pos 0)) ∷
+    [])
     ≡ Some (
       (Status 0),
       6,
@@ -946,7 +1033,10 @@ unfolding rules
 row_69 = refl
 
 row_70 :
-    replay (given [] [] false ((codes "in/a") ∷ []) [] [] None 1000 (codes "{ print $1 | \"sort -r\" } END { print \"end\" }")) ((reply.Opened 3) ∷ (reply.Bytes (codes "b\na\n")) ∷ (reply.Opened 4) ∷ reply.Done ∷ reply.Done ∷ reply.End ∷ reply.Done ∷ reply.Failed ∷ (reply.Status (pos 0)) ∷ [])
+    replay (given [] [] false ((codes "in/a") ∷ []) [] [] None 1000
+    (codes "{ print $1 | \"sort -r\" } END { print \"end\" }")) ((reply.Opened 3) ∷ (reply.Bytes (codes "b\na\n")) ∷
+    (reply.Opened 4) ∷ reply.Done ∷ reply.Done ∷ reply.End ∷ reply.Done ∷ reply.Failed ∷ (reply.Status (pos 0)) ∷
+    [])
     ≡ Some (
       (Faulted f.Output (at 1 32)),
       6,
@@ -965,7 +1055,9 @@ unfolding rules
 row_70 = refl
 
 row_71 :
-    replay (given [] [] false ((codes "in/a") ∷ []) [] [] None 1000 (codes "{ print $1 | \"sort -r\" } END { print \"end\" }")) ((reply.Opened 3) ∷ (reply.Bytes (codes "b\na\n")) ∷ (reply.Opened 4) ∷ reply.Done ∷ reply.Done ∷ reply.End ∷ reply.Done ∷ reply.Done ∷ reply.Failed ∷ [])
+    replay (given [] [] false ((codes "in/a") ∷ []) [] [] None 1000
+    (codes "{ print $1 | \"sort -r\" } END { print \"end\" }")) ((reply.Opened 3) ∷ (reply.Bytes (codes "b\na\n")) ∷
+    (reply.Opened 4) ∷ reply.Done ∷ reply.Done ∷ reply.End ∷ reply.Done ∷ reply.Done ∷ reply.Failed ∷ [])
     ≡ Some (
       (Status 0),
       6,
@@ -984,7 +1076,8 @@ unfolding rules
 row_71 = refl
 
 row_72 :
-    replay (given [] [] false ((codes "in/a") ∷ []) [] [] None 1000 (codes "{ print $1 | \"sort -r\" } END { print \"end\" }")) (reply.Failed ∷ reply.Failed ∷ reply.Failed ∷ [])
+    replay (given [] [] false ((codes "in/a") ∷ []) [] [] None 1000
+    (codes "{ print $1 | \"sort -r\" } END { print \"end\" }")) (reply.Failed ∷ reply.Failed ∷ reply.Failed ∷ [])
     ≡ Some (
       (Faulted f.Output (at 1 32)),
       2,
@@ -997,7 +1090,9 @@ unfolding rules
 row_72 = refl
 
 row_73 :
-    replay (given [] [] false [] [] [] None 1000 (codes "BEGIN { getline a < \"in/a\"; close(\"in/a\"); r = (getline b < \"in/a\"); print r }")) ((reply.Opened 3) ∷ (reply.Bytes (codes "1\n")) ∷ reply.Done ∷ reply.Failed ∷ reply.Done ∷ [])
+    replay (given [] [] false [] [] [] None 1000
+    (codes "BEGIN { getline a < \"in/a\"; close(\"in/a\"); r = (getline b < \"in/a\"); print r }"))
+    ((reply.Opened 3) ∷ (reply.Bytes (codes "1\n")) ∷ reply.Done ∷ reply.Failed ∷ reply.Done ∷ [])
     ≡ Some (
       (Status 0),
       4,
@@ -1012,7 +1107,8 @@ unfolding rules
 row_73 = refl
 
 row_74 :
-    replay (given [] [] false [] [] [] None 1000 (codes "BEGIN { getline a < \"in/no\"; getline a < \"in/no\" }")) (reply.Failed ∷ reply.Failed ∷ [])
+    replay (given [] [] false [] [] [] None 1000 (codes "BEGIN { getline a < \"in/no\"; getline a < \"in/no\" }"))
+    (reply.Failed ∷ reply.Failed ∷ [])
     ≡ Some (
       (Status 0),
       2,
@@ -1024,7 +1120,8 @@ unfolding rules
 row_74 = refl
 
 row_75 :
-    replay (given [] [] false [] [] [] None 1000 (codes "BEGIN { system(\"sort -r\"); system(\"sort -r\") }")) ((reply.Status (pos 0)) ∷ reply.Failed ∷ [])
+    replay (given [] [] false [] [] [] None 1000 (codes "BEGIN { system(\"sort -r\"); system(\"sort -r\") }"))
+    ((reply.Status (pos 0)) ∷ reply.Failed ∷ [])
     ≡ Some (
       (Status 0),
       2,

@@ -33,7 +33,8 @@ abbrev items : Text → List Entry
 items source = items_of (read (length source) [] source [])
 
 abbrev listed : Text → List Site
-listed source = sites_of (found (order_of (items source)) (program_of [] source)) (names_environ (map part (items source)))
+listed source = sites_of (found (order_of (items source)) (program_of [] source))
+    (names_environ (map part (items source)))
 
 abbrev site : ℕ → ℕ → Kind → Option Text → Site
 site line column kind text = record { place = record { line = line; column = column }; kind = kind; text = text }
@@ -46,7 +47,8 @@ abbrev book : Rulebook
 book = record {
   base = codes "/w";
   rules =
-      rule Deny Read (codes "/w/in/secret*") ∷ rule (Allow None) Read (codes "/w/in/**") ∷ rule (Allow None) Write (codes "/w/out/*") ∷ rule (Allow None) Run (codes "sort *") ∷ rule (Allow None) Env (codes "LANG") ∷ [];
+      rule Deny Read (codes "/w/in/secret*") ∷ rule (Allow None) Read (codes "/w/in/**") ∷ rule (Allow None) Write
+      (codes "/w/out/*") ∷ rule (Allow None) Run (codes "sort *") ∷ rule (Allow None) Env (codes "LANG") ∷ [];
 }
 
 abbrev empty : Rulebook
@@ -54,11 +56,13 @@ empty = record { base = codes "/w"; rules = [] }
 
 -- ---- listings
 
-command : listed (codes "BEGIN { \"sort -r\" | getline; close(\"sort -r\") }") ≡ site 1 21 Run (Some (codes "sort -r")) ∷ []
+command : listed (codes "BEGIN { \"sort -r\" | getline; close(\"sort -r\") }") ≡ site 1 21 Run (Some (codes "sort -r"))
+    ∷ []
 unfolding rules
 command = refl
 
-output : listed (codes "{ print $1 | \"sort -r\" }") ≡ site 0 0 Read None ∷ site 0 0 Assign None ∷ site 1 12 Run (Some (codes "sort -r")) ∷ []
+output : listed (codes "{ print $1 | \"sort -r\" }") ≡ site 0 0 Read None ∷ site 0 0 Assign None ∷ site 1 12 Run
+    (Some (codes "sort -r")) ∷ []
 unfolding rules
 output = refl
 
@@ -74,7 +78,8 @@ concatenation : listed (codes "BEGIN { print > \"a\" \"b\" }") ≡ site 1 15 Wri
 unfolding rules
 concatenation = refl
 
-chain : listed (codes "BEGIN { \"a\" | getline x | getline }") ≡ site 1 15 Run (Some (codes "a")) ∷ site 1 27 Run None ∷ []
+chain : listed (codes "BEGIN { \"a\" | getline x | getline }") ≡ site 1 15 Run (Some (codes "a")) ∷ site 1 27 Run None ∷
+    []
 unfolding rules
 chain = refl
 
@@ -102,12 +107,14 @@ uncalled : listed (codes "function f() { return ENVIRON[\"A\"] } BEGIN { x = 1 }
 unfolding rules
 uncalled = refl
 
-environment : listed (codes "{ print ENVIRON[$1] > \"x\" }") ≡ site 0 0 Read None ∷ site 0 0 Env None ∷ site 0 0 Assign None ∷ site 1 21 Write (Some (codes "x")) ∷ []
+environment : listed (codes "{ print ENVIRON[$1] > \"x\" }") ≡ site 0 0 Read None ∷ site 0 0 Env None ∷ site 0 0 Assign
+    None ∷ site 1 21 Write (Some (codes "x")) ∷ []
 unfolding rules
 environment = refl
 
 mixed : listed (codes "function f() { system(\"a\") } BEGIN { system(\"b\") } { system(\"c\") }")
-    ≡ site 0 0 Read None ∷ site 0 0 Assign None ∷ site 1 16 Run (Some (codes "a")) ∷ site 1 38 Run (Some (codes "b")) ∷ site 1 54 Run (Some (codes "c")) ∷ []
+    ≡ site 0 0 Read None ∷ site 0 0 Assign None ∷ site 1 16 Run (Some (codes "a")) ∷ site 1 38 Run (Some (codes "b")) ∷
+    site 1 54 Run (Some (codes "c")) ∷ []
 unfolding rules
 mixed = refl
 
@@ -137,6 +144,7 @@ unknown : verdict book (listed (codes "BEGIN { f = \"/x\"; print \"a\" > f }")) 
 unfolding rules is_utf8 chars encode
 unknown = refl
 
-denied : verdict book (listed (codes "BEGIN { getline x < \"in/secret1\"; getline y < \"in/a\"; getline z < f }")) ≡ Refused (site 1 9 Read (Some (codes "in/secret1")) ∷ [])
+denied : verdict book (listed (codes "BEGIN { getline x < \"in/secret1\"; getline y < \"in/a\"; getline z < f }"))
+    ≡ Refused (site 1 9 Read (Some (codes "in/secret1")) ∷ [])
 unfolding rules is_utf8 chars encode
 denied = refl

@@ -1,6 +1,7 @@
 -- For the rows of the definition: what is replayed is a run of plain awk, where its questions on EREs are answered
 -- rightly, and where it asks none, without more.
-use Rattle.std.proofs.Common.{◌≡◌, ◌<◌, ◌≤◌, ℕ, zero, suc, ℤ, pos, negsuc, Bool, true, false, not, ◌&&◌, nat_lt, nat_le, List, [], ◌∷◌, map, length, Option, refl, sym, ap, subst, ◌∙◌, arith, true≢false}
+use Rattle.std.proofs.Common.{◌≡◌, ◌<◌, ◌≤◌, ℕ, zero, suc, ℤ, pos, negsuc, Bool, true, false, not, ◌&&◌, nat_lt, nat_le}
+use Rattle.std.proofs.Common.{List, [], ◌∷◌, map, length, Option, refl, sym, ap, subst, ◌∙◌, arith, true≢false}
 use Rattle.std.specs.Prelude.{Some, None}
 use Rattle.std.specs.Int.Signed.{le_z_yes}
 use Rattle.std.proofs.lemmas.Bool.Decides.{nat_tests}
@@ -18,14 +19,16 @@ use Rattle.awk_machine.specs.Questions as q
 use Rattle.awk_machine.specs.Questions.{Question, Values, Right}
 use Rattle.awk_machine.specs.State.{State, Course, Given}
 use Rattle.awk_machine.specs.Streams.{seen, with_step, with_event}
-use Rattle.box_world.specs.Calls.{Call, IsFitting, IsOpening, IsReading, IsDoing, IsStatus, IsShutting, IsRunning, IsValuing, is_among, open_after}
+use Rattle.box_world.specs.Calls.{Call, IsFitting, IsOpening, IsReading, IsDoing, IsStatus, IsShutting, IsRunning}
+use Rattle.box_world.specs.Calls.{IsValuing, is_among, open_after}
 use Rattle.box_world.specs.Events.{Want, Event, calls, open_streams, request_of}
 use Rattle.box_world.specs.declared.ask.Mode.{Mode}
 use Rattle.box_world.specs.declared.ask.Reply.{Reply}
 use Rattle.box_world.specs.declared.ask.Reply.TheVariants as reply
 use Rattle.box_world.specs.declared.ask.Request.{Request}
 use Rattle.box_world.specs.declared.ask.Request.TheVariants.{Open, Next, Put, Shut, System, Env, Assign}
-use Rattle.row_calls.proofs.Playing.{answer_to, fields_of, parts_of, fitting, fits, answered, met, replay, replayed, of_ere, of_row, is_of_ere, with_question, asked_of, questions, questions_of}
+use Rattle.row_calls.proofs.Playing.{answer_to, fields_of, parts_of, fitting, fits, answered, met, replay, replayed}
+use Rattle.row_calls.proofs.Playing.{of_ere, of_row, is_of_ere, with_question, asked_of, questions, questions_of}
 
 -- ---- replies that fit
 
@@ -80,7 +83,10 @@ doing_fits ns n bytes (reply.Value b) e = no e
 doing_fits ns n bytes reply.Failed e = tt
 
 status_fits : (ns : List ℕ) (text : List ℕ) (z : ℤ) → fitting ns (System text) (reply.Status z) ≡ true → IsStatus z
-status_fits ns text (pos n) e = (le_z_yes (T_from_true (nat_le 0 n) (from_zero n)), le_z_yes (T_from_true (nat_le n 256) e))
+status_fits ns text (pos n) e = (
+  le_z_yes (T_from_true (nat_le 0 n) (from_zero n)),
+  le_z_yes (T_from_true (nat_le n 256) e),
+)
 status_fits ns text (negsuc n) e = no e
 
 shutting_fits : (ns : List ℕ) (n : ℕ) (r : Reply) → fitting ns (Shut n) r ≡ true → IsShutting r
@@ -152,13 +158,14 @@ right_or question rest false e h = (right_by question e, h)
 
 -- ---- what is replayed is reached
 
-record Ends (g : Given) (k : List Piece) (s : State) (c : Course) (o : Outcome) (used : ℕ) (cs : List Call) : Type 0 where
-  events : List Event
-  todo : List Piece
-  end : State
-  chain : Reaches g k s c todo end (record { events = events; used = used })
-  over : advance g todo (seen end (record { events = events; used = used })) ≡ Over o
-  same : calls events ≡ cs
+record Ends (g : Given) (k : List Piece) (s : State) (c : Course) (o : Outcome) (used : ℕ) (cs : List Call) : Type 0
+  where
+    events : List Event
+    todo : List Piece
+    end : State
+    chain : Reaches g k s c todo end (record { events = events; used = used })
+    over : advance g todo (seen end (record { events = events; used = used })) ≡ Over o
+    same : calls events ≡ cs
 
 some_same : {A : Type 0} (x y : A) → Some x ≡ Some y → x ≡ y
 some_same x y e = cc
@@ -183,13 +190,15 @@ module _ (g : Given) (o : Outcome) (used : ℕ) (cs : List Call) where
         todo = k;
         end = s;
         chain = subst (λ n. Reaches g k s c k s (record { events = c.events; used = n })) steps here;
-        over = subst (λ n. advance g k (seen s (record { events = c.events; used = n })) ≡ Over o) steps (e ∙ ap (λ z. Over z.0) h);
+        over = subst (λ n. advance g k (seen s (record { events = c.events; used = n })) ≡ Over o) steps
+            (e ∙ ap (λ z. Over z.0) h);
         same = ap (λ z. z.2) h;
       }
 
   asking : (n : ℕ) → Each n → (k : List Piece) (s : State) (c : Course) (w : Want) (then_ : Reply →
       List Piece) (t : State) → advance g k (seen s c) ≡ Asks w then_ t →
-      (r : Reply) (rs : List Reply) (b : Bool) → fits c.events w r ≡ b → answered b (replay n g) (then_ r) (seen t (with_event w r c)) (with_event w r c) rs ≡ Some (o, used, cs) →
+      (r : Reply) (rs : List Reply) (b : Bool) → fits c.events w r ≡ b
+      → answered b (replay n g) (then_ r) (seen t (with_event w r c)) (with_event w r c) rs ≡ Some (o, used, cs) →
       AllRight (questions n g (then_ r) (seen t (with_event w r c)) (with_event w r c) rs) → Ends g k s c o used cs
   asking n ih k s c w then_ t e r rs true f is right =
       let x = ih (then_ r) (seen t (with_event w r c)) (with_event w r c) rs is right in
@@ -197,7 +206,8 @@ module _ (g : Given) (o : Outcome) (used : ℕ) (cs : List Call) where
         events = x.events;
         todo = x.todo;
         end = x.end;
-        chain = asks r e (fits_so (open_after (calls c.events) []) (request_of w.wish (open_streams c.events)) r f) x.chain;
+        chain = asks r e (fits_so (open_after (calls c.events) []) (request_of w.wish (open_streams c.events)) r f)
+            x.chain;
         over = x.over;
         same = x.same;
       }
@@ -213,11 +223,21 @@ module _ (g : Given) (o : Outcome) (used : ℕ) (cs : List Call) where
       let x = ih l (seen t (with_step c)) (with_step c) rs is right in
       record { events = x.events; todo = x.todo; end = x.end; chain = steps e x.chain; over = x.over; same = x.same }
   moved n ih k s c (Asks w then_ t) e [] is right = none (o, used, cs) is
-  moved n ih k s c (Asks w then_ t) e (r ∷ rs) is right = asking n ih k s c w then_ t e r rs (fits c.events w r) refl is right
+  moved n ih k s c (Asks w then_ t) e (r ∷ rs) is right = asking n ih k s c w then_ t e r rs (fits c.events w r) refl is
+      right
   moved n ih k s c (Seeks question then_ t) e rs is right =
-      let h = right_or question (questions n g (then_ (answer_to question)) (seen t c) c rs) (is_of_ere question) refl right in
+      let h = right_or question (questions n g (then_ (answer_to question)) (seen t c) c rs) (is_of_ere question) refl
+      right in
       let x = ih (then_ (answer_to question)) (seen t c) c rs is h.1 in
-      record { events = x.events; todo = x.todo; end = x.end; chain = seeks (answer_to question) e h.0 x.chain; over = x.over; same = x.same }
+      record {
+        events = x.events;
+        todo = x.todo;
+        end = x.end;
+        chain = seeks (answer_to question) e h.0 x.chain;
+        over =
+            x.over;
+        same = x.same;
+      }
   moved n ih k s c (Over p) e rs is right = ended k s c p e is
 
   each : (n : ℕ) → Each n

@@ -64,19 +64,25 @@ abbrev pub decreases-split : goal.decreases-split
 decreases-split l = 5 + (weight (view l.x.now) + weight_perhaps (perhaps_of (option_map view l.y.now)))
 
 abbrev pub decreases-substitute : goal.decreases-substitute
-decreases-substitute l = 5 + (weight (view l.x.now) + weight (view l.y.now) + weight_perhaps (perhaps_of (option_map view l.z.now)))
+decreases-substitute l = 5 + (weight (view l.x.now) + weight (view l.y.now) + weight_perhaps
+    (perhaps_of (option_map view l.z.now)))
 
 abbrev pub decreases-getline : goal.decreases-getline
-decreases-getline l = 5 + (weight_perhaps (perhaps_of (option_map view l.x.now)) + weight_perhaps (perhaps_of (option_map view l.y.now)))
+decreases-getline l = 5 + (weight_perhaps (perhaps_of (option_map view l.x.now)) + weight_perhaps
+    (perhaps_of (option_map view l.y.now)))
 
 abbrev pub invariant-behind-loop-x : goal.invariant-behind-loop-x
-invariant-behind-loop-x l = l.initial.out.items ++ canon_behind l.text (trees_of (map view l.xs)) ≡ l.out.items ++ canon_behind l.text (trees_of (map view (drop l.x-index l.xs)))
+invariant-behind-loop-x l = l.initial.out.items ++ canon_behind l.text (trees_of (map view l.xs)) ≡ l.out.items
+    ++ canon_behind l.text (trees_of (map view (drop l.x-index l.xs)))
 
 abbrev pub invariant-parts-loop-x : goal.invariant-parts-loop-x
-invariant-parts-loop-x l = l.initial.out.items ++ spec.canon_parts (trees_of (map view l.xs)) ≡ l.out.items ++ spec.canon_parts (trees_of (map view (drop l.x-index l.xs)))
+invariant-parts-loop-x l = l.initial.out.items ++ spec.canon_parts (trees_of (map view l.xs)) ≡ l.out.items
+    ++ spec.canon_parts (trees_of (map view (drop l.x-index l.xs)))
 
 abbrev pub invariant-terms-loop-x : goal.invariant-terms-loop-x
-invariant-terms-loop-x l = l.initial.out.items ++ spec.canon_terms (terms_of (map view_term l.ts)) ≡ l.out.items ++ spec.canon_terms (terms_of (map view_term (drop l.x-index l.ts)))
+invariant-terms-loop-x l = l.initial.out.items ++ spec.canon_terms (terms_of (map view_term l.ts)) ≡ l.out.items
+    ++ spec.canon_terms (terms_of (map view_term (drop l.x-index l.ts)))
 
 abbrev pub invariant-pipes-loop-x : goal.invariant-pipes-loop-x
-invariant-pipes-loop-x l = l.initial.out.items ++ spec.canon_pipes (pipes_of (map view_piped l.ps)) ≡ l.out.items ++ spec.canon_pipes (pipes_of (map view_piped (drop l.x-index l.ps)))
+invariant-pipes-loop-x l = l.initial.out.items ++ spec.canon_pipes (pipes_of (map view_piped l.ps)) ≡ l.out.items
+    ++ spec.canon_pipes (pipes_of (map view_piped (drop l.x-index l.ps)))

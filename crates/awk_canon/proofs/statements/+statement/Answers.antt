@@ -44,7 +44,13 @@ statement-returns-in-Return t c =
 
 pub statement-action-requires : goal.statement-action-requires
 statement-action-requires t c =
-    let smaller : 3 + statement_weights (statements_of (map view_statement c.as_slice-in-Block.result.now)) < statement_weight (view_statement c.args.s.now) = rw (c.as_slice-in-Block.ensures, c.in-Block.is, statement-Block) (omega arith) in search rules
+    let smaller : 3 + statement_weights (statements_of (map view_statement c.as_slice-in-Block.result.now)) <
+    statement_weight (view_statement c.args.s.now) = rw (
+      c.as_slice-in-Block.ensures,
+      c.in-Block.is,
+      statement-Block,
+    ) (omega arith) in
+    search rules
 
 pub statement-returns-in-Block : goal.statement-returns-in-Block
 statement-returns-in-Block t c =
@@ -52,47 +58,67 @@ statement-returns-in-Block t c =
 
 pub statement-statement-requires : goal.statement-statement-requires
 statement-statement-requires t c =
-    let smaller : statement_weight (view_statement c.get.result.now) < statement_weight (view_statement c.args.s.now) = rw (c.get.ensures, c.in-If.is, statement-If) (omega arith) in search rules
+    let smaller : statement_weight (view_statement c.get.result.now) < statement_weight (view_statement c.args.s.now) =
+    rw (c.get.ensures, c.in-If.is, statement-If) (omega arith) in
+    search rules
 
 pub statement-returns-in_ok-test-in-If : goal.statement-returns-in_ok-test-in-If
 statement-returns-in_ok-test-in-If t c =
-    let h = rw (c.get.ensures, c.in_ok-test-in-If.ensures, append_assoc) at c.statement.ensures in rw (c.in-If.is, statement-If) h
+    let h = rw (c.get.ensures, c.in_ok-test-in-If.ensures, append_assoc) at c.statement.ensures in
+    rw (c.in-If.is, statement-If) h
 
 pub statement-statement-requires-in-While : goal.statement-statement-requires-in-While
 statement-statement-requires-in-While t c =
-    let smaller : statement_weight (view_statement c.get-in-While.result.now) < statement_weight (view_statement c.args.s.now) = rw (c.get-in-While.ensures, c.in-While.is, statement-While) (omega arith) in search rules
+    let smaller : statement_weight (view_statement c.get-in-While.result.now) < statement_weight
+    (view_statement c.args.s.now) = rw (c.get-in-While.ensures, c.in-While.is, statement-While) (omega arith) in
+    search rules
 
 pub statement-returns-in_ok-test-in-While : goal.statement-returns-in_ok-test-in-While
 statement-returns-in_ok-test-in-While t c =
-    let h = rw (c.get-in-While.ensures, c.in_ok-test-in-While.ensures, append_assoc) at c.statement-in-While.ensures in rw (c.in-While.is, statement-While) h
+    let h = rw (c.get-in-While.ensures, c.in_ok-test-in-While.ensures, append_assoc) at c.statement-in-While.ensures in
+    rw (c.in-While.is, statement-While) h
 
 pub statement-statement-requires-in-ForIn : goal.statement-statement-requires-in-ForIn
 statement-statement-requires-in-ForIn t c =
-    let smaller : statement_weight (view_statement c.get-in-ForIn.result.now) < statement_weight (view_statement c.args.s.now) = rw (c.get-in-ForIn.ensures, c.in-ForIn.is, statement-ForIn) (omega arith) in search rules
+    let smaller : statement_weight (view_statement c.get-in-ForIn.result.now) < statement_weight
+    (view_statement c.args.s.now) = rw (c.get-in-ForIn.ensures, c.in-ForIn.is, statement-ForIn) (omega arith) in
+    search rules
 
 pub statement-returns-in_ok-each_header-in-ForIn : goal.statement-returns-in_ok-each_header-in-ForIn
 statement-returns-in_ok-each_header-in-ForIn t c =
-    let h = rw (c.get-in-ForIn.ensures, c.in_ok-each_header-in-ForIn.ensures, append_assoc) at c.statement-in-ForIn.ensures in rw (c.in-ForIn.is, statement-ForIn) h
+    let h = rw (c.get-in-ForIn.ensures, c.in_ok-each_header-in-ForIn.ensures, append_assoc) at
+    c.statement-in-ForIn.ensures in
+    rw (c.in-ForIn.is, statement-ForIn) h
 
 pub statements-statement-requires : goal.statements-statement-requires
 statements-statement-requires t c =
-    let smaller : statement_weight (view_statement c.s-item.result) < 1 + statement_weights (statements_of (map view_statement c.args.xs.now)) = rw c.s-item.is (statement_item_weight c.args.xs.now c.loop-s.s-index c.s-item.result (omega arith)) in search rules
+    let smaller : statement_weight (view_statement c.s-item.result) < 1 + statement_weights
+    (statements_of (map view_statement c.args.xs.now)) =
+    rw c.s-item.is (statement_item_weight c.args.xs.now c.loop-s.s-index c.s-item.result (omega arith)) in
+    search rules
 
 pub statements-loop-s-preserved : goal.statements-loop-s-preserved
 statements-loop-s-preserved t c =
-    let here = drop_here c.args.xs.now c.loop-s.s-index c.s-item.result (omega arith) c.s-item.is in rw (c.in_ok-statement.ensures, append_assoc, c.loop-s.invariant, here) refl
+    let here = drop_here c.args.xs.now c.loop-s.s-index c.s-item.result (omega arith) c.s-item.is in
+    rw (c.in_ok-statement.ensures, append_assoc, c.loop-s.invariant, here) refl
 
 pub statement-if_else-requires : goal.statement-if_else-requires
 statement-if_else-requires t c =
-    let smaller : 4 + (statement_weight (view_statement c.get-in-IfElse.result.now) + statement_weight (view_statement c.get-in-IfElse-2.result.now)) < statement_weight (view_statement c.args.s.now) = rw (c.get-in-IfElse.ensures, c.get-in-IfElse-2.ensures, c.in-IfElse.is, statement-IfElse) (omega arith) in search rules
+    let smaller : 4 + (statement_weight (view_statement c.get-in-IfElse.result.now) + statement_weight
+    (view_statement c.get-in-IfElse-2.result.now)) < statement_weight (view_statement c.args.s.now) =
+    rw (c.get-in-IfElse.ensures, c.get-in-IfElse-2.ensures, c.in-IfElse.is, statement-IfElse) (omega arith) in
+    search rules
 
 pub statement-returns-in-IfElse : goal.statement-returns-in-IfElse
 statement-returns-in-IfElse t c =
-    let h = rw (c.get-in-IfElse.ensures, c.get-in-IfElse-2.ensures) at c.if_else.ensures in rw (c.in-IfElse.is, statement-IfElse) h
+    let h = rw (c.get-in-IfElse.ensures, c.get-in-IfElse-2.ensures) at c.if_else.ensures in
+    rw (c.in-IfElse.is, statement-IfElse) h
 
 pub statement-do_while-requires : goal.statement-do_while-requires
 statement-do_while-requires t c =
-    let smaller : 4 + statement_weight (view_statement c.get-in-Do.result.now) < statement_weight (view_statement c.args.s.now) = rw (c.get-in-Do.ensures, c.in-Do.is, statement-Do) (omega arith) in search rules
+    let smaller : 4 + statement_weight (view_statement c.get-in-Do.result.now) < statement_weight
+    (view_statement c.args.s.now) = rw (c.get-in-Do.ensures, c.in-Do.is, statement-Do) (omega arith) in
+    search rules
 
 pub statement-returns-in-Do : goal.statement-returns-in-Do
 statement-returns-in-Do t c =
@@ -100,7 +126,9 @@ statement-returns-in-Do t c =
 
 pub statement-for_loop-requires : goal.statement-for_loop-requires
 statement-for_loop-requires t c =
-    let smaller : 4 + statement_weight (view_statement c.get-in-For.result.now) < statement_weight (view_statement c.args.s.now) = rw (c.get-in-For.ensures, c.in-For.is, statement-For) (omega arith) in search rules
+    let smaller : 4 + statement_weight (view_statement c.get-in-For.result.now) < statement_weight
+    (view_statement c.args.s.now) = rw (c.get-in-For.ensures, c.in-For.is, statement-For) (omega arith) in
+    search rules
 
 pub statement-returns-in-For : goal.statement-returns-in-For
 statement-returns-in-For t c =

@@ -10,8 +10,26 @@ use Rattle.awk_eval.proofs.loops.behind.Goals as goal
 
 pub returns-in_default : goal.returns-in_default
 returns-in_default g c =
-    record { plays = λ m is. done (quietly (at_once _ _ _) (λ k hid d a. turn_none m (loop_of (names_in m) (option_copied c.args.test) c.args.inner.now (option_copied c.args.after)) k _ (ap (λ o. option_map (view (names_in m)) (option_copied o)) c.in_default.is))); owns = c.requires.owns }
+    record {
+      plays = λ m is. done
+          (quietly (at_once _ _ _)
+          (λ k hid d a. turn_none m (loop_of (names_in m) (option_copied c.args.test) c.args.inner.now
+          (option_copied c.args.after)) k _ (ap (λ o. option_map (view (names_in m)) (option_copied o))
+          c.in_default.is)));
+      owns = c.requires.owns;
+    }
 
 pub returns : goal.returns
 returns g c =
-    record { plays = λ m is. rests (hands_on (λ k. refl) (quietly (at_once _ _ _) (λ k hid d a. turn_first m (loop_of (names_in m) (option_copied c.args.test) c.args.inner.now (option_copied c.args.after)) (view (names_in m) c.in-Some.after.now) k _ (ap (λ o. option_map (view (names_in m)) (option_copied o)) c.in-Some.is))) (c.effect.ensures.does.plays m is)) (λ x k hid d a. turn_then m (loop_of (names_in m) (option_copied c.args.test) c.args.inner.now (option_copied c.args.after)) (view (names_in m) c.in-Some.after.now) c.effect.ensures.val k _ (ap (λ o. option_map (view (names_in m)) (option_copied o)) c.in-Some.is)); owns = c.effect.ensures.does.owns }
+    record {
+      plays = λ m is. rests
+          (hands_on (λ k. refl)
+          (quietly (at_once _ _ _)
+          (λ k hid d a. turn_first m (loop_of (names_in m) (option_copied c.args.test) c.args.inner.now
+          (option_copied c.args.after)) (view (names_in m) c.in-Some.after.now) k _
+          (ap (λ o. option_map (view (names_in m)) (option_copied o)) c.in-Some.is))) (c.effect.ensures.does.plays m is))
+          (λ x k hid d a. turn_then m (loop_of (names_in m) (option_copied c.args.test) c.args.inner.now
+          (option_copied c.args.after)) (view (names_in m) c.in-Some.after.now) c.effect.ensures.val k _
+          (ap (λ o. option_map (view (names_in m)) (option_copied o)) c.in-Some.is));
+      owns = c.effect.ensures.does.owns;
+    }

@@ -10,8 +10,27 @@ use Rattle.awk_eval.proofs.loops.holds.Goals as goal
 
 pub returns-in-None : goal.returns-in-None
 returns-in-None g c =
-    record { plays = λ m is. done (quietly (at_once _ _ _) (λ k hid d a. test_none m (loop_of (names_in m) (option_copied c.args.test) c.args.inner.now (option_copied c.args.after)) k _ (ap (λ o. option_map (view (names_in m)) (option_copied o)) c.in-None.is))); owns = c.requires.owns }
+    record {
+      plays = λ m is. done
+          (quietly (at_once _ _ _)
+          (λ k hid d a. test_none m (loop_of (names_in m) (option_copied c.args.test) c.args.inner.now
+          (option_copied c.args.after)) k _ (ap (λ o. option_map (view (names_in m)) (option_copied o)) c.in-None.is)));
+      owns = c.requires.owns;
+    }
 
 pub returns-in-Some : goal.returns-in-Some
 returns-in-Some g c =
-    record { plays = λ m is. rests_told c.truth_of.ensures.val c.truth_of.ensures.is (hands_on (λ k. refl) (quietly (at_once _ _ _) (λ k hid d a. test_first m (loop_of (names_in m) (option_copied c.args.test) c.args.inner.now (option_copied c.args.after)) (view (names_in m) c.in-Some.test.now) k _ (ap (λ o. option_map (view (names_in m)) (option_copied o)) c.in-Some.is))) (c.truth_of.ensures.does.plays m is)) (λ b so k hid d a. rw so (test_then m (loop_of (names_in m) (option_copied c.args.test) c.args.inner.now (option_copied c.args.after)) (view (names_in m) c.in-Some.test.now) c.truth_of.ensures.val k _ (ap (λ o. option_map (view (names_in m)) (option_copied o)) c.in-Some.is))); owns = c.truth_of.ensures.does.owns }
+    record {
+      plays = λ m is. rests_told c.truth_of.ensures.val c.truth_of.ensures.is
+          (hands_on (λ k. refl)
+          (quietly (at_once _ _ _)
+          (λ k hid d a. test_first m (loop_of (names_in m) (option_copied c.args.test) c.args.inner.now
+          (option_copied c.args.after)) (view (names_in m) c.in-Some.test.now) k _
+          (ap (λ o. option_map (view (names_in m)) (option_copied o)) c.in-Some.is)))
+          (c.truth_of.ensures.does.plays m is))
+          (λ b so k hid d a. rw so (test_then m (loop_of (names_in m) (option_copied c.args.test) c.args.inner.now
+          (option_copied c.args.after)) (view (names_in m) c.in-Some.test.now) c.truth_of.ensures.val k _
+          (ap (λ o. option_map (view (names_in m)) (option_copied o)) c.in-Some.is)));
+      owns =
+          c.truth_of.ensures.does.owns;
+    }

@@ -15,4 +15,13 @@ returns-in_default g c =
 
 pub returns : goal.returns
 returns g c =
-    record { plays = λ m is. passes (quietly {then_ = λ k. Do (Keys c.args.place (variable_of (names_in m) c.args.variable) (view_statement (names_in m) c.args.inner.now) c.in-Ok.keys.items) ∷ k} (at_once _ _ _) (λ k hid d a. keys_first m c.args.place (variable_of (names_in m) c.args.variable) (variable_of (names_in m) c.args.array) (view_statement (names_in m) c.args.inner.now) _ c.in-Ok.keys.items k _ (array-so m _ hid d a c.args.array) c.in-Ok.ensures.ok)) (rw (c.in-Ok.ensures.same, c.as_slice.ensures.value) at (c.over.ensures.plays m is)); owns = c.over.ensures.owns }
+    record {
+      plays = λ m is. passes
+          (quietly {then_ = λ k. Do (Keys c.args.place (variable_of (names_in m) c.args.variable)
+          (view_statement (names_in m) c.args.inner.now) c.in-Ok.keys.items) ∷ k} (at_once _ _ _)
+          (λ k hid d a. keys_first m c.args.place (variable_of (names_in m) c.args.variable)
+          (variable_of (names_in m) c.args.array) (view_statement (names_in m) c.args.inner.now) _ c.in-Ok.keys.items k _
+          (array-so m _ hid d a c.args.array) c.in-Ok.ensures.ok)) (rw (c.in-Ok.ensures.same, c.as_slice.ensures.value) at
+          (c.over.ensures.plays m is));
+      owns = c.over.ensures.owns;
+    }

@@ -7,4 +7,7 @@ use Rattle.awk_eval.specs.Loops.{loop_of}
 use Rattle.awk_eval.proofs.loops.turns.Given as goal
 
 abbrev pub invariant-loop-turn : goal.invariant-loop-turn
-invariant-loop-turn g l = Along g.W.World l.cx (λ m. At (Test (loop_of (names_in m) (option_copied l.test) l.inner (option_copied l.after))) []) (λ m k. At (Test (loop_of (names_in m) (option_copied l.test) l.inner (option_copied l.after))) [] ∷ k) (l.fn.run.store, l.fn.run.streams) l.fn.world (l.run.store, l.run.streams) l.world
+invariant-loop-turn g l =
+    Along g.W.World l.cx (λ m. At (Test (loop_of (names_in m) (option_copied l.test) l.inner (option_copied l.after)))
+    []) (λ m k. At (Test (loop_of (names_in m) (option_copied l.test) l.inner (option_copied l.after))) [] ∷ k)
+    (l.fn.run.store, l.fn.run.streams) l.fn.world (l.run.store, l.run.streams) l.world

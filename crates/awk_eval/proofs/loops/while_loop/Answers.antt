@@ -5,4 +5,8 @@ use Rattle.awk_eval.proofs.loops.while_loop.Goals as goal
 
 pub returns : goal.returns
 returns g c =
-    record { plays = λ m is. passes (quietly (at_once _ _ _) (λ k hid d a. refl)) (c.turns.ensures.plays m is); owns = c.turns.ensures.owns }
+    record {
+      plays = λ m is. passes (quietly (at_once _ _ _) (λ k hid d a. refl)) (c.turns.ensures.plays m is);
+      owns =
+          c.turns.ensures.owns;
+    }

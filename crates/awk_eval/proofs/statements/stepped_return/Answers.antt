@@ -17,8 +17,23 @@ returns-in_default-below g c =
 
 pub returns-in_err-step : goal.returns-in_err-step
 returns-in_err-step g c =
-    let e = err_from_is_err_and c.from_residual.result c.from_residual.ensures.1 in rw (e.1, e.2) (record { plays = λ m is. rw (c.in-Return.is, statement-Return) (stop _ (λ k. refl) (quietly {then_ = λ k. Do Step ∷ At (Doing (p.return (option_map (view (names_in m)) c.in-Return.answer))) [] ∷ k} (at_once _ _ _) (λ k hid d a. refl)) (takes (is.host.bound ∙ sym c.bound.ensures) (c.step.ensures c.args.run.now.streams)) c.in_err-step.was); owns = c.requires.owns })
+    let e = err_from_is_err_and c.from_residual.result c.from_residual.ensures.1 in
+    rw (e.1, e.2) (record {
+      plays = λ m is. rw (c.in-Return.is, statement-Return)
+          (stop _ (λ k. refl) (quietly {then_ =
+          λ k. Do Step ∷ At (Doing (p.return (option_map (view (names_in m)) c.in-Return.answer))) [] ∷ k} (at_once _ _ _)
+          (λ k hid d a. refl)) (takes (is.host.bound ∙ sym c.bound.ensures) (c.step.ensures c.args.run.now.streams))
+          c.in_err-step.was);
+      owns = c.requires.owns;
+    })
 
 pub returns : goal.returns
 returns g c =
-    record { plays = λ m is. rw (c.in-Return.is, statement-Return) (passes (part _ (quietly {then_ = λ k. Do Step ∷ At (Doing (p.return (option_map (view (names_in m)) c.in-Return.answer))) [] ∷ k} (at_once _ _ _) (λ k hid d a. refl)) (takes (is.host.bound ∙ sym c.bound.ensures) (c.step.ensures c.args.run.now.streams)) c.in_ok-step.was) (c.give_back.ensures.plays m is)); owns = c.give_back.ensures.owns }
+    record {
+      plays = λ m is. rw (c.in-Return.is, statement-Return)
+          (passes (part _ (quietly {then_ =
+          λ k. Do Step ∷ At (Doing (p.return (option_map (view (names_in m)) c.in-Return.answer))) [] ∷ k} (at_once _ _ _)
+          (λ k hid d a. refl)) (takes (is.host.bound ∙ sym c.bound.ensures) (c.step.ensures c.args.run.now.streams))
+          c.in_ok-step.was) (c.give_back.ensures.plays m is));
+      owns = c.give_back.ensures.owns;
+    }

@@ -9,4 +9,7 @@ use Rattle.awk_forms.specs.Along.{Along}
 use Rattle.awk_forms.proofs.expressions.all.Given as goal
 
 abbrev pub invariant-loop-y : goal.invariant-loop-y
-invariant-loop-y g l = Along g.W.World l.cx (λ m. value (p.and (view (names_in m) l.x) (expressions_of (map (view (names_in m)) l.xs)))) (λ m k. At (Ands_of (expressions_of (map (view (names_in m)) (drop l.y-index l.xs)))) (l.last ∷ []) ∷ k) (l.fn.run.store, l.fn.run.streams) l.fn.world (l.run.store, l.run.streams) l.world
+invariant-loop-y g l =
+    Along g.W.World l.cx (λ m. value (p.and (view (names_in m) l.x) (expressions_of (map (view (names_in m)) l.xs))))
+    (λ m k. At (Ands_of (expressions_of (map (view (names_in m)) (drop l.y-index l.xs)))) (l.last ∷ []) ∷ k)
+    (l.fn.run.store, l.fn.run.streams) l.fn.world (l.run.store, l.run.streams) l.world

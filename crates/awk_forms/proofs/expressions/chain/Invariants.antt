@@ -9,4 +9,7 @@ use Rattle.awk_forms.specs.Along.{Along}
 use Rattle.awk_forms.proofs.expressions.chain.Given as goal
 
 abbrev pub invariant-loop-next : goal.invariant-loop-next
-invariant-loop-next g l = Along g.W.World l.cx (λ m. value (p.chain (view (names_in m) l.x) (terms_of (map (view_term (names_in m)) l.xs)))) (λ m k. At (Terms_of (terms_of (map (view_term (names_in m)) (drop l.next-index l.xs)))) (l.so_far ∷ []) ∷ k) (l.fn.run.store, l.fn.run.streams) l.fn.world (l.run.store, l.run.streams) l.world
+invariant-loop-next g l =
+    Along g.W.World l.cx (λ m. value (p.chain (view (names_in m) l.x) (terms_of (map (view_term (names_in m)) l.xs))))
+    (λ m k. At (Terms_of (terms_of (map (view_term (names_in m)) (drop l.next-index l.xs)))) (l.so_far ∷ []) ∷ k)
+    (l.fn.run.store, l.fn.run.streams) l.fn.world (l.run.store, l.run.streams) l.world

@@ -8,5 +8,10 @@ use Rattle.awk_forms.specs.Along.{Along}
 use Rattle.awk_forms.proofs.growing.operands.Given as goal
 
 abbrev pub invariant-loop-next : goal.invariant-loop-next
-invariant-loop-next g l = Along g.W.World l.cx (λ m. At (Texts_of (joins_of (map (view_joined (names_in m)) l.xs))) (v.Text l.text ∷ []))
-    (λ m k. At (Texts_of (joins_of (map (view_joined (names_in m)) (drop l.next-index l.xs)))) (v.Text (l.text ++ l.more.items) ∷ []) ∷ k) (l.fn.run.store, l.fn.run.streams) l.fn.world (l.run.store, l.run.streams) l.world
+invariant-loop-next g l = Along g.W.World l.cx (λ m. At (Texts_of (joins_of (map (view_joined (names_in m)) l.xs)))
+    (v.Text l.text ∷ []))
+    (λ m k. At (Texts_of (joins_of (map (view_joined (names_in m)) (drop l.next-index l.xs))))
+    (v.Text (l.text ++ l.more.items) ∷ []) ∷ k) (l.fn.run.store, l.fn.run.streams) l.fn.world (
+      l.run.store,
+      l.run.streams,
+    ) l.world

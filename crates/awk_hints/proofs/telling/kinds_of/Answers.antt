@@ -8,4 +8,5 @@ pub returns-in_ok-escape_hints-in-Pattern : goal.returns-in_ok-escape_hints-in-P
 returns-in_ok-escape_hints-in-Pattern c = pattern_told _ _ _ _ _ c.in-Pattern.is c.in_ok-escape_hints-in-Pattern.ensures
 
 pub returns-in_ok-one-in-CallName : goal.returns-in_ok-one-in-CallName
-returns-in_ok-one-in-CallName c = function_told _ _ _ _ c.flaw_hint.result _ c.in-CallName.is c.in_ok-one-in-CallName.ensures c.flaw_hint.ensures
+returns-in_ok-one-in-CallName c = function_told _ _ _ _ c.flaw_hint.result _ c.in-CallName.is
+    c.in_ok-one-in-CallName.ensures c.flaw_hint.ensures

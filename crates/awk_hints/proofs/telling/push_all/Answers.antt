@@ -15,9 +15,13 @@ loop-at-preserved c =
     let x = c.is_excused-excused.result in
     let kinds = c.in_ok-kinds.kinds.items in
     let told = subst (λ xs. AreTold xs t (drop (i + 1) tokens) x kinds) c.split_at.ensures.front
-    (subst (λ ys. AreTold c.split_at.result.0.now t ys x kinds) c.split_at-in-loop-at.ensures.back c.in_ok-kinds.ensures) in
-    next_told tokens i t c.loop-at.out.items _ x kinds c.loop-at-test.true c.index-tokens-at.is (λ y. sym c.names_int-names_int.ensures ∙ c.is_excused-excused.ensures y)
-    told (c.in_ok-push_hints.ensures ∙ ap (λ ks. c.loop-at.out.items ++ map (hint_of t) ks) c.as_slice.ensures.value) c.loop-at.invariant
+    (subst (λ ys. AreTold c.split_at.result.0.now t ys x kinds) c.split_at-in-loop-at.ensures.back
+    c.in_ok-kinds.ensures) in
+    next_told tokens i t c.loop-at.out.items _ x kinds c.loop-at-test.true c.index-tokens-at.is
+    (λ y. sym c.names_int-names_int.ensures ∙ c.is_excused-excused.ensures y)
+    told (c.in_ok-push_hints.ensures ∙ ap (λ ks. c.loop-at.out.items ++ map (hint_of t) ks) c.as_slice.ensures.value)
+    c.loop-at.invariant
 
 pub returns : goal.returns
-returns c = subst (λ ys. Tells c.args.tokens.now ys c.loop-at.out.items) (take_all c.loop-at.at c.args.tokens.now (omega arith)) c.loop-at.invariant
+returns c = subst (λ ys. Tells c.args.tokens.now ys c.loop-at.out.items) (take_all c.loop-at.at c.args.tokens.now
+    (omega arith)) c.loop-at.invariant

@@ -7,4 +7,5 @@ pub loop-kind-init : goal.loop-kind-init
 loop-kind-init c = refl
 
 pub returns : goal.returns
-returns c = all_made (hint_of c.args.token.now) _ _ c.args.kinds.now c.loop-kind.kind-index (omega arith) c.loop-kind.invariant
+returns c = all_made (hint_of c.args.token.now) _ _ c.args.kinds.now c.loop-kind.kind-index
+    (omega arith) c.loop-kind.invariant

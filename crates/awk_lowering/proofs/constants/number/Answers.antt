@@ -12,7 +12,10 @@ use Rattle.awk_lowering.proofs.constants.number.Goals as goal
 
 -- no token is a number of more than 63 bits
 fits : (x : Text) → to_z w64 (number_of x) ≡ pos (number_of x)
-fits x = let le = min-le_right (digits_value 10 (take_while is_ascii_digit x)) (2 ^ 63 - 1) in to_z_pos w64 (number_of x) (omega (arith, le))
+fits x =
+    let le = min-le_right (digits_value 10 (take_while is_ascii_digit x)) (2 ^ 63 - 1) in
+    to_z_pos w64 (number_of x) (omega (arith, le))
 
 pub returns : goal.returns
-returns c = let h = rw c.bytes.ensures at c.constant.ensures in λ t. rw (view-Number, h) (ap p.number (fits c.args.text.now))
+returns c =
+    let h = rw c.bytes.ensures at c.constant.ensures in λ t. rw (view-Number, h) (ap p.number (fits c.args.text.now))

@@ -83,16 +83,28 @@ abbrev pub decreases-builtin : goal.decreases-builtin
 decreases-builtin l = 5 + 16 * l.level
 
 abbrev pub invariant-fill-loop-x : goal.invariant-fill-loop-x
-invariant-fill-loop-x l = map (code.view (names_in l.context)) l.initial.out ++ map (lowered (scope_in l.context)) (map view l.xs) ≡ map (code.view (names_in l.context)) l.out ++ map (lowered (scope_in l.context)) (map view (drop l.x-index l.xs))
+invariant-fill-loop-x l = map (code.view (names_in l.context)) l.initial.out ++ map (lowered (scope_in l.context))
+    (map view l.xs) ≡ map (code.view (names_in l.context)) l.out ++ map (lowered (scope_in l.context))
+    (map view (drop l.x-index l.xs))
 
 abbrev pub invariant-fill_terms-loop-x : goal.invariant-fill_terms-loop-x
-invariant-fill_terms-loop-x l = map (code.view_term (names_in l.context)) l.initial.out ++ map (lowered_term (scope_in l.context)) (map view_term l.xs) ≡ map (code.view_term (names_in l.context)) l.out ++ map (lowered_term (scope_in l.context)) (map view_term (drop l.x-index l.xs))
+invariant-fill_terms-loop-x l = map (code.view_term (names_in l.context)) l.initial.out
+    ++ map (lowered_term (scope_in l.context)) (map view_term l.xs) ≡ map (code.view_term (names_in l.context)) l.out
+    ++ map (lowered_term (scope_in l.context)) (map view_term (drop l.x-index l.xs))
 
 abbrev pub invariant-fill_joins-loop-x : goal.invariant-fill_joins-loop-x
-invariant-fill_joins-loop-x l = map (code.view_joined (names_in l.context)) l.initial.out ++ map (lowered_join (scope_in l.context)) (map view l.xs) ≡ map (code.view_joined (names_in l.context)) l.out ++ map (lowered_join (scope_in l.context)) (map view (drop l.x-index l.xs))
+invariant-fill_joins-loop-x l = map (code.view_joined (names_in l.context)) l.initial.out
+    ++ map (lowered_join (scope_in l.context)) (map view l.xs) ≡ map (code.view_joined (names_in l.context)) l.out
+    ++ map (lowered_join (scope_in l.context)) (map view (drop l.x-index l.xs))
 
 abbrev pub invariant-fill_pipes-loop-x : goal.invariant-fill_pipes-loop-x
-invariant-fill_pipes-loop-x l = then_pipes (code.view_pipes (names_in l.context) l.initial.out) (lowered_pipes (scope_in l.context) (pipes_of (map view_piped l.xs))) ≡ then_pipes (code.view_pipes (names_in l.context) l.out) (lowered_pipes (scope_in l.context) (pipes_of (map view_piped (drop l.x-index l.xs))))
+invariant-fill_pipes-loop-x l = then_pipes (code.view_pipes (names_in l.context) l.initial.out)
+    (lowered_pipes (scope_in l.context) (pipes_of (map view_piped l.xs)))
+    ≡ then_pipes (code.view_pipes (names_in l.context) l.out) (lowered_pipes (scope_in l.context)
+    (pipes_of (map view_piped (drop l.x-index l.xs))))
 
 abbrev pub invariant-fill_arguments-loop-x : goal.invariant-fill_arguments-loop-x
-invariant-fill_arguments-loop-x l = then_arguments (code.view_arguments (names_in l.context) l.initial.out) (arguments (scope_in l.context) l.arrays (trees_of (map view l.xs))) ≡ then_arguments (code.view_arguments (names_in l.context) l.out) (arguments (scope_in l.context) l.rest (trees_of (map view (drop l.x-index l.xs))))
+invariant-fill_arguments-loop-x l = then_arguments (code.view_arguments (names_in l.context) l.initial.out)
+    (arguments (scope_in l.context) l.arrays (trees_of (map view l.xs))) ≡ then_arguments
+    (code.view_arguments (names_in l.context) l.out) (arguments (scope_in l.context) l.rest
+    (trees_of (map view (drop l.x-index l.xs))))

@@ -8,7 +8,8 @@ use Rattle.awk_lowering.specs.Forms.{without_arguments}
 use Rattle.awk_lowering.proofs.operators.without_arguments.Goals as goal
 
 -- no other one is called without arguments otherwise
-as_it_is : (q : Place) (which : Builtin) → ¬ (which ≡ f.Length) → ¬ (which ≡ f.Fflush) → without_arguments q which ≡ p.builtin q which p.none
+as_it_is : (q : Place) (which : Builtin) → ¬ (which ≡ f.Length) → ¬ (which ≡ f.Fflush)
+    → without_arguments q which ≡ p.builtin q which p.none
 as_it_is q f.Length l h = absurd (l refl)
 as_it_is q f.Fflush l h = absurd (h refl)
 as_it_is q which l h = refl
@@ -20,4 +21,8 @@ pub returns-in-Fflush : goal.returns-in-Fflush
 returns-in-Fflush c = λ t. rw (c.in-Fflush.is, view-Number) refl
 
 pub returns-in_default : goal.returns-in_default
-returns-in_default c = λ t. rw (as_it_is c.args.place c.args.which c.in_default.not-Length c.in_default.not-Fflush, view-Builtin, c.new.ensures) refl
+returns-in_default c = λ t. rw (
+  as_it_is c.args.place c.args.which c.in_default.not-Length c.in_default.not-Fflush,
+  view-Builtin,
+  c.new.ensures,
+) refl

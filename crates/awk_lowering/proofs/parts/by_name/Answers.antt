@@ -5,7 +5,11 @@ pub returns-in_ok-v : goal.returns-in_ok-v
 returns-in_ok-v c = let v = rw c.bytes-text.ensures at c.in_ok-v.ensures in λ a rest. rw (c.if-takes_array.true, v) refl
 
 pub returns-then-is_array : goal.returns-then-is_array
-returns-then-is_array c = let are = rw c.bytes-text.ensures at c.is_array.ensures in λ a rest. rw (c.if-takes_array.false, sym are ∙ c.if-is_array.true) refl
+returns-then-is_array c =
+    let are = rw c.bytes-text.ensures at c.is_array.ensures in
+    λ a rest. rw (c.if-takes_array.false, sym are ∙ c.if-is_array.true) refl
 
 pub returns-else-is_array : goal.returns-else-is_array
-returns-else-is_array c = let are = rw c.bytes-text.ensures at c.is_array.ensures in λ a rest. rw (c.if-takes_array.false, sym are ∙ c.if-is_array.false) refl
+returns-else-is_array c =
+    let are = rw c.bytes-text.ensures at c.is_array.ensures in
+    λ a rest. rw (c.if-takes_array.false, sym are ∙ c.if-is_array.false) refl

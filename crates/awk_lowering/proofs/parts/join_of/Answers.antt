@@ -2,4 +2,5 @@ use Rattle.std.proofs.Common.{refl}
 use Rattle.awk_lowering.proofs.parts.join_of.Goals as goal
 
 pub returns-in-Ok : goal.returns-in-Ok
-returns-in-Ok c = λ t q a h0 h1. let w = c.in-Ok.ensures in let p0 = rw w.0 at h0 in let p1 = rw w.1 at h1 in rw (c.into_inner.ensures, p0, p1) refl
+returns-in-Ok c = λ t q a h0 h1. let w = c.in-Ok.ensures in let p0 = rw w.0 at h0 in let p1 = rw w.1 at h1 in
+    rw (c.into_inner.ensures, p0, p1) refl

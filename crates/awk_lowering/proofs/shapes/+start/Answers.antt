@@ -57,19 +57,22 @@ pub returns-in-Power : goal.returns-in-Power
 returns-in-Power t c = let h = rw c.get-in-Power.ensures at c.start-in-Power.ensures in rw (c.in-Power.is, view-Power) h
 
 pub returns-in-Product : goal.returns-in-Product
-returns-in-Product t c = let h = rw c.get-in-Product.ensures at c.start-in-Product.ensures in rw (c.in-Product.is, view-Product) h
+returns-in-Product t c =
+    let h = rw c.get-in-Product.ensures at c.start-in-Product.ensures in rw (c.in-Product.is, view-Product) h
 
 pub returns-in-Sum : goal.returns-in-Sum
 returns-in-Sum t c = let h = rw c.get-in-Sum.ensures at c.start-in-Sum.ensures in rw (c.in-Sum.is, view-Sum) h
 
 pub returns-in-Concat : goal.returns-in-Concat
-returns-in-Concat t c = let h = rw c.get-in-Concat.ensures at c.start-in-Concat.ensures in rw (c.in-Concat.is, view-Concat) h
+returns-in-Concat t c =
+    let h = rw c.get-in-Concat.ensures at c.start-in-Concat.ensures in rw (c.in-Concat.is, view-Concat) h
 
 pub returns-in-Pipe : goal.returns-in-Pipe
 returns-in-Pipe t c = let h = rw c.get-in-Pipe.ensures at c.start-in-Pipe.ensures in rw (c.in-Pipe.is, view-Pipe) h
 
 pub returns-in-Compare : goal.returns-in-Compare
-returns-in-Compare t c = let h = rw c.get-in-Compare.ensures at c.start-in-Compare.ensures in rw (c.in-Compare.is, view-Compare) h
+returns-in-Compare t c =
+    let h = rw c.get-in-Compare.ensures at c.start-in-Compare.ensures in rw (c.in-Compare.is, view-Compare) h
 
 pub returns-in-Match : goal.returns-in-Match
 returns-in-Match t c = let h = rw c.get-in-Match.ensures at c.start-in-Match.ensures in rw (c.in-Match.is, view-Match) h
@@ -84,7 +87,9 @@ pub returns-in-Or : goal.returns-in-Or
 returns-in-Or t c = let h = rw c.get-in-Or.ensures at c.start-in-Or.ensures in rw (c.in-Or.is, view-Or) h
 
 pub returns-in-Choice : goal.returns-in-Choice
-returns-in-Choice t c = let h = rw c.get-in-Choice.ensures at c.start-in-Choice.ensures in rw (c.in-Choice.is, view-Choice) h
+returns-in-Choice t c =
+    let h = rw c.get-in-Choice.ensures at c.start-in-Choice.ensures in rw (c.in-Choice.is, view-Choice) h
 
 pub returns-in-Assign : goal.returns-in-Assign
-returns-in-Assign t c = let h = rw c.get-in-Assign.ensures at c.start-in-Assign.ensures in rw (c.in-Assign.is, view-Assign) h
+returns-in-Assign t c =
+    let h = rw c.get-in-Assign.ensures at c.start-in-Assign.ensures in rw (c.in-Assign.is, view-Assign) h

@@ -18,4 +18,5 @@ pub returns-in-Length : goal.returns-in-Length
 returns-in-Length c = rw c.in-Length.is c.array_alone.ensures
 
 pub returns-in_default : goal.returns-in_default
-returns-in_default c = sym (none_counted (scope_in c.args.context.now) c.args.which (trees_of (map view c.args.xs.now)) c.in_default.not-Length)
+returns-in_default c = sym (none_counted (scope_in c.args.context.now) c.args.which (trees_of (map view c.args.xs.now))
+    c.in_default.not-Length)

@@ -6,4 +6,5 @@ pub returns-in-empty : goal.returns-in-empty
 returns-in-empty c = rw (none_left c.args.members.now c.in-empty.len_below) refl
 
 pub returns-in-len1-up : goal.returns-in-len1-up
-returns-in-len1-up c = rw (first_and_rest c.args.members.now c.first-item.result c.in-len1-up.len_at_least c.first-item.is) refl
+returns-in-len1-up c = rw (first_and_rest c.args.members.now c.first-item.result c.in-len1-up.len_at_least
+    c.first-item.is) refl

@@ -19,7 +19,8 @@ statement-returns-in-Expr t c =
 
 pub statement-returns-in-Print : goal.statement-returns-in-Print
 statement-returns-in-Print t c =
-    let xs = rw c.as_slice.ensures at c.list-xs.ensures in rw (c.in-Print.is, statement-Print) (c.print_of.ensures _ _ _ xs c.redirected.ensures)
+    let xs = rw c.as_slice.ensures at c.list-xs.ensures in
+    rw (c.in-Print.is, statement-Print) (c.print_of.ensures _ _ _ xs c.redirected.ensures)
 
 pub statement-returns-in-Printf : goal.statement-returns-in-Printf
 statement-returns-in-Printf t c =
@@ -27,11 +28,14 @@ statement-returns-in-Printf t c =
 
 pub statement-returns-in-Delete : goal.statement-returns-in-Delete
 statement-returns-in-Delete t c =
-    let v = rw c.bytes.ensures at c.variable-v.ensures in let xs = rw c.as_slice-in-Delete.ensures at c.list.ensures in rw (c.in-Delete.is, statement-Delete) (c.delete_of.ensures _ _ _ v xs)
+    let v = rw c.bytes.ensures at c.variable-v.ensures in
+    let xs = rw c.as_slice-in-Delete.ensures at c.list.ensures in
+    rw (c.in-Delete.is, statement-Delete) (c.delete_of.ensures _ _ _ v xs)
 
 pub statement-returns-in-DeleteAll : goal.statement-returns-in-DeleteAll
 statement-returns-in-DeleteAll t c =
-    let v = rw c.bytes-in-DeleteAll.ensures at c.variable.ensures in rw (c.in-DeleteAll.is, statement-DeleteAll) (c.delete_all_of.ensures _ _ v)
+    let v = rw c.bytes-in-DeleteAll.ensures at c.variable.ensures in
+    rw (c.in-DeleteAll.is, statement-DeleteAll) (c.delete_all_of.ensures _ _ v)
 
 pub statement-returns-in-Jump : goal.statement-returns-in-Jump
 statement-returns-in-Jump t c =
@@ -47,31 +51,40 @@ statement-returns-in-Return t c =
 
 pub statement-returns-in-Block : goal.statement-returns-in-Block
 statement-returns-in-Block t c =
-    let xs = rw c.as_slice-in-Block.ensures at c.statements.ensures in rw (c.in-Block.is, statement-Block, statements_are) (c.block_of.ensures _ _ xs)
+    let xs = rw c.as_slice-in-Block.ensures at c.statements.ensures in
+    rw (c.in-Block.is, statement-Block, statements_are) (c.block_of.ensures _ _ xs)
 
 pub statement-returns-in-If : goal.statement-returns-in-If
 statement-returns-in-If t c =
-    let y = rw c.get.ensures at c.branch-context.ensures in rw (c.in-If.is, statement-If) (c.if_of.ensures _ _ _ c.part-x.ensures y)
+    let y = rw c.get.ensures at c.branch-context.ensures in
+    rw (c.in-If.is, statement-If) (c.if_of.ensures _ _ _ c.part-x.ensures y)
 
 pub statement-returns-in-IfElse : goal.statement-returns-in-IfElse
 statement-returns-in-IfElse t c =
-    let y = rw c.get-in-IfElse.ensures at c.branch-body.ensures in let z = rw c.get-in-IfElse-2.ensures at c.branch-context-in-IfElse.ensures in rw (c.in-IfElse.is, statement-IfElse) (c.if_else_of.ensures _ _ _ _ c.part-x-in-IfElse.ensures y z)
+    let y = rw c.get-in-IfElse.ensures at c.branch-body.ensures in
+    let z = rw c.get-in-IfElse-2.ensures at c.branch-context-in-IfElse.ensures in
+    rw (c.in-IfElse.is, statement-IfElse) (c.if_else_of.ensures _ _ _ _ c.part-x-in-IfElse.ensures y z)
 
 pub statement-returns-in-While : goal.statement-returns-in-While
 statement-returns-in-While t c =
-    let y = rw c.get-in-While.ensures at c.branch-context-in-While.ensures in rw (c.in-While.is, statement-While) (c.while_of.ensures _ _ _ c.part-x-in-While.ensures y)
+    let y = rw c.get-in-While.ensures at c.branch-context-in-While.ensures in
+    rw (c.in-While.is, statement-While) (c.while_of.ensures _ _ _ c.part-x-in-While.ensures y)
 
 pub statement-returns-in-Do : goal.statement-returns-in-Do
 statement-returns-in-Do t c =
-    let y = rw c.get-in-Do.ensures at c.branch-body-in-Do.ensures in rw (c.in-Do.is, statement-Do) (c.do_of.ensures _ _ _ y c.part-in-Do.ensures)
+    let y = rw c.get-in-Do.ensures at c.branch-body-in-Do.ensures in
+    rw (c.in-Do.is, statement-Do) (c.do_of.ensures _ _ _ y c.part-in-Do.ensures)
 
 pub statement-returns-in-For : goal.statement-returns-in-For
 statement-returns-in-For t c =
-    let y = rw c.get-in-For.ensures at c.branch-body-in-For.ensures in rw (c.in-For.is, statement-For) (c.for_of.ensures _ _ _ _ _ c.optional-x.ensures c.optional-y.ensures c.optional-in-For.ensures y)
+    let y = rw c.get-in-For.ensures at c.branch-body-in-For.ensures in
+    rw (c.in-For.is, statement-For) (c.for_of.ensures _ _ _ _ _ c.optional-x.ensures c.optional-y.ensures
+    c.optional-in-For.ensures y)
 
 pub statement-returns-in-ForIn : goal.statement-returns-in-ForIn
 statement-returns-in-ForIn t c =
-    let y = rw c.get-in-ForIn.ensures at c.branch-body-in-ForIn.ensures in rw (c.in-ForIn.is, statement-ForIn) (c.for_in.ensures _ y)
+    let y = rw c.get-in-ForIn.ensures at c.branch-body-in-ForIn.ensures in
+    rw (c.in-ForIn.is, statement-ForIn) (c.for_in.ensures _ y)
 
 pub branch-returns : goal.branch-returns
 branch-returns t c =
@@ -79,8 +92,11 @@ branch-returns t c =
 
 pub fill-loop-x-preserved : goal.fill-loop-x-preserved
 fill-loop-x-preserved t c =
-    turned (code.view_statement (names_in c.args.context.now)) (statement (scope_in c.args.context.now)) view_statement _ _ _ _ c.x-item.result c.args.xs.now c.loop-x.x-index (omega arith) c.x-item.is c.statement.ensures c.in_ok-push.ensures c.loop-x.invariant
+    turned (code.view_statement (names_in c.args.context.now)) (statement (scope_in c.args.context.now)) view_statement
+    _ _ _ _ c.x-item.result c.args.xs.now c.loop-x.x-index (omega arith) c.x-item.is c.statement.ensures
+    c.in_ok-push.ensures c.loop-x.invariant
 
 pub statements-returns : goal.statements-returns
 statements-returns t c =
-    whole (code.view_statement (names_in c.args.context.now)) _ _ _ _ c.kept.ensures (rw c.room-out.ensures at c.fill-filled.ensures)
+    whole (code.view_statement (names_in c.args.context.now)) _ _ _ _ c.kept.ensures
+    (rw c.room-out.ensures at c.fill-filled.ensures)

@@ -18,4 +18,6 @@ abbrev pub decreases-statements : goal.decreases-statements
 decreases-statements l = 2 + 16 * l.level
 
 abbrev pub invariant-fill-loop-x : goal.invariant-fill-loop-x
-invariant-fill-loop-x l = map (code.view_statement (names_in l.context)) l.initial.out ++ map (statement (scope_in l.context)) (map view_statement l.xs) ≡ map (code.view_statement (names_in l.context)) l.out ++ map (statement (scope_in l.context)) (map view_statement (drop l.x-index l.xs))
+invariant-fill-loop-x l = map (code.view_statement (names_in l.context)) l.initial.out
+    ++ map (statement (scope_in l.context)) (map view_statement l.xs) ≡ map (code.view_statement (names_in l.context))
+    l.out ++ map (statement (scope_in l.context)) (map view_statement (drop l.x-index l.xs))

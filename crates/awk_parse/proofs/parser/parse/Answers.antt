@@ -23,14 +23,16 @@ pub returns-in-Err-of-clause-refused : goal.returns-in-Err-of-clause-refused
 returns-in-Err-of-clause-refused c =
     let read : grammar.script c.args.tokens.now ≡ Ok (map view_item c.in-Ok.items, []) = c.in-Ok.ensures in
     let flawed : Flawed (map part (map view_item c.in-Ok.items)) c.in-Err-of.flaw = c.in-Err-of.ensures.flawed in
-    rw c.refusal-in-Err-of.ensures (by_flaw (map view_item c.in-Ok.items) c.in-Err-of.flaw (scripts_are_spelled c.args.tokens.now (map view_item c.in-Ok.items) read) flawed)
+    rw c.refusal-in-Err-of.ensures (by_flaw (map view_item c.in-Ok.items) c.in-Err-of.flaw
+    (scripts_are_spelled c.args.tokens.now (map view_item c.in-Ok.items) read) flawed)
 
 pub returns-in-Err-of-clause-again : goal.returns-in-Err-of-clause-again
 returns-in-Err-of-clause-again c =
     λ s is e.
     let read : grammar.script c.args.tokens.now ≡ Ok (map view_item c.in-Ok.items, []) = c.in-Ok.ensures in
     let flawed : Flawed (map part (map view_item c.in-Ok.items)) c.in-Err-of.flaw = c.in-Err-of.ensures.flawed in
-    rw c.refusal-in-Err-of.ensures (same_flaw c.args.tokens.now is.0 s is.1.0 (map view_item c.in-Ok.items) c.in-Err-of.flaw is.1.1 is.1.2 e read flawed)
+    rw c.refusal-in-Err-of.ensures (same_flaw c.args.tokens.now is.0 s is.1.0 (map view_item c.in-Ok.items)
+    c.in-Err-of.flaw is.1.1 is.1.2 e read flawed)
 
 pub returns-in-Ok-of-clause-again : goal.returns-in-Ok-of-clause-again
 returns-in-Ok-of-clause-again c =

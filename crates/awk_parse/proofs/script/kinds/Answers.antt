@@ -11,7 +11,8 @@ returns-in-Some-clause-flawed c =
     word c.in-Some.place stands
 
 pub returns-in_err-place-clause-flawed : goal.returns-in_err-place-clause-flawed
-returns-in_err-place-clause-flawed c = let p = err_from_is_err_and c.from_residual.result c.from_residual.ensures.1 in rw (p.1, p.2) memory
+returns-in_err-place-clause-flawed c =
+    let p = err_from_is_err_and c.from_residual.result c.from_residual.ensures.1 in rw (p.1, p.2) memory
 
 pub returns-in-Some-2-clause-flawed : goal.returns-in-Some-2-clause-flawed
 returns-in-Some-2-clause-flawed c =
@@ -20,12 +21,15 @@ returns-in-Some-2-clause-flawed c =
     function c.in-Some-2.place placed stands
 
 pub returns-in_err-kinds-clause-flawed : goal.returns-in_err-kinds-clause-flawed
-returns-in_err-kinds-clause-flawed c = let p = err_from_is_err_and c.from_residual-in_err-kinds.result c.from_residual-in_err-kinds.ensures.1 in rw (p.1, p.2) memory
+returns-in_err-kinds-clause-flawed c =
+    let p = err_from_is_err_and c.from_residual-in_err-kinds.result c.from_residual-in_err-kinds.ensures.1 in
+    rw (p.1, p.2) memory
 
 pub returns-in-Err-clause-flawed : goal.returns-in-Err-clause-flawed
 returns-in-Err-clause-flawed c =
     let placed : ArePlaced c.args.parts.now = rw c.in_default.is at c.misplaced.ensures.none in
     let defined : AreDefined c.args.parts.now = rw c.in_default-2.is at c.in_ok-place.ensures.none in
     let clash : Clashes c.args.parts.now c.in-Err.place = rw c.in-Err.is at c.in_ok-kinds.ensures.clash in
-    let first : (other : Place) → Clashes c.args.parts.now other → NotAfter c.in-Err.place other = rw c.in-Err.is at c.in_ok-kinds.ensures.first in
+    let first : (other : Place) → Clashes c.args.parts.now other → NotAfter c.in-Err.place other =
+    rw c.in-Err.is at c.in_ok-kinds.ensures.first in
     kind c.in-Err.place placed defined clash first

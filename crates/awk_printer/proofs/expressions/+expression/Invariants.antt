@@ -101,16 +101,26 @@ abbrev pub decreases-pipe : goal.decreases-pipe
 decreases-pipe l = 6 + 16 * l.context.level
 
 abbrev pub invariant-list-loop-x : goal.invariant-list-loop-x
-invariant-list-loop-x l = (end : Page) → Adds l.out end (list_text (map (view (names_in l.context)) (drop l.x-index l.xs))) → Adds l.initial.out end (list_text (map (view (names_in l.context)) l.xs))
+invariant-list-loop-x l = (end : Page)
+    → Adds l.out end (list_text (map (view (names_in l.context)) (drop l.x-index l.xs)))
+    → Adds l.initial.out end (list_text (map (view (names_in l.context)) l.xs))
 
 abbrev pub invariant-terms-loop-x : goal.invariant-terms-loop-x
-invariant-terms-loop-x l = (end : Page) → Adds l.out end (terms_text (terms_of (map (view_term (names_in l.context)) (drop l.x-index l.xs)))) → Adds l.initial.out end (terms_text (terms_of (map (view_term (names_in l.context)) l.xs)))
+invariant-terms-loop-x l = (end : Page)
+    → Adds l.out end (terms_text (terms_of (map (view_term (names_in l.context)) (drop l.x-index l.xs))))
+    → Adds l.initial.out end (terms_text (terms_of (map (view_term (names_in l.context)) l.xs)))
 
 abbrev pub invariant-joins-loop-x : goal.invariant-joins-loop-x
-invariant-joins-loop-x l = (end : Page) → Adds l.out end (joins_text (joins_of (map (view_joined (names_in l.context)) (drop l.x-index l.xs)))) → Adds l.initial.out end (joins_text (joins_of (map (view_joined (names_in l.context)) l.xs)))
+invariant-joins-loop-x l = (end : Page)
+    → Adds l.out end (joins_text (joins_of (map (view_joined (names_in l.context)) (drop l.x-index l.xs))))
+    → Adds l.initial.out end (joins_text (joins_of (map (view_joined (names_in l.context)) l.xs)))
 
 abbrev pub invariant-pipes-loop-x : goal.invariant-pipes-loop-x
-invariant-pipes-loop-x l = (end : Page) → Adds l.out end (pipes_text (view_pipes (names_in l.context) (drop l.x-index l.xs))) → Adds l.initial.out end (pipes_text (view_pipes (names_in l.context) l.xs))
+invariant-pipes-loop-x l = (end : Page)
+    → Adds l.out end (pipes_text (view_pipes (names_in l.context) (drop l.x-index l.xs)))
+    → Adds l.initial.out end (pipes_text (view_pipes (names_in l.context) l.xs))
 
 abbrev pub invariant-arguments-loop-x : goal.invariant-arguments-loop-x
-invariant-arguments-loop-x l = (end : Page) → Adds l.out end (arguments_text (view_arguments (names_in l.context) (drop l.x-index l.xs))) → Adds l.initial.out end (arguments_text (view_arguments (names_in l.context) l.xs))
+invariant-arguments-loop-x l = (end : Page)
+    → Adds l.out end (arguments_text (view_arguments (names_in l.context) (drop l.x-index l.xs)))
+    → Adds l.initial.out end (arguments_text (view_arguments (names_in l.context) l.xs))

@@ -5,4 +5,5 @@ use Rattle.awk_printer.specs.declared.page.Page.{Page}
 use Rattle.awk_printer.proofs.pieces.escaped.Given as goal
 
 abbrev pub invariant-loop-b : goal.invariant-loop-b
-invariant-loop-b l = (end : Page) → Adds l.out end (spec.escaped l.mark (drop l.b-index l.text)) → Adds l.initial.out end (spec.escaped l.mark l.text)
+invariant-loop-b l = (end : Page) → Adds l.out end (spec.escaped l.mark (drop l.b-index l.text))
+    → Adds l.initial.out end (spec.escaped l.mark l.text)

@@ -7,4 +7,6 @@ use Rattle.awk_printer.specs.declared.page.Page.{Page}
 use Rattle.awk_printer.proofs.pieces.variables.Given as goal
 
 abbrev pub invariant-loop-v : goal.invariant-loop-v
-invariant-loop-v l = (end : Page) → Adds l.out end (variables_text (map (variable_of (spec.names_in l.context)) (drop l.v-index l.vs))) → Adds l.initial.out end (variables_text (map (variable_of (spec.names_in l.context)) l.vs))
+invariant-loop-v l = (end : Page)
+    → Adds l.out end (variables_text (map (variable_of (spec.names_in l.context)) (drop l.v-index l.vs)))
+    → Adds l.initial.out end (variables_text (map (variable_of (spec.names_in l.context)) l.vs))

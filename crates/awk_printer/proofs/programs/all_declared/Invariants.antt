@@ -6,4 +6,5 @@ use Rattle.awk_printer.specs.declared.page.Page.{Page}
 use Rattle.awk_printer.proofs.programs.all_declared.Given as goal
 
 abbrev pub invariant-loop-name : goal.invariant-loop-name
-invariant-loop-name l = (end : Page) → Adds l.out end (flat_map declared_name (drop l.name-index l.names)) → Adds l.initial.out end (flat_map declared_name l.names)
+invariant-loop-name l = (end : Page) → Adds l.out end (flat_map declared_name (drop l.name-index l.names))
+    → Adds l.initial.out end (flat_map declared_name l.names)

@@ -8,7 +8,9 @@ pub loop-n-init : goal.loop-n-init
 loop-n-init c = λ _ h. h
 
 pub loop-n-preserved : goal.loop-n-preserved
-loop-n-preserved c = λ end h. c.loop-n.invariant end (rw (drop_here c.args.fs.now c.loop-n.n c.index-fs-n.result (omega arith) c.index-fs-n.is) (both c.function.ensures h))
+loop-n-preserved c = λ end h. c.loop-n.invariant end
+    (rw (drop_here c.args.fs.now c.loop-n.n c.index-fs-n.result (omega arith) c.index-fs-n.is)
+    (both c.function.ensures h))
 
 pub returns : goal.returns
 returns c = c.loop-n.invariant _ (rw (drop_all c.loop-n.n c.args.fs.now (omega arith)) (nothing _))

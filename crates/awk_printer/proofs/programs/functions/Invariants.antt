@@ -7,4 +7,6 @@ use Rattle.awk_printer.specs.declared.page.Page.{Page}
 use Rattle.awk_printer.proofs.programs.functions.Given as goal
 
 abbrev pub invariant-loop-n : goal.invariant-loop-n
-invariant-loop-n l = (end : Page) → Adds l.out end (spec.functions_text l.n (map (view_function (names_in l.context)) (drop l.n l.fs))) → Adds l.initial.out end (spec.functions_text 0 (map (view_function (names_in l.context)) l.fs))
+invariant-loop-n l = (end : Page)
+    → Adds l.out end (spec.functions_text l.n (map (view_function (names_in l.context)) (drop l.n l.fs)))
+    → Adds l.initial.out end (spec.functions_text 0 (map (view_function (names_in l.context)) l.fs))

@@ -8,4 +8,6 @@ use Rattle.awk_printer.specs.declared.page.Page.{Page}
 use Rattle.awk_printer.proofs.programs.rules.Given as goal
 
 abbrev pub invariant-loop-r : goal.invariant-loop-r
-invariant-loop-r l = (end : Page) → Adds l.out end (flat_map spec.rule_line (map (view_rule (names_in l.context)) (drop l.r-index l.rs))) → Adds l.initial.out end (flat_map spec.rule_line (map (view_rule (names_in l.context)) l.rs))
+invariant-loop-r l = (end : Page)
+    → Adds l.out end (flat_map spec.rule_line (map (view_rule (names_in l.context)) (drop l.r-index l.rs)))
+    → Adds l.initial.out end (flat_map spec.rule_line (map (view_rule (names_in l.context)) l.rs))

@@ -1,6 +1,9 @@
 use Rattle.std.proofs.Common.{arith, append_assoc}
 use Rattle.std.proofs.lemmas.List.{drop_all}
-use Rattle.awk_program.proofs.Views.{statement-Expr, statement-Print, statement-Printf, statement-Delete, statement-DeleteAll, statement-Jump, statement-Exit, statement-Return, statement-Block, statement-If, statement-IfElse, statement-While, statement-Do, statement-For, statement-ForIn}
+use Rattle.awk_program.proofs.Views.{statement-Expr, statement-Print, statement-Printf, statement-Delete}
+use Rattle.awk_program.proofs.Views.{statement-DeleteAll, statement-Jump, statement-Exit, statement-Return}
+use Rattle.awk_program.proofs.Views.{statement-Block, statement-If, statement-IfElse, statement-While, statement-Do}
+use Rattle.awk_program.proofs.Views.{statement-For, statement-ForIn}
 use Rattle.awk_printer.proofs.Lists.{drop_here}
 use Rattle.awk_printer.proofs.Pages.{nothing, both, lost}
 use Rattle.awk_printer.proofs.statements.+statement.Goals as goal
@@ -47,7 +50,8 @@ statement_of_parts-returns-in-If t c =
 
 pub statement_of_parts-returns-in-IfElse : goal.statement_of_parts-returns-in-IfElse
 statement_of_parts-returns-in-IfElse t c =
-    let h = rw (c.get-in-IfElse.ensures, c.get-in-IfElse-2.ensures) at c.if_else.ensures in rw (c.in-IfElse.is, statement-IfElse) h
+    let h = rw (c.get-in-IfElse.ensures, c.get-in-IfElse-2.ensures) at c.if_else.ensures in
+    rw (c.in-IfElse.is, statement-IfElse) h
 
 pub statement_of_parts-returns-in-While : goal.statement_of_parts-returns-in-While
 statement_of_parts-returns-in-While t c =
@@ -79,24 +83,30 @@ pub test-returns : goal.test-returns
 test-returns t c = both c.open.ensures (both c.expression.ensures (both c.statement.ensures c.close.ensures))
 
 pub if_else-returns : goal.if_else-returns
-if_else-returns t c = both c.open.ensures (both c.expression.ensures (both c.statement.ensures (both c.statement-2.ensures c.close.ensures)))
+if_else-returns t c =
+    both c.open.ensures (both c.expression.ensures
+    (both c.statement.ensures (both c.statement-2.ensures c.close.ensures)))
 
 pub do_while-returns : goal.do_while-returns
 do_while-returns t c = both c.open.ensures (both c.statement.ensures (both c.expression.ensures c.close.ensures))
 
 pub for_loop-returns : goal.for_loop-returns
 for_loop-returns t c =
-    let h = both c.header.ensures (both c.statement.ensures c.close.ensures) in simp append_assoc (simp append_assoc at h)
+    let h = both c.header.ensures (both c.statement.ensures c.close.ensures) in
+    simp append_assoc (simp append_assoc at h)
 
 pub for_each-returns : goal.for_each-returns
 for_each-returns t c =
-    let h = both c.each_header.ensures (both c.statement.ensures c.close.ensures) in simp append_assoc (simp append_assoc at h)
+    let h = both c.each_header.ensures (both c.statement.ensures c.close.ensures) in
+    simp append_assoc (simp append_assoc at h)
 
 pub statements-loop-s-init : goal.statements-loop-s-init
 statements-loop-s-init t c = λ _ h. h
 
 pub statements-loop-s-preserved : goal.statements-loop-s-preserved
-statements-loop-s-preserved t c = λ end h. c.loop-s.invariant end (rw (drop_here c.args.xs.now c.loop-s.s-index c.s-item.result (omega arith) c.s-item.is) (both c.statement.ensures h))
+statements-loop-s-preserved t c = λ end h. c.loop-s.invariant end
+    (rw (drop_here c.args.xs.now c.loop-s.s-index c.s-item.result (omega arith) c.s-item.is)
+    (both c.statement.ensures h))
 
 pub statements-returns : goal.statements-returns
 statements-returns t c = c.loop-s.invariant _ (rw (drop_all c.loop-s.s-index c.args.xs.now (omega arith)) (nothing _))

@@ -35,4 +35,6 @@ abbrev pub decreases-block : goal.decreases-block
 decreases-block l = 2 + 16 * l.context.level
 
 abbrev pub invariant-statements-loop-s : goal.invariant-statements-loop-s
-invariant-statements-loop-s l = (end : Page) → Adds l.out end (statements_text (statements_of (map (view_statement (names_in l.context)) (drop l.s-index l.xs)))) → Adds l.initial.out end (statements_text (statements_of (map (view_statement (names_in l.context)) l.xs)))
+invariant-statements-loop-s l = (end : Page)
+    → Adds l.out end (statements_text (statements_of (map (view_statement (names_in l.context)) (drop l.s-index l.xs))))
+    → Adds l.initial.out end (statements_text (statements_of (map (view_statement (names_in l.context)) l.xs)))

@@ -19,7 +19,10 @@ returns-in_err-flow g c =
     let e = err_from_is_err_and c.from_residual.result c.from_residual.ensures.1 in
     rw (e.1, e.2) (λ rest. record {
       plays = λ m is. stop _ (λ k. refl)
-          (quietly (turned ((c.loop-x.invariant rest).leads m is) (λ k. ap (λ ys. Do (Each (map (view_statement (names_in m)) ys ++ rest m)) ∷ k) (next_of c.args.xs.now c.loop-x.x-index c.x-item.result c.x-item.is c.loop-x-test.true))) (λ k hid d a. refl))
+          (quietly (turned ((c.loop-x.invariant rest).leads m is)
+          (λ k. ap (λ ys. Do (Each (map (view_statement (names_in m)) ys ++ rest m)) ∷ k)
+          (next_of c.args.xs.now c.loop-x.x-index c.x-item.result c.x-item.is c.loop-x-test.true)))
+          (λ k hid d a. refl))
           (c.statement.ensures.plays m is) c.in_err-flow.was;
       owns = c.statement.ensures.owns;
     })
@@ -27,24 +30,32 @@ returns-in_err-flow g c =
 pub returns-then-not-is_on : goal.returns-then-not-is_on
 returns-then-not-is_on g c = λ rest. record {
   plays = λ m is. done (turned (part _
-      (quietly (turned ((c.loop-x.invariant rest).leads m is) (λ k. ap (λ ys. Do (Each (map (view_statement (names_in m)) ys ++ rest m)) ∷ k) (next_of c.args.xs.now c.loop-x.x-index c.x-item.result c.x-item.is c.loop-x-test.true))) (λ k hid d a. refl))
+      (quietly (turned ((c.loop-x.invariant rest).leads m is)
+      (λ k. ap (λ ys. Do (Each (map (view_statement (names_in m)) ys ++ rest m)) ∷ k)
+      (next_of c.args.xs.now c.loop-x.x-index c.x-item.result c.x-item.is c.loop-x-test.true))) (λ k hid d a. refl))
       (c.statement.ensures.plays m is) c.in_ok-flow.was)
-      (λ k. past_twice c.in_ok-flow.flow (map (view_statement (names_in m)) (drop (c.loop-x.x-index + 1) c.args.xs.now) ++ rest m) (rest m) k (sym c.is_on.ensures ∙ c.if-not-is_on.true)));
+      (λ k. past_twice c.in_ok-flow.flow (map (view_statement (names_in m)) (drop (c.loop-x.x-index + 1) c.args.xs.now)
+      ++ rest m) (rest m) k (sym c.is_on.ensures ∙ c.if-not-is_on.true)));
   owns = c.statement.ensures.owns;
 }
 
 pub loop-x-preserved : goal.loop-x-preserved
 loop-x-preserved g c = λ rest. record {
   leads = λ m is. turned (part _
-      (quietly (turned ((c.loop-x.invariant rest).leads m is) (λ k. ap (λ ys. Do (Each (map (view_statement (names_in m)) ys ++ rest m)) ∷ k) (next_of c.args.xs.now c.loop-x.x-index c.x-item.result c.x-item.is c.loop-x-test.true))) (λ k hid d a. refl))
+      (quietly (turned ((c.loop-x.invariant rest).leads m is)
+      (λ k. ap (λ ys. Do (Each (map (view_statement (names_in m)) ys ++ rest m)) ∷ k)
+      (next_of c.args.xs.now c.loop-x.x-index c.x-item.result c.x-item.is c.loop-x-test.true))) (λ k hid d a. refl))
       (c.statement.ensures.plays m is) c.in_ok-flow.was)
-      (λ k. each_on c.in_ok-flow.flow (map (view_statement (names_in m)) (drop (c.loop-x.x-index + 1) c.args.xs.now) ++ rest m) k (sym c.is_on.ensures ∙ c.if-not-is_on.false));
+      (λ k. each_on c.in_ok-flow.flow (map (view_statement (names_in m)) (drop (c.loop-x.x-index + 1) c.args.xs.now)
+      ++ rest m) k (sym c.is_on.ensures ∙ c.if-not-is_on.false));
   owns = c.statement.ensures.owns;
 }
 
 pub returns : goal.returns
 returns g c = λ rest. record {
-  plays = λ m is. done (turned ((c.loop-x.invariant rest).leads m is) (λ k. ap (λ ys. Do (Each (map (view_statement (names_in m)) ys ++ rest m)) ∷ k) (drop_all c.args.xs.now c.loop-x.x-index c.loop-x-test.false)));
+  plays = λ m is. done (turned ((c.loop-x.invariant rest).leads m is)
+      (λ k. ap (λ ys. Do (Each (map (view_statement (names_in m)) ys ++ rest m)) ∷ k)
+      (drop_all c.args.xs.now c.loop-x.x-index c.loop-x-test.false)));
   owns = (c.loop-x.invariant rest).owns;
 }
 

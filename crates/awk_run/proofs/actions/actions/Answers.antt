@@ -19,32 +19,54 @@ returns-in_err-flow g c =
     let e = err_from_is_err_and c.from_residual.result c.from_residual.ensures.1 in
     rw (e.1, e.2) (record {
       plays = λ m is. stop _ (λ k. refl)
-          (turned (c.loop-x.invariant.leads m is) (λ k. ap (λ ys. Do (Each (concatenated (map (map (view_statement (names_in m))) ys))) ∷ k) (next_of c.args.xs.now c.loop-x.x-index c.x-item.result c.x-item.is c.loop-x-test.true)))
-          (rw c.as_slice.ensures at ((c.action.ensures (λ m. concatenated (map (map (view_statement (names_in m))) (drop (c.loop-x.x-index + 1) c.args.xs.now)))).plays m is)) c.in_err-flow.was;
-      owns = (c.action.ensures (λ m. concatenated (map (map (view_statement (names_in m))) (drop (c.loop-x.x-index + 1) c.args.xs.now)))).owns;
+          (turned (c.loop-x.invariant.leads m is)
+          (λ k. ap (λ ys. Do (Each (concatenated (map (map (view_statement (names_in m))) ys))) ∷ k)
+          (next_of c.args.xs.now c.loop-x.x-index c.x-item.result c.x-item.is c.loop-x-test.true)))
+          (rw c.as_slice.ensures at
+          ((c.action.ensures (λ m. concatenated (map (map (view_statement (names_in m)))
+          (drop (c.loop-x.x-index + 1) c.args.xs.now)))).plays m is)) c.in_err-flow.was;
+      owns = (c.action.ensures
+          (λ m. concatenated (map (map (view_statement (names_in m)))
+          (drop (c.loop-x.x-index + 1) c.args.xs.now)))).owns;
     })
 
 pub returns-then-not-is_on : goal.returns-then-not-is_on
 returns-then-not-is_on g c = record {
   plays = λ m is. done (turned (part _
-      (turned (c.loop-x.invariant.leads m is) (λ k. ap (λ ys. Do (Each (concatenated (map (map (view_statement (names_in m))) ys))) ∷ k) (next_of c.args.xs.now c.loop-x.x-index c.x-item.result c.x-item.is c.loop-x-test.true)))
-      (rw c.as_slice.ensures at ((c.action.ensures (λ m. concatenated (map (map (view_statement (names_in m))) (drop (c.loop-x.x-index + 1) c.args.xs.now)))).plays m is)) c.in_ok-flow.was)
-      (λ k. each_off c.in_ok-flow.flow (concatenated (map (map (view_statement (names_in m))) (drop (c.loop-x.x-index + 1) c.args.xs.now))) k (sym c.is_on.ensures ∙ c.if-not-is_on.true)));
-  owns = (c.action.ensures (λ m. concatenated (map (map (view_statement (names_in m))) (drop (c.loop-x.x-index + 1) c.args.xs.now)))).owns;
+      (turned (c.loop-x.invariant.leads m is)
+      (λ k. ap (λ ys. Do (Each (concatenated (map (map (view_statement (names_in m))) ys))) ∷ k)
+      (next_of c.args.xs.now c.loop-x.x-index c.x-item.result c.x-item.is c.loop-x-test.true)))
+      (rw c.as_slice.ensures at
+      ((c.action.ensures (λ m. concatenated (map (map (view_statement (names_in m)))
+      (drop (c.loop-x.x-index + 1) c.args.xs.now)))).plays m is)) c.in_ok-flow.was)
+      (λ k. each_off c.in_ok-flow.flow
+      (concatenated (map (map (view_statement (names_in m))) (drop (c.loop-x.x-index + 1) c.args.xs.now))) k
+      (sym c.is_on.ensures ∙ c.if-not-is_on.true)));
+  owns = (c.action.ensures
+      (λ m. concatenated (map (map (view_statement (names_in m))) (drop (c.loop-x.x-index + 1) c.args.xs.now)))).owns;
 }
 
 pub loop-x-preserved : goal.loop-x-preserved
 loop-x-preserved g c = record {
   leads = λ m is. turned (part _
-      (turned (c.loop-x.invariant.leads m is) (λ k. ap (λ ys. Do (Each (concatenated (map (map (view_statement (names_in m))) ys))) ∷ k) (next_of c.args.xs.now c.loop-x.x-index c.x-item.result c.x-item.is c.loop-x-test.true)))
-      (rw c.as_slice.ensures at ((c.action.ensures (λ m. concatenated (map (map (view_statement (names_in m))) (drop (c.loop-x.x-index + 1) c.args.xs.now)))).plays m is)) c.in_ok-flow.was)
-      (λ k. each_on c.in_ok-flow.flow (concatenated (map (map (view_statement (names_in m))) (drop (c.loop-x.x-index + 1) c.args.xs.now))) k (sym c.is_on.ensures ∙ c.if-not-is_on.false));
-  owns = (c.action.ensures (λ m. concatenated (map (map (view_statement (names_in m))) (drop (c.loop-x.x-index + 1) c.args.xs.now)))).owns;
+      (turned (c.loop-x.invariant.leads m is)
+      (λ k. ap (λ ys. Do (Each (concatenated (map (map (view_statement (names_in m))) ys))) ∷ k)
+      (next_of c.args.xs.now c.loop-x.x-index c.x-item.result c.x-item.is c.loop-x-test.true)))
+      (rw c.as_slice.ensures at
+      ((c.action.ensures (λ m. concatenated (map (map (view_statement (names_in m)))
+      (drop (c.loop-x.x-index + 1) c.args.xs.now)))).plays m is)) c.in_ok-flow.was)
+      (λ k. each_on c.in_ok-flow.flow
+      (concatenated (map (map (view_statement (names_in m))) (drop (c.loop-x.x-index + 1) c.args.xs.now))) k
+      (sym c.is_on.ensures ∙ c.if-not-is_on.false));
+  owns = (c.action.ensures
+      (λ m. concatenated (map (map (view_statement (names_in m))) (drop (c.loop-x.x-index + 1) c.args.xs.now)))).owns;
 }
 
 pub returns : goal.returns
 returns g c = record {
-  plays = λ m is. done (quietly (turned (c.loop-x.invariant.leads m is) (λ k. ap (λ ys. Do (Each (concatenated (map (map (view_statement (names_in m))) ys))) ∷ k) (drop_all c.args.xs.now c.loop-x.x-index c.loop-x-test.false))) (λ k hid d a. refl));
+  plays = λ m is. done (quietly (turned (c.loop-x.invariant.leads m is)
+      (λ k. ap (λ ys. Do (Each (concatenated (map (map (view_statement (names_in m))) ys))) ∷ k)
+      (drop_all c.args.xs.now c.loop-x.x-index c.loop-x-test.false))) (λ k hid d a. refl));
   owns = c.loop-x.invariant.owns;
 }
 

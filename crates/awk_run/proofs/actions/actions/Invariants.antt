@@ -9,4 +9,5 @@ use Rattle.awk_run.proofs.actions.actions.Given as goal
 abbrev pub invariant-loop-x : goal.invariant-loop-x
 invariant-loop-x g l =
     Along g.W.World l.cx (λ m. Do (Each (concatenated (map (map (view_statement (names_in m))) l.xs))))
-    (λ m k. Do (Each (concatenated (map (map (view_statement (names_in m))) (drop l.x-index l.xs)))) ∷ k) (l.fn.run.store, l.fn.run.streams) l.fn.world (l.run.store, l.run.streams) l.world
+    (λ m k. Do (Each (concatenated (map (map (view_statement (names_in m))) (drop l.x-index l.xs)))) ∷ k)
+    (l.fn.run.store, l.fn.run.streams) l.fn.world (l.run.store, l.run.streams) l.world

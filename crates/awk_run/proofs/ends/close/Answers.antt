@@ -9,4 +9,5 @@ pub returns-in-Memory : goal.returns-in-Memory
 returns-in-Memory g c = λ m kept first y. rw c.at_once.ensures (reported_lacking nowhere (rw c.in-Memory.is at y))
 
 pub returns-in-Log : goal.returns-in-Log
-returns-in-Log g c = λ m kept first y. rw c.at_once-in-Log.ensures (reported_unlogged c.in-Log.place (rw c.in-Log.is at y))
+returns-in-Log g c = λ m kept first y. rw c.at_once-in-Log.ensures
+    (reported_unlogged c.in-Log.place (rw c.in-Log.is at y))

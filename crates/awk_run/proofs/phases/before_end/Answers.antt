@@ -16,7 +16,8 @@ returns-in_err-begin-clause-owns g c = c.begin.ensures.owns
 
 pub returns-clause-plays : goal.returns-clause-plays
 returns-clause-plays g c = λ m is first y.
-    then_goes refl (rw (flows_task c.in_ok-begin.field-0 Ruling (Do (Enter Ending) ∷ [])) at (then_part _ y (c.begin.ensures.plays m is) c.in_ok-begin.was)) (c.read.ensures.plays m is)
+    then_goes refl (rw (flows_task c.in_ok-begin.field-0 Ruling (Do (Enter Ending) ∷ [])) at
+    (then_part _ y (c.begin.ensures.plays m is) c.in_ok-begin.was)) (c.read.ensures.plays m is)
 
 pub returns-clause-owns : goal.returns-clause-owns
 returns-clause-owns g c = c.read.ensures.owns

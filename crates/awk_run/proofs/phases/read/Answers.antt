@@ -8,14 +8,16 @@ use Rattle.awk_run.proofs.phases.read.Goals as goal
 
 pub returns-then-not-reads : goal.returns-then-not-reads
 returns-then-not-reads g c = record {
-  plays = λ m is. done (turned (enters phase.Ruling c.args.run.now.store c.set_phase.new.self c.args.run.now.streams c.args.world.now c.set_phase.ensures)
+  plays = λ m is. done (turned (enters phase.Ruling c.args.run.now.store c.set_phase.new.self c.args.run.now.streams
+      c.args.world.now c.set_phase.ensures)
       (λ k. ap (λ q. records q ++ k) is.program ∙ c.reads.ensures k ∙ ap (λ b. more b k) c.if-not-reads.true));
   owns = c.requires;
 }
 
 pub returns : goal.returns
 returns g c = record {
-  plays = λ m is. passes (turned (enters phase.Ruling c.args.run.now.store c.set_phase.new.self c.args.run.now.streams c.args.world.now c.set_phase.ensures)
+  plays = λ m is. passes (turned (enters phase.Ruling c.args.run.now.store c.set_phase.new.self c.args.run.now.streams
+      c.args.world.now c.set_phase.ensures)
       (λ k. ap (λ q. records q ++ k) is.program ∙ c.reads.ensures k ∙ ap (λ b. more b k) c.if-not-reads.false))
       (c.records.ensures.plays m is);
   owns = c.records.ensures.owns;

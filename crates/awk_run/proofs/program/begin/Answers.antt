@@ -7,7 +7,8 @@ use Rattle.awk_run.proofs.program.begin.Goals as goal
 pub returns-in_err-prepare-clause-plays : goal.returns-in_err-prepare-clause-plays
 returns-in_err-prepare-clause-plays g c =
     let e = err_from_is_err_and c.from_residual.result c.from_residual.ensures.1 in
-    rw (e.1, e.2) (λ m is start first y. then_unprepared _ _ _ y (c.prepare.ensures m c.args.run.now.streams _ is.host start) c.in_err-prepare.was)
+    rw (e.1, e.2) (λ m is start first y. then_unprepared _ _ _ y (c.prepare.ensures m c.args.run.now.streams _ is.host
+    start) c.in_err-prepare.was)
 
 pub returns-in_err-prepare-clause-owns : goal.returns-in_err-prepare-clause-owns
 returns-in_err-prepare-clause-owns g c = c.requires

@@ -3,4 +3,5 @@ use Rattle.awk_run.proofs.records.turn.Goals as goal
 
 pub returns : goal.returns
 returns g c =
-    rw c.come_back.ensures (comes_back g.W.World c.args.cx.now (c.args.run.now.store, c.args.run.now.streams) (c.meet.new.run.store, c.meet.new.run.streams) c.args.world.now c.meet.new.world c.meet.result c.meet.ensures)
+    rw c.come_back.ensures (comes_back g.W.World c.args.cx.now (c.args.run.now.store, c.args.run.now.streams)
+    (c.meet.new.run.store, c.meet.new.run.streams) c.args.world.now c.meet.new.world c.meet.result c.meet.ensures)

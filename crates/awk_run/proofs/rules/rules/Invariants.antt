@@ -7,5 +7,6 @@ use Rattle.awk_run.proofs.rules.rules.Given as goal
 
 abbrev pub invariant-loop-n : goal.invariant-loop-n
 invariant-loop-n g l =
-    Along g.W.World l.cx (λ m. Do (Rules 0 m.program.rules)) (λ m k. Do (Rules l.n (map (view_rule (names_in m)) (drop l.n l.cx.program.now.rules))) ∷ k)
+    Along g.W.World l.cx (λ m. Do (Rules 0 m.program.rules))
+    (λ m k. Do (Rules l.n (map (view_rule (names_in m)) (drop l.n l.cx.program.now.rules))) ∷ k)
     (l.fn.run.store, l.fn.run.streams) l.fn.world (l.run.store, l.run.streams) l.world

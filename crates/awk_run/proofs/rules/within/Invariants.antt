@@ -9,5 +9,9 @@ use Rattle.awk_run.proofs.rules.within.Given as goal
 
 abbrev pub invariant-loop-pattern : goal.invariant-loop-pattern
 invariant-loop-pattern g l =
-    Along g.W.World l.cx (λ m. At (Choosing l.n (rule_of (p.range (view (names_in m) l.first) (view (names_in m) l.last)) (map (view_statement (names_in m)) l.action))) [])
-    (λ m k. At (Choosing l.n (rule_of (p.range (view (names_in m) l.first) (view (names_in m) l.last)) (map (view_statement (names_in m)) l.action))) [] ∷ k) (l.fn.run.store, l.fn.run.streams) l.fn.world (l.run.store, l.run.streams) l.world
+    Along g.W.World l.cx (λ m. At
+    (Choosing l.n (rule_of (p.range (view (names_in m) l.first) (view (names_in m) l.last))
+    (map (view_statement (names_in m)) l.action))) [])
+    (λ m k. At (Choosing l.n (rule_of (p.range (view (names_in m) l.first) (view (names_in m) l.last))
+    (map (view_statement (names_in m)) l.action))) [] ∷ k) (l.fn.run.store, l.fn.run.streams) l.fn.world
+    (l.run.store, l.run.streams) l.world

@@ -9,4 +9,5 @@ one-ascends (x ∷ []) h = refl
 one-ascends (x ∷ y ∷ rest) h = absurd (omega arith)
 
 pub returns : goal.returns
-returns c = sym (one-ascends (drop (c.loop-i.i - 1) c.args.names.now) (omega (arith, length-drop {A = List ℕ}))) ∙ c.loop-i.invariant
+returns c = sym (one-ascends (drop (c.loop-i.i - 1) c.args.names.now) (omega (arith, length-drop {A = List ℕ})))
+    ∙ c.loop-i.invariant

@@ -7,4 +7,6 @@ use Rattle.awk_run.specs.Starts.{Prepared, assigning}
 use Rattle.awk_run.proofs.start.assign_all.Given as goal
 
 abbrev pub invariant-loop-pair : goal.invariant-loop-pair
-invariant-loop-pair l = (m : Given) (t : Table) (k : List Piece) → IsHost l.host m → Prepared m (assigning m.can_assign l.pairs ++ k) (assigning m.can_assign (drop l.pair-index l.pairs) ++ k) (l.fn.store, t) (l.store, t)
+invariant-loop-pair l = (m : Given) (t : Table) (k : List Piece) → IsHost l.host m
+    → Prepared m (assigning m.can_assign l.pairs ++ k) (assigning m.can_assign (drop l.pair-index l.pairs) ++ k)
+    (l.fn.store, t) (l.store, t)

@@ -8,9 +8,11 @@ assign-requires c = rw c.bytes-2.ensures (rw c.bytes.ensures at (sym c.can_assig
 
 pub returns-then-not-can_assign : goal.returns-then-not-can_assign
 returns-then-not-can_assign c = λ m t k rest is.
-    rw (passes_first m.can_assign c.args.pair.now rest (is.can_assign c.args.pair.now.0 ∙ rw c.bytes.ensures at (sym c.can_assign.ensures ∙ c.if-not-can_assign.true))) (ready (unprepared _ _))
+    rw (passes_first m.can_assign c.args.pair.now rest (is.can_assign c.args.pair.now.0 ∙ rw c.bytes.ensures at
+    (sym c.can_assign.ensures ∙ c.if-not-can_assign.true))) (ready (unprepared _ _))
 
 pub returns : goal.returns
 returns c = λ m t k rest is.
-    rw (assigns_first m.can_assign c.args.pair.now rest (is.can_assign c.args.pair.now.0 ∙ rw c.bytes.ensures at (sym c.can_assign.ensures ∙ c.if-not-can_assign.false)))
+    rw (assigns_first m.can_assign c.args.pair.now rest (is.can_assign c.args.pair.now.0 ∙ rw c.bytes.ensures at
+    (sym c.can_assign.ensures ∙ c.if-not-can_assign.false)))
     (prepares_last (unprepared _ _) (rw (c.bytes-2.ensures, c.bytes-3.ensures) at (c.assign.ensures m t is)))

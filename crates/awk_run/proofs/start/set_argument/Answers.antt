@@ -17,5 +17,7 @@ returns-in_err-copy c = λ m t.
     rw (e.1, e.2) (lacking refl)
 
 pub returns : goal.returns
-returns c = λ m t. where_sound (λ sound. ap (λ x. set_at_start (machine.Element (global x) (decimal c.args.n) nowhere) (v.Input c.args.text.now)) (sound.own own.Argv))
-    (rw (c.slot.ensures, c.new.ensures, c.in_ok-copy.ensures.items, c.as_bytes-key.ensures.value, c.format.ensures.text) at (c.set_element.ensures m t nowhere))
+returns c = λ m t. where_sound (λ sound. ap (λ x. set_at_start (machine.Element (global x) (decimal c.args.n) nowhere)
+    (v.Input c.args.text.now)) (sound.own own.Argv))
+    (rw (c.slot.ensures, c.new.ensures, c.in_ok-copy.ensures.items, c.as_bytes-key.ensures.value, c.format.ensures.text)
+    at (c.set_element.ensures m t nowhere))

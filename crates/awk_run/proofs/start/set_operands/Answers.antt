@@ -12,12 +12,15 @@ pub returns-in_err-set_argument : goal.returns-in_err-set_argument
 returns-in_err-set_argument c =
     let e = err_from_is_err_and c.from_residual.result c.from_residual.ensures.1 in
     rw (e.1, e.2) (λ m t k. prepares_not _
-    (rw (next_of c.args.operands.now c.loop-n.n c.index-operands-n.result c.index-operands-n.is c.loop-n-test.true) at (c.loop-n.invariant.0 m t k))
+    (rw (next_of c.args.operands.now c.loop-n.n c.index-operands-n.result c.index-operands-n.is c.loop-n-test.true) at
+    (c.loop-n.invariant.0 m t k))
     (rw c.bytes.ensures at (c.set_argument.ensures m t)) c.in_err-set_argument.was)
 
 pub loop-n-preserved : goal.loop-n-preserved
 loop-n-preserved c = (
-  λ m t k. prepared (rw (next_of c.args.operands.now c.loop-n.n c.index-operands-n.result c.index-operands-n.is c.loop-n-test.true) at (c.loop-n.invariant.0 m t k)) (rw c.bytes.ensures at (c.set_argument.ensures m t)) c.in_ok-set_argument.was,
+  λ m t k. prepared (rw (next_of c.args.operands.now c.loop-n.n c.index-operands-n.result c.index-operands-n.is
+      c.loop-n-test.true) at (c.loop-n.invariant.0 m t k)) (rw c.bytes.ensures at (c.set_argument.ensures m t))
+      c.in_ok-set_argument.was,
   let below = c.loop-n-test.true in omega (arith, below),
 )
 

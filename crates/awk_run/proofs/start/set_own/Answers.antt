@@ -6,4 +6,5 @@ use Rattle.awk_run.proofs.Preparing.{where_sound}
 use Rattle.awk_run.proofs.start.set_own.Goals as goal
 
 pub returns : goal.returns
-returns c = λ m t. where_sound (λ sound. ap (λ x. set_at_start (machine.Variable (global x)) c.args.value) (sound.own c.args.name)) (rw c.slot.ensures at (c.set_variable.ensures m t))
+returns c = λ m t. where_sound (λ sound. ap (λ x. set_at_start (machine.Variable (global x)) c.args.value)
+    (sound.own c.args.name)) (rw c.slot.ensures at (c.set_variable.ensures m t))

@@ -9,4 +9,6 @@ pub returns-in_default-unescape : goal.returns-in_default-unescape
 returns-in_default-unescape c = λ m t k. no_memory refl
 
 pub returns : goal.returns
-returns c = λ m t k. rw c.in-Some.is (prepares_last (unprepared _ _) (rw (c.new.ensures, c.in-Ok.ensures.ok, c.bytes.ensures) at (c.set_own.ensures m t)))
+returns c = λ m t k. rw c.in-Some.is
+    (prepares_last (unprepared _ _) (rw (c.new.ensures, c.in-Ok.ensures.ok, c.bytes.ensures) at
+    (c.set_own.ensures m t)))

@@ -27,7 +27,8 @@ returns-in_err-item c =
 pub loop-turn-preserved : goal.loop-turn-preserved
 loop-turn-preserved c =
     let h : is_done c.past.new.self ≡ false = cc in
-    rw c.in_ok-push.ensures.ok (viewed_until view_item past is_done _ _ _ _ _ _ _ _ _ c.loop-turn-test.true c.past.ensures h c.in_ok-item.ensures c.loop-turn.invariant)
+    rw c.in_ok-push.ensures.ok (viewed_until view_item past is_done _ _ _ _ _ _ _ _ _ c.loop-turn-test.true
+    c.past.ensures h c.in_ok-item.ensures c.loop-turn.invariant)
 
 pub returns-then-not-is_done : goal.returns-then-not-is_done
 returns-then-not-is_done c =

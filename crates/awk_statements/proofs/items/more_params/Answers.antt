@@ -19,7 +19,8 @@ returns-in_err-next_param c =
 pub loop-turn-preserved : goal.loop-turn-preserved
 loop-turn-preserved c =
     let h : is w.Comma (ahead c.loop-turn.tokens) ≡ true = cc in
-    rw c.in_ok-push.ensures.ok (many_goes (is w.Comma) _ _ _ _ _ _ _ _ c.loop-turn-test.true h c.in_ok-next_param.ensures c.loop-turn.invariant)
+    rw c.in_ok-push.ensures.ok (many_goes (is w.Comma) _ _ _ _ _ _ _ _ c.loop-turn-test.true h
+    c.in_ok-next_param.ensures c.loop-turn.invariant)
 
 pub returns-then-is : goal.returns-then-is
 returns-then-is c =

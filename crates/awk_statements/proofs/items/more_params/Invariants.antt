@@ -7,4 +7,5 @@ use Rattle.awk_expressions.proofs.Loops.{with_front}
 use Rattle.awk_statements.proofs.items.more_params.Given as goal
 
 abbrev pub invariant-loop-turn : goal.invariant-loop-turn
-invariant-loop-turn l = with_front l.found (many_from (is w.Comma) next_param (l._turn-end - l._turn) l.tokens) ≡ more_params l.fn.tokens
+invariant-loop-turn l = with_front l.found (many_from (is w.Comma) next_param (l._turn-end - l._turn) l.tokens)
+    ≡ more_params l.fn.tokens

@@ -9,4 +9,6 @@ use Rattle.awk_expressions.proofs.Loops.{with_front}
 use Rattle.awk_statements.proofs.prints.more_printed.Given as goal
 
 abbrev pub invariant-loop-turn : goal.invariant-loop-turn
-invariant-loop-turn l = with_front (map view l.found) (many_from (is w.Comma) (next_printed l.level.depth (expr l.level.depth)) (l._turn-end - l._turn) l.tokens) ≡ more_printed l.level.depth (expr l.level.depth) l.fn.tokens
+invariant-loop-turn l = with_front (map view l.found)
+    (many_from (is w.Comma) (next_printed l.level.depth (expr l.level.depth)) (l._turn-end - l._turn) l.tokens)
+    ≡ more_printed l.level.depth (expr l.level.depth) l.fn.tokens

@@ -6,8 +6,10 @@ use Rattle.awk_statements.proofs.statement.+statement.Goals as goal
 
 pub returns-then-depth-eq0 : goal.returns-then-depth-eq0
 unfolding statement
-returns-then-depth-eq0 t c = λ _. let none : c.args.depth ≡ 0 = omega arith in rw none (first_of (cc, search rules, grind (arith, common_steps)))
+returns-then-depth-eq0 t c = λ _. let none : c.args.depth ≡ 0 = omega arith in
+    rw none (first_of (cc, search rules, grind (arith, common_steps)))
 
 pub returns : goal.returns
 unfolding statement
-returns t c = rw (deeper (λ n. statement n c.args.which c.args.tokens.now) c.args.depth (omega arith)) c.nested_in.ensures
+returns t c = rw (deeper (λ n. statement n c.args.which c.args.tokens.now) c.args.depth (omega arith))
+    c.nested_in.ensures

@@ -7,4 +7,5 @@ pub returns-in_default : goal.returns-in_default
 returns-in_default g c =
     let d = c.args.self.now.level.depth in
     let n = c.in_default in
-    rw (statement_by-other d (expr d) (statement d) c.args.kind c.args.tokens.now n.not-Semicolon n.not-OpenBrace n.not-If n.not-While n.not-Do n.not-For) c.simple.ensures
+    rw (statement_by-other d (expr d) (statement d) c.args.kind c.args.tokens.now n.not-Semicolon n.not-OpenBrace
+    n.not-If n.not-While n.not-Do n.not-For) c.simple.ensures

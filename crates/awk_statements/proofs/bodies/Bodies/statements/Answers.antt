@@ -25,7 +25,8 @@ returns-in_err-statement_here g c =
 pub loop-turn-preserved : goal.loop-turn-preserved
 loop-turn-preserved g c =
     let h : closes c.skip.new.self ≡ false = cc in
-    rw c.in_ok-push.ensures.ok (viewed_until view_statement skip closes _ _ _ _ _ _ _ _ _ c.loop-turn-test.true c.skip.ensures h c.in_ok-statement_here.ensures c.loop-turn.invariant)
+    rw c.in_ok-push.ensures.ok (viewed_until view_statement skip closes _ _ _ _ _ _ _ _ _ c.loop-turn-test.true
+    c.skip.ensures h c.in_ok-statement_here.ensures c.loop-turn.invariant)
 
 pub returns-then-not-is : goal.returns-then-not-is
 returns-then-not-is g c =

@@ -20,7 +20,8 @@ returns-in-Ok g c =
 
 pub returns-in-Err : goal.returns-in-Err
 returns-in-Err g c =
-    owes_same g.W.World.follows g.W.World.has_stopped g.W.World.open_numbers g.W.World.stops g.W.World.lacks c.joins.new.self
+    owes_same g.W.World.follows g.W.World.has_stopped g.W.World.open_numbers g.W.World.stops g.W.World.lacks
+    c.joins.new.self
     c.args.self.now c.put_held.new.self c.args.ask.now (Err c.in-Err.stop)
     (c.joins.ensures.refused c.if-joins.false)
     (unemptied_owes g.W.World.follows g.W.World.has_stopped g.W.World.open_numbers g.W.World.stops g.W.World.lacks

@@ -14,7 +14,8 @@ pub returns-then-refuses : goal.returns-then-refuses
 returns-then-refuses g c =
     let same = c.begins.ensures.refused c.if-begins.false in
     let r = c.refuses.ensures.refused c.if-refuses.true in
-    owes_same g.W.World.follows g.W.World.has_stopped g.W.World.open_numbers g.W.World.stops g.W.World.lacks c.begins.new.self
+    owes_same g.W.World.follows g.W.World.has_stopped g.W.World.open_numbers g.W.World.stops g.W.World.lacks
+    c.begins.new.self
     c.args.self.now c.refuses.new.self c.args.ask.now (Ok Failed) same
     (refused_owes g.W.World.follows g.W.World.has_stopped g.W.World.open_numbers g.W.World.stops g.W.World.lacks
     g.met.W.World.follows_none c.begins.new.self c.refuses.new.self c.args.ask.now
@@ -24,5 +25,6 @@ pub returns : goal.returns
 returns g c =
     let same = c.begins.ensures.refused c.if-begins.false in
     let r = c.refuses.ensures.passed c.if-refuses.false in
-    owes_same g.W.World.follows g.W.World.has_stopped g.W.World.open_numbers g.W.World.stops g.W.World.lacks _ _ _ _ _ (r.0 ∙ same)
+    owes_same g.W.World.follows g.W.World.has_stopped g.W.World.open_numbers g.W.World.stops g.W.World.lacks _ _ _ _ _
+    (r.0 ∙ same)
     c.pass_on.ensures

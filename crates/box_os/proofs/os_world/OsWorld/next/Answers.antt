@@ -8,4 +8,5 @@ below n (inr two) = omega (arith, two)
 
 -- the numbers that are open begin at 3, so 1 and 2 are none of them
 pub returns-in_default-clause-outputs : goal.returns-in_default-clause-outputs
-returns-in_default-clause-outputs c output = rw (c.next_of.ensures.absent (below-is_new 3 _ _ _ (below _ output) c.self.invariant)) refl
+returns-in_default-clause-outputs c output =
+    rw (c.next_of.ensures.absent (below-is_new 3 _ _ _ (below _ output) c.self.invariant)) refl

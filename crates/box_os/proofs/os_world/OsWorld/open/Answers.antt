@@ -9,4 +9,5 @@ invariant_of-self-in-Ok-open_stream c =
     rw (pushed, c.reserve.ensures.items, map-append (λ (s : OpenStream). s.number)) (rises-given _ _ _ c.self.invariant)
 
 pub returns-in-Ok-open_stream-clause-fits : goal.returns-in-Ok-open_stream-clause-fits
-returns-in-Ok-open_stream-clause-fits c = rw (c.in-Ok-try_from.ensures.1, ← c.self.view_is) (rises-le _ _ _ c.self.invariant, next-is_new _ _ _ c.self.invariant)
+returns-in-Ok-open_stream-clause-fits c = rw (c.in-Ok-try_from.ensures.1, ← c.self.view_is)
+    (rises-le _ _ _ c.self.invariant, next-is_new _ _ _ c.self.invariant)
