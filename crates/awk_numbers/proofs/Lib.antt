@@ -1,0 +1,4 @@
+pub mod Literals
+pub mod Wholes
+pub mod Settling
+pub mod Exact

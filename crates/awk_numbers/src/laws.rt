@@ -1,0 +1,22 @@
+//! Laws of the two profiles. The functions do nothing: each has a law as its contract.
+
+ghost use Rattle.awk_numbers.specs.Laws.{DivRestricts, NegRestricts, OneValue, Restricts};
+ghost use Rattle.awk_numbers.specs.Operators.{add, mul, rem, sub};
+ghost use Rattle.awk_numbers.specs.declared.number.Numbers.TheVariants as profile;
+
+/// For whole operands of a size up to 2^53, both profiles give the same wherever the whole one's result is of such a
+/// size too; of a quotient only where nothing remains.
+pub fn restriction()
+    ensures sum { Restricts add }
+    ensures difference { Restricts sub }
+    ensures product { Restricts mul }
+    ensures quotient { DivRestricts }
+    ensures remainder { Restricts rem }
+    ensures negative { NegRestricts }
+{}
+
+/// Equal numbers of a profile are one value.
+pub fn one_value()
+    ensures whole { OneValue profile.Whole }
+    ensures double { OneValue profile.Double }
+{}
