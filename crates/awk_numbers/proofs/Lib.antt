@@ -2,3 +2,8 @@ pub mod Literals
 pub mod Wholes
 pub mod Settling
 pub mod Exact
+pub mod Shortcuts
+pub mod Canonical
+pub mod Patterns
+pub mod Closest
+pub mod Samples

@@ -1,6 +1,6 @@
 -- When a double is a whole number up to 2 ^ 53, by comparisons and casts.
 use Rattle.std.proofs.Common.{ℕ, zero, suc, ◌≡◌, ◌+◌, ◌*◌, ◌/◌, ◌%◌, ◌^◌, ◌<◌, ◌≤◌, Bool, true, false, not, cond, ◌&&◌, ◌||◌, ◌==◌, T, ltb, eqb, w64, ◌⊎◌, inl, inr}
-use Rattle.std.proofs.Common.{ℤ, pos, negsuc, neg_ℤ, unsigned_abs, nat_le, Ok, refl, sym, ap, subst, ◌∙◌, arith, div-add-mod', lt→ltb, ltb→lt, eqb→eq, true≢false}
+use Rattle.std.proofs.Common.{ℤ, pos, negsuc, neg_ℤ, unsigned_abs, nat_le, Ok, Err, refl, sym, ap, subst, ◌∙◌, arith, div-add-mod', lt→ltb, ltb→lt, eqb→eq, true≢false}
 use Rattle.std.proofs.lemmas.Float.{le_trans, lt_of_le_of_lt, lt_of_not-le}
 use Rattle.std.specs.Float.{Float, binary64, nan, inf, fin, two_to, minus_two_to, ◌≤ᶠ◌, ◌<ᶠ◌, float_is_finite, float_to_signed}
 use lib.Dec.{eqb_refl, le→leb}
@@ -9,7 +9,10 @@ use lib.Ieee.Exact.{HasValue}
 use lib.Ieee.Fits.{down_pos, and_l, and_r, and_i, eq→eqb}
 use lib.Ieee.Nearest.{div_mono}
 use Rattle.awk_numbers.specs.declared.number.Number.TheVariants.{Whole, Real}
+use Rattle.awk_numbers.specs.declared.number.NumberFault.TheVariants.{OutOfRange}
+use Rattle.awk_numbers.specs.declared.number.Number.{Number}
 use Rattle.awk_numbers.specs.Numbers.{signed, is_counted, settled, is_small}
+use Rattle.awk_numbers.specs.Operators.{is_bounded, whole_of}
 use Rattle.awk_numbers.proofs.Wholes.{counted}
 use Rattle.awk_numbers.proofs.Exact.{positive_value, negative_value}
 
@@ -127,7 +130,7 @@ equal_size (fin u n d) s t m e q v h = cancelled (n * up d) (m * up e) q (down d
         native.Mathlib.Nat.eq_of_mul-eq-mul_right c p b (q * d) (sym f ∙ ap (λ (i : ℕ). i * d) first ∙ omega arith)
 
 -- the double of a whole number with a sign
-double_value : (s : Bool) (q : ℕ) → q ≤ 2 ^ 53 → (t : Bool) × ((t ≡ s) ⊎ (q ≡ 0)) × HasValue (of_int binary64 (signed s q)) t q 1
+pub double_value : (s : Bool) (q : ℕ) → q ≤ 2 ^ 53 → (t : Bool) × ((t ≡ s) ⊎ (q ≡ 0)) × HasValue (of_int binary64 (signed s q)) t q 1
 double_value false q h = (false, inl refl, positive_value q h)
 double_value true zero h = (false, inr refl, positive_value zero h)
 double_value true (suc q) h = (true, inl refl, negative_value q h)
@@ -187,3 +190,12 @@ unfolding float_is_finite
 settles_large nan h f = absurd (true≢false (sym f))
 settles_large (inf s) h f = absurd (true≢false (sym f))
 settles_large (fin s m e) h f = rw (past (m * up e) (down e) (down_pos e) (large_size s m e h)) refl
+
+pub settles_nothing : (x : Float) → float_is_finite x ≡ false → Err OutOfRange ≡ settled x
+unfolding float_is_finite
+settles_nothing nan f = refl
+settles_nothing (inf s) f = refl
+settles_nothing (fin s m e) f = absurd (true≢false f)
+
+pub bounded_at : (x : Number) (y : Float) (n : ℤ) → x ≡ Real y → is_bounded y ≡ true → n ≡ float_to_signed w64 y → Ok n ≡ whole_of x
+bounded_at x y n e b is = rw (e, b, is) refl

@@ -1,5 +1,4 @@
--- The laws between the profiles: for whole operands of a size up to 2 ^ 53, what profile whole gives up to that size,
--- profile double gives too.
+-- The laws of the two profiles.
 use Rattle.std.specs.Prelude.{◌≡◌, ◌^◌, ◌≤◌, ℤ, pos, int_rem, unsigned_abs, Result, Ok}
 use Rattle.std.specs.declared.cmp.Ordering.TheVariants.{Equal}
 use Rattle.awk_numbers.specs.declared.number.Number.{Number}
@@ -25,6 +24,14 @@ DivRestricts = (m n z : ℤ) → IsExact m → IsExact n → IsExact z → int_r
 abbrev pub NegRestricts : Type 0
 NegRestricts = (n z : ℤ) → IsExact n → IsExact z
     → neg profile.Whole (Whole n) ≡ Ok (Whole z) → neg profile.Double (Whole n) ≡ Ok (Whole z)
+
+-- what an operator gives of numbers of a profile is one
+abbrev pub Closed : (Numbers → Number → Number → Result Number NumberFault) → Type 0
+Closed operator = (numbers : Numbers) (x y z : Number) → IsNumber numbers x → IsNumber numbers y
+    → operator numbers x y ≡ Ok z → IsNumber numbers z
+
+abbrev pub NegClosed : Type 0
+NegClosed = (numbers : Numbers) (x z : Number) → IsNumber numbers x → neg numbers x ≡ Ok z → IsNumber numbers z
 
 -- equal numbers are one value
 abbrev pub OneValue : Numbers → Type 0

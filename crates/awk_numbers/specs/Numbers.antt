@@ -1,9 +1,9 @@
 -- Numbers as IEEE 754 has them: a finite binary64 is m * 2 ^ e with a sign, and m * up e / down e is its size as a
 -- fraction. A number is one value: it is `Whole` where it is whole and of a size up to 2 ^ 53, and -0 is 0.
-use Rattle.std.specs.Prelude.{ℕ, ◌≡◌, ◌*◌, ◌/◌, ◌%◌, ◌^◌, ◌≤◌, ◌==◌, Bool, ◌&&◌, nat_le, ℤ, pos, neg_ℤ, Result, Ok, Err}
+use Rattle.std.specs.Prelude.{ℕ, ◌≡◌, ◌*◌, ◌/◌, ◌%◌, ◌^◌, ◌≤◌, ◌==◌, Bool, ◌&&◌, nat_le, T, ℤ, pos, neg_ℤ, Result, Ok, Err}
 use Rattle.std.specs.Prelude.{if◌then◌else◌, unsigned_abs}
 use Rattle.std.specs.Float.{Float, binary64, nan, inf, fin, two_to, minus_two_to}
-use lib.Ieee.{le, of_int, up, down}
+use lib.Ieee.{fits, le, of_int, up, down}
 use Rattle.awk_numbers.specs.declared.number.Number.{Number}
 use Rattle.awk_numbers.specs.declared.number.Number.TheVariants.{Whole, Real}
 use Rattle.awk_numbers.specs.declared.number.Numbers.{Numbers}
@@ -31,12 +31,12 @@ settled (inf s) = Err OutOfRange
 settled (fin s m e) =
     if is_counted (m * up e) (down e) then Ok (Whole (signed s (m * up e / down e))) else Ok (Real (fin s m e))
 
--- a number of the profile
+-- a number of the profile: `fits` says that binary64 has the double
 abbrev pub IsNumber : Numbers → Number → Type 0
 IsNumber profile.Whole (Whole n) = unsigned_abs n ≤ 2 ^ 63
 IsNumber profile.Whole (Real x) = ⊥
 IsNumber profile.Double (Whole n) = unsigned_abs n ≤ 2 ^ 53
-IsNumber profile.Double (Real x) = settled x ≡ Ok (Real x)
+IsNumber profile.Double (Real x) = T (fits binary64 x) × (settled x ≡ Ok (Real x))
 
 -- of a size up to 2 ^ 53
 abbrev pub is_small : Float → Bool

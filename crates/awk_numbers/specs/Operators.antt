@@ -77,8 +77,11 @@ abbrev pub truncated : Number → Result Number NumberFault
 truncated (Whole n) = Ok (Whole n)
 truncated (Real x) = settled (trunc binary64 x)
 
+-- from -2 ^ 63 to below 2 ^ 63
+abbrev pub is_bounded : Float → Bool
+is_bounded x = Ieee.le (minus_two_to 63) x && Ieee.lt x (two_to 63)
+
 -- without the fraction, F1 where 64 bits can't hold it
 abbrev pub whole_of : Number → Result ℤ NumberFault
 whole_of (Whole n) = Ok n
-whole_of (Real x) =
-    if Ieee.le (minus_two_to 63) x && Ieee.lt x (two_to 63) then Ok (float_to_signed w64 x) else Err OutOfRange
+whole_of (Real x) = if is_bounded x then Ok (float_to_signed w64 x) else Err OutOfRange

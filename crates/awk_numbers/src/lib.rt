@@ -2,6 +2,9 @@
 #![tactic(auto)]
 
 pub mod doubles;
+pub mod fixed;
+pub mod functions;
 pub mod laws;
 pub mod number;
+pub mod numeral;
 pub mod operators;

@@ -1,6 +1,6 @@
 // The operators by profile.
 ghost use Rattle.std.specs.Prelude.{◌≡◌};
-ghost use Rattle.awk_numbers.specs.Operators.{add, sub, mul, div, rem, neg, truth, order, truncated, whole_of};
+ghost use Rattle.awk_numbers.specs.Operators.{add, sub, mul, div, rem, neg, truth, order, is_bounded, truncated, whole_of};
 
 use crate::doubles;
 use crate::number::{Number, NumberFault, Numbers, settle};
@@ -135,6 +135,14 @@ pub fn truncated(x: Number) -> Result<Number, NumberFault>
     }
 }
 
+#[tactic(auto, using(crate::proofs::Literals::least_is, crate::proofs::Literals::past_is))]
+/// Whether a double is from -2^63 to below 2^63.
+fn is_bounded(x: f64) -> bool
+    ensures { result ≡ is_bounded x }
+{
+    if LEAST <= x { x < PAST } else { false }
+}
+
 /// The number without its fraction, as 64 bits hold it. Takes no memory.
 ///
 /// Fails with `NumberFault::OutOfRange` where they can't.
@@ -143,7 +151,7 @@ pub fn whole_of(x: Number) -> Result<i64, NumberFault>
 {
     match x {
         Number::Whole(n) => Ok(n),
-        Number::Real(y) if LEAST <= y && y < PAST => Ok(truncating_f64_to_i64(y)),
+        Number::Real(y) if is_bounded(y) => Ok(truncating_f64_to_i64(y)),
         Number::Real(_) => Err(NumberFault::OutOfRange),
     }
 }
