@@ -7,7 +7,7 @@ use Rattle.std.proofs.lemmas.Float.{eq_flip, eq-not_lt}
 use Rattle.std.specs.Bool.{if◌then◌else◌}
 use Rattle.std.specs.Ordering.{int_cmp}
 use Rattle.std.specs.Float.{Float, binary64, nan, inf, fin}
-use Rattle.core.specs.Float.Cmp.{same_key}
+use Rattle.std.specs.Float.Cmp.{same_key}
 use lib.Dec.{not_T}
 use lib.Ieee.{up, down, fits, of_int, of_bits, to_bits, top, lt, eq, is_nan, add, sub, mul, div, rem, neg}
 use lib.Ieee.Bits.{of_bits-to_bits, is_false}

@@ -10,10 +10,10 @@ use native.Mathlib.Nat.{eq_of_mul-eq-mul_right, div-one, mod-one, mul-le-mul}
 use lib.Pow.{pow_pos, pow_mono, pow-add}
 use Rattle.std.proofs.Common.{Fits, w64}
 use Rattle.std.proofs.Math.Nat.{pow-le-pow_right}
-use Rattle.std.specs.Prelude.{T, false, pos, length, replicate, ◌++◌}
+use Rattle.std.specs.Prelude.{false, length, replicate, ◌++◌}
 use Rattle.std.specs.Fmt.{decimal}
 use Rattle.std.specs.Float.{float_is_finite}
-use Rattle.awk_numbers.specs.Decimal.{scaled, fixed, fixed_digits, pointed}
+use Rattle.awk_numbers.specs.Decimal.{fixed, padded, pointed}
 use Rattle.awk_numbers.specs.Digits.{Splits, rounded, IsLarge}
 
 -- what is below half of the power is nothing
@@ -72,15 +72,9 @@ shifted_small n s h k =
     let both : n * 2 ^ s ≤ 2 ^ 117 * 2 ^ 10 = mul-le-mul {n₁ = n} {m₁ = 2 ^ s} {n₂ = 2 ^ 117} {m₂ = 2 ^ 10} (omega arith) most in
     omega (arith, both)
 
-pub rounded-scaled : (x : Float) (p : ℕ) → T (float_is_finite x) → rounded x p ≡ scaled x (pos p)
-unfolding rounded scaled float_is_finite
-rounded-scaled nan p h = absurd h
-rounded-scaled (inf s) p h = absurd h
-rounded-scaled (fin s m e) p h = refl
-
-pub as_fixed : (x : Float) (p n : ℕ) → T (float_is_finite x) → n ≡ rounded x p → pointed false p (replicate (p + 1 - length (decimal n)) 48 ++ decimal n) ≡ fixed x p
+pub as_fixed : (x : Float) (p n : ℕ) → n ≡ rounded x p → pointed p (replicate (p + 1 - length (decimal n)) 48 ++ decimal n) ≡ fixed x p
 unfolding fixed
-as_fixed x p n h e = ap (λ (k : ℕ). fixed_digits false p k) (e ∙ rounded-scaled x p h)
+as_fixed x p n e = ap (λ (k : ℕ). pointed p (padded (p + 1) k)) e
 
 pub zeros_of : (old : List ℕ) (n l : ℕ) → old ≡ [] → l ≡ 0 → take n old ++ replicate (n - l) 48 ≡ replicate n 48
 zeros_of old n l e z = rw (e, z) (search rules)

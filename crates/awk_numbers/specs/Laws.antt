@@ -15,7 +15,8 @@ IsExact z = unsigned_abs z ≤ 2 ^ 53
 -- where the operator of profile whole gives a whole number up to that size, that of profile double gives the same
 abbrev pub Restricts : (Numbers → Number → Number → Result Number NumberFault) → Type 0
 Restricts operator = (m n z : ℤ) → IsExact m → IsExact n → IsExact z
-    → operator profile.Whole (Whole m) (Whole n) ≡ Ok (Whole z) → operator profile.Double (Whole m) (Whole n) ≡ Ok (Whole z)
+    → operator profile.Whole (Whole m) (Whole n) ≡ Ok (Whole z)
+    → operator profile.Double (Whole m) (Whole n) ≡ Ok (Whole z)
 
 abbrev pub DivRestricts : Type 0
 DivRestricts = (m n z : ℤ) → IsExact m → IsExact n → IsExact z → int_rem m n ≡ pos 0

@@ -1,7 +1,7 @@
 -- Numbers as IEEE 754 has them: a finite binary64 is m * 2 ^ e with a sign, and m * up e / down e is its size as a
 -- fraction. A number is one value: it is `Whole` where it is whole and of a size up to 2 ^ 53, and -0 is 0.
-use Rattle.std.specs.Prelude.{ℕ, ◌≡◌, ◌*◌, ◌/◌, ◌%◌, ◌^◌, ◌≤◌, ◌==◌, Bool, ◌&&◌, nat_le, T, ℤ, pos, neg_ℤ, Result, Ok, Err}
-use Rattle.std.specs.Prelude.{if◌then◌else◌, unsigned_abs}
+use Rattle.std.specs.Prelude.{ℕ, ◌≡◌, ◌*◌, ◌/◌, ◌%◌, ◌^◌, ◌≤◌, ◌==◌, Bool, ◌&&◌, nat_le, T}
+use Rattle.std.specs.Prelude.{ℤ, pos, neg_ℤ, Result, Ok, Err, if◌then◌else◌, unsigned_abs}
 use Rattle.std.specs.Float.{Float, binary64, nan, inf, fin, two_to, minus_two_to}
 use lib.Ieee.{fits, le, of_int, up, down}
 use Rattle.awk_numbers.specs.declared.number.Number.{Number}

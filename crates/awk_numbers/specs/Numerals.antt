@@ -1,8 +1,8 @@
 -- Numerals, and the numbers of texts, in profile double. POSIX.1-2017, XCU awk, "Lexical Conventions" (FLOAT) and
 -- "Expressions in awk": blanks, an optional sign and the longest numeral that a text begins with. A numeral is digits
 -- with at most one point, then perhaps an exponent, always in base ten; it stands for the double nearest to it.
-use Rattle.std.specs.Prelude.{ℕ, Bool, false, ◌&&◌, ◌||◌, ◌==◌, nat_le, pos, List, [], ◌∷◌, drop, Option, Some, None, Result, Ok}
-use Rattle.std.specs.Prelude.{if◌then◌else◌}
+use Rattle.std.specs.Prelude.{ℕ, Bool, false, ◌&&◌, ◌||◌, ◌==◌, nat_le, pos, List, [], ◌∷◌, drop}
+use Rattle.std.specs.Prelude.{Option, Some, None, Result, Ok, if◌then◌else◌}
 use Rattle.std.specs.List.{prefix_len, list_all}
 use Rattle.std.specs.Result.{result_ok}
 use Rattle.std.specs.Float.{binary64}
@@ -42,7 +42,8 @@ number text = number_by (without_blanks text) (scan (without_sign (without_blank
 -- the text is one numeral with blanks behind, and there is a number that it stands for
 abbrev pub numeric_by : List ℕ → List ℕ → Parts → Option Number
 numeric_by text rest numeral =
-    if has_digits numeral && list_all is_blank (drop numeral.len rest) then result_ok (value_of (has_minus text) numeral) else None
+    if has_digits numeral && list_all is_blank (drop numeral.len rest) then result_ok (value_of (has_minus text) numeral)
+    else None
 
 abbrev pub looks_numeric : List ℕ → Option Number
 looks_numeric text =

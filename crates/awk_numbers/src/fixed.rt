@@ -1,9 +1,8 @@
 // The digits of a double with a number of places behind the point, rounded to the nearest, a tie to the even one.
-ghost use Rattle.std.specs.Prelude.{◌≡◌, ◌+◌, ◌*◌, ◌^◌, ◌<◌, ◌≤◌, ◌⊎◌, false, IfNone, IfSome, T};
+ghost use Rattle.std.specs.Prelude.{◌≡◌, ◌+◌, ◌*◌, ◌^◌, ◌<◌, ◌≤◌, ◌⊎◌, ◌++◌, length, replicate};
+ghost use Rattle.std.specs.Prelude.{IfNone, IfOk, IfSome, T};
 ghost use Rattle.std.specs.Float.{float_is_finite};
-ghost use lib.Ieee.Exact.{HasValue};
 ghost use lib.Ieee.Nearest.{closest};
-ghost use Rattle.std.specs.Prelude.{◌++◌, length, replicate, IfOk, OnOk};
 ghost use Rattle.awk_numbers.specs.Numbers.{double_of};
 ghost use Rattle.awk_numbers.specs.Decimal.{fixed, fixed_text, pointed};
 ghost use Rattle.awk_numbers.specs.Digits.{IsLarge, rounded, Splits};
@@ -85,7 +84,7 @@ pub fn rounded(x: f64, places: u32) -> Option<u128>
 /// The digits with a point before the last ones.
 fn pointed(alloc: Global, digits: &[u8], places: usize) -> Result<Vec<u8>, AllocError>
     requires { places ≤ length digits.now }
-    ensures { IfOk result (λ text. text.items ≡ pointed false places digits.now) }
+    ensures { IfOk result (λ text. text.items ≡ pointed places digits.now) }
 {
     if places == 0 {
         return Vec::from_slice(alloc, digits);

@@ -1,7 +1,8 @@
 // Numerals of profile double, and the numbers that texts begin with.
 ghost use Rattle.std.specs.Prelude.{◌≡◌};
 ghost use Rattle.std.specs.List.{list_all};
-ghost use Rattle.awk_numbers.specs.Numerals.{constant, has_minus, is_blank, looks_numeric, number, value_of, without_blanks, without_sign};
+ghost use Rattle.awk_numbers.specs.Numerals.{constant, has_minus, is_blank, looks_numeric, number, value_of};
+ghost use Rattle.awk_numbers.specs.Numerals.{without_blanks, without_sign};
 
 use crate::number::{Number, NumberFault, settle};
 use fast_float::Numeral;

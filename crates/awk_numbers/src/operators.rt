@@ -1,6 +1,7 @@
 // The operators by profile.
 ghost use Rattle.std.specs.Prelude.{◌≡◌};
-ghost use Rattle.awk_numbers.specs.Operators.{add, sub, mul, div, rem, neg, truth, order, is_bounded, truncated, whole_of};
+ghost use Rattle.awk_numbers.specs.Operators.{add, sub, mul, div, rem, neg, truth, order};
+ghost use Rattle.awk_numbers.specs.Operators.{is_bounded, truncated, whole_of};
 
 use crate::doubles;
 use crate::number::{Number, NumberFault, Numbers, settle};

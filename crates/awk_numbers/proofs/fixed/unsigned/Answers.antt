@@ -1,4 +1,4 @@
-use Rattle.std.proofs.Common.{◌≡◌, ◌++◌, ◌+◌, ◌-◌, length, replicate, false, List, ℕ, ap, ◌∙◌}
+use Rattle.std.proofs.Common.{◌≡◌, ◌++◌, ◌+◌, ◌-◌, length, replicate, List, ℕ, ap, ◌∙◌}
 use Rattle.std.specs.Fmt.{decimal}
 use Rattle.awk_numbers.specs.Decimal.{pointed}
 use Rattle.awk_numbers.proofs.Closest.{as_fixed, zeros_of}
@@ -14,4 +14,4 @@ returns-clause-some c =
     ∙ (λ i. replicate ((c.saturating_sub.ensures ∙ ap (λ (t : List ℕ). p + 1 - length t) text) i) 48) in
     let all : c.deref.result.now ≡ replicate (p + 1 - length (decimal n)) 48 ++ decimal n =
     c.deref.ensures.value ∙ c.in_ok-extend_from_slice.ensures.items ∙ (λ i. zeros i ++ text i) in
-    c.in_ok-pointed.ensures ∙ ap (pointed false p) all ∙ as_fixed c.args.x p n c.requires.finite c.in-Some.ensures.some
+    c.in_ok-pointed.ensures ∙ ap (pointed p) all ∙ as_fixed c.args.x p n c.in-Some.ensures.some
