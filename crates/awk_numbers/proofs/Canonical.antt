@@ -1,6 +1,6 @@
 -- What the operators give are numbers of the profile, and equal numbers are one value.
 use Rattle.std.proofs.Common.{ℕ, zero, suc, ◌≡◌, ◌*◌, ◌/◌, ◌%◌, ◌^◌, ◌≤◌, ◌==◌, Bool, true, false, cond, T, not, ◌&&◌}
-use Rattle.std.proofs.Common.{ℤ, pos, negsuc, neg_ℤ, unsigned_abs, int_rem, nat_abs, Result, Ok, Err, is_ok, refl, sym, ap, subst, ◌∙◌, arith, true≢false, div-add-mod', Less, Equal, Greater, is_eq}
+use Rattle.std.proofs.Common.{ℤ, pos, negsuc, ◌+ℤ◌, ◌-ℤ◌, ◌*ℤ◌, neg_ℤ, unsigned_abs, int_div, int_rem, nat_abs, Result, Ok, Err, is_ok, refl, sym, ap, subst, ◌∙◌, arith, true≢false, div-add-mod', Less, Equal, Greater, is_eq}
 use Rattle.std.proofs.lemmas.Int.{ints}
 use Rattle.std.proofs.lemmas.Bool.{and_parts, leb-true, ltb-true, ne_eqb}
 use Rattle.std.proofs.lemmas.Float.{eq_flip, eq-not_lt}
@@ -35,13 +35,16 @@ signed_size false q = refl
 signed_size true zero = refl
 signed_size true (suc q) = refl
 
+abbrev chosen : Bool → Bool → ℕ → Float → Result Number NumberFault
+chosen counted s q x = if counted then Ok (Whole (signed s q)) else Ok (Real x)
+
 settled_number : (x : Float) (z : Number) → T (fits binary64 x) → settled x ≡ Ok z → IsNumber profile.Double z
 settled_number nan z f e = absurd (true≢false (sym (ap is_ok e)))
 settled_number (inf s) z f e = absurd (true≢false (sym (ap is_ok e)))
 settled_number (fin s m p) z f e = go (is_counted (m * up p) (down p)) refl e
   where
     go : (b : Bool) → is_counted (m * up p) (down p) ≡ b
-        → (if b then Ok (Whole (signed s (m * up p / down p))) else Ok (Real (fin s m p))) ≡ Ok z → IsNumber profile.Double z
+        → chosen b s (m * up p / down p) (fin s m p) ≡ Ok z → IsNumber profile.Double z
     go true c h =
         let few : m * up p / down p ≤ 2 ^ 53 = leb-true _ _ (and_parts _ _ c).1 in
         subst (λ (k : Number). IsNumber profile.Double k) (ap number_in h) (subst (λ (n : ℕ). n ≤ 2 ^ 53) (sym (signed_size s (m * up p / down p))) few)
@@ -64,19 +67,19 @@ double_fits (Real x) p = p.0
 
 pub closed_add : Closed op.add
 closed_add profile.Double x y z p q e = settled_number _ z (add-fits binary64 (double_of x) (double_of y)) e
-closed_add profile.Whole (Whole m) (Whole n) z p q e = ranged_number _ z e
+closed_add profile.Whole (Whole m) (Whole n) z p q e = ranged_number (m +ℤ n) z e
 closed_add profile.Whole (Whole m) (Real y) z p q e = absurd q
 closed_add profile.Whole (Real x) y z p q e = absurd p
 
 pub closed_sub : Closed op.sub
 closed_sub profile.Double x y z p q e = settled_number _ z (sub-fits binary64 (double_of x) (double_of y)) e
-closed_sub profile.Whole (Whole m) (Whole n) z p q e = ranged_number _ z e
+closed_sub profile.Whole (Whole m) (Whole n) z p q e = ranged_number (m -ℤ n) z e
 closed_sub profile.Whole (Whole m) (Real y) z p q e = absurd q
 closed_sub profile.Whole (Real x) y z p q e = absurd p
 
 pub closed_mul : Closed op.mul
 closed_mul profile.Double x y z p q e = settled_number _ z (mul-fits binary64 (double_of x) (double_of y)) e
-closed_mul profile.Whole (Whole m) (Whole n) z p q e = ranged_number _ z e
+closed_mul profile.Whole (Whole m) (Whole n) z p q e = ranged_number (m *ℤ n) z e
 closed_mul profile.Whole (Whole m) (Real y) z p q e = absurd q
 closed_mul profile.Whole (Real x) y z p q e = absurd p
 
@@ -88,7 +91,7 @@ behind numbers false r z f h = f h
 
 pub closed_div : Closed op.div
 closed_div profile.Double x y z p q e = behind profile.Double (is_zero y) _ z (λ h. settled_number _ z (div-fits binary64 (double_of x) (double_of y)) h) e
-closed_div profile.Whole (Whole m) (Whole n) z p q e = behind profile.Whole (is_int_zero n) _ z (λ h. ranged_number _ z h) e
+closed_div profile.Whole (Whole m) (Whole n) z p q e = behind profile.Whole (is_int_zero n) _ z (λ h. ranged_number (int_div m n) z h) e
 closed_div profile.Whole (Whole m) (Real y) z p q e = absurd q
 closed_div profile.Whole (Real x) y z p q e = absurd p
 
@@ -108,7 +111,7 @@ closed_rem profile.Whole (Real x) y z p q e = absurd p
 
 pub closed_neg : NegClosed
 closed_neg profile.Double x z p e = settled_number _ z (neg-fits binary64 (double_of x) (double_fits x p)) e
-closed_neg profile.Whole (Whole n) z p e = ranged_number _ z e
+closed_neg profile.Whole (Whole n) z p e = ranged_number (neg_ℤ n) z e
 closed_neg profile.Whole (Real x) z p e = absurd p
 
 -- ---- equal numbers
@@ -124,7 +127,8 @@ no_whole (inf u) s q h e t = true≢false (sym (ap is_ok e))
 no_whole (fin u m p) s q h e t =
     let v = double_value s q h in
     let k = counted (m * up p) (down p) q (down_pos p) (equal_size (of_int binary64 (signed s q)) u v.0 m p q v.2 t) h in
-    true≢false (sym (ap is_real (sym (rw k.0 refl) ∙ e)))
+    let whole : settled (fin u m p) ≡ Ok (Whole (signed u (m * up p / down p))) = rw k.0 refl in
+    true≢false (sym (ap is_real (sym whole ∙ e)))
 
 mixed : (n : ℤ) (x : Float) → unsigned_abs n ≤ 2 ^ 53 → settled x ≡ Ok (Real x) → T (eq (of_int binary64 n) x) → ⊥
 mixed (pos n) x p e t = no_whole x false n p e t

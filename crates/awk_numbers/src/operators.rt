@@ -81,7 +81,9 @@ pub fn rem(numbers: Numbers, x: Number, y: Number) -> Result<Number, NumberFault
 {
     match (numbers, x, y) {
         (Numbers::Whole, Number::Whole(_), Number::Whole(0)) => Err(NumberFault::ZeroDivisor),
-        (Numbers::Whole, Number::Whole(m), Number::Whole(n)) => Ok(Number::Whole(m.checked_rem(n).unwrap_or(0))),
+        (Numbers::Whole, Number::Whole(m), Number::Whole(n)) => Ok(Number::Whole(
+            m.checked_rem(n).unwrap_or(0),
+        )),
         _ => doubles::rem(x, y),
     }
 }
@@ -93,7 +95,9 @@ pub fn neg(numbers: Numbers, x: Number) -> Result<Number, NumberFault>
     ensures { result ≡ neg numbers x }
 {
     match (numbers, x) {
-        (Numbers::Whole, Number::Whole(n)) => Ok(Number::Whole(n.checked_neg().ok_or(NumberFault::OutOfRange)?)),
+        (Numbers::Whole, Number::Whole(n)) => Ok(Number::Whole(
+            n.checked_neg().ok_or(NumberFault::OutOfRange)?,
+        )),
         _ => doubles::neg(x),
     }
 }

@@ -1,6 +1,5 @@
 // Numbers by `%.Nf`. An empty text stands where there is none: it takes more than 128 bits.
-use awk_numbers::fixed;
-use awk_numbers::numeral;
+use awk_numbers::{fixed, numeral};
 
 const ROWS: [(&[u8], u32, &[u8]); 36] = [
     (b"0.125", 2, b"0.12"),

@@ -1,7 +1,6 @@
 // Operators of both profiles at their edges. What is wanted is a numeral, or the name of a fault.
 use awk_numbers::number::{Number, NumberFault, Numbers};
-use awk_numbers::numeral;
-use awk_numbers::operators;
+use awk_numbers::{numeral, operators};
 
 const DOUBLE: [(&[u8], u8, &[u8], &[u8]); 60] = [
     (b"0.1", b'+', b"0.2", b"0.30000000000000004"),
@@ -12,7 +11,12 @@ const DOUBLE: [(&[u8], u8, &[u8], &[u8]); 60] = [
     (b"-9007199254740992", b'-', b"1", b"-9007199254740992"),
     (b"9007199254740992", b'+', b"3", b"9007199254740996"),
     (b"1e308", b'+', b"1e308", b"F1"),
-    (b"1.7976931348623157e308", b'+', b"1e291", b"1.7976931348623157e+308"),
+    (
+        b"1.7976931348623157e308",
+        b'+',
+        b"1e291",
+        b"1.7976931348623157e+308",
+    ),
     (b"1.7976931348623157e308", b'+', b"1e292", b"F1"),
     (b"0.5", b'+', b"0.5", b"1"),
     (b"1e16", b'+', b"1", b"10000000000000000"),
@@ -127,7 +131,12 @@ fn doubles(rt: HostRuntime) {
 #[test]
 fn whole_numbers(rt: HostRuntime) {
     for (i, (left, sign, right, want)) in WHOLE.iter().enumerate() {
-        let got = result_of(Numbers::Whole, Number::Whole(*left), *sign, Number::Whole(*right));
+        let got = result_of(
+            Numbers::Whole,
+            Number::Whole(*left),
+            *sign,
+            Number::Whole(*right),
+        );
         let fits = match (got, want) {
             (Ok(Number::Whole(n)), Ok(m)) => n == *m,
             (Err(NumberFault::OutOfRange), Err(NumberFault::OutOfRange)) => true,
