@@ -1,15 +1,12 @@
 -- The short ways of the operators, as the code takes them: a number of 64 bits is read back from its bits.
-use Rattle.std.proofs.Common.{◌≡◌, ◌^◌, ◌<◌, ◌≤◌, Bool, false, ℤ, pos, ◌+ℤ◌, ◌-ℤ◌, ◌*ℤ◌, neg_ℤ, unsigned_abs, int_rem, Ok, Err, SFits, w64, to_z, of_z}
+use Rattle.std.proofs.Common.{◌≡◌, ◌^◌, ◌<◌, ◌≤◌, ℤ, pos, ◌+ℤ◌, ◌-ℤ◌, ◌*ℤ◌, neg_ℤ, unsigned_abs, Ok, SFits, w64, to_z, of_z}
 use Rattle.std.proofs.Common.{refl, sym, ap, subst, ◌∙◌, arith}
-use Rattle.std.proofs.lemmas.Int.{ints, fits_signed_from_abs, rem_is, to_z-of_z}
-use Rattle.std.specs.Bool.{if◌then◌else◌}
-use lib.Ieee.{binary64, add, sub, mul, rem, neg}
+use Rattle.std.proofs.lemmas.Int.{ints, fits_signed_from_abs, to_z-of_z}
+use lib.Ieee.{binary64, add, sub, mul, neg}
 use Rattle.awk_numbers.specs.declared.number.Number.{Number}
 use Rattle.awk_numbers.specs.declared.number.Number.TheVariants.{Whole, Real}
-use Rattle.awk_numbers.specs.declared.number.NumberFault.TheVariants.{ZeroDivisor}
 use Rattle.awk_numbers.specs.Numbers.{double_of, settled}
-use Rattle.awk_numbers.specs.Operators.{is_zero}
-use Rattle.awk_numbers.proofs.Exact.{add_exact, sub_exact, mul_exact, rem_exact, neg_exact, not_zero}
+use Rattle.awk_numbers.proofs.Exact.{add_exact, sub_exact, mul_exact, neg_exact}
 
 abbrev IsSmall : ℤ → Type 0
 IsSmall z = unsigned_abs z ≤ 2 ^ 53
@@ -38,12 +35,6 @@ sub_at x y m n z p q e h = rw (p.0, q.0, e) (sym (sub_exact m n p.1 q.1 (subst I
 pub mul_at : (x y : Number) (m n z : ℤ) → (x ≡ Whole m) × IsSmall m → (y ≡ Whole n) × IsSmall n → z ≡ m *ℤ n → IsSmall z
     → Ok (Whole z) ≡ settled (mul binary64 (double_of x) (double_of y))
 mul_at x y m n z p q e h = rw (p.0, q.0, e) (sym (mul_exact m n p.1 q.1 (subst IsSmall e h)))
-
-pub rem_at : (x y : Number) (m n : ℤ) → (x ≡ Whole m) × IsSmall m → (y ≡ Whole n) × IsSmall n → is_zero y ≡ false
-    → Ok (Whole (held (int_rem (held m) (held n)))) ≡ (if is_zero y then Err ZeroDivisor else settled (rem binary64 (double_of x) (double_of y)))
-rem_at x y m n p q z =
-    let some = not_zero n (subst (λ (k : Number). is_zero k ≡ false) q.0 z) in
-    rw (z, p.0, q.0) (ap (λ (k : ℤ). Ok (Whole k)) (rem_is w64 m n (fits m p.1) (fits n q.1)) ∙ sym (rem_exact m n p.1 q.1 some))
 
 size_of_neg : (n : ℤ) → IsSmall n → IsSmall (neg_ℤ n)
 size_of_neg n h = omega (arith, ints, h)

@@ -58,6 +58,10 @@ rem profile.Whole (Whole m) (Whole n) = if is_int_zero n then Err ZeroDivisor el
 rem numbers x y =
     if is_zero y then Err ZeroDivisor else settled (Ieee.rem binary64 (double_of x) (double_of y))
 
+-- the remainder of whole numbers: `rem` of profile whole, and in profile double for operands of a size up to 2 ^ 53
+abbrev pub whole_rem : ℤ → ℤ → Result ℤ NumberFault
+whole_rem m n = if is_int_zero n then Err ZeroDivisor else Ok (int_rem m n)
+
 abbrev pub neg : Numbers → Number → Result Number NumberFault
 neg profile.Whole (Whole n) = ranged (neg_ℤ n)
 neg numbers x = settled (Ieee.neg (double_of x))

@@ -1,6 +1,6 @@
 // The operators of profile double: IEEE's, with a short way where all is whole and small.
 ghost use Rattle.std.specs.Prelude.{◌≡◌, ◌≤◌, ◌^◌, IfSome, unsigned_abs};
-ghost use Rattle.awk_numbers.specs.Operators.{add, sub, mul, div, rem, neg, is_zero};
+ghost use Rattle.awk_numbers.specs.Operators.{add, sub, mul, div, neg, is_zero};
 ghost use Rattle.awk_numbers.specs.declared.number.Numbers.TheVariants.{Double};
 ghost use Rattle.awk_numbers.specs.declared.number.Number.TheVariants.{Whole};
 
@@ -88,21 +88,6 @@ pub fn div(x: Number, y: Number) -> Result<Number, NumberFault>
         return Err(NumberFault::ZeroDivisor);
     }
     settle(x.to_double() / y.to_double())
-}
-
-/// What the truncated quotient leaves, with the sign of `x`. Takes no memory.
-///
-/// Fails with `NumberFault::ZeroDivisor` where `y` is zero.
-pub fn rem(x: Number, y: Number) -> Result<Number, NumberFault>
-    ensures { result ≡ rem Double x y }
-{
-    if is_zero(y) {
-        return Err(NumberFault::ZeroDivisor);
-    }
-    match both_exact(x, y) {
-        Some((m, n)) => Ok(Number::Whole(m % n)),
-        None => settle(x.to_double() % y.to_double()),
-    }
 }
 
 /// The number with the other sign. Takes no memory.

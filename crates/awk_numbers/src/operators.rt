@@ -1,6 +1,6 @@
 // The operators by profile.
 ghost use Rattle.std.specs.Prelude.{◌≡◌};
-ghost use Rattle.awk_numbers.specs.Operators.{add, sub, mul, div, rem, neg, truth, order};
+ghost use Rattle.awk_numbers.specs.Operators.{add, sub, mul, div, whole_rem, neg, truth, order};
 ghost use Rattle.awk_numbers.specs.Operators.{is_bounded, truncated, whole_of};
 
 use crate::doubles;
@@ -73,19 +73,17 @@ pub fn div(numbers: Numbers, x: Number, y: Number) -> Result<Number, NumberFault
     }
 }
 
-/// What the truncated quotient leaves, with the sign of `x`. Takes no memory.
+/// What the truncated quotient of two whole numbers leaves, with the sign of `m`. In profile double too it is what the
+/// remainder is where both are of a size up to 2^53. Takes no memory.
 ///
-/// Fails with `NumberFault::ZeroDivisor` where `y` is zero.
-pub fn rem(numbers: Numbers, x: Number, y: Number) -> Result<Number, NumberFault>
-    ensures { result ≡ rem numbers x y }
+/// Fails with `NumberFault::ZeroDivisor` where `n` is zero.
+pub fn whole_rem(m: i64, n: i64) -> Result<i64, NumberFault>
+    ensures { result ≡ whole_rem m n }
 {
-    match (numbers, x, y) {
-        (Numbers::Whole, Number::Whole(_), Number::Whole(0)) => Err(NumberFault::ZeroDivisor),
-        (Numbers::Whole, Number::Whole(m), Number::Whole(n)) => Ok(Number::Whole(
-            m.checked_rem(n).unwrap_or(0),
-        )),
-        _ => doubles::rem(x, y),
+    if n == 0 {
+        return Err(NumberFault::ZeroDivisor);
     }
+    Ok(m.checked_rem(n).unwrap_or(0))
 }
 
 /// The number with the other sign, by the profile. Takes no memory.

@@ -1,8 +1,8 @@
 // Operators of both profiles at their edges. What is wanted is a numeral, or the name of a fault.
 use awk_numbers::number::{Number, NumberFault, Numbers};
-use awk_numbers::{numeral, operators};
+use awk_numbers::{functions, numeral, operators};
 
-const DOUBLE: [(&[u8], u8, &[u8], &[u8]); 60] = [
+const DOUBLE: [(&[u8], u8, &[u8], &[u8]); 51] = [
     (b"0.1", b'+', b"0.2", b"0.30000000000000004"),
     (b"1", b'+', b"2", b"3"),
     (b"9007199254740992", b'+', b"1", b"9007199254740992"),
@@ -54,23 +54,9 @@ const DOUBLE: [(&[u8], u8, &[u8], &[u8]); 60] = [
     (b"5e-324", b'/', b"3", b"0"),
     (b"1", b'/', b"49", b"0.02040816326530612"),
     (b"9007199254740992", b'/', b"3", b"3002399751580330.5"),
-    (b"7", b'%', b"3", b"1"),
-    (b"-7", b'%', b"3", b"-1"),
-    (b"7", b'%', b"-3", b"1"),
-    (b"-7", b'%', b"-3", b"-1"),
-    (b"5.5", b'%', b"2", b"1.5"),
-    (b"-5.5", b'%', b"2", b"-1.5"),
-    (b"6", b'%', b"3", b"0"),
-    (b"-6", b'%', b"3", b"0"),
-    (b"1", b'%', b"0", b"F2"),
-    (b"1e308", b'%', b"3", b"2"),
-    (b"0.3", b'%', b"0.1", b"0.09999999999999998"),
-    (b"1", b'%', b"1e308", b"1"),
-    (b"5e-324", b'%', b"1", b"5e-324"),
-    (b"9007199254740992", b'%', b"9007199254740991", b"1"),
 ];
 
-const WHOLE: [(i64, u8, i64, Result<i64, NumberFault>); 14] = [
+const WHOLE: [(i64, u8, i64, Result<i64, NumberFault>); 10] = [
     (9223372036854775807, b'+', 1, Err(NumberFault::OutOfRange)),
     (9223372036854775806, b'+', 1, Ok(9223372036854775807)),
     (-9223372036854775808, b'-', 1, Err(NumberFault::OutOfRange)),
@@ -81,10 +67,15 @@ const WHOLE: [(i64, u8, i64, Result<i64, NumberFault>); 14] = [
     (-7, b'/', 2, Ok(-3)),
     (1, b'/', 0, Err(NumberFault::ZeroDivisor)),
     (-9223372036854775808, b'/', -1, Err(NumberFault::OutOfRange)),
-    (-9223372036854775808, b'%', -1, Ok(0)),
-    (-7, b'%', 3, Ok(-1)),
-    (7, b'%', -3, Ok(1)),
-    (1, b'%', 0, Err(NumberFault::ZeroDivisor)),
+];
+
+const REMAINDERS: [(i64, i64, Result<i64, NumberFault>); 6] = [
+    (7, 3, Ok(1)),
+    (-7, 3, Ok(-1)),
+    (7, -3, Ok(1)),
+    (-6, 3, Ok(0)),
+    (-9223372036854775808, -1, Ok(0)),
+    (1, 0, Err(NumberFault::ZeroDivisor)),
 ];
 
 fn result_of(numbers: Numbers, x: Number, sign: u8, y: Number) -> Result<Number, NumberFault> {
@@ -92,8 +83,7 @@ fn result_of(numbers: Numbers, x: Number, sign: u8, y: Number) -> Result<Number,
         b'+' => operators::add(numbers, x, y),
         b'-' => operators::sub(numbers, x, y),
         b'*' => operators::mul(numbers, x, y),
-        b'/' => operators::div(numbers, x, y),
-        _ => operators::rem(numbers, x, y),
+        _ => operators::div(numbers, x, y),
     }
 }
 
@@ -111,8 +101,8 @@ fn is_wanted(got: Result<Number, NumberFault>, want: &[u8]) -> bool {
             Some(y) => is_same(x, y),
             None => false,
         },
-        Err(NumberFault::OutOfRange) => want == b"F1",
-        Err(NumberFault::ZeroDivisor) => want == b"F2",
+        Err(NumberFault::OutOfRange) => want == b"F1".as_slice(),
+        Err(NumberFault::ZeroDivisor) => want == b"F2".as_slice(),
     }
 }
 
@@ -128,6 +118,15 @@ fn doubles(rt: HostRuntime) {
     }
 }
 
+fn is_wanted_whole(got: Result<Number, NumberFault>, want: Result<i64, NumberFault>) -> bool {
+    match (got, want) {
+        (Ok(Number::Whole(n)), Ok(m)) => n == m,
+        (Err(NumberFault::OutOfRange), Err(NumberFault::OutOfRange)) => true,
+        (Err(NumberFault::ZeroDivisor), Err(NumberFault::ZeroDivisor)) => true,
+        _ => false,
+    }
+}
+
 #[test]
 fn whole_numbers(rt: HostRuntime) {
     for (i, (left, sign, right, want)) in WHOLE.iter().enumerate() {
@@ -137,12 +136,32 @@ fn whole_numbers(rt: HostRuntime) {
             *sign,
             Number::Whole(*right),
         );
-        let fits = match (got, want) {
-            (Ok(Number::Whole(n)), Ok(m)) => n == *m,
-            (Err(NumberFault::OutOfRange), Err(NumberFault::OutOfRange)) => true,
-            (Err(NumberFault::ZeroDivisor), Err(NumberFault::ZeroDivisor)) => true,
-            _ => false,
+        assert!(rt; is_wanted_whole(got, *want), "row {i}");
+    }
+    for (i, (left, right, want)) in REMAINDERS.iter().enumerate() {
+        let got = match operators::whole_rem(*left, *right) {
+            Ok(n) => Ok(Number::Whole(n)),
+            Err(fault) => Err(fault),
         };
-        assert!(rt; fits, "row {i}");
+        assert!(rt; is_wanted_whole(got, *want), "remainder {i}");
+    }
+}
+
+const ROOTS: [(&[u8], &[u8]); 6] = [
+    (b"2", b"1.4142135623730951"),
+    (b"49", b"7"),
+    (b"0", b"0"),
+    (b"0.25", b"0.5"),
+    (b"5e-324", b"2.2227587494850775e-162"),
+    (b"-1", b"F1"),
+];
+
+#[test]
+fn square_roots(rt: HostRuntime) {
+    for (i, (text, want)) in ROOTS.iter().enumerate() {
+        assert!(rt;
+            is_wanted(functions::square_root(operand(text)), want),
+            "row {i}"
+        );
     }
 }
