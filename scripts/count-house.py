@@ -29,7 +29,7 @@ WORDS = [
     ("a statement with a name (`delete array`)", re.compile(r"\b(?:delete_all(?:_of)?|DeleteAll)\b")),
     ("the sign `+=`", re.compile(r'"\+="')),
 ]
-ROWS = {"rows", "row_calls", "library_rows", "library_calls", "edge_tests"}
+ROWS = {"rows", "row_calls", "library_rows", "library_calls", "edge_tests", "number_tests"}
 FUNCTION = re.compile(r"^[ \t]*(?:pub(?:\(crate\))? )?fn (\w+)", re.M)
 TYPE = re.compile(r"^[ \t]*pub(?:\(crate\))? (?:struct|enum|trait) (\w+)", re.M)
 CLAUSE = re.compile(r"\b(?:requires|ensures|decreases|returns)\b(?:\s+\w+)?\s*$")

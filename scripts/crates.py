@@ -22,7 +22,7 @@ PICTURE = ROOT / "docs" / "crates.svg"
 BEGIN, END = "<!-- crates: begin -->", "<!-- crates: end -->"
 # the colour of a crate, by its subject; one that is not named here is of the last
 SUBJECTS = [
-    ("#dceaf7", "awk_hash awk_text awk_ere awk_fields awk_format awk_lib"),
+    ("#dceaf7", "awk_hash awk_numbers awk_text awk_ere awk_fields awk_format awk_lib"),
     ("#e2f0d9", "awk_tokens awk_tree awk_expressions awk_statements awk_canon awk_resolve awk_program awk_lowering"),
     ("#e2f0d9", "awk_parse awk_printer"),
     ("#fff2cc", "awk_machine awk_streams awk_store awk_builtins awk_input awk_forms awk_eval awk_run"),

@@ -1,0 +1,9 @@
+pub mod Literals
+pub mod Wholes
+pub mod Settling
+pub mod Exact
+pub mod Shortcuts
+pub mod Canonical
+pub mod Patterns
+pub mod Closest
+pub mod Samples

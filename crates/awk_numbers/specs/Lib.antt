@@ -1,0 +1,7 @@
+pub mod Numbers
+pub mod Operators
+pub mod Laws
+pub mod Numerals
+pub mod Digits
+pub mod Decimal
+pub mod Functions

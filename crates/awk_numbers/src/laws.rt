@@ -1,0 +1,32 @@
+//! Laws of the two profiles. The functions do nothing: each has a law as its contract.
+
+ghost use Rattle.awk_numbers.specs.Laws.{Closed, DivRestricts, NegClosed, NegRestricts, OneValue, Restricts};
+ghost use Rattle.awk_numbers.specs.Operators.{add, div, mul, rem, sub};
+ghost use Rattle.awk_numbers.specs.declared.number.Numbers.TheVariants as profile;
+
+/// For whole operands of a size up to 2^53, both profiles give the same wherever the whole one's result is of such a
+/// size too; of a quotient only where nothing remains.
+pub fn restriction()
+    ensures sum { Restricts add }
+    ensures difference { Restricts sub }
+    ensures product { Restricts mul }
+    ensures quotient { DivRestricts }
+    ensures remainder { Restricts rem }
+    ensures negative { NegRestricts }
+{}
+
+/// What the operators give of numbers of a profile are numbers of the profile.
+pub fn closed()
+    ensures sum { Closed add }
+    ensures difference { Closed sub }
+    ensures product { Closed mul }
+    ensures quotient { Closed div }
+    ensures remainder { Closed rem }
+    ensures negative { NegClosed }
+{}
+
+/// Equal numbers of a profile are one value.
+pub fn one_value()
+    ensures whole { OneValue profile.Whole }
+    ensures double { OneValue profile.Double }
+{}

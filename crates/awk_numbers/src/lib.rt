@@ -1,0 +1,10 @@
+//! Numbers of scripts in two profiles: whole numbers of 64 bits, and IEEE doubles.
+#![tactic(auto)]
+
+pub mod doubles;
+pub mod fixed;
+pub mod functions;
+pub mod laws;
+pub mod number;
+pub mod numeral;
+pub mod operators;
