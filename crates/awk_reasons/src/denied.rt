@@ -9,11 +9,7 @@ const BEGINS: &str = "0:0 read ";
 /// The first line of this log that tells that the operand was not to be read, if one does.
 ///
 /// Fails where memory is refused.
-pub fn denied<'a>(
-    alloc: Global,
-    log: &'a [u8],
-    operand: &[u8],
-) -> Result<Option<&'a str>, Memory> {
+pub fn denied<'a>(alloc: Global, log: &'a [u8], operand: &[u8]) -> Result<Option<&'a str>, Memory> {
     let Ok(quoted) = quote_log(alloc, operand) else {
         return Err(AllocError);
     };

@@ -183,7 +183,9 @@ fn last_lines(rt: &HostRuntime, files: &Files) -> Result<Vec<u8>, Memory> {
 // An operand is denied where the log has its line, and cannot be opened where the system says so.
 fn of_operand(rt: &HostRuntime, log: &[u8], operand: &[u8]) -> Result<Option<String>, Memory> {
     if let Some(line) = denied(rt.alloc(), log, operand)? {
-        return Ok(Some(format!(in rt.alloc(); "the policy denies an operand; the log has: {line}")?));
+        return Ok(Some(format!(in rt.alloc();
+            "the policy denies an operand; the log has: {line}"
+        )?));
     }
     let Ok(name) = std::str::from_utf8(operand) else {
         return Ok(None);
@@ -202,7 +204,9 @@ fn unopened(rt: &HostRuntime, name: &str) -> Option<&'static str> {
     }
     match metadata(rt, name) {
         Ok(metadata) if metadata.is_dir() => Some("it is a folder"),
-        Ok(metadata) if metadata.is_file() => File::open(rt, name).err().map(|error| words_of(&error)),
+        Ok(metadata) if metadata.is_file() => File::open(rt, name)
+            .err()
+            .map(|error| words_of(&error)),
         Ok(_) => None,
         Err(error) => Some(words_of(&error)),
     }
