@@ -1,5 +1,6 @@
 // Texts as the log quotes them, read again.
-ghost use Rattle.std.specs.Prelude.{◌≡◌, ◌∷◌, ◌++◌, ◌<◌, ◌≤◌, ◌/◌, ◌%◌, ℕ, List, length, All, IfOk, IfSome, MatchOption};
+ghost use Rattle.std.specs.Prelude.{◌≡◌, ◌∷◌, ◌++◌, ◌<◌, ◌/◌, ◌%◌, ℕ, List, length, All};
+ghost use Rattle.std.specs.Prelude.{IfOk, IfSome, MatchOption};
 ghost use Rattle.std.specs.Str.{bytes_eq};
 ghost use Rattle.awk_text.specs.Quoted.{hex_digit, quoted, quoted_byte};
 
