@@ -2248,9 +2248,9 @@ proposed "a line behind one that has no end" "" 3 "awkbox: line 9 of the log is 
 # Under a wide policy a run with an audit learns a narrow one.
 policy 'effect = "allow"
 kind = "read"
-match = "/**"' 'effect = "allow"
+match = "**"' 'effect = "allow"
 kind = "write"
-match = "/**"'
+match = "**"'
 script 'BEGIN { print "a" > "out/learnt"; getline < "in/none" }'
 run --audit "$work/audit"
 is 0 "" "" "" && holds "$work/audit" "1:19 write ok \"out/learnt\"${line}1:35 read failed \"in/none\"$line" &&

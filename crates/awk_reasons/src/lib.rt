@@ -5,11 +5,11 @@
 #![tactic(auto)]
 
 mod bytes;
-mod denied;
 mod foreign;
+mod operands;
 mod places;
 mod reasons;
 mod tokens;
 
-pub use denied::{denied, told_of};
+pub use operands::{denied, told_of};
 pub use reasons::reason;
