@@ -1587,6 +1587,22 @@ script 'BEGIN { print > "no/a" }'
 run
 notes "not denied" "no rule denies it: the system refuses it"
 
+mkdir -p in/folder
+printf '1\n' >in/a
+policy 'effect = "allow"
+kind = "read"
+match = "in/**"'
+script '{ print }'
+run -- in/a in/none in/folder secret n=1 - <"$work/input"
+notes "operands that cannot be opened" "\"in/none\": there is no such file
+awkbox: note: \"in/folder\": it is a folder
+awkbox: note: the policy denies an operand; the log has: 0:0 read none \"secret\""
+script 'BEGIN { exit 2 }'
+run -- in/a
+! grep -q '^awkbox: note: ' "$work/errors"
+verdict "no note: each operand can be opened"
+rmdir in/folder
+
 # Listings and verdicts.
 
 # told STATUS OUTPUT ERRORS: whether the program ended with these
@@ -2175,7 +2191,75 @@ $(rule_of env A)
 # line 1 of the log
 $(rule_of read B)$line" 0 "" --policy "$p" --log "$work/log"
 
-for wrong in 'a' '1:1 read none a' '1:1 read none "a' '1:1 read none "\x61"' '1:1 read none "\x2"' '1:1 reed none "a"' '1:x read none "a"' '1:1 read some "a"' '1:1 read none "a" '; do
+printf 'version = 1\nbase = "/w"\n# kept\nrule = [{ effect = "allow", kind = "env", match = "A" }]\n' >"$p"
+printf '1:1 env none "B"\n' >"$work/log"
+proposed "rules in one value are written anew for an offer too" "version = 1
+base = \"/w\"
+
+$(rule_of env A)
+
+# allow? line 1 of the log
+$(offer_of env B)$line" 0 "" --policy "$p" --log "$work/log"
+printf '1:1 env none "A"\n' >"$work/log"
+proposed "rules in one value, and nothing to offer" "$(cat "$p")$line" 0 "" --policy "$p" --log "$work/log"
+
+cat >"$work/log" <<'END'
+0:0 read ok "in/a"
+1:2 write failed "no/b"
+2:3 append ok "out/c"
+0:0 assign ok "n"
+3:4 read ok "in/a"
+3:4 read failed "in/a"
+5:6 run ok "id"
+END
+of_audit="version = 1
+base = \"/w\"
+
+# line 1 of the log
+$(given_of read in/a)
+
+# line 2 of the log
+$(rule_of write no/b)
+
+# line 3 of the log
+$(rule_of append out/c)
+
+# line 4 of the log
+$(given_of assign n)
+
+# line 5 of the log
+$(rule_of read in/a)
+
+# allow? line 7 of the log
+$(offer_of run id)$line"
+proposed "a policy for an audit" "$of_audit" 0 "" --base /w --log "$work/log"
+printf '7:8 write 4294967295 "out/d"\n0:0 read none "in/a"\n' >>"$work/log"
+proposed "a policy for an audit with a log behind it" "$of_audit
+# line 8 of the log
+$(rule_of write out/d)$line" 0 "" --base /w --log "$work/log"
+sed -i '$d' "$work/log"
+printf '0:0 read none "in/a"' >>"$work/log"
+proposed "a last line without its end" "$of_audit
+# line 8 of the log
+$(rule_of write out/d)$line" 0 "" --base /w --log "$work/log"
+printf '1:1 read ok "in/b' >>"$work/log"
+proposed "a line behind one that has no end" "" 3 "awkbox: line 9 of the log is none that a run writes$line" --base /w --log "$work/log"
+
+# Under a wide policy a run with an audit learns a narrow one.
+policy 'effect = "allow"
+kind = "read"
+match = "**"' 'effect = "allow"
+kind = "write"
+match = "**"'
+script 'BEGIN { print "a" > "out/learnt"; getline < "in/none" }'
+run --audit "$work/audit"
+is 0 "" "" "" && holds "$work/audit" "1:19 write ok \"out/learnt\"${line}1:35 read failed \"in/none\"$line" &&
+    awkbox propose --base "$(pwd -P)" --log "$work/audit" && cp "$work/output" "$work/policy.toml" && run &&
+    is 0 "" "" "" && awkbox check --policy "$work/policy.toml" -f "$work/script.awk" && [ "$status" -eq 0 ]
+verdict "a policy that is learnt in one run"
+rm -f out/learnt
+
+for wrong in 'a' '1:1 read none a' '1:1 read none "a' '1:1 read none "\x61"' '1:1 read none "\x2"' '1:1 reed none "a"' '1:x read none "a"' '1:1 read some "a"' '1:1 read none "a" ' '' '01:1 read none "a"' '1:1 read 01 "a"' '1:1 read 4294967296 "a"' '4294967296:1 read none "a"' '1:1 read ok a' '1:1 read okay "a"' '1:1 read failed  "a"' '1:1 ok read "a"' $'1:1 read ok "\xff"' '1:1 read ok "\XFF"' $'1:1 read ok "a"\r' ' 1:1 read ok "a"'; do
     printf '0:0 env none "B"\n%s\n' "$wrong" >"$work/log"
     proposed "a log with the line $wrong" "" 3 "awkbox: line 2 of the log is none that a run writes$line" --base /w --log "$work/log"
 done
@@ -2270,6 +2354,35 @@ within() {
     [ "$status" -eq "$wanted" ] && [ $((SECONDS - before)) -le "$most" ]
     verdict "$name"
 }
+# What is too large is told in one line.
+yes '1:1 read none "in/a"' | head -c 100000000 >"$work/large"
+within 10 "a log of 100 MB" 3 --base /w --log "$work/large"
+told 3 "" "awkbox: cannot read \"$work/large\"$line"
+verdict "a log of 100 MB is told of in one line"
+truncate -s 16777216 "$work/large"
+within 20 "a log of 16 MiB with a cut line" 3 --base /w --log "$work/large"
+told 3 "" "awkbox: line 798916 of the log is none that a run writes$line"
+verdict "the cut line of a log of 16 MiB"
+truncate -s $((798915 * 21)) "$work/large"
+within 20 "a log of 16 MiB, less a cut line" 0 --base /w --log "$work/large"
+rm "$work/large"
+{
+    printf 'version = 1\nbase = "/w"\n#'
+    head -c $((16777216 - 26)) /dev/zero | tr '\0' x
+    echo
+} >"$work/large"
+printf '1:1 read none "b"\n' >"$work/log"
+within 20 "a policy of 16 MiB that would grow" 3 --policy "$work/large" --log "$work/log"
+told 3 "" "awkbox: the policy would have more than 16777216 bytes$line"
+verdict "a policy of 16 MiB that would grow is told of in one line"
+within 20 "a policy of 16 MiB" 0 --policy "$work/large"
+cmp -s "$work/large" "$work/output"
+verdict "a policy of 16 MiB stays as it is"
+echo >>"$work/large"
+within 10 "a policy of more than 16 MiB" 3 --policy "$work/large"
+told 3 "" "awkbox: cannot read \"$work/large\"$line"
+verdict "a policy of more than 16 MiB is told of in one line"
+rm "$work/large"
 seq -f '1:1 read none "in/%05.0f"' 44000 >"$work/log"
 within 10 "44,000 lines, and too many rules" 3 --base /w --log "$work/log"
 sed 's/none/1/' "$work/log" >"$work/more"

@@ -56,13 +56,17 @@ pub fn read(rt: &HostRuntime, name: &str) -> Result<ReadFile, ReadError> {
 /// The most bytes of a line of the log that is looked at once more.
 const MOST_OF_LINE: usize = 32_768;
 
-/// The last bytes of this file, so many that a line of the log has no more; none, where it cannot be read.
+/// The last bytes of this file, so many that a line of the log has no more; none, where it cannot be read, or is no
+/// regular file, as a FIFO, of which an open may wait.
 pub fn last_bytes(rt: &HostRuntime, name: &str) -> Result<Vec<u8>, Memory> {
     let mut bytes = Vec::new(rt.alloc());
-    let Ok(file) = File::open(rt, name) else {
+    let Ok(metadata) = metadata(rt, name) else {
         return Ok(bytes);
     };
-    let Ok(metadata) = file.metadata() else {
+    if !metadata.is_file() {
+        return Ok(bytes);
+    }
+    let Ok(file) = File::open(rt, name) else {
         return Ok(bytes);
     };
     let start = metadata.len().saturating_sub(MOST_OF_LINE as u64);

@@ -1,7 +1,7 @@
 // The program from its words to its exit status.
 use crate::advice::{lint_files, why_file};
 use crate::propose::propose_policy;
-use crate::reasons::{Files, tell_why};
+use crate::reasons::{Files, tell_of_operands, tell_why};
 use crate::runs::{read_source, run_script};
 use crate::stack::has_small_stack;
 use crate::standard;
@@ -39,7 +39,10 @@ fn follow_asked(rt: &HostRuntime, asked: &Asked<'_>, operands: Vec<Octets>) -> u
         return say(rt, &Message::OutOfMemory);
     };
     match done(rt, asked, operands) {
-        Ok(status) => status,
+        Ok(status) => {
+            tell_of_operands(rt, asked, &files, status);
+            status
+        }
         Err(message) => {
             let status = say(rt, &message);
             tell_why(rt, asked, &files, &message);

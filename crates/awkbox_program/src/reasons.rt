@@ -1,9 +1,9 @@
 // Why a message was said, on a line of its own behind it.
 use crate::files::{MOST_BYTES, ReadFile, last_bytes, read};
 use crate::folders::absolute;
-use awk_reasons::reason;
+use awk_reasons::{denied, reason, told_of};
 use awkbox::{Fault, Memory, Message, Place, SyntaxError};
-use awkbox_options::{Asked, STANDARD_INPUT};
+use awkbox_options::{Asked, STANDARD_INPUT, read_words};
 use std::fs::{File, metadata};
 use std::io::{Error, ErrorKind};
 use std::path::PathBuf;
@@ -146,6 +146,68 @@ fn unread(rt: &HostRuntime, name: &str) -> Option<&'static str> {
         Ok(metadata) if metadata.is_dir() => Some("it is a folder"),
         Ok(metadata) if metadata.len() > MOST_BYTES as u64 => Some("it has over 16 MiB"),
         Ok(_) => File::open(rt, name).err().map(|error| words_of(&error)),
+        Err(error) => Some(words_of(&error)),
+    }
+}
+
+/// The exit status of a run that passed an operand over, unless its script sets another one.
+const PASSED_OVER: u8 = 2;
+
+/// Tells of each operand that cannot be opened why, where a run of this status may have passed it over. Awk's own
+/// message comes while the script runs, and has no room for it. The folder is the one of the run.
+pub fn tell_of_operands(rt: &HostRuntime, asked: &Asked<'_>, files: &Files, status: u8) {
+    let (Asked::Run(_), PASSED_OVER) = (asked, status) else {
+        return;
+    };
+    let Ok(log) = last_lines(rt, files) else {
+        return;
+    };
+    // the words are read once more, since the run has those of before
+    let Ok(words) = read_words(rt) else {
+        return;
+    };
+    for operand in words.operands.as_slice() {
+        if let Ok(Some(note)) = of_operand(rt, log.as_slice(), operand.bytes()) {
+            let _ = eprintln!(rt; "awkbox: note: {note}");
+        }
+    }
+}
+
+fn last_lines(rt: &HostRuntime, files: &Files) -> Result<Vec<u8>, Memory> {
+    match &files.log {
+        Some(log) => last_bytes(rt, log.as_str()),
+        None => Ok(Vec::new(rt.alloc())),
+    }
+}
+
+// An operand is denied where the log has its line, and cannot be opened where the system says so.
+fn of_operand(rt: &HostRuntime, log: &[u8], operand: &[u8]) -> Result<Option<String>, Memory> {
+    if let Some(line) = denied(rt.alloc(), log, operand)? {
+        return Ok(Some(format!(in rt.alloc();
+            "the policy denies an operand; the log has: {line}"
+        )?));
+    }
+    let Ok(name) = std::str::from_utf8(operand) else {
+        return Ok(None);
+    };
+    match unopened(rt, name) {
+        Some(words) => Ok(Some(told_of(rt.alloc(), operand, words)?)),
+        None => Ok(None),
+    }
+}
+
+// Why the operand cannot be opened, if it can't. One that sets a variable, or is the standard input, is no file. What
+// is no regular file is not opened, since that may wait.
+fn unopened(rt: &HostRuntime, name: &str) -> Option<&'static str> {
+    if name == STANDARD_INPUT || name.is_empty() || name.contains('=') {
+        return None;
+    }
+    match metadata(rt, name) {
+        Ok(metadata) if metadata.is_dir() => Some("it is a folder"),
+        Ok(metadata) if metadata.is_file() => File::open(rt, name)
+            .err()
+            .map(|error| words_of(&error)),
+        Ok(_) => None,
         Err(error) => Some(words_of(&error)),
     }
 }

@@ -6,3 +6,7 @@ pub mod ExtendsLemmas
 pub mod ProposingLemmas
 pub mod UnreachedLemmas
 pub mod HeadsLemmas
+pub mod QuotesLemmas
+pub mod LogLinesLemmas
+pub mod LogsLemmas
+pub mod MetLemmas

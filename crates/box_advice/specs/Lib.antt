@@ -4,5 +4,8 @@ pub mod Heads
 pub mod Unreached
 pub mod Lints
 pub mod Wishes
+pub mod LogLines
+pub mod Logs
+pub mod Gathered
 pub mod Refused
 pub mod Proposals

@@ -1,19 +1,22 @@
-// A log of denials, read again.
-ghost use Rattle.std.specs.Prelude.{◌≡◌, ◌<◌, length, IfOk, IfSome};
-ghost use Rattle.awk_text.specs.Quoted.{quoted};
+// A log of denials or an audit, read again.
+ghost use Rattle.std.specs.Prelude.{◌≡◌, ◌<◌, [], ◌∷◌, ℕ, List, length, IfErr, IfOk, OnOk};
+ghost use Rattle.box_monitor.specs.Judged.{given_number};
+ghost use Rattle.box_policy.specs.Decisions.{kind_number};
+ghost use Rattle.box_advice.specs.Gathered.{AreMet};
+ghost use Rattle.box_advice.specs.Logs.{AreLines, IsLogRefused, IsRead, request_of, with_wish};
 
-use crate::wishes::{Origin, Wish};
-use crate::words::kind_named;
+use crate::cuts::cut;
+use crate::log_lines::wish_of;
+use crate::wishes::Wish;
 use awk_text::Memory;
-use awk_text::octets::Octets;
-use awk_text::quote::quote_log;
 use box_policy::policy::Kind;
 use std::alloc::{AllocError, AllocFailed, Global};
 use std::collections::BTreeSet;
 use std::error::Error;
 use std::fmt;
 
-/// Why a log is not read: the line of this number, counted from 1, is none that a run writes, or memory was refused.
+/// Why a log is not read: the line of this number, the first one being 1, is none that a run writes, or memory was
+/// refused.
 #[derive(Clone, Copy, Debug, Drop)]
 pub enum LogError {
     Line(usize),
@@ -35,6 +38,11 @@ impl fmt::Display for LogError {
 impl Error for LogError {}
 
 impl From<AllocError> for LogError {
+    ghost use Rattle.std.specs.Prelude.{◌≡◌};
+    ghost use Rattle.box_advice.specs.declared.denials.LogError.TheVariants.{Memory};
+
+    ghost from_gives = { λ _ error. error ≡ Memory };
+
     fn from(_error: AllocError) -> LogError {
         LogError::Memory
     }
@@ -46,165 +54,123 @@ impl<T: Drop> From<AllocFailed<T>> for LogError {
     }
 }
 
-fn digit_value(digit: u8) -> Option<u8> {
-    match digit {
-        b'0'..=b'9' => Some(digit - b'0'),
-        b'a'..=b'f' => Some(digit - b'a' + 10),
-        _ => None,
-    }
-}
-
-// The byte that two hexadecimal digits name.
-fn byte_named(high: u8, low: u8) -> Option<u8> {
-    let high = digit_value(high)?;
-    let low = digit_value(low)?;
-    Some(high.wrapping_mul(16).wrapping_add(low))
-}
-
-// The first byte of the text that is quoted so, and what stands behind it.
-fn first_byte(quoted: &[u8]) -> Option<(u8, &[u8])>
-    ensures { IfSome result (λ next. length next.1.now < length quoted.now) }
+// One number for each.
+fn kind_number(kind: Kind) -> u8
+    ensures { result ≡ kind_number kind }
 {
-    match quoted {
-        [b'\\', b'x', high, low, rest @ ..] => Some((byte_named(*high, *low)?, rest)),
-        [byte, rest @ ..] => Some((*byte, rest)),
-        [] => None,
+    match kind {
+        Kind::Read => 0,
+        Kind::Write => 1,
+        Kind::Append => 2,
+        Kind::Run => 3,
+        Kind::Env => 4,
+        Kind::Assign => 5,
     }
 }
 
-// The bytes that may be quoted so. Quoted again they show whether they are.
-fn unescaped(alloc: Global, quoted: &[u8]) -> Result<Vec<u8>, Memory> {
-    let mut text = Vec::with_capacity(alloc, quoted.len())?;
-    let mut rest = quoted;
-    while let Some((byte, after)) = first_byte(rest) {
-        text.push(byte)?;
-        rest = after;
-    }
-    Ok(text)
-}
-
-/// The text that the log of denials quotes so, where it quotes one so.
-fn unquoted(alloc: Global, line: &[u8]) -> Result<Option<Octets>, Memory>
-    ensures { IfOk result (λ found. IfSome found (λ text. quoted text ≡ line.now)) }
+fn given_number(given: bool) -> u8
+    ensures { result ≡ given_number given }
 {
-    let text = unescaped(alloc, line)?;
-    let Ok(again) = quote_log(alloc, text.as_slice()) else {
-        return Err(AllocError);
-    };
-    if again.as_slice() == line {
-        Ok(Some(Octets::new(text)))
-    } else {
-        Ok(None)
-    }
+    if given { 1 } else { 0 }
 }
 
-// What stands before the first byte of this value, and what stands behind it.
-fn cut(line: &[u8], byte: u8) -> Option<(&[u8], &[u8])> {
-    let at = line.iter().position(|b| *b == byte)?;
-    Some((line.get(..at)?, line.get(at.saturating_add(1)..)?))
-}
-
-fn number_of(digits: &[u8]) -> Option<u32> {
-    if !digits.iter().all(|b| b.is_ascii_digit()) {
-        return None;
-    }
-    match std::str::from_utf8(digits) {
-        Ok(text) => match text.parse::<u32>() {
-            Ok(number) => Some(number),
-            Err(_) => None,
-        },
-        Err(_) => None,
-    }
-}
-
-// Whether it is a place, and whether that is 0:0, where operands are asked for.
-fn is_start(place: &[u8]) -> Option<bool> {
-    let (line, column) = cut(place, b':')?;
-    let line = number_of(line)?;
-    let column = number_of(column)?;
-    Some(line == 0 && column == 0)
-}
-
-fn kind_of(word: &[u8]) -> Option<Kind> {
-    match std::str::from_utf8(word) {
-        Ok(word) => kind_named(word),
-        Err(_) => None,
-    }
-}
-
-/// What a line of the log tells, its text as it is quoted.
-#[derive(Clone, Copy, Drop)]
-struct LogLine<'a> {
-    is_start: bool,
-    kind: Kind,
-    quoted: &'a [u8],
-}
-
-// `LINE:COLUMN KIND RULE "TEXT"`
-fn read_line(line: &[u8]) -> Option<LogLine<'_>> {
-    let (place, rest) = cut(line, b' ')?;
-    let is_start = is_start(place)?;
-    let (kind, rest) = cut(rest, b' ')?;
-    let kind = kind_of(kind)?;
-    let (rule, rest) = cut(rest, b' ')?;
-    if rule != b"none".as_slice() {
-        number_of(rule)?;
-    }
-    let quoted = rest
-        .strip_prefix(b"\"".as_slice())?
-        .strip_suffix(b"\"".as_slice())?;
-    Some(LogLine {
-        is_start,
-        kind,
-        quoted,
-    })
-}
-
-// The wish of a line of this number; `None` where it is no line of a log.
-fn wish_of(alloc: Global, line: &[u8], number: usize) -> Result<Option<Wish>, Memory> {
-    let Some(told) = read_line(line) else {
-        return Ok(None);
-    };
-    let Some(text) = unquoted(alloc, told.quoted)? else {
-        return Ok(None);
-    };
-    Ok(Some(Wish {
-        kind: told.kind,
-        text: Some(text),
-        may_be_given: told.is_start && (told.kind == Kind::Read || told.kind == Kind::Assign),
-        origin: Origin::Log(number),
-    }))
-}
-
-// What tells wishes of a log apart.
-pub(crate) fn key_of(alloc: Global, wish: &Wish) -> Result<Vec<u8>, Memory> {
-    let mut key = Vec::new(alloc);
-    key.push(u8::from(wish.may_be_given))?;
-    key.extend_from_slice(crate::words::kind_word(wish.kind).as_bytes())?;
-    key.push(b' ')?;
+/// What tells wishes apart: kind, text, and whether it may be an operand.
+pub(crate) fn request_of(alloc: Global, wish: &Wish) -> Result<Vec<u8>, Memory>
+    ensures { IfOk result (λ request. request.items ≡ request_of wish.now) }
+{
+    let mut request = Vec::new(alloc);
+    request.push(kind_number(wish.kind))?;
+    request.push(given_number(wish.may_be_given))?;
     if let Some(text) = &wish.text {
-        key.extend_from_slice(text.bytes())?;
+        request.extend_from_slice(text.bytes())?;
     }
-    Ok(key)
+    Ok(request)
 }
 
-/// The requests that a log of denials tells of, once each, in the order in which they stand there first. The text of
-/// each is the one that the log quotes.
-pub fn read_log(alloc: Global, log: &[u8]) -> Result<Vec<Wish>, LogError> {
-    let mut wishes = Vec::new(alloc);
-    let lines = log.strip_suffix(b"\n".as_slice()).unwrap_or(log);
-    if lines.is_empty() {
-        return Ok(wishes);
-    }
-    let mut met: BTreeSet<Vec<u8>> = BTreeSet::new(alloc);
-    for (at, line) in lines.split(|byte| *byte == b'\n').enumerate() {
-        let number = at.saturating_add(1);
-        let Some(wish) = wish_of(alloc, line, number)? else {
-            return Err(LogError::Line(number));
-        };
-        if met.insert(key_of(alloc, &wish)?)? {
-            wishes.push(wish)?;
+/// The wishes of the lines so far, and what tells them apart.
+#[derive(Drop)]
+struct Gathered {
+    wishes: Vec<Wish>,
+    met: BTreeSet<Vec<u8>>,
+}
+
+impl Gathered {
+    fn new(alloc: Global) -> Gathered
+        ensures none { result.wishes.items ≡ [] }
+        ensures met { AreMet result }
+    {
+        Gathered {
+            wishes: Vec::new(alloc),
+            met: BTreeSet::new(alloc),
         }
     }
-    Ok(wishes)
+
+    fn into_wishes(self) -> Vec<Wish>
+        ensures { result.items ≡ self.wishes.items }
+    {
+        let Gathered { wishes, .. } = self;
+        wishes
+    }
+
+    // The wish is one of them, unless one of them asks for the same.
+    fn take(&mut self, alloc: Global, wish: Wish) -> Result<(), Memory>
+        requires { AreMet self.old }
+        ensures wishes { OnOk result (self.new.wishes.items ≡ with_wish self.old.wishes.items wish) }
+        ensures met { OnOk result (AreMet self.new) }
+    {
+        if self.met.insert(request_of(alloc, &wish)?)? {
+            self.wishes.push(wish)?;
+        }
+        Ok(())
+    }
+}
+
+/// The first line of a text, and what stands behind its end.
+#[derive(Clone, Copy, Drop)]
+struct Lead<'a> {
+    line: &'a [u8],
+    rest: &'a [u8],
+}
+
+fn first_line(text: &[u8]) -> Lead<'_>
+    requires { 0 < length text.now }
+    ensures shorter { length result.rest.now < length text.now }
+    ensures lines { (lines : List (List ℕ)) → AreLines result.rest.now lines →
+        AreLines text.now (result.line.now ∷ lines) }
+{
+    match cut(text, b'\n') {
+        Some(halves) => Lead {
+            line: halves.front,
+            rest: halves.back,
+        },
+        None => Lead {
+            line: text,
+            rest: &[],
+        },
+    }
+}
+
+/// The requests that a log of denials tells of, an audit, or the one behind the other: once each, in the order in which
+/// they stand there first, the denied ones and those that were passed on, done or failed.
+pub fn read_log(alloc: Global, log: &[u8]) -> Result<Vec<Wish>, LogError>
+    ensures read { IfOk result (λ wishes. IsRead log.now wishes.items) }
+    ensures refused { IfErr result (IsLogRefused log.now) }
+{
+    let mut gathered = Gathered::new(alloc);
+    let mut rest = log;
+    // each line has a byte, its end or another one
+    for at in 0..log.len() {
+        if rest.is_empty() {
+            return Ok(gathered.into_wishes());
+        }
+        let number = at + 1;
+        let lead = first_line(rest);
+        let found = wish_of(alloc, lead.line, number)?;
+        let Some(wish) = found else {
+            return Err(LogError::Line(number));
+        };
+        gathered.take(alloc, wish)?;
+        rest = lead.rest;
+    }
+    Ok(gathered.into_wishes())
 }

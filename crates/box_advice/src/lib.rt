@@ -7,12 +7,14 @@
 
 mod commands;
 mod covers;
+mod cuts;
 mod denials;
 mod explaining;
 mod faults;
 mod folders;
 mod heads;
 mod linting;
+mod log_lines;
 mod lookalikes;
 mod nearest;
 mod oddities;
@@ -20,6 +22,7 @@ mod page;
 mod places;
 mod printing;
 mod proposing;
+mod quotes;
 mod unreached;
 mod wanting;
 mod warnings;

@@ -280,9 +280,26 @@ fn reads(alloc: Global, text: &[u8], first: &Policy, gained: &[Rule]) -> Result<
     }
 }
 
-/// The text of the first policy with these lines behind it, which write the rules that it gains. Where they cannot
-/// stand there, as behind rules that are an array in one value, its own rules are written anew. `None` where neither
-/// reads so.
+/// A rule as it would stand below a policy.
+const ONE_MORE: &str = "[[rule]]\neffect = \"deny\"\nkind = \"env\"\nmatch = \"A\"\n";
+
+/// Whether the offers that stand in this text are rules once a person takes the `#` from them. Behind rules that are an
+/// array in one value they are not.
+fn may_be_taken(alloc: Global, text: &[u8], gains: &Gains) -> Result<bool, Memory> {
+    if !gains.have_offers() {
+        return Ok(true);
+    }
+    let more = joined(alloc, text, ONE_MORE)?;
+    match Policy::read(alloc, more.as_slice()) {
+        Ok(_) => Ok(true),
+        Err(error) if error.code == PolicyError::MEMORY => Err(AllocError),
+        Err(error) => Ok(error.code != PolicyError::DOCUMENT),
+    }
+}
+
+/// The text of the first policy with these lines behind it, which write the rules that it gains and offer others. Where
+/// those cannot stand there, as behind rules that are an array in one value, its own rules are written anew. `None`
+/// where neither reads so.
 fn written(
     alloc: Global,
     beginning: &WrittenPolicy,
@@ -295,14 +312,15 @@ fn written(
     let rules = gains.rules.as_slice();
     let lines = gains.page.text()?;
     let text = joined(alloc, beginning.text.as_slice(), lines)?;
-    if reads(alloc, text.as_slice(), first, rules)? {
+    let stands = reads(alloc, text.as_slice(), first, rules)?;
+    if stands && may_be_taken(alloc, text.as_slice(), gains)? {
         return Ok(Some(text));
     }
-    let text = joined(alloc, policy_text(alloc, first)?.as_bytes(), lines)?;
-    if reads(alloc, text.as_slice(), first, rules)? {
-        return Ok(Some(text));
+    let anew = joined(alloc, policy_text(alloc, first)?.as_bytes(), lines)?;
+    if reads(alloc, anew.as_slice(), first, rules)? {
+        return Ok(Some(anew));
     }
-    Ok(None)
+    Ok(if stands { Some(text) } else { None })
 }
 
 /// The text of the policy that begins so and gains what is wished.

@@ -10,7 +10,7 @@ ghost use Rattle.box_advice.specs.Wishes.{IsGained, fate_by, fate_of, gained, ga
 ghost use Rattle.box_advice.specs.Wishes.{is_given, is_offered, speak};
 ghost use Rattle.box_advice.specs.declared.wanting.Fate.TheVariants.{Gains as Gaining};
 
-use crate::denials::key_of;
+use crate::denials::request_of;
 use crate::folders::put_folders;
 use crate::heads::{Head, Trail, may_fit, outline_of};
 use crate::page::Page;
@@ -53,7 +53,8 @@ fn is_offered(kind: Kind) -> bool
 }
 
 #[tactic(auto, unfolding(crate::specs::Wishes::given_of))]
-fn given_of(kind: Kind, may_be_given: bool) -> bool
+/// Whether a request of this kind may be an operand word, where this may be said of its place.
+pub(crate) fn given_of(kind: Kind, may_be_given: bool) -> bool
     ensures { result ≡ given_of kind may_be_given }
 {
     match kind {
@@ -157,7 +158,7 @@ fn put_told(
         put_fate(wish, fate, page);
         return Ok(());
     }
-    if offered.insert(key_of(alloc, wish)?)? {
+    if offered.insert(request_of(alloc, wish)?)? {
         put_offer(wish, page);
     }
     Ok(())
@@ -183,6 +184,11 @@ impl Gains {
             offered: BTreeSet::new(alloc),
             page: Page::new(alloc),
         }
+    }
+
+    /// Whether a rule is offered that a person may take.
+    pub(crate) fn have_offers(&self) -> bool {
+        !self.offered.is_empty()
     }
 
     #[tactic(auto, unfolding(crate::specs::Wishes::fate_by))]

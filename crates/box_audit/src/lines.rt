@@ -1,8 +1,7 @@
 // The lines of an audit.
 ghost use Rattle.std.specs.Prelude.{◌≡◌, Some, None, IfOk, IfSome, IfNone, IsSome, OnErr, if◌then◌else◌};
 ghost use Rattle.std.specs.String.{string_bytes};
-ghost use Rattle.box_monitor.specs.Lines.{kind_word};
-ghost use Rattle.box_monitor.specs.Subjects.{kind_of, subject_of};
+ghost use Rattle.box_monitor.specs.Subjects.{subject_of};
 ghost use Rattle.box_audit.specs.Audited.{is_failed, line_of, line_start, outcome_word};
 ghost use Rattle.box_audit.specs.Steps.{AreLines};
 
@@ -10,71 +9,16 @@ use awk_text::Memory;
 use awk_text::fault::Fault;
 use awk_text::place::Place;
 use awk_text::quote::quote_log;
-use box_policy::policy::Kind;
-use box_world::ask::{Ask, Mode, Reply, Request};
+use box_monitor::denial::{Subject, subject_of};
+use box_monitor::line::kind_word;
+use box_world::ask::{Ask, Reply};
 use std::alloc::{AllocError, Global};
-use std::marker::Model;
-
-/// What a policy decides on: a path, a command or a name, and what is to be done with it.
-#[derive(Drop)]
-struct Subject<'a> {
-    kind: Kind,
-    text: &'a [u8],
-}
-
-impl<'a> Model for Subject<'a> {
-    ghost use Rattle.box_monitor.specs.Subjects.{Subject};
-
-    ghost Value = { Subject };
-
-    ghost view = { λ s. record { kind = s.kind; text = s.text.now } };
-}
 
 /// The line of a request where it is done, and the one where it failed.
 #[derive(Drop)]
 pub struct Lines {
     ok: Vec<u8>,
     failed: Vec<u8>,
-}
-
-fn kind_of(mode: Mode) -> Kind
-    ensures { result ≡ kind_of mode }
-{
-    match mode {
-        Mode::Read => Kind::Read,
-        Mode::Write => Kind::Write,
-        Mode::Append => Kind::Append,
-        Mode::RunIn | Mode::RunOut => Kind::Run,
-    }
-}
-
-fn subject_of<'a>(request: &'a Request) -> Option<Subject<'a>>
-    ensures { result ≡ subject_of request.now }
-{
-    let (kind, text) = match request {
-        Request::Open(mode, text) => (kind_of(*mode), text),
-        Request::System(text) => (Kind::Run, text),
-        Request::Env(name) => (Kind::Env, name),
-        Request::Assign(name, _) => (Kind::Assign, name),
-        Request::Next(_) | Request::Put(_, _) | Request::Shut(_) => return None,
-    };
-    Some(Subject {
-        kind,
-        text: text.bytes(),
-    })
-}
-
-fn kind_word(kind: Kind) -> &'static str
-    ensures { result.now ≡ kind_word kind }
-{
-    match kind {
-        Kind::Read => "read",
-        Kind::Write => "write",
-        Kind::Append => "append",
-        Kind::Run => "run",
-        Kind::Env => "env",
-        Kind::Assign => "assign",
-    }
 }
 
 fn outcome_word(failed: bool) -> &'static str

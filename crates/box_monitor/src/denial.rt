@@ -63,8 +63,8 @@ fn kind_of(mode: Mode) -> Kind
     }
 }
 
-// Reading on, writing and closing are not decided on: the opening was.
-fn subject_of<'a>(request: &'a Request) -> Option<Subject<'a>>
+/// What a policy decides on. Reading on, writing and closing are not decided on: the opening was.
+pub fn subject_of<'a>(request: &'a Request) -> Option<Subject<'a>>
     ensures { result ≡ subject_of request.now }
 {
     let (kind, text) = match request {

@@ -2,10 +2,10 @@
 // what it denies.
 #![tactic(auto)]
 
-mod denial;
+pub mod denial;
 mod judge;
 pub mod limited_log;
-mod line;
+pub mod line;
 pub mod log_end;
 pub mod monitor;
 pub mod write;

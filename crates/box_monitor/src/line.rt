@@ -10,7 +10,8 @@ use awk_text::quote::quote_log;
 use box_policy::policy::Kind;
 use std::alloc::Global;
 
-fn kind_word(kind: Kind) -> &'static str
+/// The word for a kind, in lines and in policies.
+pub fn kind_word(kind: Kind) -> &'static str
     ensures { result.now ≡ kind_word kind }
 {
     match kind {
