@@ -6,3 +6,4 @@ pub mod ExtendsLemmas
 pub mod ProposingLemmas
 pub mod UnreachedLemmas
 pub mod HeadsLemmas
+pub mod LintsLemmas
