@@ -34,11 +34,11 @@ _awkbox() {
         ;;
     esac
     case ${COMP_WORDS[1]} in
-    run) options='--policy --log --log-append --log-limit --audit --report -C --steps --block-buffered -F -v -f -E --help --' ;;
-    list) options='-f --help' ;;
-    check) options='--policy --allow-open -f --help' ;;
-    why) options='--policy --given read write append run env assign --help' ;;
-    lint) options='--policy --strict -f --help' ;;
+    run) options='--policy --base --log --log-append --log-limit --audit --report -C --steps --block-buffered -F -v -f -E --help --' ;;
+    list) options='--json -f --help' ;;
+    check) options='--policy --base --allow-open --json -f --help' ;;
+    why) options='--policy --base --given read write append run env assign --help' ;;
+    lint) options='--policy --base --strict -f --help' ;;
     propose) options='--base --policy --log -f --help' ;;
     help) options=$commands ;;
     *) options= ;;

@@ -726,6 +726,72 @@ run
 is 3 "" "awkbox: not started in the policy's base \"/nowhere \\x22at all\\x22\"$line" ""
 verdict "a base that is no folder"
 
+# One policy for many folders.
+
+policy 'effect = "allow"
+kind = "write"
+match = "out/*"' 'effect = "allow"
+kind = "read"
+match = "**"
+from = "given"'
+sed -i 's|^base = .*|base = "/nowhere"|' "$work/policy.toml"
+script '{ print $0 > "out/a" } END { print "b" > "/etc/x" }'
+mkdir -p "$work/one/out" "$work/two/out"
+# based FOLDER WORD..: whether the run with these words is one in this folder, under its rules
+based() {
+    local folder=$1
+    shift
+    rm -f "$work"/*/out/a
+    echo "$folder" >"$work/$folder/in.txt"
+    run "$@" -- in.txt
+    is 2 "" "awkbox: 1:40 F7 cannot open or write output$line" "1:40 write none \"/etc/x\"$line" &&
+        holds "$work/$folder/out/a" "$folder$line" && [ "$(echo "$work"/*/out/a)" = "$work/$folder/out/a" ]
+}
+cd "$work" || exit 2
+for folder in one two; do
+    based "$folder" --base . -C "$folder"
+    verdict "one policy for many folders: the folder $folder that is entered"
+done
+cd "$work/two" || exit 2
+for folder in . ./ ./. "$work/two" "$work/./two/"; do
+    based two --base "$folder"
+    verdict "a base in the place of the policy's: $folder"
+done
+run
+is 3 "" "awkbox: not started in the policy's base \"/nowhere\"$line" ""
+verdict "no base in the place of the policy's"
+for folder in "$work/one" "$work/none" "$work/policy.toml" /; do
+    run --base "$folder"
+    is 3 "" "awkbox: not started in the policy's base \"$folder\"$line" ""
+    verdict "a base that is another folder, or none: $folder"
+done
+run --base one -C "$work"
+is 3 "" "awkbox: not started in the policy's base \"$work/one\"$line" ""
+verdict "a base stands under the folder that is entered"
+for folder in '' .. ../two "$work/one/../two" '*' '/a?'; do
+    run --base "$folder"
+    is 3 "" "awkbox: policy P3$line" "" &&
+        grep -qF "awkbox: note: a base is an absolute path without \`*\`, \`?\` and \`..\`; \`--base\` gives " "$work/errors"
+    verdict "a base that no policy may have: '$folder'"
+done
+mkdir "$work/st*r"
+run --base . -C "$work/st*r"
+is 3 "" "awkbox: policy P3$line" "" && grep -qF "\`--base\` gives \`$work/st*r\`" "$work/errors"
+verdict "a folder whose name no base may have"
+sed -i 's|^base = .*|base = "."|' "$work/policy.toml"
+run --base .
+is 3 "" "awkbox: policy P3$line" "" && grep -qF "awkbox: note: \`awkbox lint --policy " "$work/errors"
+verdict "a policy without a base of its own beside a base that is given"
+run --policy "$work/policy.toml" --base . --base .
+[ "$status" -eq 3 ] && [ ! -s "$work/output" ]
+verdict "a base that is given twice"
+no_rules
+script 'BEGIN { print "hi" }'
+run --base /none
+is 0 "hi$line" "" ""
+verdict "a base that is no folder, without a rule of files"
+cd "$base" || exit 2
+
 # Rules that let a script write to the run's own files.
 
 cp "$work/script.awk" own.awk
@@ -1678,6 +1744,108 @@ for example in hi/hi report-host/report teaching-server/exercise log-pipeline/st
     verdict "what the policy says of the example $example"
 done
 
+# Sites as JSON.
+
+policy 'effect = "allow"
+kind = "run"
+match = "sort *"' 'effect = "allow"
+kind = "write"
+match = "out/a*"' 'effect = "deny"
+kind = "write"
+match = "out/**"' 'effect = "allow"
+kind = "append"
+match = "out/log"
+limit = 2'
+sed -i 's/^version = 1/version = 2/' "$work/policy.toml"
+script '{ system("sort -r"); system("a \"b\"\t\\"); print > "out/a"
+  print > "out/b"; print >> "out/log"; print | $1; print >> "/\377\303\251" }'
+awkbox list --json -f "$work/script.awk"
+told 0 '{"column":0,"kind":"read","line":0,"text":null}
+{"column":0,"kind":"assign","line":0,"text":null}
+{"column":3,"kind":"run","line":1,"text":"sort -r"}
+{"column":22,"kind":"run","line":1,"text":"a \"b\"\t\\"}
+{"column":51,"kind":"write","line":1,"text":"out/a"}
+{"column":9,"kind":"write","line":2,"text":"out/b"}
+{"column":26,"kind":"append","line":2,"text":"out/log"}
+{"column":46,"kind":"run","line":2,"text":null}
+{"column":58,"kind":"append","line":2,"text":"/'$'\xef\xbf\xbd\xc3\xa9''"}'"$line" ""
+verdict "a listing as JSON"
+awkbox check --json --policy "$work/policy.toml" -f "$work/script.awk"
+told 1 '{"column":0,"kind":"read","line":0,"rule":null,"text":null,"verdict":"open"}
+{"column":0,"kind":"assign","line":0,"rule":null,"text":null,"verdict":"open"}
+{"column":3,"kind":"run","line":1,"rule":1,"text":"sort -r","verdict":"allowed"}
+{"column":22,"kind":"run","line":1,"rule":null,"text":"a \"b\"\t\\","verdict":"denied"}
+{"column":51,"kind":"write","line":1,"rule":2,"text":"out/a","verdict":"allowed"}
+{"column":9,"kind":"write","line":2,"rule":3,"text":"out/b","verdict":"denied"}
+{"column":26,"kind":"append","line":2,"rule":4,"text":"out/log","verdict":"open"}
+{"column":46,"kind":"run","line":2,"rule":null,"text":null,"verdict":"open"}
+{"column":58,"kind":"append","line":2,"rule":null,"text":"/'$'\xef\xbf\xbd\xc3\xa9''","verdict":"denied"}'"$line" ""
+verdict "a check as JSON"
+if command -v jq >/dev/null; then
+    [ "$(jq -r 'select(.verdict == "denied") | .text' "$work/output" | head -n 2)" = "a \"b\"$(printf '\t')\\${line}out/b" ]
+    verdict "a check as JSON that jq reads"
+fi
+awkbox check --json --allow-open --policy "$work/policy.toml" -f "$work/script.awk"
+[ "$status" -eq 1 ]
+verdict "a check as JSON of a script that is refused where it may be open"
+script 'BEGIN { print "a" | $1 }'
+awkbox check --json --allow-open --policy "$work/policy.toml" -f "$work/script.awk"
+told 0 '{"column":19,"kind":"run","line":1,"rule":null,"text":null,"verdict":"open"}'"$line" ""
+verdict "a check as JSON of a script that may be open"
+script 'BEGIN { print "a" }'
+awkbox check --json --policy "$work/policy.toml" -f "$work/script.awk"
+told 0 "" "" && awkbox list --json -f "$work/script.awk" && told 0 "" ""
+verdict "a check and a listing as JSON of a script without sites"
+script 'BEGIN { print ) }'
+awkbox check --json --policy "$work/policy.toml" -f "$work/script.awk"
+told 3 "" "awkbox: script 1:15 S4$line" && awkbox list --json -f "$work/script.awk" &&
+    told 3 "" "awkbox: script 1:15 S4$line"
+verdict "a check and a listing as JSON of a script that is refused"
+
+# A base in the place of the policy's own, before a run.
+
+policy 'effect = "allow"
+kind = "write"
+match = "out/*"'
+p=$work/policy.toml
+script "BEGIN { print > \"$work/one/out/a\" }"
+awkbox check --policy "$p" -f "$work/script.awk"
+told 1 "refused${line}1:15 write \"$work/one/out/a\"$line" "" &&
+    awkbox check --policy "$p" --base "$work/one" -f "$work/script.awk" && told 0 "clean$line" "" &&
+    awkbox check --json --policy "$p" --base "$work/one" -f "$work/script.awk" &&
+    grep -q '"verdict":"allowed"' "$work/output" && cd "$work" &&
+    awkbox check --policy "$p" --base one -f "$work/script.awk" && told 0 "clean$line" ""
+verdict "a check under another base"
+cd "$base" || exit 2
+for folder in '' ../base "$work/one/.." '?'; do
+    awkbox check --policy "$p" --base "$folder" -f "$work/script.awk"
+    told 3 "" "awkbox: policy P3$line"
+    verdict "a check under a base that no policy may have: '$folder'"
+done
+cd "$work" || exit 2
+awkbox why --policy "$p" --base one write out/a
+told 0 "normal form: \"$work/one/out/a\"
+rule 1 ($p:4): allow write \"out/*\": fits
+allow: rule 1 ($p:4)$line" ""
+verdict "why a path is allowed under another base"
+awkbox why --policy "$p" --base .. write out/a
+told 3 "" "awkbox: policy P3$line"
+verdict "why under a base that no policy may have"
+cd "$base" || exit 2
+awkbox lint --policy "$p" --base ..
+told 3 "$p:2: P3: the base that is given in its place is not an absolute path without *, ? and ..$line" ""
+verdict "a lint under a base that no policy may have"
+policy 'effect = "allow"
+kind = "write"
+match = "policy.*"'
+awkbox lint --policy "$p"
+told 0 "" "" && awkbox lint --policy "$p" --base "$work" &&
+    told 0 "$p:4: warning: rule 1: allow write reaches the policy$line" ""
+verdict "a lint of a policy that lies in the base that is given"
+awkbox lint --base / -f "$work/script.awk"
+[ "$status" -eq 3 ] && grep -q '^error: --base is of --policy$' "$work/errors"
+verdict "a lint under a base without a policy"
+
 # A policy that explains itself.
 
 policy 'effect = "deny"
@@ -2137,7 +2305,8 @@ $(rule_of write out/a)
 # 7:13 read \"../in\": a component .. is never folded
 
 # 8:11 write \"out/archive/c\": rule 1 denies it$line" 0 "" --base /w --policy "$p" -f "$f"
-proposed "a proposal under another base" "" 3 "awkbox: the policy has another base$line" --base /w/ --policy "$p" -f "$f"
+proposed "a proposal under another base that leaves the policy its own" "$(cat "$p")$line" 0 "" --base /v --policy "$p"
+proposed "a policy beside a base that no policy may have" "" 3 "awkbox: policy P3$line" --base /v/.. --policy "$p"
 proposed "a proposal of nothing" "$(cat "$p")$line" 0 "" --policy "$p"
 
 cat >"$work/log" <<'END'
@@ -2267,7 +2436,10 @@ done
 proposed "an empty log" "version = 1
 base = \"/w\"$line" 0 "" --base /w --log "$work/log"
 proposed "a log that is not there" "" 3 "awkbox: cannot read \"$work/none\"$line" --base /w --log "$work/none"
-proposed "a base that is none" "" 3 "awkbox: policy P3$line" --base w
+proposed "a base that is none" "" 3 "awkbox: policy P3$line" --base ""
+proposed "a base with .." "" 3 "awkbox: policy P3$line" --base ../w
+proposed "a base under the folder of the start" "version = 1
+base = \"$PWD/w\"$line" 0 "" --base ./w
 printf 'version = 1\nbase = "/w"\nrules = 1\n' >"$p"
 proposed "a policy that is refused" "" 3 "awkbox: policy P4$line" --policy "$p"
 for number in {1..1025}; do
@@ -2753,9 +2925,9 @@ completed() {
         echo "${COMPREPLY[@]}"' - "$top/completions/awkbox.bash" "$@" 2>&1
 }
 [ "$(completed awkbox r)" = run ] && [ "$(completed awkbox run --p)" = --policy ] &&
-    [ "$(completed awkbox check --)" = "--policy --allow-open --help" ] &&
+    [ "$(completed awkbox check --)" = "--policy --base --allow-open --json --help" ] &&
     [ "$(completed awkbox run --log-l)" = --log-limit ] && [ "$(completed awkbox run -C "$work/elsew")" = "$work/elsewhere" ] &&
-    [ "$(completed awkbox list -f a -)" = "-f --help" ] &&
+    [ "$(completed awkbox list -f a -)" = "--json -f --help" ] &&
     [ "$(completed awkbox run -f a -- "$work/kept.t")" = "$work/kept.toml" ] &&
     [ "$(completed awkbox run --policy "$work/kept.t")" = "$work/kept.toml" ]
 verdict "the completions for bash"

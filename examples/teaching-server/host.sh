@@ -22,5 +22,5 @@ host() (
     trap '' XFSZ
     exec timeout -k 2 15 env -i PATH=/usr/bin:/bin LC_ALL=C "${box[@]}" \
         "$awkbox" run --policy "$policy" --log "$log" --log-limit 1000000 --report "${log%.log}.json" \
-        --steps "${steps:-100000000}" -C "$folder" -f "$script" -- "$@"
+        --steps "${steps:-100000000}" --base . -C "$folder" -f "$script" -- "$@"
 )

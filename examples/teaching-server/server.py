@@ -71,14 +71,13 @@ def ending(status: int, report: Path) -> str:
 def hand_in(words: argparse.Namespace, script: bytes) -> str:
     """Runs the script in a folder of its own, and tells of it as HTML."""
     room = Path(tempfile.mkdtemp(dir=words.hand_ins))
-    base, logs, program, policy = room / "base", room / "logs", room / "script.awk", room / "policy.toml"
+    base, logs, program, policy = room / "base", room / "logs", room / "script.awk", HERE / "policy.toml"
     for folder in (base / "tasks", base / "answers", logs):
         folder.mkdir(parents=True)
     program.write_bytes(script)
     (base / "tasks/a.txt").write_bytes((HERE / "class/tasks/a.txt").read_bytes())
-    policy.write_text((HERE / "policy.toml").read_text().replace("/srv/classes", str(base)))
     with (room / "check").open("wb") as said:
-        subprocess.run([words.awkbox, "check", "--policy", policy, "-f", program], env={}, timeout=15,
+        subprocess.run([words.awkbox, "check", "--policy", policy, "--base", base, "-f", program], env={}, timeout=15,
                        stdin=subprocess.DEVNULL, stdout=said, stderr=said)
     env = {"PATH": "/usr/bin:/bin", "awkbox": words.awkbox, "policy": policy, "logs": logs, "steps": str(words.steps)}
     with (room / "output").open("wb") as output, (room / "messages").open("wb") as messages:

@@ -1,15 +1,16 @@
 -- What is answered of a script's text: its listing, what a policy's text says of it, and what is printed of both.
-use Rattle.std.specs.Prelude.{◌≡◌, ℕ, List}
+use Rattle.std.specs.Prelude.{◌≡◌, ℕ, Bool, true, false, List, Option}
 use Rattle.awk_parse.specs.declared.script.Script.{Script as Parsed}
 use Rattle.awk_tree.specs.Tree.{Entry}
+use Rattle.box_listing.specs.Json.{judged_lines, site_lines}
 use Rattle.box_listing.specs.Lines.{lines_of, verdict_lines}
 use Rattle.box_listing.specs.Scripts.{IsListingOf, IsVerdictOf}
+use Rattle.box_listing.specs.Verdicts.{verdict as verdict_on}
 use Rattle.box_listing.specs.declared.site.Site.{Site}
 use Rattle.box_listing.specs.declared.verdict.Verdict.{Verdict}
 use Rattle.box_listing.specs.declared.verdict.Verdict.TheVariants.{Clean, Open, Refused}
-use Rattle.box_policy.specs.Refusals.{IsRefused as IsPolicyRefused}
+use Rattle.box_policy.specs.Rebased.{IsRefusedUnder, WrittenUnder}
 use Rattle.box_policy.specs.Rulebook.{Rulebook}
-use Rattle.box_policy.specs.Written.{Written}
 use Rattle.awkbox.specs.Scripts.{Spells, IsScriptRefused}
 use Rattle.awkbox.specs.declared.answers.Answer.{Answer}
 use Rattle.awkbox.specs.declared.listing_refusal.ListingRefusal.{ListingRefusal}
@@ -22,10 +23,10 @@ abbrev pub IsListed : List ℕ → List Site → Type 0
 IsListed text sites =
     (script : Parsed) × (items : List Entry) × Spells text items script × IsListingOf script items sites
 
--- the texts write a policy and spell a script of which it says this
-abbrev pub IsJudged : (policy text : List ℕ) → Verdict → Type 0
-IsJudged policy text verdict =
-    (book : Rulebook) × Written policy book
+-- the texts write a policy, under its own base or the one that is given, and spell a script of which it says this
+abbrev pub IsJudged : Option (List ℕ) → (policy text : List ℕ) → Verdict → Type 0
+IsJudged base policy text verdict =
+    (book : Rulebook) × WrittenUnder base policy book
     × ((script : Parsed) × (items : List Entry) × Spells text items script × IsVerdictOf script items book verdict)
 
 -- ---- what is refused; memory may be refused whatever the texts are
@@ -35,17 +36,23 @@ IsListRefused text (Policy e) = ⊥
 IsListRefused text (Script e) = IsScriptRefused text e
 IsListRefused text Memory = Unit {0}
 
--- the policy before the script
-abbrev pub IsCheckRefused : (policy text : List ℕ) → ListingRefusal → Type 0
-IsCheckRefused policy text (Policy e) = IsPolicyRefused policy e
-IsCheckRefused policy text (Script e) = (book : Rulebook) × Written policy book × IsScriptRefused text e
-IsCheckRefused policy text Memory = Unit {0}
+-- the policy and its base before the script
+abbrev pub IsCheckRefused : Option (List ℕ) → (policy text : List ℕ) → ListingRefusal → Type 0
+IsCheckRefused base policy text (Policy e) = IsRefusedUnder base policy e
+IsCheckRefused base policy text (Script e) =
+    (book : Rulebook) × WrittenUnder base policy book × IsScriptRefused text e
+IsCheckRefused base policy text Memory = Unit {0}
 
 -- ---- what is printed, and the exit status
 
+-- 0, of what is no verdict
+pub record IsPlain (answer : Answer) : Type 0 where
+  pub status : answer.status ≡ 0
+  pub not_open : answer.is_open ≡ false
+
 abbrev pub Lists : List ℕ → Answer → Type 0
 Lists text answer =
-    (sites : List Site) × IsListed text sites × (answer.lines.items ≡ lines_of sites) × (answer.status ≡ 0)
+    (sites : List Site) × IsListed text sites × (answer.lines.items ≡ lines_of sites) × IsPlain answer
 
 -- 0 where a policy has nothing against a script
 abbrev pub status_of : Verdict → ℕ
@@ -53,6 +60,30 @@ status_of Clean = 0
 status_of (Open sites) = 1
 status_of (Refused sites) = 1
 
-abbrev pub Checks : (policy text : List ℕ) → Answer → Type 0
-Checks policy text answer = (verdict : Verdict) × IsJudged policy text verdict
-    × (answer.lines.items ≡ verdict_lines verdict) × (answer.status ≡ status_of verdict)
+abbrev pub is_open : Verdict → Bool
+is_open Clean = false
+is_open (Open sites) = true
+is_open (Refused sites) = false
+
+-- the status and the word of the verdict
+pub record IsOf (verdict : Verdict) (answer : Answer) : Type 0 where
+  pub status : answer.status ≡ status_of verdict
+  pub openness : answer.is_open ≡ is_open verdict
+
+abbrev pub Checks : Option (List ℕ) → (policy text : List ℕ) → Answer → Type 0
+Checks base policy text answer = (verdict : Verdict) × IsJudged base policy text verdict
+    × (answer.lines.items ≡ verdict_lines verdict) × IsOf verdict answer
+
+-- ---- the same as JSON, where a verdict stands with each site of the listing
+
+abbrev pub ListsJson : List ℕ → Answer → Type 0
+ListsJson text answer =
+    (sites : List Site) × IsListed text sites × (answer.lines.items ≡ site_lines sites) × IsPlain answer
+
+abbrev pub IsJudgedJson : Rulebook → List Site → Answer → Type 0
+IsJudgedJson book sites answer =
+    (answer.lines.items ≡ judged_lines book sites) × IsOf (verdict_on book sites) answer
+
+abbrev pub ChecksJson : Option (List ℕ) → (policy text : List ℕ) → Answer → Type 0
+ChecksJson base policy text answer = (book : Rulebook) × WrittenUnder base policy book
+    × ((sites : List Site) × IsListed text sites × IsJudgedJson book sites answer)

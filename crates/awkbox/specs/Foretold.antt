@@ -7,8 +7,8 @@ use Rattle.awk_run.specs.Givens.{given_of}
 use Rattle.awk_run.specs.SetupParts.{SetupParts}
 use Rattle.box_listing.specs.declared.site.Site.{Site}
 use Rattle.box_listing.specs.declared.verdict.Verdict.TheVariants.{Clean, Refused}
+use Rattle.box_policy.specs.Rebased.{WrittenUnder}
 use Rattle.box_policy.specs.Rulebook.{Rulebook}
-use Rattle.box_policy.specs.Written.{Written}
 use Rattle.box_world.specs.Events.{Event, Want}
 use Rattle.listing_laws.specs.Covers.{AllAllowed, IsCovered}
 use Rattle.listing_laws.specs.Foretold.{IsRefusedSite}
@@ -23,11 +23,12 @@ TextCovered =
     Plays (given_of s setup steps) events o used last →
     All (IsCovered sites) events
 
--- of a text that is clean under a policy's text, no run has an event that the policy denies after those before it
+-- of a text that is clean under a policy's text, with its own base or the one that is given, no run has an event that
+-- the policy denies after those before it
 abbrev pub TextAllowed : Type 0
 TextAllowed =
-    (policy text : List ℕ) (book : Rulebook) (s : Script) →
-    IsJudged policy text Clean → Written policy book → ReadsScript text s →
+    (base : Option (List ℕ)) (policy text : List ℕ) (book : Rulebook) (s : Script) →
+    IsJudged base policy text Clean → WrittenUnder base policy book → ReadsScript text s →
     (setup : SetupParts) (steps : ℕ) (events : List Event) (o : Outcome) (used : ℕ) (last : Option Want) →
     Plays (given_of s setup steps) events o used last →
     AllAllowed book events
@@ -36,6 +37,6 @@ TextAllowed =
 -- that was given
 abbrev pub TextDenied : Type 0
 TextDenied =
-    (policy text : List ℕ) (book : Rulebook) (refused : List Site) (site : Site) →
-    IsJudged policy text (Refused refused) → Written policy book →
+    (base : Option (List ℕ)) (policy text : List ℕ) (book : Rulebook) (refused : List Site) (site : Site) →
+    IsJudged base policy text (Refused refused) → WrittenUnder base policy book →
     Contains refused site → IsRefusedSite book site

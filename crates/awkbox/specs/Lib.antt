@@ -1,6 +1,7 @@
 pub mod Accepted
 pub mod Accounts
 pub mod Answers
+pub mod Bases
 pub mod Drives
 pub mod Endings
 pub mod Laws

@@ -1,8 +1,10 @@
 // What is run, and what is refused before a run.
-ghost use Rattle.std.specs.Prelude.{◌≡◌, ◌<◌, ◌^◌, length, IfOk, IfErr};
+ghost use Rattle.std.specs.Prelude.{◌≡◌, ◌<◌, ◌^◌, length, None, IfOk, IfErr};
 ghost use Rattle.awk_resolve.specs.Assigns.{can_assign};
 ghost use Rattle.awk_parse.specs.Scripts.{IsScript};
 ghost use Rattle.awkbox.specs.Accepted.{Accepted, IsRefused, IsScriptRefused, ReadsScript, first_barred};
+ghost use Rattle.awkbox.specs.Bases.{IsBaseRefused};
+ghost use Rattle.box_policy.specs.Rebased.{base_refusal, rebased};
 
 use awk_parse::{Script, parse};
 use awk_run::Setup;
@@ -72,6 +74,26 @@ impl Prepared {
         ensures { result.now ≡ self.now.policy }
     {
         &self.policy
+    }
+
+    /// The same script under the policy's rules with this base in place of its own, or the refusal of a base that no
+    /// policy may have: so one policy serves many folders.
+    pub fn with_base(self, alloc: Global, base: &[u8]) -> Result<Prepared, Refusal>
+        requires { IsScript self.script }
+        ensures base { IfOk result (λ prepared. base_refusal base.now ≡ None) }
+        ensures policy { IfOk result (λ prepared. prepared.policy ≡ rebased base.now self.policy) }
+        ensures same { IfOk result (λ prepared. prepared.script ≡ self.script) }
+        ensures script { IfOk result (λ prepared. IsScript prepared.script) }
+        ensures refused { IfErr result (IsBaseRefused base.now) }
+    {
+        let Prepared { policy, script } = self;
+        match policy.with_base(alloc, base) {
+            Ok(policy) => Ok(Prepared { policy, script }),
+            Err(error) => {
+                script.release();
+                Err(Refusal::Policy(error))
+            }
+        }
     }
 
     /// Lets both go, where there is to be no run.

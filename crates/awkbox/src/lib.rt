@@ -26,7 +26,7 @@ mod stack;
 
 pub use accepting::{Prepared, Refusal, prepare};
 pub use account::Account;
-pub use answers::{Answer, check, list};
+pub use answers::{Answer, check, check_json, list, list_json};
 pub use awk_hash::Seed;
 pub use awk_run::{Outcome, Report, Setup, SetupError};
 pub use awk_text::Memory;

@@ -2,7 +2,8 @@
 ghost use Rattle.awk_tree.specs.Tree.{Entry};
 ghost use Rattle.awkbox.specs.Answers.{IsCheckRefused, IsJudged, IsListRefused, IsListed};
 ghost use Rattle.awkbox.specs.Scripts.{IsScriptRefused, Spells};
-ghost use Rattle.std.specs.Prelude.{IfErr, IfOk, List};
+ghost use Rattle.box_policy.specs.Rebased.{WrittenUnder};
+ghost use Rattle.std.specs.Prelude.{IfErr, IfOk, List, option_map};
 
 use crate::listing_refusal::ListingRefusal;
 use awk_parse::{Script, parse};
@@ -32,14 +33,47 @@ pub fn sites_of(alloc: Global, script: &[u8]) -> Result<Vec<Site>, ListingRefusa
 }
 
 /// What the policy that the first text writes says of all runs of the script that the second one spells: see
-/// [`box_listing::check`]. The policy is refused before the script.
-pub fn verdict_of(alloc: Global, policy: &[u8], script: &[u8]) -> Result<Verdict, ListingRefusal>
-    ensures ok { IfOk result (λ verdict. IsJudged policy.now script.now verdict) }
-    ensures refused { IfErr result (IsCheckRefused policy.now script.now) }
+/// [`box_listing::check`]. A base that is given stands in place of the policy's own. The policy is refused first, then
+/// the base, and then the script.
+pub fn verdict_of(
+    alloc: Global,
+    policy: &[u8],
+    base: Option<&[u8]>,
+    script: &[u8],
+) -> Result<Verdict, ListingRefusal>
+    ensures ok { IfOk result (IsJudged (option_map (λ b. b.now) base) policy.now script.now) }
+    ensures refused { IfErr result (IsCheckRefused (option_map (λ b. b.now) base) policy.now script.now) }
 {
-    let policy = Policy::read(alloc, policy)?;
+    let policy = Policy::read_under(alloc, policy, base)?;
     let script = script_of(alloc, script)?;
     let verdict = check(alloc, &script, &policy);
     script.release();
     Ok(verdict?)
+}
+
+/// A policy, and where a script may ask.
+#[derive(Drop)]
+pub(crate) struct Listing {
+    pub(crate) policy: Policy,
+    pub(crate) sites: Vec<Site>,
+}
+
+/// The policy that the first text writes, and the sites of the script that the second one spells. Refused as
+/// [`verdict_of`] is.
+pub(crate) fn listing_of(
+    alloc: Global,
+    policy: &[u8],
+    base: Option<&[u8]>,
+    script: &[u8],
+) -> Result<Listing, ListingRefusal>
+    ensures policy { IfOk result (λ listing. WrittenUnder (option_map (λ b. b.now) base) policy.now listing.policy) }
+    ensures sites { IfOk result (λ listing. IsListed script.now listing.sites.items) }
+    ensures refused { IfErr result (IsCheckRefused (option_map (λ b. b.now) base) policy.now script.now) }
+{
+    let policy = Policy::read_under(alloc, policy, base)?;
+    let script = script_of(alloc, script)?;
+    let sites = sites(alloc, &script);
+    script.release();
+    let sites = sites?;
+    Ok(Listing { policy, sites })
 }

@@ -9,6 +9,9 @@ use std::alloc::{AllocError, Global};
 pub struct Run<'a> {
     /// The name of the policy's file, or [`STANDARD_INPUT`], which not both of policy and script are.
     pub policy: &'a str,
+    /// The folder that relative names stand under, in place of the policy's own; where it is relative itself, under the
+    /// folder that the run is in.
+    pub base: Option<&'a str>,
     /// The name of the file for denials, which may be of any spelling.
     pub log: &'a str,
     /// Whether what the log holds is kept.
@@ -39,6 +42,8 @@ pub struct Run<'a> {
 pub struct Why<'a> {
     /// The name of the policy's file, or [`STANDARD_INPUT`].
     pub policy: &'a str,
+    /// The folder that relative names stand under, in place of the policy's own.
+    pub base: Option<&'a str>,
     /// What is asked for.
     pub kind: Kind,
     /// The path, the command or the name that is asked for.
@@ -53,10 +58,14 @@ pub struct Why<'a> {
 pub struct Check<'a> {
     /// The name of the policy's file.
     pub policy: &'a str,
+    /// The folder that relative names stand under, in place of the policy's own.
+    pub base: Option<&'a str>,
     /// The name of the script's file.
     pub script: &'a str,
     /// Whether it is enough that the policy denies nothing that is known before a run.
     pub allows_open: bool,
+    /// Whether a JSON object is to tell of each site.
+    pub is_json: bool,
 }
 
 /// What `awkbox lint` is asked for: what is wrong with this policy, or what of this script other awks do otherwise. One
@@ -65,6 +74,8 @@ pub struct Check<'a> {
 pub struct Lint<'a> {
     /// The name of the policy's file.
     pub policy: Option<&'a str>,
+    /// The folder that relative names stand under, in place of the policy's own.
+    pub base: Option<&'a str>,
     /// The name of the script's file.
     pub script: Option<&'a str>,
     /// Whether whatever is told makes the exit status 1.
@@ -76,7 +87,7 @@ pub struct Lint<'a> {
 /// of the files is [`STANDARD_INPUT`].
 #[derive(Debug, Drop)]
 pub struct Propose<'a> {
-    /// The folder that relative names stand under.
+    /// The folder that relative names stand under, in place of the policy's own where there is one.
     pub base: Option<&'a str>,
     /// The name of the policy's file.
     pub policy: Option<&'a str>,
@@ -91,8 +102,8 @@ pub struct Propose<'a> {
 pub enum Asked<'a> {
     /// To run a script under a policy.
     Run(Run<'a>),
-    /// To list where a run of this script may ask.
-    List { script: &'a str },
+    /// To list where a run of this script may ask, in lines or as JSON objects.
+    List { script: &'a str, is_json: bool },
     /// To tell whether this policy denies what this script may ask for.
     Check(Check<'a>),
     /// To tell which rules of a policy speak of a request.
@@ -200,6 +211,13 @@ fn allow_open<'a>(alloc: Global) -> Arg<'a> {
         .help("A script that is open ends with 0 too")
 }
 
+fn json<'a>(alloc: Global) -> Arg<'a> {
+    Arg::new(alloc, "json")
+        .action(ArgAction::SetTrue)
+        .long("json")
+        .help("A JSON object is printed for each site")
+}
+
 fn strict<'a>(alloc: Global) -> Arg<'a> {
     Arg::new(alloc, "strict")
         .action(ArgAction::SetTrue)
@@ -230,7 +248,7 @@ fn given<'a>(alloc: Global) -> Arg<'a> {
 }
 
 fn base<'a>(alloc: Global) -> Arg<'a> {
-    let help = "What relative names stand under; it may be absent beside a policy, which has one";
+    let help = "The folder that relative names stand under, in place of the policy's own";
     option(alloc, "base", "DIR", help).long("base")
 }
 
@@ -279,6 +297,7 @@ fn run_command<'a>(alloc: Global) -> Result<Command<'a>, AllocError> {
         .about("Runs an awk script under a policy")
         .after_help(RUN_STATUSES)
         .arg(policy(alloc))?
+        .arg(base(alloc))?
         .arg(log(alloc))?
         .arg(log_append(alloc))?
         .arg(log_limit(alloc))?
@@ -298,6 +317,7 @@ fn list_command<'a>(alloc: Global) -> Result<Command<'a>, AllocError> {
     Command::new(alloc, "list")
         .about("Lists where a run of a script may ask for a file, a command or the environment")
         .after_help(TOLD_STATUSES)
+        .arg(json(alloc))?
         .arg(script(alloc))
 }
 
@@ -306,7 +326,9 @@ fn check_command<'a>(alloc: Global) -> Result<Command<'a>, AllocError> {
         .about("Tells before any run whether a policy denies what a script may ask for")
         .after_help(TOLD_STATUSES)
         .arg(policy(alloc))?
+        .arg(base(alloc))?
         .arg(allow_open(alloc))?
+        .arg(json(alloc))?
         .arg(script(alloc))
 }
 
@@ -315,6 +337,7 @@ fn why_command<'a>(alloc: Global) -> Result<Command<'a>, AllocError> {
         .about("Tells which rules of a policy speak of a request, and which one decides")
         .after_help(TOLD_STATUSES)
         .arg(policy(alloc))?
+        .arg(base(alloc))?
         .arg(given(alloc))?
         .arg(kind(alloc))?
         .arg(text(alloc))
@@ -325,6 +348,7 @@ fn lint_command<'a>(alloc: Global) -> Result<Command<'a>, AllocError> {
         .about("Tells what is wrong with a policy, and what its rules or a script may not mean")
         .after_help(TOLD_STATUSES)
         .arg(policy(alloc).required(false))?
+        .arg(base(alloc))?
         .arg(strict(alloc))?
         .arg(script(alloc).required(false))
 }
@@ -431,6 +455,7 @@ fn run_of<'a>(alloc: Global, matches: &ArgMatches<'a>) -> Result<Run<'a>, Error>
     let (policy, script) = sources_of(alloc, matches)?;
     Ok(Run {
         policy,
+        base: matches.get_str("base"),
         log: value_of(alloc, matches, "log")?,
         adds_to_log: matches.get_flag("log-append"),
         log_limit: log_limit_of(alloc, matches)?,
@@ -454,6 +479,7 @@ fn why_of<'a>(alloc: Global, matches: &ArgMatches<'a>, policy: &'a str) -> Resul
     };
     Ok(Why {
         policy,
+        base: matches.get_str("base"),
         kind,
         text: value_of(alloc, matches, "text")?,
         given: matches.get_flag("given"),
@@ -463,11 +489,15 @@ fn why_of<'a>(alloc: Global, matches: &ArgMatches<'a>, policy: &'a str) -> Resul
 fn lint_of<'a>(alloc: Global, matches: &ArgMatches<'a>) -> Result<Lint<'a>, Error> {
     let asked = Lint {
         policy: matches.get_str("policy"),
+        base: matches.get_str("base"),
         script: matches.get_str("script"),
         is_strict: matches.get_flag("strict"),
     };
     if asked.policy.is_none() && asked.script.is_none() {
         return Err(fault(alloc, "one of --policy and -f is needed"));
+    }
+    if asked.base.is_some() && asked.policy.is_none() {
+        return Err(fault(alloc, "--base is of --policy"));
     }
     if share_input([asked.policy, asked.script, None]) {
         return Err(fault(alloc, "policy and script are not both the standard input"));
@@ -500,7 +530,8 @@ fn asked_of<'a>(alloc: Global, matches: &ArgMatches<'a>) -> Result<Asked<'a>, Er
     }
     if name == "list" {
         let script = value_of(alloc, matches, "script")?;
-        return Ok(Asked::List { script });
+        let is_json = matches.get_flag("json");
+        return Ok(Asked::List { script, is_json });
     }
     if name == "propose" {
         return Ok(Asked::Propose(propose_of(alloc, matches)?));
@@ -512,8 +543,10 @@ fn asked_of<'a>(alloc: Global, matches: &ArgMatches<'a>) -> Result<Asked<'a>, Er
         let (policy, script) = sources_of(alloc, matches)?;
         return Ok(Asked::Check(Check {
             policy,
+            base: matches.get_str("base"),
             script,
             allows_open: matches.get_flag("allow-open"),
+            is_json: matches.get_flag("json"),
         }));
     }
     let policy = value_of(alloc, matches, "policy")?;

@@ -1,5 +1,5 @@
 // A policy explained, and what a policy or a script may not mean.
-use crate::folders::absolute;
+use crate::folders::{absolute, base_bytes, base_name};
 use crate::runs::read_source;
 use awk_hints::script_lines;
 use awkbox::{ListingRefusal, Memory, Message, list};
@@ -14,12 +14,13 @@ const REFUSED: u8 = 3;
 pub fn why_file(rt: &HostRuntime, asked: &Why<'_>) -> Result<u8, Message> {
     let source = read_source(rt, asked.policy)?;
     let bytes = source.bytes.as_slice();
+    let base = base_name(rt, asked.base)?;
     let wanted = Wanted {
         kind: asked.kind,
         subject: asked.text.as_bytes(),
         given: asked.given,
     };
-    match explained(rt.alloc(), asked.policy, bytes, wanted) {
+    match explained(rt.alloc(), asked.policy, bytes, base_bytes(&base), wanted) {
         Ok(lines) => {
             let _ = rt.stdout().write_all(lines.as_str().as_bytes());
             Ok(0)
@@ -40,7 +41,7 @@ enum Told {
 /// That it cannot be written is passed over.
 pub fn lint_files(rt: &HostRuntime, asked: Lint<'_>) -> Result<u8, Message> {
     let policy = match asked.policy {
-        Some(policy) => lint_policy(rt, policy)?,
+        Some(policy) => lint_policy(rt, policy, asked.base)?,
         None => Told::Nothing,
     };
     let script = match asked.script {
@@ -63,9 +64,9 @@ fn print_lines(rt: &HostRuntime, lines: &str) -> Told {
     }
 }
 
-fn lint_policy(rt: &HostRuntime, policy: &str) -> Result<Told, Message> {
+fn lint_policy(rt: &HostRuntime, policy: &str, base: Option<&str>) -> Result<Told, Message> {
     let source = read_source(rt, policy)?;
-    let found = found_in(rt, policy, source.bytes.as_slice())?;
+    let found = found_in(rt, policy, source.bytes.as_slice(), base)?;
     let told = print_lines(rt, found.lines.as_str());
     match found.refusal {
         Some(_) => Ok(Told::Refusal),
@@ -92,7 +93,13 @@ fn lint_script(rt: &HostRuntime, script: &str) -> Result<Told, Message> {
     }
 }
 
-fn found_in(rt: &HostRuntime, policy: &str, text: &[u8]) -> Result<Findings, Memory> {
+fn found_in(
+    rt: &HostRuntime,
+    policy: &str,
+    text: &[u8],
+    base: Option<&str>,
+) -> Result<Findings, Memory> {
     let file = absolute(rt, policy)?;
-    lint(rt.alloc(), policy, file.as_str(), text)
+    let base = base_name(rt, base)?;
+    lint(rt.alloc(), policy, file.as_str(), text, base_bytes(&base))
 }

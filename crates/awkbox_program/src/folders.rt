@@ -2,7 +2,7 @@
 use awkbox::{Memory, Message};
 use std::env::{current_dir, set_current_dir};
 use std::fs::canonicalize;
-use std::path::PathBuf;
+use std::path::{PathBuf, absolute as absolute_path};
 
 /// The folders of a run, by their absolute names; that of one that cannot be told is empty.
 #[derive(Drop)]
@@ -47,6 +47,26 @@ impl Folders {
 /// The absolute form of a name, from the folder that the program is in.
 pub fn absolute(rt: &HostRuntime, name: &str) -> Result<PathBuf, Memory> {
     current(rt)?.join(rt.alloc(), name)
+}
+
+/// The base that the words give, by its absolute name from the folder that the program is in. One that has none, as an
+/// empty one, stays as it is, and no policy may have it.
+pub fn base_name(rt: &HostRuntime, base: Option<&str>) -> Result<Option<PathBuf>, Memory> {
+    let Some(name) = base else {
+        return Ok(None);
+    };
+    match absolute_path(rt, name) {
+        Ok(base) => Ok(Some(base)),
+        Err(_) => Ok(Some(PathBuf::from_str(rt.alloc(), name)?)),
+    }
+}
+
+/// The bytes of a base that may be there.
+pub fn base_bytes(base: &Option<PathBuf>) -> Option<&[u8]> {
+    match base {
+        Some(base) => Some(base.as_str().as_bytes()),
+        None => None,
+    }
 }
 
 /// The name of the same file without links on its way; this name, where it cannot be told.

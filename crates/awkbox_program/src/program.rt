@@ -1,12 +1,13 @@
 // The program from its words to its exit status.
 use crate::advice::{lint_files, why_file};
+use crate::folders::{base_bytes, base_name};
 use crate::propose::propose_policy;
 use crate::reasons::{Files, tell_of_operands, tell_why};
 use crate::runs::{read_source, run_script};
 use crate::stack::has_small_stack;
 use crate::standard;
 use crate::standard::hold_closed;
-use awkbox::{Answer, ListingRefusal, Message, Octets, check, list};
+use awkbox::{Answer, ListingRefusal, Message, Octets, check, check_json, list, list_json};
 use awkbox_options::{Asked, Check, NotAsked, Words, read_asked, read_words};
 
 /// Does what the words ask for, tells on standard error what went wrong, and gives the exit status.
@@ -55,7 +56,7 @@ fn follow_asked(rt: &HostRuntime, asked: &Asked<'_>, operands: Vec<Octets>) -> u
 fn done(rt: &HostRuntime, asked: &Asked<'_>, operands: Vec<Octets>) -> Result<u8, Message> {
     match asked {
         Asked::Run(run) => run_script(rt, run, operands),
-        Asked::List { script } => list_file(rt, *script),
+        Asked::List { script, is_json } => list_file(rt, *script, *is_json),
         Asked::Check(asked) => check_files(rt, *asked),
         Asked::Why(why) => why_file(rt, why),
         Asked::Lint(asked) => lint_files(rt, *asked),
@@ -77,15 +78,28 @@ fn say(rt: &HostRuntime, message: &Message) -> u8 {
     message.status()
 }
 
-fn list_file(rt: &HostRuntime, script: &str) -> Result<u8, Message> {
+fn list_file(rt: &HostRuntime, script: &str, is_json: bool) -> Result<u8, Message> {
     let script = read_source(rt, script)?;
-    told(rt, list(rt.alloc(), script.bytes.as_slice()))
+    let script = script.bytes.as_slice();
+    let answer = if is_json {
+        list_json(rt.alloc(), script)
+    } else {
+        list(rt.alloc(), script)
+    };
+    told(rt, answer)
 }
 
 fn check_files(rt: &HostRuntime, asked: Check<'_>) -> Result<u8, Message> {
     let policy = read_source(rt, asked.policy)?;
     let script = read_source(rt, asked.script)?;
-    let answer = check(rt.alloc(), policy.bytes.as_slice(), script.bytes.as_slice());
+    let base = base_name(rt, asked.base)?;
+    let base = base_bytes(&base);
+    let (policy, script) = (policy.bytes.as_slice(), script.bytes.as_slice());
+    let answer = if asked.is_json {
+        check_json(rt.alloc(), policy, base, script)
+    } else {
+        check(rt.alloc(), policy, base, script)
+    };
     let passes = asked.allows_open && is_open(&answer);
     let status = told(rt, answer)?;
     Ok(if passes { 0 } else { status })
@@ -94,7 +108,7 @@ fn check_files(rt: &HostRuntime, asked: Check<'_>) -> Result<u8, Message> {
 // Whether a verdict says that the script is open.
 fn is_open(answer: &Result<Answer, ListingRefusal>) -> bool {
     match answer {
-        Ok(answer) => answer.lines.as_slice().starts_with(b"open\n"),
+        Ok(answer) => answer.is_open,
         Err(_) => false,
     }
 }

@@ -1,10 +1,12 @@
 // A policy proposed.
+use crate::folders::base_name;
 use crate::runs::read_source;
 use awkbox::{ListingRefusal, Message, sites_of};
 use awkbox_options::Propose;
 use box_advice::{Basis, LogError, Origin, ProposalError, Wish, propose, read_log};
-use std::alloc::Global;
+use std::alloc::{AllocError, Global};
 use std::fmt::Display;
+use std::path::PathBuf;
 
 /// The exit status where nothing is proposed.
 const REFUSED: u8 = 3;
@@ -32,6 +34,12 @@ enum NotProposed {
 impl From<Message> for NotProposed {
     fn from(message: Message) -> NotProposed {
         NotProposed::Message(message)
+    }
+}
+
+impl From<AllocError> for NotProposed {
+    fn from(_error: AllocError) -> NotProposed {
+        NotProposed::Message(Message::OutOfMemory)
     }
 }
 
@@ -80,12 +88,20 @@ fn say<E: Display>(rt: &HostRuntime, error: &E) -> Result<u8, Message> {
 // The text of the policy, behind the rules of the one that is named or under the base.
 fn proposed(rt: &HostRuntime, asked: &Propose<'_>) -> Result<Vec<u8>, NotProposed> {
     let wishes = wishes_of(rt, asked)?;
+    let base = base_name(rt, asked.base)?;
     match asked.policy {
-        Some(policy) => behind_file(rt, policy, asked.base, wishes.as_slice()),
+        Some(policy) => behind_file(rt, policy, base_text(&base), wishes.as_slice()),
         None => {
-            let start = Basis::Base(asked.base.unwrap_or(""));
+            let start = Basis::Base(base_text(&base).unwrap_or(""));
             Ok(propose(rt.alloc(), start, wishes.as_slice())?)
         }
+    }
+}
+
+fn base_text(base: &Option<PathBuf>) -> Option<&str> {
+    match base {
+        Some(base) => Some(base.as_str()),
+        None => None,
     }
 }
 

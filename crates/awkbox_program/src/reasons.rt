@@ -1,8 +1,8 @@
 // Why a message was said, on a line of its own behind it.
 use crate::files::{MOST_BYTES, ReadFile, last_bytes, read};
-use crate::folders::absolute;
+use crate::folders::{absolute, base_name};
 use awk_reasons::{denied, reason, told_of};
-use awkbox::{Fault, Memory, Message, Place, SyntaxError};
+use awkbox::{Fault, Memory, Message, Place, Policy, PolicyError, SyntaxError};
 use awkbox_options::{Asked, STANDARD_INPUT, read_words};
 use std::fs::{File, metadata};
 use std::io::{Error, ErrorKind};
@@ -20,7 +20,7 @@ impl Files {
     pub fn of(rt: &HostRuntime, asked: &Asked<'_>) -> Result<Files, Memory> {
         let (script, log) = match asked {
             Asked::Run(run) => (Some(run.script), Some(run.log)),
-            Asked::List { script } => (Some(*script), None),
+            Asked::List { script, .. } => (Some(*script), None),
             Asked::Check(check) => (Some(check.script), None),
             Asked::Propose(propose) => (propose.script, propose.log),
             Asked::Lint(lint) => (lint.script, None),
@@ -40,6 +40,17 @@ fn policy_of<'a>(asked: &Asked<'a>) -> Option<&'a str> {
         Asked::Why(why) => Some(why.policy),
         Asked::Lint(lint) => lint.policy,
         Asked::Propose(propose) => propose.policy,
+        Asked::List { .. } => None,
+    }
+}
+
+fn base_of<'a>(asked: &Asked<'a>) -> Option<&'a str> {
+    match asked {
+        Asked::Run(run) => run.base,
+        Asked::Check(check) => check.base,
+        Asked::Why(why) => why.base,
+        Asked::Lint(lint) => lint.base,
+        Asked::Propose(propose) => propose.base,
         Asked::List { .. } => None,
     }
 }
@@ -67,7 +78,7 @@ fn note(
 ) -> Result<Option<String>, Memory> {
     match message {
         Message::Script(error) => of_script(rt, files, *error),
-        Message::Policy(_) => of_policy(rt, asked),
+        Message::Policy(error) => of_policy(rt, asked, *error),
         Message::Unspelled(pair) | Message::Assignment(pair) => of_assignment(rt, asked, *pair),
         Message::CannotRead(_) => of_unread(rt, asked, files),
         Message::Fault(Fault::Output, place) => of_unwritten(rt, files, *place),
@@ -95,7 +106,20 @@ fn of_script(
     })
 }
 
-fn of_policy(rt: &HostRuntime, asked: &Asked<'_>) -> Result<Option<String>, Memory> {
+// The base that the words give is told of where no policy may have it: the policy's own may be the one that is refused,
+// but then this one is the next.
+fn of_policy(
+    rt: &HostRuntime,
+    asked: &Asked<'_>,
+    error: PolicyError,
+) -> Result<Option<String>, Memory> {
+    let base = base_name(rt, base_of(asked))?;
+    if let Some(base) = &base
+        && error.code == PolicyError::BASE
+        && !Policy::may_have(base.as_str().as_bytes())
+    {
+        return Ok(Some(of_base(rt, base.as_str())?));
+    }
     match policy_of(asked) {
         Some(policy) => {
             let note = format!(in rt.alloc(); "`awkbox lint --policy {policy}` tells more")?;
@@ -103,6 +127,12 @@ fn of_policy(rt: &HostRuntime, asked: &Asked<'_>) -> Result<Option<String>, Memo
         }
         None => Ok(None),
     }
+}
+
+fn of_base(rt: &HostRuntime, base: &str) -> Result<String, Memory> {
+    format!(in rt.alloc();
+        "a base is an absolute path without `*`, `?` and `..`; `--base` gives `{base}`"
+    )
 }
 
 // Of the `-v` pair of this number, counted from 1.

@@ -1,18 +1,20 @@
 // The run of a script.
 ghost use Rattle.awk_parse.specs.Scripts.{IsScript};
+ghost use Rattle.std.specs.Prelude.{IfOk};
 
 use crate::files::{OpenLog, ReadFile, look, read};
-use crate::folders::{Folders, enter, resolved};
+use crate::folders::{Folders, base_bytes, base_name, enter, resolved};
 use crate::setup::setup_of;
 use crate::standard;
 use awkbox::{
     Account, Ending, Fault, Identity, LimitedLog, LogEnd, Memory, Message, Octets, OsWorld,
-    Outcome, OwnFile, Place, Policy, Prepared, Report, Setup, Warning, may_be_log, may_start,
-    prepare, writing_rule,
+    Outcome, OwnFile, Place, Policy, Prepared, Refusal, Report, Setup, Warning, may_be_log,
+    may_start, prepare, writing_rule,
 };
 use awkbox_options::{Run, STANDARD_INPUT};
 use box_audit::watched::Watched;
 use box_blocks::buffered::{Buffered, NotWritten};
+use std::alloc::Global;
 use std::fs::File;
 use std::io::Write;
 
@@ -252,7 +254,9 @@ fn run_logged(
     let host = rt.clone()?;
     let policy = sources.policy.bytes.as_slice();
     let script = sources.script.bytes.as_slice();
+    let base = base_name(rt, run.base)?;
     let prepared = prepare(alloc, policy, script, setup)?;
+    let prepared = under(alloc, prepared, base_bytes(&base))?;
     if let Err(message) = begin(rt, run, prepared.policy(), folders) {
         prepared.release();
         return Err(message);
@@ -263,6 +267,17 @@ fn run_logged(
     } else {
         run_at_once(rt, run, setup, prepared, world, logs)
     })
+}
+
+// The same under this base, where one is given.
+fn under(alloc: Global, prepared: Prepared, base: Option<&[u8]>) -> Result<Prepared, Refusal>
+    requires { IsScript prepared.script }
+    ensures { IfOk result (λ prepared. IsScript prepared.script) }
+{
+    match base {
+        Some(base) => prepared.with_base(alloc, base),
+        None => Ok(prepared),
+    }
 }
 
 // A run of which each print is written at once.

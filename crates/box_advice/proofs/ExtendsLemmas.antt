@@ -1,6 +1,6 @@
 -- What a policy decides with exact rules behind its own.
 use Rattle.std.proofs.Common.{◌≡◌, ◌∙◌, ℕ, zero, suc, ◌+◌, Bool, true, false, not, ◌&&◌, ◌||◌, cond, List, [], ◌∷◌, ◌++◌, length, Option, Some, None, inl, inr, sym, ap, refl, arith}
-use Rattle.std.specs.Prelude.{◌⊎◌, Contains, codes, option_and_then, ℤ, pos, negsuc, int_le, nat_le, unsigned_abs}
+use Rattle.std.specs.Prelude.{◌⊎◌, Contains, codes, option_and_then, option_map, ℤ, pos, negsuc, int_le, nat_le, unsigned_abs}
 use Rattle.std.specs.List.{list_all, AllZip}
 use Rattle.std.specs.Str.{bytes_eq}
 use Rattle.std.proofs.Math.Dec.{leb-suc-zero}
@@ -20,7 +20,8 @@ use Rattle.box_policy.specs.Exact.{is_exact}
 use Rattle.box_policy.specs.Rulebook.{Rulebook}
 use Rattle.box_policy.specs.Tree.{text_at, tables_of}
 use Rattle.box_policy.specs.Words.{allowing, denying, effect_named, quota_named}
-use Rattle.box_policy.specs.Written.{WritesRule}
+use Rattle.box_policy.specs.Rebased.{WrittenUnder}
+use Rattle.box_policy.specs.Written.{WritesRule, Written}
 use Rattle.box_policy.proofs.OutlookLemmas.{allows, never}
 use Rattle.box_advice.specs.Proposals.{Extends, IsAdded, IsKeptOut, IsOwed, IsWished, Starts, with_counts, with_gained}
 use Rattle.box_advice.specs.Wishes.{answer, grants_from, is_given, is_offered, speak}
@@ -192,9 +193,16 @@ fresh_tables [] (rule ∷ rules) h = absurd h
 fresh_tables (table ∷ tables) [] h = absurd h
 fresh_tables (table ∷ tables) (rule ∷ rules) h = and_from (not (is_used_up rule)) (are_fresh rules) (fresh_table table rule h.0) (fresh_tables tables rules h.1)
 
+fresh_written : (text : List ℕ) (first : Rulebook) → Written text first → are_fresh first.rules ≡ true
+fresh_written text first h = fresh_tables (tables_of (get_member (codes "rule") h.tree)) first.rules h.writes.rules
+
+fresh_under : (base : Option (List ℕ)) (text : List ℕ) (first : Rulebook) → WrittenUnder base text first → are_fresh first.rules ≡ true
+fresh_under None text first h = fresh_written text first h
+fresh_under (Some base) text first h = ap (λ (book : Rulebook). are_fresh book.rules) h.3 ∙ fresh_written text h.0 h.1
+
 fresh_start : (start : Basis) (first : Rulebook) → Starts start first → are_fresh first.rules ≡ true
 fresh_start (Base base) first h = ap (λ (book : Rulebook). are_fresh book.rules) h
-fresh_start (Policy text base) first h = fresh_tables (tables_of (get_member (codes "rule") h.0.tree)) first.rules h.0.writes.rules
+fresh_start (Policy text base) first h = fresh_under (option_map (λ s. s.now) base) text.now first h
 
 -- ---- the whole
 

@@ -10,3 +10,4 @@ pub mod QuotesLemmas
 pub mod LogLinesLemmas
 pub mod LogsLemmas
 pub mod MetLemmas
+pub mod LintsLemmas

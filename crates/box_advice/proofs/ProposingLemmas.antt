@@ -1,11 +1,11 @@
 -- What is read of a proposal is what it was made of.
-use Rattle.std.proofs.Common.{◌≡◌, ◌∙◌, ℕ, ◌+◌, ◌<◌, ◌≤◌, true, List, [], ◌∷◌, ◌++◌, length, get_or, take, drop, subst, sym, ap, arith, refl, Some}
+use Rattle.std.proofs.Common.{◌≡◌, ◌∙◌, ℕ, ◌+◌, ◌<◌, ◌≤◌, true, List, [], ◌∷◌, ◌++◌, length, get_or, take, drop, subst, sym, ap, arith, refl, Option, Some}
 use Rattle.std.specs.Prelude.{IfErr, Result, Ok, Err}
 use Rattle.std.proofs.lemmas.Slice.Eq.{bytes_eq-Decides}
 use Rattle.std.proofs.lemmas.List.{take-append-drop, take_all, take_more_same}
 use Rattle.box_policy.specs.declared.policy.Rule.{Rule}
 use Rattle.box_policy.specs.Rulebook.{Rulebook}
-use Rattle.box_policy.specs.Written.{Written}
+use Rattle.box_policy.specs.Rebased.{WrittenUnder}
 use Rattle.box_advice.specs.Proposals.{HasRoom, IsGainRefused, IsNotPrinted, has_base, with_gained}
 use Rattle.box_advice.specs.Wishes.{IsGained}
 use Rattle.box_advice.specs.declared.proposing.ProposalError.{ProposalError}
@@ -41,20 +41,19 @@ bare book base told none =
 
 -- ---- what is not printed
 
-module _ (first : Rulebook) (wishes : List Wish) (gained : List Rule) (got : IsGained first wishes gained) where
+module _ (base : Option (List ℕ)) (first : Rulebook) (wishes : List Wish) (gained : List Rule) (got : IsGained first wishes gained) where
   has_room : HasRoom first wishes
   has_room = subst (λ (rules : List Rule). length first.rules + length rules ≤ 1024) got.is got.room
 
-  refused_by : (error : ProposalError) → IsNotPrinted (with_gained first gained) error → IsGainRefused first wishes error
+  refused_by : (error : ProposalError) → IsNotPrinted base (with_gained first gained) error → IsGainRefused base first wishes error
   refused_by (e.Policy error) h = h
-  refused_by e.OtherBase h = h
   refused_by e.TooManyRules h = absurd h
   refused_by e.TooLong h =
-      (has_room, h.0, subst (λ (rules : List Rule). Written h.0 (with_gained first rules)) got.is h.1, h.2)
+      (has_room, h.0, subst (λ (rules : List Rule). WrittenUnder base h.0 (with_gained first rules)) got.is h.1, h.2)
   refused_by e.Misprinted h = has_room
   refused_by e.Memory h = tt
 
-  pub not_printed : {T : Type 0} (result : Result T ProposalError) → IfErr result (IsNotPrinted (with_gained first gained))
-      → IfErr result (IsGainRefused first wishes)
+  pub not_printed : {T : Type 0} (result : Result T ProposalError) → IfErr result (IsNotPrinted base (with_gained first gained))
+      → IfErr result (IsGainRefused base first wishes)
   not_printed (Ok v) h = tt
   not_printed (Err error) h = refused_by error h

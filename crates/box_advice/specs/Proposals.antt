@@ -10,10 +10,10 @@ use Rattle.box_policy.specs.Counts.{rule_cleared}
 use Rattle.box_policy.specs.declared.error.PolicyError.{PolicyError}
 use Rattle.box_policy.specs.Decisions.{decision, outlook}
 use Rattle.box_policy.specs.Exact.{is_exact, Same}
-use Rattle.box_policy.specs.Refusals.{IsRefused, no_memory}
+use Rattle.box_policy.specs.Rebased.{IsRefusedUnder, WrittenUnder}
+use Rattle.box_policy.specs.Refusals.{no_memory}
 use Rattle.box_policy.specs.Rulebook.{Rulebook}
 use Rattle.box_policy.specs.Words.{is_base}
-use Rattle.box_policy.specs.Written.{Written}
 use Rattle.box_advice.specs.Wishes.{answer, grants_from, is_given, is_offered}
 use Rattle.box_advice.specs.declared.proposing.Basis.{Basis}
 use Rattle.box_advice.specs.declared.proposing.Basis.TheVariants.{Base, Policy}
@@ -92,18 +92,23 @@ abbrev pub has_base : List ℕ → Option (List ℕ) → Bool
 has_base base None = true
 has_base base (Some told) = bytes_eq base told
 
--- the first policy: one without rules under a base, or the one that a text writes, whose base may be told once more
+-- the first policy: one without rules under a base, or the one that a text writes, under its own base or the given one
 abbrev pub Starts : Basis → Rulebook → Type 0
 Starts (Base base) first = first ≡ record { base = base.now; rules = [] }
-Starts (Policy text base) first = Written text.now first × (has_base first.base (option_map (λ s. s.now) base) ≡ true)
+Starts (Policy text base) first = WrittenUnder (option_map (λ s. s.now) base) text.now first
 
--- the text writes the policy, and the program would read so much of it
-abbrev pub IsText : Rulebook → List ℕ → Type 0
-IsText book text = Written text book × (length text ≤ 16777216)
+-- the base that is given beside a policy, which stands in the place of its own
+abbrev pub base_of : Basis → Option (List ℕ)
+base_of (Base base) = None
+base_of (Policy text base) = option_map (λ s. s.now) base
+
+-- the text writes the policy, under its own base or the given one, and the program would read so much of it
+abbrev pub IsText : Option (List ℕ) → Rulebook → List ℕ → Type 0
+IsText base book text = WrittenUnder base text book × (length text ≤ 16777216)
 
 -- the text writes the first policy with what it gains, and that decides as it should
-pub record Proposes (first : Rulebook) (wishes : List Wish) (text : List ℕ) : Type 0 where
-  pub accepted : IsText (with_gained first (grants_from first [] wishes)) text
+pub record Proposes (base : Option (List ℕ)) (first : Rulebook) (wishes : List Wish) (text : List ℕ) : Type 0 where
+  pub accepted : IsText base (with_gained first (grants_from first [] wishes)) text
   pub extends : Extends first (grants_from first [] wishes) wishes
 
 -- ---- what is refused; memory may be refused whatever the texts are
@@ -115,16 +120,14 @@ no_base = record { code = 3; rule = 0 }
 -- a base: that it is none; that what was written for one does not read as it was meant, no contract rules out
 abbrev pub IsBaseRefused : List ℕ → ProposalError → Type 0
 IsBaseRefused base (e.Policy error) = (error ≡ no_base) × (is_base (Some base) ≡ false)
-IsBaseRefused base e.OtherBase = ⊥
 IsBaseRefused base e.TooManyRules = ⊥
 IsBaseRefused base e.TooLong = ⊥
 IsBaseRefused base e.Misprinted = is_base (Some base) ≡ true
 IsBaseRefused base e.Memory = Unit {0}
 
--- a policy's text
+-- a policy's text, or the base that is given
 abbrev pub IsTextRefused : List ℕ → Option (List ℕ) → ProposalError → Type 0
-IsTextRefused text base (e.Policy error) = IsRefused text error × (error ≡ no_memory → ⊥)
-IsTextRefused text base e.OtherBase = (first : Rulebook) × Written text first × (has_base first.base base ≡ false)
+IsTextRefused text base (e.Policy error) = IsRefusedUnder base text error × (error ≡ no_memory → ⊥)
 IsTextRefused text base e.TooManyRules = ⊥
 IsTextRefused text base e.TooLong = ⊥
 IsTextRefused text base e.Misprinted = ⊥
@@ -140,26 +143,26 @@ HasRoom first wishes = length first.rules + length (grants_from first [] wishes)
 
 -- what is to be written for a policy: a text that writes it is too long to be read; that it is misprinted no contract
 -- rules out
-abbrev pub IsNotPrinted : Rulebook → ProposalError → Type 0
-IsNotPrinted last (e.Policy error) = ⊥
-IsNotPrinted last e.OtherBase = ⊥
-IsNotPrinted last e.TooManyRules = ⊥
-IsNotPrinted last e.TooLong = (text : List ℕ) × Written text last × (16777216 < length text)
-IsNotPrinted last e.Misprinted = Unit {0}
-IsNotPrinted last e.Memory = Unit {0}
+abbrev pub IsNotPrinted : Option (List ℕ) → Rulebook → ProposalError → Type 0
+IsNotPrinted base last (e.Policy error) = ⊥
+IsNotPrinted base last e.TooManyRules = ⊥
+IsNotPrinted base last e.TooLong = (text : List ℕ) × WrittenUnder base text last × (16777216 < length text)
+IsNotPrinted base last e.Misprinted = Unit {0}
+IsNotPrinted base last e.Memory = Unit {0}
 
 -- what a policy would gain: its rules are too many, or else a text that writes it is too long to be read; that it is
 -- misprinted no contract rules out
-abbrev pub IsGainRefused : Rulebook → List Wish → ProposalError → Type 0
-IsGainRefused first wishes (e.Policy error) = ⊥
-IsGainRefused first wishes e.OtherBase = ⊥
-IsGainRefused first wishes e.TooManyRules = 1024 < length first.rules + length (grants_from first [] wishes)
-IsGainRefused first wishes e.TooLong =
-    HasRoom first wishes × (text : List ℕ) × Written text (with_gained first (grants_from first [] wishes))
+abbrev pub IsGainRefused : Option (List ℕ) → Rulebook → List Wish → ProposalError → Type 0
+IsGainRefused base first wishes (e.Policy error) = ⊥
+IsGainRefused base first wishes e.TooManyRules = 1024 < length first.rules + length (grants_from first [] wishes)
+IsGainRefused base first wishes e.TooLong =
+    HasRoom first wishes × (text : List ℕ)
+    × WrittenUnder base text (with_gained first (grants_from first [] wishes))
     × (16777216 < length text)
-IsGainRefused first wishes e.Misprinted = HasRoom first wishes
-IsGainRefused first wishes e.Memory = Unit {0}
+IsGainRefused base first wishes e.Misprinted = HasRoom first wishes
+IsGainRefused base first wishes e.Memory = Unit {0}
 
 abbrev pub IsProposalRefused : Basis → List Wish → ProposalError → Type 0
 IsProposalRefused start wishes error =
-    IsStartRefused start error ⊎ ((first : Rulebook) × Starts start first × IsGainRefused first wishes error)
+    IsStartRefused start error
+    ⊎ ((first : Rulebook) × Starts start first × IsGainRefused (base_of start) first wishes error)

@@ -165,14 +165,16 @@ fn explanation(
     page.end()
 }
 
-/// The lines that tell a person what [`why`] answers of the policy of this text, which stands in the file of this name:
-/// the normal form of a path, each rule of the kind, and the one that decides.
+/// The lines that tell a person what [`why`] answers of the policy of this text, which stands in the file of this name,
+/// under the base that is given or else its own: the normal form of a path, each rule of the kind, and the one that
+/// decides.
 pub fn explained(
     alloc: Global,
     name: &str,
     text: &[u8],
+    base: Option<&[u8]>,
     wanted: Wanted<'_>,
 ) -> Result<String, PolicyError> {
-    let policy = Policy::read(alloc, text)?;
+    let policy = Policy::read_under(alloc, text, base)?;
     Ok(explanation(alloc, name, text, &policy, wanted)?)
 }

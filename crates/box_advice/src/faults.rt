@@ -3,7 +3,7 @@
 use crate::nearest::put_hint;
 use crate::page::Page;
 use box_policy::error::PolicyError;
-use box_policy::policy::MAX_RULES;
+use box_policy::policy::{MAX_RULES, Policy};
 use std::alloc::Global;
 use toml::{Table, Value};
 
@@ -158,6 +158,9 @@ fn base_fault<'a>(table: &'a Table, page: &mut Page) -> Mistake<'a> {
         return missing(table, "base", "it is an absolute path", page);
     };
     page.put(match value.as_str() {
+        Some(base) if Policy::may_have(base.as_bytes()) => {
+            "the base that is given in its place is not an absolute path without *, ? and .."
+        }
         Some(base) => base_reason(base),
         None => "base is no text; it is an absolute path",
     });

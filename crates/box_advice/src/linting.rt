@@ -1,8 +1,7 @@
 // What is wrong with a policy, in lines for its writer.
-ghost use Rattle.std.specs.Prelude.{◌≡◌, false, IfOk};
-ghost use Rattle.box_policy.specs.Refusals.{IsRefused, no_memory};
-ghost use Rattle.box_policy.specs.Written.{Written};
-ghost use Rattle.box_advice.specs.Lints.{Lints};
+ghost use Rattle.std.specs.Prelude.{◌≡◌, false, option_map, IfOk};
+ghost use Rattle.box_policy.specs.Refusals.{no_memory};
+ghost use Rattle.box_advice.specs.Lints.{FindsNone, FindsRefused, Lints};
 
 use crate::faults::{Mistake, fault_in, rules_of};
 use crate::lookalikes::put_lookalike;
@@ -146,13 +145,19 @@ fn is_memory(error: PolicyError) -> bool
     error.code == PolicyError::MEMORY
 }
 
-/// The lines for the policy of this text, which stands in the file of this name: nothing for one that is in order; why
-/// it is refused, with the line and what was meant; or what its rules say that may not be meant. `file` is the file's
-/// absolute name. `Memory` where memory is refused.
-pub fn lint(alloc: Global, name: &str, file: &str, text: &[u8]) -> Result<Findings, Memory>
-    ensures { IfOk result (Lints text.now) }
+/// The lines for the policy of this text, which stands in the file of this name, under the base that is given or else
+/// its own: nothing for one that is in order; why it is refused, with the line and what was meant; or what its rules
+/// say that may not be meant. `file` is the file's absolute name. `Memory` where memory is refused.
+pub fn lint(
+    alloc: Global,
+    name: &str,
+    file: &str,
+    text: &[u8],
+    base: Option<&[u8]>,
+) -> Result<Findings, Memory>
+    ensures { IfOk result (Lints (option_map (λ b. b.now) base) text.now) }
 {
-    match Policy::read(alloc, text) {
+    match Policy::read_under(alloc, text, base) {
         Ok(policy) => in_order(alloc, name, file, text, &policy),
         Err(error) => refused(alloc, name, text, error),
     }
@@ -165,8 +170,7 @@ fn in_order(
     text: &[u8],
     policy: &Policy,
 ) -> Result<Findings, Memory>
-    requires { Written text.now policy.now }
-    ensures { IfOk result (Lints text.now) }
+    ensures { IfOk result (FindsNone policy.now) }
 {
     let unreached = rules_unreached(alloc, policy)?;
     let read = Read {
@@ -185,8 +189,7 @@ fn in_order(
 }
 
 fn refused(alloc: Global, name: &str, text: &[u8], error: PolicyError) -> Result<Findings, Memory>
-    requires { IsRefused text.now error }
-    ensures { IfOk result (Lints text.now) }
+    ensures { IfOk result (FindsRefused error) }
 {
     if is_memory(error) {
         return Err(AllocError);

@@ -1,11 +1,13 @@
 // A policy that allows more.
 ghost use Rattle.std.specs.Prelude.{◌≡◌, ◌⊎◌, ◌++◌, [], true, Some, option_map, IfOk, IfErr, IfSome};
 ghost use Rattle.box_policy.specs.Paths.{is_absolute};
+ghost use Rattle.box_policy.specs.Rebased.{WrittenUnder};
 ghost use Rattle.box_policy.specs.Rulebook.{Rulebook};
 ghost use Rattle.box_policy.specs.Words.{has_wildcard, is_base};
 ghost use Rattle.box_policy.specs.Written.{Written};
 ghost use Rattle.box_advice.specs.Proposals.{IsBaseRefused, IsGainRefused, IsNotPrinted, IsProposalRefused};
-ghost use Rattle.box_advice.specs.Proposals.{IsStartRefused, IsText, IsTextRefused, Proposes, Starts, has_base, with_gained};
+ghost use Rattle.box_advice.specs.Proposals.{IsStartRefused, IsText, IsTextRefused, Proposes, Starts, base_of};
+ghost use Rattle.box_advice.specs.Proposals.{has_base, with_gained};
 ghost use Rattle.box_advice.specs.Wishes.{grants_from};
 ghost use Rattle.box_advice.specs.declared.proposing.ProposalError.TheVariants.{Memory as OutOfMemory, Misprinted};
 
@@ -24,8 +26,8 @@ use std::fmt;
 /// The most bytes that a policy may have which the program reads.
 const MAX_TEXT: usize = 16_777_216;
 
-/// What a proposal begins with: a policy without rules, under this base, or the policy of this text, of which the base
-/// may be told once more.
+/// What a proposal begins with: a policy without rules, under this base, or the policy of this text, under its own base
+/// or the one that is given. The text keeps its own.
 #[derive(Clone, Copy, Drop)]
 pub enum Basis<'a> {
     Base(&'a str),
@@ -40,8 +42,6 @@ pub enum Basis<'a> {
 pub enum ProposalError {
     /// The policy is refused, or the base is none.
     Policy(PolicyError),
-    /// The policy has another base.
-    OtherBase,
     /// The policy would have more than 1,024 rules.
     TooManyRules,
     /// The policy would have more bytes than are read.
@@ -55,7 +55,6 @@ impl fmt::Display for ProposalError {
     fn fmt<W: fmt::Write>(&self, f: &mut fmt::Formatter<W>) -> fmt::Result {
         match self {
             ProposalError::Policy(error) => write!(f, "policy {error}"),
-            ProposalError::OtherBase => f.write_str("the policy has another base"),
             ProposalError::TooManyRules => {
                 f.write_str("the policy would have more than 1024 rules")
             }
@@ -178,20 +177,24 @@ fn begun_at(alloc: Global, base: &str) -> Result<WrittenPolicy, ProposalError>
     Ok(WrittenPolicy { text, policy })
 }
 
+fn bytes_of(base: Option<&str>) -> Option<&[u8]>
+    ensures { option_map (λ b. b.now) result ≡ option_map (λ s. s.now) base.entry }
+{
+    match base {
+        Some(base) => Some(base.as_bytes()),
+        None => None,
+    }
+}
+
 fn begun_with(
     alloc: Global,
     text: &[u8],
     base: Option<&str>,
 ) -> Result<WrittenPolicy, ProposalError>
-    ensures ok { IfOk result
-        (λ begun. Written text.now begun.policy
-        × (has_base begun.policy.base (option_map (λ s. s.now) base.entry) ≡ true)) }
-    ensures refused { IfErr result (IsTextRefused text.now (option_map (λ s. s.now) base.entry)) }
+    ensures ok { IfOk result (λ begun. WrittenUnder (option_map (λ s. s.now) base) text.now begun.policy) }
+    ensures refused { IfErr result (IsTextRefused text.now (option_map (λ s. s.now) base)) }
 {
-    let policy = Policy::read(alloc, text)?;
-    if !has_base(&policy, base) {
-        return Err(ProposalError::OtherBase);
-    }
+    let policy = Policy::read_under(alloc, text, bytes_of(base))?;
     let text = Vec::from_slice(alloc, text)?;
     Ok(WrittenPolicy { text, policy })
 }
@@ -203,6 +206,16 @@ fn begun(alloc: Global, start: Basis<'_>) -> Result<WrittenPolicy, ProposalError
     match start {
         Basis::Base(base) => begun_under(alloc, base),
         Basis::Policy { text, base } => begun_with(alloc, text, base),
+    }
+}
+
+/// The base that is given beside a policy.
+fn base_of(start: Basis<'_>) -> Option<&str>
+    ensures { option_map (λ s. s.now) result ≡ base_of start.entry }
+{
+    match start {
+        Basis::Base(_) => None,
+        Basis::Policy { base, .. } => base,
     }
 }
 
@@ -267,11 +280,19 @@ fn are_joined(rules: &[Rule], first: &[Rule], others: &[Rule]) -> bool
     are_all_same(front, first) && are_all_same(back, others)
 }
 
-/// Whether the text reads as the first policy with these rules behind its own.
-fn reads(alloc: Global, text: &[u8], first: &Policy, gained: &[Rule]) -> Result<bool, Memory>
-    ensures { IfOk result (λ reads. reads ≡ true → Written text.now (with_gained first.now gained.now)) }
+/// Whether the text, under the base where one is given, reads as the first policy with these rules behind its own.
+fn reads(
+    alloc: Global,
+    text: &[u8],
+    base: Option<&str>,
+    first: &Policy,
+    gained: &[Rule],
+) -> Result<bool, Memory>
+    ensures { IfOk result
+        (λ reads. reads ≡ true
+        → WrittenUnder (option_map (λ s. s.now) base) text.now (with_gained first.now gained.now)) }
 {
-    match Policy::read(alloc, text) {
+    match Policy::read_under(alloc, text, bytes_of(base)) {
         Ok(policy) => Ok(
             policy.base() == first.base() && are_joined(policy.rules(), first.rules(), gained),
         ),
@@ -302,22 +323,25 @@ fn may_be_taken(alloc: Global, text: &[u8], gains: &Gains) -> Result<bool, Memor
 /// where neither reads so.
 fn written(
     alloc: Global,
+    base: Option<&str>,
     beginning: &WrittenPolicy,
     gains: &Gains,
 ) -> Result<Option<Vec<u8>>, Memory>
     ensures { IfOk result
-        (λ found. IfSome found (λ text. Written text.items (with_gained beginning.now.policy gains.now.rules.items))) }
+        (λ found. IfSome found
+        (λ text. WrittenUnder (option_map (λ s. s.now) base) text.items
+        (with_gained beginning.now.policy gains.now.rules.items))) }
 {
     let first = &beginning.policy;
     let rules = gains.rules.as_slice();
     let lines = gains.page.text()?;
     let text = joined(alloc, beginning.text.as_slice(), lines)?;
-    let stands = reads(alloc, text.as_slice(), first, rules)?;
+    let stands = reads(alloc, text.as_slice(), base, first, rules)?;
     if stands && may_be_taken(alloc, text.as_slice(), gains)? {
         return Ok(Some(text));
     }
     let anew = joined(alloc, policy_text(alloc, first)?.as_bytes(), lines)?;
-    if reads(alloc, anew.as_slice(), first, rules)? {
+    if reads(alloc, anew.as_slice(), base, first, rules)? {
         return Ok(Some(anew));
     }
     Ok(if stands { Some(text) } else { None })
@@ -326,16 +350,17 @@ fn written(
 /// The text of the policy that begins so and gains what is wished.
 fn proposed(
     alloc: Global,
+    base: Option<&str>,
     beginning: &WrittenPolicy,
     wishes: &[Wish],
 ) -> Result<Vec<u8>, ProposalError>
     ensures ok { IfOk result
-        (λ text. IsText (with_gained beginning.now.policy (grants_from beginning.now.policy [] wishes.now))
-        text.items) }
-    ensures refused { IfErr result (IsGainRefused beginning.now.policy wishes.now) }
+        (λ text. IsText (option_map (λ s. s.now) base)
+        (with_gained beginning.now.policy (grants_from beginning.now.policy [] wishes.now)) text.items) }
+    ensures refused { IfErr result (IsGainRefused (option_map (λ s. s.now) base) beginning.now.policy wishes.now) }
 {
     match Gains::of(alloc, &beginning.policy, wishes)? {
-        Some(gains) => printed(alloc, beginning, &gains),
+        Some(gains) => printed(alloc, base, beginning, &gains),
         None => Err(ProposalError::TooManyRules),
     }
 }
@@ -343,13 +368,17 @@ fn proposed(
 /// The text of the policy that begins so and gains this.
 fn printed(
     alloc: Global,
+    base: Option<&str>,
     beginning: &WrittenPolicy,
     gains: &Gains,
 ) -> Result<Vec<u8>, ProposalError>
-    ensures ok { IfOk result (λ text. IsText (with_gained beginning.now.policy gains.now.rules.items) text.items) }
-    ensures refused { IfErr result (IsNotPrinted (with_gained beginning.now.policy gains.now.rules.items)) }
+    ensures ok { IfOk result
+        (λ text. IsText (option_map (λ s. s.now) base) (with_gained beginning.now.policy gains.now.rules.items)
+        text.items) }
+    ensures refused { IfErr result
+        (IsNotPrinted (option_map (λ s. s.now) base) (with_gained beginning.now.policy gains.now.rules.items)) }
 {
-    let Some(text) = written(alloc, beginning, gains)? else {
+    let Some(text) = written(alloc, base, beginning, gains)? else {
         return Err(ProposalError::Misprinted);
     };
     if text.len() > MAX_TEXT {
@@ -366,10 +395,11 @@ fn printed(
 /// that had no rule, and the request has the kind and the text of such a wish, for a path its normal form.
 pub fn propose(alloc: Global, start: Basis<'_>, wishes: &[Wish]) -> Result<Vec<u8>, ProposalError>
     ensures ok { IfOk result
-        (λ text. (first : Rulebook) × Starts start.entry first × Proposes first wishes.now text.items) }
+        (λ text. (first : Rulebook) × Starts start.entry first
+        × Proposes (base_of start.entry) first wishes.now text.items) }
     ensures refused { IfErr result (IsProposalRefused start.entry wishes.now) }
 {
     let beginning = begun(alloc, start)?;
-    let text = proposed(alloc, &beginning, wishes)?;
+    let text = proposed(alloc, base_of(start), &beginning, wishes)?;
     Ok(text)
 }

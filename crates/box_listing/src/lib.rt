@@ -8,6 +8,7 @@
 
 mod checking;
 mod expressions;
+mod json;
 mod lines;
 mod listing;
 mod order;
@@ -18,6 +19,7 @@ mod statements;
 mod verdict;
 
 pub use checking::checked;
+pub use json::{judged_json, sites_json};
 pub use lines::{line_of, lines_of, verdict_lines};
 pub use listing::listed;
 pub use scripts::{check, sites};

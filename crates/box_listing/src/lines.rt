@@ -13,7 +13,7 @@ use awk_text::quote::quote_log;
 use box_policy::policy::Kind;
 use std::alloc::{AllocError, Global};
 
-fn kind_word(kind: Kind) -> &'static str
+pub(crate) fn kind_word(kind: Kind) -> &'static str
     ensures { result.now ≡ spec.kind_word kind }
 {
     match kind {

@@ -44,7 +44,7 @@ pub enum Verdict {
 }
 
 /// What the policy says of a site: `None` where the text is not known.
-fn outlook_of(policy: &Policy, site: &Site) -> Option<Outlook>
+pub(crate) fn outlook_of(policy: &Policy, site: &Site) -> Option<Outlook>
     ensures { result ≡ spec.outlook_at policy.now site.now.kind site.now.text }
 {
     match &site.text {

@@ -14,6 +14,7 @@ pub mod JudgedLemmas
 pub mod NamesLemmas
 pub mod OutlookLemmas
 pub mod PlainLemmas
+pub mod RebasedLemmas
 pub mod TablesLemmas
 pub mod TellingLemmas
 pub mod TextLemmas

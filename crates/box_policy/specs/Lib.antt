@@ -25,4 +25,5 @@ pub mod Wellformed
 pub mod Exact
 pub mod Refusals
 pub mod Written
+pub mod Rebased
 pub mod Readings

@@ -6,6 +6,7 @@ mod deciding;
 pub mod error;
 pub mod exact;
 mod index;
+pub mod laws;
 mod matching;
 mod names;
 pub mod path;

@@ -1,13 +1,15 @@
 // Rules, and what they decide.
-ghost use Rattle.std.specs.Prelude.{◌≡◌, ℕ, ◌≤◌, ◌<◌, true, length, IfOk, IfErr};
+ghost use Rattle.std.specs.Prelude.{◌≡◌, ℕ, ◌≤◌, ◌<◌, true, length, None, Some, option_map, IfOk, IfErr};
 ghost use Rattle.toml.specs.View.{table_view};
 ghost use Rattle.box_policy.specs.Counts.{cleared, is_used_up_at, noted, used};
 ghost use Rattle.box_policy.specs.Decisions.{decision, decision_from, outlook, outlook_by};
 ghost use Rattle.box_policy.specs.Files.{is_of_files, speaks_of_files};
 ghost use Rattle.box_policy.specs.Fits.{is_readable};
 ghost use Rattle.box_policy.specs.Short.{are_short};
+ghost use Rattle.box_policy.specs.Rebased.{IsRefusedUnder, WrittenUnder, base_refusal, rebased};
 ghost use Rattle.box_policy.specs.Refusals.{IsRefused, IsRefusedBy, refusal};
 ghost use Rattle.box_policy.specs.Targets.{sees};
+ghost use Rattle.box_policy.specs.Words as word;
 ghost use Rattle.box_policy.specs.Written.{Writes, Written};
 
 use crate::counting::{clear_in, note_in, rule_at};
@@ -15,7 +17,7 @@ use crate::deciding::{Sight, Target, judged};
 use crate::error::PolicyError;
 use crate::index::Index;
 use crate::names::{can_resolve, is_text};
-use crate::reading::{read_document, read_rules, read_table};
+use crate::reading::{is_base, read_document, read_rules, read_table};
 use awk_text::octets::Octets;
 use std::alloc::Global;
 use std::marker::Model;
@@ -159,6 +161,48 @@ impl Policy {
         )?;
         let index = Index::of(alloc, rules.as_slice())?;
         Ok(Policy { base, rules, index })
+    }
+
+    /// As [`Policy::read`], with this base in place of the text's own where one is given. The text needs a base of its
+    /// own all the same, and is refused before the one that is given.
+    pub fn read_under(
+        alloc: Global,
+        bytes: &[u8],
+        base: Option<&[u8]>,
+    ) -> Result<Policy, PolicyError>
+        ensures ok { IfOk result (WrittenUnder (option_map (λ b. b.now) base.entry) bytes.now) }
+        ensures refused { IfErr result (IsRefusedUnder (option_map (λ b. b.now) base.entry) bytes.now) }
+    {
+        let policy = Policy::read(alloc, bytes)?;
+        match base {
+            Some(base) => policy.with_base(alloc, base),
+            None => Ok(policy),
+        }
+    }
+
+    /// The same rules under this base, so that one policy serves many folders. A rule whose pattern begins with `/`
+    /// means what it meant, and any other one what it would mean in a text with this base.
+    ///
+    /// Refused with `PolicyError::BASE` where no policy may have it: it is not absolute, holds `*`, `?` or NUL, has a
+    /// component `..` or is not UTF-8.
+    pub fn with_base(self, alloc: Global, base: &[u8]) -> Result<Policy, PolicyError>
+        ensures base { IfOk result (λ policy. base_refusal base.now ≡ None) }
+        ensures ok { IfOk result (λ policy. policy ≡ rebased base.now self) }
+        ensures refused { IfErr result (IsRefusedBy (base_refusal base.now)) }
+    {
+        if !is_base(base) {
+            return Err(PolicyError::new(PolicyError::BASE));
+        }
+        let base = Octets::of(alloc, base)?;
+        let Policy { rules, index, .. } = self;
+        Ok(Policy { base, rules, index })
+    }
+
+    /// Whether a policy may have this base. Takes no memory.
+    pub fn may_have(base: &[u8]) -> bool
+        ensures { result ≡ word.is_base (Some base.now) }
+    {
+        is_base(base)
     }
 
     /// What the first rule of this kind decides whose `from` holds and whose pattern fits the

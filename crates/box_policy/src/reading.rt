@@ -170,7 +170,7 @@ fn has_wildcard(text: &[u8]) -> bool
     text.iter().any(|b| *b == b'*' || *b == b'?')
 }
 
-fn is_base(base: &[u8]) -> bool
+pub(crate) fn is_base(base: &[u8]) -> bool
     ensures { result ≡ is_base (Some base.now) }
 {
     is_absolute(base) && !has_wildcard(base) && can_resolve(base, base)
