@@ -1221,6 +1221,30 @@ is 3 "" "awkbox: cannot read \"large.awk\"$line" "from another run$line"
 verdict "files that have more than 16 MiB together"
 rm -f large.awk
 
+# beside_gawk LIBRARY PROGRAM WORD..: whether a program over a library of gawk gives what gawk gives for it
+beside_gawk() {
+    local library=$1
+    printf '%s\n' "$2" >main.awk
+    shift 2
+    gawk -f "$gawk_library/$library.awk" -f main.awk -- "$@" >"$work/wanted" 2>/dev/null
+    parts -f "$gawk_library/$library.awk" -f main.awk -- "$@"
+    [ "$status" -eq 0 ] && [ -s "$work/wanted" ] && cmp -s "$work/output" "$work/wanted"
+    verdict "a program over gawk's library $library gives what gawk gives"
+}
+gawk_library=/usr/share/awk
+if command -v gawk >/dev/null && [ -e "$gawk_library/join.awk" ]; then
+    policy 'effect = "allow"
+kind = "read"
+match = "*.awk"'
+    beside_gawk join 'BEGIN { n = split("a b c", x); print join(x, 1, n, "-"), join(x, 2, n), join(x, 1, n, SUBSEP) }'
+    beside_gawk getopt 'BEGIN { while ((c = getopt(ARGC, ARGV, "ab:c")) != -1) print c, Optarg; print Optind }' -a -bx -c -b y z
+    beside_gawk ftrans 'function beginfile(f) { print "(" f } function endfile(f) { print f ")" } { n++ } END { print n }' lib.awk one.awk
+    beside_gawk ord 'BEGIN { print ord("A"), chr(66) }'
+    beside_gawk noassign 'BEGIN { disable_assigns(ARGC, ARGV) } { print FILENAME }' lib.awk
+else
+    echo "no gawk, or not its library: no program over it is tried"
+fi
+
 # Operands behind the script's file.
 
 no_rules

@@ -80,7 +80,11 @@ fn quoted_name(alloc: Global, name: &str) -> Result<String, Memory>
 fn row(alloc: Global, first: usize, last: usize, name: &str) -> Result<String, Memory>
     ensures { IfOk result (λ text. string_bytes text ≡ spec.row_text first last name.now) }
 {
-    format!(in alloc; "{first}-{last} \"{name}\"\n")
+    let mut text = format!(in alloc; "{first}-{last}")?;
+    text.push_str(" \"")?;
+    text.push_str(name)?;
+    text.push_str("\"\n")?;
+    Ok(text)
 }
 
 /// The part that has this line of the whole, and which of its lines it is.

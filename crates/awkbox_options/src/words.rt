@@ -8,8 +8,8 @@ use std::alloc::Global;
 
 /// The words before the operands, of which the first is the program's name, and the operands: what stands behind `--`,
 /// and what follows the script's file or text from the first word on that is no option, so that a script's first line
-/// may end with `-f`. All words behind the file of `-E` are operands, whatever they look like; it is told as the file of
-/// `-f`, where none stands before it.
+/// may end with `-f`. All words behind the file of `-E` are operands, whatever they look like; it is told as the file
+/// of `-f`, where no part of the script stands before it.
 ///
 /// A value that stands in one word with its short option is a word of its own here: of `-f=x` the file is
 /// `=x`, as the utility conventions of POSIX.1-2017 have it, where `clap` would drop the `=`.

@@ -66,6 +66,10 @@ impl Reading {
         let Ok(file) = read_part(rt, part, self.left) else {
             return Err(Message::cannot_read(rt.alloc(), name.as_str()));
         };
+        Ok(self.keep(name, file)?)
+    }
+
+    fn keep(&mut self, name: String, file: ReadFile) -> Result<(), Memory> {
         self.left = left_behind(self.left, file.bytes.len());
         if let Some(identity) = file.identity {
             self.identities.push(identity)?;
