@@ -149,11 +149,10 @@ rows_step parts i first next last p text line new below is small so_far next_is 
     let exact : next ≡ first + p.lines = omega arith in
     let own : last ≡ first + p.lines - 1 = omega arith in
     let more = total_more parts i p below is in
-    let behind : Text = table (first + p.lines) (entries (drop (i + 1) parts)) in
-    (
+    let behind : Text = table (first + p.lines) (entries (drop (i + 1) parts)) in (
       ap (λ w. w ++ table next (entries (drop (i + 1) parts))) new_is ∙ ap (λ n. (text ++ line) ++ table n (entries (drop (i + 1) parts))) exact ∙ append_assoc text line behind ∙ ap (λ w. text ++ (w ++ behind)) line_is
-      ∙ ap (λ n. text ++ (row_text first n (string_bytes p.name) ++ behind)) own ∙ ap (λ w. text ++ w) (sym (table_more parts i first p below is)) ∙ so_far.0,
-      omega arith
+          ∙ ap (λ n. text ++ (row_text first n (string_bytes p.name) ++ behind)) own ∙ ap (λ w. text ++ w) (sym (table_more parts i first p below is)) ∙ so_far.0,
+      omega arith,
     )
 
 pub tells_of : (es : List Entry) (place : Place) (result : Option InSource) → IfSome result (λ found. IsTold es place found) → (result ≡ None → HasNoLine es place.line) → TellsOfBytes es place result

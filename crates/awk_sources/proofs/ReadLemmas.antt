@@ -66,7 +66,7 @@ moved_on lead before script _ _ _ begins base parts (a_token front text rest tok
     record {
       moved = m.moved ++ t ∷ [];
       read = subst (λ w. ReadsTo w (before ++ (m.moved ++ t ∷ [])) rest) (append_assoc lead front text)
-      (subst (λ ts. ReadsTo ((lead ++ front) ++ text) ts rest) (append_assoc before m.moved (t ∷ [])) (a_token (lead ++ front) text rest (before ++ m.moved) kind m.read first));
+          (subst (λ ts. ReadsTo ((lead ++ front) ++ text) ts rest) (append_assoc before m.moved (t ∷ [])) (a_token (lead ++ front) text rest (before ++ m.moved) kind m.read first));
       same = map-append word_of m.moved (t ∷ []) ∙ ap (λ ws. ws ++ word_of t ∷ []) m.same ∙ sym (map-append word_of tokens (token_of front kind text ∷ []));
     }
 
@@ -85,11 +85,10 @@ two_read text behind tokens others one two =
     let before = tokens ++ sign ∷ [] in
     let seam : ReadsTo (text ++ 10 ∷ []) before behind = a_token text (10 ∷ []) behind tokens Sign (read_on text [] behind tokens one) (newline_first (operand_after tokens) behind) in
     let begins : operand_after before ≡ true = fold-append goes true tokens (sign ∷ []) in
-    let m = moved_on (text ++ 10 ∷ []) before behind behind [] others begins seam (sym (append-nil behind)) two in
-    (
+    let m = moved_on (text ++ 10 ∷ []) before behind behind [] others begins seam (sym (append-nil behind)) two in (
       before ++ m.moved,
       subst (λ w. Reads w (before ++ m.moved)) (append_assoc text (10 ∷ []) behind) m.read,
-      map-append word_of before m.moved ∙ ap (λ ws. map word_of before ++ ws) m.same ∙ ap (λ ws. ws ++ map word_of others) (map-append word_of tokens (sign ∷ [])) ∙ append_assoc (map word_of tokens) (newline ∷ []) (map word_of others)
+      map-append word_of before m.moved ∙ ap (λ ws. map word_of before ++ ws) m.same ∙ ap (λ ws. ws ++ map word_of others) (map-append word_of tokens (sign ∷ [])) ∙ append_assoc (map word_of tokens) (newline ∷ []) (map word_of others),
     )
 
 each_read : (texts : List Text) (words : List Word) → ReadsEach texts words → IsReadAs texts words

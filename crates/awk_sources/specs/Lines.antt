@@ -57,7 +57,7 @@ TellsOfBytes entries place result =
     entries ≡ map entry_of (before ++ source ∷ after) → source.text.items ≡ front ++ rest →
     lines_of (lead (texts_of before) ++ front) ≤ 4294967295 → place ≡ place_after (lead (texts_of before) ++ front) →
     (found : InSource) × (result ≡ Some found) × (found.name.now ≡ quoted (string_bytes source.name))
-        × (found.place ≡ place_after front)
+    × (found.place ≡ place_after front)
 
 -- the name and the place, as messages have them
 abbrev pub told : InSource → List ℕ

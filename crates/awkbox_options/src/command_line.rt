@@ -510,10 +510,13 @@ fn check_inputs(
     if inputs_of([policy, None], parts) < 2 {
         return Ok(());
     }
-    Err(fault(alloc, match policy {
-        Some(STANDARD_INPUT) => "policy and script are not both the standard input",
-        _ => "only one file is the standard input",
-    }))
+    Err(fault(
+        alloc,
+        match policy {
+            Some(STANDARD_INPUT) => "policy and script are not both the standard input",
+            _ => "only one file is the standard input",
+        },
+    ))
 }
 
 fn run_of<'a>(alloc: Global, matches: &ArgMatches<'a>) -> Result<Run<'a>, Error> {

@@ -150,7 +150,12 @@ fn account_text(
         add_source(alloc, &mut value, &found)?;
         if let Account::Refused(message) = account {
             let line = line_of(alloc, message, lines)?;
-            add_member(alloc, &mut value, "refusal", Value::try_from_str(alloc, line.as_str())?)?;
+            add_member(
+                alloc,
+                &mut value,
+                "refusal",
+                Value::try_from_str(alloc, line.as_str())?,
+            )?;
         }
     }
     value.to_string(alloc)
@@ -165,12 +170,7 @@ fn add_source(alloc: Global, value: &mut Value, found: &InSource<'_>) -> Result<
     add_member(alloc, value, "source", source)
 }
 
-fn add_member(
-    alloc: Global,
-    value: &mut Value,
-    name: &str,
-    member: Value,
-) -> Result<(), Memory> {
+fn add_member(alloc: Global, value: &mut Value, name: &str, member: Value) -> Result<(), Memory> {
     if let Value::Object(members) = value {
         members.insert(String::from_str(alloc, name)?, member)?;
     }

@@ -21,10 +21,9 @@ loop-source-preserved c =
     let sources = c.args.sources.now in
     let at = c.loop-source in
     let s = c.source-item.result in
-    let text = c.as_slice-text.ensures.value in
-    (
+    let text = c.as_slice-text.ensures.value in (
       lines_more sources at.source-index s at.lines c.with_lines-lines.result (omega arith) c.source-item.is at.invariant.0 (c.with_lines-lines.ensures ∙ ap (λ z. capped (at.lines + lines_of z)) text),
-      all_more sources at.source-index s (omega arith) c.source-item.is at.invariant.1 (c.in_default.field-0.items, subst (λ z. Reads z c.in_default.field-0.items) text c.in_default.ensures.read)
+      all_more sources at.source-index s (omega arith) c.source-item.is at.invariant.1 (c.in_default.field-0.items, subst (λ z. Reads z c.in_default.field-0.items) text c.in_default.ensures.read),
     )
 
 pub returns-clause-read : goal.returns-clause-read
