@@ -20,7 +20,7 @@ _awkbox() {
         mapfile -t COMPREPLY < <(compgen -f -- "$word")
         return
         ;;
-    --log-limit | --steps | -F | -v) return ;;
+    --log-limit | --steps | -F | -v | -e) return ;;
     esac
     if [ "$COMP_CWORD" -eq 1 ]; then
         mapfile -t COMPREPLY < <(compgen -W "$commands help --help --version" -- "$word")
@@ -34,12 +34,12 @@ _awkbox() {
         ;;
     esac
     case ${COMP_WORDS[1]} in
-    run) options='--policy --base --log --log-append --log-limit --audit --report -C --steps --block-buffered -F -v -f -E --help --' ;;
-    list) options='--json -f --help' ;;
-    check) options='--policy --base --allow-open --json -f --help' ;;
+    run) options='--policy --base --log --log-append --log-limit --audit --report -C --steps --block-buffered -F -v -f -e -E --help --' ;;
+    list) options='--files --json -f -e --help' ;;
+    check) options='--policy --base --allow-open --json -f -e --help' ;;
     why) options='--policy --base --given read write append run env assign --help' ;;
-    lint) options='--policy --base --strict -f --help' ;;
-    propose) options='--base --policy --log -f --help' ;;
+    lint) options='--policy --base --strict -f -e --help' ;;
+    propose) options='--base --policy --log -f -e --help' ;;
     help) options=$commands ;;
     *) options= ;;
     esac

@@ -1170,6 +1170,147 @@ is 0 "read line$line" "$(writable 1 script ./-)$line" ""
 verdict "a script in a file that is called -"
 rm -f ./-
 
+# A script of several files and texts.
+
+# parts WORD..: runs a script of these parts under the policy file
+parts() {
+    echo "from another run" >"$work/log"
+    awkbox run --policy "$work/policy.toml" --log "$work/log" "$@"
+}
+no_rules
+printf 'function twice(n) { return 2 * n }' >lib.awk
+printf 'BEGIN { print twice(21) }\n' >main.awk
+parts -f lib.awk -f main.awk
+is 0 "42$line" "" ""
+verdict "a library without a newline at its end, and a program"
+parts -f main.awk -flib.awk
+is 0 "42$line" "" ""
+verdict "a program, and a library behind it"
+parts -f lib.awk -f - <main.awk
+is 0 "42$line" "" ""
+verdict "a library, and a program that is the standard input"
+parts -e 'BEGIN { print "a" }' -f main.awk '-eBEGIN { print "b" }' -f lib.awk
+is 0 "a${line}42${line}b$line" "" ""
+verdict "texts and files, in the order of the words"
+parts -e 'BEGIN { print ARGV[1] }' in.txt
+is 0 "in.txt$line" "" ""
+verdict "operands behind a text"
+parts -e ''
+is 0 "" "" ""
+verdict "a text that is empty"
+parts -e '' -f lib.awk -e '' -f main.awk
+is 0 "42$line" "" ""
+verdict "texts that are empty beside files"
+for end in '# the end' '# the end \'; do
+    printf '%s' "$end" >end.awk
+    parts -f end.awk -f lib.awk -f end.awk -f main.awk
+    is 0 "42$line" "" ""
+    verdict "a file that ends within a comment: $end"
+done
+parts -f main.awk -f lib.awk -f main.awk
+is 0 "42${line}42$line" "" ""
+verdict "a file twice"
+parts -f lib.awk -f main.awk -f lib.awk
+is 3 "" "awkbox: script lib.awk:1:10 S7$line" ""
+verdict "a function that a file has twice"
+parts -f lib.awk -e 'BEGIN { print' -e '}'
+is 0 "$line" "" ""
+verdict "a statement that ends where its text does"
+
+# ends_within NAME TEXT PLACE: whether a file that ends so is refused there, alone as before another one
+ends_within() {
+    printf '%s' "$2" >open.awk
+    parts -f open.awk
+    is 3 "" "awkbox: script $3$line" "" || { false; verdict "a file that ends within $1, alone"; return; }
+    parts -f lib.awk -f open.awk -e '"/; print 1 }'
+    is 3 "" "awkbox: script open.awk:$3$line" "from another run$line"
+    verdict "a file that ends within $1"
+}
+ends_within "a string" 'BEGIN { print "a' "1:15 S2"
+ends_within "a string that goes on" 'BEGIN { print "a\' "1:15 S2"
+ends_within "a pattern that goes on" 'BEGIN { print /a\' "1:15 S2"
+ends_within "a line that goes on" 'BEGIN { x = 1 + \' "1:17 S1"
+
+printf '\n\nBEGIN { print "a" > "/etc/x" }\n' >fault.awk
+parts -f lib.awk -f fault.awk --report "$work/report"
+is 2 "" "awkbox: fault.awk:3:19 F7 cannot open or write output$line" "4:19 write none \"/etc/x\"$line" &&
+    grep -qF '"fault":{"code":"F7","column":19,"line":4,' "$work/report" &&
+    grep -qF '"refusal":null,"source":{"column":19,"line":3,"name":"fault.awk"},"steps":' "$work/report"
+verdict "a fault is told by file and place, and the log has the place in the whole"
+parts -f lib.awk -e 'BEGIN { @ }' --report "$work/report"
+is 3 "" "awkbox: script -e 1:1:9 S1$line" "from another run$line" && [ "$(cat "$work/report")" = \
+    '{"denials":0,"exit_status":3,"fault":null,"log":null,"outcome":"refused","refusal":"awkbox: script -e 1:1:9 S1","source":{"column":9,"line":1,"name":"-e 1"},"steps":0}' ]
+verdict "the report of a text that is refused"
+parts -f lib.awk -f fault.awk -e 'BEGIN { x = }'
+is 3 "" "awkbox: script -e 1:1:13 S4$line" ""
+verdict "a text that is no script"
+awkbox list -f lib.awk -f fault.awk
+told 0 "4:19 write \"/etc/x\"$line" ""
+verdict "a listing of several files"
+awkbox list --files -f lib.awk -f fault.awk -e ''
+told 0 "1-1 \"lib.awk\"${line}2-5 \"fault.awk\"${line}6-6 \"-e 1\"$line" ""
+verdict "which lines are whose"
+awkbox check --policy "$work/policy.toml" -f lib.awk -f fault.awk
+told 1 "refused${line}4:19 write \"/etc/x\"$line" ""
+verdict "a check of several files"
+awkbox lint -f lib.awk -e 'BEGIN { print twice(3) / 2 }'
+[ "$status" -eq 0 ] && grep -q '^2:24 ' "$work/output"
+verdict "a lint of several files"
+awkbox propose --base "$base" -f lib.awk -f fault.awk
+[ "$status" -eq 0 ] && grep -q '^# 4:19' "$work/output"
+verdict "a proposal for several files"
+parts -f lib.awk -f none.awk
+is 3 "" "awkbox: cannot read \"none.awk\"$line" "from another run$line" && grep -q 'note: there is no such file' "$work/errors"
+verdict "a file of the script that is not there"
+cp lib.awk kept.awk
+awkbox run --policy "$work/policy.toml" --log lib.awk -f main.awk -f lib.awk
+[ "$status" -eq 3 ] && says "awkbox: cannot write \"lib.awk\"$line" && cmp -s lib.awk kept.awk
+verdict "a file of the script is not the log"
+many=()
+echo '# nothing' >one.awk
+for ((i = 0; i < 1000; i++)); do many+=(-f one.awk); done
+parts "${many[@]}" -f lib.awk -f main.awk
+is 0 "42$line" "" ""
+verdict "1,000 files and two more"
+parts "${many[@]}" -e 'BEGIN { @ }'
+is 3 "" "awkbox: script -e 1:1:9 S1$line" "from another run$line"
+verdict "a refusal behind 1,000 files"
+{
+    head -c 9000000 /dev/zero | tr '\0' '#'
+    echo
+} >large.awk
+parts -f large.awk -f main.awk -f lib.awk
+is 0 "42$line" "" ""
+verdict "a file of 9 MB beside others"
+parts -f large.awk -f large.awk
+is 3 "" "awkbox: cannot read \"large.awk\"$line" "from another run$line"
+verdict "files that have more than 16 MiB together"
+rm -f large.awk
+
+# beside_gawk LIBRARY PROGRAM WORD..: whether a program over a library of gawk gives what gawk gives for it
+beside_gawk() {
+    local library=$1
+    printf '%s\n' "$2" >main.awk
+    shift 2
+    gawk -f "$gawk_library/$library.awk" -f main.awk -- "$@" >"$work/wanted" 2>/dev/null
+    parts -f "$gawk_library/$library.awk" -f main.awk -- "$@"
+    [ "$status" -eq 0 ] && [ -s "$work/wanted" ] && cmp -s "$work/output" "$work/wanted"
+    verdict "a program over gawk's library $library gives what gawk gives"
+}
+gawk_library=/usr/share/awk
+if command -v gawk >/dev/null && [ -e "$gawk_library/join.awk" ]; then
+    policy 'effect = "allow"
+kind = "read"
+match = "*.awk"'
+    beside_gawk join 'BEGIN { n = split("a b c", x); print join(x, 1, n, "-"), join(x, 2, n), join(x, 1, n, SUBSEP) }'
+    beside_gawk getopt 'BEGIN { while ((c = getopt(ARGC, ARGV, "ab:c")) != -1) print c, Optarg; print Optind }' -a -bx -c -b y z
+    beside_gawk ftrans 'function beginfile(f) { print "(" f } function endfile(f) { print f ")" } { n++ } END { print n }' lib.awk one.awk
+    beside_gawk ord 'BEGIN { print ord("A"), chr(66) }'
+    beside_gawk noassign 'BEGIN { disable_assigns(ARGC, ARGV) } { print FILENAME }' lib.awk
+else
+    echo "no gawk, or not its library: no program over it is tried"
+fi
+
 # Operands behind the script's file.
 
 no_rules
@@ -2715,7 +2856,7 @@ done
 
 if man -l "$top/man/awkbox.1" >/dev/null 2>&1; then
     MANWIDTH=200 MAN_KEEP_FORMATTING= man -l "$top/man/awkbox.1" 2>/dev/null >"$work/output"
-    grep -qF -- '-f FILE [-- OPERAND ...]' "$work/output"
+    grep -qF -- '-f FILE | -e TEXT ... [-- OPERAND ...]' "$work/output"
     verdict "the manual page shows operands behind --"
 fi
 
@@ -2927,7 +3068,7 @@ completed() {
 [ "$(completed awkbox r)" = run ] && [ "$(completed awkbox run --p)" = --policy ] &&
     [ "$(completed awkbox check --)" = "--policy --base --allow-open --json --help" ] &&
     [ "$(completed awkbox run --log-l)" = --log-limit ] && [ "$(completed awkbox run -C "$work/elsew")" = "$work/elsewhere" ] &&
-    [ "$(completed awkbox list -f a -)" = "--json -f --help" ] &&
+    [ "$(completed awkbox list -f a -)" = "--files --json -f -e --help" ] &&
     [ "$(completed awkbox run -f a -- "$work/kept.t")" = "$work/kept.toml" ] &&
     [ "$(completed awkbox run --policy "$work/kept.t")" = "$work/kept.toml" ]
 verdict "the completions for bash"
@@ -3001,7 +3142,10 @@ fault "no word"
 fault "an unknown command" walk
 fault "an option that is missing" run --policy p --log l
 fault "an unknown option" run --policy p --log l -f f --more
-fault "an option twice" run --policy p --log l -f f -f g
+fault "an option twice" run --policy p --policy q --log l -f f
+fault "-E behind another script" run --policy p --log l -f f -E g
+fault "a script that is the standard input twice" run --policy p --log l -f - -f -
+fault "a text that is no value" run --policy p --log l -e
 fault "a word too many" run --policy p g --log l -f f
 fault "an operand without --" list -f f g
 fault "a policy and a script that are the standard input" run --policy - --log l -f -

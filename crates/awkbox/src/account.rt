@@ -159,7 +159,8 @@ impl Account {
         }
     }
 
-    fn value(&self, alloc: Global) -> Result<Value, AllocError>
+    /// The account as a JSON object, which a host may add to.
+    pub fn value(&self, alloc: Global) -> Result<Value, AllocError>
         ensures { IfOk result (λ value. view value ≡ spec.account_data self.now) }
     {
         let fault = self.fault(alloc)?;

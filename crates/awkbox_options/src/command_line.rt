@@ -4,6 +4,15 @@ use clap::error::ErrorKind;
 use clap::{Arg, ArgAction, ArgMatches, Command, Error};
 use std::alloc::{AllocError, Global};
 
+/// A part of a script, as the words give it. Several are one script, in order, a newline between one and the next.
+#[derive(Clone, Copy, Debug, PartialEq, Eq, Drop)]
+pub enum ScriptPart<'a> {
+    /// The name of a file, or [`STANDARD_INPUT`].
+    File(&'a str),
+    /// The text itself.
+    Text(&'a str),
+}
+
 /// What `awkbox run` is asked for, operands aside.
 #[derive(Debug, Drop)]
 pub struct Run<'a> {
@@ -22,8 +31,8 @@ pub struct Run<'a> {
     pub audit: Option<&'a str>,
     /// The name of the file that the run is reported in.
     pub report: Option<&'a str>,
-    /// The name of the script's file, or [`STANDARD_INPUT`].
-    pub script: &'a str,
+    /// The parts of the script, one at least.
+    pub script: Vec<ScriptPart<'a>>,
     /// The folder that is entered before the run.
     pub folder: Option<&'a str>,
     /// How many steps the run may take, up to 1,000,000,000,000.
@@ -54,14 +63,14 @@ pub struct Why<'a> {
 
 /// What `awkbox check` is asked for: what this policy says of this script, of which at most one is
 /// [`STANDARD_INPUT`].
-#[derive(Clone, Copy, Debug, Drop)]
+#[derive(Debug, Drop)]
 pub struct Check<'a> {
     /// The name of the policy's file.
     pub policy: &'a str,
     /// The folder that relative names stand under, in place of the policy's own.
     pub base: Option<&'a str>,
-    /// The name of the script's file.
-    pub script: &'a str,
+    /// The parts of the script, one at least.
+    pub script: Vec<ScriptPart<'a>>,
     /// Whether it is enough that the policy denies nothing that is known before a run.
     pub allows_open: bool,
     /// Whether a JSON object is to tell of each site.
@@ -69,15 +78,15 @@ pub struct Check<'a> {
 }
 
 /// What `awkbox lint` is asked for: what is wrong with this policy, or what of this script other awks do otherwise. One
-/// of the files is there, and at most one is [`STANDARD_INPUT`].
-#[derive(Clone, Copy, Debug, Drop)]
+/// of the two is there, and at most one file is [`STANDARD_INPUT`].
+#[derive(Debug, Drop)]
 pub struct Lint<'a> {
     /// The name of the policy's file.
     pub policy: Option<&'a str>,
     /// The folder that relative names stand under, in place of the policy's own.
     pub base: Option<&'a str>,
-    /// The name of the script's file.
-    pub script: Option<&'a str>,
+    /// The parts of the script.
+    pub script: Vec<ScriptPart<'a>>,
     /// Whether whatever is told makes the exit status 1.
     pub is_strict: bool,
 }
@@ -91,19 +100,30 @@ pub struct Propose<'a> {
     pub base: Option<&'a str>,
     /// The name of the policy's file.
     pub policy: Option<&'a str>,
-    /// The name of the script's file.
-    pub script: Option<&'a str>,
+    /// The parts of the script.
+    pub script: Vec<ScriptPart<'a>>,
     /// The name of the file of a log of denials.
     pub log: Option<&'a str>,
 }
 
-/// What the program is asked for. Policy and script are names of files, of which at most one is [`STANDARD_INPUT`].
+/// What `awkbox list` is asked for.
+#[derive(Debug, Drop)]
+pub struct List<'a> {
+    /// The parts of the script, one at least.
+    pub script: Vec<ScriptPart<'a>>,
+    /// Whether it is to tell which lines of the script are whose, in place of where a run may ask.
+    pub tells_files: bool,
+    /// Whether a JSON object is to tell of each site.
+    pub is_json: bool,
+}
+
+/// What the program is asked for. Of the files of policy and script at most one is [`STANDARD_INPUT`].
 #[derive(Debug, Drop)]
 pub enum Asked<'a> {
     /// To run a script under a policy.
     Run(Run<'a>),
-    /// To list where a run of this script may ask, in lines or as JSON objects.
-    List { script: &'a str, is_json: bool },
+    /// To list where a run of this script may ask, in lines or as JSON objects, or which lines are whose.
+    List(List<'a>),
     /// To tell whether this policy denies what this script may ask for.
     Check(Check<'a>),
     /// To tell which rules of a policy speak of a request.
@@ -193,15 +213,34 @@ fn folder<'a>(alloc: Global) -> Arg<'a> {
 }
 
 fn script<'a>(alloc: Global) -> Arg<'a> {
-    option(alloc, "script", "FILE", "The awk script")
+    let help = "The awk script; several, and texts of -e, are one, in order";
+    option(alloc, "script", "FILE", help)
         .short('f')
-        .required(true)
+        .action(ArgAction::Append)
+}
+
+fn needed_script<'a>(alloc: Global) -> Result<Arg<'a>, AllocError> {
+    script(alloc).required_unless_present("source")
+}
+
+fn source<'a>(alloc: Global) -> Arg<'a> {
+    let help = "A text of the awk script, in the place of a file";
+    option(alloc, "source", "TEXT", help)
+        .short('e')
+        .action(ArgAction::Append)
 }
 
 // The words are read before these, and the file is told as that of `-f`: this one is for the help.
 fn last_script<'a>(alloc: Global) -> Arg<'a> {
     let help = "The awk script, where all words behind it are operands";
     option(alloc, "last-script", "FILE", help).short('E')
+}
+
+fn files<'a>(alloc: Global) -> Arg<'a> {
+    Arg::new(alloc, "files")
+        .action(ArgAction::SetTrue)
+        .long("files")
+        .help("Tells in place of that which lines of the script are whose")
 }
 
 fn allow_open<'a>(alloc: Global) -> Arg<'a> {
@@ -308,7 +347,8 @@ fn run_command<'a>(alloc: Global) -> Result<Command<'a>, AllocError> {
         .arg(block_buffered(alloc))?
         .arg(separator(alloc))?
         .arg(assigns(alloc))?
-        .arg(script(alloc))?
+        .arg(needed_script(alloc)?)?
+        .arg(source(alloc))?
         .arg(last_script(alloc))?
         .arg(operands(alloc))
 }
@@ -317,8 +357,10 @@ fn list_command<'a>(alloc: Global) -> Result<Command<'a>, AllocError> {
     Command::new(alloc, "list")
         .about("Lists where a run of a script may ask for a file, a command or the environment")
         .after_help(TOLD_STATUSES)
+        .arg(files(alloc))?
         .arg(json(alloc))?
-        .arg(script(alloc))
+        .arg(needed_script(alloc)?)?
+        .arg(source(alloc))
 }
 
 fn check_command<'a>(alloc: Global) -> Result<Command<'a>, AllocError> {
@@ -329,7 +371,8 @@ fn check_command<'a>(alloc: Global) -> Result<Command<'a>, AllocError> {
         .arg(base(alloc))?
         .arg(allow_open(alloc))?
         .arg(json(alloc))?
-        .arg(script(alloc))
+        .arg(needed_script(alloc)?)?
+        .arg(source(alloc))
 }
 
 fn why_command<'a>(alloc: Global) -> Result<Command<'a>, AllocError> {
@@ -350,7 +393,8 @@ fn lint_command<'a>(alloc: Global) -> Result<Command<'a>, AllocError> {
         .arg(policy(alloc).required(false))?
         .arg(base(alloc))?
         .arg(strict(alloc))?
-        .arg(script(alloc).required(false))
+        .arg(script(alloc))?
+        .arg(source(alloc))
 }
 
 fn propose_command<'a>(alloc: Global) -> Result<Command<'a>, AllocError> {
@@ -360,7 +404,8 @@ fn propose_command<'a>(alloc: Global) -> Result<Command<'a>, AllocError> {
         .arg(base(alloc))?
         .arg(policy(alloc).required(false))?
         .arg(denials(alloc))?
-        .arg(script(alloc).required(false))
+        .arg(script(alloc))?
+        .arg(source(alloc))
 }
 
 fn command<'a>(alloc: Global) -> Result<Command<'a>, AllocError> {
@@ -427,32 +472,83 @@ fn value_of<'a>(alloc: Global, matches: &ArgMatches<'a>, id: &str) -> Result<&'a
     }
 }
 
-// The policy and the script, of which one may be the standard input.
-fn sources_of<'a>(alloc: Global, matches: &ArgMatches<'a>) -> Result<(&'a str, &'a str), Error> {
-    let policy = value_of(alloc, matches, "policy")?;
-    let script = value_of(alloc, matches, "script")?;
-    if policy == STANDARD_INPUT && script == STANDARD_INPUT {
-        return Err(fault(alloc, "policy and script are not both the standard input"));
+fn part_of<'a>(id: &str, word: &'a str) -> ScriptPart<'a> {
+    if id == "source" {
+        ScriptPart::Text(word)
+    } else {
+        ScriptPart::File(word)
     }
-    Ok((policy, script))
 }
 
-// Whether more than one of these files is the standard input.
-fn share_input(files: [Option<&str>; 3]) -> bool {
-    let mut is_taken = false;
+// The parts that this option gives, each behind its place among all words.
+fn add_parts<'a>(
+    matches: &ArgMatches<'a>,
+    id: &str,
+    parts: &mut Vec<(usize, ScriptPart<'a>)>,
+) -> Result<(), AllocError> {
+    let (Some(words), Some(places)) = (matches.get_strs(id), matches.indices_of(id)) else {
+        return Ok(());
+    };
+    for (word, place) in words.iter().zip(places) {
+        parts.push((*place, part_of(id, *word)))?;
+    }
+    Ok(())
+}
+
+// The parts of the script, in the order of the words.
+fn script_of<'a>(alloc: Global, matches: &ArgMatches<'a>) -> Result<Vec<ScriptPart<'a>>, Error> {
+    if matches.get_str("last-script").is_some() {
+        return Err(fault(alloc, "-E stands beside no other script"));
+    }
+    let mut placed = Vec::new(alloc);
+    add_parts(matches, "script", &mut placed)?;
+    add_parts(matches, "source", &mut placed)?;
+    placed.sort_by_key(|placed| placed.0)?;
+    let mut parts = Vec::new(alloc);
+    for (_, part) in placed {
+        parts.push(part)?;
+    }
+    Ok(parts)
+}
+
+// How many of these files are the standard input.
+fn inputs_of(files: [Option<&str>; 2], parts: &[ScriptPart<'_>]) -> usize {
+    let mut count = 0usize;
     for file in files {
         if file == Some(STANDARD_INPUT) {
-            if is_taken {
-                return true;
-            }
-            is_taken = true;
+            count = count.saturating_add(1);
         }
     }
-    false
+    for part in parts {
+        if *part == ScriptPart::File(STANDARD_INPUT) {
+            count = count.saturating_add(1);
+        }
+    }
+    count
+}
+
+// Refuses a standard input that is to be read twice, where there is no log.
+fn check_inputs(
+    alloc: Global,
+    policy: Option<&str>,
+    parts: &[ScriptPart<'_>],
+) -> Result<(), Error> {
+    if inputs_of([policy, None], parts) < 2 {
+        return Ok(());
+    }
+    Err(fault(
+        alloc,
+        match policy {
+            Some(STANDARD_INPUT) => "policy and script are not both the standard input",
+            _ => "only one file is the standard input",
+        },
+    ))
 }
 
 fn run_of<'a>(alloc: Global, matches: &ArgMatches<'a>) -> Result<Run<'a>, Error> {
-    let (policy, script) = sources_of(alloc, matches)?;
+    let policy = value_of(alloc, matches, "policy")?;
+    let script = script_of(alloc, matches)?;
+    check_inputs(alloc, Some(policy), script.as_slice())?;
     Ok(Run {
         policy,
         base: matches.get_str("base"),
@@ -467,6 +563,33 @@ fn run_of<'a>(alloc: Global, matches: &ArgMatches<'a>) -> Result<Run<'a>, Error>
         separator: matches.get_str("separator"),
         is_block_buffered: matches.get_flag("block-buffered"),
         assigns: assigns_of(alloc, matches)?,
+    })
+}
+
+fn list_of<'a>(alloc: Global, matches: &ArgMatches<'a>) -> Result<List<'a>, Error> {
+    let script = script_of(alloc, matches)?;
+    check_inputs(alloc, None, script.as_slice())?;
+    let asked = List {
+        script,
+        tells_files: matches.get_flag("files"),
+        is_json: matches.get_flag("json"),
+    };
+    if asked.tells_files && asked.is_json {
+        return Err(fault(alloc, "--json is of sites, and --files tells of none"));
+    }
+    Ok(asked)
+}
+
+fn check_of<'a>(alloc: Global, matches: &ArgMatches<'a>) -> Result<Check<'a>, Error> {
+    let policy = value_of(alloc, matches, "policy")?;
+    let script = script_of(alloc, matches)?;
+    check_inputs(alloc, Some(policy), script.as_slice())?;
+    Ok(Check {
+        policy,
+        base: matches.get_str("base"),
+        script,
+        allows_open: matches.get_flag("allow-open"),
+        is_json: matches.get_flag("json"),
     })
 }
 
@@ -490,18 +613,16 @@ fn lint_of<'a>(alloc: Global, matches: &ArgMatches<'a>) -> Result<Lint<'a>, Erro
     let asked = Lint {
         policy: matches.get_str("policy"),
         base: matches.get_str("base"),
-        script: matches.get_str("script"),
+        script: script_of(alloc, matches)?,
         is_strict: matches.get_flag("strict"),
     };
-    if asked.policy.is_none() && asked.script.is_none() {
+    if asked.policy.is_none() && asked.script.is_empty() {
         return Err(fault(alloc, "one of --policy and -f is needed"));
     }
     if asked.base.is_some() && asked.policy.is_none() {
         return Err(fault(alloc, "--base is of --policy"));
     }
-    if share_input([asked.policy, asked.script, None]) {
-        return Err(fault(alloc, "policy and script are not both the standard input"));
-    }
+    check_inputs(alloc, asked.policy, asked.script.as_slice())?;
     Ok(asked)
 }
 
@@ -509,13 +630,13 @@ fn propose_of<'a>(alloc: Global, matches: &ArgMatches<'a>) -> Result<Propose<'a>
     let asked = Propose {
         base: matches.get_str("base"),
         policy: matches.get_str("policy"),
-        script: matches.get_str("script"),
+        script: script_of(alloc, matches)?,
         log: matches.get_str("log"),
     };
     if asked.base.is_none() && asked.policy.is_none() {
         return Err(fault(alloc, "one of --base and --policy is needed"));
     }
-    if share_input([asked.policy, asked.script, asked.log]) {
+    if inputs_of([asked.policy, asked.log], asked.script.as_slice()) > 1 {
         return Err(fault(alloc, "only one file is the standard input"));
     }
     Ok(asked)
@@ -529,9 +650,7 @@ fn asked_of<'a>(alloc: Global, matches: &ArgMatches<'a>) -> Result<Asked<'a>, Er
         return Ok(Asked::Run(run_of(alloc, matches)?));
     }
     if name == "list" {
-        let script = value_of(alloc, matches, "script")?;
-        let is_json = matches.get_flag("json");
-        return Ok(Asked::List { script, is_json });
+        return Ok(Asked::List(list_of(alloc, matches)?));
     }
     if name == "propose" {
         return Ok(Asked::Propose(propose_of(alloc, matches)?));
@@ -540,14 +659,7 @@ fn asked_of<'a>(alloc: Global, matches: &ArgMatches<'a>) -> Result<Asked<'a>, Er
         return Ok(Asked::Lint(lint_of(alloc, matches)?));
     }
     if name == "check" {
-        let (policy, script) = sources_of(alloc, matches)?;
-        return Ok(Asked::Check(Check {
-            policy,
-            base: matches.get_str("base"),
-            script,
-            allows_open: matches.get_flag("allow-open"),
-            is_json: matches.get_flag("json"),
-        }));
+        return Ok(Asked::Check(check_of(alloc, matches)?));
     }
     let policy = value_of(alloc, matches, "policy")?;
     Ok(Asked::Why(why_of(alloc, matches, policy)?))

@@ -10,6 +10,6 @@ mod process;
 mod words;
 
 pub use answering::{NotAsked, read_asked, read_words};
-pub use command_line::{Asked, Check, Lint, Propose, Run, STANDARD_INPUT, Why};
+pub use command_line::{Asked, Check, Lint, List, Propose, Run, STANDARD_INPUT, ScriptPart, Why};
 pub use process::names;
 pub use words::Words;

@@ -7,8 +7,9 @@ use clap::Error;
 use std::alloc::Global;
 
 /// The words before the operands, of which the first is the program's name, and the operands: what stands behind `--`,
-/// and what follows the script's file from the first word on that is no option, so that a script's first line may end
-/// with `-f`. All words behind the file of `-E` are operands, whatever they look like; it is told as the file of `-f`.
+/// and what follows the script's file or text from the first word on that is no option, so that a script's first line
+/// may end with `-f`. All words behind the file of `-E` are operands, whatever they look like; it is told as the file
+/// of `-f`, where no part of the script stands before it.
 ///
 /// A value that stands in one word with its short option is a word of its own here: of `-f=x` the file is
 /// `=x`, as the utility conventions of POSIX.1-2017 have it, where `clap` would drop the `=`.
@@ -23,7 +24,10 @@ pub struct Words {
 /// The option whose value is the script's file.
 const SCRIPT: &str = "-f";
 
-/// The same, where all words behind its value are operands.
+/// The option whose value is a text of the script.
+const TEXT: &str = "-e";
+
+/// The option of the script's file, where all words behind its value are operands.
 const LAST: &str = "-E";
 
 // What the next word is.
@@ -35,7 +39,7 @@ enum Next {
     Operand,
 }
 
-const SHORT: [&str; 5] = [SCRIPT, LAST, "-v", "-F", "-C"];
+const SHORT: [&str; 6] = [SCRIPT, TEXT, LAST, "-v", "-F", "-C"];
 
 const LONG: [&str; 7] = [
     "--policy",
@@ -62,9 +66,13 @@ fn cut(word: &str) -> Option<(&'static str, &str)> {
     None
 }
 
-// The option that this one is told as.
-fn told_as(option: &str) -> &str {
-    if option == LAST { SCRIPT } else { option }
+// The option that this one is told as. Beside another script `-E` stays what it is, and is refused.
+fn told_as(option: &str, has_script: bool) -> &str {
+    if option == LAST && !has_script {
+        SCRIPT
+    } else {
+        option
+    }
 }
 
 // Whether this word is an option; `-` alone is none.
@@ -77,7 +85,7 @@ fn is_option(word: &[u8]) -> bool {
 struct Reading {
     words: Words,
     next: Next,
-    /// Whether the option of the script's file was met, so that operands may follow its value.
+    /// Whether an option of the script was met, so that operands may follow its value.
     has_script: bool,
     /// Whether all words behind the value that comes next are operands.
     is_last: bool,
@@ -106,12 +114,11 @@ impl Reading {
 
     // Takes an option that has a value.
     fn take_option(&mut self, alloc: Global, option: &str) -> Result<(), Memory> {
-        self.has_script = self.has_script || option == SCRIPT;
+        let told = told_as(option, self.has_script);
+        self.has_script = self.has_script || option == SCRIPT || option == TEXT;
         self.is_last = option == LAST;
         self.next = Next::Value;
-        self.words
-            .options
-            .push(String::from_str(alloc, told_as(option))?)?;
+        self.words.options.push(String::from_str(alloc, told)?)?;
         Ok(())
     }
 

@@ -1,9 +1,11 @@
 // A policy explained, and what a policy or a script may not mean.
 use crate::folders::{absolute, base_bytes, base_name};
 use crate::runs::read_source;
+use crate::scripts::read_script;
 use awk_hints::script_lines;
+use awk_sources::Lines;
 use awkbox::{ListingRefusal, Memory, Message, list};
-use awkbox_options::{Lint, Why};
+use awkbox_options::{Lint, ScriptPart, Why};
 use box_advice::{Findings, Wanted, explained, lint};
 
 /// The exit status where a policy is refused.
@@ -39,14 +41,18 @@ enum Told {
 
 /// Prints what is wrong with the policy, and what its rules and the script may not mean, and gives the exit status.
 /// That it cannot be written is passed over.
-pub fn lint_files(rt: &HostRuntime, asked: Lint<'_>) -> Result<u8, Message> {
+pub fn lint_files(
+    rt: &HostRuntime,
+    asked: &Lint<'_>,
+    lines: &mut Option<Lines>,
+) -> Result<u8, Message> {
     let policy = match asked.policy {
         Some(policy) => lint_policy(rt, policy, asked.base)?,
         None => Told::Nothing,
     };
-    let script = match asked.script {
-        Some(script) => lint_script(rt, script)?,
-        None => Told::Nothing,
+    let script = match asked.script.is_empty() {
+        false => lint_script(rt, asked.script.as_slice(), lines)?,
+        true => Told::Nothing,
     };
     match (policy, script) {
         (Told::Refusal, _) => Ok(REFUSED),
@@ -84,8 +90,12 @@ fn accept(rt: &HostRuntime, script: &[u8]) -> Result<(), Message> {
     }
 }
 
-fn lint_script(rt: &HostRuntime, script: &str) -> Result<Told, Message> {
-    let source = read_source(rt, script)?;
+fn lint_script(
+    rt: &HostRuntime,
+    parts: &[ScriptPart<'_>],
+    lines: &mut Option<Lines>,
+) -> Result<Told, Message> {
+    let source = read_script(rt, parts, lines)?;
     accept(rt, source.bytes.as_slice())?;
     match script_lines(rt.alloc(), source.bytes.as_slice()) {
         Ok(lines) => Ok(print_lines(rt, lines.as_str())),

@@ -33,8 +33,13 @@ pub struct ReadFile {
 
 /// Reads the file, or the standard input, which may not be too long.
 pub fn read(rt: &HostRuntime, name: &str) -> Result<ReadFile, ReadError> {
+    read_up_to(rt, name, MOST_BYTES)
+}
+
+/// The same, with this limit.
+pub fn read_up_to(rt: &HostRuntime, name: &str, limit: usize) -> Result<ReadFile, ReadError> {
     if name == STANDARD_INPUT {
-        let bytes = read_limited(rt.alloc(), &mut rt.stdin(), MOST_BYTES)?;
+        let bytes = read_limited(rt.alloc(), &mut rt.stdin(), limit)?;
         return Ok(ReadFile {
             identity: None,
             bytes,
@@ -46,7 +51,7 @@ pub fn read(rt: &HostRuntime, name: &str) -> Result<ReadFile, ReadError> {
     let Ok(metadata) = file.metadata() else {
         return Err(ReadError::Failed);
     };
-    let bytes = read_limited(rt.alloc(), &mut file, MOST_BYTES)?;
+    let bytes = read_limited(rt.alloc(), &mut file, limit)?;
     Ok(ReadFile {
         identity: Some(identity_of(&metadata)),
         bytes,

@@ -9,6 +9,7 @@ mod program;
 mod propose;
 mod reasons;
 mod runs;
+mod scripts;
 mod setup;
 mod stack;
 mod standard;

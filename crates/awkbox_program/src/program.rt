@@ -4,11 +4,13 @@ use crate::folders::{base_bytes, base_name};
 use crate::propose::propose_policy;
 use crate::reasons::{Files, tell_of_operands, tell_why};
 use crate::runs::{read_source, run_script};
+use crate::scripts::{line_of, read_script};
 use crate::stack::has_small_stack;
 use crate::standard;
 use crate::standard::hold_closed;
+use awk_sources::Lines;
 use awkbox::{Answer, ListingRefusal, Message, Octets, check, check_json, list, list_json};
-use awkbox_options::{Asked, Check, NotAsked, Words, read_asked, read_words};
+use awkbox_options::{Asked, Check, List, NotAsked, Words, read_asked, read_words};
 
 /// Does what the words ask for, tells on standard error what went wrong, and gives the exit status.
 /// A message that cannot be written is passed over.
@@ -39,28 +41,34 @@ fn follow_asked(rt: &HostRuntime, asked: &Asked<'_>, operands: Vec<Octets>) -> u
     let Ok(files) = Files::of(rt, asked) else {
         return say(rt, &Message::OutOfMemory);
     };
-    match done(rt, asked, operands) {
+    let mut lines = None;
+    match done(rt, asked, operands, &mut lines) {
         Ok(status) => {
             tell_of_operands(rt, asked, &files, status);
             status
         }
         Err(message) => {
-            let status = say(rt, &message);
+            let status = say_of(rt, &message, &lines);
             tell_why(rt, asked, &files, &message);
             status
         }
     }
 }
 
-// Operands stand beside `run` alone.
-fn done(rt: &HostRuntime, asked: &Asked<'_>, operands: Vec<Octets>) -> Result<u8, Message> {
+// Operands stand beside `run` alone. Whose the lines of the script are is set as soon as it is read.
+fn done(
+    rt: &HostRuntime,
+    asked: &Asked<'_>,
+    operands: Vec<Octets>,
+    lines: &mut Option<Lines>,
+) -> Result<u8, Message> {
     match asked {
-        Asked::Run(run) => run_script(rt, run, operands),
-        Asked::List { script, is_json } => list_file(rt, *script, *is_json),
-        Asked::Check(asked) => check_files(rt, *asked),
+        Asked::Run(run) => run_script(rt, run, operands, lines),
+        Asked::List(asked) => list_script(rt, asked, lines),
+        Asked::Check(asked) => check_files(rt, asked, lines),
         Asked::Why(why) => why_file(rt, why),
-        Asked::Lint(asked) => lint_files(rt, *asked),
-        Asked::Propose(asked) => propose_policy(rt, asked),
+        Asked::Lint(asked) => lint_files(rt, asked, lines),
+        Asked::Propose(asked) => propose_policy(rt, asked, lines),
     }
 }
 
@@ -78,10 +86,28 @@ fn say(rt: &HostRuntime, message: &Message) -> u8 {
     message.status()
 }
 
-fn list_file(rt: &HostRuntime, script: &str, is_json: bool) -> Result<u8, Message> {
-    let script = read_source(rt, script)?;
+// The same of a message that may be about one of several files.
+fn say_of(rt: &HostRuntime, message: &Message, lines: &Option<Lines>) -> u8 {
+    match line_of(rt.alloc(), message, lines) {
+        Ok(line) => {
+            let _ = eprintln!(rt; "{line}");
+            message.status()
+        }
+        Err(_) => say(rt, message),
+    }
+}
+
+fn list_script(
+    rt: &HostRuntime,
+    asked: &List<'_>,
+    lines: &mut Option<Lines>,
+) -> Result<u8, Message> {
+    let script = read_script(rt, asked.script.as_slice(), lines)?;
+    if asked.tells_files {
+        return tell_files(rt, lines);
+    }
     let script = script.bytes.as_slice();
-    let answer = if is_json {
+    let answer = if asked.is_json {
         list_json(rt.alloc(), script)
     } else {
         list(rt.alloc(), script)
@@ -89,9 +115,22 @@ fn list_file(rt: &HostRuntime, script: &str, is_json: bool) -> Result<u8, Messag
     told(rt, answer)
 }
 
-fn check_files(rt: &HostRuntime, asked: Check<'_>) -> Result<u8, Message> {
+// Prints which lines are whose. That it cannot be written is passed over.
+fn tell_files(rt: &HostRuntime, lines: &Option<Lines>) -> Result<u8, Message> {
+    if let Some(lines) = lines {
+        let table = lines.table(rt.alloc())?;
+        let _ = rt.stdout().write_all(table.as_str().as_bytes());
+    }
+    Ok(0)
+}
+
+fn check_files(
+    rt: &HostRuntime,
+    asked: &Check<'_>,
+    lines: &mut Option<Lines>,
+) -> Result<u8, Message> {
     let policy = read_source(rt, asked.policy)?;
-    let script = read_source(rt, asked.script)?;
+    let script = read_script(rt, asked.script.as_slice(), lines)?;
     let base = base_name(rt, asked.base)?;
     let base = base_bytes(&base);
     let (policy, script) = (policy.bytes.as_slice(), script.bytes.as_slice());

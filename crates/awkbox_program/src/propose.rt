@@ -1,8 +1,10 @@
 // A policy proposed.
 use crate::folders::base_name;
 use crate::runs::read_source;
+use crate::scripts::read_script;
+use awk_sources::Lines;
 use awkbox::{ListingRefusal, Message, sites_of};
-use awkbox_options::Propose;
+use awkbox_options::{Propose, ScriptPart};
 use box_advice::{Basis, LogError, Origin, ProposalError, Wish, propose, read_log};
 use std::alloc::{AllocError, Global};
 use std::fmt::Display;
@@ -13,8 +15,12 @@ const REFUSED: u8 = 3;
 
 /// Prints a policy that allows what the script may ask for and what the log tells of. That it cannot be written is
 /// passed over.
-pub fn propose_policy(rt: &HostRuntime, asked: &Propose<'_>) -> Result<u8, Message> {
-    match proposed(rt, asked) {
+pub fn propose_policy(
+    rt: &HostRuntime,
+    asked: &Propose<'_>,
+    lines: &mut Option<Lines>,
+) -> Result<u8, Message> {
+    match proposed(rt, asked, lines) {
         Ok(text) => {
             let _ = rt.stdout().write_all(text.as_slice());
             Ok(0)
@@ -86,8 +92,12 @@ fn say<E: Display>(rt: &HostRuntime, error: &E) -> Result<u8, Message> {
 }
 
 // The text of the policy, behind the rules of the one that is named or under the base.
-fn proposed(rt: &HostRuntime, asked: &Propose<'_>) -> Result<Vec<u8>, NotProposed> {
-    let wishes = wishes_of(rt, asked)?;
+fn proposed(
+    rt: &HostRuntime,
+    asked: &Propose<'_>,
+    lines: &mut Option<Lines>,
+) -> Result<Vec<u8>, NotProposed> {
+    let wishes = wishes_of(rt, asked, lines)?;
     let base = base_name(rt, asked.base)?;
     match asked.policy {
         Some(policy) => behind_file(rt, policy, base_text(&base), wishes.as_slice()),
@@ -125,10 +135,14 @@ fn behind<'a>(
     propose(alloc, Basis::Policy { text, base }, wishes)
 }
 
-fn wishes_of(rt: &HostRuntime, asked: &Propose<'_>) -> Result<Vec<Wish>, NotProposed> {
+fn wishes_of(
+    rt: &HostRuntime,
+    asked: &Propose<'_>,
+    lines: &mut Option<Lines>,
+) -> Result<Vec<Wish>, NotProposed> {
     let mut wishes = Vec::new(rt.alloc());
-    if let Some(script) = asked.script {
-        add_script(rt, script, &mut wishes)?;
+    if !asked.script.is_empty() {
+        add_script(rt, asked.script.as_slice(), &mut wishes, lines)?;
     }
     if let Some(log) = asked.log {
         add_log(rt, log, &mut wishes)?;
@@ -136,8 +150,13 @@ fn wishes_of(rt: &HostRuntime, asked: &Propose<'_>) -> Result<Vec<Wish>, NotProp
     Ok(wishes)
 }
 
-fn add_script(rt: &HostRuntime, script: &str, wishes: &mut Vec<Wish>) -> Result<(), NotProposed> {
-    let script = read_source(rt, script)?;
+fn add_script(
+    rt: &HostRuntime,
+    parts: &[ScriptPart<'_>],
+    wishes: &mut Vec<Wish>,
+    lines: &mut Option<Lines>,
+) -> Result<(), NotProposed> {
+    let script = read_script(rt, parts, lines)?;
     Ok(add_sites(rt.alloc(), script.bytes.as_slice(), wishes)?)
 }
 

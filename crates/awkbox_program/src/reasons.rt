@@ -3,7 +3,7 @@ use crate::files::{MOST_BYTES, ReadFile, last_bytes, read};
 use crate::folders::{absolute, base_name};
 use awk_reasons::{denied, reason, told_of};
 use awkbox::{Fault, Memory, Message, Place, Policy, PolicyError, SyntaxError};
-use awkbox_options::{Asked, STANDARD_INPUT, read_words};
+use awkbox_options::{Asked, STANDARD_INPUT, ScriptPart, read_words};
 use std::fs::{File, metadata};
 use std::io::{Error, ErrorKind};
 use std::path::PathBuf;
@@ -11,25 +11,41 @@ use std::path::PathBuf;
 /// The files that a message may be about, by names that hold in any folder.
 #[derive(Drop)]
 pub struct Files {
-    script: Option<PathBuf>,
+    /// One for each part of the script; none of a text and of the standard input.
+    script: Vec<Option<PathBuf>>,
     log: Option<PathBuf>,
 }
 
 impl Files {
     /// Those of the words of the command line.
     pub fn of(rt: &HostRuntime, asked: &Asked<'_>) -> Result<Files, Memory> {
-        let (script, log) = match asked {
-            Asked::Run(run) => (Some(run.script), Some(run.log)),
-            Asked::List { script, .. } => (Some(*script), None),
-            Asked::Check(check) => (Some(check.script), None),
-            Asked::Propose(propose) => (propose.script, propose.log),
-            Asked::Lint(lint) => (lint.script, None),
-            Asked::Why(_) => (None, None),
+        let log = match asked {
+            Asked::Run(run) => Some(run.log),
+            Asked::Propose(propose) => propose.log,
+            _ => None,
         };
+        let mut script = Vec::new(rt.alloc());
+        for part in script_of(asked) {
+            script.push(match part {
+                ScriptPart::File(name) => absolute_of(rt, Some(*name))?,
+                ScriptPart::Text(_) => None,
+            })?;
+        }
         Ok(Files {
-            script: absolute_of(rt, script)?,
+            script,
             log: absolute_of(rt, log)?,
         })
+    }
+}
+
+fn script_of<'b, 'a>(asked: &'b Asked<'a>) -> &'b [ScriptPart<'a>] {
+    match asked {
+        Asked::Run(run) => run.script.as_slice(),
+        Asked::List(list) => list.script.as_slice(),
+        Asked::Check(check) => check.script.as_slice(),
+        Asked::Propose(propose) => propose.script.as_slice(),
+        Asked::Lint(lint) => lint.script.as_slice(),
+        Asked::Why(_) => &[],
     }
 }
 
@@ -40,7 +56,7 @@ fn policy_of<'a>(asked: &Asked<'a>) -> Option<&'a str> {
         Asked::Why(why) => Some(why.policy),
         Asked::Lint(lint) => lint.policy,
         Asked::Propose(propose) => propose.policy,
-        Asked::List { .. } => None,
+        Asked::List(_) => None,
     }
 }
 
@@ -51,7 +67,7 @@ fn base_of<'a>(asked: &Asked<'a>) -> Option<&'a str> {
         Asked::Why(why) => why.base,
         Asked::Lint(lint) => lint.base,
         Asked::Propose(propose) => propose.base,
-        Asked::List { .. } => None,
+        Asked::List(_) => None,
     }
 }
 
@@ -77,7 +93,7 @@ fn note(
     message: &Message,
 ) -> Result<Option<String>, Memory> {
     match message {
-        Message::Script(error) => of_script(rt, files, *error),
+        Message::Script(error) => of_script(rt, asked, files, *error),
         Message::Policy(error) => of_policy(rt, asked, *error),
         Message::Unspelled(pair) | Message::Assignment(pair) => of_assignment(rt, asked, *pair),
         Message::CannotRead(_) => of_unread(rt, asked, files),
@@ -86,24 +102,48 @@ fn note(
     }
 }
 
-// The script is read again. It cannot be, where it came from the standard input.
+// The script is read again. It cannot be, where a part of it came from the standard input.
 fn of_script(
     rt: &HostRuntime,
+    asked: &Asked<'_>,
     files: &Files,
     error: SyntaxError,
 ) -> Result<Option<String>, Memory> {
-    let Some(script) = &files.script else {
-        return Ok(None);
-    };
-    let Ok(ReadFile { bytes, .. }) = read(rt, script.as_str()) else {
-        return Ok(None);
-    };
+    let mut bytes = Vec::new(rt.alloc());
+    let mut is_first = true;
+    for (part, file) in script_of(asked).iter().zip(files.script.as_slice()) {
+        if !is_first {
+            bytes.push(b'\n')?;
+        }
+        is_first = false;
+        if !add_part(rt, part, file, &mut bytes)? {
+            return Ok(None);
+        }
+    }
     let words = reason(rt.alloc(), bytes.as_slice(), error)?;
     Ok(if words.as_str().is_empty() {
         None
     } else {
         Some(words)
     })
+}
+
+// Adds a part of the script behind those that were read, and tells whether it could be read.
+fn add_part(
+    rt: &HostRuntime,
+    part: &ScriptPart<'_>,
+    file: &Option<PathBuf>,
+    bytes: &mut Vec<u8>,
+) -> Result<bool, Memory> {
+    match (part, file) {
+        (ScriptPart::Text(text), _) => bytes.extend_from_slice(text.as_bytes())?,
+        (ScriptPart::File(_), Some(name)) => match read(rt, name.as_str()) {
+            Ok(ReadFile { bytes: more, .. }) => bytes.extend_from_slice(more.as_slice())?,
+            Err(_) => return Ok(false),
+        },
+        (ScriptPart::File(_), None) => return Ok(false),
+    }
+    Ok(true)
 }
 
 // The base that the words give is told of where no policy may have it: the policy's own may be the one that is refused,
@@ -153,10 +193,7 @@ fn of_assignment(rt: &HostRuntime, asked: &Asked<'_>, pair: u32) -> Result<Optio
 
 fn of_unread(rt: &HostRuntime, asked: &Asked<'_>, files: &Files) -> Result<Option<String>, Memory> {
     let policy = policy_of(asked).and_then(|name| unread(rt, name));
-    let script = files
-        .script
-        .as_ref()
-        .and_then(|name| unread(rt, name.as_str()));
+    let script = unread_part(rt, files.script.as_slice());
     let log = files
         .log
         .as_ref()
@@ -165,6 +202,18 @@ fn of_unread(rt: &HostRuntime, asked: &Asked<'_>, files: &Files) -> Result<Optio
         Some(words) => Ok(Some(String::from_str(rt.alloc(), words)?)),
         None => Ok(None),
     }
+}
+
+// Why the first of these files that can't be read cannot be.
+fn unread_part(rt: &HostRuntime, files: &[Option<PathBuf>]) -> Option<&'static str> {
+    for file in files {
+        if let Some(name) = file {
+            if let Some(words) = unread(rt, name.as_str()) {
+                return Some(words);
+            }
+        }
+    }
+    None
 }
 
 // Why the file of this name cannot be read, if it can't. Nothing is told of the standard input.

@@ -4,16 +4,19 @@ ghost use Rattle.std.specs.Prelude.{IfOk};
 
 use crate::files::{OpenLog, ReadFile, look, read};
 use crate::folders::{Folders, base_bytes, base_name, enter, resolved};
+use crate::scripts::{ReadScript, line_of, look_parts, place_in, place_of, read_script};
 use crate::setup::setup_of;
 use crate::standard;
+use awk_sources::{InSource, Lines};
 use awkbox::{
     Account, Ending, Fault, Identity, LimitedLog, LogEnd, Memory, Message, Octets, OsWorld,
     Outcome, OwnFile, Place, Policy, Prepared, Refusal, Report, Setup, Warning, may_be_log,
     may_start, prepare, writing_rule,
 };
-use awkbox_options::{Run, STANDARD_INPUT};
+use awkbox_options::{Run, STANDARD_INPUT, ScriptPart};
 use box_audit::watched::Watched;
 use box_blocks::buffered::{Buffered, NotWritten};
+use serde_json::{Value, json};
 use std::alloc::Global;
 use std::fs::File;
 use std::io::Write;
@@ -22,15 +25,20 @@ use std::io::Write;
 #[derive(Drop)]
 struct Sources {
     policy: ReadFile,
-    script: ReadFile,
+    script: ReadScript,
 }
 
 /// Runs a script under a policy, by the words of the command line, and reports it where they ask for that. Gives the
 /// exit status.
-pub fn run_script(rt: &HostRuntime, run: &Run<'_>, operands: Vec<Octets>) -> Result<u8, Message> {
+pub fn run_script(
+    rt: &HostRuntime,
+    run: &Run<'_>,
+    operands: Vec<Octets>,
+    lines: &mut Option<Lines>,
+) -> Result<u8, Message> {
     let ending = match run.report {
-        Some(name) => reported(rt, run, operands, name)?,
-        None => account_of(rt, run, operands, None).ending(),
+        Some(name) => reported(rt, run, operands, name, lines)?,
+        None => account_of(rt, run, operands, None, lines).ending(),
     };
     match ending {
         Ending::Quiet(status) => Ok(status),
@@ -61,10 +69,11 @@ fn reported(
     run: &Run<'_>,
     operands: Vec<Octets>,
     name: &str,
+    lines: &mut Option<Lines>,
 ) -> Result<Ending, Message> {
     let mut report = open_report(rt, run, name, operands.as_slice())?;
-    let account = account_of(rt, run, operands, Some(report.identity));
-    let is_written = write_report(rt, &mut report.file, &account);
+    let account = account_of(rt, run, operands, Some(report.identity), lines);
+    let is_written = write_report(rt, &mut report.file, &account, lines);
     let ending = account.ending();
     match is_written {
         true => Ok(ending),
@@ -90,23 +99,83 @@ fn open_report(
     let opened = open_log(rt, name)?;
     let named = [
         look_source(rt, run.policy),
-        look_source(rt, run.script),
         look(rt, run.log),
         look_audit(rt, run),
     ];
+    let script = look_parts(rt, run.script.as_slice())?;
+    let beside = Beside {
+        named,
+        script: script.as_slice(),
+        operands,
+    };
     let identity = opened.identity;
-    let file = claim(rt, name, opened, named, operands, false)?;
+    let file = claim(rt, name, opened, &beside, false)?;
     Ok(ReportFile { identity, file })
 }
 
 // Whether the account stands whole in the file.
-fn write_report(rt: &HostRuntime, report: &mut File, account: &Account) -> bool {
-    match account.json(rt.alloc()) {
+fn write_report(
+    rt: &HostRuntime,
+    report: &mut File,
+    account: &Account,
+    lines: &Option<Lines>,
+) -> bool {
+    match account_text(rt, account, lines) {
         Ok(mut text) => {
             text.push('\n').is_ok() && report.write_all(text.as_str().as_bytes()).is_ok()
         }
         Err(_) => false,
     }
+}
+
+// The place of the script that an account is about.
+fn account_place(account: &Account) -> Option<Place> {
+    match account {
+        Account::Ran { report, .. } => match report.outcome {
+            Outcome::Fault(_, place) => Some(place),
+            Outcome::Status(_) | Outcome::Cut => None,
+        },
+        Account::Refused(message) => place_of(message),
+    }
+}
+
+// The account as a JSON object. Of a script of several parts it has the one that it is about.
+fn account_text(
+    rt: &HostRuntime,
+    account: &Account,
+    lines: &Option<Lines>,
+) -> Result<String, Memory> {
+    let alloc = rt.alloc();
+    let mut value = account.value(alloc)?;
+    if let Some(found) = account_place(account).and_then(|place| place_in(lines, place)) {
+        add_source(alloc, &mut value, &found)?;
+        if let Account::Refused(message) = account {
+            let line = line_of(alloc, message, lines)?;
+            add_member(
+                alloc,
+                &mut value,
+                "refusal",
+                Value::try_from_str(alloc, line.as_str())?,
+            )?;
+        }
+    }
+    value.to_string(alloc)
+}
+
+fn add_source(alloc: Global, value: &mut Value, found: &InSource<'_>) -> Result<(), Memory> {
+    let source = json!(in alloc; {
+        "column": found.place.column,
+        "line": found.place.line,
+        "name": found.name,
+    })?;
+    add_member(alloc, value, "source", source)
+}
+
+fn add_member(alloc: Global, value: &mut Value, name: &str, member: Value) -> Result<(), Memory> {
+    if let Value::Object(members) = value {
+        members.insert(String::from_str(alloc, name)?, member)?;
+    }
+    Ok(())
 }
 
 // Each of the functions from here to `run_logged` makes a large value and lends it to the next one, so that it is let
@@ -116,9 +185,10 @@ fn account_of(
     run: &Run<'_>,
     operands: Vec<Octets>,
     report: Option<Identity>,
+    lines: &mut Option<Lines>,
 ) -> Account {
     match setup_of(rt, run, operands) {
-        Ok(setup) => account_under(rt, run, &setup, report),
+        Ok(setup) => account_under(rt, run, &setup, report, lines),
         Err(message) => Account::Refused(message),
     }
 }
@@ -128,8 +198,9 @@ fn account_under(
     run: &Run<'_>,
     setup: &Setup,
     report: Option<Identity>,
+    lines: &mut Option<Lines>,
 ) -> Account {
-    match read_sources(rt, run) {
+    match read_sources(rt, run, lines) {
         Ok(sources) => account_from(rt, run, setup, &sources, report),
         Err(message) => Account::Refused(message),
     }
@@ -142,16 +213,19 @@ fn account_from(
     sources: &Sources,
     report: Option<Identity>,
 ) -> Account {
-    let named = [sources.policy.identity, sources.script.identity, report];
-    match run_sources(rt, run, setup, sources, named) {
+    match run_sources(rt, run, setup, sources, report) {
         Ok(account) => account,
         Err(message) => Account::Refused(message),
     }
 }
 
-fn read_sources(rt: &HostRuntime, run: &Run<'_>) -> Result<Sources, Message> {
+fn read_sources(
+    rt: &HostRuntime,
+    run: &Run<'_>,
+    lines: &mut Option<Lines>,
+) -> Result<Sources, Message> {
     let policy = read_source(rt, run.policy)?;
-    let script = read_source(rt, run.script)?;
+    let script = read_script(rt, run.script.as_slice(), lines)?;
     Ok(Sources { policy, script })
 }
 
@@ -161,11 +235,16 @@ fn run_sources(
     run: &Run<'_>,
     setup: &Setup,
     sources: &Sources,
-    named: [Option<Identity>; 3],
+    report: Option<Identity>,
 ) -> Result<Account, Message> {
     let opened = open_logs(rt, run)?;
     let folders = enter(rt, run.folder)?;
-    let logs = claim_logs(rt, run, opened, named, setup.operands())?;
+    let beside = Beside {
+        named: [sources.policy.identity, report, None],
+        script: sources.script.identities.as_slice(),
+        operands: setup.operands(),
+    };
+    let logs = claim_logs(rt, run, opened, &beside)?;
     run_logged(rt, run, setup, sources, &folders, logs)
 }
 
@@ -198,20 +277,37 @@ fn open_log(rt: &HostRuntime, name: &str) -> Result<OpenLog, Message> {
     }
 }
 
+// The files that a log or a report is not to be: these and those of the script, and those that the operands name.
+#[derive(Clone, Copy, Drop)]
+struct Beside<'a> {
+    named: [Option<Identity>; 3],
+    script: &'a [Identity],
+    operands: &'a [Octets],
+}
+
+impl<'a> Beside<'a> {
+    // The last of the files that are named is free for one more.
+    fn and(&self, file: Option<Identity>) -> Beside<'a> {
+        Beside {
+            named: [self.named[0], self.named[1], file],
+            script: self.script,
+            operands: self.operands,
+        }
+    }
+}
+
 // Neither may be the other one, nor one of these files.
 fn claim_logs(
     rt: &HostRuntime,
     run: &Run<'_>,
     opened: OpenLogs,
-    named: [Option<Identity>; 3],
-    operands: &[Octets],
+    beside: &Beside<'_>,
 ) -> Result<Logs, Message> {
     let OpenLogs { denials, audit } = opened;
-    let [policy, script, report] = named;
-    let beside_audit = [policy, script, report, Some(denials.identity)];
-    let beside_log = [policy, script, report, audit_identity(&audit)];
-    let log = claim(rt, run.log, denials, beside_log, operands, run.adds_to_log)?;
-    let audit = claim_audit(rt, run, audit, beside_audit, operands)?;
+    let beside_audit = beside.and(Some(denials.identity));
+    let beside_log = beside.and(audit_identity(&audit));
+    let log = claim(rt, run.log, denials, &beside_log, run.adds_to_log)?;
+    let audit = claim_audit(rt, run, audit, &beside_audit)?;
     Ok(Logs {
         denials: LimitedLog::new(log, run.log_limit),
         audit,
@@ -229,8 +325,7 @@ fn claim_audit(
     rt: &HostRuntime,
     run: &Run<'_>,
     audit: Option<OpenLog>,
-    named: [Option<Identity>; 4],
-    operands: &[Octets],
+    beside: &Beside<'_>,
 ) -> Result<Option<LimitedLog<File>>, Message> {
     let Some(name) = run.audit else {
         return Ok(None);
@@ -238,7 +333,7 @@ fn claim_audit(
     let Some(opened) = audit else {
         return Ok(None);
     };
-    let file = claim(rt, name, opened, named, operands, false)?;
+    let file = claim(rt, name, opened, beside, false)?;
     Ok(Some(LimitedLog::new(file, run.log_limit)))
 }
 
@@ -373,13 +468,9 @@ fn look_source(rt: &HostRuntime, name: &str) -> Option<Identity> {
 
 // The files that are not to be the log, the audit or the report: these, those that the standard streams lead to and
 // those that the operands name. A word that may set a variable counts as the name of a file too.
-fn others(
-    rt: &HostRuntime,
-    named: [Option<Identity>; 4],
-    operands: &[Octets],
-) -> Result<Vec<Identity>, Memory> {
-    let mut others = Vec::new(rt.alloc());
-    for file in named {
+fn others(rt: &HostRuntime, beside: &Beside<'_>) -> Result<Vec<Identity>, Memory> {
+    let mut others = Vec::from_slice(rt.alloc(), beside.script)?;
+    for file in beside.named {
         if let Some(file) = file {
             others.push(file)?;
         }
@@ -389,7 +480,7 @@ fn others(
             others.push(file)?;
         }
     }
-    for operand in operands {
+    for operand in beside.operands {
         if let Some(file) = look_operand(rt, operand.bytes()) {
             others.push(file)?;
         }
@@ -411,11 +502,10 @@ fn claim(
     rt: &HostRuntime,
     name: &str,
     opened: OpenLog,
-    named: [Option<Identity>; 4],
-    operands: &[Octets],
+    beside: &Beside<'_>,
     is_kept: bool,
 ) -> Result<File, Message> {
-    let others = others(rt, named, operands)?;
+    let others = others(rt, beside)?;
     if may_be_log(opened.identity, opened.is_regular, others.as_slice()) {
         if let Ok(file) = opened.begin(is_kept) {
             return Ok(file);
@@ -456,8 +546,12 @@ fn warn_of_all(
     if run.policy != STANDARD_INPUT {
         warn(rt, policy, folders, OwnFile::Policy, run.policy)?;
     }
-    if run.script != STANDARD_INPUT {
-        warn(rt, policy, folders, OwnFile::Script, run.script)?;
+    for part in run.script.as_slice() {
+        if let ScriptPart::File(name) = part {
+            if *name != STANDARD_INPUT {
+                warn(rt, policy, folders, OwnFile::Script, name)?;
+            }
+        }
     }
     Ok(())
 }

@@ -1,0 +1,6 @@
+mod StringOn
+mod OnLemmas
+mod TokenLemmas
+mod ReadLemmas
+mod PlaceLemmas
+mod LineLemmas
