@@ -39,18 +39,27 @@ module _ (g : Given) (w : Whole) (place : Place) (x : Expression) (xs : Joins) (
   abbrev ends_with : Text → Unit {0} → List Piece → List Piece
   ends_with after u k = At (Texts_of xs) (v.Text (text ++ after) ∷ []) ∷ k
 
-  pub joins_behind : (after : Text) → after ≡ before ++ text_of z → (length text + length before) + length (text_of z) ≤ most_bytes → Acts g waits (ends_with after) w (Ok (tt {0})) w
+  pub joins_behind : (after : Text) → after ≡ before ++ text_of z
+      → (length text + length before) + length (text_of z) ≤ most_bytes
+      → Acts g waits (ends_with after) w (Ok (tt {0})) w
   joins_behind after e fits =
       let short : length ((text ++ before) ++ text_of z) ≤ most_bytes = rw (lengths text before (text_of z)) fits in
-      done (moves (at_rest _ w) (λ k hid d a. rw (limited_ok ((text ++ before) ++ text_of z) short, append_assoc text before (text_of z), sym e) refl))
+      done (moves (at_rest _ w) (λ k hid d a. rw (
+        limited_ok ((text ++ before) ++ text_of z) short,
+        append_assoc text before (text_of z),
+        sym e,
+      ) refl))
 
-  pub joins_not : (after : Text) → most_bytes < (length text + length before) + length (text_of z) → Acts g waits (ends_with after) w (Err (halt.Fault fault.TextTooLong place)) w
+  pub joins_not : (after : Text) → most_bytes < (length text + length before) + length (text_of z)
+      → Acts g waits (ends_with after) w (Err (halt.Fault fault.TextTooLong place)) w
   joins_not after over =
       let long : most_bytes < length ((text ++ before) ++ text_of z) = rw (lengths text before (text_of z)) over in
       closed (moves (at_rest _ w) (λ k hid d a. rw (limited_err ((text ++ before) ++ text_of z) long) refl))
 
 -- the variable is set
-pub sets_behind : (g : Given) (old : Whole) (x : Variable) (place : Place) (val : Value) (new : Kept) (r : Result (Unit {0}) Halt) → kept.is_nf x ≡ false → OnOk r (new ≡ with_value x val old.0) →
-    IfErr r (λ h. h ≡ halt.Memory) → new.used ≡ old.0.used → Acts g (Do (Set (machine.Variable (variable_of (names_in g) x)) place val)) goes_on old r (new, old.1)
+pub sets_behind : (g : Given) (old : Whole) (x : Variable) (place : Place) (val : Value) (new : Kept)
+    (r : Result (Unit {0}) Halt) → kept.is_nf x ≡ false → OnOk r (new ≡ with_value x val old.0) →
+    IfErr r (λ h. h ≡ halt.Memory) → new.used ≡ old.0.used
+    → Acts g (Do (Set (machine.Variable (variable_of (names_in g) x)) place val)) goes_on old r (new, old.1)
 sets_behind g old x place val new (Ok u) n ok err same = sets_variable g old x place val new n ok
 sets_behind g old x place val new (Err h) n ok err same = rw err (lacking same)

@@ -25,35 +25,46 @@ use Rattle.awk_builtins.proofs.Granted.{Grants, given_so}
 use Rattle.awk_builtins.proofs.Listed.{all_there}
 use Rattle.awk_builtins.proofs.Making.{gives_so}
 
-module _ (g : Given) (w : Whole) (place : Place) (which : Builtin) (xs : Expressions) (vs : List Value) (count : length (listed xs) ≡ length vs) where
+module _ (g : Given) (w : Whole) (place : Place) (which : Builtin) (xs : Expressions) (vs : List Value)
+    (count : length (listed xs) ≡ length vs) where
   abbrev pub calling : Piece
   calling = At (Value_of (p.builtin place which xs)) (reverse vs)
 
-  first : (k : List Piece) (s : State) → advance g (calling ∷ k) s ≡ held g s (taking place (effect place which vs s) k s)
-  first k s = ap (held g s) (all_there (listed xs) (Value_of (p.builtin place which xs)) (called place which) vs k s count)
+  first : (k : List Piece) (s : State)
+      → advance g (calling ∷ k) s ≡ held g s (taking place (effect place which vs s) k s)
+  first k s = ap (held g s) (all_there (listed xs) (Value_of (p.builtin place which xs)) (called place which) vs k s
+      count)
 
-  comes : (e : Effect) (k : List Piece) (s : State) → effect place which vs s ≡ e → advance g (calling ∷ k) s ≡ held g s (taking place e k s)
+  comes : (e : Effect) (k : List Piece) (s : State) → effect place which vs s ≡ e
+      → advance g (calling ∷ k) s ≡ held g s (taking place e k s)
   comes e k s is = first k s ∙ ap (λ f. held g s (taking place f k s)) is
 
   -- what is made, or its fault
-  pub grants_made : (made : Result Value Fault) → ((s : State) → effect place which vs s ≡ Gives made) → Grants g w calling place give made
+  pub grants_made : (made : Result Value Fault) → ((s : State) → effect place which vs s ≡ Gives made)
+      → Grants g w calling place give made
   grants_made made is k hid c a = comes (Gives made) k (seen (base g w hid) c) (is (seen (base g w hid) c))
 
-  pub gives_made : (made : Result Value Fault) → ((s : State) → effect place which vs s ≡ Gives made) → Acts g calling give w (result_at place made) w
+  pub gives_made : (made : Result Value Fault) → ((s : State) → effect place which vs s ≡ Gives made)
+      → Acts g calling give w (result_at place made) w
   gives_made made is = given_so g w calling place give made (grants_made made is)
 
   -- a value
   pub gives_value : (x : Value) → ((s : State) → effect place which vs s ≡ gives x) → Acts g calling give w (Ok x) w
-  gives_value x is = gives_so g w calling give x (λ k hid c a. comes (gives x) k (seen (base g w hid) c) (is (seen (base g w hid) c)))
+  gives_value x is = gives_so g w calling give x (λ k hid c a. comes (gives x) k (seen (base g w hid) c)
+      (is (seen (base g w hid) c)))
 
   -- a task is left
-  pub leaves_task : {W : Type 0} {ghosts : Ghosts W} (task : Task) (world : W) → ((s : State) → effect place which vs s ≡ Leaves task) →
+  pub leaves_task : {W : Type 0} {ghosts : Ghosts W} (task : Task) (world : W)
+      → ((s : State) → effect place which vs s ≡ Leaves task) →
       Leads ghosts (base g) (Agreeing g) used g calling w world (λ k. Do task ∷ k) w world
-  leaves_task task world is = quiet (at_once calling w world) (λ k hid c. comes (Leaves task) k (seen (base g w hid) c) (is (seen (base g w hid) c)))
+  leaves_task task world is = quiet (at_once calling w world) (λ k hid c. comes (Leaves task) k (seen (base g w hid) c)
+      (is (seen (base g w hid) c)))
 
 -- whether an output is open is told by the table of streams
-pub flushes : (g : Given) (w : Whole) (place : Place) (xs : Expressions) (vs : List Value) (count : length (listed xs) ≡ length vs) (x : Value) → x ≡ flush (text_at vs 0) (open_of w.1) →
+pub flushes : (g : Given) (w : Whole) (place : Place) (xs : Expressions) (vs : List Value) (count : length (listed xs)
+    ≡ length vs) (x : Value) → x ≡ flush (text_at vs 0) (open_of w.1) →
     Acts g (calling g w place b.Fflush xs vs count) give w (Ok x) w
 flushes g w place xs vs count x is =
     gives_so g w (calling g w place b.Fflush xs vs count) give x (λ k hid c a.
-    comes g w place b.Fflush xs vs count (gives x) k (seen (base g w hid) c) (ap (λ streams. gives (flush (text_at vs 0) streams)) a.tells.streams ∙ ap gives (sym is)))
+    comes g w place b.Fflush xs vs count (gives x) k (seen (base g w hid) c)
+    (ap (λ streams. gives (flush (text_at vs 0) streams)) a.tells.streams ∙ ap gives (sym is)))

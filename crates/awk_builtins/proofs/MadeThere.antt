@@ -24,48 +24,70 @@ module _ (g : Given) (w : Whole) where
   -- ---- a function of one argument, of two and of three, whatever it makes of them
 
   module _ (place : Place) (which : Builtin) where
-    comes : (vs : List Value) (r : Value) → ((s : State) → effect place which vs s ≡ gives r) → (k : List Piece) (s : State) → held g s (taking place (effect place which vs s) k s) ≡ Goes (give r k) s
+    comes : (vs : List Value) (r : Value) → ((s : State) → effect place which vs s ≡ gives r)
+        → (k : List Piece) (s : State) → held g s (taking place (effect place which vs s) k s) ≡ Goes (give r k) s
     comes vs r is k s = ap (λ e. held g s (taking place e k s)) (is s)
 
-    pub one_there : (x : Expression) (a r : Value) → Passes g (value x) w (give a) w → ((s : State) → effect place which (a ∷ []) s ≡ gives r) →
+    pub one_there : (x : Expression) (a r : Value) → Passes g (value x) w (give a) w
+        → ((s : State) → effect place which (a ∷ []) s ≡ gives r) →
         Passes g (value (p.builtin place which (p.more x p.none))) w (give r) w
     one_there x a r h is =
         let part : Part = Value_of (p.builtin place which (p.more x p.none)) in
-        moves (on (moves {then_ = λ k. value x ∷ At part [] ∷ k} (at_rest _ w) (λ k hid d c. refl)) h) (λ k hid d c. comes (a ∷ []) r is k _)
+        moves (on (moves {then_ = λ k. value x ∷ At part [] ∷ k} (at_rest _ w) (λ k hid d c. refl)) h)
+        (λ k hid d c. comes (a ∷ []) r is k _)
 
-    pub two_there : (x y : Expression) (a b r : Value) → Passes g (value x) w (give a) w → Passes g (value y) w (give b) w → ((s : State) → effect place which (a ∷ b ∷ []) s ≡ gives r) →
+    pub two_there : (x y : Expression) (a b r : Value) → Passes g (value x) w (give a) w
+        → Passes g (value y) w (give b) w → ((s : State) → effect place which (a ∷ b ∷ []) s ≡ gives r) →
         Passes g (value (p.builtin place which (p.more x (p.more y p.none)))) w (give r) w
     two_there x y a b r h m is =
         let part : Part = Value_of (p.builtin place which (p.more x (p.more y p.none))) in
-        moves (on (moves {then_ = λ k. value y ∷ At part (a ∷ []) ∷ k} (on (moves {then_ = λ k. value x ∷ At part [] ∷ k} (at_rest _ w) (λ k hid d c. refl)) h) (λ k hid d c. refl)) m) (λ k hid d c. comes (a ∷ b ∷ []) r is k _)
+        moves (on (moves {then_ = λ k. value y ∷ At part (a ∷ []) ∷ k}
+        (on (moves {then_ = λ k. value x ∷ At part [] ∷ k} (at_rest _ w) (λ k hid d c. refl)) h)
+        (λ k hid d c. refl)) m) (λ k hid d c. comes (a ∷ b ∷ []) r is k _)
 
-    pub three_there : (x y z : Expression) (a b c r : Value) → Passes g (value x) w (give a) w → Passes g (value y) w (give b) w → Passes g (value z) w (give c) w →
-        ((s : State) → effect place which (a ∷ b ∷ c ∷ []) s ≡ gives r) → Passes g (value (p.builtin place which (p.more x (p.more y (p.more z p.none))))) w (give r) w
+    pub three_there : (x y z : Expression) (a b c r : Value) → Passes g (value x) w (give a) w
+        → Passes g (value y) w (give b) w → Passes g (value z) w (give c) w →
+        ((s : State) → effect place which (a ∷ b ∷ c ∷ []) s ≡ gives r)
+        → Passes g (value (p.builtin place which (p.more x (p.more y (p.more z p.none))))) w (give r) w
     three_there x y z a b c r h m n is =
         let part : Part = Value_of (p.builtin place which (p.more x (p.more y (p.more z p.none)))) in
         moves (on (moves {then_ = λ k. value z ∷ At part (b ∷ a ∷ []) ∷ k}
-        (on (moves {then_ = λ k. value y ∷ At part (a ∷ []) ∷ k} (on (moves {then_ = λ k. value x ∷ At part [] ∷ k} (at_rest _ w) (λ k hid d e. refl)) h) (λ k hid d e. refl)) m) (λ k hid d e. refl)) n) (λ k hid d e. comes (a ∷ b ∷ c ∷ []) r is k _)
+        (on (moves {then_ = λ k. value y ∷ At part (a ∷ []) ∷ k}
+        (on (moves {then_ = λ k. value x ∷ At part [] ∷ k} (at_rest _ w) (λ k hid d e. refl)) h)
+        (λ k hid d e. refl)) m) (λ k hid d e. refl)) n) (λ k hid d e. comes (a ∷ b ∷ c ∷ []) r is k _)
 
   -- ---- what their values make
 
-  pub whole_there : (place : Place) (x : Expression) (a : Value) (n : ℤ) → Passes g (value x) w (give a) w → number_of a ≡ Ok n → Passes g (value (p.builtin place b.Int (p.more x p.none))) w (give (v.Num n)) w
+  pub whole_there : (place : Place) (x : Expression) (a : Value) (n : ℤ) → Passes g (value x) w (give a) w
+      → number_of a ≡ Ok n → Passes g (value (p.builtin place b.Int (p.more x p.none))) w (give (v.Num n)) w
   whole_there place x a n h is = one_there place b.Int x a (v.Num n) h (λ s. rw is refl)
 
-  pub rest_there : (place : Place) (x y : Expression) (a e : Value) (from : ℤ) → Passes g (value x) w (give a) w → Passes g (value y) w (give e) w → number_of e ≡ Ok from →
-      Passes g (value (p.builtin place b.Substr (p.more x (p.more y p.none)))) w (give (v.Text (substr (text_of a) from None))) w
-  rest_there place x y a e from h m is = two_there place b.Substr x y a e (v.Text (substr (text_of a) from None)) h m (λ s. rw is refl)
+  pub rest_there : (place : Place) (x y : Expression) (a e : Value) (from : ℤ) → Passes g (value x) w (give a) w
+      → Passes g (value y) w (give e) w → number_of e ≡ Ok from →
+      Passes g (value (p.builtin place b.Substr (p.more x (p.more y p.none)))) w
+      (give (v.Text (substr (text_of a) from None))) w
+  rest_there place x y a e from h m is = two_there place b.Substr x y a e (v.Text (substr (text_of a) from None)) h m
+      (λ s. rw is refl)
 
-  pub part_there : (place : Place) (x y z : Expression) (a e c : Value) (from count : ℤ) → Passes g (value x) w (give a) w → Passes g (value y) w (give e) w → Passes g (value z) w (give c) w →
-      number_of e ≡ Ok from → number_of c ≡ Ok count → Passes g (value (p.builtin place b.Substr (p.more x (p.more y (p.more z p.none))))) w (give (v.Text (substr (text_of a) from (Some count)))) w
-  part_there place x y z a e c from count h m n first second = three_there place b.Substr x y z a e c (v.Text (substr (text_of a) from (Some count))) h m n (λ s. rw (first, second) refl)
+  pub part_there : (place : Place) (x y z : Expression) (a e c : Value) (from count : ℤ)
+      → Passes g (value x) w (give a) w → Passes g (value y) w (give e) w → Passes g (value z) w (give c) w →
+      number_of e ≡ Ok from → number_of c ≡ Ok count
+      → Passes g (value (p.builtin place b.Substr (p.more x (p.more y (p.more z p.none))))) w
+      (give (v.Text (substr (text_of a) from (Some count)))) w
+  part_there place x y z a e c from count h m n first second = three_there place b.Substr x y z a e c
+      (v.Text (substr (text_of a) from (Some count))) h m n (λ s. rw (first, second) refl)
 
   -- ---- a choice
 
-  tested : (x y z : Expression) (a : Value) → Passes g (value x) w (give a) w → Passes g (value (p.choose x y z)) w (λ k. At (Value_of (p.choose x y z)) (a ∷ []) ∷ k) w
-  tested x y z a h = on (moves {then_ = λ k. value x ∷ At (Value_of (p.choose x y z)) [] ∷ k} (at_rest _ w) (λ k hid d a. refl)) h
+  tested : (x y z : Expression) (a : Value) → Passes g (value x) w (give a) w
+      → Passes g (value (p.choose x y z)) w (λ k. At (Value_of (p.choose x y z)) (a ∷ []) ∷ k) w
+  tested x y z a h = on (moves {then_ = λ k. value x ∷ At (Value_of (p.choose x y z)) [] ∷ k} (at_rest _ w)
+      (λ k hid d a. refl)) h
 
-  pub choice_then : (x y z : Expression) (a b : Value) → Passes g (value x) w (give a) w → truth a ≡ true → Passes g (value y) w (give b) w → Passes g (value (p.choose x y z)) w (give b) w
+  pub choice_then : (x y z : Expression) (a b : Value) → Passes g (value x) w (give a) w → truth a ≡ true
+      → Passes g (value y) w (give b) w → Passes g (value (p.choose x y z)) w (give b) w
   choice_then x y z a b h is m = on (moves {then_ = λ k. value y ∷ k} (tested x y z a h) (λ k hid d a. rw is refl)) m
 
-  pub choice_else : (x y z : Expression) (a b : Value) → Passes g (value x) w (give a) w → truth a ≡ false → Passes g (value z) w (give b) w → Passes g (value (p.choose x y z)) w (give b) w
+  pub choice_else : (x y z : Expression) (a b : Value) → Passes g (value x) w (give a) w → truth a ≡ false
+      → Passes g (value z) w (give b) w → Passes g (value (p.choose x y z)) w (give b) w
   choice_else x y z a b h is m = on (moves {then_ = λ k. value z ∷ k} (tested x y z a h) (λ k hid d a. rw is refl)) m

@@ -35,45 +35,56 @@ value_ok x = Ok x
 -- ---- one move that cannot fail
 
 pub gives_so : {A : Type 0} (g : Given) (w : Whole) (p : Piece) (on : A → List Piece → List Piece) (x : A) →
-    ((k : List Piece) (hid : Hidden) (c : Course) → Agreeing g w hid c → advance g (p ∷ k) (seen (base g w hid) c) ≡ Goes (on x k) (seen (base g w hid) c)) → Acts g p on w (Ok x) w
+    ((k : List Piece) (hid : Hidden) (c : Course) → Agreeing g w hid c → advance g (p ∷ k) (seen (base g w hid) c)
+    ≡ Goes (on x k) (seen (base g w hid) c)) → Acts g p on w (Ok x) w
 gives_so g w p on x e = done (moves (at_rest _ w) e)
 
 -- ---- texts
 
-module _ (g : Given) (w : Whole) (p : Piece) (place : Place) (on : Value → List Piece → List Piece) (spec : Result Text Fault) where
+module _ (g : Given) (w : Whole) (p : Piece) (place : Place) (on : Value → List Piece → List Piece)
+    (spec : Result Text Fault) where
   -- a text is made, and goes on as a value
-  pub text_so : (made : Result Text Fault) → IfOk made (λ x. spec ≡ Ok x) → IfErr made (λ e. (e ≡ fault.Memory) ⊎ (spec ≡ Err e)) →
+  pub text_so : (made : Result Text Fault) → IfOk made (λ x. spec ≡ Ok x) → IfErr made (λ e. (e ≡ fault.Memory)
+      ⊎ (spec ≡ Err e)) →
       ((k : List Piece) (hid : Hidden) (c : Course) → Agreeing g w hid c →
-      advance g (p ∷ k) (seen (base g w hid) c) ≡ held g (seen (base g w hid) c) (granted place (as_text spec) (λ x k s. Goes (on x k) s) k (seen (base g w hid) c))) →
+      advance g (p ∷ k) (seen (base g w hid) c) ≡ held g (seen (base g w hid) c)
+      (granted place (as_text spec) (λ x k s. Goes (on x k) s) k (seen (base g w hid) c))) →
       Acts g p on w (result_at place (as_text made)) w
   text_so (Ok x) ok err e = given_or_lacks g w p place on (as_text spec) (as_text (Ok x)) (ap as_text ok) tt e
   text_so (Err f) ok (inl m) e = given_or_lacks g w p place on (as_text spec) (as_text (Err f)) tt (inl m) e
-  text_so (Err f) ok (inr m) e = given_or_lacks g w p place on (as_text spec) (as_text (Err f)) tt (inr (ap as_text m)) e
+  text_so (Err f) ok (inr m) e = given_or_lacks g w p place on (as_text spec) (as_text (Err f)) tt (inr (ap as_text m))
+      e
 
 -- what goes on with a text goes on with it as a value
-pub as_text_so : (place : Place) (spec : Result Text Fault) (f : Value → Then) (k : List Piece) (s : State) → granted place spec (λ x. f (v.Text x)) k s ≡ granted place (as_text spec) f k s
+pub as_text_so : (place : Place) (spec : Result Text Fault) (f : Value → Then) (k : List Piece) (s : State)
+    → granted place spec (λ x. f (v.Text x)) k s ≡ granted place (as_text spec) f k s
 as_text_so place (Ok x) f k s = refl
 as_text_so place (Err e) f k s = refl
 
 -- ---- steps
 
-pub both_so : (place : Place) (how : Step) (taken : StepValue) (r : Reference) (at x : Value) (g : Given) (k : List Piece) (s : State) →
-    advance g (At (Value_of (p.step place how taken r)) (x ∷ at ∷ []) ∷ k) s ≡ held g s (granted place (both_numbers how x) (λ n k s. Goes (stepping place taken r at n k) s) k s)
+pub both_so : (place : Place) (how : Step) (taken : StepValue) (r : Reference) (at x : Value) (g : Given)
+    (k : List Piece) (s : State) →
+    advance g (At (Value_of (p.step place how taken r)) (x ∷ at ∷ []) ∷ k) s
+    ≡ held g s (granted place (both_numbers how x) (λ n k s. Goes (stepping place taken r at n k) s) k s)
 both_so place how taken r at x g k s = by_old (number_of x) refl
   where
     by_new : (old : ℤ) (new : Result ℤ Fault) → number_of x ≡ Ok old → stepped how old ≡ new →
-        advance g (At (Value_of (p.step place how taken r)) (x ∷ at ∷ []) ∷ k) s ≡ held g s (granted place (both_numbers how x) (λ n k s. Goes (stepping place taken r at n k) s) k s)
+        advance g (At (Value_of (p.step place how taken r)) (x ∷ at ∷ []) ∷ k) s
+        ≡ held g s (granted place (both_numbers how x) (λ n k s. Goes (stepping place taken r at n k) s) k s)
     by_new old (Ok new) e f = rw (e, f) refl
     by_new old (Err met) e f = rw (e, f) refl
 
     by_old : (old : Result ℤ Fault) → number_of x ≡ old →
-        advance g (At (Value_of (p.step place how taken r)) (x ∷ at ∷ []) ∷ k) s ≡ held g s (granted place (both_numbers how x) (λ n k s. Goes (stepping place taken r at n k) s) k s)
+        advance g (At (Value_of (p.step place how taken r)) (x ∷ at ∷ []) ∷ k) s
+        ≡ held g s (granted place (both_numbers how x) (λ n k s. Goes (stepping place taken r at n k) s) k s)
     by_old (Ok old) e = by_new old (stepped how old) e refl
     by_old (Err met) e = rw e refl
 
 -- ---- what is computed
 
-pub number_so : (place : Place) (made : Result ℤ Fault) (f : Value → Then) (k : List Piece) (s : State) → granted place (as_value made) f k s ≡ granted place made (λ n. f (v.Num n)) k s
+pub number_so : (place : Place) (made : Result ℤ Fault) (f : Value → Then) (k : List Piece) (s : State)
+    → granted place (as_value made) f k s ≡ granted place made (λ n. f (v.Num n)) k s
 number_so place (Ok n) f k s = refl
 number_so place (Err e) f k s = refl
 
@@ -87,7 +98,8 @@ place_is (Ok n) z e = subst (λ y. pos (nat_abs y) ≡ y) (the_same n z e) refl
 place_is (Err met) z e = absurd (cc)
 
 -- it is at least 0
-pub field_is : (made : Result ℤ Fault) (z : ℤ) → (made >>= λ y. place_of y >>= λ n. Ok (of_count n)) ≡ Ok (v.Num z) → pos (nat_abs z) ≡ z
+pub field_is : (made : Result ℤ Fault) (z : ℤ) → (made >>= λ y. place_of y >>= λ n. Ok (of_count n)) ≡ Ok (v.Num z)
+    → pos (nat_abs z) ≡ z
 field_is (Ok y) z e = place_is (place_of y) z e
 field_is (Err met) z e = absurd (cc)
 
@@ -99,7 +111,8 @@ computed_so how x y = by_both (number_of x) (number_of y)
     by_last (Ok z) = refl
     by_last (Err e) = refl
 
-    by_both : (a b : Result ℤ Fault) → (a >>= λ m. b >>= λ n. operation how m n >>= λ z. value_ok (v.Num z)) ≡ as_value (of_both how a b)
+    by_both : (a b : Result ℤ Fault) → (a >>= λ m. b >>= λ n. operation how m n >>= λ z. value_ok (v.Num z))
+        ≡ as_value (of_both how a b)
     by_both (Err e) b = refl
     by_both (Ok m) (Err e) = refl
     by_both (Ok m) (Ok n) = by_last (operation how m n)

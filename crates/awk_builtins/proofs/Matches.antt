@@ -1,5 +1,6 @@
 -- How forms come to the use of their pattern.
-use Rattle.std.proofs.Common.{◌≡◌, ◌⊎◌, ◌<◌, ◌≤◌, inl, inr, refl, ap, Bool, true, false, List, [], ◌∷◌, ◌++◌, length, arith}
+use Rattle.std.proofs.Common.{◌≡◌, ◌⊎◌, ◌<◌, ◌≤◌, inl, inr, refl, ap, Bool, true, false, List, [], ◌∷◌, ◌++◌, length}
+use Rattle.std.proofs.Common.{arith}
 use Rattle.std.proofs.lemmas.Bool.Decides.{nat_tests}
 use Rattle.std.specs.Prelude.{ℤ, pos, Option, Some, None, Result, Ok, Err, nat_lt, IfOk, IfErr}
 use Rattle.awk_fields.specs.Separators.{Separator, separator, ere, IsNoEre}
@@ -31,11 +32,13 @@ use Rattle.awk_builtins.specs.declared.patterns.PatternValue.TheVariants as s
 
 -- ---- a task of the same piece is done, or halted
 
-module _ {A : Type 0} {g : Given} {from : Piece} {on : A → List Piece → List Piece} {old new : Whole} {r : Result A Halt} where
+module _ {A : Type 0} {g : Given} {from : Piece} {on : A → List Piece → List Piece} {old new : Whole}
+    {r : Result A Halt} where
   pub then_so : (x : A) → Acts g from on old r new → r ≡ Ok x → Passes g from old (on x) new
   then_so x m e = doing x (at_rest from old) m e
 
-  pub else_so : {B : Type 0} {last : B → List Piece → List Piece} (h : Halt) → Acts g from on old r new → r ≡ Err h → Acts g from last old (Err h) new
+  pub else_so : {B : Type 0} {last : B → List Piece → List Piece} (h : Halt) → Acts g from on old r new → r ≡ Err h
+      → Acts g from last old (Err h) new
   else_so h m e = stop h (at_rest from old) m e
 
 -- ---- the pattern of a form
@@ -46,14 +49,17 @@ IsConstant (s.Computed x) = ⊥
 
 module _ {A : Type 0} (g : Given) (w : Whole) (place : Place) (from : Piece) where
   -- a constant is not checked again
-  pub passed_constant : (y : p.Ere) (source : PatternValue) (to : List Piece → List Piece) (x : A) → IsConstant source → IsSourceOf y source →
-      Passes g from w (λ k. checked y place (text_of (source_value source)) (to k)) w → Acts g from (λ (e : A). to) w (Ok x) w
+  pub passed_constant : (y : p.Ere) (source : PatternValue) (to : List Piece → List Piece) (x : A) → IsConstant source
+      → IsSourceOf y source →
+      Passes g from w (λ k. checked y place (text_of (source_value source)) (to k)) w
+      → Acts g from (λ (e : A). to) w (Ok x) w
   passed_constant (p.constant q x) source to e so is h = done h
   passed_constant (p.computed x) (s.Constant d) to e so is h = absurd is
   passed_constant (p.computed x) (s.Computed val) to e so is h = absurd so
 
   -- what was computed is checked
-  pub passed_computed : (y : p.Ere) (val : Value) (to : List Piece → List Piece) (r : Result A Halt) → IsSourceOf y (s.Computed val) → Passes g from w (λ k. checked y place (text_of val) (to k)) w →
+  pub passed_computed : (y : p.Ere) (val : Value) (to : List Piece → List Piece) (r : Result A Halt)
+      → IsSourceOf y (s.Computed val) → Passes g from w (λ k. checked y place (text_of val) (to k)) w →
       Acts g (Do (Check place (text_of val))) goes_on w r w → Acts g from (λ (e : A). to) w r w
   passed_computed (p.constant q x) val to r is h m = absurd is
   passed_computed (p.computed x) val to (Ok e) is h m = done (doing e h m refl)
@@ -66,27 +72,32 @@ module _ (g : Given) (w : Whole) (place : Place) (from : Piece) (at : Place) (a 
   Splits r = Acts g from (λ s k. Do (Split at a s text) ∷ k) w r w
 
   -- a constant is an ERE
-  pub split_constant : (y : p.Ere) (source : PatternValue) → IsConstant source → IsSourceOf y source → Passes g from w (split_by y place at a text (text_of (source_value source))) w →
+  pub split_constant : (y : p.Ere) (source : PatternValue) → IsConstant source → IsSourceOf y source
+      → Passes g from w (split_by y place at a text (text_of (source_value source))) w →
       Splits (Ok (ere (text_of (source_value source)) false))
   split_constant (p.constant q x) source so is h = done h
   split_constant (p.computed x) (s.Constant d) so is h = absurd is
   split_constant (p.computed x) (s.Computed val) so is h = absurd so
 
   -- what was computed may be one
-  pub split_computed : (y : p.Ere) (val : Value) → IsSourceOf y (s.Computed val) → Passes g from w (split_by y place at a text (text_of val)) w →
-      Passes g from w (λ k. check_separator place (text_of val) (Do (Split at a (separator (text_of val) false) text) ∷ k)) w
+  pub split_computed : (y : p.Ere) (val : Value) → IsSourceOf y (s.Computed val)
+      → Passes g from w (split_by y place at a text (text_of val)) w →
+      Passes g from w (λ k. check_separator place (text_of val) (Do (Split at a (separator (text_of val) false) text) ∷
+      k)) w
   split_computed (p.constant q x) val is h = absurd is
   split_computed (p.computed x) val is h = h
 
   -- it is one where it has two bytes or more
-  long_by : (b : Bool) (by : Text) → nat_lt 1 (length by) ≡ b → 1 < length by → Passes g from w (λ k. check_separator place by (Do (Split at a (separator by false) text) ∷ k)) w →
+  long_by : (b : Bool) (by : Text) → nat_lt 1 (length by) ≡ b → 1 < length by
+      → Passes g from w (λ k. check_separator place by (Do (Split at a (separator by false) text) ∷ k)) w →
       Passes g from w (λ k. Do (Check place by) ∷ Do (Split at a (ere by false) text) ∷ k) w
   long_by true [] e long h = absurd (omega (arith, long))
   long_by true (c ∷ []) e long h = absurd (omega (arith, long))
   long_by true (c ∷ d ∷ by) e long h = reworded h (λ k. rw e refl)
   long_by false by e long h = absurd (grind (arith, nat_tests))
 
-  pub long_first : (by : Text) → 1 < length by → Passes g from w (λ k. check_separator place by (Do (Split at a (separator by false) text) ∷ k)) w →
+  pub long_first : (by : Text) → 1 < length by
+      → Passes g from w (λ k. check_separator place by (Do (Split at a (separator by false) text) ∷ k)) w →
       Passes g from w (λ k. Do (Check place by) ∷ Do (Split at a (ere by false) text) ∷ k) w
   long_first by long h = long_by (nat_lt 1 (length by)) by refl long h
 
@@ -95,9 +106,12 @@ module _ (g : Given) (w : Whole) (place : Place) (from : Piece) (at : Place) (a 
   short_by true by e short = absurd (grind (arith, nat_tests))
   short_by false by e short = e
 
-  pub short_so : (by : Text) (r : Result Separator Fault) → IfOk r (λ x. x ≡ separator by false) → IfErr r (λ f. (f ≡ fault.Memory) ⊎ ((f ≡ fault.Pattern) × (1 < length by) × IsNoEre by)) → length by ≤ 1 →
-      Passes g from w (λ k. check_separator place by (Do (Split at a (separator by false) text) ∷ k)) w → Splits (result_at place r)
-  short_so by (Ok x) ok err short h = rw ok (done (reworded h (λ k. rw (short_by (nat_lt 1 (length by)) by refl short) refl)))
+  pub short_so : (by : Text) (r : Result Separator Fault) → IfOk r (λ x. x ≡ separator by false)
+      → IfErr r (λ f. (f ≡ fault.Memory) ⊎ ((f ≡ fault.Pattern) × (1 < length by) × IsNoEre by)) → length by ≤ 1 →
+      Passes g from w (λ k. check_separator place by (Do (Split at a (separator by false) text) ∷ k)) w
+      → Splits (result_at place r)
+  short_so by (Ok x) ok err short h =
+      rw ok (done (reworded h (λ k. rw (short_by (nat_lt 1 (length by)) by refl short) refl)))
   short_so by (Err f) ok (inl m) short h = faulted refl (inl m)
   short_so by (Err f) ok (inr (m, long, is)) short h = absurd (omega (arith, long, short))
 
@@ -110,23 +124,30 @@ module _ (place : Place) (how : Extent) (x : p.Ere) (y : Expression) (r : Refere
 
   module _ {g : Given} {from : Piece} {old : Whole} (to : Target) (e : target r at ≡ to) where
     -- the old text is read of what is meant
-    pub reads_old : Passes g from old (reading place how x y r at new pattern) old → Passes g from old (λ k. Do (Get to) ∷ waiting [] k) old
+    pub reads_old : Passes g from old (reading place how x y r at new pattern) old
+        → Passes g from old (λ k. Do (Get to) ∷ waiting [] k) old
     reads_old h = reworded h (λ k. ap (λ t. Do (Get t) ∷ waiting [] k) e)
 
     -- and then the matches in it are replaced
-    pub replaces_in : {mid : Whole} (val : Value) (source text : Text) → text_of pattern ≡ source → text_of val ≡ text → Passes g from old (waiting (val ∷ [])) mid →
+    pub replaces_in : {mid : Whole} (val : Value) (source text : Text) → text_of pattern ≡ source → text_of val ≡ text
+        → Passes g from old (waiting (val ∷ [])) mid →
         Passes g from old (λ k. Do (Substitute place to source (text_of new) text (is_all how)) ∷ k) mid
     replaces_in val source text f is h =
-        reworded {to = λ k. Do (Substitute place (target r at) (text_of pattern) (text_of new) (text_of val) (is_all how)) ∷ k} (moves h (λ k hid d a. refl)) (λ k. rw (e, f, is) refl)
+        reworded {to = λ k. Do (Substitute place (target r at) (text_of pattern) (text_of new) (text_of val)
+        (is_all how)) ∷ k} (moves h (λ k hid d a. refl)) (λ k. rw (e, f, is) refl)
 
     -- a text that is lent
-    pub replaces_lent : (source text : Text) → text_of pattern ≡ source → (val : Value) × (text_of val ≡ text) × Passes g (Do (Get to)) old (give val) old → Passes g from old (reading place how x y r at new pattern) old →
+    pub replaces_lent : (source text : Text) → text_of pattern ≡ source → (val : Value) × (text_of val ≡ text)
+        × Passes g (Do (Get to)) old (give val) old → Passes g from old (reading place how x y r at new pattern) old →
         Passes g from old (λ k. Do (Substitute place to source (text_of new) text (is_all how)) ∷ k) old
-    replaces_lent source text f (val, is, lends) h = replaces_in {mid = old} val source text f is (doing (tt {0}) (reads_old h) (done {on = λ (u : Unit {0}). give val} lends) refl)
+    replaces_lent source text f (val, is, lends) h = replaces_in {mid = old} val source text f is
+        (doing (tt {0}) (reads_old h) (done {on = λ (u : Unit {0}). give val} lends) refl)
 
-module _ {g : Given} {from : Piece} {old mid : Whole} (place : Place) (to : Target) (made : Option (Text × ℤ)) (h : Passes g from old (then_set place to made) mid) where
+module _ {g : Given} {from : Piece} {old mid : Whole} (place : Place) (to : Target) (made : Option (Text × ℤ))
+    (h : Passes g from old (then_set place to made) mid) where
   pub made_none : made ≡ None → Passes g from old (give (v.Num (pos 0))) mid
   made_none e = reworded h (λ k. ap (λ m. then_set place to m k) e)
 
-  pub made_some : (text : Text) (count : ℤ) → made ≡ Some (text, count) → Passes g from old (λ k. Do (Set to place (v.Text text)) ∷ Do (Give (v.Num count)) ∷ k) mid
+  pub made_some : (text : Text) (count : ℤ) → made ≡ Some (text, count)
+      → Passes g from old (λ k. Do (Set to place (v.Text text)) ∷ Do (Give (v.Num count)) ∷ k) mid
   made_some text count e = reworded h (λ k. ap (λ m. then_set place to m k) e)

@@ -25,6 +25,9 @@ module _ (g : Given) (w : Whole) (hid : Hidden) (c : Course) (a : Agreeing g w h
 
   pub printed-so : (vs : List Value) → machine.printed (seen (base g w hid) c) vs ≡ spec.printed w.0 vs
   printed-so vs =
-      ap (λ ofs. limited (joined ofs (machine.items (seen (base g w hid) c) vs) ++ variables.own_text (seen (base g w hid) c) (name_of own.Ors))) (own-text-so g w hid c a own.Ofs)
-      ∙ ap (λ is. limited (joined (kept.own_text w.0 own.Ofs) is ++ variables.own_text (seen (base g w hid) c) (name_of own.Ors))) (items-so vs)
-      ∙ ap (λ ors. limited (joined (kept.own_text w.0 own.Ofs) (spec.items w.0 vs) ++ ors)) (own-text-so g w hid c a own.Ors)
+      ap (λ ofs. limited (joined ofs (machine.items (seen (base g w hid) c) vs) ++ variables.own_text
+      (seen (base g w hid) c) (name_of own.Ors))) (own-text-so g w hid c a own.Ofs)
+      ∙ ap (λ is. limited (joined (kept.own_text w.0 own.Ofs) is ++ variables.own_text (seen (base g w hid) c)
+      (name_of own.Ors))) (items-so vs)
+      ∙ ap (λ ors. limited (joined (kept.own_text w.0 own.Ofs) (spec.items w.0 vs) ++ ors))
+      (own-text-so g w hid c a own.Ors)

@@ -8,7 +8,8 @@ use Rattle.awk_store.proofs.Limited.{limited_ok}
 
 -- what was replaced is what the machine makes of the matches
 pub is_substituted : (source new old : List ℕ) (all : Bool) (m : ℕ × ℕ) (ms : List (ℕ × ℕ)) (text : List ℕ) (count : ℤ)
-    → IsReplaced source new old all (m ∷ ms) text count → length text ≤ most_bytes → substituted new old (m ∷ ms) ≡ Ok (Some (text, count))
+    → IsReplaced source new old all (m ∷ ms) text count → length text ≤ most_bytes → substituted new old (m ∷ ms)
+    ≡ Ok (Some (text, count))
 is_substituted source new old all m ms text count r fits =
     let whole = replaced new old 0 (m ∷ ms) in
     let short : length whole ≤ most_bytes = subst (λ t. length t ≤ most_bytes) r.text_is fits in

@@ -1,5 +1,6 @@
 -- Lists, and what was made.
-use Rattle.std.proofs.Common.{◌≡◌, ◌==◌, false, refl, ap, sym, ◌∙◌, ℕ, zero, suc, ◌≤◌, ◌<◌, drop, List, [], ◌∷◌, length, arith}
+use Rattle.std.proofs.Common.{◌≡◌, ◌==◌, false, refl, ap, sym, ◌∙◌, ℕ, zero, suc, ◌≤◌, ◌<◌, drop, List, [], ◌∷◌, length}
+use Rattle.std.proofs.Common.{arith}
 use Rattle.std.specs.Prelude.{Option, Some, None, IfSome, Result, Ok, Err, IfOk, IfErr, get_or}
 use Rattle.std.specs.Borrow.{Bor}
 use Rattle.std.specs.Option.{option_copied}
@@ -16,17 +17,20 @@ just_one [] x some few is = absurd (omega (arith, some))
 just_one (y ∷ []) x some few is = ap (λ z. z ∷ []) (sym is)
 just_one (y ∷ z ∷ ys) x some few is = absurd (omega (arith, few))
 
-pub just_two : {X : Type 0} (xs : List X) (x y : X) → 2 ≤ length xs → length xs < 3 → x ≡ get_or xs 0 x → y ≡ get_or xs 1 y → xs ≡ x ∷ y ∷ []
+pub just_two : {X : Type 0} (xs : List X) (x y : X) → 2 ≤ length xs → length xs < 3 → x ≡ get_or xs 0 x
+    → y ≡ get_or xs 1 y → xs ≡ x ∷ y ∷ []
 just_two [] x y some few e f = absurd (omega (arith, some))
 just_two (u ∷ []) x y some few e f = absurd (omega (arith, some))
 just_two (u ∷ v ∷ []) x y some few e f = ap (λ z. z ∷ v ∷ []) (sym e) ∙ ap (λ z. x ∷ z ∷ []) (sym f)
 just_two (u ∷ v ∷ w ∷ xs) x y some few e f = absurd (omega (arith, few))
 
-pub just_three : {X : Type 0} (xs : List X) (x y z : X) → 3 ≤ length xs → length xs < 4 → x ≡ get_or xs 0 x → y ≡ get_or xs 1 y → z ≡ get_or xs 2 z → xs ≡ x ∷ y ∷ z ∷ []
+pub just_three : {X : Type 0} (xs : List X) (x y z : X) → 3 ≤ length xs → length xs < 4 → x ≡ get_or xs 0 x
+    → y ≡ get_or xs 1 y → z ≡ get_or xs 2 z → xs ≡ x ∷ y ∷ z ∷ []
 just_three [] x y z some few e f h = absurd (omega (arith, some))
 just_three (u ∷ []) x y z some few e f h = absurd (omega (arith, some))
 just_three (u ∷ v ∷ []) x y z some few e f h = absurd (omega (arith, some))
-just_three (u ∷ v ∷ w ∷ []) x y z some few e f h = ap (λ a. a ∷ v ∷ w ∷ []) (sym e) ∙ ap (λ a. x ∷ a ∷ w ∷ []) (sym f) ∙ ap (λ a. x ∷ y ∷ a ∷ []) (sym h)
+just_three (u ∷ v ∷ w ∷ []) x y z some few e f h = ap (λ a. a ∷ v ∷ w ∷ []) (sym e) ∙ ap (λ a. x ∷ a ∷ w ∷ []) (sym f)
+    ∙ ap (λ a. x ∷ y ∷ a ∷ []) (sym h)
 just_three (u ∷ v ∷ w ∷ k ∷ xs) x y z some few e f h = absurd (omega (arith, few))
 
 pub ok_for : {X E : Type 0} {P Q : X → Type 0} (r : Result X E) → ((x : X) → P x → Q x) → IfOk r P → IfOk r Q
@@ -57,7 +61,8 @@ pub some_told : {V : Type 0} (r : Option (Bor V)) (o : Option V) → option_copi
 some_told None o e = tt
 some_told (Some x) o e = sym e
 
-pub some_both : {X : Type 0} {P Q R : X → Type 0} (r : Option X) → ((x : X) → P x → Q x → R x) → IfSome r P → IfSome r Q → IfSome r R
+pub some_both : {X : Type 0} {P Q R : X → Type 0} (r : Option X) → ((x : X) → P x → Q x → R x) → IfSome r P → IfSome r Q
+    → IfSome r R
 some_both None f p q = tt
 some_both (Some x) f p q = f x p q
 
@@ -70,6 +75,7 @@ pub some_done : {X : Type 0} (xs : List X) (n : ℕ) → length xs ≤ n → fal
 some_done [] n past some = absurd (cc)
 some_done (x ∷ xs) n past some = omega (arith, past)
 
-pub ok_some : {X E : Type 0} {P Q : X → Type 0} (r : Result X E) → ((x : X) → P x → Q x) → IfOk r P → IfSome (result_ok r) Q
+pub ok_some : {X E : Type 0} {P Q : X → Type 0} (r : Result X E) → ((x : X) → P x → Q x) → IfOk r P
+    → IfSome (result_ok r) Q
 ok_some (Ok x) f h = f x h
 ok_some (Err e) f h = tt

@@ -29,8 +29,10 @@ use Rattle.awk_builtins.proofs.Printed.{drop_next, got_at, reverse_onto, there_c
 use Rattle.awk_builtins.proofs.Rests.{listed-of}
 
 -- the expression at a place of a list
-listed_at : (f : Expr → Expression) (all : List Expr) (n : ℕ) (x : Expr) (xs : List Expr) → drop n all ≡ x ∷ xs → slice_get (listed (expressions_of (map f all))) n ≡ Some (f x)
-listed_at f all n x xs e = ap (λ l. slice_get l n) (listed-of (map f all) ∙ sym (nil_right (map f all))) ∙ got_at f [] all n x xs e
+listed_at : (f : Expr → Expression) (all : List Expr) (n : ℕ) (x : Expr) (xs : List Expr) → drop n all ≡ x ∷ xs
+    → slice_get (listed (expressions_of (map f all))) n ≡ Some (f x)
+listed_at f all n x xs e = ap (λ l. slice_get l n) (listed-of (map f all) ∙ sym (nil_right (map f all)))
+    ∙ got_at f [] all n x xs e
 
 module _ (g : Given) (kept : Kept) (t : Table) (place : Place) (of_ : p.Variable) where
   abbrev subscripts : List Expr → Expressions
@@ -39,25 +41,36 @@ module _ (g : Given) (kept : Kept) (t : Table) (place : Place) (of_ : p.Variable
   abbrev keying : List Expr → Part
   keying xs = Target_of (p.element place of_ (subscripts xs))
 
-  subscripts_there : {from : Piece} (all xs : List Expr) (vals vs : List Value) → drop (length vs) all ≡ xs → AreThere kept xs vals →
-      Passes g from (kept, t) (λ k. At (keying all) vs ∷ k) (kept, t) → Passes g from (kept, t) (λ k. At (keying all) (reverse vals ++ vs) ∷ k) (kept, t)
+  subscripts_there : {from : Piece} (all xs : List Expr) (vals vs : List Value) → drop (length vs) all ≡ xs
+      → AreThere kept xs vals →
+      Passes g from (kept, t) (λ k. At (keying all) vs ∷ k) (kept, t)
+      → Passes g from (kept, t) (λ k. At (keying all) (reverse vals ++ vs) ∷ k) (kept, t)
   subscripts_there all [] [] vs e hs from = from
   subscripts_there all [] (u ∷ us) vs e hs from = absurd hs
   subscripts_there all (x ∷ xs) [] vs e hs from = absurd hs
   subscripts_there all (x ∷ xs) (val ∷ vals) vs e hs from =
       reworded (subscripts_there all xs vals (val ∷ vs) (drop_next all (length vs) x xs e) hs.1
-      (on (moves {then_ = λ k. value (view (names_in g) x) ∷ At (keying all) vs ∷ k} from (λ k hid d a. rw (listed_at (view (names_in g)) all (length vs) x xs e) refl)) (hs.0 g t)))
+      (on (moves {then_ = λ k. value (view (names_in g) x) ∷ At (keying all) vs ∷ k} from
+      (λ k hid d a. rw (listed_at (view (names_in g)) all (length vs) x xs e) refl)) (hs.0 g t)))
       (λ k. ap (λ us. At (keying all) us ∷ k) (reverse_onto val vals vs))
 
-  all_at : (xs : List Expr) (vals : List Value) → AreThere kept xs vals → Passes g (spot (p.element place of_ (subscripts xs))) (kept, t) (λ k. At (keying xs) (reverse vals) ∷ k) (kept, t)
-  all_at xs vals hs = reworded (subscripts_there xs xs vals [] refl hs (at_rest (At (keying xs) []) (kept, t))) (λ k. ap (λ us. At (keying xs) us ∷ k) (nil_right (reverse vals)))
+  all_at : (xs : List Expr) (vals : List Value) → AreThere kept xs vals
+      → Passes g (spot (p.element place of_ (subscripts xs))) (kept, t) (λ k. At (keying xs) (reverse vals) ∷ k) (
+        kept,
+        t,
+      )
+  all_at xs vals hs = reworded (subscripts_there xs xs vals [] refl hs (at_rest (At (keying xs) []) (kept, t)))
+      (λ k. ap (λ us. At (keying xs) us ∷ k) (nil_right (reverse vals)))
 
-  pub key_there : (xs : List Expr) (vals : List Value) (key : Text) → AreThere kept xs vals → limited (joined (own_text kept own.Subsep) vals) ≡ Ok key →
+  pub key_there : (xs : List Expr) (vals : List Value) (key : Text) → AreThere kept xs vals
+      → limited (joined (own_text kept own.Subsep) vals) ≡ Ok key →
       Passes g (spot (p.element place of_ (subscripts xs))) (kept, t) (give (v.Text key)) (kept, t)
   key_there xs vals key hs is =
       moves (all_at xs vals hs)
       (λ k hid d a.
       ap (held g (seen (base g (kept, t) hid) d))
-      (all_there (listed (subscripts xs)) (keying xs) (λ us. keyed place us (λ text k s. Goes (give (v.Text text) k) s)) vals k (seen (base g (kept, t) hid) d) (ap length (listed-of (map (view (names_in g)) xs)) ∙ there_count kept (names_in g) xs vals hs)
+      (all_there (listed (subscripts xs)) (keying xs) (λ us. keyed place us (λ text k s. Goes (give (v.Text text) k) s))
+      vals k (seen (base g (kept, t) hid) d) (ap length (listed-of (map (view (names_in g)) xs)) ∙ there_count kept
+      (names_in g) xs vals hs)
       ∙ keyed_so g (kept, t) hid d a place vals (λ text k s. Goes (give (v.Text text) k) s) k
       ∙ ap (λ m. granted place m (λ text k s. Goes (give (v.Text text) k) s) k (seen (base g (kept, t) hid) d)) is))

@@ -1,5 +1,6 @@
 -- Lists from an index on, and lists behind signs.
-use Rattle.std.proofs.Common.{◌≡◌, ◌∙◌, ℕ, ◌+◌, ◌-◌, ◌<◌, ◌≤◌, List, [], ◌∷◌, ◌++◌, arith, suc, zero, length, get_or, drop, take, map, ap, sym, refl, add-one, codes}
+use Rattle.std.proofs.Common.{◌≡◌, ◌∙◌, ℕ, ◌+◌, ◌-◌, ◌<◌, ◌≤◌, List, [], ◌∷◌, ◌++◌, arith, suc, zero, length, get_or}
+use Rattle.std.proofs.Common.{drop, take, map, ap, sym, refl, add-one, codes}
 use Rattle.awk_tree.specs.declared.expressions.Expr.{Expr}
 use Rattle.awk_tree.specs.View.{view}
 use Rattle.awk_tree.specs.Tree as t

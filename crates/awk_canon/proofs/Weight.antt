@@ -1,11 +1,13 @@
 -- What the walks over a tree use up: at each form 8 more than at its parts.
-use Rattle.std.proofs.Common.{◌≡◌, ℕ, ◌+◌, ◌<◌, List, [], ◌∷◌, arith, suc, zero, length, get_or, map, Option, Some, None, option_map}
+use Rattle.std.proofs.Common.{◌≡◌, ℕ, ◌+◌, ◌<◌, List, [], ◌∷◌, arith, suc, zero, length, get_or, map, Option, Some}
+use Rattle.std.proofs.Common.{None, option_map}
 use Rattle.awk_tree.specs.declared.expressions.Expr.{Expr}
 use Rattle.awk_tree.specs.declared.expressions.Term.{Term}
 use Rattle.awk_tree.specs.declared.expressions.Piped.{Piped}
 use Rattle.awk_tree.specs.declared.statements.Statement as code
 use Rattle.awk_tree.specs.Tree as t
-use Rattle.awk_tree.specs.Tree.{Tree, Trees, Perhaps, Terms, Pipes, trees_of, perhaps_of, terms_of, pipes_of, Statement, Statements, statements_of}
+use Rattle.awk_tree.specs.Tree.{Tree, Trees, Perhaps, Terms, Pipes, trees_of, perhaps_of, terms_of, pipes_of, Statement}
+use Rattle.awk_tree.specs.Tree.{Statements, statements_of}
 use Rattle.awk_tree.specs.View.{view, view_term, view_piped, view_statement}
 
 abbrev mutual

@@ -38,4 +38,5 @@ one_side A false true h g = absurd (let x = h.1 (g.0 refl) in cc)
 
 pub one_test : OneTest
 one_test source s b c (p, is, h) (q, again, g) =
-    one_side _ b c h (subst (λ x. IsTrue c ↔ ((i : ℕ) × (j : ℕ) × (j ≤ length s) × Matches s x i j)) (one_pattern source q p again is) g)
+    one_side _ b c h (subst (λ x. IsTrue c ↔ ((i : ℕ) × (j : ℕ) × (j ≤ length s) × Matches s x i j))
+    (one_pattern source q p again is) g)

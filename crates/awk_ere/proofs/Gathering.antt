@@ -1,5 +1,6 @@
 -- How the states of a table are made.
-use Rattle.std.proofs.Common.{◌≡◌, ◌↔◌, ℕ, zero, suc, ◌+◌, ◌<◌, ◌≤◌, inl, inr, Bool, true, false, List, [], ◌∷◌, ◌++◌, length, get_or, map, Some, None, refl, sym, ◌∙◌, ap, subst, append_assoc, arith}
+use Rattle.std.proofs.Common.{◌≡◌, ◌↔◌, ℕ, zero, suc, ◌+◌, ◌<◌, ◌≤◌, inl, inr, Bool, true, false, List, [], ◌∷◌, ◌++◌}
+use Rattle.std.proofs.Common.{length, get_or, map, Some, None, refl, sym, ◌∙◌, ap, subst, append_assoc, arith}
 use Rattle.std.proofs.Math.ListN.{get_or-eq_default, set, length-append}
 use Rattle.std.specs.List.{slice_get, Contains}
 use Rattle.std.proofs.lemmas.Bool.{cases_lt, cases_eq}
@@ -8,7 +9,9 @@ use Rattle.std.proofs.lemmas.List.Elements.{Contains-append_left, Contains-push,
 use Rattle.std.proofs.lemmas.Option.{slice_get_within, none-some}
 use Rattle.awk_ere.specs.Program.{Skips, left, right, at_start, at_end, IsSound}
 use Rattle.awk_ere.specs.Search.{mark, target_of, IsClosed, IsBlank, LeadsTo, Reaches, Takes}
-use Rattle.awk_ere.specs.Table.{steps_of, cell, Gains, LeadsMore, IsLed, AreLed, AreMarked, AreTargets, IsCell, Later, IsNumber, IsKnown, AreEdges, AreRows, AreFlags, EndsAtLast, IsFirst, IsBegin, IsDead, IsTable}
+use Rattle.awk_ere.specs.Table.{steps_of, cell, Gains, LeadsMore, IsLed, AreLed, AreMarked, AreTargets, IsCell, Later}
+use Rattle.awk_ere.specs.Table.{IsNumber, IsKnown, AreEdges, AreRows, AreFlags, EndsAtLast, IsFirst, IsBegin, IsDead}
+use Rattle.awk_ere.specs.Table.{IsTable}
 use Rattle.awk_ere.specs.declared.program.Instruction.{Instruction}
 use Rattle.awk_ere.specs.declared.program.Instruction.TheVariants.{Eat}
 use Rattle.awk_ere.specs.declared.search.TheConstants.{NONE}
@@ -24,10 +27,15 @@ IsGathered P k list = (p : ℕ) → Contains list p ↔ ((i : ℕ) × (i < k) ×
 pub gained_none : (P : ℕ → Type 0) (list : List ℕ) → ((p : ℕ) → P p → ⊥) → Gains P list list
 gained_none P list none = λ p. ((λ h. inl h), λ h. elim h [ inl had ↦ had | inr new ↦ absurd (none p new) ])
 
-pub gained_one : (P : ℕ → Type 0) (list : List ℕ) (x : ℕ) → P x → ((p : ℕ) → P p → p ≡ x) → Gains P list (list ++ x ∷ [])
+pub gained_one : (P : ℕ → Type 0) (list : List ℕ) (x : ℕ) → P x → ((p : ℕ) → P p → p ≡ x)
+    → Gains P list (list ++ x ∷ [])
 gained_one P list x is only = λ p. (
   (λ h. elim (Contains-push_cases list x p h) [ inl had ↦ inl had | inr same ↦ inr (subst P same is) ]),
-  (λ h. elim h [ inl had ↦ Contains-append_left list (x ∷ []) p had | inr new ↦ subst (λ y. Contains (list ++ x ∷ []) y) (sym (only p new)) (Contains-push list x) ]),
+  (λ h. elim h [
+    | inl had ↦ Contains-append_left list (x ∷ []) p had
+    | inr new ↦ subst (λ y. Contains (list ++ x ∷ []) y)
+        (sym (only p new)) (Contains-push list x)
+  ]),
 )
 
 module _ (P : ℕ → ℕ → Type 0) where
@@ -48,12 +56,16 @@ module _ (P : ℕ → ℕ → Type 0) where
 
 -- a step that goes nowhere over the byte adds nothing, and one that goes on adds where it goes
 module _ (sets : List (List Bool)) (program : List Instruction) (b q : ℕ) (x : Instruction) where
-  pub gained_nowhere : (list : List ℕ) → slice_get program q ≡ Some x → target_of sets b x ≡ None → Gains (Takes sets program b q) list list
-  gained_nowhere list at is = gained_none (Takes sets program b q) list (λ r takes. none-some r (sym is ∙ target_takes sets program b q r x at takes))
+  pub gained_nowhere : (list : List ℕ) → slice_get program q ≡ Some x → target_of sets b x ≡ None
+      → Gains (Takes sets program b q) list list
+  gained_nowhere list at is = gained_none (Takes sets program b q) list
+      (λ r takes. none-some r (sym is ∙ target_takes sets program b q r x at takes))
 
-  pub gained_there : (r : ℕ) (old new : List ℕ) → slice_get program q ≡ Some x → target_of sets b x ≡ Some r → new ≡ old ++ r ∷ [] → Gains (Takes sets program b q) old new
+  pub gained_there : (r : ℕ) (old new : List ℕ) → slice_get program q ≡ Some x → target_of sets b x ≡ Some r
+      → new ≡ old ++ r ∷ [] → Gains (Takes sets program b q) old new
   gained_there r old new at is more =
-      subst (λ list. Gains (Takes sets program b q) old list) (sym more) (gained_one (Takes sets program b q) old r (takes_target sets program b q r x at is)
+      subst (λ list. Gains (Takes sets program b q) old list) (sym more) (gained_one (Takes sets program b q) old r
+      (takes_target sets program b q r x at is)
       (λ p takes. let e = sym is ∙ target_takes sets program b q p x at takes in cc))
 
 -- targets
@@ -61,31 +73,51 @@ module _ (sets : List (List Bool)) (program : List Instruction) (b : ℕ) (list 
   abbrev pub Target : ℕ → ℕ → Type 0
   Target i t = (i < length list) × Takes sets program b (get_or list i 0) t
 
-  pub target_gained : (k : ℕ) (old new : List ℕ) → k < length list → Gains (λ t. Takes sets program b (get_or list k 0) t) old new → Gains (Target k) old new
+  pub target_gained : (k : ℕ) (old new : List ℕ) → k < length list
+      → Gains (λ t. Takes sets program b (get_or list k 0) t) old new → Gains (Target k) old new
   target_gained k old new lt gains = λ t. (
     (λ member. elim ((gains t).0 member) [ inl had ↦ inl had | inr is ↦ inr (lt, is) ]),
     (λ one. elim one [ inl had ↦ (gains t).1 (inl had) | inr is ↦ (gains t).1 (inr is.1) ]),
   )
 
-  pub targets_gathered : (k : ℕ) (found : List ℕ) → length list ≤ k → IsGathered Target k found → AreTargets sets program b list found
+  pub targets_gathered : (k : ℕ) (found : List ℕ) → length list ≤ k → IsGathered Target k found
+      → AreTargets sets program b list found
   targets_gathered k found all h = record {
     sound = λ t member. let y = (h t).0 member in (get_or list y.0 0, Contains-get_or list y.0 0 y.2.0, y.2.1);
-    complete = λ x t member takes. (h t).1 (member.0, omega (arith, member.1), (member.1, subst (λ y. Takes sets program b y t) (sym (get_or_default list member.0 0 x member.1 ∙ member.2)) takes));
+    complete = λ x t member takes. (h t).1 (
+      member.0,
+      omega (arith, member.1),
+      (
+        member.1,
+        subst (λ y. Takes sets program b y t) (sym (get_or_default list member.0 0 x member.1 ∙ member.2))
+            takes,
+      ),
+    );
   }
 
 -- marks
-pub marks_gathered : (starts list : List ℕ) (k : ℕ) → length starts ≤ k → IsGathered (λ i p. (p ≡ i) × (mark starts p < NONE)) k list → ((p : ℕ) → mark starts p < NONE → p < length starts) → AreMarked starts list
+pub marks_gathered : (starts list : List ℕ) (k : ℕ) → length starts ≤ k
+    → IsGathered (λ i p. (p ≡ i) × (mark starts p < NONE)) k list → ((p : ℕ) → mark starts p < NONE → p < length starts)
+    → AreMarked starts list
 marks_gathered starts list k all h inside = record {
   sound = λ p member. ((h p).0 member).2.1;
   complete = λ p marked. (h p).1 (p, omega (arith, inside p marked), (refl, marked));
 }
 
 module _ (program : List Instruction) (first last : Bool) where
-  pub leads_all : (from : ℕ) (old new : List ℕ) → Reaches program first last from 0 old new → LeadsMore program first last from old new
+  pub leads_all : (from : ℕ) (old new : List ℕ) → Reaches program first last from 0 old new
+      → LeadsMore program first last from old new
   leads_all from old new h = record { lower = h.lower; there = λ lt. h.there; origin = h.origin; closed = h.closed }
 
-  pub leads_nothing : (from : ℕ) (old : List ℕ) → length program ≤ from → IsClosed program first last old → LeadsMore program first last from old old
-  leads_nothing from old beyond closed = record { lower = λ q. omega arith; there = λ lt. absurd (omega arith); origin = λ q. inl refl; closed = closed }
+  pub leads_nothing : (from : ℕ) (old : List ℕ) → length program ≤ from → IsClosed program first last old
+      → LeadsMore program first last from old old
+  leads_nothing from old beyond closed = record {
+    lower = λ q. omega arith;
+    there = λ lt. absurd (omega arith);
+    origin =
+        λ q. inl refl;
+    closed = closed;
+  }
 
   -- the first k steps of the list are done
   pub record IsLeading (list : List ℕ) (k : ℕ) (starts : List ℕ) : Type 0 where
@@ -101,7 +133,8 @@ module _ (program : List Instruction) (first last : Bool) where
       there = λ i lt. absurd (omega arith);
     }
 
-    pub leading_more : (k : ℕ) (old new : List ℕ) → k < length list → LeadsMore program first last (get_or list k 0) old new → IsLeading list k old → IsLeading list (k + 1) new
+    pub leading_more : (k : ℕ) (old new : List ℕ) → k < length list
+        → LeadsMore program first last (get_or list k 0) old new → IsLeading list k old → IsLeading list (k + 1) new
     leading_more k old new lt more h = record {
       closed = more.closed;
       sound = λ p marked. elim (more.origin p) [
@@ -109,12 +142,14 @@ module _ (program : List Instruction) (first last : Bool) where
         | inr both ↦ (get_or list k 0, Contains-get_or list k 0 lt, both.1)
       ];
       there = λ i before within inside. elim (cases_eq i k) [
-        | inl same ↦ (let e = ap (λ n. mark new (get_or list n 0)) same in let f = ap (λ n. get_or list n 0) same in omega (arith, e, more.there (omega (arith, f, inside))))
+        | inl same ↦ (let e = ap (λ n. mark new (get_or list n 0)) same in let f = ap (λ n. get_or list n 0) same in
+            omega (arith, e, more.there (omega (arith, f, inside))))
         | inr ne ↦ omega (arith, more.lower (get_or list i 0), h.there i (omega arith) within inside)
       ];
     }
 
-    pub leading_ends : (k : ℕ) (starts : List ℕ) → length list ≤ k → IsLeading list k starts → AreLed program first last list starts
+    pub leading_ends : (k : ℕ) (starts : List ℕ) → length list ≤ k → IsLeading list k starts
+        → AreLed program first last list starts
     leading_ends k starts all h = record {
       sound = h.sound;
       complete = λ x p inside member leads.
@@ -124,17 +159,20 @@ module _ (program : List Instruction) (first last : Bool) where
           omega (arith, low, f, closed_path program first last starts leads.0 x p h.closed leads.1);
     }
 
-  pub led_by : (list starts found : List ℕ) → AreLed program first last list starts → AreMarked starts found → IsLed program first last list found
+  pub led_by : (list starts found : List ℕ) → AreLed program first last list starts → AreMarked starts found
+      → IsLed program first last list found
   led_by list starts found h marked = record {
     sound = λ p member. h.sound p (marked.sound p member);
     complete = λ x p inside member leads. marked.complete p (h.complete x p inside member leads);
   }
 
 -- a cell
-pub cell_by : (sets : List (List Bool)) (program : List Instruction) (b : ℕ) (S T U : List ℕ) → IsSound program → AreTargets sets program b S T → IsLed program false false T U → IsCell sets program b S U
+pub cell_by : (sets : List (List Bool)) (program : List Instruction) (b : ℕ) (S T U : List ℕ) → IsSound program
+    → AreTargets sets program b S T → IsLed program false false T U → IsCell sets program b S U
 cell_by sets program b S T U sound targets led = record {
   sound = λ p member. let y = led.sound p member in let z = targets.sound y.0 y.1 in (z.0, y.0, z.1, z.2, y.2);
-  complete = λ x t p member takes leads. led.complete t p (target_below sets program b x t sound takes) (targets.complete x t member takes) leads;
+  complete = λ x t p member takes leads. led.complete t p (target_below sets program b x t sound takes)
+      (targets.complete x t member takes) leads;
 }
 
 pub no_items : (xs : List ℕ) → length xs ≡ 0 → xs ≡ []
@@ -150,8 +188,10 @@ none_led program S none = record {
   nothing : (x : ℕ) → Contains [] x → ⊥
   nothing x member = omega (arith, member.1)
 
-pub cell_known : (sets : List (List Bool)) (program : List Instruction) (b : ℕ) (S U : List ℕ) (lists : List (List ℕ)) (n : ℕ) → IsCell sets program b S U → IsNumber U lists n → IsKnown sets program b S lists n
-cell_known sets program b S U lists n is h = λ small. let y = h small in (y.0, subst (λ x. IsCell sets program b S x) (sym y.1) is)
+pub cell_known : (sets : List (List Bool)) (program : List Instruction) (b : ℕ) (S U : List ℕ) (lists : List (List ℕ))
+    (n : ℕ) → IsCell sets program b S U → IsNumber U lists n → IsKnown sets program b S lists n
+cell_known sets program b S U lists n is h = λ small. let y = h small in
+    (y.0, subst (λ x. IsCell sets program b S x) (sym y.1) is)
 
 -- numbers
 pub later_self : (lists : List (List ℕ)) → Later lists lists
@@ -193,17 +233,23 @@ module _ {V : Type 0} (f : V → List ℕ) where
     length_more [] = omega arith
     length_more (z ∷ zs) = let e = length_more zs in omega arith
 
-  pub number_old : (xs : List V) (list : List ℕ) (n : ℕ) → n < length xs → steps_of (map f xs) n ≡ list → IsNumber list (map f xs) n
+  pub number_old : (xs : List V) (list : List ℕ) (n : ℕ) → n < length xs → steps_of (map f xs) n ≡ list
+      → IsNumber list (map f xs) n
   number_old xs list n lt is = λ small. (let a = map_length xs in omega arith, is)
 
 pub number_none : (list : List ℕ) (lists : List (List ℕ)) → IsNumber list lists UNKNOWN
 number_none list lists = λ small. absurd (omega arith)
 
 pub marked_inside : (starts : List ℕ) (p : ℕ) → mark starts p < NONE → p < length starts
-marked_inside starts p marked = elim (cases_lt p (length starts)) [ inl lt ↦ lt | inr ge ↦ absurd (omega (arith, get_or-eq_default starts NONE ge)) ]
+marked_inside starts p marked = elim (cases_lt p (length starts)) [
+  | inl lt ↦ lt
+  | inr ge ↦ absurd
+      (omega (arith, get_or-eq_default starts NONE ge))
+]
 
 -- states keep their numbers
-pub later_steps : (lists all : List (List ℕ)) (q : ℕ) → q < length lists → Later lists all → steps_of all q ≡ steps_of lists q
+pub later_steps : (lists all : List (List ℕ)) (q : ℕ) → q < length lists → Later lists all
+    → steps_of all q ≡ steps_of lists q
 later_steps lists all q lt (more, is) = ap (λ x. steps_of x q) is ∙ front lists more q lt where
   front : (xs ys : List (List ℕ)) (q : ℕ) → q < length xs → steps_of (xs ++ ys) q ≡ steps_of xs q
   front [] ys q lt = absurd (omega arith)
@@ -217,8 +263,13 @@ module _ (sets : List (List Bool)) (program : List Instruction) where
   abbrev pub known_rows : List ℕ → List (List ℕ) → List ℕ → Type 0
   known_rows S lists row = (b : ℕ) → b < 256 → IsKnown sets program b S lists (get_or row b 0)
 
-  pub known_later : (b n : ℕ) (S : List ℕ) (lists all : List (List ℕ)) → Later lists all → IsKnown sets program b S lists n → IsKnown sets program b S all n
-  known_later b n S lists all later h = λ small. let y = h small in (omega (arith, y.0, later_length lists all later), subst (λ x. IsCell sets program b S x) (sym (later_steps lists all n y.0 later)) y.1)
+  pub known_later : (b n : ℕ) (S : List ℕ) (lists all : List (List ℕ)) → Later lists all
+      → IsKnown sets program b S lists n → IsKnown sets program b S all n
+  known_later b n S lists all later h = λ small. let y = h small in (
+    omega (arith, y.0, later_length lists all later),
+    subst (λ x. IsCell sets program b S x)
+        (sym (later_steps lists all n y.0 later)) y.1,
+  )
 
   -- the row so far, and the state after the byte before
   pub record IsRow (S : List ℕ) (lists : List (List ℕ)) (before k : ℕ) (row : List ℕ) : Type 0 where
@@ -228,53 +279,72 @@ module _ (sets : List (List Bool)) (program : List Instruction) where
   pub row_begins : (S : List ℕ) (lists : List (List ℕ)) (before : ℕ) (row : List ℕ) → IsRow S lists before 0 row
   row_begins S lists before row = record { known = λ b lt. absurd (omega arith); last = λ b is. absurd (omega arith) }
 
-  pub row_more : (S : List ℕ) (lists all : List (List ℕ)) (before new k : ℕ) (row : List ℕ) → k < length row → Later lists all → IsKnown sets program k S all new → IsRow S lists before k row → IsRow S all new (k + 1) (set row k new)
+  pub row_more : (S : List ℕ) (lists all : List (List ℕ)) (before new k : ℕ) (row : List ℕ) → k < length row
+      → Later lists all → IsKnown sets program k S all new → IsRow S lists before k row
+      → IsRow S all new (k + 1) (set row k new)
   row_more S lists all before new k row lt later is h = record {
     known = λ b less. elim (cases_eq b k) [
-      | inl same ↦ subst (λ x. IsKnown sets program x S all (get_or (set row k new) x 0)) (sym same) (subst (λ x. IsKnown sets program k S all x) (sym (get_or-set_same row k new 0 lt)) is)
-      | inr ne ↦ subst (λ x. IsKnown sets program b S all x) (sym (get_or-set_other row k b new 0 ne)) (known_later b (get_or row b 0) S lists all later (h.known b (omega arith)))
+      | inl same ↦ subst (λ x. IsKnown sets program x S all (get_or (set row k new) x 0)) (sym same)
+          (subst (λ x. IsKnown sets program k S all x) (sym (get_or-set_same row k new 0 lt)) is)
+      | inr ne ↦ subst (λ x. IsKnown sets program b S all x) (sym (get_or-set_other row k b new 0 ne))
+          (known_later b (get_or row b 0) S lists all later (h.known b (omega arith)))
     ];
     last = λ b same. (let e : k ≡ b = omega arith in subst (λ x. IsKnown sets program x S all new) e is);
   }
 
-  cell_same : (b c : ℕ) (S T : List ℕ) → ((q r : ℕ) → Takes sets program c q r ↔ Takes sets program b q r) → IsCell sets program b S T → IsCell sets program c S T
+  cell_same : (b c : ℕ) (S T : List ℕ) → ((q r : ℕ) → Takes sets program c q r ↔ Takes sets program b q r)
+      → IsCell sets program b S T → IsCell sets program c S T
   cell_same b c S T same h = record {
     sound = λ p member. let y = h.sound p member in (y.0, y.1, y.2, (same y.0 y.1).1 y.3, y.4);
     complete = λ x t p member takes leads. h.complete x t p member ((same x t).0 takes) leads;
   }
 
-  pub row_same : (edges : List Bool) (S : List ℕ) (lists : List (List ℕ)) (before k : ℕ) (row : List ℕ) → AreEdges sets program edges → k < 256 → get_or edges k false ≡ false → IsRow S lists before k row → IsKnown sets program k S lists before
+  pub row_same : (edges : List Bool) (S : List ℕ) (lists : List (List ℕ)) (before k : ℕ) (row : List ℕ)
+      → AreEdges sets program edges → k < 256 → get_or edges k false ≡ false → IsRow S lists before k row
+      → IsKnown sets program k S lists before
   row_same edges S lists before zero row are lt off h = absurd (let e = are.0 in cc)
   row_same edges S lists before (suc k) row are lt off h = λ small.
       let y = h.last k (omega arith) small in
       let e : suc k ≡ k + 1 = omega arith in
-      let f : get_or edges (k + 1) false ≡ false = subst (λ x. get_or edges x false ≡ false) e off in
-      (y.0, subst (λ x. IsCell sets program x S (steps_of lists before)) (sym e) (cell_same k (k + 1) S (steps_of lists before) (λ q r. are.1 k q r (omega arith) f) y.1))
+      let f : get_or edges (k + 1) false ≡ false = subst (λ x. get_or edges x false ≡ false) e off in (
+        y.0,
+        subst (λ x. IsCell sets program x S (steps_of lists before)) (sym e)
+            (cell_same k (k + 1) S (steps_of lists before) (λ q r. are.1 k q r (omega arith) f) y.1),
+      )
 
   -- rows
-  pub cell_front : (cells : List (List ℕ)) (row : List ℕ) (q b : ℕ) → q < length cells → cell (cells ++ row ∷ []) q b ≡ cell cells q b
+  pub cell_front : (cells : List (List ℕ)) (row : List ℕ) (q b : ℕ) → q < length cells → cell (cells ++ row ∷ []) q b
+      ≡ cell cells q b
   cell_front [] row q b lt = absurd (omega arith)
   cell_front (x ∷ xs) row zero b lt = refl
   cell_front (x ∷ xs) row (suc q) b lt = cell_front xs row q b (omega arith)
 
-  pub cell_last : (cells : List (List ℕ)) (row : List ℕ) (b : ℕ) → cell (cells ++ row ∷ []) (length cells) b ≡ get_or row b 0
+  pub cell_last : (cells : List (List ℕ)) (row : List ℕ) (b : ℕ) → cell (cells ++ row ∷ []) (length cells) b
+      ≡ get_or row b 0
   cell_last [] row b = refl
   cell_last (x ∷ xs) row b = cell_last xs row b
 
-  pub rows_later : (lists all cells : List (List ℕ)) → length cells ≤ length lists → Later lists all → AreRows sets program lists cells → AreRows sets program all cells
+  pub rows_later : (lists all cells : List (List ℕ)) → length cells ≤ length lists → Later lists all
+      → AreRows sets program lists cells → AreRows sets program all cells
   rows_later lists all cells inside later h = λ q b lt small.
-      subst (λ x. IsKnown sets program b x all (cell cells q b)) (sym (later_steps lists all q (omega arith) later)) (known_later b (cell cells q b) (steps_of lists q) lists all later (h q b lt small))
+      subst (λ x. IsKnown sets program b x all (cell cells q b)) (sym (later_steps lists all q (omega arith) later))
+      (known_later b (cell cells q b) (steps_of lists q) lists all later (h q b lt small))
 
-  pub rows_more : (lists all cells new : List (List ℕ)) (row list : List ℕ) → new ≡ cells ++ row ∷ [] → length cells < length lists → Later lists all → list ≡ steps_of lists (length cells)
-      → ((b : ℕ) → b < 256 → IsKnown sets program b list all (get_or row b 0)) → AreRows sets program lists cells → AreRows sets program all new
-  rows_more lists all cells new row list is inside later same known h = subst (λ x. AreRows sets program all x) (sym is) (λ q b lt small. elim (cases_lt q (length cells)) [
-    | inl less ↦ subst (λ x. IsKnown sets program b (steps_of all q) all x) (sym (cell_front cells row q b less)) (rows_later lists all cells (omega arith) later h q b less small)
-    | inr ge ↦
-        let e : q ≡ length cells = omega (arith, lt, length-append {A = List ℕ}) in
-        subst (λ x. IsKnown sets program b (steps_of all x) all (cell (cells ++ row ∷ []) x b)) (sym e)
-        (subst (λ x. IsKnown sets program b (steps_of all (length cells)) all x) (sym (cell_last cells row b))
-        (subst (λ x. IsKnown sets program b x all (get_or row b 0)) (same ∙ sym (later_steps lists all (length cells) inside later)) (known b small)))
-  ])
+  pub rows_more : (lists all cells new : List (List ℕ)) (row list : List ℕ) → new ≡ cells ++ row ∷ []
+      → length cells < length lists → Later lists all → list ≡ steps_of lists (length cells)
+      → ((b : ℕ) → b < 256 → IsKnown sets program b list all (get_or row b 0)) → AreRows sets program lists cells
+      → AreRows sets program all new
+  rows_more lists all cells new row list is inside later same known h = subst (λ x. AreRows sets program all x) (sym is)
+      (λ q b lt small. elim (cases_lt q (length cells)) [
+        | inl less ↦ subst (λ x. IsKnown sets program b (steps_of all q) all x) (sym (cell_front cells row q b less))
+            (rows_later lists all cells (omega arith) later h q b less small)
+        | inr ge ↦
+            let e : q ≡ length cells = omega (arith, lt, length-append {A = List ℕ}) in
+            subst (λ x. IsKnown sets program b (steps_of all x) all (cell (cells ++ row ∷ []) x b)) (sym e)
+            (subst (λ x. IsKnown sets program b (steps_of all (length cells)) all x) (sym (cell_last cells row b))
+            (subst (λ x. IsKnown sets program b x all (get_or row b 0))
+            (same ∙ sym (later_steps lists all (length cells) inside later)) (known b small)))
+      ])
 
   pub rows_begin : (lists : List (List ℕ)) → AreRows sets program lists []
   rows_begin lists = λ q b lt. absurd (omega arith)
@@ -283,7 +353,8 @@ module _ (sets : List (List Bool)) (program : List Instruction) where
 pub flags_begin : (P : ℕ → Type 0) → AreFlags P 0 []
 flags_begin P = record { len = refl; each = λ q lt. absurd (omega arith) }
 
-pub flags_push : (P : ℕ → Type 0) (k : ℕ) (flags new : List Bool) (b : Bool) → new ≡ flags ++ b ∷ [] → (b ≡ true) ↔ P k → AreFlags P k flags → AreFlags P (k + 1) new
+pub flags_push : (P : ℕ → Type 0) (k : ℕ) (flags new : List Bool) (b : Bool) → new ≡ flags ++ b ∷ [] → (b ≡ true) ↔ P k
+    → AreFlags P k flags → AreFlags P (k + 1) new
 flags_push P k flags new b is one h = subst (λ x. AreFlags P (k + 1) x) (sym is) (record {
   len = omega (arith, h.len, length-append {A = Bool});
   each = λ q lt. elim (cases_lt q k) [
@@ -291,7 +362,8 @@ flags_push P k flags new b is one h = subst (λ x. AreFlags P (k + 1) x) (sym is
     | inr ge ↦
         let e : length flags ≡ q = omega (arith, h.len) in
         let f : k ≡ q = omega arith in
-        subst (λ x. (get_or (flags ++ b ∷ []) x false ≡ true) ↔ P q) e (subst (λ x. (x ≡ true) ↔ P q) (sym (flag_last flags b)) (subst (λ x. (b ≡ true) ↔ P x) f one))
+        subst (λ x. (get_or (flags ++ b ∷ []) x false ≡ true) ↔ P q) e
+        (subst (λ x. (x ≡ true) ↔ P q) (sym (flag_last flags b)) (subst (λ x. (b ≡ true) ↔ P x) f one))
   ];
 }) where
   flag_front : (xs : List Bool) (b : Bool) (q : ℕ) → q < length xs → get_or (xs ++ b ∷ []) q false ≡ get_or xs q false
@@ -304,7 +376,8 @@ flags_push P k flags new b is one h = subst (λ x. AreFlags P (k + 1) x) (sym is
   flag_last (x ∷ xs) b = flag_last xs b
 
 -- what leads to the end is in the program
-leads_inside : (program : List Instruction) (first last : Bool) (x : ℕ) → 0 < length program → LeadsTo program first last x 0 → x < length program
+leads_inside : (program : List Instruction) (first last : Bool) (x : ℕ) → 0 < length program
+    → LeadsTo program first last x 0 → x < length program
 leads_inside program first last x some (zero, is) = omega arith
 leads_inside program first last x some (suc n, (p, skip, path)) = by_skip skip where
   by_skip : Skips program first last x p → x < length program
@@ -313,29 +386,40 @@ leads_inside program first last x some (suc n, (p, skip, path)) = by_skip skip w
   by_skip (at_start h f) = slice_get_within program _ _ h
   by_skip (at_end h f) = slice_get_within program _ _ h
 
-pub ends_by : (program : List Instruction) (list steps : List ℕ) (b : Bool) → 0 < length program → IsLed program false true list steps → (b ≡ true) ↔ Contains steps 0 → (b ≡ true) ↔ EndsAtLast program list
+pub ends_by : (program : List Instruction) (list steps : List ℕ) (b : Bool) → 0 < length program
+    → IsLed program false true list steps → (b ≡ true) ↔ Contains steps 0 → (b ≡ true) ↔ EndsAtLast program list
 ends_by program list steps b some led is = (
   (λ t. led.sound 0 (is.0 t)),
   (λ h. is.1 (led.complete h.0 0 (leads_inside program false true h.0 some h.2) h.1 h.2)),
 )
 
-pub first_known : (program : List Instruction) (first : Bool) (entry : ℕ) (U : List ℕ) (lists : List (List ℕ)) (n : ℕ) → IsLed program first false (entry ∷ []) U → IsNumber U lists n → IsFirst program first entry lists n
-first_known program first entry U lists n led h = λ small. let y = h small in (y.0, subst (λ x. IsLed program first false (entry ∷ []) x) (sym y.1) led)
+pub first_known : (program : List Instruction) (first : Bool) (entry : ℕ) (U : List ℕ) (lists : List (List ℕ)) (n : ℕ)
+    → IsLed program first false (entry ∷ []) U → IsNumber U lists n → IsFirst program first entry lists n
+first_known program first entry U lists n led h = λ small. let y = h small in
+    (y.0, subst (λ x. IsLed program first false (entry ∷ []) x) (sym y.1) led)
 
-pub first_later : (program : List Instruction) (first : Bool) (entry n : ℕ) (lists all : List (List ℕ)) → Later lists all → IsFirst program first entry lists n → IsFirst program first entry all n
-first_later program first entry n lists all later h = λ small. let y = h small in (omega (arith, y.0, later_length lists all later), subst (λ x. IsLed program first false (entry ∷ []) x) (sym (later_steps lists all n y.0 later)) y.1)
+pub first_later : (program : List Instruction) (first : Bool) (entry n : ℕ) (lists all : List (List ℕ))
+    → Later lists all → IsFirst program first entry lists n → IsFirst program first entry all n
+first_later program first entry n lists all later h = λ small. let y = h small in (
+  omega (arith, y.0, later_length lists all later),
+  subst (λ x. IsLed program first false (entry ∷ []) x)
+      (sym (later_steps lists all n y.0 later)) y.1,
+)
 
 -- edges: the first k steps are done
 pub record AreEdgesOf (sets : List (List Bool)) (program : List Instruction) (k : ℕ) (edges : List Bool) : Type 0 where
   pub first : get_or edges 0 false ≡ true
-  pub each : (i : ℕ) (x : Instruction) (b : ℕ) → i < k → slice_get program i ≡ Some x → b + 1 < 256 → get_or edges (b + 1) false ≡ false → target_of sets (b + 1) x ≡ target_of sets b x
+  pub each : (i : ℕ) (x : Instruction) (b : ℕ) → i < k → slice_get program i ≡ Some x → b + 1 < 256
+      → get_or edges (b + 1) false ≡ false → target_of sets (b + 1) x ≡ target_of sets b x
 
 module _ (sets : List (List Bool)) (program : List Instruction) where
   pub edges_begin : (edges : List Bool) → get_or edges 0 false ≡ true → AreEdgesOf sets program 0 edges
   edges_begin edges first = record { first = first; each = λ i x b lt. absurd (omega arith) }
 
-  pub edges_more : (k : ℕ) (x : Instruction) (old new : List Bool) → slice_get program k ≡ Some x → ((b : ℕ) → get_or new b false ≡ false → get_or old b false ≡ false)
-      → ((b : ℕ) → b + 1 < 256 → get_or new (b + 1) false ≡ false → target_of sets (b + 1) x ≡ target_of sets b x) → AreEdgesOf sets program k old → AreEdgesOf sets program (k + 1) new
+  pub edges_more : (k : ℕ) (x : Instruction) (old new : List Bool) → slice_get program k ≡ Some x
+      → ((b : ℕ) → get_or new b false ≡ false → get_or old b false ≡ false)
+      → ((b : ℕ) → b + 1 < 256 → get_or new (b + 1) false ≡ false → target_of sets (b + 1) x ≡ target_of sets b x)
+      → AreEdgesOf sets program k old → AreEdgesOf sets program (k + 1) new
   edges_more k x old new at kept edge h = record {
     first = still (get_or new 0 false) refl;
     each = λ i y b lt is inside off. elim (cases_eq i k) [
@@ -350,25 +434,42 @@ module _ (sets : List (List Bool)) (program : List Instruction) where
     still true e = refl
     still false e = absurd (let f = kept 0 e in let g = h.first in cc)
 
-  pub edges_end : (k : ℕ) (edges : List Bool) → length program ≤ k → AreEdgesOf sets program k edges → AreEdges sets program edges
+  pub edges_end : (k : ℕ) (edges : List Bool) → length program ≤ k → AreEdgesOf sets program k edges
+      → AreEdges sets program edges
   edges_end k edges all h = (
     h.first,
     λ b q r inside off. (
-      (λ takes. takes_target sets program b q r (Eat takes.class r) takes.step (sym (same b q r inside off (Eat takes.class r) takes.step) ∙ target_takes sets program (b + 1) q r (Eat takes.class r) takes.step takes)),
-      (λ takes. takes_target sets program (b + 1) q r (Eat takes.class r) takes.step (same b q r inside off (Eat takes.class r) takes.step ∙ target_takes sets program b q r (Eat takes.class r) takes.step takes)),
+      (λ takes. takes_target sets program b q r (Eat takes.class r) takes.step
+          (sym (same b q r inside off (Eat takes.class r) takes.step) ∙ target_takes sets program (b + 1) q r
+          (Eat takes.class r) takes.step takes)),
+      (λ takes. takes_target sets program (b + 1) q r (Eat takes.class r) takes.step
+          (same b q r inside off (Eat takes.class r) takes.step ∙ target_takes sets program b q r (Eat takes.class r)
+          takes.step takes)),
     ),
   ) where
-    same : (b q r : ℕ) → b + 1 < 256 → get_or edges (b + 1) false ≡ false → (x : Instruction) → slice_get program q ≡ Some x → target_of sets (b + 1) x ≡ target_of sets b x
+    same : (b q r : ℕ) → b + 1 < 256 → get_or edges (b + 1) false ≡ false → (x : Instruction)
+        → slice_get program q ≡ Some x → target_of sets (b + 1) x ≡ target_of sets b x
     same b q r inside off x at = h.each q x b (let lt = slice_get_within program q x at in omega arith) at inside off
 
 pub dead_later : (lists all : List (List ℕ)) → Later lists all → IsDead lists → IsDead all
-dead_later lists all later h = (omega (arith, h.0, later_length lists all later), later_steps lists all 0 h.0 later ∙ h.1)
+dead_later lists all later h = (
+  omega (arith, h.0, later_length lists all later),
+  later_steps lists all 0 h.0 later
+      ∙ h.1,
+)
 
-pub begin_later : (program : List Instruction) (entry : ℕ) (lists all : List (List ℕ)) (r : Begin) → Later lists all → IsBegin program entry lists r → IsBegin program entry all r
-begin_later program entry lists all r later h = (first_later program true entry r.first lists all later h.0, first_later program false entry r.later lists all later h.1)
+pub begin_later : (program : List Instruction) (entry : ℕ) (lists all : List (List ℕ)) (r : Begin) → Later lists all
+    → IsBegin program entry lists r → IsBegin program entry all r
+begin_later program entry lists all r later h = (
+  first_later program true entry r.first lists all later h.0,
+  first_later program false entry r.later lists all later h.1,
+)
 
-pub is_table : (sets : List (List Bool)) (program : List Instruction) (lists cells : List (List ℕ)) (n : ℕ) (accepts ends : List Bool) → n ≡ length cells → length cells ≤ UNKNOWN → IsDead lists → AreRows sets program lists cells
-    → AreFlags (λ q. Contains (steps_of lists q) 0) n accepts → AreFlags (λ q. EndsAtLast program (steps_of lists q)) n ends → IsTable sets program lists cells accepts ends
+pub is_table : (sets : List (List Bool)) (program : List Instruction) (lists cells : List (List ℕ)) (n : ℕ)
+    (accepts ends : List Bool) → n ≡ length cells → length cells ≤ UNKNOWN → IsDead lists
+    → AreRows sets program lists cells
+    → AreFlags (λ q. Contains (steps_of lists q) 0) n accepts
+    → AreFlags (λ q. EndsAtLast program (steps_of lists q)) n ends → IsTable sets program lists cells accepts ends
 is_table sets program lists cells n accepts ends is few dead rows accept end = record {
   right = λ q b lt small known. (rows q b lt small (omega arith)).1;
   few = few;

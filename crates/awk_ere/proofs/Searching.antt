@@ -1,5 +1,6 @@
 -- What the marks say of the program's runs.
-use Rattle.std.proofs.Common.{◌≡◌, ◌==◌, ℕ, zero, suc, ◌+◌, ◌<◌, ◌≤◌, inl, inr, Bool, true, false, List, [], ◌∷◌, length, Option, Some, None, refl, sym, ◌∙◌, ap, subst, arith, slice_index, is_some}
+use Rattle.std.proofs.Common.{◌≡◌, ◌==◌, ℕ, zero, suc, ◌+◌, ◌<◌, ◌≤◌, inl, inr, Bool, true, false, List, [], ◌∷◌}
+use Rattle.std.proofs.Common.{length, Option, Some, None, refl, sym, ◌∙◌, ap, subst, arith, slice_index, is_some}
 use Rattle.std.specs.List.{slice_get}
 use Rattle.std.proofs.lemmas.Bool.{cases_lt}
 use Rattle.std.proofs.Math.ListN.{replicate}
@@ -9,14 +10,17 @@ use Rattle.awk_ere.specs.Best.{Best}
 use Rattle.awk_ere.specs.Program.{Compiles, IsReady}
 use Rattle.awk_ere.specs.Search.{IsMachine}
 use Rattle.awk_ere.proofs.Programs.{skips_done}
-use Rattle.awk_ere.specs.Search.{mark, IsBlank, IsClosed, LeadsTo, Reaches, Takes, Advances, Goes, Marks, IsBestOf, BestOf, limit_of, cap_of, Finds}
+use Rattle.awk_ere.specs.Search.{mark, IsBlank, IsClosed, LeadsTo, Reaches, Takes, Advances, Goes, Marks, IsBestOf}
+use Rattle.awk_ere.specs.Search.{BestOf, limit_of, cap_of, Finds}
 use Rattle.awk_ere.specs.declared.program.Instruction.{Instruction}
 use Rattle.awk_ere.specs.declared.program.Instruction.TheVariants.{Done}
 use Rattle.awk_ere.specs.declared.search.TheConstants.{NONE}
 
-pub closed_path : (program : List Instruction) (first last : Bool) (starts : List ℕ) (n q r : ℕ) → IsClosed program first last starts → SkipPath program first last n q r → mark starts r ≤ mark starts q
+pub closed_path : (program : List Instruction) (first last : Bool) (starts : List ℕ) (n q r : ℕ)
+    → IsClosed program first last starts → SkipPath program first last n q r → mark starts r ≤ mark starts q
 closed_path program first last starts zero q r closed is = let e = ap (λ x. mark starts x) is in omega arith
-closed_path program first last starts (suc n) q r closed (p, skip, path) = omega (arith, closed q p skip, closed_path program first last starts n p r closed path)
+closed_path program first last starts (suc n) q r closed (p, skip, path) =
+    omega (arith, closed q p skip, closed_path program first last starts n p r closed path)
 
 module _ (sets : List (List Bool)) (program : List Instruction) (s : List ℕ) where
   pub path_le : (n q i r j : ℕ) → Path sets program s n q i r j → i ≤ j
@@ -36,11 +40,14 @@ module _ (sets : List (List Bool)) (program : List Instruction) (s : List ℕ) w
   stays zero q r k is = (is, refl)
   stays (suc n) q r k (p, skip, path) = (p, k, inl (skip, refl), stays n p r k path)
 
-  pub one_more : (q i p k r j : ℕ) → Moves sets program s q i p k → Goes sets program s p k r j → Goes sets program s q i r j
+  pub one_more : (q i p k r j : ℕ) → Moves sets program s q i p k → Goes sets program s p k r j
+      → Goes sets program s q i r j
   one_more q i p k r j move (n, path) = (suc n, (p, k, move, path))
 
-  pub joined : (n q i p k r j : ℕ) → Path sets program s n q i p k → Goes sets program s p k r j → Goes sets program s q i r j
-  joined zero q i p k r j (is, same) goes = subst (λ x. Goes sets program s x i r j) (sym is) (subst (λ x. Goes sets program s p x r j) (sym same) goes)
+  pub joined : (n q i p k r j : ℕ) → Path sets program s n q i p k → Goes sets program s p k r j
+      → Goes sets program s q i r j
+  joined zero q i p k r j (is, same) goes = subst (λ x. Goes sets program s x i r j) (sym is)
+      (subst (λ x. Goes sets program s p x r j) (sym same) goes)
   joined (suc n) q i p k r j (x, l, move, path) goes = one_more q i x l r j move (joined n x l p k r j path goes)
 
   -- where a path goes over the byte at k, and on without reading
@@ -55,11 +62,23 @@ module _ (sets : List (List Bool)) (program : List Instruction) (s : List ℕ) w
   crossing zero q i k r j le e (is, same) = absurd (omega arith)
   crossing (suc n) q i k r j le e (p, l, inl (skip, same), path) =
       let c = crossing n p l k r j (omega arith) e path in
-      record { from = c.from; to = c.to; lead = one_more q i p l c.from k (inl (skip, same)) c.lead; eats = c.eats; tail = c.tail }
+      record {
+        from = c.from;
+        to = c.to;
+        lead = one_more q i p l c.from k (inl (skip, same)) c.lead;
+        eats = c.eats;
+        tail = c.tail;
+      }
   crossing (suc n) q i k r j le e (p, l, inr (eats, same), path) = elim (cases_lt i k) [
     | inl lt ↦
         let c = crossing n p l k r j (omega arith) e path in
-        record { from = c.from; to = c.to; lead = one_more q i p l c.from k (inr (eats, same)) c.lead; eats = c.eats; tail = c.tail }
+        record {
+          from = c.from;
+          to = c.to;
+          lead = one_more q i p l c.from k (inr (eats, same)) c.lead;
+          eats = c.eats;
+          tail = c.tail;
+        }
     | inr ge ↦
         let is : i ≡ k = omega arith in
         let there : l ≡ j = omega arith in
@@ -73,7 +92,8 @@ module _ (sets : List (List Bool)) (program : List Instruction) (s : List ℕ) w
   ]
 
   -- where a path passes the place k
-  pub through : (n q i k r j : ℕ) → i ≤ k → k ≤ j → Path sets program s n q i r j → (p : ℕ) × Goes sets program s q i p k
+  pub through : (n q i k r j : ℕ) → i ≤ k → k ≤ j → Path sets program s n q i r j → (p : ℕ)
+      × Goes sets program s q i p k
   through zero q i k r j le ge (is, same) = (q, (0, (refl, omega arith)))
   through (suc n) q i k r j le ge (p, l, move, path) = elim (cases_lt k l) [
     | inl lt ↦ elim move [
@@ -84,15 +104,28 @@ module _ (sets : List (List Bool)) (program : List Instruction) (s : List ℕ) w
   ]
 
   module _ (e from : ℕ) where
-    pub marks_narrow : (limit less place : ℕ) (starts : List ℕ) → less ≤ limit → Marks sets program s e from limit place starts → Marks sets program s e from less place starts
-    marks_narrow limit less place starts le h = record { sound = h.sound; cover = λ i q after lt goes. h.cover i q after (omega arith) goes; closed = h.closed }
+    pub marks_narrow : (limit less place : ℕ) (starts : List ℕ) → less ≤ limit
+        → Marks sets program s e from limit place starts → Marks sets program s e from less place starts
+    marks_narrow limit less place starts le h = record {
+      sound = h.sound;
+      cover = λ i q after lt goes. h.cover i q after
+          (omega arith) goes;
+      closed = h.closed;
+    }
 
     -- a start at the place itself
-    pub marks_start : (place : ℕ) (old new : List ℕ) → from ≤ place → Marks sets program s e from place place old → Reaches program (place == 0) (place == length s) e place old new → Marks sets program s e from (place + 1) place new
+    pub marks_start : (place : ℕ) (old new : List ℕ) → from ≤ place → Marks sets program s e from place place old
+        → Reaches program (place == 0) (place == length s) e place old new
+        → Marks sets program s e from (place + 1) place new
     marks_start place old new after h reaches = record {
       sound = λ q lt. elim (reaches.origin q) [
-        | inl same ↦ subst (λ x. (from ≤ x) × (x ≤ place) × Goes sets program s e x q place) (sym same) (h.sound q (omega (arith, same)))
-        | inr both ↦ subst (λ x. (from ≤ x) × (x ≤ place) × Goes sets program s e x q place) (sym both.0) (after, omega arith, (both.1.0, stays both.1.0 e q place both.1.1))
+        | inl same ↦ subst (λ x. (from ≤ x) × (x ≤ place) × Goes sets program s e x q place) (sym same)
+            (h.sound q (omega (arith, same)))
+        | inr both ↦ subst (λ x. (from ≤ x) × (x ≤ place) × Goes sets program s e x q place) (sym both.0) (
+          after,
+          omega arith,
+          (both.1.0, stays both.1.0 e q place both.1.1),
+        )
       ];
       cover = λ i q before lt goes. elim (cases_lt i place) [
         | inl less ↦ omega (arith, reaches.lower q, h.cover i q before less goes)
@@ -105,28 +138,53 @@ module _ (sets : List (List Bool)) (program : List Instruction) (s : List ℕ) w
     }
 
     -- over the byte at the place
-    pub marks_advance : (cap place : ℕ) (starts new : List ℕ) → cap ≤ place → place < length s → Marks sets program s e from (cap + 1) place starts → Advances sets program (slice_index s place) (place + 1 == 0) (place + 1 == length s) cap starts new → Marks sets program s e from (cap + 1) (place + 1) new
+    pub marks_advance : (cap place : ℕ) (starts new : List ℕ) → cap ≤ place → place < length s
+        → Marks sets program s e from (cap + 1) place starts → Advances sets program (slice_index s place)
+        (place + 1 == 0) (place + 1 == length s) cap starts new → Marks sets program s e from (cap + 1) (place + 1) new
     marks_advance cap place starts new small inside h goes = record {
       sound = λ q lt.
           let (p, r, takes, leads, same) = goes.sound q lt in
           let had = h.sound p (omega (arith, same)) in
-          let eats : Eats sets program s p place r = record { class = takes.class; step = takes.step; inside = inside; taken = takes.taken } in
-          let on : Goes sets program s p place q (place + 1) = one_more p place r (place + 1) q (place + 1) (inr (eats, refl)) (leads.0, stays leads.0 r q (place + 1) leads.1) in
-          subst (λ x. (from ≤ x) × (x ≤ place + 1) × Goes sets program s e x q (place + 1)) same (had.0, omega (arith, had.1), joined had.2.0 e (mark starts p) p place q (place + 1) had.2.1 on);
+          let eats : Eats sets program s p place r = record {
+            class = takes.class;
+            step = takes.step;
+            inside = inside;
+            taken = takes.taken;
+          } in
+          let on : Goes sets program s p place q (place + 1) = one_more p place r (place + 1) q (place + 1)
+          (inr (eats, refl)) (leads.0, stays leads.0 r q (place + 1) leads.1) in
+          subst (λ x. (from ≤ x) × (x ≤ place + 1) × Goes sets program s e x q (place + 1)) same (
+            had.0,
+            omega (arith, had.1),
+            joined had.2.0 e (mark starts p) p place q (place + 1) had.2.1 on,
+          );
       cover = λ i q before lt run.
           let c = crossing run.0 e i place q (place + 1) (omega arith) refl run.1 in
           let had = h.cover i c.from before lt c.lead in
-          let takes : Takes sets program (slice_index s place) c.from c.to = record { class = c.eats.class; step = c.eats.step; taken = c.eats.taken } in
-          omega (arith, had, goes.complete c.from c.to (omega arith) takes, closed_path program _ _ new c.tail.0 c.to q goes.closed c.tail.1);
+          let takes : Takes sets program (slice_index s place) c.from c.to = record {
+            class = c.eats.class;
+            step =
+                c.eats.step;
+            taken = c.eats.taken;
+          } in
+          omega (
+            arith,
+            had,
+            goes.complete c.from c.to (omega arith) takes,
+            closed_path program _ _ new c.tail.0 c.to q goes.closed c.tail.1,
+          );
       closed = goes.closed;
     }
 
     module _ (place : ℕ) (starts : List ℕ) (small : place < NONE) where
       -- no run that ends at the place starts before the limit
-      none_here : (limit i : ℕ) → limit ≤ mark starts 0 → Marks sets program s e from limit place starts → from ≤ i → i < limit → Goes sets program s e i 0 place → ⊥
+      none_here : (limit i : ℕ) → limit ≤ mark starts 0 → Marks sets program s e from limit place starts → from ≤ i
+          → i < limit → Goes sets program s e i 0 place → ⊥
       none_here limit i high h after lt goes = omega (arith, h.cover i 0 after lt goes)
 
-      pub best_none : NONE ≤ mark starts 0 → Marks sets program s e from (place + 1) place starts → BestOf (λ i j. Goes sets program s e i 0 j) place from None → BestOf (λ i j. Goes sets program s e i 0 j) (place + 1) from None
+      pub best_none : NONE ≤ mark starts 0 → Marks sets program s e from (place + 1) place starts
+          → BestOf (λ i j. Goes sets program s e i 0 j) place from None → BestOf (λ i j. Goes sets program s e i 0 j)
+          (place + 1) from None
       best_none is h old = λ i j after lt run. elim (cases_lt j place) [
         | inl less ↦ old i j after less run
         | inr ge ↦
@@ -135,7 +193,9 @@ module _ (sets : List (List Bool)) (program : List Instruction) (s : List ℕ) w
             none_here (place + 1) i (omega arith) h after (omega (arith, path_le here.0 e i 0 place here.1)) here
       ]
 
-      pub best_first : mark starts 0 < NONE → Marks sets program s e from (place + 1) place starts → BestOf (λ i j. Goes sets program s e i 0 j) place from None → BestOf (λ i j. Goes sets program s e i 0 j) (place + 1) from (Some (mark starts 0, place))
+      pub best_first : mark starts 0 < NONE → Marks sets program s e from (place + 1) place starts
+          → BestOf (λ i j. Goes sets program s e i 0 j) place from None → BestOf (λ i j. Goes sets program s e i 0 j)
+          (place + 1) from (Some (mark starts 0, place))
       best_first lt h old = record {
         after = (h.sound 0 lt).0;
         within = omega arith;
@@ -150,7 +210,8 @@ module _ (sets : List (List Bool)) (program : List Instruction) (s : List ℕ) w
         longest = λ l below run. omega arith;
       }
 
-      module _ (had end : ℕ) (h : Marks sets program s e from (had + 1) place starts) (old : IsBestOf (λ i j. Goes sets program s e i 0 j) place from had end) where
+      module _ (had end : ℕ) (h : Marks sets program s e from (had + 1) place starts)
+          (old : IsBestOf (λ i j. Goes sets program s e i 0 j) place from had end) where
         pub best_kept : had < mark starts 0 → IsBestOf (λ i j. Goes sets program s e i 0 j) (place + 1) from had end
         best_kept high = record {
           after = old.after;
@@ -178,7 +239,8 @@ module _ (sets : List (List Bool)) (program : List Instruction) (s : List ℕ) w
         had_small : had < NONE
         had_small = omega (arith, path_le old.related.0 e had 0 end old.related.1, old.within)
 
-        pub best_moves : mark starts 0 ≤ had → IsBestOf (λ i j. Goes sets program s e i 0 j) (place + 1) from (mark starts 0) place
+        pub best_moves : mark starts 0 ≤ had → IsBestOf (λ i j. Goes sets program s e i 0 j) (place + 1) from
+            (mark starts 0) place
         best_moves low = let seen = h.sound 0 (omega (arith, had_small)) in record {
           after = seen.0;
           within = omega arith;
@@ -197,7 +259,8 @@ module _ (sets : List (List Bool)) (program : List Instruction) (s : List ℕ) w
         }
 
         -- no step is marked: nothing better comes
-        pub best_final : (bound : ℕ) → place ≤ bound → ((q : ℕ) → NONE ≤ mark starts q) → IsBestOf (λ i j. Goes sets program s e i 0 j) bound from had end
+        pub best_final : (bound : ℕ) → place ≤ bound → ((q : ℕ) → NONE ≤ mark starts q)
+            → IsBestOf (λ i j. Goes sets program s e i 0 j) bound from had end
         best_final bound more blank = record {
           after = old.after;
           within = omega (arith, old.within);
@@ -230,33 +293,46 @@ blank_replicate n = λ q. each n q where
   each (suc n) zero = refl
   each (suc n) (suc q) = each n q
 
-pub marks_begin : (sets : List (List Bool)) (program : List Instruction) (s : List ℕ) (e from : ℕ) (starts : List ℕ) → IsBlank starts → Marks sets program s e from from from starts
+pub marks_begin : (sets : List (List Bool)) (program : List Instruction) (s : List ℕ) (e from : ℕ) (starts : List ℕ)
+    → IsBlank starts → Marks sets program s e from from from starts
 marks_begin sets program s e from starts blank = record {
   sound = λ q lt. absurd (omega (arith, blank q));
   cover = λ i q after lt. absurd (omega arith);
   closed = λ q r skip. omega (arith, blank q, blank r);
 }
 
-pub best_begin : (sets : List (List Bool)) (program : List Instruction) (s : List ℕ) (e from : ℕ) → BestOf (λ i j. Goes sets program s e i 0 j) from from None
+pub best_begin : (sets : List (List Bool)) (program : List Instruction) (s : List ℕ) (e from : ℕ)
+    → BestOf (λ i j. Goes sets program s e i 0 j) from from None
 best_begin sets program s e from = λ i j after below run. omega (arith, best_start sets program s e i j run)
 
 module _ (sets : List (List Bool)) (program : List Instruction) (s : List ℕ) (e from place : ℕ) where
-  pub cap_small : (best : Option (ℕ × ℕ)) → BestOf (λ i j. Goes sets program s e i 0 j) (place + 1) from best → cap_of place best ≤ place
+  pub cap_small : (best : Option (ℕ × ℕ)) → BestOf (λ i j. Goes sets program s e i 0 j) (place + 1) from best
+      → cap_of place best ≤ place
   cap_small None h = omega arith
   cap_small (Some m) h = omega (arith, best_start sets program s e m.0 m.1 h.related, h.within)
 
-  pub marks_turn : (best : Option (ℕ × ℕ)) (starts new : List ℕ) → place < length s → BestOf (λ i j. Goes sets program s e i 0 j) (place + 1) from best → Marks sets program s e from (limit_of (place + 1) best) place starts → Advances sets program (slice_index s place) (place + 1 == 0) (place + 1 == length s) (cap_of place best) starts new → Marks sets program s e from (limit_of (place + 1) best) (place + 1) new
-  marks_turn None starts new inside h marks goes = marks_advance sets program s e from place place starts new (omega arith) inside marks goes
-  marks_turn (Some m) starts new inside h marks goes = marks_advance sets program s e from m.0 place starts new (cap_small (Some m) h) inside marks goes
+  pub marks_turn : (best : Option (ℕ × ℕ)) (starts new : List ℕ) → place < length s
+      → BestOf (λ i j. Goes sets program s e i 0 j) (place + 1) from best
+      → Marks sets program s e from (limit_of (place + 1) best) place starts
+      → Advances sets program (slice_index s place) (place + 1 == 0) (place + 1 == length s) (cap_of place best) starts
+      new → Marks sets program s e from (limit_of (place + 1) best) (place + 1) new
+  marks_turn None starts new inside h marks goes = marks_advance sets program s e from place place starts new
+      (omega arith) inside marks goes
+  marks_turn (Some m) starts new inside h marks goes = marks_advance sets program s e from m.0 place starts new
+      (cap_small (Some m) h) inside marks goes
 
-  pub stops : (best : Option (ℕ × ℕ)) (starts : List ℕ) → is_some best ≡ true → place < NONE → place ≤ length s → Marks sets program s e from (limit_of place best) place starts → BestOf (λ i j. Goes sets program s e i 0 j) place from best → IsBlank starts → Finds sets program s e from best
+  pub stops : (best : Option (ℕ × ℕ)) (starts : List ℕ) → is_some best ≡ true → place < NONE → place ≤ length s
+      → Marks sets program s e from (limit_of place best) place starts
+      → BestOf (λ i j. Goes sets program s e i 0 j) place from best → IsBlank starts → Finds sets program s e from best
   stops None starts found small inside marks h blank = absurd (false-true found) where
     false-true : false ≡ true → ⊥
     false-true x = cc
   stops (Some m) starts found small inside marks h blank =
-      best_final sets program s e from place starts small m.0 m.1 marks h (length s + 1) (omega arith) (λ q. omega (arith, blank q))
+      best_final sets program s e from place starts small m.0 m.1 marks h (length s + 1) (omega arith)
+      (λ q. omega (arith, blank q))
 
-module _ (sets : List (List Bool)) (program : List Instruction) (e : ℕ) (p : Pattern) (machine : IsMachine sets program e p) (s : List ℕ) where
+module _ (sets : List (List Bool)) (program : List Instruction) (e : ℕ) (p : Pattern)
+    (machine : IsMachine sets program e p) (s : List ℕ) where
   stuck : (n i j : ℕ) → Path sets program s n 0 i 0 j → i ≡ j
   stuck zero i j (is, same) = same
   stuck (suc n) i j (q, k, inl (skip, same), path) = absurd (skips_done program _ _ 0 q machine.done skip)
@@ -286,7 +362,8 @@ ready_first = record { sound = record { names = λ q x at. only q x at }; below 
   only zero x at = let is : Done ≡ x = cc in subst (λ y. NamesBelow 1 y) is tt
   only (suc q) x at = absurd (cc)
 
-pub machine_of : (sets : List (List Bool)) (program : List Instruction) (e : ℕ) (p : List (List Bool) → Pattern) → Compiles (Done ∷ []) program e p 0 → IsMachine sets program e (p sets)
+pub machine_of : (sets : List (List Bool)) (program : List Instruction) (e : ℕ) (p : List (List Bool) → Pattern)
+    → Compiles (Done ∷ []) program e p 0 → IsMachine sets program e (p sets)
 machine_of sets program e p h = record {
   sound = h.sound;
   inside = h.below;

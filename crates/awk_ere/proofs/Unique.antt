@@ -28,20 +28,24 @@ module _ (t u : Token) (l m : List ℕ) (p : Spot) (one : front_at p ≡ token t
   same_spot : spot_after p t l ≡ spot_after p u m
   same_spot = ap (λ x. spot_after p x l) same_token ∙ ap (λ x. spot_after p u x) (ap left_of same_front)
 
-same_tokens : (ts us : List Token) (p q r : Spot) → Leads ts p q → Leads us p r → front_at q ≡ finished → front_at r ≡ finished → ts ≡ us
+same_tokens : (ts us : List Token) (p q r : Spot) → Leads ts p q → Leads us p r → front_at q ≡ finished
+    → front_at r ≡ finished → ts ≡ us
 same_tokens [] [] p q r h g e f = refl
 same_tokens [] (u ∷ us) p q r h (m, two, more) e f = absurd (let x = ap front_at h ∙ e in cc)
 same_tokens (t ∷ ts) [] p q r (l, one, rest) g e f = absurd (let x = ap front_at g ∙ f in cc)
 same_tokens (t ∷ ts) (u ∷ us) p q r (l, one, rest) (m, two, more) e f =
-    let same = same_tokens ts us (spot_after p t l) q r rest (subst (λ x. Leads us x r) (sym (same_spot t u l m p one two)) more) e f in
+    let same = same_tokens ts us (spot_after p t l) q r rest
+    (subst (λ x. Leads us x r) (sym (same_spot t u l m p one two)) more) e f in
     ap (λ x. x ∷ ts) (same_token t u l m p one two) ∙ ap (λ x. u ∷ x) same
 
-no_fault : (ts us : List Token) (p q r : Spot) (fault : EreFault) → Leads ts p q → Leads us p r → front_at q ≡ finished → front_at r ≡ wrong fault → ⊥
+no_fault : (ts us : List Token) (p q r : Spot) (fault : EreFault) → Leads ts p q → Leads us p r → front_at q ≡ finished
+    → front_at r ≡ wrong fault → ⊥
 no_fault [] [] p q r fault h g e f = let x = ap front_at h ∙ e in let y = ap front_at g ∙ f in cc
 no_fault [] (u ∷ us) p q r fault h (m, two, more) e f = let x = ap front_at h ∙ e in cc
 no_fault (t ∷ ts) [] p q r fault (l, one, rest) g e f = let x = ap front_at g ∙ f in cc
 no_fault (t ∷ ts) (u ∷ us) p q r fault (l, one, rest) (m, two, more) e f =
-    no_fault ts us (spot_after p t l) q r fault rest (subst (λ x. Leads us x r) (sym (same_spot t u l m p one two)) more) e f
+    no_fault ts us (spot_after p t l) q r fault rest (subst (λ x. Leads us x r) (sym (same_spot t u l m p one two))
+    more) e f
 
 faultless : (s : List ℕ) (p : Pattern) (size : ℕ) (fault : EreFault) → Spelled s p size → HasFault s fault → ⊥
 faultless s p size fault (ts, read, spells) h = no_fault ts h.0 (first_spot s) read.0 h.1 fault read.1 h.2 read.2 h.3
@@ -57,5 +61,6 @@ pub memory_alone : (s : List ℕ) (code : ℕ) → IsRefused s code → (p : Pat
 memory_alone s code (inl (is, long)) p h = absurd (omega (arith, h.short))
 memory_alone s code (inr (inl (is, short, fault))) p h = absurd (faultless s p h.size _ h.spelled fault)
 memory_alone s code (inr (inr (inl (is, short, fault)))) p h = absurd (faultless s p h.size _ h.spelled fault)
-memory_alone s code (inr (inr (inr (inl (is, short, (q, n, spelled, large)))))) p h = absurd (let e : h.size ≡ n = (one_spelling s p q h.size n h.spelled spelled).1 in omega (arith, h.small))
+memory_alone s code (inr (inr (inr (inl (is, short, (q, n, spelled, large)))))) p h =
+    absurd (let e : h.size ≡ n = (one_spelling s p q h.size n h.spelled spelled).1 in omega (arith, h.small))
 memory_alone s code (inr (inr (inr (inr is)))) p h = is

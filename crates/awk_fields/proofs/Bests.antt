@@ -1,5 +1,6 @@
 -- The best match of a pattern, and of its alternation with a newline.
-use Rattle.std.proofs.Common.{◌≡◌, ℕ, zero, suc, ◌+◌, ◌≤◌, ◌<◌, ◌⊎◌, true, List, length, min, max, None, refl, inl, inr, arith}
+use Rattle.std.proofs.Common.{◌≡◌, ℕ, zero, suc, ◌+◌, ◌≤◌, ◌<◌, ◌⊎◌, true, List, length, min, max, None, refl, inl, inr}
+use Rattle.std.proofs.Common.{arith}
 use Rattle.std.proofs.Common.{subst}
 use Rattle.std.proofs.lemmas.Bool.{cases_lt}
 use Rattle.awk_ere.specs.Pattern.{Pattern, empty, bytes, start, finish, cat, alt, repeat, Chain, Matches}
@@ -27,7 +28,8 @@ abbrev pub Newline : List ℕ → ℕ → Type 0
 Newline s k = Passes (is_byte 10) s k
 
 -- a best match from a place on is the best from each later place on that it doesn't begin before
-pub later_best : (s : List ℕ) (p : Pattern) (from i j at : ℕ) → IsBest s p from i j → from ≤ at → at ≤ i → IsBest s p at i j
+pub later_best : (s : List ℕ) (p : Pattern) (from i j at : ℕ) → IsBest s p from i j → from ≤ at → at ≤ i
+    → IsBest s p at i j
 later_best s p from i j at best after before =
     record {
       after = before;
@@ -47,7 +49,8 @@ module _ (s : List ℕ) (p : Pattern) (from : ℕ) where
   none_either none no_newline i j after inside (inr m) = no_newline i after m.0 m.1
 
   -- no newline up to the match's start
-  pub match_first : (i j : ℕ) → IsBest s p from i j → Nowhere (Newline s) from (min (length s) (i + 1)) → IsBest s (separating true p) from i j
+  pub match_first : (i j : ℕ) → IsBest s p from i j → Nowhere (Newline s) from (min (length s) (i + 1))
+      → IsBest s (separating true p) from i j
   match_first i j best no_newline =
       record {
         after = best.after;
@@ -59,14 +62,16 @@ module _ (s : List ℕ) (p : Pattern) (from : ℕ) where
     where
       leftmost : (k l : ℕ) → from ≤ k → l ≤ length s → Matches s (separating true p) k l → i ≤ k
       leftmost k l after inside (inl m) = best.leftmost k l after inside m
-      leftmost k l after inside (inr m) = elim (cases_lt k i) [ inl lt ↦ absurd (no_newline k after (omega (arith, m.0)) m.1) | inr ge ↦ ge ]
+      leftmost k l after inside (inr m) =
+          elim (cases_lt k i) [ inl lt ↦ absurd (no_newline k after (omega (arith, m.0)) m.1) | inr ge ↦ ge ]
 
       longest : (l : ℕ) → l ≤ length s → Matches s (separating true p) i l → l ≤ j
       longest l inside (inl m) = best.longest l inside m
       longest l inside (inr m) = absurd (no_newline i best.after (omega (arith, m.0)) m.1)
 
   -- a newline before each match
-  pub newline_first : (at : ℕ) → from ≤ at → at < length s → Newline s at → Nowhere (Newline s) from at → ((k l : ℕ) → from ≤ k → l ≤ length s → Matches s p k l → at < k) → IsBest s (separating true p) from at (at + 1)
+  pub newline_first : (at : ℕ) → from ≤ at → at < length s → Newline s at → Nowhere (Newline s) from at
+      → ((k l : ℕ) → from ≤ k → l ≤ length s → Matches s p k l → at < k) → IsBest s (separating true p) from at (at + 1)
   newline_first at after inside is none behind =
       record {
         after = after;
@@ -85,7 +90,8 @@ module _ (s : List ℕ) (p : Pattern) (from : ℕ) where
       longest l high (inr m) = omega (arith, m.2)
 
   -- a newline where the match begins
-  pub newline_at : (i j : ℕ) → i < length s → Newline s i → Nowhere (Newline s) from i → IsBest s p from i j → IsBest s (separating true p) from i (max j (i + 1))
+  pub newline_at : (i j : ℕ) → i < length s → Newline s i → Nowhere (Newline s) from i → IsBest s p from i j
+      → IsBest s (separating true p) from i (max j (i + 1))
   newline_at i j inside is none best =
       record {
         after = best.after;

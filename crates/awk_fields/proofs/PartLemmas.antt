@@ -1,5 +1,6 @@
 -- Parts that are set: how many bytes they have, and how long the whole text is.
-use Rattle.std.proofs.Common.{◌≡◌, ℕ, ◌+◌, ◌-◌, ◌*◌, ◌≤◌, List, ◌++◌, length, map, take, drop, set, get_or, replicate, min, sym, ap, subst, refl, ◌∙◌, arith, inl, inr}
+use Rattle.std.proofs.Common.{◌≡◌, ℕ, ◌+◌, ◌-◌, ◌*◌, ◌≤◌, List, ◌++◌, length, map, take, drop, set, get_or, replicate}
+use Rattle.std.proofs.Common.{min, sym, ap, subst, refl, ◌∙◌, arith, inl, inr}
 use Rattle.std.specs.Prelude.{All}
 use Rattle.std.proofs.lemmas.Bool.{cases_lt}
 use Rattle.std.proofs.lemmas.List.{length-drop, take_all, get_or_past}
@@ -17,61 +18,85 @@ use Rattle.awk_fields.specs.declared.part.Part.TheVariants.{Cut, Own}
 use Rattle.awk_fields.specs.declared.spans.Span.{Span}
 use Rattle.awk_fields.proofs.EditLemmas.{joined_bytes, put_length, put_sum, map_put, count_length, count_sum, map_count}
 
-pub cut_within : (text : List ℕ) (spans : List Span) (parts : List Part) → parts ≡ map Cut spans → All (IsWithin text) spans → All (IsPartOf text) parts
-cut_within text spans parts is within = subst (λ ps. All (IsPartOf text) ps) (sym is) (All-map (IsPartOf text) Cut spans within)
+pub cut_within : (text : List ℕ) (spans : List Span) (parts : List Part) → parts ≡ map Cut spans
+    → All (IsWithin text) spans → All (IsPartOf text) parts
+cut_within text spans parts is within = subst (λ ps. All (IsPartOf text) ps) (sym is)
+    (All-map (IsPartOf text) Cut spans within)
 
 -- ---- one is set
 
 abbrev pub put_parts : List Part → ℕ → Value → List Part
 put_parts parts at value = set (parts ++ replicate (at + 1 - length parts) (Own Unset)) at (Own value)
 
-pub part_le : (text : List ℕ) (parts : List Part) (at : ℕ) → part_bytes text (get_or parts at (Own Unset)) ≤ sum_by (part_bytes text) parts
+pub part_le : (text : List ℕ) (parts : List Part) (at : ℕ) → part_bytes text (get_or parts at (Own Unset)) ≤ sum_by
+    (part_bytes text) parts
 part_le text parts at =
     elim (cases_lt at (length parts)) [
       | inl inside ↦ get_or-le-sum_by (part_bytes text) parts at (Own Unset) inside
       | inr past ↦ rw (get_or_past parts at (Own Unset) past) (omega arith)
     ]
 
-pub put_bytes : (text : List ℕ) (parts : List Part) (at : ℕ) (value : Value) (before gone new : ℕ) → before ≡ sum_by (part_bytes text) parts → gone ≡ part_bytes text (get_or parts at (Own Unset)) → new ≡ length (text_of value)
+pub put_bytes : (text : List ℕ) (parts : List Part) (at : ℕ) (value : Value) (before gone new : ℕ)
+    → before ≡ sum_by (part_bytes text) parts → gone ≡ part_bytes text (get_or parts at (Own Unset))
+    → new ≡ length (text_of value)
     → before - gone + new ≡ sum_by (part_bytes text) (put_parts parts at value)
 put_bytes text parts at value before gone new before_is gone_is new_is =
     let le = part_le text parts at in
-    let sum : sum_by (part_bytes text) (put_parts parts at value) + part_bytes text (get_or parts at (Own Unset)) ≡ sum_by (part_bytes text) parts + length (text_of value) = put_sum (part_bytes text) parts at (Own value) (Own Unset) refl in
+    let sum : sum_by (part_bytes text) (put_parts parts at value) + part_bytes text (get_or parts at (Own Unset))
+    ≡ sum_by (part_bytes text) parts + length (text_of value) = put_sum (part_bytes text) parts at (Own value)
+    (Own Unset) refl in
     omega arith
 
-pub put_whole : (text ofs : List ℕ) (parts : List Part) (at : ℕ) (value : Value) (bytes count gap : ℕ) → bytes ≡ sum_by (part_bytes text) (put_parts parts at value) → count ≡ length parts + (at + 1 - length parts) → gap ≡ length ofs
+pub put_whole : (text ofs : List ℕ) (parts : List Part) (at : ℕ) (value : Value) (bytes count gap : ℕ)
+    → bytes ≡ sum_by (part_bytes text) (put_parts parts at value) → count ≡ length parts + (at + 1 - length parts)
+    → gap ≡ length ofs
     → length (joined ofs (with_field (map (value_of text) parts) at value)) ≡ bytes + (count - 1) * gap
 put_whole text ofs parts at value bytes count gap bytes_are count_is gap_is =
-    let same : length (joined ofs (with_field (map (value_of text) parts) at value)) ≡ length (joined ofs (map (value_of text) (put_parts parts at value))) =
-    ap (λ vs. length (joined ofs vs)) (sym (map_put (value_of text) parts at (Own value) (Own Unset) value refl refl)) in
-    let total : length (joined ofs (map (value_of text) (put_parts parts at value))) ≡ sum_by (part_bytes text) (put_parts parts at value) + (length (put_parts parts at value) - 1) * length ofs =
+    let same : length (joined ofs (with_field (map (value_of text) parts) at value))
+    ≡ length (joined ofs (map (value_of text) (put_parts parts at value))) =
+    ap (λ vs. length (joined ofs vs)) (sym (map_put (value_of text) parts at (Own value) (Own Unset) value refl refl))
+    in
+    let total : length (joined ofs (map (value_of text) (put_parts parts at value))) ≡ sum_by (part_bytes text)
+    (put_parts parts at value) + (length (put_parts parts at value) - 1) * length ofs =
     joined_bytes (value_of text) ofs (put_parts parts at value) in
-    same ∙ (total ∙ (ap (λ n. n + (length (put_parts parts at value) - 1) * length ofs) (sym bytes_are) ∙ (ap (λ n. bytes + (n - 1) * length ofs) (put_length parts at (Own value) (Own Unset) ∙ sym count_is) ∙ ap (λ n. bytes + (count - 1) * n) (sym gap_is))))
+    same ∙ (total ∙ (ap (λ n. n + (length (put_parts parts at value) - 1) * length ofs) (sym bytes_are)
+    ∙ (ap (λ n. bytes + (n - 1) * length ofs) (put_length parts at (Own value) (Own Unset) ∙ sym count_is)
+    ∙ ap (λ n. bytes + (count - 1) * n) (sym gap_is))))
 
 -- ---- some go, or are added
 
 abbrev pub count_parts : List Part → ℕ → List Part
 count_parts parts count = take count (parts ++ replicate (count - length parts) (Own Unset))
 
-pub gone_le : (text : List ℕ) (parts : List Part) (n stay : ℕ) → sum_by (part_bytes text) (take n (drop stay parts)) ≤ sum_by (part_bytes text) parts
+pub gone_le : (text : List ℕ) (parts : List Part) (n stay : ℕ)
+    → sum_by (part_bytes text) (take n (drop stay parts)) ≤ sum_by (part_bytes text) parts
 gone_le text parts n stay =
     let behind = sum_by-take-le (part_bytes text) (drop stay parts) n in
     let both = sum_by-take-drop (part_bytes text) parts stay in
     omega arith
 
-pub count_bytes : (text : List ℕ) (parts : List Part) (count stay before gone : ℕ) → stay ≡ min count (length parts) → before ≡ sum_by (part_bytes text) parts → gone ≡ sum_by (part_bytes text) (take (length parts - stay) (drop stay parts))
+pub count_bytes : (text : List ℕ) (parts : List Part) (count stay before gone : ℕ) → stay ≡ min count (length parts)
+    → before ≡ sum_by (part_bytes text) parts
+    → gone ≡ sum_by (part_bytes text) (take (length parts - stay) (drop stay parts))
     → before - gone ≡ sum_by (part_bytes text) (count_parts parts count)
 count_bytes text parts count stay before gone stay_is before_is gone_is =
-    let behind : take (length parts - stay) (drop stay parts) ≡ drop stay parts = take_all (length parts - stay) (drop stay parts) (omega (arith, length-drop stay parts)) in
-    let rest : gone ≡ sum_by (part_bytes text) (drop (min count (length parts)) parts) = gone_is ∙ (ap (sum_by (part_bytes text)) behind ∙ ap (λ n. sum_by (part_bytes text) (drop n parts)) stay_is) in
+    let behind : take (length parts - stay) (drop stay parts) ≡ drop stay parts = take_all (length parts - stay)
+    (drop stay parts) (omega (arith, length-drop stay parts)) in
+    let rest : gone ≡ sum_by (part_bytes text) (drop (min count (length parts)) parts) =
+    gone_is ∙ (ap (sum_by (part_bytes text)) behind ∙ ap (λ n. sum_by (part_bytes text) (drop n parts)) stay_is) in
     let sum = count_sum (part_bytes text) parts count (Own Unset) refl in
     omega arith
 
-pub count_whole : (text ofs : List ℕ) (parts : List Part) (count bytes gap : ℕ) → bytes ≡ sum_by (part_bytes text) (count_parts parts count) → gap ≡ length ofs
+pub count_whole : (text ofs : List ℕ) (parts : List Part) (count bytes gap : ℕ)
+    → bytes ≡ sum_by (part_bytes text) (count_parts parts count) → gap ≡ length ofs
     → length (joined ofs (with_count (map (value_of text) parts) count)) ≡ bytes + (count - 1) * gap
 count_whole text ofs parts count bytes gap bytes_are gap_is =
-    let same : length (joined ofs (with_count (map (value_of text) parts) count)) ≡ length (joined ofs (map (value_of text) (count_parts parts count))) =
+    let same : length (joined ofs (with_count (map (value_of text) parts) count))
+    ≡ length (joined ofs (map (value_of text) (count_parts parts count))) =
     ap (λ vs. length (joined ofs vs)) (sym (map_count (value_of text) parts count (Own Unset) refl)) in
-    let total : length (joined ofs (map (value_of text) (count_parts parts count))) ≡ sum_by (part_bytes text) (count_parts parts count) + (length (count_parts parts count) - 1) * length ofs =
+    let total : length (joined ofs (map (value_of text) (count_parts parts count))) ≡ sum_by (part_bytes text)
+    (count_parts parts count) + (length (count_parts parts count) - 1) * length ofs =
     joined_bytes (value_of text) ofs (count_parts parts count) in
-    same ∙ (total ∙ (ap (λ n. n + (length (count_parts parts count) - 1) * length ofs) (sym bytes_are) ∙ (ap (λ n. bytes + (n - 1) * length ofs) (count_length parts count (Own Unset)) ∙ ap (λ n. bytes + (count - 1) * n) (sym gap_is))))
+    same ∙ (total ∙ (ap (λ n. n + (length (count_parts parts count) - 1) * length ofs) (sym bytes_are)
+    ∙ (ap (λ n. bytes + (n - 1) * length ofs) (count_length parts count (Own Unset))
+    ∙ ap (λ n. bytes + (count - 1) * n) (sym gap_is))))

@@ -1,5 +1,6 @@
 -- Digits that are written from the last to the first.
-use Rattle.std.proofs.Common.{◌≡◌, ℕ, zero, suc, ◌+◌, ◌/◌, ◌%◌, ◌^◌, ◌<◌, ◌≤◌, Bool, List, ◌∷◌, length, set, drop, sym, ap, ◌∙◌, add-one, arith}
+use Rattle.std.proofs.Common.{◌≡◌, ℕ, zero, suc, ◌+◌, ◌/◌, ◌%◌, ◌^◌, ◌<◌, ◌≤◌, Bool, List, ◌∷◌, length, set, drop, sym}
+use Rattle.std.proofs.Common.{ap, ◌∙◌, add-one, arith}
 use Rattle.std.proofs.Math.Nat.{pow-suc, pow-zero, pow-le-pow_left}
 use Rattle.std.proofs.lemmas.Bool.{eq-eqb, ne_eqb}
 use Rattle.std.proofs.lemmas.List.{drop-set, drop_all}
@@ -18,25 +19,33 @@ pub room_left : (base n k : ℕ) → n < base ^ k → (n ≡ 0 → ⊥) → 0 < 
 room_left base n zero small some = absurd (some (omega (arith, pow-zero base)))
 room_left base n (suc k) small some = omega arith
 
-pub start : (base n : ℕ) (upper : Bool) (buffer : List ℕ) → length buffer ≡ 22 → digits_onto 64 base upper n (drop 22 buffer) ≡ digits base upper n
+pub start : (base n : ℕ) (upper : Bool) (buffer : List ℕ) → length buffer ≡ 22
+    → digits_onto 64 base upper n (drop 22 buffer) ≡ digits base upper n
 unfolding digits
 start base n upper buffer h = ap (digits_onto 64 base upper n) (drop_all 22 buffer (omega arith))
 
 written_at : (buffer : List ℕ) (k y : ℕ) → k < length buffer → drop k (set buffer k y) ≡ y ∷ drop (suc k) buffer
 written_at buffer k y within = drop-set buffer k y within ∙ ap (λ n. y ∷ drop n buffer) (add-one k)
 
-same_state : (base n at k : ℕ) (upper : Bool) (buffer : List ℕ) → at ≡ suc k → digits_onto (suc (k + 42)) base upper n (drop (suc k) buffer) ≡ digits_onto (at + 42) base upper n (drop at buffer)
+same_state : (base n at k : ℕ) (upper : Bool) (buffer : List ℕ) → at ≡ suc k
+    → digits_onto (suc (k + 42)) base upper n (drop (suc k) buffer) ≡ digits_onto (at + 42) base upper n
+    (drop at buffer)
 same_state base n at k upper buffer e =
     let fuel : suc (k + 42) ≡ at + 42 = omega arith in
-    ap (λ m. digits_onto (suc (k + 42)) base upper n (drop m buffer)) (sym e) ∙ ap (λ m. digits_onto m base upper n (drop at buffer)) fuel
+    ap (λ m. digits_onto (suc (k + 42)) base upper n (drop m buffer)) (sym e)
+    ∙ ap (λ m. digits_onto m base upper n (drop at buffer)) fuel
 
 -- one more digit, and then the last
-pub step : (base n at k y : ℕ) (upper : Bool) (buffer whole : List ℕ) → at ≡ suc k → y ≡ digit_glyph upper (n % base) → k < length buffer → digits_onto (at + 42) base upper n (drop at buffer) ≡ whole → (n / base ≡ 0 → ⊥) → digits_onto (k + 42) base upper (n / base) (drop k (set buffer k y)) ≡ whole
+pub step : (base n at k y : ℕ) (upper : Bool) (buffer whole : List ℕ) → at ≡ suc k → y ≡ digit_glyph upper (n % base)
+    → k < length buffer → digits_onto (at + 42) base upper n (drop at buffer) ≡ whole → (n / base ≡ 0 → ⊥)
+    → digits_onto (k + 42) base upper (n / base) (drop k (set buffer k y)) ≡ whole
 step base n at k y upper buffer whole e g within so_far more =
     let here = same_state base n at k upper buffer e ∙ so_far in
     rw (written_at buffer k y within) (rw g (rw (ne_eqb (n / base) 0 more) at here))
 
-pub last : (base n at k y : ℕ) (upper : Bool) (buffer whole : List ℕ) → at ≡ suc k → y ≡ digit_glyph upper (n % base) → k < length buffer → digits_onto (at + 42) base upper n (drop at buffer) ≡ whole → n / base ≡ 0 → drop k (set buffer k y) ≡ whole
+pub last : (base n at k y : ℕ) (upper : Bool) (buffer whole : List ℕ) → at ≡ suc k → y ≡ digit_glyph upper (n % base)
+    → k < length buffer → digits_onto (at + 42) base upper n (drop at buffer) ≡ whole → n / base ≡ 0
+    → drop k (set buffer k y) ≡ whole
 last base n at k y upper buffer whole e g within so_far none =
     let here = same_state base n at k upper buffer e ∙ so_far in
     rw (written_at buffer k y within) (rw g (rw (eq-eqb (n / base) 0 none) at here))

@@ -1,5 +1,7 @@
 -- Laws of texts made piece by piece.
-use Rattle.std.proofs.Common.{◌≡◌, ℕ, zero, suc, ◌+◌, ◌-◌, ◌<◌, ◌≤◌, ◌==◌, min, Bool, true, false, cond, List, [], ◌∷◌, ◌++◌, length, take, drop, get_or, Option, Some, None, Result, Ok, Err, refl, sym, ap, subst, ◌∙◌, append_assoc, length-append, length-drop, arith}
+use Rattle.std.proofs.Common.{◌≡◌, ℕ, zero, suc, ◌+◌, ◌-◌, ◌<◌, ◌≤◌, ◌==◌, min, Bool, true, false, cond, List, [], ◌∷◌}
+use Rattle.std.proofs.Common.{◌++◌, length, take, drop, get_or, Option, Some, None, Result, Ok, Err, refl, sym, ap}
+use Rattle.std.proofs.Common.{subst, ◌∙◌, append_assoc, length-append, length-drop, arith}
 use Rattle.std.proofs.lemmas.Bool.{eqb-true, false≢true}
 use Rattle.std.proofs.lemmas.Bool.Decides.{nat_tests}
 use Rattle.std.proofs.lemmas.List.{drop-drop, drop_min, drop_more}
@@ -12,7 +14,8 @@ use Rattle.awk_text.specs.declared.value.Value.{Value}
 use Rattle.awk_format.specs.declared.directive.Directive.{Directive}
 use Rattle.awk_format.specs.Directives.{◌>>=◌, after_precision, after_width, directive_of, is_flag, tail_of}
 use Rattle.awk_format.specs.Fields.{converted}
-use Rattle.awk_format.specs.Formatted.{completed, directed, made, made_of, piece_length, piece_of, pieces, pieces_after, within}
+use Rattle.awk_format.specs.Formatted.{completed, directed, made, made_of, piece_length, piece_of, pieces, pieces_after}
+use Rattle.awk_format.specs.Formatted.{within}
 use Rattle.awk_format.specs.Written.{Writes, written}
 
 -- one piece after the other is the two together
@@ -20,7 +23,8 @@ pub written-written : (o : Option (List ℕ)) (a b : List ℕ) → written (writ
 written-written None a b = refl
 written-written (Some text) a b = grind (arith, nat_tests, length-append {A = ℕ}, append_assoc {A = ℕ})
 
-pub completed-written : (o : Option (List ℕ)) (piece : List ℕ) (r : Result (List ℕ) Fault) → completed (written o piece) r ≡ completed o (r >>= λ text. Ok (piece ++ text))
+pub completed-written : (o : Option (List ℕ)) (piece : List ℕ) (r : Result (List ℕ) Fault)
+    → completed (written o piece) r ≡ completed o (r >>= λ text. Ok (piece ++ text))
 completed-written o piece (Err e) = refl
 completed-written o piece (Ok text) = ap within (written-written o piece text)
 
@@ -35,7 +39,8 @@ none_before : (r : Result (List ℕ) Fault) → r ≡ (r >>= λ text. Ok ([] ++ 
 none_before (Ok text) = refl
 none_before (Err e) = refl
 
-one_before : (b : ℕ) (piece : List ℕ) (r : Result (List ℕ) Fault) → (r >>= λ text. Ok (piece ++ text)) >>= (λ text. Ok (b ∷ text)) ≡ (r >>= λ text. Ok ((b ∷ piece) ++ text))
+one_before : (b : ℕ) (piece : List ℕ) (r : Result (List ℕ) Fault) → (r >>= λ text. Ok (piece ++ text))
+    >>= (λ text. Ok (b ∷ text)) ≡ (r >>= λ text. Ok ((b ∷ piece) ++ text))
 one_before b piece (Ok text) = refl
 one_before b piece (Err e) = refl
 
@@ -49,10 +54,13 @@ MadeFirst n text values = made_of text values ≡ (made_of (drop n text) values 
 abbrev BeforePercent : List ℕ → List Value → Type 0
 BeforePercent text values = MadeFirst (position_or_len is_percent text) text values
 
-one_more_first : (b n : ℕ) (bs : List ℕ) (values : List Value) → is_percent b ≡ false → MadeFirst n bs values → MadeFirst (suc n) (b ∷ bs) values
-one_more_first b n bs values h rest = rw h (ap (λ r. r >>= λ text. Ok (b ∷ text)) rest ∙ one_before b (take n bs) (made_of (drop n bs) values))
+one_more_first : (b n : ℕ) (bs : List ℕ) (values : List Value) → is_percent b ≡ false → MadeFirst n bs values
+    → MadeFirst (suc n) (b ∷ bs) values
+one_more_first b n bs values h rest = rw h (ap (λ r. r >>= λ text. Ok (b ∷ text)) rest ∙ one_before b (take n bs)
+    (made_of (drop n bs) values))
 
-before_by : (here : Bool) (b : ℕ) (bs : List ℕ) (values : List Value) → is_percent b ≡ here → BeforePercent bs values → BeforePercent (b ∷ bs) values
+before_by : (here : Bool) (b : ℕ) (bs : List ℕ) (values : List Value) → is_percent b ≡ here → BeforePercent bs values
+    → BeforePercent (b ∷ bs) values
 before_by true b bs values h rest =
     let P : ℕ → Type 0 = λ n. MadeFirst n (b ∷ bs) values in
     let none : 0 ≡ position_or_len is_percent (b ∷ bs) = rw h refl in
@@ -69,10 +77,13 @@ before_percent [] values = refl
 before_percent (b ∷ bs) values = before_by (is_percent b) b bs values refl (before_percent bs values)
 
 -- the bytes before the first `%` are made first
-pub plain_step : (o : Option (List ℕ)) (text : List ℕ) (values : List Value) (n : ℕ) → n ≡ position_or_len is_percent text → completed (written o (take n text)) (made_of (drop n text) values) ≡ completed o (made_of text values)
+pub plain_step : (o : Option (List ℕ)) (text : List ℕ) (values : List Value) (n : ℕ)
+    → n ≡ position_or_len is_percent text → completed (written o (take n text)) (made_of (drop n text) values)
+    ≡ completed o (made_of text values)
 plain_step o text values n e =
     let m = position_or_len is_percent text in
-    rw e (completed-written o (take m text) (made_of (drop m text) values) ∙ ap (completed o) (sym (before_percent text values)))
+    rw e (completed-written o (take m text) (made_of (drop m text) values) ∙ ap (completed o)
+    (sym (before_percent text values)))
 
 -- ---- what is left of a text
 
@@ -82,7 +93,8 @@ Rests text rest = (n : ℕ) × (rest ≡ drop n text)
 rests_of_rest : (text rest later : List ℕ) → Rests text rest → Rests rest later → Rests text later
 rests_of_rest text rest later (m, e) (n, f) = (m + n, f ∙ ap (drop n) e ∙ drop-drop n m text)
 
-precision_rests_by : (point : Bool) (b : ℕ) (bs : List ℕ) → Rests (b ∷ bs) (cond point (drop_while is_ascii_digit bs) (b ∷ bs))
+precision_rests_by : (point : Bool) (b : ℕ) (bs : List ℕ)
+    → Rests (b ∷ bs) (cond point (drop_while is_ascii_digit bs) (b ∷ bs))
 precision_rests_by true b bs = (suc (prefix_len is_ascii_digit bs), refl)
 precision_rests_by false b bs = (0, refl)
 
@@ -94,7 +106,8 @@ tail_rests : (text : List ℕ) → Rests text (tail_of text)
 tail_rests text =
     let flags = prefix_len is_flag text in
     let width = prefix_len is_ascii_digit (drop flags text) in
-    rests_of_rest text (after_width text) (tail_of text) (flags + width, drop-drop width flags text) (precision_rests (after_width text))
+    rests_of_rest text (after_width text) (tail_of text) (flags + width, drop-drop width flags text)
+    (precision_rests (after_width text))
 
 past_rest : (text rest : List ℕ) → Rests text rest → drop (length text - length rest + 1) text ≡ drop 1 rest
 past_rest text rest (n, e) =
@@ -110,27 +123,35 @@ tail_is_shorter text = by (tail_rests text)
 
 -- ---- one piece
 
-pub percent_step : (o : Option (List ℕ)) (rest : List ℕ) (values : List Value) → completed (written o (0x25 ∷ [])) (made_of rest values) ≡ completed o (made_of (0x25 ∷ 0x25 ∷ rest) values)
+pub percent_step : (o : Option (List ℕ)) (rest : List ℕ) (values : List Value)
+    → completed (written o (0x25 ∷ [])) (made_of rest values) ≡ completed o (made_of (0x25 ∷ 0x25 ∷ rest) values)
 percent_step o rest values = completed-written o (0x25 ∷ []) (made_of rest values)
 
 directed_at : (text : List ℕ) → is_percent (get_or text 0 0) ≡ false → piece_of text ≡ directed (directive_of text)
 directed_at [] h = refl
 directed_at (b ∷ bs) h = rw h refl
 
-drop-piece_length : (text : List ℕ) → is_percent (get_or text 0 0) ≡ false → drop (piece_length text) text ≡ drop 1 (tail_of text)
+drop-piece_length : (text : List ℕ) → is_percent (get_or text 0 0) ≡ false → drop (piece_length text) text
+    ≡ drop 1 (tail_of text)
 drop-piece_length [] h = refl
 drop-piece_length (b ∷ bs) h = rw h (past_rest (b ∷ bs) (tail_of (b ∷ bs)) (tail_rests (b ∷ bs)))
 
-pub directive_step : (text : List ℕ) (values : List Value) → is_percent (get_or text 0 0) ≡ false → made_of (0x25 ∷ text) values ≡ made (directed (directive_of text) ∷ pieces (drop 1 (tail_of text))) values
+pub directive_step : (text : List ℕ) (values : List Value) → is_percent (get_or text 0 0) ≡ false
+    → made_of (0x25 ∷ text) values ≡ made (directed (directive_of text) ∷ pieces (drop 1 (tail_of text))) values
 directive_step text values h =
     ap (λ p. made (p ∷ pieces_after (piece_length text) text) values) (directed_at text h)
-    ∙ ap (λ ps. made (directed (directive_of text) ∷ ps) values) (pieces_after-drop (piece_length text) text ∙ ap pieces (drop-piece_length text h))
+    ∙ ap (λ ps. made (directed (directive_of text) ∷ ps) values) (pieces_after-drop (piece_length text) text
+    ∙ ap pieces (drop-piece_length text h))
 
-pub converted_step : (o o' : Option (List ℕ)) (r later : Result (List ℕ) Fault) → Writes o r o' → completed o' later ≡ completed o (r >>= λ field. later >>= λ text. Ok (field ++ text))
+pub converted_step : (o o' : Option (List ℕ)) (r later : Result (List ℕ) Fault) → Writes o r o'
+    → completed o' later ≡ completed o (r >>= λ field. later >>= λ text. Ok (field ++ text))
 converted_step o o' (Ok field) later h = rw h (completed-written o field later)
 converted_step o o' (Err e) later h = absurd h
 
-pub shown_step : (o o' : Option (List ℕ)) (text rest : List ℕ) (values others : List Value) (d : Directive) (value : Value) → is_percent (get_or text 0 0) ≡ false → directive_of text ≡ Ok d → rest ≡ drop 1 (tail_of text) → values ≡ value ∷ others → Writes o (converted d value) o' → completed o' (made_of rest others) ≡ completed o (made_of (0x25 ∷ text) values)
+pub shown_step : (o o' : Option (List ℕ)) (text rest : List ℕ) (values others : List Value) (d : Directive)
+    (value : Value) → is_percent (get_or text 0 0) ≡ false → directive_of text ≡ Ok d → rest ≡ drop 1 (tail_of text)
+    → values ≡ value ∷ others → Writes o (converted d value) o' → completed o' (made_of rest others)
+    ≡ completed o (made_of (0x25 ∷ text) values)
 shown_step o o' text rest values others d value h ok rest_is values_is wrote =
     let later = made_of (drop 1 (tail_of text)) others in
     rw rest_is (rw values_is (
@@ -139,26 +160,36 @@ shown_step o o' text rest values others d value h ok rest_is values_is wrote =
     ∙ ap (completed o) (sym (directive_step text (value ∷ others) h))))
 
 -- what the first `%` begins
-pub percent_at : (text : List ℕ) (n : ℕ) → n ≡ position_or_len is_percent text → 0 < length (drop n text) → drop n text ≡ 0x25 ∷ drop 1 (drop n text)
+pub percent_at : (text : List ℕ) (n : ℕ) → n ≡ position_or_len is_percent text → 0 < length (drop n text)
+    → drop n text ≡ 0x25 ∷ drop 1 (drop n text)
 percent_at text n e some =
     let within : n < length text = omega (arith, length-drop n text) in
     let passes : is_percent (get_or text n 0) ≡ true = rw e (passes_at_first is_percent text 0 (omega (arith, e))) in
     let here : get_or text n 0 ≡ 0x25 = eqb-true (get_or text n 0) 0x25 passes in
     drop_more text n 0 within ∙ ap (λ b. b ∷ drop (n + 1) text) here ∙ ap (λ bs. 0x25 ∷ bs) (sym (drop-drop 1 n text))
 
-pub percent_shown : (o o' : Option (List ℕ)) (text rest : List ℕ) (values : List Value) → is_percent (get_or text 0 0) ≡ true → rest ≡ drop 1 text → o' ≡ written o (0x25 ∷ []) → completed o' (made_of rest values) ≡ completed o (made_of (0x25 ∷ text) values)
+pub percent_shown : (o o' : Option (List ℕ)) (text rest : List ℕ) (values : List Value) → is_percent (get_or text 0 0)
+    ≡ true → rest ≡ drop 1 text → o' ≡ written o (0x25 ∷ []) → completed o' (made_of rest values)
+    ≡ completed o (made_of (0x25 ∷ text) values)
 percent_shown o o' [] rest values h rest_is wrote = absurd (false≢true h)
 percent_shown o o' (b ∷ bs) rest values h rest_is wrote =
-    rw wrote (rw rest_is (percent_step o bs values ∙ ap (λ x. completed o (made_of (0x25 ∷ x ∷ bs) values)) (sym (eqb-true b 0x25 h))))
+    rw wrote (rw rest_is (percent_step o bs values ∙ ap (λ x. completed o (made_of (0x25 ∷ x ∷ bs) values))
+    (sym (eqb-true b 0x25 h))))
 
 -- ---- what the loop does in a turn
 
-made_of_inner : (text back inner : List ℕ) (values : List Value) (n : ℕ) → n ≡ position_or_len is_percent text → back ≡ drop n text → 0 < length back → inner ≡ drop 1 back → made_of (0x25 ∷ inner) values ≡ made_of (drop n text) values
+made_of_inner : (text back inner : List ℕ) (values : List Value) (n : ℕ) → n ≡ position_or_len is_percent text
+    → back ≡ drop n text → 0 < length back → inner ≡ drop 1 back → made_of (0x25 ∷ inner) values
+    ≡ made_of (drop n text) values
 made_of_inner text back inner values n e back_is some inner_is =
     let some' : 0 < length (drop n text) = omega (arith, some, ap length back_is) in
     ap (λ t. made_of t values) (ap (λ t. 0x25 ∷ t) (inner_is ∙ ap (drop 1) back_is) ∙ sym (percent_at text n e some'))
 
-pub next_step : (o o1 o2 : Option (List ℕ)) (text front back inner rest : List ℕ) (values others : List Value) (n : ℕ) (whole : Result (List ℕ) Fault) → n ≡ position_or_len is_percent text → front ≡ take n text → back ≡ drop n text → 0 < length back → inner ≡ drop 1 back → o1 ≡ written o front → completed o2 (made_of rest others) ≡ completed o1 (made_of (0x25 ∷ inner) values) → completed o (made_of text values) ≡ whole → completed o2 (made_of rest others) ≡ whole
+pub next_step : (o o1 o2 : Option (List ℕ)) (text front back inner rest : List ℕ) (values others : List Value) (n : ℕ)
+    (whole : Result (List ℕ) Fault) → n ≡ position_or_len is_percent text → front ≡ take n text → back ≡ drop n text
+    → 0 < length back → inner ≡ drop 1 back → o1 ≡ written o front → completed o2 (made_of rest others) ≡ completed o1
+    (made_of (0x25 ∷ inner) values) → completed o (made_of text values) ≡ whole → completed o2 (made_of rest others)
+    ≡ whole
 next_step o o1 o2 text front back inner rest values others n whole e front_is back_is some inner_is wrote shown so_far =
     shown
     ∙ ap (completed o1) (made_of_inner text back inner values n e back_is some inner_is)
@@ -166,8 +197,12 @@ next_step o o1 o2 text front back inner rest values others n whole e front_is ba
     ∙ plain_step o text values n e
     ∙ so_far
 
-pub next_fault : (o : Option (List ℕ)) (text back inner : List ℕ) (values : List Value) (n : ℕ) (whole : Result (List ℕ) Fault) (fault : Fault) → n ≡ position_or_len is_percent text → back ≡ drop n text → 0 < length back → inner ≡ drop 1 back → made_of (0x25 ∷ inner) values ≡ Err fault → completed o (made_of text values) ≡ whole → whole ≡ Err fault
+pub next_fault : (o : Option (List ℕ)) (text back inner : List ℕ) (values : List Value) (n : ℕ)
+    (whole : Result (List ℕ) Fault) (fault : Fault) → n ≡ position_or_len is_percent text → back ≡ drop n text
+    → 0 < length back → inner ≡ drop 1 back → made_of (0x25 ∷ inner) values ≡ Err fault
+    → completed o (made_of text values) ≡ whole → whole ≡ Err fault
 next_fault o text back inner values n whole fault e back_is some inner_is failed so_far =
     sym so_far
     ∙ sym (plain_step o text values n e)
-    ∙ ap (completed (written o (take n text))) (sym (made_of_inner text back inner values n e back_is some inner_is) ∙ failed)
+    ∙ ap (completed (written o (take n text))) (sym (made_of_inner text back inner values n e back_is some inner_is)
+    ∙ failed)

@@ -1,6 +1,8 @@
 -- The turns of the loops that evaluate lists.
-use Rattle.std.proofs.Common.{◌≡◌, refl, sym, ap, subst, ◌∙◌, ℕ, ◌+◌, ◌<◌, Bool, List, [], ◌∷◌, ◌++◌, length, reverse, drop, map, arith}
-use Rattle.std.specs.Prelude.{true, false, if◌then◌else◌, IfOk, IfErr, Result, Ok, Err, Option, Some, slice_get, option_map, get_or}
+use Rattle.std.proofs.Common.{◌≡◌, refl, sym, ap, subst, ◌∙◌, ℕ, ◌+◌, ◌<◌, Bool, List, [], ◌∷◌, ◌++◌, length, reverse}
+use Rattle.std.proofs.Common.{drop, map, arith}
+use Rattle.std.specs.Prelude.{true, false, if◌then◌else◌, IfOk, IfErr, Result, Ok, Err, Option, Some, slice_get}
+use Rattle.std.specs.Prelude.{option_map, get_or}
 use Rattle.std.proofs.lemmas.List.{length-reverse, length-append, length-map, drop_more}
 use Rattle.std.proofs.lemmas.Option.{slice_get-map, slice_get-get_or}
 use Rattle.awk_text.specs.declared.value.Value.{Value}

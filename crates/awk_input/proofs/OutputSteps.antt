@@ -17,14 +17,17 @@ use Rattle.awk_input.specs.Inputs.{Onward}
 use Rattle.awk_input.specs.Performs.{LeadsOn, Performs}
 
 -- a stream that is open is the world's
-pub open_duty : (numbers : List ℕ) (c : Class) (t : Text) (n : ℕ) (table : Table) → find_stream c t (open_of table) ≡ Some n → Owns numbers table → IsStream numbers n
+pub open_duty : (numbers : List ℕ) (c : Class) (t : Text) (n : ℕ) (table : Table) → find_stream c t (open_of table)
+    ≡ Some n → Owns numbers table → IsStream numbers n
 open_duty numbers c t n table h owns =
     let one = found_once c t (open_of table) n h in
     let all = owns n in
     inr (among_all n numbers (omega (arith, one, all)))
 
 -- a last piece, behind whatever was done
-pub onward_last : {W A : Type 0} {ghosts : Ghosts W} (g : Given) (p q : Piece) (old mid new : Whole) (w w' w'' : W) (r : Result A Halt) →
-    LeadsOn ghosts g p old w (λ l. q ∷ l) mid w' → Performs ghosts g q goes_on mid w' r new w'' → Onward ghosts g p old w (λ l. l) r new w''
+pub onward_last : {W A : Type 0} {ghosts : Ghosts W} (g : Given) (p q : Piece) (old mid new : Whole) (w w' w'' : W)
+    (r : Result A Halt) →
+    LeadsOn ghosts g p old w (λ l. q ∷ l) mid w' → Performs ghosts g q goes_on mid w' r new w''
+    → Onward ghosts g p old w (λ l. l) r new w''
 onward_last g p q old mid new w w' w'' (Ok x) lead task = part x lead task refl
 onward_last g p q old mid new w w' w'' (Err h) lead task = stop h (λ k. refl) lead task refl

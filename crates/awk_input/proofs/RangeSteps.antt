@@ -23,36 +23,49 @@ use Rattle.awk_input.specs.Ranges.{acting, turned_on}
 
 module _ (g : Given) (old : Whole) (n : ℕ) (x : Rule) (y z : Expression) (is : x.when ≡ p.range y z) (v : Value) where
   -- the machine's move, where the range is on or off, and the value holds or not
-  moves_by : (on holds : Bool) → get_or old.0.on n false ≡ on → truth v ≡ holds → (k : List Piece) (hid : Hidden) (c : Course) →
+  moves_by : (on holds : Bool) → get_or old.0.on n false ≡ on → truth v ≡ holds
+      → (k : List Piece) (hid : Hidden) (c : Course) →
       advance g (At (Choosing n x) (v ∷ []) ∷ k) (seen (base g old hid) c)
-      ≡ held g (seen (base g old hid) c) (if on then Goes (action x k) (if holds then machine.with_on n false (seen (base g old hid) c) else seen (base g old hid) c)
-      else (if holds then Goes (At (Choosing n x) [] ∷ k) (machine.with_on n true (seen (base g old hid) c)) else Goes k (seen (base g old hid) c)))
+      ≡ held g (seen (base g old hid) c)
+      (if on then Goes (action x k) (if holds then machine.with_on n false (seen (base g old hid) c) else seen
+      (base g old hid) c)
+      else (if holds then Goes (At (Choosing n x) [] ∷ k) (machine.with_on n true (seen (base g old hid) c)) else Goes k
+      (seen (base g old hid) c)))
   moves_by on holds e f k hid c =
       let s = seen (base g old hid) c in
       ap (λ w. held g s (choose_by w n x (Choosing n x) (v ∷ []) k s)) is
-      ∙ ap (λ b. held g s ((if b then unary (value z) (Choosing n x) (λ u k s. Goes (action x k) (if truth u then machine.with_on n false s else s)) (v ∷ []) k s
-      else unary (value y) (Choosing n x) (λ u k s. if truth u then Goes (At (Choosing n x) [] ∷ k) (machine.with_on n true s) else Goes k s) (v ∷ []) k s))) e
-      ∙ ap (λ h. held g s (if on then Goes (action x k) (if h then machine.with_on n false s else s) else (if h then Goes (At (Choosing n x) [] ∷ k) (machine.with_on n true s) else Goes k s))) f
+      ∙ ap (λ b. held g s ((if b then unary (value z) (Choosing n x)
+      (λ u k s. Goes (action x k) (if truth u then machine.with_on n false s else s)) (v ∷ []) k s
+      else unary (value y) (Choosing n x) (λ u k s. if truth u then Goes (At (Choosing n x) [] ∷ k)
+      (machine.with_on n true s) else Goes k s) (v ∷ []) k s))) e
+      ∙ ap (λ h. held g s (if on then Goes (action x k) (if h then machine.with_on n false s else s) else
+      (if h then Goes (At (Choosing n x) [] ∷ k) (machine.with_on n true s) else Goes k s))) f
 
-  agrees_on : (b : Bool) (hid : Hidden) (c : Course) → Agreeing g old hid c → Agreeing g (with_on n b old.0, old.1) hid c
+  agrees_on : (b : Bool) (hid : Hidden) (c : Course) → Agreeing g old hid c
+      → Agreeing g (with_on n b old.0, old.1) hid c
   agrees_on b hid c a = record { tells = a.tells; row = a.row; cells = a.cells; sound = a.sound }
 
-  pub stays_off : get_or old.0.on n false ≡ false → truth v ≡ false → Acts g (At (Choosing n x) (v ∷ [])) (turned_on n x) old (Ok false) old
+  pub stays_off : get_or old.0.on n false ≡ false → truth v ≡ false
+      → Acts g (At (Choosing n x) (v ∷ [])) (turned_on n x) old (Ok false) old
   stays_off e f = done (moves (at_rest _ old) (λ k hid c a. moves_by false false e f k hid c))
 
-  pub turns_so : (new : Kept) → get_or old.0.on n false ≡ false → truth v ≡ true → new ≡ with_on n true old.0 → Acts g (At (Choosing n x) (v ∷ [])) (turned_on n x) old (Ok true) (new, old.1)
+  pub turns_so : (new : Kept) → get_or old.0.on n false ≡ false → truth v ≡ true → new ≡ with_on n true old.0
+      → Acts g (At (Choosing n x) (v ∷ [])) (turned_on n x) old (Ok true) (new, old.1)
   turns_so new e f same =
       subst (λ (u : Kept). Acts g (At (Choosing n x) (v ∷ [])) (turned_on n x) old (Ok true) (u, old.1)) (sym same)
       (done (alters refl (at_rest _ old) (λ k hid c a. (
         hid,
         agrees_on true hid c a,
-        moves_by false true e f k hid c ∙ ap (λ s. Goes (At (Choosing n x) [] ∷ k) (seen s c)) (turns (names_in g) old.0 hid n true),
+        moves_by false true e f k hid c ∙ ap (λ s. Goes (At (Choosing n x) [] ∷ k) (seen s c))
+            (turns (names_in g) old.0 hid n true),
       ))))
 
-  pub stays_on : get_or old.0.on n false ≡ true → truth v ≡ false → Acts g (At (Choosing n x) (v ∷ [])) (acting x) old (Ok (tt {0})) old
+  pub stays_on : get_or old.0.on n false ≡ true → truth v ≡ false → Acts g (At (Choosing n x) (v ∷ [])) (acting x) old
+      (Ok (tt {0})) old
   stays_on e f = done (moves (at_rest _ old) (λ k hid c a. moves_by true false e f k hid c))
 
-  pub turns_off : (new : Kept) → get_or old.0.on n false ≡ true → truth v ≡ true → new ≡ with_on n false old.0 → Acts g (At (Choosing n x) (v ∷ [])) (acting x) old (Ok (tt {0})) (new, old.1)
+  pub turns_off : (new : Kept) → get_or old.0.on n false ≡ true → truth v ≡ true → new ≡ with_on n false old.0
+      → Acts g (At (Choosing n x) (v ∷ [])) (acting x) old (Ok (tt {0})) (new, old.1)
   turns_off new e f same =
       subst (λ (u : Kept). Acts g (At (Choosing n x) (v ∷ [])) (acting x) old (Ok (tt {0})) (u, old.1)) (sym same)
       (done (alters refl (at_rest _ old) (λ k hid c a. (

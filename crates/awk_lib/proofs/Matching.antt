@@ -1,5 +1,6 @@
 -- The search for the matches that are replaced.
-use Rattle.std.proofs.Common.{◌≡◌, ℕ, zero, suc, ◌+◌, ◌≤◌, ◌<◌, inl, inr, true, false, List, [], ◌∷◌, length, Option, Some, None, arith}
+use Rattle.std.proofs.Common.{◌≡◌, ℕ, zero, suc, ◌+◌, ◌≤◌, ◌<◌, inl, inr, true, false, List, [], ◌∷◌, length, Option}
+use Rattle.std.proofs.Common.{Some, None, arith}
 use Rattle.std.proofs.lemmas.Bool.Decides.{nat_tests}
 use Rattle.awk_ere.specs.Pattern.{Pattern, empty, bytes, start, finish, cat, alt, repeat, Chain, Matches}
 use Rattle.awk_ere.specs.Spelled.{Finds}
@@ -27,7 +28,11 @@ pub record Stands (text : List ℕ) (from i j : ℕ) : Type 0 where
   pub inside : j ≤ length text
 
 pub stands : (source text : List ℕ) (from i j : ℕ) → Finds source text from (Some (i, j)) → Stands text from i j
-stands source text from i j (p, is, best) = record { after = best.after; ordered = match_le text p i j best.matches; inside = best.within }
+stands source text from i j (p, is, best) = record {
+  after = best.after;
+  ordered = match_le text p i j best.matches;
+  inside = best.within;
+}
 
 -- the search goes on behind the start of the match, and not before its end
 pub record Past (i j next : ℕ) : Type 0 where
@@ -36,7 +41,12 @@ pub record Past (i j next : ℕ) : Type 0 where
   pub most : next ≤ j + 1
 
 pub past : (i j : ℕ) → i ≤ j → Past i j (next_from (i, j))
-past i j le = record { behind = grind (arith, nat_tests); least = grind (arith, nat_tests); most = grind (arith, nat_tests) }
+past i j le = record {
+  behind = grind (arith, nat_tests);
+  least = grind (arith, nat_tests);
+  most =
+      grind (arith, nat_tests);
+}
 
 -- the search has come from one place to another, and nothing is replaced between
 pub record Reaches (source text : List ℕ) (from : ℕ) (last : Option ℕ) (at : ℕ) : Type 0 where
@@ -47,7 +57,8 @@ pub reaches_begin : (source text : List ℕ) (from : ℕ) (last : Option ℕ) �
 reaches_begin source text from last = record { low = omega arith; leads = λ rest h. h }
 
 module _ (source text : List ℕ) (from : ℕ) (last : Option ℕ) (at : ℕ) (r : Reaches source text from last at) where
-  pub reaches_on : (i j : ℕ) → Finds source text at (Some (i, j)) → is_passed last (i, j) ≡ true → Reaches source text from last (next_from (i, j))
+  pub reaches_on : (i j : ℕ) → Finds source text at (Some (i, j)) → is_passed last (i, j) ≡ true
+      → Reaches source text from last (next_from (i, j))
   reaches_on i j found is =
       let there = stands source text at i j found in
       let behind = past i j there.ordered in
@@ -62,7 +73,8 @@ module _ (source text : List ℕ) (from : ℕ) (last : Option ℕ) (at : ℕ) (r
   pub reaches_end : length text < at → IsNextMatch source text from last None
   reaches_end lt = r.leads [] (behind at last lt)
 
-  pub reaches_one : (i j : ℕ) → Finds source text at (Some (i, j)) → is_passed last (i, j) ≡ false → IsNextMatch source text from last (Some (i, j))
+  pub reaches_one : (i j : ℕ) → Finds source text at (Some (i, j)) → is_passed last (i, j) ≡ false
+      → IsNextMatch source text from last (Some (i, j))
   reaches_one i j found is =
       let there = stands source text at i j found in
       record {

@@ -1,12 +1,14 @@
 -- A program that grows by what an item is.
-use Rattle.std.proofs.Common.{◌≡◌, ◌∙◌, Bool, List, [], ◌∷◌, ◌++◌, map, Result, Ok, Err, IfOk, OnOk, ap, refl, subst, append-nil, append_assoc}
+use Rattle.std.proofs.Common.{◌≡◌, ◌∙◌, Bool, List, [], ◌∷◌, ◌++◌, map, Result, Ok, Err, IfOk, OnOk, ap, refl, subst}
+use Rattle.std.proofs.Common.{append-nil, append_assoc}
 use Rattle.awk_tree.specs.Tree.{Text, Entry}
 use Rattle.awk_program.specs.declared.program.GlobalName.{GlobalName}
 use Rattle.awk_program.specs.declared.program.Program as code
 use Rattle.awk_program.specs.Program.{Statement, Rule, Function, Program}
 use Rattle.awk_program.specs.View.{Names, view_by, view_program}
 use Rattle.awk_lowering.specs.Scopes.{Scope}
-use Rattle.awk_lowering.specs.Programs.{functions_of, begins_of, ends_of, rules_of, each, names, program, with_entry, with_entries}
+use Rattle.awk_lowering.specs.Programs.{functions_of, begins_of, ends_of, rules_of, each, names, program, with_entry}
+use Rattle.awk_lowering.specs.Programs.{with_entries}
 use Rattle.awk_resolve.specs.Tables.{Tables}
 
 -- what is said of equal names and scopes

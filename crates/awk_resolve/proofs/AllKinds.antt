@@ -1,5 +1,6 @@
 -- The marks of the numbers are the kinds of the names.
-use Rattle.std.proofs.Common.{◌≡◌, ◌∙◌, ◌↔◌, ℕ, Bool, true, false, List, [], replicate, refl, sym, ap, Option, Some, None, slice_get}
+use Rattle.std.proofs.Common.{◌≡◌, ◌∙◌, ◌↔◌, ℕ, Bool, true, false, List, [], replicate, refl, sym, ap, Option, Some}
+use Rattle.std.proofs.Common.{None, slice_get}
 use Rattle.awk_text.specs.declared.place.Place.{Place}
 use Rattle.awk_tree.specs.Tree.{Text}
 use Rattle.awk_tree.specs.declared.names.Name.{Name}
@@ -16,9 +17,11 @@ use Rattle.awk_resolve.specs.declared.numbers.Numbers.{Numbers}
 use Rattle.awk_resolve.specs.declared.uses.Use.{Use}
 use Rattle.awk_resolve.specs.declared.kinds.Kinds.{Kinds}
 use Rattle.awk_resolve.proofs.Meant.{injective}
-use Rattle.awk_resolve.proofs.Kinding.{scalars_mean, arrays_mean, scalars_reached, arrays_reached, function_known, function_found}
+use Rattle.awk_resolve.proofs.Kinding.{scalars_mean, arrays_mean, scalars_reached, arrays_reached, function_known}
+use Rattle.awk_resolve.proofs.Kinding.{function_found}
 
-mark_true : (marks : List Bool) (o : Option ℕ) → is_marked marks o ≡ true → (n : ℕ) × (o ≡ Some n) × (slice_get marks n ≡ Some true)
+mark_true : (marks : List Bool) (o : Option ℕ) → is_marked marks o ≡ true → (n : ℕ) × (o ≡ Some n)
+    × (slice_get marks n ≡ Some true)
 mark_true marks None e = cc
 mark_true marks (Some n) e = (n, refl, by (slice_get marks n) e)
   where
@@ -26,11 +29,13 @@ mark_true marks (Some n) e = (n, refl, by (slice_get marks n) e)
     by None h = cc
     by (Some b) h = ap Some h
 
-true_mark : (marks : List Bool) (o : Option ℕ) (n : ℕ) → o ≡ Some n → slice_get marks n ≡ Some true → is_marked marks o ≡ true
+true_mark : (marks : List Bool) (o : Option ℕ) (n : ℕ) → o ≡ Some n → slice_get marks n ≡ Some true
+    → is_marked marks o ≡ true
 true_mark marks o n e f = ap (is_marked marks) e ∙ ap is_set f
 
 -- only what an item defines is a function
-function_only : (parts : List Section) (a : Named) (kind : Kind) → kind ≡ k.function → Forced parts a kind → (g : Name) × (ps : List Name) × Defines parts g ps × (a ≡ global g.text)
+function_only : (parts : List Section) (a : Named) (kind : Kind) → kind ≡ k.function → Forced parts a kind → (g : Name)
+    × (ps : List Name) × Defines parts g ps × (a ≡ global g.text)
 function_only parts a kind e (k.own_scalar x c) = absurd (cc)
 function_only parts a kind e (k.own_array x c) = absurd (cc)
 function_only parts a kind e (k.defined f ps d) = (f, ps, d, refl)
@@ -84,25 +89,33 @@ module _ (parts : List Section) (well : (place : Place) → Misdefined parts pla
           rw (global_text x g.text same) (function_found parts well g ps d)
 
   no_parameter : (f x : Text) → (false ≡ true) ↔ Forced parts (parameter f x) k.function
-  no_parameter f x = ((λ e. absurd (cc)), (λ forced. let (g, ps, d, same) = function_only parts (parameter f x) k.function refl forced in absurd (cc)))
+  no_parameter f x = (
+    (λ e. absurd (cc)),
+    (λ forced. let (g, ps, d, same) = function_only parts (parameter f x) k.function refl forced in absurd (cc)),
+  )
 
-  pub all_kinds : (c : Kinds) → c.numbers ≡ t → Marks (u.scalars us) table c.scalars → AreArrays us table c.arrays → AreKinds parts c
+  pub all_kinds : (c : Kinds) → c.numbers ≡ t → Marks (u.scalars us) table c.scalars → AreArrays us table c.arrays
+      → AreKinds parts c
   all_kinds c e hs (measured, are, ha) = by
     where
       scalars_kind : (a : Named) → (is_marked c.scalars (number t a) ≡ true) ↔ Forced parts a k.scalar
-      scalars_kind = marks_kind (λ a. Forced parts a k.scalar) (u.scalars us) table c.scalars (scalars_mean parts well) (λ a f. scalars_reached parts well a k.scalar refl f) hs
+      scalars_kind = marks_kind (λ a. Forced parts a k.scalar) (u.scalars us) table c.scalars (scalars_mean parts well)
+          (λ a f. scalars_reached parts well a k.scalar refl f) hs
 
       arrays_kind : (a : Named) → (is_marked c.arrays (number t a) ≡ true) ↔ Forced parts a k.array
       arrays_kind =
-          marks_kind (λ a. Forced parts a k.array) (u.arrays us) (u.with_back_links measured us table) c.arrays (arrays_mean parts well measured are)
+          marks_kind (λ a. Forced parts a k.array) (u.arrays us) (u.with_back_links measured us table) c.arrays
+          (arrays_mean parts well measured are)
           (λ a f. arrays_reached parts well measured are a k.array refl f) ha
 
       by : (a : Named) (kind : Kind) → (has c a kind ≡ true) ↔ Forced parts a kind
       by a k.scalar =
-          let same : is_marked c.scalars (number c.numbers a) ≡ is_marked c.scalars (number t a) = ap (λ z. is_marked c.scalars (number z a)) e in
+          let same : is_marked c.scalars (number c.numbers a) ≡ is_marked c.scalars (number t a) =
+          ap (λ z. is_marked c.scalars (number z a)) e in
           ((λ h. (scalars_kind a).0 (sym same ∙ h)), (λ f. same ∙ (scalars_kind a).1 f))
       by a k.array =
-          let same : is_marked c.arrays (number c.numbers a) ≡ is_marked c.arrays (number t a) = ap (λ z. is_marked c.arrays (number z a)) e in
+          let same : is_marked c.arrays (number c.numbers a) ≡ is_marked c.arrays (number t a) =
+          ap (λ z. is_marked c.arrays (number z a)) e in
           ((λ h. (arrays_kind a).0 (sym same ∙ h)), (λ f. same ∙ (arrays_kind a).1 f))
       by (global x) k.function =
           let same : is_function c.numbers x ≡ is_function t x = ap (λ z. is_function z x) e in
@@ -110,10 +123,13 @@ module _ (parts : List Section) (well : (place : Place) → Misdefined parts pla
       by (parameter f x) k.function = no_parameter f x
 
 -- as the code finds them, step by step
-pub marked_kinds : (parts : List Section) → ((place : Place) → Misdefined parts place → ⊥) → (c : Kinds) (us : List Use) (scalars : List ℕ) (links : List (List ℕ)) → c.numbers ≡ s.numbers parts
-    → us ≡ u.uses c.numbers parts → scalars ≡ u.scalars us → links ≡ u.linked us (replicate c.numbers.count []) → Marks scalars links c.scalars → AreArrays us links c.arrays → AreKinds parts c
+pub marked_kinds : (parts : List Section) → ((place : Place) → Misdefined parts place → ⊥)
+    → (c : Kinds) (us : List Use) (scalars : List ℕ) (links : List (List ℕ)) → c.numbers ≡ s.numbers parts
+    → us ≡ u.uses c.numbers parts → scalars ≡ u.scalars us → links ≡ u.linked us (replicate c.numbers.count [])
+    → Marks scalars links c.scalars → AreArrays us links c.arrays → AreKinds parts c
 marked_kinds parts well c us scalars links numbered used scalars_are linked hs ha =
-    all_kinds parts well c numbered (λ n. rw (scalars_there, links_there) at (hs n)) (rw (uses_there, links_there) at ha)
+    all_kinds parts well c numbered (λ n. rw (scalars_there, links_there) at (hs n))
+    (rw (uses_there, links_there) at ha)
   where
     uses_there : us ≡ u.uses (s.numbers parts) parts
     uses_there = used ∙ ap (λ z. u.uses z parts) numbered
@@ -122,4 +138,5 @@ marked_kinds parts well c us scalars links numbered used scalars_are linked hs h
     scalars_there = scalars_are ∙ ap u.scalars uses_there
 
     links_there : links ≡ u.linked (u.uses (s.numbers parts) parts) (replicate (s.numbers parts).count [])
-    links_there = linked ∙ (ap (λ z. u.linked z (replicate c.numbers.count [])) uses_there ∙ ap (λ z. u.linked (u.uses (s.numbers parts) parts) (replicate z.count [])) numbered)
+    links_there = linked ∙ (ap (λ z. u.linked z (replicate c.numbers.count [])) uses_there
+        ∙ ap (λ z. u.linked (u.uses (s.numbers parts) parts) (replicate z.count [])) numbered)

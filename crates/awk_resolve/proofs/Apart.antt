@@ -1,5 +1,7 @@
 -- Texts of which each stands once.
-use Rattle.std.proofs.Common.{◌≡◌, ◌∙◌, ℕ, zero, suc, ◌<◌, ◌≤◌, Bool, true, false, ◌||◌, List, [], ◌∷◌, ◌++◌, None, length, get_or, position, if◌then◌else◌, ap, sym, refl, subst, inl, inr, append-nil, append_assoc, arith}
+use Rattle.std.proofs.Common.{◌≡◌, ◌∙◌, ℕ, zero, suc, ◌<◌, ◌≤◌, Bool, true, false, ◌||◌, List, [], ◌∷◌, ◌++◌, None}
+use Rattle.std.proofs.Common.{length, get_or, position, if◌then◌else◌, ap, sym, refl, subst, inl, inr, append-nil}
+use Rattle.std.proofs.Common.{append_assoc, arith}
 use Rattle.std.specs.List.{list_any}
 use Rattle.std.specs.Str.{bytes_eq}
 use Rattle.std.proofs.lemmas.Slice.Eq.{bytes_eq-Decides}
@@ -52,19 +54,29 @@ apart_behind old [] h = h
 apart_behind old (x ∷ xs) h = apart_behind (added x old) xs (apart_added x old h)
 
 own_apart : Apart (scalars ++ arrays)
-own_apart = (refl, (refl, (refl, (refl, (refl, (refl, (refl, (refl, (refl, (refl, (refl, (refl, (refl, (refl, (refl, (refl, tt))))))))))))))))
+own_apart = (
+  refl,
+  (
+    refl,
+    (refl, (refl, (refl, (refl, (refl, (refl, (refl, (refl, (refl, (refl, (refl, (refl, (refl, (refl, tt)))))))))))))),
+  ),
+)
 
 -- ---- by place
 
-not_there : (x : Text) (xs : List Text) (k : ℕ) → list_any (bytes_eq x) xs ≡ false → k < length xs → x ≡ get_or xs k [] → ⊥
-not_there x xs k e h is = false_not_true (list_any (bytes_eq x) xs) e (list_any_at (bytes_eq x) xs k [] h ((bytes_eq-Decides x (get_or xs k [])).1 is))
+not_there : (x : Text) (xs : List Text) (k : ℕ) → list_any (bytes_eq x) xs ≡ false → k < length xs → x ≡ get_or xs k []
+    → ⊥
+not_there x xs k e h is = false_not_true (list_any (bytes_eq x) xs) e (list_any_at (bytes_eq x) xs k [] h
+    ((bytes_eq-Decides x (get_or xs k [])).1 is))
 
-one_place : (xs : List Text) (j k : ℕ) → Apart xs → j < length xs → k < length xs → get_or xs j [] ≡ get_or xs k [] → j ≡ k
+one_place : (xs : List Text) (j k : ℕ) → Apart xs → j < length xs → k < length xs → get_or xs j [] ≡ get_or xs k []
+    → j ≡ k
 one_place [] j k h i m e = absurd (omega (arith, i))
 one_place (x ∷ xs) zero zero h i m e = refl
 one_place (x ∷ xs) zero (suc k) h i m e = absurd (not_there x xs k h.0 (omega (arith, m)) e)
 one_place (x ∷ xs) (suc j) zero h i m e = absurd (not_there x xs j h.0 (omega (arith, i)) (sym e))
-one_place (x ∷ xs) (suc j) (suc k) h i m e = ap (λ n. suc n) (one_place xs j k h.1 (omega (arith, i)) (omega (arith, m)) e)
+one_place (x ∷ xs) (suc j) (suc k) h i m e =
+    ap (λ n. suc n) (one_place xs j k h.1 (omega (arith, i)) (omega (arith, m)) e)
 
 past : (xs : List Text) (k : ℕ) → length xs ≤ k → get_or xs k [] ≡ []
 past [] k h = refl

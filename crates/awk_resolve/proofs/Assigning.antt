@@ -28,17 +28,24 @@ never : (b : Bool) → (b ≡ true → ⊥) → not b ≡ true
 never true n = absurd (n refl)
 never false n = refl
 
-pub may_assign : (parts : List Section) (c : Kinds) (x : Text) → AreKinds parts c → (can_assign c x ≡ true) ↔ CanAssign parts x
+pub may_assign : (parts : List Section) (c : Kinds) (x : Text) → AreKinds parts c
+    → (can_assign c x ≡ true) ↔ CanAssign parts x
 may_assign parts c x kinds = (forward, back)
   where
     forward : can_assign c x ≡ true → CanAssign parts x
     forward e =
         let (named, e2) = both (is_name x) _ e in
         let (word, e3) = both (is_none (reserved x)) _ e2 in
-        let (array, function) = both (not (has c (global x) k.array)) _ e3 in
-        (named, no_word (reserved x) word, (λ f. is_not (has c (global x) k.array) array ((kinds (global x) k.array).1 f)), (λ f. is_not (has c (global x) k.function) function ((kinds (global x) k.function).1 f)))
+        let (array, function) = both (not (has c (global x) k.array)) _ e3 in (
+          named,
+          no_word (reserved x) word,
+          (λ f. is_not (has c (global x) k.array) array ((kinds (global x) k.array).1 f)),
+          (λ f. is_not (has c (global x) k.function) function ((kinds (global x) k.function).1 f)),
+        )
 
     back : CanAssign parts x → can_assign c x ≡ true
     back (named, word, array, function) =
-        all_four (is_name x) (is_none (reserved x)) (not (has c (global x) k.array)) (not (has c (global x) k.function)) named (ap is_none word)
-        (never (has c (global x) k.array) (λ h. array ((kinds (global x) k.array).0 h))) (never (has c (global x) k.function) (λ h. function ((kinds (global x) k.function).0 h)))
+        all_four (is_name x) (is_none (reserved x)) (not (has c (global x) k.array)) (not (has c (global x) k.function))
+        named (ap is_none word)
+        (never (has c (global x) k.array) (λ h. array ((kinds (global x) k.array).0 h)))
+        (never (has c (global x) k.function) (λ h. function ((kinds (global x) k.function).0 h)))

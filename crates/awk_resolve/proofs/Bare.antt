@@ -1,18 +1,21 @@
 -- Trees without places say what the trees say, places aside.
-use Rattle.std.proofs.Common.{◌≡◌, Bool, true, false, List, [], ◌∷◌, ◌++◌, map, ap, sym, refl, Option, Some, None, option_map}
+use Rattle.std.proofs.Common.{◌≡◌, Bool, true, false, List, [], ◌∷◌, ◌++◌, map, ap, sym, refl, Option, Some, None}
+use Rattle.std.proofs.Common.{option_map}
 use Rattle.std.proofs.lemmas.List.{map-append}
 use Rattle.awk_text.specs.declared.place.Place.{Place}
 use Rattle.awk_tree.specs.declared.names.Name.{Name}
 use Rattle.awk_tree.specs.declared.names.Member.{Member}
 use Rattle.awk_tree.specs.declared.statements.Redirection.{Redirection}
 use Rattle.awk_tree.specs.Tree as t
-use Rattle.awk_tree.specs.Tree.{Tree, Trees, Perhaps, Terms, Pipes, Statement, Statements, Condition, Entry, trees_of, perhaps_of, statements_of}
+use Rattle.awk_tree.specs.Tree.{Tree, Trees, Perhaps, Terms, Pipes, Statement, Statements, Condition, Entry, trees_of}
+use Rattle.awk_tree.specs.Tree.{perhaps_of, statements_of}
 use Rattle.awk_tree.specs.Terminals.{nowhere}
 use Rattle.awk_tokens.specs.declared.words.Builtin.{Builtin}
 use Rattle.awk_tokens.specs.declared.words.Jump.{Jump}
 use Rattle.awk_tokens.specs.declared.words.Jump.TheVariants as j
 use Rattle.awk_tokens.specs.declared.words.Builtin.TheVariants as b
-use Rattle.awk_tree.specs.Canon.{bare, bare_all, bare_perhaps, bare_terms, bare_pipes, bare_name, bare_member, bare_redirection, bare_statement, bare_statements, bare_condition, bare_entry}
+use Rattle.awk_tree.specs.Canon.{bare, bare_all, bare_perhaps, bare_terms, bare_pipes, bare_name, bare_member}
+use Rattle.awk_tree.specs.Canon.{bare_redirection, bare_statement, bare_statements, bare_condition, bare_entry}
 use Rattle.awk_resolve.specs.declared.mention.Mention.{Mention}
 use Rattle.awk_resolve.specs.declared.mention.Mention.TheVariants.{Scalar, Array, Return}
 use Rattle.awk_resolve.specs.declared.mention.Role.TheVariants as role
@@ -20,7 +23,8 @@ use Rattle.awk_resolve.specs.Mentions as m
 use Rattle.awk_resolve.specs.Mentions.{mentions, each, arguments, perhaps, terms, pipes, said, each_said, part}
 use Rattle.awk_resolve.specs.Bare.{bare_mention, bare_part}
 
-both : (xs ys : List Mention) (us vs : List Mention) → us ≡ map bare_mention xs → vs ≡ map bare_mention ys → us ++ vs ≡ map bare_mention (xs ++ ys)
+both : (xs ys : List Mention) (us vs : List Mention) → us ≡ map bare_mention xs → vs ≡ map bare_mention ys
+    → us ++ vs ≡ map bare_mention (xs ++ ys)
 both xs ys us vs d e = rw (d, e) (sym (map-append bare_mention xs ys))
 
 -- ---- expressions
@@ -41,7 +45,8 @@ bare_source : (x : Perhaps) → m.source (bare_perhaps x) ≡ map bare_mention (
 bare_source t.absent = refl
 bare_source (t.present x) = refl
 
-bare_argument : (n : Option Name) (ms : List Mention) → m.argument (option_map bare_name n) (map bare_mention ms) ≡ map bare_mention (m.argument n ms)
+bare_argument : (n : Option Name) (ms : List Mention) → m.argument (option_map bare_name n) (map bare_mention ms)
+    ≡ map bare_mention (m.argument n ms)
 bare_argument None ms = refl
 bare_argument (Some n) ms = refl
 
@@ -50,11 +55,13 @@ bare_alone t.none = refl
 bare_alone (t.more x t.none) = bare_named x
 bare_alone (t.more x (t.more y ys)) = refl
 
-bare_measured : (which : Builtin) (xs : Trees) → m.measured which (bare_all xs) ≡ option_map bare_name (m.measured which xs)
+bare_measured : (which : Builtin) (xs : Trees) → m.measured which (bare_all xs) ≡ option_map bare_name
+    (m.measured which xs)
 bare_measured b.Length xs = bare_alone xs
 bare_measured which xs = refl
 
-bare_built : (n : Option Name) (ms : List Mention) → m.built (option_map bare_name n) (map bare_mention ms) ≡ map bare_mention (m.built n ms)
+bare_built : (n : Option Name) (ms : List Mention) → m.built (option_map bare_name n) (map bare_mention ms)
+    ≡ map bare_mention (m.built n ms)
 bare_built None ms = refl
 bare_built (Some n) ms = refl
 
@@ -68,11 +75,15 @@ mutual
   bare_mentions (t.field p x) = bare_mentions x
   bare_mentions (t.paren p x) = bare_mentions x
   bare_mentions (t.call f xs) = rw (bare_bares xs, bare_arguments xs) refl
-  bare_mentions (t.builtin p which xs) = rw (bare_measured which xs, bare_each xs) (bare_built (m.measured which xs) (each xs))
+  bare_mentions (t.builtin p which xs) = rw (bare_measured which xs, bare_each xs)
+      (bare_built (m.measured which xs) (each xs))
   bare_mentions (t.bare_length p) = refl
-  bare_mentions (t.split p x n y) = both (mentions x) (Array n ∷ perhaps y) _ _ (bare_mentions x) (ap (λ l. Array (bare_name n) ∷ l) (bare_optional y))
-  bare_mentions (t.substitute p all x y z) = both (mentions x) (mentions y ++ perhaps z) _ _ (bare_mentions x) (both (mentions y) (perhaps z) _ _ (bare_mentions y) (bare_optional z))
-  bare_mentions (t.getline p x y) = both (m.source y) (perhaps x ++ perhaps y) _ _ (bare_source y) (both (perhaps x) (perhaps y) _ _ (bare_optional x) (bare_optional y))
+  bare_mentions (t.split p x n y) = both (mentions x) (Array n ∷ perhaps y) _ _ (bare_mentions x)
+      (ap (λ l. Array (bare_name n) ∷ l) (bare_optional y))
+  bare_mentions (t.substitute p all x y z) = both (mentions x) (mentions y ++ perhaps z) _ _ (bare_mentions x)
+      (both (mentions y) (perhaps z) _ _ (bare_mentions y) (bare_optional z))
+  bare_mentions (t.getline p x y) = both (m.source y) (perhaps x ++ perhaps y) _ _ (bare_source y)
+      (both (perhaps x) (perhaps y) _ _ (bare_optional x) (bare_optional y))
   bare_mentions (t.before p s x) = bare_mentions x
   bare_mentions (t.after x p s) = bare_mentions x
   bare_mentions (t.signed p s x) = bare_mentions x
@@ -87,7 +98,8 @@ mutual
   bare_mentions (t.member x ms) = both (mentions x) (m.members ms) _ _ (bare_mentions x) (bare_members ms)
   bare_mentions (t.and x xs) = both (mentions x) (each xs) _ _ (bare_mentions x) (bare_each xs)
   bare_mentions (t.or x xs) = both (mentions x) (each xs) _ _ (bare_mentions x) (bare_each xs)
-  bare_mentions (t.choose x y z) = both (mentions x) (mentions y ++ mentions z) _ _ (bare_mentions x) (both (mentions y) (mentions z) _ _ (bare_mentions y) (bare_mentions z))
+  bare_mentions (t.choose x y z) = both (mentions x) (mentions y ++ mentions z) _ _ (bare_mentions x)
+      (both (mentions y) (mentions z) _ _ (bare_mentions y) (bare_mentions z))
   bare_mentions (t.assign x p a y) = both (mentions x) (mentions y) _ _ (bare_mentions x) (bare_mentions y)
 
   bare_each : (xs : Trees) → each (bare_all xs) ≡ map bare_mention (each xs)
@@ -96,7 +108,8 @@ mutual
 
   bare_arguments : (xs : Trees) → arguments (bare_all xs) ≡ map bare_mention (arguments xs)
   bare_arguments t.none = refl
-  bare_arguments (t.more x xs) = both (m.argument (m.bare x) (mentions x)) (arguments xs) _ _ (rw (bare_named x, bare_mentions x) (bare_argument (m.bare x) (mentions x))) (bare_arguments xs)
+  bare_arguments (t.more x xs) = both (m.argument (m.bare x) (mentions x)) (arguments xs) _ _
+      (rw (bare_named x, bare_mentions x) (bare_argument (m.bare x) (mentions x))) (bare_arguments xs)
 
   bare_optional : (x : Perhaps) → perhaps (bare_perhaps x) ≡ map bare_mention (perhaps x)
   bare_optional t.absent = refl
@@ -128,7 +141,8 @@ bare_leaving : (inside : Bool) (p : Place) → m.leaving inside nowhere ≡ map 
 bare_leaving true p = refl
 bare_leaving false p = refl
 
-bare_jumped : (inside : Bool) (p : Place) (which : Jump) → m.jumped inside nowhere which ≡ map bare_mention (m.jumped inside p which)
+bare_jumped : (inside : Bool) (p : Place) (which : Jump) → m.jumped inside nowhere which ≡ map bare_mention
+    (m.jumped inside p which)
 bare_jumped inside p j.Break = bare_leaving inside p
 bare_jumped inside p j.Continue = bare_leaving inside p
 bare_jumped inside p _ = refl
@@ -146,15 +160,20 @@ mutual
   bare_said inside (t.return p x) = ap (λ l. Return nowhere ∷ l) (bare_perhaps_said x)
   bare_said inside (t.block xs) = bare_each_said inside xs
   bare_said inside (t.if_then x s) = both (mentions x) (said inside s) _ _ (bare_mentions x) (bare_said inside s)
-  bare_said inside (t.if_else x s u) = both (mentions x) (said inside s ++ said inside u) _ _ (bare_mentions x) (both (said inside s) (said inside u) _ _ (bare_said inside s) (bare_said inside u))
+  bare_said inside (t.if_else x s u) = both (mentions x) (said inside s ++ said inside u) _ _ (bare_mentions x)
+      (both (said inside s) (said inside u) _ _ (bare_said inside s) (bare_said inside u))
   bare_said inside (t.while_do x s) = both (mentions x) (said true s) _ _ (bare_mentions x) (bare_said true s)
   bare_said inside (t.do_while s x) = both (said true s) (mentions x) _ _ (bare_said true s) (bare_mentions x)
   bare_said inside (t.for_each p k a s) = ap (λ l. Scalar (bare_name k) ∷ (Array (bare_name a) ∷ l)) (bare_said true s)
-  bare_said inside (t.for_loop x y z s) = both (m.optional x) (m.optional y ++ (m.optional z ++ said true s)) _ _ (bare_perhaps_said x) (both (m.optional y) (m.optional z ++ said true s) _ _ (bare_perhaps_said y) (both (m.optional z) (said true s) _ _ (bare_perhaps_said z) (bare_said true s)))
+  bare_said inside (t.for_loop x y z s) = both (m.optional x) (m.optional y ++ (m.optional z ++ said true s)) _ _
+      (bare_perhaps_said x) (both (m.optional y) (m.optional z ++ said true s) _ _ (bare_perhaps_said y)
+      (both (m.optional z) (said true s) _ _ (bare_perhaps_said z) (bare_said true s)))
 
-  bare_each_said : (inside : Bool) (xs : Statements) → each_said inside (bare_statements xs) ≡ map bare_mention (each_said inside xs)
+  bare_each_said : (inside : Bool) (xs : Statements) → each_said inside (bare_statements xs) ≡ map bare_mention
+      (each_said inside xs)
   bare_each_said inside t.no_more = refl
-  bare_each_said inside (t.then_also x xs) = both (said inside x) (each_said inside xs) _ _ (bare_said inside x) (bare_each_said inside xs)
+  bare_each_said inside (t.then_also x xs) = both (said inside x) (each_said inside xs) _ _ (bare_said inside x)
+      (bare_each_said inside xs)
 
 bare_all_said : (xs : List Statement) → m.all_said (map bare_statement xs) ≡ map bare_mention (m.all_said xs)
 bare_all_said [] = refl
@@ -171,8 +190,13 @@ bare_item (t.at_begin xs) = ap (λ ms. record { role = role.Begin; mentions = ms
 bare_item (t.at_end xs) = ap (λ ms. record { role = role.End; mentions = ms }) (bare_all_said xs)
 bare_item (t.always xs) = ap (λ ms. record { role = role.Rule; mentions = ms }) (bare_all_said xs)
 bare_item (t.shown c) = ap (λ ms. record { role = role.Rule; mentions = ms }) (bare_conditions c)
-bare_item (t.rule c xs) = ap (λ ms. record { role = role.Rule; mentions = ms }) (both (m.conditions c) (m.all_said xs) _ _ (bare_conditions c) (bare_all_said xs))
-bare_item (t.function f ps xs) = ap (λ ms. record { role = role.Function (bare_name f) (map bare_name ps); mentions = ms }) (bare_all_said xs)
+bare_item (t.rule c xs) = ap (λ ms. record { role = role.Rule; mentions = ms })
+    (both (m.conditions c) (m.all_said xs) _ _ (bare_conditions c) (bare_all_said xs))
+bare_item (t.function f ps xs) = ap (λ ms. record {
+  role = role.Function (bare_name f) (map bare_name ps);
+  mentions =
+      ms;
+}) (bare_all_said xs)
 
 pub bare_parts : (xs : List Entry) → map part (map bare_entry xs) ≡ map bare_part (map part xs)
 bare_parts [] = refl

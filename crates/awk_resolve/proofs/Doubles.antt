@@ -1,5 +1,6 @@
 -- Where no number is marked twice and no function has the name of a variable, no name has two kinds.
-use Rattle.std.proofs.Common.{◌≡◌, ◌≢◌, ◌∙◌, ◌⊎◌, inl, inr, ◌+◌, ◌<◌, ◌≤◌, ◌++◌, [], ◌∷◌, ℕ, true, List, refl, sym, ap, Option, Some, None, Contains, length, get_or, take}
+use Rattle.std.proofs.Common.{◌≡◌, ◌≢◌, ◌∙◌, ◌⊎◌, inl, inr, ◌+◌, ◌<◌, ◌≤◌, ◌++◌, [], ◌∷◌, ℕ, true, List, refl, sym, ap}
+use Rattle.std.proofs.Common.{Option, Some, None, Contains, length, get_or, take}
 use Rattle.std.proofs.lemmas.List.{take_more, take_all}
 use Rattle.std.proofs.lemmas.List.Elements.{Contains-push_cases}
 use Rattle.std.specs.Map.{lookup}
@@ -27,9 +28,11 @@ use Rattle.awk_resolve.proofs.Numbered.{scope_known}
 use Rattle.awk_resolve.proofs.Reaching.{at_found}
 
 -- where no function so far is double, and this one neither
-pub more_double : (c : Kinds) (ps : List Section) (i : ℕ) (p : Section) → i < length ps → p ≡ get_or ps i p → (s.AnyDouble c (take i ps) → ⊥) → (s.IsDouble c p.role → ⊥)
+pub more_double : (c : Kinds) (ps : List Section) (i : ℕ) (p : Section) → i < length ps → p ≡ get_or ps i p
+    → (s.AnyDouble c (take i ps) → ⊥) → (s.IsDouble c p.role → ⊥)
     → s.AnyDouble c (take (i + 1) ps) → ⊥
-more_double c ps i p h e none not_this (q, there, double) = by q double (Contains-push_cases (take i ps) p q (rw more at there))
+more_double c ps i p h e none not_this (q, there, double) =
+    by q double (Contains-push_cases (take i ps) p q (rw more at there))
   where
     more : take (i + 1) ps ≡ take i ps ++ p ∷ []
     more = take_more ps i p h ∙ ap (λ y. take i ps ++ y ∷ []) (sym e)
@@ -38,7 +41,8 @@ more_double c ps i p h e none not_this (q, there, double) = by q double (Contain
     by q double (inl before) = none (q, before, double)
     by q double (inr same) = not_this (rw (← same) at double)
 
-pub all_double : (c : Kinds) (ps : List Section) (i : ℕ) → length ps ≤ i → (s.AnyDouble c (take i ps) → ⊥) → s.AnyDouble c ps → ⊥
+pub all_double : (c : Kinds) (ps : List Section) (i : ℕ) → length ps ≤ i → (s.AnyDouble c (take i ps) → ⊥)
+    → s.AnyDouble c ps → ⊥
 all_double c ps i h none = rw (take_all i ps h) at none
 
 module _ (parts : List Section) (well : (place : Place) → Misdefined parts place → ⊥) where
@@ -52,15 +56,18 @@ module _ (parts : List Section) (well : (place : Place) → Misdefined parts pla
   function_global role.Rule x is = refl
   function_global (role.Function f qs) x is = by (lookup (bytes_eq f.text) t.functions) refl
     where
-      inside : (c : Scope) → lookup (bytes_eq f.text) t.functions ≡ Some c → (o : Option ℕ) → in_scope c x ≡ o → option_or o (number t (global x)) ≡ number t (global x)
+      inside : (c : Scope) → lookup (bytes_eq f.text) t.functions ≡ Some c → (o : Option ℕ) → in_scope c x ≡ o
+          → option_or o (number t (global x)) ≡ number t (global x)
       inside c l None e = refl
       inside c l (Some n) e =
           let (g, ps, base, d, same, scoped) = scopes parts well f.text c l in
           let (i, q, at, text, there) = scope_known base ps c scoped x n e in
           let (h, hs, def, name) = function_known parts well x is in
-          absurd (well q.place (fault.misnamed q.place (fault.as_function g h ps hs q d (at_found ps i q at) def (name ∙ sym text))))
+          absurd (well q.place (fault.misnamed q.place (fault.as_function g h ps hs q d (at_found ps i q at) def
+          (name ∙ sym text))))
 
-      by : (o : Option Scope) → lookup (bytes_eq f.text) t.functions ≡ o → option_or (in_perhaps o x) (number t (global x)) ≡ number t (global x)
+      by : (o : Option Scope) → lookup (bytes_eq f.text) t.functions ≡ o
+          → option_or (in_perhaps o x) (number t (global x)) ≡ number t (global x)
       by None l = refl
       by (Some c) l = inside c l (in_scope c x) refl
 
@@ -73,7 +80,8 @@ module _ (parts : List Section) (well : (place : Place) → Misdefined parts pla
         marks None e f = cc
         marks (Some n) e f = once (n, e, f)
 
-        plain : number_in c.numbers r x ≡ number_in c.numbers role.Begin x → (one : Kind) → s.has_in c role.Begin x one ≡ s.has_in c r x one
+        plain : number_in c.numbers r x ≡ number_in c.numbers role.Begin x → (one : Kind) → s.has_in c role.Begin x one
+            ≡ s.has_in c r x one
         plain e k.scalar = ap (is_marked c.scalars) (sym e)
         plain e k.array = ap (is_marked c.arrays) (sym e)
         plain e k.function = refl
@@ -81,12 +89,29 @@ module _ (parts : List Section) (well : (place : Place) → Misdefined parts pla
         at_text : (y : Text) → x ≡ y → s.HasTwo c role.Begin x → s.HasTwo c role.Begin y
         at_text y e two = rw e at two
 
-        as_function : is_function c.numbers x ≡ true → (one two : Kind) → s.has_in c r x one ≡ true → s.has_in c r x two ≡ true → one ≢ two → ⊥
+        as_function : is_function c.numbers x ≡ true → (one two : Kind) → s.has_in c r x one ≡ true
+            → s.has_in c r x two ≡ true → one ≢ two → ⊥
         as_function is one two e f apart_kinds =
             let is2 : is_function t x ≡ true = rw same at is in
             let (function, ps, (p, there, defines), name) = function_known parts well x is2 in
-            let whole : number_in c.numbers r x ≡ number_in c.numbers role.Begin x = rw same (function_global r x is2) in
-            apart (p, there, (function, ps, defines, at_text function.text (sym name) (one, two, plain whole one ∙ e, plain whole two ∙ f, apart_kinds)))
+            let whole : number_in c.numbers r x ≡ number_in c.numbers role.Begin x =
+            rw same (function_global r x is2) in
+            apart (
+              p,
+              there,
+              (
+                function,
+                ps,
+                defines,
+                at_text function.text (sym name) (
+                  one,
+                  two,
+                  plain whole one ∙ e,
+                  plain whole two ∙ f,
+                  apart_kinds,
+                ),
+              ),
+            )
 
         by : (one two : Kind) → s.has_in c r x one ≡ true → s.has_in c r x two ≡ true → one ≢ two → ⊥
         by k.scalar k.scalar e f d = d refl

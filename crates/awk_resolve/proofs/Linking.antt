@@ -3,7 +3,8 @@ use Rattle.std.proofs.Common.{◌≡◌, ℕ, zero, suc, ◌≤◌, List, [], �
 use Rattle.std.proofs.Math.ListN.{set}
 use Rattle.awk_resolve.specs.Uses.{with_link}
 
-pub set_link : (table : List (List ℕ)) (p n : ℕ) (ns : List ℕ) → ns ≡ get_or table p ns → set table p (ns ++ n ∷ []) ≡ with_link p n table
+pub set_link : (table : List (List ℕ)) (p n : ℕ) (ns : List ℕ) → ns ≡ get_or table p ns
+    → set table p (ns ++ n ∷ []) ≡ with_link p n table
 set_link [] p n ns e = refl
 set_link (l ∷ ls) zero n ns e = rw e refl
 set_link (l ∷ ls) (suc p) n ns e = ap (λ z. l ∷ z) (set_link ls p n ns e)

@@ -1,5 +1,7 @@
 -- The numbers of a script in which no function and no parameter is misdefined.
-use Rattle.std.proofs.Common.{◌≡◌, ◌⊎◌, inl, inr, ◌∙◌, ℕ, zero, suc, ◌<◌, Bool, true, false, List, [], ◌∷◌, ◌++◌, length, refl, sym, ap, Option, Some, None, Contains, arith, slice_get, append_assoc, if◌then◌else◌}
+use Rattle.std.proofs.Common.{◌≡◌, ◌⊎◌, inl, inr, ◌∙◌, ℕ, zero, suc, ◌<◌, Bool, true, false, List, [], ◌∷◌, ◌++◌}
+use Rattle.std.proofs.Common.{length, refl, sym, ap, Option, Some, None, Contains, arith, slice_get, append_assoc}
+use Rattle.std.proofs.Common.{if◌then◌else◌}
 use Rattle.std.proofs.lemmas.Bool.{cases_order}
 use Rattle.std.proofs.lemmas.List.Elements.{Contains-append_cases, Contains-append_right}
 use Rattle.std.proofs.lemmas.Option.{slice_get_within}
@@ -25,24 +27,31 @@ use Rattle.awk_resolve.specs.Numbers.{number, in_scope, in_perhaps, at_position}
 use Rattle.awk_resolve.specs.Said.{Names}
 use Rattle.awk_resolve.specs.declared.numbers.Scope.{Scope}
 use Rattle.awk_resolve.specs.declared.numbers.Numbers.{Numbers}
-use Rattle.awk_resolve.proofs.Numbered.{Scoped, scope_known, scope_numbers, Injective, Scopes, Grows, Known, grows_on, own_grows, own_known, known_keeps, parts_grow, parts_known, functions_injective, functions_scopes, functions_have, nothing_injective, there_is}
+use Rattle.awk_resolve.proofs.Numbered.{Scoped, scope_known, scope_numbers, Injective, Scopes, Grows, Known, grows_on}
+use Rattle.awk_resolve.proofs.Numbered.{own_grows, own_known, known_keeps, parts_grow, parts_known, functions_injective}
+use Rattle.awk_resolve.proofs.Numbered.{functions_scopes, functions_have, nothing_injective, there_is}
 
 pub texts_at : (ps : List Name) (i : ℕ) (q : Name) → slice_get ps i ≡ Some q → Contains (texts ps) q.text
 texts_at [] i q e = cc
-texts_at (p ∷ ps) zero q e = let same : p ≡ q = cc in let one : p.text ≡ q.text = ap (λ z. z.text) same in rw (← one) (contains_first p.text (texts ps))
+texts_at (p ∷ ps) zero q e =
+    let same : p ≡ q = cc in
+    let one : p.text ≡ q.text = ap (λ z. z.text) same in rw (← one) (contains_first p.text (texts ps))
 texts_at (p ∷ ps) (suc i) q e = let (k, h, f) = texts_at ps i q e in (suc k, omega (arith, h), f)
 
-pub text_of : (ps : List Name) (x : Text) → Contains (texts ps) x → (i : ℕ) × (q : Name) × (slice_get ps i ≡ Some q) × (q.text ≡ x)
+pub text_of : (ps : List Name) (x : Text) → Contains (texts ps) x → (i : ℕ) × (q : Name) × (slice_get ps i ≡ Some q)
+    × (q.text ≡ x)
 text_of [] x c = absurd (omega (arith, c.1))
 text_of (p ∷ ps) x c = elim (contains_cases p.text (texts ps) x c) [
   | inl same ↦ (0, p, refl, same)
   | inr d ↦ let (i, q, e, f) = text_of ps x d in (suc i, q, e, f)
 ]
 
-split_nth : {A : Type 0} (xs : List A) (j : ℕ) (x : A) → slice_get xs j ≡ Some x → (before : List A) × (after : List A) × (xs ≡ before ++ x ∷ after) × (length before ≡ j)
+split_nth : {A : Type 0} (xs : List A) (j : ℕ) (x : A) → slice_get xs j ≡ Some x → (before : List A) × (after : List A)
+    × (xs ≡ before ++ x ∷ after) × (length before ≡ j)
 split_nth [] j x e = cc
 split_nth (y ∷ xs) zero x e = ([], xs, (let same : y ≡ x = cc in ap (λ z. z ∷ xs) same), refl)
-split_nth (y ∷ xs) (suc j) x e = let (before, after, parts, long) = split_nth xs j x e in (y ∷ before, after, ap (λ l. y ∷ l) parts, ap suc long)
+split_nth (y ∷ xs) (suc j) x e =
+    let (before, after, parts, long) = split_nth xs j x e in (y ∷ before, after, ap (λ l. y ∷ l) parts, ap suc long)
 
 in_front : {A : Type 0} (xs ys : List A) (i : ℕ) → i < length xs → slice_get (xs ++ ys) i ≡ slice_get xs i
 in_front [] ys i h = absurd (omega arith)
@@ -51,10 +60,13 @@ in_front (x ∷ xs) ys (suc i) h = in_front xs ys i (omega arith)
 
 module _ (parts : List Section) (well : (place : Place) → Misdefined parts place → ⊥) where
   -- a function is defined once
-  twice : (before after : List Section) (p : Section) (f g : Name) (ps qs : List Name) → parts ≡ before ++ p ∷ after → p.role ≡ role.Function f ps → Defines before g qs → g.text ≡ f.text → ⊥
-  twice before after p f g ps qs e r d same = well f.place (fault.redefined f.place (fault.twice before after p f g ps qs e r d same))
+  twice : (before after : List Section) (p : Section) (f g : Name) (ps qs : List Name) → parts ≡ before ++ p ∷ after
+      → p.role ≡ role.Function f ps → Defines before g qs → g.text ≡ f.text → ⊥
+  twice before after p f g ps qs e r d same =
+      well f.place (fault.redefined f.place (fault.twice before after p f g ps qs e r d same))
 
-  pub function_once : (f g : Name) (ps qs : List Name) → Defines parts f ps → Defines parts g qs → f.text ≡ g.text → ps ≡ qs
+  pub function_once : (f g : Name) (ps qs : List Name) → Defines parts f ps → Defines parts g qs → f.text ≡ g.text
+      → ps ≡ qs
   function_once f g ps qs (p, c, r) (q, d, t) same = by (split_at parts p c)
     where
       by : (mid : List Section) × (after : List Section) × (parts ≡ mid ++ p ∷ after) → ps ≡ qs
@@ -62,11 +74,18 @@ module _ (parts : List Section) (well : (place : Place) → Misdefined parts pla
         where
           later : (mid2 : List Section) × (after2 : List Section) × (after ≡ mid2 ++ q ∷ after2) → ps ≡ qs
           later (mid2, after2, f2) =
-              let whole : parts ≡ (mid ++ p ∷ mid2) ++ q ∷ after2 = e ∙ (ap (λ l. mid ++ p ∷ l) f2 ∙ sym (append_assoc mid (p ∷ mid2) (q ∷ after2))) in
-              absurd (twice (mid ++ p ∷ mid2) after2 q g f qs ps whole t (p, Contains-append_right mid (p ∷ mid2) p (contains_first p mid2), r) same)
+              let whole : parts ≡ (mid ++ p ∷ mid2) ++ q ∷ after2 =
+              e ∙ (ap (λ l. mid ++ p ∷ l) f2 ∙ sym (append_assoc mid (p ∷ mid2) (q ∷ after2))) in
+              absurd (twice (mid ++ p ∷ mid2) after2 q g f qs ps whole t (
+                p,
+                Contains-append_right mid (p ∷ mid2) p
+                    (contains_first p mid2),
+                r,
+              ) same)
 
           here : (p ≡ q) ⊎ Contains after q → ps ≡ qs
-          here (inl one) = let roles : role.Function f ps ≡ role.Function g qs = sym r ∙ (ap (λ z. z.role) one ∙ t) in cc
+          here (inl one) =
+              let roles : role.Function f ps ≡ role.Function g qs = sym r ∙ (ap (λ z. z.role) one ∙ t) in cc
           here (inr a) = later (split_at after q a)
 
           sides : Contains mid q ⊎ Contains (p ∷ after) q → ps ≡ qs
@@ -74,14 +93,17 @@ module _ (parts : List Section) (well : (place : Place) → Misdefined parts pla
           sides (inr a) = here (contains_cases p after q a)
 
   -- and so is a parameter of one
-  ordered : (f : Name) (ps : List Name) (i j : ℕ) (q r : Name) → Defines parts f ps → slice_get ps i ≡ Some q → slice_get ps j ≡ Some r → q.text ≡ r.text → i < j → ⊥
+  ordered : (f : Name) (ps : List Name) (i j : ℕ) (q r : Name) → Defines parts f ps → slice_get ps i ≡ Some q
+      → slice_get ps j ≡ Some r → q.text ≡ r.text → i < j → ⊥
   ordered f ps i j q r d e h same less =
       let (before, after, whole, long) = split_nth ps j r h in
       let inside : i < length before = omega (arith, long, less) in
       let there : slice_get before i ≡ Some q = sym (in_front before (r ∷ after) i inside) ∙ (rw whole at e) in
-      well r.place (fault.misnamed r.place (fault.parameter_twice f ps before after r d whole (rw same at (texts_at before i q there))))
+      well r.place (fault.misnamed r.place (fault.parameter_twice f ps before after r d whole
+      (rw same at (texts_at before i q there))))
 
-  pub parameter_once : (f : Name) (ps : List Name) (i j : ℕ) (q r : Name) → Defines parts f ps → slice_get ps i ≡ Some q → slice_get ps j ≡ Some r → q.text ≡ r.text → i ≡ j
+  pub parameter_once : (f : Name) (ps : List Name) (i j : ℕ) (q r : Name) → Defines parts f ps → slice_get ps i ≡ Some q
+      → slice_get ps j ≡ Some r → q.text ≡ r.text → i ≡ j
   parameter_once f ps i j q r d e h same = by (cases_order i j)
     where
       by : (i ≡ j) ⊎ ((i < j) ⊎ (j < i)) → i ≡ j
@@ -97,7 +119,8 @@ module _ (parts : List Section) (well : (place : Place) → Misdefined parts pla
 
   all_grow : Grows functions t
   all_grow = grows_on functions _ t (own_grows scalars functions)
-      (grows_on (s.with_own scalars functions) _ t (own_grows arrays (s.with_own scalars functions)) (parts_grow parts (s.with_own arrays (s.with_own scalars functions))))
+      (grows_on (s.with_own scalars functions) _ t (own_grows arrays (s.with_own scalars functions))
+      (parts_grow parts (s.with_own arrays (s.with_own scalars functions))))
 
   pub injective : Injective t
   injective = all_grow.injective (functions_injective parts s.nothing nothing_injective)
@@ -107,20 +130,25 @@ module _ (parts : List Section) (well : (place : Place) → Misdefined parts pla
 
   -- what stands under a text is the scope of its function
   pub scopes : Scopes parts t
-  scopes f c l = functions_scopes parts parts s.nothing (λ p h. h) no_scopes f c (ap (λ fs. lookup (bytes_eq f) fs) (sym all_grow.functions_same) ∙ l)
+  scopes f c l = functions_scopes parts parts s.nothing (λ p h. h) no_scopes f c
+      (ap (λ fs. lookup (bytes_eq f) fs) (sym all_grow.functions_same) ∙ l)
 
-  pub defined : (g : Name) (ps : List Name) → Defines parts g ps → (c : Scope) × (base : ℕ) × (lookup (bytes_eq g.text) t.functions ≡ Some c) × Scoped base ps c
+  pub defined : (g : Name) (ps : List Name) → Defines parts g ps → (c : Scope) × (base : ℕ)
+      × (lookup (bytes_eq g.text) t.functions ≡ Some c) × Scoped base ps c
   defined g ps (p, h, e) =
       let (c, l) = functions_have parts p g ps s.nothing h e in
-      let l2 : lookup (bytes_eq g.text) t.functions ≡ Some c = ap (λ fs. lookup (bytes_eq g.text) fs) all_grow.functions_same ∙ l in
+      let l2 : lookup (bytes_eq g.text) t.functions ≡ Some c =
+      ap (λ fs. lookup (bytes_eq g.text) fs) all_grow.functions_same ∙ l in
       let (f, qs, base, d, same, k) = scopes g.text c l2 in
       (c, base, l2, rw (function_once f g qs ps d (p, h, e) same) at k)
 
   in_function : (f : Name) (ps : List Name) (x : Text) → Defines parts f ps
-      → option_or (number t (parameter f.text x)) (number t (global x)) ≡ number t (if is_among (texts ps) x then parameter f.text x else global x)
+      → option_or (number t (parameter f.text x)) (number t (global x))
+      ≡ number t (if is_among (texts ps) x then parameter f.text x else global x)
   in_function f ps x d = by (is_among (texts ps) x) refl
     where
-      by : (b : Bool) → is_among (texts ps) x ≡ b → option_or (number t (parameter f.text x)) (number t (global x)) ≡ number t (if b then parameter f.text x else global x)
+      by : (b : Bool) → is_among (texts ps) x ≡ b → option_or (number t (parameter f.text x)) (number t (global x))
+          ≡ number t (if b then parameter f.text x else global x)
       by true h =
           let (c, base, l, k) = defined f ps d in
           let (i, q, there, is) = text_of ps x (among_contains (texts ps) x h) in
@@ -129,7 +157,8 @@ module _ (parts : List Section) (well : (place : Place) → Misdefined parts pla
           rw found refl
       by false h = none (number t (parameter f.text x)) refl
         where
-          none : (o : Option ℕ) → number t (parameter f.text x) ≡ o → option_or o (number t (global x)) ≡ number t (global x)
+          none : (o : Option ℕ) → number t (parameter f.text x) ≡ o → option_or o (number t (global x))
+              ≡ number t (global x)
           none None e = refl
           none (Some n) e =
               let (c, base, l, k) = defined f ps d in
@@ -149,22 +178,26 @@ module _ (parts : List Section) (well : (place : Place) → Misdefined parts pla
       by (role.Function f ps) e = in_function f ps x (p, c, e)
 
   -- each name has a number
-  pub known : (p : Section) (m : Mention) (n : Name) → Contains parts p → Contains p.mentions m → Names m n → Known t p.role n.text
+  pub known : (p : Section) (m : Mention) (n : Name) → Contains parts p → Contains p.mentions m → Names m n
+      → Known t p.role n.text
   known p m n c d h = parts_known parts p m n (s.with_own arrays (s.with_own scalars functions)) c d h
 
   pub own_scalar_known : (x : Text) → Contains scalars x → Known t role.Begin x
   own_scalar_known x c =
       known_keeps (s.with_own scalars functions) t role.Begin x
-      (grows_on (s.with_own scalars functions) _ t (own_grows arrays (s.with_own scalars functions)) (parts_grow parts (s.with_own arrays (s.with_own scalars functions))))
+      (grows_on (s.with_own scalars functions) _ t (own_grows arrays (s.with_own scalars functions))
+      (parts_grow parts (s.with_own arrays (s.with_own scalars functions))))
       (own_known scalars x functions c)
 
   pub own_array_known : (x : Text) → Contains arrays x → Known t role.Begin x
   own_array_known x c =
-      known_keeps (s.with_own arrays (s.with_own scalars functions)) t role.Begin x (parts_grow parts (s.with_own arrays (s.with_own scalars functions)))
+      known_keeps (s.with_own arrays (s.with_own scalars functions)) t role.Begin x
+      (parts_grow parts (s.with_own arrays (s.with_own scalars functions)))
       (own_known arrays x (s.with_own scalars functions) c)
 
   -- a parameter stands at its place in the scope of its function
-  pub taken : (f : Text) (c : Scope) (i n : ℕ) → lookup (bytes_eq f) t.functions ≡ Some c → slice_get c.numbers i ≡ Some n
+  pub taken : (f : Text) (c : Scope) (i n : ℕ) → lookup (bytes_eq f) t.functions ≡ Some c
+      → slice_get c.numbers i ≡ Some n
       → (q : Name) × Takes parts f i q × (number t (parameter f q.text) ≡ Some n)
   taken f c i n l e =
       let (g, ps, base, d, same, k) = scopes f c l in
@@ -178,7 +211,8 @@ module _ (parts : List Section) (well : (place : Place) → Misdefined parts pla
       (q, (g, ps, d, same, at), ap (λ o. in_perhaps o q.text) l ∙ found)
 
   pub takes : (f : Text) (i : ℕ) (q : Name) → Takes parts f i q
-      → (c : Scope) × (n : ℕ) × (lookup (bytes_eq f) t.functions ≡ Some c) × (slice_get c.numbers i ≡ Some n) × (number t (parameter f q.text) ≡ Some n)
+      → (c : Scope) × (n : ℕ) × (lookup (bytes_eq f) t.functions ≡ Some c) × (slice_get c.numbers i ≡ Some n)
+      × (number t (parameter f q.text) ≡ Some n)
   takes f i q (g, ps, d, same, at) =
       let (c, base, l, k) = defined g ps d in
       let l2 : lookup (bytes_eq f) t.functions ≡ Some c = ap (λ x. lookup (bytes_eq x) t.functions) (sym same) ∙ l in

@@ -1,5 +1,7 @@
 -- Each name of a script has a number, and no two have one.
-use Rattle.std.proofs.Common.{◌≡◌, ◌⊎◌, inl, inr, ◌∙◌, ℕ, zero, suc, ◌+◌, ◌<◌, ◌≤◌, true, false, List, [], ◌∷◌, ◌++◌, length, refl, sym, ap, Option, Some, None, Contains, arith, length-append, slice_get, append_assoc, append-nil}
+use Rattle.std.proofs.Common.{◌≡◌, ◌⊎◌, inl, inr, ◌∙◌, ℕ, zero, suc, ◌+◌, ◌<◌, ◌≤◌, true, false, List, [], ◌∷◌, ◌++◌}
+use Rattle.std.proofs.Common.{length, refl, sym, ap, Option, Some, None, Contains, arith, length-append, slice_get}
+use Rattle.std.proofs.Common.{append_assoc, append-nil}
 use Rattle.std.proofs.lemmas.Bool.{cases_Bool}
 use Rattle.std.proofs.lemmas.Option.{slice_get_within}
 use Rattle.std.proofs.lemmas.Slice.Eq.{bytes_eq-Decides}
@@ -29,13 +31,15 @@ use Rattle.awk_resolve.specs.declared.numbers.Numbers.{Numbers}
 some_same : {A : Type 0} (x y : A) → Some x ≡ Some y → x ≡ y
 some_same x y e = cc
 
-snoc_cases : {A : Type 0} (xs : List A) (y : A) (i : ℕ) (z : A) → slice_get (xs ++ y ∷ []) i ≡ Some z → (slice_get xs i ≡ Some z) ⊎ ((i ≡ length xs) × (y ≡ z))
+snoc_cases : {A : Type 0} (xs : List A) (y : A) (i : ℕ) (z : A) → slice_get (xs ++ y ∷ []) i ≡ Some z
+    → (slice_get xs i ≡ Some z) ⊎ ((i ≡ length xs) × (y ≡ z))
 snoc_cases [] y zero z e = inr (refl, some_same y z e)
 snoc_cases [] y (suc i) z e = cc
 snoc_cases (x ∷ xs) y zero z e = inl e
 snoc_cases (x ∷ xs) y (suc i) z e = by (snoc_cases xs y i z e)
   where
-    by : (slice_get xs i ≡ Some z) ⊎ ((i ≡ length xs) × (y ≡ z)) → (slice_get xs i ≡ Some z) ⊎ ((suc i ≡ suc (length xs)) × (y ≡ z))
+    by : (slice_get xs i ≡ Some z) ⊎ ((i ≡ length xs) × (y ≡ z)) → (slice_get xs i ≡ Some z)
+        ⊎ ((suc i ≡ suc (length xs)) × (y ≡ z))
     by (inl h) = inl h
     by (inr (same, f)) = inr (ap suc same, f)
 
@@ -43,7 +47,8 @@ snoc_last : {A : Type 0} (xs : List A) (y : A) → slice_get (xs ++ y ∷ []) (l
 snoc_last [] y = refl
 snoc_last (x ∷ xs) y = snoc_last xs y
 
-snoc_keeps : {A : Type 0} (xs : List A) (y : A) (i : ℕ) (z : A) → slice_get xs i ≡ Some z → slice_get (xs ++ y ∷ []) i ≡ Some z
+snoc_keeps : {A : Type 0} (xs : List A) (y : A) (i : ℕ) (z : A) → slice_get xs i ≡ Some z
+    → slice_get (xs ++ y ∷ []) i ≡ Some z
 snoc_keeps [] y i z e = cc
 snoc_keeps (x ∷ xs) y zero z e = e
 snoc_keeps (x ∷ xs) y (suc i) z e = snoc_keeps xs y i z e
@@ -56,7 +61,8 @@ there_is (x ∷ xs) (suc i) h = there_is xs i (omega arith)
 -- ---- what stands under a text once one more was put
 
 module _ {V : Type 0} where
-  pub put_cases : (x y : Text) (v w : V) (es : List (Text × V)) → lookup (bytes_eq y) (with_text x v es) ≡ Some w → ((y ≡ x) × (v ≡ w)) ⊎ (lookup (bytes_eq y) es ≡ Some w)
+  pub put_cases : (x y : Text) (v w : V) (es : List (Text × V)) → lookup (bytes_eq y) (with_text x v es) ≡ Some w
+      → ((y ≡ x) × (v ≡ w)) ⊎ (lookup (bytes_eq y) es ≡ Some w)
   put_cases x y v w es e = by (cases_Bool (bytes_eq y x))
     where
       by : (bytes_eq y x ≡ true) ⊎ (bytes_eq y x ≡ false) → ((y ≡ x) × (v ≡ w)) ⊎ (lookup (bytes_eq y) es ≡ Some w)
@@ -66,7 +72,8 @@ module _ {V : Type 0} where
           inl (same, some_same v w (sym (put_same x v es) ∙ e2))
       by (inr b) = inr (sym (put_other x y v es b) ∙ e)
 
-  pub put_known : (x y : Text) (v w : V) (es : List (Text × V)) → lookup (bytes_eq y) es ≡ Some w → (u : V) × (lookup (bytes_eq y) (with_text x v es) ≡ Some u)
+  pub put_known : (x y : Text) (v w : V) (es : List (Text × V)) → lookup (bytes_eq y) es ≡ Some w → (u : V)
+      × (lookup (bytes_eq y) (with_text x v es) ≡ Some u)
   put_known x y v w es e = by (cases_Bool (bytes_eq y x))
     where
       by : (bytes_eq y x ≡ true) ⊎ (bytes_eq y x ≡ false) → (u : V) × (lookup (bytes_eq y) (with_text x v es) ≡ Some u)
@@ -79,15 +86,27 @@ module _ {V : Type 0} where
 pub record Scoped (base : ℕ) (ps : List Name) (c : Scope) : Type 0 where
   pub count : length c.numbers ≡ length ps
   pub numbers : (i n : ℕ) → slice_get c.numbers i ≡ Some n → n ≡ base + i
-  pub sound : (x : Text) (i : ℕ) → lookup (bytes_eq x) c.positions ≡ Some i → (q : Name) × (slice_get ps i ≡ Some q) × (q.text ≡ x)
-  pub complete : (i : ℕ) (q : Name) → slice_get ps i ≡ Some q → (j : ℕ) × (lookup (bytes_eq q.text) c.positions ≡ Some j)
+  pub sound : (x : Text) (i : ℕ) → lookup (bytes_eq x) c.positions ≡ Some i → (q : Name) × (slice_get ps i ≡ Some q)
+      × (q.text ≡ x)
+  pub complete : (i : ℕ) (q : Name) → slice_get ps i ≡ Some q → (j : ℕ)
+      × (lookup (bytes_eq q.text) c.positions ≡ Some j)
 
 no_scope : (base : ℕ) → Scoped base [] s.no_parameters
-no_scope base = record { count = refl; numbers = λ i n e. cc; sound = λ x i e. absurd (cc); complete = λ i q e. absurd (cc) }
+no_scope base = record {
+  count = refl;
+  numbers = λ i n e. cc;
+  sound = λ x i e. absurd (cc);
+  complete =
+      λ i q e. absurd (cc);
+}
 
-scope_more : (base n : ℕ) (ps : List Name) (q : Name) (c : Scope) → n ≡ base + length ps → Scoped base ps c → Scoped base (ps ++ q ∷ []) (s.with_parameter q.text n c)
+scope_more : (base n : ℕ) (ps : List Name) (q : Name) (c : Scope) → n ≡ base + length ps → Scoped base ps c
+    → Scoped base (ps ++ q ∷ []) (s.with_parameter q.text n c)
 scope_more base n ps q c at k = record {
-  count = let a : length (c.numbers ++ n ∷ []) ≡ length c.numbers + 1 = length-append c.numbers (n ∷ []) in let b : length (ps ++ q ∷ []) ≡ length ps + 1 = length-append ps (q ∷ []) in let same = k.count in omega (arith, a, b, same);
+  count =
+      let a : length (c.numbers ++ n ∷ []) ≡ length c.numbers + 1 = length-append c.numbers (n ∷ []) in
+      let b : length (ps ++ q ∷ []) ≡ length ps + 1 = length-append ps (q ∷ []) in
+      let same = k.count in omega (arith, a, b, same);
   numbers = λ i m e. numbers_by i m (snoc_cases c.numbers n i m e);
   sound = λ x i e. sound_by x i (put_cases q.text x (length c.numbers) i c.positions e);
   complete = λ i r e. complete_by i r (snoc_cases ps q i r e);
@@ -97,29 +116,36 @@ scope_more base n ps q c at k = record {
     numbers_by i m (inl e) = k.numbers i m e
     numbers_by i m (inr (same, is)) = let count = k.count in omega (arith, same, is, at, count)
 
-    sound_by : (x : Text) (i : ℕ) → ((x ≡ q.text) × (length c.numbers ≡ i)) ⊎ (lookup (bytes_eq x) c.positions ≡ Some i) → (r : Name) × (slice_get (ps ++ q ∷ []) i ≡ Some r) × (r.text ≡ x)
+    sound_by : (x : Text) (i : ℕ) → ((x ≡ q.text) × (length c.numbers ≡ i)) ⊎ (lookup (bytes_eq x) c.positions ≡ Some i)
+        → (r : Name) × (slice_get (ps ++ q ∷ []) i ≡ Some r) × (r.text ≡ x)
     sound_by x i (inl (same, is)) = (q, (rw (← is, k.count) (snoc_last ps q)), sym same)
     sound_by x i (inr e) = let (r, there, is) = k.sound x i e in (r, snoc_keeps ps q i r there, is)
 
-    complete_by : (i : ℕ) (r : Name) → (slice_get ps i ≡ Some r) ⊎ ((i ≡ length ps) × (q ≡ r)) → (j : ℕ) × (lookup (bytes_eq r.text) (with_text q.text (length c.numbers) c.positions) ≡ Some j)
-    complete_by i r (inl e) = let (j, there) = k.complete i r e in put_known q.text r.text (length c.numbers) j c.positions there
+    complete_by : (i : ℕ) (r : Name) → (slice_get ps i ≡ Some r) ⊎ ((i ≡ length ps) × (q ≡ r)) → (j : ℕ)
+        × (lookup (bytes_eq r.text) (with_text q.text (length c.numbers) c.positions) ≡ Some j)
+    complete_by i r (inl e) =
+        let (j, there) = k.complete i r e in put_known q.text r.text (length c.numbers) j c.positions there
     complete_by i r (inr (at2, same)) = (length c.numbers, rw (← same) (put_same q.text (length c.numbers) c.positions))
 
-scoped_from : (base n : ℕ) (ps qs : List Name) (c : Scope) → n ≡ base + length ps → Scoped base ps c → Scoped base (ps ++ qs) (s.scope n c qs)
+scoped_from : (base n : ℕ) (ps qs : List Name) (c : Scope) → n ≡ base + length ps → Scoped base ps c
+    → Scoped base (ps ++ qs) (s.scope n c qs)
 scoped_from base n ps [] c at k = rw (append-nil ps) k
 scoped_from base n ps (q ∷ qs) c at k =
     let more : length (ps ++ q ∷ []) ≡ length ps + 1 = length-append ps (q ∷ []) in
-    rw append_assoc at (scoped_from base (n + 1) (ps ++ q ∷ []) qs (s.with_parameter q.text n c) (omega (arith, at, more)) (scope_more base n ps q c at k))
+    rw append_assoc at (scoped_from base (n + 1) (ps ++ q ∷ []) qs (s.with_parameter q.text n c)
+    (omega (arith, at, more)) (scope_more base n ps q c at k))
 
 pub scoped : (base : ℕ) (qs : List Name) → Scoped base qs (s.scope base s.no_parameters qs)
 scoped base qs = scoped_from base base [] qs s.no_parameters (omega arith) (no_scope base)
 
 module _ (base : ℕ) (ps : List Name) (c : Scope) (k : Scoped base ps c) where
   -- what has a number is a parameter
-  pub scope_known : (x : Text) (n : ℕ) → in_scope c x ≡ Some n → (i : ℕ) × (q : Name) × (slice_get ps i ≡ Some q) × (q.text ≡ x) × (slice_get c.numbers i ≡ Some n)
+  pub scope_known : (x : Text) (n : ℕ) → in_scope c x ≡ Some n → (i : ℕ) × (q : Name) × (slice_get ps i ≡ Some q)
+      × (q.text ≡ x) × (slice_get c.numbers i ≡ Some n)
   scope_known x n e = by (lookup (bytes_eq x) c.positions) refl e
     where
-      by : (o : Option ℕ) → lookup (bytes_eq x) c.positions ≡ o → at_position c.numbers o ≡ Some n → (i : ℕ) × (q : Name) × (slice_get ps i ≡ Some q) × (q.text ≡ x) × (slice_get c.numbers i ≡ Some n)
+      by : (o : Option ℕ) → lookup (bytes_eq x) c.positions ≡ o → at_position c.numbers o ≡ Some n → (i : ℕ)
+          × (q : Name) × (slice_get ps i ≡ Some q) × (q.text ≡ x) × (slice_get c.numbers i ≡ Some n)
       by None l f = cc
       by (Some i) l f = let (q, there, is) = k.sound x i l in (i, q, there, is, f)
 
@@ -163,7 +189,10 @@ injective_more : (t u : Numbers) (New : Named → ℕ → Type 0) → Injective 
     → ((a b : Named) (n : ℕ) → New a n → New b n → a ≡ b)
     → ((a : Named) (n : ℕ) → number u a ≡ Some n → (number t a ≡ Some n) ⊎ New a n)
     → Injective u
-injective_more t u New k grows bounds one cases = record { one = λ a b n e f. one_by a b n (cases a n e) (cases b n f); within = λ a n e. within_by a n (cases a n e) }
+injective_more t u New k grows bounds one cases = record {
+  one = λ a b n e f. one_by a b n (cases a n e) (cases b n f);
+  within = λ a n e. within_by a n (cases a n e);
+}
   where
     one_by : (a b : Named) (n : ℕ) → (number t a ≡ Some n) ⊎ New a n → (number t b ≡ Some n) ⊎ New b n → a ≡ b
     one_by a b n (inl e) (inl f) = k.one a b n e f
@@ -188,8 +217,10 @@ nothing_injective = record { one = one; within = within }
 
 -- ---- functions
 
-function_injective : (f : Name) (ps : List Name) (t : Numbers) → Injective t → Injective (s.with_function (role.Function f ps) t)
-function_injective f ps t k = injective_more t (s.with_function (role.Function f ps) t) New k (omega arith) bounds one cases
+function_injective : (f : Name) (ps : List Name) (t : Numbers) → Injective t
+    → Injective (s.with_function (role.Function f ps) t)
+function_injective f ps t k = injective_more t (s.with_function (role.Function f ps) t) New k (omega arith) bounds one
+    cases
   where
     c : Scope
     c = s.scope t.count s.no_parameters ps
@@ -205,17 +236,21 @@ function_injective f ps t k = injective_more t (s.with_function (role.Function f
     one : (a b : Named) (n : ℕ) → New a n → New b n → a ≡ b
     one (global x) b n h l = absurd h
     one (parameter g x) (global y) n h l = absurd l
-    one (parameter g x) (parameter h y) n (same, e) (same2, f2) = let texts = scope_one t.count ps c (scoped t.count ps) x y n e f2 in cc
+    one (parameter g x) (parameter h y) n (same, e) (same2, f2) =
+        let texts = scope_one t.count ps c (scoped t.count ps) x y n e f2 in cc
 
-    cases : (a : Named) (n : ℕ) → number (s.with_function (role.Function f ps) t) a ≡ Some n → (number t a ≡ Some n) ⊎ New a n
+    cases : (a : Named) (n : ℕ) → number (s.with_function (role.Function f ps) t) a ≡ Some n → (number t a ≡ Some n)
+        ⊎ New a n
     cases (global x) n e = inl e
     cases (parameter g x) n e = by (lookup (bytes_eq g) (with_text f.text c t.functions)) refl e
       where
-        by : (o : Option Scope) → lookup (bytes_eq g) (with_text f.text c t.functions) ≡ o → in_perhaps o x ≡ Some n → (number t (parameter g x) ≡ Some n) ⊎ New (parameter g x) n
+        by : (o : Option Scope) → lookup (bytes_eq g) (with_text f.text c t.functions) ≡ o → in_perhaps o x ≡ Some n
+            → (number t (parameter g x) ≡ Some n) ⊎ New (parameter g x) n
         by None l h = cc
         by (Some d) l h = sides (put_cases f.text g c d t.functions l)
           where
-            sides : ((g ≡ f.text) × (c ≡ d)) ⊎ (lookup (bytes_eq g) t.functions ≡ Some d) → (number t (parameter g x) ≡ Some n) ⊎ New (parameter g x) n
+            sides : ((g ≡ f.text) × (c ≡ d)) ⊎ (lookup (bytes_eq g) t.functions ≡ Some d)
+                → (number t (parameter g x) ≡ Some n) ⊎ New (parameter g x) n
             sides (inl (same, is)) = inr (same, rw is h)
             sides (inr old) = inl (ap (λ o. in_perhaps o x) old ∙ h)
 
@@ -232,23 +267,29 @@ functions_injective (p ∷ ps) t k = functions_injective ps (s.with_function p.r
 module _ (parts : List Section) where
   -- The scopes are of the functions of the script.
   abbrev pub Scopes : Numbers → Type 0
-  Scopes t = (f : Text) (c : Scope) → lookup (bytes_eq f) t.functions ≡ Some c → (g : Name) × (ps : List Name) × (base : ℕ) × Defines parts g ps × (g.text ≡ f) × Scoped base ps c
+  Scopes t = (f : Text) (c : Scope) → lookup (bytes_eq f) t.functions ≡ Some c → (g : Name) × (ps : List Name)
+      × (base : ℕ) × Defines parts g ps × (g.text ≡ f) × Scoped base ps c
 
-  role_scopes : (p : Section) (r : Role) (t : Numbers) → p.role ≡ r → Contains parts p → Scopes t → Scopes (s.with_function r t)
+  role_scopes : (p : Section) (r : Role) (t : Numbers) → p.role ≡ r → Contains parts p → Scopes t
+      → Scopes (s.with_function r t)
   role_scopes p role.Begin t e h k = k
   role_scopes p role.End t e h k = k
   role_scopes p role.Rule t e h k = k
-  role_scopes p (role.Function g ps) t e h k = λ f c l. by f c (put_cases g.text f (s.scope t.count s.no_parameters ps) c t.functions l)
+  role_scopes p (role.Function g ps) t e h k =
+      λ f c l. by f c (put_cases g.text f (s.scope t.count s.no_parameters ps) c t.functions l)
     where
-      by : (f : Text) (c : Scope) → ((f ≡ g.text) × (s.scope t.count s.no_parameters ps ≡ c)) ⊎ (lookup (bytes_eq f) t.functions ≡ Some c)
+      by : (f : Text) (c : Scope) → ((f ≡ g.text) × (s.scope t.count s.no_parameters ps ≡ c))
+          ⊎ (lookup (bytes_eq f) t.functions ≡ Some c)
           → (g2 : Name) × (qs : List Name) × (base : ℕ) × Defines parts g2 qs × (g2.text ≡ f) × Scoped base qs c
       by f c (inl (same, is)) = (g, ps, t.count, (p, h, e), sym same, rw is at (scoped t.count ps))
       by f c (inr old) = k f c old
 
-  pub functions_scopes : (ps : List Section) (t : Numbers) → ((p : Section) → Contains ps p → Contains parts p) → Scopes t → Scopes (s.with_functions ps t)
+  pub functions_scopes : (ps : List Section) (t : Numbers) → ((p : Section) → Contains ps p → Contains parts p)
+      → Scopes t → Scopes (s.with_functions ps t)
   functions_scopes [] t within k = k
   functions_scopes (p ∷ ps) t within k =
-      functions_scopes ps (s.with_function p.role t) (λ q c. within q (contains_later p ps q c)) (role_scopes p p.role t refl (within p (contains_first p ps)) k)
+      functions_scopes ps (s.with_function p.role t) (λ q c. within q (contains_later p ps q c))
+      (role_scopes p p.role t refl (within p (contains_first p ps)) k)
 
 abbrev pub HasFunction : Text → Numbers → Type 0
 HasFunction x t = (c : Scope) × (lookup (bytes_eq x) t.functions ≡ Some c)
@@ -263,10 +304,16 @@ functions_keep : (ps : List Section) (x : Text) (t : Numbers) → HasFunction x 
 functions_keep [] x t h = h
 functions_keep (p ∷ ps) x t h = functions_keep ps x (s.with_function p.role t) (role_keeps p.role x t h)
 
-role_has : (r : Role) (f : Name) (fs : List Name) (t : Numbers) → r ≡ role.Function f fs → HasFunction f.text (s.with_function r t)
-role_has r f fs t e = rw e (s.scope t.count s.no_parameters fs, put_same f.text (s.scope t.count s.no_parameters fs) t.functions)
+role_has : (r : Role) (f : Name) (fs : List Name) (t : Numbers) → r ≡ role.Function f fs
+    → HasFunction f.text (s.with_function r t)
+role_has r f fs t e = rw e (
+  s.scope t.count s.no_parameters fs,
+  put_same f.text (s.scope t.count s.no_parameters fs)
+      t.functions,
+)
 
-pub functions_have : (ps : List Section) (p : Section) (f : Name) (fs : List Name) (t : Numbers) → Contains ps p → p.role ≡ role.Function f fs → HasFunction f.text (s.with_functions ps t)
+pub functions_have : (ps : List Section) (p : Section) (f : Name) (fs : List Name) (t : Numbers) → Contains ps p
+    → p.role ≡ role.Function f fs → HasFunction f.text (s.with_functions ps t)
 functions_have [] p f fs t c e = absurd (contains_none p c)
 functions_have (q ∷ ps) p f fs t c e = elim (contains_cases q ps p c) [
   | inl same ↦ functions_keep ps f.text (s.with_function q.role t) (role_has q.role f fs t (ap (λ z. z.role) same ∙ e))
@@ -284,16 +331,27 @@ grows_none : (t : Numbers) → Grows t t
 grows_none t = record { functions_same = refl; keeps = λ a n e. e; injective = λ k. k }
 
 pub grows_on : (t u v : Numbers) → Grows t u → Grows u v → Grows t v
-grows_on t u v g h = record { functions_same = h.functions_same ∙ g.functions_same; keeps = λ a n e. h.keeps a n (g.keeps a n e); injective = λ k. h.injective (g.injective k) }
+grows_on t u v g h = record {
+  functions_same = h.functions_same ∙ g.functions_same;
+  keeps =
+      λ a n e. h.keeps a n (g.keeps a n e);
+  injective = λ k. h.injective (g.injective k);
+}
 
 global_grows : (x : Text) (t : Numbers) → number t (global x) ≡ None → Grows t (s.with_global x t)
-global_grows x t new = record { functions_same = refl; keeps = keeps; injective = λ k. injective_more t (s.with_global x t) New k (omega arith) bounds one cases }
+global_grows x t new = record {
+  functions_same = refl;
+  keeps = keeps;
+  injective =
+      λ k. injective_more t (s.with_global x t) New k (omega arith) bounds one cases;
+}
   where
     keeps : (a : Named) (n : ℕ) → number t a ≡ Some n → number (s.with_global x t) a ≡ Some n
     keeps (parameter f y) n e = e
     keeps (global y) n e = by (cases_Bool (bytes_eq y x))
       where
-        by : (bytes_eq y x ≡ true) ⊎ (bytes_eq y x ≡ false) → lookup (bytes_eq y) (with_text x t.count t.globals) ≡ Some n
+        by : (bytes_eq y x ≡ true) ⊎ (bytes_eq y x ≡ false) → lookup (bytes_eq y) (with_text x t.count t.globals)
+            ≡ Some n
         by (inl b) = let same = (bytes_eq-Decides y x).0 b in let e2 = rw same at e in absurd (cc)
         by (inr b) = put_other x y t.count t.globals b ∙ e
 
@@ -314,7 +372,8 @@ global_grows x t new = record { functions_same = refl; keeps = keeps; injective 
     cases (parameter f y) n e = inl e
     cases (global y) n e = by (put_cases x y t.count n t.globals e)
       where
-        by : ((y ≡ x) × (t.count ≡ n)) ⊎ (lookup (bytes_eq y) t.globals ≡ Some n) → (number t (global y) ≡ Some n) ⊎ New (global y) n
+        by : ((y ≡ x) × (t.count ≡ n)) ⊎ (lookup (bytes_eq y) t.globals ≡ Some n) → (number t (global y) ≡ Some n)
+            ⊎ New (global y) n
         by (inl h) = inr h
         by (inr h) = inl h
 
@@ -345,7 +404,8 @@ global_known t role.End x e = (t.count, put_same x t.count t.globals)
 global_known t role.Rule x e = (t.count, put_same x t.count t.globals)
 global_known t (role.Function f ps) x e = (t.count, by (number t (parameter f.text x)) refl e)
   where
-    by : (o : Option ℕ) → number t (parameter f.text x) ≡ o → option_or o (number t (global x)) ≡ None → option_or o (lookup (bytes_eq x) (with_text x t.count t.globals)) ≡ Some t.count
+    by : (o : Option ℕ) → number t (parameter f.text x) ≡ o → option_or o (number t (global x)) ≡ None
+        → option_or o (lookup (bytes_eq x) (with_text x t.count t.globals)) ≡ Some t.count
     by None l h = put_same x t.count t.globals
     by (Some n) l h = cc
 
@@ -365,18 +425,21 @@ known_keeps t u (role.Function f ps) x g (n, e) = (n, by (number t (parameter f.
     same : number u (parameter f.text x) ≡ number t (parameter f.text x)
     same = ap (λ fs. in_perhaps (lookup (bytes_eq f.text) fs) x) g.functions_same
 
-    by : (o : Option ℕ) → number t (parameter f.text x) ≡ o → option_or o (number t (global x)) ≡ Some n → option_or (number u (parameter f.text x)) (number u (global x)) ≡ Some n
+    by : (o : Option ℕ) → number t (parameter f.text x) ≡ o → option_or o (number t (global x)) ≡ Some n
+        → option_or (number u (parameter f.text x)) (number u (global x)) ≡ Some n
     by None l h = rw (same, l) (g.keeps (global x) n h)
     by (Some m) l h = rw (same, l) h
 
 pub own_grows : (xs : List Text) (t : Numbers) → Grows t (s.with_own xs t)
 own_grows [] t = grows_none t
-own_grows (x ∷ xs) t = grows_on t (s.with_name role.Begin x t) _ (name_grows role.Begin x t) (own_grows xs (s.with_name role.Begin x t))
+own_grows (x ∷ xs) t = grows_on t (s.with_name role.Begin x t) _ (name_grows role.Begin x t)
+    (own_grows xs (s.with_name role.Begin x t))
 
 pub own_known : (xs : List Text) (x : Text) (t : Numbers) → Contains xs x → Known (s.with_own xs t) role.Begin x
 own_known [] x t c = absurd (contains_none x c)
 own_known (y ∷ xs) x t c = elim (contains_cases y xs x c) [
-  | inl same ↦ known_keeps (s.with_name role.Begin y t) _ role.Begin x (own_grows xs (s.with_name role.Begin y t)) (rw same (name_known role.Begin x t))
+  | inl same ↦ known_keeps (s.with_name role.Begin y t) _ role.Begin x (own_grows xs (s.with_name role.Begin y t))
+      (rw same (name_known role.Begin x t))
   | inr d ↦ own_known xs x (s.with_name role.Begin y t) d
 ]
 
@@ -386,12 +449,15 @@ argument_grows r (Some n) t = name_grows r n.text t
 
 arguments_grow : (r : Role) (args : List (Option Name)) (t : Numbers) → Grows t (s.with_arguments r args t)
 arguments_grow r [] t = grows_none t
-arguments_grow r (a ∷ rest) t = grows_on t (s.with_argument r a t) _ (argument_grows r a t) (arguments_grow r rest (s.with_argument r a t))
+arguments_grow r (a ∷ rest) t = grows_on t (s.with_argument r a t) _ (argument_grows r a t)
+    (arguments_grow r rest (s.with_argument r a t))
 
-arguments_known : (r : Role) (args : List (Option Name)) (n : Name) (t : Numbers) → Contains args (Some n) → Known (s.with_arguments r args t) r n.text
+arguments_known : (r : Role) (args : List (Option Name)) (n : Name) (t : Numbers) → Contains args (Some n)
+    → Known (s.with_arguments r args t) r n.text
 arguments_known r [] n t c = absurd (contains_none (Some n) c)
 arguments_known r (a ∷ rest) n t c = elim (contains_cases a rest (Some n) c) [
-  | inl same ↦ known_keeps (s.with_argument r a t) _ r n.text (arguments_grow r rest (s.with_argument r a t)) (rw same (name_known r n.text t))
+  | inl same ↦ known_keeps (s.with_argument r a t) _ r n.text (arguments_grow r rest (s.with_argument r a t))
+      (rw same (name_known r n.text t))
   | inr d ↦ arguments_known r rest n (s.with_argument r a t) d
 ]
 
@@ -411,22 +477,28 @@ mention_known r m x t c = absurd c
 
 mentions_grow : (r : Role) (ms : List Mention) (t : Numbers) → Grows t (s.with_mentions r ms t)
 mentions_grow r [] t = grows_none t
-mentions_grow r (m ∷ ms) t = grows_on t (s.with_mention r m t) _ (mention_grows r m t) (mentions_grow r ms (s.with_mention r m t))
+mentions_grow r (m ∷ ms) t = grows_on t (s.with_mention r m t) _ (mention_grows r m t)
+    (mentions_grow r ms (s.with_mention r m t))
 
-mentions_known : (r : Role) (ms : List Mention) (m : Mention) (x : Name) (t : Numbers) → Contains ms m → Names m x → Known (s.with_mentions r ms t) r x.text
+mentions_known : (r : Role) (ms : List Mention) (m : Mention) (x : Name) (t : Numbers) → Contains ms m → Names m x
+    → Known (s.with_mentions r ms t) r x.text
 mentions_known r [] m x t c h = absurd (contains_none m c)
 mentions_known r (n ∷ ms) m x t c h = elim (contains_cases n ms m c) [
-  | inl same ↦ known_keeps (s.with_mention r n t) _ r x.text (mentions_grow r ms (s.with_mention r n t)) (rw same (mention_known r m x t h))
+  | inl same ↦ known_keeps (s.with_mention r n t) _ r x.text (mentions_grow r ms (s.with_mention r n t))
+      (rw same (mention_known r m x t h))
   | inr d ↦ mentions_known r ms m x (s.with_mention r n t) d h
 ]
 
 pub parts_grow : (ps : List Section) (t : Numbers) → Grows t (s.with_parts ps t)
 parts_grow [] t = grows_none t
-parts_grow (p ∷ ps) t = grows_on t (s.with_mentions p.role p.mentions t) _ (mentions_grow p.role p.mentions t) (parts_grow ps (s.with_mentions p.role p.mentions t))
+parts_grow (p ∷ ps) t = grows_on t (s.with_mentions p.role p.mentions t) _ (mentions_grow p.role p.mentions t)
+    (parts_grow ps (s.with_mentions p.role p.mentions t))
 
-pub parts_known : (ps : List Section) (p : Section) (m : Mention) (x : Name) (t : Numbers) → Contains ps p → Contains p.mentions m → Names m x → Known (s.with_parts ps t) p.role x.text
+pub parts_known : (ps : List Section) (p : Section) (m : Mention) (x : Name) (t : Numbers) → Contains ps p
+    → Contains p.mentions m → Names m x → Known (s.with_parts ps t) p.role x.text
 parts_known [] p m x t c d h = absurd (contains_none p c)
 parts_known (q ∷ ps) p m x t c d h = elim (contains_cases q ps p c) [
-  | inl same ↦ known_keeps (s.with_mentions q.role q.mentions t) _ p.role x.text (parts_grow ps (s.with_mentions q.role q.mentions t)) (rw same (mentions_known p.role p.mentions m x t d h))
+  | inl same ↦ known_keeps (s.with_mentions q.role q.mentions t) _ p.role x.text
+      (parts_grow ps (s.with_mentions q.role q.mentions t)) (rw same (mentions_known p.role p.mentions m x t d h))
   | inr e ↦ parts_known ps p m x (s.with_mentions q.role q.mentions t) e d h
 ]

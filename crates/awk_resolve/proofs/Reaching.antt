@@ -1,5 +1,7 @@
 -- What a queue of numbers leads to: all that is reached, and nothing else.
-use Rattle.std.proofs.Common.{◌≡◌, ◌⊎◌, inl, inr, ◌∙◌, ℕ, zero, suc, ◌+◌, ◌<◌, ◌≤◌, ◌↔◌, Bool, true, false, List, [], ◌∷◌, ◌++◌, length, replicate, refl, sym, ap, Option, Some, None, Contains, arith, length-append, slice_get}
+use Rattle.std.proofs.Common.{◌≡◌, ◌⊎◌, inl, inr, ◌∙◌, ℕ, zero, suc, ◌+◌, ◌<◌, ◌≤◌, ◌↔◌, Bool, true, false, List, []}
+use Rattle.std.proofs.Common.{◌∷◌, ◌++◌, length, replicate, refl, sym, ap, Option, Some, None, Contains, arith}
+use Rattle.std.proofs.Common.{length-append, slice_get}
 use Rattle.std.proofs.Math.ListN.{set, length-set}
 use Rattle.std.proofs.lemmas.Bool.{cases_lt}
 use Rattle.std.proofs.lemmas.List.{length-replicate}
@@ -63,7 +65,8 @@ older [] y i h = absurd (omega arith)
 older (x ∷ xs) y zero h = refl
 older (x ∷ xs) y (suc i) h = older xs y i (omega arith)
 
-pub found_at : {A : Type 0} (xs : List A) (x : A) → Contains xs x → (i : ℕ) × (i < length xs) × (slice_get xs i ≡ Some x)
+pub found_at : {A : Type 0} (xs : List A) (x : A) → Contains xs x → (i : ℕ) × (i < length xs)
+    × (slice_get xs i ≡ Some x)
 found_at xs x (i, h, e) = (i, h, slice_get-get_or xs i x h ∙ ap Some e)
 
 pub at_found : {A : Type 0} (xs : List A) (i : ℕ) (x : A) → slice_get xs i ≡ Some x → Contains xs x
@@ -111,20 +114,28 @@ module _ (R : ℕ → Type 0) (size : ℕ) where
 
           reached_by : (m : ℕ) → Contains r.queue m ⊎ (n ≡ m) → R m
           reached_by m (inl c) = s.reached m c
-          reached_by m (inr same) = let inside = slice_get_within r.marks n false e in let size_is = s.size_is in rw (← same) (may (omega (arith, inside, size_is)))
+          reached_by m (inr same) =
+              let inside = slice_get_within r.marks n false e in
+              let size_is = s.size_is in rw (← same) (may (omega (arith, inside, size_is)))
 
           room_by : length (r.queue ++ n ∷ []) + unset (set r.marks n true) ≡ size
-          room_by = let less = one_less r.marks n e in let room = s.room in let more : length (r.queue ++ n ∷ []) ≡ length r.queue + 1 = length-append r.queue (n ∷ []) in omega (arith, less, room, more)
+          room_by =
+              let less = one_less r.marks n e in
+              let room = s.room in
+              let more : length (r.queue ++ n ∷ []) ≡ length r.queue + 1 = length-append r.queue (n ∷ []) in
+              omega (arith, less, room, more)
 
       by : (o : Option Bool) → slice_get r.marks n ≡ o → Sound R size (marked n o r)
       by (Some false) e = new e
       by (Some true) e = s
       by None e = s
 
-  mark_all_sound : (ns : List ℕ) (r : Reach) → ((n : ℕ) → Contains ns n → n < size → R n) → Sound R size r → Sound R size (mark_all ns r)
+  mark_all_sound : (ns : List ℕ) (r : Reach) → ((n : ℕ) → Contains ns n → n < size → R n) → Sound R size r
+      → Sound R size (mark_all ns r)
   mark_all_sound [] r may s = s
   mark_all_sound (n ∷ ns) r may s =
-      mark_all_sound ns (mark n r) (λ m c. may m (let (k, h, e) = c in (suc k, omega (arith, h), e))) (mark_sound n r (may n (0, omega arith, refl)) s)
+      mark_all_sound ns (mark n r) (λ m c. may m (let (k, h, e) = c in (suc k, omega (arith, h), e)))
+      (mark_sound n r (may n (0, omega arith, refl)) s)
 
 mark_keeps : (n m : ℕ) (r : Reach) → slice_get r.marks m ≡ Some true → slice_get (mark n r).marks m ≡ Some true
 mark_keeps n m r e = by (slice_get r.marks n)
@@ -134,7 +145,8 @@ mark_keeps n m r e = by (slice_get r.marks n)
     by (Some true) = e
     by None = e
 
-mark_all_keeps : (ns : List ℕ) (m : ℕ) (r : Reach) → slice_get r.marks m ≡ Some true → slice_get (mark_all ns r).marks m ≡ Some true
+mark_all_keeps : (ns : List ℕ) (m : ℕ) (r : Reach) → slice_get r.marks m ≡ Some true → slice_get (mark_all ns r).marks m
+    ≡ Some true
 mark_all_keeps [] m r e = e
 mark_all_keeps (n ∷ ns) m r e = mark_all_keeps ns m (mark n r) (mark_keeps n m r e)
 
@@ -159,7 +171,8 @@ mark_here n r h = by (slice_get r.marks n) refl
     by (Some true) e = e
     by None e = absurd (within_some r.marks n h e)
 
-mark_all_here : (ns : List ℕ) (m : ℕ) (r : Reach) → m < length r.marks → Contains ns m → slice_get (mark_all ns r).marks m ≡ Some true
+mark_all_here : (ns : List ℕ) (m : ℕ) (r : Reach) → m < length r.marks → Contains ns m
+    → slice_get (mark_all ns r).marks m ≡ Some true
 mark_all_here [] m r h c = absurd (contains_none m c)
 mark_all_here (n ∷ ns) m r h c = elim (contains_cases n ns m c) [
   | inl same ↦ mark_all_keeps ns m (mark n r) (rw same (mark_here m r h))
@@ -168,13 +181,18 @@ mark_all_here (n ∷ ns) m r h c = elim (contains_cases n ns m c) [
 
 -- what stands in the queue stays there
 abbrev Extends : Reach → Reach → Type 0
-Extends r s = (length r.queue ≤ length s.queue) × ((i : ℕ) → i < length r.queue → slice_get s.queue i ≡ slice_get r.queue i)
+Extends r s = (length r.queue ≤ length s.queue)
+    × ((i : ℕ) → i < length r.queue → slice_get s.queue i ≡ slice_get r.queue i)
 
 mark_extends : (n : ℕ) (r : Reach) → Extends r (mark n r)
 mark_extends n r = by (slice_get r.marks n)
   where
     by : (o : Option Bool) → Extends r (marked n o r)
-    by (Some false) = (let more : length (r.queue ++ n ∷ []) ≡ length r.queue + 1 = length-append r.queue (n ∷ []) in omega (arith, more), λ i h. older r.queue n i h)
+    by (Some false) = (
+      let more : length (r.queue ++ n ∷ []) ≡ length r.queue + 1 = length-append r.queue (n ∷ []) in
+          omega (arith, more),
+      λ i h. older r.queue n i h,
+    )
     by (Some true) = (omega arith, λ i h. refl)
     by None = (omega arith, λ i h. refl)
 
@@ -196,20 +214,23 @@ module _ (seeds : List ℕ) (links : List (List ℕ)) where
     pub sound : Sound (Reached seeds links) (length links) r
     pub seeded : (n : ℕ) → n < length links → Contains seeds n → slice_get r.marks n ≡ Some true
     pub closed :
-        (i m n : ℕ) (ns : List ℕ) → i < done → slice_get r.queue i ≡ Some m → slice_get links m ≡ Some ns → Contains ns n → n < length links →
+        (i m n : ℕ) (ns : List ℕ) → i < done → slice_get r.queue i ≡ Some m → slice_get links m ≡ Some ns
+        → Contains ns n → n < length links →
         slice_get r.marks n ≡ Some true
     pub within : done ≤ length r.queue
 
   pub begins : Reaching 0 (mark_all seeds (fresh (length links)))
   begins = record {
-    sound = mark_all_sound (Reached seeds links) (length links) seeds (fresh (length links)) (λ n c h. seed n h c) (fresh_sound (Reached seeds links) (length links));
+    sound = mark_all_sound (Reached seeds links) (length links) seeds (fresh (length links)) (λ n c h. seed n h c)
+        (fresh_sound (Reached seeds links) (length links));
     seeded = λ n h c. mark_all_here seeds n (fresh (length links)) (rw (length-replicate (length links) false) h) c;
     closed = λ i m n ns h e f c g. absurd (omega (arith, h));
     within = omega arith;
   }
 
   -- one more number of the queue is looked at
-  passes : (done m : ℕ) (r : Reach) → Reaching done r → slice_get r.queue done ≡ Some m → slice_get links m ≡ None → Reaching (done + 1) r
+  passes : (done m : ℕ) (r : Reach) → Reaching done r → slice_get r.queue done ≡ Some m → slice_get links m ≡ None
+      → Reaching (done + 1) r
   passes done m r s e none = record {
     sound = s.sound;
     seeded = s.seeded;
@@ -217,13 +238,17 @@ module _ (seeds : List ℕ) (links : List (List ℕ)) where
     within = let inside = slice_get_within r.queue done m e in omega (arith, inside);
   }
     where
-      by : (i k n : ℕ) (ns : List ℕ) → slice_get r.queue i ≡ Some k → slice_get links k ≡ Some ns → Contains ns n → n < length links → (i < done) ⊎ (i ≡ done) → slice_get r.marks n ≡ Some true
+      by : (i k n : ℕ) (ns : List ℕ) → slice_get r.queue i ≡ Some k → slice_get links k ≡ Some ns → Contains ns n
+          → n < length links → (i < done) ⊎ (i ≡ done) → slice_get r.marks n ≡ Some true
       by i k n ns at f c g (inl h) = s.closed i k n ns h at f c g
-      by i k n ns at f c g (inr same) = let there = rw same at at in let one : k ≡ m = cc in let f2 = rw one at f in absurd (cc)
+      by i k n ns at f c g (inr same) =
+          let there = rw same at at in let one : k ≡ m = cc in let f2 = rw one at f in absurd (cc)
 
-  follows : (done m : ℕ) (next : List ℕ) (r : Reach) → Reaching done r → slice_get r.queue done ≡ Some m → slice_get links m ≡ Some next → Reaching (done + 1) (mark_all next r)
+  follows : (done m : ℕ) (next : List ℕ) (r : Reach) → Reaching done r → slice_get r.queue done ≡ Some m
+      → slice_get links m ≡ Some next → Reaching (done + 1) (mark_all next r)
   follows done m next r s e some = record {
-    sound = mark_all_sound (Reached seeds links) (length links) next r (λ n c h. link m n next (s.sound.reached m (at_found r.queue done m e)) some c h) s.sound;
+    sound = mark_all_sound (Reached seeds links) (length links) next r
+        (λ n c h. link m n next (s.sound.reached m (at_found r.queue done m e)) some c h) s.sound;
     seeded = λ n h c. mark_all_keeps next n r (s.seeded n h c);
     closed = λ i k n ns h at f c g. by i k n ns at f c g (before i done h);
     within = let inside = slice_get_within r.queue done m e in let longer = extends.0 in omega (arith, inside, longer);
@@ -232,7 +257,8 @@ module _ (seeds : List ℕ) (links : List (List ℕ)) where
       extends : Extends r (mark_all next r)
       extends = mark_all_extends next r
 
-      by : (i k n : ℕ) (ns : List ℕ) → slice_get (mark_all next r).queue i ≡ Some k → slice_get links k ≡ Some ns → Contains ns n → n < length links → (i < done) ⊎ (i ≡ done)
+      by : (i k n : ℕ) (ns : List ℕ) → slice_get (mark_all next r).queue i ≡ Some k → slice_get links k ≡ Some ns
+          → Contains ns n → n < length links → (i < done) ⊎ (i ≡ done)
           → slice_get (mark_all next r).marks n ≡ Some true
       by i k n ns at f c g (inl h) =
           let inside = s.within in
@@ -246,7 +272,8 @@ module _ (seeds : List ℕ) (links : List (List ℕ)) where
           let all : next ≡ ns = cc in
           mark_all_here next n r (let size = s.sound.size_is in omega (arith, g, size)) (rw all c)
 
-  pub goes : (done m : ℕ) (r : Reach) → Reaching done r → slice_get r.queue done ≡ Some m → Reaching (done + 1) (follow m links r)
+  pub goes : (done m : ℕ) (r : Reach) → Reaching done r → slice_get r.queue done ≡ Some m
+      → Reaching (done + 1) (follow m links r)
   goes done m r s e = by (slice_get links m) refl
     where
       by : (o : Option (List ℕ)) → slice_get links m ≡ o → Reaching (done + 1) (followed o r)
@@ -256,7 +283,8 @@ module _ (seeds : List ℕ) (links : List (List ℕ)) where
   past : (done : ℕ) (r : Reach) → slice_get r.queue done ≡ None → length r.queue ≤ done
   past done r e = elim (cases_lt done (length r.queue)) [ inl h ↦ absurd (within_some r.queue done h e) | inr h ↦ h ]
 
-  pub ends : (done : ℕ) (r : Reach) → Reaching done r → slice_get r.queue done ≡ None → (n : ℕ) → (slice_get r.marks n ≡ Some true) ↔ Reached seeds links n
+  pub ends : (done : ℕ) (r : Reach) → Reaching done r → slice_get r.queue done ≡ None → (n : ℕ)
+      → (slice_get r.marks n ≡ Some true) ↔ Reached seeds links n
   ends done r s none n = (λ e. s.sound.reached n (s.sound.queued n e), back n)
     where
       h : length r.queue ≤ done
@@ -269,5 +297,7 @@ module _ (seeds : List ℕ) (links : List (List ℕ)) where
           s.closed i m n ns (omega (arith, below, h)) at e c inside
 
 -- as long as there is a number to look at, fewer were looked at than there are
-pub smaller : (seeds : List ℕ) (links : List (List ℕ)) (done m : ℕ) (r : Reach) → Reaching seeds links done r → slice_get r.queue done ≡ Some m → done < length links
-smaller seeds links done m r s e = let inside = slice_get_within r.queue done m e in let room = s.sound.room in omega (arith, inside, room)
+pub smaller : (seeds : List ℕ) (links : List (List ℕ)) (done m : ℕ) (r : Reach) → Reaching seeds links done r
+    → slice_get r.queue done ≡ Some m → done < length links
+smaller seeds links done m r s e =
+    let inside = slice_get_within r.queue done m e in let room = s.sound.room in omega (arith, inside, room)

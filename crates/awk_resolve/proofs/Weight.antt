@@ -5,7 +5,8 @@ use Rattle.awk_tree.specs.declared.expressions.Term.{Term}
 use Rattle.awk_tree.specs.declared.expressions.Piped.{Piped}
 use Rattle.awk_tree.specs.declared.statements.Statement as code
 use Rattle.awk_tree.specs.Tree as t
-use Rattle.awk_tree.specs.Tree.{Tree, Trees, Perhaps, Terms, Pipes, trees_of, perhaps_of, terms_of, pipes_of, Statement, Statements, statements_of}
+use Rattle.awk_tree.specs.Tree.{Tree, Trees, Perhaps, Terms, Pipes, trees_of, perhaps_of, terms_of, pipes_of, Statement}
+use Rattle.awk_tree.specs.Tree.{Statements, statements_of}
 use Rattle.awk_tree.specs.View.{view, view_term, view_piped, view_statement}
 
 abbrev mutual
@@ -56,17 +57,21 @@ abbrev mutual
   weight_pipes t.no_pipes = 0
   weight_pipes (t.piped p x ps) = 2 + weight_perhaps x + weight_pipes ps
 
-pub item_weight : (xs : List Expr) (i : ℕ) (d : Expr) → i < length xs → weight (view (get_or xs i d)) < 1 + weights (trees_of (map view xs))
+pub item_weight : (xs : List Expr) (i : ℕ) (d : Expr) → i < length xs → weight (view (get_or xs i d)) < 1 + weights
+    (trees_of (map view xs))
 item_weight [] i d h = absurd (omega arith)
 item_weight (x ∷ xs) zero d h = omega arith
 item_weight (x ∷ xs) (suc i) d h = omega (arith, item_weight xs i d (omega arith))
 
-pub term_weight : (xs : List (Term Expr)) (i : ℕ) (d : Term Expr) → i < length xs → weight (view (get_or xs i d).operand) < 1 + weight_terms (terms_of (map view_term xs))
+pub term_weight : (xs : List (Term Expr)) (i : ℕ) (d : Term Expr) → i < length xs
+    → weight (view (get_or xs i d).operand) < 1 + weight_terms (terms_of (map view_term xs))
 term_weight [] i d h = absurd (omega arith)
 term_weight (x ∷ xs) zero d h = omega arith
 term_weight (x ∷ xs) (suc i) d h = omega (arith, term_weight xs i d (omega arith))
 
-pub piped_weight : (xs : List (Piped Expr)) (i : ℕ) (d : Piped Expr) → i < length xs → 1 + weight_perhaps (perhaps_of (option_map view (get_or xs i d).target)) < 1 + weight_pipes (pipes_of (map view_piped xs))
+pub piped_weight : (xs : List (Piped Expr)) (i : ℕ) (d : Piped Expr) → i < length xs
+    → 1 + weight_perhaps (perhaps_of (option_map view (get_or xs i d).target)) < 1 + weight_pipes
+    (pipes_of (map view_piped xs))
 piped_weight [] i d h = absurd (omega arith)
 piped_weight (x ∷ xs) zero d h = omega arith
 piped_weight (x ∷ xs) (suc i) d h = omega (arith, piped_weight xs i d (omega arith))
@@ -94,7 +99,8 @@ abbrev mutual
   statement_weights t.no_more = 0
   statement_weights (t.then_also x xs) = statement_weight x + statement_weights xs
 
-pub statement_item_weight : (xs : List code.Statement) (i : ℕ) (d : code.Statement) → i < length xs → statement_weight (view_statement (get_or xs i d)) < 1 + statement_weights (statements_of (map view_statement xs))
+pub statement_item_weight : (xs : List code.Statement) (i : ℕ) (d : code.Statement) → i < length xs
+    → statement_weight (view_statement (get_or xs i d)) < 1 + statement_weights (statements_of (map view_statement xs))
 statement_item_weight [] i d h = absurd (omega arith)
 statement_item_weight (x ∷ xs) zero d h = omega arith
 statement_item_weight (x ∷ xs) (suc i) d h = omega (arith, statement_item_weight xs i d (omega arith))

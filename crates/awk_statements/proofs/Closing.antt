@@ -1,5 +1,6 @@
 -- No `else` follows what is read as an open statement: the `if` that ends it has looked for one.
-use Rattle.std.proofs.Common.{◌≡◌, ◌∙◌, sym, ℕ, zero, suc, ◌+◌, ◌==◌, Bool, true, false, if◌then◌else◌, List, Ok, Err, refl, subst}
+use Rattle.std.proofs.Common.{◌≡◌, ◌∙◌, sym, ℕ, zero, suc, ◌+◌, ◌==◌, Bool, true, false, if◌then◌else◌, List, Ok, Err}
+use Rattle.std.proofs.Common.{refl, subst}
 use Rattle.awk_tokens.specs.declared.token.Token.{Token}
 use Rattle.awk_text.specs.declared.place.Place.{Place}
 use Rattle.awk_tree.specs.Looks.{each_next, else_next, name_of, past, skip}

@@ -42,7 +42,8 @@ seen-array : (s : State) (c : Course) (a : p.Variable) → variables.array (seen
 seen-array s c (p.global x) = refl
 seen-array s c (p.parameter n) = seen-at s c (variables.reference s (p.parameter n))
 
-seen-with-variable : (s : State) (c : Course) (a : p.Variable) (x : Value) → variables.with_variable a x (seen s c) ≡ seen (variables.with_variable a x s) c
+seen-with-variable : (s : State) (c : Course) (a : p.Variable) (x : Value) → variables.with_variable a x (seen s c)
+    ≡ seen (variables.with_variable a x s) c
 seen-with-variable s c (p.global name) x = refl
 seen-with-variable s c (p.parameter n) x = refl
 
@@ -50,17 +51,23 @@ module _ (g : Given) (w : Whole) (hid : Hidden) (c : Course) (a : Agreeing g w h
   pub nf-so : (x : Variable) → variables.is_nf (variable_of (names_in g) x) ≡ kept.is_nf x
   nf-so x = law.tells_nf (names_in g) w.0 hid a.sound a.cells x
 
-  pub variable-so : (x : Variable) → variables.variable (seen (base g w hid) c) (variable_of (names_in g) x) ≡ kept.value w.0 x
-  variable-so x = seen-variable (base g w hid) c (variable_of (names_in g) x) ∙ law.variable (names_in g) w.0 hid a.sound a.cells x
+  pub variable-so : (x : Variable) → variables.variable (seen (base g w hid) c) (variable_of (names_in g) x)
+      ≡ kept.value w.0 x
+  variable-so x = seen-variable (base g w hid) c (variable_of (names_in g) x) ∙ law.variable (names_in g) w.0 hid
+      a.sound a.cells x
 
   pub own-text-so : (x : Own) → variables.own_text (seen (base g w hid) c) (name_of x) ≡ kept.own_text w.0 x
   own-text-so x = law.text (names_in g) w.0 hid a.sound a.cells x
 
-  pub array-so : (x : Variable) → variables.array (seen (base g w hid) c) (variable_of (names_in g) x) ≡ kept.array w.0 x
-  array-so x = seen-array (base g w hid) c (variable_of (names_in g) x) ∙ law.array (names_in g) w.0 hid a.sound a.cells x
+  pub array-so : (x : Variable) → variables.array (seen (base g w hid) c) (variable_of (names_in g) x)
+      ≡ kept.array w.0 x
+  array-so x = seen-array (base g w hid) c (variable_of (names_in g) x) ∙ law.array (names_in g) w.0 hid a.sound a.cells
+      x
 
-  pub variable-set : (x : Variable) (v : Value) → variables.with_variable (variable_of (names_in g) x) v (seen (base g w hid) c) ≡ seen (base g (changes.with_value x v w.0, w.1) hid) c
-  variable-set x v = seen-with-variable (base g w hid) c (variable_of (names_in g) x) v ∙ ap (λ s. seen s c) (set.variable (names_in g) w.0 hid a.sound x v)
+  pub variable-set : (x : Variable) (v : Value) → variables.with_variable (variable_of (names_in g) x) v
+      (seen (base g w hid) c) ≡ seen (base g (changes.with_value x v w.0, w.1) hid) c
+  variable-set x v = seen-with-variable (base g w hid) c (variable_of (names_in g) x) v ∙ ap (λ s. seen s c)
+      (set.variable (names_in g) w.0 hid a.sound x v)
 
   -- the store's record has the fields of the machine's
   pub fields-so : (row : _) (vs : List Value) → IsKept w.0.row row → HasFields row vs → HasFields hid.row vs

@@ -43,15 +43,18 @@ same_halt a b e = cc
 
 -- ---- an array is set
 
-seen-array-set : (s : State) (c : Course) (at : Reference) (new : Array) → variables.array_set at new (seen s c) ≡ seen (variables.array_set at new s) c
+seen-array-set : (s : State) (c : Course) (at : Reference) (new : Array) → variables.array_set at new (seen s c)
+    ≡ seen (variables.array_set at new s) c
 seen-array-set s c (Shared name) new = refl
 seen-array-set s c (Made n) new = refl
 
-seen-with-array : (s : State) (c : Course) (a : p.Variable) (new : Array) → variables.with_array a new (seen s c) ≡ seen (variables.with_array a new s) c
+seen-with-array : (s : State) (c : Course) (a : p.Variable) (new : Array) → variables.with_array a new (seen s c)
+    ≡ seen (variables.with_array a new s) c
 seen-with-array s c (p.global x) new = refl
 seen-with-array s c (p.parameter n) new = seen-array-set s c (variables.reference s (p.parameter n)) new
 
-cells_stay : (at : code.Reference) (new : Array) (k : Kept) → length (changes.with_array at new k).cells ≡ length k.cells
+cells_stay : (at : code.Reference) (new : Array) (k : Kept) → length (changes.with_array at new k).cells
+    ≡ length k.cells
 cells_stay (r.Shared n) new k = change_count (changes.given_array new) k.cells n
 cells_stay (r.Made n) new k = refl
 cells_stay r.Nothing new k = refl
@@ -71,8 +74,10 @@ module _ (g : Given) (old : Whole) (x : Variable) (new : Array) where
   abbrev pub with_new : Whole
   with_new = (changes.with_array (kept.reference old.0 x) new old.0, old.1)
 
-  pub array-set : (hid : Hidden) (c : Course) → Agreeing g old hid c → variables.with_array (variable_of (names_in g) x) new (seen (base g old hid) c) ≡ seen (base g with_new hid) c
-  array-set hid c a = seen-with-array (base g old hid) c (variable_of (names_in g) x) new ∙ ap (λ s. seen s c) (set.array (names_in g) old.0 hid a.sound x new)
+  pub array-set : (hid : Hidden) (c : Course) → Agreeing g old hid c
+      → variables.with_array (variable_of (names_in g) x) new (seen (base g old hid) c) ≡ seen (base g with_new hid) c
+  array-set hid c a = seen-with-array (base g old hid) c (variable_of (names_in g) x) new ∙ ap (λ s. seen s c)
+      (set.array (names_in g) old.0 hid a.sound x new)
 
   pub array_agrees : (hid : Hidden) (c : Course) → Agreeing g old hid c → Agreeing g with_new hid c
   array_agrees hid c a = record {
@@ -91,58 +96,87 @@ module _ (g : Given) (old : Whole) (x : Variable) (key : Text) (place : Place) w
   abbrev reading : Piece
   reading = Do (Get (machine.Element (variable_of (names_in g) x) key place))
 
-  there_moves : (val : Value) → element (kept.array old.0 x) key ≡ Some val → (k : List Piece) (hid : Hidden) (c : Course) → Agreeing g old hid c →
-      advance g (Do (Get (machine.Element (variable_of (names_in g) x) key place)) ∷ k) (seen (base g old hid) c) ≡ Goes (give val k) (seen (base g old hid) c)
+  there_moves : (val : Value) → element (kept.array old.0 x) key ≡ Some val
+      → (k : List Piece) (hid : Hidden) (c : Course) → Agreeing g old hid c →
+      advance g (Do (Get (machine.Element (variable_of (names_in g) x) key place)) ∷ k) (seen (base g old hid) c)
+      ≡ Goes (give val k) (seen (base g old hid) c)
   there_moves val e k hid c a = rw (array-so g old hid c a x, e) refl
 
   -- one that is not there: it is put, unset
-  missing_by : (made : Result Array Fault) → element (kept.array old.0 x) key ≡ None → put (kept.array old.0 x) key v.Unset ≡ made → (k : List Piece) (hid : Hidden) (c : Course) → Agreeing g old hid c →
+  missing_by : (made : Result Array Fault) → element (kept.array old.0 x) key ≡ None
+      → put (kept.array old.0 x) key v.Unset ≡ made → (k : List Piece) (hid : Hidden) (c : Course)
+      → Agreeing g old hid c →
       advance g (Do (Get (machine.Element (variable_of (names_in g) x) key place)) ∷ k) (seen (base g old hid) c)
-      ≡ held g (seen (base g old hid) c) (granted place made (λ new k s. Goes (give v.Unset k) (variables.with_array (variable_of (names_in g) x) new s)) k (seen (base g old hid) c))
+      ≡ held g (seen (base g old hid) c)
+      (granted place made (λ new k s. Goes (give v.Unset k) (variables.with_array (variable_of (names_in g) x) new
+      s)) k (seen (base g old hid) c))
   missing_by made e is k hid c a =
       let s = seen (base g old hid) c in
       let va = variable_of (names_in g) x in
       ap (λ o. held g s (get_element o va key place k s)) (ap (λ arr. element arr key) (array-so g old hid c a x) ∙ e)
-      ∙ ap (λ m. held g s (granted place m (λ new k s. Goes (give v.Unset k) (variables.with_array va new s)) k s)) (ap (λ arr. put arr key v.Unset) (array-so g old hid c a x) ∙ is)
+      ∙ ap (λ m. held g s (granted place m (λ new k s. Goes (give v.Unset k) (variables.with_array va new s)) k s))
+      (ap (λ arr. put arr key v.Unset) (array-so g old hid c a x) ∙ is)
 
-  missing_moves : (new : Array) → element (kept.array old.0 x) key ≡ None → put (kept.array old.0 x) key v.Unset ≡ Ok new → (k : List Piece) (hid : Hidden) (c : Course) → Agreeing g old hid c →
-      advance g (Do (Get (machine.Element (variable_of (names_in g) x) key place)) ∷ k) (seen (base g old hid) c) ≡ Goes (give v.Unset k) (seen (base g (with_new g old x new) hid) c)
-  missing_moves new e is k hid c a = missing_by (Ok new) e is k hid c a ∙ ap (λ s. Goes (give v.Unset k) s) (array-set g old x new hid c a)
+  missing_moves : (new : Array) → element (kept.array old.0 x) key ≡ None → put (kept.array old.0 x) key v.Unset
+      ≡ Ok new → (k : List Piece) (hid : Hidden) (c : Course) → Agreeing g old hid c →
+      advance g (Do (Get (machine.Element (variable_of (names_in g) x) key place)) ∷ k) (seen (base g old hid) c)
+      ≡ Goes (give v.Unset k) (seen (base g (with_new g old x new) hid) c)
+  missing_moves new e is k hid c a = missing_by (Ok new) e is k hid c a ∙ ap (λ s. Goes (give v.Unset k) s)
+      (array-set g old x new hid c a)
 
-  missing_faults : (met : Fault) → element (kept.array old.0 x) key ≡ None → put (kept.array old.0 x) key v.Unset ≡ Err met → (k : List Piece) (hid : Hidden) (c : Course) → Agreeing g old hid c →
-      advance g (Do (Get (machine.Element (variable_of (names_in g) x) key place)) ∷ k) (seen (base g old hid) c) ≡ Goes (ends (Faulted met place)) (seen (base g old hid) c)
+  missing_faults : (met : Fault) → element (kept.array old.0 x) key ≡ None → put (kept.array old.0 x) key v.Unset
+      ≡ Err met → (k : List Piece) (hid : Hidden) (c : Course) → Agreeing g old hid c →
+      advance g (Do (Get (machine.Element (variable_of (names_in g) x) key place)) ∷ k) (seen (base g old hid) c)
+      ≡ Goes (ends (Faulted met place)) (seen (base g old hid) c)
   missing_faults met e is k hid c a = missing_by (Err met) e is k hid c a
 
-  pub reads_element : (val : Value) → element (kept.array old.0 x) key ≡ Some val → Acts g (Do (Get (machine.Element (variable_of (names_in g) x) key place))) give old (Ok val) old
+  pub reads_element : (val : Value) → element (kept.array old.0 x) key ≡ Some val
+      → Acts g (Do (Get (machine.Element (variable_of (names_in g) x) key place))) give old (Ok val) old
   reads_element val e = done (moves (at_rest _ old) (there_moves val e))
 
   -- one that is not there is made, unless it is one too many
-  pub makes_element : (new : Kept) → element (kept.array old.0 x) key ≡ None → (made : Array) × (put (kept.array old.0 x) key v.Unset ≡ Ok made) × (new ≡ changes.with_array (kept.reference old.0 x) made old.0) →
+  pub makes_element : (new : Kept) → element (kept.array old.0 x) key ≡ None → (made : Array)
+      × (put (kept.array old.0 x) key v.Unset ≡ Ok made)
+      × (new ≡ changes.with_array (kept.reference old.0 x) made old.0) →
       Acts g (Do (Get (machine.Element (variable_of (names_in g) x) key place))) give old (Ok v.Unset) (new, old.1)
   makes_element new e (made, is, same) =
       subst (λ (k : Kept). Acts g reading give old (Ok v.Unset) (k, old.1)) (sym same)
-      (done (alters (array_used g old x made) (at_rest _ old) (λ k hid c a. (hid, array_agrees g old x made hid c a, missing_moves made e is k hid c a))))
+      (done (alters (array_used g old x made) (at_rest _ old) (λ k hid c a. (
+        hid,
+        array_agrees g old x made hid c a,
+        missing_moves made e is k hid c a,
+      ))))
 
-  pub makes_none : {A : Type 0} {on : A → List Piece → List Piece} (new : Kept) (met : Fault) → element (kept.array old.0 x) key ≡ None →
-      (new ≡ old.0) × ((met ≡ fault.Memory) ⊎ (put (kept.array old.0 x) key v.Unset ≡ Err met)) → Acts g (Do (Get (machine.Element (variable_of (names_in g) x) key place))) on old (Err (halt_at place met)) (new, old.1)
+  pub makes_none : {A : Type 0} {on : A → List Piece → List Piece} (new : Kept) (met : Fault)
+      → element (kept.array old.0 x) key ≡ None →
+      (new ≡ old.0) × ((met ≡ fault.Memory) ⊎ (put (kept.array old.0 x) key v.Unset ≡ Err met))
+      → Acts g (Do (Get (machine.Element (variable_of (names_in g) x) key place))) on old (Err (halt_at place met))
+      (new, old.1)
   makes_none {on = on} new met e (same, why) =
-      subst (λ (k : Kept). Acts g reading on old (Err (halt_at place met)) (k, old.1)) (sym same) (faulted refl (why_so why))
+      subst (λ (k : Kept). Acts g reading on old (Err (halt_at place met)) (k, old.1)) (sym same)
+      (faulted refl (why_so why))
     where
-      why_so : (met ≡ fault.Memory) ⊎ (put (kept.array old.0 x) key v.Unset ≡ Err met) → (met ≡ fault.Memory) ⊎ Passes g reading old (λ k. ends (Faulted met place)) old
+      why_so : (met ≡ fault.Memory) ⊎ (put (kept.array old.0 x) key v.Unset ≡ Err met) → (met ≡ fault.Memory)
+          ⊎ Passes g reading old (λ k. ends (Faulted met place)) old
       why_so (inl m) = inl m
       why_so (inr is) = inr (moves (at_rest _ old) (missing_faults met e is))
 
-  pub makes_result : (result : Result (Unit {0}) Fault) (new : Kept) (u : Unit {0}) → element (kept.array old.0 x) key ≡ None →
-      OnOk result ((made : Array) × (put (kept.array old.0 x) key v.Unset ≡ Ok made) × (new ≡ changes.with_array (kept.reference old.0 x) made old.0)) → result_at place result ≡ Ok u →
+  pub makes_result : (result : Result (Unit {0}) Fault) (new : Kept) (u : Unit {0}) → element (kept.array old.0 x) key
+      ≡ None →
+      OnOk result ((made : Array) × (put (kept.array old.0 x) key v.Unset ≡ Ok made)
+      × (new ≡ changes.with_array (kept.reference old.0 x) made old.0)) → result_at place result ≡ Ok u →
       Acts g (Do (Get (machine.Element (variable_of (names_in g) x) key place))) give old (Ok v.Unset) (new, old.1)
   makes_result (Ok tt) new u e ok is = makes_element new e ok
   makes_result (Err met) new u e ok is = absurd (cc)
 
-  pub makes_no_result : (result : Result (Unit {0}) Fault) (new : Kept) (h : Halt) → element (kept.array old.0 x) key ≡ None →
-      IfErr result (λ e. (new ≡ old.0) × ((e ≡ fault.Memory) ⊎ (put (kept.array old.0 x) key v.Unset ≡ Err e))) → result_at place result ≡ Err h →
+  pub makes_no_result : (result : Result (Unit {0}) Fault) (new : Kept) (h : Halt) → element (kept.array old.0 x) key
+      ≡ None →
+      IfErr result (λ e. (new ≡ old.0) × ((e ≡ fault.Memory) ⊎ (put (kept.array old.0 x) key v.Unset ≡ Err e)))
+      → result_at place result ≡ Err h →
       Acts g (Do (Get (machine.Element (variable_of (names_in g) x) key place))) give old (Err h) (new, old.1)
   makes_no_result (Ok tt) new h e err is = absurd (cc)
-  makes_no_result (Err met) new h e err is = subst (λ (q : Halt). Acts g reading give old (Err q) (new, old.1)) (same_halt (halt_at place met) h is) (makes_none new met e err)
+  makes_no_result (Err met) new h e err is = subst (λ (q : Halt). Acts g reading give old (Err q) (new, old.1))
+      (same_halt (halt_at place met) h is) (makes_none new met e err)
 
 -- ---- an element is set
 
@@ -150,28 +184,45 @@ module _ (g : Given) (old : Whole) (x : Variable) (key : Text) (at place : Place
   abbrev setting : Piece
   setting = Do (Set (machine.Element (variable_of (names_in g) x) key at) place val)
 
-  set_moves : (new : Array) → put (kept.array old.0 x) key val ≡ Ok new → (k : List Piece) (hid : Hidden) (c : Course) → Agreeing g old hid c →
-      advance g (Do (Set (machine.Element (variable_of (names_in g) x) key at) place val) ∷ k) (seen (base g old hid) c) ≡ Goes k (seen (base g (with_new g old x new) hid) c)
+  set_moves : (new : Array) → put (kept.array old.0 x) key val ≡ Ok new → (k : List Piece) (hid : Hidden) (c : Course)
+      → Agreeing g old hid c →
+      advance g (Do (Set (machine.Element (variable_of (names_in g) x) key at) place val) ∷ k) (seen (base g old hid) c)
+      ≡ Goes k (seen (base g (with_new g old x new) hid) c)
   set_moves new is k hid c a = rw (array-so g old hid c a x, is, array-set g old x new hid c a) refl
 
-  set_faults : (met : Fault) → put (kept.array old.0 x) key val ≡ Err met → (k : List Piece) (hid : Hidden) (c : Course) → Agreeing g old hid c →
-      advance g (Do (Set (machine.Element (variable_of (names_in g) x) key at) place val) ∷ k) (seen (base g old hid) c) ≡ Goes (ends (Faulted met at)) (seen (base g old hid) c)
+  set_faults : (met : Fault) → put (kept.array old.0 x) key val ≡ Err met → (k : List Piece) (hid : Hidden) (c : Course)
+      → Agreeing g old hid c →
+      advance g (Do (Set (machine.Element (variable_of (names_in g) x) key at) place val) ∷ k) (seen (base g old hid) c)
+      ≡ Goes (ends (Faulted met at)) (seen (base g old hid) c)
   set_faults met is k hid c a = rw (array-so g old hid c a x, is) refl
 
-  puts : (new : Kept) → (made : Array) × (put (kept.array old.0 x) key val ≡ Ok made) × (new ≡ changes.with_array (kept.reference old.0 x) made old.0) → Acts g setting goes_on old (Ok (tt {0})) (new, old.1)
+  puts : (new : Kept) → (made : Array) × (put (kept.array old.0 x) key val ≡ Ok made)
+      × (new ≡ changes.with_array (kept.reference old.0 x) made old.0)
+      → Acts g setting goes_on old (Ok (tt {0})) (new, old.1)
   puts new (made, is, same) =
       subst (λ (k : Kept). Acts g setting goes_on old (Ok (tt {0})) (k, old.1)) (sym same)
-      (done (alters (array_used g old x made) (at_rest _ old) (λ k hid c a. (hid, array_agrees g old x made hid c a, set_moves made is k hid c a))))
+      (done (alters (array_used g old x made) (at_rest _ old) (λ k hid c a. (
+        hid,
+        array_agrees g old x made hid c a,
+        set_moves made is k hid c a,
+      ))))
 
-  puts_not : (new : Kept) (met : Fault) → (new ≡ old.0) × ((met ≡ fault.Memory) ⊎ (put (kept.array old.0 x) key val ≡ Err met)) → Acts g setting (goes_on {A = Unit {0}}) old (Err (halt_at at met)) (new, old.1)
-  puts_not new met (same, why) = subst (λ (k : Kept). Acts g setting (goes_on {A = Unit {0}}) old (Err (halt_at at met)) (k, old.1)) (sym same) (faulted refl (why_so why))
+  puts_not : (new : Kept) (met : Fault) → (new ≡ old.0)
+      × ((met ≡ fault.Memory) ⊎ (put (kept.array old.0 x) key val ≡ Err met))
+      → Acts g setting (goes_on {A = Unit {0}}) old (Err (halt_at at met)) (new, old.1)
+  puts_not new met (same, why) = subst (λ (k : Kept). Acts g setting (goes_on {A = Unit {0}}) old (Err (halt_at at met))
+      (k, old.1)) (sym same) (faulted refl (why_so why))
     where
-      why_so : (met ≡ fault.Memory) ⊎ (put (kept.array old.0 x) key val ≡ Err met) → (met ≡ fault.Memory) ⊎ Passes g setting old (λ k. ends (Faulted met at)) old
+      why_so : (met ≡ fault.Memory) ⊎ (put (kept.array old.0 x) key val ≡ Err met) → (met ≡ fault.Memory)
+          ⊎ Passes g setting old (λ k. ends (Faulted met at)) old
       why_so (inl m) = inl m
       why_so (inr is) = inr (moves (at_rest _ old) (set_faults met is))
 
-  pub puts_result : (result : Result (Unit {0}) Fault) (new : Kept) → OnOk result ((made : Array) × (put (kept.array old.0 x) key val ≡ Ok made) × (new ≡ changes.with_array (kept.reference old.0 x) made old.0)) →
+  pub puts_result : (result : Result (Unit {0}) Fault) (new : Kept)
+      → OnOk result ((made : Array) × (put (kept.array old.0 x) key val ≡ Ok made)
+      × (new ≡ changes.with_array (kept.reference old.0 x) made old.0)) →
       IfErr result (λ e. (new ≡ old.0) × ((e ≡ fault.Memory) ⊎ (put (kept.array old.0 x) key val ≡ Err e))) →
-      Acts g (Do (Set (machine.Element (variable_of (names_in g) x) key at) place val)) goes_on old (result_at at result) (new, old.1)
+      Acts g (Do (Set (machine.Element (variable_of (names_in g) x) key at) place val)) goes_on old
+      (result_at at result) (new, old.1)
   puts_result (Ok tt) new ok err = puts new ok
   puts_result (Err met) new ok err = puts_not new met err

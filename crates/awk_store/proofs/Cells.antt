@@ -1,5 +1,6 @@
 -- Cells and arrays that are changed where they lie.
-use Rattle.std.specs.Prelude.{◌≡◌, ◌<◌, ◌≤◌, ℕ, zero, suc, List, [], ◌∷◌, length, slice_get, slice_index_or, slice_set, Some, None, unwrap_or, Result, Ok, Err, OnOk, IfErr, refl}
+use Rattle.std.specs.Prelude.{◌≡◌, ◌<◌, ◌≤◌, ℕ, zero, suc, List, [], ◌∷◌, length, slice_get, slice_index_or, slice_set}
+use Rattle.std.specs.Prelude.{Some, None, unwrap_or, Result, Ok, Err, OnOk, IfErr, refl}
 use Rattle.std.proofs.Common.{sym, ◌∙◌, ap, arith}
 use Rattle.awk_text.specs.declared.value.Value.{Value}
 use Rattle.awk_program.specs.declared.variables.Variable.{Variable}
@@ -13,7 +14,8 @@ use Rattle.awk_store.specs.declared.frame.Reference.TheVariants.{Shared, Made, N
 use Rattle.awk_store.specs.Changes.{change_at, given_array, given_value, with_array, with_value}
 use Rattle.awk_store.specs.Kept.{Kept, array_at, listed}
 
-pub change_here : (f : Cell → Cell) (cells : List Cell) (k : ℕ) (c new : Cell) → c ≡ slice_index_or cells k c → new ≡ f c → slice_set cells k new ≡ change_at f cells k
+pub change_here : (f : Cell → Cell) (cells : List Cell) (k : ℕ) (c new : Cell) → c ≡ slice_index_or cells k c
+    → new ≡ f c → slice_set cells k new ≡ change_at f cells k
 change_here f [] k c new is e = refl
 change_here f (x ∷ cs) zero c new is e = rw (e, is) refl
 change_here f (x ∷ cs) (suc k) c new is e = ap (λ ys. x ∷ ys) (change_here f cs k c new is e)
@@ -24,7 +26,8 @@ change_nowhere f (x ∷ cs) zero past = absurd (omega (arith, past))
 change_nowhere f (x ∷ cs) (suc k) past = ap (λ ys. x ∷ ys) (change_nowhere f cs k (omega (arith, past)))
 
 -- what was there, in a proof that knows it by its own value
-pub found_here : {X : Type 0} (xs : List X) (k : ℕ) (x : X) → k < length xs → x ≡ slice_index_or xs k x → slice_get xs k ≡ Some x
+pub found_here : {X : Type 0} (xs : List X) (k : ℕ) (x : X) → k < length xs → x ≡ slice_index_or xs k x
+    → slice_get xs k ≡ Some x
 found_here [] k x inside is = absurd (omega (arith, inside))
 found_here (y ∷ xs) zero x inside is = ap Some (sym is)
 found_here (y ∷ xs) (suc k) x inside is = found_here xs k x (omega (arith, inside)) is
@@ -45,7 +48,8 @@ given_twice : (a b : Array) (c : Cell) → given_array b (given_array a c) ≡ g
 given_twice a b (cell.Value x) = refl
 given_twice a b (cell.Array old) = refl
 
-cells_twice : (a b : Array) (cells : List Cell) (k : ℕ) → change_at (given_array b) (change_at (given_array a) cells k) k ≡ change_at (given_array b) cells k
+cells_twice : (a b : Array) (cells : List Cell) (k : ℕ) → change_at (given_array b) (change_at (given_array a) cells k)
+    k ≡ change_at (given_array b) cells k
 cells_twice a b [] k = refl
 cells_twice a b (c ∷ cs) zero = ap (λ x. x ∷ cs) (given_twice a b c)
 cells_twice a b (c ∷ cs) (suc k) = ap (λ ys. c ∷ ys) (cells_twice a b cs k)
@@ -64,7 +68,8 @@ given_same : (c : Cell) → given_array (unwrap_or (listed (Some c)) []) c ≡ c
 given_same (cell.Value x) = refl
 given_same (cell.Array a) = refl
 
-cells_same : (cells : List Cell) (k : ℕ) → change_at (given_array (unwrap_or (listed (slice_get cells k)) [])) cells k ≡ cells
+cells_same : (cells : List Cell) (k : ℕ) → change_at (given_array (unwrap_or (listed (slice_get cells k)) [])) cells k
+    ≡ cells
 cells_same [] k = refl
 cells_same (c ∷ cs) zero = ap (λ x. x ∷ cs) (given_same c)
 cells_same (c ∷ cs) (suc k) = ap (λ ys. c ∷ ys) (cells_same cs k)
@@ -80,11 +85,13 @@ same (Made n) k = ap (λ as_. record k { made = as_ }) (set_same [] k.made n)
 same Nothing k = refl
 
 -- what a store is once the array is back
-pub put_back : (old mid new : Kept) (at r : Reference) (empty elements : Array) → at ≡ r → mid ≡ with_array at empty old → new ≡ with_array at elements mid → new ≡ with_array r elements old
+pub put_back : (old mid new : Kept) (at r : Reference) (empty elements : Array) → at ≡ r → mid ≡ with_array at empty old
+    → new ≡ with_array at elements mid → new ≡ with_array r elements old
 put_back old mid new at r empty elements is out back =
     back ∙ ap (with_array at elements) out ∙ twice at empty elements old ∙ ap (λ z. with_array z elements old) is
 
-pub as_it_was : (old new : Kept) (r : Reference) (elements : Array) → new ≡ with_array r elements old → elements ≡ array_at old r → new ≡ old
+pub as_it_was : (old new : Kept) (r : Reference) (elements : Array) → new ≡ with_array r elements old
+    → elements ≡ array_at old r → new ≡ old
 as_it_was old new r elements is e = is ∙ ap (λ a. with_array r a old) e ∙ same r old
 
 -- ---- a value that is taken out and set again
@@ -93,7 +100,8 @@ given_value_twice : (x y : Value) (c : Cell) → given_value y (given_value x c)
 given_value_twice x y (cell.Value old) = refl
 given_value_twice x y (cell.Array a) = refl
 
-values_twice : (x y : Value) (cells : List Cell) (k : ℕ) → change_at (given_value y) (change_at (given_value x) cells k) k ≡ change_at (given_value y) cells k
+values_twice : (x y : Value) (cells : List Cell) (k : ℕ) → change_at (given_value y) (change_at (given_value x) cells k)
+    k ≡ change_at (given_value y) cells k
 values_twice x y [] k = refl
 values_twice x y (c ∷ cs) zero = ap (λ z. z ∷ cs) (given_value_twice x y c)
 values_twice x y (c ∷ cs) (suc k) = ap (λ ys. c ∷ ys) (values_twice x y cs k)

@@ -29,7 +29,8 @@ answers_so (flow.ReturnNumber n) = refl
 answers_so (flow.ReturnValue x) = refl
 
 -- however the body ends, the end of the call is next
-pub returns_to : (g : Given) (caller : Caller) (f : Flow) (k : List Piece) → flows f (ending g caller k) ≡ At (Leave (map (bound_of (names_in g)) caller.frame.items) caller.made) (answers f) ∷ k
+pub returns_to : (g : Given) (caller : Caller) (f : Flow) (k : List Piece) → flows f (ending g caller k)
+    ≡ At (Leave (map (bound_of (names_in g)) caller.frame.items) caller.made) (answers f) ∷ k
 returns_to g caller flow.On k = refl
 returns_to g caller flow.Break k = refl
 returns_to g caller flow.Continue k = refl

@@ -42,89 +42,146 @@ status_err f = Err f
 
 -- ---- next and exit
 
-unwinds : (g : Given) (k : Kept) (t : Table) (hid : Hidden) (c : Course) → Agreeing g (k, t) hid c → Agreeing g (changes.unwound k, t) hid c
+unwinds : (g : Given) (k : Kept) (t : Table) (hid : Hidden) (c : Course) → Agreeing g (k, t) hid c
+    → Agreeing g (changes.unwound k, t) hid c
 unwinds g k t hid c a = record { tells = a.tells; row = a.row; cells = a.cells; sound = a.sound }
 
 module _ (g : Given) (old : Kept) (t : Table) where
-  pub next_so : (place : Place) → old.phase ≡ phase.Ruling → Passes g (At (Doing (p.jump (j.Next place))) []) (old, t) to_records (changes.unwound old, t)
-  next_so place is = alters refl (at_rest _ _) (λ k hid c a. (hid, unwinds g old t hid c a, ap (λ ph. held g (seen (base g (old, t) hid) c) (next (phase_of ph) place k (seen (base g (old, t) hid) c))) is))
+  pub next_so : (place : Place) → old.phase ≡ phase.Ruling → Passes g (At (Doing (p.jump (j.Next place))) []) (
+    old,
+    t,
+  ) to_records (changes.unwound old, t)
+  next_so place is = alters refl (at_rest _ _) (λ k hid c a. (
+    hid,
+    unwinds g old t hid c a,
+    ap (λ ph. held g (seen (base g (old, t) hid) c) (next (phase_of ph) place k (seen (base g (old, t) hid) c))) is,
+  ))
 
-  next_by : (ph : Phase) (place : Place) (k : List Piece) (s : State) → ph ≢ phase.Ruling → next (phase_of ph) place k s ≡ Goes (ends (Faulted fault.NextOutside place)) s
+  next_by : (ph : Phase) (place : Place) (k : List Piece) (s : State) → ph ≢ phase.Ruling → next (phase_of ph) place k s
+      ≡ Goes (ends (Faulted fault.NextOutside place)) s
   next_by phase.Beginning place k s not = refl
   next_by phase.Ruling place k s not = absurd (not refl)
   next_by phase.Ending place k s not = refl
 
-  pub next_not : (place : Place) → old.phase ≢ phase.Ruling → Passes g (At (Doing (p.jump (j.Next place))) []) (old, t) (λ k. ends (Faulted fault.NextOutside place)) (old, t)
-  next_not place not = moves (at_rest _ _) (λ k hid c a. ap (held g (seen (base g (old, t) hid) c)) (next_by old.phase place k (seen (base g (old, t) hid) c) not))
+  pub next_not : (place : Place) → old.phase ≢ phase.Ruling → Passes g (At (Doing (p.jump (j.Next place))) []) (old, t)
+      (λ k. ends (Faulted fault.NextOutside place)) (old, t)
+  next_not place not = moves (at_rest _ _) (λ k hid c a. ap (held g (seen (base g (old, t) hid) c))
+      (next_by old.phase place k (seen (base g (old, t) hid) c) not))
 
-  next_file_so : (place : Place) → old.phase ≡ phase.Ruling → Passes g (At (Doing (p.jump (j.NextFile place))) []) (old, t) (λ k. skipping old.main.current (to_records k)) (changes.unwound old, t)
-  next_file_so place is = alters refl (at_rest _ _) (λ k hid c a. (hid, unwinds g old t hid c a, ap (λ ph. held g (seen (base g (old, t) hid) c) (next_file (phase_of ph) place k (seen (base g (old, t) hid) c))) is))
+  next_file_so : (place : Place) → old.phase ≡ phase.Ruling → Passes g (At (Doing (p.jump (j.NextFile place))) []) (
+    old,
+    t,
+  ) (λ k. skipping old.main.current (to_records k)) (changes.unwound old, t)
+  next_file_so place is =
+      alters refl (at_rest _ _) (λ k hid c a. (
+        hid,
+        unwinds g old t hid c a,
+        ap (λ ph. held g (seen (base g (old, t) hid) c) (next_file (phase_of ph) place k (seen (base g (old, t) hid) c)))
+            is,
+      ))
 
-  next_file_by : (ph : Phase) (place : Place) (k : List Piece) (s : State) → ph ≢ phase.Ruling → next_file (phase_of ph) place k s ≡ Goes (ends (Faulted fault.NextOutside place)) s
+  next_file_by : (ph : Phase) (place : Place) (k : List Piece) (s : State) → ph ≢ phase.Ruling
+      → next_file (phase_of ph) place k s ≡ Goes (ends (Faulted fault.NextOutside place)) s
   next_file_by phase.Beginning place k s not = refl
   next_file_by phase.Ruling place k s not = absurd (not refl)
   next_file_by phase.Ending place k s not = refl
 
-  next_file_not : (place : Place) → old.phase ≢ phase.Ruling → Passes g (At (Doing (p.jump (j.NextFile place))) []) (old, t) (λ k. ends (Faulted fault.NextOutside place)) (old, t)
-  next_file_not place not = moves (at_rest _ _) (λ k hid c a. ap (held g (seen (base g (old, t) hid) c)) (next_file_by old.phase place k (seen (base g (old, t) hid) c) not))
+  next_file_not : (place : Place) → old.phase ≢ phase.Ruling → Passes g (At (Doing (p.jump (j.NextFile place))) [])
+      (old, t) (λ k. ends (Faulted fault.NextOutside place)) (old, t)
+  next_file_not place not = moves (at_rest _ _) (λ k hid c a. ap (held g (seen (base g (old, t) hid) c))
+      (next_file_by old.phase place k (seen (base g (old, t) hid) c) not))
 
-  pub exit_so : (place : Place) → Passes g (At (Doing (p.exit place None)) []) (old, t) (λ k. after_exit (phase_of old.phase)) (changes.unwound old, t)
+  pub exit_so : (place : Place) → Passes g (At (Doing (p.exit place None)) []) (old, t)
+      (λ k. after_exit (phase_of old.phase)) (changes.unwound old, t)
   exit_so place = alters refl (at_rest _ _) (λ k hid c a. (hid, unwinds g old t hid c a, refl))
 
-  statuses : (n : ℕ) (hid : Hidden) (c : Course) → Agreeing g (old, t) hid c → Agreeing g (changes.with_status n (changes.unwound old), t) hid c
+  statuses : (n : ℕ) (hid : Hidden) (c : Course) → Agreeing g (old, t) hid c
+      → Agreeing g (changes.with_status n (changes.unwound old), t) hid c
   statuses n hid c a = record { tells = a.tells; row = a.row; cells = a.cells; sound = a.sound }
 
-  exit_by : (made : Result ℤ Fault) (n : ℕ) → (made >>= λ z. Ok (unsigned_abs (int_rem_euclid z (pos 256)))) ≡ Ok n → (place : Place) (k : List Piece) (s : State) →
-      granted place made (λ z k s. Goes (after_exit s.phase) (record (unwound s) { status = Some (unsigned_abs (int_rem_euclid z (pos 256))) })) k s ≡ Goes (after_exit s.phase) (record (unwound s) { status = Some n })
-  exit_by (Ok z) n is place k s = ap (λ m. Goes (after_exit s.phase) (record (unwound s) { status = Some m })) (ok_inj (unsigned_abs (int_rem_euclid z (pos 256))) n is)
+  exit_by : (made : Result ℤ Fault) (n : ℕ) → (made >>= λ z. Ok (unsigned_abs (int_rem_euclid z (pos 256)))) ≡ Ok n
+      → (place : Place) (k : List Piece) (s : State) →
+      granted place made (λ z k s. Goes (after_exit s.phase)
+      (record (unwound s) { status = Some (unsigned_abs (int_rem_euclid z (pos 256))) })) k s
+      ≡ Goes (after_exit s.phase) (record (unwound s) { status = Some n })
+  exit_by (Ok z) n is place k s = ap (λ m. Goes (after_exit s.phase) (record (unwound s) { status = Some m }))
+      (ok_inj (unsigned_abs (int_rem_euclid z (pos 256))) n is)
     where
       ok_inj : (a b : ℕ) → status_ok a ≡ status_ok b → a ≡ b
       ok_inj a b e = cc
   exit_by (Err f) n is place k s = absurd (cc)
 
   pub exit_with_so : (place : Place) (x : Expression) (val : Value) (n : ℕ) → exit_status val ≡ Ok n →
-      Passes g (At (Doing (p.exit place (Some x))) (val ∷ [])) (old, t) (λ k. after_exit (phase_of old.phase)) (changes.with_status n (changes.unwound old), t)
-  exit_with_so place x val n is = alters refl (at_rest _ _) (λ k hid c a. (hid, statuses n hid c a, ap (held g (seen (base g (old, t) hid) c)) (exit_by (number_of val) n is place k (seen (base g (old, t) hid) c))))
+      Passes g (At (Doing (p.exit place (Some x))) (val ∷ [])) (old, t) (λ k. after_exit (phase_of old.phase))
+      (changes.with_status n (changes.unwound old), t)
+  exit_with_so place x val n is =
+      alters refl (at_rest _ _) (λ k hid c a. (
+        hid,
+        statuses n hid c a,
+        ap (held g (seen (base g (old, t) hid) c))
+            (exit_by (number_of val) n is place k (seen (base g (old, t) hid) c)),
+      ))
 
-  exit_met : (made : Result ℤ Fault) (f : Fault) → (made >>= λ z. Ok (unsigned_abs (int_rem_euclid z (pos 256)))) ≡ Err f → (place : Place) (k : List Piece) (s : State) →
-      granted place made (λ z k s. Goes (after_exit s.phase) (record (unwound s) { status = Some (unsigned_abs (int_rem_euclid z (pos 256))) })) k s ≡ Goes (ends (Faulted f place)) s
+  exit_met : (made : Result ℤ Fault) (f : Fault) → (made >>= λ z. Ok (unsigned_abs (int_rem_euclid z (pos 256))))
+      ≡ Err f → (place : Place) (k : List Piece) (s : State) →
+      granted place made (λ z k s. Goes (after_exit s.phase)
+      (record (unwound s) { status = Some (unsigned_abs (int_rem_euclid z (pos 256))) })) k s
+      ≡ Goes (ends (Faulted f place)) s
   exit_met (Ok z) f is place k s = absurd (cc)
   exit_met (Err e) f is place k s = ap (λ m. Goes (ends (Faulted m place)) s) (err_inj e f is)
     where
       err_inj : (a b : Fault) → status_err a ≡ status_err b → a ≡ b
       err_inj a b e = cc
 
-  pub exit_with_not : (place : Place) (x : Expression) (val : Value) (f : Fault) → exit_status val ≡ Err f → Passes g (At (Doing (p.exit place (Some x))) (val ∷ [])) (old, t) (λ k. ends (Faulted f place)) (old, t)
-  exit_with_not place x val f is = moves (at_rest _ _) (λ k hid c a. ap (held g (seen (base g (old, t) hid) c)) (exit_met (number_of val) f is place k (seen (base g (old, t) hid) c)))
+  pub exit_with_not : (place : Place) (x : Expression) (val : Value) (f : Fault) → exit_status val ≡ Err f
+      → Passes g (At (Doing (p.exit place (Some x))) (val ∷ [])) (old, t) (λ k. ends (Faulted f place)) (old, t)
+  exit_with_not place x val f is = moves (at_rest _ _) (λ k hid c a. ap (held g (seen (base g (old, t) hid) c))
+      (exit_met (number_of val) f is place k (seen (base g (old, t) hid) c)))
 
   -- ---- as the code has them
 
-  pub next_is : (place : Place) (ph : Phase) (new : Kept) → ph ≡ old.phase → ph ≡ phase.Ruling → new ≡ changes.unwound old → Passes g (At (Doing (p.jump (j.Next place))) []) (old, t) to_records (new, t)
-  next_is place ph new of is same = subst (λ (n : Kept). Passes g (At (Doing (p.jump (j.Next place))) []) (old, t) to_records (n, t)) (sym same) (next_so place (sym of ∙ is))
+  pub next_is : (place : Place) (ph : Phase) (new : Kept) → ph ≡ old.phase → ph ≡ phase.Ruling
+      → new ≡ changes.unwound old → Passes g (At (Doing (p.jump (j.Next place))) []) (old, t) to_records (new, t)
+  next_is place ph new of is same = subst (λ (n : Kept). Passes g (At (Doing (p.jump (j.Next place))) []) (
+    old,
+    t,
+  ) to_records (n, t)) (sym same) (next_so place (sym of ∙ is))
 
-  pub next_is_not : (place : Place) (ph : Phase) → ph ≡ old.phase → ph ≢ phase.Ruling → Passes g (At (Doing (p.jump (j.Next place))) []) (old, t) (λ k. ends (Faulted fault.NextOutside place)) (old, t)
+  pub next_is_not : (place : Place) (ph : Phase) → ph ≡ old.phase → ph ≢ phase.Ruling
+      → Passes g (At (Doing (p.jump (j.Next place))) []) (old, t) (λ k. ends (Faulted fault.NextOutside place)) (old, t)
   next_is_not place ph of not = next_not place (λ e. not (of ∙ e))
 
-  pub next_file_is : (place : Place) (ph : Phase) (new : Kept) → ph ≡ old.phase → ph ≡ phase.Ruling → new ≡ changes.unwound old →
-      Acts g (At (Doing (p.jump (j.NextFile place))) []) (λ (u : Unit {0}) k. skipping new.main.current (to_records k)) (old, t) (Ok tt) (new, t)
+  pub next_file_is : (place : Place) (ph : Phase) (new : Kept) → ph ≡ old.phase → ph ≡ phase.Ruling
+      → new ≡ changes.unwound old →
+      Acts g (At (Doing (p.jump (j.NextFile place))) []) (λ (u : Unit {0}) k. skipping new.main.current (to_records k))
+      (old, t) (Ok tt) (new, t)
   next_file_is place ph new of is same =
-      subst (λ (n : Kept). Acts g (At (Doing (p.jump (j.NextFile place))) []) (λ (u : Unit {0}) k. skipping n.main.current (to_records k)) (old, t) (Ok tt) (n, t)) (sym same)
+      subst (λ (n : Kept). Acts g (At (Doing (p.jump (j.NextFile place))) [])
+      (λ (u : Unit {0}) k. skipping n.main.current (to_records k)) (old, t) (Ok tt) (n, t)) (sym same)
       (done {on = λ (u : Unit {0}) k. skipping old.main.current (to_records k)} (next_file_so place (sym of ∙ is)))
 
   pub next_file_is_not : (place : Place) (ph : Phase) → ph ≡ old.phase → ph ≢ phase.Ruling →
-      Acts g (At (Doing (p.jump (j.NextFile place))) []) (λ (u : Unit {0}) k. skipping old.main.current (to_records k)) (old, t) (Err (halt.Fault fault.NextOutside place)) (old, t)
+      Acts g (At (Doing (p.jump (j.NextFile place))) []) (λ (u : Unit {0}) k. skipping old.main.current (to_records k))
+      (old, t) (Err (halt.Fault fault.NextOutside place)) (old, t)
   next_file_is_not place ph of not = closed (next_file_not place (λ e. not (of ∙ e)))
 
-  pub exit_is : (place : Place) (new : Kept) → new ≡ changes.unwound old → Passes g (At (Doing (p.exit place None)) []) (old, t) (λ k. after_exit (phase_of new.phase)) (new, t)
-  exit_is place new same = subst (λ (n : Kept). Passes g (At (Doing (p.exit place None)) []) (old, t) (λ k. after_exit (phase_of n.phase)) (n, t)) (sym same) (exit_so place)
+  pub exit_is : (place : Place) (new : Kept) → new ≡ changes.unwound old → Passes g (At (Doing (p.exit place None)) [])
+      (old, t) (λ k. after_exit (phase_of new.phase)) (new, t)
+  exit_is place new same = subst (λ (n : Kept). Passes g (At (Doing (p.exit place None)) []) (old, t)
+      (λ k. after_exit (phase_of n.phase)) (n, t)) (sym same) (exit_so place)
 
-  pub exit_with_is : (place : Place) (x : Expression) (val : Value) (n : ℕ) (mid new : Kept) → exit_status val ≡ Ok n → mid ≡ changes.unwound old → new ≡ changes.with_status n mid →
+  pub exit_with_is : (place : Place) (x : Expression) (val : Value) (n : ℕ) (mid new : Kept) → exit_status val ≡ Ok n
+      → mid ≡ changes.unwound old → new ≡ changes.with_status n mid →
       Passes g (At (Doing (p.exit place (Some x))) (val ∷ [])) (old, t) (λ k. after_exit (phase_of new.phase)) (new, t)
   exit_with_is place x val n mid new is unwinds_to same =
-      subst (λ (m : Kept). Passes g (At (Doing (p.exit place (Some x))) (val ∷ [])) (old, t) (λ k. after_exit (phase_of m.phase)) (m, t)) (sym (same ∙ ap (changes.with_status n) unwinds_to)) (exit_with_so place x val n is)
+      subst (λ (m : Kept). Passes g (At (Doing (p.exit place (Some x))) (val ∷ [])) (old, t)
+      (λ k. after_exit (phase_of m.phase)) (m, t)) (sym (same ∙ ap (changes.with_status n) unwinds_to))
+      (exit_with_so place x val n is)
 
 -- the one fault that a status can have
-ranged_by : (z : ℤ) (b : Bool) (f : Fault) → ((if b then Ok z else Err fault.OutOfRange) >>= λ n. Ok (unsigned_abs (int_rem_euclid n (pos 256)))) ≡ Err f → f ≡ fault.OutOfRange
+ranged_by : (z : ℤ) (b : Bool) (f : Fault)
+    → ((if b then Ok z else Err fault.OutOfRange) >>= λ n. Ok (unsigned_abs (int_rem_euclid n (pos 256)))) ≡ Err f
+    → f ≡ fault.OutOfRange
 ranged_by z true f is = absurd (cc)
 ranged_by z false f is = sym (err_inj fault.OutOfRange f is)
   where
@@ -137,8 +194,10 @@ status_fault (v.Num n) f is = absurd (cc)
 status_fault (v.Text text) f is = ranged_by (number text) (is_in_range (number text)) f is
 status_fault (v.Input text) f is = ranged_by (number text) (is_in_range (number text)) f is
 
-pub exit_with_is_not : (g : Given) (old : Kept) (t : Table) (place : Place) (x : Expression) (val : Value) (f : Fault) (h : Halt) → exit_status val ≡ Err f → h ≡ halt_at place f →
+pub exit_with_is_not : (g : Given) (old : Kept) (t : Table) (place : Place) (x : Expression) (val : Value) (f : Fault)
+    (h : Halt) → exit_status val ≡ Err f → h ≡ halt_at place f →
     Jumps g (At (Doing (p.exit place (Some x))) (val ∷ [])) (old, t) h (old, t)
 exit_with_is_not g old t place x val f h is same =
-    subst (λ y. Jumps g (At (Doing (p.exit place (Some x))) (val ∷ [])) (old, t) y (old, t)) (sym (same ∙ ap (halt_at place) (status_fault val f is)))
+    subst (λ y. Jumps g (At (Doing (p.exit place (Some x))) (val ∷ [])) (old, t) y (old, t))
+    (sym (same ∙ ap (halt_at place) (status_fault val f is)))
     (exit_with_not g old t place x val fault.OutOfRange (is ∙ ap status_err (status_fault val f is)))

@@ -21,11 +21,14 @@ use Rattle.awk_store.proofs.Agreeing.{whole_kept}
 use Rattle.awk_store.proofs.VariableSteps.{reads_variable}
 
 module _ (g : Given) (w : Whole) where
-  pub lends_variable : (x : Variable) → kept.is_nf x ≡ false → Passes g (Do (Get (meant (names_in g) (s.Variable x)))) w (give (kept.value w.0 x)) w
+  pub lends_variable : (x : Variable) → kept.is_nf x ≡ false → Passes g (Do (Get (meant (names_in g) (s.Variable x)))) w
+      (give (kept.value w.0 x)) w
   lends_variable x n = doing (kept.value w.0 x) (at_rest _ w) (reads_variable g w x n) refl
 
-  pub lends_element : (place : Place) (x : Variable) (key : Text) (val : Value) → element (kept.array w.0 x) key ≡ Some val → Passes g (Do (Get (meant (names_in g) (s.Element place x key)))) w (give val) w
+  pub lends_element : (place : Place) (x : Variable) (key : Text) (val : Value) → element (kept.array w.0 x) key
+      ≡ Some val → Passes g (Do (Get (meant (names_in g) (s.Element place x key)))) w (give val) w
   lends_element place x key val e = doing val (at_rest _ w) (reads_element g w x key place val e) refl
 
   pub lends_whole : Passes g (Do (Get (meant (names_in g) (s.Field 0)))) w (give (v.Input w.0.row.whole)) w
-  lends_whole = moves (at_rest _ w) (λ k hid c a. ap (λ t. Goes (give (v.Input t) k) (seen (base g w hid) c)) (sym (whole_kept hid.row w.0.row a.row)))
+  lends_whole = moves (at_rest _ w) (λ k hid c a. ap (λ t. Goes (give (v.Input t) k) (seen (base g w hid) c))
+      (sym (whole_kept hid.row w.0.row a.row)))

@@ -5,7 +5,8 @@ use Rattle.std.specs.Prelude.{nat_le}
 use Rattle.awk_text.specs.Limits.{most_bytes}
 use Rattle.awk_machine.specs.Operators.{limited}
 
-limited_ok_by : (b : Bool) (text : List ℕ) → nat_le (length text) most_bytes ≡ b → length text ≤ most_bytes → limited text ≡ Ok text
+limited_ok_by : (b : Bool) (text : List ℕ) → nat_le (length text) most_bytes ≡ b → length text ≤ most_bytes
+    → limited text ≡ Ok text
 limited_ok_by true text e h = rw e refl
 limited_ok_by false text e h = absurd (grind (arith, nat_tests))
 

@@ -28,11 +28,21 @@ use Rattle.awk_store.proofs.Setting as set
 
 module _ (g : Given) (old : Whole) where
   -- one of awk's own variables is set
-  pub own-set : (hid : Hidden) (c : Course) → Agreeing g old hid c → (x : Own) (val : Value) → variables.with_own (name_of x) val (seen (base g old hid) c) ≡ seen (base g (changes.with_own x val old.0, old.1) hid) c
+  pub own-set : (hid : Hidden) (c : Course) → Agreeing g old hid c → (x : Own) (val : Value)
+      → variables.with_own (name_of x) val (seen (base g old hid) c)
+      ≡ seen (base g (changes.with_own x val old.0, old.1) hid) c
   own-set hid c a x val = ap (λ s. seen s c) (set.own (names_in g) old.0 hid a.sound x val)
 
-  pub own_agrees : (hid : Hidden) (c : Course) → Agreeing g old hid c → (x : Own) (val : Value) → Agreeing g (changes.with_own x val old.0, old.1) hid c
-  own_agrees hid c a x val = record { tells = a.tells; row = a.row; cells = change_count (changes.given_value val) old.0.cells (Rattle.awk_program.specs.Slots.slot_of x) ∙ a.cells; sound = a.sound }
+  pub own_agrees : (hid : Hidden) (c : Course) → Agreeing g old hid c → (x : Own) (val : Value)
+      → Agreeing g (changes.with_own x val old.0, old.1) hid c
+  own_agrees hid c a x val = record {
+    tells = a.tells;
+    row = a.row;
+    cells =
+        change_count (changes.given_value val) old.0.cells (Rattle.awk_program.specs.Slots.slot_of x) ∙ a.cells;
+    sound =
+        a.sound;
+  }
 
 -- ---- counters
 
@@ -40,22 +50,35 @@ module _ (g : Given) (old : Whole) (place : Place) (x : Own) where
   abbrev counting : Piece
   counting = Do (Count place (name_of x))
 
-  counts_by : (made : Result ℤ Fault) → counted (kept.own_value old.0 x) ≡ made → (k : List Piece) (hid : Hidden) (c : Course) → Agreeing g old hid c →
-      advance g (Do (Count place (name_of x)) ∷ k) (seen (base g old hid) c) ≡ held g (seen (base g old hid) c) (granted place made (λ n k s. Goes k (variables.with_own (name_of x) (v.Num n) s)) k (seen (base g old hid) c))
+  counts_by : (made : Result ℤ Fault) → counted (kept.own_value old.0 x) ≡ made
+      → (k : List Piece) (hid : Hidden) (c : Course) → Agreeing g old hid c →
+      advance g (Do (Count place (name_of x)) ∷ k) (seen (base g old hid) c) ≡ held g (seen (base g old hid) c)
+      (granted place made (λ n k s. Goes k (variables.with_own (name_of x) (v.Num n) s)) k
+      (seen (base g old hid) c))
   counts_by made is k hid c a =
       let s = seen (base g old hid) c in
-      ap (λ m. held g s (granted place m (λ n k s. Goes k (variables.with_own (name_of x) (v.Num n) s)) k s)) (ap counted (law.own (names_in g) old.0 hid a.sound a.cells x) ∙ is)
+      ap (λ m. held g s (granted place m (λ n k s. Goes k (variables.with_own (name_of x) (v.Num n) s)) k s))
+      (ap counted (law.own (names_in g) old.0 hid a.sound a.cells x) ∙ is)
 
-  counts : (n : ℤ) (new : Kept) → counted (kept.own_value old.0 x) ≡ Ok n → new ≡ changes.with_own x (v.Num n) old.0 → Acts g (Do (Count place (name_of x))) goes_on old (Ok (tt {0})) (new, old.1)
+  counts : (n : ℤ) (new : Kept) → counted (kept.own_value old.0 x) ≡ Ok n → new ≡ changes.with_own x (v.Num n) old.0
+      → Acts g (Do (Count place (name_of x))) goes_on old (Ok (tt {0})) (new, old.1)
   counts n new is same =
       subst (λ (k : Kept). Acts g counting goes_on old (Ok (tt {0})) (k, old.1)) (sym same)
-      (done (alters refl (at_rest _ old) (λ k hid c a. (hid, own_agrees g old hid c a x (v.Num n), counts_by (Ok n) is k hid c a ∙ ap (λ s. Goes k s) (own-set g old hid c a x (v.Num n))))))
+      (done (alters refl (at_rest _ old) (λ k hid c a. (
+        hid,
+        own_agrees g old hid c a x (v.Num n),
+        counts_by (Ok n) is k hid c a ∙ ap (λ s. Goes k s) (own-set g old hid c a x (v.Num n)),
+      ))))
 
-  counts_not : (met : Fault) (new : Kept) → counted (kept.own_value old.0 x) ≡ Err met → new ≡ old.0 → Acts g (Do (Count place (name_of x))) (goes_on {A = Unit {0}}) old (Err (halt_at place met)) (new, old.1)
+  counts_not : (met : Fault) (new : Kept) → counted (kept.own_value old.0 x) ≡ Err met → new ≡ old.0
+      → Acts g (Do (Count place (name_of x))) (goes_on {A = Unit {0}}) old (Err (halt_at place met)) (new, old.1)
   counts_not met new is same =
-      subst (λ (k : Kept). Acts g counting (goes_on {A = Unit {0}}) old (Err (halt_at place met)) (k, old.1)) (sym same) (faulted refl (inr (moves (at_rest _ old) (counts_by (Err met) is))))
+      subst (λ (k : Kept). Acts g counting (goes_on {A = Unit {0}}) old (Err (halt_at place met)) (k, old.1)) (sym same)
+      (faulted refl (inr (moves (at_rest _ old) (counts_by (Err met) is))))
 
-  pub counts_result : (r : Result (Unit {0}) Fault) (new : Kept) → OnOk r ((n : ℤ) × (counted (kept.own_value old.0 x) ≡ Ok n) × (new ≡ changes.with_own x (v.Num n) old.0)) →
-      IfErr r (λ e. (counted (kept.own_value old.0 x) ≡ Err e) × (new ≡ old.0)) → Acts g (Do (Count place (name_of x))) goes_on old (result_at place r) (new, old.1)
+  pub counts_result : (r : Result (Unit {0}) Fault) (new : Kept)
+      → OnOk r ((n : ℤ) × (counted (kept.own_value old.0 x) ≡ Ok n) × (new ≡ changes.with_own x (v.Num n) old.0)) →
+      IfErr r (λ e. (counted (kept.own_value old.0 x) ≡ Err e) × (new ≡ old.0))
+      → Acts g (Do (Count place (name_of x))) goes_on old (result_at place r) (new, old.1)
   counts_result (Ok tt) new (n, is, same) err = counts n new is same
   counts_result (Err met) new ok (is, same) = counts_not met new is same

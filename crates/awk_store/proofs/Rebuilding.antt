@@ -21,7 +21,8 @@ use Rattle.awk_store.proofs.Limited.{limited_ok}
 use Rattle.awk_store.specs.Wholes.{Whole, Agreeing, base}
 use Rattle.awk_store.proofs.Agreeing.{own-text-so}
 
-limited_by : (b : Bool) (text : List ℕ) → nat_le (length text) most_bytes ≡ b → most_bytes < length text → limited text ≡ Err fault.TextTooLong
+limited_by : (b : Bool) (text : List ℕ) → nat_le (length text) most_bytes ≡ b → most_bytes < length text
+    → limited text ≡ Err fault.TextTooLong
 limited_by true text e h = absurd (grind (arith, nat_tests))
 limited_by false text e h = rw e refl
 
@@ -34,13 +35,30 @@ rebuilt old vs = record { whole = joined (kept.own_text old.0 own.Ofs) vs; field
 
 module _ (g : Given) (old : Whole) where
   -- the store's record has its fields now
-  pub agreeing_row : (row : Row) → IsKept old.0.row row → (hid : Hidden) (c : Course) → Agreeing g old hid c → Agreeing g (changes.with_row row old.0, old.1) hid c
-  agreeing_row row is hid c a = record { tells = a.tells; row = kept_again hid.row old.0.row row a.row is; cells = a.cells; sound = a.sound }
+  pub agreeing_row : (row : Row) → IsKept old.0.row row → (hid : Hidden) (c : Course) → Agreeing g old hid c
+      → Agreeing g (changes.with_row row old.0, old.1) hid c
+  agreeing_row row is hid c a = record {
+    tells = a.tells;
+    row = kept_again hid.row old.0.row row a.row is;
+    cells =
+        a.cells;
+    sound = a.sound;
+  }
 
-  pub rebuild_moves : (place : Place) (vs : List Value) → length (joined (kept.own_text old.0 own.Ofs) vs) ≤ most_bytes → (k : List Piece) (hid : Hidden) (c : Course) → Agreeing g old hid c →
-      advance g (Do (Rebuild place vs) ∷ k) (seen (base g old hid) c) ≡ Goes k (seen (base g old (record hid { row = rebuilt old vs })) c)
-  rebuild_moves place vs fits k hid c a = rw (own-text-so g old hid c a own.Ofs, limited_ok (joined (kept.own_text old.0 own.Ofs) vs) fits) refl
+  pub rebuild_moves : (place : Place) (vs : List Value) → length (joined (kept.own_text old.0 own.Ofs) vs) ≤ most_bytes
+      → (k : List Piece) (hid : Hidden) (c : Course) → Agreeing g old hid c →
+      advance g (Do (Rebuild place vs) ∷ k) (seen (base g old hid) c)
+      ≡ Goes k (seen (base g old (record hid { row = rebuilt old vs })) c)
+  rebuild_moves place vs fits k hid c a = rw (
+    own-text-so g old hid c a own.Ofs,
+    limited_ok (joined (kept.own_text old.0 own.Ofs) vs) fits,
+  ) refl
 
-  pub rebuild_faults : (place : Place) (vs : List Value) → most_bytes < length (joined (kept.own_text old.0 own.Ofs) vs) → (k : List Piece) (hid : Hidden) (c : Course) → Agreeing g old hid c →
-      advance g (Do (Rebuild place vs) ∷ k) (seen (base g old hid) c) ≡ Goes (ends (Faulted fault.TextTooLong place)) (seen (base g old hid) c)
-  rebuild_faults place vs over k hid c a = rw (own-text-so g old hid c a own.Ofs, limited_err (joined (kept.own_text old.0 own.Ofs) vs) over) refl
+  pub rebuild_faults : (place : Place) (vs : List Value) → most_bytes < length (joined (kept.own_text old.0 own.Ofs) vs)
+      → (k : List Piece) (hid : Hidden) (c : Course) → Agreeing g old hid c →
+      advance g (Do (Rebuild place vs) ∷ k) (seen (base g old hid) c) ≡ Goes (ends (Faulted fault.TextTooLong place))
+      (seen (base g old hid) c)
+  rebuild_faults place vs over k hid c a = rw (
+    own-text-so g old hid c a own.Ofs,
+    limited_err (joined (kept.own_text old.0 own.Ofs) vs) over,
+  ) refl

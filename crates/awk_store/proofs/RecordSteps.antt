@@ -1,8 +1,10 @@
 -- How the record and its fields are read and set.
-use Rattle.std.proofs.Common.{◌≡◌, ◌⊎◌, ◌<◌, ◌≤◌, inl, inr, refl, sym, ap, subst, ◌∙◌, ℕ, zero, suc, Bool, true, false, List, ◌∷◌, length, slice_index_or, arith}
+use Rattle.std.proofs.Common.{◌≡◌, ◌⊎◌, ◌<◌, ◌≤◌, inl, inr, refl, sym, ap, subst, ◌∙◌, ℕ, zero, suc, Bool, true, false}
+use Rattle.std.proofs.Common.{List, ◌∷◌, length, slice_index_or, arith}
 use Rattle.std.proofs.lemmas.Bool.Decides.{nat_tests}
 use Rattle.std.specs.Prelude.{Result, Ok, Err, pos, nat_le, nat_lt, if◌then◌else◌, OnOk, OnErr, IfErr}
-use Rattle.awk_fields.specs.Rows.{Row, IsKept, HasFields, IsValueAt, SetsField, SetsNoField, with_field, joined, place_of, field_place, behind_whole, most_fields}
+use Rattle.awk_fields.specs.Rows.{Row, IsKept, HasFields, IsValueAt, SetsField, SetsNoField, with_field, joined}
+use Rattle.awk_fields.specs.Rows.{place_of, field_place, behind_whole, most_fields}
 use Rattle.awk_fields.specs.Separators.{IsEre, IsNoEre}
 use Rattle.awk_fields.proofs.Alone.{kept_again}
 use Rattle.awk_text.specs.Limits.{most_bytes}
@@ -15,7 +17,8 @@ use Rattle.awk_text.specs.declared.value.Value.TheVariants as v
 use Rattle.awk_program.specs.Slots.{Text}
 use Rattle.awk_program.specs.declared.variables.Own.TheVariants as own
 use Rattle.awk_machine.specs.Pieces as machine
-use Rattle.awk_machine.specs.Pieces.{Piece, Do, Get, Set, Whole as SetWhole, Check, Rebuild, Goes, Seeks, give, ends, Faulted}
+use Rattle.awk_machine.specs.Pieces.{Piece, Do, Get, Set, Whole as SetWhole, Check, Rebuild, Goes, Seeks, give, ends}
+use Rattle.awk_machine.specs.Pieces.{Faulted}
 use Rattle.awk_machine.specs.Questions.{Fields, Spells, Is, Values, values, yes}
 use Rattle.awk_machine.specs.State.{Given}
 use Rattle.awk_machine.specs.Streams.{seen}
@@ -52,20 +55,26 @@ the_place a b e = cc
 -- ---- a field is read
 
 module _ (g : Given) (old : Whole) where
-  reads_at : (n : ℕ) (row : Row) (val : Value) → IsKept old.0.row row → IsValueAt row n val → Acts g (Do (Get (machine.Field n))) give old (Ok val) (changes.with_row row old.0, old.1)
+  reads_at : (n : ℕ) (row : Row) (val : Value) → IsKept old.0.row row → IsValueAt row n val
+      → Acts g (Do (Get (machine.Field n))) give old (Ok val) (changes.with_row row old.0, old.1)
   reads_at zero row val is at =
       done (keeps refl (λ hid. refl) (agreeing_row g old row is)
-      (moves (at_rest _ old) (λ k hid c a. ap (λ w. Goes (give (v.Input w) k) (seen (base g old hid) c)) (sym (whole_kept hid.row row (kept_again hid.row old.0.row row a.row is))) ∙ ap (λ x. Goes (give x k) (seen (base g old hid) c)) (sym at))))
+      (moves (at_rest _ old) (λ k hid c a. ap (λ w. Goes (give (v.Input w) k) (seen (base g old hid) c))
+      (sym (whole_kept hid.row row (kept_again hid.row old.0.row row a.row is)))
+      ∙ ap (λ x. Goes (give x k) (seen (base g old hid) c)) (sym at))))
   reads_at (suc n) row val is (vs, has, e) =
       subst (λ x. Acts g (Do (Get (machine.Field (suc n)))) give old (Ok x) (changes.with_row row old.0, old.1)) (sym e)
       (done (keeps refl (λ hid. refl) (agreeing_row g old row is)
-      (finds {then_ = λ k a. give (slice_index_or (values a) n v.Unset) k} (λ hid. Fields hid.row) (Values vs) (at_rest _ old) (λ k hid c a. (refl, fields-so g old hid c a row vs is has)))))
+      (finds {then_ = λ k a. give (slice_index_or (values a) n v.Unset) k} (λ hid. Fields hid.row) (Values vs)
+      (at_rest _ old) (λ k hid c a. (refl, fields-so g old hid c a row vs is has)))))
 
-  pub reads_field : (n : ℕ) (new : Kept) (val : Value) → n ≤ 65535 → new ≡ changes.with_row new.row old.0 → IsKept old.0.row new.row → (k : ℕ) × (place_of (pos n) ≡ Ok k) × IsValueAt new.row k val →
+  pub reads_field : (n : ℕ) (new : Kept) (val : Value) → n ≤ 65535 → new ≡ changes.with_row new.row old.0
+      → IsKept old.0.row new.row → (k : ℕ) × (place_of (pos n) ≡ Ok k) × IsValueAt new.row k val →
       Acts g (Do (Get (machine.Field n))) give old (Ok val) (new, old.1)
   reads_field n new val fits same is (k, place, at) =
       let here = the_place n k (sym (small n fits) ∙ place) in
-      subst (λ (x : Kept). Acts g (Do (Get (machine.Field n))) give old (Ok val) (x, old.1)) (sym same) (reads_at n new.row val is (subst (λ m. IsValueAt new.row m val) (sym here) at))
+      subst (λ (x : Kept). Acts g (Do (Get (machine.Field n))) give old (Ok val) (x, old.1)) (sym same)
+      (reads_at n new.row val is (subst (λ m. IsValueAt new.row m val) (sym here) at))
 
 -- ---- the whole record is set
 
@@ -84,52 +93,77 @@ module _ (g : Given) (old : Whole) (place : Place) (val : Value) where
   abbrev fs : Text
   fs = kept.own_text old.0 own.Fs
 
-  first : Passes g (Do (Set (machine.Field 0) place val)) old (λ k. check_separator place (kept.own_text old.0 own.Fs) (Do (SetWhole place (text_of val)) ∷ k)) old
-  first = moves (at_rest _ old) (λ k hid c a. ap (λ by. Goes (check_separator place by (Do (SetWhole place (text_of val)) ∷ k)) (seen (base g old hid) c)) (own-text-so g old hid c a own.Fs))
+  first : Passes g (Do (Set (machine.Field 0) place val)) old (λ k. check_separator place (kept.own_text old.0 own.Fs)
+      (Do (SetWhole place (text_of val)) ∷ k)) old
+  first = moves (at_rest _ old)
+      (λ k hid c a. ap (λ by. Goes (check_separator place by (Do (SetWhole place (text_of val)) ∷ k))
+      (seen (base g old hid) c)) (own-text-so g old hid c a own.Fs))
 
   checked : (a : Bool) → nat_lt 1 (length (kept.own_text old.0 own.Fs)) ≡ true →
-      (Passes g (Do (Set (machine.Field 0) place val)) old (λ k. Do (Check place (kept.own_text old.0 own.Fs)) ∷ Do (SetWhole place (text_of val)) ∷ k) old)
+      (Passes g (Do (Set (machine.Field 0) place val)) old (λ k. Do (Check place (kept.own_text old.0 own.Fs)) ∷ Do
+      (SetWhole place (text_of val)) ∷ k) old)
   checked a e = reworded first (λ k. rw e refl)
 
-  to_whole : (b : Bool) → nat_lt 1 (length (kept.own_text old.0 own.Fs)) ≡ b → (1 < length (kept.own_text old.0 own.Fs) → IsEre (kept.own_text old.0 own.Fs)) →
+  to_whole : (b : Bool) → nat_lt 1 (length (kept.own_text old.0 own.Fs)) ≡ b → (1 < length (kept.own_text old.0 own.Fs)
+      → IsEre (kept.own_text old.0 own.Fs)) →
       Passes g (Do (Set (machine.Field 0) place val)) old (λ k. Do (SetWhole place (text_of val)) ∷ k) old
-  to_whole true e is = finds {then_ = λ k a. if yes a then Do (SetWhole place (text_of val)) ∷ k else ends (Faulted fault.Pattern place)} (λ hid. Spells fs) (Is true) (checked true e) (λ k hid c a. (refl, is (is_less true (length fs) e refl)))
+  to_whole true e is = finds {then_ = λ k a. if yes a then Do (SetWhole place (text_of val)) ∷ k else ends
+      (Faulted fault.Pattern place)} (λ hid. Spells fs) (Is true) (checked true e)
+      (λ k hid c a. (refl, is (is_less true (length fs) e refl)))
   to_whole false e is = reworded first (λ k. rw e refl)
 
-  pub sets_whole : (text : Text) (new : Kept) → text ≡ text_of val → length text ≤ most_bytes → (1 < length (kept.own_text old.0 own.Fs) → IsEre (kept.own_text old.0 own.Fs)) →
-      new ≡ changes.with_row (row_of old.0 text) old.0 → Acts g (Do (Set (machine.Field 0) place val)) goes_on old (Ok (tt {0})) (new, old.1)
+  pub sets_whole : (text : Text) (new : Kept) → text ≡ text_of val → length text ≤ most_bytes
+      → (1 < length (kept.own_text old.0 own.Fs) → IsEre (kept.own_text old.0 own.Fs)) →
+      new ≡ changes.with_row (row_of old.0 text) old.0 → Acts g (Do (Set (machine.Field 0) place val)) goes_on old
+      (Ok (tt {0})) (new, old.1)
   sets_whole text new e fits is same =
-      subst (λ (x : Kept). Acts g whole_task goes_on old (Ok (tt {0})) (x, old.1)) (sym (same ∙ ap (λ t. changes.with_row (row_of old.0 t) old.0) e))
+      subst (λ (x : Kept). Acts g whole_task goes_on old (Ok (tt {0})) (x, old.1))
+      (sym (same ∙ ap (λ t. changes.with_row (row_of old.0 t) old.0) e))
       (done (alters refl (to_whole (nat_lt 1 (length fs)) refl is) (λ k hid c a. (
         record hid { row = row_of old.0 (text_of val) },
         record { tells = a.tells; row = inl refl; cells = a.cells; sound = a.sound },
-        rw (limited_ok (text_of val) (subst (λ t. length t ≤ most_bytes) e fits), own-text-so g old hid c a own.Fs, own-text-so g old hid c a own.Rs) refl,
+        rw (
+          limited_ok (text_of val) (subst (λ t. length t ≤ most_bytes) e fits),
+          own-text-so g old hid c a own.Fs,
+          own-text-so g old hid c a own.Rs,
+        ) refl,
       ))))
 
   pub sets_no_whole : (text : Text) (new : Kept) (met : Fault) → text ≡ text_of val → new ≡ old.0 →
-      (met ≡ fault.Memory) ⊎ ((met ≡ fault.Pattern) × (1 < length (kept.own_text old.0 own.Fs)) × IsNoEre (kept.own_text old.0 own.Fs))
-      ⊎ ((met ≡ fault.TextTooLong) × (1 < length (kept.own_text old.0 own.Fs) → IsEre (kept.own_text old.0 own.Fs)) × (most_bytes < length text)) →
+      (met ≡ fault.Memory) ⊎ ((met ≡ fault.Pattern) × (1 < length (kept.own_text old.0 own.Fs))
+      × IsNoEre (kept.own_text old.0 own.Fs))
+      ⊎ ((met ≡ fault.TextTooLong) × (1 < length (kept.own_text old.0 own.Fs) → IsEre (kept.own_text old.0 own.Fs))
+      × (most_bytes < length text)) →
       Acts g (Do (Set (machine.Field 0) place val)) (goes_on {A = Unit {0}}) old (Err (halt_at place met)) (new, old.1)
   sets_no_whole text new met e same why =
-      subst (λ (x : Kept). Acts g whole_task (goes_on {A = Unit {0}}) old (Err (halt_at place met)) (x, old.1)) (sym same) (faulted refl (why_so why))
+      subst (λ (x : Kept). Acts g whole_task (goes_on {A = Unit {0}}) old (Err (halt_at place met)) (x, old.1))
+      (sym same) (faulted refl (why_so why))
     where
-      why_so : (met ≡ fault.Memory) ⊎ ((met ≡ fault.Pattern) × (1 < length (kept.own_text old.0 own.Fs)) × IsNoEre (kept.own_text old.0 own.Fs))
-          ⊎ ((met ≡ fault.TextTooLong) × (1 < length (kept.own_text old.0 own.Fs) → IsEre (kept.own_text old.0 own.Fs)) × (most_bytes < length text)) →
+      why_so : (met ≡ fault.Memory) ⊎ ((met ≡ fault.Pattern) × (1 < length (kept.own_text old.0 own.Fs))
+          × IsNoEre (kept.own_text old.0 own.Fs))
+          ⊎ ((met ≡ fault.TextTooLong) × (1 < length (kept.own_text old.0 own.Fs) → IsEre (kept.own_text old.0 own.Fs))
+          × (most_bytes < length text)) →
           (met ≡ fault.Memory) ⊎ Passes g whole_task old (λ k. ends (Faulted met place)) old
       why_so (inl m) = inl m
       why_so (inr (inl (m, more, none))) =
           inr (reworded {to = λ k. ends (Faulted fault.Pattern place)}
-          (finds {then_ = λ k a. if yes a then Do (SetWhole place (text_of val)) ∷ k else ends (Faulted fault.Pattern place)} (λ hid. Spells fs) (Is false) (checked true (is_more (length fs) more (nat_lt 1 (length fs)) refl)) (λ k hid c a. (refl, none)))
+          (finds {then_ = λ k a. if yes a then Do (SetWhole place (text_of val)) ∷ k else ends
+          (Faulted fault.Pattern place)} (λ hid. Spells fs) (Is false)
+          (checked true (is_more (length fs) more (nat_lt 1 (length fs)) refl)) (λ k hid c a. (refl, none)))
           (λ k. ap (λ x. ends (Faulted x place)) (sym m)))
       why_so (inr (inr (m, is, over))) =
           inr (reworded {to = λ k. ends (Faulted fault.TextTooLong place)}
-          (moves (to_whole (nat_lt 1 (length fs)) refl is) (λ k hid c a. rw (limited_err (text_of val) (subst (λ t. most_bytes < length t) e over)) refl))
+          (moves (to_whole (nat_lt 1 (length fs)) refl is)
+          (λ k hid c a. rw (limited_err (text_of val) (subst (λ t. most_bytes < length t) e over)) refl))
           (λ k. ap (λ x. ends (Faulted x place)) (sym m)))
 
-  pub whole_result : (r : Result (Unit {0}) Fault) (text : Text) (new : Kept) → text ≡ text_of val → OnOk r (new ≡ changes.with_row (row_of old.0 text) old.0) → OnOk r (length text ≤ most_bytes) →
+  pub whole_result : (r : Result (Unit {0}) Fault) (text : Text) (new : Kept) → text ≡ text_of val
+      → OnOk r (new ≡ changes.with_row (row_of old.0 text) old.0) → OnOk r (length text ≤ most_bytes) →
       OnOk r (1 < length (kept.own_text old.0 own.Fs) → IsEre (kept.own_text old.0 own.Fs)) → OnErr r (new ≡ old.0) →
-      IfErr r (λ met. (met ≡ fault.Memory) ⊎ ((met ≡ fault.Pattern) × (1 < length (kept.own_text old.0 own.Fs)) × IsNoEre (kept.own_text old.0 own.Fs))
-      ⊎ ((met ≡ fault.TextTooLong) × (1 < length (kept.own_text old.0 own.Fs) → IsEre (kept.own_text old.0 own.Fs)) × (most_bytes < length text))) →
+      IfErr r (λ met. (met ≡ fault.Memory) ⊎ ((met ≡ fault.Pattern) × (1 < length (kept.own_text old.0 own.Fs))
+      × IsNoEre (kept.own_text old.0 own.Fs))
+      ⊎ ((met ≡ fault.TextTooLong) × (1 < length (kept.own_text old.0 own.Fs) → IsEre (kept.own_text old.0 own.Fs))
+      × (most_bytes < length text))) →
       Acts g (Do (Set (machine.Field 0) place val)) goes_on old (result_at place r) (new, old.1)
   whole_result (Ok tt) text new e ok fits is err why = sets_whole text new e fits is ok
   whole_result (Err met) text new e ok fits is err why = sets_no_whole text new met e err why
@@ -143,15 +177,22 @@ module _ (g : Given) (old : Whole) (place : Place) (val : Value) (m : ℕ) (fits
   place_so : field_place (pos (suc m)) ≡ Ok m
   place_so = ap behind_whole (small (suc m) fits)
 
-  asked : (vs : List Value) → HasFields old.0.row vs → Passes g (Do (Set (machine.Field (suc m)) place val)) old (λ k. Do (Rebuild place (with_field vs m val)) ∷ k) old
-  asked vs has = finds {then_ = λ k a. Do (Rebuild place (with_field (values a) m val)) ∷ k} (λ hid. Fields hid.row) (Values vs) (at_rest _ old) (λ k hid c a. (refl, fields-so g old hid c a old.0.row vs (inl refl) has))
+  asked : (vs : List Value) → HasFields old.0.row vs → Passes g (Do (Set (machine.Field (suc m)) place val)) old
+      (λ k. Do (Rebuild place (with_field vs m val)) ∷ k) old
+  asked vs has = finds {then_ = λ k a. Do (Rebuild place (with_field (values a) m val)) ∷ k} (λ hid. Fields hid.row)
+      (Values vs) (at_rest _ old) (λ k hid c a. (refl, fields-so g old hid c a old.0.row vs (inl refl) has))
 
-  sets_field : (new : Kept) → new ≡ changes.with_row new.row old.0 → SetsField old.0.row (pos (suc m)) val (kept.own_text old.0 own.Ofs) new.row → Acts g (Do (Set (machine.Field (suc m)) place val)) goes_on old (Ok (tt {0})) (new, old.1)
+  sets_field : (new : Kept) → new ≡ changes.with_row new.row old.0
+      → SetsField old.0.row (pos (suc m)) val (kept.own_text old.0 own.Ofs) new.row
+      → Acts g (Do (Set (machine.Field (suc m)) place val)) goes_on old (Ok (tt {0})) (new, old.1)
   sets_field new same s =
       let here : s.place ≡ m = the_place s.place m (sym s.place_is ∙ place_so) in
       let vs = with_field s.values m val in
-      let fits' : length (joined (kept.own_text old.0 own.Ofs) vs) ≤ most_bytes = subst (λ n. length (joined (kept.own_text old.0 own.Ofs) (with_field s.values n val)) ≤ most_bytes) here s.after.fits in
-      let new_is : new.row ≡ rebuilt old vs = subst (λ n. new.row ≡ rebuilt old (with_field s.values n val)) here s.after.new_is in
+      let fits' : length (joined (kept.own_text old.0 own.Ofs) vs) ≤ most_bytes =
+      subst (λ n. length (joined (kept.own_text old.0 own.Ofs) (with_field s.values n val)) ≤ most_bytes) here
+      s.after.fits in
+      let new_is : new.row ≡ rebuilt old vs = subst (λ n. new.row ≡ rebuilt old (with_field s.values n val)) here
+      s.after.new_is in
       subst (λ (x : Kept). Acts g field_task goes_on old (Ok (tt {0})) (x, old.1)) (sym same)
       (done (alters refl (asked s.values s.before) (λ k hid c a. (
         record hid { row = rebuilt old vs },
@@ -159,12 +200,18 @@ module _ (g : Given) (old : Whole) (place : Place) (val : Value) (m : ℕ) (fits
         rebuild_moves g old place vs fits' k hid c a,
       ))))
 
-  sets_no_field : (new : Kept) (met : Fault) → new ≡ changes.with_row new.row old.0 → IsKept old.0.row new.row → SetsNoField old.0.row (pos (suc m)) val (kept.own_text old.0 own.Ofs) met →
-      Acts g (Do (Set (machine.Field (suc m)) place val)) (goes_on {A = Unit {0}}) old (Err (halt_at place met)) (new, old.1)
+  sets_no_field : (new : Kept) (met : Fault) → new ≡ changes.with_row new.row old.0 → IsKept old.0.row new.row
+      → SetsNoField old.0.row (pos (suc m)) val (kept.own_text old.0 own.Ofs) met →
+      Acts g (Do (Set (machine.Field (suc m)) place val)) (goes_on {A = Unit {0}}) old (Err (halt_at place met)) (
+        new,
+        old.1,
+      )
   sets_no_field new met same is why =
-      subst (λ (x : Kept). Acts g field_task (goes_on {A = Unit {0}}) old (Err (halt_at place met)) (x, old.1)) (sym same) (faulted refl (why_so why))
+      subst (λ (x : Kept). Acts g field_task (goes_on {A = Unit {0}}) old (Err (halt_at place met)) (x, old.1))
+      (sym same) (faulted refl (why_so why))
     where
-      why_so : SetsNoField old.0.row (pos (suc m)) val (kept.own_text old.0 own.Ofs) met → (met ≡ fault.Memory) ⊎ Passes g field_task old (λ k. ends (Faulted met place)) (changes.with_row new.row old.0, old.1)
+      why_so : SetsNoField old.0.row (pos (suc m)) val (kept.own_text old.0 own.Ofs) met → (met ≡ fault.Memory)
+          ⊎ Passes g field_task old (λ k. ends (Faulted met place)) (changes.with_row new.row old.0, old.1)
       why_so (inl x) = inl x
       why_so (inr (inl (x, none))) = absurd (not_both (sym place_so ∙ none))
         where
@@ -172,17 +219,28 @@ module _ (g : Given) (old : Whole) (place : Place) (val : Value) (m : ℕ) (fits
           not_both e = cc
       why_so (inr (inr (x, (n, vs, is_place, has, over)))) =
           let here : n ≡ m = the_place n m (sym is_place ∙ place_so) in
-          let over' : most_bytes < length (joined (kept.own_text old.0 own.Ofs) (with_field vs m val)) = subst (λ j. most_bytes < length (joined (kept.own_text old.0 own.Ofs) (with_field vs j val))) here over in
-          inr (keeps refl (λ hid. refl) (agreeing_row g old new.row is) (reworded {to = λ k. ends (Faulted fault.TextTooLong place)} (moves (asked vs has) (rebuild_faults g old place (with_field vs m val) over')) (λ k. ap (λ y. ends (Faulted y place)) (sym x))))
+          let over' : most_bytes < length (joined (kept.own_text old.0 own.Ofs) (with_field vs m val)) =
+          subst (λ j. most_bytes < length (joined (kept.own_text old.0 own.Ofs) (with_field vs j val))) here over in
+          inr (keeps refl (λ hid. refl) (agreeing_row g old new.row is)
+          (reworded {to = λ k. ends (Faulted fault.TextTooLong place)}
+          (moves (asked vs has) (rebuild_faults g old place (with_field vs m val) over'))
+          (λ k. ap (λ y. ends (Faulted y place)) (sym x))))
 
-  pub field_result : (r : Result (Unit {0}) Fault) (new : Kept) → OnOk r (SetsField old.0.row (pos (suc m)) val (kept.own_text old.0 own.Ofs) new.row) → OnErr r (IsKept old.0.row new.row) →
-      new ≡ changes.with_row new.row old.0 → IfErr r (λ met. SetsNoField old.0.row (pos (suc m)) val (kept.own_text old.0 own.Ofs) met) →
+  pub field_result : (r : Result (Unit {0}) Fault) (new : Kept)
+      → OnOk r (SetsField old.0.row (pos (suc m)) val (kept.own_text old.0 own.Ofs) new.row)
+      → OnErr r (IsKept old.0.row new.row) →
+      new ≡ changes.with_row new.row old.0
+      → IfErr r (λ met. SetsNoField old.0.row (pos (suc m)) val (kept.own_text old.0 own.Ofs) met) →
       Acts g (Do (Set (machine.Field (suc m)) place val)) goes_on old (result_at place r) (new, old.1)
   field_result (Ok tt) new ok err same why = sets_field new same ok
   field_result (Err met) new ok err same why = sets_no_field new met same err why
 
-pub number_result : (g : Given) (old : Whole) (place : Place) (val : Value) (n : ℕ) → n ≤ 65535 → (n ≡ 0 → ⊥) → (r : Result (Unit {0}) Fault) (new : Kept) →
-    OnOk r (SetsField old.0.row (pos n) val (kept.own_text old.0 own.Ofs) new.row) → OnErr r (IsKept old.0.row new.row) → new ≡ changes.with_row new.row old.0 →
-    IfErr r (λ met. SetsNoField old.0.row (pos n) val (kept.own_text old.0 own.Ofs) met) → Acts g (Do (Set (machine.Field n) place val)) goes_on old (result_at place r) (new, old.1)
+pub number_result : (g : Given) (old : Whole) (place : Place) (val : Value) (n : ℕ) → n ≤ 65535 → (n ≡ 0 → ⊥)
+    → (r : Result (Unit {0}) Fault) (new : Kept) →
+    OnOk r (SetsField old.0.row (pos n) val (kept.own_text old.0 own.Ofs) new.row) → OnErr r (IsKept old.0.row new.row)
+    → new ≡ changes.with_row new.row old.0 →
+    IfErr r (λ met. SetsNoField old.0.row (pos n) val (kept.own_text old.0 own.Ofs) met)
+    → Acts g (Do (Set (machine.Field n) place val)) goes_on old (result_at place r) (new, old.1)
 number_result g old place val zero fits some r new ok err same why = absurd (some refl)
-number_result g old place val (suc m) fits some r new ok err same why = field_result g old place val m fits r new ok err same why
+number_result g old place val (suc m) fits some r new ok err same why = field_result g old place val m fits r new ok err
+    same why

@@ -1,5 +1,6 @@
 -- What is set in a store.
-use Rattle.std.specs.Prelude.{◌≡◌, ℕ, List, [], get_or, slice_get, Option, None, option_map, if◌then◌else◌, Bool, true, false, refl}
+use Rattle.std.specs.Prelude.{◌≡◌, ℕ, List, [], get_or, slice_get, Option, None, option_map, if◌then◌else◌, Bool, true}
+use Rattle.std.specs.Prelude.{false, refl}
 use Rattle.std.specs.Str.{bytes_eq}
 use Rattle.std.proofs.Common.{sym, ◌∙◌, ap}
 use Rattle.std.proofs.lemmas.List.{map-set}
@@ -23,14 +24,17 @@ use Rattle.awk_store.proofs.Reading.{handed_read}
 use Rattle.awk_store.proofs.Slots.{set_value, set_array, values_stay, arrays_stay, not_empty}
 
 pub global_set : (names : List Text) (k : Kept) (hidden : Hidden) (n : ℕ) (x : Value) → IsOnce names
-    → variables.with_own (get_or names n []) x (state names k hidden) ≡ state names (changes.with_value (Global n) x k) hidden
+    → variables.with_own (get_or names n []) x (state names k hidden) ≡ state names (changes.with_value (Global n) x k)
+    hidden
 global_set names k hidden n x once =
     ap (λ vs. record (state names k hidden) { values = vs }) (set_value names k.cells n once x)
-    ∙ ap (λ as_. record (state names (changes.with_value (Global n) x k) hidden) { arrays = as_ }) (arrays_stay names k.cells n once x)
+    ∙ ap (λ as_. record (state names (changes.with_value (Global n) x k) hidden) { arrays = as_ })
+    (arrays_stay names k.cells n once x)
 
 pub variable : Changes SetsVariable
 variable names k hidden sound (Global n) x = global_set names k hidden n x sound.once
-variable names k hidden sound (Parameter n) x = ap (λ ls. record (state names k hidden) { locals = ls }) (sym (map-set (bound_of names) k.frame n (Scalar x)))
+variable names k hidden sound (Parameter n) x = ap (λ ls. record (state names k hidden) { locals = ls })
+    (sym (map-set (bound_of names) k.frame n (Scalar x)))
 
 pub own : Changes SetsOwn
 own names k hidden sound name x = rw (sym (sound.own name)) (global_set names k hidden (slot_of name) x sound.once)
@@ -40,7 +44,8 @@ kept_by : {A : Type 0} (b : Bool) (a : A) (x : Option A) → x ≡ None → (if 
 kept_by true a x none = rw none refl
 kept_by false a x none = refl
 
-nothing_at : (f : Text → Option Array) (a : Array) (other : Text) → f [] ≡ None → (b : Bool) → bytes_eq [] other ≡ b → changed f [] a other ≡ f other
+nothing_at : (f : Text → Option Array) (a : Array) (other : Text) → f [] ≡ None → (b : Bool) → bytes_eq [] other ≡ b
+    → changed f [] a other ≡ f other
 nothing_at f a other none true e = rw e (kept_by true a (f other) (ap f (sym ((bytes_eq-Decides [] other).0 e)) ∙ none))
 nothing_at f a other none false e = rw e refl
 
@@ -50,12 +55,15 @@ nothing_set f a none = fun_ext (λ other. nothing_at f a other none (bytes_eq []
 pub array_at : Changes SetsArrayAt
 array_at names k hidden sound (Shared n) a =
     ap (λ as_. record (state names k hidden) { arrays = as_ }) (set_array names k.cells n sound.once a)
-    ∙ ap (λ vs. record (state names (changes.with_array (Shared n) a k) hidden) { values = vs }) (values_stay names k.cells n sound.once a)
+    ∙ ap (λ vs. record (state names (changes.with_array (Shared n) a k) hidden) { values = vs })
+    (values_stay names k.cells n sound.once a)
 array_at names k hidden sound (Made n) a = refl
 array_at names k hidden sound Nothing a =
-    ap (λ as_. record (state names k hidden) { arrays = as_ }) (nothing_set (arrays_of names k.cells) a (ap listed (not_empty names k.cells sound.once)))
+    ap (λ as_. record (state names k hidden) { arrays = as_ }) (nothing_set (arrays_of names k.cells) a
+    (ap listed (not_empty names k.cells sound.once)))
 
 pub array : Changes SetsArray
 array names k hidden sound (Global n) a = array_at names k hidden sound (Shared n) a
 array names k hidden sound (Parameter n) a =
-    rw (slice_get-map (bound_of names) k.frame n, handed_read names (slice_get k.frame n)) (array_at names k hidden sound (kept.bound_reference (slice_get k.frame n)) a)
+    rw (slice_get-map (bound_of names) k.frame n, handed_read names (slice_get k.frame n))
+    (array_at names k hidden sound (kept.bound_reference (slice_get k.frame n)) a)

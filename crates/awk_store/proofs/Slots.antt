@@ -1,5 +1,6 @@
 -- Cells by slot and by name.
-use Rattle.std.specs.Prelude.{◌≡◌, ℕ, zero, suc, Bool, true, false, if◌then◌else◌, List, [], ◌∷◌, length, get_or, slice_get, Option, Some, None, option_map, refl}
+use Rattle.std.specs.Prelude.{◌≡◌, ℕ, zero, suc, Bool, true, false, if◌then◌else◌, List, [], ◌∷◌, length, get_or}
+use Rattle.std.specs.Prelude.{slice_get, Option, Some, None, option_map, refl}
 use Rattle.std.specs.Str.{bytes_eq}
 use Rattle.std.proofs.Common.{sym, ◌∙◌, ap, arith}
 use Rattle.std.proofs.lemmas.Slice.Eq.{bytes_eq-Decides}
@@ -34,7 +35,8 @@ same_text n = (bytes_eq-Decides n n).1 refl
 
 -- ---- reading
 
-pub named : (names : List Text) (cells : List Cell) (k : ℕ) → IsOnce names → length cells ≡ length names → cell_named names cells (get_or names k []) ≡ slice_get cells k
+pub named : (names : List Text) (cells : List Cell) (k : ℕ) → IsOnce names → length cells ≡ length names
+    → cell_named names cells (get_or names k []) ≡ slice_get cells k
 named [] [] k once same = refl
 named [] (c ∷ cs) k once same = absurd (omega (arith, same))
 named (n ∷ ns) [] k once same = absurd (omega (arith, same))
@@ -64,12 +66,14 @@ none_changed : (f : Cell → Cell) (b : Bool) → None ≡ changed_cell f b None
 none_changed f true = refl
 none_changed f false = refl
 
-first_changed : (f : Cell → Cell) (b : Bool) (c : Cell) (x : Option Cell) → (if b then Some (f c) else x) ≡ changed_cell f b (if b then Some c else x)
+first_changed : (f : Cell → Cell) (b : Bool) (c : Cell) (x : Option Cell) → (if b then Some (f c) else x)
+    ≡ changed_cell f b (if b then Some c else x)
 first_changed f true c x = refl
 first_changed f false c x = refl
 
 -- a later cell is changed: the first name is another
-later_changed : (f : Cell → Cell) (n name other : Text) → (name ≡ n → ⊥) → (c : Cell) (x y : Option Cell) → x ≡ changed_cell f (bytes_eq name other) y → (b : Bool) → bytes_eq n other ≡ b
+later_changed : (f : Cell → Cell) (n name other : Text) → (name ≡ n → ⊥) → (c : Cell) (x y : Option Cell)
+    → x ≡ changed_cell f (bytes_eq name other) y → (b : Bool) → bytes_eq n other ≡ b
     → (if b then Some c else x) ≡ changed_cell f (bytes_eq name other) (if b then Some c else y)
 later_changed f n name other apart c x y e true is =
     let same : n ≡ other = (bytes_eq-Decides n other).0 is in
@@ -77,28 +81,33 @@ later_changed f n name other apart c x y e true is =
 later_changed f n name other apart c x y e false is = e
 
 pub cell_changed : (f : Cell → Cell) (names : List Text) (cells : List Cell) (k : ℕ) (other : Text) → IsOnce names
-    → cell_named names (change_at f cells k) other ≡ changed_cell f (bytes_eq (get_or names k []) other) (cell_named names cells other)
+    → cell_named names (change_at f cells k) other ≡ changed_cell f (bytes_eq (get_or names k []) other)
+    (cell_named names cells other)
 cell_changed f [] cells k other once = none_changed f _
 cell_changed f (n ∷ ns) [] k other once = none_changed f _
 cell_changed f (n ∷ ns) (c ∷ cs) zero other once = first_changed f (bytes_eq n other) c (cell_named ns cs other)
 cell_changed f (n ∷ ns) (c ∷ cs) (suc k) other once =
-    later_changed f n (get_or ns k []) other (not_again n ns once k) c _ _ (cell_changed f ns cs k other (of_rest n ns once)) (bytes_eq n other) refl
+    later_changed f n (get_or ns k []) other (not_again n ns once k) c _ _
+    (cell_changed f ns cs k other (of_rest n ns once)) (bytes_eq n other) refl
 
 -- ---- the maps of the machine
 
 -- a map of names that is read off the cells
 module _ {A : Type 0} (pick : Option Cell → Option A) where
-  pub read_changed : (f : Cell → Cell) (v : A) → ((x : Option Cell) → pick (option_map f x) ≡ option_map (λ old. v) (pick x)) → (b : Bool) (x : Option Cell)
+  pub read_changed : (f : Cell → Cell) (v : A)
+      → ((x : Option Cell) → pick (option_map f x) ≡ option_map (λ old. v) (pick x)) → (b : Bool) (x : Option Cell)
       → (if b then option_map (λ old. v) (pick x) else pick x) ≡ pick (changed_cell f b x)
   read_changed f v follows true x = sym (follows x)
   read_changed f v follows false x = refl
 
-  pub read_same : (f : Cell → Cell) → ((x : Option Cell) → pick (option_map f x) ≡ pick x) → (b : Bool) (x : Option Cell) → pick x ≡ pick (changed_cell f b x)
+  pub read_same : (f : Cell → Cell) → ((x : Option Cell) → pick (option_map f x) ≡ pick x)
+      → (b : Bool) (x : Option Cell) → pick x ≡ pick (changed_cell f b x)
   read_same f follows true x = sym (follows x)
   read_same f follows false x = refl
 
 module _ (names : List Text) (cells : List Cell) (k : ℕ) (once : IsOnce names) where
-  value_follows : (v : Value) (x : Option Cell) → scalar (option_map (given_value v) x) ≡ option_map (λ old. v) (scalar x)
+  value_follows : (v : Value) (x : Option Cell) → scalar (option_map (given_value v) x) ≡ option_map (λ old. v)
+      (scalar x)
   value_follows v None = refl
   value_follows v (Some (cell.Value old)) = refl
   value_follows v (Some (cell.Array a)) = refl
@@ -108,7 +117,8 @@ module _ (names : List Text) (cells : List Cell) (k : ℕ) (once : IsOnce names)
   array_stays v (Some (cell.Value old)) = refl
   array_stays v (Some (cell.Array a)) = refl
 
-  array_follows : (a : Array) (x : Option Cell) → listed (option_map (given_array a) x) ≡ option_map (λ old. a) (listed x)
+  array_follows : (a : Array) (x : Option Cell) → listed (option_map (given_array a) x) ≡ option_map (λ old. a)
+      (listed x)
   array_follows a None = refl
   array_follows a (Some (cell.Value old)) = refl
   array_follows a (Some (cell.Array old)) = refl
@@ -118,14 +128,24 @@ module _ (names : List Text) (cells : List Cell) (k : ℕ) (once : IsOnce names)
   value_stays a (Some (cell.Value old)) = refl
   value_stays a (Some (cell.Array old)) = refl
 
-  pub set_value : (v : Value) → changed (values_of names cells) (get_or names k []) v ≡ values_of names (change_at (given_value v) cells k)
-  set_value v = fun_ext (λ other. read_changed scalar (given_value v) v (value_follows v) (bytes_eq (get_or names k []) other) (cell_named names cells other) ∙ sym (ap scalar (cell_changed (given_value v) names cells k other once)))
+  pub set_value : (v : Value) → changed (values_of names cells) (get_or names k []) v ≡ values_of names
+      (change_at (given_value v) cells k)
+  set_value v = fun_ext (λ other. read_changed scalar (given_value v) v (value_follows v)
+      (bytes_eq (get_or names k []) other) (cell_named names cells other)
+      ∙ sym (ap scalar (cell_changed (given_value v) names cells k other once)))
 
   pub arrays_stay : (v : Value) → arrays_of names cells ≡ arrays_of names (change_at (given_value v) cells k)
-  arrays_stay v = fun_ext (λ other. read_same listed (given_value v) (array_stays v) (bytes_eq (get_or names k []) other) (cell_named names cells other) ∙ sym (ap listed (cell_changed (given_value v) names cells k other once)))
+  arrays_stay v = fun_ext (λ other. read_same listed (given_value v) (array_stays v)
+      (bytes_eq (get_or names k []) other) (cell_named names cells other)
+      ∙ sym (ap listed (cell_changed (given_value v) names cells k other once)))
 
-  pub set_array : (a : Array) → changed (arrays_of names cells) (get_or names k []) a ≡ arrays_of names (change_at (given_array a) cells k)
-  set_array a = fun_ext (λ other. read_changed listed (given_array a) a (array_follows a) (bytes_eq (get_or names k []) other) (cell_named names cells other) ∙ sym (ap listed (cell_changed (given_array a) names cells k other once)))
+  pub set_array : (a : Array) → changed (arrays_of names cells) (get_or names k []) a ≡ arrays_of names
+      (change_at (given_array a) cells k)
+  set_array a = fun_ext (λ other. read_changed listed (given_array a) a (array_follows a)
+      (bytes_eq (get_or names k []) other) (cell_named names cells other)
+      ∙ sym (ap listed (cell_changed (given_array a) names cells k other once)))
 
   pub values_stay : (a : Array) → values_of names cells ≡ values_of names (change_at (given_array a) cells k)
-  values_stay a = fun_ext (λ other. read_same scalar (given_array a) (value_stays a) (bytes_eq (get_or names k []) other) (cell_named names cells other) ∙ sym (ap scalar (cell_changed (given_array a) names cells k other once)))
+  values_stay a = fun_ext (λ other. read_same scalar (given_array a) (value_stays a)
+      (bytes_eq (get_or names k []) other) (cell_named names cells other)
+      ∙ sym (ap scalar (cell_changed (given_array a) names cells k other once)))

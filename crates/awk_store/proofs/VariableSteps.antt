@@ -39,31 +39,40 @@ use Rattle.awk_store.proofs.Rebuilding.{agreeing_row, rebuilt, rebuild_moves, re
 
 module _ (g : Given) (old : Whole) (x : Variable) where
   variable_moves : kept.is_nf x ≡ false → (k : List Piece) (hid : Hidden) (c : Course) → Agreeing g old hid c →
-      advance g (Do (Get (machine.Variable (variable_of (names_in g) x))) ∷ k) (seen (base g old hid) c) ≡ Goes (give (kept.value old.0 x) k) (seen (base g old hid) c)
+      advance g (Do (Get (machine.Variable (variable_of (names_in g) x))) ∷ k) (seen (base g old hid) c)
+      ≡ Goes (give (kept.value old.0 x) k) (seen (base g old hid) c)
   variable_moves n k hid c a = rw (nf-so g old hid c a x, n, variable-so g old hid c a x) refl
 
   nf_moves : kept.is_nf x ≡ true → (k : List Piece) (hid : Hidden) (c : Course) → Agreeing g old hid c →
-      advance g (Do (Get (machine.Variable (variable_of (names_in g) x))) ∷ k) (seen (base g old hid) c) ≡ Seeks (Fields hid.row) (λ fields. give (of_count (length (values fields))) k) (seen (base g old hid) c)
+      advance g (Do (Get (machine.Variable (variable_of (names_in g) x))) ∷ k) (seen (base g old hid) c)
+      ≡ Seeks (Fields hid.row) (λ fields. give (of_count (length (values fields))) k) (seen (base g old hid) c)
   nf_moves y k hid c a = rw (nf-so g old hid c a x, y) refl
 
-  pub reads_variable : kept.is_nf x ≡ false → Acts g (Do (Get (machine.Variable (variable_of (names_in g) x)))) give old (Ok (kept.value old.0 x)) old
+  pub reads_variable : kept.is_nf x ≡ false → Acts g (Do (Get (machine.Variable (variable_of (names_in g) x)))) give old
+      (Ok (kept.value old.0 x)) old
   reads_variable n = done (moves (at_rest _ old) (variable_moves n))
 
   pub counts_fields : (row : Row) (vs : List Value) → kept.is_nf x ≡ true → IsKept old.0.row row → HasFields row vs →
-      Acts g (Do (Get (machine.Variable (variable_of (names_in g) x)))) give old (Ok (v.Num (pos (length vs)))) (changes.with_row row old.0, old.1)
+      Acts g (Do (Get (machine.Variable (variable_of (names_in g) x)))) give old (Ok (v.Num (pos (length vs))))
+      (changes.with_row row old.0, old.1)
   counts_fields row vs y is has =
       done (keeps refl (λ hid. refl) (agreeing_row g old row is)
-      (finds (λ hid. Fields hid.row) (Values vs) (at_rest _ old) (λ k hid c a. (nf_moves y k hid c a, fields-so g old hid c a row vs is has))))
+      (finds (λ hid. Fields hid.row) (Values vs) (at_rest _ old)
+      (λ k hid c a. (nf_moves y k hid c a, fields-so g old hid c a row vs is has))))
 
-  pub counted_nf : (new : Kept) (n : ℤ) → kept.is_nf x ≡ true → new ≡ changes.with_row new.row old.0 → IsKept old.0.row new.row → (vs : List Value) × HasFields new.row vs × (n ≡ pos (length vs)) →
+  pub counted_nf : (new : Kept) (n : ℤ) → kept.is_nf x ≡ true → new ≡ changes.with_row new.row old.0
+      → IsKept old.0.row new.row → (vs : List Value) × HasFields new.row vs × (n ≡ pos (length vs)) →
       Acts g (Do (Get (machine.Variable (variable_of (names_in g) x)))) give old (Ok (v.Num n)) (new, old.1)
   counted_nf new n y same is (vs, has, e) =
-      subst (λ (k : Kept). Acts g (Do (Get (machine.Variable (variable_of (names_in g) x)))) give old (Ok (v.Num n)) (k, old.1)) (sym same) (rw e (counts_fields new.row vs y is has))
+      subst (λ (k : Kept). Acts g (Do (Get (machine.Variable (variable_of (names_in g) x)))) give old (Ok (v.Num n))
+      (k, old.1)) (sym same) (rw e (counts_fields new.row vs y is has))
 
   -- ---- variables are set
 
-  variable_set_moves : (place : Place) (val : Value) → kept.is_nf x ≡ false → (k : List Piece) (hid : Hidden) (c : Course) → Agreeing g old hid c →
-      advance g (Do (Set (machine.Variable (variable_of (names_in g) x)) place val) ∷ k) (seen (base g old hid) c) ≡ Goes k (seen (base g (changes.with_value x val old.0, old.1) hid) c)
+  variable_set_moves : (place : Place) (val : Value) → kept.is_nf x ≡ false
+      → (k : List Piece) (hid : Hidden) (c : Course) → Agreeing g old hid c →
+      advance g (Do (Set (machine.Variable (variable_of (names_in g) x)) place val) ∷ k) (seen (base g old hid) c)
+      ≡ Goes k (seen (base g (changes.with_value x val old.0, old.1) hid) c)
   variable_set_moves place val n k hid c a = rw (nf-so g old hid c a x, n, variable-set g old hid c a x val) refl
 
   cells_stay : (x : Variable) (val : Value) → length (changes.with_value x val old.0).cells ≡ length old.0.cells
@@ -78,23 +87,34 @@ module _ (g : Given) (old : Whole) (x : Variable) where
   used_stays (Global n) val = refl
   used_stays (Parameter n) val = refl
 
-  pub sets_variable : (place : Place) (val : Value) (new : Kept) → kept.is_nf x ≡ false → new ≡ changes.with_value x val old.0 →
+  pub sets_variable : (place : Place) (val : Value) (new : Kept) → kept.is_nf x ≡ false
+      → new ≡ changes.with_value x val old.0 →
       Acts g (Do (Set (machine.Variable (variable_of (names_in g) x)) place val)) goes_on old (Ok (tt {0})) (new, old.1)
   sets_variable place val new n same =
-      subst (λ (k : Kept). Acts g (Do (Set (machine.Variable (variable_of (names_in g) x)) place val)) goes_on old (Ok (tt {0})) (k, old.1)) (sym same)
+      subst (λ (k : Kept). Acts g (Do (Set (machine.Variable (variable_of (names_in g) x)) place val)) goes_on old
+      (Ok (tt {0})) (k, old.1)) (sym same)
       (done (alters (used_stays x val) (at_rest _ old) (λ k hid c a. (
         hid,
-        record { tells = a.tells; row = subst (λ r. IsKept hid.row r) (sym (row_stays x val)) a.row; cells = cells_stay x val ∙ a.cells; sound = a.sound },
+        record {
+          tells = a.tells;
+          row = subst (λ r. IsKept hid.row r) (sym (row_stays x val)) a.row;
+          cells =
+              cells_stay x val ∙ a.cells;
+          sound = a.sound;
+        },
         variable_set_moves place val n k hid c a,
       ))))
 
   -- ---- NF is set
 
-  nf_set_faults : (place : Place) (val : Value) (e : Fault) → kept.is_nf x ≡ true → (number_of val >>= place_of) ≡ Err e → (k : List Piece) (hid : Hidden) (c : Course) → Agreeing g old hid c →
-      advance g (Do (Set (machine.Variable (variable_of (names_in g) x)) place val) ∷ k) (seen (base g old hid) c) ≡ Goes (ends (Faulted e place)) (seen (base g old hid) c)
+  nf_set_faults : (place : Place) (val : Value) (e : Fault) → kept.is_nf x ≡ true → (number_of val >>= place_of) ≡ Err e
+      → (k : List Piece) (hid : Hidden) (c : Course) → Agreeing g old hid c →
+      advance g (Do (Set (machine.Variable (variable_of (names_in g) x)) place val) ∷ k) (seen (base g old hid) c)
+      ≡ Goes (ends (Faulted e place)) (seen (base g old hid) c)
   nf_set_faults place val e y is k hid c a = rw (nf-so g old hid c a x, y, is) refl
 
-  nf_set_moves : (place : Place) (val : Value) (n : ℕ) → kept.is_nf x ≡ true → (number_of val >>= place_of) ≡ Ok n → (k : List Piece) (hid : Hidden) (c : Course) → Agreeing g old hid c →
+  nf_set_moves : (place : Place) (val : Value) (n : ℕ) → kept.is_nf x ≡ true → (number_of val >>= place_of) ≡ Ok n
+      → (k : List Piece) (hid : Hidden) (c : Course) → Agreeing g old hid c →
       advance g (Do (Set (machine.Variable (variable_of (names_in g) x)) place val) ∷ k) (seen (base g old hid) c)
       ≡ Seeks (Fields hid.row) (λ a. Do (Rebuild place (with_count (values a) n)) ∷ k) (seen (base g old hid) c)
   nf_set_moves place val n y is k hid c a = rw (nf-so g old hid c a x, y, is) refl
@@ -108,25 +128,37 @@ module _ (g : Given) (old : Whole) (x : Variable) where
     abbrev nf_task : Piece
     nf_task = Do (Set (machine.Variable (variable_of (names_in g) x)) place val)
 
-    pub no_number : (r : Result ℤ Fault) (h : Halt) → r ≡ number_of val → result_at place r ≡ Err h → Acts g (Do (Set (machine.Variable (variable_of (names_in g) x)) place val)) (goes_on {A = Unit {0}}) old (Err h) old
+    pub no_number : (r : Result ℤ Fault) (h : Halt) → r ≡ number_of val → result_at place r ≡ Err h
+        → Acts g (Do (Set (machine.Variable (variable_of (names_in g) x)) place val)) (goes_on {A = Unit {0}}) old
+        (Err h) old
     no_number (Ok n) h same e = absurd (cc)
     no_number (Err fault) h same e =
         let is : (number_of val >>= place_of) ≡ Err fault = ap (λ r. r >>= place_of) (sym same) in
-        subst (λ (q : Halt). Acts g (Do (Set (machine.Variable (variable_of (names_in g) x)) place val)) (goes_on {A = Unit {0}}) old (Err q) old) (halt_is fault h e)
+        subst (λ (q : Halt). Acts g (Do (Set (machine.Variable (variable_of (names_in g) x)) place val))
+        (goes_on {A = Unit {0}}) old (Err q) old) (halt_is fault h e)
         (faulted refl (inr (moves (at_rest _ old) (nf_set_faults place val fault y is))))
       where
         halt_is : (fault : Fault) (h : Halt) → result_at {A = ℤ} place (Err fault) ≡ Err h → halt_at place fault ≡ h
         halt_is fault h e = cc
 
     -- it is set: of the fields that there are or are added, the text is made
-    pub set_nf : (new : Kept) (n : ℤ) → number_of val ≡ Ok n → new ≡ changes.with_row new.row old.0 → SetsCount old.0.row n (kept.own_text old.0 own.Ofs) new.row →
-        Acts g (Do (Set (machine.Variable (variable_of (names_in g) x)) place val)) goes_on old (Ok (tt {0})) (new, old.1)
+    pub set_nf : (new : Kept) (n : ℤ) → number_of val ≡ Ok n → new ≡ changes.with_row new.row old.0
+        → SetsCount old.0.row n (kept.own_text old.0 own.Ofs) new.row →
+        Acts g (Do (Set (machine.Variable (variable_of (names_in g) x)) place val)) goes_on old (Ok (tt {0})) (
+          new,
+          old.1,
+        )
     set_nf new n e same s =
         let vs = with_count s.values s.count in
-        subst (λ (k : Kept). Acts g (Do (Set (machine.Variable (variable_of (names_in g) x)) place val)) goes_on old (Ok (tt {0})) (k, old.1)) (sym same)
+        subst (λ (k : Kept). Acts g (Do (Set (machine.Variable (variable_of (names_in g) x)) place val)) goes_on old
+        (Ok (tt {0})) (k, old.1)) (sym same)
         (done (alters refl
-        (finds {then_ = λ k a. Do (Rebuild place (with_count (values a) s.count)) ∷ k} (λ hid. Fields hid.row) (Values s.values) (at_rest _ old)
-        (λ k hid c a. (nf_set_moves place val s.count y (number_so val n e ∙ s.count_is) k hid c a, fields-so g old hid c a old.0.row s.values (inl refl) s.before)))
+        (finds {then_ = λ k a. Do (Rebuild place (with_count (values a) s.count)) ∷ k} (λ hid. Fields hid.row)
+        (Values s.values) (at_rest _ old)
+        (λ k hid c a. (
+          nf_set_moves place val s.count y (number_so val n e ∙ s.count_is) k hid c a,
+          fields-so g old hid c a old.0.row s.values (inl refl) s.before,
+        )))
         (λ k hid c a. (
           record hid { row = rebuilt old vs },
           record { tells = a.tells; row = inl s.after.new_is; cells = a.cells; sound = a.sound },
@@ -134,27 +166,42 @@ module _ (g : Given) (old : Whole) (x : Variable) where
         ))))
 
     -- it is not: the number is none of a field, or the text would be too long
-    pub set_no_nf : (new : Kept) (n : ℤ) (met : Fault) → number_of val ≡ Ok n → new ≡ changes.with_row new.row old.0 → IsKept old.0.row new.row →
-        SetsNoCount old.0.row n (kept.own_text old.0 own.Ofs) met → Acts g (Do (Set (machine.Variable (variable_of (names_in g) x)) place val)) (goes_on {A = Unit {0}}) old (Err (halt_at place met)) (new, old.1)
+    pub set_no_nf : (new : Kept) (n : ℤ) (met : Fault) → number_of val ≡ Ok n → new ≡ changes.with_row new.row old.0
+        → IsKept old.0.row new.row →
+        SetsNoCount old.0.row n (kept.own_text old.0 own.Ofs) met
+        → Acts g (Do (Set (machine.Variable (variable_of (names_in g) x)) place val)) (goes_on {A = Unit {0}}) old
+        (Err (halt_at place met)) (new, old.1)
     set_no_nf new n met e same is why =
-        subst (λ (k : Kept). Acts g (Do (Set (machine.Variable (variable_of (names_in g) x)) place val)) (goes_on {A = Unit {0}}) old (Err (halt_at place met)) (k, old.1)) (sym same)
+        subst (λ (k : Kept). Acts g (Do (Set (machine.Variable (variable_of (names_in g) x)) place val))
+        (goes_on {A = Unit {0}}) old (Err (halt_at place met)) (k, old.1)) (sym same)
         (faulted refl (why_so why))
       where
-        at_end : Passes g nf_task old (λ k. ends (Faulted met place)) old → Passes g nf_task old (λ k. ends (Faulted met place)) (changes.with_row new.row old.0, old.1)
+        at_end : Passes g nf_task old (λ k. ends (Faulted met place)) old
+            → Passes g nf_task old (λ k. ends (Faulted met place)) (changes.with_row new.row old.0, old.1)
         at_end h = keeps refl (λ hid. refl) (agreeing_row g old new.row is) h
 
-        why_so : SetsNoCount old.0.row n (kept.own_text old.0 own.Ofs) met → (met ≡ fault.Memory) ⊎ Passes g nf_task old (λ k. ends (Faulted met place)) (changes.with_row new.row old.0, old.1)
+        why_so : SetsNoCount old.0.row n (kept.own_text old.0 own.Ofs) met → (met ≡ fault.Memory)
+            ⊎ Passes g nf_task old (λ k. ends (Faulted met place)) (changes.with_row new.row old.0, old.1)
         why_so (inl m) = inl m
-        why_so (inr (inl (f, none))) = inr (at_end (moves (at_rest _ old) (nf_set_faults place val met y (number_so val n e ∙ none ∙ ap Err (sym f)))))
+        why_so (inr (inl (f, none))) =
+            inr (at_end (moves (at_rest _ old) (nf_set_faults place val met y (number_so val n e ∙ none
+            ∙ ap Err (sym f)))))
         why_so (inr (inr (f, (count, vs, is_count, has, over)))) =
             inr (at_end (moves
-            (finds {then_ = λ k a. Do (Rebuild place (with_count (values a) count)) ∷ k} (λ hid. Fields hid.row) (Values vs) (at_rest _ old)
-            (λ k hid c a. (nf_set_moves place val count y (number_so val n e ∙ is_count) k hid c a, fields-so g old hid c a old.0.row vs (inl refl) has)))
-            (λ k hid c a. rebuild_faults g old place (with_count vs count) over k hid c a ∙ ap (λ (x : Fault). Goes (ends (Faulted x place)) (seen (base g old hid) c)) (sym f))))
+            (finds {then_ = λ k a. Do (Rebuild place (with_count (values a) count)) ∷ k} (λ hid. Fields hid.row)
+            (Values vs) (at_rest _ old)
+            (λ k hid c a. (
+              nf_set_moves place val count y (number_so val n e ∙ is_count) k hid c a,
+              fields-so g old hid c a old.0.row vs (inl refl) has,
+            )))
+            (λ k hid c a. rebuild_faults g old place (with_count vs count) over k hid c a
+            ∙ ap (λ (x : Fault). Goes (ends (Faulted x place)) (seen (base g old hid) c)) (sym f))))
 
-    pub nf_result : (r : Result (Unit {0}) Fault) (new : Kept) (n : ℤ) → number_of val ≡ Ok n → OnOk r (SetsCount old.0.row n (kept.own_text old.0 own.Ofs) new.row) → OnErr r (IsKept old.0.row new.row) →
+    pub nf_result : (r : Result (Unit {0}) Fault) (new : Kept) (n : ℤ) → number_of val ≡ Ok n
+        → OnOk r (SetsCount old.0.row n (kept.own_text old.0 own.Ofs) new.row) → OnErr r (IsKept old.0.row new.row) →
         new ≡ changes.with_row new.row old.0 → IfErr r (λ e. SetsNoCount old.0.row n (kept.own_text old.0 own.Ofs) e) →
-        Acts g (Do (Set (machine.Variable (variable_of (names_in g) x)) place val)) goes_on old (result_at place r) (new, old.1)
+        Acts g (Do (Set (machine.Variable (variable_of (names_in g) x)) place val)) goes_on old (result_at place r)
+        (new, old.1)
     nf_result (Ok tt) new n e ok err same why = set_nf new n e same ok
     nf_result (Err fault) new n e ok err same why = set_no_nf new n fault e same err why
 

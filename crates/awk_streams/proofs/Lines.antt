@@ -23,21 +23,29 @@ use Rattle.awk_streams.proofs.Lives.{number_live, some_at}
 use Rattle.awk_streams.proofs.MoreSteps.{gives, reads_so}
 
 -- the stream is open, and its record is taken
-line_fetched : {W : Type 0} {ghosts : Ghosts W} (laws : Laws ghosts) (g : Given) (s : State) (place : Place) (class : Class) (name text rs : Text) → own_text s (codes "RS") ≡ rs → (old new : Table) (w : W) →
-    IsLine (Named class name) rs old text new → Does ghosts g s (Do (Fetch place class name)) give old w (Ok (v.Input text)) new w
+line_fetched : {W : Type 0} {ghosts : Ghosts W} (laws : Laws ghosts) (g : Given) (s : State) (place : Place)
+    (class : Class) (name text rs : Text) → own_text s (codes "RS") ≡ rs → (old new : Table) (w : W) →
+    IsLine (Named class name) rs old text new → Does ghosts g s (Do (Fetch place class name)) give old w
+    (Ok (v.Input text)) new w
 line_fetched {ghosts = ghosts} laws g s place class name text rs is old new w x =
     let key = Named class name in
     let number = some_at (find_stream class name (open_of old)) (number_live class name old (x.before, x.live)) in
-    let to_read : Leads ghosts (beside s) Tells (λ t. s.course.used) g (Do (Fetch place class name)) old w (λ k. Do (Read place key) ∷ k) old w =
-    open_known g (Do (Fetch place class name)) place false (input_mode class) class name (read_opened place key) (λ k t. refl) s laws number.0 old w number.1 in
-    let read = gives ghosts g s place key rs is old new x.before x.live (reads_so g s place key) to_read (found.Record text) x.first in
+    let to_read : Leads ghosts (beside s) Tells (λ t. s.course.used) g (Do (Fetch place class name)) old w
+    (λ k. Do (Read place key) ∷ k) old w =
+    open_known g (Do (Fetch place class name)) place false (input_mode class) class name (read_opened place key)
+    (λ k t. refl) s laws number.0 old w number.1 in
+    let read = gives ghosts g s place key rs is old new x.before x.live (reads_so g s place key) to_read
+    (found.Record text) x.first in
     record { plays = λ first k hid c a. read.plays first k hid c a }
 
 -- and so of whichever stream
-pub line_at_once : {W : Type 0} {ghosts : Ghosts W} (laws : Laws ghosts) (g : Given) (s : State) (place : Place) (source : InputStream) (text rs : Text) → own_text s (codes "RS") ≡ rs → (old new : Table) (w : W) →
-    IsLine (key_of source) rs old text new → Does ghosts g s (Do (fetching place (key_of source))) give old w (Ok (v.Input text)) new w
+pub line_at_once : {W : Type 0} {ghosts : Ghosts W} (laws : Laws ghosts) (g : Given) (s : State) (place : Place)
+    (source : InputStream) (text rs : Text) → own_text s (codes "RS") ≡ rs → (old new : Table) (w : W) →
+    IsLine (key_of source) rs old text new → Does ghosts g s (Do (fetching place (key_of source))) give old w
+    (Ok (v.Input text)) new w
 line_at_once {ghosts = ghosts} laws g s place source.Standard text rs is old new w x =
-    let read = gives ghosts g s place (Standard 0) rs is old new x.before x.live (reads_so g s place (Standard 0)) (at_once _ old w) (found.Record text) x.first in
+    let read = gives ghosts g s place (Standard 0) rs is old new x.before x.live (reads_so g s place (Standard 0))
+    (at_once _ old w) (found.Record text) x.first in
     record { plays = λ first k hid c a. read.plays first k hid c a }
 line_at_once laws g s place (source.Stream name) text rs is old new w x =
     line_fetched laws g s place (kind name.class) name.text.now text rs is old new w x

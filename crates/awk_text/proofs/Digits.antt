@@ -1,5 +1,7 @@
 -- Texts of a few digits.
-use Rattle.std.proofs.Common.{◌≡◌, ℕ, ◌+◌, ◌-◌, ◌*◌, ◌^◌, ◌<◌, ◌≤◌, Bool, true, false, ◌&&◌, ◌||◌, ◌==◌, cond, ℤ, pos, List, [], ◌∷◌, length, take, drop, get_or, Some, None, Ok, true≢false, refl, sym, ap, ◌∙◌, arith}
+use Rattle.std.proofs.Common.{◌≡◌, ℕ, ◌+◌, ◌-◌, ◌*◌, ◌^◌, ◌<◌, ◌≤◌, Bool, true, false, ◌&&◌, ◌||◌, ◌==◌, cond, ℤ, pos}
+use Rattle.std.proofs.Common.{List, [], ◌∷◌, length, take, drop, get_or, Some, None, Ok, true≢false, refl, sym, ap, ◌∙◌}
+use Rattle.std.proofs.Common.{arith}
 use Rattle.std.proofs.lemmas.Bool.{lt-ltb}
 use Rattle.std.proofs.lemmas.Bool.Decides.{nat_tests}
 use Rattle.std.proofs.lemmas.Int.Digits.{digits_value_more}
@@ -16,8 +18,10 @@ digit_value_is : (b : ℕ) → is_ascii_digit b ≡ true → digit_value b ≡ b
 digit_value_is b h = grind (arith, nat_tests)
 
 -- one more digit
-pub one_more : (text : List ℕ) (i most v : ℕ) → i < length text → is_ascii_digit (get_or text i 0) ≡ true → v ≡ digits_value 10 (take i text) → v < most
-    → (v * 10 + (get_or text i 0 - 48) ≡ digits_value 10 (take (i + 1) text)) × (v * 10 + (get_or text i 0 - 48) < most * 10)
+pub one_more : (text : List ℕ) (i most v : ℕ) → i < length text → is_ascii_digit (get_or text i 0) ≡ true
+    → v ≡ digits_value 10 (take i text) → v < most
+    → (v * 10 + (get_or text i 0 - 48) ≡ digits_value 10 (take (i + 1) text))
+    × (v * 10 + (get_or text i 0 - 48) < most * 10)
 one_more text i most v within digit so_far small =
     let step = digits_value_more 10 text i within in
     let own = digit_value_is (get_or text i 0) digit in
@@ -45,12 +49,14 @@ rest_is false n m e = absurd (omega (arith, e))
 pub all_of : (text : List ℕ) → prefix_len is_ascii_digit text ≡ length text → list_all is_ascii_digit text ≡ true
 all_of [] all = refl
 all_of (b ∷ bs) all =
-    rw (first_is (is_ascii_digit b) (prefix_len is_ascii_digit bs) (length bs) (omega (arith, all))) (all_of bs (rest_is (is_ascii_digit b) (prefix_len is_ascii_digit bs) (length bs) (omega (arith, all))))
+    rw (first_is (is_ascii_digit b) (prefix_len is_ascii_digit bs) (length bs) (omega (arith, all)))
+    (all_of bs (rest_is (is_ascii_digit b) (prefix_len is_ascii_digit bs) (length bs) (omega (arith, all))))
 
 body_of : (b : ℕ) (bs : List ℕ) → is_ascii_digit b ≡ true → drop_while is_blank (b ∷ bs) ≡ b ∷ bs
 body_of b bs digit = rw (no_blank b digit) refl
 
-number_is : (text : List ℕ) → 0 < length text → prefix_len is_ascii_digit text ≡ length text → (drop_while is_blank text ≡ text) × (after_sign text ≡ text) × (has_minus text ≡ false)
+number_is : (text : List ℕ) → 0 < length text → prefix_len is_ascii_digit text ≡ length text
+    → (drop_while is_blank text ≡ text) × (after_sign text ≡ text) × (has_minus text ≡ false)
 number_is [] some all = absurd (omega (arith, some))
 number_is (b ∷ bs) some all =
     let digit = first_is (is_ascii_digit b) (prefix_len is_ascii_digit bs) (length bs) (omega (arith, all)) in
@@ -79,15 +85,20 @@ module _ (text : List ℕ) (some : 0 < length text) (all : prefix_len is_ascii_d
   pub looks_so : digits_value 10 text < 2 ^ 63 → looks_numeric text ≡ Some (pos (digits_value 10 text))
   looks_so small =
       let h = number_is text some all in
-      let fits : is_in_range (number text) ≡ true = ap is_in_range number_so ∙ lt-ltb (digits_value 10 text) (2 ^ 63) small in
+      let fits : is_in_range (number text) ≡ true = ap is_in_range number_so ∙ lt-ltb (digits_value 10 text)
+      (2 ^ 63) small in
       let numeral : is_numeral (after_sign (drop_while is_blank text)) ≡ true = rw (h.0, h.1) (is_all text some all) in
-      looked (is_numeral (after_sign (drop_while is_blank text))) (is_in_range (number text)) (number text) numeral fits ∙ ap Some number_so
+      looked (is_numeral (after_sign (drop_while is_blank text))) (is_in_range (number text)) (number text) numeral fits
+      ∙ ap Some number_so
 
 pub next_power : (i x : ℕ) → x < 10 ^ i * 10 → x < 10 ^ (i + 1)
 next_power i x small = rw (pow-add 10 i 1) small
 
 pub few : (i v : ℕ) → i ≤ 18 → v < 10 ^ i → v < 1000000000000000000
-few i v short small = let most : 10 ^ i ≤ 10 ^ 18 = pow-le-pow_right {n = 10} (omega arith) {j = 18} short in omega (arith, most, small)
+few i v short small =
+    let most : 10 ^ i ≤ 10 ^ 18 = pow-le-pow_right {n = 10} (omega arith) {j = 18} short in omega (arith, most, small)
 
 pub fewer : (i v : ℕ) → i < 18 → v < 10 ^ i → v < 100000000000000000
-fewer i v short small = let most : 10 ^ i ≤ 10 ^ 17 = pow-le-pow_right {n = 10} (omega arith) {j = 17} (omega (arith, short)) in omega (arith, most, small)
+fewer i v short small =
+    let most : 10 ^ i ≤ 10 ^ 17 = pow-le-pow_right {n = 10} (omega arith) {j = 17} (omega (arith, short)) in
+    omega (arith, most, small)

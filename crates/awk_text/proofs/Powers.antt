@@ -1,5 +1,6 @@
 -- Powers of zero, one and minus one, and of the rest.
-use Rattle.std.proofs.Common.{◌≡◌, ℕ, suc, zero, ◌/◌, ◌%◌, ◌^◌, ◌<◌, ◌≤◌, ◌==◌, Bool, true, false, cond, ℤ, pos, neg_ℤ, ◌<ℤ◌, ◌≤ℤ◌, Ok, Err, refl, ap, ◌∙◌, arith}
+use Rattle.std.proofs.Common.{◌≡◌, ℕ, suc, zero, ◌/◌, ◌%◌, ◌^◌, ◌<◌, ◌≤◌, ◌==◌, Bool, true, false, cond, ℤ, pos, neg_ℤ}
+use Rattle.std.proofs.Common.{◌<ℤ◌, ◌≤ℤ◌, Ok, Err, refl, ap, ◌∙◌, arith}
 use lib.IntN.{negsuc}
 use Rattle.std.proofs.Math.Nat.{pow-zero, pow-suc, div-eq_of_lt}
 use Rattle.std.proofs.Math.Pow.{pow_mono}
@@ -23,7 +24,13 @@ two-pow-le a zero h = omega (arith, pow-zero 2, pow-zero a)
 two-pow-le a (suc n) h = omega (arith, pow-suc 2 n, pow-suc a n, mul-le (2 ^ n) 2 (a ^ n) a (two-pow-le a n h) h)
 
 pub two_from_suc : (a n : ℕ) → 2 ≤ a → 2 ≤ a ^ suc n
-two_from_suc a n h = omega (arith, pow-suc a n, two-pow-le a n h, pow_pos n, mul-le 1 2 (a ^ n) a (omega (arith, two-pow-le a n h, pow_pos n)) h)
+two_from_suc a n h = omega (
+  arith,
+  pow-suc a n,
+  two-pow-le a n h,
+  pow_pos n,
+  mul-le 1 2 (a ^ n) a (omega (arith, two-pow-le a n h, pow_pos n)) h,
+)
 
 -- a power that is not negative
 pub pow_zero_base : (b : ℤ) → pos 0 <ℤ b → Ok (pos 0) ≡ pow (pos 0) b
@@ -57,8 +64,10 @@ one_over_signed false (suc k) h = rw (one_over (suc k) h) refl
 
 pub pow_reciprocal : (a b : ℤ) → IsLarge a → b <ℤ pos 0 → Ok (pos 0) ≡ pow a b
 pow_reciprocal a (pos n) h low = absurd (omega (arith, ints))
-pow_reciprocal (pos m) (negsuc n) h low = rw (ne_eqb m 0 (λ e. omega arith)) (rw (one_over (m ^ suc n) (two_from_suc m n h)) refl)
-pow_reciprocal (negsuc m) (negsuc n) h low = ap Ok (one_over_signed (suc n % 2 == 0) (suc m ^ suc n) (two_from_suc (suc m) n h))
+pow_reciprocal (pos m) (negsuc n) h low = rw (ne_eqb m 0 (λ e. omega arith))
+    (rw (one_over (m ^ suc n) (two_from_suc m n h)) refl)
+pow_reciprocal (negsuc m) (negsuc n) h low =
+    ap Ok (one_over_signed (suc n % 2 == 0) (suc m ^ suc n) (two_from_suc (suc m) n h))
 
 -- out of range, by the sign of the power
 far_signed : (even : Bool) (k : ℕ) → 2 ^ 64 ≤ k → Err OutOfRange ≡ ranged (cond even (pos k) (neg_ℤ (pos k)))

@@ -1,5 +1,6 @@
 -- The scan of a separator finds just where one stands.
-use Rattle.std.proofs.Common.{◌≡◌, ◌≢◌, ℕ, ◌+◌, Bool, true, false, not, ◌&&◌, cond, eqb, List, [], ◌∷◌, ◌++◌, length, take, drop, get_or, slice_index, sym, ap, refl, subst, ◌∙◌, inl, inr, arith}
+use Rattle.std.proofs.Common.{◌≡◌, ◌≢◌, ℕ, ◌+◌, Bool, true, false, not, ◌&&◌, cond, eqb, List, [], ◌∷◌, ◌++◌, length}
+use Rattle.std.proofs.Common.{take, drop, get_or, slice_index, sym, ap, refl, subst, ◌∙◌, inl, inr, arith}
 use Rattle.std.specs.List.{list_all, prefix_len}
 use Rattle.std.proofs.lemmas.Bool.{eqb-true, not-false, and_parts}
 use Rattle.std.proofs.lemmas.List.{take-append-drop, length-take-le}
@@ -51,7 +52,8 @@ gap_found (b ∷ z) n e some =
                 record {
                   gap = 92 ∷ 10 ∷ [];
                   rest = drop 1 z;
-                  parts = ap (λ c. c ∷ z) (eqb-true b 92 both.0) ∙ ap (λ w. 92 ∷ w) (newline_next z (eqb-true (get_or z 0 0) 10 both.1));
+                  parts = ap (λ c. c ∷ z) (eqb-true b 92 both.0) ∙ ap (λ w. 92 ∷ w)
+                      (newline_next z (eqb-true (get_or z 0 0) 10 both.1));
                   len_is = sym g.1;
                   is = joined (drop 1 z);
                 }
@@ -60,7 +62,8 @@ gap_found (b ∷ z) n e some =
                   | inl f ↦
                       let is35 = eqb-true b 35 f.0 in
                       let len : 1 + line_len z ≡ n = sym (ap (λ c. line_len (c ∷ z)) is35) ∙ f.1 in
-                      subst (λ k. Gap (b ∷ z) k) len (subst (λ c. Gap (c ∷ z) (1 + line_len z)) (sym is35) (a_comment z))
+                      subst (λ k. Gap (b ∷ z) k) len (subst (λ c. Gap (c ∷ z) (1 + line_len z)) (sym is35)
+                      (a_comment z))
                   | inr f ↦ absurd (some (sym f.1))
                 ]
           ]
@@ -68,7 +71,8 @@ gap_found (b ∷ z) n e some =
 
 pub blank_len : (b : ℕ) (z : Text) → is_blank b ≡ true → gap_len (b ∷ z) ≡ 1
 unfolding gap_len
-blank_len b z h = ap (λ t. cond t 1 (cond (eqb b 92 && eqb (get_or z 0 0) 10) 2 (cond (eqb b 35) (line_len (b ∷ z)) 0))) h
+blank_len b z h = ap (λ t. cond t 1 (cond (eqb b 92 && eqb (get_or z 0 0) 10) 2 (cond (eqb b 35) (line_len (b ∷ z)) 0)))
+    h
 
 pub joined_len : (z : Text) → gap_len (92 ∷ 10 ∷ z) ≡ 2
 unfolding gap_len
@@ -79,6 +83,8 @@ unfolding gap_len
 comment_len z = refl
 
 pub no_gap : (z : Text) → gap_len z ≡ 0 → (gap rest : Text) → z ≡ gap ++ rest → IsGap gap rest → ⊥
-no_gap z none _ _ parts (blank b rest h) = let len = blank_len b rest h in let same = ap gap_len parts in absurd (omega arith)
+no_gap z none _ _ parts (blank b rest h) =
+    let len = blank_len b rest h in let same = ap gap_len parts in absurd (omega arith)
 no_gap z none _ _ parts (joined rest) = let len = joined_len rest in let same = ap gap_len parts in absurd (omega arith)
-no_gap z none _ _ parts (comment line rest h stops) = let len = comment_len (line ++ rest) in let same = ap gap_len parts in absurd (omega arith)
+no_gap z none _ _ parts (comment line rest h stops) =
+    let len = comment_len (line ++ rest) in let same = ap gap_len parts in absurd (omega arith)

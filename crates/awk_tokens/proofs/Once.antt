@@ -1,9 +1,12 @@
 -- A script is read in one way at most, and not at all where it is refused.
-use Rattle.std.proofs.Common.{◌≡◌, ◌≢◌, ℕ, zero, suc, ◌+◌, ◌<◌, ◌≤◌, Bool, true, false, not, ◌&&◌, ◌||◌, cond, eqb, List, [], ◌∷◌, ◌++◌, length, take, drop, get_or, slice_index, sym, ap, refl, subst, ◌∙◌, ◌⊎◌, inl, inr, arith}
+use Rattle.std.proofs.Common.{◌≡◌, ◌≢◌, ℕ, zero, suc, ◌+◌, ◌<◌, ◌≤◌, Bool, true, false, not, ◌&&◌, ◌||◌, cond, eqb}
+use Rattle.std.proofs.Common.{List, [], ◌∷◌, ◌++◌, length, take, drop, get_or, slice_index, sym, ap, refl, subst, ◌∙◌}
+use Rattle.std.proofs.Common.{◌⊎◌, inl, inr, arith}
 use Rattle.std.specs.Char.{is_ascii_digit}
 use Rattle.std.specs.List.{list_all, prefix_len}
 use Rattle.std.proofs.Math.Seq.{take-append_seam, drop-append_seam}
-use Rattle.std.proofs.lemmas.Bool.{cases_lt, eqb-true, and_parts, both_ways, or_left, or_right, eq-eqb, not_from_true, true≢false}
+use Rattle.std.proofs.lemmas.Bool.{cases_lt, eqb-true, and_parts, both_ways, or_left, or_right, eq-eqb, not_from_true}
+use Rattle.std.proofs.lemmas.Bool.{true≢false}
 use Rattle.std.proofs.lemmas.Bool.Decides.{nat_tests}
 use Rattle.std.proofs.lemmas.List.{append_assoc, append-nil, length-append}
 use Rattle.awk_text.specs.declared.place.Place.{Place}
@@ -13,16 +16,20 @@ use Rattle.awk_tokens.specs.Words.{is_name, word_kind}
 use Rattle.awk_tokens.specs.Strings.{StringEnds}
 use Rattle.awk_tokens.specs.Patterns.{PatternEnds}
 use Rattle.awk_tokens.specs.Tokens.{is_number, IsToken, IsWord, NoLonger, is_whole, IsWhole, IsFirst}
-use Rattle.awk_tokens.specs.Reads.{IsStray, IsGap, blank, joined, comment, ReadsTo, begun, a_gap, a_token, Reads, Stands, stray, open_string, open_pattern, no_whole, point, Refuses, operand_after, token_of}
+use Rattle.awk_tokens.specs.Reads.{IsStray, IsGap, blank, joined, comment, ReadsTo, begun, a_gap, a_token, Reads}
+use Rattle.awk_tokens.specs.Reads.{Stands, stray, open_string, open_pattern, no_whole, point, Refuses, operand_after}
+use Rattle.awk_tokens.specs.Reads.{token_of}
 use Rattle.awk_tokens.specs.Scan.{gap_len, line_len}
 use Rattle.awk_tokens.specs.declared.scan.ErePart.TheVariants.{Outside}
 use Rattle.awk_tokens.specs.declared.token.Token.{Token}
 use Rattle.awk_tokens.specs.declared.kinds.TokenKind.{TokenKind}
-use Rattle.awk_tokens.specs.declared.kinds.TokenKind.TheVariants.{Number, Quoted, Pattern, Keyword, Builtin, Refused, Name, CallName, Sign}
+use Rattle.awk_tokens.specs.declared.kinds.TokenKind.TheVariants.{Number, Quoted, Pattern, Keyword, Builtin, Refused}
+use Rattle.awk_tokens.specs.declared.kinds.TokenKind.TheVariants.{Name, CallName, Sign}
 use Rattle.awk_tokens.proofs.Runs.{prefix_len_all}
 use Rattle.awk_tokens.proofs.SignLemmas.{sign_first}
 use Rattle.awk_tokens.proofs.GapLemmas.{blank_len, joined_len, comment_len}
-use Rattle.awk_tokens.proofs.FirstLemmas.{Family, a_number, a_word, a_string, a_pattern, a_sign, family_of, family_at, family_told, as_string, as_pattern, as_sign, head_is, tail_is}
+use Rattle.awk_tokens.proofs.FirstLemmas.{Family, a_number, a_word, a_string, a_pattern, a_sign, family_of, family_at}
+use Rattle.awk_tokens.proofs.FirstLemmas.{family_told, as_string, as_pattern, as_sign, head_is, tail_is}
 
 -- ---- a separator is no token, and there is one at most
 
@@ -39,8 +46,10 @@ gap_no_name b gap name = grind (arith, nat_tests)
 gap_no_word : (kind : TokenKind) (b : ℕ) (z rest : Text) → begins_gap b ≡ true → IsWord kind (b ∷ z) rest → ⊥
 gap_no_word kind b z rest gap h = gap_no_name b gap (and_parts (begins_name b) (list_all continues_name z) h.0).0
 
-gap_no_token : (operand : Bool) (kind : TokenKind) (b : ℕ) (z rest : Text) → begins_gap b ≡ true → IsToken operand kind (b ∷ z) rest → ⊥
-gap_no_token operand Number b z rest gap h = gap_no_digit b gap (and_parts (is_ascii_digit b) (list_all is_ascii_digit z) h).0
+gap_no_token : (operand : Bool) (kind : TokenKind) (b : ℕ) (z rest : Text) → begins_gap b ≡ true
+    → IsToken operand kind (b ∷ z) rest → ⊥
+gap_no_token operand Number b z rest gap h =
+    gap_no_digit b gap (and_parts (is_ascii_digit b) (list_all is_ascii_digit z) h).0
 gap_no_token operand Quoted b z rest gap h = true≢false (sym gap ∙ ap begins_gap (head_is b 34 z h.0 h.1))
 gap_no_token operand Pattern b z rest gap h = true≢false (sym gap ∙ ap begins_gap (head_is b 47 z h.0 h.1))
 gap_no_token operand Sign b z rest gap h = both_ways (begins_gap b) (sign_first begins_gap refl refl b z h.0) gap
@@ -73,18 +82,27 @@ record GapByte (gap : Text) : Type 0 where
   begins : begins_gap byte ≡ true
 
 gap_byte : (gap rest : Text) → IsGap gap rest → GapByte gap
-gap_byte _ _ (blank b rest h) = record { byte = b; others = []; is = refl; begins = or_left (is_blank b) (eqb b 35 || eqb b 92) h }
+gap_byte _ _ (blank b rest h) = record {
+  byte = b;
+  others = [];
+  is = refl;
+  begins =
+      or_left (is_blank b) (eqb b 35 || eqb b 92) h;
+}
 gap_byte _ _ (joined rest) = record { byte = 92; others = 10 ∷ []; is = refl; begins = refl }
 gap_byte _ _ (comment line rest h stops) = record { byte = 35; others = line; is = refl; begins = refl }
 
-gap_or_token : (operand : Bool) (kind : TokenKind) (gap rest text left : Text) → IsGap gap rest → gap ++ rest ≡ text ++ left → IsToken operand kind text left → ⊥
+gap_or_token : (operand : Bool) (kind : TokenKind) (gap rest text left : Text) → IsGap gap rest
+    → gap ++ rest ≡ text ++ left → IsToken operand kind text left → ⊥
 gap_or_token operand kind gap rest [] left h same token = no_token_empty operand kind left token
 gap_or_token operand kind gap rest (b ∷ text) left h same token =
     let g = gap_byte gap rest h in
     let whole : g.byte ∷ (g.others ++ rest) ≡ b ∷ (text ++ left) = ap (λ w. w ++ rest) (sym g.is) ∙ same in
-    gap_no_token operand kind b text left (ap begins_gap (sym (head_is g.byte b (g.others ++ rest) (text ++ left) whole)) ∙ g.begins) token
+    gap_no_token operand kind b text left
+    (ap begins_gap (sym (head_is g.byte b (g.others ++ rest) (text ++ left) whole)) ∙ g.begins) token
 
-line_is : (line rest : Text) → list_all (λ b. not (eqb b 10)) line ≡ true → (rest ≢ [] → slice_index rest 0 ≡ 10) → line_len (line ++ rest) ≡ length line
+line_is : (line rest : Text) → list_all (λ b. not (eqb b 10)) line ≡ true → (rest ≢ [] → slice_index rest 0 ≡ 10)
+    → line_len (line ++ rest) ≡ length line
 line_is line [] all stops = ap line_len (append-nil line) ∙ all_of line all
   where
     all_of : (w : Text) → list_all (λ b. not (eqb b 10)) w ≡ true → line_len w ≡ length w
@@ -101,17 +119,20 @@ line_is line (b ∷ rest) all stops =
 gap_len_is : (gap rest : Text) → IsGap gap rest → gap_len (gap ++ rest) ≡ length gap
 gap_len_is _ _ (blank b rest h) = blank_len b rest h
 gap_len_is _ _ (joined rest) = joined_len rest
-gap_len_is _ _ (comment line rest h stops) = comment_len (line ++ rest) ∙ ap (λ n. 1 + n) (line_is line rest h stops) ∙ one_up (length line)
+gap_len_is _ _ (comment line rest h stops) = comment_len (line ++ rest) ∙ ap (λ n. 1 + n) (line_is line rest h stops)
+    ∙ one_up (length line)
   where
     one_up : (n : ℕ) → 1 + n ≡ suc n
     one_up n = omega arith
 
 -- two fronts of one text that are as long are the same
 same_front : (x y v w : Text) → x ++ v ≡ y ++ w → length x ≡ length y → x ≡ y
-same_front x y v w same len = sym (take-append_seam x v) ∙ ap (λ n. take n (x ++ v)) len ∙ ap (take (length y)) same ∙ take-append_seam y w
+same_front x y v w same len = sym (take-append_seam x v) ∙ ap (λ n. take n (x ++ v)) len ∙ ap (take (length y)) same
+    ∙ take-append_seam y w
 
 same_rest : (x y v w : Text) → x ++ v ≡ y ++ w → length x ≡ length y → v ≡ w
-same_rest x y v w same len = sym (drop-append_seam x v) ∙ ap (λ n. drop n (x ++ v)) len ∙ ap (drop (length y)) same ∙ drop-append_seam y w
+same_rest x y v w same len = sym (drop-append_seam x v) ∙ ap (λ n. drop n (x ++ v)) len ∙ ap (drop (length y)) same
+    ∙ drop-append_seam y w
 
 gap_lengths : (x y v w : Text) → x ++ v ≡ y ++ w → IsGap x v → IsGap y w → length x ≡ length y
 gap_lengths x y v w same one two = sym (gap_len_is x v one) ∙ ap gap_len same ∙ gap_len_is y w two
@@ -126,7 +147,8 @@ longer (b ∷ x) (c ∷ y) v w same len =
     let inner = longer x y v w (tail_is b c (x ++ v) (y ++ w) same) (omega arith) in
     (inner.0, ap (λ d. d ∷ y) (sym (head_is b c (x ++ v) (y ++ w) same)) ∙ ap (λ u. b ∷ u) inner.1, inner.2)
 
-longest_covers : (operand : Bool) (kind : TokenKind) (x y v w : Text) → x ++ v ≡ y ++ w → NoLonger operand x v → IsToken operand kind y w → length y ≤ length x
+longest_covers : (operand : Bool) (kind : TokenKind) (x y v w : Text) → x ++ v ≡ y ++ w → NoLonger operand x v
+    → IsToken operand kind y w → length y ≤ length x
 longest_covers operand kind x y v w same none token =
     elim (cases_lt (length y) (length x)) [
       | inl less ↦ omega arith
@@ -138,7 +160,8 @@ longest_covers operand kind x y v w same none token =
           omega (arith, length-append x m.0)
     ]
 
-token_lengths : (operand : Bool) (k j : TokenKind) (x y v w : Text) → x ++ v ≡ y ++ w → IsToken operand k x v → NoLonger operand x v → IsToken operand j y w → NoLonger operand y w → length x ≡ length y
+token_lengths : (operand : Bool) (k j : TokenKind) (x y v w : Text) → x ++ v ≡ y ++ w → IsToken operand k x v
+    → NoLonger operand x v → IsToken operand j y w → NoLonger operand y w → length x ≡ length y
 token_lengths operand k j x y v w same one none two other =
     let a = longest_covers operand j x y v w same none two in
     let b = longest_covers operand k y x w v (sym same) other one in
@@ -152,7 +175,8 @@ kind_in a_string text rest = Quoted
 kind_in a_pattern text rest = Pattern
 kind_in a_sign text rest = Sign
 
-kind_is : (operand : Bool) (kind : TokenKind) (text rest : Text) → IsToken operand kind text rest → kind_in (family_of kind) text rest ≡ kind
+kind_is : (operand : Bool) (kind : TokenKind) (text rest : Text) → IsToken operand kind text rest
+    → kind_in (family_of kind) text rest ≡ kind
 kind_is operand Number text rest h = refl
 kind_is operand Quoted text rest h = refl
 kind_is operand Pattern text rest h = refl
@@ -163,19 +187,25 @@ kind_is operand Refused text rest h = h.1
 kind_is operand Name text rest h = h.1
 kind_is operand CallName text rest h = h.1
 
-same_kind : (operand : Bool) (k j : TokenKind) (text rest : Text) → IsToken operand k text rest → IsToken operand j text rest → k ≡ j
+same_kind : (operand : Bool) (k j : TokenKind) (text rest : Text) → IsToken operand k text rest
+    → IsToken operand j text rest → k ≡ j
 same_kind operand k j [] rest one two = absurd (no_token_empty operand k rest one)
 same_kind operand k j (b ∷ text) rest one two =
-    let family : family_of k ≡ family_of j = sym (family_told operand k b text rest one) ∙ family_told operand j b text rest two in
-    sym (kind_is operand k (b ∷ text) rest one) ∙ ap (λ f. kind_in f (b ∷ text) rest) family ∙ kind_is operand j (b ∷ text) rest two
+    let family : family_of k ≡ family_of j = sym (family_told operand k b text rest one) ∙ family_told operand j b text
+    rest two in
+    sym (kind_is operand k (b ∷ text) rest one) ∙ ap (λ f. kind_in f (b ∷ text) rest) family ∙ kind_is operand j
+    (b ∷ text) rest two
 
 -- ---- the reading goes one way
 
 -- the script goes on like this to its end, where these are all its tokens
 data ReadsOn : Text → List Token → Text → List Token → Type 0 where
   all_read : (front : Text) (tokens : List Token) → ReadsOn front tokens [] tokens
-  on_gap : (front gap rest : Text) (tokens all : List Token) → IsGap gap rest → ReadsOn (front ++ gap) tokens rest all → ReadsOn front tokens (gap ++ rest) all
-  on_token : (front text rest : Text) (tokens all : List Token) (kind : TokenKind) → IsFirst (operand_after tokens) kind text rest → ReadsOn (front ++ text) (tokens ++ token_of front kind text ∷ []) rest all
+  on_gap : (front gap rest : Text) (tokens all : List Token) → IsGap gap rest → ReadsOn (front ++ gap) tokens rest all
+      → ReadsOn front tokens (gap ++ rest) all
+  on_token : (front text rest : Text) (tokens all : List Token) (kind : TokenKind)
+      → IsFirst (operand_after tokens) kind text rest
+      → ReadsOn (front ++ text) (tokens ++ token_of front kind text ∷ []) rest all
       → ReadsOn front tokens (text ++ rest) all
 
 no_gap_empty : (gap rest : Text) → IsGap gap rest → [] ≡ gap ++ rest → ⊥
@@ -184,77 +214,103 @@ no_gap_empty gap rest h same =
     let whole : [] ≡ g.byte ∷ (g.others ++ rest) = same ∙ ap (λ w. w ++ rest) g.is in
     absurd cc
 
-no_token_at_end : (operand : Bool) (kind : TokenKind) (text rest : Text) → IsToken operand kind text rest → [] ≡ text ++ rest → ⊥
+no_token_at_end : (operand : Bool) (kind : TokenKind) (text rest : Text) → IsToken operand kind text rest
+    → [] ≡ text ++ rest → ⊥
 no_token_at_end operand kind [] rest h same = no_token_empty operand kind rest h
 no_token_at_end operand kind (b ∷ text) rest h same = absurd cc
 
 -- behind a separator
-past_gap : (front z gap rest : Text) (tokens all : List Token) → ReadsOn front tokens z all → z ≡ gap ++ rest → IsGap gap rest → ReadsOn (front ++ gap) tokens rest all
+past_gap : (front z gap rest : Text) (tokens all : List Token) → ReadsOn front tokens z all → z ≡ gap ++ rest
+    → IsGap gap rest → ReadsOn (front ++ gap) tokens rest all
 past_gap _ _ gap rest _ _ (all_read front tokens) same h = absurd (no_gap_empty gap rest h same)
 past_gap _ _ gap rest _ _ (on_gap front g r tokens all is more) same h =
     let len = gap_lengths g gap r rest same is h in
-    subst (λ w. ReadsOn (front ++ w) tokens rest all) (same_front g gap r rest same len) (subst (λ w. ReadsOn (front ++ g) tokens w all) (same_rest g gap r rest same len) more)
-past_gap _ _ gap rest _ _ (on_token front text r tokens all kind first more) same h = absurd (gap_or_token (operand_after tokens) kind gap rest text r h (sym same) first.token)
+    subst (λ w. ReadsOn (front ++ w) tokens rest all) (same_front g gap r rest same len)
+    (subst (λ w. ReadsOn (front ++ g) tokens w all) (same_rest g gap r rest same len) more)
+past_gap _ _ gap rest _ _ (on_token front text r tokens all kind first more) same h =
+    absurd (gap_or_token (operand_after tokens) kind gap rest text r h (sym same) first.token)
 
 -- behind a token
-past_token : (front z text rest : Text) (tokens all : List Token) (kind : TokenKind) → ReadsOn front tokens z all → z ≡ text ++ rest → IsFirst (operand_after tokens) kind text rest
+past_token : (front z text rest : Text) (tokens all : List Token) (kind : TokenKind) → ReadsOn front tokens z all
+    → z ≡ text ++ rest → IsFirst (operand_after tokens) kind text rest
     → ReadsOn (front ++ text) (tokens ++ token_of front kind text ∷ []) rest all
-past_token _ _ text rest _ _ kind (all_read front tokens) same h = absurd (no_token_at_end (operand_after tokens) kind text rest h.token same)
-past_token _ _ text rest _ _ kind (on_gap front g r tokens all is more) same h = absurd (gap_or_token (operand_after tokens) kind g r text rest is same h.token)
+past_token _ _ text rest _ _ kind (all_read front tokens) same h =
+    absurd (no_token_at_end (operand_after tokens) kind text rest h.token same)
+past_token _ _ text rest _ _ kind (on_gap front g r tokens all is more) same h =
+    absurd (gap_or_token (operand_after tokens) kind g r text rest is same h.token)
 past_token _ _ text rest _ _ kind (on_token front t r tokens all k first more) same h =
     let o = operand_after tokens in
     let len = token_lengths o k kind t text r rest same first.token first.longest h.token h.longest in
     let texts : t ≡ text = same_front t text r rest same len in
     let rests : r ≡ rest = same_rest t text r rest same len in
-    let one : IsToken o k text rest = subst (λ w. IsToken o k text w) rests (subst (λ w. IsToken o k w r) texts first.token) in
+    let one : IsToken o k text rest = subst (λ w. IsToken o k text w) rests
+    (subst (λ w. IsToken o k w r) texts first.token) in
     let kinds : k ≡ kind = same_kind o k kind text rest one h.token in
-    let a : ReadsOn (front ++ text) (tokens ++ token_of front k text ∷ []) r all = subst (λ w. ReadsOn (front ++ w) (tokens ++ token_of front k w ∷ []) r all) texts more in
-    subst (λ j. ReadsOn (front ++ text) (tokens ++ token_of front j text ∷ []) rest all) kinds (subst (λ w. ReadsOn (front ++ text) (tokens ++ token_of front k text ∷ []) w all) rests a)
+    let a : ReadsOn (front ++ text) (tokens ++ token_of front k text ∷ []) r all =
+    subst (λ w. ReadsOn (front ++ w) (tokens ++ token_of front k w ∷ []) r all) texts more in
+    subst (λ j. ReadsOn (front ++ text) (tokens ++ token_of front j text ∷ []) rest all) kinds
+    (subst (λ w. ReadsOn (front ++ text) (tokens ++ token_of front k text ∷ []) w all) rests a)
 
 -- what is read of a script stands on the way to its end
-follow : (script front rest : Text) (tokens all : List Token) → ReadsTo front tokens rest → script ≡ front ++ rest → ReadsOn [] [] script all → ReadsOn front tokens rest all
+follow : (script front rest : Text) (tokens all : List Token) → ReadsTo front tokens rest → script ≡ front ++ rest
+    → ReadsOn [] [] script all → ReadsOn front tokens rest all
 follow script _ _ _ all (begun z) same on = subst (λ w. ReadsOn [] [] w all) same on
 follow script _ _ _ all (a_gap front gap rest tokens before h) same on =
-    past_gap front (gap ++ rest) gap rest tokens all (follow script front (gap ++ rest) tokens all before (same ∙ append_assoc front gap rest) on) refl h
+    past_gap front (gap ++ rest) gap rest tokens all (follow script front (gap ++ rest) tokens all before
+    (same ∙ append_assoc front gap rest) on) refl h
 follow script _ _ _ all (a_token front text rest tokens kind before h) same on =
-    past_token front (text ++ rest) text rest tokens all kind (follow script front (text ++ rest) tokens all before (same ∙ append_assoc front text rest) on) refl h
+    past_token front (text ++ rest) text rest tokens all kind (follow script front (text ++ rest) tokens all before
+    (same ∙ append_assoc front text rest) on) refl h
 
 -- the way from the start of a script
-way : (front rest : Text) (tokens all : List Token) → ReadsTo front tokens rest → ReadsOn front tokens rest all → ReadsOn [] [] (front ++ rest) all
+way : (front rest : Text) (tokens all : List Token) → ReadsTo front tokens rest → ReadsOn front tokens rest all
+    → ReadsOn [] [] (front ++ rest) all
 way _ _ _ all (begun z) on = on
 way _ _ _ all (a_gap front gap rest tokens before h) on =
-    subst (λ w. ReadsOn [] [] w all) (sym (append_assoc front gap rest)) (way front (gap ++ rest) tokens all before (on_gap front gap rest tokens all h on))
+    subst (λ w. ReadsOn [] [] w all) (sym (append_assoc front gap rest)) (way front (gap ++ rest) tokens all before
+    (on_gap front gap rest tokens all h on))
 way _ _ _ all (a_token front text rest tokens kind before h) on =
-    subst (λ w. ReadsOn [] [] w all) (sym (append_assoc front text rest)) (way front (text ++ rest) tokens all before (on_token front text rest tokens all kind h on))
+    subst (λ w. ReadsOn [] [] w all) (sym (append_assoc front text rest)) (way front (text ++ rest) tokens all before
+    (on_token front text rest tokens all kind h on))
 
 way_of : (script : Text) (tokens : List Token) → Reads script tokens → ReadsOn [] [] script tokens
-way_of script tokens h = subst (λ w. ReadsOn [] [] w tokens) (append-nil script) (way script [] tokens tokens h (all_read script tokens))
+way_of script tokens h = subst (λ w. ReadsOn [] [] w tokens) (append-nil script)
+    (way script [] tokens tokens h (all_read script tokens))
 
 at_its_end : (front z : Text) (tokens all : List Token) → ReadsOn front tokens z all → z ≡ [] → all ≡ tokens
 at_its_end _ _ _ _ (all_read front tokens) same = refl
 at_its_end _ _ _ _ (on_gap front g r tokens all is more) same = absurd (no_gap_empty g r is (sym same))
-at_its_end _ _ _ _ (on_token front t r tokens all kind first more) same = absurd (no_token_at_end (operand_after tokens) kind t r first.token (sym same))
+at_its_end _ _ _ _ (on_token front t r tokens all kind first more) same =
+    absurd (no_token_at_end (operand_after tokens) kind t r first.token (sym same))
 
 -- two readings of one script are the same
-pub read_once : (script : Text) (tokens others : List Token) → Reads script tokens → Reads script others → others ≡ tokens
+pub read_once : (script : Text) (tokens others : List Token) → Reads script tokens → Reads script others
+    → others ≡ tokens
 read_once script tokens others one two =
-    at_its_end script [] tokens others (follow script script [] tokens others one (sym (append-nil script)) (way_of script others two)) refl
+    at_its_end script [] tokens others (follow script script [] tokens others one (sym (append-nil script))
+    (way_of script others two)) refl
 
 -- ---- where a refusal stands nothing can be read
 
-stray_no_word : (kind : TokenKind) (z : Text) (b : ℕ) (text rest : Text) → IsStray z → z ≡ b ∷ (text ++ rest) → IsWord kind (b ∷ text) rest → ⊥
+stray_no_word : (kind : TokenKind) (z : Text) (b : ℕ) (text rest : Text) → IsStray z → z ≡ b ∷ (text ++ rest)
+    → IsWord kind (b ∷ text) rest → ⊥
 stray_no_word kind z b text rest s same h =
-    both_ways (begins_name b) (ap (λ w. begins_name (slice_index w 0)) (sym same) ∙ s.no_name) (and_parts (begins_name b) (list_all continues_name text) h.0).0
+    both_ways (begins_name b) (ap (λ w. begins_name (slice_index w 0)) (sym same) ∙ s.no_name)
+    (and_parts (begins_name b) (list_all continues_name text) h.0).0
 
-stray_no_token : (operand : Bool) (kind : TokenKind) (z text rest : Text) → IsStray z → z ≡ text ++ rest → IsToken operand kind text rest → ⊥
+stray_no_token : (operand : Bool) (kind : TokenKind) (z text rest : Text) → IsStray z → z ≡ text ++ rest
+    → IsToken operand kind text rest → ⊥
 stray_no_token operand kind z [] rest s same h = no_token_empty operand kind rest h
 stray_no_token operand Number z (b ∷ text) rest s same h =
-    both_ways (is_ascii_digit b) (ap (λ w. is_ascii_digit (slice_index w 0)) (sym same) ∙ s.no_number) (and_parts (is_ascii_digit b) (list_all is_ascii_digit text) h).0
-stray_no_token operand Quoted z (b ∷ text) rest s same h = s.no_string (ap (λ w. slice_index w 0) same ∙ head_is b 34 text h.0 h.1)
+    both_ways (is_ascii_digit b) (ap (λ w. is_ascii_digit (slice_index w 0)) (sym same) ∙ s.no_number)
+    (and_parts (is_ascii_digit b) (list_all is_ascii_digit text) h).0
+stray_no_token operand Quoted z (b ∷ text) rest s same h =
+    s.no_string (ap (λ w. slice_index w 0) same ∙ head_is b 34 text h.0 h.1)
 stray_no_token operand Pattern z (b ∷ text) rest s same h =
     let is : z ≡ (47 ∷ []) ++ (text ++ rest) = same ∙ ap (λ c. c ∷ (text ++ rest)) (head_is b 47 text h.0 h.1) in
     true≢false (s.no_sign (47 ∷ []) (text ++ rest) is)
-stray_no_token operand Sign z (b ∷ text) rest s same h = both_ways (is_sign (b ∷ text)) (s.no_sign (b ∷ text) rest same) h.0
+stray_no_token operand Sign z (b ∷ text) rest s same h = both_ways (is_sign (b ∷ text)) (s.no_sign (b ∷ text) rest same)
+    h.0
 stray_no_token operand Keyword z (b ∷ text) rest s same h = stray_no_word Keyword z b text rest s same h
 stray_no_token operand Builtin z (b ∷ text) rest s same h = stray_no_word Builtin z b text rest s same h
 stray_no_token operand Refused z (b ∷ text) rest s same h = stray_no_word Refused z b text rest s same h
@@ -268,30 +324,38 @@ gap_not p z gap rest not_gap h same =
     let whole : p ∷ z ≡ g.byte ∷ (g.others ++ rest) = same ∙ ap (λ w. w ++ rest) g.is in
     both_ways (begins_gap p) not_gap (ap begins_gap (head_is p g.byte z (g.others ++ rest) whole) ∙ g.begins)
 
-stands_no_gap : (operand : Bool) (code : ℕ) (z gap rest : Text) → Stands operand code z → z ≡ gap ++ rest → IsGap gap rest → ⊥
+stands_no_gap : (operand : Bool) (code : ℕ) (z gap rest : Text) → Stands operand code z → z ≡ gap ++ rest
+    → IsGap gap rest → ⊥
 stands_no_gap _ _ _ gap rest (stray operand z s) same h = s.no_gap gap rest same h
 stands_no_gap _ _ _ gap rest (open_string operand z open_here) same h = gap_not 34 z gap rest refl h same
 stands_no_gap _ _ _ gap rest (open_pattern z open_here) same h = gap_not 47 z gap rest refl h same
-stands_no_gap _ _ _ gap rest (no_whole operand text left token none whole) same h = gap_or_token operand Number gap rest text left h (sym same) token
+stands_no_gap _ _ _ gap rest (no_whole operand text left token none whole) same h =
+    gap_or_token operand Number gap rest text left h (sym same) token
 stands_no_gap _ _ _ gap rest (point operand b z digit) same h = gap_not 46 (b ∷ z) gap rest refl h same
 
-string_told : (operand : Bool) (kind : TokenKind) (z text rest : Text) → 34 ∷ z ≡ text ++ rest → IsToken operand kind text rest → StringEnds z rest
+string_told : (operand : Bool) (kind : TokenKind) (z text rest : Text) → 34 ∷ z ≡ text ++ rest
+    → IsToken operand kind text rest → StringEnds z rest
 string_told operand kind z [] rest same h = absurd (no_token_empty operand kind rest h)
 string_told operand kind z (b ∷ text) rest same h =
     let is34 : b ≡ 34 = sym (head_is 34 b z (text ++ rest) same) in
-    let family : family_of kind ≡ a_string = sym (family_told operand kind b text rest h) ∙ ap (family_at operand) is34 in
+    let family : family_of kind ≡ a_string = sym (family_told operand kind b text rest h) ∙ ap (family_at operand) is34
+    in
     let q = as_string operand kind (b ∷ text) rest family h in
-    subst (λ w. StringEnds w rest) (ap (λ w. w ++ rest) (sym (tail_is b 34 text q.0 q.1)) ∙ sym (tail_is 34 b z (text ++ rest) same)) q.2
+    subst (λ w. StringEnds w rest) (ap (λ w. w ++ rest) (sym (tail_is b 34 text q.0 q.1))
+    ∙ sym (tail_is 34 b z (text ++ rest) same)) q.2
 
-pattern_told : (kind : TokenKind) (z text rest : Text) → 47 ∷ z ≡ text ++ rest → IsToken true kind text rest → PatternEnds Outside z rest
+pattern_told : (kind : TokenKind) (z text rest : Text) → 47 ∷ z ≡ text ++ rest → IsToken true kind text rest
+    → PatternEnds Outside z rest
 pattern_told kind z [] rest same h = absurd (no_token_empty true kind rest h)
 pattern_told kind z (b ∷ text) rest same h =
     let is47 : b ≡ 47 = sym (head_is 47 b z (text ++ rest) same) in
     let family : family_of kind ≡ a_pattern = sym (family_told true kind b text rest h) ∙ ap (family_at true) is47 in
     let q = as_pattern true kind (b ∷ text) rest family h in
-    subst (λ w. PatternEnds Outside w rest) (ap (λ w. w ++ rest) (sym (tail_is b 47 text q.0 q.1)) ∙ sym (tail_is 47 b z (text ++ rest) same)) q.3
+    subst (λ w. PatternEnds Outside w rest) (ap (λ w. w ++ rest) (sym (tail_is b 47 text q.0 q.1))
+    ∙ sym (tail_is 47 b z (text ++ rest) same)) q.3
 
-point_no_token : (operand : Bool) (kind : TokenKind) (z text rest : Text) → 46 ∷ z ≡ text ++ rest → IsToken operand kind text rest → ⊥
+point_no_token : (operand : Bool) (kind : TokenKind) (z text rest : Text) → 46 ∷ z ≡ text ++ rest
+    → IsToken operand kind text rest → ⊥
 point_no_token operand kind z [] rest same h = no_token_empty operand kind rest h
 point_no_token operand kind z (b ∷ text) rest same h =
     let is46 : b ≡ 46 = sym (head_is 46 b z (text ++ rest) same) in
@@ -299,10 +363,13 @@ point_no_token operand kind z (b ∷ text) rest same h =
     let sign_is = as_sign operand kind (b ∷ text) rest family h in
     both_ways (eqb b 46) (sign_first (λ c. eqb c 46) refl refl b text sign_is) (eq-eqb b 46 is46)
 
-stands_no_token : (operand : Bool) (code : ℕ) (kind : TokenKind) (z text rest : Text) → Stands operand code z → z ≡ text ++ rest → IsFirst operand kind text rest → ⊥
+stands_no_token : (operand : Bool) (code : ℕ) (kind : TokenKind) (z text rest : Text) → Stands operand code z
+    → z ≡ text ++ rest → IsFirst operand kind text rest → ⊥
 stands_no_token _ _ kind _ text rest (stray operand z s) same h = stray_no_token operand kind z text rest s same h.token
-stands_no_token _ _ kind _ text rest (open_string operand z open_here) same h = open_here rest (string_told operand kind z text rest same h.token)
-stands_no_token _ _ kind _ text rest (open_pattern z open_here) same h = open_here rest (pattern_told kind z text rest same h.token)
+stands_no_token _ _ kind _ text rest (open_string operand z open_here) same h =
+    open_here rest (string_told operand kind z text rest same h.token)
+stands_no_token _ _ kind _ text rest (open_pattern z open_here) same h =
+    open_here rest (pattern_told kind z text rest same h.token)
 stands_no_token _ _ kind _ text rest (no_whole operand t r token none whole) same h =
     let len = token_lengths operand Number kind t text r rest same token none h.token h.longest in
     let texts : t ≡ text = same_front t text r rest same len in
@@ -311,21 +378,29 @@ stands_no_token _ _ kind _ text rest (no_whole operand t r token none whole) sam
     let kinds : Number ≡ kind = same_kind operand Number kind text rest one h.token in
     let is : IsWhole Number text rest = subst (λ k. IsWhole k text rest) (sym kinds) h.whole in
     both_ways (is_whole text rest) (ap (λ w. is_whole w rest) (sym texts) ∙ ap (is_whole t) (sym rests) ∙ whole) is
-stands_no_token _ _ kind _ text rest (point operand b z digit) same h = point_no_token operand kind (b ∷ z) text rest same h.token
+stands_no_token _ _ kind _ text rest (point operand b z digit) same h = point_no_token operand kind (b ∷ z) text rest
+    same h.token
 
 stands_not_at_end : (operand : Bool) (code : ℕ) (z : Text) → Stands operand code z → z ≡ [] → ⊥
 stands_not_at_end _ _ _ (stray operand z s) same = s.byte same
 stands_not_at_end _ _ _ (open_string operand z open_here) same = absurd cc
 stands_not_at_end _ _ _ (open_pattern z open_here) same = absurd cc
-stands_not_at_end _ _ _ (no_whole operand text rest token none whole) same = no_token_at_end operand Number text rest token (sym same)
+stands_not_at_end _ _ _ (no_whole operand text rest token none whole) same =
+    no_token_at_end operand Number text rest token (sym same)
 stands_not_at_end _ _ _ (point operand b z digit) same = absurd cc
 
-no_way_on : (front z : Text) (tokens all : List Token) (code : ℕ) → ReadsOn front tokens z all → Stands (operand_after tokens) code z → ⊥
+no_way_on : (front z : Text) (tokens all : List Token) (code : ℕ) → ReadsOn front tokens z all
+    → Stands (operand_after tokens) code z → ⊥
 no_way_on _ _ _ _ code (all_read front tokens) stands = stands_not_at_end (operand_after tokens) code [] stands refl
-no_way_on _ _ _ _ code (on_gap front gap rest tokens all is more) stands = stands_no_gap (operand_after tokens) code (gap ++ rest) gap rest stands refl is
-no_way_on _ _ _ _ code (on_token front text rest tokens all kind first more) stands = stands_no_token (operand_after tokens) code kind (text ++ rest) text rest stands refl first
+no_way_on _ _ _ _ code (on_gap front gap rest tokens all is more) stands = stands_no_gap (operand_after tokens) code
+    (gap ++ rest) gap rest stands refl is
+no_way_on _ _ _ _ code (on_token front text rest tokens all kind first more) stands =
+    stands_no_token (operand_after tokens) code kind (text ++ rest) text rest stands refl first
 
 -- a script that is refused has no reading
-pub refused_unread : (script : Text) (code : ℕ) (place : Place) (tokens : List Token) → Refuses script code place → Reads script tokens → ⊥
+pub refused_unread : (script : Text) (code : ℕ) (place : Place) (tokens : List Token) → Refuses script code place
+    → Reads script tokens → ⊥
 refused_unread script code place tokens refused read =
-    no_way_on refused.front refused.rest refused.tokens tokens code (follow script refused.front refused.rest refused.tokens tokens refused.read refused.parts (way_of script tokens read)) refused.stands
+    no_way_on refused.front refused.rest refused.tokens tokens code
+    (follow script refused.front refused.rest refused.tokens tokens refused.read refused.parts
+    (way_of script tokens read)) refused.stands

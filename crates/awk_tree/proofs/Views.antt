@@ -26,7 +26,8 @@ use Rattle.awk_tree.specs.declared.statements.Statement.TheVariants as s
 use Rattle.awk_tree.specs.declared.statements.Statement.TheOpen.{Statement-F}
 use Rattle.awk_tree.specs.Tree as t
 use Rattle.awk_tree.specs.Tree.{Text, Tree, trees_of, perhaps_of, terms_of, pipes_of, Statement, statements_of}
-use Rattle.awk_tree.specs.View.{view_step, view, view_term, view_piped, view_printed, view_redirection, statement_step, view_statement}
+use Rattle.awk_tree.specs.View.{view_step, view, view_term, view_piped, view_printed, view_redirection, statement_step}
+use Rattle.awk_tree.specs.View.{view_statement}
 
 -- ---- expressions
 
@@ -37,7 +38,8 @@ opened : (d : Expr-F Expr) (x : Expr) → roll-Expr d ≡ x → view x ≡ layer
 unfolding view layer
 opened d x rolls = ap view (sym rolls) ∙ fold-roll-Expr Tree view_step d
 
-one_piped : (p : Place) (o : Option Expr) → shapes.map Expr Tree view (record { place = p; target = o }) ≡ record { place = p; target = option_map view o }
+one_piped : (p : Place) (o : Option Expr) → shapes.map Expr Tree view (record { place = p; target = o })
+    ≡ record { place = p; target = option_map view o }
 one_piped p None = refl
 one_piped p (Some x) = refl
 
@@ -77,7 +79,8 @@ pub view-Call : (n : Name) (xs : List Expr) → view (e.Call n xs) ≡ t.call n 
 unfolding layer
 view-Call n xs = opened _ _ (e.rolls-Call n xs)
 
-pub view-Builtin : (p : Place) (b : Builtin) (xs : List Expr) → view (e.Builtin p b xs) ≡ t.builtin p b (trees_of (map view xs))
+pub view-Builtin : (p : Place) (b : Builtin) (xs : List Expr)
+    → view (e.Builtin p b xs) ≡ t.builtin p b (trees_of (map view xs))
 unfolding layer
 view-Builtin p b xs = opened _ _ (e.rolls-Builtin p b xs)
 
@@ -85,17 +88,20 @@ pub view-Length : (p : Place) → view (e.Length p) ≡ t.bare_length p
 unfolding layer
 view-Length p = opened _ _ (e.rolls-Length p)
 
-pub view-Split : (p : Place) (x : Expr) (n : Name) (y : Option Expr) → view (e.Split p x n y) ≡ t.split p (view x) n (perhaps_of (option_map view y))
+pub view-Split : (p : Place) (x : Expr) (n : Name) (y : Option Expr) → view (e.Split p x n y) ≡ t.split p (view x) n
+    (perhaps_of (option_map view y))
 unfolding layer
 view-Split p x n None = opened _ _ (e.rolls-Split p x n None)
 view-Split p x n (Some y) = opened _ _ (e.rolls-Split p x n (Some y))
 
-pub view-Substitute : (p : Place) (all : Bool) (x : Expr) (y : Expr) (z : Option Expr) → view (e.Substitute p all x y z) ≡ t.substitute p all (view x) (view y) (perhaps_of (option_map view z))
+pub view-Substitute : (p : Place) (all : Bool) (x : Expr) (y : Expr) (z : Option Expr) → view (e.Substitute p all x y z)
+    ≡ t.substitute p all (view x) (view y) (perhaps_of (option_map view z))
 unfolding layer
 view-Substitute p all x y None = opened _ _ (e.rolls-Substitute p all x y None)
 view-Substitute p all x y (Some z) = opened _ _ (e.rolls-Substitute p all x y (Some z))
 
-pub view-Getline : (p : Place) (x : Option Expr) (y : Option Expr) → view (e.Getline p x y) ≡ t.getline p (perhaps_of (option_map view x)) (perhaps_of (option_map view y))
+pub view-Getline : (p : Place) (x : Option Expr) (y : Option Expr)
+    → view (e.Getline p x y) ≡ t.getline p (perhaps_of (option_map view x)) (perhaps_of (option_map view y))
 unfolding layer
 view-Getline p None None = opened _ _ (e.rolls-Getline p None None)
 view-Getline p None (Some y) = opened _ _ (e.rolls-Getline p None (Some y))
@@ -118,7 +124,8 @@ pub view-Power : (x : Expr) (p : Place) (y : Expr) → view (e.Power x p y) ≡ 
 unfolding layer
 view-Power x p y = opened _ _ (e.rolls-Power x p y)
 
-pub view-Product : (x : Expr) (ts : List (Term Expr)) → view (e.Product x ts) ≡ t.product (view x) (terms_of (map view_term ts))
+pub view-Product : (x : Expr) (ts : List (Term Expr))
+    → view (e.Product x ts) ≡ t.product (view x) (terms_of (map view_term ts))
 unfolding layer
 view-Product x ts = opened _ _ (e.rolls-Product x ts)
 
@@ -130,19 +137,23 @@ pub view-Concat : (x : Expr) (xs : List Expr) → view (e.Concat x xs) ≡ t.con
 unfolding layer
 view-Concat x xs = opened _ _ (e.rolls-Concat x xs)
 
-pub view-Pipe : (x : Expr) (ps : List (Piped Expr)) → view (e.Pipe x ps) ≡ t.pipe (view x) (pipes_of (map view_piped ps))
+pub view-Pipe : (x : Expr) (ps : List (Piped Expr))
+    → view (e.Pipe x ps) ≡ t.pipe (view x) (pipes_of (map view_piped ps))
 unfolding layer
 view-Pipe x ps = opened _ _ (e.rolls-Pipe x ps) ∙ ap (λ qs. t.pipe (view x) (pipes_of qs)) (pipes_layer ps)
 
-pub view-Compare : (x : Expr) (p : Place) (c : Comparison) (y : Expr) → view (e.Compare x p c y) ≡ t.compare (view x) p c (view y)
+pub view-Compare : (x : Expr) (p : Place) (c : Comparison) (y : Expr)
+    → view (e.Compare x p c y) ≡ t.compare (view x) p c (view y)
 unfolding layer
 view-Compare x p c y = opened _ _ (e.rolls-Compare x p c y)
 
-pub view-Match : (x : Expr) (p : Place) (unlike : Bool) (y : Expr) → view (e.Match x p unlike y) ≡ t.matched (view x) p unlike (view y)
+pub view-Match : (x : Expr) (p : Place) (unlike : Bool) (y : Expr) → view (e.Match x p unlike y)
+    ≡ t.matched (view x) p unlike (view y)
 unfolding layer
 view-Match x p unlike y = opened _ _ (e.rolls-Match x p unlike y)
 
-pub view-Group : (p : Place) (xs : List Expr) (ms : List Member) → view (e.Group p xs ms) ≡ t.group p (trees_of (map view xs)) ms
+pub view-Group : (p : Place) (xs : List Expr) (ms : List Member)
+    → view (e.Group p xs ms) ≡ t.group p (trees_of (map view xs)) ms
 unfolding layer
 view-Group p xs ms = opened _ _ (e.rolls-Group p xs ms)
 
@@ -162,7 +173,8 @@ pub view-Choice : (x : Expr) (y : Expr) (z : Expr) → view (e.Choice x y z) ≡
 unfolding layer
 view-Choice x y z = opened _ _ (e.rolls-Choice x y z)
 
-pub view-Assign : (x : Expr) (p : Place) (a : Assignment) (y : Expr) → view (e.Assign x p a y) ≡ t.assign (view x) p a (view y)
+pub view-Assign : (x : Expr) (p : Place) (a : Assignment) (y : Expr) → view (e.Assign x p a y) ≡ t.assign (view x) p a
+    (view y)
 unfolding layer
 view-Assign x p a y = opened _ _ (e.rolls-Assign x p a y)
 
@@ -171,7 +183,8 @@ view-Assign x p a y = opened _ _ (e.rolls-Assign x p a y)
 statement_layer : Statement-F code.Statement → Statement
 statement_layer d = statement_step (map-Statement code.Statement Statement view_statement d)
 
-statement_opened : (d : Statement-F code.Statement) (x : code.Statement) → roll-Statement d ≡ x → view_statement x ≡ statement_layer d
+statement_opened : (d : Statement-F code.Statement) (x : code.Statement) → roll-Statement d ≡ x
+    → view_statement x ≡ statement_layer d
 unfolding view_statement statement_layer
 statement_opened d x rolls = ap view_statement (sym rolls) ∙ fold-roll-Statement Statement statement_step d
 
@@ -183,11 +196,13 @@ pub statement-Expr : (x : Expr) → view_statement (s.Expr x) ≡ t.plain (view 
 unfolding statement_layer
 statement-Expr x = statement_opened _ _ (s.rolls-Expr x)
 
-pub statement-Print : (p : Place) (x : Printed Expr) (r : Option (Redirection Expr)) → view_statement (s.Print p x r) ≡ t.print p (view_printed x) (option_map view_redirection r)
+pub statement-Print : (p : Place) (x : Printed Expr) (r : Option (Redirection Expr)) → view_statement (s.Print p x r)
+    ≡ t.print p (view_printed x) (option_map view_redirection r)
 unfolding statement_layer
 statement-Print p x r = statement_opened _ _ (s.rolls-Print p x r)
 
-pub statement-Printf : (p : Place) (x : Printed Expr) (r : Option (Redirection Expr)) → view_statement (s.Printf p x r) ≡ t.printf p (view_printed x) (option_map view_redirection r)
+pub statement-Printf : (p : Place) (x : Printed Expr) (r : Option (Redirection Expr)) → view_statement (s.Printf p x r)
+    ≡ t.printf p (view_printed x) (option_map view_redirection r)
 unfolding statement_layer
 statement-Printf p x r = statement_opened _ _ (s.rolls-Printf p x r)
 
@@ -211,7 +226,8 @@ pub statement-Return : (p : Place) (x : Option Expr) → view_statement (s.Retur
 unfolding statement_layer
 statement-Return p x = statement_opened _ _ (s.rolls-Return p x)
 
-pub statement-Block : (xs : List code.Statement) → view_statement (s.Block xs) ≡ t.block (statements_of (map view_statement xs))
+pub statement-Block : (xs : List code.Statement) → view_statement (s.Block xs)
+    ≡ t.block (statements_of (map view_statement xs))
 unfolding statement_layer
 statement-Block xs = statement_opened _ _ (s.rolls-Block xs)
 
@@ -219,11 +235,13 @@ pub statement-If : (x : Expr) (b : code.Statement) → view_statement (s.If x b)
 unfolding statement_layer
 statement-If x b = statement_opened _ _ (s.rolls-If x b)
 
-pub statement-IfElse : (x : Expr) (b : code.Statement) (u : code.Statement) → view_statement (s.IfElse x b u) ≡ t.if_else (view x) (view_statement b) (view_statement u)
+pub statement-IfElse : (x : Expr) (b : code.Statement) (u : code.Statement) → view_statement (s.IfElse x b u)
+    ≡ t.if_else (view x) (view_statement b) (view_statement u)
 unfolding statement_layer
 statement-IfElse x b u = statement_opened _ _ (s.rolls-IfElse x b u)
 
-pub statement-While : (x : Expr) (b : code.Statement) → view_statement (s.While x b) ≡ t.while_do (view x) (view_statement b)
+pub statement-While : (x : Expr) (b : code.Statement) → view_statement (s.While x b) ≡ t.while_do (view x)
+    (view_statement b)
 unfolding statement_layer
 statement-While x b = statement_opened _ _ (s.rolls-While x b)
 
@@ -231,14 +249,64 @@ pub statement-Do : (b : code.Statement) (x : Expr) → view_statement (s.Do b x)
 unfolding statement_layer
 statement-Do b x = statement_opened _ _ (s.rolls-Do b x)
 
-pub statement-For : (x : Option Expr) (y : Option Expr) (z : Option Expr) (b : code.Statement) → view_statement (s.For x y z b) ≡ t.for_loop (option_map view x) (option_map view y) (option_map view z) (view_statement b)
+pub statement-For : (x : Option Expr) (y : Option Expr) (z : Option Expr) (b : code.Statement)
+    → view_statement (s.For x y z b) ≡ t.for_loop (option_map view x) (option_map view y) (option_map view z)
+    (view_statement b)
 unfolding statement_layer
 statement-For x y z b = statement_opened _ _ (s.rolls-For x y z b)
 
-pub statement-ForIn : (p : Place) (k : Name) (a : Name) (b : code.Statement) → view_statement (s.ForIn p k a b) ≡ t.for_each p k a (view_statement b)
+pub statement-ForIn : (p : Place) (k : Name) (a : Name) (b : code.Statement) → view_statement (s.ForIn p k a b)
+    ≡ t.for_each p k a (view_statement b)
 unfolding statement_layer
 statement-ForIn p k a b = statement_opened _ _ (s.rolls-ForIn p k a b)
 
-pub ruleset views = (view-Number, view-Quoted, view-Pattern, view-Name, view-Element, view-Field, view-Paren, view-Call, view-Builtin, view-Length, view-Split, view-Substitute, view-Getline, view-Before, view-After, view-Signed, view-Power, view-Product, view-Sum, view-Concat, view-Pipe, view-Compare, view-Match, view-Group, view-In, view-And, view-Or, view-Choice, view-Assign)
+pub ruleset views = (
+  view-Number,
+  view-Quoted,
+  view-Pattern,
+  view-Name,
+  view-Element,
+  view-Field,
+  view-Paren,
+  view-Call,
+  view-Builtin,
+  view-Length,
+  view-Split,
+  view-Substitute,
+  view-Getline,
+  view-Before,
+  view-After,
+  view-Signed,
+  view-Power,
+  view-Product,
+  view-Sum,
+  view-Concat,
+  view-Pipe,
+  view-Compare,
+  view-Match,
+  view-Group,
+  view-In,
+  view-And,
+  view-Or,
+  view-Choice,
+  view-Assign,
+)
 
-pub ruleset statement_views = (statement-Empty, statement-Expr, statement-Print, statement-Printf, statement-Delete, statement-DeleteAll, statement-Jump, statement-Exit, statement-Return, statement-Block, statement-If, statement-IfElse, statement-While, statement-Do, statement-For, statement-ForIn)
+pub ruleset statement_views = (
+  statement-Empty,
+  statement-Expr,
+  statement-Print,
+  statement-Printf,
+  statement-Delete,
+  statement-DeleteAll,
+  statement-Jump,
+  statement-Exit,
+  statement-Return,
+  statement-Block,
+  statement-If,
+  statement-IfElse,
+  statement-While,
+  statement-Do,
+  statement-For,
+  statement-ForIn,
+)

@@ -7,7 +7,9 @@ use Rattle.awk_builtins.proofs.arrays.count.Goals as goal
 
 pub returns-in-Ok : goal.returns-in-Ok
 returns-in-Ok c = λ g t.
-    rw (to_z-of_z w64 c.in-Ok.count (search rules)) (done (counts_so g (c.args.store.now, t) c.args.array c.in-Ok.count (c.in-Ok.ensures.1 ∙ ap pos c.element_count.ensures)))
+    rw (to_z-of_z w64 c.in-Ok.count (search rules))
+    (done (counts_so g (c.args.store.now, t) c.args.array c.in-Ok.count
+    (c.in-Ok.ensures.1 ∙ ap pos c.element_count.ensures)))
 
 pub returns-in-Err : goal.returns-in-Err
 returns-in-Err c = λ g t. lacking refl

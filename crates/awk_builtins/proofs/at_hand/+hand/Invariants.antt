@@ -19,7 +19,9 @@ invariant-chain_at_hand-loop-next l = record {
   val : Value;
   number : number_of val ≡ Ok l.so_far;
   exact : 1 ≤ l.next-index → val ≡ v.Num l.so_far;
-  along : (g : Given) (t : Table) → Passes g (value (p.chain (view (names_in g) l.x) (terms_of (map (view_term (names_in g)) l.xs)))) (l.store, t) (waiting g (l.store, t) l.xs l.next-index val) (l.store, t);
+  along : (g : Given) (t : Table)
+      → Passes g (value (p.chain (view (names_in g) l.x) (terms_of (map (view_term (names_in g)) l.xs)))) (l.store, t)
+      (waiting g (l.store, t) l.xs l.next-index val) (l.store, t);
 }
 
 abbrev pub decreases-target_at_hand : goal.decreases-target_at_hand

@@ -11,4 +11,5 @@ returns-in-Toupper c = rw c.in-Toupper.is c.cased_there-in-Toupper.ensures
 
 pub returns-in_ok-value-in_default : goal.returns-in_ok-value-in_default
 returns-in_ok-value-in_default c =
-    some_for {P = λ new. new ≡ lent_value c.in_ok-value-in_default.value} c.owned.result (λ new is q g t. rw is (c.in_ok-value-in_default.ensures q g t)) c.owned.ensures
+    some_for {P = λ new. new ≡ lent_value c.in_ok-value-in_default.value} c.owned.result
+    (λ new is q g t. rw is (c.in_ok-value-in_default.ensures q g t)) c.owned.ensures

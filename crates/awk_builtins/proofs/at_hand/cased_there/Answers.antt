@@ -15,11 +15,18 @@ use Rattle.awk_builtins.proofs.Rests.{just_one, ok_some}
 use Rattle.awk_builtins.proofs.MadeThere.{one_there}
 use Rattle.awk_builtins.proofs.at_hand.cased_there.Goals as goal
 
-case_is : (upper : Bool) (q : Place) (a : Value) (s : State) → effect q (case_of upper) (a ∷ []) s ≡ gives (v.Text (to_case upper (text_of a)))
+case_is : (upper : Bool) (q : Place) (a : Value) (s : State) → effect q (case_of upper) (a ∷ []) s
+    ≡ gives (v.Text (to_case upper (text_of a)))
 case_is false q a s = refl
 case_is true q a s = refl
 
 pub returns : goal.returns
 returns c =
-    rw (c.ok.ensures.value, just_one c.args.args.now c.x-item.result c.in-len1.len_at_least c.in-len1.len_below c.x-item.is)
-    (ok_some c.cased.result (λ new is q g t. rw is (one_there g (c.args.store.now, t) q (case_of c.args.upper) (view (names_in g) c.x-item.result) (lent_value c.in_ok-text.text) _ (c.in_ok-text.ensures g t) (case_is c.args.upper q (lent_value c.in_ok-text.text)))) c.cased.ensures.ok)
+    rw (
+      c.ok.ensures.value,
+      just_one c.args.args.now c.x-item.result c.in-len1.len_at_least c.in-len1.len_below
+          c.x-item.is,
+    )
+    (ok_some c.cased.result (λ new is q g t. rw is (one_there g (c.args.store.now, t) q (case_of c.args.upper)
+    (view (names_in g) c.x-item.result) (lent_value c.in_ok-text.text) _ (c.in_ok-text.ensures g t)
+    (case_is c.args.upper q (lent_value c.in_ok-text.text)))) c.cased.ensures.ok)

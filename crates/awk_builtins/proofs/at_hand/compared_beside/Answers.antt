@@ -11,9 +11,11 @@ use Rattle.awk_builtins.proofs.at_hand.compared_beside.Goals as goal
 
 pub returns : goal.returns
 returns c = λ x left.
-    let left' = subst (λ n. IsThere x c.args.store.now (v.Num n)) (sym (to_z-of_z w64 c.args.left (search rules))) left in
+    let left' = subst (λ n. IsThere x c.args.store.now (v.Num n)) (sym (to_z-of_z w64 c.args.left (search rules))) left
+    in
     record {
       val = of_truth c.compared_lent.result;
       is = truth_back c.compared_lent.result;
-      there = λ g t. rw c.compared_lent.ensures (comparison_there g (c.args.store.now, t) c.args.how (x (names_in g)) (view (names_in g) c.args.y.now) _ (lent_value c.in_ok-right.right) (left' g t) (c.in_ok-right.ensures g t));
+      there = λ g t. rw c.compared_lent.ensures (comparison_there g (c.args.store.now, t) c.args.how (x (names_in g))
+          (view (names_in g) c.args.y.now) _ (lent_value c.in_ok-right.right) (left' g t) (c.in_ok-right.ensures g t));
     }

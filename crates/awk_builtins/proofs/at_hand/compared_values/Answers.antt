@@ -9,5 +9,7 @@ pub returns : goal.returns
 returns c = record {
   val = of_truth c.compared_lent.result;
   is = truth_back c.compared_lent.result;
-  there = λ g t. rw c.compared_lent.ensures (comparison_there g (c.args.store.now, t) c.args.how (view (names_in g) c.args.x.now) (view (names_in g) c.args.y.now) (lent_value c.in_ok-left.left) (lent_value c.in_ok-right.right) (c.in_ok-left.ensures g t) (c.in_ok-right.ensures g t));
+  there = λ g t. rw c.compared_lent.ensures (comparison_there g (c.args.store.now, t) c.args.how
+      (view (names_in g) c.args.x.now) (view (names_in g) c.args.y.now) (lent_value c.in_ok-left.left)
+      (lent_value c.in_ok-right.right) (c.in_ok-left.ensures g t) (c.in_ok-right.ensures g t));
 }

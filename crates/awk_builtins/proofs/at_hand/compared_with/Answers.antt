@@ -12,6 +12,11 @@ returns-in-Some c = λ x left.
     record {
       val = of_truth c.compared_numbers.result;
       is = truth_back c.compared_numbers.result;
-      there = λ g t. rw (c.compared_numbers.ensures, to_z-of_z w64 c.args.left (search rules), to_z-of_z w64 c.in-Some.right (search rules))
-          (numbers_compared g (c.args.store.now, t) c.args.how (x (names_in g)) (view (names_in g) c.args.y.now) c.args.left c.in-Some.right h.val (left g t) (h.there g t) h.looks);
+      there = λ g t. rw (
+        c.compared_numbers.ensures,
+        to_z-of_z w64 c.args.left (search rules),
+        to_z-of_z w64 c.in-Some.right (search rules),
+      )
+          (numbers_compared g (c.args.store.now, t) c.args.how (x (names_in g)) (view (names_in g) c.args.y.now)
+          c.args.left c.in-Some.right h.val (left g t) (h.there g t) h.looks);
     }

@@ -8,4 +8,5 @@ use Rattle.awk_builtins.proofs.at_hand.count_at_hand.Goals as goal
 pub returns-in-Ok : goal.returns-in-Ok
 returns-in-Ok c = λ g t.
     rw (c.in-Count.is, view-Count, to_z-of_z w64 c.in-Ok.count (search rules))
-    (counts_so g (c.args.store.now, t) c.in-Count.array c.in-Ok.count (c.in-Ok.ensures.1 ∙ ap pos c.element_count.ensures))
+    (counts_so g (c.args.store.now, t) c.in-Count.array c.in-Ok.count
+    (c.in-Ok.ensures.1 ∙ ap pos c.element_count.ensures))

@@ -8,7 +8,8 @@ use Rattle.awk_builtins.proofs.at_hand.digits_held.Goals as goal
 
 pub returns-in-Input : goal.returns-in-Input
 returns-in-Input c =
-    some_both {P = λ n. number_of (v.Input c.bytes.result.now) ≡ Ok n} {Q = λ n. numeric (v.Input c.bytes.result.now) ≡ Some n} c.few_digits.result
+    some_both {P = λ n. number_of (v.Input c.bytes.result.now) ≡ Ok n} {Q = λ n. numeric (v.Input c.bytes.result.now)
+    ≡ Some n} c.few_digits.result
     (λ n is looks. record {
       val = v.Input c.bytes.result.now;
       is = is;

@@ -11,4 +11,9 @@ use Rattle.awk_builtins.proofs.at_hand.is_untrue.Goals as goal
 pub returns : goal.returns
 returns c =
     let h = c.in_ok-holds.ensures in
-    record { val = of_truth (not (truth h.val)); is = truth_back (not (truth h.val)) ∙ ap not h.is; there = λ g t. not_there g (c.args.store.now, t) (view (names_in g) c.args.x.now) h.val (h.there g t) }
+    record {
+      val = of_truth (not (truth h.val));
+      is = truth_back (not (truth h.val)) ∙ ap not h.is;
+      there =
+          λ g t. not_there g (c.args.store.now, t) (view (names_in g) c.args.x.now) h.val (h.there g t);
+    }

@@ -7,4 +7,6 @@ use Rattle.awk_builtins.proofs.at_hand.number_read.Goals as goal
 
 pub returns : goal.returns
 returns c =
-    some_for {P = λ n. IsThere (λ names. p.read (p.variable (variable_of names c.in-Variable.variable))) c.args.store.now (v.Num n)} c.number_held.result (λ n h g t. rw (c.in-Variable.is) (h g t)) c.number_held.ensures
+    some_for {P = λ n. IsThere (λ names. p.read (p.variable (variable_of names c.in-Variable.variable)))
+    c.args.store.now (v.Num n)} c.number_held.result (λ n h g t. rw (c.in-Variable.is) (h g t))
+    c.number_held.ensures

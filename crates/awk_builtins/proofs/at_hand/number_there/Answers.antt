@@ -10,5 +10,7 @@ use Rattle.awk_builtins.proofs.at_hand.number_there.Goals as goal
 
 pub returns-in-Chain : goal.returns-in-Chain
 returns-in-Chain c =
-    some_for {P = λ n. IsThere (λ names. p.chain (view names c.get.result.now) (terms_of (map (view_term names) c.as_slice.result.now))) c.args.store.now (v.Num n)} c.chain_at_hand.result
-    (λ n h g t. rw (c.in-Chain.is, view-Chain) (rw (c.get.ensures, c.as_slice.ensures) at (h g t))) c.chain_at_hand.ensures
+    some_for {P = λ n. IsThere (λ names. p.chain (view names c.get.result.now)
+    (terms_of (map (view_term names) c.as_slice.result.now))) c.args.store.now (v.Num n)} c.chain_at_hand.result
+    (λ n h g t. rw (c.in-Chain.is, view-Chain) (rw (c.get.ensures, c.as_slice.ensures) at (h g t)))
+    c.chain_at_hand.ensures

@@ -11,8 +11,10 @@ use Rattle.awk_builtins.proofs.Rests.{some_for}
 use Rattle.awk_builtins.proofs.at_hand.plain_number.Goals as goal
 
 pub returns-in-Number : goal.returns-in-Number
-returns-in-Number c = λ g t. rw (c.in-Number.is, view-Number, to_z-of_z w64 c.in-Number.number (search rules)) (number_there g _ c.in-Number.number)
+returns-in-Number c = λ g t. rw (c.in-Number.is, view-Number, to_z-of_z w64 c.in-Number.number (search rules))
+    (number_there g _ c.in-Number.number)
 
 pub returns-in-Read : goal.returns-in-Read
 returns-in-Read c =
-    some_for {P = λ n. IsThere (λ names. p.read (view_target names c.in-Read.target)) c.args.store.now (v.Num n)} c.number_read.result (λ n h g t. rw (c.in-Read.is, view-Read) (h g t)) c.number_read.ensures
+    some_for {P = λ n. IsThere (λ names. p.read (view_target names c.in-Read.target)) c.args.store.now (v.Num n)}
+    c.number_read.result (λ n h g t. rw (c.in-Read.is, view-Read) (h g t)) c.number_read.ensures

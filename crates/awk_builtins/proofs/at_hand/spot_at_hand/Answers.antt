@@ -15,4 +15,5 @@ returns-in-Ok-clause-plays c = λ g w.
     let e = rw (to_z-of_z w64 c.in-Number.number (search rules)) at c.in-Ok.ensures in
     let is = field_number_is c.in-Number.number c.in-Ok.number e.0 e.1 in
     rw (c.in-Field.is, sym c.get.ensures, c.in-Number.is, view-Number)
-    (field_spot g w c.in-Field.field-0 (p.number c.in-Number.number) (v.Num c.in-Number.number) c.in-Ok.number (number_there g w c.in-Number.number) (ap Ok is.0) is.1)
+    (field_spot g w c.in-Field.field-0 (p.number c.in-Number.number) (v.Num c.in-Number.number) c.in-Ok.number
+    (number_there g w c.in-Number.number) (ap Ok is.0) is.1)

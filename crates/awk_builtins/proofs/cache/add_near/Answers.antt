@@ -8,4 +8,7 @@ pub returns : goal.returns
 returns c =
     let source_is = c.in_ok-source.ensures.items in
     subst (All IsNear) (sym c.in_ok-push.ensures.items)
-    (All-push IsNear _ _ c.requires.near (c.in_ok-ere.ensures.cases ∙ c.requires.same ∙ sym source_is, subst IsEre (sym source_is) c.requires.ere))
+    (All-push IsNear _ _ c.requires.near (
+      c.in_ok-ere.ensures.cases ∙ c.requires.same ∙ sym source_is,
+      subst IsEre (sym source_is) c.requires.ere,
+    ))

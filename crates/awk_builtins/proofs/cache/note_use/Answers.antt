@@ -6,4 +6,6 @@ use Rattle.awk_builtins.proofs.cache.note_use.Goals as goal
 
 pub returns-then-len-eq-MOST_KEPT : goal.returns-then-len-eq-MOST_KEPT
 returns-then-len-eq-MOST_KEPT c =
-    subst (AreEres (λ k. k.items) (λ e. e.value)) (sym (ap (λ x. x.entries) c.promote.ensures.entries)) (after_promote (λ k. k.items) (λ e. e.value) (λ k. bytes_eq c.args.source.now k.items) c.args.cache.now.entries c.requires)
+    subst (AreEres (λ k. k.items) (λ e. e.value)) (sym (ap (λ x. x.entries) c.promote.ensures.entries))
+    (after_promote (λ k. k.items) (λ e. e.value) (λ k. bytes_eq c.args.source.now k.items) c.args.cache.now.entries
+    c.requires)

@@ -14,5 +14,7 @@ returns c =
     let key = c.in_ok-key.key in
     let key_is : key.items ≡ c.args.source.now = c.in_ok-key.ensures.items in
     subst (AreEres (λ k. k.items) (λ e. e.value)) (sym (ap (λ x. x.entries) c.in_ok-put.ensures.entries))
-    (after_put (λ k. k.items) (λ e. e.value) (λ j k. bytes_eq j.items k.items) c.args.cache.now key c.in_ok-shared.shared c.requires.cached
-    (λ j. same_text key.items j.items) (c.in_ok-shared.ensures.cases ∙ c.requires.same ∙ sym key_is) (subst IsEre (sym key_is) c.requires.ere))
+    (after_put (λ k. k.items) (λ e. e.value) (λ j k. bytes_eq j.items k.items) c.args.cache.now key
+    c.in_ok-shared.shared c.requires.cached
+    (λ j. same_text key.items j.items) (c.in_ok-shared.ensures.cases ∙ c.requires.same ∙ sym key_is)
+    (subst IsEre (sym key_is) c.requires.ere))

@@ -11,5 +11,9 @@ use Rattle.awk_store.specs.Wholes.{base}
 use Rattle.awk_builtins.proofs.chains.join.Goals as goal
 
 pub returns : goal.returns
-returns c = λ g w x xs. rw c.text_at.ensures (text_so g w _ c.args.place (λ v k. At (Texts_of xs) (v ∷ []) ∷ k) (ops.limited (text_of c.args.left ++ text_of c.args.right.now)) c.concatenated.result c.concatenated.ensures.ok c.concatenated.ensures.err
-    (λ k hid d a. ap (held g (seen (base g w hid) d)) (as_text_so c.args.place (ops.limited (text_of c.args.left ++ text_of c.args.right.now)) (λ v k s. Goes (At (Texts_of xs) (v ∷ []) ∷ k) s) k (seen (base g w hid) d))))
+returns c = λ g w x xs. rw c.text_at.ensures (text_so g w _ c.args.place (λ v k. At (Texts_of xs) (v ∷ []) ∷ k)
+    (ops.limited (text_of c.args.left ++ text_of c.args.right.now)) c.concatenated.result c.concatenated.ensures.ok
+    c.concatenated.ensures.err
+    (λ k hid d a. ap (held g (seen (base g w hid) d))
+    (as_text_so c.args.place (ops.limited (text_of c.args.left ++ text_of c.args.right.now))
+    (λ v k s. Goes (At (Texts_of xs) (v ∷ []) ∷ k) s) k (seen (base g w hid) d))))

@@ -11,5 +11,7 @@ use Rattle.awk_store.proofs.Agreeing.{array-so}
 use Rattle.awk_builtins.proofs.chains.member.Goals as goal
 
 pub returns : goal.returns
-returns c = λ g t rest. rw (c.truth_value.ensures, c.contains.ensures, c.text_in.ensures) (gives_so g (c.args.store.now, t) _ (λ v k. At (Members_of rest) (v ∷ []) ∷ k) _
-    (λ k hid d a. ap (λ xs. Goes (At (Members_of rest) (ops.of_truth (has xs (text_of c.args.key.now)) ∷ []) ∷ k) (seen (base g (c.args.store.now, t) hid) d)) (array-so g (c.args.store.now, t) hid d a c.args.array)))
+returns c = λ g t rest. rw (c.truth_value.ensures, c.contains.ensures, c.text_in.ensures)
+    (gives_so g (c.args.store.now, t) _ (λ v k. At (Members_of rest) (v ∷ []) ∷ k) _
+    (λ k hid d a. ap (λ xs. Goes (At (Members_of rest) (ops.of_truth (has xs (text_of c.args.key.now)) ∷ []) ∷ k)
+    (seen (base g (c.args.store.now, t) hid) d)) (array-so g (c.args.store.now, t) hid d a c.args.array)))

@@ -9,5 +9,9 @@ use Rattle.awk_builtins.proofs.chains.members.Given as goal
 
 abbrev pub invariant-loop-array : goal.invariant-loop-array
 invariant-loop-array l =
-    (g : Given) (t : Table) → Passes g (At (Members_of (map (variable_of (names_in g)) l.arrays)) (l.fn.key ∷ [])) (l.store, t)
-    (λ k. At (Members_of (map (variable_of (names_in g)) (drop l.array-index l.arrays))) (l.found ∷ []) ∷ k) (l.store, t)
+    (g : Given) (t : Table) → Passes g (At (Members_of (map (variable_of (names_in g)) l.arrays)) (l.fn.key ∷ []))
+    (l.store, t)
+    (λ k. At (Members_of (map (variable_of (names_in g)) (drop l.array-index l.arrays))) (l.found ∷ []) ∷ k) (
+      l.store,
+      t,
+    )

@@ -12,5 +12,9 @@ use Rattle.awk_builtins.proofs.chains.operated.Goals as goal
 
 pub returns : goal.returns
 returns c = λ g w x xs r e.
-    rw (c.number_at.ensures, c.both.ensures, c.number_of.ensures, e) (given_so g w _ c.args.place (λ y k. At (Terms_of xs) (y ∷ []) ∷ k) (as_value (of_both c.args.how (number_of c.args.left.now) (number_of r)))
-    (λ k hid d a. ap (λ m. held g (seen (base g w hid) d) (granted c.args.place m (λ y k s. Goes (At (Terms_of xs) (y ∷ []) ∷ k) s) k (seen (base g w hid) d))) (computed_so c.args.how c.args.left.now r)))
+    rw (c.number_at.ensures, c.both.ensures, c.number_of.ensures, e)
+    (given_so g w _ c.args.place (λ y k. At (Terms_of xs) (y ∷ []) ∷ k)
+    (as_value (of_both c.args.how (number_of c.args.left.now) (number_of r)))
+    (λ k hid d a. ap (λ m. held g (seen (base g w hid) d)
+    (granted c.args.place m (λ y k s. Goes (At (Terms_of xs) (y ∷ []) ∷ k) s) k (seen (base g w hid) d)))
+    (computed_so c.args.how c.args.left.now r)))

@@ -7,4 +7,8 @@ pub returns-in-Ok-clause-done : goal.returns-in-Ok-clause-done
 returns-in-Ok-clause-done c =
     let e = rw (to_z-of_z w64 c.args.number (search rules)) at c.in-Ok.ensures in
     let is = place_is 64 c.args.number c.in-Ok.place e.0 e.1 in
-    rw is (λ yes. (few_digits c.in-Ok.place (omega arith), rw (to_z-of_z w64 c.args.by (search rules)) at (c.add_to_number.ensures.done yes)))
+    rw is (λ yes. (
+      few_digits c.in-Ok.place (omega arith),
+      rw (to_z-of_z w64 c.args.by (search rules)) at
+          (c.add_to_number.ensures.done yes),
+    ))

@@ -6,7 +6,8 @@ use Rattle.awk_builtins.proofs.done.added_at.Goals as goal
 
 pub returns-in-Some-clause-done : goal.returns-in-Some-clause-done
 returns-in-Some-clause-done c = λ yes.
-    let a = rw (to_z-of_z w64 c.in-Some.number (search rules), to_z-of_z w64 c.args.by (search rules)) at (c.add_at_number.ensures.done yes) in
+    let a = rw (to_z-of_z w64 c.in-Some.number (search rules), to_z-of_z w64 c.args.by (search rules)) at
+    (c.add_at_number.ensures.done yes) in
     record { key = text_of (v.Num c.in-Some.number); is = c.in-Some.ensures a.0; adds = a.1 }
 
 pub returns-in-Some-field_of_key-clause-done : goal.returns-in-Some-field_of_key-clause-done

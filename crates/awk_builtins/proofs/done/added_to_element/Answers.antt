@@ -15,6 +15,8 @@ returns-clause-done c = λ yes place at_name.
     let a = rw (to_z-of_z w64 c.in-Some.operand (search rules)) at k.adds in
     record {
       val = v.Num a.1;
-      gives = λ g t. changes_element g (c.args.store.now, t) c.added_at.new.store place at_name c.args.array (expressions_of (map (view (names_in g)) c.args.keys.now)) k.key
-          (k.is g t at_name (variable_of (names_in g) c.args.array)) a.4.0 a.0 a.1 a.2 a.4.1 a.4.2 operator.Add (view (names_in g) c.args.x.now) h.val c.in-Some.operand (h.there g t) h.is a.3;
+      gives = λ g t. changes_element g (c.args.store.now, t) c.added_at.new.store place at_name c.args.array
+          (expressions_of (map (view (names_in g)) c.args.keys.now)) k.key
+          (k.is g t at_name (variable_of (names_in g) c.args.array)) a.4.0 a.0 a.1 a.2 a.4.1 a.4.2 operator.Add
+          (view (names_in g) c.args.x.now) h.val c.in-Some.operand (h.there g t) h.is a.3;
     }

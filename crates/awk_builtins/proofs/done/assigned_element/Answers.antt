@@ -13,8 +13,11 @@ returns-in-Some-number_of_key-clause-done c = λ yes place at_name.
     let a = rw (to_z-of_z w64 c.in-Some-number_of_key.number (search rules)) at (c.put_at_number.ensures.done yes) in
     record {
       val = c.in-Some.value;
-      gives = λ g t. assigns_element g (c.args.store.now, t) c.put_at_number.new.store place at_name c.args.array (expressions_of (map (view (names_in g)) c.args.keys.now)) (text_of (v.Num c.in-Some-number_of_key.number))
-          (c.in-Some-number_of_key.ensures a.0 g t at_name (variable_of (names_in g) c.args.array)) a.1.0 c.in-Some.value a.1.1 a.1.2 (view (names_in g) c.args.x.now) (c.chosen.ensures c.in-Some.value c.in-Some.ensures g t);
+      gives = λ g t. assigns_element g (c.args.store.now, t) c.put_at_number.new.store place at_name c.args.array
+          (expressions_of (map (view (names_in g)) c.args.keys.now)) (text_of (v.Num c.in-Some-number_of_key.number))
+          (c.in-Some-number_of_key.ensures a.0 g t at_name (variable_of (names_in g) c.args.array)) a.1.0
+          c.in-Some.value a.1.1 a.1.2 (view (names_in g) c.args.x.now)
+          (c.chosen.ensures c.in-Some.value c.in-Some.ensures g t);
     }
 
 pub returns-in-Ok-clause-done : goal.returns-in-Ok-clause-done
@@ -22,6 +25,8 @@ returns-in-Ok-clause-done c = λ yes place at_name.
     let a = c.in-Ok.ensures.ok in
     record {
       val = c.in-Some.value;
-      gives = λ g t. assigns_element g (c.args.store.now, t) c.put.new.self place at_name c.args.array (expressions_of (map (view (names_in g)) c.args.keys.now)) c.in-Some-key_at_hand.key.now
-          (c.in-Some-key_at_hand.ensures g t at_name (variable_of (names_in g) c.args.array)) a.0 c.in-Some.value a.1 a.2 (view (names_in g) c.args.x.now) (c.chosen.ensures c.in-Some.value c.in-Some.ensures g t);
+      gives = λ g t. assigns_element g (c.args.store.now, t) c.put.new.self place at_name c.args.array
+          (expressions_of (map (view (names_in g)) c.args.keys.now)) c.in-Some-key_at_hand.key.now
+          (c.in-Some-key_at_hand.ensures g t at_name (variable_of (names_in g) c.args.array)) a.0 c.in-Some.value a.1
+          a.2 (view (names_in g) c.args.x.now) (c.chosen.ensures c.in-Some.value c.in-Some.ensures g t);
     }

@@ -10,10 +10,16 @@ use Rattle.awk_builtins.proofs.done.changed_variable.Goals as goal
 pub returns-clause-done : goal.returns-clause-done
 returns-clause-done c = λ yes place.
     let h = c.in-Some.ensures in
-    let made = rw (to_z-of_z w64 c.in-Some-number_kept.old (search rules), to_z-of_z w64 c.in-Some.operand (search rules)) at (sym c.operation.ensures ∙ c.in-Ok.is) in
+    let made = rw (
+      to_z-of_z w64 c.in-Some-number_kept.old (search rules),
+      to_z-of_z w64 c.in-Some.operand
+          (search rules),
+    ) at (sym c.operation.ensures ∙ c.in-Ok.is) in
     let same = rw (to_z-of_z w64 c.in-Ok.new (search rules)) at c.set.ensures in
     record {
       val = v.Num c.in-Ok.new;
-      gives = λ g t. changes_variable g (c.args.store.now, t) c.set.new.self place c.args.variable c.in-Some-number_kept.ensures.nf c.args.how (view (names_in g) c.args.x.now) h.val c.in-Some-number_kept.old c.in-Some.operand c.in-Ok.new
+      gives = λ g t. changes_variable g (c.args.store.now, t) c.set.new.self place c.args.variable
+          c.in-Some-number_kept.ensures.nf c.args.how (view (names_in g) c.args.x.now) h.val c.in-Some-number_kept.old
+          c.in-Some.operand c.in-Ok.new
           (h.there g t) (ap number_of c.in-Some-number_kept.ensures.number) h.is made same;
     }

@@ -19,7 +19,15 @@ use Rattle.awk_builtins.proofs.done.concat_at_hand.Goals as goal
 pub returns : goal.returns
 returns c =
     let made = c.join_at_hand.ensures c.if-not-join_at_hand.false in
-    let told : limited (text_of made.val) ≡ Ok c.in-Ok.text = sym (within_held (text_of made.val)) ∙ ap within (sym made.line_is) ∙ c.in-Ok.ensures.ok in
-    let text : made.val ≡ v.Text c.in-Ok.text = made.is_text (grind (arith, nat_tests, c.if-is_empty.false, c.is_empty.ensures)) ∙ ap (λ t. v.Text t) (limited_is (text_of made.val) c.in-Ok.text told) in
-    λ g t. subst (λ x. Passes g (value (p.concat (view (names_in g) c.args.first.now) (joins_of (map (view_joined (names_in g)) c.args.rest.now)))) (c.args.store.now, t) (give x) (c.args.store.now, t)) text
+    let told : limited (text_of made.val) ≡ Ok c.in-Ok.text = sym (within_held (text_of made.val))
+    ∙ ap within (sym made.line_is) ∙ c.in-Ok.ensures.ok in
+    let text : made.val ≡ v.Text c.in-Ok.text =
+    made.is_text (grind (arith, nat_tests, c.if-is_empty.false, c.is_empty.ensures)) ∙ ap (λ t. v.Text t)
+    (limited_is (text_of made.val) c.in-Ok.text told) in
+    λ g t. subst (λ x. Passes g
+    (value (p.concat (view (names_in g) c.args.first.now)
+    (joins_of (map (view_joined (names_in g)) c.args.rest.now)))) (c.args.store.now, t) (give x) (
+      c.args.store.now,
+      t,
+    )) text
     (made.there (limited_fits (text_of made.val) c.in-Ok.text told) g t)

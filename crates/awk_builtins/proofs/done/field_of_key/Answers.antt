@@ -15,7 +15,10 @@ returns c =
     let h = c.in_ok-number.ensures in
     let e = rw (to_z-of_z w64 c.in_ok-number.number (search rules)) at c.in-Ok.ensures in
     let is = field_number_is c.in_ok-number.number c.in-Ok.number e.0 e.1 in
-    λ val at fits g t place of_. rw (just_one c.args.keys.now c.one-item.result c.in-len1.len_at_least c.in-len1.len_below c.one-item.is)
+    λ val at fits g t place of_. rw (just_one c.args.keys.now c.one-item.result c.in-len1.len_at_least
+    c.in-len1.len_below c.one-item.is)
     (element_spot g (c.args.store.now, t) place of_ (view (names_in g) c.one-item.result) val (text_of val)
-    (rw (c.in-Read.is, view-Read, c.in-Field.is) (rw c.get.ensures at (field_there g (c.args.store.now, t) c.in-Field.field-0 (view (names_in g) c.get.result.now) h.val c.in-Ok.number val (h.there g t) (h.is ∙ ap Ok is.0) is.1 at)))
+    (rw (c.in-Read.is, view-Read, c.in-Field.is)
+    (rw c.get.ensures at (field_there g (c.args.store.now, t) c.in-Field.field-0
+    (view (names_in g) c.get.result.now) h.val c.in-Ok.number val (h.there g t) (h.is ∙ ap Ok is.0) is.1 at)))
     (limited_ok (text_of val) fits))

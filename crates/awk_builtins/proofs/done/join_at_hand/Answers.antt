@@ -16,7 +16,8 @@ loop-next-init c =
     record {
       val = n.0;
       line_is = n.1 ∙ ap (λ l. written l (text_of n.0)) c.clear.ensures ∙ written_held [] (text_of n.0);
-      along = λ g t fits. operands_first g (c.args.store.now, t) (view (names_in g) c.args.first.now) (joins_of (map (view_joined (names_in g)) c.args.rest.now)) n.0 (n.2 g t);
+      along = λ g t fits. operands_first g (c.args.store.now, t) (view (names_in g) c.args.first.now)
+          (joins_of (map (view_joined (names_in g)) c.args.rest.now)) n.0 (n.2 g t);
       is_text = λ more. absurd (omega (arith, more));
     }
 
@@ -27,7 +28,8 @@ loop-next-preserved c =
     record {
       val = v.Text (text_of l.val ++ text_of n.0);
       line_is = n.1 ∙ ap (λ line. written line (text_of n.0)) l.line_is ∙ written_held (text_of l.val) (text_of n.0);
-      along = λ g t fits. operands_at g (c.args.store.now, t) c.args.rest.now c.loop-next.next-index l.val c.next-item.result n.0 c.loop-next-test.true c.next-item.is fits (n.2 g t)
+      along = λ g t fits. operands_at g (c.args.store.now, t) c.args.rest.now c.loop-next.next-index l.val
+          c.next-item.result n.0 c.loop-next-test.true c.next-item.is fits (n.2 g t)
           (l.along g t (let sum = length-append {A = ℕ} (text_of l.val) (text_of n.0) in omega (arith, sum, fits)));
       is_text = λ more. refl;
     }
@@ -35,4 +37,11 @@ loop-next-preserved c =
 pub returns : goal.returns
 returns c = λ yes.
     let l = c.loop-next.invariant in
-    record { val = l.val; line_is = l.line_is; there = λ fits g t. operands_done g (c.args.store.now, t) c.args.rest.now c.loop-next.next-index l.val c.loop-next-test.false (l.along g t fits); is_text = λ more. l.is_text (omega (arith, more, c.loop-next-test.false)) }
+    record {
+      val = l.val;
+      line_is = l.line_is;
+      there = λ fits g t. operands_done g (c.args.store.now, t) c.args.rest.now
+          c.loop-next.next-index l.val c.loop-next-test.false (l.along g t fits);
+      is_text =
+          λ more. l.is_text (omega (arith, more, c.loop-next-test.false));
+    }

@@ -20,6 +20,7 @@ invariant-loop-next l = record {
   val : Value;
   line_is : l.line ≡ held (text_of val);
   along : (g : Given) (t : Table) → length (text_of val) ≤ most_bytes →
-      Passes g (value (p.concat (view (names_in g) l.first) (joins_of (map (view_joined (names_in g)) l.rest)))) (l.store, t) (behind g l.rest l.next-index val) (l.store, t);
+      Passes g (value (p.concat (view (names_in g) l.first) (joins_of (map (view_joined (names_in g)) l.rest))))
+      (l.store, t) (behind g l.rest l.next-index val) (l.store, t);
   is_text : 0 < l.next-index → val ≡ v.Text (text_of val);
 }

@@ -11,7 +11,8 @@ pub returns : goal.returns
 returns c = λ yes.
     let subsep = c.own_text-subsep.result.now in
     let a = c.add_item.ensures c.if-not-add_item.false in
-    let start = a.1 ∙ ap (λ l. written l (text_of a.0)) c.clear.ensures ∙ written_held [] (text_of a.0) ∙ ap held (sym (joined_one subsep a.0)) in
+    let start = a.1 ∙ ap (λ l. written l (text_of a.0)) c.clear.ensures ∙ written_held [] (text_of a.0)
+    ∙ ap held (sym (joined_one subsep a.0)) in
     let o = c.add_others.ensures yes a.0 start in (
       a.0 ∷ o.vals,
       rw (first_expr c.args.keys.now c.first-item.result c.in-len1-up.len_at_least c.first-item.is) (a.2, o.there),

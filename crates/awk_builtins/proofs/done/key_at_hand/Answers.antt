@@ -19,16 +19,23 @@ pub returns-in-Concat : goal.returns-in-Concat
 returns-in-Concat c =
     let made = c.join_at_hand.ensures c.if-not-join_at_hand.false in
     rw c.ok.ensures.value (some_for {P = λ found. limited (text_of made.val) ≡ Ok found.now} (result_ok c.text.result)
-    (λ found is g t place array. rw (just_one c.args.keys.now c.one-item.result c.in-len1.len_at_least c.in-len1.len_below c.one-item.is)
+    (λ found is g t place array. rw (just_one c.args.keys.now c.one-item.result c.in-len1.len_at_least
+    c.in-len1.len_below c.one-item.is)
     (element_spot g (c.args.store.now, t) place array (view (names_in g) c.one-item.result) made.val found.now
-    (rw (c.in-Concat.is, view-Concat) (rw (c.get.ensures, c.as_slice.ensures) at (made.there (limited_fits (text_of made.val) found.now is) g t))) is))
-    (ok_some {P = λ found. within c.join_at_hand.new.line ≡ Ok found.now} c.text.result (λ found told. sym (within_held (text_of made.val)) ∙ ap within (sym made.line_is) ∙ told) c.text.ensures.ok))
+    (rw (c.in-Concat.is, view-Concat) (rw (c.get.ensures, c.as_slice.ensures) at
+    (made.there (limited_fits (text_of made.val) found.now is) g t))) is))
+    (ok_some {P = λ found. within c.join_at_hand.new.line ≡ Ok found.now} c.text.result
+    (λ found told. sym (within_held (text_of made.val)) ∙ ap within (sym made.line_is) ∙ told) c.text.ensures.ok))
 
 pub returns : goal.returns
 returns c =
     let text = c.text-2.result.now in
     let line = c.in-Ok.ensures ∙ ap (λ l. written l text) c.clear.ensures in
     rw c.ok-2.ensures.value (some_for {P = λ found. limited text ≡ Ok found.now} (result_ok c.text-3.result)
-    (λ found is g t place array. rw (just_one c.args.keys.now c.one-item.result c.in-len1.len_at_least c.in-len1.len_below c.one-item.is)
-    (element_spot g (c.args.store.now, t) place array (view (names_in g) c.one-item.result) (lent_value c.in_ok-subscript.subscript) found.now (c.in_ok-subscript.ensures g t) (ap limited (sym c.text-2.ensures) ∙ is)))
-    (ok_some {P = λ found. within c.push.new.self ≡ Ok found.now} c.text-3.result (λ found told. line_told c.push.new.self text found.now line told) c.text-3.ensures.ok))
+    (λ found is g t place array. rw (just_one c.args.keys.now c.one-item.result c.in-len1.len_at_least
+    c.in-len1.len_below c.one-item.is)
+    (element_spot g (c.args.store.now, t) place array (view (names_in g) c.one-item.result)
+    (lent_value c.in_ok-subscript.subscript) found.now (c.in_ok-subscript.ensures g t)
+    (ap limited (sym c.text-2.ensures) ∙ is)))
+    (ok_some {P = λ found. within c.push.new.self ≡ Ok found.now} c.text-3.result
+    (λ found told. line_told c.push.new.self text found.now line told) c.text-3.ensures.ok))

@@ -17,4 +17,5 @@ returns c =
     let text = joined (own_text c.args.store.now own.Subsep) made.0 in
     rw c.ok.ensures.value (some_for {P = λ found. limited text ≡ Ok found.now} (result_ok c.text.result)
     (λ found is g t place of_. key_there g c.args.store.now t place of_ c.args.keys.now made.0 found.now made.1 is)
-    (ok_some {P = λ found. within c.join_subscripts.new.line ≡ Ok found.now} c.text.result (λ found told. sym (within_held text) ∙ ap within (sym made.2) ∙ told) c.text.ensures.ok))
+    (ok_some {P = λ found. within c.join_subscripts.new.line ≡ Ok found.now} c.text.result
+    (λ found told. sym (within_held text) ∙ ap within (sym made.2) ∙ told) c.text.ensures.ok))

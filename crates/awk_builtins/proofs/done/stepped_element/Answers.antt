@@ -13,6 +13,8 @@ returns-clause-done c = λ yes place at_name taken.
     let a = rw (to_z-of_z w64 c.step_by.result (search rules)) at h.adds in
     record {
       val = either taken a.0 a.1;
-      gives = λ g t. steps_element g (c.args.store.now, t) c.added_at.new.store place at_name c.args.array (expressions_of (map (view (names_in g)) c.args.keys.now)) h.key
-          (h.is g t at_name (variable_of (names_in g) c.args.array)) a.4.0 a.0 a.1 a.2 a.4.1 a.4.2 c.args.how taken (sym (c.step_by.ensures a.0) ∙ a.3);
+      gives = λ g t. steps_element g (c.args.store.now, t) c.added_at.new.store place at_name c.args.array
+          (expressions_of (map (view (names_in g)) c.args.keys.now)) h.key
+          (h.is g t at_name (variable_of (names_in g) c.args.array)) a.4.0 a.0 a.1 a.2 a.4.1 a.4.2 c.args.how taken
+          (sym (c.step_by.ensures a.0) ∙ a.3);
     }

@@ -10,4 +10,5 @@ returns-in-Variable-clause-done c = λ yes place taken.
     rw c.in-Variable.is (record { val = either taken steps.0 steps.1; gives = λ g t. gives g t place taken })
 
 pub returns-clause-done : goal.returns-clause-done
-returns-clause-done c = λ yes place taken. rw c.in-Element.is (rw c.as_slice.ensures at (c.stepped_element.ensures.done yes place c.in-Element.field-0 taken))
+returns-clause-done c = λ yes place taken. rw c.in-Element.is
+    (rw c.as_slice.ensures at (c.stepped_element.ensures.done yes place c.in-Element.field-0 taken))

@@ -9,4 +9,5 @@ returns-clause-done c =
     let made = rw (to_z-of_z w64 c.in_ok-old.old (search rules)) at (sym c.stepped.ensures ∙ c.in-Ok.is) in
     let same = rw (to_z-of_z w64 c.in-Ok.new (search rules)) at c.set.ensures in
     λ g t place taken. rw (to_z-of_z w64 c.in_ok-old.old (search rules), to_z-of_z w64 c.in-Ok.new (search rules))
-    (steps_variable g (c.args.store.now, t) c.set.new.self place c.args.variable c.in_ok-old.ensures.nf c.args.how taken c.in_ok-old.old c.in-Ok.new (ap number_of c.in_ok-old.ensures.number) made same)
+    (steps_variable g (c.args.store.now, t) c.set.new.self place c.args.variable c.in_ok-old.ensures.nf c.args.how taken
+    c.in_ok-old.old c.in-Ok.new (ap number_of c.in_ok-old.ensures.number) made same)

@@ -5,7 +5,8 @@ use Rattle.awk_text.specs.declared.value.Value.{Value}
 use Rattle.awk_text.specs.Values.{number_of}
 use Rattle.awk_machine.specs.Builtins.{count_of}
 
-third : (vs : List Value) (d : Value) → 3 ≤ length vs → d ≡ get_or vs 2 d → count_of (drop 2 vs) ≡ (number_of d >>= λ n. Ok (Some n))
+third : (vs : List Value) (d : Value) → 3 ≤ length vs → d ≡ get_or vs 2 d
+    → count_of (drop 2 vs) ≡ (number_of d >>= λ n. Ok (Some n))
 third [] d h e = absurd (omega (arith, h))
 third (x ∷ []) d h e = absurd (omega (arith, h))
 third (x ∷ y ∷ []) d h e = absurd (omega (arith, h))

@@ -18,6 +18,12 @@ use Rattle.awk_builtins.proofs.growing.assigned.Goals as goal
 pub returns-in-Concat-clause-done : goal.returns-in-Concat-clause-done
 returns-in-Concat-clause-done c =
     ok_for {P = λ is. is ≡ true → (x : Value) × ((g : Given) (t : Table) (place : Place) → Passes g
-    (value (p.assign place (p.variable (variable_of (names_in g) c.in-Variable.to)) (p.concat (view (names_in g) c.get.result.now) (joins_of (map (view_joined (names_in g)) c.as_slice.result.now)))))
+    (value (p.assign place (p.variable (variable_of (names_in g) c.in-Variable.to))
+    (p.concat (view (names_in g) c.get.result.now)
+    (joins_of (map (view_joined (names_in g)) c.as_slice.result.now)))))
     (c.args.store.now, t) (give x) (c.grown.new.store, t))}
-    c.grown.result (λ is h yes. let r = h yes in (r.0, λ g t place. rw (c.in-Variable.is, c.in-Concat.is, view-Concat, sym c.get.ensures, sym c.as_slice.ensures) (r.1 g t place))) c.grown.ensures.done
+    c.grown.result (λ is h yes. let r = h yes in (
+      r.0,
+      λ g t place. rw (c.in-Variable.is, c.in-Concat.is, view-Concat, sym c.get.ensures, sym c.as_slice.ensures)
+          (r.1 g t place),
+    )) c.grown.ensures.done

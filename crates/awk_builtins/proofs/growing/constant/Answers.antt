@@ -12,4 +12,9 @@ pub returns-in-Text : goal.returns-in-Text
 returns-in-Text c = λ g t k room fits.
     rw (just_one c.args.rest.now c.one-item.result c.in-len1.len_at_least c.in-len1.len_below c.one-item.is)
     (joins_only g (k, t) c.one-item.result.place (view (names_in g) c.one-item.result.operand) room c.bytes.result.now
-    (record { val = v.Text c.in-Text.text; is = sym c.bytes.ensures; passes = rw (c.in-Text.is, view-Text) (text_there g (k, t) c.in-Text.text) }) fits)
+    (record {
+      val = v.Text c.in-Text.text;
+      is = sym c.bytes.ensures;
+      passes =
+          rw (c.in-Text.is, view-Text) (text_there g (k, t) c.in-Text.text);
+    }) fits)

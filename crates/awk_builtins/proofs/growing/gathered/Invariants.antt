@@ -15,5 +15,6 @@ invariant-loop-next l = record {
   within : length l.texts.items ≤ l.room;
   joined : (g : Given) (t : Table) (text : List ℕ) → length text + l.room ≤ most_bytes →
       Passes g (At (Texts_of (joins_of (map (view_joined (names_in g)) l.rest))) (v.Text text ∷ [])) (l.store, t)
-      (λ k. At (Texts_of (joins_of (map (view_joined (names_in g)) (drop l.next-index l.rest)))) (v.Text (text ++ l.texts.items) ∷ []) ∷ k) (l.store, t);
+      (λ k. At (Texts_of (joins_of (map (view_joined (names_in g)) (drop l.next-index l.rest))))
+      (v.Text (text ++ l.texts.items) ∷ []) ∷ k) (l.store, t);
 }

@@ -9,5 +9,7 @@ pub returns-clause-ok : goal.returns-clause-ok
 returns-clause-ok c =
     let whole = v.Text (c.in-Ok.text ++ c.args.more.now) in
     ok_so c.set_longer.result c.set_longer.ensures.ok
-    (λ same. same ∙ ap (with_value c.args.to whole) c.replace_value.ensures.after ∙ value_twice c.args.to v.Unset whole c.args.store.now
-    ∙ ap (λ text. with_value c.args.to (v.Text (text ++ c.args.more.now)) c.args.store.now) (c.in-Ok.ensures ∙ ap text_of c.replace_value.ensures.value))
+    (λ same. same ∙ ap (with_value c.args.to whole) c.replace_value.ensures.after ∙ value_twice c.args.to v.Unset whole
+    c.args.store.now
+    ∙ ap (λ text. with_value c.args.to (v.Text (text ++ c.args.more.now)) c.args.store.now)
+    (c.in-Ok.ensures ∙ ap text_of c.replace_value.ensures.value))

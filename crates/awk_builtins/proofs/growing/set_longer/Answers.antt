@@ -6,4 +6,5 @@ use Rattle.awk_builtins.proofs.growing.set_longer.Goals as goal
 pub returns-clause-ok : goal.returns-clause-ok
 returns-clause-ok c =
     c.set.ensures ∙ ap (λ text. with_value c.args.to (v.Text text) c.args.store.now)
-    (c.new.ensures ∙ c.in_ok-extend_from_slice.ensures.items ∙ ap (λ text. text ++ c.args.more.now) c.in_ok-bytes.ensures)
+    (c.new.ensures ∙ c.in_ok-extend_from_slice.ensures.items ∙ ap (λ text. text ++ c.args.more.now)
+    c.in_ok-bytes.ensures)

@@ -15,6 +15,7 @@ loop-x-preserved c = λ first start.
     let sep = c.args.separator.now in
     record {
       vals = h.vals ++ n.0 ∷ [];
-      there = rw (take_more xs i c.x-item.result c.loop-x-test.true ∙ ap (λ z. take i xs ++ z ∷ []) (sym c.x-item.is)) (there_more c.args.store.now (take i xs) h.vals c.x-item.result n.0 h.there n.2);
+      there = rw (take_more xs i c.x-item.result c.loop-x-test.true ∙ ap (λ z. take i xs ++ z ∷ []) (sym c.x-item.is))
+          (there_more c.args.store.now (take i xs) h.vals c.x-item.result n.0 h.there n.2);
       line_is = n.1 ∙ ap (λ l. written (written l sep) (text_of n.0)) h.line_is ∙ joined_add sep first h.vals n.0;
     }

@@ -6,4 +6,5 @@ use Rattle.awk_builtins.specs.AtHand.{HoldsJoined}
 use Rattle.awk_builtins.proofs.items.add_others.Given as goal
 
 abbrev pub invariant-loop-x : goal.invariant-loop-x
-invariant-loop-x l = (first : Value) → l.fn.line ≡ held (joined l.separator (first ∷ [])) → HoldsJoined l.store (take l.x-index l.xs) l.separator first l.line
+invariant-loop-x l = (first : Value) → l.fn.line ≡ held (joined l.separator (first ∷ []))
+    → HoldsJoined l.store (take l.x-index l.xs) l.separator first l.line

@@ -14,7 +14,8 @@ returns-in-Ok c = λ yes.
     let ofs = c.own_text-ofs.result.now in
     let ors = c.own_text-ors.result.now in
     let a = c.add_item.ensures c.if-not-add_item.false in
-    let start = a.1 ∙ ap (λ l. written l (text_of a.0)) c.clear.ensures ∙ written_held [] (text_of a.0) ∙ ap held (sym (joined_one ofs a.0)) in
+    let start = a.1 ∙ ap (λ l. written l (text_of a.0)) c.clear.ensures ∙ written_held [] (text_of a.0)
+    ∙ ap held (sym (joined_one ofs a.0)) in
     let o = c.add_others.ensures c.if-not-add_others.false a.0 start in (
       a.0 ∷ o.vals,
       rw (first_expr c.args.xs.now c.first-item.result c.in-len1-up.len_at_least c.first-item.is) (a.2, o.there),

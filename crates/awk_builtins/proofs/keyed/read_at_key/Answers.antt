@@ -12,4 +12,12 @@ use Rattle.awk_builtins.proofs.keyed.read_at_key.Goals as goal
 
 pub returns : goal.returns
 returns c = λ g t what at.
-    rw at.is (passes (moves {then_ = λ k. Do (Get (machine.Element (variable_of (names_in g) c.args.element.array) c.args.element.key.now c.args.element.at_name)) ∷ k} (on (moves {then_ = λ k. spot (p.element c.args.element.at_name (variable_of (names_in g) c.args.element.array) (expressions_of (map (view (names_in g)) at.keys))) ∷ At (Value_of (p.read (p.element c.args.element.at_name (variable_of (names_in g) c.args.element.array) (expressions_of (map (view (names_in g)) at.keys))))) [] ∷ k} (at_rest _ _) (λ k hid d a. refl)) (at.key_is g t c.args.element.at_name (variable_of (names_in g) c.args.element.array))) (λ k hid d a. refl)) (c.read_element.ensures g t))
+    rw at.is (passes (moves {then_ =
+    λ k. Do (Get (machine.Element (variable_of (names_in g) c.args.element.array) c.args.element.key.now
+    c.args.element.at_name)) ∷ k}
+    (on (moves {then_ = λ k. spot (p.element c.args.element.at_name (variable_of (names_in g) c.args.element.array)
+    (expressions_of (map (view (names_in g)) at.keys))) ∷ At
+    (Value_of (p.read (p.element c.args.element.at_name (variable_of (names_in g) c.args.element.array)
+    (expressions_of (map (view (names_in g)) at.keys))))) [] ∷ k} (at_rest _ _) (λ k hid d a. refl))
+    (at.key_is g t c.args.element.at_name (variable_of (names_in g) c.args.element.array))) (λ k hid d a. refl))
+    (c.read_element.ensures g t))

@@ -16,7 +16,13 @@ use Rattle.awk_builtins.proofs.Listed.{all_there, keyed_so}
 use Rattle.awk_builtins.proofs.keys.group_key.Goals as goal
 
 pub returns : goal.returns
-returns c = λ g t xs as_ e. rw c.at.ensures (given_or_lacks g (c.args.store.now, t) _ c.args.place (λ text k. At (Members_of as_) (v.Text text ∷ []) ∷ k) (ops.limited (joined (own_text c.args.store.now own.Subsep) c.args.subscripts.now)) c.key.result c.key.ensures.ok c.key.ensures.err
+returns c = λ g t xs as_ e. rw c.at.ensures (given_or_lacks g (c.args.store.now, t) _ c.args.place
+    (λ text k. At (Members_of as_) (v.Text text ∷ []) ∷ k)
+    (ops.limited (joined (own_text c.args.store.now own.Subsep) c.args.subscripts.now)) c.key.result c.key.ensures.ok
+    c.key.ensures.err
     (λ k hid d a. ap (held g (seen (base g (c.args.store.now, t) hid) d))
-    (all_there (listed xs) (Value_of (p.group c.args.place xs as_)) (λ vs. keyed c.args.place vs (λ text k s. Goes (At (Members_of as_) (v.Text text ∷ []) ∷ k) s)) c.args.subscripts.now k (seen (base g (c.args.store.now, t) hid) d) e
-    ∙ keyed_so g (c.args.store.now, t) hid d a c.args.place c.args.subscripts.now (λ text k s. Goes (At (Members_of as_) (v.Text text ∷ []) ∷ k) s) k)))
+    (all_there (listed xs) (Value_of (p.group c.args.place xs as_))
+    (λ vs. keyed c.args.place vs (λ text k s. Goes (At (Members_of as_) (v.Text text ∷ []) ∷ k) s))
+    c.args.subscripts.now k (seen (base g (c.args.store.now, t) hid) d) e
+    ∙ keyed_so g (c.args.store.now, t) hid d a c.args.place c.args.subscripts.now
+    (λ text k s. Goes (At (Members_of as_) (v.Text text ∷ []) ∷ k) s) k)))

@@ -12,10 +12,14 @@ use Rattle.awk_builtins.proofs.keys.remove.Goals as goal
 pub returns-in_err-key : goal.returns-in_err-key
 returns-in_err-key c = λ g t xs e.
     let m = err_from_is_err_and c.from_residual.result c.from_residual.ensures.1 in
-    rw (m.1, m.2) (met_so g (c.args.store.now, t) _ c.args.place (ops.limited (joined (kept.own_text c.args.store.now own.Subsep) c.args.subscripts.now)) c.key.result _ c.key.ensures.err (sym c.at.ensures ∙ c.in_err-key.was)
+    rw (m.1, m.2) (met_so g (c.args.store.now, t) _ c.args.place
+    (ops.limited (joined (kept.own_text c.args.store.now own.Subsep) c.args.subscripts.now)) c.key.result _
+    c.key.ensures.err (sym c.at.ensures ∙ c.in_err-key.was)
     (removes_not g (c.args.store.now, t) c.args.place c.args.array xs c.args.subscripts.now e))
 
 pub returns : goal.returns
 returns c = λ g t xs e.
-    removes_so g (c.args.store.now, t) c.args.place c.args.array xs c.args.subscripts.now e c.in_ok-key.key c.remove.new.self (rw (ok_at c.args.place c.key.result c.in_ok-key.key (sym c.at.ensures ∙ c.in_ok-key.was)) at c.key.ensures.ok)
+    removes_so g (c.args.store.now, t) c.args.place c.args.array xs c.args.subscripts.now e c.in_ok-key.key
+    c.remove.new.self (rw (ok_at c.args.place c.key.result c.in_ok-key.key (sym c.at.ensures ∙ c.in_ok-key.was)) at
+    c.key.ensures.ok)
     (rw c.bytes.ensures at c.remove.ensures)

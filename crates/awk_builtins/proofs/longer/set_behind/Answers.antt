@@ -7,4 +7,5 @@ use Rattle.awk_builtins.proofs.longer.set_behind.Goals as goal
 pub returns-clause-ok : goal.returns-clause-ok
 returns-clause-ok c =
     let whole = v.Text (c.args.text ++ c.args.more.now) in
-    ok_so c.set_longer.result c.set_longer.ensures.ok (λ same. same ∙ ap (with_value c.args.to whole) c.set.ensures ∙ value_twice c.args.to v.Unset whole c.args.store.now)
+    ok_so c.set_longer.result c.set_longer.ensures.ok (λ same. same ∙ ap (with_value c.args.to whole) c.set.ensures
+    ∙ value_twice c.args.to v.Unset whole c.args.store.now)

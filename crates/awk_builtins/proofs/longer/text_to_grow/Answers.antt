@@ -15,7 +15,9 @@ pub returns-clause-begins : goal.returns-clause-begins
 returns-clause-begins c = λ g t.
     let holds = c.in_ok-text.ensures.text in
     let reads = c.reads_variable.ensures c.if-not-reads_variable.false (names_in g) in
-    let read : Passes g (value (view (names_in g) c.get.result.now)) (c.args.store.now, t) (give (v.Text c.in_ok-text.text)) (c.args.store.now, t) =
+    let read : Passes g (value (view (names_in g) c.get.result.now)) (c.args.store.now, t)
+    (give (v.Text c.in_ok-text.text)) (c.args.store.now, t) =
     rw (reads, sym holds) (variable_there g (c.args.store.now, t) c.args.to c.in_ok-text.ensures.nf) in
     rw (c.in-Concat.is, view-Concat, sym c.get.ensures, c.as_slice.ensures)
-    (operands_first g (c.args.store.now, t) (view (names_in g) c.get.result.now) (joins_of (map (view_joined (names_in g)) c.in-Concat.rest)) (v.Text c.in_ok-text.text) read)
+    (operands_first g (c.args.store.now, t) (view (names_in g) c.get.result.now)
+    (joins_of (map (view_joined (names_in g)) c.in-Concat.rest)) (v.Text c.in_ok-text.text) read)

@@ -10,6 +10,9 @@ use Rattle.awk_builtins.specs.Made.{storing}
 use Rattle.awk_builtins.proofs.made.computed_at.Goals as goal
 
 pub returns : goal.returns
-returns c = λ g w r x at. rw c.at.ensures (given_so g w _ c.args.place (storing c.args.place r at) c.computed.result (λ k hid d a.
-    ap (λ m. held g (seen (base g w hid) d) (granted c.args.place m (store (target r at) c.args.place) k (seen (base g w hid) d))) (sym c.computed.ensures)
-    ∙ ap (held g (seen (base g w hid) d)) (number_so c.args.place c.computed.result (store (target r at) c.args.place) k (seen (base g w hid) d))))
+returns c = λ g w r x at. rw c.at.ensures (given_so g w _ c.args.place (storing c.args.place r at) c.computed.result
+    (λ k hid d a.
+    ap (λ m. held g (seen (base g w hid) d) (granted c.args.place m (store (target r at) c.args.place) k
+    (seen (base g w hid) d))) (sym c.computed.ensures)
+    ∙ ap (held g (seen (base g w hid) d)) (number_so c.args.place c.computed.result (store (target r at) c.args.place) k
+    (seen (base g w hid) d))))

@@ -12,4 +12,5 @@ returns-in_err-ere-clause-plays c = λ g w.
     rw (e.1, e.2) (else_so _ (c.check.ensures.constant g w) c.in_err-ere.was)
 
 pub returns-clause-plays : goal.returns-clause-plays
-returns-clause-plays c = λ g w. done (reworded (then_so c.in_ok-ere.ere (c.check.ensures.constant g w) c.in_ok-ere.was) (λ k. ap (λ x. give (v.Text x) k) (sym c.in_ok-ere.ensures.ere.0)))
+returns-clause-plays c = λ g w. done (reworded (then_so c.in_ok-ere.ere (c.check.ensures.constant g w) c.in_ok-ere.was)
+    (λ k. ap (λ x. give (v.Text x) k) (sym c.in_ok-ere.ensures.ere.0)))

@@ -9,4 +9,5 @@ returns-in_err-found c = λ g t.
     rw (e.1, e.2) (else_so _ (c.matches_record.ensures g t) c.in_err-found.was)
 
 pub returns : goal.returns
-returns c = λ g t. rw c.truth_value.ensures (done (then_so c.in_ok-found.found (c.matches_record.ensures g t) c.in_ok-found.was))
+returns c = λ g t. rw c.truth_value.ensures
+    (done (then_so c.in_ok-found.found (c.matches_record.ensures g t) c.in_ok-found.was))

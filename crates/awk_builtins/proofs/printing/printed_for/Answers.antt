@@ -15,5 +15,12 @@ use Rattle.awk_builtins.proofs.Listed.{printed_some}
 use Rattle.awk_builtins.proofs.printing.printed_for.Goals as goal
 
 pub returns : goal.returns
-returns c = λ g t xs r e. rw (c.at.ensures, c.text_of_items.ensures.same) (given_or_lacks g (c.args.store.now, t) _ c.args.place (to_stream r c.args.name.now) (spec.printed c.args.store.now c.args.items.now) c.text_of_items.result c.text_of_items.ensures.ok c.text_of_items.ensures.err
-    (λ k hid d a. ap (held g (seen (base g (c.args.store.now, t) hid) d)) (printed_some machine.printed c.args.place (xs) (Doing (p.print c.args.place xs (Some r))) r c.args.name.now c.args.items.now k (seen (base g (c.args.store.now, t) hid) d) e) ∙ ap (λ m. held g (seen (base g (c.args.store.now, t) hid) d) (granted c.args.place m (λ x k s. Goes (to_stream r c.args.name.now x k) s) k (seen (base g (c.args.store.now, t) hid) d))) (printed-so g (c.args.store.now, t) hid d a c.args.items.now)))
+returns c = λ g t xs r e. rw (c.at.ensures, c.text_of_items.ensures.same)
+    (given_or_lacks g (c.args.store.now, t) _ c.args.place (to_stream r c.args.name.now)
+    (spec.printed c.args.store.now c.args.items.now) c.text_of_items.result c.text_of_items.ensures.ok
+    c.text_of_items.ensures.err
+    (λ k hid d a. ap (held g (seen (base g (c.args.store.now, t) hid) d)) (printed_some machine.printed c.args.place
+    (xs) (Doing (p.print c.args.place xs (Some r))) r c.args.name.now c.args.items.now k
+    (seen (base g (c.args.store.now, t) hid) d) e) ∙ ap (λ m. held g (seen (base g (c.args.store.now, t) hid) d)
+    (granted c.args.place m (λ x k s. Goes (to_stream r c.args.name.now x k) s) k
+    (seen (base g (c.args.store.now, t) hid) d))) (printed-so g (c.args.store.now, t) hid d a c.args.items.now)))

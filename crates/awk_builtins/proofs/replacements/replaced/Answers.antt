@@ -4,4 +4,5 @@ use Rattle.awk_builtins.proofs.replacements.replaced.Goals as goal
 
 pub returns : goal.returns
 returns c = λ g w to.
-    rw c.at.ensures (replaces_result g w c.args.place to c.args.ere.now (text_of c.args.new.now) c.args.old.now c.args.all c.replaced_text.result c.replaced_text.ensures.ok c.replaced_text.ensures.err)
+    rw c.at.ensures (replaces_result g w c.args.place to c.args.ere.now (text_of c.args.new.now) c.args.old.now
+    c.args.all c.replaced_text.result c.replaced_text.ensures.ok c.replaced_text.ensures.err)

@@ -8,16 +8,24 @@ use Rattle.awk_builtins.proofs.replacements.replaced_in.Goals as goal
 
 pub returns-in-Some : goal.returns-in-Some
 returns-in-Some c = λ g t x y r pattern to is from h.
-    passes (replaces_lent c.args.substitution.place c.args.substitution.extent x y r pattern c.args.substitution.new.now (value_of c.args.target.now) (meant (names_in g) c.args.target.now) to c.args.ere.now c.in-Some.old.now is (c.in-Some.ensures g t) h)
+    passes (replaces_lent c.args.substitution.place c.args.substitution.extent x y r pattern c.args.substitution.new.now
+    (value_of c.args.target.now) (meant (names_in g) c.args.target.now) to c.args.ere.now c.in-Some.old.now is
+    (c.in-Some.ensures g t) h)
     (rw c.is_all.ensures at (c.replaced.ensures g (c.args.store.now, t) (meant (names_in g) c.args.target.now)))
 
 pub returns-in_err-old : goal.returns-in_err-old
 returns-in_err-old c = λ g t x y r pattern to is from h.
     let e = err_from_is_err_and c.from_residual.result c.from_residual.ensures.1 in
-    rw (e.1, e.2) (stop _ (reads_old c.args.substitution.place c.args.substitution.extent x y r pattern c.args.substitution.new.now (value_of c.args.target.now) (meant (names_in g) c.args.target.now) to h) (c.read.ensures g t) c.in_err-old.was)
+    rw (e.1, e.2) (stop _ (reads_old c.args.substitution.place c.args.substitution.extent x y r pattern
+    c.args.substitution.new.now (value_of c.args.target.now) (meant (names_in g) c.args.target.now) to h)
+    (c.read.ensures g t) c.in_err-old.was)
 
 pub returns : goal.returns
 returns c = λ g t x y r pattern to is from h.
-    passes (replaces_in c.args.substitution.place c.args.substitution.extent x y r pattern c.args.substitution.new.now (value_of c.args.target.now) (meant (names_in g) c.args.target.now) to c.in_ok-old.old c.args.ere.now _ is refl
-    (doing c.in_ok-old.old (reads_old c.args.substitution.place c.args.substitution.extent x y r pattern c.args.substitution.new.now (value_of c.args.target.now) (meant (names_in g) c.args.target.now) to h) (c.read.ensures g t) c.in_ok-old.was))
-    (rw (c.is_all-2.ensures, c.text_in.ensures) at (c.replaced-2.ensures g (c.read.new.store, t) (meant (names_in g) c.args.target.now)))
+    passes (replaces_in c.args.substitution.place c.args.substitution.extent x y r pattern c.args.substitution.new.now
+    (value_of c.args.target.now) (meant (names_in g) c.args.target.now) to c.in_ok-old.old c.args.ere.now _ is refl
+    (doing c.in_ok-old.old (reads_old c.args.substitution.place c.args.substitution.extent x y r pattern
+    c.args.substitution.new.now (value_of c.args.target.now) (meant (names_in g) c.args.target.now) to h)
+    (c.read.ensures g t) c.in_ok-old.was))
+    (rw (c.is_all-2.ensures, c.text_in.ensures) at (c.replaced-2.ensures g (c.read.new.store, t)
+    (meant (names_in g) c.args.target.now)))

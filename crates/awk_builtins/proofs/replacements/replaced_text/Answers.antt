@@ -11,7 +11,8 @@ returns-in-Some-clause-ok c =
       ms,
       ok.2.found,
       sym (ap (λ with. substituted with c.args.old.now ms) c.text_in-with.ensures)
-          ∙ is_substituted c.args.ere.now c.text_in-with.result.now c.args.old.now c.args.all ok.0 ok.1 c.in-Some.replaced.0 c.in-Some.replaced.1 ok.2 fits,
+          ∙ is_substituted c.args.ere.now c.text_in-with.result.now c.args.old.now c.args.all ok.0 ok.1
+          c.in-Some.replaced.0 c.in-Some.replaced.1 ok.2 fits,
     )
 
 pub returns-in-None-clause-ok : goal.returns-in-None-clause-ok

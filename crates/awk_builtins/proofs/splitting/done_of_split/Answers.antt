@@ -15,7 +15,8 @@ returns-in_err-is_split-clause-not_done c = λ h g t q.
     rw (e.1, e.2) (else_so _ (c.split_now.ensures g t q) c.in_err-is_split.was)
 
 pub returns-then-not-is_split-clause-not_done : goal.returns-then-not-is_split-clause-not_done
-returns-then-not-is_split-clause-not_done c = λ h g t q. done (then_so c.in_ok-is_split.is_split (c.split_now.ensures g t q) c.in_ok-is_split.was)
+returns-then-not-is_split-clause-not_done c =
+    λ h g t q. done (then_so c.in_ok-is_split.is_split (c.split_now.ensures g t q) c.in_ok-is_split.was)
 
 ok_is : (b : Bool) → ◌≡◌ {A = Result Bool Halt} (Ok b) (Ok true) → b ≡ true
 ok_is true e = refl
@@ -30,9 +31,12 @@ returns-clause-done c = λ yes.
     let h = c.done_at_once.ensures.done (ok_is c.done_at_once.result yes) in
     record {
       val = h.val;
-      gives = λ g t. on {to = λ k. k} (then_so c.in_ok-is_split.is_split (c.split_now.ensures g t (value (view (names_in g) c.args.e.now))) c.in_ok-is_split.was) (h.gives g t);
+      gives = λ g t. on {to = λ k. k}
+          (then_so c.in_ok-is_split.is_split (c.split_now.ensures g t (value (view (names_in g) c.args.e.now)))
+          c.in_ok-is_split.was) (h.gives g t);
     }
 
 pub returns-clause-not_done : goal.returns-clause-not_done
 returns-clause-not_done c = λ h g t q.
-    rw (c.done_at_once.ensures.not_done (not_ok c.done_at_once.result h)) (done (then_so c.in_ok-is_split.is_split (c.split_now.ensures g t q) c.in_ok-is_split.was))
+    rw (c.done_at_once.ensures.not_done (not_ok c.done_at_once.result h))
+    (done (then_so c.in_ok-is_split.is_split (c.split_now.ensures g t q) c.in_ok-is_split.was))

@@ -14,4 +14,6 @@ returns-then-not-split c = λ g t q. rw c.rebuild_where.ensures.same (done (at_r
 
 pub returns : goal.returns
 returns c = λ g t q.
-    done (splits g t c.args.store.now c.field_count.new.self q (rw c.rebuild_where.ensures.same at c.field_count.ensures.others) (rw c.rebuild_where.ensures.same at c.field_count.ensures.kept))
+    done (splits g t c.args.store.now c.field_count.new.self q
+    (rw c.rebuild_where.ensures.same at c.field_count.ensures.others)
+    (rw c.rebuild_where.ensures.same at c.field_count.ensures.kept))

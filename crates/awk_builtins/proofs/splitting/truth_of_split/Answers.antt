@@ -9,7 +9,9 @@ returns-in_err-is_split-clause-plays c = λ g t q.
     rw (e.1, e.2) (else_so _ (c.split_now.ensures g t q) c.in_err-is_split.was)
 
 pub returns-then-not-is_split-clause-plays : goal.returns-then-not-is_split-clause-plays
-returns-then-not-is_split-clause-plays c = λ g t q. done (then_so c.in_ok-is_split.is_split (c.split_now.ensures g t q) c.in_ok-is_split.was)
+returns-then-not-is_split-clause-plays c =
+    λ g t q. done (then_so c.in_ok-is_split.is_split (c.split_now.ensures g t q) c.in_ok-is_split.was)
 
 pub returns-clause-plays : goal.returns-clause-plays
-returns-clause-plays c = λ g t q. done (then_so c.in_ok-is_split.is_split (c.split_now.ensures g t q) c.in_ok-is_split.was)
+returns-clause-plays c =
+    λ g t q. done (then_so c.in_ok-is_split.is_split (c.split_now.ensures g t q) c.in_ok-is_split.was)

@@ -1,8 +1,14 @@
-use Rattle.std.proofs.Common.{rules, ◌≡◌, ◌∙◌, ◌+◌, ◌<◌, ◌++◌, List, [], ◌∷◌, refl, sym, ap, arith, map, option_map, append-nil, append_assoc}
+use Rattle.std.proofs.Common.{rules, ◌≡◌, ◌∙◌, ◌+◌, ◌<◌, ◌++◌, List, [], ◌∷◌, refl, sym, ap, arith, map, option_map}
+use Rattle.std.proofs.Common.{append-nil, append_assoc}
 use Rattle.awk_tree.specs.Tree.{trees_of, perhaps_of, terms_of, pipes_of}
 use Rattle.awk_tree.specs.View.{view, view_term, view_piped}
-use Rattle.awk_tree.proofs.Views.{view-Number, view-Quoted, view-Pattern, view-Name, view-Element, view-Field, view-Paren, view-Call, view-Length, view-Builtin, view-Split, view-Substitute, view-Getline, view-Before, view-After, view-Signed, view-Power, view-Product, view-Sum, view-Concat, view-Pipe, view-Compare, view-Match, view-Group, view-In, view-And, view-Or, view-Choice, view-Assign}
-use Rattle.awk_canon.proofs.Weight.{weight, weights, weight_perhaps, weight_terms, weight_pipes, item_weight, term_weight, piped_weight}
+use Rattle.awk_tree.proofs.Views.{view-Number, view-Quoted, view-Pattern, view-Name, view-Element, view-Field}
+use Rattle.awk_tree.proofs.Views.{view-Paren, view-Call, view-Length, view-Builtin, view-Split, view-Substitute}
+use Rattle.awk_tree.proofs.Views.{view-Getline, view-Before, view-After, view-Signed, view-Power, view-Product}
+use Rattle.awk_tree.proofs.Views.{view-Sum, view-Concat, view-Pipe, view-Compare, view-Match, view-Group, view-In}
+use Rattle.awk_tree.proofs.Views.{view-And, view-Or, view-Choice, view-Assign}
+use Rattle.awk_canon.proofs.Weight.{weight, weights, weight_perhaps, weight_terms, weight_pipes, item_weight}
+use Rattle.awk_canon.proofs.Weight.{term_weight, piped_weight}
 use Rattle.awk_canon.proofs.Lists.{drop_here, and_is, or_is, list_from}
 use Rattle.awk_canon.proofs.expressions.+expression.Goals as goal
 

@@ -1,7 +1,11 @@
-use Rattle.std.proofs.Common.{rules, ◌≡◌, ◌∙◌, ◌+◌, ◌<◌, ◌++◌, List, [], ◌∷◌, refl, sym, ap, arith, map, option_map, append-nil, append_assoc}
+use Rattle.std.proofs.Common.{rules, ◌≡◌, ◌∙◌, ◌+◌, ◌<◌, ◌++◌, List, [], ◌∷◌, refl, sym, ap, arith, map, option_map}
+use Rattle.std.proofs.Common.{append-nil, append_assoc}
 use Rattle.awk_tree.specs.Tree.{statements_of}
 use Rattle.awk_tree.specs.View.{view_statement}
-use Rattle.awk_tree.proofs.Views.{statement-Empty, statement-Expr, statement-Print, statement-Printf, statement-Delete, statement-DeleteAll, statement-Jump, statement-Exit, statement-Return, statement-Block, statement-If, statement-IfElse, statement-While, statement-Do, statement-For, statement-ForIn}
+use Rattle.awk_tree.proofs.Views.{statement-Empty, statement-Expr, statement-Print, statement-Printf, statement-Delete}
+use Rattle.awk_tree.proofs.Views.{statement-DeleteAll, statement-Jump, statement-Exit, statement-Return}
+use Rattle.awk_tree.proofs.Views.{statement-Block, statement-If, statement-IfElse, statement-While, statement-Do}
+use Rattle.awk_tree.proofs.Views.{statement-For, statement-ForIn}
 use Rattle.awk_canon.proofs.Weight.{statement_weight, statement_weights, statement_item_weight}
 use Rattle.awk_canon.proofs.Lists.{drop_here}
 use Rattle.awk_canon.proofs.statements.+statement.Goals as goal

@@ -16,7 +16,8 @@ pub returns-then-is_blank : goal.returns-then-is_blank
 returns-then-is_blank c =
     let h = c.in_ok-best.ensures in
     let some : is_some c.in_ok-best.best ≡ true = sym c.if-is_some.ensures in
-    stops _ _ _ _ _ _ _ _ some (omega (arith, c.loop-place-test.true)) (omega arith) h.marks h.best (subst IsBlank c.swap.ensures.x_after (c.if-is_blank.ensures refl))
+    stops _ _ _ _ _ _ _ _ some (omega (arith, c.loop-place-test.true)) (omega arith) h.marks h.best
+    (subst IsBlank c.swap.ensures.x_after (c.if-is_blank.ensures refl))
 
 pub loop-place-preserved : goal.loop-place-preserved
 loop-place-preserved c =
@@ -32,9 +33,11 @@ loop-place-preserved c =
 pub arrive-requires-clause-marks : goal.arrive-requires-clause-marks
 arrive-requires-clause-marks c =
     let e : c.loop-place.place ≡ length c.args.text.now = omega arith in
-    subst (λ x. Marks c.args.sets.now c.args.program.now c.args.text.now c.args.entry c.args.from (limit_of x c.loop-place.best) x c.loop-place.here) e c.loop-place.invariant.marks
+    subst (λ x. Marks c.args.sets.now c.args.program.now c.args.text.now c.args.entry c.args.from
+    (limit_of x c.loop-place.best) x c.loop-place.here) e c.loop-place.invariant.marks
 
 pub arrive-requires-clause-best : goal.arrive-requires-clause-best
 arrive-requires-clause-best c =
     let e : c.loop-place.place ≡ length c.args.text.now = omega arith in
-    subst (λ x. BestOf (λ i j. Goes c.args.sets.now c.args.program.now c.args.text.now c.args.entry i 0 j) x c.args.from c.loop-place.best) e c.loop-place.invariant.best
+    subst (λ x. BestOf (λ i j. Goes c.args.sets.now c.args.program.now c.args.text.now c.args.entry i 0 j) x c.args.from
+    c.loop-place.best) e c.loop-place.invariant.best

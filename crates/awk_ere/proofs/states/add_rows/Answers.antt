@@ -3,7 +3,13 @@ use Rattle.awk_ere.proofs.Gathering.{later_self, later_then}
 use Rattle.awk_ere.proofs.states.add_rows.Goals as goal
 
 pub loop-cells-init : goal.loop-cells-init
-loop-cells-init c = record { later = later_self _; inside = c.requires.inside; few = c.requires.few; rows = c.requires.rows }
+loop-cells-init c = record {
+  later = later_self _;
+  inside = c.requires.inside;
+  few = c.requires.few;
+  rows =
+      c.requires.rows;
+}
 
 pub loop-cells-preserved : goal.loop-cells-preserved
 loop-cells-preserved c = record {

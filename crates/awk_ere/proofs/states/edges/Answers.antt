@@ -7,7 +7,8 @@ pub loop-step-init : goal.loop-step-init
 loop-step-init c = edges_begin _ _ _ refl
 
 pub loop-step-preserved : goal.loop-step-preserved
-loop-step-preserved c = edges_more _ _ _ _ _ _ (slice_get-get_or _ _ _ c.loop-step-test.true) c.add_edges.ensures.kept c.add_edges.ensures.edges c.loop-step.invariant
+loop-step-preserved c = edges_more _ _ _ _ _ _ (slice_get-get_or _ _ _ c.loop-step-test.true) c.add_edges.ensures.kept
+    c.add_edges.ensures.edges c.loop-step.invariant
 
 pub returns : goal.returns
 returns c = edges_end _ _ _ _ (omega arith) c.loop-step.invariant

@@ -6,5 +6,7 @@ use Rattle.awk_ere.proofs.states.has_done.Goals as goal
 
 pub returns : goal.returns
 returns c =
-    let d = contains_decides _ Decides-eqb _ _ _ c.contains.ensures.cases in
-    ((λ t. let y = d.0 t in (y.0, y.1, y.2 0)), (λ h. d.1 (h.0, h.1, λ e. get_or_default c.args.list.now h.0 e 0 h.1 ∙ h.2)))
+    let d = contains_decides _ Decides-eqb _ _ _ c.contains.ensures.cases in (
+      (λ t. let y = d.0 t in (y.0, y.1, y.2 0)),
+      (λ h. d.1 (h.0, h.1, λ e. get_or_default c.args.list.now h.0 e 0 h.1 ∙ h.2)),
+    )

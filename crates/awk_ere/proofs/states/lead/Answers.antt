@@ -3,7 +3,11 @@ use Rattle.awk_ere.proofs.Gathering.{leading_begins, leading_more, leading_ends}
 use Rattle.awk_ere.proofs.states.lead.Goals as goal
 
 pub loop-at-init : goal.loop-at-init
-loop-at-init c = record { len = c.in_ok-starts.ensures.len; leading = leading_begins _ _ _ _ _ c.in_ok-starts.ensures.blank }
+loop-at-init c = record {
+  len = c.in_ok-starts.ensures.len;
+  leading =
+      leading_begins _ _ _ _ _ c.in_ok-starts.ensures.blank;
+}
 
 pub loop-at-preserved : goal.loop-at-preserved
 loop-at-preserved c = record {

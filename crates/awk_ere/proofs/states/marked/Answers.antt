@@ -8,7 +8,8 @@ pub loop-at-init : goal.loop-at-init
 loop-at-init c = rw c.new-list.ensures.items (gather_begins _)
 
 pub loop-at-preserved : goal.loop-at-preserved
-loop-at-preserved c = gather_more (λ i p. (p ≡ i) × (mark c.args.starts.now p < NONE)) _ _ _ c.in_ok-push_marked.ensures c.loop-at.invariant
+loop-at-preserved c = gather_more (λ i p. (p ≡ i) × (mark c.args.starts.now p < NONE)) _ _ _ c.in_ok-push_marked.ensures
+    c.loop-at.invariant
 
 pub returns : goal.returns
 returns c = marks_gathered _ _ _ (omega arith) c.loop-at.invariant (marked_inside c.args.starts.now)

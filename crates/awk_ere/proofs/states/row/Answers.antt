@@ -12,13 +12,15 @@ loop-byte-preserved c = elim c.if-edges-byte.branch [
   | then-edges-byte+in_ok-before w ↦ rw (w.before-is, w.states-is) (record {
     len = omega (arith, c.loop-byte.invariant.len, length-set {A = ℕ});
     later = later_then _ _ _ c.loop-byte.invariant.later w.in_ok-before.ensures.later;
-    row = row_more _ _ _ _ _ _ _ _ _ (omega (arith, c.loop-byte.invariant.len)) w.in_ok-before.ensures.later w.in_ok-before.ensures.known c.loop-byte.invariant.row;
+    row = row_more _ _ _ _ _ _ _ _ _ (omega (arith, c.loop-byte.invariant.len)) w.in_ok-before.ensures.later
+        w.in_ok-before.ensures.known c.loop-byte.invariant.row;
   })
   | else-edges-byte w ↦ rw (w.before-is, w.states-is) (record {
     len = omega (arith, c.loop-byte.invariant.len, length-set {A = ℕ});
     later = c.loop-byte.invariant.later;
     row = row_more _ _ _ _ _ _ _ _ _ (omega (arith, c.loop-byte.invariant.len)) (later_self _)
-        (row_same _ _ c.args.edges.now _ _ _ _ _ c.requires.edges (omega arith) w.if-edges-byte.false c.loop-byte.invariant.row) c.loop-byte.invariant.row;
+        (row_same _ _ c.args.edges.now _ _ _ _ _ c.requires.edges (omega arith) w.if-edges-byte.false
+        c.loop-byte.invariant.row) c.loop-byte.invariant.row;
   })
 ]
 

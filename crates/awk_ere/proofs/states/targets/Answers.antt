@@ -8,7 +8,8 @@ loop-at-init c = rw c.new-found.ensures.items (gather_begins _)
 pub loop-at-preserved : goal.loop-at-preserved
 loop-at-preserved c =
     gather_more (Target c.args.sets.now c.args.program.now c.args.byte c.args.list.now) _ _ _
-    (target_gained c.args.sets.now c.args.program.now c.args.byte c.args.list.now _ _ _ c.loop-at-test.true c.in_ok-push_target.ensures) c.loop-at.invariant
+    (target_gained c.args.sets.now c.args.program.now c.args.byte c.args.list.now _ _ _ c.loop-at-test.true
+    c.in_ok-push_target.ensures) c.loop-at.invariant
 
 pub returns : goal.returns
 returns c = targets_gathered _ _ _ _ _ _ (omega arith) c.loop-at.invariant

@@ -19,7 +19,8 @@ returns-in_err-in_name c =
 pub loop-turn-preserved : goal.loop-turn-preserved
 loop-turn-preserved c =
     let h : is w.In (ahead c.loop-turn.tokens) ≡ true = cc in
-    rw c.in_ok-push.ensures.ok (many_goes (is w.In) _ _ _ _ _ _ _ _ c.loop-turn-test.true h c.in_ok-in_name.ensures c.loop-turn.invariant)
+    rw c.in_ok-push.ensures.ok (many_goes (is w.In) _ _ _ _ _ _ _ _ c.loop-turn-test.true h c.in_ok-in_name.ensures
+    c.loop-turn.invariant)
 
 pub returns-then-is : goal.returns-then-is
 returns-then-is c =

@@ -6,7 +6,8 @@ use Rattle.awk_expressions.proofs.nesting.+expr.Goals as goal
 
 pub returns-then-depth-eq0 : goal.returns-then-depth-eq0
 unfolding expr
-returns-then-depth-eq0 t c = λ _. let none : c.args.depth ≡ 0 = omega arith in rw none (first_of (cc, search rules, grind (arith, common_steps)))
+returns-then-depth-eq0 t c = λ _. let none : c.args.depth ≡ 0 = omega arith in
+    rw none (first_of (cc, search rules, grind (arith, common_steps)))
 
 pub returns : goal.returns
 unfolding expr

@@ -8,4 +8,5 @@ use Rattle.awk_expressions.proofs.nodes.member_of.Goals as goal
 pub returns : goal.returns
 returns c =
     let some : c.args.more ≢ [] = first_of (search rules, grind (arith, common_steps)) in
-    seen_as _ _ _ c.new.ensures (view-In c.args.left c.args.more ∙ sym (member_of-some (view c.args.left) c.args.more some))
+    seen_as _ _ _ c.new.ensures (view-In c.args.left c.args.more
+    ∙ sym (member_of-some (view c.args.left) c.args.more some))

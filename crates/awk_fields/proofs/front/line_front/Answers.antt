@@ -7,4 +7,6 @@ pub returns-else-place-unread-clause-inside : goal.returns-else-place-unread-cla
 returns-else-place-unread-clause-inside c =
     let place = c.mark_place-place.result in
     rw c.last_front.ensures
-    (last_inside c.args.unread.now 0 place place (Byte c.args.mark place) c.args.ended (omega arith) c.mark_place-place.ensures.inside c.mark_place-place.ensures.inside (omega (arith, c.mark_place-place.ensures.place)))
+    (last_inside c.args.unread.now 0 place place (Byte c.args.mark place) c.args.ended
+    (omega arith) c.mark_place-place.ensures.inside c.mark_place-place.ensures.inside
+    (omega (arith, c.mark_place-place.ensures.place)))

@@ -6,16 +6,23 @@ pub returns-then-more-eq0-clause-newlines : goal.returns-then-more-eq0-clause-ne
 returns-then-more-eq0-clause-newlines c =
     let s = c.args.unread.now in
     let known = c.known_paragraph-passed in
-    omega (arith, passed_all s known.result.0 known.result.1 c.newlines-more.result known.ensures.passed c.newlines-more.ensures.newlines, c.if-more-eq0.true)
+    omega (
+      arith,
+      passed_all s known.result.0 known.result.1 c.newlines-more.result known.ensures.passed
+          c.newlines-more.ensures.newlines,
+      c.if-more-eq0.true,
+    )
 
 pub returns-else-more-eq0-clause-newlines : goal.returns-else-more-eq0-clause-newlines
 returns-else-more-eq0-clause-newlines c =
     let s = c.args.unread.now in
     let known = c.known_paragraph-passed in
-    passed_all s known.result.0 known.result.1 c.newlines-more.result known.ensures.passed c.newlines-more.ensures.newlines
+    passed_all s known.result.0 known.result.1 c.newlines-more.result known.ensures.passed
+    c.newlines-more.ensures.newlines
 
 pub returns-else-more-eq0-clause-passed : goal.returns-else-more-eq0-clause-passed
 returns-else-more-eq0-clause-passed c =
     let s = c.args.unread.now in
     let known = c.known_paragraph-passed in
-    passed_only s _ (passed_all s known.result.0 known.result.1 c.newlines-more.result known.ensures.passed c.newlines-more.ensures.newlines)
+    passed_only s _ (passed_all s known.result.0 known.result.1 c.newlines-more.result known.ensures.passed
+    c.newlines-more.ensures.newlines)

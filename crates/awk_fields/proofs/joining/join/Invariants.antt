@@ -6,4 +6,5 @@ use Rattle.awk_fields.specs.Rows.{joined}
 use Rattle.awk_fields.proofs.joining.join.Given as goal
 
 abbrev pub invariant-loop-part : goal.invariant-loop-part
-invariant-loop-part l = l.made.items ++ flat_map (λ v. l.ofs ++ text_of v) (map (value_of l.text) (drop l.part-index l.others)) ≡ joined l.ofs (map (value_of l.text) l.fn.parts)
+invariant-loop-part l = l.made.items ++ flat_map (λ v. l.ofs ++ text_of v)
+    (map (value_of l.text) (drop l.part-index l.others)) ≡ joined l.ofs (map (value_of l.text) l.fn.parts)

@@ -14,5 +14,6 @@ returns-clause-unread c =
     let rest : length (drop c.args.start all) ≡ left = omega (arith, length-drop c.args.start all) in
     c.truncate.ensures.items ∙ ap (take left) c.copy_within.ensures.items
     ∙ ap (λ n. take left (paste all 0 (drop c.args.start all) (n - c.args.start))) long
-    ∙ ap (λ k. take k (paste all 0 (drop c.args.start all) left)) same ∙ take-paste all 0 (drop c.args.start all) left (omega arith) (omega arith)
+    ∙ ap (λ k. take k (paste all 0 (drop c.args.start all) left)) same ∙ take-paste all 0 (drop c.args.start all) left
+    (omega arith) (omega arith)
     ∙ take_all left (drop c.args.start all) (omega arith)

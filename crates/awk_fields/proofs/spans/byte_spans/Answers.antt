@@ -13,6 +13,7 @@ returns c =
     let start = c.loop-at.start in
     let spans = c.loop-at.spans.items in
     let whole : c.loop-at.at ≡ length s = omega (arith, c.loop-at.invariant.inside) in
-    let last = last_part marks s start spans c.push.new.self.items (subst (λ n. PartsTo marks s n start spans) whole c.loop-at.invariant) c.in_ok-push.ensures.items in
+    let last = last_part marks s start spans c.push.new.self.items
+    (subst (λ n. PartsTo marks s n start spans) whole c.loop-at.invariant) c.in_ok-push.ensures.items in
     let same : is_mark marks ≡ separates c.args.mark c.args.newline = λ i b. c.separators-marks.ensures b i in
     (last.0, last.1 ∙ ap (λ p. slice_split p s) same, last.2)

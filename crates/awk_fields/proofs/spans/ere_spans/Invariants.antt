@@ -8,7 +8,8 @@ abbrev pub invariant-loop-next : goal.invariant-loop-next
 invariant-loop-next l = record {
   next : IsNextSeparator l.pattern l.newline l.text l.start l.next;
   ahead : IfSome l.next (λ m. IsAhead l.pattern l.text m.1 l.ahead);
-  parts : (parts : List (List ℕ)) × SoughtTo l.pattern l.newline l.text l.start parts × AreSpans l.text l.spans.items parts;
+  parts : (parts : List (List ℕ)) × SoughtTo l.pattern l.newline l.text l.start parts
+      × AreSpans l.text l.spans.items parts;
   same : l.searches ≡ (l.pattern, l.text);
 }
 

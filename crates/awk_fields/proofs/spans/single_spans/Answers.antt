@@ -1,4 +1,5 @@
-use Rattle.std.proofs.Common.{◌≡◌, ◌+◌, ◌-◌, ◌<◌, ◌∷◌, ◌++◌, [], ℕ, map, take, drop, length, get_or, sym, ap, subst, ◌∙◌, arith}
+use Rattle.std.proofs.Common.{◌≡◌, ◌+◌, ◌-◌, ◌<◌, ◌∷◌, ◌++◌, [], ℕ, map, take, drop, length, get_or, sym, ap, subst}
+use Rattle.std.proofs.Common.{◌∙◌, arith}
 use Rattle.std.proofs.lemmas.List.{take_more, drop_more, map-append}
 use Rattle.awk_fields.specs.Spans.{AreSpans, part}
 use Rattle.awk_fields.proofs.Cuts.{one_more}
@@ -16,5 +17,6 @@ loop-start-preserved c =
     let more : map single (take start s) ++ (get_or s start 0 ∷ []) ∷ [] ≡ map single (take (start + 1) s) =
     sym (ap (map single) (take_more s start 0 lt) ∙ map-append single (take start s) (get_or s start 0 ∷ [])) in
     subst (AreSpans s c.push.new.self.items) more
-    (one_more s c.loop-start.spans.items c.push.new.self.items (record { start = start; end = start + 1 }) (map single (take start s)) (get_or s start 0 ∷ []) c.in_ok-push.ensures.items
+    (one_more s c.loop-start.spans.items c.push.new.self.items (record { start = start; end = start + 1 })
+    (map single (take start s)) (get_or s start 0 ∷ []) c.in_ok-push.ensures.items
     (record { ordered = omega arith; inside = omega arith }) same c.loop-start.invariant)

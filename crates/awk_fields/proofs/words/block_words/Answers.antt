@@ -13,5 +13,6 @@ returns-then-edges-eq0 c =
     let start = c.args.start in
     let inside = λ (e : start ≡ from). let no : ⊥ = omega (arith, c.if-start-from.true, e) in no in
     let none : mask_l (changes is_blank 64 false (drop from s)) ≡ 0 =
-    ap (λ b. mask_l (changes is_blank 64 b (drop from s))) (sym (ne_eqb start from inside)) ∙ sym c.block_edges-edges.ensures ∙ c.if-edges-eq0.true in
+    ap (λ b. mask_l (changes is_blank 64 b (drop from s))) (sym (ne_eqb start from inside))
+    ∙ sym c.block_edges-edges.ensures ∙ c.if-edges-eq0.true in
     open_still s from start c.args.end c.args.spans.now.items c.requires.words none c.requires.end

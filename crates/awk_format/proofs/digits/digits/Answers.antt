@@ -23,7 +23,8 @@ loop-left-preserved c =
       room = room;
       some = room_left c.args.base _ k room c.if-left-eq0.false;
       within = omega arith;
-      whole = step c.args.base l.left l.at k c.glyph.result c.args.upper l.buffer _ e c.glyph.ensures (omega arith) l.invariant.whole c.if-left-eq0.false;
+      whole = step c.args.base l.left l.at k c.glyph.result c.args.upper l.buffer _ e c.glyph.ensures
+          (omega arith) l.invariant.whole c.if-left-eq0.false;
     }
 
 pub returns : goal.returns
@@ -31,7 +32,8 @@ returns c =
     let l = c.loop-left in
     let k = l.at - 1 in
     let e : l.at ≡ suc k = omega arith in
-    let shown = last c.args.base l.left l.at k c.glyph.result c.args.upper l.buffer _ e c.glyph.ensures (omega arith) l.invariant.whole c.if-left-eq0.true in
+    let shown = last c.args.base l.left l.at k c.glyph.result c.args.upper l.buffer _ e c.glyph.ensures
+    (omega arith) l.invariant.whole c.if-left-eq0.true in
     let now = set l.buffer k c.glyph.result in
     let len : 22 ≡ length now = sym (length-set l.buffer k c.glyph.result ∙ l.invariant.length_is) in
     rw len (take_rest now k) ∙ shown

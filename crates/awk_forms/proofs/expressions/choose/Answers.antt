@@ -9,12 +9,33 @@ use Rattle.awk_forms.proofs.expressions.choose.Goals as goal
 
 pub returns-in_err-holds : goal.returns-in_err-holds
 returns-in_err-holds g c =
-    let e = err_from_is_err_and c.from_residual.result c.from_residual.ensures.1 in rw (e.1, e.2) (record { plays = λ m is. stop _ (λ k. refl) (quietly (at_once _ _ _) (λ k hid d a. refl)) (c.truth_of.ensures.does.plays m is) c.in_err-holds.was; owns = c.truth_of.ensures.does.owns })
+    let e = err_from_is_err_and c.from_residual.result c.from_residual.ensures.1 in
+    rw (e.1, e.2) (record {
+      plays = λ m is. stop _ (λ k. refl) (quietly (at_once _ _ _) (λ k hid d a. refl))
+          (c.truth_of.ensures.does.plays m is) c.in_err-holds.was;
+      owns = c.truth_of.ensures.does.owns;
+    })
 
 pub returns-then-holds : goal.returns-then-holds
 returns-then-holds g c =
-    record { plays = λ m is. passes (quietly (part _ (quietly (at_once _ _ _) (λ k hid d a. refl)) (c.truth_of.ensures.does.plays m is) c.in_ok-holds.was) (λ k hid d a. choose_so m (view (names_in m) c.args.x.now) (view (names_in m) c.args.y.now) (view (names_in m) c.args.z.now) c.truth_of.ensures.val true k _ (sym (told_truth c.truth_of.ensures.val _ _ c.in_ok-holds.was c.truth_of.ensures.is) ∙ c.if-holds.true))) (c.value.ensures.plays m is); owns = c.value.ensures.owns }
+    record {
+      plays = λ m is. passes
+          (quietly (part _ (quietly (at_once _ _ _) (λ k hid d a. refl)) (c.truth_of.ensures.does.plays m is)
+          c.in_ok-holds.was) (λ k hid d a. choose_so m (view (names_in m) c.args.x.now) (view (names_in m) c.args.y.now)
+          (view (names_in m) c.args.z.now) c.truth_of.ensures.val true k _
+          (sym (told_truth c.truth_of.ensures.val _ _ c.in_ok-holds.was c.truth_of.ensures.is) ∙ c.if-holds.true)))
+          (c.value.ensures.plays m is);
+      owns = c.value.ensures.owns;
+    }
 
 pub returns-else-holds : goal.returns-else-holds
 returns-else-holds g c =
-    record { plays = λ m is. passes (quietly (part _ (quietly (at_once _ _ _) (λ k hid d a. refl)) (c.truth_of.ensures.does.plays m is) c.in_ok-holds.was) (λ k hid d a. choose_so m (view (names_in m) c.args.x.now) (view (names_in m) c.args.y.now) (view (names_in m) c.args.z.now) c.truth_of.ensures.val false k _ (sym (told_truth c.truth_of.ensures.val _ _ c.in_ok-holds.was c.truth_of.ensures.is) ∙ c.if-holds.false))) (c.value-else-holds.ensures.plays m is); owns = c.value-else-holds.ensures.owns }
+    record {
+      plays = λ m is. passes
+          (quietly (part _ (quietly (at_once _ _ _) (λ k hid d a. refl)) (c.truth_of.ensures.does.plays m is)
+          c.in_ok-holds.was) (λ k hid d a. choose_so m (view (names_in m) c.args.x.now) (view (names_in m) c.args.y.now)
+          (view (names_in m) c.args.z.now) c.truth_of.ensures.val false k _
+          (sym (told_truth c.truth_of.ensures.val _ _ c.in_ok-holds.was c.truth_of.ensures.is) ∙ c.if-holds.false)))
+          (c.value-else-holds.ensures.plays m is);
+      owns = c.value-else-holds.ensures.owns;
+    }

@@ -19,11 +19,21 @@ use Rattle.awk_forms.proofs.growing.put_longer.Goals as goal
 pub returns-in_default : goal.returns-in_default
 returns-in_default g c =
     let h = c.put_variable.ensures in
-    record { val = h.val; is = h.is; does = record { plays = λ m is. rw c.text_to_grow.ensures.same at (h.does.plays m is); owns = h.does.owns } }
+    record {
+      val = h.val;
+      is = h.is;
+      does =
+          record { plays = λ m is. rw c.text_to_grow.ensures.same at (h.does.plays m is); owns = h.does.owns };
+    }
 
 pub returns-in_default-below : goal.returns-in_default-below
 returns-in_default-below g c =
-    record { val = v.Unset; is = tt; does = record { plays = λ m is. rw c.text_to_grow.ensures.same (lacking (at_once _ _ _)); owns = c.requires.owns } }
+    record {
+      val = v.Unset;
+      is = tt;
+      does =
+          record { plays = λ m is. rw c.text_to_grow.ensures.same (lacking (at_once _ _ _)); owns = c.requires.owns };
+    }
 
 pub returns-in_err-more : goal.returns-in_err-more
 returns-in_err-more g c =
@@ -32,7 +42,13 @@ returns-in_err-more g c =
       is = tt;
       does = record {
         plays = λ m is.
-            stop _ (λ k. refl) (part (tt {0}) (quietly (quietly (quietly (at_once _ _ _) (λ k hid d a. refl)) (λ k hid d a. refl)) (λ k hid d a. refl)) (acted (there {on = λ (u : Unit {0}) k. At (Texts_of (joins_of (map (view_joined (names_in m)) c.in-Some.longer.rest.now))) (v.Text c.in-Some.longer.text ∷ []) ∷ k} {x = tt {0}} (c.in-Some.ensures.begins m c.args.run.now.streams))) refl)
+            stop _ (λ k. refl) (part (tt {0})
+            (quietly (quietly (quietly (at_once _ _ _) (λ k hid d a. refl)) (λ k hid d a. refl))
+            (λ k hid d a. refl)) (acted
+            (there {on = λ (u : Unit {0}) k. At
+            (Texts_of (joins_of (map (view_joined (names_in m)) c.in-Some.longer.rest.now)))
+            (v.Text c.in-Some.longer.text ∷ []) ∷ k} {x = tt {0}}
+            (c.in-Some.ensures.begins m c.args.run.now.streams))) refl)
             (rw c.text_to_grow.ensures.same at (c.operands.ensures.plays m is)) c.in_err-more.was;
         owns = c.operands.ensures.owns;
       };
@@ -46,10 +62,20 @@ returns g c =
       is = unwanted c.set_behind.result;
       does = record {
         plays = λ m is.
-            rests (hands_on (λ k. refl) (quietly {then_ = λ k. Do (Set (meant (names_in m) (s.Variable c.args.variable)) c.args.place new) ∷ Do (Give (stored (meant (names_in m) (s.Variable c.args.variable)) new)) ∷ k}
-            (part _ (part (tt {0}) (quietly (quietly (quietly (at_once _ _ _) (λ k hid d a. refl)) (λ k hid d a. refl)) (λ k hid d a. refl)) (acted (there {on = λ (u : Unit {0}) k. At (Texts_of (joins_of (map (view_joined (names_in m)) c.in-Some.longer.rest.now))) (v.Text c.in-Some.longer.text ∷ []) ∷ k} {x = tt {0}} (c.in-Some.ensures.begins m c.args.run.now.streams))) refl)
+            rests (hands_on (λ k. refl)
+            (quietly {then_ = λ k. Do (Set (meant (names_in m) (s.Variable c.args.variable)) c.args.place new) ∷ Do
+            (Give (stored (meant (names_in m) (s.Variable c.args.variable)) new)) ∷ k}
+            (part _ (part (tt {0}) (quietly (quietly (quietly (at_once _ _ _) (λ k hid d a. refl)) (λ k hid d a. refl))
+            (λ k hid d a. refl)) (acted
+            (there {on = λ (u : Unit {0}) k. At
+            (Texts_of (joins_of (map (view_joined (names_in m)) c.in-Some.longer.rest.now)))
+            (v.Text c.in-Some.longer.text ∷ []) ∷ k} {x = tt {0}}
+            (c.in-Some.ensures.begins m c.args.run.now.streams))) refl)
             (rw c.text_to_grow.ensures.same at (c.operands.ensures.plays m is)) c.in_ok-more.was) (λ k hid d a. refl))
-            (acted (sets_behind m (c.operands.new.run.store, c.operands.new.run.streams) c.args.variable c.args.place new c.set_behind.new.store c.set_behind.result c.in-Some.ensures.nf (rw c.as_slice.ensures.value at c.set_behind.ensures.ok) c.set_behind.ensures.err c.set_behind.ensures.used)))
+            (acted (sets_behind m (c.operands.new.run.store, c.operands.new.run.streams) c.args.variable c.args.place
+            new c.set_behind.new.store c.set_behind.result c.in-Some.ensures.nf
+            (rw c.as_slice.ensures.value at c.set_behind.ensures.ok) c.set_behind.ensures.err
+            c.set_behind.ensures.used)))
             (λ x k hid d a. rw (stored-so m _ hid d a (s.Variable c.args.variable) new) refl);
         owns = c.operands.ensures.owns;
       };

@@ -8,8 +8,19 @@ use Rattle.awk_forms.proofs.inputs.getline.Goals as goal
 
 pub returns-in_err-to : goal.returns-in_err-to
 returns-in_err-to g c =
-    let e = err_from_is_err_and c.from_residual.result c.from_residual.ensures.1 in rw (e.1, e.2) (record { plays = λ m is. stop _ (λ k. refl) (quietly (at_once _ _ _) (λ k hid d a. refl)) (c.target_of.ensures.plays.plays m is) c.in_err-to.was; owns = c.target_of.ensures.plays.owns })
+    let e = err_from_is_err_and c.from_residual.result c.from_residual.ensures.1 in
+    rw (e.1, e.2) (record {
+      plays = λ m is. stop _ (λ k. refl) (quietly (at_once _ _ _) (λ k hid d a. refl))
+          (c.target_of.ensures.plays.plays m is) c.in_err-to.was;
+      owns = c.target_of.ensures.plays.owns;
+    })
 
 pub returns : goal.returns
 returns g c =
-    record { plays = λ m is. passes (part _ (quietly (at_once _ _ _) (λ k hid d a. refl)) (c.target_of.ensures.plays.plays m is) c.in_ok-to.was) (c.getline_main.ensures.task m is.host (view_target (names_in m) c.args.target.now) (c.in_ok-to.ensures.spot (names_in m))); owns = c.getline_main.ensures.owns }
+    record {
+      plays = λ m is. passes (part _ (quietly (at_once _ _ _) (λ k hid d a. refl))
+          (c.target_of.ensures.plays.plays m is) c.in_ok-to.was) (c.getline_main.ensures.task m is.host
+          (view_target (names_in m) c.args.target.now) (c.in_ok-to.ensures.spot (names_in m)));
+      owns =
+          c.getline_main.ensures.owns;
+    }

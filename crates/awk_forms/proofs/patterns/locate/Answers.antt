@@ -11,15 +11,19 @@ pub returns-in_err-text : goal.returns-in_err-text
 returns-in_err-text g c =
     let e = err_from_is_err_and c.from_residual.result c.from_residual.ensures.1 in rw (e.1, e.2) (record {
       plays = λ m is.
-          (stop _ (λ k. refl) (quietly (at_once _ _ _) (λ k hid d a. refl)) (c.value.ensures.plays m is) c.in_err-text.was);
+          (stop _ (λ k. refl) (quietly (at_once _ _ _) (λ k hid d a. refl)) (c.value.ensures.plays m is)
+          c.in_err-text.was);
       owns = c.value.ensures.owns;
     })
 
 pub returns-in_err-from : goal.returns-in_err-from
 returns-in_err-from g c =
-    let e = err_from_is_err_and c.from_residual-in_err-from.result c.from_residual-in_err-from.ensures.1 in rw (e.1, e.2) (record {
+    let e = err_from_is_err_and c.from_residual-in_err-from.result c.from_residual-in_err-from.ensures.1 in
+    rw (e.1, e.2) (record {
       plays = λ m is.
-          (stop _ (λ k. refl) (quietly (part _ (quietly (at_once _ _ _) (λ k hid d a. refl)) (c.value.ensures.plays m is) c.in_ok-text.was) (λ k hid d a. refl)) (c.source_of.ensures.plays.plays m is) c.in_err-from.was);
+          (stop _ (λ k. refl) (quietly (part _ (quietly (at_once _ _ _) (λ k hid d a. refl))
+          (c.value.ensures.plays m is) c.in_ok-text.was) (λ k hid d a. refl)) (c.source_of.ensures.plays.plays m is)
+          c.in_err-from.was);
       owns = c.source_of.ensures.plays.owns;
     })
 
@@ -27,6 +31,9 @@ pub returns : goal.returns
 returns g c =
     record {
       plays = λ m is.
-          passes (part _ (quietly (part _ (quietly (at_once _ _ _) (λ k hid d a. refl)) (c.value.ensures.plays m is) c.in_ok-text.was) (λ k hid d a. refl)) (c.source_of.ensures.plays.plays m is) c.in_ok-from.was) (acted (c.located.ensures m c.source_of.new.run.streams (view (names_in m) c.args.x.now) (view_ere (names_in m) c.args.pattern.now) (c.in_ok-from.ensures.kind (names_in m))));
+          passes (part _ (quietly (part _ (quietly (at_once _ _ _) (λ k hid d a. refl)) (c.value.ensures.plays m is)
+          c.in_ok-text.was) (λ k hid d a. refl)) (c.source_of.ensures.plays.plays m is) c.in_ok-from.was)
+          (acted (c.located.ensures m c.source_of.new.run.streams (view (names_in m) c.args.x.now)
+          (view_ere (names_in m) c.args.pattern.now) (c.in_ok-from.ensures.kind (names_in m))));
       owns = c.source_of.ensures.plays.owns;
     }

@@ -11,23 +11,31 @@ pub returns-in_err-from : goal.returns-in_err-from
 returns-in_err-from g c =
     let e = err_from_is_err_and c.from_residual.result c.from_residual.ensures.1 in rw (e.1, e.2) (record {
       plays = λ m is.
-          (stop _ (λ k. refl) (quietly (at_once _ _ _) (λ k hid d a. refl)) (c.source_of.ensures.plays.plays m is) c.in_err-from.was);
+          (stop _ (λ k. refl) (quietly (at_once _ _ _) (λ k hid d a. refl)) (c.source_of.ensures.plays.plays m is)
+          c.in_err-from.was);
       owns = c.source_of.ensures.plays.owns;
     })
 
 pub returns-in_err-new : goal.returns-in_err-new
 returns-in_err-new g c =
-    let e = err_from_is_err_and c.from_residual-in_err-new.result c.from_residual-in_err-new.ensures.1 in rw (e.1, e.2) (record {
+    let e = err_from_is_err_and c.from_residual-in_err-new.result c.from_residual-in_err-new.ensures.1 in
+    rw (e.1, e.2) (record {
       plays = λ m is.
-          (stop _ (λ k. refl) (quietly (part _ (quietly (at_once _ _ _) (λ k hid d a. refl)) (c.source_of.ensures.plays.plays m is) c.in_ok-from.was) (λ k hid d a. refl)) (c.value.ensures.plays m is) c.in_err-new.was);
+          (stop _ (λ k. refl) (quietly (part _ (quietly (at_once _ _ _) (λ k hid d a. refl))
+          (c.source_of.ensures.plays.plays m is) c.in_ok-from.was) (λ k hid d a. refl)) (c.value.ensures.plays m is)
+          c.in_err-new.was);
       owns = c.value.ensures.owns;
     })
 
 pub returns-in_err-to : goal.returns-in_err-to
 returns-in_err-to g c =
-    let e = err_from_is_err_and c.from_residual-in_err-to.result c.from_residual-in_err-to.ensures.1 in rw (e.1, e.2) (record {
+    let e = err_from_is_err_and c.from_residual-in_err-to.result c.from_residual-in_err-to.ensures.1 in
+    rw (e.1, e.2) (record {
       plays = λ m is.
-          (stop _ (λ k. refl) (quietly (part _ (quietly (part _ (quietly (at_once _ _ _) (λ k hid d a. refl)) (c.source_of.ensures.plays.plays m is) c.in_ok-from.was) (λ k hid d a. refl)) (c.value.ensures.plays m is) c.in_ok-new.was) (λ k hid d a. refl)) (c.target_of.ensures.plays.plays m is) c.in_err-to.was);
+          (stop _ (λ k. refl) (quietly
+          (part _ (quietly (part _ (quietly (at_once _ _ _) (λ k hid d a. refl))
+          (c.source_of.ensures.plays.plays m is) c.in_ok-from.was) (λ k hid d a. refl)) (c.value.ensures.plays m is)
+          c.in_ok-new.was) (λ k hid d a. refl)) (c.target_of.ensures.plays.plays m is) c.in_err-to.was);
       owns = c.target_of.ensures.plays.owns;
     })
 
@@ -35,6 +43,12 @@ pub returns : goal.returns
 returns g c =
     record {
       plays = λ m is.
-          passes (part _ (quietly (part _ (quietly (part _ (quietly (at_once _ _ _) (λ k hid d a. refl)) (c.source_of.ensures.plays.plays m is) c.in_ok-from.was) (λ k hid d a. refl)) (c.value.ensures.plays m is) c.in_ok-new.was) (λ k hid d a. refl)) (c.target_of.ensures.plays.plays m is) c.in_ok-to.was) (acted (c.substitute.ensures m c.target_of.new.run.streams (view_ere (names_in m) c.args.pattern.now) (view (names_in m) c.args.x.now) (view_target (names_in m) c.args.target.now) (c.in_ok-from.ensures.kind (names_in m)) (c.in_ok-to.ensures.spot (names_in m))));
+          passes (part _ (quietly
+          (part _ (quietly (part _ (quietly (at_once _ _ _) (λ k hid d a. refl))
+          (c.source_of.ensures.plays.plays m is) c.in_ok-from.was) (λ k hid d a. refl)) (c.value.ensures.plays m is)
+          c.in_ok-new.was) (λ k hid d a. refl)) (c.target_of.ensures.plays.plays m is) c.in_ok-to.was)
+          (acted (c.substitute.ensures m c.target_of.new.run.streams (view_ere (names_in m) c.args.pattern.now)
+          (view (names_in m) c.args.x.now) (view_target (names_in m) c.args.target.now)
+          (c.in_ok-from.ensures.kind (names_in m)) (c.in_ok-to.ensures.spot (names_in m))));
       owns = c.target_of.ensures.plays.owns;
     }

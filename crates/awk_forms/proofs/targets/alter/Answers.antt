@@ -17,20 +17,102 @@ use Rattle.awk_text.specs.declared.value.Value.TheVariants as v
 
 pub returns-in_err-to : goal.returns-in_err-to
 returns-in_err-to g c =
-    let e = err_from_is_err_and c.from_residual.result c.from_residual.ensures.1 in rw (e.1, e.2) (record { val = v.Unset; is = tt; does = record { plays = λ m is. stop _ (λ k. refl) (quietly (at_once _ _ _) (λ k hid d a. refl)) (c.target_of.ensures.plays.plays m is) c.in_err-to.was; owns = c.target_of.ensures.plays.owns } })
+    let e = err_from_is_err_and c.from_residual.result c.from_residual.ensures.1 in
+    rw (e.1, e.2) (record {
+      val = v.Unset;
+      is = tt;
+      does =
+          record {
+            plays = λ m is. stop _ (λ k. refl) (quietly (at_once _ _ _) (λ k hid d a. refl))
+                (c.target_of.ensures.plays.plays m is) c.in_err-to.was;
+            owns = c.target_of.ensures.plays.owns;
+          };
+    })
 
 pub returns-in_err-operand : goal.returns-in_err-operand
 returns-in_err-operand g c =
-    let e = err_from_is_err_and c.from_residual-in_err-operand.result c.from_residual-in_err-operand.ensures.1 in rw (e.1, e.2) (record { val = v.Unset; is = tt; does = record { plays = λ m is. stop _ (λ k. refl) (quietly (part _ (quietly (at_once _ _ _) (λ k hid d a. refl)) (c.target_of.ensures.plays.plays m is) c.in_ok-to.was) (λ k hid d a. refl)) (c.value.ensures.plays m is) c.in_err-operand.was; owns = c.value.ensures.owns } })
+    let e = err_from_is_err_and c.from_residual-in_err-operand.result c.from_residual-in_err-operand.ensures.1 in
+    rw (e.1, e.2) (record {
+      val = v.Unset;
+      is = tt;
+      does =
+          record {
+            plays = λ m is. stop _ (λ k. refl)
+                (quietly (part _ (quietly (at_once _ _ _) (λ k hid d a. refl)) (c.target_of.ensures.plays.plays m is)
+                c.in_ok-to.was) (λ k hid d a. refl)) (c.value.ensures.plays m is) c.in_err-operand.was;
+            owns =
+                c.value.ensures.owns;
+          };
+    })
 
 pub returns-in_err-old : goal.returns-in_err-old
 returns-in_err-old g c =
-    let e = err_from_is_err_and c.from_residual-in_err-old.result c.from_residual-in_err-old.ensures.1 in rw (e.1, e.2) (record { val = v.Unset; is = tt; does = record { plays = λ m is. stop _ (λ k. refl) (quietly {then_ = λ k. Do (Get (meant (names_in m) c.in_ok-to.to)) ∷ At (Value_of (p.change c.args.place c.args.how (view_target (names_in m) c.args.target.now) (view (names_in m) c.args.x.now))) (c.in_ok-operand.operand ∷ value_of c.in_ok-to.to ∷ []) ∷ k} (part _ (quietly (part _ (quietly (at_once _ _ _) (λ k hid d a. refl)) (c.target_of.ensures.plays.plays m is) c.in_ok-to.was) (λ k hid d a. refl)) (c.value.ensures.plays m is) c.in_ok-operand.was) (λ k hid d a. rw (c.in_ok-to.ensures.spot (names_in m)) refl)) (acted (c.read.ensures m c.value.new.run.streams)) c.in_err-old.was; owns = c.value.ensures.owns } })
+    let e = err_from_is_err_and c.from_residual-in_err-old.result c.from_residual-in_err-old.ensures.1 in
+    rw (e.1, e.2) (record {
+      val = v.Unset;
+      is = tt;
+      does =
+          record {
+            plays = λ m is. stop _ (λ k. refl)
+                (quietly {then_ = λ k. Do (Get (meant (names_in m) c.in_ok-to.to)) ∷ At
+                (Value_of (p.change c.args.place c.args.how (view_target (names_in m) c.args.target.now)
+                (view (names_in m) c.args.x.now))) (c.in_ok-operand.operand ∷ value_of c.in_ok-to.to ∷ []) ∷ k}
+                (part _ (quietly (part _ (quietly (at_once _ _ _) (λ k hid d a. refl)) (c.target_of.ensures.plays.plays m is)
+                c.in_ok-to.was) (λ k hid d a. refl)) (c.value.ensures.plays m is) c.in_ok-operand.was)
+                (λ k hid d a. rw (c.in_ok-to.ensures.spot (names_in m)) refl))
+                (acted (c.read.ensures m c.value.new.run.streams)) c.in_err-old.was;
+            owns = c.value.ensures.owns;
+          };
+    })
 
 pub returns-in_err-number : goal.returns-in_err-number
 returns-in_err-number g c =
-    let e = err_from_is_err_and c.from_residual-in_err-number.result c.from_residual-in_err-number.ensures.1 in rw (e.1, e.2) (record { val = v.Unset; is = tt; does = record { plays = λ m is. stop _ (λ k. refl) (part _ (quietly {then_ = λ k. Do (Get (meant (names_in m) c.in_ok-to.to)) ∷ At (Value_of (p.change c.args.place c.args.how (view_target (names_in m) c.args.target.now) (view (names_in m) c.args.x.now))) (c.in_ok-operand.operand ∷ value_of c.in_ok-to.to ∷ []) ∷ k} (part _ (quietly (part _ (quietly (at_once _ _ _) (λ k hid d a. refl)) (c.target_of.ensures.plays.plays m is) c.in_ok-to.was) (λ k hid d a. refl)) (c.value.ensures.plays m is) c.in_ok-operand.was) (λ k hid d a. rw (c.in_ok-to.ensures.spot (names_in m)) refl)) (acted (c.read.ensures m c.value.new.run.streams)) c.in_ok-old.was) (acted (c.computed_at.ensures m (c.read.new.store, c.value.new.run.streams) (view_target (names_in m) c.args.target.now) (view (names_in m) c.args.x.now) (value_of c.in_ok-to.to))) c.in_err-number.was; owns = c.value.ensures.owns } })
+    let e = err_from_is_err_and c.from_residual-in_err-number.result c.from_residual-in_err-number.ensures.1 in
+    rw (e.1, e.2) (record {
+      val = v.Unset;
+      is = tt;
+      does =
+          record {
+            plays = λ m is. stop _ (λ k. refl)
+                (part _ (quietly {then_ = λ k. Do (Get (meant (names_in m) c.in_ok-to.to)) ∷ At
+                (Value_of (p.change c.args.place c.args.how (view_target (names_in m) c.args.target.now)
+                (view (names_in m) c.args.x.now))) (c.in_ok-operand.operand ∷ value_of c.in_ok-to.to ∷ []) ∷ k}
+                (part _ (quietly (part _ (quietly (at_once _ _ _) (λ k hid d a. refl)) (c.target_of.ensures.plays.plays m is)
+                c.in_ok-to.was) (λ k hid d a. refl)) (c.value.ensures.plays m is) c.in_ok-operand.was)
+                (λ k hid d a. rw (c.in_ok-to.ensures.spot (names_in m)) refl))
+                (acted (c.read.ensures m c.value.new.run.streams)) c.in_ok-old.was)
+                (acted (c.computed_at.ensures m (c.read.new.store, c.value.new.run.streams)
+                (view_target (names_in m) c.args.target.now) (view (names_in m) c.args.x.now) (value_of c.in_ok-to.to)))
+                c.in_err-number.was;
+            owns = c.value.ensures.owns;
+          };
+    })
 
 pub returns : goal.returns
 returns g c =
-    record { val = spots.stored c.in_ok-to.to (v.Num c.in_ok-number.number); is = unwanted c.set.result; does = record { plays = λ m is. rests (hands_on (λ k. refl) (turned {then_ = λ k. Do (Set (meant (names_in m) c.in_ok-to.to) c.args.place (v.Num c.in_ok-number.number)) ∷ Do (Give (stored (meant (names_in m) c.in_ok-to.to) (v.Num c.in_ok-number.number))) ∷ k} (part _ (part _ (quietly {then_ = λ k. Do (Get (meant (names_in m) c.in_ok-to.to)) ∷ At (Value_of (p.change c.args.place c.args.how (view_target (names_in m) c.args.target.now) (view (names_in m) c.args.x.now))) (c.in_ok-operand.operand ∷ value_of c.in_ok-to.to ∷ []) ∷ k} (part _ (quietly (part _ (quietly (at_once _ _ _) (λ k hid d a. refl)) (c.target_of.ensures.plays.plays m is) c.in_ok-to.was) (λ k hid d a. refl)) (c.value.ensures.plays m is) c.in_ok-operand.was) (λ k hid d a. rw (c.in_ok-to.ensures.spot (names_in m)) refl)) (acted (c.read.ensures m c.value.new.run.streams)) c.in_ok-old.was) (acted (c.computed_at.ensures m (c.read.new.store, c.value.new.run.streams) (view_target (names_in m) c.args.target.now) (view (names_in m) c.args.x.now) (value_of c.in_ok-to.to))) c.in_ok-number.was) (λ k. ap (λ t. Do (Set t c.args.place (v.Num c.in_ok-number.number)) ∷ Do (Give (stored t (v.Num c.in_ok-number.number))) ∷ k) (c.in_ok-to.ensures.spot (names_in m)))) (acted (rw (to_z-of_z w64 c.in_ok-number.number (search rules)) at (c.set.ensures m c.value.new.run.streams)))) (λ x k hid d a. rw (stored-so m _ hid d a c.in_ok-to.to (v.Num c.in_ok-number.number)) refl); owns = c.value.ensures.owns } }
+    record {
+      val = spots.stored c.in_ok-to.to (v.Num c.in_ok-number.number);
+      is = unwanted c.set.result;
+      does =
+          record {
+            plays = λ m is. rests
+                (hands_on (λ k. refl)
+                (turned {then_ = λ k. Do (Set (meant (names_in m) c.in_ok-to.to) c.args.place (v.Num c.in_ok-number.number)) ∷
+                Do (Give (stored (meant (names_in m) c.in_ok-to.to) (v.Num c.in_ok-number.number))) ∷ k}
+                (part _ (part _ (quietly {then_ = λ k. Do (Get (meant (names_in m) c.in_ok-to.to)) ∷ At
+                (Value_of (p.change c.args.place c.args.how (view_target (names_in m) c.args.target.now)
+                (view (names_in m) c.args.x.now))) (c.in_ok-operand.operand ∷ value_of c.in_ok-to.to ∷ []) ∷ k}
+                (part _ (quietly (part _ (quietly (at_once _ _ _) (λ k hid d a. refl)) (c.target_of.ensures.plays.plays m is)
+                c.in_ok-to.was) (λ k hid d a. refl)) (c.value.ensures.plays m is) c.in_ok-operand.was)
+                (λ k hid d a. rw (c.in_ok-to.ensures.spot (names_in m)) refl))
+                (acted (c.read.ensures m c.value.new.run.streams)) c.in_ok-old.was)
+                (acted (c.computed_at.ensures m (c.read.new.store, c.value.new.run.streams)
+                (view_target (names_in m) c.args.target.now) (view (names_in m) c.args.x.now) (value_of c.in_ok-to.to)))
+                c.in_ok-number.was) (λ k. ap (λ t. Do (Set t c.args.place (v.Num c.in_ok-number.number)) ∷ Do
+                (Give (stored t (v.Num c.in_ok-number.number))) ∷ k) (c.in_ok-to.ensures.spot (names_in m))))
+                (acted (rw (to_z-of_z w64 c.in_ok-number.number (search rules)) at (c.set.ensures m c.value.new.run.streams))))
+                (λ x k hid d a. rw (stored-so m _ hid d a c.in_ok-to.to (v.Num c.in_ok-number.number)) refl);
+            owns =
+                c.value.ensures.owns;
+          };
+    }

@@ -18,43 +18,93 @@ pub returns-in_err-to : goal.returns-in_err-to
 returns-in_err-to g c =
     let e = err_from_is_err_and c.from_residual.result c.from_residual.ensures.1 in rw (e.1, e.2) (record {
       plays = λ m is.
-          (stop _ (λ k. refl) (quietly (at_once _ _ _) (λ k hid d a. refl)) (c.target_of.ensures.plays.plays m is) c.in_err-to.was);
+          (stop _ (λ k. refl) (quietly (at_once _ _ _) (λ k hid d a. refl)) (c.target_of.ensures.plays.plays m is)
+          c.in_err-to.was);
       owns = c.target_of.ensures.plays.owns;
     })
 
 pub returns-in_err-operand : goal.returns-in_err-operand
 returns-in_err-operand g c =
-    let e = err_from_is_err_and c.from_residual-in_err-operand.result c.from_residual-in_err-operand.ensures.1 in rw (e.1, e.2) (record {
+    let e = err_from_is_err_and c.from_residual-in_err-operand.result c.from_residual-in_err-operand.ensures.1 in
+    rw (e.1, e.2) (record {
       plays = λ m is.
-          (stop _ (λ k. refl) (quietly (part _ (quietly (at_once _ _ _) (λ k hid d a. refl)) (c.target_of.ensures.plays.plays m is) c.in_ok-to.was) (λ k hid d a. refl)) (c.value.ensures.plays m is) c.in_err-operand.was);
+          (stop _ (λ k. refl) (quietly (part _ (quietly (at_once _ _ _) (λ k hid d a. refl))
+          (c.target_of.ensures.plays.plays m is) c.in_ok-to.was) (λ k hid d a. refl)) (c.value.ensures.plays m is)
+          c.in_err-operand.was);
       owns = c.value.ensures.owns;
     })
 
 pub returns-in_err-old : goal.returns-in_err-old
 returns-in_err-old g c =
-    let e = err_from_is_err_and c.from_residual-in_err-old.result c.from_residual-in_err-old.ensures.1 in rw (e.1, e.2) (record {
+    let e = err_from_is_err_and c.from_residual-in_err-old.result c.from_residual-in_err-old.ensures.1 in
+    rw (e.1, e.2) (record {
       plays = λ m is.
-          (stop _ (λ k. refl) (quietly {then_ = λ k. Do (Get (meant (names_in m) c.in_ok-to.to)) ∷ At (Value_of (p.change c.args.place c.args.how (view_target (names_in m) c.args.target.now) (view (names_in m) c.args.x.now))) (c.in_ok-operand.operand ∷ value_of c.in_ok-to.to ∷ []) ∷ k} (part _ (quietly (part _ (quietly (at_once _ _ _) (λ k hid d a. refl)) (c.target_of.ensures.plays.plays m is) c.in_ok-to.was) (λ k hid d a. refl)) (c.value.ensures.plays m is) c.in_ok-operand.was) (λ k hid d a. rw (c.in_ok-to.ensures.spot (names_in m)) refl)) (acted (c.read.ensures m c.value.new.run.streams)) c.in_err-old.was);
+          (stop _ (λ k. refl) (quietly {then_ = λ k. Do (Get (meant (names_in m) c.in_ok-to.to)) ∷ At
+          (Value_of (p.change c.args.place c.args.how (view_target (names_in m) c.args.target.now)
+          (view (names_in m) c.args.x.now))) (c.in_ok-operand.operand ∷ value_of c.in_ok-to.to ∷ []) ∷ k}
+          (part _ (quietly (part _ (quietly (at_once _ _ _) (λ k hid d a. refl))
+          (c.target_of.ensures.plays.plays m is) c.in_ok-to.was) (λ k hid d a. refl)) (c.value.ensures.plays m is)
+          c.in_ok-operand.was) (λ k hid d a. rw (c.in_ok-to.ensures.spot (names_in m)) refl))
+          (acted (c.read.ensures m c.value.new.run.streams)) c.in_err-old.was);
       owns = c.value.ensures.owns;
     })
 
 pub returns-in_err-number : goal.returns-in_err-number
 returns-in_err-number g c =
-    let e = err_from_is_err_and c.from_residual-in_err-number.result c.from_residual-in_err-number.ensures.1 in rw (e.1, e.2) (record {
+    let e = err_from_is_err_and c.from_residual-in_err-number.result c.from_residual-in_err-number.ensures.1 in
+    rw (e.1, e.2) (record {
       plays = λ m is.
-          (stop _ (λ k. refl) (part _ (quietly {then_ = λ k. Do (Get (meant (names_in m) c.in_ok-to.to)) ∷ At (Value_of (p.change c.args.place c.args.how (view_target (names_in m) c.args.target.now) (view (names_in m) c.args.x.now))) (c.in_ok-operand.operand ∷ value_of c.in_ok-to.to ∷ []) ∷ k} (part _ (quietly (part _ (quietly (at_once _ _ _) (λ k hid d a. refl)) (c.target_of.ensures.plays.plays m is) c.in_ok-to.was) (λ k hid d a. refl)) (c.value.ensures.plays m is) c.in_ok-operand.was) (λ k hid d a. rw (c.in_ok-to.ensures.spot (names_in m)) refl)) (acted (c.read.ensures m c.value.new.run.streams)) c.in_ok-old.was) (acted (c.computed_at.ensures m (c.read.new.store, c.value.new.run.streams) (view_target (names_in m) c.args.target.now) (view (names_in m) c.args.x.now) (value_of c.in_ok-to.to))) c.in_err-number.was);
+          (stop _ (λ k. refl) (part _ (quietly {then_ = λ k. Do (Get (meant (names_in m) c.in_ok-to.to)) ∷ At
+          (Value_of (p.change c.args.place c.args.how (view_target (names_in m) c.args.target.now)
+          (view (names_in m) c.args.x.now))) (c.in_ok-operand.operand ∷ value_of c.in_ok-to.to ∷ []) ∷ k}
+          (part _ (quietly (part _ (quietly (at_once _ _ _) (λ k hid d a. refl))
+          (c.target_of.ensures.plays.plays m is) c.in_ok-to.was) (λ k hid d a. refl)) (c.value.ensures.plays m is)
+          c.in_ok-operand.was) (λ k hid d a. rw (c.in_ok-to.ensures.spot (names_in m)) refl))
+          (acted (c.read.ensures m c.value.new.run.streams)) c.in_ok-old.was)
+          (acted (c.computed_at.ensures m (c.read.new.store, c.value.new.run.streams)
+          (view_target (names_in m) c.args.target.now) (view (names_in m) c.args.x.now) (value_of c.in_ok-to.to)))
+          c.in_err-number.was);
       owns = c.value.ensures.owns;
     })
 
 pub returns-in_default : goal.returns-in_default
 returns-in_default g c =
-    record { plays = λ m is. lacking (part _ (part _ (quietly {then_ = λ k. Do (Get (meant (names_in m) c.in_ok-to.to)) ∷ At (Value_of (p.change c.args.place c.args.how (view_target (names_in m) c.args.target.now) (view (names_in m) c.args.x.now))) (c.in_ok-operand.operand ∷ value_of c.in_ok-to.to ∷ []) ∷ k} (part _ (quietly (part _ (quietly (at_once _ _ _) (λ k hid d a. refl)) (c.target_of.ensures.plays.plays m is) c.in_ok-to.was) (λ k hid d a. refl)) (c.value.ensures.plays m is) c.in_ok-operand.was) (λ k hid d a. rw (c.in_ok-to.ensures.spot (names_in m)) refl)) (acted (c.read.ensures m c.value.new.run.streams)) c.in_ok-old.was) (acted (c.computed_at.ensures m (c.read.new.store, c.value.new.run.streams) (view_target (names_in m) c.args.target.now) (view (names_in m) c.args.x.now) (value_of c.in_ok-to.to))) c.in_ok-number.was); owns = c.value.ensures.owns }
+    record {
+      plays = λ m is. lacking
+          (part _ (part _ (quietly {then_ = λ k. Do (Get (meant (names_in m) c.in_ok-to.to)) ∷ At
+          (Value_of (p.change c.args.place c.args.how (view_target (names_in m) c.args.target.now)
+          (view (names_in m) c.args.x.now))) (c.in_ok-operand.operand ∷ value_of c.in_ok-to.to ∷ []) ∷ k}
+          (part _ (quietly (part _ (quietly (at_once _ _ _) (λ k hid d a. refl)) (c.target_of.ensures.plays.plays m is)
+          c.in_ok-to.was) (λ k hid d a. refl)) (c.value.ensures.plays m is) c.in_ok-operand.was)
+          (λ k hid d a. rw (c.in_ok-to.ensures.spot (names_in m)) refl))
+          (acted (c.read.ensures m c.value.new.run.streams)) c.in_ok-old.was)
+          (acted (c.computed_at.ensures m (c.read.new.store, c.value.new.run.streams)
+          (view_target (names_in m) c.args.target.now) (view (names_in m) c.args.x.now) (value_of c.in_ok-to.to)))
+          c.in_ok-number.was);
+      owns = c.value.ensures.owns;
+    }
 
 pub returns-in_err-set : goal.returns-in_err-set
 returns-in_err-set g c =
-    let e = err_from_is_err_and c.from_residual-in_err-set.result c.from_residual-in_err-set.ensures.1 in rw (e.1, e.2) (record {
+    let e = err_from_is_err_and c.from_residual-in_err-set.result c.from_residual-in_err-set.ensures.1 in
+    rw (e.1, e.2) (record {
       plays = λ m is.
-          (stop _ (λ k. refl) (turned {then_ = λ k. Do (Set (meant (names_in m) c.in_ok-to.to) c.args.place (v.Num c.in_ok-number.number)) ∷ Do (Give (stored (meant (names_in m) c.in_ok-to.to) (v.Num c.in_ok-number.number))) ∷ k} (part _ (part _ (quietly {then_ = λ k. Do (Get (meant (names_in m) c.in_ok-to.to)) ∷ At (Value_of (p.change c.args.place c.args.how (view_target (names_in m) c.args.target.now) (view (names_in m) c.args.x.now))) (c.in_ok-operand.operand ∷ value_of c.in_ok-to.to ∷ []) ∷ k} (part _ (quietly (part _ (quietly (at_once _ _ _) (λ k hid d a. refl)) (c.target_of.ensures.plays.plays m is) c.in_ok-to.was) (λ k hid d a. refl)) (c.value.ensures.plays m is) c.in_ok-operand.was) (λ k hid d a. rw (c.in_ok-to.ensures.spot (names_in m)) refl)) (acted (c.read.ensures m c.value.new.run.streams)) c.in_ok-old.was) (acted (c.computed_at.ensures m (c.read.new.store, c.value.new.run.streams) (view_target (names_in m) c.args.target.now) (view (names_in m) c.args.x.now) (value_of c.in_ok-to.to))) c.in_ok-number.was) (λ k. ap (λ t. Do (Set t c.args.place (v.Num c.in_ok-number.number)) ∷ Do (Give (stored t (v.Num c.in_ok-number.number))) ∷ k) (c.in_ok-to.ensures.spot (names_in m)))) (acted (rw (to_z-of_z w64 c.in_ok-number.number (search rules)) at (c.set.ensures m c.value.new.run.streams))) c.in_err-set.was);
+          (stop _ (λ k. refl) (turned {then_ =
+          λ k. Do (Set (meant (names_in m) c.in_ok-to.to) c.args.place (v.Num c.in_ok-number.number)) ∷ Do
+          (Give (stored (meant (names_in m) c.in_ok-to.to) (v.Num c.in_ok-number.number))) ∷ k}
+          (part _ (part _ (quietly {then_ = λ k. Do (Get (meant (names_in m) c.in_ok-to.to)) ∷ At
+          (Value_of (p.change c.args.place c.args.how (view_target (names_in m) c.args.target.now)
+          (view (names_in m) c.args.x.now))) (c.in_ok-operand.operand ∷ value_of c.in_ok-to.to ∷ []) ∷ k}
+          (part _ (quietly (part _ (quietly (at_once _ _ _) (λ k hid d a. refl))
+          (c.target_of.ensures.plays.plays m is) c.in_ok-to.was) (λ k hid d a. refl)) (c.value.ensures.plays m is)
+          c.in_ok-operand.was) (λ k hid d a. rw (c.in_ok-to.ensures.spot (names_in m)) refl))
+          (acted (c.read.ensures m c.value.new.run.streams)) c.in_ok-old.was)
+          (acted (c.computed_at.ensures m (c.read.new.store, c.value.new.run.streams)
+          (view_target (names_in m) c.args.target.now) (view (names_in m) c.args.x.now) (value_of c.in_ok-to.to)))
+          c.in_ok-number.was) (λ k. ap (λ t. Do (Set t c.args.place (v.Num c.in_ok-number.number)) ∷ Do
+          (Give (stored t (v.Num c.in_ok-number.number))) ∷ k) (c.in_ok-to.ensures.spot (names_in m))))
+          (acted (rw (to_z-of_z w64 c.in_ok-number.number (search rules)) at
+          (c.set.ensures m c.value.new.run.streams))) c.in_err-set.was);
       owns = c.value.ensures.owns;
     })
 
@@ -62,6 +112,24 @@ pub returns : goal.returns
 returns g c =
     record {
       plays = λ m is.
-          done (quietly (part _ (turned {then_ = λ k. Do (Set (meant (names_in m) c.in_ok-to.to) c.args.place (v.Num c.in_ok-number.number)) ∷ Do (Give (stored (meant (names_in m) c.in_ok-to.to) (v.Num c.in_ok-number.number))) ∷ k} (part _ (part _ (quietly {then_ = λ k. Do (Get (meant (names_in m) c.in_ok-to.to)) ∷ At (Value_of (p.change c.args.place c.args.how (view_target (names_in m) c.args.target.now) (view (names_in m) c.args.x.now))) (c.in_ok-operand.operand ∷ value_of c.in_ok-to.to ∷ []) ∷ k} (part _ (quietly (part _ (quietly (at_once _ _ _) (λ k hid d a. refl)) (c.target_of.ensures.plays.plays m is) c.in_ok-to.was) (λ k hid d a. refl)) (c.value.ensures.plays m is) c.in_ok-operand.was) (λ k hid d a. rw (c.in_ok-to.ensures.spot (names_in m)) refl)) (acted (c.read.ensures m c.value.new.run.streams)) c.in_ok-old.was) (acted (c.computed_at.ensures m (c.read.new.store, c.value.new.run.streams) (view_target (names_in m) c.args.target.now) (view (names_in m) c.args.x.now) (value_of c.in_ok-to.to))) c.in_ok-number.was) (λ k. ap (λ t. Do (Set t c.args.place (v.Num c.in_ok-number.number)) ∷ Do (Give (stored t (v.Num c.in_ok-number.number))) ∷ k) (c.in_ok-to.ensures.spot (names_in m)))) (acted (rw (to_z-of_z w64 c.in_ok-number.number (search rules)) at (c.set.ensures m c.value.new.run.streams))) c.in_ok-set.was) (λ k hid d a. rw (stored-so m _ hid d a c.in_ok-to.to (v.Num c.in_ok-number.number) ∙ sym (rw (to_z-of_z w64 c.in_ok-number.number (search rules)) at c.in-Ok.ensures.ok)) refl));
+          done (quietly (part _
+          (turned {then_ = λ k. Do (Set (meant (names_in m) c.in_ok-to.to) c.args.place
+          (v.Num c.in_ok-number.number)) ∷ Do
+          (Give (stored (meant (names_in m) c.in_ok-to.to) (v.Num c.in_ok-number.number))) ∷ k}
+          (part _ (part _ (quietly {then_ = λ k. Do (Get (meant (names_in m) c.in_ok-to.to)) ∷ At
+          (Value_of (p.change c.args.place c.args.how (view_target (names_in m) c.args.target.now)
+          (view (names_in m) c.args.x.now))) (c.in_ok-operand.operand ∷ value_of c.in_ok-to.to ∷ []) ∷ k}
+          (part _ (quietly (part _ (quietly (at_once _ _ _) (λ k hid d a. refl))
+          (c.target_of.ensures.plays.plays m is) c.in_ok-to.was) (λ k hid d a. refl)) (c.value.ensures.plays m is)
+          c.in_ok-operand.was) (λ k hid d a. rw (c.in_ok-to.ensures.spot (names_in m)) refl))
+          (acted (c.read.ensures m c.value.new.run.streams)) c.in_ok-old.was)
+          (acted (c.computed_at.ensures m (c.read.new.store, c.value.new.run.streams)
+          (view_target (names_in m) c.args.target.now) (view (names_in m) c.args.x.now) (value_of c.in_ok-to.to)))
+          c.in_ok-number.was) (λ k. ap (λ t. Do (Set t c.args.place (v.Num c.in_ok-number.number)) ∷ Do
+          (Give (stored t (v.Num c.in_ok-number.number))) ∷ k) (c.in_ok-to.ensures.spot (names_in m))))
+          (acted (rw (to_z-of_z w64 c.in_ok-number.number (search rules)) at
+          (c.set.ensures m c.value.new.run.streams))) c.in_ok-set.was)
+          (λ k hid d a. rw (stored-so m _ hid d a c.in_ok-to.to (v.Num c.in_ok-number.number)
+          ∙ sym (rw (to_z-of_z w64 c.in_ok-number.number (search rules)) at c.in-Ok.ensures.ok)) refl));
       owns = c.value.ensures.owns;
     }

@@ -15,8 +15,34 @@ use Rattle.awk_text.specs.declared.value.Value.TheVariants as v
 
 pub returns-in_err-new : goal.returns-in_err-new
 returns-in_err-new g c =
-    let e = err_from_is_err_and c.from_residual.result c.from_residual.ensures.1 in rw (e.1, e.2) (record { val = v.Unset; is = tt; does = record { plays = λ m is. stop _ (λ k. refl) (quietly (quietly (quietly (at_once _ _ _) (λ k hid d a. refl)) (λ k hid d a. refl)) (λ k hid d a. refl)) (c.value.ensures.plays m is) c.in_err-new.was; owns = c.value.ensures.owns } })
+    let e = err_from_is_err_and c.from_residual.result c.from_residual.ensures.1 in
+    rw (e.1, e.2) (record {
+      val = v.Unset;
+      is = tt;
+      does =
+          record {
+            plays = λ m is. stop _ (λ k. refl)
+                (quietly (quietly (quietly (at_once _ _ _) (λ k hid d a. refl)) (λ k hid d a. refl)) (λ k hid d a. refl))
+                (c.value.ensures.plays m is) c.in_err-new.was;
+            owns = c.value.ensures.owns;
+          };
+    })
 
 pub returns : goal.returns
 returns g c =
-    record { val = spots.stored (s.Variable c.args.variable) c.in_ok-new.new; is = unwanted c.set_variable.result; does = record { plays = λ m is. rests (hands_on (λ k. refl) (quietly {then_ = λ k. Do (Set (meant (names_in m) (s.Variable c.args.variable)) c.args.place c.in_ok-new.new) ∷ Do (Give (stored (meant (names_in m) (s.Variable c.args.variable)) c.in_ok-new.new)) ∷ k} (part _ (quietly (quietly (quietly (at_once _ _ _) (λ k hid d a. refl)) (λ k hid d a. refl)) (λ k hid d a. refl)) (c.value.ensures.plays m is) c.in_ok-new.was) (λ k hid d a. refl)) (acted (c.set_variable.ensures m c.value.new.run.streams))) (λ x k hid d a. rw (stored-so m _ hid d a (s.Variable c.args.variable) c.in_ok-new.new) refl); owns = c.value.ensures.owns } }
+    record {
+      val = spots.stored (s.Variable c.args.variable) c.in_ok-new.new;
+      is = unwanted c.set_variable.result;
+      does = record {
+        plays =
+            λ m is. rests (hands_on (λ k. refl)
+            (quietly {then_ = λ k. Do (Set (meant (names_in m) (s.Variable c.args.variable)) c.args.place c.in_ok-new.new) ∷
+            Do (Give (stored (meant (names_in m) (s.Variable c.args.variable)) c.in_ok-new.new)) ∷ k}
+            (part _ (quietly (quietly (quietly (at_once _ _ _) (λ k hid d a. refl)) (λ k hid d a. refl))
+            (λ k hid d a. refl)) (c.value.ensures.plays m is) c.in_ok-new.was) (λ k hid d a. refl))
+            (acted (c.set_variable.ensures m c.value.new.run.streams)))
+            (λ x k hid d a. rw (stored-so m _ hid d a (s.Variable c.args.variable) c.in_ok-new.new) refl);
+        owns =
+            c.value.ensures.owns;
+      };
+    }

@@ -5,7 +5,11 @@ use Rattle.awk_forms.proofs.targets.step_target.Goals as goal
 
 pub returns-in-Some : goal.returns-in-Some
 returns-in-Some g c = λ which.
-    record { plays = λ m is. acted (there {on = λ n. give (either which n.0 n.1)} {x = c.in-Some.steps} (c.in-Some.ensures.done m c.args.run.now.streams c.args.place which)); owns = c.requires.owns }
+    record {
+      plays = λ m is. acted (there {on = λ n. give (either which n.0 n.1)} {x = c.in-Some.steps}
+          (c.in-Some.ensures.done m c.args.run.now.streams c.args.place which));
+      owns = c.requires.owns;
+    }
 
 pub returns-in-Element : goal.returns-in-Element
 returns-in-Element g c = λ which.

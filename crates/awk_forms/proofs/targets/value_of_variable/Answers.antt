@@ -13,4 +13,14 @@ use Rattle.awk_text.specs.declared.value.Value.TheVariants as v
 
 pub returns : goal.returns
 returns g c =
-    record { plays = λ m is. passes (quietly {then_ = λ k. Do (Get (meant (names_in m) (spot.Variable c.args.variable))) ∷ k} (quietly {then_ = λ k. At (Value_of (p.read (p.variable (variable_of (names_in m) c.args.variable)))) (v.Unset ∷ []) ∷ k} (quietly {then_ = λ k. At (Target_of (p.variable (variable_of (names_in m) c.args.variable))) [] ∷ At (Value_of (p.read (p.variable (variable_of (names_in m) c.args.variable)))) [] ∷ k} (at_once _ _ _) (λ k hid d a. refl)) (λ k hid d a. refl)) (λ k hid d a. refl)) (acted (c.read_variable.ensures m c.args.run.now.streams)); owns = c.requires.owns }
+    record {
+      plays = λ m is. passes
+          (quietly {then_ = λ k. Do (Get (meant (names_in m) (spot.Variable c.args.variable))) ∷ k}
+          (quietly {then_ = λ k. At (Value_of (p.read (p.variable (variable_of (names_in m) c.args.variable))))
+          (v.Unset ∷ []) ∷ k} (quietly {then_ =
+          λ k. At (Target_of (p.variable (variable_of (names_in m) c.args.variable))) [] ∷ At
+          (Value_of (p.read (p.variable (variable_of (names_in m) c.args.variable)))) [] ∷ k} (at_once _ _ _)
+          (λ k hid d a. refl)) (λ k hid d a. refl)) (λ k hid d a. refl))
+          (acted (c.read_variable.ensures m c.args.run.now.streams));
+      owns = c.requires.owns;
+    }

@@ -18,19 +18,55 @@ returns-in_default-below g c =
 pub returns-in-Some : goal.returns-in-Some
 returns-in-Some g c =
     let h = c.put_variable.ensures in
-    record { val = h.val; is = h.is; does = record { plays = λ m is. rw (c.in-Some.ensures (names_in m)) (h.does.plays m is); owns = h.does.owns } }
+    record {
+      val = h.val;
+      is = h.is;
+      does =
+          record { plays = λ m is. rw (c.in-Some.ensures (names_in m)) (h.does.plays m is); owns = h.does.owns };
+    }
 
 pub returns-in_err-is_done : goal.returns-in_err-is_done
 returns-in_err-is_done g c =
     let e = err_from_is_err_and c.from_residual.result c.from_residual.ensures.1 in
-    rw (e.1, e.2) (record { val = v.Unset; is = tt; does = record { plays = λ m is. stop _ (λ k. refl) (at_once _ _ _) (acted (c.done_once_split.ensures.not_done (failed_not c.in_err-is_done.was) m c.args.run.now.streams (value (view (names_in m) c.args.e.now)))) c.in_err-is_done.was; owns = c.requires.owns } })
+    rw (e.1, e.2) (record {
+      val = v.Unset;
+      is = tt;
+      does =
+          record {
+            plays = λ m is. stop _ (λ k. refl) (at_once _ _ _)
+                (acted (c.done_once_split.ensures.not_done (failed_not c.in_err-is_done.was) m c.args.run.now.streams
+                (value (view (names_in m) c.args.e.now)))) c.in_err-is_done.was;
+            owns = c.requires.owns;
+          };
+    })
 
 pub returns-then-is_done : goal.returns-then-is_done
 returns-then-is_done g c =
     let h = c.done_once_split.ensures.done (c.in_ok-is_done.was ∙ ap Ok c.if-is_done.true) in
-    record { val = h.val; is = tt; does = record { plays = λ m is. acted (there {on = λ (u : Unit {0}). give h.val} {x = tt} (h.gives m c.args.run.now.streams)); owns = c.requires.owns } }
+    record {
+      val = h.val;
+      is = tt;
+      does =
+          record {
+            plays = λ m is. acted (there {on = λ (u : Unit {0}). give h.val} {x = tt}
+                (h.gives m c.args.run.now.streams));
+            owns = c.requires.owns;
+          };
+    }
 
 pub returns : goal.returns
 returns g c =
     let h = c.general_effect.ensures in
-    record { val = h.val; is = h.is; does = record { plays = λ m is. passes (part _ (at_once _ _ _) (acted (c.done_once_split.ensures.not_done (false_not c.in_ok-is_done.is_done c.in_ok-is_done.was c.if-is_done.false) m c.args.run.now.streams (value (view (names_in m) c.args.e.now)))) c.in_ok-is_done.was) (h.does.plays m is); owns = h.does.owns } }
+    record {
+      val = h.val;
+      is = h.is;
+      does =
+          record {
+            plays = λ m is. passes
+                (part _ (at_once _ _ _)
+                (acted (c.done_once_split.ensures.not_done (false_not c.in_ok-is_done.is_done c.in_ok-is_done.was
+                c.if-is_done.false) m c.args.run.now.streams (value (view (names_in m) c.args.e.now)))) c.in_ok-is_done.was)
+                (h.does.plays m is);
+            owns = h.does.owns;
+          };
+    }

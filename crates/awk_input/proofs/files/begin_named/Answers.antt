@@ -16,16 +16,22 @@ returns-in_err-copy-clause-task g c =
 pub returns-in_err-is_open-clause-task : goal.returns-in_err-is_open-clause-task
 returns-in_err-is_open-clause-task g c =
     let e = err_from_is_err_and c.from_residual-in_err-is_open.result c.from_residual-in_err-is_open.ensures.1 in
-    rw (e.1, e.2) (λ m is p old mv. stop _ (λ k. refl) (at_once p old c.args.world.now) ((rw c.bytes.ensures at (c.in_err-is_open.ensures.task m is c.args.store.now p old)) mv) refl)
+    rw (e.1, e.2) (λ m is p old mv. stop _ (λ k. refl) (at_once p old c.args.world.now)
+    ((rw c.bytes.ensures at (c.in_err-is_open.ensures.task m is c.args.store.now p old)) mv) refl)
 
 pub returns-then-is_open-clause-task : goal.returns-then-is_open-clause-task
 returns-then-is_open-clause-task g c = λ m is p old mv.
-    passes (turned (part _ (at_once p old c.args.world.now) ((rw c.bytes.ensures at (c.open_file.ensures.task m is c.args.store.now p old)) mv) c.in_ok-is_open.was) (λ k. ap (λ b. begun_or c.args.text b k) c.if-is_open.true))
-    (acted (c.begin.ensures m c.open_file.new.streams (Named OperandFile c.args.text) (ap (λ t. Some (Named OperandFile t)) c.in_ok-copy.ensures)))
+    passes (turned (part _ (at_once p old c.args.world.now)
+    ((rw c.bytes.ensures at (c.open_file.ensures.task m is c.args.store.now p old)) mv) c.in_ok-is_open.was)
+    (λ k. ap (λ b. begun_or c.args.text b k) c.if-is_open.true))
+    (acted (c.begin.ensures m c.open_file.new.streams (Named OperandFile c.args.text)
+    (ap (λ t. Some (Named OperandFile t)) c.in_ok-copy.ensures)))
 
 pub returns-clause-task : goal.returns-clause-task
 returns-clause-task g c = λ m is p old mv.
-    passes (turned (part _ (at_once p old c.args.world.now) ((rw c.bytes.ensures at (c.open_file.ensures.task m is c.args.store.now p old)) mv) c.in_ok-is_open.was) (λ k. ap (λ b. begun_or c.args.text b k) c.if-is_open.false))
+    passes (turned (part _ (at_once p old c.args.world.now)
+    ((rw c.bytes.ensures at (c.open_file.ensures.task m is c.args.store.now p old)) mv) c.in_ok-is_open.was)
+    (λ k. ap (λ b. begun_or c.args.text b k) c.if-is_open.false))
     (rw (c.as_slice.ensures, c.bytes-2.ensures) at (c.report.ensures.task m c.open_file.new.streams))
 
 pub returns-clause-owns : goal.returns-clause-owns

@@ -17,7 +17,8 @@ pub returns-in_default-clause-task : goal.returns-in_default-clause-task
 returns-in_default-clause-task g c = λ m e. lacking (at_once _ (c.args.store.now, c.args.streams.now) c.args.world.now)
 
 pub returns-then-is_none-clause-task : goal.returns-then-is_none-clause-task
-returns-then-is_none-clause-task g c = λ m e. lacking (at_once _ (c.args.store.now, c.args.streams.now) c.args.world.now)
+returns-then-is_none-clause-task g c =
+    λ m e. lacking (at_once _ (c.args.store.now, c.args.streams.now) c.args.world.now)
 
 pub record-requires-clause-live : goal.record-requires-clause-live
 record-requires-clause-live g c =
@@ -28,11 +29,17 @@ pub returns-clause-task : goal.returns-clause-task
 returns-clause-task g c = λ m e.
     let k = c.args.store.now in
     let key = Named OperandFile c.bytes.result.now in
-    let current = sym (ap (λ (x : Main). x.current) c.main.ensures) ∙ ap key_of c.in-Operand.is ∙ ap (λ t. Some (Named OperandFile t)) (sym c.bytes.ensures) in
+    let current = sym (ap (λ (x : Main). x.current) c.main.ensures) ∙ ap key_of c.in-Operand.is
+    ∙ ap (λ t. Some (Named OperandFile t)) (sym c.bytes.ensures) in
     read_as (sym (current_is k key current)) (lifted_at m k (λ row cells sound.
     let s = apart m k row in
-    c.record.ensures.task m s (Do Take) (found_main key) (takes_so m s key e current) (apart-text m k row cells sound own.Rs ∙ sym c.own_text-rs.ensures)))
+    c.record.ensures.task m s (Do Take) (found_main key) (takes_so m s key e current)
+    (apart-text m k row cells sound own.Rs ∙ sym c.own_text-rs.ensures)))
 
 pub returns-clause-current : goal.returns-clause-current
 returns-clause-current g c =
-    ok_any c.record.result (c.in-Operand.text, sym (ap (λ (x : Main). x.current) c.main.ensures) ∙ ap key_of c.in-Operand.is)
+    ok_any c.record.result (
+      c.in-Operand.text,
+      sym (ap (λ (x : Main). x.current) c.main.ensures)
+          ∙ ap key_of c.in-Operand.is,
+    )

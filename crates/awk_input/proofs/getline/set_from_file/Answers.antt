@@ -7,4 +7,6 @@ use Rattle.awk_input.proofs.getline.set_from_file.Goals as goal
 
 pub returns-clause-task : goal.returns-clause-task
 returns-clause-task c = λ g r x name is.
-    c.set_record.ensures.task g (At (Value_of (p.getline_file c.args.place r x)) (c.args.answer ∷ name ∷ value_of c.args.target ∷ [])) (λ k. k) (file_got g c.args.place r c.args.target name c.args.answer is x)
+    c.set_record.ensures.task g (At (Value_of (p.getline_file c.args.place r x))
+    (c.args.answer ∷ name ∷ value_of c.args.target ∷ [])) (λ k. k)
+    (file_got g c.args.place r c.args.target name c.args.answer is x)

@@ -13,4 +13,6 @@ record-requires-clause-live g c = (c.args.streams.now.input, refl)
 pub returns-clause-task : goal.returns-clause-task
 returns-clause-task g c = λ m. lifted_at m c.args.store.now (λ row cells sound.
     let s = apart m c.args.store.now row in
-    c.record.ensures.task m s (Do Take) (found_main (Standard 0)) (takes_so m s (Standard 0) c.requires.ended c.requires.current) (apart-text m c.args.store.now row cells sound own.Rs ∙ sym c.own_text-rs.ensures))
+    c.record.ensures.task m s (Do Take) (found_main (Standard 0))
+    (takes_so m s (Standard 0) c.requires.ended c.requires.current)
+    (apart-text m c.args.store.now row cells sound own.Rs ∙ sym c.own_text-rs.ensures))

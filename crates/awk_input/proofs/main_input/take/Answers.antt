@@ -17,10 +17,20 @@ returns-then-takes_line-clause-task g c =
 pub returns-then-takes_line-clause-owns : goal.returns-then-takes_line-clause-owns
 returns-then-takes_line-clause-owns g c =
     let x = rw c.take_room-room.ensures at (c.takes_line.ensures.taken c.if-takes_line.true) in
-    first_owns _ x.key c.args.streams.now c.takes_line.new.streams x.line.before (head (own_text c.args.store.now own.Rs) x.line.before.unread x.line.before.ended) (Some (found.Record c.takes_line.new.room.items)) x.line.first c.requires
+    first_owns _ x.key c.args.streams.now c.takes_line.new.streams x.line.before
+    (head (own_text c.args.store.now own.Rs) x.line.before.unread x.line.before.ended)
+    (Some (found.Record c.takes_line.new.room.items)) x.line.first c.requires
 
 pub take_on-requires : goal.take_on-requires
-take_on-requires g c = rw (c.keep_room.ensures, c.takes_line.ensures.not_taken c.if-takes_line.false, c.take_room-room.ensures) c.requires
+take_on-requires g c = rw (
+  c.keep_room.ensures,
+  c.takes_line.ensures.not_taken c.if-takes_line.false,
+  c.take_room-room.ensures,
+) c.requires
 
 pub returns-clause-task : goal.returns-clause-task
-returns-clause-task g c = λ m is. rw (c.keep_room.ensures, c.takes_line.ensures.not_taken c.if-takes_line.false, c.take_room-room.ensures) at (c.take_on.ensures.task m is)
+returns-clause-task g c = λ m is. rw (
+  c.keep_room.ensures,
+  c.takes_line.ensures.not_taken c.if-takes_line.false,
+  c.take_room-room.ensures,
+) at (c.take_on.ensures.task m is)

@@ -13,10 +13,15 @@ returns-in_err-value-clause-task g c =
     rw (p.1, p.2) (λ m is. stop _ (λ k. refl) (c.loop.invariant.0 m is) (c.in_err-value.ensures.task m is) refl)
 
 pub returns-in-Some-clause-task : goal.returns-in-Some-clause-task
-returns-in-Some-clause-task g c = λ m is. done (part _ (c.loop.invariant.0 m is) (c.turn.ensures.task m is) (c.in_ok-value.was ∙ ap (λ x. Ok x) c.in-Some.is))
+returns-in-Some-clause-task g c = λ m is. done (part _ (c.loop.invariant.0 m is) (c.turn.ensures.task m is)
+    (c.in_ok-value.was ∙ ap (λ x. Ok x) c.in-Some.is))
 
 pub loop-preserved : goal.loop-preserved
-loop-preserved g c = (λ m is. part _ (c.loop.invariant.0 m is) (c.turn.ensures.task m is) (c.in_ok-value.was ∙ ap (λ x. Ok x) c.in_default.is), c.turn.ensures.owns)
+loop-preserved g c = (
+  λ m is. part _ (c.loop.invariant.0 m is) (c.turn.ensures.task m is)
+      (c.in_ok-value.was ∙ ap (λ x. Ok x) c.in_default.is),
+  c.turn.ensures.owns,
+)
 
 pub returns-clause-task : goal.returns-clause-task
 returns-clause-task g c = λ m is. lacking (c.loop.invariant.0 m is)

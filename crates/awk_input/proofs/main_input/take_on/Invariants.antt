@@ -8,4 +8,5 @@ use Rattle.awk_input.proofs.main_input.take_on.Given as goal
 
 abbrev pub invariant-loop : goal.invariant-loop
 invariant-loop g l =
-    ((m : Given) → IsHost l.fn.host m → LeadsOn g.W.World m (Do Take) (l.fn.store, l.fn.streams) l.fn.world (λ k. Do Take ∷ k) (l.store, l.streams) l.world) × Owns (g.W.World.open_numbers l.world) l.streams
+    ((m : Given) → IsHost l.fn.host m → LeadsOn g.W.World m (Do Take) (l.fn.store, l.fn.streams) l.fn.world
+    (λ k. Do Take ∷ k) (l.store, l.streams) l.world) × Owns (g.W.World.open_numbers l.world) l.streams

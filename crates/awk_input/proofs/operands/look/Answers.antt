@@ -9,4 +9,5 @@ returns-in_default-clause-task g c = λ m is. lacking (at_once _ (c.args.store.n
 pub returns-clause-task : goal.returns-clause-task
 returns-clause-task g c = λ m is.
     c.begin_operand.ensures.task m is (Do Look) (c.args.store.now, c.args.streams.now)
-    (looks m (c.args.store.now, c.args.streams.now) c.in-Ok.text c.args.next c.move_to.new.store c.in-Ok.ensures c.requires.next c.move_to.ensures)
+    (looks m (c.args.store.now, c.args.streams.now) c.in-Ok.text c.args.next c.move_to.new.store c.in-Ok.ensures
+    c.requires.next c.move_to.ensures)

@@ -9,10 +9,17 @@ pub returns-then-main : goal.returns-then-main
 returns-then-main c =
     let s = c.args.store.now in
     let e = sym (ap (λ (m : Main). m.named) c.main.ensures) ∙ c.if-main.true in
-    c.end.ensures ∙ sym (ap (λ b. with_main (if b then record s.main { ended = true } else record s.main { current = Some (Standard 0) }) s) e)
+    c.end.ensures ∙ sym (ap (λ b. with_main (if b then record s.main { ended = true } else record s.main {
+      current =
+          Some (Standard 0);
+    }) s) e)
 
 pub returns-else-main : goal.returns-else-main
 returns-else-main c =
     let s = c.args.store.now in
     let e = sym (ap (λ (m : Main). m.named) c.main.ensures) ∙ c.if-main.false in
-    c.begin_standard.ensures ∙ sym (ap (λ b. with_main (if b then record s.main { ended = true } else record s.main { current = Some (Standard 0) }) s) e)
+    c.begin_standard.ensures
+    ∙ sym (ap (λ b. with_main (if b then record s.main { ended = true } else record s.main {
+      current =
+          Some (Standard 0);
+    }) s) e)

@@ -5,10 +5,12 @@ use Rattle.awk_input.proofs.RangeSteps.{stays_on, turns_off}
 use Rattle.awk_input.proofs.ranges.end_range.Goals as goal
 
 pub returns-then-not-holds : goal.returns-then-not-holds
-returns-then-not-holds c = λ g t x y z v is so. stays_on g (c.args.store.now, t) c.args.rule x y z is v c.requires (sym so ∙ c.if-not-holds.true)
+returns-then-not-holds c = λ g t x y z v is so. stays_on g (c.args.store.now, t) c.args.rule x y z is v c.requires
+    (sym so ∙ c.if-not-holds.true)
 
 pub returns : goal.returns
-returns c = λ g t x y z v is so. turns_off g (c.args.store.now, t) c.args.rule x y z is v c.set_on.new.self c.requires (sym so ∙ c.if-not-holds.false) c.in_ok-set_on.ensures.ok
+returns c = λ g t x y z v is so. turns_off g (c.args.store.now, t) c.args.rule x y z is v c.set_on.new.self c.requires
+    (sym so ∙ c.if-not-holds.false) c.in_ok-set_on.ensures.ok
 
 pub returns-in_err-set_on : goal.returns-in_err-set_on
 returns-in_err-set_on c = λ g t x y z v is so.

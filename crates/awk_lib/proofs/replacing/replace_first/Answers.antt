@@ -10,7 +10,8 @@ pub push_match-requires-clause-ordered : goal.push_match-requires-clause-ordered
 push_match-requires-clause-ordered c =
     let ere = c.args.ere.now in
     let text = c.args.text.now in
-    let found : Finds ere text 0 (Some (c.in-Some.start, c.in-Some.end)) = subst (Finds ere text 0) c.in-Some.is c.in_ok-start.ensures in
+    let found : Finds ere text 0 (Some (c.in-Some.start, c.in-Some.end)) =
+    subst (Finds ere text 0) c.in-Some.is c.in_ok-start.ensures in
     (stands ere text 0 c.in-Some.start c.in-Some.end found).ordered
 
 pub push_match-requires-clause-plain : goal.push_match-requires-clause-plain
@@ -26,7 +27,16 @@ returns-in_err-new-clause-fault c =
     let found : Finds ere text 0 (Some (start, end)) = subst (Finds ere text 0) c.in-Some.is c.in_ok-start.ensures in
     let p = err_from_is_err_and c.from_residual-in_err-new.result c.from_residual-in_err-new.ensures.1 in
     let wrote = rw (c.in_ok-out.ensures, c.of.ensures.text) at c.in_ok-push_match.ensures in
-    rw (p.1, p.2) (⊎_elim inl (λ h. inr (h.0, ((start, end), [], first_too_long ere with text start end c.push_match.new.out _ found wrote (take_rest text end) h.1))) c.in_err-new.ensures.err)
+    rw (p.1, p.2) (⊎_elim inl
+    (λ h. inr (
+      h.0,
+      (
+        (start, end),
+        [],
+        first_too_long ere with text start end c.push_match.new.out _ found wrote
+            (take_rest text end) h.1,
+      ),
+    )) c.in_err-new.ensures.err)
 
 pub returns-clause-ok : goal.returns-clause-ok
 returns-clause-ok c =
@@ -36,5 +46,9 @@ returns-clause-ok c =
     let start = c.in-Some.start in
     let end = c.in-Some.end in
     let found : Finds ere text 0 (Some (start, end)) = subst (Finds ere text 0) c.in-Some.is c.in_ok-start.ensures in
-    let wrote = rw (c.in_ok-out.ensures, c.of.ensures.text) at c.in_ok-push_match.ensures in
-    ((start, end), [], first_replaced ere with text start end c.push_match.new.out _ found wrote (take_rest text end) c.in_ok-new.new c.in_ok-new.ensures.ok)
+    let wrote = rw (c.in_ok-out.ensures, c.of.ensures.text) at c.in_ok-push_match.ensures in (
+      (start, end),
+      [],
+      first_replaced ere with text start end c.push_match.new.out _ found wrote (take_rest text end)
+          c.in_ok-new.new c.in_ok-new.ensures.ok,
+    )

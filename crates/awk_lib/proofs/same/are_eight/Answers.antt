@@ -7,4 +7,5 @@ pub returns : goal.returns
 returns c =
     let x = c.args.x.now in
     let y = c.args.y.now in
-    (λ i. nat_eq (c.from_le_bytes.ensures i) (c.from_le_bytes-2.ensures i)) ∙ told (from_le_bytes w64) x y (eight x y c.fits-x c.fits-y c.told-x c.told-y)
+    (λ i. nat_eq (c.from_le_bytes.ensures i) (c.from_le_bytes-2.ensures i)) ∙ told (from_le_bytes w64) x y
+    (eight x y c.fits-x c.fits-y c.told-x c.told-y)

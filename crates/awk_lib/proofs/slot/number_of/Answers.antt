@@ -4,11 +4,19 @@ use Rattle.awk_lib.proofs.slot.number_of.Goals as goal
 
 pub overflow_mul-number : goal.overflow_mul-number
 overflow_mul-number c =
-    omega (arith, value_small c.args.digits.now c.loop-digit.digit-index c.loop-digit.number c.requires c.loop-digit.invariant.digits c.loop-digit.invariant.value)
+    omega (
+      arith,
+      value_small c.args.digits.now c.loop-digit.digit-index c.loop-digit.number c.requires
+          c.loop-digit.invariant.digits c.loop-digit.invariant.value,
+    )
 
 pub overflow_add-number : goal.overflow_add-number
 overflow_add-number c =
-    omega (arith, value_small c.args.digits.now c.loop-digit.digit-index c.loop-digit.number c.requires c.loop-digit.invariant.digits c.loop-digit.invariant.value)
+    omega (
+      arith,
+      value_small c.args.digits.now c.loop-digit.digit-index c.loop-digit.number c.requires
+          c.loop-digit.invariant.digits c.loop-digit.invariant.value,
+    )
 
 pub loop-digit-preserved : goal.loop-digit-preserved
 loop-digit-preserved c =
@@ -22,4 +30,5 @@ loop-digit-preserved c =
 
 pub returns-then-not-is_ascii_digit-clause-none : goal.returns-then-not-is_ascii_digit-clause-none
 returns-then-not-is_ascii_digit-clause-none c =
-    λ e. not_digits c.args.digits.now c.loop-digit.digit-index c.loop-digit-test.true (sym c.is_ascii_digit.ensures.value ∙ c.if-not-is_ascii_digit.true)
+    λ e. not_digits c.args.digits.now c.loop-digit.digit-index c.loop-digit-test.true
+    (sym c.is_ascii_digit.ensures.value ∙ c.if-not-is_ascii_digit.true)

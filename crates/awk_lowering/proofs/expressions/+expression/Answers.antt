@@ -2,13 +2,18 @@ use Rattle.std.proofs.Common.{arith, ◌∙◌, ◌-◌, sym, map, length, take,
 use Rattle.std.proofs.lemmas.List.{drop_all}
 use Rattle.awk_tree.specs.Tree.{trees_of}
 use Rattle.awk_tree.specs.View.{view, view_term}
-use Rattle.awk_tree.proofs.Views.{view-Number, view-Quoted, view-Pattern, view-Name, view-Element, view-Field, view-Paren, view-Call, view-Builtin, view-Length, view-Split, view-Substitute, view-Getline, view-Before, view-After, view-Signed, view-Power, view-Product, view-Sum, view-Concat, view-Pipe, view-Compare, view-Match, view-Group, view-In, view-And, view-Or, view-Choice, view-Assign}
+use Rattle.awk_tree.proofs.Views.{view-Number, view-Quoted, view-Pattern, view-Name, view-Element, view-Field}
+use Rattle.awk_tree.proofs.Views.{view-Paren, view-Call, view-Builtin, view-Length, view-Split, view-Substitute}
+use Rattle.awk_tree.proofs.Views.{view-Getline, view-Before, view-After, view-Signed, view-Power, view-Product}
+use Rattle.awk_tree.proofs.Views.{view-Sum, view-Concat, view-Pipe, view-Compare, view-Match, view-Group, view-In}
+use Rattle.awk_tree.proofs.Views.{view-And, view-Or, view-Choice, view-Assign}
 use Rattle.awk_program.specs.View as code
 use Rattle.awk_lowering.specs.Lowered.{lowered, lowered_list}
 use Rattle.awk_lowering.specs.OneByOne.{lowered_term, lowered_join}
 use Rattle.awk_lowering.specs.Made.{names_in, scope_in}
 use Rattle.awk_lowering.proofs.Carried.{boxed_is, turned, whole, whole_as, none_left, just_two}
-use Rattle.awk_lowering.proofs.Lists.{called_some, plainly, located_else, list_is, terms_are, joins_are, pipes_end, pipes_turn, arguments_end, arguments_turn}
+use Rattle.awk_lowering.proofs.Lists.{called_some, plainly, located_else, list_is, terms_are, joins_are, pipes_end}
+use Rattle.awk_lowering.proofs.Lists.{pipes_turn, arguments_end, arguments_turn}
 use Rattle.awk_lowering.proofs.expressions.+expression.Goals as goal
 
 pub expression-returns-in-Number : goal.expression-returns-in-Number

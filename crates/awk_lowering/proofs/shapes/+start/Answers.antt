@@ -1,5 +1,9 @@
 use Rattle.std.proofs.Common.{refl}
-use Rattle.awk_tree.proofs.Views.{view-Number, view-Quoted, view-Pattern, view-Name, view-Element, view-Field, view-Paren, view-Call, view-Builtin, view-Length, view-Split, view-Substitute, view-Getline, view-Before, view-Signed, view-Group, view-After, view-Power, view-Product, view-Sum, view-Concat, view-Pipe, view-Compare, view-Match, view-In, view-And, view-Or, view-Choice, view-Assign}
+use Rattle.awk_tree.proofs.Views.{view-Number, view-Quoted, view-Pattern, view-Name, view-Element, view-Field}
+use Rattle.awk_tree.proofs.Views.{view-Paren, view-Call, view-Builtin, view-Length, view-Split, view-Substitute}
+use Rattle.awk_tree.proofs.Views.{view-Getline, view-Before, view-Signed, view-Group, view-After, view-Power}
+use Rattle.awk_tree.proofs.Views.{view-Product, view-Sum, view-Concat, view-Pipe, view-Compare, view-Match, view-In}
+use Rattle.awk_tree.proofs.Views.{view-And, view-Or, view-Choice, view-Assign}
 use Rattle.awk_lowering.proofs.shapes.+start.Goals as goal
 
 pub returns-in-Number : goal.returns-in-Number

@@ -1,6 +1,9 @@
 use Rattle.std.proofs.Common.{refl, arith}
 use Rattle.awk_tree.specs.View.{view_statement}
-use Rattle.awk_tree.proofs.Views.{statement-Empty, statement-Expr, statement-Print, statement-Printf, statement-Delete, statement-DeleteAll, statement-Jump, statement-Exit, statement-Return, statement-Block, statement-If, statement-IfElse, statement-While, statement-Do, statement-For, statement-ForIn}
+use Rattle.awk_tree.proofs.Views.{statement-Empty, statement-Expr, statement-Print, statement-Printf, statement-Delete}
+use Rattle.awk_tree.proofs.Views.{statement-DeleteAll, statement-Jump, statement-Exit, statement-Return}
+use Rattle.awk_tree.proofs.Views.{statement-Block, statement-If, statement-IfElse, statement-While, statement-Do}
+use Rattle.awk_tree.proofs.Views.{statement-For, statement-ForIn}
 use Rattle.awk_program.specs.View as code
 use Rattle.awk_lowering.specs.LoweredStatements.{statement}
 use Rattle.awk_lowering.specs.Made.{names_in, scope_in}

@@ -4,8 +4,11 @@ use Rattle.awk_resolve.proofs.clash.at_names.Goals as goal
 
 pub loop-name-preserved : goal.loop-name-preserved
 loop-name-preserved c =
-    more_first (NameAt c.args.sought.now.kinds.now c.args.role.now) c.args.names.now c.loop-name.name-index c.name-item.result c.loop-name-test.true c.name-item.is
-    c.loop-name.first c.at_name.result c.earlier-first.result c.loop-name.invariant c.at_name.ensures c.earlier-first.ensures
+    more_first (NameAt c.args.sought.now.kinds.now c.args.role.now) c.args.names.now c.loop-name.name-index
+    c.name-item.result c.loop-name-test.true c.name-item.is
+    c.loop-name.first c.at_name.result c.earlier-first.result c.loop-name.invariant c.at_name.ensures
+    c.earlier-first.ensures
 
 pub returns : goal.returns
-returns c = all_first (NameAt c.args.sought.now.kinds.now c.args.role.now) c.args.names.now c.loop-name.name-index c.loop-name.first c.loop-name-test.false c.loop-name.invariant
+returns c = all_first (NameAt c.args.sought.now.kinds.now c.args.role.now) c.args.names.now c.loop-name.name-index
+    c.loop-name.first c.loop-name-test.false c.loop-name.invariant

@@ -8,5 +8,7 @@ returns-in-Function c =
     let parameters = rw (c.as_slice.ensures, c.in-Function.is) at c.at_names-parameters.ensures in
     rw c.in-Function.is
     (both_first (NameAt c.args.sought.now.kinds.now role.Begin c.in-Function.name)
-    (OneOf (NameAt c.args.sought.now.kinds.now (role.Function c.in-Function.name c.in-Function.params)) c.in-Function.params)
-    c.at_name-function.result c.at_names-parameters.result c.earlier.result c.at_name-function.ensures parameters c.earlier.ensures)
+    (OneOf (NameAt c.args.sought.now.kinds.now (role.Function c.in-Function.name c.in-Function.params))
+    c.in-Function.params)
+    c.at_name-function.result c.at_names-parameters.result c.earlier.result c.at_name-function.ensures parameters
+    c.earlier.ensures)

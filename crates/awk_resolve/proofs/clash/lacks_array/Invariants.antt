@@ -4,6 +4,7 @@ use Rattle.awk_resolve.proofs.clash.lacks_array.Given as goal
 
 abbrev pub invariant-loop-arg : goal.invariant-loop-arg
 invariant-loop-arg l = record {
-  none_yet : (i : ℕ) → i < l.arg-index → slice_get l.args i ≡ Some None → is_marked l.kinds.arrays (slice_get l.parameters i) ≡ true → ⊥;
+  none_yet : (i : ℕ) → i < l.arg-index → slice_get l.args i ≡ Some None
+      → is_marked l.kinds.arrays (slice_get l.parameters i) ≡ true → ⊥;
   here : l.position ≡ l.arg-index;
 }

@@ -39,13 +39,17 @@ abbrev pub decreases-pipes : goal.decreases-pipes
 decreases-pipes l = 2 + 2 * weight_pipes (pipes_of (map view_piped l.ps.now))
 
 abbrev pub invariant-each-loop-x : goal.invariant-each-loop-x
-invariant-each-loop-x l = l.initial.out ++ spec.each (trees_of (map view l.xs)) ≡ l.out ++ spec.each (trees_of (map view (drop l.x-index l.xs)))
+invariant-each-loop-x l = l.initial.out ++ spec.each (trees_of (map view l.xs)) ≡ l.out
+    ++ spec.each (trees_of (map view (drop l.x-index l.xs)))
 
 abbrev pub invariant-arguments-loop-x : goal.invariant-arguments-loop-x
-invariant-arguments-loop-x l = l.initial.out ++ spec.arguments (trees_of (map view l.xs)) ≡ l.out ++ spec.arguments (trees_of (map view (drop l.x-index l.xs)))
+invariant-arguments-loop-x l = l.initial.out ++ spec.arguments (trees_of (map view l.xs)) ≡ l.out ++ spec.arguments
+    (trees_of (map view (drop l.x-index l.xs)))
 
 abbrev pub invariant-terms-loop-term : goal.invariant-terms-loop-term
-invariant-terms-loop-term l = l.initial.out ++ spec.terms (terms_of (map view_term l.ts)) ≡ l.out ++ spec.terms (terms_of (map view_term (drop l.term-index l.ts)))
+invariant-terms-loop-term l = l.initial.out ++ spec.terms (terms_of (map view_term l.ts)) ≡ l.out
+    ++ spec.terms (terms_of (map view_term (drop l.term-index l.ts)))
 
 abbrev pub invariant-pipes-loop-piped : goal.invariant-pipes-loop-piped
-invariant-pipes-loop-piped l = l.initial.out ++ spec.pipes (pipes_of (map view_piped l.ps)) ≡ l.out ++ spec.pipes (pipes_of (map view_piped (drop l.piped-index l.ps)))
+invariant-pipes-loop-piped l = l.initial.out ++ spec.pipes (pipes_of (map view_piped l.ps)) ≡ l.out
+    ++ spec.pipes (pipes_of (map view_piped (drop l.piped-index l.ps)))

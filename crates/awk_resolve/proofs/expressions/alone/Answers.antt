@@ -24,7 +24,8 @@ pub returns-in-empty : goal.returns-in-empty
 returns-in-empty c = sym (none_alone c.args.xs.now c.in-empty.len_below)
 
 pub returns-in-len1 : goal.returns-in-len1
-returns-in-len1 c = rw (just_one c.args.xs.now c.x-item.result c.in-len1.len_at_least c.in-len1.len_below c.x-item.is) c.bare.ensures
+returns-in-len1 c = rw (just_one c.args.xs.now c.x-item.result c.in-len1.len_at_least c.in-len1.len_below c.x-item.is)
+    c.bare.ensures
 
 pub returns-in-len2-up : goal.returns-in-len2-up
 returns-in-len2-up c = sym (more_alone c.args.xs.now c.in-len2-up.len_at_least)

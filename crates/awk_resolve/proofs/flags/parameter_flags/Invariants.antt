@@ -5,4 +5,5 @@ use Rattle.awk_resolve.proofs.flags.parameter_flags.Given as goal
 
 abbrev pub invariant-loop-param : goal.invariant-loop-param
 invariant-loop-param l =
-    map (λ q. spec.arrays_by l.kinds (parameter l.function q.text)) l.params ≡ l.are ++ map (λ q. spec.arrays_by l.kinds (parameter l.function q.text)) (drop l.param-index l.params)
+    map (λ q. spec.arrays_by l.kinds (parameter l.function q.text)) l.params ≡ l.are
+    ++ map (λ q. spec.arrays_by l.kinds (parameter l.function q.text)) (drop l.param-index l.params)

@@ -4,4 +4,5 @@ use Rattle.awk_resolve.proofs.flags.variable_flags.Given as goal
 
 abbrev pub invariant-loop-text : goal.invariant-loop-text
 invariant-loop-text l =
-    spec.variable_flags (spec.arrays_by l.kinds) (map (λ t. t.items) l.texts) ≡ l.are ++ spec.variable_flags (spec.arrays_by l.kinds) (map (λ t. t.items) (drop l.text-index l.texts))
+    spec.variable_flags (spec.arrays_by l.kinds) (map (λ t. t.items) l.texts) ≡ l.are ++ spec.variable_flags
+    (spec.arrays_by l.kinds) (map (λ t. t.items) (drop l.text-index l.texts))

@@ -8,14 +8,17 @@ use Rattle.awk_resolve.proofs.functions.first_miscalled.Goals as goal
 pub returns-in-Some : goal.returns-in-Some
 returns-in-Some c =
     let found = rw c.as_slice.ensures at c.in-Some.ensures in
-    miscalled_here c.args.parts.now c.args.known.now c.requires c.part-item.result c.in-Some.place (c.loop-part.part-index, c.loop-part-test.true, sym c.part-item.is) found
+    miscalled_here c.args.parts.now c.args.known.now c.requires c.part-item.result c.in-Some.place
+    (c.loop-part.part-index, c.loop-part-test.true, sym c.part-item.is) found
 
 pub loop-part-preserved : goal.loop-part-preserved
 loop-part-preserved c =
     let none = rw c.as_slice.ensures at c.in_default.ensures in
-    none_more (λ p. OneOf (MiscallAt c.args.known.now) p.mentions) c.args.parts.now c.loop-part.part-index c.part-item.result c.loop-part-test.true c.part-item.is c.loop-part.invariant none
+    none_more (λ p. OneOf (MiscallAt c.args.known.now) p.mentions) c.args.parts.now c.loop-part.part-index
+    c.part-item.result c.loop-part-test.true c.part-item.is c.loop-part.invariant none
 
 pub returns : goal.returns
 returns c =
     none_miscalled c.args.parts.now c.args.known.now c.requires
-    (none_of (λ p. OneOf (MiscallAt c.args.known.now) p.mentions) c.args.parts.now c.loop-part.part-index c.loop-part-test.false c.loop-part.invariant)
+    (none_of (λ p. OneOf (MiscallAt c.args.known.now) p.mentions) c.args.parts.now c.loop-part.part-index
+    c.loop-part-test.false c.loop-part.invariant)

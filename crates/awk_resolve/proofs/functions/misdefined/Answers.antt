@@ -9,7 +9,8 @@ stands : (ps : List Section) (o : Option Place) → Finds (Miscalled ps) o → I
 stands ps None none = tt
 stands ps (Some place) call = miscalled place call
 
-none_stands : (ps : List Section) (o : Option Place) → Finds (Redefined ps) None → Finds (Misnamed ps) None → Finds (Miscalled ps) o → IfNone o ((place : Place) → Misdefined ps place → ⊥)
+none_stands : (ps : List Section) (o : Option Place) → Finds (Redefined ps) None → Finds (Misnamed ps) None
+    → Finds (Miscalled ps) o → IfNone o ((place : Place) → Misdefined ps place → ⊥)
 none_stands ps (Some place) once named called = tt
 none_stands ps None once named called = by
   where
@@ -35,4 +36,5 @@ returns-clause-stands c = stands c.args.parts.now c.first_miscalled.result c.fir
 
 pub returns-clause-none : goal.returns-clause-none
 returns-clause-none c =
-    none_stands c.args.parts.now c.first_miscalled.result (rw c.in_default.is at c.in_ok-place.ensures.place) (rw c.in_default-2.is at c.in_ok-place-2.ensures) c.first_miscalled.ensures
+    none_stands c.args.parts.now c.first_miscalled.result (rw c.in_default.is at c.in_ok-place.ensures.place)
+    (rw c.in_default-2.is at c.in_ok-place-2.ensures) c.first_miscalled.ensures

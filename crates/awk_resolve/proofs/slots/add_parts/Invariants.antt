@@ -3,4 +3,5 @@ use Rattle.awk_resolve.specs.Tables as spec
 use Rattle.awk_resolve.proofs.slots.add_parts.Given as goal
 
 abbrev pub invariant-loop-part : goal.invariant-loop-part
-invariant-loop-part l = spec.behind l.initial.out (spec.mentioned l.parts) ≡ spec.behind l.out (spec.mentioned (drop l.part-index l.parts))
+invariant-loop-part l = spec.behind l.initial.out (spec.mentioned l.parts) ≡ spec.behind l.out
+    (spec.mentioned (drop l.part-index l.parts))

@@ -12,4 +12,5 @@ abbrev pub decreases-statements : goal.decreases-statements
 decreases-statements l = 1 + statement_weights (statements_of (map view_statement l.xs.now))
 
 abbrev pub invariant-statements-loop-s : goal.invariant-statements-loop-s
-invariant-statements-loop-s l = l.initial.out ++ spec.each_said l.is_inside (statements_of (map view_statement l.xs)) ≡ l.out ++ spec.each_said l.is_inside (statements_of (map view_statement (drop l.s-index l.xs)))
+invariant-statements-loop-s l = l.initial.out ++ spec.each_said l.is_inside (statements_of (map view_statement l.xs))
+    ≡ l.out ++ spec.each_said l.is_inside (statements_of (map view_statement (drop l.s-index l.xs)))

@@ -13,4 +13,6 @@ pub returns-in-None-clause-filled : goal.returns-in-None-clause-filled
 returns-in-None-clause-filled c =
     let past = c.in-None.ensures.item.3 in
     rw (found_nowhere c.args.cells.now.items c.args.slot past)
-    (none_filled c.counted.result c.args.parts.items _ (λ a. change_nowhere (given_array a) c.args.cells.now.items c.args.slot past) (rw c.as_slice.ensures.value at c.counted.ensures.ok) (rw c.as_slice.ensures.value at c.counted.ensures.err))
+    (none_filled c.counted.result c.args.parts.items _ (λ a. change_nowhere (given_array a) c.args.cells.now.items
+    c.args.slot past) (rw c.as_slice.ensures.value at c.counted.ensures.ok)
+    (rw c.as_slice.ensures.value at c.counted.ensures.err))

@@ -3,10 +3,13 @@ use Rattle.awk_store.proofs.Cells.{change_here, change_nowhere, found_nowhere}
 use Rattle.awk_store.proofs.arrays.replace_in_cells.Goals as goal
 
 pub returns-in-Some-clause-after : goal.returns-in-Some-clause-after
-returns-in-Some-clause-after c = change_here (given_array c.args.array) c.args.cells.now.items c.args.slot c.in-Some.cell.now c.replace_array.new.self c.in-Some.ensures.value c.replace_array.ensures.after
+returns-in-Some-clause-after c = change_here (given_array c.args.array) c.args.cells.now.items c.args.slot
+    c.in-Some.cell.now c.replace_array.new.self c.in-Some.ensures.value c.replace_array.ensures.after
 
 pub returns-in-None-clause-value : goal.returns-in-None-clause-value
-returns-in-None-clause-value c = rw (found_nowhere c.args.cells.now.items c.args.slot c.in-None.ensures.item.3) c.with_seed.ensures
+returns-in-None-clause-value c = rw (found_nowhere c.args.cells.now.items c.args.slot c.in-None.ensures.item.3)
+    c.with_seed.ensures
 
 pub returns-in-None-clause-after : goal.returns-in-None-clause-after
-returns-in-None-clause-after c = change_nowhere (given_array c.args.array) c.args.cells.now.items c.args.slot c.in-None.ensures.item.3
+returns-in-None-clause-after c = change_nowhere (given_array c.args.array) c.args.cells.now.items c.args.slot
+    c.in-None.ensures.item.3

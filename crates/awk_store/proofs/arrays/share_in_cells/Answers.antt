@@ -5,8 +5,10 @@ use Rattle.awk_store.proofs.arrays.share_in_cells.Goals as goal
 
 pub returns-in-Some-clause-ok : goal.returns-in-Some-clause-ok
 returns-in-Some-clause-ok c =
-    rw (found_here c.args.cells.now.items c.args.slot c.in-Some.cell.now c.in-Some.ensures.item.3.0 c.in-Some.ensures.value) c.share_element.ensures.ok
+    rw (found_here c.args.cells.now.items c.args.slot c.in-Some.cell.now c.in-Some.ensures.item.3.0
+    c.in-Some.ensures.value) c.share_element.ensures.ok
 
 pub returns-in-Some-clause-same : goal.returns-in-Some-clause-same
 returns-in-Some-clause-same c =
-    ap (slice_set c.args.cells.now.items c.args.slot) c.share_element.ensures.same ∙ set_here c.args.cells.now.items c.args.slot c.in-Some.cell.now c.in-Some.ensures.value
+    ap (slice_set c.args.cells.now.items c.args.slot) c.share_element.ensures.same ∙ set_here c.args.cells.now.items
+    c.args.slot c.in-Some.cell.now c.in-Some.ensures.value

@@ -5,5 +5,6 @@ use Rattle.awk_store.proofs.fields.read_field.Goals as goal
 
 pub returns : goal.returns
 returns c = λ g t.
-    reads_field g (c.args.store.now, t) c.args.number c.field.new.self c.in-Ok.value (omega (arith, c.ranges.number.fits)) c.field.ensures.others c.field.ensures.kept
+    reads_field g (c.args.store.now, t) c.args.number c.field.new.self c.in-Ok.value
+    (omega (arith, c.ranges.number.fits)) c.field.ensures.others c.field.ensures.kept
     (rw (c.from.ensures, to_z_pos w64 c.args.number (omega (arith, c.ranges.number.fits))) at c.in-Ok.ensures.ok)

@@ -8,5 +8,9 @@ returns-then-number-eq0 c = λ g t. rw c.if-number-eq0.true (c.set_whole.ensures
 
 pub returns : goal.returns
 returns c = λ g t.
-    rw c.at.ensures (number_result g (c.args.store.now, t) c.args.place c.args.value c.args.number (omega (arith, c.ranges.number.fits)) c.if-number-eq0.false c.set_field.result c.set_field.new.self
-    (rw (c.from.ensures, to_z_pos w64 c.args.number (omega (arith, c.ranges.number.fits))) at c.set_field.ensures.ok) c.set_field.ensures.err c.set_field.ensures.others (rw (c.from.ensures, to_z_pos w64 c.args.number (omega (arith, c.ranges.number.fits))) at c.set_field.ensures.fault))
+    rw c.at.ensures (number_result g (c.args.store.now, t) c.args.place c.args.value c.args.number
+    (omega (arith, c.ranges.number.fits)) c.if-number-eq0.false c.set_field.result c.set_field.new.self
+    (rw (c.from.ensures, to_z_pos w64 c.args.number (omega (arith, c.ranges.number.fits))) at c.set_field.ensures.ok)
+    c.set_field.ensures.err c.set_field.ensures.others
+    (rw (c.from.ensures, to_z_pos w64 c.args.number (omega (arith, c.ranges.number.fits))) at
+    c.set_field.ensures.fault))

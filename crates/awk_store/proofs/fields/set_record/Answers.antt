@@ -4,5 +4,7 @@ use Rattle.awk_store.proofs.fields.set_record.Goals as goal
 
 pub returns : goal.returns
 returns c = λ g t x is.
-    rw c.at.ensures (whole_result g (c.args.store.now, t) c.args.place x c.set_whole.result c.args.text c.set_whole.new.self (sym is)
-    c.set_whole.ensures.ok c.set_whole.ensures.fits c.set_whole.ensures.pattern c.set_whole.ensures.err c.set_whole.ensures.fault)
+    rw c.at.ensures (whole_result g (c.args.store.now, t) c.args.place x c.set_whole.result c.args.text
+    c.set_whole.new.self (sym is)
+    c.set_whole.ensures.ok c.set_whole.ensures.fits c.set_whole.ensures.pattern c.set_whole.ensures.err
+    c.set_whole.ensures.fault)

@@ -10,4 +10,5 @@ returns-clause-ok c = fills c.args.parts.items c.fill.new.self c.in_ok-fill.ensu
 pub returns-in_err-fill-clause-err : goal.returns-in_err-fill-clause-err
 returns-in_err-fill-clause-err c =
     let p = err_from_is_err_and c.from_residual.result c.from_residual.ensures.1 in
-    rw (p.1, p.2) (⊎_elim inl (λ h. inr (refused c.args.parts.items h.1 ∙ ap (λ e. Err e) (sym h.0), h.2)) c.in_err-fill.ensures.err)
+    rw (p.1, p.2) (⊎_elim inl (λ h. inr (refused c.args.parts.items h.1 ∙ ap (λ e. Err e) (sym h.0), h.2))
+    c.in_err-fill.ensures.err)

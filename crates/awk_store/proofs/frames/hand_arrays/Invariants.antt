@@ -10,5 +10,7 @@ use Rattle.awk_store.proofs.frames.hand_arrays.Given as goal
 
 abbrev pub invariant-loop-x : goal.invariant-loop-x
 invariant-loop-x l =
-    ((g : Given) (t : Table) (hid : Hidden) (vs : List Value) → l.fn.bounds.items ≡ map as_scalar vs → map (bound_of (names_in g)) l.bounds.items ≡ half (names_in g) (base g (l.store, t) hid) l.x-index l.xs (take (length l.xs) vs))
+    ((g : Given) (t : Table) (hid : Hidden) (vs : List Value) → l.fn.bounds.items ≡ map as_scalar vs
+    → map (bound_of (names_in g)) l.bounds.items ≡ half (names_in g) (base g (l.store, t) hid) l.x-index l.xs
+    (take (length l.xs) vs))
     × (l.at ≡ l.x-index)

@@ -22,4 +22,5 @@ returns-in-Some-clause-done c = λ t.
 pub returns-in-Some-clause-not_done : goal.returns-in-Some-clause-not_done
 returns-in-Some-clause-not_done c =
     let cells = c.args.cells.now.items in
-    λ f. ap (slice_set cells c.args.slot) (c.add_one.ensures.not_done f) ∙ set_here cells c.args.slot c.in-Some.cell.now c.in-Some.ensures.value
+    λ f. ap (slice_set cells c.args.slot) (c.add_one.ensures.not_done f) ∙ set_here cells c.args.slot c.in-Some.cell.now
+    c.in-Some.ensures.value

@@ -11,4 +11,5 @@ returns-in_default c = λ g t x y. lacking (ap (λ (k : Kept). k.used) c.field_c
 pub returns : goal.returns
 returns c =
     rw (to_z-of_z w64 c.in-Ok.count (search rules))
-    (λ g t x y. counted_nf g (c.args.store.now, t) x c.field_count.new.self c.in-Ok.count y c.field_count.ensures.others c.field_count.ensures.kept c.in-Ok.ensures.ok)
+    (λ g t x y. counted_nf g (c.args.store.now, t) x c.field_count.new.self c.in-Ok.count y c.field_count.ensures.others
+    c.field_count.ensures.kept c.in-Ok.ensures.ok)

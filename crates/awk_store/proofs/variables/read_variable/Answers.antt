@@ -7,4 +7,5 @@ returns-then-is_nf c = λ g t. c.count_fields.ensures g t c.args.variable (sym c
 
 pub returns : goal.returns
 returns c = λ g t.
-    rw (c.share.ensures.same, c.in-Ok.ensures.ok) (reads_variable g (c.args.store.now, t) c.args.variable (sym c.is_nf.ensures ∙ c.if-is_nf.false))
+    rw (c.share.ensures.same, c.in-Ok.ensures.ok) (reads_variable g (c.args.store.now, t) c.args.variable
+    (sym c.is_nf.ensures ∙ c.if-is_nf.false))

@@ -5,8 +5,10 @@ use Rattle.awk_store.proofs.variables.share_bound.Goals as goal
 
 pub returns-in-Some-clause-ok : goal.returns-in-Some-clause-ok
 returns-in-Some-clause-ok c =
-    rw (found_here c.args.frame.now.items c.args.place c.in-Some.bound.now c.in-Some.ensures.item.3.0 c.in-Some.ensures.value) c.share.ensures.ok
+    rw (found_here c.args.frame.now.items c.args.place c.in-Some.bound.now c.in-Some.ensures.item.3.0
+    c.in-Some.ensures.value) c.share.ensures.ok
 
 pub returns-in-Some-clause-same : goal.returns-in-Some-clause-same
 returns-in-Some-clause-same c =
-    ap (slice_set c.args.frame.now.items c.args.place) c.share.ensures.same ∙ set_here c.args.frame.now.items c.args.place c.in-Some.bound.now c.in-Some.ensures.value
+    ap (slice_set c.args.frame.now.items c.args.place) c.share.ensures.same ∙ set_here c.args.frame.now.items
+    c.args.place c.in-Some.bound.now c.in-Some.ensures.value

@@ -9,7 +9,8 @@ use Rattle.awk_streams.proofs.closing.close.Given as goal
 
 abbrev pub invariant-loop-class : goal.invariant-loop-class
 invariant-loop-class g l =
-    ((m : Given) (s : State) → Leads g.W.World (beside s) Tells (λ t. s.course.used) m (Do (Close l.fn.place l.text None)) l.fn.streams l.fn.world
+    ((m : Given) (s : State) → Leads g.W.World (beside s) Tells (λ t. s.course.used) m
+    (Do (Close l.fn.place l.text None)) l.fn.streams l.fn.world
     (λ k. Do (Close l.fn.place l.text (option_map (λ n. Num n) l.answer)) ∷ k) l.streams l.world)
     × Owns (g.W.World.open_numbers l.world) l.streams
 

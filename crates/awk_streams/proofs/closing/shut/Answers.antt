@@ -9,4 +9,8 @@ returns-in_err-reply-clause-answer g c =
     rw (p.1, p.2) c.in_err-reply.ensures.answer
 
 pub returns-clause-answer : goal.returns-clause-answer
-returns-clause-answer g c = (c.in_ok-reply.reply, c.in_ok-reply.ensures.answer, rw (to_z-of_z w64 c.shut_status.result (search rules)) c.shut_status.ensures)
+returns-clause-answer g c = (
+  c.in_ok-reply.reply,
+  c.in_ok-reply.ensures.answer,
+  rw (to_z-of_z w64 c.shut_status.result (search rules)) c.shut_status.ensures,
+)

@@ -7,7 +7,8 @@ use Rattle.awk_streams.proofs.closing.shut_all.Given as goal
 
 abbrev pub invariant-loop-number : goal.invariant-loop-number
 invariant-loop-number g l =
-    ((m : Given) (s : State) (o : Outcome) → Leads g.W.World (beside s) Tells (λ t. s.course.used) m (Do (Closing o)) l.fn.streams l.fn.world (closing o l.any) l.streams l.world)
+    ((m : Given) (s : State) (o : Outcome) → Leads g.W.World (beside s) Tells (λ t. s.course.used) m (Do (Closing o))
+    l.fn.streams l.fn.world (closing o l.any) l.streams l.world)
     × Owns (g.W.World.open_numbers l.world) l.streams
 
 abbrev pub decreases-loop-number : goal.decreases-loop-number

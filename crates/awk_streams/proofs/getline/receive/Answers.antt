@@ -16,4 +16,9 @@ pub returns-in-End-clause-ok : goal.returns-in-End-clause-ok
 returns-in-End-clause-ok c = rw c.in-End.is (λ i live. (refl, c.finish.ensures i live))
 
 pub returns-in_default : goal.returns-in_default
-returns-in_default c = record { ok = λ i live. received_none (key_of c.args.source.now) c.args.streams.now i c.args.reply.now c.in_default.not-Bytes c.in_default.not-End; same = tt; err = tt }
+returns-in_default c = record {
+  ok = λ i live. received_none (key_of c.args.source.now) c.args.streams.now i
+      c.args.reply.now c.in_default.not-Bytes c.in_default.not-End;
+  same = tt;
+  err = tt;
+}

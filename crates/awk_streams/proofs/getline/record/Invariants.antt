@@ -11,6 +11,7 @@ use Rattle.awk_streams.proofs.getline.record.Given as goal
 
 abbrev pub invariant-loop : goal.invariant-loop
 invariant-loop g l =
-    ((m : Given) (s : State) (p : Piece) (to : NextRecord → List Piece → List Piece) → IsReading m s p l.fn.place (key_of l.fn.source) to → own_text s (codes "RS") ≡ l.fn.rs →
+    ((m : Given) (s : State) (p : Piece) (to : NextRecord → List Piece → List Piece)
+    → IsReading m s p l.fn.place (key_of l.fn.source) to → own_text s (codes "RS") ≡ l.fn.rs →
     Leads g.W.World (beside s) Tells (λ t. s.course.used) m p l.fn.streams l.fn.world (λ k. p ∷ k) l.streams l.world)
     × Owns (g.W.World.open_numbers l.world) l.streams × IsLive (key_of l.fn.source) l.streams

@@ -16,6 +16,7 @@ returns-clause-taken c = λ is.
     record {
       before = x.0;
       live = x.1;
-      first = first_is (Named class name) old new x.0 x.2 (head c.args.rs.now x.0.unread x.0.ended) (taken.Record c.take_line.new.room.items) x.3
+      first = first_is (Named class name) old new x.0 x.2 (head c.args.rs.now x.0.unread x.0.ended)
+          (taken.Record c.take_line.new.room.items) x.3
           (read_at class name (λ z. x.2) x.0 old new x.1 x.4 c.take_line.ensures.input);
     }

@@ -13,6 +13,7 @@ returns-clause-taken c = λ is.
     record {
       before = old.input;
       live = refl;
-      first = first_is (Standard 0) old new old.input new.input (head c.args.rs.now old.input.unread old.input.ended) (taken.Record c.take_standard_line.new.room.items) (c.take_standard_line.ensures.taken is)
+      first = first_is (Standard 0) old new old.input new.input (head c.args.rs.now old.input.unread old.input.ended)
+          (taken.Record c.take_standard_line.new.room.items) (c.take_standard_line.ensures.taken is)
           (read_standard new.input old new c.take_standard_line.ensures.entries refl);
     }

@@ -1,7 +1,8 @@
 use Rattle.std.proofs.Common.{◌≡◌, ℕ, ◌%◌, w64, pos, arith}
 use lib.IntN.{negsuc}
 use Rattle.std.proofs.lemmas.Int.{ints, to_z-of_z}
-use Rattle.awk_text.proofs.Powers.{pow_far, pow_minus_one_even, pow_minus_one_odd, pow_one_base, pow_reciprocal, pow_zero_base}
+use Rattle.awk_text.proofs.Powers.{pow_far, pow_minus_one_even, pow_minus_one_odd, pow_one_base, pow_reciprocal}
+use Rattle.awk_text.proofs.Powers.{pow_zero_base}
 use Rattle.awk_text.proofs.arithmetic.pow.Goals as goal
 
 odd : (n : ℕ) → (n % 2 ≡ 0 → ⊥) → n % 2 ≡ 1

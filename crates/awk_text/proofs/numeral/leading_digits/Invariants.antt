@@ -6,4 +6,5 @@ use Rattle.awk_text.proofs.numeral.leading_digits.Given as goal
 
 -- all bytes so far are digits, and this is what they are worth
 abbrev pub invariant-loop-i : goal.invariant-loop-i
-invariant-loop-i l = (prefix_len is_ascii_digit l.text ≡ l.i + prefix_len is_ascii_digit (drop l.i l.text)) × (l.value ≡ min (digits_value 10 (take l.i l.text)) (2 ^ 64 - 1))
+invariant-loop-i l = (prefix_len is_ascii_digit l.text ≡ l.i + prefix_len is_ascii_digit (drop l.i l.text))
+    × (l.value ≡ min (digits_value 10 (take l.i l.text)) (2 ^ 64 - 1))

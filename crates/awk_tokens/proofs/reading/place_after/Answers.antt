@@ -8,9 +8,11 @@ loop-b-preserved c =
     let text = c.args.text.now in
     let i = c.loop-b.b-index in
     λ front placed.
-    c.next_place-end.ensures ∙ ap (λ p. next_place p (get_or text i 0)) (c.loop-b.invariant front placed) ∙ sym (place_on front text i (omega arith))
+    c.next_place-end.ensures ∙ ap (λ p. next_place p (get_or text i 0)) (c.loop-b.invariant front placed)
+    ∙ sym (place_on front text i (omega arith))
 
 pub returns : goal.returns
 returns c =
     λ front placed.
-    c.loop-b.invariant front placed ∙ ap (λ w. place_after (front ++ w)) (all_taken c.args.text.now c.loop-b.b-index (omega arith))
+    c.loop-b.invariant front placed ∙ ap (λ w. place_after (front ++ w)) (all_taken c.args.text.now c.loop-b.b-index
+    (omega arith))

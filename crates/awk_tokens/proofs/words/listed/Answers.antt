@@ -25,4 +25,5 @@ returns-in-8 c = c.lookup-in-8.ensures ∙ listed_at 8 c.args.word.now c.in-8.is
 
 pub returns-in_default : goal.returns-in_default
 returns-in_default c =
-    listed_none c.args.word.now (omega arith) (omega arith) (omega arith) (omega arith) (omega arith) (omega arith) (omega arith)
+    listed_none c.args.word.now (omega arith) (omega arith) (omega arith) (omega arith) (omega arith) (omega arith)
+    (omega arith)

@@ -3,7 +3,8 @@ use Rattle.awk_tokens.specs.Words.{lookup}
 use Rattle.awk_tokens.proofs.words.lookup.Given as goal
 
 abbrev pub invariant-loop-table : goal.invariant-loop-table
-invariant-loop-table l = lookup (map (λ entry. (entry.0.now, entry.1)) l.table) l.word ≡ lookup (map (λ entry. (entry.0.now, entry.1)) l.initial.table) l.word
+invariant-loop-table l = lookup (map (λ entry. (entry.0.now, entry.1)) l.table) l.word
+    ≡ lookup (map (λ entry. (entry.0.now, entry.1)) l.initial.table) l.word
 
 abbrev pub decreases-loop-table : goal.decreases-loop-table
 decreases-loop-table l = length l.table

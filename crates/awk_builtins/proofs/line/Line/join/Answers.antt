@@ -14,5 +14,6 @@ returns c =
     let separator = c.args.separator.now in
     let end = c.args.end.now in
     c.in_ok-push.ensures
-    ∙ whole c.add.new.self c.add_behind.new.self separator x others end (c.in_ok-add.ensures ∙ ap (λ o. written o (text_of x)) c.clear.ensures) c.in_ok-add_behind.ensures
+    ∙ whole c.add.new.self c.add_behind.new.self separator x others end
+    (c.in_ok-add.ensures ∙ ap (λ o. written o (text_of x)) c.clear.ensures) c.in_ok-add_behind.ensures
     ∙ ap (λ l. held (joined separator l ++ end)) (sym (first_and_others vs x c.in-len1-up.len_at_least c.first-item.is))

@@ -8,5 +8,6 @@ invariant-loop-left l = record {
   behind_len : length l.behind.items ≡ length l.self.program.now;
   count : length l.ends.items ≡ l.left;
   ends : AreFarthestTo l.self.sets.now l.self.program.now l.self.text.now l.entry l.left l.ends.items;
-  behind : l.left ≤ length l.self.text.now → IsBehind l.self.sets.now l.self.program.now l.self.text.now (length l.self.text.now - l.left) l.behind.items;
+  behind : l.left ≤ length l.self.text.now → IsBehind l.self.sets.now l.self.program.now l.self.text.now
+      (length l.self.text.now - l.left) l.behind.items;
 }

@@ -10,7 +10,8 @@ loop-k-preserved c = record {
   ends = λ h. c.raise.ensures.ends (c.loop-k.invariant.ends h);
   settled = elim c.if-raise.branch [
     | then-raise w ↦ λ h. absurd (true≢false (sym w.any-is ∙ h))
-    | else-raise w ↦ λ h. settled_more _ _ _ _ _ _ _ (c.raise.ensures.same w.if-raise.false) (c.loop-k.invariant.settled (sym w.any-is ∙ h)) (c.raise.ensures.settled w.if-raise.false)
+    | else-raise w ↦ λ h. settled_more _ _ _ _ _ _ _ (c.raise.ensures.same w.if-raise.false)
+        (c.loop-k.invariant.settled (sym w.any-is ∙ h)) (c.raise.ensures.settled w.if-raise.false)
   ];
 }
 

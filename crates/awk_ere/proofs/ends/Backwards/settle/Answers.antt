@@ -2,7 +2,12 @@ use Rattle.awk_ere.proofs.Ending.{above_then}
 use Rattle.awk_ere.proofs.ends.Backwards.settle.Goals as goal
 
 pub loop-init : goal.loop-init
-loop-init c = record { len = c.raise_each.ensures.len; above = c.raise_each.ensures.above; ends = c.raise_each.ensures.ends }
+loop-init c = record {
+  len = c.raise_each.ensures.len;
+  above = c.raise_each.ensures.above;
+  ends =
+      c.raise_each.ensures.ends;
+}
 
 pub loop-preserved : goal.loop-preserved
 loop-preserved c = record {
@@ -18,7 +23,8 @@ pub returns-then-not-raise_each-clause-ends : goal.returns-then-not-raise_each-c
 returns-then-not-raise_each-clause-ends c = λ h. c.raise_each-in-loop.ensures.ends (c.loop.invariant.ends h)
 
 pub returns-then-not-raise_each-clause-settled : goal.returns-then-not-raise_each-clause-settled
-returns-then-not-raise_each-clause-settled c = λ _ q r skip. c.raise_each-in-loop.ensures.settled c.if-not-raise_each.true q (c.requires.all _ _ q r skip) r skip
+returns-then-not-raise_each-clause-settled c = λ _ q r skip. c.raise_each-in-loop.ensures.settled
+    c.if-not-raise_each.true q (c.requires.all _ _ q r skip) r skip
 
 pub returns-clause-above : goal.returns-clause-above
 returns-clause-above c = c.loop.invariant.above

@@ -11,12 +11,23 @@ returns-in-Some-clause-found c =
 
 pub returns-in-Match-clause-found : goal.returns-in-Match-clause-found
 returns-in-Match-clause-found c =
-    rw (← c.self.view_is) (c.self.invariant.0, c.self.invariant.1, finds_best _ _ _ _ c.self.invariant.2 c.self.inside.text.now c.args.from (Some (c.in-Match.start, c.in-Match.end)) c.in-Match.ensures)
+    rw (← c.self.view_is) (
+      c.self.invariant.0,
+      c.self.invariant.1,
+      finds_best _ _ _ _ c.self.invariant.2 c.self.inside.text.now c.args.from
+          (Some (c.in-Match.start, c.in-Match.end)) c.in-Match.ensures,
+    )
 
 pub returns-in-NoMatch-clause-found : goal.returns-in-NoMatch-clause-found
 returns-in-NoMatch-clause-found c =
-    rw (← c.self.view_is) (c.self.invariant.0, c.self.invariant.1, finds_best _ _ _ _ c.self.invariant.2 c.self.inside.text.now c.args.from None c.in-NoMatch.ensures)
+    rw (← c.self.view_is) (
+      c.self.invariant.0,
+      c.self.invariant.1,
+      finds_best _ _ _ _ c.self.invariant.2 c.self.inside.text.now c.args.from None c.in-NoMatch.ensures,
+    )
 
 pub returns-in-Left-clause-found : goal.returns-in-Left-clause-found
 returns-in-Left-clause-found c =
-    rw (← c.self.view_is) (left_found _ _ _ _ (none_before _ _ c.self.inside.matcher.now _ c.self.invariant.1 c.self.invariant.2 _ _ c.in-Left.ensures) _ c.find_left.ensures.found)
+    rw (← c.self.view_is)
+    (left_found _ _ _ _ (none_before _ _ c.self.inside.matcher.now _ c.self.invariant.1 c.self.invariant.2 _ _
+    c.in-Left.ensures) _ c.find_left.ensures.found)

@@ -7,5 +7,6 @@ returns-in-None c = text_none _ _ _ c.requires (rw c.split_at.ensures.back at c.
 
 pub returns-in-Some : goal.returns-in-Some
 returns-in-Some c =
-    text_some _ _ _ c.requires c.in-Some.at _ _ refl (ap (λ x. (c.args.from + c.in-Some.at) + length x) (c.as_slice.ensures.value ∙ c.self.view_is))
+    text_some _ _ _ c.requires c.in-Some.at _ _ refl (ap (λ x. (c.args.from + c.in-Some.at) + length x)
+    (c.as_slice.ensures.value ∙ c.self.view_is))
     (rw c.split_at.ensures.back at c.in-Some.ensures)

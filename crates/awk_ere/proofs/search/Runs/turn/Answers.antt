@@ -7,4 +7,5 @@ advance-requires-clause-cap c = omega (arith, c.cap_at-cap.ensures, cap_small _ 
 
 pub returns-clause-marks : goal.returns-clause-marks
 returns-clause-marks c =
-    marks_turn _ _ _ _ _ _ _ _ _ c.requires.place.1 c.in_ok-found.ensures.best c.in_ok-found.ensures.marks (rw c.cap_at-cap.ensures at c.in_ok-advance.ensures.advances)
+    marks_turn _ _ _ _ _ _ _ _ _ c.requires.place.1 c.in_ok-found.ensures.best c.in_ok-found.ensures.marks
+    (rw c.cap_at-cap.ensures at c.in_ok-advance.ensures.advances)

@@ -12,17 +12,21 @@ loop-at-init c = record {
 
 pub index_mut-requires : goal.index_mut-requires
 index_mut-requires c =
-    let inside = c.loop-at.invariant.clearing.below _ (Contains-get_or c.deref-at-items.result.now c.loop-at.at-index 0 c.loop-at-test.true) in
+    let inside = c.loop-at.invariant.clearing.below _ (Contains-get_or c.deref-at-items.result.now c.loop-at.at-index 0
+    c.loop-at-test.true) in
     omega (arith, inside, c.loop-at.self-inside.1.0.ok)
 
 pub loop-at-preserved : goal.loop-at-preserved
 loop-at-preserved c = record {
-  clearing = clearing_more _ _ _ c.loop-at-test.true (c.loop-at.invariant.clearing.below _ (Contains-get_or c.deref-at-items.result.now c.loop-at.at-index 0 c.loop-at-test.true)) c.loop-at.invariant.clearing;
+  clearing = clearing_more _ _ _ c.loop-at-test.true (c.loop-at.invariant.clearing.below _
+      (Contains-get_or c.deref-at-items.result.now c.loop-at.at-index 0 c.loop-at-test.true))
+      c.loop-at.invariant.clearing;
   len = length-set {A = ℕ} _ _ _ ∙ c.loop-at.invariant.len;
 }
 
 pub invariant_of-self : goal.invariant_of-self
-invariant_of-self c = rw c.clear.ensures.items (listed_none _ (clearing_ends _ _ _ (omega arith) c.loop-at.invariant.clearing))
+invariant_of-self c =
+    rw c.clear.ensures.items (listed_none _ (clearing_ends _ _ _ (omega arith) c.loop-at.invariant.clearing))
 
 pub returns-clause-len : goal.returns-clause-len
 returns-clause-len c = c.loop-at.invariant.len

@@ -5,4 +5,5 @@ use Rattle.awk_ere.proofs.search.Starts.least.Goals as goal
 
 pub returns : goal.returns
 returns c = rw (← c.self.view_is)
-    (c.index.ensures ∙ get_or_default c.self.inside.starts.items c.args.at c.index.result.now NONE (rw (← c.self.view_is) at c.requires))
+    (c.index.ensures ∙ get_or_default c.self.inside.starts.items c.args.at c.index.result.now NONE
+    (rw (← c.self.view_is) at c.requires))

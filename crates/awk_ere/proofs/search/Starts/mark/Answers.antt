@@ -12,7 +12,9 @@ invariant_of-self-2 c =
     let inside : c.args.at < length c.self.inside.starts.items = rw (← c.self.view_is) at c.requires in
     elim c.if-index.branch [
       | then-index+in_ok-push w ↦ rw w.self-inside-is
-          (subst (λ a. IsListed (set c.self.inside.starts.items c.args.at c.args.start) a) (sym w.in_ok-push.ensures.items) (listed_new _ _ _ _ inside (omega (arith, c.ranges.start)) c.self.invariant))
+          (subst (λ a. IsListed (set c.self.inside.starts.items c.args.at c.args.start) a)
+          (sym w.in_ok-push.ensures.items) (listed_new _ _ _ _ inside (omega (arith, c.ranges.start))
+          c.self.invariant))
       | else-index w ↦ rw w.self-inside-is
           (listed_again c.self.inside.starts.items c.self.inside.active.items c.args.at c.args.start
           (let e = get_or_default c.self.inside.starts.items c.args.at c.index.result.now NONE inside in

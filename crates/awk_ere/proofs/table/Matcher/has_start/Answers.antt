@@ -6,4 +6,5 @@ pub ends_somewhere-requires-clause-begin : goal.ends_somewhere-requires-clause-b
 ends_somewhere-requires-clause-begin c = rw (← c.self.view_is) (rw (← c.self.view_is) at c.in_ok-first.ensures)
 
 pub returns : goal.returns
-returns c = rw (← c.self.view_is) (starts_ahead (matcher_of c.self.inside) _ c.self.invariant.1 _ _ _ (rw (← c.self.view_is) at c.ends_somewhere.ensures))
+returns c = rw (← c.self.view_is) (starts_ahead (matcher_of c.self.inside) _ c.self.invariant.1 _ _ _
+    (rw (← c.self.view_is) at c.ends_somewhere.ensures))

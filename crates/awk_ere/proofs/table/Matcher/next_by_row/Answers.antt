@@ -10,7 +10,8 @@ returns c =
     let stays = rw c.as_slice-cells.ensures.value at c.stays_to.ensures.all in
     let later = rw (← c.self.view_is) at c.requires.later in
     rw (← c.self.view_is)
-    (none_dead (matcher_of c.self.inside) _ c.self.invariant.1 _ (λ k. omega (arith, c.type_inv.text k)) _ _ later c.stays_to.ensures.inside.0 c.stays_to.ensures.inside.1 known.0 known.1 stays)
+    (none_dead (matcher_of c.self.inside) _ c.self.invariant.1 _ (λ k. omega (arith, c.type_inv.text k)) _ _ later
+    c.stays_to.ensures.inside.0 c.stays_to.ensures.inside.1 known.0 known.1 stays)
 
 pub returns-then-not-is_open : goal.returns-then-not-is_open
 returns-then-not-is_open c = none_begin _ _ _ c.requires.from

@@ -6,4 +6,5 @@ use Rattle.awk_ere.proofs.table.Matcher.scan_state.Goals as goal
 pub returns-then-state-len : goal.returns-then-state-len
 returns-then-state-len c =
     rw (← c.self.view_is)
-    (begins_scan (matcher_of c.self.inside) _ c.self.invariant.1 _ _ c.state_at-state.ensures (omega (arith, c.if-state-len.true, c.len.ensures, c.self.inside.table.cells.ok)))
+    (begins_scan (matcher_of c.self.inside) _ c.self.invariant.1 _ _ c.state_at-state.ensures
+    (omega (arith, c.if-state-len.true, c.len.ensures, c.self.inside.table.cells.ok)))

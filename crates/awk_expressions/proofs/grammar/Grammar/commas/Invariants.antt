@@ -8,4 +8,6 @@ use Rattle.awk_expressions.proofs.Loops.{with_front}
 use Rattle.awk_expressions.proofs.grammar.Grammar.commas.Given as goal
 
 abbrev pub invariant-loop-turn : goal.invariant-loop-turn
-invariant-loop-turn g l = with_front (map view l.found) (many_from (is w.Comma) (next_in_list l.self.depth (expr l.self.depth)) (l._turn-end - l._turn) l.tokens) ≡ commas l.self.depth (expr l.self.depth) l.fn.tokens
+invariant-loop-turn g l = with_front (map view l.found)
+    (many_from (is w.Comma) (next_in_list l.self.depth (expr l.self.depth)) (l._turn-end - l._turn) l.tokens)
+    ≡ commas l.self.depth (expr l.self.depth) l.fn.tokens

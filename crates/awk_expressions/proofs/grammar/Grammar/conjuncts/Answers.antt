@@ -20,7 +20,9 @@ returns-in_err-next_conjunct g c =
 pub loop-turn-preserved : goal.loop-turn-preserved
 loop-turn-preserved g c =
     let h : is w.And (ahead c.loop-turn.tokens) ≡ true = cc in
-    rw (c.in_ok-push.ensures.ok, c.into_inner.ensures) (viewed_goes view (is w.And) _ _ _ _ _ _ _ _ c.loop-turn-test.true h c.in_ok-next_conjunct.ensures c.loop-turn.invariant)
+    rw (c.in_ok-push.ensures.ok, c.into_inner.ensures)
+    (viewed_goes view (is w.And) _ _ _ _ _ _ _ _ c.loop-turn-test.true h c.in_ok-next_conjunct.ensures
+    c.loop-turn.invariant)
 
 pub returns-then-is : goal.returns-then-is
 returns-then-is g c =

@@ -8,4 +8,6 @@ use Rattle.awk_expressions.proofs.Loops.{with_front}
 use Rattle.awk_expressions.proofs.grammar.Grammar.disjuncts.Given as goal
 
 abbrev pub invariant-loop-turn : goal.invariant-loop-turn
-invariant-loop-turn g l = with_front (map view l.found) (many_from (is w.Or) (next_disjunct l.self.depth (expr l.self.depth) l.in_print) (l._turn-end - l._turn) l.tokens) ≡ disjuncts l.self.depth (expr l.self.depth) l.in_print l.fn.tokens
+invariant-loop-turn g l = with_front (map view l.found)
+    (many_from (is w.Or) (next_disjunct l.self.depth (expr l.self.depth) l.in_print) (l._turn-end - l._turn) l.tokens)
+    ≡ disjuncts l.self.depth (expr l.self.depth) l.in_print l.fn.tokens

@@ -20,7 +20,8 @@ returns-in_err-factor g c =
 pub loop-turn-preserved : goal.loop-turn-preserved
 loop-turn-preserved g c =
     let h : is_factor_sign (ahead c.loop-turn.tokens) ≡ true = cc in
-    rw c.in_ok-push.ensures.ok (viewed_goes view_term is_factor_sign _ _ _ _ _ _ _ _ c.loop-turn-test.true h c.in_ok-factor.ensures c.loop-turn.invariant)
+    rw c.in_ok-push.ensures.ok (viewed_goes view_term is_factor_sign _ _ _ _ _ _ _ _ c.loop-turn-test.true h
+    c.in_ok-factor.ensures c.loop-turn.invariant)
 
 pub returns-then-is_factor_sign : goal.returns-then-is_factor_sign
 returns-then-is_factor_sign g c =

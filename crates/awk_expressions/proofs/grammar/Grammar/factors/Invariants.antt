@@ -7,4 +7,6 @@ use Rattle.awk_expressions.proofs.Loops.{with_front}
 use Rattle.awk_expressions.proofs.grammar.Grammar.factors.Given as goal
 
 abbrev pub invariant-loop-turn : goal.invariant-loop-turn
-invariant-loop-turn g l = with_front (map view_term l.found) (many_from is_factor_sign (factor l.self.depth (expr l.self.depth)) (l._turn-end - l._turn) l.tokens) ≡ factors l.self.depth (expr l.self.depth) l.fn.tokens
+invariant-loop-turn g l = with_front (map view_term l.found)
+    (many_from is_factor_sign (factor l.self.depth (expr l.self.depth)) (l._turn-end - l._turn) l.tokens)
+    ≡ factors l.self.depth (expr l.self.depth) l.fn.tokens

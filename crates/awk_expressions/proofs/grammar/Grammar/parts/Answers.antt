@@ -20,7 +20,9 @@ returns-in_err-part g c =
 pub loop-turn-preserved : goal.loop-turn-preserved
 loop-turn-preserved g c =
     let h : begins_part (ahead c.loop-turn.tokens) ≡ true = cc in
-    rw (c.in_ok-push.ensures.ok, c.into_inner.ensures) (viewed_goes view begins_part _ _ _ _ _ _ _ _ c.loop-turn-test.true h c.in_ok-part.ensures c.loop-turn.invariant)
+    rw (c.in_ok-push.ensures.ok, c.into_inner.ensures)
+    (viewed_goes view begins_part _ _ _ _ _ _ _ _ c.loop-turn-test.true h c.in_ok-part.ensures
+    c.loop-turn.invariant)
 
 pub returns-then-begins_part : goal.returns-then-begins_part
 returns-then-begins_part g c =

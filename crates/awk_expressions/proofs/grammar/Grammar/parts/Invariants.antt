@@ -7,4 +7,5 @@ use Rattle.awk_expressions.proofs.Loops.{with_front}
 use Rattle.awk_expressions.proofs.grammar.Grammar.parts.Given as goal
 
 abbrev pub invariant-loop-turn : goal.invariant-loop-turn
-invariant-loop-turn g l = with_front (map view l.found) (many_from begins_part (part l.self.depth (expr l.self.depth)) (l._turn-end - l._turn) l.tokens) ≡ parts l.self.depth (expr l.self.depth) l.fn.tokens
+invariant-loop-turn g l = with_front (map view l.found) (many_from begins_part (part l.self.depth (expr l.self.depth))
+    (l._turn-end - l._turn) l.tokens) ≡ parts l.self.depth (expr l.self.depth) l.fn.tokens

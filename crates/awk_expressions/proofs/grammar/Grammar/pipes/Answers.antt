@@ -20,7 +20,8 @@ returns-in_err-one_pipe g c =
 pub loop-turn-preserved : goal.loop-turn-preserved
 loop-turn-preserved g c =
     let h : is w.BarGetline (ahead c.loop-turn.tokens) ≡ true = cc in
-    rw c.in_ok-push.ensures.ok (viewed_goes view_piped (is w.BarGetline) _ _ _ _ _ _ _ _ c.loop-turn-test.true h c.in_ok-one_pipe.ensures c.loop-turn.invariant)
+    rw c.in_ok-push.ensures.ok (viewed_goes view_piped (is w.BarGetline) _ _ _ _ _ _ _ _ c.loop-turn-test.true h
+    c.in_ok-one_pipe.ensures c.loop-turn.invariant)
 
 pub returns-then-is : goal.returns-then-is
 returns-then-is g c =

@@ -8,4 +8,5 @@ pub returns : goal.returns
 returns g c =
     let s = c.args.bytes.now in
     let k = length s - g.row.N in
-    ap₂ (λ a b. bit_or a (b * 2 ^ k % 2 ^ 64)) c.in_lanes.ensures c.in_lanes-2.ensures ∙ overlapped (is_mark c.args.self) g.row.N k s (omega arith) (omega arith) (omega arith)
+    ap₂ (λ a b. bit_or a (b * 2 ^ k % 2 ^ 64)) c.in_lanes.ensures c.in_lanes-2.ensures
+    ∙ overlapped (is_mark c.args.self) g.row.N k s (omega arith) (omega arith) (omega arith)

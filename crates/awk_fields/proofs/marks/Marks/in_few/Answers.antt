@@ -9,6 +9,8 @@ loop-i-preserved c =
     let p = is_mark c.args.self in
     let s = c.args.bytes.now in
     elim c.if-has.branch [
-      | then-has w ↦ w.found-is ∙ more_marked p s c.loop-i.i c.loop-i.found (omega arith) c.loop-i.invariant c.requires (sym c.has.ensures ∙ w.if-has.true)
-      | else-has w ↦ w.found-is ∙ more_unmarked p s c.loop-i.i c.loop-i.found (omega arith) c.loop-i.invariant (sym c.has.ensures ∙ w.if-has.false)
+      | then-has w ↦ w.found-is ∙ more_marked p s c.loop-i.i c.loop-i.found (omega arith) c.loop-i.invariant c.requires
+          (sym c.has.ensures ∙ w.if-has.true)
+      | else-has w ↦ w.found-is ∙ more_unmarked p s c.loop-i.i c.loop-i.found (omega arith) c.loop-i.invariant
+          (sym c.has.ensures ∙ w.if-has.false)
     ]

@@ -13,7 +13,8 @@ invariant_of-self-2 c =
     let old = drop c.self.inside.start c.self.inside.bytes.items in
     let grown : c.extend_from_slice.new.self.items ≡ kept ++ bytes = c.in_ok-extend_from_slice.ensures.items in
     let same : drop start c.extend_from_slice.new.self.items ≡ old ++ bytes =
-    ap (drop start) grown ∙ (drop-append-le start kept bytes c.compact-self-inside.ensures.inside ∙ ap (λ z. z ++ bytes) c.compact-self-inside.ensures.unread) in (
+    ap (drop start) grown ∙ (drop-append-le start kept bytes c.compact-self-inside.ensures.inside
+    ∙ ap (λ z. z ++ bytes) c.compact-self-inside.ensures.unread) in (
       omega (arith, ap length grown, length-append kept bytes, c.compact-self-inside.ensures.inside),
       subst (λ z. IsSearched z searched) (sym same) (searched_more old bytes searched c.self.invariant.1),
     )

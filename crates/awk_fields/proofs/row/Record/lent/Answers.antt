@@ -12,5 +12,7 @@ returns c =
     let parts = c.self.inside.parts in
     let at = λ (w : List ℕ). slice_index_or (values_of w parts) (c.args.n - 1) Unset in
     some_both {R = λ v. IsValueAt c.args.self.now c.args.n (lent_value v)} c.lent_at.result
-    (λ v split is. rw (← c.self.view_is) (value_at_place _ c.args.n (lent_value v) (values_of whole parts) c.if-n-eq0.false (held_split (whole_of whole parts) parts.state (values_of whole parts) split) (is ∙ ap at c.bytes.ensures)))
+    (λ v split is. rw (← c.self.view_is) (value_at_place _ c.args.n (lent_value v) (values_of whole parts)
+    c.if-n-eq0.false (held_split (whole_of whole parts) parts.state (values_of whole parts) split)
+    (is ∙ ap at c.bytes.ensures)))
     c.lent_at.ensures.split c.lent_at.ensures.value

@@ -4,4 +4,5 @@ use Rattle.awk_lib.proofs.array.Array.contains.Goals as goal
 
 pub returns : goal.returns
 returns g c =
-    rw (← c.self.view_is) (c.is_some.ensures ∙ found_has c.self.inside.elements c.args.key.now c.find.result c.self.invariant.numbered.keys c.find.ensures.some c.find.ensures.none)
+    rw (← c.self.view_is) (c.is_some.ensures ∙ found_has c.self.inside.elements c.args.key.now c.find.result
+    c.self.invariant.numbered.keys c.find.ensures.some c.find.ensures.none)

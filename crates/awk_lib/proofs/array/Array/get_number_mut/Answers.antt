@@ -12,7 +12,8 @@ returns-in_err-place g c =
       refl,
       record {
         writes_back = tt;
-        value = sym (missing_element es (decimal c.args.number) c.self.invariant.numbered.keys (c.in_err-place.ensures.none refl));
+        value = sym (missing_element es (decimal c.args.number) c.self.invariant.numbered.keys
+            (c.in_err-place.ensures.none refl));
         same = λ v. same_shown (rows_of es) (decimal c.args.number) v c.self.invariant.numbered.keys;
       },
     )
@@ -20,7 +21,8 @@ returns-in_err-place g c =
 pub invariant_of-self-lent : goal.invariant_of-self-lent
 invariant_of-self-lent g c =
     let h = c.in_ok-place.ensures.some in
-    λ w. value_kept c.self.inside.elements c.in_ok-place.place h.0 (decimal c.args.number) h.1 h.2 c.self.inside.settled c.self.inside.next w c.self.invariant
+    λ w. value_kept c.self.inside.elements c.in_ok-place.place h.0 (decimal c.args.number) h.1 h.2 c.self.inside.settled
+    c.self.inside.next w c.self.invariant
 
 pub returns : goal.returns
 returns g c =

@@ -10,11 +10,16 @@ returns-then-self-ge-MOST_ELEMENTS-clause-err g c =
     let es = c.self.inside.elements in
     let a = c.self.invariant in
     let key = decimal c.args.number in
-    let none = none_from es key c.args.self.now a.numbered.keys c.self.view_is c.requires in
-    (refl, inr (rw (← c.self.view_is) (no_room (shown (rows_of es)) key c.args.value es.count (count_shown c.self.inside.settled c.self.inside.next es a) c.if-self-ge-MOST_ELEMENTS.true (missing_element es key a.numbered.keys none))))
+    let none = none_from es key c.args.self.now a.numbered.keys c.self.view_is c.requires in (
+      refl,
+      inr (rw (← c.self.view_is) (no_room (shown (rows_of es)) key c.args.value es.count
+          (count_shown c.self.inside.settled c.self.inside.next es a) c.if-self-ge-MOST_ELEMENTS.true
+          (missing_element es key a.numbered.keys none))),
+    )
 
 pub add_number-requires-clause-absent : goal.add_number-requires-clause-absent
-add_number-requires-clause-absent g c = none_from c.self.inside.elements (decimal c.args.number) c.args.self.now c.self.invariant.numbered.keys c.self.view_is c.requires
+add_number-requires-clause-absent g c = none_from c.self.inside.elements (decimal c.args.number) c.args.self.now
+    c.self.invariant.numbered.keys c.self.view_is c.requires
 
 pub invariant_of-self-2 : goal.invariant_of-self-2
 invariant_of-self-2 g c =
@@ -22,8 +27,10 @@ invariant_of-self-2 g c =
     let a = c.self.invariant in
     let key = decimal c.args.number in
     let none = none_from es key c.args.self.now a.numbered.keys c.self.view_is c.requires in
-    added_kept c.self.inside.settled c.self.inside.next es c.add_number.new.self key c.args.value a none c.in_ok-added.ensures.added
-    c.in_ok-added.added.is_last c.in-Some.next c.in_ok-added.ensures.last c.add_number.ensures.apart c.in_ok-added.ensures.count c.in-Some.ensures.1
+    added_kept c.self.inside.settled c.self.inside.next es c.add_number.new.self key c.args.value a none
+    c.in_ok-added.ensures.added
+    c.in_ok-added.added.is_last c.in-Some.next c.in_ok-added.ensures.last c.add_number.ensures.apart
+    c.in_ok-added.ensures.count c.in-Some.ensures.1
 
 pub returns-clause-ok : goal.returns-clause-ok
 returns-clause-ok g c =
@@ -31,5 +38,7 @@ returns-clause-ok g c =
     let a = c.self.invariant in
     let key = decimal c.args.number in
     let none = none_from es key c.args.self.now a.numbered.keys c.self.view_is c.requires in
-    rw (← c.self.view_is) (room (shown (rows_of es)) key c.args.value es.count (count_shown c.self.inside.settled c.self.inside.next es a) (few es.count c.if-self-ge-MOST_ELEMENTS.false)
-    ∙ ap Ok (sym (added_shown c.self.inside.settled c.self.inside.next es c.add_number.new.self key c.args.value a none c.in_ok-added.ensures.added)))
+    rw (← c.self.view_is) (room (shown (rows_of es)) key c.args.value es.count
+    (count_shown c.self.inside.settled c.self.inside.next es a) (few es.count c.if-self-ge-MOST_ELEMENTS.false)
+    ∙ ap Ok (sym (added_shown c.self.inside.settled c.self.inside.next es c.add_number.new.self key c.args.value a none
+    c.in_ok-added.ensures.added)))

@@ -14,8 +14,10 @@ loop-k-preserved-in_default g c =
     let ps = c.args.self.now.places.items in
     let qs = c.deref-place-items.result.now in
     let k = c.loop-k.k in
-    let at = dense_read ps qs k None c.deref-place-items.ensures.value c.loop-k-test.true (subst (λ o. o ≡ get_or qs k o) c.in_default.is c.place-item.is) in
-    c.loop-k.invariant ∙ ap (λ l. listed c.args.keys.now.items ++ keyed l) (sym (dense_next ps k None at ∙ append-nil (dense_rows 0 (take k ps))))
+    let at = dense_read ps qs k None c.deref-place-items.ensures.value c.loop-k-test.true
+    (subst (λ o. o ≡ get_or qs k o) c.in_default.is c.place-item.is) in
+    c.loop-k.invariant ∙ ap (λ l. listed c.args.keys.now.items ++ keyed l)
+    (sym (dense_next ps k None at ∙ append-nil (dense_rows 0 (take k ps))))
 
 pub loop-k-preserved : goal.loop-k-preserved
 loop-k-preserved g c =
@@ -23,10 +25,13 @@ loop-k-preserved g c =
     let qs = c.deref-place-items.result.now in
     let k = c.loop-k.k in
     let element = c.in-Some.element in
-    let at = dense_read ps qs k (Some element) c.deref-place-items.ensures.value c.loop-k-test.true (subst (λ o. o ≡ get_or qs k o) c.in-Some.is c.place-item.is) in
-    let text : c.in_ok-of.field-0 ≡ decimal k = c.in_ok-of.ensures ∙ c.as_bytes-digits.ensures.value ∙ c.format.ensures.text in
+    let at = dense_read ps qs k (Some element) c.deref-place-items.ensures.value c.loop-k-test.true
+    (subst (λ o. o ≡ get_or qs k o) c.in-Some.is c.place-item.is) in
+    let text : c.in_ok-of.field-0 ≡ decimal k = c.in_ok-of.ensures ∙ c.as_bytes-digits.ensures.value
+    ∙ c.format.ensures.text in
     let x : Numbered (List ℕ) = record { number = element.number; value = c.in_ok-of.field-0 } in
     let row : Row g.row.V.Denot = (element.number, (decimal k, element.value)) in
     ap listed c.in_ok-push.ensures.items
-    ∙ listed_push c.loop-k.keys.items x (listed c.args.keys.now.items) (dense_rows 0 (take k ps)) row c.loop-k.invariant (λ i. (element.number, text i))
+    ∙ listed_push c.loop-k.keys.items x (listed c.args.keys.now.items) (dense_rows 0 (take k ps)) row c.loop-k.invariant
+    (λ i. (element.number, text i))
     ∙ ap (λ l. listed c.args.keys.now.items ++ keyed l) (sym (dense_next ps k (Some element) at))

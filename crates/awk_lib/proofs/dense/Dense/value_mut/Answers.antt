@@ -10,9 +10,20 @@ returns g c =
     let k = c.args.k in
     let element = c.in-Some.element.now in
     let place = c.index_mut-place.result.now in
-    let there : slice_get places k ≡ Some place = slice_get_read places (length places) k place refl (slice_get_within places k (Some c.requires.0) c.requires.1) c.index_mut-place.ensures.value in
+    let there : slice_get places k ≡ Some place = slice_get_read places (length places) k place refl
+    (slice_get_within places k (Some c.requires.0) c.requires.1) c.index_mut-place.ensures.value in
     let is : slice_get places k ≡ Some (Some element) = there ∙ ap Some (sym c.in-Some.ensures.value) in
     let back = sym is in (
-      (refl, λ w i. record { places = with_item c.args.self.now.places k (Some (record { number = number_in (back i); value = w })) }),
-      record { writes_back = tt; value = λ x e. ap (λ n. n.value) (same_Some element x (same_Some (Some element) (Some x) (back ∙ e))) },
+      (
+        refl,
+        λ w i. record {
+          places = with_item c.args.self.now.places k
+              (Some (record { number = number_in (back i); value = w }));
+        },
+      ),
+      record {
+        writes_back = tt;
+        value =
+            λ x e. ap (λ n. n.value) (same_Some element x (same_Some (Some element) (Some x) (back ∙ e)));
+      },
     )

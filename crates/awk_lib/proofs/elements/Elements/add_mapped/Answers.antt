@@ -16,8 +16,10 @@ returns-clause-place g c =
     let es = c.args.self.now in
     let x : Numbered g.row.V.Denot = record { number = c.args.number; value = c.args.value } in
     let fs = record es { map = c.insert_full.new.self; count = es.count + 1 } in
-    let now = c.in_ok-i.ensures.entries ∙ ap (λ t. insert_entry bytes_eq es.map.entries t (Some x)) c.in_ok-key.ensures in
-    let at = c.in_ok-i.ensures.index ∙ ap (λ t. position_or_len (bytes_eq t) (keys_of es.map.entries)) c.in_ok-key.ensures in
+    let now = c.in_ok-i.ensures.entries ∙ ap (λ t. insert_entry bytes_eq es.map.entries t (Some x)) c.in_ok-key.ensures
+    in
+    let at = c.in_ok-i.ensures.index ∙ ap (λ t. position_or_len (bytes_eq t) (keys_of es.map.entries))
+    c.in_ok-key.ensures in
     put_there es fs c.args.key.now x c.requires.absent refl now c.in_ok-i.i at
 
 pub returns-clause-added : goal.returns-clause-added
@@ -25,7 +27,8 @@ returns-clause-added g c =
     let es = c.args.self.now in
     let x : Numbered g.row.V.Denot = record { number = c.args.number; value = c.args.value } in
     let fs = record es { map = c.insert_full.new.self; count = es.count + 1 } in
-    let now = c.in_ok-i.ensures.entries ∙ ap (λ t. insert_entry bytes_eq es.map.entries t (Some x)) c.in_ok-key.ensures in
+    let now = c.in_ok-i.ensures.entries ∙ ap (λ t. insert_entry bytes_eq es.map.entries t (Some x)) c.in_ok-key.ensures
+    in
     put_mapped es fs c.args.key.now x c.requires.absent refl now
 
 pub returns-clause-last : goal.returns-clause-last
@@ -33,8 +36,10 @@ returns-clause-last g c =
     let es = c.args.self.now in
     let x : Numbered g.row.V.Denot = record { number = c.args.number; value = c.args.value } in
     let fs = record es { map = c.insert_full.new.self; count = es.count + 1 } in
-    let now = c.in_ok-i.ensures.entries ∙ ap (λ t. insert_entry bytes_eq es.map.entries t (Some x)) c.in_ok-key.ensures in
-    let at = c.in_ok-i.ensures.index ∙ ap (λ t. position_or_len (bytes_eq t) (keys_of es.map.entries)) c.in_ok-key.ensures in
+    let now = c.in_ok-i.ensures.entries ∙ ap (λ t. insert_entry bytes_eq es.map.entries t (Some x)) c.in_ok-key.ensures
+    in
+    let at = c.in_ok-i.ensures.index ∙ ap (λ t. position_or_len (bytes_eq t) (keys_of es.map.entries))
+    c.in_ok-key.ensures in
     λ e.
     let last : c.in_ok-i.i + 1 ≡ c.len-len.result = grind (arith, nat_tests, e) in
     put_last es fs c.args.key.now x c.requires.absent refl now c.in_ok-i.i at (last ∙ c.len-len.ensures.len)
@@ -44,5 +49,6 @@ returns-clause-apart g c =
     let es = c.args.self.now in
     let x : Numbered g.row.V.Denot = record { number = c.args.number; value = c.args.value } in
     let fs = record es { map = c.insert_full.new.self; count = es.count + 1 } in
-    let now = c.in_ok-i.ensures.entries ∙ ap (λ t. insert_entry bytes_eq es.map.entries t (Some x)) c.in_ok-key.ensures in
+    let now = c.in_ok-i.ensures.entries ∙ ap (λ t. insert_entry bytes_eq es.map.entries t (Some x)) c.in_ok-key.ensures
+    in
     put_apart es fs c.args.key.now x c.requires.absent refl now c.requires.apart c.requires.outside

@@ -8,11 +8,13 @@ use Rattle.awk_lib.proofs.elements.Elements.compact.Goals as goal
 pub returns-clause-rows : goal.returns-clause-rows
 returns-clause-rows g c =
     let es = c.args.self.now.map.entries in
-    let kept : c.retain.new.self.entries ≡ filter (λ e. is_some e.1) es = filter-RetainsPairs _ _ _ (λ k v b w f call. search rules) _ _ c.retain.ensures.filtered in
+    let kept : c.retain.new.self.entries ≡ filter (λ e. is_some e.1) es =
+    filter-RetainsPairs _ _ _ (λ k v b w f call. search rules) _ _ c.retain.ensures.filtered in
     ap rows kept ∙ filtered_rows es
 
 pub returns-clause-filled : goal.returns-clause-filled
 returns-clause-filled g c =
     let es = c.args.self.now.map.entries in
-    let kept : c.retain.new.self.entries ≡ filter (λ e. is_some e.1) es = filter-RetainsPairs _ _ _ (λ k v b w f call. search rules) _ _ c.retain.ensures.filtered in
+    let kept : c.retain.new.self.entries ≡ filter (λ e. is_some e.1) es =
+    filter-RetainsPairs _ _ _ (λ k v b w f call. search rules) _ _ c.retain.ensures.filtered in
     subst (AllByRecursion (λ e. is_some e.1 ≡ true)) (sym kept) (all_filtered (λ e. is_some e.1) es)

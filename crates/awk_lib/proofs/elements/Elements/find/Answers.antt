@@ -14,13 +14,15 @@ returns-then-is_filled-clause-some g c =
 pub returns-else-is_filled-clause-none : goal.returns-else-is_filled-clause-none
 returns-else-is_filled-clause-none g c =
     let at = c.is_filled.ensures in
-    λ _. missing_dense c.args.self.now c.args.key.now c.in-Some.k c.requires c.in-Some.ensures.some.0 (at.1 ∙ ap Some (none_of at.0 (sym at.2 ∙ c.if-is_filled.false)))
+    λ _. missing_dense c.args.self.now c.args.key.now c.in-Some.k c.requires c.in-Some.ensures.some.0
+    (at.1 ∙ ap Some (none_of at.0 (sym at.2 ∙ c.if-is_filled.false)))
 
 pub returns-in_err-i-in-None-clause-none : goal.returns-in_err-i-in-None-clause-none
 returns-in_err-i-in-None-clause-none g c =
     let es = c.args.self.now in
     let key = c.args.key.now in
-    λ _. missing_mapped es key (c.in-None.ensures.none refl) (no_entry key es.map.entries (c.in_err-i-in-None.ensures.none refl))
+    λ _. missing_mapped es key (c.in-None.ensures.none refl)
+    (no_entry key es.map.entries (c.in_err-i-in-None.ensures.none refl))
 
 pub returns-then-is_some-clause-some : goal.returns-then-is_some-clause-some
 returns-then-is_some-clause-some g c =

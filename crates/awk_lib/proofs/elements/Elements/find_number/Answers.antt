@@ -13,4 +13,5 @@ returns-then-is_filled-clause-some g c =
 pub returns-else-is_filled-clause-none : goal.returns-else-is_filled-clause-none
 returns-else-is_filled-clause-none g c =
     let at = c.is_filled.ensures in
-    λ _. missing_dense c.args.self.now (decimal c.args.number) c.args.number c.requires refl (at.1 ∙ ap Some (none_of at.0 (sym at.2 ∙ c.if-is_filled.false)))
+    λ _. missing_dense c.args.self.now (decimal c.args.number) c.args.number c.requires refl
+    (at.1 ∙ ap Some (none_of at.0 (sym at.2 ∙ c.if-is_filled.false)))

@@ -11,7 +11,8 @@ pub loop-key-preserved-in_default : goal.loop-key-preserved-in_default
 loop-key-preserved-in_default g c =
     let before = rows (map deref_pair c.loop-key.yielded) in
     c.loop-key.invariant
-    ∙ ap (λ l. listed c.args.keys.now.items ++ keyed l) (sym (next_rows c.loop-key.yielded (c.in-Some.key, c.in-Some.place) None c.in_default.is ∙ append-nil before))
+    ∙ ap (λ l. listed c.args.keys.now.items ++ keyed l)
+    (sym (next_rows c.loop-key.yielded (c.in-Some.key, c.in-Some.place) None c.in_default.is ∙ append-nil before))
 
 pub loop-key-preserved : goal.loop-key-preserved
 loop-key-preserved g c =
@@ -22,5 +23,7 @@ loop-key-preserved g c =
     let x : Numbered (List ℕ) = record { number = element.number; value = c.in_ok-of.field-0 } in
     let row : Row g.row.V.Denot = (element.number, (key, element.value)) in
     ap listed c.in_ok-push.ensures.items
-    ∙ listed_push c.loop-key.keys.items x (listed c.args.keys.now.items) before row c.loop-key.invariant (λ i. (element.number, text i))
-    ∙ ap (λ l. listed c.args.keys.now.items ++ keyed l) (sym (next_rows c.loop-key.yielded (c.in-Some.key, c.in-Some.place) (Some element) c.in-Some-place.is))
+    ∙ listed_push c.loop-key.keys.items x (listed c.args.keys.now.items) before row c.loop-key.invariant
+    (λ i. (element.number, text i))
+    ∙ ap (λ l. listed c.args.keys.now.items ++ keyed l)
+    (sym (next_rows c.loop-key.yielded (c.in-Some.key, c.in-Some.place) (Some element) c.in-Some-place.is))

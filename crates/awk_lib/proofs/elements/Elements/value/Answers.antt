@@ -20,5 +20,6 @@ pub returns-in-Some : goal.returns-in-Some
 returns-in-Some g c =
     let es = c.args.self.now in
     λ r lies.
-    let there = mapped_value es c.in-Mapped.i c.index.result.now r (subst (λ p. Lies es p r) c.in-Mapped.is lies) c.index.ensures in
+    let there = mapped_value es c.in-Mapped.i c.index.result.now r (subst (λ p. Lies es p r) c.in-Mapped.is lies)
+    c.index.ensures in
     ap (λ x. x.value) (same_Some c.in-Some.element _ (sym c.in-Some.is ∙ there))

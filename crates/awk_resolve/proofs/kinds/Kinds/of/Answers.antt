@@ -15,4 +15,5 @@ returns-in-None-clause-none c = rw c.in-None.is at c.first_clash.ensures.first
 
 pub returns-in-None-clause-gives : goal.returns-in-None-clause-gives
 returns-in-None-clause-gives c = λ r f args i q calls none takes forced.
-    let no_clash = rw c.in-None.is at c.first_clash.ensures.first in no_clash f.place (no_array r f args i q calls none takes forced)
+    let no_clash = rw c.in-None.is at c.first_clash.ensures.first in
+    no_clash f.place (no_array r f args i q calls none takes forced)

@@ -4,4 +4,5 @@ use Rattle.awk_resolve.proofs.roll.Roll.append.Goals as goal
 
 pub returns-clause-ok : goal.returns-clause-ok
 returns-clause-ok c = rw (← c.self.view_is, ← c.in_ok-bytes.ensures)
-    (ap (map (λ t. t.items)) c.in_ok-insert.ensures.keys ∙ added_named (λ t. t.items) c.in_ok-bytes.bytes c.self.inside.texts.keys)
+    (ap (map (λ t. t.items)) c.in_ok-insert.ensures.keys ∙ added_named (λ t. t.items) c.in_ok-bytes.bytes
+    c.self.inside.texts.keys)

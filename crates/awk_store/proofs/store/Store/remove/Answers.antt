@@ -9,4 +9,5 @@ pub returns : goal.returns
 returns c =
     put_back _ _ _ _ _ _ _ c.reference-at.ensures c.replace-elements.ensures.after c.replace-2.ensures.after
     ∙ ap (λ a. with_array (reference c.args.self.now c.args.name) a c.args.self.now)
-    (c.remove.ensures ∙ ap (λ a. without a c.args.key.now) (c.replace-elements.ensures.value ∙ ap (array_at c.args.self.now) c.reference-at.ensures))
+    (c.remove.ensures ∙ ap (λ a. without a c.args.key.now) (c.replace-elements.ensures.value
+    ∙ ap (array_at c.args.self.now) c.reference-at.ensures))

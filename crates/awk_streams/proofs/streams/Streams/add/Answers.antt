@@ -12,6 +12,9 @@ returns-clause-entries c =
     let es = c.self.inside.table.entries in
     let room : 0 < spare c.self.inside.table = rw (← c.self.view_is) at c.requires.room in
     let new = rw (← c.self.view_is) at c.requires.new in
-    let none : lookup (eq-value.it n) es ≡ None = none_of (λ o. o.number) _ (sym (find-entries (eq-value.it n) (kind n.class) n.text.items (kept_test n) es) ∙ new) in
-    rw (← c.self.view_is, ← ap (λ r. r.input) c.new-reader.ensures) (ap (map entry_of) (on_ok c.insert.result (c.insert.ensures.succeeds room) c.insert.ensures.entries)
+    let none : lookup (eq-value.it n) es ≡ None =
+    none_of (λ o. o.number) _ (sym (find-entries (eq-value.it n) (kind n.class) n.text.items (kept_test n) es)
+    ∙ new) in
+    rw (← c.self.view_is, ← ap (λ r. r.input) c.new-reader.ensures)
+    (ap (map entry_of) (on_ok c.insert.result (c.insert.ensures.succeeds room) c.insert.ensures.entries)
     ∙ insert-entries eq-value.it n (record { number = c.args.number; reader = c.new-reader.result }) es none)

@@ -15,11 +15,13 @@ returns-clause-ok c =
       | in-Some w ↦ rw (w.result-is, w.self-inside-is, ← c.self.view_is) (on_ok_weaker w.add.result
           (λ added. ap (named (λ k. k.items)) (c.get_mut.follows.holds w.add.new.self).0
           ∙ ap (λ (z : List ℕ). named (λ k. k.items) (set_value (λ k. bytes_eq text k.items) old z)) added
-          ∙ with_more-found (λ k. k.items) text c.args.bytes.now old w.in-Some.growing.now (sym c.get_mut.ensures.value ∙ ap option_copied_mut w.in-Some.is))
+          ∙ with_more-found (λ k. k.items) text c.args.bytes.now old w.in-Some.growing.now (sym c.get_mut.ensures.value
+          ∙ ap option_copied_mut w.in-Some.is))
           w.add.ensures.ok)
       | in-None w ↦ rw (w.result-is, w.self-inside-is, ← c.self.view_is)
           (ap (λ t. named (λ k. k.items) t.entries) c.get_mut.follows.holds-at-none
-          ∙ sym (with_more-absent (λ k. k.items) text c.args.bytes.now old (sym c.get_mut.ensures.value ∙ ap option_copied_mut w.in-None.is)))
+          ∙ sym (with_more-absent (λ k. k.items) text c.args.bytes.now old (sym c.get_mut.ensures.value
+          ∙ ap option_copied_mut w.in-None.is)))
     ]
 
 pub returns-clause-err : goal.returns-clause-err
@@ -30,7 +32,8 @@ returns-clause-err c =
       | in-Some w ↦ rw (w.result-is, w.self-inside-is, ← c.self.view_is) (on_err_weaker w.add.result
           (λ same. ap (named (λ k. k.items)) ((c.get_mut.follows.holds w.add.new.self).0
           ∙ ap (set_value (λ k. bytes_eq text k.items) old) same
-          ∙ set_value-same (λ k. bytes_eq text k.items) old w.in-Some.growing.now (sym c.get_mut.ensures.value ∙ ap option_copied_mut w.in-Some.is)))
+          ∙ set_value-same (λ k. bytes_eq text k.items) old w.in-Some.growing.now (sym c.get_mut.ensures.value
+          ∙ ap option_copied_mut w.in-Some.is)))
           w.add.ensures.err)
       | in-None w ↦ rw w.result-is tt
     ]

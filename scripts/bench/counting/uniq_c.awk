@@ -1,0 +1,13 @@
+NR > 1 && $0 != was {
+    print n, was
+    n = 0
+}
+
+{
+    n++
+    was = $0
+}
+
+END {
+    print n, was
+}

@@ -1,0 +1,6 @@
+{
+    total += $10
+    if (NR % 100 == 0) {
+        print NR, total
+    }
+}

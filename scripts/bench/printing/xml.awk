@@ -1,0 +1,7 @@
+{
+    print "<row id=\"" NR "\">"
+    for (i = 1; i <= 3; i++) {
+        print "  <c>" $i "</c>"
+    }
+    print "</row>"
+}
